@@ -1,0 +1,3 @@
+pub mod Reduced
+pub mod FirstToken
+pub mod Cutting

@@ -1,0 +1,119 @@
+// The list that public data hold.
+ghost use Rattle.std.specs.Prelude.{◌≡◌, [], ◌∷◌, ◌++◌, ◌<◌, ◌≤◌, length, slice_get, ◌↔◌, IsTrue, IsNone, IfOk, OnOk, OnErr};
+ghost use Rattle.std.specs.Option.{option_copied};
+
+use crate::NoMemory;
+use std::alloc::Global;
+use std::marker::Model;
+
+/// A `Vec` that contracts see as the list of its elements, so that two lists of equal elements are
+/// equal, whatever their capacities. A recursive type may go through it.
+#[derive(Debug, Drop)]
+pub struct List<T> {
+    items: Vec<T>,
+}
+
+impl<T> Model for List<T> {
+    ghost use Rattle.std.specs.Prelude.{List as ListOf};
+    ghost use Rattle.std.specs.Coded.{coded_list};
+
+    ghost Value = { ListOf T };
+
+    ghost coded = { coded_list T.code };
+
+    ghost view = { λ list. list.items.items };
+}
+
+impl<T> List<T> {
+    /// An empty list, which takes no memory.
+    pub fn new(alloc: Global) -> List<T>
+        ensures { result ≡ [] }
+    {
+        List {
+            items: Vec::new(alloc),
+        }
+    }
+
+    pub fn len(&self) -> usize
+        ensures { result ≡ length self.now }
+    {
+        self.items.len()
+    }
+
+    pub fn is_empty(&self) -> bool
+        ensures { IsTrue result ↔ (self.now ≡ []) }
+    {
+        self.items.is_empty()
+    }
+
+    /// The element at a place, counted from 0; `None` exactly where the list ends before it.
+    pub fn get(&self, at: usize) -> Option<&T>
+        ensures value { option_copied result ≡ slice_get self.now at }
+        ensures none { IsNone result ↔ (length self.now ≤ at) }
+    {
+        self.items.get(at)
+    }
+
+    pub fn as_slice(&self) -> &[T]
+        ensures { result.now ≡ self.now }
+    {
+        self.items.as_slice()
+    }
+}
+
+impl<T: Drop> List<T> {
+    /// Adds a value at the end. A refusal drops the value and leaves the list as it was.
+    pub fn push(&mut self, value: T) -> Result<(), NoMemory>
+        ensures ok { OnOk result (self.new ≡ self.old ++ value ∷ []) }
+        ensures err { OnErr result (self.new ≡ self.old) }
+    {
+        self.items.push(value)?;
+        Ok(())
+    }
+}
+
+impl<T: Copy> List<T> {
+    /// A list of copies of these values.
+    pub fn from_slice(alloc: Global, values: &[T]) -> Result<List<T>, NoMemory>
+        ensures { IfOk result (λ list. list ≡ values.now) }
+    {
+        Ok(List {
+            items: Vec::from_slice(alloc, values)?,
+        })
+    }
+
+    /// Adds a copy of each value at the end. A refusal leaves the list as it was.
+    pub fn extend_from_slice(&mut self, values: &[T]) -> Result<(), NoMemory>
+        ensures ok { OnOk result (self.new ≡ self.old ++ values.now) }
+        ensures err { OnErr result (self.new ≡ self.old) }
+    {
+        self.items.extend_from_slice(values)?;
+        Ok(())
+    }
+}
+
+impl<T> From<Vec<T>> for List<T> {
+    ghost from_gives = { λ vec list. list ≡ vec.items };
+
+    fn from(items: Vec<T>) -> List<T> {
+        List { items }
+    }
+}
+
+impl<T: PartialEq> PartialEq for List<T> {
+    ghost use Rattle.std.specs.Cmp.Lexicographic.{pointwise, lists_per};
+
+    ghost eq = { pointwise T.eq };
+
+    ghost laws = { lists_per T.laws };
+
+    fn eq(&self, other: &List<T>) -> bool {
+        self.as_slice() == other.as_slice()
+    }
+}
+
+impl<T: Eq> Eq for List<T> {
+    ghost use Rattle.std.specs.Cmp.Lexicographic.{lists_equiv};
+
+    ghost laws = { lists_equiv T.Eq.laws };
+}

@@ -1,0 +1,19 @@
+// Want of memory, as one error of its own.
+use std::alloc::{AllocError, AllocFailed};
+
+/// No memory was found. Of all refusals this one alone may come at any time; a caller that holds
+/// ample memory never sees it.
+#[derive(Clone, Copy, Debug, PartialEq, Eq)]
+pub struct NoMemory;
+
+impl From<AllocError> for NoMemory {
+    fn from(_error: AllocError) -> NoMemory {
+        NoMemory
+    }
+}
+
+impl<T: Drop> From<AllocFailed<T>> for NoMemory {
+    fn from(_error: AllocFailed<T>) -> NoMemory {
+        NoMemory
+    }
+}

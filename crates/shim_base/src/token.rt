@@ -1,0 +1,73 @@
+// The kinds of tokens.
+
+/// What a token is. Which bytes make which token is told by the definition of tokens.
+#[derive(Clone, Copy, Debug, PartialEq, Eq)]
+pub enum TokenKind {
+    /// A name that is no keyword.
+    Word,
+    Key(Keyword),
+    Number(i64),
+    Sign(Sign),
+}
+
+/// The names that are kept for the language itself.
+#[derive(Clone, Copy, Debug, PartialEq, Eq)]
+pub enum Keyword {
+    Void,
+    Throws,
+    Bool,
+    Int,
+    Int8,
+    Int16,
+    Int32,
+    Uint8,
+    Uint16,
+    Uint32,
+    Istream,
+    Ostream,
+    Next,
+    Get,
+    Put,
+    If,
+    Else,
+    While,
+    For,
+    Try,
+    Catch,
+    Throw,
+    Par,
+    TrueKey,
+    FalseKey,
+}
+
+/// Punctuation and operators, those of two bytes first.
+#[derive(Clone, Copy, Debug, PartialEq, Eq)]
+pub enum Sign {
+    Shl,
+    Shr,
+    Le,
+    Ge,
+    EqEq,
+    NotEq,
+    AndAnd,
+    OrOr,
+    LeftParen,
+    RightParen,
+    LeftBrace,
+    RightBrace,
+    Comma,
+    Semicolon,
+    Equal,
+    Amp,
+    Caret,
+    Bar,
+    Plus,
+    Minus,
+    Star,
+    Slash,
+    Percent,
+    Tilde,
+    Bang,
+    Less,
+    Greater,
+}

@@ -1,0 +1,5 @@
+pub mod Count
+pub mod Files
+pub mod MemFiles
+pub mod MemSink
+pub mod Sink

@@ -1,0 +1,305 @@
+// The tool over files and a sink in memory: each status with its exact text.
+ghost use Rattle.std.specs.Prelude.{◌<◌, ◌≤◌, length, ◌≡◌};
+
+use crate::status;
+use shim_base::{List, Name};
+use shim_edge::{HostFiles, MemFiles, MemSink};
+use shim_tool::shim;
+use std::alloc::{AllocError, Global};
+use std::fs;
+use std::io::{self, ErrorKind};
+use std::test::Fail;
+
+const PUTS_A: &str = "void main(ostream &o) { int x; x = 65; put o, x; }";
+
+const REPORT: &str = "output 1 41\nend done 4\n";
+
+const USAGE: &str =
+    "usage: shim MODE FILE [--input FILE] [--workers N] [--budget B] [--quantum Q] [--size N]\n";
+
+const NOT_BUILT: &str = "refused 1 not built\n";
+
+fn strings(alloc: Global, texts: &[&str]) -> Result<Vec<String>, AllocError> {
+    let mut all = Vec::new(alloc);
+    for text in texts {
+        all.push(String::from_str(alloc, text)?)?;
+    }
+    Ok(all)
+}
+
+// Files in memory that hold p.shim, and fail at the reads of these numbers.
+fn files(alloc: Global, source: &[u8], failing: &[u64]) -> Result<MemFiles, Fail> {
+    let mut held = List::new(alloc);
+    let name = Name::new(alloc, b"p.shim")?;
+    held.push((name, List::from_slice(alloc, source)?))?;
+    Ok(MemFiles::new(alloc, held, List::from_slice(alloc, failing)?))
+}
+
+// A sink in memory with room, which takes so many bytes a write, and fails at those of these numbers.
+fn sink(alloc: Global, most: usize, failing: &[u64]) -> Result<MemSink, Fail>
+    requires { 1 ≤ most }
+{
+    let mut sink = MemSink::new(alloc, most, List::from_slice(alloc, failing)?);
+    sink.room(1000)?;
+    Ok(sink)
+}
+
+// The status and what was written of a call whose reads and writes of these numbers fail.
+fn outcome(
+    alloc: Global,
+    words: &[&str],
+    source: &[u8],
+    failing_reads: &[u64],
+    most: usize,
+    failing_writes: &[u64],
+) -> Result<(u8, Vec<u8>), Fail> {
+    let mut files = files(alloc, source, failing_reads)?;
+    let mut out = sink(alloc, most.max(1), failing_writes)?;
+    let status = shim(alloc, &strings(alloc, words)?, &mut files, &mut out);
+    Ok((status, out.taken().to_vec(alloc)?))
+}
+
+fn run(alloc: Global, source: &[u8]) -> Result<(u8, Vec<u8>), Fail> {
+    outcome(alloc, &["shim", "run", "p.shim"], source, &[], 1000, &[])
+}
+
+// A text in which a part stands so many times.
+fn repeated(
+    alloc: Global,
+    front: &str,
+    part: &str,
+    times: usize,
+    back: &str,
+) -> Result<Vec<u8>, Fail> {
+    let mut text = Vec::from_slice(alloc, front.as_bytes())?;
+    for _ in 0..times {
+        text.extend_from_slice(part.as_bytes())?;
+    }
+    text.extend_from_slice(back.as_bytes())?;
+    Ok(text)
+}
+
+#[test]
+fn a_source_is_run_or_refused(rt: HostRuntime) -> Result<(), Fail> {
+    let alloc = rt.alloc();
+    for (source, status, text) in [
+        (PUTS_A, 0, REPORT),
+        ("void main(ostream &o) { }", 0, "output 0\nend done 1\n"),
+        (
+            "\n\tvoid\rmain(ostream&o){\x0b\x0c}\n",
+            0,
+            "output 0\nend done 1\n",
+        ),
+        (
+            "void main(ostream &main) { put main, 0; }",
+            0,
+            "output 1 00\nend done 2\n",
+        ),
+        // Sums are whole numbers; what is put is their low 8 bits.
+        (
+            "void main(ostream &o) { put o, 255 + 1; put o, 2147483647 + 1; }",
+            0,
+            "output 2 0000\nend done 3\n",
+        ),
+        (
+            "void main(ostream &o) { int x; x = 2147483647 + 2; x = x + x; put o, x + 3; }",
+            0,
+            "output 1 05\nend done 5\n",
+        ),
+        (
+            "void main(ostream &o) { int x; put o, x; x = 7; put o, x; x = x + x + 007; put o, x; }",
+            0,
+            "output 3 000715\nend done 7\n",
+        ),
+        // Names are declared once, before they are used, and put to the parameter.
+        ("void main(ostream &o) { put o, x; }", 5, NOT_BUILT),
+        ("void main(ostream &o) { x = 1; int x; }", 5, NOT_BUILT),
+        ("void main(ostream &o) { int x; x = y; }", 5, NOT_BUILT),
+        ("void main(ostream &o) { int x; int x; }", 5, NOT_BUILT),
+        ("void main(ostream &o) { int o; }", 5, NOT_BUILT),
+        ("void main(ostream &o) { o = 1; }", 5, NOT_BUILT),
+        ("void main(ostream &o) { put o, o; }", 5, NOT_BUILT),
+        ("void main(ostream &o) { int x; put x, 1; }", 5, NOT_BUILT),
+        // Numbers.
+        (
+            "void main(ostream &o) { put o, 2147483647; }",
+            0,
+            "output 1 ff\nend done 2\n",
+        ),
+        ("void main(ostream &o) { put o, 2147483648; }", 5, NOT_BUILT),
+        (
+            "void main(ostream &o) { put o, 00000000000000000000000000000065; }",
+            0,
+            "output 1 41\nend done 2\n",
+        ),
+        (
+            "void main(ostream &o) { put o, 9223372036854775808; }",
+            5,
+            NOT_BUILT,
+        ),
+        (
+            "void main(ostream &o) { put o, 340282366920938463463374607431768211456; }",
+            5,
+            NOT_BUILT,
+        ),
+        ("void main(ostream &o) { put o, -1; }", 5, NOT_BUILT),
+        // Names and keywords.
+        ("void main(ostream &o) { int int8; }", 5, NOT_BUILT),
+        (
+            "void main(ostream &o) { int int9; }",
+            0,
+            "output 0\nend done 2\n",
+        ),
+        (
+            "void main(ostream &o) { int _; _ = 1; put o, _; }",
+            0,
+            "output 1 01\nend done 4\n",
+        ),
+        ("void main(ostream &o) { intx; }", 5, NOT_BUILT),
+        ("void main(ostream &o) { int32 x; }", 5, NOT_BUILT),
+        ("void Main(ostream &o) { }", 5, NOT_BUILT),
+        ("void main(ostream &put) { }", 5, NOT_BUILT),
+        // The shape of the text.
+        ("", 5, NOT_BUILT),
+        (" ", 5, NOT_BUILT),
+        ("void main(ostream &o) {", 5, NOT_BUILT),
+        ("void main(ostream &o) { } }", 5, NOT_BUILT),
+        (
+            "void main(ostream &o) { } void main(ostream &o) { }",
+            5,
+            NOT_BUILT,
+        ),
+        ("void main() { }", 5, NOT_BUILT),
+        ("void main(ostream o) { }", 5, NOT_BUILT),
+        ("void main(ostream &o) { ; }", 5, NOT_BUILT),
+        ("void main(ostream &o) { put o, 1 }", 5, NOT_BUILT),
+        ("void main(ostream &o) { put o, ; }", 5, NOT_BUILT),
+        ("void main(ostream &o) { put o, 1 +; }", 5, NOT_BUILT),
+        ("void main(ostream &o) { put o, 1 + + 2; }", 5, NOT_BUILT),
+        ("void main(ostream &o) { put o, (1); }", 5, NOT_BUILT),
+        ("void main(ostream &o) { } // later", 5, NOT_BUILT),
+        ("void main(ostream &o) {\0}", 5, NOT_BUILT),
+        ("void main(ostream &o) { }\0", 5, NOT_BUILT),
+        ("void main(ostream &ö) { }", 5, NOT_BUILT),
+    ] {
+        let (got, bytes) = run(alloc, source.as_bytes())?;
+        assert_eq!(rt; got, status, "status of {source}");
+        assert_eq!(rt; bytes.as_slice(), text.as_bytes(), "text of {source}");
+    }
+    Ok(())
+}
+
+#[test]
+fn limits_hold_to_the_last(rt: HostRuntime) -> Result<(), Fail> {
+    let alloc = rt.alloc();
+    let front = "void main(ostream &o) { put o, 1";
+    let name = "void main(ostream &";
+    for (front, part, times, back, status, text) in [
+        (front, "+1", 256, "; }", 0, "output 1 01\nend done 2\n"),
+        (front, "+1", 257, "; }", 5, NOT_BUILT),
+        (front, "+1", 100000, "; }", 5, NOT_BUILT),
+        (name, "n", 64, ") { }", 0, "output 0\nend done 1\n"),
+        (name, "n", 65, ") { }", 5, NOT_BUILT),
+        (PUTS_A, " ", 1048526, "", 0, REPORT),
+        (
+            PUTS_A,
+            " ",
+            1048527,
+            "",
+            6,
+            "file too long p.shim 1048576\n",
+        ),
+    ] {
+        let source = repeated(alloc, front, part, times, back)?;
+        let (got, bytes) = run(alloc, &source)?;
+        assert_eq!(rt; got, status, "{times} times {part}");
+        assert_eq!(rt; bytes.as_slice(), text.as_bytes(), "{times} times {part}");
+    }
+    for (declarations, status) in [(64u32, 0), (65, 5)] {
+        let mut source = String::from_str(alloc, "void main(ostream &o) {")?;
+        for i in 0..declarations {
+            source.push_str(format!(in alloc; " int x{i};")?.as_str())?;
+        }
+        source.push_str("}")?;
+        let (got, _) = run(alloc, source.as_bytes())?;
+        assert_eq!(rt; got, status, "{declarations} declarations");
+    }
+    Ok(())
+}
+
+#[test]
+fn words_files_and_the_sink_decide_the_status(rt: HostRuntime) -> Result<(), Fail> {
+    let alloc = rt.alloc();
+    let run: &[&str] = &["shim", "run", "p.shim"];
+    let none: &[u64] = &[];
+    for (words, reads, most, writes, status, text) in [
+        (run, none, 1000, none, 0, REPORT),
+        (&[], none, 1000, none, 2, USAGE),
+        (&["shim"], none, 1000, none, 2, USAGE),
+        (&["shim", "run"], none, 1000, none, 2, USAGE),
+        (&["shim", "walk", "p.shim"], none, 1000, none, 2, USAGE),
+        (&["shim", "Run", "p.shim"], none, 1000, none, 2, USAGE),
+        (&["shim", "gen", "ring"], none, 1000, none, 2, USAGE),
+        (
+            &["shim", "run", "p.shim", "--workers", "17"],
+            none,
+            1000,
+            none,
+            2,
+            USAGE,
+        ),
+        (&["shim", "--help"], none, 1000, none, 2, USAGE),
+        (
+            &["shim", "run", "q.shim"],
+            none,
+            1000,
+            none,
+            6,
+            "file failed q.shim\n",
+        ),
+        (&["shim", "run", ""], none, 1000, none, 6, "file failed \n"),
+        (run, &[0], 1000, none, 6, "file failed p.shim\n"),
+        (run, &[1], 1000, none, 0, REPORT),
+        // The text goes out in six pieces of at most four bytes.
+        (run, none, 4, none, 0, REPORT),
+        (run, none, 4, &[6], 0, REPORT),
+        (run, none, 4, &[5], 7, "output 1 41\nend done"),
+        (run, none, 4, &[1], 7, "outp"),
+        (run, none, 4, &[0], 7, ""),
+        (&["shim"], none, 4, &[1], 7, "usag"),
+        (run, &[0], 4, &[2], 7, "file fai"),
+    ] {
+        let (got, bytes) = outcome(alloc, words, PUTS_A.as_bytes(), reads, most, writes)?;
+        assert_eq!(rt; got, status);
+        assert_eq!(rt; bytes.as_slice(), text.as_bytes());
+    }
+    Ok(())
+}
+
+#[test]
+fn a_folder_is_no_source(rt: HostRuntime) -> Result<(), Fail> {
+    let alloc = rt.alloc();
+    fs::create_dir(&rt, "folder.shim")?;
+    let mut files = HostFiles::new(alloc, &rt);
+    let mut out = sink(alloc, 1000, &[])?;
+    let words = strings(alloc, &["shim", "run", "folder.shim"])?;
+    assert_eq!(rt; shim(alloc, &words, &mut files, &mut out), 6);
+    assert_eq!(rt; out.taken(), b"file failed folder.shim\n".as_slice());
+    Ok(())
+}
+
+#[test]
+fn words_that_could_not_be_had_ask_for_nothing(rt: HostRuntime) -> Result<(), Fail> {
+    let alloc = rt.alloc();
+    for (kind, wanted, text) in [
+        (ErrorKind::InvalidData, 2, USAGE),
+        (ErrorKind::OutOfMemory, 8, "no memory\n"),
+    ] {
+        let mut files = files(alloc, PUTS_A.as_bytes(), &[])?;
+        let mut out = sink(alloc, 1000, &[])?;
+        let got = status(alloc, Err(io::Error::from(kind)), &mut files, &mut out);
+        assert_eq!(rt; got, wanted);
+        assert_eq!(rt; out.taken(), text.as_bytes());
+    }
+    Ok(())
+}

@@ -1,0 +1,15 @@
+pub mod CutSteps
+pub mod DigitLemmas
+pub mod ExecuteLemmas
+pub mod FormLemmas
+pub mod Programs
+pub mod Readers
+pub mod Refusals
+pub mod RowLemmas
+pub mod RunLemmas
+pub mod Statements
+pub mod Sums
+pub mod TableLemmas
+pub mod TokenSteps
+pub mod Totals
+pub mod ValueLemmas

@@ -1,0 +1,161 @@
+-- The rows of the statuses, from what one call is.
+use Rattle.std.proofs.Common.{ℕ, ◌≡◌, ◌<◌, ◌≤◌, ◌⊎◌, List, length, Option, Some, None, IfSome, IsSomeAnd, IsSome, refl, inl, inr, sym, ◌∙◌, subst, ap, arith}
+use Rattle.shim_edge.specs.Count.{HasRisen}
+use Rattle.shim_edge.specs.Files.{file_of, IsHeld}
+use Rattle.shim_edge.specs.Sink.{then_bytes, TakesPart}
+use Rattle.shim_syntax.specs.declared.Stmt.{Stmt}
+use Rattle.shim_tool.specs.declared.mode.Mode.{Mode}
+use Rattle.shim_tool.specs.Asked.{Asked, nothing, job}
+use Rattle.shim_tool.specs.Moments.{FilesAt, SinkAt}
+use Rattle.shim_tool.specs.Source.{IsSource}
+use Rattle.shim_tool.specs.Answer.{Answer, Answers, AnswersSource, AnswersSeen, MayAnswer, ReadFailed, IsTooLong, IsContent, IsNoSource, Seen, unread, longer, whole, Sees, source_limit, text_of, refused_line, memory_line}
+use Rattle.shim_tool.specs.Call.{Ran, Writes}
+use Rattle.shim_tool.specs.Rows.{Came, Comes, Holds, WasRead, DoneRow, RefusedRow, IsComplete}
+
+-- What came of an answer: it was written, or memory was wanted, or the sink failed.
+pub data Wrote (ask : Asked) (before now : FilesAt) (ob on : SinkAt) (result : ℕ) : Type 0 where
+  answered : (answer : Answer) → Answers ask before now answer → Came answer.status answer.text ob on result → Wrote ask before now ob on result
+  lacked : Came 8 memory_line ob on result → Wrote ask before now ob on result
+  failed : (answer : Answer) → MayAnswer ask before now answer → result ≡ 7 → HasRisen ob.faults on.faults → TakesPart ob.taken answer.text on.taken → Wrote ask before now ob on result
+
+wrote : (ask : Asked) (before now : FilesAt) (ob on : SinkAt) (result : ℕ) → Ran ask before now ob on result → Wrote ask before now ob on result
+wrote ask before now ob on result r = by_write r.answer r.cause r.written where
+  by_write : (answer : Answer) → MayAnswer ask before now answer → Writes ob on answer result → Wrote ask before now ob on result
+  by_write answer cause (inr (is, part, rose, later)) = failed answer cause is rose part
+  by_write answer (inl found) (inl (is, taken, calm)) = answered answer found (is, taken)
+  by_write answer (inr (grew, lack)) (inl (is, taken, calm)) =
+      lacked (is ∙ ap (λ (a : Answer). a.status) lack, taken ∙ ap (λ (a : Answer). then_bytes ob.taken a.text) lack)
+
+-- the bytes that were read are those that the files hold
+held_bytes : (before : FilesAt) (name held bytes : List ℕ) → Holds before name held → IsContent name before bytes → bytes ≡ held
+held_bytes before name held bytes h content = agree before.held h.told content.1 where
+  agree : (o : Option (List (List ℕ × List ℕ))) → o ≡ Some h.files → IfSome o (λ files. file_of files name ≡ Some bytes) → bytes ≡ held
+  agree None e c = absurd (cc)
+  agree (Some files) e c = let f : file_of files name ≡ Some held = ap (λ (l : List (List ℕ × List ℕ)). file_of l name) (let g : files ≡ h.files = cc in g) ∙ h.found in cc
+
+-- a file that is told and too long has more bytes than a source may have
+held_too_long : (before : FilesAt) (name held : List ℕ) → Holds before name held → IsTooLong name before → source_limit < length held
+held_too_long before name held h long = agree before.held h.told long where
+  agree : (o : Option (List (List ℕ × List ℕ))) → o ≡ Some h.files → IfSome o (λ files. IsSomeAnd (file_of files name) (λ bytes. source_limit < length bytes)) → source_limit < length held
+  agree None e c = absurd (cc)
+  agree (Some files) e c =
+      let f : file_of files name ≡ Some held = ap (λ (l : List (List ℕ × List ℕ)). file_of l name) (let g : files ≡ h.files = cc in g) ∙ h.found in
+      let P : Option (List ℕ) → Type 0 = λ o. IsSomeAnd o (λ bytes. source_limit < length bytes) in subst P f c
+
+is_held : (before : FilesAt) (name held : List ℕ) → Holds before name held → IsHeld before.held name
+is_held before name held h = agree before.held h.told where
+  agree : (o : Option (List (List ℕ × List ℕ))) → o ≡ Some h.files → IsHeld o name
+  agree None e = absurd (cc)
+  agree (Some files) e =
+      let f : file_of files name ≡ Some held = ap (λ (l : List (List ℕ × List ℕ)). file_of l name) (let g : files ≡ h.files = cc in g) ∙ h.found in
+      let P : Option (List ℕ) → Type 0 = λ o. IsSome o in subst P (sym f) refl
+
+-- What came of a file that is told and no longer than a source: its source was answered, or the read failed, or memory was wanted, or the sink failed.
+pub data CameOf (mode : Mode) (name bytes : List ℕ) (before now : FilesAt) (ob on : SinkAt) (result : ℕ) : Type 0 where
+  of_source : (answer : Answer) → AnswersSource mode bytes answer → Came answer.status answer.text ob on result → CameOf mode name bytes before now ob on result
+  unreadable : result ≡ 6 → ReadFailed name before now → CameOf mode name bytes before now ob on result
+  wanting : result ≡ 8 → CameOf mode name bytes before now ob on result
+  unwritten : result ≡ 7 → HasRisen ob.faults on.faults → CameOf mode name bytes before now ob on result
+
+came_of : (ask : Asked) (mode : Mode) (name bytes : List ℕ) (before now : FilesAt) (ob on : SinkAt) (result : ℕ) → Ran ask before now ob on result →
+    ask ≡ job mode name → Holds before name bytes → length bytes ≤ source_limit → CameOf mode name bytes before now ob on result
+came_of ask mode name bytes before now ob on result ran asks h within = by_wrote (wrote (job mode name) before now ob on result (let P : Asked → Type 0 = λ a. Ran a before now ob on result in subst P asks ran)) where
+  by_seen : (answer : Answer) (seen : Seen) → Sees name before now seen → AnswersSeen mode name seen answer → Came answer.status answer.text ob on result → CameOf mode name bytes before now ob on result
+  by_seen answer unread sees is came = unreadable (came.0 ∙ ap (λ (a : Answer). a.status) is) sees
+  by_seen answer longer sees is came = absurd (let l : source_limit < length bytes = held_too_long before name bytes h sees.1 in omega arith)
+  by_seen answer (whole seen) sees is came =
+      let P : List ℕ → Type 0 = λ b. AnswersSource mode b answer in
+      of_source answer (subst P (held_bytes before name bytes seen h sees.1) is) came
+
+  by_wrote : Wrote (job mode name) before now ob on result → CameOf mode name bytes before now ob on result
+  by_wrote (answered answer (seen, sees, is) came) = by_seen answer seen sees is came
+  by_wrote (lacked came) = wanting came.0
+  by_wrote (failed answer may is rose part) = unwritten is rose
+
+-- a source's text was answered with 0
+done_with : (mode : Mode) (bytes : List ℕ) (body : List Stmt) (answer : Answer) (ob on : SinkAt) (result : ℕ) → IsSource bytes body → AnswersSource mode bytes answer →
+    Came answer.status answer.text ob on result → Came 0 (text_of mode body) ob on result
+done_with mode bytes body answer ob on result source (inl (other, only, is)) came =
+    let same : body ≡ other = only.only body source in
+    let text : answer.text ≡ text_of mode body = ap (λ (a : Answer). a.text) is ∙ sym (ap (λ (b : List Stmt). text_of mode b) same) in
+    (came.0 ∙ ap (λ (a : Answer). a.status) is, came.1 ∙ ap (λ (t : List ℕ). then_bytes ob.taken t) text)
+done_with mode bytes body answer ob on result source (inr (none, is)) came = absurd (none body source)
+
+refused_with : (mode : Mode) (bytes : List ℕ) (answer : Answer) (ob on : SinkAt) (result : ℕ) → IsNoSource bytes → AnswersSource mode bytes answer →
+    Came answer.status answer.text ob on result → Came 5 refused_line ob on result
+refused_with mode bytes answer ob on result none (inl (body, only, is)) came = absurd (none body only.source)
+refused_with mode bytes answer ob on result none (inr (_, is)) came = (came.0 ∙ ap (λ (a : Answer). a.status) is, came.1 ∙ ap (λ (a : Answer). then_bytes ob.taken a.text) is)
+
+pub done_row : (ask : Asked) (before now : FilesAt) (ob on : SinkAt) (result : ℕ) → Ran ask before now ob on result → DoneRow ask before now ob on result
+done_row ask before now ob on result ran = record {
+  only = only ask ran;
+  when = λ mode name bytes body asks h within source. when mode name bytes body source (came_of ask mode name bytes before now ob on result ran asks h within);
+} where
+  when : (mode : Mode) (name bytes : List ℕ) (body : List Stmt) → IsSource bytes body → CameOf mode name bytes before now ob on result →
+      Comes 0 (text_of mode body) ob on result ⊎ ((result ≡ 6) × ReadFailed name before now)
+  when mode name bytes body source (of_source answer is came) = inl (inl (done_with mode bytes body answer ob on result source is came))
+  when mode name bytes body source (unreadable is read) = inr (is, read)
+  when mode name bytes body source (wanting is) = inl (inr (inr is))
+  when mode name bytes body source (unwritten is rose) = inl (inr (inl is))
+
+  by_source : (mode : Mode) (name bytes : List ℕ) (answer : Answer) → now.failed ≡ before.failed → IsContent name before bytes → AnswersSource mode bytes answer → Came answer.status answer.text ob on result → result ≡ 0 →
+      (now.failed ≡ before.failed) × (m : Mode) × (bs : List ℕ) × (body : List Stmt) × WasRead (job mode name) m before bs × IsSource bs body × (on.taken ≡ then_bytes ob.taken (text_of m body))
+  by_source mode name bytes answer same content (inl (body, only, is)) came zero =
+      (same, mode, bytes, body, record { name = name; asked = refl; content = content }, only.source, came.1 ∙ ap (λ (a : Answer). then_bytes ob.taken a.text) is)
+  by_source mode name bytes answer same content (inr (none, is)) came zero = absurd (let e : answer.status ≡ 5 = ap (λ (a : Answer). a.status) is in omega (arith, e, came.0))
+
+  by_seen : (mode : Mode) (name : List ℕ) (answer : Answer) (seen : Seen) → Sees name before now seen → AnswersSeen mode name seen answer → Came answer.status answer.text ob on result → result ≡ 0 →
+      (now.failed ≡ before.failed) × (m : Mode) × (bs : List ℕ) × (body : List Stmt) × WasRead (job mode name) m before bs × IsSource bs body × (on.taken ≡ then_bytes ob.taken (text_of m body))
+  by_seen mode name answer unread sees is came zero = absurd (let e : answer.status ≡ 6 = ap (λ (a : Answer). a.status) is in omega (arith, e, came.0))
+  by_seen mode name answer longer sees is came zero = absurd (let e : answer.status ≡ 6 = ap (λ (a : Answer). a.status) is in omega (arith, e, came.0))
+  by_seen mode name answer (whole bytes) sees is came zero = by_source mode name bytes answer sees.0 sees.1 is came zero
+
+  by_wrote : (a : Asked) → Wrote a before now ob on result → result ≡ 0 →
+      (now.failed ≡ before.failed) × (mode : Mode) × (bytes : List ℕ) × (body : List Stmt) × WasRead a mode before bytes × IsSource bytes body × (on.taken ≡ then_bytes ob.taken (text_of mode body))
+  by_wrote a (lacked came) zero = absurd (omega (arith, came.0))
+  by_wrote a (failed answer may is rose part) zero = absurd (omega arith)
+  by_wrote nothing (answered answer (same, is) came) zero = absurd (let e : answer.status ≡ 2 = ap (λ (a : Answer). a.status) is in omega (arith, e, came.0))
+  by_wrote (job mode name) (answered answer (seen, sees, is) came) zero = by_seen mode name answer seen sees is came zero
+
+  only : (a : Asked) → Ran a before now ob on result → result ≡ 0 →
+      (now.failed ≡ before.failed) × (mode : Mode) × (bytes : List ℕ) × (body : List Stmt) × WasRead a mode before bytes × IsSource bytes body × (on.taken ≡ then_bytes ob.taken (text_of mode body))
+  only a ran zero = by_wrote a (wrote a before now ob on result ran) zero
+
+pub refused_row : (ask : Asked) (before now : FilesAt) (ob on : SinkAt) (result : ℕ) → Ran ask before now ob on result → RefusedRow ask before now ob on result
+refused_row ask before now ob on result ran = record {
+  only = λ five. by_wrote ask (wrote ask before now ob on result ran) five;
+  when = λ mode name bytes asks h within none. when mode name bytes none (came_of ask mode name bytes before now ob on result ran asks h within);
+} where
+  when : (mode : Mode) (name bytes : List ℕ) → IsNoSource bytes → CameOf mode name bytes before now ob on result →
+      Comes 5 refused_line ob on result ⊎ ((result ≡ 6) × ReadFailed name before now)
+  when mode name bytes none (of_source answer is came) = inl (inl (refused_with mode bytes answer ob on result none is came))
+  when mode name bytes none (unreadable is read) = inr (is, read)
+  when mode name bytes none (wanting is) = inl (inr (inr is))
+  when mode name bytes none (unwritten is rose) = inl (inr (inl is))
+
+  by_source : (mode : Mode) (name bytes : List ℕ) (answer : Answer) → now.failed ≡ before.failed → IsContent name before bytes → AnswersSource mode bytes answer → Came answer.status answer.text ob on result → result ≡ 5 →
+      (now.failed ≡ before.failed) × (m : Mode) × (bs : List ℕ) × WasRead (job mode name) m before bs × IsNoSource bs × (on.taken ≡ then_bytes ob.taken refused_line)
+  by_source mode name bytes answer same content (inl (body, only, is)) came five = absurd (let e : answer.status ≡ 0 = ap (λ (a : Answer). a.status) is in omega (arith, e, came.0))
+  by_source mode name bytes answer same content (inr (none, is)) came five =
+      (same, mode, bytes, record { name = name; asked = refl; content = content }, none, came.1 ∙ ap (λ (a : Answer). then_bytes ob.taken a.text) is)
+
+  by_seen : (mode : Mode) (name : List ℕ) (answer : Answer) (seen : Seen) → Sees name before now seen → AnswersSeen mode name seen answer → Came answer.status answer.text ob on result → result ≡ 5 →
+      (now.failed ≡ before.failed) × (m : Mode) × (bs : List ℕ) × WasRead (job mode name) m before bs × IsNoSource bs × (on.taken ≡ then_bytes ob.taken refused_line)
+  by_seen mode name answer unread sees is came five = absurd (let e : answer.status ≡ 6 = ap (λ (a : Answer). a.status) is in omega (arith, e, came.0))
+  by_seen mode name answer longer sees is came five = absurd (let e : answer.status ≡ 6 = ap (λ (a : Answer). a.status) is in omega (arith, e, came.0))
+  by_seen mode name answer (whole bytes) sees is came five = by_source mode name bytes answer sees.0 sees.1 is came five
+
+  by_wrote : (a : Asked) → Wrote a before now ob on result → result ≡ 5 →
+      (now.failed ≡ before.failed) × (mode : Mode) × (bytes : List ℕ) × WasRead a mode before bytes × IsNoSource bytes × (on.taken ≡ then_bytes ob.taken refused_line)
+  by_wrote a (lacked came) five = absurd (omega (arith, came.0))
+  by_wrote a (failed answer may is rose part) five = absurd (omega arith)
+  by_wrote nothing (answered answer (same, is) came) five = absurd (let e : answer.status ≡ 2 = ap (λ (a : Answer). a.status) is in omega (arith, e, came.0))
+  by_wrote (job mode name) (answered answer (seen, sees, is) came) five = by_seen mode name answer seen sees is came five
+
+pub complete : (ask : Asked) (before now : FilesAt) (ob on : SinkAt) (result : ℕ) → Ran ask before now ob on result → IsComplete ask before ob on result
+complete ask before now ob on result ran mode name bytes body asks sound h within source calm = by_came (came_of ask mode name bytes before now ob on result ran asks h within) where
+  by_came : CameOf mode name bytes before now ob on result → Came 0 (text_of mode body) ob on result ⊎ (result ≡ 8)
+  by_came (of_source answer is came) = inl (done_with mode bytes body answer ob on result source is came)
+  by_came (unreadable is read) = absurd (read.1 sound (is_held before name bytes h))
+  by_came (wanting is) = inr is
+  by_came (unwritten is rose) = absurd (calm rose)

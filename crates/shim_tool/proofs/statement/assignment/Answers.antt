@@ -1,0 +1,23 @@
+use Rattle.std.proofs.Common.{◌∷◌}
+use Rattle.std.proofs.lemmas.Result.{err_from_is_err_and}
+use Rattle.shim_syntax.specs.Grammar.{IsStmt}
+use Rattle.shim_tool.specs.Parts.{IsEnded}
+use Rattle.shim_tool.specs.TokenView.{token_view}
+use Rattle.shim_tool.proofs.Refusals.{refuses}
+use Rattle.shim_tool.proofs.Statements.{assigned_sign, assigned_sum, assigned_is}
+use Rattle.shim_tool.proofs.statement.assignment.Goals as goal
+
+pub returns-then-not-take_sign : goal.returns-then-not-take_sign
+returns-then-not-take_sign c = λ m x h.
+    let gone = c.if-not-take_sign.ensures in
+    let p = assigned_sign _ _ c.requires m x h in
+    gone.1 p.0 p.1
+
+pub returns-in_err-value : goal.returns-in_err-value
+returns-in_err-value c =
+    let p = err_from_is_err_and c.from_residual.result c.from_residual.ensures.1 in
+    rw (p.1, p.2) (refuses IsEnded IsStmt c.take_sign.new.self c.sum.new.tokens (token_view c.args.name.now ∷ c.args.tokens.now) c.sum.new.tokens c.in_err-value.field-0.0 c.in_err-value.ensures
+    (assigned_sum (token_view c.args.name.now) c.args.tokens.now c.take_sign.new.self c.requires c.if-not-take_sign.ensures))
+
+pub returns : goal.returns
+returns c = assigned_is _ _ _ _ _ _ c.requires c.if-not-take_sign.ensures c.in_ok-value.ensures c.in_ok-target.ensures

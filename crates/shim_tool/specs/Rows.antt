@@ -1,0 +1,85 @@
+-- When each status comes, and with which text: each row follows from what one call is.
+use Rattle.std.specs.Prelude.{ℕ, ◌≡◌, ◌≢◌, ◌<◌, ◌≤◌, ◌⊎◌, IsTrue, List, length, Some}
+use Rattle.shim_edge.specs.Count.{HasRisen}
+use Rattle.shim_edge.specs.Files.{file_of}
+use Rattle.shim_edge.specs.Sink.{then_bytes, TakesPart}
+use Rattle.shim_syntax.specs.declared.Stmt.{Stmt}
+use Rattle.shim_tool.specs.declared.mode.Mode.{Mode}
+use Rattle.shim_tool.specs.Asked.{Asked, nothing, job}
+use Rattle.shim_tool.specs.Moments.{FilesAt, SinkAt}
+use Rattle.shim_tool.specs.Source.{IsSource}
+use Rattle.shim_tool.specs.Answer.{Answer, MayAnswer, FailedGrew, ReadFailed, IsTooLong, IsContent, IsNoSource, source_limit, text_of, usage_line, refused_line, failed_line, longer_line, memory_line}
+
+-- this status came with this text, whole
+abbrev pub Came : ℕ → List ℕ → SinkAt → SinkAt → ℕ → Type 0
+Came status text out_before out_now result = (result ≡ status) × (out_now.taken ≡ then_bytes out_before.taken text)
+
+-- this status came with this text, or the sink failed, or memory was wanted
+abbrev pub Comes : ℕ → List ℕ → SinkAt → SinkAt → ℕ → Type 0
+Comes status text out_before out_now result = Came status text out_before out_now result ⊎ (result ≡ 7) ⊎ (result ≡ 8)
+
+-- the files are told, and hold these bytes under the name
+pub record Holds (before : FilesAt) (name bytes : List ℕ) : Type 0 where
+  pub files : List (List ℕ × List ℕ)
+  pub told : before.held ≡ Some files
+  pub found : file_of files name ≡ Some bytes
+
+-- the bytes of the file that the call was asked to read were read
+pub record WasRead (ask : Asked) (mode : Mode) (before : FilesAt) (bytes : List ℕ) : Type 0 where
+  pub name : List ℕ
+  pub asked : ask ≡ job mode name
+  pub content : IsContent name before bytes
+
+-- 0: exactly where the file is a source, with the text of its mode, which for `run` is the report of its meaning
+pub record DoneRow (ask : Asked) (before now : FilesAt) (out_before out_now : SinkAt) (result : ℕ) : Type 0 where
+  pub only : result ≡ 0 → (now.failed ≡ before.failed) × (mode : Mode) × (bytes : List ℕ) × (body : List Stmt) × WasRead ask mode before bytes × IsSource bytes body
+      × (out_now.taken ≡ then_bytes out_before.taken (text_of mode body))
+  pub when : (mode : Mode) (name bytes : List ℕ) (body : List Stmt) → ask ≡ job mode name → Holds before name bytes → length bytes ≤ source_limit → IsSource bytes body
+      → Comes 0 (text_of mode body) out_before out_now result ⊎ ((result ≡ 6) × ReadFailed name before now)
+
+-- 2: exactly where the words ask for nothing
+pub record WordsRow (ask : Asked) (out_before out_now : SinkAt) (result : ℕ) : Type 0 where
+  pub only : result ≡ 2 → (ask ≡ nothing) × (out_now.taken ≡ then_bytes out_before.taken usage_line)
+  pub when : ask ≡ nothing → Comes 2 usage_line out_before out_now result
+
+-- 5: exactly where the file is no source
+pub record RefusedRow (ask : Asked) (before now : FilesAt) (out_before out_now : SinkAt) (result : ℕ) : Type 0 where
+  pub only : result ≡ 5 → (now.failed ≡ before.failed) × (mode : Mode) × (bytes : List ℕ) × WasRead ask mode before bytes × IsNoSource bytes
+      × (out_now.taken ≡ then_bytes out_before.taken refused_line)
+  pub when : (mode : Mode) (name bytes : List ℕ) → ask ≡ job mode name → Holds before name bytes → length bytes ≤ source_limit → IsNoSource bytes
+      → Comes 5 refused_line out_before out_now result ⊎ ((result ≡ 6) × ReadFailed name before now)
+
+-- why a file line is written: a read of the file failed in this call, or it is too long
+abbrev pub FileCause : Asked → FilesAt → FilesAt → SinkAt → SinkAt → Type 0
+FileCause ask before now out_before out_now = (mode : Mode) × (name : List ℕ) × (ask ≡ job mode name) ×
+    ((ReadFailed name before now × (out_now.taken ≡ then_bytes out_before.taken (failed_line name)))
+    ⊎ ((now.failed ≡ before.failed) × IsTooLong name before × (out_now.taken ≡ then_bytes out_before.taken (longer_line name))))
+
+-- 6: failed, only where a read of the file failed in this call; too long, exactly where it has more than a source may have
+pub record FileRow (ask : Asked) (before now : FilesAt) (out_before out_now : SinkAt) (result : ℕ) : Type 0 where
+  pub only : result ≡ 6 → FileCause ask before now out_before out_now
+  pub when : (mode : Mode) (name bytes : List ℕ) → ask ≡ job mode name → Holds before name bytes → source_limit < length bytes
+      → Comes 6 (longer_line name) out_before out_now result ⊎ ((result ≡ 6) × ReadFailed name before now)
+
+-- 7: only where the sink's count of faults rose in this call, with a part taken of the text that was to be written; and wherever the count moved
+pub record SinkRow (ask : Asked) (before now : FilesAt) (out_before out_now : SinkAt) (result : ℕ) : Type 0 where
+  pub only : result ≡ 7 → HasRisen out_before.faults out_now.faults
+      × (answer : Answer) × MayAnswer ask before now answer × TakesPart out_before.taken answer.text out_now.taken
+  pub when : out_now.faults ≢ out_before.faults → result ≡ 7
+  pub never_falls : out_before.faults ≤ out_now.faults
+
+-- 8: want of memory, which has no cause; its line is written
+abbrev pub MemoryRow : SinkAt → SinkAt → ℕ → Type 0
+MemoryRow out_before out_now result = result ≡ 8 → out_now.taken ≡ then_bytes out_before.taken memory_line
+
+-- Whatever the answer, the files stay as they were, and the failed names have grown by nothing but a name that was asked for.
+pub record FilesRow (ask : Asked) (before now : FilesAt) : Type 0 where
+  pub held : now.held ≡ before.held
+  pub sound : now.sound ≡ before.sound
+  pub grew : FailedGrew ask before now
+
+-- Over sound files that hold a source, and a sink that doesn't fail, its whole text is written, unless memory is wanted.
+abbrev pub IsComplete : Asked → FilesAt → SinkAt → SinkAt → ℕ → Type 0
+IsComplete ask before out_before out_now result = (mode : Mode) (name bytes : List ℕ) (body : List Stmt) → ask ≡ job mode name → IsTrue before.sound → Holds before name bytes
+    → length bytes ≤ source_limit → IsSource bytes body → (HasRisen out_before.faults out_now.faults → ⊥)
+    → Came 0 (text_of mode body) out_before out_now result ⊎ (result ≡ 8)

@@ -1,0 +1,74 @@
+// Answers, and the lines that they write.
+ghost use Rattle.std.specs.Prelude.{◌≡◌, IfOk};
+ghost use Rattle.shim_tool.specs.Answer as answers;
+ghost use Rattle.shim_tool.specs.Views.{answer_view};
+
+use crate::status::Status;
+use shim_base::{List, NoMemory, push_decimal};
+use std::alloc::Global;
+
+/// The most bytes that a source has.
+pub(crate) const SOURCE_LIMIT: usize = 1048576;
+
+/// A status, and the text that is written with it.
+#[derive(Drop)]
+pub(crate) struct Answer {
+    pub(crate) status: Status,
+    pub(crate) text: List<u8>,
+}
+
+/// The answer to words that ask for nothing.
+#[tactic(auto, unfolding(crate::specs::Answer::usage_line))]
+pub(crate) fn usage(alloc: Global) -> Result<Answer, NoMemory>
+    ensures { IfOk result (λ a. answer_view a ≡ answers.usage) }
+{
+    let line =
+        "usage: shim MODE FILE [--input FILE] [--workers N] [--budget B] [--quantum Q] [--size N]\n";
+    Ok(Answer {
+        status: Status::Usage,
+        text: List::from_slice(alloc, line.as_bytes())?,
+    })
+}
+
+/// The answer to bytes that are no source.
+#[tactic(auto, unfolding(crate::specs::Answer::refused_line))]
+pub(crate) fn refused(alloc: Global) -> Result<Answer, NoMemory>
+    ensures { IfOk result (λ a. answer_view a ≡ answers.refused) }
+{
+    Ok(Answer {
+        status: Status::Refused,
+        text: List::from_slice(alloc, b"refused 1 not built\n")?,
+    })
+}
+
+/// The answer to a file that could not be read.
+#[tactic(auto, unfolding(crate::specs::Answer::failed_line))]
+pub(crate) fn file_failed(alloc: Global, file: &str) -> Result<Answer, NoMemory>
+    ensures { IfOk result (λ a. answer_view a ≡ record { status = 6; text = answers.failed_line file.now }) }
+{
+    let mut text = List::new(alloc);
+    text.extend_from_slice(b"file failed ")?;
+    text.extend_from_slice(file.as_bytes())?;
+    text.extend_from_slice(b"\n")?;
+    Ok(Answer {
+        status: Status::FileFault,
+        text,
+    })
+}
+
+/// The answer to a file that is longer than a source may be.
+#[tactic(auto, unfolding(crate::specs::Answer::longer_line))]
+pub(crate) fn file_too_long(alloc: Global, file: &str) -> Result<Answer, NoMemory>
+    ensures { IfOk result (λ a. answer_view a ≡ record { status = 6; text = answers.longer_line file.now }) }
+{
+    let mut text = List::new(alloc);
+    text.extend_from_slice(b"file too long ")?;
+    text.extend_from_slice(file.as_bytes())?;
+    text.extend_from_slice(b" ")?;
+    push_decimal(&mut text, SOURCE_LIMIT as u64)?;
+    text.extend_from_slice(b"\n")?;
+    Ok(Answer {
+        status: Status::FileFault,
+        text,
+    })
+}

@@ -1,0 +1,7 @@
+// What is done with a source.
+
+#[derive(Clone, Copy, Debug, PartialEq, Eq)]
+pub enum Mode {
+    /// It is run, and the run is reported.
+    Run,
+}
