@@ -45,7 +45,7 @@ void *aligned_alloc(size_t a, size_t n) {
 C
 gcc -O1 -shared -fPIC -o "$room/refuse.so" "$room/refuse.c" -ldl
 
-./shim run "$source" > "$room/as_ever"
+./shim run "$source" > "$room/as_ever" || { cat "$room/as_ever"; exit 1; }
 wanting=0
 for number in $(seq 1 100000); do
   status=0

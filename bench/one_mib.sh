@@ -7,7 +7,7 @@ rounds=${1:-5}
 room=$(mktemp -d)
 trap 'rm -rf "$room"' EXIT
 
-# Statements of 16 bytes, so that source and C text are 1,048,576 bytes each, to the byte.
+# Statements of some 16 bytes, and spaces, so that source and C text are 1,048,576 bytes each, to the byte.
 text() { # HEAD TAIL PUT
   awk -v head="$1" -v tail="$2" -v put="$3" 'BEGIN {
     size = 1048576; printf "%s", head; left = size - length(head) - length(tail)
