@@ -1,3 +1,5 @@
 pub mod formers
 pub mod Value
+pub mod Operators
 pub mod Tokens
+pub mod Cutting

@@ -1,8 +1,10 @@
 -- The tokens of a text: which bytes make which token, and how a text is cut into them.
-use Rattle.std.specs.Prelude.{ℕ, ◌+◌, ◌*◌, ◌-◌, ◌^◌, ◌≤◌, ◌≡◌, pos, ◌<ℤ◌, Bool, true, false, ◌&&◌, ◌||◌, nat_le, ◌==◌, IsTrue, List, [], ◌∷◌, ◌++◌, length, fold, Option, Some, None, if◌then◌else◌, bytes_eq, codes}
+use Rattle.std.specs.Prelude.{ℕ, ◌+◌, ◌*◌, ◌-◌, ◌^◌, ◌≤◌, ◌<◌, ◌≡◌, ◌≢◌, ◌⊎◌, pos, ◌<ℤ◌, Bool, true, false, ◌&&◌, ◌||◌, nat_le, ◌==◌, IsTrue, List, [], ◌∷◌, ◌++◌, length, drop, fold, count_by, All, Option, Some, None, if◌then◌else◌, bytes_eq, codes}
 use Rattle.std.specs.List.{list_all}
 use Rattle.shim_base.specs.declared.token.TokenKind.{TokenKind}
 use Rattle.shim_base.specs.declared.token.TokenKind.TheVariants.{Word, Key, Number, Sign as SignKind}
+use Rattle.shim_base.specs.declared.token.LexKind.{LexKind}
+use Rattle.shim_base.specs.declared.token.LexKind.TheVariants.{BadByte, LongName, BigNumber, OpenComment}
 use Rattle.shim_base.specs.declared.token.Keyword.{Keyword}
 use Rattle.shim_base.specs.declared.token.Keyword.TheVariants as k
 use Rattle.shim_base.specs.declared.token.Sign.{Sign}
@@ -58,6 +60,10 @@ abbrev pub is_name : List ℕ → Bool
 is_name [] = false
 is_name (b ∷ bytes) = is_letter b && list_all is_name_byte bytes
 
+-- a digit from 0 to 9, from a to f, or from A to F
+abbrev pub is_hex_digit : ℕ → Bool
+is_hex_digit b = is_digit b || (nat_le 97 b && nat_le b 102) || (nat_le 65 b && nat_le b 70)
+
 -- one decimal digit or more
 abbrev pub is_numeral : List ℕ → Bool
 is_numeral [] = false
@@ -70,11 +76,30 @@ with_digit n digit = n * 10 + (digit - 48)
 abbrev pub value : List ℕ → ℕ
 value digits = fold with_digit 0 digits
 
+-- `0x` or `0X`, and then one hexadecimal digit or more
+abbrev pub is_hex_numeral : List ℕ → Bool
+is_hex_numeral (zero_digit ∷ x ∷ b ∷ bytes) = zero_digit == 48 && ((x == 120 || x == 88) && (is_hex_digit b && list_all is_hex_digit bytes))
+is_hex_numeral text = false
+
+abbrev pub hex_digit_value : ℕ → ℕ
+hex_digit_value b = if is_digit b then b - 48 else (if nat_le 97 b then b - 87 else b - 55)
+
+abbrev pub with_hex_digit : ℕ → ℕ → ℕ
+with_hex_digit n digit = n * 16 + hex_digit_value digit
+
+-- the number that hexadecimal digits stand for
+abbrev pub hex_value : List ℕ → ℕ
+hex_value digits = fold with_hex_digit 0 digits
+
+-- the text is a numeral, decimal or hexadecimal, and stands for this number
+abbrev pub IsNumeralOf : List ℕ → ℕ → Type 0
+IsNumeralOf text n = (IsTrue (is_numeral text) × (n ≡ value text)) ⊎ (IsTrue (is_hex_numeral text) × (n ≡ hex_value (drop 2 text)))
+
 -- the bytes make one token of this kind
 abbrev pub Spells : List ℕ → TokenKind → Type 0
 Spells text Word = IsTrue (is_name text) × (keyword_of text ≡ None)
 Spells text (Key key) = IsTrue (is_name text) × (keyword_of text ≡ Some key)
-Spells text (Number n) = IsTrue (is_numeral text) × (n ≡ pos (value text))
+Spells text (Number n) = (m : ℕ) × IsNumeralOf text m × (n ≡ pos m)
 Spells text (SignKind sign) = sign_of text ≡ Some sign
 
 -- a name has at most 64 bytes, and a number is below 2 ^ 63
@@ -90,19 +115,73 @@ pub record IsFirst (bytes text rest : List ℕ) (kind : TokenKind) : Type 0 wher
   pub spells : Spells text kind
   pub longest : (longer after : List ℕ) (other : TokenKind) → bytes ≡ longer ++ after → Spells longer other → length longer ≤ length text
 
--- a token, with its bytes and the line on which it stands
+-- a token, with its bytes, the place of the first of them in the text, counted from 0, and the line on which they stand
 pub record Token : Type 0 where
   pub kind : TokenKind
   pub text : List ℕ
+  pub at : ℕ
   pub line : ℕ
 
--- the line on which the byte after this one stands
-abbrev pub line_after : ℕ → ℕ → ℕ
-line_after line b = if b == 10 then line + 1 else line
+-- where a byte stands: its place in the text, and its line
+pub record Place : Type 0 where
+  pub at : ℕ
+  pub line : ℕ
 
--- The bytes, the first of which stands on this line, are cut into these tokens: spacing is passed over, and then the longest token taken.
-pub data Cuts : ℕ → List ℕ → List Token → Type 0 where
-  ended : (line : ℕ) → Cuts line [] []
-  spacing : (line b : ℕ) (bytes : List ℕ) (tokens : List Token) → is_spacing b ≡ true → Cuts (line_after line b) bytes tokens → Cuts line (b ∷ bytes) tokens
-  token : (line : ℕ) (bytes text rest : List ℕ) (kind : TokenKind) (tokens : List Token) → IsFirst bytes text rest kind → IsWithinLimits text kind
-      → Cuts line rest tokens → Cuts line bytes (record { kind = kind; text = text; line = line } ∷ tokens)
+-- the place after these bytes: lines are told apart by line feeds
+abbrev pub after : Place → List ℕ → Place
+after place bytes = record { at = place.at + length bytes; line = place.line + count_by (λ b. b == 10) bytes }
+
+abbrev pub line_opener : List ℕ
+line_opener = codes "//"
+
+abbrev pub block_opener : List ℕ
+block_opener = codes "/*"
+
+abbrev pub block_closer : List ℕ
+block_closer = codes "*/"
+
+-- the bytes begin with these
+abbrev pub Begins : List ℕ → List ℕ → Type 0
+Begins bytes front = (rest : List ℕ) × (bytes ≡ front ++ rest)
+
+-- a comment begins here
+abbrev pub IsComment : List ℕ → Type 0
+IsComment bytes = Begins bytes line_opener ⊎ Begins bytes block_opener
+
+-- what is passed over at once, at the front of bytes, and the rest: a byte of spacing, or a comment
+pub data Passes : List ℕ → List ℕ → List ℕ → Type 0 where
+  spacing : (b : ℕ) (rest : List ℕ) → is_spacing b ≡ true → Passes (b ∷ rest) (b ∷ []) rest
+  -- up to the next line feed, or the end of the text
+  line_comment : (inside rest : List ℕ) → All (λ b. b ≢ 10) inside → (rest ≡ []) ⊎ Begins rest (10 ∷ [])
+      → Passes (line_opener ++ (inside ++ rest)) (line_opener ++ inside) rest
+  -- up to the next `*/`, and with it
+  block_comment : (inside rest : List ℕ) → ((front : List ℕ) → Begins (inside ++ block_closer) (front ++ block_closer) → length inside ≤ length front)
+      → Passes (block_opener ++ (inside ++ (block_closer ++ rest))) (block_opener ++ (inside ++ block_closer)) rest
+
+-- why no token can be taken, where neither spacing nor a comment is passed over
+abbrev pub IsFault : LexKind → List ℕ → Type 0
+IsFault BadByte bytes = (bytes ≢ []) × (IsComment bytes → ⊥) × ((text rest : List ℕ) (kind : TokenKind) → IsFirst bytes text rest kind → ⊥)
+IsFault LongName bytes = (IsComment bytes → ⊥) × (text : List ℕ) × (rest : List ℕ) × IsFirst bytes text rest Word × (64 < length text)
+IsFault BigNumber bytes = (IsComment bytes → ⊥) × (text : List ℕ) × (rest : List ℕ) × (n : ℕ) × IsFirst bytes text rest (Number (pos n)) × (2 ^ 63 ≤ n)
+IsFault OpenComment bytes = Begins bytes block_opener × ((inside : List ℕ) → Begins bytes (block_opener ++ (inside ++ block_closer)) → ⊥)
+
+-- a fault and where it stands
+pub record Fault : Type 0 where
+  pub at : ℕ
+  pub line : ℕ
+  pub kind : LexKind
+
+-- The bytes, the first of which stands at this place, are cut into these tokens, up to the end or to this fault: spacing and comments are passed over, and then the longest token taken.
+pub data Cuts : Place → List ℕ → List Token → Option Fault → Type 0 where
+  ended : (place : Place) → Cuts place [] [] None
+  passed : (place : Place) (bytes over rest : List ℕ) (tokens : List Token) (end : Option Fault) → Passes bytes over rest → Cuts (after place over) rest tokens end
+      → Cuts place bytes tokens end
+  token : (place : Place) (bytes text rest : List ℕ) (kind : TokenKind) (tokens : List Token) (end : Option Fault) → (IsComment bytes → ⊥) → IsFirst bytes text rest kind
+      → IsWithinLimits text kind → Cuts (after place text) rest tokens end
+      → Cuts place bytes (record { kind = kind; text = text; at = place.at; line = place.line } ∷ tokens) end
+  faulty : (place : Place) (bytes : List ℕ) (kind : LexKind) → ((over rest : List ℕ) → Passes bytes over rest → ⊥) → IsFault kind bytes
+      → Cuts place bytes [] (Some (record { at = place.at; line = place.line; kind = kind }))
+
+-- the place of a text's first byte
+abbrev pub start : Place
+start = record { at = 0; line = 1 }

@@ -1,5 +1,5 @@
 -- What a variable of a type keeps of a number that is stored into it.
-use Rattle.std.specs.Prelude.{zero, ℤ, pos, negsuc, ◌+ℤ◌, ◌-ℤ◌, ◌≤ℤ◌, ◌<ℤ◌}
+use Rattle.std.specs.Prelude.{◌≡◌, zero, ℤ, pos, negsuc, ◌+ℤ◌, ◌-ℤ◌, ◌*ℤ◌, ◌≤ℤ◌, ◌<ℤ◌}
 use Rattle.std.specs.Int.{int_rem_euclid}
 use Rattle.shim_base.specs.declared.types.Ty.{Ty}
 use Rattle.shim_base.specs.declared.types.Ty.TheVariants.{Bool, Int8, Int16, Int32, Uint8, Uint16, Uint32}
@@ -37,3 +37,8 @@ abbrev pub stored : Ty → ℤ → ℤ
 stored Bool (pos zero) = pos 0
 stored Bool v = pos 1
 stored ty v = reduced ty v
+
+-- v and n are some whole multiple of the type's size apart
+pub record DiffersByMultiple (ty : Ty) (v n : ℤ) : Type 0 where
+  pub factor : ℤ
+  pub is : v ≡ n +ℤ factor *ℤ size ty

@@ -1,25 +1,26 @@
-//! The values that every layer speaks of: lists, boxes, names, types, tokens and numbers as text.
+//! The values that every layer speaks of: lists, boxes, names, types, operators, tokens and numbers as text.
 #![tactic(auto)]
 
 mod boxed;
 mod decimal;
-mod laws;
+pub mod laws;
 mod list;
 mod memory;
 mod name;
+mod operators;
 mod shared;
 mod token;
 mod types;
 
 pub use boxed::Boxed;
 pub use decimal::push_decimal;
-pub use laws::one_cutting;
 pub use list::List;
 pub use memory::NoMemory;
 pub use name::Name;
+pub use operators::{BinOp, Trap, UnOp, apply, apply1};
 pub use shared::Shared;
-pub use token::{Keyword, Sign, TokenKind};
-pub use types::{BinOp, Ty, store};
+pub use token::{Keyword, LexKind, Sign, TokenKind};
+pub use types::{Ty, store};
 
 #[cfg(test)]
 mod tests;

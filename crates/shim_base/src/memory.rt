@@ -1,8 +1,7 @@
 // Want of memory, as one error of its own.
 use std::alloc::{AllocError, AllocFailed};
 
-/// No memory was found. Of all refusals this one alone may come at any time; a caller that holds
-/// ample memory never sees it.
+/// No memory was found. Of all refusals this one alone may come at any time.
 #[derive(Clone, Copy, Debug, PartialEq, Eq)]
 pub struct NoMemory;
 

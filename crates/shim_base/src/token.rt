@@ -71,3 +71,16 @@ pub enum Sign {
     Less,
     Greater,
 }
+
+/// Why a text can't be cut into tokens from some byte on.
+#[derive(Clone, Copy, Debug, PartialEq, Eq)]
+pub enum LexKind {
+    /// The byte begins no token, no spacing and no comment.
+    BadByte,
+    /// A name has more than 64 bytes.
+    LongName,
+    /// A number is 2^63 or more.
+    BigNumber,
+    /// A comment that `/*` begins has no `*/` after it.
+    OpenComment,
+}

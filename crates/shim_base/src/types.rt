@@ -1,7 +1,7 @@
 // The types of variables, and what storing a number keeps of it.
-ghost use Rattle.std.specs.Prelude.{◌≡◌, ◌<◌, ◌≤◌, ◌+◌, ◌^◌, pos, ◌+ℤ◌, ◌-ℤ◌};
+ghost use Rattle.std.specs.Prelude.{◌≡◌, ◌≢◌, ◌<◌, ◌≤◌, ◌+◌, ◌^◌, pos, ◌+ℤ◌, ◌-ℤ◌};
 ghost use Rattle.std.specs.Int.{int_rem_euclid};
-ghost use Rattle.shim_base.specs.Value.{stored, FitsType};
+ghost use Rattle.shim_base.specs.Value.{stored, FitsType, DiffersByMultiple};
 
 /// The type of a variable; `int` is `Int32`.
 #[derive(Clone, Copy, Debug, PartialEq, Eq)]
@@ -15,17 +15,12 @@ pub enum Ty {
     Uint32,
 }
 
-/// An operator with two operands.
-#[derive(Clone, Copy, Debug, PartialEq, Eq)]
-pub enum BinOp {
-    Add,
-}
-
 /// What a variable of the type keeps of the number: the number modulo 2 to the type's width, in the
 /// type's range; of `Bool`, 1 for every number but 0.
 pub fn store(ty: Ty, v: i64) -> i64
     ensures value { result ≡ stored ty v }
     ensures fits { FitsType ty result }
+    ensures modulo { ty ≢ Ty.Bool → DiffersByMultiple ty v result }
 {
     match ty {
         Ty::Bool => i64::from(v != 0),

@@ -143,6 +143,13 @@ fn a_source_is_run_or_refused(rt: HostRuntime) -> Result<(), Fail> {
             NOT_BUILT,
         ),
         ("void main(ostream &o) { put o, -1; }", 5, NOT_BUILT),
+        (
+            "void main(ostream &o) { put o, 0x41; put o, 0X7fFfFfFf; }",
+            0,
+            "output 2 41ff\nend done 3\n",
+        ),
+        ("void main(ostream &o) { put o, 0x80000000; }", 5, NOT_BUILT),
+        ("void main(ostream &o) { put o, 2 * 3; }", 5, NOT_BUILT),
         // Names and keywords.
         ("void main(ostream &o) { int int8; }", 5, NOT_BUILT),
         (
@@ -177,7 +184,13 @@ fn a_source_is_run_or_refused(rt: HostRuntime) -> Result<(), Fail> {
         ("void main(ostream &o) { put o, 1 +; }", 5, NOT_BUILT),
         ("void main(ostream &o) { put o, 1 + + 2; }", 5, NOT_BUILT),
         ("void main(ostream &o) { put o, (1); }", 5, NOT_BUILT),
-        ("void main(ostream &o) { } // later", 5, NOT_BUILT),
+        // Comments.
+        (
+            "void main(ostream &o) { put o, 1 /* + 2 */; } // later",
+            0,
+            "output 1 01\nend done 2\n",
+        ),
+        ("void main(ostream &o) { /* open }", 5, NOT_BUILT),
         ("void main(ostream &o) {\0}", 5, NOT_BUILT),
         ("void main(ostream &o) { }\0", 5, NOT_BUILT),
         ("void main(ostream &ö) { }", 5, NOT_BUILT),

@@ -8,7 +8,7 @@ use Rattle.shim_syntax.specs.declared.tree.Stmt.{Stmt}
 use Rattle.shim_syntax.specs.declared.tree.Expr.{Expr}
 use Rattle.shim_syntax.specs.declared.tree.Expr.TheVariants as e
 use Rattle.shim_syntax.specs.declared.tree.What.TheVariants.{Assign, Put}
-use Rattle.shim_base.specs.declared.types.BinOp.TheVariants.{Add}
+use Rattle.shim_base.specs.declared.operators.BinOp.TheVariants.{Add}
 use Rattle.shim_syntax.specs.Grammar.{IsSign, IsAtom, number, variable, IsJoined, alone, joined, IsSum, sum, IsStmt, declare, assign, put, IsBody, closed, statement, IsProgram, program}
 
 -- an atom

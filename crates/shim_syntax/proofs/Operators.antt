@@ -1,7 +1,7 @@
 -- How many operators a sum has.
 use Rattle.std.proofs.Common.{◌≡◌, ◌≤◌, ◌+◌, ℕ, ℤ, List, sym, ap, ◌∙◌, arith}
-use Rattle.shim_base.specs.declared.types.BinOp.{BinOp}
-use Rattle.shim_base.specs.declared.types.BinOp.TheVariants.{Add}
+use Rattle.shim_base.specs.declared.operators.BinOp.{BinOp}
+use Rattle.shim_base.specs.declared.operators.BinOp.TheVariants.{Add}
 use Rattle.shim_base.specs.Tokens.{Token}
 use Rattle.shim_syntax.specs.declared.tree.Expr.{Expr, fold-roll-Expr}
 use Rattle.shim_syntax.specs.declared.tree.Expr.TheVariants as e

@@ -6,7 +6,7 @@ use Rattle.shim_base.specs.declared.token.Keyword.TheVariants.{Void, Int, Put as
 use Rattle.shim_base.specs.declared.token.Sign.{Sign}
 use Rattle.shim_base.specs.declared.token.Sign.TheVariants.{LeftParen, RightParen, LeftBrace, RightBrace, Comma, Semicolon, Equal, Amp, Plus}
 use Rattle.shim_base.specs.declared.types.Ty.TheVariants.{Int32}
-use Rattle.shim_base.specs.declared.types.BinOp.TheVariants.{Add}
+use Rattle.shim_base.specs.declared.operators.BinOp.TheVariants.{Add}
 use Rattle.shim_base.specs.Tokens.{Token}
 use Rattle.shim_syntax.specs.declared.tree.Program.{Program}
 use Rattle.shim_syntax.specs.declared.tree.Sort.TheVariants.{Output}

@@ -1,5 +1,4 @@
 pub mod CutSteps
-pub mod DigitLemmas
 pub mod ExecuteLemmas
 pub mod FormLemmas
 pub mod Programs
@@ -9,7 +8,5 @@ pub mod RowLemmas
 pub mod RunLemmas
 pub mod Statements
 pub mod Sums
-pub mod TableLemmas
-pub mod TokenSteps
 pub mod Totals
 pub mod ValueLemmas

@@ -2,7 +2,7 @@
 use Rattle.std.proofs.Common.{Result, Ok, Err, ℤ, ◌≡◌, ◌≤◌, ◌+◌, ℕ, List, ◌∷◌, refl, sym, ◌∙◌, subst, arith}
 use Rattle.shim_base.specs.declared.token.Sign.TheVariants.{Plus, Semicolon}
 use Rattle.shim_base.specs.declared.token.TokenKind.TheVariants.{Number}
-use Rattle.shim_base.specs.declared.types.BinOp.TheVariants.{Add}
+use Rattle.shim_base.specs.declared.operators.BinOp.TheVariants.{Add}
 use Rattle.shim_base.specs.Tokens.{Token}
 use Rattle.shim_syntax.specs.declared.Expr.{Expr}
 use Rattle.shim_syntax.specs.declared.Expr.TheVariants as e

@@ -2,6 +2,7 @@
 use Rattle.std.specs.Prelude.{◌≡◌, ℕ, pos, Bool, true, false, ◌&&◌, not, IsTrue, List, [], ◌∷◌, take, Some, None, bytes_eq, codes, slice_get, int_lt}
 use Rattle.std.specs.Int.{is_negative}
 use Rattle.std.specs.List.{list_any}
+use Rattle.shim_base.specs.declared.operators.BinOp.TheVariants.{Add}
 use Rattle.shim_base.specs.declared.types.Ty.TheVariants.{Int32}
 use Rattle.shim_syntax.specs.declared.Program.{Program}
 use Rattle.shim_syntax.specs.declared.Function.{Function}
@@ -29,9 +30,10 @@ is_known names = fold-Expr Bool (known_step names)
 abbrev pub small_step : Expr-F Bool → Bool
 small_step (Expr-F.Number n) = not (is_negative n) && int_lt n (pos 2147483648)
 small_step (Expr-F.Var x) = true
-small_step (Expr-F.Binary op a b) = a && b
+small_step (Expr-F.Binary Add a b) = a && b
+small_step (Expr-F.Binary op a b) = false
 
--- each number of the sum is below 2 ^ 31
+-- the expression is a sum of names and of numbers below 2 ^ 31
 abbrev pub is_small : Expr → Bool
 is_small = fold-Expr Bool small_step
 

@@ -1,7 +1,7 @@
 -- What a body does: its statements are done in order, over the values of the names.
 use Rattle.std.specs.Prelude.{ℕ, ℤ, pos, ◌+ℤ◌, List, [], ◌∷◌, ◌++◌, Option, Some, None, if◌then◌else◌, bytes_eq, unsigned_abs}
 use Rattle.shim_base.specs.declared.types.Ty.TheVariants.{Int32, Uint8}
-use Rattle.shim_base.specs.declared.types.BinOp.TheVariants.{Add}
+use Rattle.shim_base.specs.declared.operators.BinOp.TheVariants.{Add}
 use Rattle.shim_base.specs.Value.{stored}
 use Rattle.shim_syntax.specs.declared.Stmt.{Stmt}
 use Rattle.shim_syntax.specs.declared.What.{What}
@@ -23,6 +23,8 @@ abbrev pub total_step : Values → Expr-F ℤ → ℤ
 total_step values (Expr-F.Number n) = n
 total_step values (Expr-F.Var x) = values x
 total_step values (Expr-F.Binary Add a b) = a +ℤ b
+-- no sum has another operator
+total_step values (Expr-F.Binary op a b) = pos 0
 
 -- the whole number that a sum adds up to
 abbrev pub total : Values → Expr → ℤ

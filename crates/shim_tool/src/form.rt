@@ -5,7 +5,7 @@ ghost use Rattle.shim_tool.specs.Form as forms;
 ghost use Rattle.shim_tool.specs.Form.{IsMain, IsAllowed};
 ghost use Rattle.shim_tool.specs.NameView.{texts_of};
 
-use shim_base::{Name, NoMemory, Ty};
+use shim_base::{BinOp, Name, NoMemory, Ty};
 use shim_syntax::{Expr, Function, Param, Program, Sort, Stmt, What};
 use std::alloc::Global;
 
@@ -79,7 +79,8 @@ fn is_small(sum: &Expr) -> bool
     match sum {
         Expr::Number(number) => 0 <= *number && *number < 2147483648,
         Expr::Var(_) => true,
-        Expr::Binary(_, left, right) => is_small(left) && is_small(right),
+        Expr::Binary(BinOp::Add, left, right) => is_small(left) && is_small(right),
+        Expr::Binary(_, _, _) => false,
     }
 }
 

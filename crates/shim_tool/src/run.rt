@@ -10,7 +10,7 @@ ghost use Rattle.shim_tool.specs.Summable.{IsSummable, HasSummable, AreSummable}
 ghost use Rattle.shim_tool.specs.Variables.{values_of};
 
 use crate::variable::Variable;
-use shim_base::{List, Name, NoMemory, Ty, store};
+use shim_base::{BinOp, List, Name, NoMemory, Ty, store};
 use shim_syntax::{Expr, Stmt, What};
 use std::alloc::Global;
 
@@ -38,11 +38,12 @@ fn total(variables: &[Variable], sum: &Expr) -> i64
     match sum {
         Expr::Number(number) => *number,
         Expr::Var(name) => value_of(variables, name),
-        Expr::Binary(_, left, right) => {
+        Expr::Binary(BinOp::Add, left, right) => {
             let left = total(variables, left);
             let right = total(variables, right);
             left + right
         }
+        Expr::Binary(_, _, _) => unreachable!(),
     }
 }
 

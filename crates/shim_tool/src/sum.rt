@@ -1,6 +1,6 @@
 // Sums.
 ghost use Rattle.std.specs.Prelude.{◌≡◌, IfOk};
-ghost use Rattle.shim_base.specs.declared.types.BinOp.TheVariants.{Add};
+ghost use Rattle.shim_base.specs.declared.operators.BinOp.TheVariants.{Add};
 ghost use Rattle.shim_syntax.specs.Grammar.{IsAtom};
 ghost use Rattle.shim_syntax.specs.Measure.{operators};
 ghost use Rattle.shim_tool.specs.Parts.{IsEnded, IsOperand, IsTail, ReadsPart};

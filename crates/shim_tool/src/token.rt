@@ -8,6 +8,7 @@ use shim_base::TokenKind;
 pub(crate) struct Token<'a> {
     pub(crate) kind: TokenKind,
     pub(crate) text: &'a [u8],
+    pub(crate) at: usize,
     pub(crate) line: u32,
     ghost named: { kind ≡ Word → (1 ≤ length text.now) × (length text.now ≤ 64) },
 }

@@ -1,0 +1,5 @@
+pub mod TableLemmas
+pub mod DigitLemmas
+pub mod Taken
+pub mod Passes
+pub mod Runs

@@ -1,0 +1,73 @@
+-- A text that is being cut into tokens, as contracts see it, and what the next call gives.
+use Rattle.std.specs.Prelude.{ℕ, ◌+◌, ◌<◌, ◌≤◌, ◌≡◌, List, [], ◌∷◌, length, drop, Option, Some, None, Result, Ok, Err}
+use Rattle.std.specs.List.{between}
+use Rattle.shim_base.specs.Tokens.{Token, Place, after, Spells, IsWithinLimits, Fault, Cuts}
+use Rattle.shim_lexer.specs.declared.token.Token.{Token as Given}
+use Rattle.shim_lexer.specs.declared.token.LexFault.{LexFault}
+
+pub record Lexing : Type 0 where
+  -- the whole text
+  pub text : List ℕ
+  -- the place up to which it was read
+  pub place : Place
+  -- the fault that was answered
+  pub fault : Option Fault
+
+-- what is left to read
+abbrev pub rest : Lexing → List ℕ
+rest lexing = drop lexing.place.at lexing.text
+
+-- the bytes of a token of the text
+abbrev pub bytes_of : List ℕ → Given → List ℕ
+bytes_of text t = between t.at t.past text
+
+-- a token of the text, as the definition of tokens names it
+abbrev pub token_of : List ℕ → Given → Token
+token_of text t = record { kind = t.kind; text = bytes_of text t; at = t.at; line = t.line }
+
+abbrev pub fault_of : LexFault → Fault
+fault_of f = record { at = f.at; line = f.line; kind = f.kind }
+
+abbrev pub fault_kept : Option LexFault → Option Fault
+fault_kept None = None
+fault_kept (Some f) = Some (fault_of f)
+
+-- A token of the text is the next one from this place on: whatever is read behind it, up to whatever end, the text from this place on is cut into it and then that.
+pub record IsNext (text : List ℕ) (place : Place) (t : Given) : Type 0 where
+  pub behind_place : place.at ≤ t.at
+  pub some : t.at < t.past
+  pub within : t.past ≤ length text
+  pub spells : Spells (bytes_of text t) t.kind
+  pub fits : IsWithinLimits (bytes_of text t) t.kind
+  pub cuts : (tokens : List Token) (end : Option Fault) → Cuts (record { at = t.past; line = t.line }) (drop t.past text) tokens end
+      → Cuts place (drop place.at text) (token_of text t ∷ tokens) end
+
+-- what stands in the text from this place on: a token, nothing but what is passed over, or a fault
+abbrev pub Finds : List ℕ → Place → Result (Option Given) LexFault → Type 0
+Finds text place (Ok (Some t)) = IsNext text place t
+Finds text place (Ok None) = Cuts place (drop place.at text) [] None
+Finds text place (Err f) = Cuts place (drop place.at text) [] (Some (fault_of f))
+
+-- what was found stands in the text, on a line that the text can have
+abbrev pub IsInText : List ℕ → Result (Option Given) LexFault → Type 0
+IsInText text (Ok (Some t)) = (t.past ≤ length text) × (t.line ≤ 1 + t.past)
+IsInText text (Ok None) = Unit {0}
+IsInText text (Err f) = (f.at ≤ length text) × (f.line ≤ 1 + f.at)
+
+-- where the reading stands after that
+abbrev pub behind : Lexing → Result (Option Given) LexFault → Lexing
+behind old (Ok (Some t)) = record old { place = record { at = t.past; line = t.line } }
+behind old (Ok None) = record old { place = after old.place (rest old) }
+behind old (Err f) = record old { place = record { at = f.at; line = f.line }; fault = Some (fault_of f) }
+
+-- What a call answers, by the fault that was answered before: this fault again, or what stands in the rest.
+abbrev pub Answers : Option Fault → Lexing → Lexing → Result (Option Given) LexFault → Type 0
+Answers (Some fault) old new result = (new ≡ old) × ((f : LexFault) × (result ≡ Err f) × (fault_of f ≡ fault))
+Answers None old new result = (new ≡ behind old result) × Finds old.text old.place result
+
+-- The answers of one call after the other, from here up to the first that is no token.
+pub data Run : Lexing → List Token → Option Fault → Type 0 where
+  over : (old new : Lexing) → Answers None old new (Ok None) → Run old [] None
+  faulty : (old new : Lexing) (f : LexFault) → Answers None old new (Err f) → Run old [] (Some (fault_of f))
+  token : (old new : Lexing) (t : Given) (tokens : List Token) (end : Option Fault) → Answers None old new (Ok (Some t)) → Run new tokens end
+      → Run old (token_of old.text t ∷ tokens) end

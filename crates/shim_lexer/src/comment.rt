@@ -1,0 +1,49 @@
+// Comments.
+ghost use Rattle.std.specs.Prelude.{◌≡◌, ◌↔◌, IsTrue};
+ghost use Rattle.shim_base.specs.Tokens.{Begins, block_opener, line_opener};
+ghost use Rattle.shim_lexer.specs.Front.{FindsCloser, Stands};
+
+use crate::bytes::line_len;
+use crate::front::Front;
+use shim_base::LexKind;
+
+/// Whether the text begins with these bytes.
+pub(crate) fn begins(text: &[u8], front: &[u8]) -> bool
+    ensures { IsTrue result ↔ Begins text.now front.now }
+{
+    text.starts_with(front)
+}
+
+/// What a comment is that `//` begins: it ends before the next line feed.
+pub(crate) fn line_comment(text: &[u8]) -> Front
+    requires { Begins text.now line_opener }
+    ensures { Stands text.now result }
+{
+    Front::Passed(line_len(text))
+}
+
+/// Where the first `*/` begins.
+fn closer_at(text: &[u8]) -> Option<usize>
+    ensures { FindsCloser text.now result }
+{
+    let mut at = 0;
+    'bytes: while at + 1 < text.len() {
+        if text[at] == b'*' && text[at + 1] == b'/' {
+            return Some(at);
+        }
+        at += 1;
+    }
+    None
+}
+
+/// What a comment is that `/*` begins: it ends behind the next `*/`, and is open without one.
+pub(crate) fn block_comment(text: &[u8]) -> Front
+    requires { Begins text.now block_opener }
+    ensures { Stands text.now result }
+{
+    let (_, inside) = text.split_at(2);
+    match closer_at(inside) {
+        Some(at) => Front::Passed(at + 4),
+        None => Front::Fault(LexKind::OpenComment),
+    }
+}

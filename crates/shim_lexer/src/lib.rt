@@ -1,0 +1,18 @@
+//! The lexer: a text, cut into its tokens one by one.
+#![tactic(auto)]
+
+mod bytes;
+mod comment;
+mod front;
+pub mod laws;
+mod lexer;
+mod number;
+mod token;
+mod word;
+
+pub use lexer::Lexer;
+pub use shim_base::{Keyword, LexKind, Sign, TokenKind};
+pub use token::{LexFault, Token};
+
+#[cfg(test)]
+mod tests;
