@@ -1,4 +1,4 @@
-// The kinds of tokens.
+// The kinds of tokens, and of faults in a text.
 
 /// What a token is. Which bytes make which token is told by the definition of tokens.
 #[derive(Clone, Copy, Debug, PartialEq, Eq)]

@@ -1,1 +1,2 @@
+-- How a list is stored.
 pub mod List
