@@ -6,7 +6,7 @@ PREFIX ?= /usr/local
 
 shim:
 	cd crates/shim_main && rt run -- run data/puts_a.shim
-	cp crates/shim_main/out/shim_main shim
+	cp crates/shim_main/out/shim_main shim.new && mv shim.new shim
 
 check:
 	.ci/run

@@ -70,6 +70,17 @@ impl<T: Drop> List<T> {
         self.items.push(value)?;
         Ok(())
     }
+
+    /// Moves the values of another list behind those of this one. A refusal drops them and leaves the
+    /// list as it was.
+    pub fn append(&mut self, other: List<T>) -> Result<(), NoMemory>
+        ensures ok { OnOk result (self.new ≡ self.old ++ other) }
+        ensures err { OnErr result (self.new ≡ self.old) }
+    {
+        let List { mut items } = other;
+        self.items.append(&mut items)?;
+        Ok(())
+    }
 }
 
 impl<T: Copy> List<T> {

@@ -64,7 +64,7 @@ pub(crate) fn line_len(text: &[u8]) -> usize
 }
 
 /// How many line feeds there are.
-pub(crate) fn line_feeds(text: &[u8]) -> u32
+pub fn line_feeds(text: &[u8]) -> u32
     requires { length text.now ≤ 1048576 }
     ensures is { result ≡ count_by (λ b. b == 10) text.now }
     ensures within { result ≤ length text.now }

@@ -10,6 +10,7 @@ mod number;
 mod token;
 mod word;
 
+pub use bytes::line_feeds;
 pub use lexer::Lexer;
 pub use shim_base::{Keyword, LexKind, Sign, TokenKind};
 pub use token::{LexFault, Token};

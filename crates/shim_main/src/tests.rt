@@ -132,16 +132,6 @@ fn a_source_is_run_or_refused(rt: HostRuntime) -> Result<(), Fail> {
             0,
             "output 1 41\nend done 2\n",
         ),
-        (
-            "void main(ostream &o) { put o, 9223372036854775808; }",
-            5,
-            NOT_BUILT,
-        ),
-        (
-            "void main(ostream &o) { put o, 340282366920938463463374607431768211456; }",
-            5,
-            NOT_BUILT,
-        ),
         ("void main(ostream &o) { put o, -1; }", 5, NOT_BUILT),
         (
             "void main(ostream &o) { put o, 0x41; put o, 0X7fFfFfFf; }",
@@ -151,7 +141,6 @@ fn a_source_is_run_or_refused(rt: HostRuntime) -> Result<(), Fail> {
         ("void main(ostream &o) { put o, 0x80000000; }", 5, NOT_BUILT),
         ("void main(ostream &o) { put o, 2 * 3; }", 5, NOT_BUILT),
         // Names and keywords.
-        ("void main(ostream &o) { int int8; }", 5, NOT_BUILT),
         (
             "void main(ostream &o) { int int9; }",
             0,
@@ -162,38 +151,61 @@ fn a_source_is_run_or_refused(rt: HostRuntime) -> Result<(), Fail> {
             0,
             "output 1 01\nend done 4\n",
         ),
-        ("void main(ostream &o) { intx; }", 5, NOT_BUILT),
-        ("void main(ostream &o) { int32 x; }", 5, NOT_BUILT),
+        (
+            "void main(ostream &o) { int32 x; }",
+            0,
+            "output 0\nend done 2\n",
+        ),
         ("void Main(ostream &o) { }", 5, NOT_BUILT),
-        ("void main(ostream &put) { }", 5, NOT_BUILT),
-        // The shape of the text.
+        // The form is that of the tree, whatever the text.
         ("", 5, NOT_BUILT),
         (" ", 5, NOT_BUILT),
-        ("void main(ostream &o) {", 5, NOT_BUILT),
-        ("void main(ostream &o) { } }", 5, NOT_BUILT),
         (
             "void main(ostream &o) { } void main(ostream &o) { }",
             5,
             NOT_BUILT,
         ),
         ("void main() { }", 5, NOT_BUILT),
-        ("void main(ostream o) { }", 5, NOT_BUILT),
-        ("void main(ostream &o) { ; }", 5, NOT_BUILT),
-        ("void main(ostream &o) { put o, 1 }", 5, NOT_BUILT),
-        ("void main(ostream &o) { put o, ; }", 5, NOT_BUILT),
-        ("void main(ostream &o) { put o, 1 +; }", 5, NOT_BUILT),
-        ("void main(ostream &o) { put o, 1 + + 2; }", 5, NOT_BUILT),
-        ("void main(ostream &o) { put o, (1); }", 5, NOT_BUILT),
+        ("void main(void) { }", 5, NOT_BUILT),
+        ("void main(ostream &o) throws T { }", 5, NOT_BUILT),
+        ("void main(ostream o) { }", 0, "output 0\nend done 1\n"),
+        ("void main(ostream &o) { ; }", 0, "output 0\nend done 1\n"),
+        (
+            "void main(ostream &o) { int x, y; }",
+            0,
+            "output 0\nend done 3\n",
+        ),
+        (
+            "void main(ostream &o) { put o, (1); put o, (1 + 2) + 3; put o, true; }",
+            0,
+            "output 3 010601\nend done 4\n",
+        ),
+        (
+            "void main(ostream &o) { put o, 1 + (2 + 3); }",
+            5,
+            NOT_BUILT,
+        ),
+        ("void main(ostream &o) { put o, 1 - 2; }", 5, NOT_BUILT),
+        ("void main(ostream &o) { int x = 1; }", 5, NOT_BUILT),
+        ("void main(ostream &o) { uint8 x; }", 5, NOT_BUILT),
+        (
+            "void main(ostream &o) { while (0) put o, 1; }",
+            5,
+            NOT_BUILT,
+        ),
+        (
+            "void main(ostream &o) { if (1) { } else { } }",
+            5,
+            NOT_BUILT,
+        ),
+        ("void main(ostream &o) { { } par { } }", 5, NOT_BUILT),
+        ("void main(ostream &o) { f(); }", 5, NOT_BUILT),
         // Comments.
         (
             "void main(ostream &o) { put o, 1 /* + 2 */; } // later",
             0,
             "output 1 01\nend done 2\n",
         ),
-        ("void main(ostream &o) { /* open }", 5, NOT_BUILT),
-        ("void main(ostream &o) {\0}", 5, NOT_BUILT),
-        ("void main(ostream &o) { }\0", 5, NOT_BUILT),
-        ("void main(ostream &ö) { }", 5, NOT_BUILT),
     ] {
         let (got, bytes) = run(alloc, source.as_bytes())?;
         assert_eq!(rt; got, status, "status of {source}");
@@ -203,16 +215,130 @@ fn a_source_is_run_or_refused(rt: HostRuntime) -> Result<(), Fail> {
 }
 
 #[test]
+fn the_text_of_no_program_has_the_line_of_its_fault(rt: HostRuntime) -> Result<(), Fail> {
+    let alloc = rt.alloc();
+    for (source, text) in [
+        // A token that can't follow those before it.
+        (
+            "void main(ostream &o) { int int8; }",
+            "refused 1 unexpected 28\n",
+        ),
+        (
+            "void main(ostream &o) { intx; }",
+            "refused 1 unexpected 28\n",
+        ),
+        ("void main(ostream &put) { }", "refused 1 unexpected 19\n"),
+        ("void main(ostream &o) { } }", "refused 1 unexpected 26\n"),
+        (
+            "void main(ostream &o) { put o, 1 }",
+            "refused 1 unexpected 33\n",
+        ),
+        (
+            "void main(ostream &o) { put o, ; }",
+            "refused 1 unexpected 31\n",
+        ),
+        (
+            "void main(ostream &o) { put o, 1 +; }",
+            "refused 1 unexpected 34\n",
+        ),
+        (
+            "void main(ostream &o) { put o, 1 + + 2; }",
+            "refused 1 unexpected 35\n",
+        ),
+        ("int x;", "refused 1 unexpected 0\n"),
+        ("void main()\n{\n  }\n}", "refused 4 unexpected 18\n"),
+        // The end of the text, which is on its last line.
+        ("void main(ostream &o) {", "refused 1 unexpected 23\n"),
+        ("void main() { try { } catch (", "refused 1 unexpected 29\n"),
+        ("void\nmain(\n", "refused 3 unexpected 11\n"),
+        // What can't be cut into tokens.
+        (
+            "void main(ostream &o) { put o, 9223372036854775808; }",
+            "refused 1 big number 31\n",
+        ),
+        (
+            "void main(ostream &o) { put o, 340282366920938463463374607431768211456; }",
+            "refused 1 big number 31\n",
+        ),
+        (
+            "void main() { x = 9223372036854775808; }",
+            "refused 1 big number 18\n",
+        ),
+        (
+            "void main(ostream &o) { /* open }",
+            "refused 1 open comment 24\n",
+        ),
+        ("void main() {\n /*/ }", "refused 2 open comment 15\n"),
+        ("void main() { @ }", "refused 1 bad byte 14\n"),
+        ("void main() /* a", "refused 1 open comment 12\n"),
+        ("void main(ostream &o) {\0}", "refused 1 bad byte 23\n"),
+        ("void main(ostream &o) { }\0", "refused 1 bad byte 25\n"),
+        ("void main(ostream &ö) { }", "refused 1 bad byte 19\n"),
+        // The first fault stands, whatever follows it.
+        ("main \0", "refused 1 unexpected 0\n"),
+        ("\0 main", "refused 1 bad byte 0\n"),
+    ] {
+        let (got, bytes) = run(alloc, source.as_bytes())?;
+        assert_eq!(rt; got, 5, "status of {source}");
+        assert_eq!(rt; bytes.as_slice(), text.as_bytes(), "text of {source}");
+    }
+    Ok(())
+}
+
+// A filter: what comes in is doubled on its way out.
+const FILTER: &str = "void reader(istream &i, int &a) throws Done {
+  int c;
+  c = get i;
+  while (c != -1) { next a = c; c = get i; }
+  throw Done;
+}
+void twice(int a, int &b) {
+  while (1) { next a; next b = a * 2; }
+}
+void writer(int b, ostream &o) {
+  while (1) { next b; put o, b; }
+}
+void main(istream &i, ostream &o) {
+  int a; int b;
+  try {
+    reader(i, a); par twice(a, b); par writer(b, o);
+  } catch (Done) { }
+}";
+
+#[test]
+fn each_front_of_a_source_is_refused(rt: HostRuntime) -> Result<(), Fail> {
+    let alloc = rt.alloc();
+    let source = FILTER.as_bytes();
+    for len in 0..source.len() {
+        let (got, bytes) = run(alloc, &source[..len])?;
+        assert_eq!(rt; got, 5, "status of the first {len} bytes");
+        assert!(rt; bytes.as_slice().starts_with(b"refused "));
+    }
+    Ok(())
+}
+
+#[test]
 fn limits_hold_to_the_last(rt: HostRuntime) -> Result<(), Fail> {
     let alloc = rt.alloc();
     let front = "void main(ostream &o) { put o, 1";
     let name = "void main(ostream &";
+    let operators = "refused 1 too many operators\n";
     for (front, part, times, back, status, text) in [
         (front, "+1", 256, "; }", 0, "output 1 01\nend done 2\n"),
-        (front, "+1", 257, "; }", 5, NOT_BUILT),
-        (front, "+1", 100000, "; }", 5, NOT_BUILT),
+        (front, "+1", 257, "; }", 5, operators),
+        (front, "+1", 100000, "; }", 5, operators),
         (name, "n", 64, ") { }", 0, "output 0\nend done 1\n"),
-        (name, "n", 65, ") { }", 5, NOT_BUILT),
+        (name, "n", 65, ") { }", 5, "refused 1 long name 19\n"),
+        // The function's own brace is on the first line, and that of level 65 on the last.
+        ("void main() {", "{\n", 65, "", 5, "refused 65 too deep\n"),
+        (
+            "void main() {",
+            "\n{",
+            64,
+            "",
+            5,
+            "refused 65 unexpected 141\n",
+        ),
         (PUTS_A, " ", 1048526, "", 0, REPORT),
         (
             PUTS_A,
@@ -228,14 +354,20 @@ fn limits_hold_to_the_last(rt: HostRuntime) -> Result<(), Fail> {
         assert_eq!(rt; got, status, "{times} times {part}");
         assert_eq!(rt; bytes.as_slice(), text.as_bytes(), "{times} times {part}");
     }
-    for (declarations, status) in [(64u32, 0), (65, 5)] {
+    let locals = "refused 1 too many locals\n";
+    for (declarations, status, text) in [(64u32, 0, "output 0\nend done 65\n"), (65, 5, locals)] {
         let mut source = String::from_str(alloc, "void main(ostream &o) {")?;
         for i in 0..declarations {
             source.push_str(format!(in alloc; " int x{i};")?.as_str())?;
         }
         source.push_str("}")?;
-        let (got, _) = run(alloc, source.as_bytes())?;
+        let (got, bytes) = run(alloc, source.as_bytes())?;
         assert_eq!(rt; got, status, "{declarations} declarations");
+        assert_eq!(rt;
+            bytes.as_slice(),
+            text.as_bytes(),
+            "{declarations} declarations"
+        );
     }
     Ok(())
 }

@@ -1,3 +1,11 @@
-pub mod Once
-pub mod Shorter
-pub mod Operators
+pub mod Pieces
+pub mod Standing
+pub mod Shapes
+pub mod Expressions
+pub mod StatementShapes
+pub mod Parts
+pub mod Readings
+pub mod Simple
+pub mod Compound
+pub mod Statements
+pub mod Programs

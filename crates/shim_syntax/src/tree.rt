@@ -1,5 +1,5 @@
 // The syntax tree.
-use shim_base::{BinOp, Boxed, List, Name, Ty};
+use shim_base::{BinOp, Boxed, List, Name, Ty, UnOp};
 
 /// A whole source.
 #[derive(Debug, Drop, PartialEq, Eq)]
@@ -36,6 +36,7 @@ pub struct Param {
 }
 
 #[derive(Debug, Drop, PartialEq, Eq)]
+#[cycle(statements)]
 pub struct Stmt {
     pub line: u32,
     pub what: What,
@@ -43,18 +44,65 @@ pub struct Stmt {
 
 /// What a statement does.
 #[derive(Debug, Drop, PartialEq, Eq)]
+#[cycle(statements)]
 pub enum What {
-    /// `int x;`, with a first value where one is given
+    /// `int x;`, with a first value where one is given. `int x, y;` is two of these, on one line.
     Declare(Ty, Name, Option<Expr>),
     /// `x = e;`
     Assign(Name, Expr),
+    /// `next x;`
+    Next(Name),
+    /// `next x = e;`
+    NextAssign(Name, Expr),
+    /// `x = next y;`
+    AssignNext(Name, Name),
+    /// `x = get i;`
+    Get(Name, Name),
     /// `put o, e;`
     Put(Name, Expr),
+    /// `if (e) .. else ..`; without `else` the second list is empty.
+    If(Expr, List<Stmt>, List<Stmt>),
+    /// `while (e) ..`
+    While(Expr, List<Stmt>),
+    /// `for (first; e; step) ..`: the first statement, or none; the test; the step, or none; the body.
+    For(List<Stmt>, Option<Expr>, List<Stmt>, List<Stmt>),
+    /// `{ .. }`
+    Block(List<Stmt>),
+    /// `f(a, b);`
+    Call(Call),
+    /// `try { .. } catch (T) { .. }`
+    Try(List<Stmt>, Name, List<Stmt>),
+    /// `throw T;`
+    Throw(Name),
+    /// Two or more branches with `par` between them.
+    Par(List<Branch>),
+}
+
+/// One branch of a fork.
+#[derive(Debug, Drop, PartialEq, Eq)]
+#[cycle(statements)]
+pub struct Branch {
+    pub line: u32,
+    pub what: BranchWhat,
+}
+
+#[derive(Debug, Drop, PartialEq, Eq)]
+#[cycle(statements)]
+pub enum BranchWhat {
+    Block(List<Stmt>),
+    Call(Call),
+}
+
+#[derive(Debug, Drop, PartialEq, Eq)]
+pub struct Call {
+    pub function: Name,
+    pub args: List<Expr>,
 }
 
 #[derive(Debug, Drop, PartialEq, Eq)]
 pub enum Expr {
     Number(i64),
     Var(Name),
+    Unary(UnOp, Boxed<Expr>),
     Binary(BinOp, Boxed<Expr>, Boxed<Expr>),
 }

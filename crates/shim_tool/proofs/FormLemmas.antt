@@ -7,7 +7,7 @@ use Rattle.std.proofs.lemmas.Option.{get_or_from_slice_get}
 use Rattle.shim_syntax.specs.declared.Program.{Program}
 use Rattle.shim_syntax.specs.declared.Function.{Function}
 use Rattle.shim_syntax.specs.declared.Stmt.{Stmt}
-use Rattle.shim_syntax.specs.Measure.{declared, declares}
+use Rattle.shim_tool.specs.Measure.{declared, declares}
 use Rattle.shim_tool.specs.declared.form.Main.{Main}
 use Rattle.shim_tool.specs.Form.{is_allowed, IsMain, IsMainFunction}
 

@@ -1,12 +1,10 @@
-pub mod CutSteps
 pub mod ExecuteLemmas
+pub mod Faults
 pub mod FormLemmas
-pub mod Programs
-pub mod Readers
-pub mod Refusals
+pub mod Operators
+pub mod Outcomes
+pub mod ShortTexts
 pub mod RowLemmas
 pub mod RunLemmas
-pub mod Statements
-pub mod Sums
 pub mod Totals
 pub mod ValueLemmas

@@ -8,9 +8,10 @@ use Rattle.shim_tool.specs.declared.mode.Mode.{Mode}
 use Rattle.shim_tool.specs.Asked.{Asked, nothing, job}
 use Rattle.shim_tool.specs.Moments.{FilesAt, SinkAt}
 use Rattle.shim_tool.specs.Source.{IsSource}
-use Rattle.shim_tool.specs.Answer.{Answer, Answers, AnswersSource, AnswersSeen, MayAnswer, ReadFailed, IsTooLong, IsContent, IsNoSource, Seen, unread, longer, whole, Sees, source_limit, text_of, refused_line, memory_line}
+use Rattle.shim_tool.specs.Answer.{Answer, Answers, AnswersSource, AnswersSeen, MayAnswer, ReadFailed, IsTooLong, IsContent, IsNoSource, Seen, unread, longer, whole, Sees, source_limit, text_of, memory_line}
 use Rattle.shim_tool.specs.Call.{Ran, Writes}
-use Rattle.shim_tool.specs.Rows.{Came, Comes, Holds, WasRead, DoneRow, RefusedRow, IsComplete}
+use Rattle.shim_tool.specs.Rows.{Came, Comes, Holds, WasRead, IsRefusal, DoneRow, RefusedRow, IsComplete}
+use Rattle.shim_tool.proofs.Outcomes.{Outcome, runs, refuses, outcome}
 
 -- What came of an answer: it was written, or memory was wanted, or the sink failed.
 pub data Wrote (ask : Asked) (before now : FilesAt) (ob on : SinkAt) (result : ℕ) : Type 0 where
@@ -52,7 +53,7 @@ is_held before name held h = agree before.held h.told where
 
 -- What came of a file that is told and no longer than a source: its source was answered, or the read failed, or memory was wanted, or the sink failed.
 pub data CameOf (mode : Mode) (name bytes : List ℕ) (before now : FilesAt) (ob on : SinkAt) (result : ℕ) : Type 0 where
-  of_source : (answer : Answer) → AnswersSource mode bytes answer → Came answer.status answer.text ob on result → CameOf mode name bytes before now ob on result
+  of_source : (answer : Answer) → Outcome mode bytes answer → Came answer.status answer.text ob on result → CameOf mode name bytes before now ob on result
   unreadable : result ≡ 6 → ReadFailed name before now → CameOf mode name bytes before now ob on result
   wanting : result ≡ 8 → CameOf mode name bytes before now ob on result
   unwritten : result ≡ 7 → HasRisen ob.faults on.faults → CameOf mode name bytes before now ob on result
@@ -65,7 +66,7 @@ came_of ask mode name bytes before now ob on result ran asks h within = by_wrote
   by_seen answer longer sees is came = absurd (let l : source_limit < length bytes = held_too_long before name bytes h sees.1 in omega arith)
   by_seen answer (whole seen) sees is came =
       let P : List ℕ → Type 0 = λ b. AnswersSource mode b answer in
-      of_source answer (subst P (held_bytes before name bytes seen h sees.1) is) came
+      of_source answer (outcome mode bytes answer (subst P (held_bytes before name bytes seen h sees.1) is)) came
 
   by_wrote : Wrote (job mode name) before now ob on result → CameOf mode name bytes before now ob on result
   by_wrote (answered answer (seen, sees, is) came) = by_seen answer seen sees is came
@@ -73,18 +74,28 @@ came_of ask mode name bytes before now ob on result ran asks h within = by_wrote
   by_wrote (failed answer may is rose part) = unwritten is rose
 
 -- a source's text was answered with 0
-done_with : (mode : Mode) (bytes : List ℕ) (body : List Stmt) (answer : Answer) (ob on : SinkAt) (result : ℕ) → IsSource bytes body → AnswersSource mode bytes answer →
+done_with : (mode : Mode) (bytes : List ℕ) (body : List Stmt) (answer : Answer) (ob on : SinkAt) (result : ℕ) → IsSource bytes body → Outcome mode bytes answer →
     Came answer.status answer.text ob on result → Came 0 (text_of mode body) ob on result
-done_with mode bytes body answer ob on result source (inl (other, only, is)) came =
-    let same : body ≡ other = only.only body source in
+done_with mode bytes body answer ob on result source (runs other has only free is) came =
+    let same : body ≡ other = only body source in
     let text : answer.text ≡ text_of mode body = ap (λ (a : Answer). a.text) is ∙ sym (ap (λ (b : List Stmt). text_of mode b) same) in
     (came.0 ∙ ap (λ (a : Answer). a.status) is, came.1 ∙ ap (λ (t : List ℕ). then_bytes ob.taken t) text)
-done_with mode bytes body answer ob on result source (inr (none, is)) came = absurd (none body source)
+done_with mode bytes body answer ob on result source (refuses line why only none is) came = absurd (none body source)
 
-refused_with : (mode : Mode) (bytes : List ℕ) (answer : Answer) (ob on : SinkAt) (result : ℕ) → IsNoSource bytes → AnswersSource mode bytes answer →
-    Came answer.status answer.text ob on result → Came 5 refused_line ob on result
-refused_with mode bytes answer ob on result none (inl (body, only, is)) came = absurd (none body only.source)
-refused_with mode bytes answer ob on result none (inr (_, is)) came = (came.0 ∙ ap (λ (a : Answer). a.status) is, came.1 ∙ ap (λ (a : Answer). then_bytes ob.taken a.text) is)
+-- a refusal's line was written with 5
+refused_with : (mode : Mode) (bytes line : List ℕ) (answer : Answer) (ob on : SinkAt) (result : ℕ) → IsRefusal bytes line → Outcome mode bytes answer →
+    Came answer.status answer.text ob on result → Came 5 line ob on result
+refused_with mode bytes line answer ob on result why (runs body has only free is) came = absurd (free line why)
+refused_with mode bytes line answer ob on result why (refuses other cause only none is) came =
+    let text : answer.text ≡ line = ap (λ (a : Answer). a.text) is ∙ sym (only line why) in
+    (came.0 ∙ ap (λ (a : Answer). a.status) is, came.1 ∙ ap (λ (t : List ℕ). then_bytes ob.taken t) text)
+
+-- bytes that are no source are refused with some line
+refused_somehow : (mode : Mode) (bytes : List ℕ) (answer : Answer) (ob on : SinkAt) (result : ℕ) → IsNoSource bytes → Outcome mode bytes answer →
+    Came answer.status answer.text ob on result → (line : List ℕ) × IsRefusal bytes line × Came 5 line ob on result
+refused_somehow mode bytes answer ob on result none (runs body has only free is) came = absurd (none body has)
+refused_somehow mode bytes answer ob on result none (refuses line why only _ is) came =
+    (line, why, (came.0 ∙ ap (λ (a : Answer). a.status) is, came.1 ∙ ap (λ (a : Answer). then_bytes ob.taken a.text) is))
 
 pub done_row : (ask : Asked) (before now : FilesAt) (ob on : SinkAt) (result : ℕ) → Ran ask before now ob on result → DoneRow ask before now ob on result
 done_row ask before now ob on result ran = record {
@@ -98,17 +109,17 @@ done_row ask before now ob on result ran = record {
   when mode name bytes body source (wanting is) = inl (inr (inr is))
   when mode name bytes body source (unwritten is rose) = inl (inr (inl is))
 
-  by_source : (mode : Mode) (name bytes : List ℕ) (answer : Answer) → now.failed ≡ before.failed → IsContent name before bytes → AnswersSource mode bytes answer → Came answer.status answer.text ob on result → result ≡ 0 →
+  by_source : (mode : Mode) (name bytes : List ℕ) (answer : Answer) → now.failed ≡ before.failed → IsContent name before bytes → Outcome mode bytes answer → Came answer.status answer.text ob on result → result ≡ 0 →
       (now.failed ≡ before.failed) × (m : Mode) × (bs : List ℕ) × (body : List Stmt) × WasRead (job mode name) m before bs × IsSource bs body × (on.taken ≡ then_bytes ob.taken (text_of m body))
-  by_source mode name bytes answer same content (inl (body, only, is)) came zero =
-      (same, mode, bytes, body, record { name = name; asked = refl; content = content }, only.source, came.1 ∙ ap (λ (a : Answer). then_bytes ob.taken a.text) is)
-  by_source mode name bytes answer same content (inr (none, is)) came zero = absurd (let e : answer.status ≡ 5 = ap (λ (a : Answer). a.status) is in omega (arith, e, came.0))
+  by_source mode name bytes answer same content (runs body has only free is) came zero =
+      (same, mode, bytes, body, record { name = name; asked = refl; content = content }, has, came.1 ∙ ap (λ (a : Answer). then_bytes ob.taken a.text) is)
+  by_source mode name bytes answer same content (refuses line why only none is) came zero = absurd (let e : answer.status ≡ 5 = ap (λ (a : Answer). a.status) is in omega (arith, e, came.0))
 
   by_seen : (mode : Mode) (name : List ℕ) (answer : Answer) (seen : Seen) → Sees name before now seen → AnswersSeen mode name seen answer → Came answer.status answer.text ob on result → result ≡ 0 →
       (now.failed ≡ before.failed) × (m : Mode) × (bs : List ℕ) × (body : List Stmt) × WasRead (job mode name) m before bs × IsSource bs body × (on.taken ≡ then_bytes ob.taken (text_of m body))
   by_seen mode name answer unread sees is came zero = absurd (let e : answer.status ≡ 6 = ap (λ (a : Answer). a.status) is in omega (arith, e, came.0))
   by_seen mode name answer longer sees is came zero = absurd (let e : answer.status ≡ 6 = ap (λ (a : Answer). a.status) is in omega (arith, e, came.0))
-  by_seen mode name answer (whole bytes) sees is came zero = by_source mode name bytes answer sees.0 sees.1 is came zero
+  by_seen mode name answer (whole bytes) sees is came zero = by_source mode name bytes answer sees.0 sees.1 (outcome mode bytes answer is) came zero
 
   by_wrote : (a : Asked) → Wrote a before now ob on result → result ≡ 0 →
       (now.failed ≡ before.failed) × (mode : Mode) × (bytes : List ℕ) × (body : List Stmt) × WasRead a mode before bytes × IsSource bytes body × (on.taken ≡ then_bytes ob.taken (text_of mode body))
@@ -124,29 +135,37 @@ done_row ask before now ob on result ran = record {
 pub refused_row : (ask : Asked) (before now : FilesAt) (ob on : SinkAt) (result : ℕ) → Ran ask before now ob on result → RefusedRow ask before now ob on result
 refused_row ask before now ob on result ran = record {
   only = λ five. by_wrote ask (wrote ask before now ob on result ran) five;
-  when = λ mode name bytes asks h within none. when mode name bytes none (came_of ask mode name bytes before now ob on result ran asks h within);
+  when = λ mode name bytes line asks h within why. when mode name bytes line why (came_of ask mode name bytes before now ob on result ran asks h within);
+  wherever = λ mode name bytes asks h within none. wherever mode name bytes none (came_of ask mode name bytes before now ob on result ran asks h within);
 } where
-  when : (mode : Mode) (name bytes : List ℕ) → IsNoSource bytes → CameOf mode name bytes before now ob on result →
-      Comes 5 refused_line ob on result ⊎ ((result ≡ 6) × ReadFailed name before now)
-  when mode name bytes none (of_source answer is came) = inl (inl (refused_with mode bytes answer ob on result none is came))
-  when mode name bytes none (unreadable is read) = inr (is, read)
-  when mode name bytes none (wanting is) = inl (inr (inr is))
-  when mode name bytes none (unwritten is rose) = inl (inr (inl is))
+  when : (mode : Mode) (name bytes line : List ℕ) → IsRefusal bytes line → CameOf mode name bytes before now ob on result →
+      Comes 5 line ob on result ⊎ ((result ≡ 6) × ReadFailed name before now)
+  when mode name bytes line why (of_source answer is came) = inl (inl (refused_with mode bytes line answer ob on result why is came))
+  when mode name bytes line why (unreadable is read) = inr (is, read)
+  when mode name bytes line why (wanting is) = inl (inr (inr is))
+  when mode name bytes line why (unwritten is rose) = inl (inr (inl is))
 
-  by_source : (mode : Mode) (name bytes : List ℕ) (answer : Answer) → now.failed ≡ before.failed → IsContent name before bytes → AnswersSource mode bytes answer → Came answer.status answer.text ob on result → result ≡ 5 →
-      (now.failed ≡ before.failed) × (m : Mode) × (bs : List ℕ) × WasRead (job mode name) m before bs × IsNoSource bs × (on.taken ≡ then_bytes ob.taken refused_line)
-  by_source mode name bytes answer same content (inl (body, only, is)) came five = absurd (let e : answer.status ≡ 0 = ap (λ (a : Answer). a.status) is in omega (arith, e, came.0))
-  by_source mode name bytes answer same content (inr (none, is)) came five =
-      (same, mode, bytes, record { name = name; asked = refl; content = content }, none, came.1 ∙ ap (λ (a : Answer). then_bytes ob.taken a.text) is)
+  wherever : (mode : Mode) (name bytes : List ℕ) → IsNoSource bytes → CameOf mode name bytes before now ob on result →
+      ((line : List ℕ) × IsRefusal bytes line × Came 5 line ob on result) ⊎ (result ≡ 7) ⊎ (result ≡ 8) ⊎ ((result ≡ 6) × ReadFailed name before now)
+  wherever mode name bytes none (of_source answer is came) = inl (refused_somehow mode bytes answer ob on result none is came)
+  wherever mode name bytes none (unreadable is read) = inr (inr (inr (is, read)))
+  wherever mode name bytes none (wanting is) = inr (inr (inl is))
+  wherever mode name bytes none (unwritten is rose) = inr (inl is)
+
+  by_source : (mode : Mode) (name bytes : List ℕ) (answer : Answer) → now.failed ≡ before.failed → IsContent name before bytes → Outcome mode bytes answer → Came answer.status answer.text ob on result → result ≡ 5 →
+      (now.failed ≡ before.failed) × (m : Mode) × (bs : List ℕ) × (line : List ℕ) × WasRead (job mode name) m before bs × IsNoSource bs × IsRefusal bs line × (on.taken ≡ then_bytes ob.taken line)
+  by_source mode name bytes answer same content (runs body has only free is) came five = absurd (let e : answer.status ≡ 0 = ap (λ (a : Answer). a.status) is in omega (arith, e, came.0))
+  by_source mode name bytes answer same content (refuses line why only none is) came five =
+      (same, mode, bytes, line, record { name = name; asked = refl; content = content }, none, why, came.1 ∙ ap (λ (a : Answer). then_bytes ob.taken a.text) is)
 
   by_seen : (mode : Mode) (name : List ℕ) (answer : Answer) (seen : Seen) → Sees name before now seen → AnswersSeen mode name seen answer → Came answer.status answer.text ob on result → result ≡ 5 →
-      (now.failed ≡ before.failed) × (m : Mode) × (bs : List ℕ) × WasRead (job mode name) m before bs × IsNoSource bs × (on.taken ≡ then_bytes ob.taken refused_line)
+      (now.failed ≡ before.failed) × (m : Mode) × (bs : List ℕ) × (line : List ℕ) × WasRead (job mode name) m before bs × IsNoSource bs × IsRefusal bs line × (on.taken ≡ then_bytes ob.taken line)
   by_seen mode name answer unread sees is came five = absurd (let e : answer.status ≡ 6 = ap (λ (a : Answer). a.status) is in omega (arith, e, came.0))
   by_seen mode name answer longer sees is came five = absurd (let e : answer.status ≡ 6 = ap (λ (a : Answer). a.status) is in omega (arith, e, came.0))
-  by_seen mode name answer (whole bytes) sees is came five = by_source mode name bytes answer sees.0 sees.1 is came five
+  by_seen mode name answer (whole bytes) sees is came five = by_source mode name bytes answer sees.0 sees.1 (outcome mode bytes answer is) came five
 
   by_wrote : (a : Asked) → Wrote a before now ob on result → result ≡ 5 →
-      (now.failed ≡ before.failed) × (mode : Mode) × (bytes : List ℕ) × WasRead a mode before bytes × IsNoSource bytes × (on.taken ≡ then_bytes ob.taken refused_line)
+      (now.failed ≡ before.failed) × (mode : Mode) × (bytes : List ℕ) × (line : List ℕ) × WasRead a mode before bytes × IsNoSource bytes × IsRefusal bytes line × (on.taken ≡ then_bytes ob.taken line)
   by_wrote a (lacked came) five = absurd (omega (arith, came.0))
   by_wrote a (failed answer may is rose part) five = absurd (omega arith)
   by_wrote nothing (answered answer (same, is) came) five = absurd (let e : answer.status ≡ 2 = ap (λ (a : Answer). a.status) is in omega (arith, e, came.0))

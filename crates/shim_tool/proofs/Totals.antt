@@ -1,12 +1,13 @@
 -- A sum of two sums: its measure and its value.
-use Rattle.std.proofs.Common.{◌≡◌, ◌∙◌, ◌+◌, Bool, true, IsTrue, ℤ, ◌+ℤ◌, ap, refl, sym, subst}
+use Rattle.std.proofs.Common.{◌≡◌, ◌∙◌, ◌+◌, true, IsTrue, ℤ, ◌+ℤ◌, ap, refl, sym, subst}
 use Rattle.shim_base.specs.declared.operators.BinOp.{BinOp}
 use Rattle.shim_syntax.specs.declared.Expr.{Expr, Expr-F, roll-Expr, fold-roll-Expr}
 use Rattle.shim_base.specs.declared.operators.BinOp.TheVariants.{Add}
 use Rattle.shim_syntax.specs.declared.Expr.TheVariants.{Binary}
-use Rattle.shim_syntax.specs.Measure.{operators}
-use Rattle.shim_syntax.proofs.Operators.{operators-binary}
-use Rattle.shim_tool.specs.Form.{is_small, small_step}
+use Rattle.shim_tool.specs.Measure.{operators}
+use Rattle.shim_tool.proofs.Operators.{operators-binary}
+use Rattle.shim_tool.specs.Form.{is_small, is_part, part_of, part_step}
+use Rattle.shim_tool.specs.declared.form.Part.{Part}
 use Rattle.shim_tool.specs.Meaning.{Values, total, total_step}
 
 -- the value of a sum of two sums
@@ -18,15 +19,15 @@ total-at values a b = fold-roll-Expr ℤ (total_step values) (Expr-F.Binary Add 
 pub operators-Binary : (sum : Expr) (op : BinOp) (a b : Expr) → sum ≡ Binary op a b → operators sum ≡ operators a + operators b + 1
 operators-Binary sum op a b is = ap (λ (e : Expr). operators e) is ∙ operators-binary op a b
 
--- a step of the test that passes is at a `+`
-small_step_add : (op : BinOp) (a b : Bool) → small_step (Expr-F.Binary op a b) ≡ true → op ≡ Add
-small_step_add Add a b passed = refl
-small_step_add op a b passed = absurd (cc)
+-- an operator that makes a part is a `+`
+part_step_add : (op : BinOp) (a b : Part) → is_part (part_step (Expr-F.Binary op a b)) ≡ true → op ≡ Add
+part_step_add Add a b passed = refl
+part_step_add op a b passed = absurd (cc)
 
 -- the operator of a small sum
 is_small_add : (op : BinOp) (a b : Expr) → IsTrue (is_small (Binary op a b)) → op ≡ Add
 unfolding roll-Expr denote.Hole.Carrier.roll
-is_small_add op a b small = small_step_add op (is_small a) (is_small b) (sym (fold-roll-Expr Bool small_step (Expr-F.Binary op a b)) ∙ small)
+is_small_add op a b small = part_step_add op (part_of a) (part_of b) (ap is_part (sym (fold-roll-Expr Part part_step (Expr-F.Binary op a b))) ∙ small)
 
 -- its value
 pub total-Binary : (values : Values) (sum : Expr) (op : BinOp) (a b : Expr) → sum ≡ Binary op a b → IsTrue (is_small sum) → total values sum ≡ total values a +ℤ total values b

@@ -1,11 +1,18 @@
 -- What the tool answers, from what it was asked and what it saw.
 use Rattle.std.specs.Prelude.{ℕ, ◌≡◌, ◌<◌, ◌≤◌, ◌⊎◌, IsTrue, List, [], ◌∷◌, ◌++◌, length, Some, IfSome, IsSomeAnd, codes, decimal}
 use Rattle.shim_edge.specs.Files.{file_of, IsHeld}
+use Rattle.shim_syntax.specs.declared.Program.{Program}
 use Rattle.shim_syntax.specs.declared.Stmt.{Stmt}
+use Rattle.shim_syntax.specs.Text.{IsText}
+use Rattle.shim_parser.specs.declared.ParseFault.{ParseFault}
+use Rattle.shim_parser.specs.Parsing.{IsFaultOf}
+use Rattle.shim_report.specs.declared.SourceFault.TheVariants.{Parse}
+use Rattle.shim_report.specs.Refusal.{refusal}
 use Rattle.shim_tool.specs.declared.mode.Mode.{Mode}
 use Rattle.shim_tool.specs.declared.mode.Mode.TheVariants.{Run}
 use Rattle.shim_tool.specs.Asked.{Asked, nothing, job}
 use Rattle.shim_tool.specs.Moments.{FilesAt}
+use Rattle.shim_tool.specs.Form.{IsMain, IsAllowed, IsOfOtherForm}
 use Rattle.shim_tool.specs.Source.{IsSource}
 use Rattle.shim_tool.specs.Report.{report_of}
 
@@ -24,8 +31,8 @@ usage_line = codes "usage: shim MODE FILE [--input FILE] [--workers N] [--budget
 unfoldable pub memory_line : List ℕ
 memory_line = codes "no memory\n"
 
-unfoldable pub refused_line : List ℕ
-refused_line = codes "refused 1 not built\n"
+unfoldable pub not_built_line : List ℕ
+not_built_line = codes "refused 1 not built\n"
 
 unfoldable pub failed_line : List ℕ → List ℕ
 failed_line name = codes "file failed " ++ (name ++ codes "\n")
@@ -40,26 +47,42 @@ text_of Run body = report_of body
 abbrev pub usage : Answer
 usage = record { status = 2; text = usage_line }
 
-abbrev pub refused : Answer
-refused = record { status = 5; text = refused_line }
+abbrev pub not_built : Answer
+not_built = record { status = 5; text = not_built_line }
+
+abbrev pub refused : ParseFault → Answer
+refused fault = record { status = 5; text = refusal (Parse fault) }
 
 abbrev pub no_memory : Answer
 no_memory = record { status = 8; text = memory_line }
 
--- the bytes are a source with this body, and with no other
-pub record IsOnlySource (bytes : List ℕ) (body : List Stmt) : Type 0 where
-  pub source : IsSource bytes body
-  pub only : (other : List Stmt) → IsSource bytes other → other ≡ body
+-- the bytes are the text of this program and of no other, and have no fault
+pub record IsOnlyText (bytes : List ℕ) (program : Program) : Type 0 where
+  pub text : IsText bytes program
+  pub only : (other : Program) → IsText bytes other → other ≡ program
+  pub faultless : (fault : ParseFault) → IsFaultOf bytes fault → ⊥
 
--- the bytes are no source
+-- the bytes have this fault and no other, and are the text of no program
+pub record IsOnlyFault (bytes : List ℕ) (fault : ParseFault) : Type 0 where
+  pub faulty : IsFaultOf bytes fault
+  pub only : (other : ParseFault) → IsFaultOf bytes other → other ≡ fault
+  pub textless : (program : Program) → IsText bytes program → ⊥
+
+-- the bytes are no source that is run
 abbrev pub IsNoSource : List ℕ → Type 0
 IsNoSource bytes = (body : List Stmt) → IsSource bytes body → ⊥
 
--- a source is answered with the text of its mode, and other bytes are refused
+-- a program of the form that is run is answered with the text of its mode, and another one as not built
+abbrev pub AnswersProgram : Mode → Program → Answer → Type 0
+AnswersProgram mode program answer =
+    ((output : List ℕ) × (body : List Stmt) × IsMain program output body × IsAllowed output body × (answer ≡ record { status = 0; text = text_of mode body }))
+    ⊎ (IsOfOtherForm program × (answer ≡ not_built))
+
+-- the text of a program is answered as the program, and other bytes with the line of their fault
 abbrev pub AnswersSource : Mode → List ℕ → Answer → Type 0
 AnswersSource mode bytes answer =
-    ((body : List Stmt) × IsOnlySource bytes body × (answer ≡ record { status = 0; text = text_of mode body }))
-    ⊎ (IsNoSource bytes × (answer ≡ refused))
+    ((program : Program) × IsOnlyText bytes program × AnswersProgram mode program answer)
+    ⊎ ((fault : ParseFault) × IsOnlyFault bytes fault × (answer ≡ refused fault))
 
 -- what was seen of a file
 pub data Seen : Type 0 where

@@ -1,5 +1,5 @@
 -- The programs that are run: one process, which declares variables, assigns sums and puts bytes.
-use Rattle.std.specs.Prelude.{◌≡◌, ℕ, pos, Bool, true, false, ◌&&◌, not, IsTrue, List, [], ◌∷◌, take, Some, None, bytes_eq, codes, slice_get, int_lt}
+use Rattle.std.specs.Prelude.{◌≡◌, ℕ, pos, Bool, true, false, ◌&&◌, not, IsTrue, List, [], ◌∷◌, take, Some, None, bytes_eq, codes, slice_get, int_lt, if◌then◌else◌}
 use Rattle.std.specs.Int.{is_negative}
 use Rattle.std.specs.List.{list_any}
 use Rattle.shim_base.specs.declared.operators.BinOp.TheVariants.{Add}
@@ -12,7 +12,9 @@ use Rattle.shim_syntax.specs.declared.Stmt.{Stmt}
 use Rattle.shim_syntax.specs.declared.What.{What}
 use Rattle.shim_syntax.specs.declared.What.TheVariants.{Declare, Assign, Put}
 use Rattle.shim_syntax.specs.declared.Expr.{Expr, fold-Expr, Expr-F}
-use Rattle.shim_syntax.specs.Measure.{declared}
+use Rattle.shim_tool.specs.declared.form.Part.{Part}
+use Rattle.shim_tool.specs.declared.form.Part.TheVariants.{Atom, Sum, Other}
+use Rattle.shim_tool.specs.Measure.{declared}
 
 -- the name is one of these
 abbrev pub has : List (List ℕ) → List ℕ → Bool
@@ -21,21 +23,38 @@ has names name = list_any (λ known. bytes_eq known name) names
 abbrev pub known_step : List (List ℕ) → Expr-F Bool → Bool
 known_step names (Expr-F.Number n) = true
 known_step names (Expr-F.Var x) = has names x
+known_step names (Expr-F.Unary op a) = a
 known_step names (Expr-F.Binary op a b) = a && b
 
--- each name of the sum is one of these
+-- each name of the expression is one of these
 abbrev pub is_known : List (List ℕ) → Expr → Bool
 is_known names = fold-Expr Bool (known_step names)
 
-abbrev pub small_step : Expr-F Bool → Bool
-small_step (Expr-F.Number n) = not (is_negative n) && int_lt n (pos 2147483648)
-small_step (Expr-F.Var x) = true
-small_step (Expr-F.Binary Add a b) = a && b
-small_step (Expr-F.Binary op a b) = false
+-- what two operands of a `+` make: a sum is joined to an atom alone
+abbrev pub joined : Part → Part → Part
+joined Other b = Other
+joined Atom Atom = Sum
+joined Sum Atom = Sum
+joined a b = Other
 
--- the expression is a sum of names and of numbers below 2 ^ 31
+abbrev pub part_step : Expr-F Part → Part
+part_step (Expr-F.Number n) = if not (is_negative n) && int_lt n (pos 2147483648) then Atom else Other
+part_step (Expr-F.Var x) = Atom
+part_step (Expr-F.Unary op a) = Other
+part_step (Expr-F.Binary Add a b) = joined a b
+part_step (Expr-F.Binary op a b) = Other
+
+-- An atom is a name or a number below 2 ^ 31, and a sum is an atom or a sum with a `+` and one more atom.
+abbrev pub part_of : Expr → Part
+part_of = fold-Expr Part part_step
+
+abbrev pub is_part : Part → Bool
+is_part Other = false
+is_part _ = true
+
+-- the expression is a sum of names and of small numbers
 abbrev pub is_small : Expr → Bool
-is_small = fold-Expr Bool small_step
+is_small e = is_part (part_of e)
 
 abbrev pub is_usable : List (List ℕ) → Expr → Bool
 is_usable names sum = is_known names sum && is_small sum
@@ -46,6 +65,7 @@ is_allowed output names (Declare Int32 x None) = not (has names x) && not (bytes
 is_allowed output names (Declare ty x first) = false
 is_allowed output names (Assign x e) = has names x && is_usable names e
 is_allowed output names (Put o e) = bytes_eq o output && is_usable names e
+is_allowed output names _ = false
 
 -- each statement is allowed behind those that stand before it
 abbrev pub IsAllowed : List ℕ → List Stmt → Type 0
@@ -70,3 +90,7 @@ pub record IsMain (program : Program) (output : List ℕ) (body : List Stmt) : T
   pub function : Function
   pub only : program.functions ≡ function ∷ []
   pub main : IsMainFunction function output body
+
+-- the program isn't of the form that is run
+abbrev pub IsOfOtherForm : Program → Type 0
+IsOfOtherForm program = (output : List ℕ) (body : List Stmt) → IsMain program output body → IsAllowed output body → ⊥

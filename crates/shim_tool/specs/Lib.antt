@@ -1,6 +1,5 @@
 -- The definitions of this crate, one module for each subject.
-pub mod Reading
-pub mod TokenView
+pub mod Measure
 pub mod Form
 pub mod NameView
 pub mod Meaning
@@ -17,4 +16,3 @@ pub mod JobView
 pub mod AnswerView
 pub mod Views
 pub mod Execute
-pub mod Parts

@@ -22,6 +22,7 @@ with_value values x n = λ y. if bytes_eq x y then n else values y
 abbrev pub total_step : Values → Expr-F ℤ → ℤ
 total_step values (Expr-F.Number n) = n
 total_step values (Expr-F.Var x) = values x
+total_step values (Expr-F.Unary op a) = pos 0
 total_step values (Expr-F.Binary Add a b) = a +ℤ b
 -- no sum has another operator
 total_step values (Expr-F.Binary op a b) = pos 0
@@ -38,13 +39,13 @@ first_value values (Some e) = total values e
 abbrev pub after : Values → What → Values
 after values (Declare ty x first) = with_value values x (stored ty (first_value values first))
 after values (Assign x e) = with_value values x (stored Int32 (total values e))
-after values (Put o e) = values
+-- no other statement is run
+after values _ = values
 
 -- the byte that a statement puts, which is the low 8 bits of the sum
 abbrev pub puts : Values → What → List ℕ
-puts values (Declare ty x first) = []
-puts values (Assign x e) = []
 puts values (Put o e) = unsigned_abs (stored Uint8 (total values e)) ∷ []
+puts values _ = []
 
 -- the bytes that statements put, in order
 unfoldable pub output_from : Values → List Stmt → List ℕ

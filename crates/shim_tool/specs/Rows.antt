@@ -3,12 +3,19 @@ use Rattle.std.specs.Prelude.{ℕ, ◌≡◌, ◌≢◌, ◌<◌, ◌≤◌, ◌
 use Rattle.shim_edge.specs.Count.{HasRisen}
 use Rattle.shim_edge.specs.Files.{file_of}
 use Rattle.shim_edge.specs.Sink.{then_bytes, TakesPart}
+use Rattle.shim_syntax.specs.declared.Program.{Program}
 use Rattle.shim_syntax.specs.declared.Stmt.{Stmt}
+use Rattle.shim_syntax.specs.Text.{IsText}
+use Rattle.shim_parser.specs.declared.ParseFault.{ParseFault}
+use Rattle.shim_parser.specs.Parsing.{IsFaultOf}
+use Rattle.shim_report.specs.declared.SourceFault.TheVariants.{Parse}
+use Rattle.shim_report.specs.Refusal.{refusal}
 use Rattle.shim_tool.specs.declared.mode.Mode.{Mode}
 use Rattle.shim_tool.specs.Asked.{Asked, nothing, job}
 use Rattle.shim_tool.specs.Moments.{FilesAt, SinkAt}
+use Rattle.shim_tool.specs.Form.{IsOfOtherForm}
 use Rattle.shim_tool.specs.Source.{IsSource}
-use Rattle.shim_tool.specs.Answer.{Answer, MayAnswer, FailedGrew, ReadFailed, IsTooLong, IsContent, IsNoSource, source_limit, text_of, usage_line, refused_line, failed_line, longer_line, memory_line}
+use Rattle.shim_tool.specs.Answer.{Answer, MayAnswer, FailedGrew, ReadFailed, IsTooLong, IsContent, IsNoSource, source_limit, text_of, usage_line, not_built_line, failed_line, longer_line, memory_line}
 
 -- this status came with this text, whole
 abbrev pub Came : ℕ → List ℕ → SinkAt → SinkAt → ℕ → Type 0
@@ -42,12 +49,20 @@ pub record WordsRow (ask : Asked) (out_before out_now : SinkAt) (result : ℕ) :
   pub only : result ≡ 2 → (ask ≡ nothing) × (out_now.taken ≡ then_bytes out_before.taken usage_line)
   pub when : ask ≡ nothing → Comes 2 usage_line out_before out_now result
 
--- 5: exactly where the file is no source
+-- why bytes are refused with this line: they are the text of a program that isn't of the form that is run, or they have a fault
+abbrev pub IsRefusal : List ℕ → List ℕ → Type 0
+IsRefusal bytes line =
+    ((program : Program) × IsText bytes program × IsOfOtherForm program × (line ≡ not_built_line))
+    ⊎ ((fault : ParseFault) × IsFaultOf bytes fault × (line ≡ refusal (Parse fault)))
+
+-- 5: exactly where the file is no source that is run, with the line of the cause; and no other text comes of such a file
 pub record RefusedRow (ask : Asked) (before now : FilesAt) (out_before out_now : SinkAt) (result : ℕ) : Type 0 where
-  pub only : result ≡ 5 → (now.failed ≡ before.failed) × (mode : Mode) × (bytes : List ℕ) × WasRead ask mode before bytes × IsNoSource bytes
-      × (out_now.taken ≡ then_bytes out_before.taken refused_line)
-  pub when : (mode : Mode) (name bytes : List ℕ) → ask ≡ job mode name → Holds before name bytes → length bytes ≤ source_limit → IsNoSource bytes
-      → Comes 5 refused_line out_before out_now result ⊎ ((result ≡ 6) × ReadFailed name before now)
+  pub only : result ≡ 5 → (now.failed ≡ before.failed) × (mode : Mode) × (bytes : List ℕ) × (line : List ℕ) × WasRead ask mode before bytes × IsNoSource bytes
+      × IsRefusal bytes line × (out_now.taken ≡ then_bytes out_before.taken line)
+  pub when : (mode : Mode) (name bytes line : List ℕ) → ask ≡ job mode name → Holds before name bytes → length bytes ≤ source_limit → IsRefusal bytes line
+      → Comes 5 line out_before out_now result ⊎ ((result ≡ 6) × ReadFailed name before now)
+  pub wherever : (mode : Mode) (name bytes : List ℕ) → ask ≡ job mode name → Holds before name bytes → length bytes ≤ source_limit → IsNoSource bytes
+      → ((line : List ℕ) × IsRefusal bytes line × Came 5 line out_before out_now result) ⊎ (result ≡ 7) ⊎ (result ≡ 8) ⊎ ((result ≡ 6) × ReadFailed name before now)
 
 -- why a file line is written: a read of the file failed in this call, or it is too long
 abbrev pub FileCause : Asked → FilesAt → FilesAt → SinkAt → SinkAt → Type 0

@@ -1,10 +1,13 @@
 // Answers, and the lines that they write.
-ghost use Rattle.std.specs.Prelude.{◌≡◌, IfOk};
+ghost use Rattle.std.specs.Prelude.{◌≡◌, ◌≢◌, IfOk};
+ghost use Rattle.shim_parser.specs.declared.ParseFault.TheVariants as faults;
 ghost use Rattle.shim_tool.specs.Answer as answers;
 ghost use Rattle.shim_tool.specs.Views.{answer_view};
 
 use crate::status::Status;
 use shim_base::{List, NoMemory, push_decimal};
+use shim_parser::ParseFault;
+use shim_report::{SourceFault, fault_text};
 use std::alloc::Global;
 
 /// The most bytes that a source has.
@@ -30,14 +33,27 @@ pub(crate) fn usage(alloc: Global) -> Result<Answer, NoMemory>
     })
 }
 
-/// The answer to bytes that are no source.
-#[tactic(auto, unfolding(crate::specs::Answer::refused_line))]
-pub(crate) fn refused(alloc: Global) -> Result<Answer, NoMemory>
-    ensures { IfOk result (λ a. answer_view a ≡ answers.refused) }
+/// The answer to a program that isn't of the form that is run.
+#[tactic(auto, unfolding(crate::specs::Answer::not_built_line))]
+pub(crate) fn not_built(alloc: Global) -> Result<Answer, NoMemory>
+    ensures { IfOk result (λ a. answer_view a ≡ answers.not_built) }
 {
     Ok(Answer {
         status: Status::Refused,
         text: List::from_slice(alloc, b"refused 1 not built\n")?,
+    })
+}
+
+/// The answer to bytes that have this fault. Want of memory is answered as itself.
+pub(crate) fn refused(alloc: Global, fault: ParseFault) -> Result<Answer, NoMemory>
+    ensures { IfOk result (λ a. (fault ≢ faults.NoMemory) × (answer_view a ≡ answers.refused fault)) }
+{
+    if fault == ParseFault::NoMemory {
+        return Err(NoMemory);
+    }
+    Ok(Answer {
+        status: Status::Refused,
+        text: fault_text(alloc, &SourceFault::Parse(fault))?,
     })
 }
 

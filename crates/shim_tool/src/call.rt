@@ -129,7 +129,7 @@ pub fn shim<F: Files, K: Sink>(alloc: Global, words: &[String], files: &mut F, o
     // 2: exactly where the words ask for nothing.
     ensures words { WordsRow (asked (texts_of_words words.now)) (sink_at K.taken K.faults out.old)
         (sink_at K.taken K.faults out.new) result }
-    // 5: exactly where the file is no source.
+    // 5: exactly where the file is no source that is run, with the line of the cause.
     ensures refused { RefusedRow (asked (texts_of_words words.now)) (files_at F.held F.sound F.failed files.old)
         (files_at F.held F.sound F.failed files.new) (sink_at K.taken K.faults out.old)
         (sink_at K.taken K.faults out.new) result }

@@ -1,33 +1,20 @@
 // From the bytes of a source to the answer.
-ghost use Rattle.std.specs.Prelude.{◌≡◌, ◌≤◌, ◌+◌, ◌<◌, ◌^◌, length, IfOk};
-ghost use Rattle.shim_syntax.specs.Text.{IsText};
-ghost use Rattle.shim_tool.specs.Answer.{AnswersSource, text_of};
-ghost use Rattle.shim_tool.specs.Execute.{AnswersProgram, HasShortSums};
-ghost use Rattle.shim_tool.specs.Reading.{Reads};
+ghost use Rattle.std.specs.Prelude.{◌≡◌, ◌≤◌, length, IfOk};
+ghost use Rattle.shim_tool.specs.Answer.{AnswersProgram, AnswersSource, text_of};
+ghost use Rattle.shim_tool.specs.Execute.{HasShortSums};
 ghost use Rattle.shim_tool.specs.Summable.{AreSummable};
 ghost use Rattle.shim_tool.specs.Views.{answer_view};
 
-use crate::answer::{Answer, refused};
+use crate::answer::{Answer, not_built, refused};
 use crate::form::{are_allowed, main_of};
 use crate::mode::Mode;
-use crate::read_error::ReadError;
 use crate::report::report;
 use crate::run::output_of;
-use crate::source::program_of;
 use crate::status::Status;
-use crate::text::tokens_of;
 use shim_base::{List, NoMemory};
+use shim_parser::parse;
 use shim_syntax::{Program, Stmt};
 use std::alloc::Global;
-
-// Reads the program whose text the bytes are.
-fn read(alloc: Global, bytes: &[u8]) -> Result<Program, ReadError>
-    requires { length bytes.now ≤ 1048576 }
-    ensures { Reads (IsText bytes.now) (λ p. p) result }
-{
-    let tokens = tokens_of(alloc, bytes)?;
-    program_of(alloc, &tokens)
-}
 
 // What a mode writes of a body.
 fn text_of(alloc: Global, mode: Mode, body: &[Stmt]) -> Result<List<u8>, NoMemory>
@@ -61,10 +48,10 @@ fn answer_program(alloc: Global, mode: Mode, program: &Program) -> Result<Answer
             if are_allowed(alloc, main.output, main.body)? {
                 done(alloc, mode, main.body)
             } else {
-                refused(alloc)
+                not_built(alloc)
             }
         }
-        None => refused(alloc),
+        None => not_built(alloc),
     }
 }
 
@@ -73,9 +60,8 @@ pub(crate) fn answer_source(alloc: Global, mode: Mode, bytes: &[u8]) -> Result<A
     requires { length bytes.now ≤ 1048576 }
     ensures { IfOk result (λ a. AnswersSource mode bytes.now (answer_view a)) }
 {
-    match read(alloc, bytes) {
+    match parse(alloc, bytes) {
         Ok(program) => answer_program(alloc, mode, &program),
-        Err(ReadError::Refused) => refused(alloc),
-        Err(ReadError::NoMemory) => Err(NoMemory),
+        Err(fault) => refused(alloc, fault),
     }
 }

@@ -1,6 +1,6 @@
 // The programs of the form that is run.
 ghost use Rattle.std.specs.Prelude.{◌≡◌, ◌↔◌, ℕ, List, IsTrue, IfOk, MatchOption, OnOk, ◌++◌};
-ghost use Rattle.shim_syntax.specs.Measure.{declares};
+ghost use Rattle.shim_tool.specs.Measure.{declares};
 ghost use Rattle.shim_tool.specs.Form as forms;
 ghost use Rattle.shim_tool.specs.Form.{IsMain, IsAllowed};
 ghost use Rattle.shim_tool.specs.NameView.{texts_of};
@@ -69,18 +69,47 @@ fn is_known(names: &[&Name], sum: &Expr) -> bool
     match sum {
         Expr::Number(_) => true,
         Expr::Var(name) => has(names, name),
+        Expr::Unary(_, operand) => is_known(names, operand),
         Expr::Binary(_, left, right) => is_known(names, left) && is_known(names, right),
+    }
+}
+
+/// What an expression is to a sum: a part that stands alone, more than one part, or none.
+#[derive(Clone, Copy, Debug, PartialEq, Eq)]
+pub(crate) enum Part {
+    Atom,
+    Sum,
+    Other,
+}
+
+fn joined(left: Part, right: Part) -> Part
+    ensures { result ≡ forms.joined left right }
+{
+    match (left, right) {
+        (Part::Atom | Part::Sum, Part::Atom) => Part::Sum,
+        _ => Part::Other,
+    }
+}
+
+fn part_of(sum: &Expr) -> Part
+    ensures { result ≡ forms.part_of sum.now }
+{
+    match sum {
+        Expr::Number(number) if 0 <= *number && *number < 2147483648 => Part::Atom,
+        Expr::Number(_) => Part::Other,
+        Expr::Var(_) => Part::Atom,
+        Expr::Unary(_, _) => Part::Other,
+        Expr::Binary(BinOp::Add, left, right) => joined(part_of(left), part_of(right)),
+        Expr::Binary(_, _, _) => Part::Other,
     }
 }
 
 fn is_small(sum: &Expr) -> bool
     ensures { result ≡ forms.is_small sum.now }
 {
-    match sum {
-        Expr::Number(number) => 0 <= *number && *number < 2147483648,
-        Expr::Var(_) => true,
-        Expr::Binary(BinOp::Add, left, right) => is_small(left) && is_small(right),
-        Expr::Binary(_, _, _) => false,
+    match part_of(sum) {
+        Part::Other => false,
+        Part::Atom | Part::Sum => true,
     }
 }
 
@@ -100,6 +129,7 @@ fn is_allowed(output: &Name, names: &[&Name], what: &What) -> bool
         What::Declare(_, _, _) => false,
         What::Assign(name, sum) => has(names, name) && is_usable(names, sum),
         What::Put(name, sum) => name.as_bytes() == output.as_bytes() && is_usable(names, sum),
+        _ => false,
     }
 }
 

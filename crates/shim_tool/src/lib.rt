@@ -5,18 +5,10 @@ mod answer;
 mod call;
 mod execute;
 mod form;
-mod kind;
 mod mode;
-mod read_error;
-mod reader;
 mod report;
 mod run;
-mod source;
-mod statement;
 mod status;
-mod sum;
-mod text;
-mod token;
 mod variable;
 mod words;
 

@@ -3,7 +3,7 @@ ghost use Rattle.std.specs.Prelude.{◌≡◌, ◌++◌, ◌+◌, ◌*◌, ◌�
 ghost use Rattle.std.specs.Option.{ForSome};
 ghost use Rattle.shim_base.specs.Value.{FitsType, stored};
 ghost use Rattle.shim_base.specs.declared.types.Ty.TheVariants.{Uint8};
-ghost use Rattle.shim_syntax.specs.Measure.{operators};
+ghost use Rattle.shim_tool.specs.Measure.{operators};
 ghost use Rattle.shim_tool.specs.Form as forms;
 ghost use Rattle.shim_tool.specs.Meaning as meanings;
 ghost use Rattle.shim_tool.specs.Summable.{IsSummable, HasSummable, AreSummable};
@@ -43,7 +43,7 @@ fn total(variables: &[Variable], sum: &Expr) -> i64
             let right = total(variables, right);
             left + right
         }
-        Expr::Binary(_, _, _) => unreachable!(),
+        _ => unreachable!(),
     }
 }
 
@@ -116,6 +116,8 @@ fn step<'a>(
             set(variables, name, Ty::Int32, value)
         }
         What::Put(_, sum) => output.push(byte_of(variables, sum)),
+        // No other statement is of the form.
+        _ => Ok(()),
     }
 }
 

@@ -1,12 +1,16 @@
+use Rattle.std.proofs.Common.{inr}
 use Rattle.shim_tool.specs.Views.{answer_view}
-use Rattle.shim_tool.proofs.ExecuteLemmas.{short_text, as_source, no_source, if_ok_weaker}
+use Rattle.shim_tool.proofs.ExecuteLemmas.{as_source, if_ok_weaker}
+use Rattle.shim_tool.proofs.Faults.{only_fault}
+use Rattle.shim_tool.proofs.ShortTexts.{short_text}
 use Rattle.shim_tool.proofs.execute.answer_source.Goals as goal
 
 pub answer_program-requires : goal.answer_program-requires
-answer_program-requires c = short_text c.args.bytes.now c.in-Ok.program c.in-Ok.ensures.0
+answer_program-requires c = short_text c.args.bytes.now c.in-Ok.program c.in-Ok.ensures.answers
 
 pub returns-in-Ok : goal.returns-in-Ok
-returns-in-Ok c = if_ok_weaker c.answer_program.result _ _ (λ a. as_source c.args.mode c.args.bytes.now c.in-Ok.program (answer_view a) c.in-Ok.ensures.0 c.in-Ok.ensures.1) c.answer_program.ensures
+returns-in-Ok c = if_ok_weaker c.answer_program.result _ _ (λ a. as_source c.args.mode c.args.bytes.now c.in-Ok.program (answer_view a) c.in-Ok.ensures.answers c.in-Ok.ensures.only) c.answer_program.ensures
 
-pub returns-in-Err-Refused : goal.returns-in-Err-Refused
-returns-in-Err-Refused c = if_ok_weaker c.refused.result _ _ (λ a. no_source c.args.mode c.args.bytes.now (answer_view a) (rw c.in-Err-Refused.field-0-is at c.in-Err-Refused.ensures)) c.refused.ensures
+pub returns-in-Err : goal.returns-in-Err
+returns-in-Err c = if_ok_weaker c.refused.result _ _
+    (λ a is. inr (c.in-Err.fault, only_fault c.args.bytes.now c.in-Err.fault is.0 c.in-Err.ensures.answers c.in-Err.ensures.only, is.1)) c.refused.ensures

@@ -1,6 +1,6 @@
 use Rattle.std.proofs.Common.{◌≡◌, ◌<◌, ◌∙◌, sym, ap, ◌++◌, List, ℕ, IsTrue, arith, rules, refl, take, length}
 use Rattle.std.proofs.lemmas.Option.{slice_get_within}
-use Rattle.shim_syntax.specs.Measure.{declared, declares}
+use Rattle.shim_tool.specs.Measure.{declared, declares}
 use Rattle.shim_tool.specs.Form as forms
 use Rattle.shim_tool.specs.NameView.{texts_of}
 use Rattle.shim_tool.proofs.FormLemmas.{declared-take_more, allowed_more}

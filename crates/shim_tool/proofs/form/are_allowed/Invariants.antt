@@ -1,7 +1,7 @@
 use Rattle.std.proofs.Common.{◌≡◌, ◌<◌, ℕ, take, Some, IsTrue}
 use Rattle.std.specs.Prelude.{slice_get}
 use Rattle.shim_syntax.specs.declared.Stmt.{Stmt}
-use Rattle.shim_syntax.specs.Measure.{declared}
+use Rattle.shim_tool.specs.Measure.{declared}
 use Rattle.shim_tool.specs.Form.{is_allowed}
 use Rattle.shim_tool.specs.NameView.{texts_of}
 use Rattle.shim_tool.proofs.form.are_allowed.Given as goal

@@ -1,6 +1,6 @@
 use Rattle.std.proofs.Common.{◌≡◌, ◌+ℤ◌, ap, arith, to_z, of_z, w64}
 use Rattle.std.proofs.lemmas.Int.{ints}
-use Rattle.shim_syntax.specs.Measure.{operators}
+use Rattle.shim_tool.specs.Measure.{operators}
 use Rattle.shim_tool.specs.Meaning as meanings
 use Rattle.shim_tool.specs.Variables.{values_of}
 use Rattle.shim_tool.proofs.Totals.{operators-Binary, total-Binary}

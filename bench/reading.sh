@@ -1,0 +1,77 @@
+#!/usr/bin/env bash
+# Lets ./shim read sources of 1/2 and 1 MiB of three shapes, which are programs of the language that don't run yet, and
+# lets gcc check C text of the same size and shape, in turn: ordinary functions, deep nesting, and long sums. Prints the
+# least time of each over some rounds, and their ratio. Wants gcc and awk. Use: make shim && bench/reading.sh [ROUNDS]
+set -eu
+cd "$(dirname "$0")/.."
+rounds=${1:-5}
+room=$(mktemp -d)
+trap 'rm -rf "$room"' EXIT
+
+# Functions with this body, as many as fit, and spaces: so many bytes, to the byte. An @ is the function's number.
+text() { # SIZE HEAD-OF-EACH BODY LAST
+  awk -v size="$1" -v head="$2" -v body="$3" -v last="$4" 'BEGIN {
+    left = size - length(last)
+    for (i = 0; i < 1000; i++) {
+      f = head body; gsub(/@/, i + 1000, f)
+      if (length(f) > left) break
+      printf "%s", f; left -= length(f)
+    }
+    while (left-- > 0) printf " "
+    printf "%s", last
+  }'
+}
+
+repeat() { # TEXT TIMES
+  awk -v text="$1" -v times="$2" 'BEGIN { while (times-- > 0) printf "%s", text }'
+}
+
+least() { # COMMAND..
+  local best=
+  for _ in $(seq "$rounds"); do
+    local begin end took
+    begin=$(date +%s%N)
+    "$@" > "$room/out" 2>&1 || true
+    end=$(date +%s%N)
+    took=$((end - begin))
+    if [ -z "$best" ] || [ "$took" -lt "$best" ]; then best=$took; fi
+  done
+  echo "$best"
+}
+
+compare() { # NAME SHIM-BODY C-BODY
+  local size shim gcc
+  for size in 524288 1048576; do
+    text "$size" 'void f@(int n, int &r) { int a; int b; ' "$2" 'void main() { }' > "$room/source.shim"
+    text "$size" 'void f@(int n, int *r) { int a, b = 0; ' "$3" 'void main() { }' > "$room/source.c"
+    shim=$(least ./shim run "$room/source.shim")
+    grep -q '^refused 1 not built$' "$room/out" || { cat "$room/out"; exit 1; }
+    gcc=$(least gcc -w -fsyntax-only "$room/source.c")
+    ! grep -q 'error' "$room/out" || { head -n 5 "$room/out"; exit 1; }
+    awk -v name="$1" -v size="$size" -v shim="$shim" -v gcc="$gcc" 'BEGIN {
+      printf "%-9s %7d bytes: shim %.3f s, gcc -fsyntax-only %.3f s, ratio %.2f\n", name, size, shim / 1e9, gcc / 1e9, shim / gcc
+    }'
+  done
+}
+
+ordinary='
+  while (n > 0) {
+    if (n % 2 == 0) { a = a + n; } else { b = (b << 1) | n; }
+    n = n - 1; /* down */
+  }
+'
+ordinary=$(repeat "$ordinary" 8)
+compare ordinary "$ordinary a = a * 31 + b; }
+" "$ordinary a = a * 31 + b; }
+"
+
+deep=$(repeat '{' 60)$(repeat '}' 60)' a = '$(repeat '(' 60)'n'$(repeat ')' 60)'; '
+deep=$(repeat "$deep" 4)
+compare deep "$deep }
+" "$deep }
+"
+
+sum='a = n'$(repeat ' + 12' 250)'; '
+compare sums "$sum }
+" "$sum }
+"

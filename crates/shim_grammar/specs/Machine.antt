@@ -1,0 +1,315 @@
+-- What may follow: the symbols that the rest of a text still has to give, the next one first, and what a terminal does to them.
+-- What it asks of the limits stays apart from whether they allow it.
+use Rattle.std.specs.Prelude.{ℕ, suc, List, [], ◌∷◌, Option, Some, None, Bool, true, false, if◌then◌else◌}
+use Rattle.shim_base.specs.declared.token.Keyword.TheVariants as k
+use Rattle.shim_base.specs.declared.token.Sign.{Sign as SignOf}
+use Rattle.shim_base.specs.declared.token.Sign.TheVariants as g
+use Rattle.shim_syntax.specs.declared.limits.Many.TheVariants as m
+use Rattle.shim_syntax.specs.declared.tree.Sort.TheVariants.{Value}
+use Rattle.shim_syntax.specs.Terminals.{Terminal, Name, Number, Sort, Key, Sign, End}
+use Rattle.shim_syntax.specs.Limits.{Limit, Nesting, Count, Limits}
+use Rattle.shim_syntax.specs.Grammar.{Counts, new_function, with_local, new_expression, with_operator, at_level, new_body, behind_body, as_branch}
+use Rattle.shim_grammar.specs.declared.mark.Mark.{Mark}
+use Rattle.shim_grammar.specs.declared.mark.Mark.TheVariants as mark
+
+pub data Symbol : Type 0 where
+  Fixed : Mark → Symbol
+  Word : Symbol
+  -- an operand; the same as a thing that begins; the first one of an expression; what may follow one
+  Operand Inside Expression Operators : ℕ → Symbol
+  -- behind the left parenthesis of a call; behind so many arguments; the argument of that number
+  Arguments : ℕ → Symbol
+  MoreArguments Argument : ℕ → ℕ → Symbol
+  -- behind a type; behind a declared name; behind its value
+  Declarations AfterDeclared MoreDeclarations : ℕ → Symbol
+  -- the one declared name of a `for`, and behind it
+  Declaration AfterDeclaration : ℕ → Symbol
+  Statement Body Block AfterWord AfterEqual AfterNext First Test Step Else : ℕ → Symbol
+  -- behind the block of a body of that level; the deepest level outside
+  AfterBody : ℕ → ℕ → Symbol
+  -- behind so many branches; the branch of that number
+  Pars Branch : ℕ → ℕ → Symbol
+  Parameters AfterSort Throws : Symbol
+  MoreParameters Parameter Thrown MoreThrows Functions : ℕ → Symbol
+
+abbrev pub Stack : Type 0
+Stack = List Symbol
+
+-- what a limit is asked for
+pub record Ask : Type 0 where
+  pub limit : Limit
+  pub number : ℕ
+
+-- what a terminal asks of the limits, what must follow it, and what is counted with it
+pub record Want : Type 0 where
+  pub asks : List Ask
+  pub stack : Stack
+  pub counts : Counts
+
+abbrev pub go : Stack → Counts → Option Want
+go k w = Some (record { asks = []; stack = k; counts = w })
+
+abbrev pub ask : Limit → ℕ → Option Want → Option Want
+ask limit n None = None
+ask limit n (Some w) = Some (record { asks = record { limit = limit; number = n } ∷ w.asks; stack = w.stack; counts = w.counts })
+
+abbrev pub fixed : Mark → Terminal → Stack → Counts → Option Want
+fixed mark.LeftParen (Sign g.LeftParen p) k w = go k w
+fixed mark.RightParen (Sign g.RightParen p) k w = go k w
+fixed mark.LeftBrace (Sign g.LeftBrace p) k w = go k w
+fixed mark.Comma (Sign g.Comma p) k w = go k w
+fixed mark.Semicolon (Sign g.Semicolon p) k w = go k w
+fixed mark.Equal (Sign g.Equal p) k w = go k w
+fixed mark.Catch (Key k.Catch p) k w = go k w
+fixed _ _ k w = None
+
+abbrev pub word : Terminal → Stack → Counts → Option Want
+word (Name x p) k w = go k w
+word _ k w = None
+
+abbrev pub operand : Terminal → ℕ → Stack → Counts → Option Want
+operand (Number n p) l k w = go k w
+operand (Name x p) l k w = go k w
+operand (Sign g.LeftParen p) l k w = go (Inside (suc l) ∷ Operators (suc l) ∷ Fixed mark.RightParen ∷ k) w
+operand (Sign g.Minus p) l k w = ask (Count m.Operators) (suc w.operators) (go (Inside (suc l) ∷ k) (with_operator w))
+operand (Sign g.Bang p) l k w = ask (Count m.Operators) (suc w.operators) (go (Inside (suc l) ∷ k) (with_operator w))
+operand (Sign g.Tilde p) l k w = ask (Count m.Operators) (suc w.operators) (go (Inside (suc l) ∷ k) (with_operator w))
+operand _ l k w = None
+
+-- whether the sign is an operator with two operands
+abbrev pub joins_sign : SignOf → Bool
+joins_sign g.Star = true
+joins_sign g.Slash = true
+joins_sign g.Percent = true
+joins_sign g.Plus = true
+joins_sign g.Minus = true
+joins_sign g.Shl = true
+joins_sign g.Shr = true
+joins_sign g.Less = true
+joins_sign g.Le = true
+joins_sign g.Greater = true
+joins_sign g.Ge = true
+joins_sign g.EqEq = true
+joins_sign g.NotEq = true
+joins_sign g.Amp = true
+joins_sign g.Caret = true
+joins_sign g.Bar = true
+joins_sign g.AndAnd = true
+joins_sign g.OrOr = true
+joins_sign _ = false
+
+abbrev pub joins : Terminal → Bool
+joins (Sign sign p) = joins_sign sign
+joins _ = false
+
+abbrev pub operators : Terminal → ℕ → Stack → Counts → Option Want → Option Want
+operators x l k w other = if joins x then ask (Count m.Operators) (suc w.operators) (go (Operand l ∷ Operators l ∷ k) (with_operator w)) else other
+
+abbrev pub argument : Terminal → ℕ → ℕ → Stack → Counts → Option Want
+argument x l n k w = ask (Count m.Arguments) n (operand x l (Operators l ∷ MoreArguments l n ∷ k) (new_expression w))
+
+abbrev pub arguments : Terminal → ℕ → Stack → Counts → Option Want
+arguments (Sign g.RightParen p) l k w = go k w
+arguments x l k w = argument x l 1 k w
+
+abbrev pub more_arguments : Terminal → ℕ → ℕ → Stack → Counts → Option Want
+more_arguments (Sign g.RightParen p) l n k w = go k w
+more_arguments (Sign g.Comma p) l n k w = go (Argument l (suc n) ∷ k) w
+more_arguments _ l n k w = None
+
+abbrev pub declarations : Terminal → ℕ → Stack → Counts → Option Want
+declarations (Name x p) l k w = ask (Count m.Locals) (suc w.locals) (go (AfterDeclared l ∷ k) (with_local w))
+declarations _ l k w = None
+
+abbrev pub more_declarations : Terminal → ℕ → Stack → Counts → Option Want
+more_declarations (Sign g.Comma p) l k w = go (Declarations l ∷ k) w
+more_declarations (Sign g.Semicolon p) l k w = go k w
+more_declarations _ l k w = None
+
+abbrev pub after_declared : Terminal → ℕ → Stack → Counts → Option Want
+after_declared (Sign g.Equal p) l k w = go (Expression l ∷ Operators l ∷ MoreDeclarations l ∷ k) w
+after_declared x l k w = more_declarations x l k w
+
+abbrev pub declaration : Terminal → ℕ → Stack → Counts → Option Want
+declaration (Name x p) l k w = ask (Count m.Locals) (suc w.locals) (go (AfterDeclaration l ∷ k) (with_local w))
+declaration _ l k w = None
+
+abbrev pub after_declaration : Terminal → ℕ → Stack → Counts → Option Want
+after_declaration (Sign g.Equal p) l k w = go (Expression l ∷ Operators l ∷ Fixed mark.Semicolon ∷ k) w
+after_declaration (Sign g.Semicolon p) l k w = go k w
+after_declaration _ l k w = None
+
+abbrev pub statement : Terminal → ℕ → Stack → Counts → Option Want
+statement (Sign g.Semicolon p) l k w = go k w
+statement (Sort (Value ty) p) l k w = go (Declarations l ∷ k) w
+statement (Name x p) l k w = go (AfterWord l ∷ k) w
+statement (Key k.Next p) l k w = go (Word ∷ AfterNext l ∷ k) w
+statement (Key k.Put p) l k w = go (Word ∷ Fixed mark.Comma ∷ Expression l ∷ Operators l ∷ Fixed mark.Semicolon ∷ k) w
+statement (Key k.If p) l k w = go (Fixed mark.LeftParen ∷ Expression l ∷ Operators l ∷ Fixed mark.RightParen ∷ Body (suc l) ∷ Else (suc l) ∷ k) w
+statement (Key k.While p) l k w = go (Fixed mark.LeftParen ∷ Expression l ∷ Operators l ∷ Fixed mark.RightParen ∷ Body (suc l) ∷ k) w
+statement (Key k.For p) l k w = go (Fixed mark.LeftParen ∷ First (suc l) ∷ Test l ∷ Step (suc l) ∷ Body (suc l) ∷ k) w
+statement (Key k.Try p) l k w =
+    go (Fixed mark.LeftBrace ∷ Block (suc l) ∷ Fixed mark.Catch ∷ Fixed mark.LeftParen ∷ Word ∷ Fixed mark.RightParen ∷ Fixed mark.LeftBrace ∷ Block (suc l) ∷ k) w
+statement (Key k.Throw p) l k w = go (Word ∷ Fixed mark.Semicolon ∷ k) w
+statement (Sign g.LeftBrace p) l k w = go (Block (suc l) ∷ Pars l 1 ∷ k) w
+statement _ l k w = None
+
+-- a statement as a thing that begins
+abbrev pub thing : Terminal → ℕ → Stack → Counts → Option Want
+thing x l k w = ask Nesting l (statement x l k (at_level l w))
+
+abbrev pub block : Terminal → ℕ → Stack → Counts → Option Want
+block (Sign g.RightBrace p) l k w = go k w
+block x l k w = thing x l (Block l ∷ k) w
+
+abbrev pub body : Terminal → ℕ → Stack → Counts → Option Want
+body (Sign g.LeftBrace p) l k w = go (Block l ∷ AfterBody l w.deepest ∷ k) (new_body w)
+body x l k w = thing x l k w
+
+abbrev pub after_word : Terminal → ℕ → Stack → Counts → Option Want
+after_word (Sign g.Equal p) l k w = go (AfterEqual l ∷ k) w
+after_word (Sign g.LeftParen p) l k w = go (Arguments l ∷ Fixed mark.Semicolon ∷ Pars l 1 ∷ k) w
+after_word _ l k w = None
+
+abbrev pub after_equal : Terminal → ℕ → Stack → Counts → Option Want
+after_equal (Key k.Next p) l k w = go (Word ∷ Fixed mark.Semicolon ∷ k) w
+after_equal (Key k.Get p) l k w = go (Word ∷ Fixed mark.Semicolon ∷ k) w
+after_equal x l k w = operand x l (Operators l ∷ Fixed mark.Semicolon ∷ k) (new_expression w)
+
+abbrev pub after_next : Terminal → ℕ → Stack → Counts → Option Want
+after_next (Sign g.Semicolon p) l k w = go k w
+after_next (Sign g.Equal p) l k w = go (Expression l ∷ Operators l ∷ Fixed mark.Semicolon ∷ k) w
+after_next _ l k w = None
+
+abbrev pub first_of_for : Terminal → ℕ → Stack → Counts → Option Want
+first_of_for (Sign g.Semicolon p) l k w = go k w
+first_of_for (Sort (Value ty) p) l k w = ask Nesting l (go (Declaration l ∷ k) (at_level l w))
+first_of_for (Name x p) l k w = ask Nesting l (go (Fixed mark.Equal ∷ Expression l ∷ Operators l ∷ Fixed mark.Semicolon ∷ k) (at_level l w))
+first_of_for _ l k w = None
+
+abbrev pub test_of_for : Terminal → ℕ → Stack → Counts → Option Want
+test_of_for (Sign g.Semicolon p) l k w = go k w
+test_of_for x l k w = operand x l (Operators l ∷ Fixed mark.Semicolon ∷ k) (new_expression w)
+
+abbrev pub step_of_for : Terminal → ℕ → Stack → Counts → Option Want
+step_of_for (Sign g.RightParen p) l k w = go k w
+step_of_for (Name x p) l k w = ask Nesting l (go (Fixed mark.Equal ∷ Expression l ∷ Operators l ∷ Fixed mark.RightParen ∷ k) (at_level l w))
+step_of_for _ l k w = None
+
+-- what an `else` or a `par` does, and what is done where another terminal stands
+abbrev pub or_else : Terminal → ℕ → Stack → Counts → Option Want → Option Want
+or_else (Key k.Else p) l k w other = go (Body l ∷ k) w
+or_else _ l k w other = other
+
+abbrev pub pars : Terminal → ℕ → ℕ → Stack → Counts → Option Want → Option Want
+pars (Key k.Par p) l n k w other = go (Branch l (suc n) ∷ Pars l (suc n) ∷ k) w
+pars _ l n k w other = other
+
+-- with `par` the block of a body turns out to be the first branch of a fork
+abbrev pub after_body : Terminal → ℕ → ℕ → Stack → Counts → Option Want → Option Want
+after_body (Key k.Par p) l d k w other = ask Nesting (as_branch l w) (go (Branch l 2 ∷ Pars l 2 ∷ k) (at_level (as_branch l w) (behind_body d w)))
+after_body _ l d k w other = other
+
+abbrev pub branch : Terminal → ℕ → ℕ → Stack → Counts → Option Want
+branch (Sign g.LeftBrace p) l n k w = ask (Count m.Branches) n (go (Block (suc l) ∷ k) w)
+branch (Name x p) l n k w = ask (Count m.Branches) n (go (Fixed mark.LeftParen ∷ Arguments l ∷ Fixed mark.Semicolon ∷ k) w)
+branch _ l n k w = None
+
+abbrev pub parameter : Terminal → ℕ → Stack → Counts → Option Want
+parameter (Sort sort p) n k w = ask (Count m.Parameters) n (go (AfterSort ∷ MoreParameters n ∷ k) w)
+parameter _ n k w = None
+
+abbrev pub parameters : Terminal → Stack → Counts → Option Want
+parameters (Sign g.RightParen p) k w = go k w
+parameters (Key k.Void p) k w = go (Fixed mark.RightParen ∷ k) w
+parameters x k w = parameter x 1 k w
+
+abbrev pub more_parameters : Terminal → ℕ → Stack → Counts → Option Want
+more_parameters (Sign g.RightParen p) n k w = go k w
+more_parameters (Sign g.Comma p) n k w = go (Parameter (suc n) ∷ k) w
+more_parameters _ n k w = None
+
+abbrev pub after_sort : Terminal → Stack → Counts → Option Want
+after_sort (Name x p) k w = go k w
+after_sort (Sign g.Amp p) k w = go (Word ∷ k) w
+after_sort _ k w = None
+
+abbrev pub throws : Terminal → Stack → Counts → Option Want
+throws (Sign g.LeftBrace p) k w = go k w
+throws (Key k.Throws p) k w = go (Thrown 1 ∷ k) w
+throws _ k w = None
+
+abbrev pub thrown : Terminal → ℕ → Stack → Counts → Option Want
+thrown (Name x p) n k w = ask (Count m.Throws) n (go (MoreThrows n ∷ k) w)
+thrown _ n k w = None
+
+abbrev pub more_throws : Terminal → ℕ → Stack → Counts → Option Want
+more_throws (Sign g.LeftBrace p) n k w = go k w
+more_throws (Sign g.Comma p) n k w = go (Thrown (suc n) ∷ k) w
+more_throws _ n k w = None
+
+-- behind n functions
+abbrev pub functions : Terminal → ℕ → Stack → Counts → Option Want
+functions (End p) n k w = go k w
+functions (Key k.Void p) n k w = ask (Count m.Functions) (suc n) (go (Word ∷ Fixed mark.LeftParen ∷ Parameters ∷ Throws ∷ Block 1 ∷ Functions (suc n) ∷ k) (new_function w))
+functions _ n k w = None
+
+abbrev pub wants : Stack → Terminal → Counts → Option Want
+wants [] x w = None
+wants (Fixed f ∷ k) x w = fixed f x k w
+wants (Word ∷ k) x w = word x k w
+wants (Operand l ∷ k) x w = operand x l k w
+wants (Inside l ∷ k) x w = ask Nesting l (operand x l k (at_level l w))
+wants (Expression l ∷ k) x w = operand x l k (new_expression w)
+wants (Operators l ∷ k) x w = operators x l k w (wants k x w)
+wants (Arguments l ∷ k) x w = arguments x l k w
+wants (MoreArguments l n ∷ k) x w = more_arguments x l n k w
+wants (Argument l n ∷ k) x w = argument x l n k w
+wants (Declarations l ∷ k) x w = declarations x l k w
+wants (AfterDeclared l ∷ k) x w = after_declared x l k w
+wants (MoreDeclarations l ∷ k) x w = more_declarations x l k w
+wants (Declaration l ∷ k) x w = declaration x l k w
+wants (AfterDeclaration l ∷ k) x w = after_declaration x l k w
+wants (Statement l ∷ k) x w = thing x l k w
+wants (Body l ∷ k) x w = body x l k w
+wants (Block l ∷ k) x w = block x l k w
+wants (AfterWord l ∷ k) x w = after_word x l k w
+wants (AfterEqual l ∷ k) x w = after_equal x l k w
+wants (AfterNext l ∷ k) x w = after_next x l k w
+wants (First l ∷ k) x w = first_of_for x l k w
+wants (Test l ∷ k) x w = test_of_for x l k w
+wants (Step l ∷ k) x w = step_of_for x l k w
+wants (Else l ∷ k) x w = or_else x l k w (wants k x w)
+wants (AfterBody l d ∷ k) x w = after_body x l d k w (wants k x (behind_body d w))
+wants (Pars l n ∷ k) x w = pars x l n k w (wants k x w)
+wants (Branch l n ∷ k) x w = branch x l n k w
+wants (Parameters ∷ k) x w = parameters x k w
+wants (AfterSort ∷ k) x w = after_sort x k w
+wants (Throws ∷ k) x w = throws x k w
+wants (MoreParameters n ∷ k) x w = more_parameters x n k w
+wants (Parameter n ∷ k) x w = parameter x n k w
+wants (Thrown n ∷ k) x w = thrown x n k w
+wants (MoreThrows n ∷ k) x w = more_throws x n k w
+wants (Functions n ∷ k) x w = functions x n k w
+
+-- why the machine halts at a terminal: nothing wants it, or a limit is passed
+pub data Cause : Type 0 where
+  Unwanted : Cause
+  Past : Limit → Cause
+
+-- where it halts, and why
+pub data Halt : Type 0 where
+  At : Cause → List Terminal → Halt
+
+-- all was taken
+abbrev pub Whole : Halt
+Whole = At Unwanted []
+
+-- the limits that the first of these terminals asks for are judged in turn
+abbrev pub judge : Limits → List Terminal → List Ask → Halt → Halt
+judge c s [] go_on = go_on
+judge c s (a ∷ asks) go_on = if c s a.limit a.number then judge c s asks go_on else At (Past a.limit) s
+
+abbrev pub run : Limits → List Terminal → Stack → Counts → Halt
+run c [] k w = Whole
+run c (x ∷ s) k w = elim (wants k x w) [ None ↦ At Unwanted (x ∷ s) | Some n ↦ judge c (x ∷ s) n.asks (run c s n.stack n.counts) ]

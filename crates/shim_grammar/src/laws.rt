@@ -1,0 +1,20 @@
+// Laws of the grammar.
+ghost use Rattle.std.specs.Prelude.{ℕ, List, ◌≡◌};
+ghost use Rattle.shim_base.specs.Tokens.{Place};
+ghost use Rattle.shim_syntax.specs.declared.tree.Program.{Program};
+ghost use Rattle.shim_syntax.specs.Text.{IsText, Fault, HasFault};
+
+/// A text is that of one program at most.
+pub fn one_program()
+    ensures { (bytes : List ℕ) (p q : Program) → IsText bytes p → IsText bytes q → p ≡ q }
+{}
+
+/// A text has one fault at most: one place where it stops being a program, and one cause for it.
+pub fn one_fault()
+    ensures { (bytes : List ℕ) (f g : Fault) (p q : Place) → HasFault bytes f p → HasFault bytes g q → (f ≡ g) × (p ≡ q) }
+{}
+
+/// No text is the text of a program and has a fault as well.
+pub fn never_both()
+    ensures { (bytes : List ℕ) (p : Program) (f : Fault) (place : Place) → IsText bytes p → HasFault bytes f place → ⊥ }
+{}

@@ -1,0 +1,60 @@
+-- What the functions for functions read, within the limits.
+use Rattle.std.specs.Prelude.{ℕ, ◌≡◌, List, [], ◌∷◌, Bool, true, false}
+use Rattle.shim_base.specs.declared.token.Keyword.TheVariants as k
+use Rattle.shim_base.specs.declared.token.Keyword.TheVariants.{Void}
+use Rattle.shim_base.specs.declared.token.Sign.TheVariants.{Amp, Comma}
+use Rattle.shim_base.specs.Tokens.{Place}
+use Rattle.shim_syntax.specs.declared.limits.Many.TheVariants.{Parameters, Throws}
+use Rattle.shim_syntax.specs.declared.tree.Param.{Param}
+use Rattle.shim_syntax.specs.declared.tree.Function.{Function}
+use Rattle.shim_syntax.specs.Terminals.{Terminal, Name, Sort, Key, Sign, End}
+use Rattle.shim_syntax.specs.Limits.{Count, limits, is_within}
+use Rattle.shim_syntax.specs.Grammar.{Counts, new_function, IsParam, IsParams, IsThrows, IsFunction, IsFunctions}
+
+-- the `&` of a parameter
+abbrev pub is_reference : Terminal → Bool
+is_reference (Sign Amp p) = true
+is_reference _ = false
+
+abbrev pub is_comma : Terminal → Bool
+is_comma (Sign Comma p) = true
+is_comma _ = false
+
+-- a parameter begins with it
+abbrev pub is_sort : Terminal → Bool
+is_sort (Sort sort p) = true
+is_sort _ = false
+
+abbrev pub is_void : Terminal → Bool
+is_void (Key Void p) = true
+is_void _ = false
+
+abbrev pub is_throws : Terminal → Bool
+is_throws (Key k.Throws p) = true
+is_throws _ = false
+
+abbrev pub is_end : Terminal → Bool
+is_end (End p) = true
+is_end _ = false
+
+-- the parameter of that number
+abbrev pub IsParameter : ℕ → Counts → Counts → List Terminal → List Terminal → Param → Type 0
+IsParameter n v w s r x = (is_within (Count Parameters) n ≡ true) × IsParam s r x × (v ≡ w)
+
+abbrev pub IsParameters : Counts → Counts → List Terminal → List Terminal → List Param → Type 0
+IsParameters v w s r xs = IsParams limits s r xs × (v ≡ w)
+
+-- the name of that number
+abbrev pub IsThrown : ℕ → Counts → Counts → List Terminal → List Terminal → List ℕ → Type 0
+IsThrown n v w s r x = (p : Place) × (s ≡ Name x p ∷ r) × (is_within (Count Throws) n ≡ true) × (v ≡ w)
+
+abbrev pub IsThrowsHere : Counts → Counts → List Terminal → List Terminal → List (List ℕ) → Type 0
+IsThrowsHere v w s r xs = IsThrows limits s r xs × (v ≡ w)
+
+-- behind a `void` on that line, where the declarations are counted from none on
+abbrev pub IsFunctionBehind : ℕ → Counts → Counts → List Terminal → List Terminal → Function → Type 0
+IsFunctionBehind line v w s r f = (u : Counts) (at : ℕ) → v ≡ new_function u → IsFunction limits u w (Key Void (record { at = at; line = line }) ∷ s) r f
+
+-- all of a program's functions, before the end of the text, which is left
+abbrev pub IsProgram : Counts → Counts → List Terminal → List Terminal → List Function → Type 0
+IsProgram v w s r fs = (p : Place) × (r ≡ End p ∷ []) × IsFunctions limits 0 v s [] fs

@@ -1,0 +1,76 @@
+-- What the functions for the parts of a program read, within the limits.
+use Rattle.std.specs.Prelude.{ℕ, suc, ◌≡◌, ◌≤◌, List, ◌∷◌, Bool, true, false, Option, Some, None}
+use Rattle.shim_base.specs.declared.token.Keyword.TheVariants as k
+use Rattle.shim_base.specs.declared.token.Sign.{Sign as SignOf}
+use Rattle.shim_base.specs.declared.token.Sign.TheVariants as g
+use Rattle.shim_base.specs.declared.operators.UnOp.{UnOp}
+use Rattle.shim_base.specs.declared.operators.UnOp.TheVariants.{Neg, Not, Flip}
+use Rattle.shim_base.specs.Tokens.{Place}
+use Rattle.shim_syntax.specs.declared.Expr.{Expr}
+use Rattle.shim_syntax.specs.Terminals.{Terminal, Name, Number, Key, Sign, first}
+use Rattle.shim_syntax.specs.Limits.{Nesting, limits, is_within}
+use Rattle.shim_syntax.specs.Grammar.{Counts, at_level, row_of, IsWhole}
+use Rattle.shim_grammar.specs.declared.mark.Mark.{Mark}
+use Rattle.shim_grammar.specs.declared.mark.Mark.TheVariants as mark
+
+abbrev pub marked : Mark → Place → Terminal
+marked mark.LeftParen p = Sign g.LeftParen p
+marked mark.RightParen p = Sign g.RightParen p
+marked mark.LeftBrace p = Sign g.LeftBrace p
+marked mark.Comma p = Sign g.Comma p
+marked mark.Semicolon p = Sign g.Semicolon p
+marked mark.Equal p = Sign g.Equal p
+marked mark.Catch p = Key k.Catch p
+
+-- the mark that a terminal is
+abbrev pub mark_of : Terminal → Option Mark
+mark_of (Sign g.LeftParen p) = Some mark.LeftParen
+mark_of (Sign g.RightParen p) = Some mark.RightParen
+mark_of (Sign g.LeftBrace p) = Some mark.LeftBrace
+mark_of (Sign g.Comma p) = Some mark.Comma
+mark_of (Sign g.Semicolon p) = Some mark.Semicolon
+mark_of (Sign g.Equal p) = Some mark.Equal
+mark_of (Key k.Catch p) = Some mark.Catch
+mark_of _ = None
+
+abbrev pub IsMark : Mark → Counts → Counts → List Terminal → List Terminal → Unit {0} → Type 0
+IsMark f v w s r x = (p : Place) × (s ≡ marked f p ∷ r) × (v ≡ w)
+
+abbrev pub IsName : Counts → Counts → List Terminal → List Terminal → List ℕ → Type 0
+IsName v w s r x = (p : Place) × (s ≡ Name x p ∷ r) × (v ≡ w)
+
+abbrev pub IsNameBefore : Mark → Counts → Counts → List Terminal → List Terminal → List ℕ → Type 0
+IsNameBefore f v w s r x = (p : Place) × (q : Place) × (s ≡ Name x p ∷ marked f q ∷ r) × (v ≡ w)
+
+-- an operand begins with it
+abbrev pub begins_operand : Terminal → Bool
+begins_operand (Number n p) = true
+begins_operand (Name x p) = true
+begins_operand (Sign g.LeftParen p) = true
+begins_operand (Sign g.Minus p) = true
+begins_operand (Sign g.Bang p) = true
+begins_operand (Sign g.Tilde p) = true
+begins_operand _ = false
+
+-- an operand that is a thing of that level begins here
+abbrev pub IsEntered : ℕ → Counts → Counts → List Terminal → List Terminal → Unit {0} → Type 0
+IsEntered l v w s r x = (is_within Nesting l ≡ true) × (w ≡ at_level l v) × (s ≡ r) × (begins_operand (first s) ≡ true)
+
+abbrev pub unary_sign : UnOp → SignOf
+unary_sign Neg = g.Minus
+unary_sign Not = g.Bang
+unary_sign Flip = g.Tilde
+
+abbrev pub IsUnarySign : UnOp → Terminal → Type 0
+IsUnarySign op t = (p : Place) × (t ≡ Sign (unary_sign op) p)
+
+abbrev pub IsWholeBefore : Mark → ℕ → Counts → Counts → List Terminal → List Terminal → Expr → Type 0
+IsWholeBefore f l v w s r x = (p : Place) × IsWhole limits l v w s (marked f p ∷ r) x
+
+-- an expression in the parentheses of an `if` or a `while`
+abbrev pub IsTestOf : ℕ → Counts → Counts → List Terminal → List Terminal → Expr → Type 0
+IsTestOf l v w s r x = (p : Place) × (q : Place) × (m : List Terminal) × (s ≡ Sign g.LeftParen p ∷ m) × IsWhole limits l v w m (Sign g.RightParen q ∷ r) x
+
+-- no operator of the row n or a tighter one follows
+abbrev pub Stops : ℕ → List Terminal → Type 0
+Stops n r = (j : ℕ) → row_of (first r) ≡ suc j → suc j ≤ n → ⊥

@@ -1,0 +1,128 @@
+// The parentheses of a `for`.
+ghost use Rattle.std.specs.Prelude.{◌≤◌, [], ◌∷◌, suc, ◌+◌};
+ghost use Rattle.shim_syntax.specs.Limits.{limits};
+ghost use Rattle.shim_syntax.specs.Grammar.{IsFirst, IsTest, IsStep};
+ghost use Rattle.shim_grammar.specs.Machine.{Fixed, Expression, Operators, First, Test, Step};
+ghost use Rattle.shim_grammar.specs.declared.mark.Mark.TheVariants as mark;
+ghost use Rattle.shim_parser.specs.Headers.{IsValueBehind, IsHeader};
+ghost use Rattle.shim_parser.specs.Reading.{Reads};
+
+use crate::declare::declared;
+use crate::expr::expression_before;
+use crate::fault::ParseFault;
+use crate::for_parts::ForParts;
+use crate::name_value::Declared;
+use crate::parts::{alone, mark};
+use crate::reader::Reader;
+use crate::terminal::Terminal;
+use shim_base::{List, Name, Sign};
+use shim_grammar::Mark;
+use shim_syntax::{Expr, Sort, Stmt, What};
+use std::alloc::Global;
+
+/// The value behind the `=` of an assignment, and the terminal that must come behind it.
+fn value_behind_equal(
+    alloc: Global,
+    tokens: &mut Reader,
+    level: u16,
+    behind: Mark,
+) -> Result<Expr, ParseFault>
+    requires { level ≤ 64 }
+    ensures { Reads (IsValueBehind behind level) (Fixed mark.Equal ∷ Expression level ∷ Operators level ∷ Fixed behind ∷ []) result tokens.old tokens.new }
+{
+    mark(tokens, Mark::Equal)?;
+    expression_before(alloc, tokens, level, behind)
+}
+
+/// The first statement of a `for`, which has this level, with its semicolon.
+fn first_statement(alloc: Global, tokens: &mut Reader, level: u16) -> Result<List<Stmt>, ParseFault>
+    ensures { Reads (IsFirst limits level) (First level ∷ []) result tokens.old tokens.new }
+{
+    let token = tokens.peek();
+    match token.what {
+        Terminal::Sign(Sign::Semicolon) => {
+            tokens.advance();
+            Ok(List::new(alloc))
+        }
+        Terminal::Sort(Sort::Value(ty)) => {
+            tokens.enter(level)?;
+            tokens.advance();
+            let Declared { name, value } = declared(alloc, tokens, level)?;
+            mark(tokens, Mark::Semicolon)?;
+            let what = What::Declare(ty, name, value);
+            Ok(alone(
+                alloc,
+                Stmt {
+                    line: token.line,
+                    what,
+                },
+            )?)
+        }
+        Terminal::Name(text) => {
+            tokens.enter(level)?;
+            tokens.advance();
+            let value = value_behind_equal(alloc, tokens, level, Mark::Semicolon)?;
+            let what = What::Assign(Name::new(alloc, text)?, value);
+            Ok(alone(
+                alloc,
+                Stmt {
+                    line: token.line,
+                    what,
+                },
+            )?)
+        }
+        _ => Err(tokens.unexpected()),
+    }
+}
+
+/// The test of a `for`, with its semicolon.
+fn test(alloc: Global, tokens: &mut Reader, level: u16) -> Result<Option<Expr>, ParseFault>
+    requires { level ≤ 64 }
+    ensures { Reads (IsTest limits level) (Test level ∷ []) result tokens.old tokens.new }
+{
+    if let Terminal::Sign(Sign::Semicolon) = tokens.peek().what {
+        tokens.advance();
+        return Ok(None);
+    }
+    let test = expression_before(alloc, tokens, level, Mark::Semicolon)?;
+    Ok(Some(test))
+}
+
+/// The step of a `for`, which has this level, with the right parenthesis.
+fn step(alloc: Global, tokens: &mut Reader, level: u16) -> Result<List<Stmt>, ParseFault>
+    ensures { Reads (IsStep limits level) (Step level ∷ []) result tokens.old tokens.new }
+{
+    let token = tokens.peek();
+    match token.what {
+        Terminal::Sign(Sign::RightParen) => {
+            tokens.advance();
+            Ok(List::new(alloc))
+        }
+        Terminal::Name(text) => {
+            tokens.enter(level)?;
+            tokens.advance();
+            let value = value_behind_equal(alloc, tokens, level, Mark::RightParen)?;
+            let what = What::Assign(Name::new(alloc, text)?, value);
+            Ok(alone(
+                alloc,
+                Stmt {
+                    line: token.line,
+                    what,
+                },
+            )?)
+        }
+        _ => Err(tokens.unexpected()),
+    }
+}
+
+/// What stands in the parentheses of a `for` of this level, with these.
+pub(crate) fn header(alloc: Global, tokens: &mut Reader, level: u16) -> Result<ForParts, ParseFault>
+    requires { level ≤ 64 }
+    ensures { Reads (IsHeader level) (Fixed mark.LeftParen ∷ First (suc level) ∷ Test level ∷ Step (suc level) ∷ []) result tokens.old tokens.new }
+{
+    mark(tokens, Mark::LeftParen)?;
+    let first = first_statement(alloc, tokens, level + 1)?;
+    let test = test(alloc, tokens, level)?;
+    let step = step(alloc, tokens, level + 1)?;
+    Ok(ForParts { first, test, step })
+}

@@ -1,0 +1,29 @@
+// A whole text.
+ghost use Rattle.std.specs.Prelude.{◌≤◌, length};
+ghost use Rattle.shim_parser.specs.Parsing.{Answers, IsOnly};
+
+use crate::fault::ParseFault;
+use crate::function::functions;
+use crate::reader::Reader;
+use crate::text::tokens_of;
+use shim_syntax::Program;
+use std::alloc::Global;
+
+/// The program that a text of at most 1,048,576 bytes is of. Of a text that is of none, the first
+/// token that shows it, and why; where several causes meet at one token, the order is that of
+/// `ParseFault`. Want of memory may come in place of any answer.
+pub fn parse(alloc: Global, text: &[u8]) -> Result<Program, ParseFault>
+    requires { length text.now ≤ 1048576 }
+    ensures answers { Answers text.now result }
+    ensures only { IsOnly text.now result }
+{
+    let all = tokens_of(alloc, text)?;
+    let mut tokens = Reader::new(&all);
+    match functions(alloc, &mut tokens) {
+        Ok(functions) => Ok(Program { functions }),
+        Err(fault) => {
+            tokens.some_left();
+            Err(fault)
+        }
+    }
+}

@@ -1,0 +1,84 @@
+// Statements that hold no other, behind their first terminals.
+ghost use Rattle.std.specs.Prelude.{◌≡◌, ◌≤◌, [], ◌∷◌};
+ghost use Rattle.shim_base.specs.declared.token.Keyword.TheVariants as k;
+ghost use Rattle.shim_grammar.specs.Machine.{AfterEqual, AfterNext, Expression, Fixed, Operators, Word};
+ghost use Rattle.shim_grammar.specs.declared.mark.Mark.TheVariants as mark;
+ghost use Rattle.shim_parser.specs.Statements.{IsAssigned, IsKeyed};
+ghost use Rattle.shim_parser.specs.Reading.{Reads};
+
+use crate::expr::expression_before;
+use crate::fault::ParseFault;
+use crate::parts::{name, name_before};
+use crate::reader::Reader;
+use crate::terminal::Terminal;
+use shim_base::{Keyword, Name, Sign};
+use shim_grammar::Mark;
+use shim_syntax::What;
+use std::alloc::Global;
+
+/// Behind `x =`.
+pub(crate) fn assignment(
+    alloc: Global,
+    tokens: &mut Reader,
+    target: Name,
+    level: u16,
+) -> Result<What, ParseFault>
+    requires { level ≤ 64 }
+    ensures { Reads (IsAssigned target level) (AfterEqual level ∷ []) result tokens.old tokens.new }
+{
+    match tokens.peek().what {
+        Terminal::Key(Keyword::Next) => {
+            tokens.advance();
+            let source = name_before(alloc, tokens, Mark::Semicolon)?;
+            Ok(What::AssignNext(target, source))
+        }
+        Terminal::Key(Keyword::Get) => {
+            tokens.advance();
+            let stream = name_before(alloc, tokens, Mark::Semicolon)?;
+            Ok(What::Get(target, stream))
+        }
+        _ => {
+            let value = expression_before(alloc, tokens, level, Mark::Semicolon)?;
+            Ok(What::Assign(target, value))
+        }
+    }
+}
+
+/// Behind `next`.
+pub(crate) fn next(alloc: Global, tokens: &mut Reader, level: u16) -> Result<What, ParseFault>
+    requires { level ≤ 64 }
+    ensures { Reads (IsKeyed k.Next level) (Word ∷ AfterNext level ∷ []) result tokens.old tokens.new }
+{
+    let variable = name(alloc, tokens)?;
+    match tokens.peek().what {
+        Terminal::Sign(Sign::Semicolon) => {
+            tokens.advance();
+            Ok(What::Next(variable))
+        }
+        Terminal::Sign(Sign::Equal) => {
+            tokens.advance();
+            let value = expression_before(alloc, tokens, level, Mark::Semicolon)?;
+            Ok(What::NextAssign(variable, value))
+        }
+        _ => Err(tokens.unexpected()),
+    }
+}
+
+/// Behind `put`.
+pub(crate) fn put(alloc: Global, tokens: &mut Reader, level: u16) -> Result<What, ParseFault>
+    requires { level ≤ 64 }
+    ensures { Reads (IsKeyed k.Put level)
+        (Word ∷ Fixed mark.Comma ∷ Expression level ∷ Operators level ∷ Fixed mark.Semicolon ∷ []) result tokens.old tokens.new }
+{
+    let stream = name_before(alloc, tokens, Mark::Comma)?;
+    let value = expression_before(alloc, tokens, level, Mark::Semicolon)?;
+    Ok(What::Put(stream, value))
+}
+
+/// Behind `throw`.
+pub(crate) fn throw(alloc: Global, tokens: &mut Reader, level: u16) -> Result<What, ParseFault>
+    ensures { Reads (IsKeyed k.Throw level) (Word ∷ Fixed mark.Semicolon ∷ []) result tokens.old tokens.new }
+{
+    let exception = name_before(alloc, tokens, Mark::Semicolon)?;
+    Ok(What::Throw(exception))
+}

@@ -1,0 +1,61 @@
+// The two forms of a refusal's line.
+ghost use Rattle.std.specs.Prelude.{◌≡◌, IfOk};
+ghost use Rattle.shim_report.specs.Refusal.{word_of, with_place, without_place};
+
+use shim_base::{List, NoMemory, push_decimal};
+use shim_parser::Many;
+use std::alloc::Global;
+
+/// The line of a cause that stands at a place of the source.
+#[tactic(auto, unfolding(crate::specs::Refusal::with_place))]
+pub(crate) fn line_with_place(
+    alloc: Global,
+    line: u32,
+    cause: &str,
+    at: usize,
+) -> Result<List<u8>, NoMemory>
+    ensures { IfOk result (λ text. text ≡ with_place line cause.now at) }
+{
+    let mut text = List::new(alloc);
+    text.extend_from_slice(b"refused ")?;
+    push_decimal(&mut text, line as u64)?;
+    text.extend_from_slice(b" ")?;
+    text.extend_from_slice(cause.as_bytes())?;
+    text.extend_from_slice(b" ")?;
+    push_decimal(&mut text, at as u64)?;
+    text.extend_from_slice(b"\n")?;
+    Ok(text)
+}
+
+/// The line of a cause that has no place but its line.
+#[tactic(auto, unfolding(crate::specs::Refusal::without_place))]
+pub(crate) fn line_without_place(
+    alloc: Global,
+    line: u32,
+    cause: &str,
+) -> Result<List<u8>, NoMemory>
+    ensures { IfOk result (λ text. text ≡ without_place line cause.now) }
+{
+    let mut text = List::new(alloc);
+    text.extend_from_slice(b"refused ")?;
+    push_decimal(&mut text, line as u64)?;
+    text.extend_from_slice(b" ")?;
+    text.extend_from_slice(cause.as_bytes())?;
+    text.extend_from_slice(b"\n")?;
+    Ok(text)
+}
+
+/// The line of a source that has too many of something.
+pub(crate) fn too_many(alloc: Global, line: u32, what: Many) -> Result<List<u8>, NoMemory>
+    ensures { IfOk result (λ text. text ≡ without_place line (word_of what)) }
+{
+    match what {
+        Many::Functions => line_without_place(alloc, line, "too many functions"),
+        Many::Parameters => line_without_place(alloc, line, "too many parameters"),
+        Many::Arguments => line_without_place(alloc, line, "too many arguments"),
+        Many::Throws => line_without_place(alloc, line, "too many throws"),
+        Many::Locals => line_without_place(alloc, line, "too many locals"),
+        Many::Branches => line_without_place(alloc, line, "too many branches"),
+        Many::Operators => line_without_place(alloc, line, "too many operators"),
+    }
+}

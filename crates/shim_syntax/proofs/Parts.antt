@@ -1,0 +1,179 @@
+-- Parts of a text that were read, each of which is read from its own pieces too.
+use Rattle.std.proofs.Common.{ℕ, suc, ◌+◌, ◌≤◌, ◌≡◌, true, List, [], ◌∷◌, ◌++◌, refl, sym, ap, subst, arith}
+use Rattle.std.proofs.lemmas.List.{append_assoc}
+use Rattle.shim_base.specs.declared.Keyword.{Keyword}
+use Rattle.shim_base.specs.declared.Sign.{Sign as SignOf}
+use Rattle.shim_base.specs.declared.Sign.TheVariants as g
+use Rattle.shim_base.specs.Tokens.{Place, Spells, IsWithinLimits}
+use Rattle.shim_syntax.specs.declared.tree.Expr.{Expr}
+use Rattle.shim_syntax.specs.Terminals.{Terminal, Name, of_kind}
+use Rattle.shim_syntax.specs.Limits.{Nesting, is_within, limits}
+use Rattle.shim_syntax.specs.Grammar.{Counts, at_level, new_expression, IsExpr, IsWhole, IsArguments, IsMoreArguments}
+use Rattle.shim_syntax.specs.Grammar as gr
+use Rattle.shim_syntax.specs.Printing.{Piece, key, sign, name, last, expr_row, expr_pieces, more_args_pieces, args_pieces}
+use Rattle.shim_syntax.proofs.Pieces.{AreTokens}
+use Rattle.shim_syntax.proofs.Standing.{Stand, nothing, piece, split, tokens_of_both, AreGood}
+use Rattle.shim_syntax.proofs.Shapes.{sign_spells, key_spells}
+use Rattle.shim_syntax.proofs.Expressions.{IsAlike, expr_kept, looser, level_is}
+
+-- How terminals at the front are read: at which level, with what was counted before them and behind them, and what follows.
+abbrev pub Reading : Type 1
+Reading = ℕ → Counts → Counts → List Terminal → List Terminal → Type 0
+
+pub record IsDone (R : Reading) (k : ℕ) (w a : Counts) (t q : List Terminal) : Type 0 where
+  pub behind : Counts
+  pub alike : IsAlike w behind
+  pub is : R k a behind t q
+
+-- Terminals that were read at the level l. Their names and numbers are those of the pieces, and the pieces are read in that way too, at each level at which there is room.
+pub record IsPart (l : ℕ) (v w : Counts) (s r : List Terminal) (ps : List Piece) (R : Reading) : Type 0 where
+  pub deeper : v.deepest ≤ w.deepest
+  pub within : v.deepest ≤ 64 → w.deepest ≤ 64
+  pub spelled : AreGood s → AreTokens ps × AreGood r
+  pub read : (k : ℕ) (a : Counts) (t q : List Terminal) → k + w.deepest ≤ l + 64 → IsAlike v a → Stand ps t q → IsDone R k w a t q
+
+-- one thing and then another
+abbrev pub Both : Reading → Reading → Reading
+Both R Q k a b t q = (c : Counts) × (m : List Terminal) × R k a c t m × Q k c b m q
+
+pub both : {l : ℕ} {v u w : Counts} {s m r : List Terminal} {ps qs : List Piece} {R Q : Reading} → IsPart l v u s m ps R → IsPart l u w m r qs Q → IsPart l v w s r (ps ++ qs) (Both R Q)
+both {l = l} {v = v} {w = w} {s = s} {r = r} {ps = ps} {qs = qs} {R = R} {Q = Q} one two = record {
+  deeper = omega (arith, one.deeper, two.deeper);
+  within = λ h. two.within (one.within h);
+  spelled = spelled;
+  read = λ k a t q room alike stand. by_parts k a t q room alike (split ps qs t q stand);
+} where
+  spelled : AreGood s → AreTokens (ps ++ qs) × AreGood r
+  spelled good = let first = one.spelled good in let second = two.spelled first.1 in (tokens_of_both ps qs first.0 second.0, second.1)
+
+  by_parts : (k : ℕ) (a : Counts) (t q : List Terminal) → k + w.deepest ≤ l + 64 → IsAlike v a → (m : List Terminal) × Stand ps t m × Stand qs m q → IsDone (Both R Q) k w a t q
+  by_parts k a t q room alike (m, first, second) =
+      let deeper = two.deeper in
+      let here = one.read k a t m (omega (arith, room, deeper)) alike first in
+      let there = two.read k here.behind m q room here.alike second in
+      record { behind = there.behind; alike = there.alike; is = (here.behind, m, here.is, there.is) }
+
+-- a piece alone
+pub data IsPiece (p : Piece) : ℕ → Counts → Counts → List Terminal → List Terminal → Type 0 where
+  here : {k : ℕ} {a : Counts} {q : List Terminal} (place : Place) → IsPiece p k a a (of_kind p.kind p.text place ∷ q) q
+
+pub front : {l : ℕ} {v : Counts} {x : Terminal} {r : List Terminal} (p : Piece) → Spells p.text p.kind → IsWithinLimits p.text p.kind → IsPart l v v (x ∷ r) r (p ∷ []) (IsPiece p)
+front {l = l} {v = v} p spells fits = record {
+  deeper = omega arith;
+  within = λ h. h;
+  spelled = λ good. ((spells, fits, tt), good.1);
+  read = read;
+} where
+  read : (k : ℕ) (a : Counts) (t q : List Terminal) → k + v.deepest ≤ l + 64 → IsAlike v a → Stand (p ∷ []) t q → IsDone (IsPiece p) k v a t q
+  read k a _ q room alike (piece place nothing) = record { behind = a; alike = alike; is = here place }
+
+-- a name, which is one in the source
+pub front_name : {l : ℕ} {v : Counts} {r : List Terminal} (x : List ℕ) (p : Place) → IsPart l v v (Name x p ∷ r) r (name x ∷ []) (IsPiece (name x))
+front_name {l = l} {v = v} x p = record {
+  deeper = omega arith;
+  within = λ h. h;
+  spelled = λ good. ((good.0.0, good.0.1, tt), good.1);
+  read = read;
+} where
+  read : (k : ℕ) (a : Counts) (t q : List Terminal) → k + v.deepest ≤ l + 64 → IsAlike v a → Stand (name x ∷ []) t q → IsDone (IsPiece (name x)) k v a t q
+  read k a _ q room alike (piece place nothing) = record { behind = a; alike = alike; is = here place }
+
+pub front_key : {l : ℕ} {v : Counts} {x : Terminal} {r : List Terminal} (word : Keyword) → IsPart l v v (x ∷ r) r (key word ∷ []) (IsPiece (key word))
+front_key word = front (key word) (key_spells word) tt
+
+pub front_sign : {l : ℕ} {v : Counts} {x : Terminal} {r : List Terminal} (o : SignOf) → IsPart l v v (x ∷ r) r (sign o ∷ []) (IsPiece (sign o))
+front_sign o = front (sign o) (sign_spells o) tt
+
+pub front_last : {l : ℕ} {v : Counts} {x : Terminal} {r : List Terminal} (o : SignOf) → IsPart l v v (x ∷ r) r (last o ∷ []) (IsPiece (last o))
+front_last o = front (last o) (sign_spells o) tt
+
+-- what is read in one way is read in another
+pub mapped : {l : ℕ} {v w : Counts} {s r : List Terminal} {ps : List Piece} {R Q : Reading} → ((k : ℕ) (a b : Counts) (t q : List Terminal) → R k a b t q → Q k a b t q) → IsPart l v w s r ps R →
+    IsPart l v w s r ps Q
+mapped tells part = record {
+  deeper = part.deeper;
+  within = part.within;
+  spelled = part.spelled;
+  read = λ k a t q room alike stand.
+      let done = part.read k a t q room alike stand in
+      record { behind = done.behind; alike = done.alike; is = tells k a done.behind t q done.is };
+}
+
+-- the same of pieces that are equal
+pub same_pieces : {l : ℕ} {v w : Counts} {s r : List Terminal} {ps qs : List Piece} {R : Reading} → ps ≡ qs → IsPart l v w s r ps R → IsPart l v w s r qs R
+same_pieces {l = l} {v = v} {w = w} {s = s} {r = r} {R = R} same part = let P : List Piece → Type 0 = λ ps. IsPart l v w s r ps R in subst P same part
+
+-- what stands one level deeper
+pub inner : {l : ℕ} {v w : Counts} {s r : List Terminal} {ps : List Piece} {R : Reading} → IsPart (suc l) v w s r ps R → IsPart l v w s r ps (λ k. R (suc k))
+inner part = record {
+  deeper = part.deeper;
+  within = part.within;
+  spelled = part.spelled;
+  read = λ k a t q room alike stand. let done = part.read (suc k) a t q (omega (arith, room)) alike stand in record { behind = done.behind; alike = done.alike; is = done.is };
+}
+
+-- what begins with a thing of a level within the limit
+pub from_level : {l : ℕ} {v w : Counts} {s r : List Terminal} {ps : List Piece} {R : Reading} (m : ℕ) → m ≤ 64 → IsPart l (at_level m v) w s r ps R → IsPart l v w s r ps R
+from_level m level part = record {
+  deeper = omega (arith, part.deeper);
+  within = λ h. part.within (omega (arith, level, h));
+  spelled = part.spelled;
+  read = λ k a t q room alike stand. let done = part.read k a t q room alike stand in record { behind = done.behind; alike = done.alike; is = done.is };
+}
+
+-- where a thing of the level of the part was read, the level at which it is read is within the limit
+pub at_own_level : {l : ℕ} {v w : Counts} {s r : List Terminal} {ps : List Piece} {R : Reading} → l ≤ w.deepest → IsPart l v w s r ps R →
+    IsPart l v w s r ps (λ k a b t q. (is_within Nesting k ≡ true) × R k (at_level k a) b t q)
+at_own_level {w = w} some part = record {
+  deeper = part.deeper;
+  within = part.within;
+  spelled = part.spelled;
+  read = λ k a t q room alike stand.
+      let done = part.read k (at_level k a) t q room alike stand in
+      record { behind = done.behind; alike = done.alike; is = (level_is k (omega (arith, room, some)), done.is) };
+}
+
+abbrev pub Whole : Expr → Reading
+Whole x k a b t q = IsWhole limits k a b t q x
+
+-- a whole expression
+pub whole_part : {l : ℕ} {v w : Counts} {s r : List Terminal} {x : Expr} → IsWhole limits l v w s r x → IsPart l v w s r (expr_pieces x) (Whole x)
+whole_part {l = l} {v = v} {w = w} {s = s} {r = r} {x = x} h =
+    let kept = expr_kept 10 l (new_expression v) w s r x h in
+    record {
+      deeper = kept.deeper;
+      within = kept.within;
+      spelled = kept.spelled;
+      read = λ k a t q room alike stand.
+          let read = kept.bare k (new_expression a) t q room (refl, alike.1) stand in
+          record { behind = read.behind; alike = read.alike; is = looser 10 (expr_row x) k (new_expression a) read.behind t q x kept.row_most read.is };
+    }
+
+abbrev pub MoreArguments : ℕ → List Expr → Reading
+MoreArguments n xs k a b t q = IsMoreArguments limits k n a b t q xs
+
+abbrev pub Arguments : List Expr → Reading
+Arguments xs k a b t q = IsArguments limits k a b t q xs
+
+-- the arguments behind n of them
+more_args_part : (l n : ℕ) (v w : Counts) (s r : List Terminal) (xs : List Expr) → IsMoreArguments limits l n v w s r xs →
+    IsPart l v w s r (more_args_pieces xs ++ sign g.RightParen ∷ []) (MoreArguments n xs)
+more_args_part l n v _ _ r _ gr.arguments_end = mapped build (front_sign g.RightParen) where
+  build : (k : ℕ) (a b : Counts) (t q : List Terminal) → IsPiece (sign g.RightParen) k a b t q → MoreArguments n [] k a b t q
+  build k a _ _ q (here p) = gr.arguments_end
+more_args_part l n v w _ r _ (gr.argument {u = u} {m = m} {x = x} {xs = xs} fits h more) =
+    same_pieces (ap (λ (ps : List Piece). sign g.Comma ∷ ps) (sym (append_assoc (expr_pieces x) (more_args_pieces xs) (sign g.RightParen ∷ []))))
+    (mapped build (both (front_sign g.Comma) (both (whole_part h) (more_args_part l (suc n) u w m r xs more)))) where
+      build : (k : ℕ) (a b : Counts) (t q : List Terminal) → Both (IsPiece (sign g.Comma)) (Both (Whole x) (MoreArguments (suc n) xs)) k a b t q → MoreArguments n (x ∷ xs) k a b t q
+      build k a b _ q (_, _, here p, (_, _, value, rest)) = gr.argument fits value rest
+
+-- the arguments of a call, with the right parenthesis
+pub args_part : {l : ℕ} {v w : Counts} {s r : List Terminal} {xs : List Expr} → IsArguments limits l v w s r xs → IsPart l v w s r (args_pieces xs ++ sign g.RightParen ∷ []) (Arguments xs)
+args_part gr.no_arguments = mapped build (front_sign g.RightParen) where
+  build : (k : ℕ) (a b : Counts) (t q : List Terminal) → IsPiece (sign g.RightParen) k a b t q → Arguments [] k a b t q
+  build k a _ _ q (here p) = gr.no_arguments
+args_part {l = l} {w = w} {r = r} (gr.arguments {u = u} {m = m} {x = x} {xs = xs} fits h more) =
+    same_pieces (sym (append_assoc (expr_pieces x) (more_args_pieces xs) (sign g.RightParen ∷ [])))
+    (mapped build (both (whole_part h) (more_args_part l 1 u w m r xs more))) where
+      build : (k : ℕ) (a b : Counts) (t q : List Terminal) → Both (Whole x) (MoreArguments 1 xs) k a b t q → Arguments (x ∷ xs) k a b t q
+      build k a b t q (_, _, value, rest) = gr.arguments fits value rest

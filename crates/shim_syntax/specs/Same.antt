@@ -1,0 +1,30 @@
+-- A program without its lines, and when two programs differ in lines alone.
+use Rattle.std.specs.Prelude.{ℕ, ◌≡◌, List, map}
+use Rattle.shim_syntax.specs.declared.tree.Stmt.{Stmt, fold-Stmt, roll-Stmt}
+use Rattle.shim_syntax.specs.declared.tree.What.{What, roll-What}
+use Rattle.shim_syntax.specs.declared.tree.Branch.{Branch, roll-Branch}
+use Rattle.shim_syntax.specs.declared.tree.BranchWhat.{BranchWhat, roll-BranchWhat}
+use Rattle.shim_syntax.specs.declared.tree.Function.{Function}
+use Rattle.shim_syntax.specs.declared.tree.Program.{Program}
+use Rattle.shim_syntax.specs.Text.{IsText}
+
+-- the statement with each line 0
+abbrev pub stmt_without_lines : Stmt → Stmt
+stmt_without_lines =
+    fold-Stmt BranchWhat What Branch Stmt roll-BranchWhat roll-What
+    (λ b. roll-Branch (record { line = 0; what = b.what }))
+    (λ s. roll-Stmt (record { line = 0; what = s.what }))
+
+abbrev pub function_without_lines : Function → Function
+function_without_lines f = record { line = 0; name = f.name; params = f.params; throws = f.throws; body = map stmt_without_lines f.body }
+
+abbrev pub without_lines : Program → Program
+without_lines p = record { functions = map function_without_lines p.functions }
+
+-- the same program but for lines
+abbrev pub Same : Program → Program → Type 0
+Same p q = without_lines p ≡ without_lines q
+
+-- a text of the same program but for lines
+abbrev pub IsTextOfSame : Program → List ℕ → Type 0
+IsTextOfSame program text = (q : Program) × IsText text q × Same program q

@@ -1,0 +1,81 @@
+-- What the grammar sees of a token: its kind, the name or the number that it is, and where it stands.
+use Rattle.std.specs.Prelude.{ℕ, ℤ, pos, ◌≡◌, List, [], ◌∷◌, Option, Some, None}
+use Rattle.shim_base.specs.declared.token.TokenKind.{TokenKind}
+use Rattle.shim_base.specs.declared.token.TokenKind.TheVariants.{Word, Key as KeyKind, Number as NumberKind, Sign as SignKind}
+use Rattle.shim_base.specs.declared.token.LexKind.{LexKind}
+use Rattle.shim_base.specs.declared.token.Keyword.{Keyword}
+use Rattle.shim_base.specs.declared.token.Keyword.TheVariants as k
+use Rattle.shim_base.specs.declared.token.Sign.{Sign as SignOf}
+use Rattle.shim_base.specs.declared.types.Ty.TheVariants.{Bool as BoolTy, Int8, Int16, Int32, Uint8, Uint16, Uint32}
+use Rattle.shim_base.specs.Tokens.{Token, Place, Fault, Cuts, start, after}
+use Rattle.shim_syntax.specs.declared.tree.Sort.{Sort as SortOf}
+use Rattle.shim_syntax.specs.declared.tree.Sort.TheVariants.{Value, Input, Output}
+
+pub data Terminal : Type 0 where
+  Name : List ℕ → Place → Terminal
+  -- a number, `true` or `false`
+  Number : ℤ → Place → Terminal
+  -- the word of a type or of a stream
+  Sort : SortOf → Place → Terminal
+  -- any other keyword
+  Key : Keyword → Place → Terminal
+  Sign : SignOf → Place → Terminal
+  -- the end of the text
+  End : Place → Terminal
+  -- where the text can't be cut any further
+  Broken : LexKind → Place → Terminal
+
+-- `true` is 1 and `false` is 0; `int` is `int32`
+abbrev pub of_keyword : Keyword → Place → Terminal
+of_keyword k.TrueKey p = Number (pos 1) p
+of_keyword k.FalseKey p = Number (pos 0) p
+of_keyword k.Bool p = Sort (Value BoolTy) p
+of_keyword k.Int p = Sort (Value Int32) p
+of_keyword k.Int8 p = Sort (Value Int8) p
+of_keyword k.Int16 p = Sort (Value Int16) p
+of_keyword k.Int32 p = Sort (Value Int32) p
+of_keyword k.Uint8 p = Sort (Value Uint8) p
+of_keyword k.Uint16 p = Sort (Value Uint16) p
+of_keyword k.Uint32 p = Sort (Value Uint32) p
+of_keyword k.Istream p = Sort Input p
+of_keyword k.Ostream p = Sort Output p
+of_keyword key p = Key key p
+
+abbrev pub of_kind : TokenKind → List ℕ → Place → Terminal
+of_kind Word text p = Name text p
+of_kind (KeyKind key) text p = of_keyword key p
+of_kind (NumberKind n) text p = Number n p
+of_kind (SignKind sign) text p = Sign sign p
+
+abbrev pub of_token : Token → Terminal
+of_token t = of_kind t.kind t.text (record { at = t.at; line = t.line })
+
+-- what stands behind the last token
+abbrev pub of_end : Place → Option Fault → Terminal
+of_end end None = End end
+of_end end (Some fault) = Broken fault.kind (record { at = fault.at; line = fault.line })
+
+abbrev pub of_tokens : List Token → Terminal → List Terminal
+of_tokens [] last = last ∷ []
+of_tokens (t ∷ tokens) last = of_token t ∷ of_tokens tokens last
+
+-- The bytes are cut into these: the tokens, and then the end of the text or the fault that ends the cutting.
+pub record IsRead (bytes : List ℕ) (ts : List Terminal) : Type 0 where
+  pub tokens : List Token
+  pub end : Option Fault
+  pub cut : Cuts start bytes tokens end
+  pub are : ts ≡ of_tokens tokens (of_end (after start bytes) end)
+
+abbrev pub place_of : Terminal → Place
+place_of (Name text p) = p
+place_of (Number n p) = p
+place_of (Sort sort p) = p
+place_of (Key key p) = p
+place_of (Sign sign p) = p
+place_of (End p) = p
+place_of (Broken kind p) = p
+
+-- the first of them; behind the last one there is nothing but the end
+abbrev pub first : List Terminal → Terminal
+first [] = End start
+first (t ∷ ts) = t
