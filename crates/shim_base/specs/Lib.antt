@@ -4,3 +4,5 @@ pub mod Value
 pub mod Operators
 pub mod Tokens
 pub mod Cutting
+pub mod Paths
+pub mod PathLaws

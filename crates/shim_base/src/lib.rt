@@ -2,22 +2,26 @@
 #![tactic(auto)]
 
 mod boxed;
+mod chan;
 mod decimal;
 pub mod laws;
 mod list;
 mod memory;
 mod name;
 mod operators;
+mod path;
 mod shared;
 mod token;
 mod types;
 
 pub use boxed::Boxed;
+pub use chan::Chan;
 pub use decimal::push_decimal;
 pub use list::List;
 pub use memory::NoMemory;
 pub use name::Name;
 pub use operators::{BinOp, Trap, UnOp, apply, apply1};
+pub use path::Path;
 pub use shared::Shared;
 pub use token::{Keyword, LexKind, Sign, TokenKind};
 pub use types::{Ty, store};

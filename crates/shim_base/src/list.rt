@@ -59,6 +59,19 @@ impl<T> List<T> {
     {
         self.items.as_slice()
     }
+
+    /// Where its memory comes from.
+    pub fn allocator(&self) -> Global {
+        *self.items.allocator()
+    }
+
+    /// The same elements, as a `Vec`.
+    pub fn into_vec(self) -> Vec<T>
+        ensures { result.items ≡ self }
+    {
+        let List { items } = self;
+        items
+    }
 }
 
 impl<T: Drop> List<T> {

@@ -1,5 +1,10 @@
 // That the calls succeed on ample memory, each at a type of its own, what numbers are kept, and what the operators give.
-use crate::{BinOp, Boxed, List, Name, Shared, Trap, Ty, UnOp, apply, apply1, push_decimal, store};
+use crate::{
+    BinOp, Boxed, Chan, List, Name, NoMemory, Path, Shared, Trap, Ty, UnOp, apply, apply1,
+    push_decimal, store,
+};
+use std::alloc::Global;
+use std::cmp::Ordering;
 use std::sync::Arc;
 use std::test::Fail;
 
@@ -45,6 +50,48 @@ fn a_name_is_its_bytes(rt: HostRuntime) -> Result<(), Fail> {
     let name = Name::new(rt.alloc(), b"level")?;
     assert_eq!(rt; name.as_bytes(), b"level".as_slice());
     assert!(rt; name != Name::new(rt.alloc(), b"leve1")?);
+    Ok(())
+}
+
+#[test]
+fn a_path_is_its_pairs_and_stands_before_those_that_go_on_from_it(
+    rt: HostRuntime,
+) -> Result<(), Fail> {
+    let root = Path::root(rt.alloc());
+    let child = root.child(2, 1)?;
+    let grandchild = child.child(0, 3)?;
+    let (second, later) = (root.child(2, 2)?, root.child(10, 0)?);
+    assert_eq!(rt; root.pairs().len(), 0);
+    assert_eq!(rt; grandchild.pairs(), [(2, 1), (0, 3)].as_slice());
+    assert!(rt; grandchild.copy()? == grandchild);
+    for (less, greater) in [
+        (&root, &child),
+        (&child, &grandchild),
+        (&grandchild, &second),
+        (&second, &later),
+    ] {
+        assert_eq!(rt; less.cmp(greater), Ordering::Less);
+        assert!(rt; less != greater);
+    }
+    Ok(())
+}
+
+fn channel(home: Path, serial: u32, name: u32, alloc: Global) -> Result<Chan, NoMemory> {
+    Ok(Chan::new(Arc::new(alloc, home)?, serial, name))
+}
+
+#[test]
+fn channels_are_told_apart_by_home_and_serial_alone(rt: HostRuntime) -> Result<(), Fail> {
+    let alloc = rt.alloc();
+    let root = Path::root(alloc);
+    let chan = channel(root.child(0, 1)?, 3, 7, alloc)?;
+    assert_eq!(rt; chan.home().pairs(), [(0, 1)].as_slice());
+    assert_eq!(rt; (chan.serial(), chan.name()), (3, 7));
+    assert_eq!(rt; chan.copy()?.name(), 7);
+    assert!(rt; chan == channel(root.child(0, 1)?, 3, 8, alloc)?);
+    assert!(rt; chan != channel(root.child(0, 0)?, 3, 7, alloc)?);
+    assert!(rt; chan < channel(root.child(0, 1)?, 4, 0, alloc)?);
+    assert!(rt; channel(root, 9, 9, alloc)? < chan);
     Ok(())
 }
 

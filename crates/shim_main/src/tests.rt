@@ -165,8 +165,8 @@ fn a_source_is_run_or_refused(rt: HostRuntime) -> Result<(), Fail> {
             5,
             NOT_BUILT,
         ),
-        ("void main() { }", 5, NOT_BUILT),
-        ("void main(void) { }", 5, NOT_BUILT),
+        ("void main() { }", 0, "output 0\nend done 1\n"),
+        ("void main(void) { }", 0, "output 0\nend done 1\n"),
         ("void main(ostream &o) throws T { }", 5, NOT_BUILT),
         ("void main(ostream o) { }", 0, "output 0\nend done 1\n"),
         ("void main(ostream &o) { ; }", 0, "output 0\nend done 1\n"),
@@ -186,7 +186,12 @@ fn a_source_is_run_or_refused(rt: HostRuntime) -> Result<(), Fail> {
             NOT_BUILT,
         ),
         ("void main(ostream &o) { put o, 1 - 2; }", 5, NOT_BUILT),
-        ("void main(ostream &o) { int x = 1; }", 5, NOT_BUILT),
+        (
+            "void main(ostream &o) { int x = 1; put o, x; }",
+            0,
+            "output 1 01\nend done 3\n",
+        ),
+        ("void main(ostream &o) { int x = x; }", 5, NOT_BUILT),
         ("void main(ostream &o) { uint8 x; }", 5, NOT_BUILT),
         (
             "void main(ostream &o) { while (0) put o, 1; }",
@@ -210,6 +215,121 @@ fn a_source_is_run_or_refused(rt: HostRuntime) -> Result<(), Fail> {
         let (got, bytes) = run(alloc, source.as_bytes())?;
         assert_eq!(rt; got, status, "status of {source}");
         assert_eq!(rt; bytes.as_slice(), text.as_bytes(), "text of {source}");
+    }
+    Ok(())
+}
+
+#[test]
+fn processes_fork_and_meet(rt: HostRuntime) -> Result<(), Fail> {
+    let alloc = rt.alloc();
+    for (source, text) in [
+        // The copy is overwritten by the value of the process with the reference, on either side.
+        (
+            "void f(int a) { a = 3; next a; }\nvoid g(int &b) { b = 5; next b; }\nvoid main() { int c; f(c); par g(c); }\n",
+            "output 0\nchan main#0 c : 5\nend done 9\n",
+        ),
+        (
+            "void main() { int c; g(c); par f(c); } void f(int a) { a = 3; next a; } void g(int &b) { b = 5; next b; }",
+            "output 0\nchan main#0 c : 5\nend done 9\n",
+        ),
+        // One process meets alone.
+        (
+            "void main() { int x = 7; next x; next x; }",
+            "output 0\nchan main#0 x : 7 7\nend done 4\n",
+        ),
+        (
+            "void main() { int x = 2147483647 + 1; next x; }",
+            "output 0\nchan main#0 x : -2147483648\nend done 3\n",
+        ),
+        // The process with the reference ends, and is the source still.
+        (
+            "void f(int &c) { c = 4; next c; } void g(int c) { next c; next c; } void main() { int c; f(c); par g(c); }",
+            "output 0\nchan main#0 c : 4 4\nend done 9\n",
+        ),
+        // The parent is the source, of two branches of one function.
+        (
+            "void f(int a) { next a; } void main() { int c = 9; f(c); par f((c)); }",
+            "output 0\nchan main#0 c : 9\nend done 7\n",
+        ),
+        // The branches share no variable, and the parent goes on with what came back.
+        (
+            "void f(int p) { p = 1; next p; } void g(int &q) { q = 2; next q; } void main() { int a; int b; f(a); par g(b); next a; next b; }",
+            "output 0\nchan main#0 a : 0 0\nchan main#1 b : 2 2\nend done 13\n",
+        ),
+        // A branch that ended takes no further part.
+        (
+            "void f(int a) { } void g(int &b) { b = 5; next b; } void main(ostream &o) { int c; f(c); par g(c); put o, c; }",
+            "output 1 05\nchan main#0 c : 5\nend done 9\n",
+        ),
+        // Only what a branch took by reference comes back.
+        (
+            "void f(int a) { a = 3; } void main(ostream &o) { int c = 1; f(c); par f(c); put o, c; }",
+            "output 1 01\nend done 9\n",
+        ),
+        (
+            "void f(int &a) { a = 3; } void main(ostream &o) { int c = 1; int d = 2; f(c); par f(d); put o, c; put o, d; }",
+            "output 2 0303\nend done 12\n",
+        ),
+        // A channel that a branch declares is its own.
+        (
+            "void f(int a) { int z = 8; next z; } void g(int a) { next a; } void main() { int c; f(c); par g(c); }",
+            "output 0\nchan main#0 c : 0\nchan main/0.0#0 z : 8\nend done 9\n",
+        ),
+        // A function that no branch calls is only checked.
+        (
+            "void h(int &a) { next a; } void main() { int h; next h; }",
+            "output 0\nchan main#0 h : 0\nend done 3\n",
+        ),
+    ] {
+        let (got, bytes) = run(alloc, source.as_bytes())?;
+        assert_eq!(rt; got, 0, "status of {source}");
+        assert_eq!(rt; bytes.as_slice(), text.as_bytes(), "text of {source}");
+    }
+    Ok(())
+}
+
+#[test]
+fn another_fork_is_not_built(rt: HostRuntime) -> Result<(), Fail> {
+    let alloc = rt.alloc();
+    for source in [
+        // Both branches by reference, of one variable.
+        "void f(int &a) { } void main() { int c; f(c); par f(c); }",
+        "void f(int &a) { } void main() { int c; f(c); par f((c)); }",
+        // Branches that aren't calls of other functions with a declared variable.
+        "void f(int a) { } void main() { int c; f(c); par f(d); }",
+        "void f(int a) { } void main() { f(c); par f(c); int c; }",
+        "void f(int a) { } void main() { int c; f(c); par f(c + 0); }",
+        "void f(int a) { } void main() { int c; f(c); par f(1); }",
+        "void f(int a) { } void main() { int c; f(c); par g(c); }",
+        "void f(int a) { } void main() { int c; f(c); par main(c); }",
+        "void f(int a) { } void main() { int c; f(c); par { } }",
+        "void f(int a) { } void main() { int c; f(c); par f(c); par f(c); }",
+        "void f(int a) { } void main() { int c; f(c, c); par f(c); }",
+        // A second fork, and one in another function.
+        "void f(int a) { } void main() { int c; f(c); par f(c); f(c); par f(c); }",
+        "void f(int a) { } void g(int a) { f(a); par f(a); } void main() { }",
+        // Functions that take no number, or more than one, or another thing.
+        "void f() { } void main() { }",
+        "void f(int a, int b) { } void main() { }",
+        "void f(int8 a) { } void main() { }",
+        "void f(ostream &o) { } void main() { }",
+        "void f(int a) throws T { } void main() { }",
+        "void main(int a) { }",
+        "void main(istream &i) { }",
+        // What a function may not do.
+        "void f(int a) { put a, 1; } void main() { }",
+        "void main() { put o, 1; }",
+        "void f(int a) { int a; } void main() { }",
+        "void f(int a) { next b; } void main() { }",
+        "void f(int a) { next a = 1; } void main() { }",
+        "void main() { next x; int x; }",
+        // Names of functions.
+        "void f(int a) { } void f(int b) { } void main() { }",
+        "void f(int a) { }",
+    ] {
+        let (got, bytes) = run(alloc, source.as_bytes())?;
+        assert_eq!(rt; got, 5, "status of {source}");
+        assert_eq!(rt; bytes.as_slice(), NOT_BUILT.as_bytes(), "text of {source}");
     }
     Ok(())
 }

@@ -1,2 +1,3 @@
 -- The definitions of this crate, one module for each subject.
 pub mod Refusal
+pub mod Report

@@ -1,11 +1,16 @@
-//! Reports: the lines that tell why a source is refused.
+//! Reports: the text of a run, and the lines that tell why a source is refused.
 #![tactic(auto)]
 
 mod fault;
 mod line;
+mod report;
 
 pub use fault::{SourceFault, fault_text};
+pub use report::text;
+pub use shim_local::{Ended, History, Log, LogWhat, Outcome, OwnSteps, WaitAt};
 pub use shim_parser::ParseFault;
 
+#[cfg(test)]
+mod report_tests;
 #[cfg(test)]
 mod tests;

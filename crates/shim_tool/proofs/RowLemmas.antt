@@ -3,14 +3,16 @@ use Rattle.std.proofs.Common.{ℕ, ◌≡◌, ◌<◌, ◌≤◌, ◌⊎◌, Lis
 use Rattle.shim_edge.specs.Count.{HasRisen}
 use Rattle.shim_edge.specs.Files.{file_of, IsHeld}
 use Rattle.shim_edge.specs.Sink.{then_bytes, TakesPart}
-use Rattle.shim_syntax.specs.declared.Stmt.{Stmt}
 use Rattle.shim_tool.specs.declared.mode.Mode.{Mode}
 use Rattle.shim_tool.specs.Asked.{Asked, nothing, job}
 use Rattle.shim_tool.specs.Moments.{FilesAt, SinkAt}
-use Rattle.shim_tool.specs.Source.{IsSource}
+use Rattle.shim_local.specs.declared.Outcome.{Outcome as End}
+use Rattle.shim_local.specs.declared.Outcome.TheVariants.{Done, Uncaught, Trapped, Blocked, Spent}
+use Rattle.shim_tool.specs.Source.{Source, IsSource}
+use Rattle.shim_tool.specs.Meaning.{status_of, status_of_outcome, end_of}
 use Rattle.shim_tool.specs.Answer.{Answer, Answers, AnswersSource, AnswersSeen, MayAnswer, ReadFailed, IsTooLong, IsContent, IsNoSource, Seen, unread, longer, whole, Sees, source_limit, text_of, memory_line}
 use Rattle.shim_tool.specs.Call.{Ran, Writes}
-use Rattle.shim_tool.specs.Rows.{Came, Comes, Holds, WasRead, IsRefusal, DoneRow, RefusedRow, IsComplete}
+use Rattle.shim_tool.specs.Rows.{Came, Comes, Holds, WasRead, IsRefusal, EndRow, RefusedRow, IsComplete}
 use Rattle.shim_tool.proofs.Outcomes.{Outcome, runs, refuses, outcome}
 
 -- What came of an answer: it was written, or memory was wanted, or the sink failed.
@@ -73,19 +75,28 @@ came_of ask mode name bytes before now ob on result ran asks h within = by_wrote
   by_wrote (lacked came) = wanting came.0
   by_wrote (failed answer may is rose part) = unwritten is rose
 
--- a source's text was answered with 0
-done_with : (mode : Mode) (bytes : List ℕ) (body : List Stmt) (answer : Answer) (ob on : SinkAt) (result : ℕ) → IsSource bytes body → Outcome mode bytes answer →
-    Came answer.status answer.text ob on result → Came 0 (text_of mode body) ob on result
-done_with mode bytes body answer ob on result source (runs other has only free is) came =
-    let same : body ≡ other = only body source in
-    let text : answer.text ≡ text_of mode body = ap (λ (a : Answer). a.text) is ∙ sym (ap (λ (b : List Stmt). text_of mode b) same) in
-    (came.0 ∙ ap (λ (a : Answer). a.status) is, came.1 ∙ ap (λ (t : List ℕ). then_bytes ob.taken t) text)
-done_with mode bytes body answer ob on result source (refuses line why only none is) came = absurd (none body source)
+-- the end of a run is told by a status below 5 that isn't 2
+end_below : (o : End) → status_of_outcome o < 5
+end_below Done = omega arith
+end_below (Uncaught i) = omega arith
+end_below Trapped = omega arith
+end_below Blocked = omega arith
+end_below Spent = omega arith
+
+-- a source's text was answered with the status of its end
+ended_with : (mode : Mode) (bytes : List ℕ) (source : Source) (answer : Answer) (ob on : SinkAt) (result : ℕ) → IsSource bytes source → Outcome mode bytes answer →
+    Came answer.status answer.text ob on result → Came (status_of source) (text_of mode source) ob on result
+ended_with mode bytes source answer ob on result has (runs other is_other only free is) came =
+    let same : source ≡ other = only source has in
+    let text : answer.text ≡ text_of mode source = ap (λ (a : Answer). a.text) is ∙ sym (ap (λ (b : Source). text_of mode b) same) in
+    let status : answer.status ≡ status_of source = ap (λ (a : Answer). a.status) is ∙ sym (ap (λ (b : Source). status_of b) same) in
+    (came.0 ∙ status, came.1 ∙ ap (λ (t : List ℕ). then_bytes ob.taken t) text)
+ended_with mode bytes source answer ob on result has (refuses line why only none is) came = absurd (none source has)
 
 -- a refusal's line was written with 5
 refused_with : (mode : Mode) (bytes line : List ℕ) (answer : Answer) (ob on : SinkAt) (result : ℕ) → IsRefusal bytes line → Outcome mode bytes answer →
     Came answer.status answer.text ob on result → Came 5 line ob on result
-refused_with mode bytes line answer ob on result why (runs body has only free is) came = absurd (free line why)
+refused_with mode bytes line answer ob on result why (runs source has only free is) came = absurd (free line why)
 refused_with mode bytes line answer ob on result why (refuses other cause only none is) came =
     let text : answer.text ≡ line = ap (λ (a : Answer). a.text) is ∙ sym (only line why) in
     (came.0 ∙ ap (λ (a : Answer). a.status) is, came.1 ∙ ap (λ (t : List ℕ). then_bytes ob.taken t) text)
@@ -93,44 +104,52 @@ refused_with mode bytes line answer ob on result why (refuses other cause only n
 -- bytes that are no source are refused with some line
 refused_somehow : (mode : Mode) (bytes : List ℕ) (answer : Answer) (ob on : SinkAt) (result : ℕ) → IsNoSource bytes → Outcome mode bytes answer →
     Came answer.status answer.text ob on result → (line : List ℕ) × IsRefusal bytes line × Came 5 line ob on result
-refused_somehow mode bytes answer ob on result none (runs body has only free is) came = absurd (none body has)
+refused_somehow mode bytes answer ob on result none (runs source has only free is) came = absurd (none source has)
 refused_somehow mode bytes answer ob on result none (refuses line why only _ is) came =
     (line, why, (came.0 ∙ ap (λ (a : Answer). a.status) is, came.1 ∙ ap (λ (a : Answer). then_bytes ob.taken a.text) is))
 
-pub done_row : (ask : Asked) (before now : FilesAt) (ob on : SinkAt) (result : ℕ) → Ran ask before now ob on result → DoneRow ask before now ob on result
-done_row ask before now ob on result ran = record {
-  only = only ask ran;
-  when = λ mode name bytes body asks h within source. when mode name bytes body source (came_of ask mode name bytes before now ob on result ran asks h within);
+-- what is told where this status came
+abbrev EndedSo : ℕ → FilesAt → FilesAt → SinkAt → SinkAt → Asked → Type 0
+EndedSo status before now ob on a = (now.failed ≡ before.failed) × (mode : Mode) × (bytes : List ℕ) × (source : Source) × WasRead a mode before bytes × IsSource bytes source × (status_of source ≡ status) × (on.taken ≡ then_bytes ob.taken (text_of mode source))
+
+pub end_row : (status : ℕ) → status < 5 → (status ≡ 2 → ⊥) → (ask : Asked) (before now : FilesAt) (ob on : SinkAt) (result : ℕ) → Ran ask before now ob on result → EndRow status ask before now ob on result
+end_row status few apart ask before now ob on result ran = record {
+  only = λ is. by_wrote ask (wrote ask before now ob on result ran) is;
+  when = λ mode name bytes source asks h within has ends. when mode name bytes source has ends (came_of ask mode name bytes before now ob on result ran asks h within);
 } where
-  when : (mode : Mode) (name bytes : List ℕ) (body : List Stmt) → IsSource bytes body → CameOf mode name bytes before now ob on result →
-      Comes 0 (text_of mode body) ob on result ⊎ ((result ≡ 6) × ReadFailed name before now)
-  when mode name bytes body source (of_source answer is came) = inl (inl (done_with mode bytes body answer ob on result source is came))
-  when mode name bytes body source (unreadable is read) = inr (is, read)
-  when mode name bytes body source (wanting is) = inl (inr (inr is))
-  when mode name bytes body source (unwritten is rose) = inl (inr (inl is))
+  comes : (mode : Mode) (source : Source) → status_of source ≡ status → Came (status_of source) (text_of mode source) ob on result → Came status (text_of mode source) ob on result
+  comes mode source ends came = (came.0 ∙ ends, came.1)
 
-  by_source : (mode : Mode) (name bytes : List ℕ) (answer : Answer) → now.failed ≡ before.failed → IsContent name before bytes → Outcome mode bytes answer → Came answer.status answer.text ob on result → result ≡ 0 →
-      (now.failed ≡ before.failed) × (m : Mode) × (bs : List ℕ) × (body : List Stmt) × WasRead (job mode name) m before bs × IsSource bs body × (on.taken ≡ then_bytes ob.taken (text_of m body))
-  by_source mode name bytes answer same content (runs body has only free is) came zero =
-      (same, mode, bytes, body, record { name = name; asked = refl; content = content }, has, came.1 ∙ ap (λ (a : Answer). then_bytes ob.taken a.text) is)
-  by_source mode name bytes answer same content (refuses line why only none is) came zero = absurd (let e : answer.status ≡ 5 = ap (λ (a : Answer). a.status) is in omega (arith, e, came.0))
+  when : (mode : Mode) (name bytes : List ℕ) (source : Source) → IsSource bytes source → status_of source ≡ status → CameOf mode name bytes before now ob on result →
+      Comes status (text_of mode source) ob on result ⊎ ((result ≡ 6) × ReadFailed name before now)
+  when mode name bytes source has ends (of_source answer is came) = inl (inl (comes mode source ends (ended_with mode bytes source answer ob on result has is came)))
+  when mode name bytes source has ends (unreadable is read) = inr (is, read)
+  when mode name bytes source has ends (wanting is) = inl (inr (inr is))
+  when mode name bytes source has ends (unwritten is rose) = inl (inr (inl is))
 
-  by_seen : (mode : Mode) (name : List ℕ) (answer : Answer) (seen : Seen) → Sees name before now seen → AnswersSeen mode name seen answer → Came answer.status answer.text ob on result → result ≡ 0 →
-      (now.failed ≡ before.failed) × (m : Mode) × (bs : List ℕ) × (body : List Stmt) × WasRead (job mode name) m before bs × IsSource bs body × (on.taken ≡ then_bytes ob.taken (text_of m body))
-  by_seen mode name answer unread sees is came zero = absurd (let e : answer.status ≡ 6 = ap (λ (a : Answer). a.status) is in omega (arith, e, came.0))
-  by_seen mode name answer longer sees is came zero = absurd (let e : answer.status ≡ 6 = ap (λ (a : Answer). a.status) is in omega (arith, e, came.0))
-  by_seen mode name answer (whole bytes) sees is came zero = by_source mode name bytes answer sees.0 sees.1 (outcome mode bytes answer is) came zero
+  by_source : (mode : Mode) (name bytes : List ℕ) (answer : Answer) → now.failed ≡ before.failed → IsContent name before bytes → Outcome mode bytes answer → Came answer.status answer.text ob on result → result ≡ status → EndedSo status before now ob on (job mode name)
+  by_source mode name bytes answer same content (runs source has only free is) came ends = (
+    same,
+    mode,
+    bytes,
+    source,
+    record { name = name; asked = refl; content = content },
+    has,
+    sym (ap (λ (a : Answer). a.status) is) ∙ (sym came.0 ∙ ends),
+    came.1 ∙ ap (λ (a : Answer). then_bytes ob.taken a.text) is,
+  )
+  by_source mode name bytes answer same content (refuses line why only none is) came ends = absurd (let e : answer.status ≡ 5 = ap (λ (a : Answer). a.status) is in omega (arith, e, came.0, ends, few))
 
-  by_wrote : (a : Asked) → Wrote a before now ob on result → result ≡ 0 →
-      (now.failed ≡ before.failed) × (mode : Mode) × (bytes : List ℕ) × (body : List Stmt) × WasRead a mode before bytes × IsSource bytes body × (on.taken ≡ then_bytes ob.taken (text_of mode body))
-  by_wrote a (lacked came) zero = absurd (omega (arith, came.0))
-  by_wrote a (failed answer may is rose part) zero = absurd (omega arith)
-  by_wrote nothing (answered answer (same, is) came) zero = absurd (let e : answer.status ≡ 2 = ap (λ (a : Answer). a.status) is in omega (arith, e, came.0))
-  by_wrote (job mode name) (answered answer (seen, sees, is) came) zero = by_seen mode name answer seen sees is came zero
+  by_seen : (mode : Mode) (name : List ℕ) (answer : Answer) (seen : Seen) → Sees name before now seen → AnswersSeen mode name seen answer → Came answer.status answer.text ob on result → result ≡ status → EndedSo status before now ob on (job mode name)
+  by_seen mode name answer unread sees is came ends = absurd (let e : answer.status ≡ 6 = ap (λ (a : Answer). a.status) is in omega (arith, e, came.0, ends, few))
+  by_seen mode name answer longer sees is came ends = absurd (let e : answer.status ≡ 6 = ap (λ (a : Answer). a.status) is in omega (arith, e, came.0, ends, few))
+  by_seen mode name answer (whole bytes) sees is came ends = by_source mode name bytes answer sees.0 sees.1 (outcome mode bytes answer is) came ends
 
-  only : (a : Asked) → Ran a before now ob on result → result ≡ 0 →
-      (now.failed ≡ before.failed) × (mode : Mode) × (bytes : List ℕ) × (body : List Stmt) × WasRead a mode before bytes × IsSource bytes body × (on.taken ≡ then_bytes ob.taken (text_of mode body))
-  only a ran zero = by_wrote a (wrote a before now ob on result ran) zero
+  by_wrote : (a : Asked) → Wrote a before now ob on result → result ≡ status → EndedSo status before now ob on a
+  by_wrote a (lacked came) ends = absurd (omega (arith, came.0, ends, few))
+  by_wrote a (failed answer may is rose part) ends = absurd (omega (arith, is, ends, few))
+  by_wrote nothing (answered answer (same, is) came) ends = absurd (apart (let e : answer.status ≡ 2 = ap (λ (a : Answer). a.status) is in omega (arith, e, came.0, ends)))
+  by_wrote (job mode name) (answered answer (seen, sees, is) came) ends = by_seen mode name answer seen sees is came ends
 
 pub refused_row : (ask : Asked) (before now : FilesAt) (ob on : SinkAt) (result : ℕ) → Ran ask before now ob on result → RefusedRow ask before now ob on result
 refused_row ask before now ob on result ran = record {
@@ -154,7 +173,8 @@ refused_row ask before now ob on result ran = record {
 
   by_source : (mode : Mode) (name bytes : List ℕ) (answer : Answer) → now.failed ≡ before.failed → IsContent name before bytes → Outcome mode bytes answer → Came answer.status answer.text ob on result → result ≡ 5 →
       (now.failed ≡ before.failed) × (m : Mode) × (bs : List ℕ) × (line : List ℕ) × WasRead (job mode name) m before bs × IsNoSource bs × IsRefusal bs line × (on.taken ≡ then_bytes ob.taken line)
-  by_source mode name bytes answer same content (runs body has only free is) came five = absurd (let e : answer.status ≡ 0 = ap (λ (a : Answer). a.status) is in omega (arith, e, came.0))
+  by_source mode name bytes answer same content (runs source has only free is) came five =
+      absurd (let e : answer.status ≡ status_of source = ap (λ (a : Answer). a.status) is in omega (arith, e, came.0, five, end_below (end_of source).outcome))
   by_source mode name bytes answer same content (refuses line why only none is) came five =
       (same, mode, bytes, line, record { name = name; asked = refl; content = content }, none, why, came.1 ∙ ap (λ (a : Answer). then_bytes ob.taken a.text) is)
 
@@ -172,9 +192,9 @@ refused_row ask before now ob on result ran = record {
   by_wrote (job mode name) (answered answer (seen, sees, is) came) five = by_seen mode name answer seen sees is came five
 
 pub complete : (ask : Asked) (before now : FilesAt) (ob on : SinkAt) (result : ℕ) → Ran ask before now ob on result → IsComplete ask before ob on result
-complete ask before now ob on result ran mode name bytes body asks sound h within source calm = by_came (came_of ask mode name bytes before now ob on result ran asks h within) where
-  by_came : CameOf mode name bytes before now ob on result → Came 0 (text_of mode body) ob on result ⊎ (result ≡ 8)
-  by_came (of_source answer is came) = inl (done_with mode bytes body answer ob on result source is came)
+complete ask before now ob on result ran mode name bytes source asks sound h within has calm = by_came (came_of ask mode name bytes before now ob on result ran asks h within) where
+  by_came : CameOf mode name bytes before now ob on result → Came (status_of source) (text_of mode source) ob on result ⊎ (result ≡ 8)
+  by_came (of_source answer is came) = inl (ended_with mode bytes source answer ob on result has is came)
   by_came (unreadable is read) = absurd (read.1 sound (is_held before name bytes h))
   by_came (wanting is) = inr is
   by_came (unwritten is rose) = absurd (calm rose)

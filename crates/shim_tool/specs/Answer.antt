@@ -2,7 +2,6 @@
 use Rattle.std.specs.Prelude.{ℕ, ◌≡◌, ◌<◌, ◌≤◌, ◌⊎◌, IsTrue, List, [], ◌∷◌, ◌++◌, length, Some, IfSome, IsSomeAnd, codes, decimal}
 use Rattle.shim_edge.specs.Files.{file_of, IsHeld}
 use Rattle.shim_syntax.specs.declared.Program.{Program}
-use Rattle.shim_syntax.specs.declared.Stmt.{Stmt}
 use Rattle.shim_syntax.specs.Text.{IsText}
 use Rattle.shim_parser.specs.declared.ParseFault.{ParseFault}
 use Rattle.shim_parser.specs.Parsing.{IsFaultOf}
@@ -12,9 +11,10 @@ use Rattle.shim_tool.specs.declared.mode.Mode.{Mode}
 use Rattle.shim_tool.specs.declared.mode.Mode.TheVariants.{Run}
 use Rattle.shim_tool.specs.Asked.{Asked, nothing, job}
 use Rattle.shim_tool.specs.Moments.{FilesAt}
-use Rattle.shim_tool.specs.Form.{IsMain, IsAllowed, IsOfOtherForm}
-use Rattle.shim_tool.specs.Source.{IsSource}
-use Rattle.shim_tool.specs.Report.{report_of}
+use Rattle.shim_tool.specs.Plan.{Act, Routine, routines_of}
+use Rattle.shim_tool.specs.Form.{IsOfForm}
+use Rattle.shim_tool.specs.Source.{Source, IsSource}
+use Rattle.shim_tool.specs.Meaning.{report_of, status_of}
 
 -- a status and the text that goes with it
 pub record Answer : Type 0 where
@@ -40,9 +40,13 @@ failed_line name = codes "file failed " ++ (name ++ codes "\n")
 unfoldable pub longer_line : List ℕ → List ℕ
 longer_line name = codes "file too long " ++ (name ++ (codes " " ++ (decimal source_limit ++ codes "\n")))
 
--- what a mode writes of a source with this body
-abbrev pub text_of : Mode → List Stmt → List ℕ
-text_of Run body = report_of body
+-- what a mode writes of a source
+abbrev pub text_of : Mode → Source → List ℕ
+text_of Run source = report_of source
+
+-- the end of the source's run, told as the mode tells it
+abbrev pub end_answer : Mode → Source → Answer
+end_answer mode source = record { status = status_of source; text = text_of mode source }
 
 abbrev pub usage : Answer
 usage = record { status = 2; text = usage_line }
@@ -70,13 +74,17 @@ pub record IsOnlyFault (bytes : List ℕ) (fault : ParseFault) : Type 0 where
 
 -- the bytes are no source that is run
 abbrev pub IsNoSource : List ℕ → Type 0
-IsNoSource bytes = (body : List Stmt) → IsSource bytes body → ⊥
+IsNoSource bytes = (source : Source) → IsSource bytes source → ⊥
 
--- a program of the form that is run is answered with the text of its mode, and another one as not built
+-- functions of the form that is run are answered with the end of their run, and others as not built
+abbrev pub AnswersRoutines : Mode → List Routine → Answer → Type 0
+AnswersRoutines mode rs answer =
+    ((body : List Act) × IsOfForm rs body × (answer ≡ end_answer mode (record { routines = rs; body = body })))
+    ⊎ (((body : List Act) → IsOfForm rs body → ⊥) × (answer ≡ not_built))
+
+-- those of a program
 abbrev pub AnswersProgram : Mode → Program → Answer → Type 0
-AnswersProgram mode program answer =
-    ((output : List ℕ) × (body : List Stmt) × IsMain program output body × IsAllowed output body × (answer ≡ record { status = 0; text = text_of mode body }))
-    ⊎ (IsOfOtherForm program × (answer ≡ not_built))
+AnswersProgram mode program = AnswersRoutines mode (routines_of program)
 
 -- the text of a program is answered as the program, and other bytes with the line of their fault
 abbrev pub AnswersSource : Mode → List ℕ → Answer → Type 0

@@ -1,11 +1,14 @@
 -- Answers that were made, as the definitions name them.
 use Rattle.std.specs.Prelude.{ℕ}
 use Rattle.shim_tool.specs.declared.status.Status.{Status}
-use Rattle.shim_tool.specs.declared.status.Status.TheVariants.{Done, Usage, Refused, FileFault, SinkFault, NoMemory}
+use Rattle.shim_tool.specs.declared.status.Status.TheVariants.{Done, Failed, Usage, Blocked, Spent, Refused, FileFault, SinkFault, NoMemory}
 
 abbrev pub code_of : Status → ℕ
 code_of Done = 0
+code_of Failed = 1
 code_of Usage = 2
+code_of Blocked = 3
+code_of Spent = 4
 code_of Refused = 5
 code_of FileFault = 6
 code_of SinkFault = 7

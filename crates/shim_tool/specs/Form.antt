@@ -1,20 +1,10 @@
--- The programs that are run: one process, which declares variables, assigns sums and puts bytes.
-use Rattle.std.specs.Prelude.{◌≡◌, ℕ, pos, Bool, true, false, ◌&&◌, not, IsTrue, List, [], ◌∷◌, take, Some, None, bytes_eq, codes, slice_get, int_lt, if◌then◌else◌}
-use Rattle.std.specs.Int.{is_negative}
+-- The programs that are run: functions of one number, and a `main` that may fork two of them.
+use Rattle.std.specs.Prelude.{◌≡◌, ℕ, ◌+◌, ◌<◌, ◌≤◌, Bool, true, false, ◌&&◌, not, IsTrue, Option, Some, None, List, [], ◌∷◌, ◌++◌, take, bytes_eq, codes, slice_get}
 use Rattle.std.specs.List.{list_any}
-use Rattle.shim_base.specs.declared.operators.BinOp.TheVariants.{Add}
-use Rattle.shim_base.specs.declared.types.Ty.TheVariants.{Int32}
-use Rattle.shim_syntax.specs.declared.Program.{Program}
-use Rattle.shim_syntax.specs.declared.Function.{Function}
-use Rattle.shim_syntax.specs.declared.Param.{Param}
-use Rattle.shim_syntax.specs.declared.Sort.TheVariants.{Output}
-use Rattle.shim_syntax.specs.declared.Stmt.{Stmt}
-use Rattle.shim_syntax.specs.declared.What.{What}
-use Rattle.shim_syntax.specs.declared.What.TheVariants.{Declare, Assign, Put}
-use Rattle.shim_syntax.specs.declared.Expr.{Expr, fold-Expr, Expr-F}
-use Rattle.shim_tool.specs.declared.form.Part.{Part}
-use Rattle.shim_tool.specs.declared.form.Part.TheVariants.{Atom, Sum, Other}
-use Rattle.shim_tool.specs.Measure.{declared}
+use Rattle.shim_syntax.specs.declared.tree.Expr.{Expr, fold-Expr, Expr-F}
+use Rattle.shim_tool.specs.Sums.{is_small}
+use Rattle.shim_tool.specs.Plan.{Given, Act, Declares, Assigns, Meets, Puts, Forks, Strange, Takes, TakesNothing, TakesCopy, TakesReference, TakesOutput, TakesOther, Routine}
+use Rattle.shim_tool.specs.Process.{declared_names, routine_named, moves}
 
 -- the name is one of these
 abbrev pub has : List (List ℕ) → List ℕ → Bool
@@ -30,67 +20,91 @@ known_step names (Expr-F.Binary op a b) = a && b
 abbrev pub is_known : List (List ℕ) → Expr → Bool
 is_known names = fold-Expr Bool (known_step names)
 
--- what two operands of a `+` make: a sum is joined to an atom alone
-abbrev pub joined : Part → Part → Part
-joined Other b = Other
-joined Atom Atom = Sum
-joined Sum Atom = Sum
-joined a b = Other
-
-abbrev pub part_step : Expr-F Part → Part
-part_step (Expr-F.Number n) = if not (is_negative n) && int_lt n (pos 2147483648) then Atom else Other
-part_step (Expr-F.Var x) = Atom
-part_step (Expr-F.Unary op a) = Other
-part_step (Expr-F.Binary Add a b) = joined a b
-part_step (Expr-F.Binary op a b) = Other
-
--- An atom is a name or a number below 2 ^ 31, and a sum is an atom or a sum with a `+` and one more atom.
-abbrev pub part_of : Expr → Part
-part_of = fold-Expr Part part_step
-
-abbrev pub is_part : Part → Bool
-is_part Other = false
-is_part _ = true
-
--- the expression is a sum of names and of small numbers
-abbrev pub is_small : Expr → Bool
-is_small e = is_part (part_of e)
-
+-- a sum of these names and of small numbers
 abbrev pub is_usable : List (List ℕ) → Expr → Bool
 is_usable names sum = is_known names sum && is_small sum
 
--- what a statement may be where these names were declared before it: a name is declared once, and before it is used, and the parameter alone is put to
-abbrev pub is_allowed : List ℕ → List (List ℕ) → What → Bool
-is_allowed output names (Declare Int32 x None) = not (has names x) && not (bytes_eq x output)
-is_allowed output names (Declare ty x first) = false
-is_allowed output names (Assign x e) = has names x && is_usable names e
-is_allowed output names (Put o e) = bytes_eq o output && is_usable names e
-is_allowed output names _ = false
+abbrev pub is_usable_first : List (List ℕ) → Option Expr → Bool
+is_usable_first names None = true
+is_usable_first names (Some e) = is_usable names e
 
--- each statement is allowed behind those that stand before it
-abbrev pub IsAllowed : List ℕ → List Stmt → Type 0
-IsAllowed output body = (i : ℕ) (s : Stmt) → slice_get body i ≡ Some s → IsTrue (is_allowed output (declared (take i body)) s.what)
+abbrev pub main_name : List ℕ
+main_name = codes "main"
 
--- a stream that goes out
-abbrev pub IsOutput : Param → Type 0
-IsOutput param = IsTrue param.by_ref × (param.sort ≡ Output)
+abbrev pub is_main : Routine → Bool
+is_main r = bytes_eq r.name main_name
 
--- a function `main` that throws nothing, with an output stream of this name and this body
-pub record IsMainFunction (function : Function) (output : List ℕ) (body : List Stmt) : Type 0 where
-  pub called : function.name ≡ codes "main"
-  pub param : Param
-  pub params : function.params ≡ param ∷ []
-  pub stream : IsOutput param
-  pub stream_name : param.name ≡ output
-  pub throws : function.throws ≡ []
-  pub has_body : function.body ≡ body
+-- the name is that of the output stream
+abbrev pub is_output : Takes → List ℕ → Bool
+is_output (TakesOutput o) x = bytes_eq o x
+is_output TakesNothing x = false
+is_output (TakesCopy y) x = false
+is_output (TakesReference y) x = false
+is_output TakesOther x = false
 
--- the program is one such function
-pub record IsMain (program : Program) (output : List ℕ) (body : List Stmt) : Type 0 where
-  pub function : Function
-  pub only : program.functions ≡ function ∷ []
-  pub main : IsMainFunction function output body
+-- a number that a function takes counts as declared by it
+abbrev pub known_first : Takes → List (List ℕ)
+known_first (TakesCopy x) = x ∷ []
+known_first (TakesReference x) = x ∷ []
+known_first (TakesOutput x) = []
+known_first TakesNothing = []
+known_first TakesOther = []
 
--- the program isn't of the form that is run
-abbrev pub IsOfOtherForm : Program → Type 0
-IsOfOtherForm program = (output : List ℕ) (body : List Stmt) → IsMain program output body → IsAllowed output body → ⊥
+abbrev pub is_other : Option Routine → Bool
+is_other None = false
+is_other (Some r) = not (is_main r)
+
+-- the branch calls a function other than `main`, and gives it a declared name
+abbrev pub is_branch : List Routine → List (List ℕ) → Given → Bool
+is_branch rs names g = is_other (routine_named rs g.function) && has names g.variable
+
+-- one name is given twice by reference
+abbrev pub is_given_twice : List Routine → Given → Given → Bool
+is_given_twice rs a b = moves rs a && (moves rs b && bytes_eq a.variable b.variable)
+
+-- what a statement may be where these names were declared before it: a name is declared once, and before it is used, and the output alone is put to; `main` alone forks
+abbrev pub is_allowed : List Routine → Bool → Takes → List (List ℕ) → Act → Bool
+is_allowed rs in_main takes names (Declares x first) = not (has names x) && (not (is_output takes x) && is_usable_first names first)
+is_allowed rs in_main takes names (Assigns x e) = has names x && is_usable names e
+is_allowed rs in_main takes names (Meets x) = has names x
+is_allowed rs in_main takes names (Puts o e) = is_output takes o && is_usable names e
+is_allowed rs in_main takes names (Forks a b) = in_main && (is_branch rs names a && (is_branch rs names b && not (is_given_twice rs a b)))
+is_allowed rs in_main takes names Strange = false
+
+abbrev pub fork_count : List Act → ℕ
+fork_count [] = 0
+fork_count (Forks a b ∷ rest) = 1 + fork_count rest
+fork_count (Declares x first ∷ rest) = fork_count rest
+fork_count (Assigns x e ∷ rest) = fork_count rest
+fork_count (Meets x ∷ rest) = fork_count rest
+fork_count (Puts o e ∷ rest) = fork_count rest
+fork_count (Strange ∷ rest) = fork_count rest
+
+-- `main` takes nothing or an output stream, and another function one number
+abbrev pub takes_what_it_may : Bool → Takes → Bool
+takes_what_it_may true TakesNothing = true
+takes_what_it_may true (TakesOutput o) = true
+takes_what_it_may true (TakesCopy x) = false
+takes_what_it_may true (TakesReference x) = false
+takes_what_it_may true TakesOther = false
+takes_what_it_may false (TakesCopy x) = true
+takes_what_it_may false (TakesReference x) = true
+takes_what_it_may false TakesNothing = false
+takes_what_it_may false (TakesOutput o) = false
+takes_what_it_may false TakesOther = false
+
+pub record IsRunnable (rs : List Routine) (r : Routine) : Type 0 where
+  pub takes : IsTrue (takes_what_it_may (is_main r) r.takes)
+  pub throws : r.throws ≡ []
+  pub forks : fork_count r.body ≤ 1
+  -- each statement is allowed behind those that stand before it
+  pub allowed : (i : ℕ) (a : Act) → slice_get r.body i ≡ Some a → IsTrue (is_allowed rs (is_main r) r.takes (known_first r.takes ++ declared_names (take i r.body)) a)
+
+-- the functions are those of a program that is run, of whose `main` this is the body
+pub record IsOfForm (rs : List Routine) (body : List Act) : Type 0 where
+  -- no two functions have one name
+  pub once : (i j : ℕ) (r s : Routine) → i < j → slice_get rs i ≡ Some r → slice_get rs j ≡ Some s → bytes_eq r.name s.name ≡ false
+  pub main : Routine
+  pub found : routine_named rs main_name ≡ Some main
+  pub has_body : main.body ≡ body
+  pub each : (i : ℕ) (r : Routine) → slice_get rs i ≡ Some r → IsRunnable rs r

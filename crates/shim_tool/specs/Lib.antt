@@ -1,12 +1,20 @@
 -- The definitions of this crate, one module for each subject.
 pub mod Measure
-pub mod Form
+pub mod Sums
+pub mod Plan
+pub mod PlanView
 pub mod NameView
-pub mod Meaning
-pub mod Variables
+pub mod Branches
+pub mod Process
+pub mod ProcessLaws
+pub mod Places
+pub mod Steps
+pub mod Counts
 pub mod Summable
+pub mod Form
+pub mod Rules
 pub mod Source
-pub mod Report
+pub mod Meaning
 pub mod Asked
 pub mod Moments
 pub mod Answer
@@ -15,4 +23,3 @@ pub mod Rows
 pub mod JobView
 pub mod AnswerView
 pub mod Views
-pub mod Execute

@@ -4,7 +4,6 @@ use Rattle.shim_edge.specs.Count.{HasRisen}
 use Rattle.shim_edge.specs.Files.{file_of}
 use Rattle.shim_edge.specs.Sink.{then_bytes, TakesPart}
 use Rattle.shim_syntax.specs.declared.Program.{Program}
-use Rattle.shim_syntax.specs.declared.Stmt.{Stmt}
 use Rattle.shim_syntax.specs.Text.{IsText}
 use Rattle.shim_parser.specs.declared.ParseFault.{ParseFault}
 use Rattle.shim_parser.specs.Parsing.{IsFaultOf}
@@ -13,8 +12,8 @@ use Rattle.shim_report.specs.Refusal.{refusal}
 use Rattle.shim_tool.specs.declared.mode.Mode.{Mode}
 use Rattle.shim_tool.specs.Asked.{Asked, nothing, job}
 use Rattle.shim_tool.specs.Moments.{FilesAt, SinkAt}
-use Rattle.shim_tool.specs.Form.{IsOfOtherForm}
-use Rattle.shim_tool.specs.Source.{IsSource}
+use Rattle.shim_tool.specs.Source.{Source, IsSource, IsOfOtherForm}
+use Rattle.shim_tool.specs.Meaning.{status_of}
 use Rattle.shim_tool.specs.Answer.{Answer, MayAnswer, FailedGrew, ReadFailed, IsTooLong, IsContent, IsNoSource, source_limit, text_of, usage_line, not_built_line, failed_line, longer_line, memory_line}
 
 -- this status came with this text, whole
@@ -37,12 +36,12 @@ pub record WasRead (ask : Asked) (mode : Mode) (before : FilesAt) (bytes : List 
   pub asked : ask ≡ job mode name
   pub content : IsContent name before bytes
 
--- 0: exactly where the file is a source, with the text of its mode, which for `run` is the report of its meaning
-pub record DoneRow (ask : Asked) (before now : FilesAt) (out_before out_now : SinkAt) (result : ℕ) : Type 0 where
-  pub only : result ≡ 0 → (now.failed ≡ before.failed) × (mode : Mode) × (bytes : List ℕ) × (body : List Stmt) × WasRead ask mode before bytes × IsSource bytes body
-      × (out_now.taken ≡ then_bytes out_before.taken (text_of mode body))
-  pub when : (mode : Mode) (name bytes : List ℕ) (body : List Stmt) → ask ≡ job mode name → Holds before name bytes → length bytes ≤ source_limit → IsSource bytes body
-      → Comes 0 (text_of mode body) out_before out_now result ⊎ ((result ≡ 6) × ReadFailed name before now)
+-- 0, 1, 3, 4: exactly where the file is a source whose run ends done, uncaught or trapped, blocked, or spent, with the text of its mode, which for `run` is the report of its meaning
+pub record EndRow (status : ℕ) (ask : Asked) (before now : FilesAt) (out_before out_now : SinkAt) (result : ℕ) : Type 0 where
+  pub only : result ≡ status → (now.failed ≡ before.failed) × (mode : Mode) × (bytes : List ℕ) × (source : Source) × WasRead ask mode before bytes × IsSource bytes source
+      × (status_of source ≡ status) × (out_now.taken ≡ then_bytes out_before.taken (text_of mode source))
+  pub when : (mode : Mode) (name bytes : List ℕ) (source : Source) → ask ≡ job mode name → Holds before name bytes → length bytes ≤ source_limit → IsSource bytes source → status_of source ≡ status
+      → Comes status (text_of mode source) out_before out_now result ⊎ ((result ≡ 6) × ReadFailed name before now)
 
 -- 2: exactly where the words ask for nothing
 pub record WordsRow (ask : Asked) (out_before out_now : SinkAt) (result : ℕ) : Type 0 where
@@ -93,8 +92,8 @@ pub record FilesRow (ask : Asked) (before now : FilesAt) : Type 0 where
   pub sound : now.sound ≡ before.sound
   pub grew : FailedGrew ask before now
 
--- Over sound files that hold a source, and a sink that doesn't fail, its whole text is written, unless memory is wanted.
+-- Over sound files that hold a source, and a sink that doesn't fail, its whole text is written with the status of its end, unless memory is wanted.
 abbrev pub IsComplete : Asked → FilesAt → SinkAt → SinkAt → ℕ → Type 0
-IsComplete ask before out_before out_now result = (mode : Mode) (name bytes : List ℕ) (body : List Stmt) → ask ≡ job mode name → IsTrue before.sound → Holds before name bytes
-    → length bytes ≤ source_limit → IsSource bytes body → (HasRisen out_before.faults out_now.faults → ⊥)
-    → Came 0 (text_of mode body) out_before out_now result ⊎ (result ≡ 8)
+IsComplete ask before out_before out_now result = (mode : Mode) (name bytes : List ℕ) (source : Source) → ask ≡ job mode name → IsTrue before.sound → Holds before name bytes
+    → length bytes ≤ source_limit → IsSource bytes source → (HasRisen out_before.faults out_now.faults → ⊥)
+    → Came (status_of source) (text_of mode source) out_before out_now result ⊎ (result ≡ 8)

@@ -1,57 +1,172 @@
-// The programs of the form that is run.
-ghost use Rattle.std.specs.Prelude.{◌≡◌, ◌↔◌, ℕ, List, IsTrue, IfOk, MatchOption, OnOk, ◌++◌};
-ghost use Rattle.shim_tool.specs.Measure.{declares};
-ghost use Rattle.shim_tool.specs.Form as forms;
-ghost use Rattle.shim_tool.specs.Form.{IsMain, IsAllowed};
+// Whether a program is of the form that is run.
+ghost use Rattle.std.specs.Prelude.{◌≡◌, ◌≤◌, ◌↔◌, [], ◌∷◌, ◌++◌, List, IsTrue, IfOk, OnOk, MatchOption};
+ghost use Rattle.std.specs.Option.{option_map};
+ghost use Rattle.shim_tool.specs.Plan.{Act};
+ghost use Rattle.shim_tool.specs.PlanView.{action_view, body_view, given_view, plan_view, routine_view, taken_view};
 ghost use Rattle.shim_tool.specs.NameView.{texts_of};
+ghost use Rattle.shim_tool.specs.Process as process;
+ghost use Rattle.shim_tool.specs.Form as forms;
+ghost use Rattle.shim_tool.specs.Form.{IsOfForm, IsRunnable};
+ghost use Rattle.shim_tool.specs.Rules.{AreNamedOnce, AreAllowed, AreRunnable};
 
-use shim_base::{BinOp, Name, NoMemory, Ty};
-use shim_syntax::{Expr, Function, Param, Program, Sort, Stmt, What};
+use crate::lookup::{moves, routine_named};
+use crate::plan::{Action, Given, Routine, Taken};
+use crate::sum::is_small;
+use shim_base::{Name, NoMemory};
+use shim_syntax::Expr;
 use std::alloc::Global;
 
-/// The one function of a program that is run.
-#[derive(Clone, Copy)]
-pub(crate) struct Main<'a> {
-    pub(crate) output: &'a Name,
-    pub(crate) body: &'a [Stmt],
-}
-
-/// The function `main` of a program that has it alone, with an output stream.
-pub(crate) fn main_of(program: &Program) -> Option<Main<'_>>
-    ensures { MatchOption result ((output : List ℕ) (body : List Stmt) → IsMain program.now output body → ⊥)
-        (λ main. IsMain program.now main.output.now main.body.now) }
+/// The body of `main`, where the functions are those of a program that is run.
+pub(crate) fn main_of<'a, 'b>(
+    alloc: Global,
+    routines: &'a [Routine<'b>],
+) -> Result<Option<&'a [Action<'b>]>, NoMemory>
+    ensures { IfOk result (λ main. MatchOption main ((body : List Act) → IsOfForm (plan_view routines.now) body → ⊥)
+        (λ body. IsOfForm (plan_view routines.now) (body_view body.now))) }
 {
-    match program.functions.as_slice() {
-        [function] => main_function(function),
-        _ => None,
+    if !are_named_once(alloc, routines)? {
+        return Ok(None);
+    }
+    if !are_runnable(alloc, routines)? {
+        return Ok(None);
+    }
+    match routine_named(routines, b"main") {
+        None => Ok(None),
+        Some(main) => Ok(Some(main.body.as_slice())),
     }
 }
 
-fn main_function(function: &Function) -> Option<Main<'_>>
-    ensures { MatchOption result ((output : List ℕ) (body : List Stmt) → forms.IsMainFunction function.now output body → ⊥)
-        (λ main. forms.IsMainFunction function.now main.output.now main.body.now) }
+// Whether no two functions have one name.
+fn are_named_once(alloc: Global, routines: &[Routine<'_>]) -> Result<bool, NoMemory>
+    ensures { IfOk result (λ once. IsTrue once ↔ AreNamedOnce (plan_view routines.now)) }
 {
-    if function.name.as_bytes() != b"main".as_slice() {
-        return None;
+    let mut names: Vec<&Name> = Vec::new(alloc);
+    for routine in routines {
+        if has(&names, routine.name) {
+            return Ok(false);
+        }
+        names.push(routine.name)?;
     }
-    if !function.throws.is_empty() {
-        return None;
-    }
-    match function.params.as_slice() {
-        [param] if is_output(param) => Some(Main {
-            output: &param.name,
-            body: function.body.as_slice(),
-        }),
-        _ => None,
-    }
+    Ok(true)
 }
 
-fn is_output(param: &Param) -> bool
-    ensures { IsTrue result ↔ forms.IsOutput param.now }
+fn are_runnable(alloc: Global, routines: &[Routine<'_>]) -> Result<bool, NoMemory>
+    ensures { IfOk result (λ runnable. IsTrue runnable ↔ AreRunnable (plan_view routines.now) (plan_view routines.now)) }
 {
-    param.by_ref && param.sort == Sort::Output
+    for routine in routines {
+        if !is_runnable(alloc, routines, routine)? {
+            return Ok(false);
+        }
+    }
+    Ok(true)
 }
 
+// Whether the function can be run in the program of these.
+fn is_runnable(
+    alloc: Global,
+    routines: &[Routine<'_>],
+    routine: &Routine<'_>,
+) -> Result<bool, NoMemory>
+    ensures { IfOk result (λ runnable. IsTrue runnable ↔ IsRunnable (plan_view routines.now) (routine_view routine.now)) }
+{
+    let in_main = is_main(routine);
+    if !takes_what_it_may(in_main, routine.takes) {
+        return Ok(false);
+    }
+    if !routine.throws.is_empty() {
+        return Ok(false);
+    }
+    if fork_count(&routine.body) > 1 {
+        return Ok(false);
+    }
+    are_allowed(alloc, routines, in_main, routine.takes, &routine.body)
+}
+
+// `main` takes nothing or an output stream, and another function one number.
+fn takes_what_it_may(in_main: bool, takes: Taken<'_>) -> bool
+    ensures { result ≡ forms.takes_what_it_may in_main (taken_view takes.entry) }
+{
+    match takes {
+        Taken::Nothing | Taken::Output(_) => in_main,
+        Taken::Copy(_) | Taken::Reference(_) => !in_main,
+        Taken::Other => false,
+    }
+}
+
+// How many of the statements are forks.
+fn fork_count(body: &[Action<'_>]) -> usize
+    ensures { result ≡ forms.fork_count (body_view body.now) }
+{
+    let mut count: usize = 0;
+    for action in body {
+        count += forks_of(*action);
+    }
+    count
+}
+
+// 1 of a fork, and 0 of another statement.
+fn forks_of(action: Action<'_>) -> usize
+    ensures count { result ≡ forms.fork_count (action_view action.entry ∷ []) }
+    ensures most { result ≤ 1 }
+{
+    match action {
+        Action::Fork(_, _) => 1,
+        Action::Declare(_, _) | Action::Assign(_, _) | Action::Next(_) => 0,
+        Action::Put(_, _) | Action::Other => 0,
+    }
+}
+
+// Whether each statement is allowed behind those that stand before it.
+fn are_allowed(
+    alloc: Global,
+    routines: &[Routine<'_>],
+    in_main: bool,
+    takes: Taken<'_>,
+    body: &[Action<'_>],
+) -> Result<bool, NoMemory>
+    ensures { IfOk result (λ allowed. IsTrue allowed ↔ AreAllowed (plan_view routines.now) in_main (taken_view takes.entry) (body_view body.now)) }
+{
+    let mut names: Vec<&Name> = Vec::new(alloc);
+    add_taken(&mut names, takes)?;
+    for action in body {
+        if !is_allowed(routines, in_main, takes, &names, *action) {
+            return Ok(false);
+        }
+        add_declared(&mut names, *action)?;
+    }
+    Ok(true)
+}
+
+// Adds the name of a number that the function takes.
+fn add_taken<'a>(names: &mut Vec<&'a Name>, takes: Taken<'a>) -> Result<(), NoMemory>
+    ensures { OnOk result (texts_of names.new.items ≡ texts_of names.old.items ++ forms.known_first (taken_view takes.entry)) }
+{
+    match takes {
+        Taken::Copy(name) | Taken::Reference(name) => names.push(name)?,
+        Taken::Nothing | Taken::Output(_) | Taken::Other => {}
+    }
+    Ok(())
+}
+
+// Adds the name that the statement declares.
+fn add_declared<'a>(names: &mut Vec<&'a Name>, action: Action<'a>) -> Result<(), NoMemory>
+    ensures { OnOk result (texts_of names.new.items ≡ texts_of names.old.items ++ process.act_names (action_view action.entry)) }
+{
+    match action {
+        Action::Declare(name, _) => names.push(name)?,
+        Action::Assign(_, _) | Action::Next(_) | Action::Put(_, _) => {}
+        Action::Fork(_, _) | Action::Other => {}
+    }
+    Ok(())
+}
+
+fn is_main(routine: &Routine<'_>) -> bool
+    ensures { result ≡ forms.is_main (routine_view routine.now) }
+{
+    routine.name.as_bytes() == b"main".as_slice()
+}
+
+// Whether the name is one of these.
 fn has(names: &[&Name], name: &Name) -> bool
     ensures { result ≡ forms.has (texts_of names.now) name.now }
 {
@@ -63,6 +178,7 @@ fn has(names: &[&Name], name: &Name) -> bool
     false
 }
 
+// Whether each name of the expression is one of these.
 fn is_known(names: &[&Name], sum: &Expr) -> bool
     ensures { result ≡ forms.is_known (texts_of names.now) sum.now }
 {
@@ -74,85 +190,74 @@ fn is_known(names: &[&Name], sum: &Expr) -> bool
     }
 }
 
-/// What an expression is to a sum: a part that stands alone, more than one part, or none.
-#[derive(Clone, Copy, Debug, PartialEq, Eq)]
-pub(crate) enum Part {
-    Atom,
-    Sum,
-    Other,
-}
-
-fn joined(left: Part, right: Part) -> Part
-    ensures { result ≡ forms.joined left right }
-{
-    match (left, right) {
-        (Part::Atom | Part::Sum, Part::Atom) => Part::Sum,
-        _ => Part::Other,
-    }
-}
-
-fn part_of(sum: &Expr) -> Part
-    ensures { result ≡ forms.part_of sum.now }
-{
-    match sum {
-        Expr::Number(number) if 0 <= *number && *number < 2147483648 => Part::Atom,
-        Expr::Number(_) => Part::Other,
-        Expr::Var(_) => Part::Atom,
-        Expr::Unary(_, _) => Part::Other,
-        Expr::Binary(BinOp::Add, left, right) => joined(part_of(left), part_of(right)),
-        Expr::Binary(_, _, _) => Part::Other,
-    }
-}
-
-fn is_small(sum: &Expr) -> bool
-    ensures { result ≡ forms.is_small sum.now }
-{
-    match part_of(sum) {
-        Part::Other => false,
-        Part::Atom | Part::Sum => true,
-    }
-}
-
+// Whether the expression is a sum of these names and of small numbers.
 fn is_usable(names: &[&Name], sum: &Expr) -> bool
     ensures { result ≡ forms.is_usable (texts_of names.now) sum.now }
 {
     is_known(names, sum) && is_small(sum)
 }
 
-fn is_allowed(output: &Name, names: &[&Name], what: &What) -> bool
-    ensures { result ≡ forms.is_allowed output.now (texts_of names.now) what.now }
+fn is_usable_first(names: &[&Name], first: Option<&Expr>) -> bool
+    ensures { result ≡ forms.is_usable_first (texts_of names.now) (option_map (λ sum. sum.now) first.entry) }
 {
-    match what {
-        What::Declare(Ty::Int32, name, None) => {
-            !has(names, name) && name.as_bytes() != output.as_bytes()
-        }
-        What::Declare(_, _, _) => false,
-        What::Assign(name, sum) => has(names, name) && is_usable(names, sum),
-        What::Put(name, sum) => name.as_bytes() == output.as_bytes() && is_usable(names, sum),
-        _ => false,
+    match first {
+        None => true,
+        Some(sum) => is_usable(names, sum),
     }
 }
 
-// Adds the name that a statement declares.
-fn add_declared<'a>(names: &mut Vec<&'a Name>, what: &'a What) -> Result<(), NoMemory>
-    ensures { OnOk result (texts_of names.new.items ≡ texts_of names.old.items ++ declares what.now) }
+// Whether the name is that of the output stream.
+fn is_output(takes: Taken<'_>, name: &Name) -> bool
+    ensures { result ≡ forms.is_output (taken_view takes.entry) name.now }
 {
-    if let What::Declare(_, name, _) = what {
-        names.push(name)?;
+    match takes {
+        Taken::Output(output) => output.as_bytes() == name.as_bytes(),
+        Taken::Nothing | Taken::Copy(_) | Taken::Reference(_) | Taken::Other => false,
     }
-    Ok(())
 }
 
-/// Whether each statement is allowed behind those before it.
-pub(crate) fn are_allowed(alloc: Global, output: &Name, body: &[Stmt]) -> Result<bool, NoMemory>
-    ensures { IfOk result (λ allowed. IsTrue allowed ↔ IsAllowed output.now body.now) }
+// Whether the branch calls a function other than `main`, and gives it a declared name.
+fn is_branch(routines: &[Routine<'_>], names: &[&Name], given: Given<'_>) -> bool
+    ensures { result ≡ forms.is_branch (plan_view routines.now) (texts_of names.now) (given_view given.entry) }
 {
-    let mut names: Vec<&Name> = Vec::new(alloc);
-    for statement in body {
-        if !is_allowed(output, &names, &statement.what) {
-            return Ok(false);
-        }
-        add_declared(&mut names, &statement.what)?;
+    match routine_named(routines, given.function.as_bytes()) {
+        None => false,
+        Some(routine) => !is_main(routine) && has(names, given.variable),
     }
-    Ok(true)
+}
+
+// Whether one name is given twice by reference.
+fn is_given_twice(routines: &[Routine<'_>], left: Given<'_>, right: Given<'_>) -> bool
+    ensures { result ≡ forms.is_given_twice (plan_view routines.now) (given_view left.entry) (given_view right.entry) }
+{
+    moves(routines, left)
+        && moves(routines, right)
+        && left.variable.as_bytes() == right.variable.as_bytes()
+}
+
+// Whether the statement may stand where these names were declared before it.
+fn is_allowed(
+    routines: &[Routine<'_>],
+    in_main: bool,
+    takes: Taken<'_>,
+    names: &[&Name],
+    action: Action<'_>,
+) -> bool
+    ensures { result ≡ forms.is_allowed (plan_view routines.now) in_main (taken_view takes.entry) (texts_of names.now) (action_view action.entry) }
+{
+    match action {
+        Action::Declare(name, first) => {
+            !has(names, name) && !is_output(takes, name) && is_usable_first(names, first)
+        }
+        Action::Assign(name, sum) => has(names, name) && is_usable(names, sum),
+        Action::Next(name) => has(names, name),
+        Action::Put(stream, sum) => is_output(takes, stream) && is_usable(names, sum),
+        Action::Fork(left, right) => {
+            in_main
+                && is_branch(routines, names, left)
+                && is_branch(routines, names, right)
+                && !is_given_twice(routines, left, right)
+        }
+        Action::Other => false,
+    }
 }

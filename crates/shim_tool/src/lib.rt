@@ -2,14 +2,20 @@
 #![tactic(auto)]
 
 mod answer;
+mod branch;
 mod call;
 mod execute;
 mod form;
+mod lookup;
 mod mode;
-mod report;
+mod names;
+mod place;
+mod plan;
+mod process;
 mod run;
+mod statement;
 mod status;
-mod variable;
+mod sum;
 mod words;
 
 pub use call::{lacks_memory, shim};

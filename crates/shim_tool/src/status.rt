@@ -1,11 +1,18 @@
 // The statuses that the program ends with.
 ghost use Rattle.std.specs.Prelude.{◌≡◌};
 ghost use Rattle.shim_tool.specs.AnswerView.{code_of};
+ghost use Rattle.shim_tool.specs.Meaning.{status_of_outcome};
+
+use shim_local::Outcome;
 
 #[derive(Clone, Copy, Debug, PartialEq, Eq)]
 pub(crate) enum Status {
     Done,
+    /// The run ended by an exception that nobody caught, or by a trap.
+    Failed,
     Usage,
+    Blocked,
+    Spent,
     Refused,
     FileFault,
     SinkFault,
@@ -13,13 +20,28 @@ pub(crate) enum Status {
 }
 
 impl Status {
+    /// The status that tells how a run ended.
+    pub(crate) fn of(outcome: Outcome) -> Status
+        ensures { code_of result ≡ status_of_outcome outcome }
+    {
+        match outcome {
+            Outcome::Done => Status::Done,
+            Outcome::Uncaught(_) | Outcome::Trapped => Status::Failed,
+            Outcome::Blocked => Status::Blocked,
+            Outcome::Spent => Status::Spent,
+        }
+    }
+
     /// The number that the program ends with.
     pub(crate) fn code(self) -> u8
         ensures { result ≡ code_of self }
     {
         match self {
             Status::Done => 0,
+            Status::Failed => 1,
             Status::Usage => 2,
+            Status::Blocked => 3,
+            Status::Spent => 4,
             Status::Refused => 5,
             Status::FileFault => 6,
             Status::SinkFault => 7,

@@ -1,23 +1,33 @@
-use Rattle.std.proofs.Common.{◌≡◌, ◌<◌, ◌∙◌, sym, ap, ◌++◌, List, ℕ, IsTrue, arith, rules, refl, take, length}
-use Rattle.std.proofs.lemmas.Option.{slice_get_within}
-use Rattle.shim_tool.specs.Measure.{declared, declares}
-use Rattle.shim_tool.specs.Form as forms
+use Rattle.std.proofs.Common.{◌≡◌, ◌≤◌, ◌∙◌, sym, ap, subst, ◌++◌, List, ℕ, IsTrue, Some, arith, rules, refl, take, length, append_assoc}
+use Rattle.std.specs.Prelude.{slice_get}
+use Rattle.std.proofs.lemmas.List.{length-map}
+use Rattle.shim_tool.specs.Plan.{Act}
+use Rattle.shim_tool.specs.Process.{act_names, declared_names}
+use Rattle.shim_tool.specs.Form.{is_allowed, known_first}
+use Rattle.shim_tool.specs.PlanView.{plan_view, body_view, taken_view, action_view}
 use Rattle.shim_tool.specs.NameView.{texts_of}
-use Rattle.shim_tool.proofs.FormLemmas.{declared-take_more, allowed_more}
+use Rattle.shim_tool.proofs.FormLemmas.{AllowedAt, at_view, declared-take_more, each_more, each_all}
 use Rattle.shim_tool.proofs.form.are_allowed.Goals as goal
 
-pub loop-statement-preserved : goal.loop-statement-preserved
-loop-statement-preserved c =
-    let more : texts_of c.add_declared.new.names.items ≡ texts_of c.loop-statement.names.items ++ declares c.statement-item.result.what = c.in_ok-add_declared.ensures in
-    let known : texts_of c.deref.result.now ≡ declared (take c.loop-statement.statement-index c.args.body.now) = ap texts_of c.deref.ensures.value ∙ c.loop-statement.invariant.0 in
-    let allowed : IsTrue (forms.is_allowed c.args.output.now (texts_of c.deref.result.now) c.statement-item.result.what) = search rules in (
-      more ∙ ap (λ (names : List (List ℕ)). names ++ declares c.statement-item.result.what) c.loop-statement.invariant.0
-          ∙ sym (declared-take_more c.args.body.now c.loop-statement.statement-index c.statement-item.result c.loop-statement-test.true c.statement-item.is),
-      allowed_more c.args.output.now c.args.body.now c.loop-statement.statement-index c.statement-item.result (texts_of c.deref.result.now) c.loop-statement-test.true c.statement-item.is known allowed c.loop-statement.invariant.1,
-    )
+pub loop-action-preserved : goal.loop-action-preserved
+loop-action-preserved c =
+    let body : List Act = body_view c.args.body.now in
+    let first : List (List ℕ) = known_first (taken_view c.args.takes) in
+    let i : ℕ = c.loop-action.action-index in
+    let a : Act = action_view c.action-item.result in
+    let at : slice_get body i ≡ Some a = at_view action_view c.args.body.now i c.action-item.result c.loop-action-test.true c.action-item.is in
+    let more : texts_of c.add_declared.new.names.items ≡ texts_of c.loop-action.names.items ++ act_names a = c.in_ok-add_declared.ensures in
+    let known : texts_of c.deref.result.now ≡ first ++ declared_names (take i body) = ap texts_of c.deref.ensures.value ∙ c.loop-action.invariant.known in
+    let allowed : IsTrue (is_allowed (plan_view c.args.routines.now) c.args.in_main (taken_view c.args.takes) (texts_of c.deref.result.now) a) = search rules in
+    record {
+      known = more ∙ ap (λ (names : List (List ℕ)). names ++ act_names a) c.loop-action.invariant.known ∙ append_assoc first (declared_names (take i body)) (act_names a)
+          ∙ ap (λ (names : List (List ℕ)). first ++ names) (sym (declared-take_more body i a at));
+      allowed = each_more (AllowedAt (plan_view c.args.routines.now) c.args.in_main (taken_view c.args.takes) body) body i a at
+          (subst (λ (names : List (List ℕ)). IsTrue (is_allowed (plan_view c.args.routines.now) c.args.in_main (taken_view c.args.takes) names a)) known allowed) c.loop-action.invariant.allowed;
+    }
 
 pub returns : goal.returns
-returns c = (
-  λ _ i s found. c.loop-statement.invariant.1 i s (let within : i < length c.args.body.now = slice_get_within c.args.body.now i s found in omega (arith, within, c.loop-statement-test.false)) found,
-  λ _. refl,
-)
+returns c =
+    let body : List Act = body_view c.args.body.now in
+    let most : length body ≤ c.loop-action.action-index = omega (arith, length-map c.args.body.now action_view, c.loop-action-test.false) in
+    (λ _. each_all (AllowedAt (plan_view c.args.routines.now) c.args.in_main (taken_view c.args.takes) body) body c.loop-action.action-index most c.loop-action.invariant.allowed, λ _. refl)

@@ -1,11 +1,13 @@
-use Rattle.std.proofs.Common.{◌≡◌, ◌<◌, ℕ, take, Some, IsTrue}
-use Rattle.std.specs.Prelude.{slice_get}
-use Rattle.shim_syntax.specs.declared.Stmt.{Stmt}
-use Rattle.shim_tool.specs.Measure.{declared}
-use Rattle.shim_tool.specs.Form.{is_allowed}
+use Rattle.std.proofs.Common.{◌≡◌, ◌++◌, take}
+use Rattle.shim_tool.specs.Process.{declared_names}
+use Rattle.shim_tool.specs.PlanView.{plan_view, body_view, taken_view}
 use Rattle.shim_tool.specs.NameView.{texts_of}
+use Rattle.shim_tool.specs.Form.{known_first}
+use Rattle.shim_tool.proofs.FormLemmas.{EachBelow, AllowedAt}
 use Rattle.shim_tool.proofs.form.are_allowed.Given as goal
 
-abbrev pub invariant-loop-statement : goal.invariant-loop-statement
-invariant-loop-statement l = (texts_of l.names.items ≡ declared (take l.statement-index l.body))
-    × ((k : ℕ) (s : Stmt) → k < l.statement-index → slice_get l.body k ≡ Some s → IsTrue (is_allowed l.output (declared (take k l.body)) s.what))
+abbrev pub invariant-loop-action : goal.invariant-loop-action
+invariant-loop-action l = record {
+  known : texts_of l.names.items ≡ known_first (taken_view l.takes) ++ declared_names (take l.action-index (body_view l.body));
+  allowed : EachBelow (AllowedAt (plan_view l.routines) l.in_main (taken_view l.takes) (body_view l.body)) (body_view l.body) l.action-index;
+}

@@ -1,8 +1,12 @@
-use Rattle.std.proofs.Common.{sym, ◌∙◌}
-use Rattle.shim_tool.proofs.FormLemmas.{only_item, as_program}
+use Rattle.std.proofs.Common.{ap, sym}
+use Rattle.shim_tool.specs.PlanView.{body_view, routine_view}
 use Rattle.shim_tool.proofs.form.main_of.Goals as goal
 
-pub returns-in-len1 : goal.returns-in-len1
-returns-in-len1 c =
-    as_program c.args.program.now c.function-item.result c.main_function.result
-    (sym c.as_slice.ensures ∙ only_item c.as_slice.result.now c.function-item.result c.in-len1.len_at_least c.in-len1.len_below c.function-item.is) c.main_function.ensures
+pub returns-in-Some : goal.returns-in-Some
+returns-in-Some c = record {
+  once = c.in_ok-are_named_once.ensures.0 c.if-not-branch.false;
+  main = routine_view c.in-Some.main.now;
+  found = sym c.in-Some.ensures;
+  has_body = ap body_view (sym c.as_slice.ensures.value);
+  each = c.in_ok-are_runnable.ensures.0 c.if-not-branch-2.false;
+}

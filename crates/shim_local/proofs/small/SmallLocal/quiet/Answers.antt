@@ -1,0 +1,11 @@
+use Rattle.std.proofs.Common.{arith}
+use Rattle.shim_local.specs.Laws.{none_taken}
+use Rattle.shim_local.specs.Small.{small_ops}
+use Rattle.shim_local.proofs.Quiets.{one_after}
+use Rattle.shim_local.proofs.small.SmallLocal.quiet.Goals as goal
+
+pub loop-taken-init : goal.loop-taken-init
+loop-taken-init c = (none_taken c.args.self.now, omega arith)
+
+pub loop-taken-preserved : goal.loop-taken-preserved
+loop-taken-preserved c = (one_after small_ops c.loop-taken.invariant.0 (c.is_quiet.ensures.0 c.if-is_quiet.true) c.pass.ensures, omega (arith, c.loop-taken-test.true))

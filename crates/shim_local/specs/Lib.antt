@@ -1,0 +1,6 @@
+-- The definitions of this crate, one module for each subject.
+pub mod Process
+pub mod Laws
+pub mod Views
+pub mod Small
+pub mod SmallLaws

@@ -1,0 +1,13 @@
+//! One process as a value that can be asked and stepped, and what is read off a run that has ended.
+#![tactic(auto)]
+
+mod ended;
+mod local;
+mod small;
+
+pub use ended::{Ended, History, Log, LogWhat, Outcome, OwnSteps, WaitAt};
+pub use local::{Forked, Local, Quiet, Stop};
+pub use small::{Small, Step};
+
+#[cfg(test)]
+mod tests;

@@ -1,0 +1,23 @@
+-- The lemmas of this crate, one module for each subject.
+pub mod Choices
+pub mod Sameness
+pub mod Members
+pub mod Origins
+pub mod Routes
+pub mod Enabled
+pub mod Beside
+pub mod Readies
+pub mod Firsts
+pub mod Seeks
+pub mod Options
+pub mod Children
+pub mod Spots
+pub mod Moves
+pub mod Meetings
+pub mod Leading
+pub mod Silent
+pub mod Mapped
+pub mod Recorded
+pub mod Gathered
+pub mod ReadOff
+pub mod Counting

@@ -1,0 +1,10 @@
+use Rattle.std.proofs.Common.{sym, subst, to_z, of_z, w64}
+use Rattle.shim_tree.specs.Places.{SoundBelow}
+use Rattle.shim_tree.specs.Below.{node}
+use Rattle.shim_tree.proofs.Moves.{sound_received}
+use Rattle.shim_tree.proofs.tree.Tree.meet.Goals as goal
+
+pub invariant_of-self-2 : goal.invariant_of-self-2
+invariant_of-self-2 g c =
+    subst (SoundBelow g.L.Local.ops) (sym c.receive_at.ensures)
+    (sound_received g.L.Local.ops g.met.L.Local.laws c.args.chan.now.channel (to_z w64 (of_z w64 c.value_met-value.result)) (node c.self.inside.root c.self.inside.below) c.self.invariant).0

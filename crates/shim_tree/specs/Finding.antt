@@ -1,0 +1,32 @@
+-- What the search for the first event finds, and the least of the channels that pass a test.
+use Rattle.std.specs.Prelude.{Bool, Option, Some, None, List, [], ◌∷◌, cond}
+use Rattle.std.specs.declared.cmp.Ordering.{Ordering}
+use Rattle.std.specs.declared.cmp.Ordering.TheVariants.{Less, Equal, Greater}
+use Rattle.shim_base.specs.Paths.{Channel, NamedChannel, channel_order}
+use Rattle.shim_tree.specs.Trees.{Event, Own, Meet, Close, End}
+use Rattle.shim_tree.specs.declared.seek.Found.{Found}
+use Rattle.shim_tree.specs.declared.seek.Found.TheVariants as found
+
+abbrev pub channel_in : Option NamedChannel → Option Channel
+channel_in None = None
+channel_in (Some c) = Some c.channel
+
+abbrev pub sooner : Ordering → Channel → Channel → Channel
+sooner Less c d = c
+sooner Equal c d = d
+sooner Greater c d = d
+
+abbrev pub or_sooner : Channel → Option Channel → Channel
+or_sooner c None = c
+or_sooner c (Some d) = sooner (channel_order c d) c d
+
+-- the first in order of the channels of the list that pass, and of another
+abbrev pub least : (Channel → Bool) → Option Channel → List Channel → Option Channel
+least passes best [] = best
+least passes best (c ∷ cs) = least passes (cond (passes c) (Some (or_sooner c best)) best) cs
+
+abbrev pub found_event : Found → Event
+found_event (found.Own p) = Own p.now
+found_event (found.Meet c) = Meet c.now.channel
+found_event (found.Close p) = Close p.now
+found_event (found.End p) = End p.now

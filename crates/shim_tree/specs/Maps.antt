@@ -1,0 +1,26 @@
+-- The maps of the code, as the finite maps that they mean.
+use Rattle.std.specs.Prelude.{ℕ, ℤ, List, map, refl}
+use Rattle.std.specs.Coded.{Coded, coded×, coded_ℕ, code_by}
+use Rattle.std.specs.FinMap as finite
+use Rattle.std.specs.BTreeMap.{BTreeMap}
+use Rattle.shim_base.specs.Paths.{Path, Channel, NamedChannel, path_order, channel_order}
+use Rattle.shim_tree.specs.Trees.{Met}
+use Rattle.shim_tree.specs.Codes.{path_code, channel_code}
+
+abbrev pub counts_of : BTreeMap Path ℕ → finite.FinMap path_order ℕ
+counts_of m = finite.from_entries m.entries
+
+abbrev pub met_of : NamedChannel × List ℤ → Channel × Met
+met_of e = (e.0.channel, record { name = e.0.name; values = e.1 })
+
+abbrev pub histories_of : BTreeMap NamedChannel (List ℤ) → finite.FinMap channel_order Met
+histories_of m = finite.from_entries (map met_of m.entries)
+
+abbrev pub waits_in : BTreeMap Path NamedChannel → finite.FinMap path_order NamedChannel
+waits_in m = finite.from_entries m.entries
+
+abbrev pub named_code : Coded NamedChannel
+named_code = code_by (Channel × ℕ) (coded× channel_code coded_ℕ) (λ c. (c.channel, c.name)) (λ p. record { channel = p.0; name = p.1 }) (λ _. refl)
+
+abbrev pub waits_code : Coded (finite.FinMap path_order NamedChannel)
+waits_code = finite.code path_code named_code

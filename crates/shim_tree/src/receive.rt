@@ -1,0 +1,128 @@
+// What a meeting reads of a tree, and what it leaves.
+ghost use Rattle.std.specs.Prelude.{◌≡◌, cond, unwrap_or};
+ghost use Rattle.shim_tree.specs.Nodes.{is_next, received, source, value_of, next_of, name_at, first_name};
+ghost use Rattle.shim_tree.specs.Below.{node};
+ghost use Rattle.shim_tree.specs.Meeting.{valued, value_carried};
+
+use crate::below::Below;
+use crate::ready::waits_at;
+use shim_base::Chan;
+use shim_local::{Local, Stop};
+
+// A process that stands at the channel receives the value.
+fn receive_here<L: Local>(process: &mut L, chan: &Chan, value: i64)
+    ensures { process.new ≡ cond (is_next (L.ops.stop process.old) chan.now.channel) (L.ops.receive process.old value) process.old }
+{
+    if waits_at(process, chan) {
+        process.receive(value);
+    }
+}
+
+/// Each live process here and below that stands at the channel receives the value.
+pub(crate) fn receive_at<L: Local>(process: &mut L, below: &mut Below<L>, chan: &Chan, value: i64)
+    ensures { node process.new below.new ≡ received L.ops chan.now.channel value (node process.old below.old) }
+{
+    match below {
+        Below::Live => receive_here(process, chan, value),
+        Below::Ended | Below::Dead(_) => {}
+        Below::Forked(processes, belows) => {
+            for i in 0..processes.len() {
+                if i < belows.len() {
+                    receive_at(&mut processes[i], &mut belows[i], chan, value);
+                } else {
+                    receive_here(&mut processes[i], chan, value);
+                }
+            }
+        }
+    }
+}
+
+// The value of the channel, where this process carries it.
+fn value_here<L: Local>(process: &L, chan: &Chan) -> Option<i64>
+    ensures { result ≡ value_carried L.ops chan.now.channel process.now }
+{
+    if process.carries(chan) {
+        Some(process.value(chan))
+    } else {
+        None
+    }
+}
+
+// The value of the channel at the first process here or below that carries it.
+fn value_at<L: Local>(process: &L, below: &Below<L>, chan: &Chan) -> Option<i64>
+    ensures { result ≡ valued L.ops chan.now.channel (source L.ops chan.now.channel (node process.now below.now)) }
+{
+    let here = value_here(process, chan);
+    if here.is_some() {
+        return here;
+    }
+    match below {
+        Below::Live | Below::Ended | Below::Dead(_) => None,
+        Below::Forked(processes, belows) => {
+            for i in 0..processes.len() {
+                let found = if i < belows.len() {
+                    value_at(&processes[i], &belows[i], chan)
+                } else {
+                    value_here(&processes[i], chan)
+                };
+                if found.is_some() {
+                    return found;
+                }
+            }
+            None
+        }
+    }
+}
+
+/// The value that a meeting on the channel gives: that of its source, and 0 where there is none.
+pub(crate) fn value_met<L: Local>(process: &L, below: &Below<L>, chan: &Chan) -> i64
+    ensures { result ≡ value_of L.ops chan.now.channel (source L.ops chan.now.channel (node process.now below.now)) }
+{
+    value_at(process, below, chan).unwrap_or(0)
+}
+
+// The name that the process has for the channel, where it stands there.
+fn name_here<L: Local>(process: &L, chan: &Chan) -> Option<u32>
+    ensures { result ≡ name_at chan.now.channel (next_of (L.ops.stop process.now)) }
+{
+    match process.stop() {
+        Stop::Next(next) => {
+            if next == chan {
+                Some(next.name())
+            } else {
+                None
+            }
+        }
+        Stop::Quiet | Stop::Put | Stop::Fork | Stop::Finish => None,
+    }
+}
+
+// The name that the first live process which stands at the channel has for it.
+fn name_at<L: Local>(process: &L, below: &Below<L>, chan: &Chan) -> Option<u32>
+    ensures { result ≡ first_name L.ops chan.now.channel (node process.now below.now) }
+{
+    match below {
+        Below::Live => name_here(process, chan),
+        Below::Ended | Below::Dead(_) => None,
+        Below::Forked(processes, belows) => {
+            for i in 0..processes.len() {
+                let found = if i < belows.len() {
+                    name_at(&processes[i], &belows[i], chan)
+                } else {
+                    name_here(&processes[i], chan)
+                };
+                if found.is_some() {
+                    return found;
+                }
+            }
+            None
+        }
+    }
+}
+
+/// The name by which a meeting on the channel is printed, and 0 where no process stands there.
+pub(crate) fn name_met<L: Local>(process: &L, below: &Below<L>, chan: &Chan) -> u32
+    ensures { result ≡ unwrap_or (first_name L.ops chan.now.channel (node process.now below.now)) 0 }
+{
+    name_at(process, below, chan).unwrap_or(0)
+}
