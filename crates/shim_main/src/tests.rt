@@ -289,6 +289,22 @@ fn processes_fork_and_meet(rt: HostRuntime) -> Result<(), Fail> {
 }
 
 #[test]
+fn a_long_source_comes_to_its_end(rt: HostRuntime) -> Result<(), Fail> {
+    let alloc = rt.alloc();
+    let source = repeated(
+        alloc,
+        "void f(int a) { ",
+        "a=a;",
+        200000,
+        "} void main() { int c; f(c); par f(c); }",
+    )?;
+    let (got, bytes) = run(alloc, &source)?;
+    assert_eq!(rt; got, 0);
+    assert_eq!(rt; bytes.as_slice(), b"output 0\nend done 400006\n".as_slice());
+    Ok(())
+}
+
+#[test]
 fn another_fork_is_not_built(rt: HostRuntime) -> Result<(), Fail> {
     let alloc = rt.alloc();
     for source in [

@@ -93,18 +93,29 @@ takes_what_it_may false TakesNothing = false
 takes_what_it_may false (TakesOutput o) = false
 takes_what_it_may false TakesOther = false
 
+-- no two functions have one name
+abbrev pub AreNamedOnce : List Routine → Type 0
+AreNamedOnce rs = (i j : ℕ) (r s : Routine) → i < j → slice_get rs i ≡ Some r → slice_get rs j ≡ Some s → bytes_eq r.name s.name ≡ false
+
+-- each statement of the body is allowed behind those that stand before it
+abbrev pub AreAllowed : List Routine → Bool → Takes → List Act → Type 0
+AreAllowed rs in_main takes body = (i : ℕ) (a : Act) → slice_get body i ≡ Some a → IsTrue (is_allowed rs in_main takes (known_first takes ++ declared_names (take i body)) a)
+
+-- the function can be run in the program of these
 pub record IsRunnable (rs : List Routine) (r : Routine) : Type 0 where
   pub takes : IsTrue (takes_what_it_may (is_main r) r.takes)
   pub throws : r.throws ≡ []
   pub forks : fork_count r.body ≤ 1
-  -- each statement is allowed behind those that stand before it
-  pub allowed : (i : ℕ) (a : Act) → slice_get r.body i ≡ Some a → IsTrue (is_allowed rs (is_main r) r.takes (known_first r.takes ++ declared_names (take i r.body)) a)
+  pub allowed : AreAllowed rs (is_main r) r.takes r.body
+
+-- each of these functions can be run in that program
+abbrev pub AreRunnable : List Routine → List Routine → Type 0
+AreRunnable program rs = (i : ℕ) (r : Routine) → slice_get rs i ≡ Some r → IsRunnable program r
 
 -- the functions are those of a program that is run, of whose `main` this is the body
 pub record IsOfForm (rs : List Routine) (body : List Act) : Type 0 where
-  -- no two functions have one name
-  pub once : (i j : ℕ) (r s : Routine) → i < j → slice_get rs i ≡ Some r → slice_get rs j ≡ Some s → bytes_eq r.name s.name ≡ false
+  pub once : AreNamedOnce rs
   pub main : Routine
   pub found : routine_named rs main_name ≡ Some main
   pub has_body : main.body ≡ body
-  pub each : (i : ℕ) (r : Routine) → slice_get rs i ≡ Some r → IsRunnable rs r
+  pub each : AreRunnable rs rs

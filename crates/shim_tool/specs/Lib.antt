@@ -12,7 +12,6 @@ pub mod Steps
 pub mod Counts
 pub mod Summable
 pub mod Form
-pub mod Rules
 pub mod Source
 pub mod Meaning
 pub mod Asked

@@ -10,7 +10,7 @@ use Rattle.shim_tree.specs.Endings.{ended}
 use Rattle.shim_tool.specs.Source.{Source}
 use Rattle.shim_tool.specs.Process.{ops, root, names}
 
--- the most events of a run
+-- the most events of a run: the budget where none is asked for
 abbrev pub budget : ℕ
 budget = 1000000
 

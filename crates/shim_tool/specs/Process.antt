@@ -278,8 +278,9 @@ join s ks goes_on = record s {
   todo = if goes_on then past s.todo else s.todo;
 }
 
--- the paths of the two children of the last fork, in order
+-- the process stands at its last fork, and these are the two children, in order, as their paths say
 pub record IsBorn (s : State) (ks : List State) : Type 0 where
+  pub at : stop s ≡ AtFork
   pub left : State
   pub right : State
   pub number : ℕ

@@ -23,7 +23,7 @@ use shim_report::{Ended, text};
 use shim_syntax::Program;
 use std::alloc::Global;
 
-/// The most events of a run.
+/// The most events of a run: the budget where none is asked for.
 const BUDGET: u64 = 1000000;
 
 // What a source's run comes to.

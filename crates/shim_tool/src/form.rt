@@ -6,8 +6,7 @@ ghost use Rattle.shim_tool.specs.PlanView.{action_view, body_view, given_view, p
 ghost use Rattle.shim_tool.specs.NameView.{texts_of};
 ghost use Rattle.shim_tool.specs.Process as process;
 ghost use Rattle.shim_tool.specs.Form as forms;
-ghost use Rattle.shim_tool.specs.Form.{IsOfForm, IsRunnable};
-ghost use Rattle.shim_tool.specs.Rules.{AreNamedOnce, AreAllowed, AreRunnable};
+ghost use Rattle.shim_tool.specs.Form.{IsOfForm, IsRunnable, AreNamedOnce, AreAllowed, AreRunnable};
 
 use crate::lookup::{moves, routine_named};
 use crate::plan::{Action, Given, Routine, Taken};

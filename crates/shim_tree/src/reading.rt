@@ -28,8 +28,7 @@ fn outcome_of_root<L>(below: &Below<L>) -> Outcome
     ensures { (l : L) → result ≡ endings.outcome_of_root (node l below.now) }
 {
     match below {
-        Below::Live => Outcome::Blocked,
-        Below::Forked(_, _) => Outcome::Blocked,
+        Below::Live | Below::Forked(_, _) => Outcome::Blocked,
         Below::Ended => Outcome::Done,
         Below::Dead(label) => outcome_of_label(*label),
     }
