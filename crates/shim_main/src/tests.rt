@@ -268,7 +268,7 @@ fn processes_fork_and_meet(rt: HostRuntime) -> Result<(), Fail> {
         ),
         (
             "void f(int &a) { a = 3; } void main(ostream &o) { int c = 1; int d = 2; f(c); par f(d); put o, c; put o, d; }",
-            "output 2 0303\nend done 12\n",
+            "output 2 0303\nend done 11\n",
         ),
         // A channel that a branch declares is its own.
         (
