@@ -111,15 +111,6 @@ fn a_source_is_run_or_refused(rt: HostRuntime) -> Result<(), Fail> {
             0,
             "output 3 000715\nend done 7\n",
         ),
-        // Names are declared once, before they are used, and put to the parameter.
-        ("void main(ostream &o) { put o, x; }", 5, NOT_BUILT),
-        ("void main(ostream &o) { x = 1; int x; }", 5, NOT_BUILT),
-        ("void main(ostream &o) { int x; x = y; }", 5, NOT_BUILT),
-        ("void main(ostream &o) { int x; int x; }", 5, NOT_BUILT),
-        ("void main(ostream &o) { int o; }", 5, NOT_BUILT),
-        ("void main(ostream &o) { o = 1; }", 5, NOT_BUILT),
-        ("void main(ostream &o) { put o, o; }", 5, NOT_BUILT),
-        ("void main(ostream &o) { int x; put x, 1; }", 5, NOT_BUILT),
         // Numbers.
         (
             "void main(ostream &o) { put o, 2147483647; }",
@@ -156,15 +147,7 @@ fn a_source_is_run_or_refused(rt: HostRuntime) -> Result<(), Fail> {
             0,
             "output 0\nend done 2\n",
         ),
-        ("void Main(ostream &o) { }", 5, NOT_BUILT),
         // The form is that of the tree, whatever the text.
-        ("", 5, NOT_BUILT),
-        (" ", 5, NOT_BUILT),
-        (
-            "void main(ostream &o) { } void main(ostream &o) { }",
-            5,
-            NOT_BUILT,
-        ),
         ("void main() { }", 0, "output 0\nend done 1\n"),
         ("void main(void) { }", 0, "output 0\nend done 1\n"),
         ("void main(ostream &o) throws T { }", 5, NOT_BUILT),
@@ -191,7 +174,6 @@ fn a_source_is_run_or_refused(rt: HostRuntime) -> Result<(), Fail> {
             0,
             "output 1 01\nend done 3\n",
         ),
-        ("void main(ostream &o) { int x = x; }", 5, NOT_BUILT),
         ("void main(ostream &o) { uint8 x; }", 5, NOT_BUILT),
         (
             "void main(ostream &o) { while (0) put o, 1; }",
@@ -204,7 +186,7 @@ fn a_source_is_run_or_refused(rt: HostRuntime) -> Result<(), Fail> {
             NOT_BUILT,
         ),
         ("void main(ostream &o) { { } par { } }", 5, NOT_BUILT),
-        ("void main(ostream &o) { f(); }", 5, NOT_BUILT),
+        ("void f() { } void main(ostream &o) { f(); }", 5, NOT_BUILT),
         // Comments.
         (
             "void main(ostream &o) { put o, 1 /* + 2 */; } // later",
@@ -311,16 +293,11 @@ fn another_fork_is_not_built(rt: HostRuntime) -> Result<(), Fail> {
         // Both branches by reference, of one variable.
         "void f(int &a) { } void main() { int c; f(c); par f(c); }",
         "void f(int &a) { } void main() { int c; f(c); par f((c)); }",
-        // Branches that aren't calls of other functions with a declared variable.
-        "void f(int a) { } void main() { int c; f(c); par f(d); }",
-        "void f(int a) { } void main() { f(c); par f(c); int c; }",
+        // Branches that aren't calls with a variable.
         "void f(int a) { } void main() { int c; f(c); par f(c + 0); }",
         "void f(int a) { } void main() { int c; f(c); par f(1); }",
-        "void f(int a) { } void main() { int c; f(c); par g(c); }",
-        "void f(int a) { } void main() { int c; f(c); par main(c); }",
         "void f(int a) { } void main() { int c; f(c); par { } }",
         "void f(int a) { } void main() { int c; f(c); par f(c); par f(c); }",
-        "void f(int a) { } void main() { int c; f(c, c); par f(c); }",
         // A second fork, and one in another function.
         "void f(int a) { } void main() { int c; f(c); par f(c); f(c); par f(c); }",
         "void f(int a) { } void g(int a) { f(a); par f(a); } void main() { }",
@@ -330,22 +307,108 @@ fn another_fork_is_not_built(rt: HostRuntime) -> Result<(), Fail> {
         "void f(int8 a) { } void main() { }",
         "void f(ostream &o) { } void main() { }",
         "void f(int a) throws T { } void main() { }",
-        "void main(int a) { }",
         "void main(istream &i) { }",
         // What a function may not do.
-        "void f(int a) { put a, 1; } void main() { }",
-        "void main() { put o, 1; }",
-        "void f(int a) { int a; } void main() { }",
-        "void f(int a) { next b; } void main() { }",
         "void f(int a) { next a = 1; } void main() { }",
-        "void main() { next x; int x; }",
-        // Names of functions.
-        "void f(int a) { } void f(int b) { } void main() { }",
-        "void f(int a) { }",
     ] {
         let (got, bytes) = run(alloc, source.as_bytes())?;
         assert_eq!(rt; got, 5, "status of {source}");
         assert_eq!(rt; bytes.as_slice(), NOT_BUILT.as_bytes(), "text of {source}");
+    }
+    Ok(())
+}
+
+#[test]
+fn a_program_that_is_refused_has_the_line_of_its_first_place(rt: HostRuntime) -> Result<(), Fail> {
+    let alloc = rt.alloc();
+    for (source, text) in [
+        // Without a `main` a program has no place of its own.
+        ("", "refused 1 no main\n"),
+        (" \n", "refused 1 no main\n"),
+        ("void Main(ostream &o) { }", "refused 1 no main\n"),
+        ("\nvoid f(int a) { }", "refused 1 no main\n"),
+        ("void main(int a) { }", "refused 1 main parameters\n"),
+        (
+            "void f() { }\nvoid\nmain(ostream &o, ostream &p) { }",
+            "refused 2 main parameters\n",
+        ),
+        // Names.
+        ("void main() { put o, 1; }", "refused 1 unknown name o\n"),
+        (
+            "void main(ostream &o) {\n put o, x; }",
+            "refused 2 unknown name x\n",
+        ),
+        (
+            "void main() { next x; int x; }",
+            "refused 1 unknown name x\n",
+        ),
+        (
+            "void main(ostream &o) { int x = x; }",
+            "refused 1 unknown name x\n",
+        ),
+        (
+            "void f(int a) { } void main() { int c; f(c);\npar\nf(d); }",
+            "refused 3 unknown name d\n",
+        ),
+        ("void main() { g(1); }", "refused 1 unknown function g\n"),
+        (
+            "void f(int a) { } void main() { int c; f(c); par g(c); }",
+            "refused 1 unknown function g\n",
+        ),
+        (
+            "void main() { throw T; }",
+            "refused 1 unknown exception T\n",
+        ),
+        (
+            "void f() throws T { } void main() { f(); }",
+            "refused 1 unknown exception T\n",
+        ),
+        // Declared once.
+        ("void main() { int x; int x; }", "refused 1 twice x\n"),
+        ("void main() {\n int x;\n int x; }", "refused 3 twice x\n"),
+        ("void main(ostream &o) { int o; }", "refused 1 twice o\n"),
+        (
+            "void main(ostream &o) { }\nvoid main(ostream &o) { }",
+            "refused 2 twice main\n",
+        ),
+        // Calls and kinds.
+        (
+            "void f(int a) { } void main() { int c; f(c); par main(c); }",
+            "refused 1 arity main\n",
+        ),
+        (
+            "void f(int a) { } void main() { int c; f(c, c); par f(c); }",
+            "refused 1 arity f\n",
+        ),
+        (
+            "void main(ostream &o) { o = 1; }",
+            "refused 1 wrong kind o\n",
+        ),
+        (
+            "void main(ostream &o) { put o, o; }",
+            "refused 1 wrong kind o\n",
+        ),
+        (
+            "void main() { int x; put x, 1; }",
+            "refused 1 wrong kind x\n",
+        ),
+        (
+            "void f(int &a) { } void main() { int8 x; f(x); }",
+            "refused 1 wrong kind x\n",
+        ),
+        (
+            "void f(int &a) { } void main() { int x; f(x + 0); }",
+            "refused 1 wrong kind a\n",
+        ),
+        // The first place stands, whatever the form of the program.
+        (
+            "void main() { while (1) { x = y; } z = 1; }",
+            "refused 1 unknown name x\n",
+        ),
+    ] {
+        let (got, bytes) = run(alloc, source.as_bytes())?;
+        assert_eq!(rt; got, 5, "status of {source}");
+        assert_eq!(rt; bytes.as_slice(), text.as_bytes(), "text of {source}");
     }
     Ok(())
 }

@@ -7,12 +7,20 @@ use Rattle.shim_syntax.specs.declared.limits.Many.{Many}
 use Rattle.shim_syntax.specs.declared.limits.Many.TheVariants.{Functions, Parameters, Arguments, Throws, Locals, Branches, Operators}
 use Rattle.shim_parser.specs.declared.fault.ParseFault.{ParseFault}
 use Rattle.shim_parser.specs.declared.fault.ParseFault.TheVariants.{Lex, Unexpected, TooDeep, TooMany, NoMemory}
+use Rattle.shim_scopes.specs.declared.fault.ScopeKind.{ScopeKind}
+use Rattle.shim_scopes.specs.declared.fault.ScopeKind.TheVariants.{UnknownName, UnknownFunction, UnknownException, Twice, Arity, WrongKind, NoMain, MainParameters}
+use Rattle.shim_scopes.specs.declared.fault.ScopeFault.{ScopeFault}
+use Rattle.shim_scopes.specs.declared.fault.ScopeFault.TheVariants.{Refused, NoMemory as NoScopeMemory}
 use Rattle.shim_report.specs.declared.fault.SourceFault.{SourceFault}
-use Rattle.shim_report.specs.declared.fault.SourceFault.TheVariants.{Parse}
+use Rattle.shim_report.specs.declared.fault.SourceFault.TheVariants.{Parse, Scope}
 
 -- `refused LINE CAUSE AT`, AT being a place of the source, counted from 0
 unfoldable pub with_place : ℕ → List ℕ → ℕ → List ℕ
 with_place line cause at = codes "refused " ++ (decimal line ++ (codes " " ++ (cause ++ (codes " " ++ (decimal at ++ codes "\n")))))
+
+-- `refused LINE CAUSE NAME`
+unfoldable pub with_name : ℕ → List ℕ → List ℕ → List ℕ
+with_name line cause name = codes "refused " ++ (decimal line ++ (codes " " ++ (cause ++ (codes " " ++ (name ++ codes "\n")))))
 
 -- `refused LINE CAUSE`
 unfoldable pub without_place : ℕ → List ℕ → List ℕ
@@ -46,6 +54,23 @@ refusal_of (TooDeep line) = without_place line (codes "too deep")
 refusal_of (TooMany what line) = without_place line (word_of what)
 refusal_of NoMemory = []
 
+-- a name that isn't bound as it must be; what is wrong with `main` itself is told without its name
+abbrev pub refusal_of_binding : ℕ → ScopeKind → List ℕ → List ℕ
+refusal_of_binding line UnknownName name = with_name line (codes "unknown name") name
+refusal_of_binding line UnknownFunction name = with_name line (codes "unknown function") name
+refusal_of_binding line UnknownException name = with_name line (codes "unknown exception") name
+refusal_of_binding line Twice name = with_name line (codes "twice") name
+refusal_of_binding line Arity name = with_name line (codes "arity") name
+refusal_of_binding line WrongKind name = with_name line (codes "wrong kind") name
+refusal_of_binding line NoMain name = without_place line (codes "no main")
+refusal_of_binding line MainParameters name = without_place line (codes "main parameters")
+
+-- want of memory has no line
+abbrev pub refusal_of_scope : ScopeFault → List ℕ
+refusal_of_scope (Refused line kind name) = refusal_of_binding line kind name
+refusal_of_scope NoScopeMemory = []
+
 -- the line that tells of a fault, with its line feed
 abbrev pub refusal : SourceFault → List ℕ
 refusal (Parse fault) = refusal_of fault
+refusal (Scope fault) = refusal_of_scope fault

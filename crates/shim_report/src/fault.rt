@@ -1,18 +1,22 @@
 // Why a source is refused, and the line that tells of it.
 ghost use Rattle.std.specs.Prelude.{◌≡◌, ◌≢◌, IfOk};
 ghost use Rattle.shim_parser.specs.declared.ParseFault.TheVariants as faults;
-ghost use Rattle.shim_report.specs.Refusal.{refusal, refusal_of, refusal_of_cutting};
+ghost use Rattle.shim_scopes.specs.declared.ScopeFault.TheVariants as scope_faults;
+ghost use Rattle.shim_report.specs.Refusal.{refusal, refusal_of, refusal_of_binding, refusal_of_cutting, refusal_of_scope};
 
-use crate::line::{line_with_place, line_without_place, too_many};
-use shim_base::{List, NoMemory};
+use crate::line::{line_with_name, line_with_place, line_without_place, too_many};
+use shim_base::{List, Name, NoMemory};
 use shim_parser::{LexFault, LexKind, ParseFault};
+use shim_scopes::{ScopeFault, ScopeKind};
 use std::alloc::Global;
 
 /// Why a source is refused.
-#[derive(Clone, Copy, Debug, PartialEq, Eq)]
+#[derive(Debug, Drop, PartialEq, Eq)]
 pub enum SourceFault {
     /// It is the text of no program.
     Parse(ParseFault),
+    /// It is the text of a program that has no resolved form.
+    Scope(ScopeFault),
 }
 
 // The line of a text that can't be cut.
@@ -41,13 +45,41 @@ fn parsing(alloc: Global, fault: &ParseFault) -> Result<List<u8>, NoMemory>
     }
 }
 
+// The line of a name that is refused.
+fn binding(alloc: Global, line: u32, kind: ScopeKind, name: &Name) -> Result<List<u8>, NoMemory>
+    ensures { IfOk result (λ text. text ≡ refusal_of_binding line kind name.now) }
+{
+    match kind {
+        ScopeKind::UnknownName => line_with_name(alloc, line, "unknown name", name),
+        ScopeKind::UnknownFunction => line_with_name(alloc, line, "unknown function", name),
+        ScopeKind::UnknownException => line_with_name(alloc, line, "unknown exception", name),
+        ScopeKind::Twice => line_with_name(alloc, line, "twice", name),
+        ScopeKind::Arity => line_with_name(alloc, line, "arity", name),
+        ScopeKind::WrongKind => line_with_name(alloc, line, "wrong kind", name),
+        ScopeKind::NoMain => line_without_place(alloc, line, "no main"),
+        ScopeKind::MainParameters => line_without_place(alloc, line, "main parameters"),
+    }
+}
+
+// The line of a program that has no resolved form.
+fn scoping(alloc: Global, fault: &ScopeFault) -> Result<List<u8>, NoMemory>
+    ensures line { IfOk result (λ text. text ≡ refusal_of_scope fault.now) }
+    ensures memory { IfOk result (λ text. fault.now ≢ scope_faults.NoMemory) }
+{
+    match fault {
+        ScopeFault::Refused { line, kind, name } => binding(alloc, *line, *kind, name),
+        ScopeFault::NoMemory => Err(NoMemory),
+    }
+}
+
 /// The line that tells of a fault, with its line feed. Want of memory has no line: it is answered as
 /// itself.
 pub fn fault_text(alloc: Global, fault: &SourceFault) -> Result<List<u8>, NoMemory>
     ensures line { IfOk result (λ text. text ≡ refusal fault.now) }
-    ensures memory { IfOk result (λ text. fault.now ≢ SourceFault.Parse faults.NoMemory) }
+    ensures memory { IfOk result (λ text. (fault.now ≢ SourceFault.Parse faults.NoMemory) × (fault.now ≢ SourceFault.Scope scope_faults.NoMemory)) }
 {
     match fault {
         SourceFault::Parse(fault) => parsing(alloc, fault),
+        SourceFault::Scope(fault) => scoping(alloc, fault),
     }
 }

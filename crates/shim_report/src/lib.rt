@@ -9,8 +9,11 @@ pub use fault::{SourceFault, fault_text};
 pub use report::text;
 pub use shim_local::{Ended, History, Log, LogWhat, Outcome, OwnSteps, WaitAt};
 pub use shim_parser::ParseFault;
+pub use shim_scopes::{ScopeFault, ScopeKind};
 
 #[cfg(test)]
 mod report_tests;
+#[cfg(test)]
+mod scope_tests;
 #[cfg(test)]
 mod tests;

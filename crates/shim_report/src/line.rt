@@ -1,8 +1,8 @@
-// The two forms of a refusal's line.
+// The three forms of a refusal's line.
 ghost use Rattle.std.specs.Prelude.{◌≡◌, IfOk};
-ghost use Rattle.shim_report.specs.Refusal.{word_of, with_place, without_place};
+ghost use Rattle.shim_report.specs.Refusal.{with_name, with_place, without_place, word_of};
 
-use shim_base::{List, NoMemory, push_decimal};
+use shim_base::{List, Name, NoMemory, push_decimal};
 use shim_parser::Many;
 use std::alloc::Global;
 
@@ -23,6 +23,27 @@ pub(crate) fn line_with_place(
     text.extend_from_slice(cause.as_bytes())?;
     text.extend_from_slice(b" ")?;
     push_decimal(&mut text, at as u64)?;
+    text.extend_from_slice(b"\n")?;
+    Ok(text)
+}
+
+/// The line of a cause that stands at a name.
+#[tactic(auto, unfolding(crate::specs::Refusal::with_name))]
+pub(crate) fn line_with_name(
+    alloc: Global,
+    line: u32,
+    cause: &str,
+    name: &Name,
+) -> Result<List<u8>, NoMemory>
+    ensures { IfOk result (λ text. text ≡ with_name line cause.now name.now) }
+{
+    let mut text = List::new(alloc);
+    text.extend_from_slice(b"refused ")?;
+    push_decimal(&mut text, line as u64)?;
+    text.extend_from_slice(b" ")?;
+    text.extend_from_slice(cause.as_bytes())?;
+    text.extend_from_slice(b" ")?;
+    text.extend_from_slice(name.as_bytes())?;
     text.extend_from_slice(b"\n")?;
     Ok(text)
 }

@@ -1,5 +1,5 @@
 // Each fault's line.
-use crate::{ParseFault, SourceFault, fault_text};
+use crate::{ParseFault, ScopeFault, SourceFault, fault_text};
 use shim_parser::{LexFault, LexKind, Many};
 use std::test::Fail;
 
@@ -39,5 +39,6 @@ fn each_fault_has_its_line(rt: HostRuntime) -> Result<(), Fail> {
         assert_eq!(rt; text.as_slice(), line.as_bytes(), "line of {fault:?}");
     }
     assert!(rt; fault_text(alloc, &SourceFault::Parse(ParseFault::NoMemory)).is_err());
+    assert!(rt; fault_text(alloc, &SourceFault::Scope(ScopeFault::NoMemory)).is_err());
     Ok(())
 }

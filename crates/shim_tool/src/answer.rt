@@ -1,12 +1,13 @@
 // Answers, and the lines that they write.
 ghost use Rattle.std.specs.Prelude.{◌≡◌, ◌≢◌, IfOk};
-ghost use Rattle.shim_parser.specs.declared.ParseFault.TheVariants as faults;
+ghost use Rattle.shim_scopes.specs.declared.ScopeFault.TheVariants as scope_faults;
+ghost use Rattle.shim_parser.specs.declared.ParseFault.TheVariants as parse_faults;
+ghost use Rattle.shim_report.specs.declared.SourceFault.TheVariants as faults;
 ghost use Rattle.shim_tool.specs.Answer as answers;
 ghost use Rattle.shim_tool.specs.Views.{answer_view};
 
 use crate::status::Status;
 use shim_base::{List, NoMemory, push_decimal};
-use shim_parser::ParseFault;
 use shim_report::{SourceFault, fault_text};
 use std::alloc::Global;
 
@@ -44,16 +45,14 @@ pub(crate) fn not_built(alloc: Global) -> Result<Answer, NoMemory>
     })
 }
 
-/// The answer to bytes that have this fault. Want of memory is answered as itself.
-pub(crate) fn refused(alloc: Global, fault: ParseFault) -> Result<Answer, NoMemory>
-    ensures { IfOk result (λ a. (fault ≢ faults.NoMemory) × (answer_view a ≡ answers.refused fault)) }
+/// The answer to a source that has this fault. Want of memory is answered as itself.
+pub(crate) fn refused(alloc: Global, fault: SourceFault) -> Result<Answer, NoMemory>
+    ensures { IfOk result (λ a. (fault ≢ faults.Parse parse_faults.NoMemory) × (fault ≢ faults.Scope scope_faults.NoMemory)
+        × (answer_view a ≡ answers.refused fault)) }
 {
-    if fault == ParseFault::NoMemory {
-        return Err(NoMemory);
-    }
     Ok(Answer {
         status: Status::Refused,
-        text: fault_text(alloc, &SourceFault::Parse(fault))?,
+        text: fault_text(alloc, &fault)?,
     })
 }
 

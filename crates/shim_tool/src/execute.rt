@@ -1,5 +1,6 @@
 // From the bytes of a source to the answer.
 ghost use Rattle.std.specs.Prelude.{◌≡◌, ◌≤◌, length, IfOk};
+ghost use Rattle.shim_scopes.specs.Resolving.{HasText};
 ghost use Rattle.shim_tool.specs.Answer.{AnswersRoutines, AnswersProgram, AnswersSource, text_of, end_answer};
 ghost use Rattle.shim_tool.specs.Meaning as meanings;
 ghost use Rattle.shim_tool.specs.Plan.{routines_of};
@@ -19,7 +20,8 @@ use crate::run::run;
 use crate::status::Status;
 use shim_base::{List, NoMemory};
 use shim_parser::parse;
-use shim_report::{Ended, text};
+use shim_report::{Ended, SourceFault, text};
+use shim_scopes::resolve;
 use shim_syntax::Program;
 use std::alloc::Global;
 
@@ -81,12 +83,23 @@ fn answer_routines(alloc: Global, mode: Mode, routines: &[Routine]) -> Result<An
     }
 }
 
-fn answer_program(alloc: Global, mode: Mode, program: &Program) -> Result<Answer, NoMemory>
+// Runs a program whose names are bound, if it has the form that is run.
+fn answer_bound(alloc: Global, mode: Mode, program: &Program) -> Result<Answer, NoMemory>
     requires { HaveShortSums (routines_of program.now) }
-    ensures { IfOk result (λ a. AnswersProgram mode program.now (answer_view a)) }
+    ensures { IfOk result (λ a. AnswersRoutines mode (routines_of program.now) (answer_view a)) }
 {
     let routines = plan_of(alloc, program)?;
     answer_routines(alloc, mode, routines.as_slice())
+}
+
+fn answer_program(alloc: Global, mode: Mode, program: &Program) -> Result<Answer, NoMemory>
+    requires { HasText program.now }
+    ensures { IfOk result (λ a. AnswersProgram mode program.now (answer_view a)) }
+{
+    match resolve(alloc, program) {
+        Ok(_) => answer_bound(alloc, mode, program),
+        Err(fault) => refused(alloc, SourceFault::Scope(fault)),
+    }
 }
 
 /// Answers to a source of at most 1,048,576 bytes.
@@ -96,6 +109,6 @@ pub(crate) fn answer_source(alloc: Global, mode: Mode, bytes: &[u8]) -> Result<A
 {
     match parse(alloc, bytes) {
         Ok(program) => answer_program(alloc, mode, &program),
-        Err(fault) => refused(alloc, fault),
+        Err(fault) => refused(alloc, SourceFault::Parse(fault)),
     }
 }

@@ -1,15 +1,14 @@
-use Rattle.std.proofs.Common.{◌≡◌, List, ap, ◌∙◌, subst}
-use Rattle.shim_tool.specs.Plan.{Routine, routines_of}
-use Rattle.shim_tool.specs.PlanView.{plan_view}
-use Rattle.shim_tool.specs.Answer.{AnswersRoutines}
+use Rattle.std.proofs.Common.{inl, inr}
 use Rattle.shim_tool.specs.Views.{answer_view}
-use Rattle.shim_tool.proofs.ExecuteLemmas.{if_ok_weaker}
+use Rattle.shim_tool.proofs.ExecuteLemmas.{if_ok_weaker, place_of_fault}
+use Rattle.shim_tool.proofs.ShortTexts.{short_of_text}
 use Rattle.shim_tool.proofs.execute.answer_program.Goals as goal
 
+pub answer_bound-requires : goal.answer_bound-requires
+answer_bound-requires c = short_of_text c.requires.bytes c.args.program.now c.requires.text
+
+pub returns-in-Ok : goal.returns-in-Ok
+returns-in-Ok c = if_ok_weaker c.answer_bound.result _ _ (λ a is. inl ((_, c.in-Ok.ensures), is)) c.answer_bound.ensures
+
 pub returns : goal.returns
-returns c =
-    let same : plan_view c.as_slice.result.now ≡ routines_of c.args.program.now = ap plan_view c.as_slice.ensures.value ∙ c.in_ok-routines.ensures in
-    if_ok_weaker c.answer_routines.result _ _
-    (λ a is.
-    let P : List Routine → Type 0 = λ rs. AnswersRoutines c.args.mode rs (answer_view a) in
-    subst P same is) c.answer_routines.ensures
+returns c = if_ok_weaker c.refused.result _ _ (λ a is. inr (place_of_fault c.in-Err.fault _ (answer_view a) c.in-Err.ensures is.1 is.2)) c.refused.ensures

@@ -1,0 +1,116 @@
+-- What the functions of a program are bound to, and the whole program: headers first, each before its body.
+use Rattle.std.specs.Prelude.{ℕ, List, [], ◌∷◌, ◌++◌, Option, Some, None, Result, Ok, Err, Bool, true, false, map, length, position, codes, ◌&&◌, ◌||◌, not}
+use Rattle.std.specs.List.{find}
+use Rattle.std.specs.Option.{option_or}
+use Rattle.std.specs.Str.{bytes_eq}
+use Rattle.shim_syntax.specs.declared.tree.Sort.TheVariants.{Value, Input, Output}
+use Rattle.shim_syntax.specs.declared.tree.Param.{Param}
+use Rattle.shim_syntax.specs.declared.tree.Function.{Function}
+use Rattle.shim_syntax.specs.declared.tree.Program.{Program}
+use Rattle.shim_scopes.specs.declared.tree.RStmt.{RStmt}
+use Rattle.shim_scopes.specs.declared.tree.UParam.{UParam}
+use Rattle.shim_scopes.specs.declared.tree.RFunction.{RFunction}
+use Rattle.shim_scopes.specs.declared.form.Form.{Form}
+use Rattle.shim_scopes.specs.declared.fault.ScopeKind.TheVariants.{Twice, NoMain, MainParameters}
+use Rattle.shim_scopes.specs.declared.scope.Handled.{Handled}
+use Rattle.shim_scopes.specs.Names.{Texts, number_of, with_functions}
+use Rattle.shim_scopes.specs.Refusals.{Refusal, and_then, refused_for}
+use Rattle.shim_scopes.specs.Statements.{Whole, Before, BoundTo, declared}
+use Rattle.shim_scopes.specs.Calls.{if_false}
+use Rattle.shim_scopes.specs.Meaning.{bind_stmts}
+
+abbrev pub if_name : List ℕ → Option (List ℕ) → Option (List ℕ)
+if_name x None = None
+if_name x (Some n) = Some x
+
+abbrev pub name_in : Texts → List ℕ → Option (List ℕ)
+name_in seen x = if_name x (find (λ n. bytes_eq n x) seen)
+
+-- the leftmost name that stands there before, too
+abbrev pub twice_after : Texts → Texts → Option (List ℕ)
+twice_after seen [] = None
+twice_after seen (x ∷ xs) = option_or (name_in seen x) (twice_after (seen ++ x ∷ []) xs)
+
+abbrev pub param_names : List Param → Texts
+param_names [] = []
+param_names (p ∷ ps) = p.name ∷ param_names ps
+
+-- `main` may take each stream once, whatever came before, and nothing else
+abbrev pub suits_main : Bool → Bool → List Param → Bool
+suits_main input output [] = true
+suits_main input output (p ∷ ps) = elim p.sort [
+  | Value ty ↦ false
+  | Input ↦ not input && suits_main true output ps
+  | Output ↦ not output && suits_main input true ps
+]
+
+abbrev pub wrong_main : Function → Option (List ℕ)
+wrong_main f = if_false f.name (not (bytes_eq f.name (codes "main")) || suits_main false false f.params)
+
+abbrev pub with_param : Texts → Before → Param → Before
+with_param names b p = declared names p.name p.sort b
+
+abbrev pub params_from : Texts → Before → List Param → Before
+params_from names b [] = b
+params_from names b (p ∷ ps) = params_from names (with_param names b p) ps
+
+abbrev pub placed_param : Texts → Param → UParam
+placed_param names p = record { sort = p.sort; by_ref = p.by_ref; name = number_of names p.name }
+
+abbrev pub placed_params : Texts → List Param → List UParam
+placed_params names ps = map (placed_param names) ps
+
+abbrev pub handled_from : List Handled → Texts → List Handled
+handled_from around [] = around
+handled_from around (x ∷ xs) = handled_from (around ++ record { name = x; number = length around } ∷ []) xs
+
+abbrev pub numbers_of : Texts → Texts → List ℕ
+numbers_of names xs = map (number_of names) xs
+
+abbrev pub function_begin : Before
+function_begin = record { own = []; slots = []; slot_names = []; tries = [] }
+
+abbrev pub made_function : Whole → Function → BoundTo (List RStmt) → RFunction
+made_function w f r = record {
+  line = f.line;
+  name = number_of w.names f.name;
+  params = placed_params w.names f.params;
+  slots = r.before.slots;
+  slot_names = r.before.slot_names;
+  throws = numbers_of w.names f.throws;
+  tries = r.before.tries;
+  body = r.tree;
+}
+
+-- The body's own block begins with the parameters, so it can't declare their names again.
+unfoldable pub bind_function : Whole → Texts → Function → Result RFunction Refusal
+bind_function w earlier f =
+    refused_for f.line Twice (name_in earlier f.name)
+    (refused_for f.line Twice (twice_after [] (param_names f.params))
+    (refused_for f.line Twice (twice_after [] f.throws)
+    (refused_for f.line MainParameters (wrong_main f)
+    (and_then (bind_stmts w f.body
+    (record { outer = []; handled = handled_from [] f.throws; throws = length f.throws })
+    (params_from w.names function_begin f.params))
+    (λ r. Ok (made_function w f r))))))
+
+-- the functions behind those of the names `earlier`
+abbrev pub bind_functions : Whole → Texts → List Function → Result (List RFunction) Refusal
+bind_functions w earlier [] = Ok []
+bind_functions w earlier (f ∷ fs) =
+    and_then (bind_function w earlier f) (λ r. and_then (bind_functions w (earlier ++ f.name ∷ []) fs) (λ rs. Ok (r ∷ rs)))
+
+abbrev pub main_at : Option ℕ → Result ℕ Refusal
+main_at None = Err (record { line = 1; kind = NoMain; name = codes "main" })
+main_at (Some main) = Ok main
+
+abbrev pub main_of : List Function → Result ℕ Refusal
+main_of fs = main_at (position (λ (f : Function). bytes_eq f.name (codes "main")) fs)
+
+-- the resolved form of a program, or the first of its places that is refused
+abbrev pub bind_program : Program → Result Form Refusal
+bind_program p =
+    let names = with_functions p.functions [] in
+    and_then (bind_functions (record { functions = p.functions; names = names }) [] p.functions) (λ fs.
+    and_then (main_of p.functions) (λ main.
+    Ok (record { functions = fs; names = names; main = main })))

@@ -1,0 +1,15 @@
+-- The definitions of this crate, one module for each subject.
+pub mod Names
+pub mod Table
+pub mod Sizes
+pub mod Binding
+pub mod Refusals
+pub mod Statements
+pub mod Calls
+pub mod Meaning
+pub mod Functions
+pub mod State
+pub mod Resolving
+pub mod Innermost
+pub mod Distinct
+pub mod Occurrences

@@ -1,0 +1,26 @@
+-- The first place that is refused: what is asked first stands first.
+use Rattle.std.specs.Prelude.{ℕ, ◌≡◌, List, Option, Some, None, Result, Ok, Err}
+use Rattle.shim_scopes.specs.declared.fault.ScopeKind.{ScopeKind}
+use Rattle.shim_scopes.specs.declared.fault.ScopeFault.{ScopeFault}
+use Rattle.shim_scopes.specs.declared.fault.ScopeFault.TheVariants.{Refused, NoMemory}
+
+-- a place that is refused
+pub record Refusal : Type 0 where
+  pub line : ℕ
+  pub kind : ScopeKind
+  pub name : List ℕ
+
+abbrev pub and_then : {A B : Type 0} → Result A Refusal → (A → Result B Refusal) → Result B Refusal
+and_then (Ok a) f = f a
+and_then (Err r) f = Err r
+
+-- the place is refused for the name, where there is one
+abbrev pub refused_for : {A : Type 0} → ℕ → ScopeKind → Option (List ℕ) → Result A Refusal → Result A Refusal
+refused_for line kind None rest = rest
+refused_for line kind (Some x) rest = Err (record { line = line; kind = kind; name = x })
+
+-- The answer is the one that is meant: its value, or its first place that is refused. Want of memory may stand in place of either.
+abbrev pub Gives : {T : Type 0} → Result T ScopeFault → Result T Refusal → Type 0
+Gives (Ok t) meant = meant ≡ Ok t
+Gives (Err (Refused line kind name)) meant = meant ≡ Err (record { line = line; kind = kind; name = name })
+Gives (Err NoMemory) meant = Unit {0}

@@ -1,0 +1,74 @@
+-- How large a program is: each number, each operator, each statement and each name that is declared, called or used counts one, and so do the functions and the branches that are blocks.
+use Rattle.std.specs.Prelude.{ℕ, suc, ◌+◌, List, [], ◌∷◌, Option, Some, None, map, length}
+use Rattle.shim_syntax.specs.declared.tree.Expr.{Expr, fold-Expr, Expr-F}
+use Rattle.shim_syntax.specs.declared.tree.Call.{Call as CallOf}
+use Rattle.shim_syntax.specs.declared.tree.Function.{Function}
+use Rattle.shim_syntax.specs.declared.tree.Stmt.{Stmt, fold-Stmt}
+use Rattle.shim_syntax.specs.declared.tree.What.{What, What-F, fold-What}
+use Rattle.shim_syntax.specs.declared.tree.Branch.{Branch as BranchOf, fold-Branch}
+use Rattle.shim_syntax.specs.declared.tree.BranchWhat.{BranchWhat-F}
+
+abbrev pub sum_of : List ℕ → ℕ
+sum_of [] = 0
+sum_of (n ∷ ns) = n + sum_of ns
+
+abbrev pub expr_counts : Expr-F ℕ → ℕ
+expr_counts (Expr-F.Number n) = 1
+expr_counts (Expr-F.Var x) = 1
+expr_counts (Expr-F.Unary op a) = suc a
+expr_counts (Expr-F.Binary op a b) = suc (a + b)
+
+unfoldable pub expr_size : Expr → ℕ
+expr_size = fold-Expr ℕ expr_counts
+
+abbrev pub exprs_size : List Expr → ℕ
+exprs_size es = sum_of (map expr_size es)
+
+abbrev pub option_size : Option Expr → ℕ
+option_size None = 0
+option_size (Some e) = expr_size e
+
+abbrev pub call_size : CallOf → ℕ
+call_size c = suc (exprs_size c.args)
+
+abbrev pub branch_counts : BranchWhat-F ℕ ℕ ℕ ℕ → ℕ
+branch_counts (BranchWhat-F.BranchWhat::Block body) = suc (sum_of body)
+branch_counts (BranchWhat-F.BranchWhat::Call c) = call_size c
+
+abbrev pub what_counts : What-F ℕ ℕ ℕ ℕ → ℕ
+what_counts (What-F.Declare ty x e) = suc (option_size e)
+what_counts (What-F.Assign x e) = suc (expr_size e)
+what_counts (What-F.Next x) = 1
+what_counts (What-F.NextAssign x e) = suc (expr_size e)
+what_counts (What-F.AssignNext x y) = 2
+what_counts (What-F.Get x y) = 2
+what_counts (What-F.Put x e) = suc (expr_size e)
+what_counts (What-F.If e first other) = suc (expr_size e + (sum_of first + sum_of other))
+what_counts (What-F.While e body) = suc (expr_size e + sum_of body)
+what_counts (What-F.For first test step body) = suc (sum_of first + (option_size test + (sum_of step + sum_of body)))
+what_counts (What-F.What::Block body) = suc (sum_of body)
+what_counts (What-F.What::Call c) = call_size c
+what_counts (What-F.Try body x handler) = suc (sum_of body + sum_of handler)
+what_counts (What-F.Throw x) = 1
+what_counts (What-F.Par branches) = suc (sum_of branches)
+
+unfoldable pub what_size : What → ℕ
+what_size = fold-What ℕ ℕ ℕ ℕ branch_counts what_counts (λ b. b.what) (λ s. s.what)
+
+unfoldable pub stmt_size : Stmt → ℕ
+stmt_size = fold-Stmt ℕ ℕ ℕ ℕ branch_counts what_counts (λ b. b.what) (λ s. s.what)
+
+unfoldable pub branch_size : BranchOf → ℕ
+branch_size = fold-Branch ℕ ℕ ℕ ℕ branch_counts what_counts (λ b. b.what) (λ s. s.what)
+
+abbrev pub stmts_size : List Stmt → ℕ
+stmts_size body = sum_of (map stmt_size body)
+
+abbrev pub branches_size : List BranchOf → ℕ
+branches_size branches = sum_of (map branch_size branches)
+
+abbrev pub function_size : Function → ℕ
+function_size f = suc (length f.params + (length f.throws + stmts_size f.body))
+
+abbrev pub functions_size : List Function → ℕ
+functions_size fs = sum_of (map function_size fs)

@@ -1,0 +1,83 @@
+-- What the code's scope says of a place, and how the answers of the code show what is meant.
+use Rattle.std.specs.Prelude.{◌≡◌, ℕ, ◌+◌, ◌≤◌, List, [], ◌∷◌, ◌++◌, Option, Some, None, Result, Ok, Err, take, drop, length}
+use Rattle.shim_syntax.specs.declared.tree.Sort.{Sort}
+use Rattle.shim_syntax.specs.declared.tree.Function.{Function}
+use Rattle.shim_scopes.specs.declared.fault.ScopeKind.{ScopeKind}
+use Rattle.shim_scopes.specs.declared.fault.ScopeFault.{ScopeFault}
+use Rattle.shim_scopes.specs.declared.fault.ScopeFault.TheVariants.{Refused, NoMemory}
+use Rattle.shim_scopes.specs.declared.scope.Scope.{Scope}
+use Rattle.shim_scopes.specs.Names.{Texts, number_of}
+use Rattle.shim_scopes.specs.Refusals.{Refusal}
+use Rattle.shim_scopes.specs.Statements.{Whole, Around, Before, Meant, declared}
+use Rattle.shim_scopes.specs.Functions.{params_from, function_begin, handled_from}
+
+abbrev pub whole : List Function → Texts → Whole
+whole functions names = record { functions = functions; names = names }
+
+-- a count that fits a number of the tree
+abbrev pub IsNumber : ℕ → Type 0
+IsNumber count = count ≤ 4294967295
+
+-- the counts of a program's functions and names do
+pub record AreNumbers (w : Whole) : Type 0 where
+  pub functions : IsNumber (length w.functions)
+  pub names : IsNumber (length w.names)
+
+-- the count of a function's exceptions and slots does, with so many more that are still to come
+unfoldable pub HasRoom : ℕ → Scope → Type 0
+HasRoom more s = IsNumber (s.throws + (length s.slots + (length s.tries + more)))
+
+-- the declarations before `start` are those of the blocks around, the others those of the own block
+abbrev pub around_of : ℕ → Scope → Around
+around_of start s = record { outer = take start s.visible; handled = s.handled; throws = s.throws }
+
+abbrev pub before_of : ℕ → Scope → Before
+before_of start s = record { own = drop start s.visible; slots = s.slots; slot_names = s.slot_names; tries = s.tries }
+
+-- the answer is the one that is meant, and want of memory may stand in its place
+abbrev pub Answers : {T : Type 0} → Result T ScopeFault → Before → Meant T → Type 0
+Answers (Ok t) now meant = meant ≡ Ok (record { tree = t; before = now })
+Answers (Err (Refused line kind name)) now meant = meant ≡ Err (record { line = line; kind = kind; name = name })
+Answers (Err NoMemory) now meant = Unit {0}
+
+-- what encloses the block is as it was
+pub record Kept (start : ℕ) (old now : Scope) : Type 0 where
+  pub outer : take start now.visible ≡ take start old.visible
+  pub long : start ≤ length now.visible
+  pub handled : now.handled ≡ old.handled
+  pub throws : now.throws ≡ old.throws
+
+-- some results before those that are meant
+abbrev pub behind : {T : Type 0} → List T → Meant (List T) → Meant (List T)
+behind done (Ok r) = Ok (record { tree = done ++ r.tree; before = r.before })
+behind done (Err r) = Err r
+
+abbrev pub after_some : {T : Type 0} → List T → Result (List T) Refusal → Result (List T) Refusal
+after_some done (Ok rs) = Ok (done ++ rs)
+after_some done (Err r) = Err r
+
+abbrev pub IsRefusal : ScopeFault → ℕ → ScopeKind → List ℕ → Type 0
+IsRefusal (Refused l k n) line kind name = (l ≡ line) × ((k ≡ kind) × (n ≡ name))
+IsRefusal NoMemory line kind name = Unit {0}
+
+-- the check of a place passes where there is no name to refuse it for
+abbrev pub Passes : Result (Unit {0}) ScopeFault → ℕ → ScopeKind → Option (List ℕ) → Type 0
+Passes (Ok t) line kind name = name ≡ None
+Passes (Err (Refused l k n)) line kind name = (name ≡ Some n) × ((l ≡ line) × (k ≡ kind))
+Passes (Err NoMemory) line kind name = Unit {0}
+
+pub record IsDeclared (names : Texts) (x : List ℕ) (sort : Sort) (old : Before) (made : ℕ) (new : Before) : Type 0 where
+  pub number : made ≡ length old.slots
+  pub after : new ≡ declared names x sort old
+
+pub record IsTried (names : Texts) (x : List ℕ) (old : Scope) (made : ℕ) (new : Scope) : Type 0 where
+  pub number : made ≡ old.throws + length old.tries
+  pub after : new ≡ record old {
+    handled = old.handled ++ record { name = x; number = old.throws + length old.tries } ∷ [];
+    tries = old.tries ++ number_of names x ∷ [];
+  }
+
+pub record IsOpened (names : Texts) (f : Function) (s : Scope) : Type 0 where
+  pub before : record { own = s.visible; slots = s.slots; slot_names = s.slot_names; tries = s.tries } ≡ params_from names function_begin f.params
+  pub handled : s.handled ≡ handled_from [] f.throws
+  pub throws : s.throws ≡ length f.throws

@@ -1,0 +1,201 @@
+-- What each kind of statement is bound to, by what stands around it and before it, and the first of its places that is refused.
+use Rattle.std.specs.Prelude.{ℕ, ◌+◌, List, [], ◌∷◌, ◌++◌, Option, Some, None, Result, Ok, length}
+use Rattle.std.specs.List.{find}
+use Rattle.std.specs.Option.{option_or}
+use Rattle.std.specs.Str.{bytes_eq}
+use Rattle.shim_base.specs.declared.types.Ty.{Ty}
+use Rattle.shim_syntax.specs.declared.tree.Sort.{Sort}
+use Rattle.shim_syntax.specs.declared.tree.Sort.TheVariants.{Value}
+use Rattle.shim_syntax.specs.declared.tree.Expr.{Expr}
+use Rattle.shim_syntax.specs.declared.tree.Function.{Function}
+use Rattle.shim_scopes.specs.declared.tree.UExpr.{UExpr}
+use Rattle.shim_scopes.specs.declared.tree.RStmt.{RStmt}
+use Rattle.shim_scopes.specs.declared.tree.RWhat.{RWhat}
+use Rattle.shim_scopes.specs.declared.tree.RWhat.TheVariants.{Declare, Assign, Next, NextAssign, AssignNext, Get, Put, If, While, For, Try, Throw}
+use Rattle.shim_scopes.specs.declared.fault.ScopeKind.TheVariants.{UnknownName, UnknownException, Twice, WrongKind}
+use Rattle.shim_scopes.specs.declared.scope.Local.{Local}
+use Rattle.shim_scopes.specs.declared.scope.Handled.{Handled}
+use Rattle.shim_scopes.specs.Names.{Texts, number_of}
+use Rattle.shim_scopes.specs.Refusals.{Refusal, and_then, refused_for}
+use Rattle.shim_scopes.specs.Binding.{unknown, unknown_in, no_number, no_input, no_output, stream_in, slot_of, placed, unknown_in_option, stream_in_option, placed_option, exception_number, unhandled}
+
+-- what a whole program says of its functions and names
+pub record Whole : Type 0 where
+  pub functions : List Function
+  pub names : Texts
+
+-- what encloses a block: the declarations of the blocks around it, in textual order, and the exceptions in force, of which the function's `throws` are the first
+pub record Around : Type 0 where
+  pub outer : List Local
+  pub handled : List Handled
+  pub throws : ℕ
+
+-- what stands before a place: the declarations of its own block, and those and the `try` statements of the function
+pub record Before : Type 0 where
+  pub own : List Local
+  pub slots : List Sort
+  pub slot_names : List ℕ
+  pub tries : List ℕ
+
+-- a tree and what then stands before the next place
+pub record BoundTo (T : Type 0) : Type 0 where
+  pub tree : T
+  pub before : Before
+
+abbrev pub Meant : Type 0 → Type 0
+Meant T = Result (BoundTo T) Refusal
+
+abbrev pub Bind : Type 0 → Type 0
+Bind T = Around → Before → Meant T
+
+-- all declarations that enclose a place
+abbrev pub visible : Around → Before → List Local
+visible a b = a.outer ++ b.own
+
+abbrev pub if_found : List ℕ → Option Local → Option (List ℕ)
+if_found x None = None
+if_found x (Some l) = Some x
+
+-- the name, where the block already has a declaration of it
+abbrev pub declared_in : List Local → List ℕ → Option (List ℕ)
+declared_in own x = if_found x (find (λ (l : Local). bytes_eq l.name x) own)
+
+-- a declaration that has the next slot
+abbrev pub local_of : List ℕ → Sort → ℕ → Local
+local_of x sort slot = record { name = x; bound = record { slot = slot; sort = sort } }
+
+abbrev pub declared : Texts → List ℕ → Sort → Before → Before
+declared names x sort b = record {
+  own = b.own ++ local_of x sort (length b.slots) ∷ [];
+  slots = b.slots ++ sort ∷ [];
+  slot_names = b.slot_names ++ number_of names x ∷ [];
+  tries = b.tries;
+}
+
+-- simple statements
+
+abbrev pub bind_declare : Whole → Ty → List ℕ → Option Expr → ℕ → Bind RWhat
+bind_declare w ty x e line a b =
+    refused_for line UnknownName (unknown_in_option (visible a b) e)
+    (refused_for line Twice (declared_in b.own x)
+    (refused_for line WrongKind (stream_in_option (visible a b) e)
+    (Ok (record { tree = Declare ty (length b.slots) (placed_option (visible a b) e); before = declared w.names x (Value ty) b }))))
+
+abbrev pub unknown_in_both : List Local → List ℕ → Expr → Option (List ℕ)
+unknown_in_both around x e = option_or (unknown around x) (unknown_in around e)
+
+abbrev pub unknown_of_two : List Local → List ℕ → List ℕ → Option (List ℕ)
+unknown_of_two around x y = option_or (unknown around x) (unknown around y)
+
+abbrev pub bind_store : (ℕ → UExpr → RWhat) → List ℕ → Expr → ℕ → Bind RWhat
+bind_store g x e line a b =
+    refused_for line UnknownName (unknown_in_both (visible a b) x e)
+    (refused_for line WrongKind (option_or (no_number (visible a b) x) (stream_in (visible a b) e))
+    (Ok (record { tree = g (slot_of (visible a b) x) (placed (visible a b) e); before = b })))
+
+abbrev pub bind_assign : List ℕ → Expr → ℕ → Bind RWhat
+bind_assign = bind_store Assign
+
+abbrev pub bind_next_assign : List ℕ → Expr → ℕ → Bind RWhat
+bind_next_assign = bind_store NextAssign
+
+abbrev pub bind_next : List ℕ → ℕ → Bind RWhat
+bind_next x line a b =
+    refused_for line UnknownName (unknown (visible a b) x)
+    (refused_for line WrongKind (no_number (visible a b) x)
+    (Ok (record { tree = Next (slot_of (visible a b) x); before = b })))
+
+abbrev pub bind_assign_next : List ℕ → List ℕ → ℕ → Bind RWhat
+bind_assign_next x y line a b =
+    refused_for line UnknownName (unknown_of_two (visible a b) x y)
+    (refused_for line WrongKind (option_or (no_number (visible a b) x) (no_number (visible a b) y))
+    (Ok (record { tree = AssignNext (slot_of (visible a b) x) (slot_of (visible a b) y); before = b })))
+
+abbrev pub bind_get : List ℕ → List ℕ → ℕ → Bind RWhat
+bind_get x y line a b =
+    refused_for line UnknownName (unknown_of_two (visible a b) x y)
+    (refused_for line WrongKind (option_or (no_number (visible a b) x) (no_input (visible a b) y))
+    (Ok (record { tree = Get (slot_of (visible a b) x) (slot_of (visible a b) y); before = b })))
+
+abbrev pub bind_put : List ℕ → Expr → ℕ → Bind RWhat
+bind_put x e line a b =
+    refused_for line UnknownName (unknown_in_both (visible a b) x e)
+    (refused_for line WrongKind (option_or (no_output (visible a b) x) (stream_in (visible a b) e))
+    (Ok (record { tree = Put (slot_of (visible a b) x) (placed (visible a b) e); before = b })))
+
+abbrev pub bind_throw : List ℕ → ℕ → Bind RWhat
+bind_throw x line a b =
+    refused_for line UnknownException (unhandled a.handled x)
+    (Ok (record { tree = Throw (exception_number a.handled x); before = b }))
+
+-- blocks
+
+-- what encloses a block that stands here
+abbrev pub within : Around → Before → Around
+within a b = record a { outer = visible a b }
+
+abbrev pub opened : Before → Before
+opened b = record b { own = [] }
+
+-- behind a block the block before it goes on
+abbrev pub closed : Before → Before → Before
+closed b inner = record inner { own = b.own }
+
+abbrev pub bind_block : {T : Type 0} → Bind T → Bind T
+bind_block f a b = and_then (f (within a b) (opened b)) (λ r. Ok (record { tree = r.tree; before = closed b r.before }))
+
+abbrev pub on_tree : {S T : Type 0} → (S → T) → Bind S → Bind T
+on_tree g f a b = and_then (f a b) (λ r. Ok (record { tree = g r.tree; before = r.before }))
+
+-- one and then another
+abbrev pub bind_two : {R S T : Type 0} → (R → S → T) → Bind R → Bind S → Bind T
+bind_two g f h a b = and_then (f a b) (λ r. and_then (h a r.before) (λ s. Ok (record { tree = g r.tree s.tree; before = s.before })))
+
+-- compound statements
+
+abbrev pub bind_test : Expr → ℕ → Around → Before → Result UExpr Refusal
+bind_test e line a b =
+    refused_for line UnknownName (unknown_in (visible a b) e)
+    (refused_for line WrongKind (stream_in (visible a b) e)
+    (Ok (placed (visible a b) e)))
+
+abbrev pub bind_if : Expr → Bind (List RStmt) → Bind (List RStmt) → ℕ → Bind RWhat
+bind_if e first other line a b =
+    and_then (bind_test e line a b) (λ test. bind_two (If test) (bind_block first) (bind_block other) a b)
+
+abbrev pub bind_while : Expr → Bind (List RStmt) → ℕ → Bind RWhat
+bind_while e body line a b =
+    and_then (bind_test e line a b) (λ test. on_tree (While test) (bind_block body) a b)
+
+-- a `try` has the number that follows those of the `throws` and of the `try` statements before it
+abbrev pub caught : List ℕ → Around → Before → Around
+caught x a b = record a { handled = a.handled ++ record { name = x; number = a.throws + length b.tries } ∷ [] }
+
+abbrev pub tried : Whole → List ℕ → Before → Before
+tried w x b = record b { tries = b.tries ++ number_of w.names x ∷ [] }
+
+-- the handler stands outside of the `try`, so its exception isn't in force there
+abbrev pub bind_try : Whole → List ℕ → Bind (List RStmt) → Bind (List RStmt) → Bind RWhat
+bind_try w x body handler a b =
+    and_then (bind_block body (caught x a b) (tried w x b)) (λ r.
+    and_then (bind_block handler a r.before) (λ s.
+    Ok (record { tree = Try r.tree (a.throws + length b.tries) s.tree; before = s.before })))
+
+-- The parts of a `for` in a block of its own, behind its test, which is examined before them all. The body is a block inside it.
+abbrev pub bind_parts : Option Expr → Bind (List RStmt) → Bind (List RStmt) → Bind (List RStmt) → Bind RWhat
+bind_parts test first step body a b =
+    and_then (first a b) (λ r.
+    and_then (step a r.before) (λ s.
+    and_then (bind_block body a s.before) (λ t.
+    Ok (record { tree = For r.tree (placed_option (visible a r.before) test) s.tree t.tree; before = t.before }))))
+
+-- the test is examined with what the first statement declares, and that alone, in the loop's own block
+abbrev pub bind_first_test : (ℕ → List Local) → Option Expr → ℕ → Around → Before → Result (Unit {0}) Refusal
+bind_first_test declares test line a b =
+    refused_for line UnknownName (unknown_in_option (visible a b ++ declares (length b.slots)) test)
+    (refused_for line WrongKind (stream_in_option (visible a b ++ declares (length b.slots)) test)
+    (Ok tt))
+
+abbrev pub bind_for : (ℕ → List Local) → Option Expr → Bind (List RStmt) → Bind (List RStmt) → Bind (List RStmt) → ℕ → Bind RWhat
+bind_for declares test first step body line a b =
+    and_then (bind_first_test declares test line a b) (λ t. bind_block (bind_parts test first step body) a b)

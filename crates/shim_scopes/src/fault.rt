@@ -1,0 +1,47 @@
+// Why a program is refused.
+ghost use Rattle.std.specs.Prelude.{◌≡◌};
+ghost use Rattle.shim_scopes.specs.declared.fault.ScopeFault.TheVariants as v;
+
+use shim_base::Name;
+
+/// What is wrong at a place. Of several in one statement the first of these is told.
+#[derive(Clone, Copy, Debug, PartialEq, Eq)]
+pub enum ScopeKind {
+    /// A variable without a declaration in scope.
+    UnknownName,
+    UnknownFunction,
+    /// An exception that isn't in scope, be it thrown or among the `throws` of a function that is called.
+    UnknownException,
+    /// A second declaration in one block, or a second function, parameter or exception of one name.
+    Twice,
+    /// A call that gives more or fewer arguments than the function takes, whose name is told.
+    Arity,
+    /// A name that is bound to something else than is wanted in its place: a stream or a number in the
+    /// other's, a stream of the other direction, or, for a reference, a variable of another type. The
+    /// name is the one that is used, or the parameter's where no single name is given for a reference.
+    WrongKind,
+    NoMain,
+    /// `main` takes something else than at most one stream of each kind.
+    MainParameters,
+}
+
+/// Why a program has no resolved form.
+#[derive(Debug, Drop, PartialEq, Eq)]
+pub enum ScopeFault {
+    /// The first place that is refused.
+    Refused {
+        line: u32,
+        kind: ScopeKind,
+        name: Name,
+    },
+    /// No memory was found. This alone may come in place of any other answer.
+    NoMemory,
+}
+
+impl From<shim_base::NoMemory> for ScopeFault {
+    ghost from_gives = { λ _ e. e ≡ v.NoMemory };
+
+    fn from(_error: shim_base::NoMemory) -> ScopeFault {
+        ScopeFault::NoMemory
+    }
+}

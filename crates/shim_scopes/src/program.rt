@@ -1,0 +1,63 @@
+// A whole program.
+ghost use Rattle.std.specs.Prelude.{◌≡◌, length};
+ghost use Rattle.shim_scopes.specs.Functions.{main_of, bind_program};
+ghost use Rattle.shim_scopes.specs.Resolving.{HasText};
+ghost use Rattle.shim_scopes.specs.Refusals.{Gives};
+ghost use Rattle.shim_scopes.specs.State.{IsNumber};
+ghost use Rattle.shim_scopes.specs.Sizes.{functions_size};
+
+use crate::call::find_function_at;
+use crate::check::refuse;
+use crate::fault::{ScopeFault, ScopeKind};
+use crate::form::Form;
+use crate::function::resolve_functions;
+use crate::names::add_functions;
+use crate::resolved::{Resolved, keep};
+use crate::table::NameTable;
+use crate::word::number;
+use shim_base::Name;
+use shim_syntax::{Function, Program};
+use std::alloc::Global;
+
+#[tactic(auto, using(crate::proofs::Numbers::found_within))]
+fn find_main(alloc: Global, functions: &[Function]) -> Result<u32, ScopeFault>
+    requires { IsNumber (length functions.now) }
+    ensures { Gives result (main_of functions.now) }
+{
+    let word = Name::new(alloc, b"main".as_slice())?;
+    match find_function_at(functions, &word) {
+        Some(main) => Ok(number(main)),
+        None => Err(refuse(alloc, 1, ScopeKind::NoMain, &word)),
+    }
+}
+
+// The resolved form of a program whose counts fit its numbers, be it of a text or not.
+#[tactic(auto, using(crate::proofs::OccurrenceSizes::names_few, crate::proofs::OccurrenceSizes::functions_counted))]
+pub fn form_of(alloc: Global, program: &Program) -> Result<Form, ScopeFault>
+    requires { IsNumber (functions_size program.now.functions) }
+    ensures { Gives result (bind_program program.now) }
+{
+    let functions = program.functions.as_slice();
+    let mut names = NameTable::new(alloc);
+    add_functions(alloc, &mut names, functions)?;
+    let resolved = resolve_functions(alloc, functions, &names)?;
+    let main = find_main(alloc, functions)?;
+    Ok(Form {
+        functions: resolved,
+        names: names.into_list(),
+        main,
+    })
+}
+
+/// The program with its names as numbers, or the first place that is refused. Functions come in
+/// textual order, each header before its statements. A statement's own names and expressions come
+/// before what stands in it, and are asked about in the order of `ScopeKind`, of one kind from the
+/// left. Want of memory may come in place of any answer.
+#[tactic(auto, using(crate::proofs::ByteSizes::size_is_bounded))]
+pub fn resolve(alloc: Global, program: &Program) -> Result<Resolved, ScopeFault>
+    requires { HasText program.now }
+    ensures { Gives result (bind_program program.now) }
+{
+    let form = form_of(alloc, program)?;
+    Ok(keep(form))
+}

@@ -1,0 +1,61 @@
+// A program in its resolved form.
+ghost use Rattle.std.specs.Prelude.{◌≡◌};
+ghost use Rattle.shim_scopes.specs.Resolving.{IsFormOfText};
+
+use crate::form::Form;
+use crate::tree::RFunction;
+use shim_base::Name;
+use std::marker::Model;
+
+/// A program whose names are bound. It has a text of at most 1,048,576 bytes, and only `resolve`
+/// makes one.
+#[derive(Debug, Drop)]
+pub struct Resolved {
+    form: Form,
+}
+
+impl Model for Resolved {
+    ghost use Rattle.std.specs.Coded.{codes};
+    ghost use Rattle.shim_scopes.specs.contracts.tree.RFunction as function;
+    ghost use Rattle.shim_scopes.specs.declared.form.Form.{Form};
+    ghost use Rattle.shim_scopes.specs.Resolving.{IsFormOfText};
+
+    ghost Value = { Form };
+
+    ghost coded = { Prim.hlevel (codes, function.the_row.coded) };
+
+    ghost view = { λ resolved. resolved.form };
+
+    ghost invariant = { λ resolved. ∥ IsFormOfText resolved.form ∥₁ };
+}
+
+impl Resolved {
+    /// The functions, in the order of the source.
+    pub fn functions(&self) -> &[RFunction]
+        ensures { result.now ≡ self.now.functions }
+    {
+        self.form.functions.as_slice()
+    }
+
+    /// The names of the source, none of them twice, in the order in which they come up.
+    pub fn names(&self) -> &[Name]
+        ensures { result.now ≡ self.now.names }
+    {
+        self.form.names.as_slice()
+    }
+
+    /// Which of the functions is `main`.
+    pub fn main(&self) -> u32
+        ensures { result ≡ self.now.main }
+    {
+        self.form.main
+    }
+}
+
+// The form, kept with what it is the form of.
+pub fn keep(form: Form) -> Resolved
+    requires { ∥ IsFormOfText form ∥₁ }
+    ensures { result ≡ form }
+{
+    Resolved { form }
+}
