@@ -1,7 +1,8 @@
 #!/usr/bin/env bash
-# Lets ./shim read sources of 1/2 and 1 MiB of three shapes, which are programs of the language that don't run yet, and
-# lets gcc check C text of the same size and shape, in turn: ordinary functions, deep nesting, and long sums. Prints the
-# least time of each over some rounds, and their ratio. Wants gcc and awk. Use: make shim && bench/reading.sh [ROUNDS]
+# Lets ./shim read and bind sources of 1/2 and 1 MiB of five shapes, which are programs of the language that don't run
+# yet, and lets gcc check C text of the same size and shape, in turn: ordinary functions, deep nesting, long sums, many
+# names, and many calls. Prints the least time of each over some rounds, and their ratio. Wants gcc and awk.
+# Use: make shim && bench/reading.sh [ROUNDS]
 set -eu
 cd "$(dirname "$0")/.."
 rounds=${1:-5}
@@ -74,4 +75,18 @@ compare deep "$deep }
 sum='a = n'$(repeat ' + 12' 250)'; '
 compare sums "$sum }
 " "$sum }
+"
+
+# Sixty names a function that no other function has, each used twice.
+names=$(awk 'BEGIN {
+  for (k = 10; k < 70; k++) printf "int v@%d; ", k
+  for (k = 10; k < 70; k++) printf "v@%d = n + v@%d; ", k, k
+}')
+compare names "$names }
+" "$names }
+"
+
+# A function that calls itself over and over: one of a thousand.
+compare calls "$(repeat 'f@(n, a); ' 80) }
+" "$(repeat 'f@(n,&a); ' 80) }
 "

@@ -1,0 +1,23 @@
+-- The innermost of the things around a place that have a name.
+use Rattle.std.specs.Prelude.{◌≡◌, ◌≢◌, ℕ, List, [], ◌∷◌, ◌++◌}
+use Rattle.shim_scopes.specs.declared.scope.Handled.{Handled}
+
+-- none of these has the name
+abbrev pub HasNone : {T : Type 0} → (T → List ℕ) → List ℕ → List T → Type 0
+HasNone name x [] = Unit {0}
+HasNone name x (t ∷ ts) = (name t ≢ x) × HasNone name x ts
+
+-- of what is around, the outermost first, this one has the name, and none further in has it
+pub record IsInnermost {T : Type 0} (name : T → List ℕ) (x : List ℕ) (around : List T) (at : T) : Type 0 where
+  pub outer : List T
+  pub inner : List T
+  pub whole : around ≡ outer ++ at ∷ inner
+  pub named : name at ≡ x
+  pub none : HasNone name x inner
+
+abbrev pub exception_name : Handled → List ℕ
+exception_name h = h.name
+
+-- the innermost exception that has the name has this number
+abbrev pub IsNumberOfInnermost : List ℕ → List Handled → ℕ → Type 0
+IsNumberOfInnermost x around number = (at : Handled) × IsInnermost exception_name x around at × (at.number ≡ number)

@@ -1,0 +1,107 @@
+-- The program that a resolved form stands for: the names put back to their numbers.
+use Rattle.std.specs.Prelude.{ℕ, List, ◌++◌, Option, Some, None, map, slice_index_or, []}
+use Rattle.shim_syntax.specs.declared.tree.Expr.{Expr}
+use Rattle.shim_syntax.specs.declared.tree.Expr.TheVariants as e
+use Rattle.shim_syntax.specs.declared.tree.Call.{Call}
+use Rattle.shim_syntax.specs.declared.tree.Param.{Param}
+use Rattle.shim_syntax.specs.declared.tree.Function.{Function}
+use Rattle.shim_syntax.specs.declared.tree.Stmt.{Stmt}
+use Rattle.shim_syntax.specs.declared.tree.What.{What}
+use Rattle.shim_syntax.specs.declared.tree.What.TheVariants as st
+use Rattle.shim_syntax.specs.declared.tree.Branch.{Branch}
+use Rattle.shim_syntax.specs.declared.tree.BranchWhat.{BranchWhat}
+use Rattle.shim_syntax.specs.declared.tree.BranchWhat.TheVariants as br
+use Rattle.shim_scopes.specs.declared.form.Form.{Form}
+use Rattle.shim_scopes.specs.declared.tree.RFunction.{RFunction}
+use Rattle.shim_scopes.specs.declared.tree.UParam.{UParam}
+use Rattle.shim_scopes.specs.declared.tree.UExpr.{UExpr, UExpr-F, fold-UExpr}
+use Rattle.shim_scopes.specs.declared.tree.RCall.{RCall}
+use Rattle.shim_scopes.specs.declared.tree.RStmt.{RStmt, RStmt-F, fold-RStmt}
+use Rattle.shim_scopes.specs.declared.tree.RWhat.{RWhat-F}
+use Rattle.shim_scopes.specs.declared.tree.RBranch.{RBranch-F}
+use Rattle.shim_scopes.specs.declared.tree.RBranchWhat.{RBranchWhat-F}
+use Rattle.shim_scopes.specs.Names.{Texts}
+
+-- the name at a place of a list
+abbrev pub name_at : Texts → ℕ → List ℕ
+name_at names place = slice_index_or names place []
+
+-- the names at these places, one after another
+abbrev pub names_at : Texts → List ℕ → Texts
+names_at names places = map (name_at names) places
+
+-- the names of the variables by their slots, and of the exceptions and the functions by their numbers
+pub record Naming : Type 0 where
+  pub variable : ℕ → List ℕ
+  pub exception : ℕ → List ℕ
+  pub function : ℕ → List ℕ
+
+abbrev pub expr_step : (ℕ → List ℕ) → UExpr-F Expr → Expr
+expr_step variable (UExpr-F.Number n) = e.Number n
+expr_step variable (UExpr-F.Var slot) = e.Var (variable slot)
+expr_step variable (UExpr-F.Unary op a) = e.Unary op a
+expr_step variable (UExpr-F.Binary op a b) = e.Binary op a b
+
+unfoldable pub expr_named : (ℕ → List ℕ) → UExpr → Expr
+expr_named variable = fold-UExpr Expr (expr_step variable)
+
+abbrev pub option_named : (ℕ → List ℕ) → Option UExpr → Option Expr
+option_named variable None = None
+option_named variable (Some a) = Some (expr_named variable a)
+
+abbrev pub call_named : Naming → RCall → Call
+call_named n c = record { function = n.function c.function; args = map (expr_named n.variable) c.args }
+
+abbrev pub branch_what_step : Naming → RBranchWhat-F BranchWhat What Branch Stmt → BranchWhat
+branch_what_step n (RBranchWhat-F.RBranchWhat::Block body) = br.Block body
+branch_what_step n (RBranchWhat-F.RBranchWhat::Call c) = br.Call (call_named n c)
+
+abbrev pub what_step : Naming → RWhat-F BranchWhat What Branch Stmt → What
+what_step n (RWhat-F.Declare ty slot a) = st.Declare ty (n.variable slot) (option_named n.variable a)
+what_step n (RWhat-F.Assign slot a) = st.Assign (n.variable slot) (expr_named n.variable a)
+what_step n (RWhat-F.Next slot) = st.Next (n.variable slot)
+what_step n (RWhat-F.NextAssign slot a) = st.NextAssign (n.variable slot) (expr_named n.variable a)
+what_step n (RWhat-F.AssignNext slot other) = st.AssignNext (n.variable slot) (n.variable other)
+what_step n (RWhat-F.Get slot stream) = st.Get (n.variable slot) (n.variable stream)
+what_step n (RWhat-F.Put stream a) = st.Put (n.variable stream) (expr_named n.variable a)
+what_step n (RWhat-F.If test first other) = st.If (expr_named n.variable test) first other
+what_step n (RWhat-F.While test body) = st.While (expr_named n.variable test) body
+what_step n (RWhat-F.For first test step body) = st.For first (option_named n.variable test) step body
+what_step n (RWhat-F.RWhat::Block body) = st.Block body
+what_step n (RWhat-F.RWhat::Call c) = st.Call (call_named n c)
+what_step n (RWhat-F.Try body number handler) = st.Try body (n.exception number) handler
+what_step n (RWhat-F.Throw number) = st.Throw (n.exception number)
+what_step n (RWhat-F.Par branches) = st.Par branches
+
+abbrev pub branch_step : RBranch-F BranchWhat What Branch Stmt → Branch
+branch_step b = record { line = b.line; what = b.what }
+
+abbrev pub stmt_step : RStmt-F BranchWhat What Branch Stmt → Stmt
+stmt_step s = record { line = s.line; what = s.what }
+
+abbrev pub stmt_named : Naming → RStmt → Stmt
+stmt_named n = fold-RStmt BranchWhat What Branch Stmt (branch_what_step n) (what_step n) branch_step stmt_step
+
+abbrev pub param_named : Texts → UParam → Param
+param_named names p = record { sort = p.sort; by_ref = p.by_ref; name = name_at names p.name }
+
+-- The exceptions are those of the `throws`, and then those of the `try` statements.
+abbrev pub naming_of : Form → RFunction → Naming
+naming_of form f = record {
+  variable = name_at (names_at form.names f.slot_names);
+  exception = name_at (names_at form.names (f.throws ++ f.tries));
+  function = name_at (names_at form.names (map (λ (f : RFunction). f.name) form.functions));
+}
+
+abbrev pub function_named : Form → RFunction → Function
+function_named form f = record {
+  line = f.line;
+  name = name_at form.names f.name;
+  params = map (param_named form.names) f.params;
+  throws = names_at form.names f.throws;
+  body = map (stmt_named (naming_of form f)) f.body;
+}
+
+-- the functions of the program
+abbrev pub functions_named : Form → List Function
+functions_named form = map (function_named form) form.functions

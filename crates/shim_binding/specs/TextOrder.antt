@@ -1,0 +1,94 @@
+-- What a function declares, and what its `try` statements name, in the order of the text.
+use Rattle.std.specs.Prelude.{ℕ, ◌≡◌, List, [], ◌∷◌, ◌++◌, map}
+use Rattle.shim_syntax.specs.declared.tree.Sort.{Sort}
+use Rattle.shim_syntax.specs.declared.tree.Sort.TheVariants.{Value}
+use Rattle.shim_syntax.specs.declared.tree.Param.{Param}
+use Rattle.shim_syntax.specs.declared.tree.Function.{Function}
+use Rattle.shim_syntax.specs.declared.tree.Stmt.{Stmt, fold-Stmt}
+use Rattle.shim_syntax.specs.declared.tree.What.{What-F}
+use Rattle.shim_syntax.specs.declared.tree.BranchWhat.{BranchWhat-F}
+use Rattle.shim_scopes.specs.declared.tree.RFunction.{RFunction}
+use Rattle.shim_scopes.specs.Names.{Texts, number_of}
+
+-- a name that is declared, and what it holds
+pub record Declaration : Type 0 where
+  pub name : List ℕ
+  pub sort : Sort
+
+abbrev pub Declarations : Type 0
+Declarations = List Declaration
+
+-- the lists one after another
+abbrev pub together : {T : Type 0} → List (List T) → List T
+together [] = []
+together (t ∷ ts) = t ++ together ts
+
+abbrev pub branch_declares : BranchWhat-F Declarations Declarations Declarations Declarations → Declarations
+branch_declares (BranchWhat-F.BranchWhat::Block body) = together body
+branch_declares (BranchWhat-F.BranchWhat::Call c) = []
+
+abbrev pub what_declares : What-F Declarations Declarations Declarations Declarations → Declarations
+what_declares (What-F.Declare ty x e) = record { name = x; sort = Value ty } ∷ []
+what_declares (What-F.If e first other) = together first ++ together other
+what_declares (What-F.While e body) = together body
+what_declares (What-F.For first test step body) = together first ++ (together step ++ together body)
+what_declares (What-F.What::Block body) = together body
+what_declares (What-F.Try body x handler) = together body ++ together handler
+what_declares (What-F.Par branches) = together branches
+what_declares _ = []
+
+abbrev pub stmt_declares : Stmt → Declarations
+stmt_declares = fold-Stmt Declarations Declarations Declarations Declarations branch_declares what_declares (λ b. b.what) (λ s. s.what)
+
+-- the declarations of some statements and of those inside them
+abbrev pub declarations : List Stmt → Declarations
+declarations body = together (map stmt_declares body)
+
+abbrev pub branch_tries : BranchWhat-F Texts Texts Texts Texts → Texts
+branch_tries (BranchWhat-F.BranchWhat::Block body) = together body
+branch_tries (BranchWhat-F.BranchWhat::Call c) = []
+
+-- a `try` stands before those inside it
+abbrev pub what_tries : What-F Texts Texts Texts Texts → Texts
+what_tries (What-F.If e first other) = together first ++ together other
+what_tries (What-F.While e body) = together body
+what_tries (What-F.For first test step body) = together first ++ (together step ++ together body)
+what_tries (What-F.What::Block body) = together body
+what_tries (What-F.Try body x handler) = x ∷ (together body ++ together handler)
+what_tries (What-F.Par branches) = together branches
+what_tries _ = []
+
+abbrev pub stmt_tries : Stmt → Texts
+stmt_tries = fold-Stmt Texts Texts Texts Texts branch_tries what_tries (λ b. b.what) (λ s. s.what)
+
+-- the names of the `try` statements among some statements and inside them
+abbrev pub tries_among : List Stmt → Texts
+tries_among body = together (map stmt_tries body)
+
+abbrev pub declared_param : Param → Declaration
+declared_param p = record { name = p.name; sort = p.sort }
+
+-- the parameters are the first
+abbrev pub all_declarations : Function → Declarations
+all_declarations f = map declared_param f.params ++ declarations f.body
+
+abbrev pub sorts_of : Declarations → List Sort
+sorts_of ds = map (λ (d : Declaration). d.sort) ds
+
+abbrev pub numbers_of_declared : Texts → Declarations → List ℕ
+numbers_of_declared names ds = map (λ (d : Declaration). number_of names d.name) ds
+
+-- what a function has for its slots, its exceptions and its parameters
+pub record IsInTextOrder (names : Texts) (f : Function) (r : RFunction) : Type 0 where
+  pub slots : r.slots ≡ sorts_of (all_declarations f)
+  pub slot_names : r.slot_names ≡ numbers_of_declared names (all_declarations f)
+  pub throws : r.throws ≡ map (number_of names) f.throws
+  pub tries : r.tries ≡ map (number_of names) (tries_among f.body)
+  pub params : r.params ≡ map (λ (p : Param). record { sort = p.sort; by_ref = p.by_ref; name = number_of names p.name }) f.params
+
+-- each function and its form, one after another
+abbrev pub AreInTextOrder : Texts → List Function → List RFunction → Type 0
+AreInTextOrder names [] [] = Unit {0}
+AreInTextOrder names [] (r ∷ rs) = ⊥
+AreInTextOrder names (f ∷ fs) [] = ⊥
+AreInTextOrder names (f ∷ fs) (r ∷ rs) = IsInTextOrder names f r × AreInTextOrder names fs rs
