@@ -5,7 +5,8 @@ use Rattle.shim_local.specs.Process.{Ops}
 use Rattle.shim_local.specs.Laws.{LocalLaws, Moved}
 
 -- One call of the first child leaves them the children of their parent.
-pub first_moved : {S : Type 0} (o : Ops S) → LocalLaws o → (parent k m : S) (children : List S) → 0 < length children → k ≡ slice_index_or children 0 k → Moved o k m
+pub first_moved : {S : Type 0} (o : Ops S) → LocalLaws o → (parent k m : S) (children : List S) → 0 < length children → k ≡ slice_index_or children 0 k → o.sound k → Moved o k m
     → o.born parent children → o.born parent (slice_set children 0 m)
-first_moved o laws parent k m [] some is moved born = absurd (let none : 0 < 0 = some in omega (arith, none))
-first_moved o laws parent k m (x ∷ children) some is moved born = laws.born_moved parent x m [] children born (subst (λ s. Moved o s m) is moved)
+first_moved o laws parent k m [] some is sound moved born = absurd (let none : 0 < 0 = some in omega (arith, none))
+first_moved o laws parent k m (x ∷ children) some is sound moved born =
+    laws.born_moved parent x m [] children (subst o.sound is sound) born (subst (λ s. Moved o s m) is moved)

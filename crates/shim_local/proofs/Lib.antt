@@ -1,2 +1,3 @@
 pub mod Quiets
 pub mod Children
+pub mod Steps

@@ -1,29 +1,120 @@
 -- What holds of every kind of process.
-use Rattle.std.specs.Prelude.{◌≡◌, ℕ, zero, suc, ℤ, ◌+◌, Bool, List, [], ◌∷◌, ◌++◌}
-use Rattle.shim_base.specs.Paths.{Path, NamedChannel}
-use Rattle.shim_local.specs.Process.{Ops, AtQuiet, AtNext, AtPut, AtFork}
+use Rattle.std.specs.Prelude.{◌≡◌, ◌≢◌, ◌<◌, ◌≤◌, ◌⊎◌, ◌↔◌, ℕ, zero, suc, ℤ, ◌+◌, Bool, true, false, List, [], ◌∷◌, ◌++◌, Some, None, if◌then◌else◌, slice_get}
+use Rattle.shim_base.specs.declared.operators.Trap.{Trap}
+use Rattle.shim_base.specs.Paths.{Path, Channel, NamedChannel}
+use Rattle.shim_local.specs.Process.{Ops, Parted, Stuck, AtQuiet, AtNext, AtPut, AtFork, AtThrow, AtTrap}
+
+-- it holds of each of these
+abbrev pub AllOf : {S : Type 0} → (S → Type 0) → List S → Type 0
+AllOf P [] = Unit {0}
+AllOf P (k ∷ ks) = P k × AllOf P ks
+
+-- it holds of one of these
+abbrev pub AnyOf : {S : Type 0} → (S → Type 0) → List S → Type 0
+AnyOf P [] = ⊥
+AnyOf P (k ∷ ks) = P k ⊎ AnyOf P ks
+
+-- of how many of these it is true
+abbrev pub how_many : {S : Type 0} → (S → Bool) → List S → ℕ
+how_many f [] = 0
+how_many f (k ∷ ks) = if f k then suc (how_many f ks) else how_many f ks
+
+-- one call other than a quiet step, a fork and a join made the second state of the first
+pub data Called {S : Type 0} (o : Ops S) (l m : S) : Type 0 where
+  by_put : o.stop l ≡ AtPut → m ≡ o.put l → Called o l m
+  by_receive : (c : NamedChannel) (v : ℤ) → o.stop l ≡ AtNext c → m ≡ o.receive l v → Called o l m
+  by_unwind : (label : ℕ) → o.base l ≤ label → label < o.handlers l → m ≡ o.unwind l label → Called o l m
 
 -- one call made the second state of the first
 pub data Moved {S : Type 0} (o : Ops S) (l m : S) : Type 0 where
   by_quiet : o.stop l ≡ AtQuiet → m ≡ o.quiet l → Moved o l m
-  by_put : o.stop l ≡ AtPut → m ≡ o.put l → Moved o l m
-  by_receive : (c : NamedChannel) (v : ℤ) → o.stop l ≡ AtNext c → m ≡ o.receive l v → Moved o l m
-  by_fork : o.stop l ≡ AtFork → m ≡ (o.fork l).0 → Moved o l m
-  by_join : (children : List S) (goes_on : Bool) → o.born l children → m ≡ o.join l children goes_on → Moved o l m
+  by_call : Called o l m → Moved o l m
+  by_fork : (children : List S) → o.stop l ≡ AtFork → o.fork l ≡ Parted m children → Moved o l m
+  by_trap : o.stop l ≡ AtFork → o.fork l ≡ Stuck m → Moved o l m
+  by_join : (children : List S) (goes_on : Bool) → AllOf o.sound children → o.born l children → m ≡ o.join l children goes_on → Moved o l m
 
 -- so many quiet steps lead from the first state to the second
 pub data QuietSteps {S : Type 0} (o : Ops S) : ℕ → S → S → Type 0 where
   none_taken : (l : S) → QuietSteps o zero l l
   one_more : {n : ℕ} {l m : S} → o.stop l ≡ AtQuiet → QuietSteps o n (o.quiet l) m → QuietSteps o (suc n) l m
 
--- These are paths of children of the process with this path, by its fork of number f: their places count from i.
-abbrev pub AreChildren : {S : Type 0} → Ops S → Path → ℕ → ℕ → List S → Type 0
-AreChildren o p f i [] = Unit {0}
-AreChildren o p f i (k ∷ ks) = (o.path k ≡ p ++ (f, i) ∷ []) × AreChildren o p f (i + 1) ks
+-- the process forked, and stands so with these children
+abbrev pub Forks : {S : Type 0} → Ops S → S → S → List S → Type 0
+Forks o l p ks = (o.stop l ≡ AtFork) × (o.fork l ≡ Parted p ks)
+
+-- These have the paths of children of the process with this path, by its fork of number f, and this base: their places count from i.
+abbrev pub AreChildren : {S : Type 0} → Ops S → Path → ℕ → ℕ → ℕ → List S → Type 0
+AreChildren o p base f i [] = Unit {0}
+AreChildren o p base f i (k ∷ ks) = (o.path k ≡ p ++ (f, i) ∷ []) × (o.base k ≡ base) × AreChildren o p base f (i + 1) ks
+
+abbrev pub IsTrapped : {S : Type 0} → Ops S → S → Type 0
+IsTrapped o l = (kind : Trap) × (line : ℕ) × (o.stop l ≡ AtTrap kind line)
+
+-- the channel is one of those that the fork which made the process gave it
+abbrev pub IsGiven : {S : Type 0} → Ops S → S → Channel → Type 0
+IsGiven o l c = (at : ℕ) × (d : NamedChannel) × (slice_get (o.given l) at ≡ Some d) × (d.channel ≡ c)
+
+-- the process carries the channel only where it did before, or where the channel is one of its own that it didn't share before
+abbrev pub CarriesNoMore : {S : Type 0} → Ops S → S → S → Channel → Type 0
+CarriesNoMore o l m c = o.carries m c ≡ true → (o.carries l c ≡ true) ⊎ ((c.home ≡ o.path l) × (o.shares l c ≡ false))
 
 pub record LocalLaws {S : Type 0} (o : Ops S) : Type 0 where
-  pub moved_path : (l m : S) → Moved o l m → o.path m ≡ o.path l
-  -- a child's path is the parent's with one pair more: the number of the fork, and the child's place from 0
-  pub fork_paths : (l : S) → o.stop l ≡ AtFork → (f : ℕ) × AreChildren o (o.path l) f 0 (o.fork l).1
-  pub fork_born : (l : S) → o.stop l ≡ AtFork → o.born (o.fork l).0 (o.fork l).1
-  pub born_moved : (l k m : S) (before after : List S) → o.born l (before ++ k ∷ after) → Moved o k m → o.born l (before ++ m ∷ after)
+  -- each call keeps a state sound, and the children of a fork are sound
+  pub moved_sound : (l m : S) → o.sound l → Moved o l m → o.sound m
+  pub fork_sound : (l p : S) (ks : List S) → o.sound l → Forks o l p ks → AllOf o.sound ks
+  -- what never changes
+  pub moved_path : (l m : S) → o.sound l → Moved o l m → o.path m ≡ o.path l
+  pub moved_base : (l m : S) → o.sound l → Moved o l m → o.base m ≡ o.base l
+  pub moved_given : (l m : S) → o.sound l → Moved o l m → o.given m ≡ o.given l
+  -- a root was given no channels
+  pub root_given : (l : S) → o.sound l → o.path l ≡ [] → o.given l ≡ []
+  -- the exception places in force
+  pub base_least : (l : S) → o.sound l → 1 ≤ o.base l
+  pub base_most : (l : S) → o.sound l → o.base l ≤ o.handlers l
+  pub fork_handlers : (l p : S) (ks : List S) → o.sound l → Forks o l p ks → o.handlers p ≡ o.handlers l
+  pub fork_trap_handlers : (l m : S) → o.sound l → o.stop l ≡ AtFork → o.fork l ≡ Stuck m → o.handlers m ≡ o.handlers l
+  pub join_handlers : (l : S) (ks : List S) → o.sound l → AllOf o.sound ks → o.born l ks → o.handlers (o.join l ks false) ≡ o.handlers l
+  -- what it stands at is its own
+  pub next_shares : (l : S) (c : NamedChannel) → o.sound l → o.stop l ≡ AtNext c → o.shares l c.channel ≡ true
+  pub carries_shares : (l : S) (c : Channel) → o.sound l → o.carries l c ≡ true → o.shares l c ≡ true
+  pub put_holds : (l : S) → o.sound l → o.stop l ≡ AtPut → o.holds_output l ≡ true
+  pub throw_below : (l : S) (x : ℕ) → o.sound l → o.stop l ≡ AtThrow x → x < o.handlers l
+  -- a trap is stood at, and behind a put that puts a byte there is none
+  pub put_traps : (l : S) → o.sound l → o.stop l ≡ AtPut → o.byte l ≡ None → IsTrapped o (o.put l)
+  pub put_goes : (l : S) (b : ℕ) → o.sound l → o.stop l ≡ AtPut → o.byte l ≡ Some b → IsTrapped o (o.put l) → ⊥
+  pub fork_traps : (l m : S) → o.sound l → o.stop l ≡ AtFork → o.fork l ≡ Stuck m → IsTrapped o m
+  -- what it shares: a quiet step adds channels of its own alone, and loses none; no other call changes anything
+  pub quiet_shares : (l : S) (c : Channel) → o.sound l → o.stop l ≡ AtQuiet → o.shares l c ≡ true → o.shares (o.quiet l) c ≡ true
+  pub quiet_adds : (l : S) (c : Channel) → o.sound l → o.stop l ≡ AtQuiet → o.shares l c ≡ false → o.shares (o.quiet l) c ≡ true → c.home ≡ o.path l
+  pub call_shares : (l m : S) (c : Channel) → o.sound l → Called o l m → o.shares m c ≡ o.shares l c
+  pub fork_shares : (l p : S) (ks : List S) (c : Channel) → o.sound l → Forks o l p ks → o.shares p c ≡ o.shares l c
+  pub fork_trap_shares : (l m : S) (c : Channel) → o.sound l → o.stop l ≡ AtFork → o.fork l ≡ Stuck m → o.shares m c ≡ o.shares l c
+  pub join_shares : (l : S) (ks : List S) (goes_on : Bool) (c : Channel) → o.sound l → AllOf o.sound ks → o.born l ks → o.shares (o.join l ks goes_on) c ≡ o.shares l c
+  -- the children of a fork: there is one, and each has its path and base, and shares what the parent does and channels of its own; these are the given ones
+  pub fork_some : (l p : S) (ks : List S) → o.sound l → Forks o l p ks → ks ≢ []
+  pub fork_children : (l p : S) (ks : List S) → o.sound l → Forks o l p ks → (f : ℕ) × AreChildren o (o.path l) (o.handlers l) f 0 ks
+  pub children_share : (l p : S) (ks : List S) (c : Channel) → o.sound l → Forks o l p ks → AllOf (λ k. o.shares k c ≡ true → (o.shares l c ≡ true) ⊎ (c.home ≡ o.path k)) ks
+  pub children_given : (l p : S) (ks : List S) (c : Channel) → o.sound l → Forks o l p ks → AllOf (λ k. (o.shares k c ≡ true) ↔ IsGiven o k c) ks
+  -- they stay the children of their fork, whatever they do
+  pub fork_born : (l p : S) (ks : List S) → o.sound l → Forks o l p ks → o.born p ks
+  pub born_children : (l : S) (ks : List S) → o.born l ks → (f : ℕ) × AreChildren o (o.path l) (o.handlers l) f 0 ks
+  pub born_moved : (l k m : S) (before after : List S) → o.sound k → o.born l (before ++ k ∷ after) → Moved o k m → o.born l (before ++ m ∷ after)
+  -- who carries a channel, and who holds the output: a fork hands it to one
+  pub fork_hands_on : (l p : S) (ks : List S) (c : Channel) → o.sound l → Forks o l p ks → o.carries l c ≡ true → how_many (λ s. o.carries s c) (p ∷ ks) ≡ 1
+  pub fork_hands_output : (l p : S) (ks : List S) → o.sound l → Forks o l p ks → o.holds_output l ≡ true → how_many o.holds_output (p ∷ ks) ≡ 1
+  pub children_carry : (l p : S) (ks : List S) (c : Channel) → o.sound l → Forks o l p ks → AllOf (λ k. o.carries k c ≡ true → (o.carries l c ≡ true) ⊎ (c.home ≡ o.path k)) ks
+  pub children_hold : (l p : S) (ks : List S) → o.sound l → Forks o l p ks → AllOf (λ k. o.holds_output k ≡ true → o.holds_output l ≡ true) ks
+  pub fork_carries : (l p : S) (ks : List S) (c : Channel) → o.sound l → Forks o l p ks → o.carries p c ≡ true → o.carries l c ≡ true
+  pub fork_holds : (l p : S) (ks : List S) → o.sound l → Forks o l p ks → o.holds_output p ≡ true → o.holds_output l ≡ true
+  pub fork_trap_carries : (l m : S) (c : Channel) → o.sound l → o.stop l ≡ AtFork → o.fork l ≡ Stuck m → o.carries m c ≡ true → o.carries l c ≡ true
+  pub fork_trap_holds : (l m : S) → o.sound l → o.stop l ≡ AtFork → o.fork l ≡ Stuck m → o.holds_output m ≡ true → o.holds_output l ≡ true
+  -- and a join brings it back
+  pub join_carries : (l : S) (ks : List S) (goes_on : Bool) (c : Channel) → o.sound l → AllOf o.sound ks → o.born l ks → o.carries (o.join l ks goes_on) c ≡ true
+      → (o.carries l c ≡ true) ⊎ AnyOf (λ k. o.carries k c ≡ true) ks
+  pub join_holds : (l : S) (ks : List S) (goes_on : Bool) → o.sound l → AllOf o.sound ks → o.born l ks → o.holds_output (o.join l ks goes_on) ≡ true
+      → (o.holds_output l ≡ true) ⊎ AnyOf (λ k. o.holds_output k ≡ true) ks
+  -- no other call gives it more
+  pub quiet_carries : (l : S) (c : Channel) → o.sound l → o.stop l ≡ AtQuiet → CarriesNoMore o l (o.quiet l) c
+  pub call_carries : (l m : S) (c : Channel) → o.sound l → Called o l m → CarriesNoMore o l m c
+  pub quiet_holds : (l : S) → o.sound l → o.stop l ≡ AtQuiet → o.holds_output (o.quiet l) ≡ true → o.holds_output l ≡ true
+  pub call_holds : (l m : S) → o.sound l → Called o l m → o.holds_output m ≡ true → o.holds_output l ≡ true

@@ -2,5 +2,7 @@
 pub mod Process
 pub mod Laws
 pub mod Views
+pub mod Sameness
 pub mod Small
+pub mod SmallForks
 pub mod SmallLaws

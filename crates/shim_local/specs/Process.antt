@@ -1,5 +1,6 @@
 -- What a process can be asked and how it can be stepped, as functions of its state.
-use Rattle.std.specs.Prelude.{ℕ, ℤ, Bool, List}
+use Rattle.std.specs.Prelude.{ℕ, ℤ, Bool, List, Option}
+use Rattle.shim_base.specs.declared.operators.Trap.{Trap}
 use Rattle.shim_base.specs.Paths.{Path, Channel, NamedChannel}
 
 -- at what a process stands
@@ -9,25 +10,45 @@ pub data StopView : Type 0 where
   AtPut : StopView
   AtFork : StopView
   AtFinish : StopView
+  -- at a throw of the exception of this label
+  AtThrow : ℕ → StopView
+  -- it stands trapped: why, and the line of the statement
+  AtTrap : Trap → ℕ → StopView
+
+-- what a fork gives: the parent as it stands at the fork then, with the children in order, or the parent trapped
+pub data Parting (S : Type 0) : Type 0 where
+  Parted : S → List S → Parting S
+  Stuck : S → Parting S
 
 -- The state after each call, and what the calls answer, for states of any kind. A call says nothing of a state that stands at another stop.
 pub record Ops (S : Type 0) : Type 1 where
+  -- the state has what all states have that a process comes to
+  pub sound : S → Type 0
   pub stop : S → StopView
   -- after one quiet step
   pub quiet : S → S
-  -- the byte that is put, and the state after it
-  pub byte : S → ℕ
+  -- the byte that is put, or none where its expression traps; and the state after it
+  pub byte : S → Option ℕ
   pub put : S → S
   -- after the meeting at which it stands gave this value
   pub receive : S → ℤ → S
-  -- the parent as it stands at the fork, and the children in order
-  pub fork : S → S × List S
+  pub fork : S → Parting S
   -- after the children's values came back: behind the fork, or still at it
   pub join : S → List S → Bool → S
-  -- the children are those of the parent's last fork, in order, each after any calls
+  -- these have the places of the children of the last fork, in order, each after any calls
   pub born : S → List S → Type 0
+  -- at the handler of the exception of this label
+  pub unwind : S → ℕ → S
   -- the value of the channel's own variable, where the process carries that
   pub value : S → Channel → ℤ
   pub shares : S → Channel → Bool
   pub carries : S → Channel → Bool
+  -- the channels that the fork which made it gave it, in order
+  pub given : S → List NamedChannel
+  pub holds_output : S → Bool
   pub path : S → Path
+  -- how many exception places are in force around the process, and how many with its own
+  pub base : S → ℕ
+  pub handlers : S → ℕ
+  -- the number of the name and the line of the `try` of this label
+  pub handler : S → ℕ → ℕ × ℕ

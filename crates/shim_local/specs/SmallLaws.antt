@@ -1,28 +1,160 @@
 -- The small process is a process.
-use Rattle.std.specs.Prelude.{◌≡◌, List, [], ◌∷◌, ◌++◌, map, refl}
-use Rattle.std.proofs.Common.{ap, ◌∙◌}
-use Rattle.shim_local.specs.Laws.{LocalLaws, Moved, by_quiet, by_put, by_receive, by_fork, by_join}
-use Rattle.shim_local.specs.Small.{SmallView, small_ops, AreOfLastFork}
+use Rattle.std.specs.Prelude.{◌≡◌, ◌<◌, ◌≤◌, ℕ, Bool, true, false, ltb, Some, None, List, [], ◌∷◌, ◌++◌, ◌&&◌, map, refl}
+use Rattle.std.proofs.Common.{ap, sym, subst, ◌∙◌, inl, arith, true≢false}
+use Rattle.std.proofs.lemmas.Bool.{and_parts}
+use Rattle.std.proofs.lemmas.Bool.Decides.{Decides-ltb}
+use Rattle.shim_base.specs.Paths.{Path, Channel, NamedChannel, same_channel}
+use Rattle.shim_local.specs.Process.{AtNext, AtPut, AtThrow}
+use Rattle.shim_local.specs.Laws.{LocalLaws, Moved, Called, by_quiet, by_call, by_fork, by_trap, by_join, by_put, by_receive, by_unwind}
+use Rattle.shim_local.specs.Sameness.{channel_decides}
+use Rattle.shim_local.specs.Small.{SmallView, IsSound, AreOfLastFork, byte_put, given_to, in_force, is_root, mark_of, put_stop, small_ops, stop_at, throw_stop, trap_behind}
+use Rattle.shim_local.specs.SmallForks as forks
+use Rattle.shim_local.specs.declared.small.Step.{Step}
+use Rattle.shim_local.specs.declared.small.Step.TheVariants as step
 
-moved_path : (l m : SmallView) → Moved small_ops l m → m.path ≡ l.path
-moved_path l m (by_quiet at e) = ap (λ s. s.path) e
-moved_path l m (by_put at e) = ap (λ s. s.path) e
-moved_path l m (by_receive c v at e) = ap (λ s. s.path) e
-moved_path l m (by_fork at e) = ap (λ s. s.path) e
-moved_path l m (by_join children goes_on born e) = ap (λ s. s.path) e
+-- what no call changes
+abbrev kept : SmallView → Path × (ℕ × NamedChannel)
+kept s = (s.path, (s.base, s.chan))
 
-same_paths : (k m : SmallView) (before after : List SmallView) → m.path ≡ k.path
-    → map (λ s. s.path) (before ++ m ∷ after) ≡ map (λ s. s.path) (before ++ k ∷ after)
-same_paths k m [] after e = ap (λ p. p ∷ map (λ s. s.path) after) e
-same_paths k m (s ∷ before) after e = ap (λ ps. s.path ∷ ps) (same_paths k m before after e)
+called_kept : (l m : SmallView) → Called small_ops l m → kept m ≡ kept l
+called_kept l m (by_put at e) = ap kept e
+called_kept l m (by_receive c v at e) = ap kept e
+called_kept l m (by_unwind label least most e) = ap kept e
+
+moved_kept : (l m : SmallView) → Moved small_ops l m → kept m ≡ kept l
+moved_kept l m (by_quiet at e) = ap kept e
+moved_kept l m (by_call called) = called_kept l m called
+moved_kept l m (by_fork children at e) = ap kept (forks.parent_is l m children e)
+moved_kept l m (by_trap at e) = ap kept (forks.stuck_is l m e)
+moved_kept l m (by_join children goes_on sound born e) = ap kept e
+
+moved_sound : (l m : SmallView) → IsSound l → Moved small_ops l m → IsSound m
+moved_sound l m sound moved = subst (λ b. 1 ≤ b) (sym (ap (λ k. k.1.0) (moved_kept l m moved))) sound
+
+same_marks : (k m : SmallView) (before after : List SmallView) → kept m ≡ kept k
+    → map mark_of (before ++ m ∷ after) ≡ map mark_of (before ++ k ∷ after)
+same_marks k m [] after e = ap (λ x. (let y : Path × ℕ = (x.0, x.1.0) in y) ∷ map mark_of after) e
+same_marks k m (s ∷ before) after e = ap (λ xs. mark_of s ∷ xs) (same_marks k m before after e)
 
 born_moved : (l k m : SmallView) (before after : List SmallView) → AreOfLastFork l (before ++ k ∷ after) → Moved small_ops k m → AreOfLastFork l (before ++ m ∷ after)
-born_moved l k m before after (fork, is, paths) moved = (fork, is, same_paths k m before after (moved_path k m moved) ∙ paths)
+born_moved l k m before after (fork, is, marks) moved = (fork, is, same_marks k m before after (moved_kept k m moved) ∙ marks)
+
+put_at_root : (b : Bool) → put_stop b ≡ AtPut → b ≡ true
+put_at_root true e = refl
+put_at_root false e = absurd cc
+
+put_is_next : (b : Bool) (c : NamedChannel) → put_stop b ≡ AtNext c → ⊥
+put_is_next true c e = absurd cc
+put_is_next false c e = absurd cc
+
+put_is_throw : (b : Bool) (x : ℕ) → put_stop b ≡ AtThrow x → ⊥
+put_is_throw true x e = absurd cc
+put_is_throw false x e = absurd cc
+
+throw_is_next : (label : ℕ) (b : Bool) (c : NamedChannel) → throw_stop label b ≡ AtNext c → ⊥
+throw_is_next label true c e = absurd cc
+throw_is_next label false c e = absurd cc
+
+throw_is_put : (label : ℕ) (b : Bool) → throw_stop label b ≡ AtPut → ⊥
+throw_is_put label true e = absurd cc
+throw_is_put label false e = absurd cc
+
+throw_passes : (label x : ℕ) (b : Bool) → throw_stop label b ≡ AtThrow x → (label ≡ x) × (b ≡ true)
+throw_passes label x true e = (cc, refl)
+throw_passes label x false e = absurd cc
+
+next_is : (s : SmallView) (left : List Step) (c : NamedChannel) → stop_at s left ≡ AtNext c → c ≡ s.chan
+next_is s [] c e = absurd cc
+next_is s (step.Quiet ∷ left) c e = absurd cc
+next_is s (step.Try name line ∷ left) c e = absurd cc
+next_is s (step.Next ∷ left) c e = cc
+next_is s (step.Put ∷ left) c e = absurd (put_is_next (is_root s.path) c e)
+next_is s (step.Fork ∷ left) c e = absurd cc
+next_is s (step.Throw label ∷ left) c e = absurd (throw_is_next label (ltb label (in_force s)) c e)
+next_is s (step.Trap ∷ left) c e = absurd cc
+
+put_holds : (s : SmallView) (left : List Step) → stop_at s left ≡ AtPut → is_root s.path ≡ true
+put_holds s [] e = absurd cc
+put_holds s (step.Quiet ∷ left) e = absurd cc
+put_holds s (step.Try name line ∷ left) e = absurd cc
+put_holds s (step.Next ∷ left) e = absurd cc
+put_holds s (step.Put ∷ left) e = put_at_root (is_root s.path) e
+put_holds s (step.Fork ∷ left) e = absurd cc
+put_holds s (step.Throw label ∷ left) e = absurd (throw_is_put label (ltb label (in_force s)) e)
+put_holds s (step.Trap ∷ left) e = absurd cc
+
+throw_below : (s : SmallView) (left : List Step) (x : ℕ) → stop_at s left ≡ AtThrow x → x < in_force s
+throw_below s [] x e = absurd cc
+throw_below s (step.Quiet ∷ left) x e = absurd cc
+throw_below s (step.Try name line ∷ left) x e = absurd cc
+throw_below s (step.Next ∷ left) x e = absurd cc
+throw_below s (step.Put ∷ left) x e = absurd (put_is_throw (is_root s.path) x e)
+throw_below s (step.Fork ∷ left) x e = absurd cc
+throw_below s (step.Throw label ∷ left) x e =
+    let is = throw_passes label x (ltb label (in_force s)) e in
+    subst (λ n. n < in_force s) is.0 ((Decides-ltb label (in_force s)).0 is.1)
+throw_below s (step.Trap ∷ left) x e = absurd cc
+
+no_byte : (b : Bool) (s : SmallView) → byte_put b s.value ≡ None → b ≡ true
+no_byte true s e = refl
+no_byte false s e = absurd cc
+
+some_byte : (b : Bool) (s : SmallView) (byte : ℕ) → byte_put b s.value ≡ Some byte → b ≡ false
+some_byte true s byte e = absurd cc
+some_byte false s byte e = refl
+
+carries_shares : (s : SmallView) (c : Channel) → small_ops.carries s c ≡ true → small_ops.shares s c ≡ true
+carries_shares s c e = (and_parts (is_root s.path) (same_channel c s.chan.channel) e).1
+
+-- two states with the same path and channel carry the same
+called_carries : (l m : SmallView) (c : Channel) → Called small_ops l m → small_ops.carries m c ≡ small_ops.carries l c
+called_carries l m c called = ap (λ k. is_root k.0 && same_channel c k.1.1.channel) (called_kept l m called)
 
 pub small_laws : LocalLaws small_ops
 small_laws = record {
-  moved_path = moved_path;
-  fork_paths = λ l at. (l.forks, (refl, (refl, tt)));
-  fork_born = λ l at. (l.forks, refl, refl);
-  born_moved = born_moved;
+  moved_sound = moved_sound;
+  fork_sound = forks.fork_sound;
+  moved_path = λ l m sound moved. ap (λ k. k.0) (moved_kept l m moved);
+  moved_base = λ l m sound moved. ap (λ k. k.1.0) (moved_kept l m moved);
+  moved_given = λ l m sound moved. ap (λ k. given_to (is_root k.0) k.1.1) (moved_kept l m moved);
+  root_given = λ l sound at. ap (λ p. given_to (is_root p) l.chan) at;
+  base_least = λ l sound. sound;
+  base_most = λ l sound. omega arith;
+  fork_handlers = λ l p ks sound forked. ap in_force (forks.parent_is l p ks forked.1);
+  fork_trap_handlers = λ l m sound at e. ap in_force (forks.stuck_is l m e);
+  join_handlers = λ l ks sound all born. refl;
+  next_shares = λ l c sound at. (channel_decides c.channel l.chan.channel).1 (ap (λ d. d.channel) (next_is l l.left c at));
+  carries_shares = λ l c sound e. carries_shares l c e;
+  put_holds = λ l sound at. put_holds l l.left at;
+  throw_below = λ l x sound at. throw_below l l.left x at;
+  put_traps = λ l sound at none. forks.is_trapped l (no_byte (trap_behind l l.left) l none);
+  put_goes = λ l b sound at some trapped. forks.not_trapped l (some_byte (trap_behind l l.left) l b some) trapped;
+  fork_traps = λ l m sound at e. forks.fork_traps l m e;
+  quiet_shares = λ l c sound at e. e;
+  quiet_adds = λ l c sound at not e. absurd (true≢false (sym e ∙ not));
+  call_shares = λ l m c sound called. ap (λ k. same_channel c k.1.1.channel) (called_kept l m called);
+  fork_shares = λ l p ks c sound forked. ap (λ s. small_ops.shares s c) (forks.parent_is l p ks forked.1);
+  fork_trap_shares = λ l m c sound at e. ap (λ s. small_ops.shares s c) (forks.stuck_is l m e);
+  join_shares = λ l ks goes_on c sound all born. refl;
+  fork_some = λ l p ks sound forked. forks.fork_some l p ks forked;
+  fork_children = λ l p ks sound forked. forks.fork_children l p ks forked;
+  children_share = λ l p ks c sound forked. forks.children_share l p ks c forked;
+  children_given = λ l p ks c sound forked. forks.children_given l p ks c forked;
+  fork_born = λ l p ks sound forked. forks.fork_born l p ks forked;
+  born_children = forks.born_children;
+  born_moved = λ l k m before after sound born moved. born_moved l k m before after born moved;
+  fork_hands_on = λ l p ks c sound forked e. forks.fork_hands_on l p ks c forked e;
+  fork_hands_output = λ l p ks sound forked e. forks.fork_hands_output l p ks forked e;
+  children_carry = λ l p ks c sound forked. forks.children_carry l p ks c forked;
+  children_hold = λ l p ks sound forked. forks.children_hold l p ks forked;
+  fork_carries = λ l p ks c sound forked e. sym (ap (λ s. small_ops.carries s c) (forks.parent_is l p ks forked.1)) ∙ e;
+  fork_holds = λ l p ks sound forked e. sym (ap (λ s. small_ops.holds_output s) (forks.parent_is l p ks forked.1)) ∙ e;
+  fork_trap_carries = λ l m c sound at is e. sym (ap (λ s. small_ops.carries s c) (forks.stuck_is l m is)) ∙ e;
+  fork_trap_holds = λ l m sound at is e. sym (ap (λ s. small_ops.holds_output s) (forks.stuck_is l m is)) ∙ e;
+  join_carries = λ l ks goes_on c sound all born e. inl e;
+  join_holds = λ l ks goes_on sound all born e. inl e;
+  quiet_carries = λ l c sound at e. inl e;
+  call_carries = λ l m c sound called e. inl (sym (called_carries l m c called) ∙ e);
+  quiet_holds = λ l sound at e. e;
+  call_holds = λ l m sound called e. sym (ap (λ k. is_root k.0) (called_kept l m called)) ∙ e;
 }

@@ -1,19 +1,21 @@
 -- Answers of the code, as the definitions name them.
 use Rattle.std.specs.Prelude.{◌≡◌}
-use Rattle.shim_local.specs.Process.{Ops, StopView, AtQuiet, AtNext, AtPut, AtFork, AtFinish}
+use Rattle.shim_local.specs.Process.{Ops, StopView, AtQuiet, AtNext, AtPut, AtFork, AtFinish, AtThrow, AtTrap, Parted, Stuck}
 use Rattle.shim_local.specs.declared.local.Stop.{Stop}
-use Rattle.shim_local.specs.declared.local.Stop.TheVariants.{Quiet as StopQuiet, Next, Put, Fork, Finish}
+use Rattle.shim_local.specs.declared.local.Stop.TheVariants as stop
 use Rattle.shim_local.specs.declared.local.Forked.{Forked}
-use Rattle.shim_local.specs.declared.local.Forked.TheVariants.{Children, Trapped}
+use Rattle.shim_local.specs.declared.local.Forked.TheVariants as forked
 
 abbrev pub stop_view : Stop → StopView
-stop_view StopQuiet = AtQuiet
-stop_view (Next c) = AtNext c.now
-stop_view Put = AtPut
-stop_view Fork = AtFork
-stop_view Finish = AtFinish
+stop_view stop.Quiet = AtQuiet
+stop_view (stop.Next c) = AtNext c.now
+stop_view stop.Put = AtPut
+stop_view stop.Fork = AtFork
+stop_view stop.Finish = AtFinish
+stop_view (stop.Throw label) = AtThrow label
+stop_view (stop.Trapped kind line) = AtTrap kind line
 
--- the children of the fork, and the parent as it stands then
-abbrev pub GivesChildren : {S : Type 0} → Ops S → S → S → Forked S → Type 0
-GivesChildren o before after (Children ks) = o.fork before ≡ (after, ks)
-GivesChildren o before after Trapped = ⊥
+-- what a fork gave of the first state, which left the second: the children, or a trap
+abbrev pub ForkGives : {S : Type 0} → Ops S → S → S → Forked S → Type 0
+ForkGives o before after (forked.Children ks) = o.fork before ≡ Parted after ks
+ForkGives o before after forked.Trapped = o.fork before ≡ Stuck after

@@ -1,11 +1,12 @@
 // One process as a value.
-ghost use Rattle.std.specs.Prelude.{◌≡◌, ◌≢◌, ◌<◌, ◌≤◌, ℤ, true, false, Some, IfOk, OnErr, IsTrue};
+ghost use Rattle.std.specs.Prelude.{◌≡◌, ◌≢◌, ◌<◌, ◌≤◌, ◌↔◌, ℤ, true, false, Some, IfOk, OnErr, IsTrue, slice_get};
+ghost use Rattle.std.specs.Option.{option_copied};
 ghost use Rattle.shim_base.specs.Paths.{NamedChannel};
 ghost use Rattle.shim_local.specs.Process.{Ops, AtQuiet, AtNext, AtPut, AtFork};
 ghost use Rattle.shim_local.specs.Laws.{LocalLaws, QuietSteps};
-ghost use Rattle.shim_local.specs.Views.{stop_view, GivesChildren};
+ghost use Rattle.shim_local.specs.Views.{stop_view, ForkGives};
 
-use shim_base::{Chan, List, NoMemory, Path};
+use shim_base::{Chan, List, NoMemory, Path, Trap};
 
 /// At what a process stands.
 #[derive(Drop)]
@@ -18,6 +19,10 @@ pub enum Stop<'a> {
     Fork,
     /// Nothing is left to do.
     Finish,
+    /// A throw of the exception of this label.
+    Throw(u32),
+    /// A statement trapped, and nothing goes on from there: why, and the statement's line.
+    Trapped(Trap, u32),
 }
 
 /// How many quiet steps were taken, and whether memory was wanted for one more.
@@ -32,15 +37,19 @@ pub struct Quiet {
 pub enum Forked<L> {
     /// The children, in the order of the branches.
     Children(List<L>),
-    /// An argument trapped. No process that there is today gives it.
+    /// The fork trapped, and there are no children.
     Trapped,
 }
 
 /// One process.
 ///
 /// Each method is a function of the state, which is the value that the type's model gives it; `ops`
-/// names these functions, and `laws` says what holds of them.
-pub trait Local: Sized + Drop {
+/// names these functions, and `laws` says what holds of them. `quiet`, `fork` and `copy` alone take
+/// memory.
+pub trait Local: Send + Sized + Drop {
+    /// Whether the process runs compiled code.
+    const COMPILED: bool;
+
     ghost ops: { Ops Self };
 
     /// At what it stands.
@@ -54,46 +63,86 @@ pub trait Local: Sized + Drop {
         ensures most { result.taken ≤ most }
         ensures fewer { result.taken < most → result.short ≡ false → ops.stop self.new ≢ AtQuiet };
 
-    /// The byte of the `put` at which it stands, which is then done. It is always there today.
+    /// Does the `put` at which it has to stand. The answer is the byte, or `None` where the expression
+    /// traps; it then stands trapped.
     fn put(&mut self) -> Option<u8>
         requires { ops.stop self.old ≡ AtPut }
-        ensures byte { result ≡ Some (ops.byte self.old) }
+        ensures byte { result ≡ ops.byte self.old }
         ensures after { self.new ≡ ops.put self.old };
 
-    /// Stores the value of the meeting at which it stands, and goes on.
+    /// Stores the value of the meeting at which it has to stand, and goes on.
     fn receive(&mut self, v: i64)
         requires { (c : NamedChannel) × (ops.stop self.old ≡ AtNext c) }
         ensures { self.new ≡ ops.receive self.old v };
 
-    /// The children of the fork at which it stands, in order. It stays at the fork. Want of memory
-    /// changes nothing.
+    /// The children of the fork at which it has to stand, in order; it stays there. Or the fork traps,
+    /// and it then stands trapped. Want of memory changes nothing.
     fn fork(&mut self) -> Result<Forked<Self>, NoMemory>
         requires { ops.stop self.old ≡ AtFork }
-        ensures ok { IfOk result (λ forked. GivesChildren ops self.old self.new forked) }
+        ensures ok { IfOk result (λ forked. ForkGives ops self.old self.new forked) }
         ensures err { OnErr result (self.new ≡ self.old) };
 
-    /// Takes back the values of the children of its last fork, given in order. It then stands behind
-    /// the fork, where `goes_on`, and else still at it.
+    /// Takes back the values of the children of its last fork, which have to be given in order, each
+    /// after any calls. It then stands behind the fork, where `goes_on`, and else still at it.
     fn join(&mut self, children: &[Self], goes_on: bool)
         requires { ops.born self.old children.now }
         ensures { self.new ≡ ops.join self.old children.now goes_on };
 
-    /// The value of the channel's own variable, which this process carries.
+    /// Goes to the handler of the exception of this label, whose place has to be in force and the
+    /// process's own: the label is one from `base` up to `handlers` without that.
+    fn unwind(&mut self, label: u32)
+        requires { (ops.base self.old ≤ label) × (label < ops.handlers self.old) }
+        ensures { self.new ≡ ops.unwind self.old label };
+
+    /// The value of the channel's own variable, which this process has to carry.
     fn value(&self, c: &Chan) -> i64
         requires { ops.carries self.now c.now.channel ≡ true }
         ensures { result ≡ ops.value self.now c.now.channel };
 
-    /// Whether the process takes part in the channel's meetings.
+    /// Whether the process was given the channel or declared it.
     fn shares(&self, c: &Chan) -> bool
         ensures { result ≡ ops.shares self.now c.now.channel };
+
+    /// Lends one of the channels that the fork which made the process gave it, counted from 0; `None`
+    /// behind the last. No call changes them, and a root has none.
+    fn given(&self, at: usize) -> Option<&Chan>
+        ensures { option_copied result ≡ slice_get (ops.given self.now) at };
 
     /// Whether the channel's own variable is one of this process.
     fn carries(&self, c: &Chan) -> bool
         ensures { result ≡ ops.carries self.now c.now.channel };
 
-    /// Where it stands in the tree of processes.
+    /// Whether the output is this process's, so that it may put.
+    fn holds_output(&self) -> bool
+        ensures { result ≡ ops.holds_output self.now };
+
+    /// Where it stands in the tree of processes. Each value of the type has what all states have that a
+    /// process comes to, and who holds one learns it here.
     fn path(&self) -> &Path
-        ensures { result.now ≡ ops.path self.now };
+        ensures path { result.now ≡ ops.path self.now }
+        ensures sound { ops.sound self.now };
+
+    /// How many exception places are in force around the process.
+    fn base(&self) -> u32
+        ensures { result ≡ ops.base self.now };
+
+    /// How many are in force with its own.
+    fn handlers(&self) -> u32
+        ensures { result ≡ ops.handlers self.now };
+
+    /// The number of the name and the line of the `try` of this label, of which is asked what `unwind`
+    /// asks.
+    fn handler(&self, label: u32) -> (u32, u32)
+        requires { (ops.base self.now ≤ label) × (label < ops.handlers self.now) }
+        ensures { result ≡ ops.handler self.now label };
+
+    /// Whether the two are the same state.
+    fn same(&self, other: &Self) -> bool
+        ensures { IsTrue result ↔ (self.now ≡ other.now) };
+
+    /// Another value of the same state.
+    fn copy(&self) -> Result<Self, NoMemory>
+        ensures { IfOk result (λ copy. copy ≡ self.now) };
 
     /// What holds of every kind of process.
     ghost laws: { LocalLaws ops };

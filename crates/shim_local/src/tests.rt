@@ -5,55 +5,89 @@ ghost use Rattle.shim_local.specs.Process.{AtFork};
 use crate::local::{Forked, Local, Stop};
 use crate::small::{Small, Step};
 use shim_base::{Chan, List, NoMemory, Path, push_decimal};
+use std::alloc::Global;
 use std::sync::Arc;
 use std::test::Fail;
+
+fn tell(told: &mut List<u8>, what: &[u8], number: u32) -> Result<(), NoMemory> {
+    told.extend_from_slice(what)?;
+    push_decimal(told, number as u64)
+}
 
 // Tells at what the process stands, and goes on behind it. A meeting gives 5.
 fn go_on<L: Local>(process: &mut L, told: &mut List<u8>) -> Result<(), NoMemory> {
     match process.stop() {
         Stop::Quiet => {
-            told.extend_from_slice(b" quiet ")?;
             let quiet = process.quiet(2);
-            push_decimal(told, quiet.taken)
+            tell(told, b" quiet ", quiet.taken as u32)
         }
         Stop::Next(chan) => {
-            told.extend_from_slice(b" next ")?;
-            push_decimal(told, chan.serial() as u64)?;
+            tell(told, b" next ", chan.serial())?;
             process.receive(5);
             Ok(())
         }
-        Stop::Put => {
-            told.extend_from_slice(b" put ")?;
-            match process.put() {
-                Some(byte) => push_decimal(told, byte as u64),
-                None => Ok(()),
-            }
-        }
+        Stop::Put => match process.put() {
+            Some(byte) => tell(told, b" put ", byte as u32),
+            None => told.extend_from_slice(b" put"),
+        },
         Stop::Fork => {
             told.extend_from_slice(b" fork")?;
             fork_and_join(process, told)
         }
         Stop::Finish => told.extend_from_slice(b" finish"),
+        Stop::Throw(label) => {
+            tell(told, b" throw ", label)?;
+            unwind(process, label, told)
+        }
+        Stop::Trapped(_, line) => tell(told, b" trapped ", line),
     }
 }
 
-// Tells the pairs of each child's path, gives the first child 0 where it stands at a meeting, and goes
-// on behind the fork.
+// Goes to the handler of the label, where that is the process's own, and tells it.
+fn unwind<L: Local>(process: &mut L, label: u32, told: &mut List<u8>) -> Result<(), NoMemory> {
+    if process.base() <= label && label < process.handlers() {
+        let handler = process.handler(label);
+        tell(told, b" of ", handler.0)?;
+        tell(told, b".", handler.1)?;
+        process.unwind(label);
+    }
+    Ok(())
+}
+
+fn tell_path(path: &Path, told: &mut List<u8>) -> Result<(), NoMemory> {
+    for pair in path.pairs() {
+        tell(told, b" ", pair.0)?;
+        tell(told, b".", pair.1)?;
+    }
+    Ok(())
+}
+
+// Tells the pairs of the path and of each child's path, and of each child how many exception places are
+// around it and the channels that it was given. It gives the first child 0 where that stands at a
+// meeting, and goes on behind the fork.
 fn fork_and_join<L: Local>(process: &mut L, told: &mut List<u8>) -> Result<(), NoMemory>
     requires { L.ops.stop process.old ≡ AtFork }
 {
+    tell_path(process.path(), told)?;
     if let Forked::Children(children) = process.fork()? {
         let mut children = children.into_vec();
         for child in children.as_slice() {
-            for pair in child.path().pairs() {
-                told.extend_from_slice(b" ")?;
-                push_decimal(told, pair.0 as u64)?;
-                told.extend_from_slice(b".")?;
-                push_decimal(told, pair.1 as u64)?;
-            }
+            tell_path(child.path(), told)?;
+            tell(told, b" in ", child.base())?;
+            tell_given(child, told)?;
         }
         meet_first(&mut children);
         process.join(children.as_slice(), true);
+    }
+    Ok(())
+}
+
+// Tells the first three of the channels that the process was given, as many as there are.
+fn tell_given<L: Local>(process: &L, told: &mut List<u8>) -> Result<(), NoMemory> {
+    for at in 0..3 {
+        if let Some(chan) = process.given(at) {
+            tell(told, b" with ", chan.serial())?;
+        }
     }
     Ok(())
 }
@@ -63,42 +97,194 @@ fn meet_first<L: Local>(children: &mut Vec<L>)
     ensures { (parent : L) → L.ops.born parent children.old.items → L.ops.born parent children.new.items }
 {
     if let Some(first) = children.first_mut() {
+        let _path = first.path(); // its state is sound
         if let Stop::Next(_) = first.stop() {
             first.receive(0);
         }
     }
 }
 
+// A process of this path with these steps to do, on a channel of the root.
+fn small(
+    path: Path,
+    left: &[Step],
+    serial: u32,
+    name: u32,
+    alloc: Global,
+) -> Result<Small, NoMemory> {
+    let chan = Chan::new(Arc::new(alloc, Path::root(alloc))?, serial, name);
+    Ok(Small::new(path, Vec::from_slice(alloc, left)?, chan))
+}
+
+// Whether this is told of a root with these steps to do that goes on so often.
+fn is_told(alloc: Global, left: &[Step], times: u32, text: &[u8]) -> Result<bool, NoMemory> {
+    let mut process = small(Path::root(alloc), left, 3, 0, alloc)?;
+    let mut told = List::new(alloc);
+    for _ in 0..times {
+        go_on(&mut process, &mut told)?;
+    }
+    Ok(told.as_slice() == text)
+}
+
 #[test]
 fn each_stop_is_gone_through(rt: HostRuntime) -> Result<(), Fail> {
     let alloc = rt.alloc();
-    let mut steps = Vec::new(alloc);
-    for step in [
+    let steps = [
         Step::Put,
         Step::Quiet,
         Step::Quiet,
         Step::Quiet,
         Step::Next,
         Step::Put,
-        Step::Fork,
-        Step::Fork,
+    ];
+    assert!(rt;
+        is_told(
+            alloc,
+            &steps,
+            6,
+            b" put 0 quiet 2 quiet 1 next 3 put 1 finish"
+        )?
+    );
+    Ok(())
+}
+
+#[test]
+fn children_are_told_their_places_and_channels(rt: HostRuntime) -> Result<(), Fail> {
+    let alloc = rt.alloc();
+    let steps = [Step::Fork, Step::Try(6, 30), Step::Fork, Step::Put];
+    let text =
+        b" fork 0.0 in 1 with 3 0.1 in 1 with 3 quiet 1 fork 1.0 in 2 with 3 1.1 in 2 with 3 put 0";
+    assert!(rt; is_told(alloc, &steps, 4, text)?);
+    Ok(())
+}
+
+#[test]
+fn exception_goes_to_its_handler(rt: HostRuntime) -> Result<(), Fail> {
+    let alloc = rt.alloc();
+    let steps = [
+        Step::Try(3, 20),
+        Step::Try(4, 21),
+        Step::Throw(2),
         Step::Put,
-    ] {
-        steps.push(step)?;
+    ];
+    assert!(rt; is_told(alloc, &steps, 4, b" quiet 2 throw 2 of 4.21 put 0 finish")?);
+    Ok(())
+}
+
+#[test]
+fn inner_place_goes_with_the_outer_one(rt: HostRuntime) -> Result<(), Fail> {
+    let alloc = rt.alloc();
+    let steps = [
+        Step::Try(3, 20),
+        Step::Try(4, 21),
+        Step::Throw(1),
+        Step::Throw(2),
+    ];
+    assert!(rt; is_told(alloc, &steps, 3, b" quiet 2 throw 1 of 3.20 trapped 1")?);
+    assert!(rt; is_told(alloc, &[Step::Throw(0)], 1, b" throw 0")?);
+    Ok(())
+}
+
+#[test]
+fn traps_are_stood_at(rt: HostRuntime) -> Result<(), Fail> {
+    let alloc = rt.alloc();
+    assert!(rt; is_told(alloc, &[Step::Put, Step::Trap], 2, b" put trapped 1")?);
+    assert!(rt; is_told(alloc, &[Step::Fork, Step::Trap], 2, b" fork trapped 1")?);
+    Ok(())
+}
+
+#[test]
+fn nothing_is_put_before_a_trap(rt: HostRuntime) -> Result<(), Fail> {
+    let alloc = rt.alloc();
+    assert!(rt; is_told(alloc, &[Step::Put, Step::Throw(1)], 2, b" put trapped 1")?);
+    assert!(rt; is_told(alloc, &[Step::Put, Step::Throw(0)], 2, b" put 0 throw 0")?);
+    assert!(rt; is_told(alloc, &[Step::Fork, Step::Throw(1)], 2, b" fork trapped 1")?);
+    Ok(())
+}
+
+// Whether the process stands trapped.
+fn is_trapped<L: Local>(process: &L) -> bool {
+    match process.stop() {
+        Stop::Trapped(_, _) => true,
+        _ => false,
     }
+}
+
+#[test]
+fn a_child_holds_no_output(rt: HostRuntime) -> Result<(), Fail> {
+    let alloc = rt.alloc();
+    let path = Path::root(alloc).child(0, 1)?;
+    let child = small(path, &[Step::Put], 3, 0, alloc)?;
+    assert!(rt; is_trapped(&child) && !child.holds_output());
+    Ok(())
+}
+
+#[test]
+fn a_root_carries_its_channel(rt: HostRuntime) -> Result<(), Fail> {
+    let alloc = rt.alloc();
     let chan = Chan::new(Arc::new(alloc, Path::root(alloc))?, 3, 0);
     let other = Chan::new(Arc::new(alloc, Path::root(alloc))?, 4, 0);
-    let mut process = Small::new(Path::root(alloc), steps, chan.copy()?);
-    let mut told = List::new(alloc);
-    for _ in 0..9 {
-        go_on(&mut process, &mut told)?;
-    }
-    assert_eq!(rt;
-        told.as_slice(),
-        b" put 0 quiet 2 quiet 1 next 3 put 1 fork 0.0 0.1 fork 1.0 1.1 put 0 finish".as_slice()
-    );
+    let process = behind(alloc, &[Step::Next])?;
     assert!(rt; process.carries(&chan) && process.shares(&chan));
     assert!(rt; !process.carries(&other) && !process.shares(&other));
-    assert_eq!(rt; process.value(&chan), 0);
+    assert!(rt; process.holds_output() && process.given(0).is_none());
+    assert!(rt; process.value(&chan) == 5);
+    Ok(())
+}
+
+// A root that had these steps to do, and went on once.
+fn behind(alloc: Global, left: &[Step]) -> Result<Small, NoMemory> {
+    let mut process = small(Path::root(alloc), left, 3, 0, alloc)?;
+    let mut told = List::new(alloc);
+    go_on(&mut process, &mut told)?;
+    Ok(process)
+}
+
+// Whether the two are told apart, and each is the same as its copy.
+fn are_apart<L: Local>(a: &L, b: &L) -> Result<bool, NoMemory> {
+    let copy_of_a = a.copy()?;
+    let copy_of_b = b.copy()?;
+    Ok(!a.same(b) && !b.same(a) && a.same(&copy_of_a) && copy_of_b.same(b))
+}
+
+// Whether a root with a put to do is told apart from one with these steps, on this channel.
+fn differs(alloc: Global, left: &[Step], serial: u32, name: u32) -> Result<bool, NoMemory> {
+    let root = small(Path::root(alloc), &[Step::Put], 3, 0, alloc)?;
+    let other = small(Path::root(alloc), left, serial, name, alloc)?;
+    are_apart(&root, &other)
+}
+
+// Whether a root is told apart from a child.
+fn child_differs(alloc: Global) -> Result<bool, NoMemory> {
+    let root = small(Path::root(alloc), &[Step::Put], 3, 0, alloc)?;
+    let path = Path::root(alloc).child(0, 0)?;
+    let child = small(path, &[Step::Put], 3, 0, alloc)?;
+    are_apart(&root, &child)
+}
+
+// Whether two roots are told apart that had these steps to do, and went on once.
+fn differ_behind(alloc: Global, a: &[Step], b: &[Step]) -> Result<bool, NoMemory> {
+    let a = behind(alloc, a)?;
+    let b = behind(alloc, b)?;
+    are_apart(&a, &b)
+}
+
+#[test]
+fn states_that_differ_are_told_apart(rt: HostRuntime) -> Result<(), Fail> {
+    let alloc = rt.alloc();
+    assert!(rt; differs(alloc, &[Step::Quiet], 3, 0)?);
+    assert!(rt; differs(alloc, &[Step::Put], 4, 0)?);
+    assert!(rt; differs(alloc, &[Step::Put], 3, 1)?);
+    assert!(rt; child_differs(alloc)?);
+    Ok(())
+}
+
+#[test]
+fn what_was_done_tells_states_apart(rt: HostRuntime) -> Result<(), Fail> {
+    let alloc = rt.alloc();
+    assert!(rt; differ_behind(alloc, &[Step::Quiet], &[Step::Next])?);
+    assert!(rt; differ_behind(alloc, &[Step::Quiet], &[Step::Fork])?);
+    assert!(rt; differ_behind(alloc, &[Step::Try(3, 20)], &[Step::Try(3, 21)])?);
+    assert!(rt; differ_behind(alloc, &[Step::Try(3, 20)], &[Step::Try(4, 20)])?);
     Ok(())
 }

@@ -290,9 +290,6 @@ fn a_long_source_comes_to_its_end(rt: HostRuntime) -> Result<(), Fail> {
 fn another_fork_is_not_built(rt: HostRuntime) -> Result<(), Fail> {
     let alloc = rt.alloc();
     for source in [
-        // Both branches by reference, of one variable.
-        "void f(int &a) { } void main() { int c; f(c); par f(c); }",
-        "void f(int &a) { } void main() { int c; f(c); par f((c)); }",
         // Branches that aren't calls with a variable.
         "void f(int a) { } void main() { int c; f(c); par f(c + 0); }",
         "void f(int a) { } void main() { int c; f(c); par f(1); }",
@@ -399,6 +396,24 @@ fn a_program_that_is_refused_has_the_line_of_its_first_place(rt: HostRuntime) ->
         (
             "void f(int &a) { } void main() { int x; f(x + 0); }",
             "refused 1 wrong kind a\n",
+        ),
+        // Sharing: one writer of each variable and stream in a fork, and one reference in a call.
+        (
+            "void main() {\n  int x;\n  { x = 1; } par { { x = 2; } }\n}\n",
+            "refused 3 two writers x 0 1\n",
+        ),
+        (
+            "void f(int &a) { } void main() { int c; f(c); par f((c)); }",
+            "refused 1 two writers c 0 1\n",
+        ),
+        (
+            "void f(int &a, int b) { } void main() { int a; f(a, a); }",
+            "refused 1 alias a\n",
+        ),
+        // Names come before sharing, in the whole program.
+        (
+            "void main() { int x; { x = 1; } par { x = 2; }\n y = 1; }",
+            "refused 2 unknown name y\n",
         ),
         // The first place stands, whatever the form of the program.
         (

@@ -11,8 +11,10 @@ use Rattle.shim_scopes.specs.declared.fault.ScopeKind.{ScopeKind}
 use Rattle.shim_scopes.specs.declared.fault.ScopeKind.TheVariants.{UnknownName, UnknownFunction, UnknownException, Twice, Arity, WrongKind, NoMain, MainParameters}
 use Rattle.shim_scopes.specs.declared.fault.ScopeFault.{ScopeFault}
 use Rattle.shim_scopes.specs.declared.fault.ScopeFault.TheVariants.{Refused, NoMemory as NoScopeMemory}
+use Rattle.shim_sharing.specs.declared.fault.ShareFault.{ShareFault}
+use Rattle.shim_sharing.specs.declared.fault.ShareFault.TheVariants.{TwoWriters, Alias, NoMemory as NoShareMemory}
 use Rattle.shim_report.specs.declared.fault.SourceFault.{SourceFault}
-use Rattle.shim_report.specs.declared.fault.SourceFault.TheVariants.{Parse, Scope}
+use Rattle.shim_report.specs.declared.fault.SourceFault.TheVariants.{Parse, Scope, Share}
 
 -- `refused LINE CAUSE AT`, AT being a place of the source, counted from 0
 unfoldable pub with_place : ℕ → List ℕ → ℕ → List ℕ
@@ -21,6 +23,11 @@ with_place line cause at = codes "refused " ++ (decimal line ++ (codes " " ++ (c
 -- `refused LINE CAUSE NAME`
 unfoldable pub with_name : ℕ → List ℕ → List ℕ → List ℕ
 with_name line cause name = codes "refused " ++ (decimal line ++ (codes " " ++ (cause ++ (codes " " ++ (name ++ codes "\n")))))
+
+-- `refused LINE two writers NAME FIRST SECOND`, the branches counted from 0
+unfoldable pub with_branches : ℕ → List ℕ → ℕ → ℕ → List ℕ
+with_branches line name first second =
+    codes "refused " ++ (decimal line ++ (codes " two writers " ++ (name ++ (codes " " ++ (decimal first ++ (codes " " ++ (decimal second ++ codes "\n")))))))
 
 -- `refused LINE CAUSE`
 unfoldable pub without_place : ℕ → List ℕ → List ℕ
@@ -70,7 +77,14 @@ abbrev pub refusal_of_scope : ScopeFault → List ℕ
 refusal_of_scope (Refused line kind name) = refusal_of_binding line kind name
 refusal_of_scope NoScopeMemory = []
 
+-- want of memory has no line
+abbrev pub refusal_of_sharing : ShareFault → List ℕ
+refusal_of_sharing (TwoWriters line name first second) = with_branches line name first second
+refusal_of_sharing (Alias line name) = with_name line (codes "alias") name
+refusal_of_sharing NoShareMemory = []
+
 -- the line that tells of a fault, with its line feed
 abbrev pub refusal : SourceFault → List ℕ
 refusal (Parse fault) = refusal_of fault
 refusal (Scope fault) = refusal_of_scope fault
+refusal (Share fault) = refusal_of_sharing fault

@@ -2,12 +2,14 @@
 ghost use Rattle.std.specs.Prelude.{◌≡◌, ◌≢◌, IfOk};
 ghost use Rattle.shim_parser.specs.declared.ParseFault.TheVariants as faults;
 ghost use Rattle.shim_scopes.specs.declared.ScopeFault.TheVariants as scope_faults;
-ghost use Rattle.shim_report.specs.Refusal.{refusal, refusal_of, refusal_of_binding, refusal_of_cutting, refusal_of_scope};
+ghost use Rattle.shim_sharing.specs.declared.ShareFault.TheVariants as share_faults;
+ghost use Rattle.shim_report.specs.Refusal.{refusal, refusal_of, refusal_of_binding, refusal_of_cutting, refusal_of_scope, refusal_of_sharing};
 
-use crate::line::{line_with_name, line_with_place, line_without_place, too_many};
+use crate::line::{line_with_name, line_with_place, line_without_place, too_many, two_writers};
 use shim_base::{List, Name, NoMemory};
 use shim_parser::{LexFault, LexKind, ParseFault};
 use shim_scopes::{ScopeFault, ScopeKind};
+use shim_sharing::ShareFault;
 use std::alloc::Global;
 
 /// Why a source is refused.
@@ -17,6 +19,8 @@ pub enum SourceFault {
     Parse(ParseFault),
     /// It is the text of a program that has no resolved form.
     Scope(ScopeFault),
+    /// It is the text of a program whose variables are shared in a way that is refused.
+    Share(ShareFault),
 }
 
 // The line of a text that can't be cut.
@@ -72,14 +76,33 @@ fn scoping(alloc: Global, fault: &ScopeFault) -> Result<List<u8>, NoMemory>
     }
 }
 
+// The line of a program that breaks the sharing rule.
+fn sharing(alloc: Global, fault: &ShareFault) -> Result<List<u8>, NoMemory>
+    ensures line { IfOk result (λ text. text ≡ refusal_of_sharing fault.now) }
+    ensures memory { IfOk result (λ text. fault.now ≢ share_faults.NoMemory) }
+{
+    match fault {
+        ShareFault::TwoWriters {
+            line,
+            name,
+            first,
+            second,
+        } => two_writers(alloc, *line, name, *first, *second),
+        ShareFault::Alias { line, name } => line_with_name(alloc, *line, "alias", name),
+        ShareFault::NoMemory => Err(NoMemory),
+    }
+}
+
 /// The line that tells of a fault, with its line feed. Want of memory has no line: it is answered as
 /// itself.
 pub fn fault_text(alloc: Global, fault: &SourceFault) -> Result<List<u8>, NoMemory>
     ensures line { IfOk result (λ text. text ≡ refusal fault.now) }
-    ensures memory { IfOk result (λ text. (fault.now ≢ SourceFault.Parse faults.NoMemory) × (fault.now ≢ SourceFault.Scope scope_faults.NoMemory)) }
+    ensures memory { IfOk result (λ text. (fault.now ≢ SourceFault.Parse faults.NoMemory) × (fault.now ≢ SourceFault.Scope scope_faults.NoMemory)
+        × (fault.now ≢ SourceFault.Share share_faults.NoMemory)) }
 {
     match fault {
         SourceFault::Parse(fault) => parsing(alloc, fault),
         SourceFault::Scope(fault) => scoping(alloc, fault),
+        SourceFault::Share(fault) => sharing(alloc, fault),
     }
 }

@@ -10,10 +10,13 @@ pub use report::text;
 pub use shim_local::{Ended, History, Log, LogWhat, Outcome, OwnSteps, WaitAt};
 pub use shim_parser::ParseFault;
 pub use shim_scopes::{ScopeFault, ScopeKind};
+pub use shim_sharing::ShareFault;
 
 #[cfg(test)]
 mod report_tests;
 #[cfg(test)]
 mod scope_tests;
+#[cfg(test)]
+mod share_tests;
 #[cfg(test)]
 mod tests;

@@ -1,6 +1,6 @@
 // The three forms of a refusal's line.
 ghost use Rattle.std.specs.Prelude.{◌≡◌, IfOk};
-ghost use Rattle.shim_report.specs.Refusal.{with_name, with_place, without_place, word_of};
+ghost use Rattle.shim_report.specs.Refusal.{with_branches, with_name, with_place, without_place, word_of};
 
 use shim_base::{List, Name, NoMemory, push_decimal};
 use shim_parser::Many;
@@ -44,6 +44,30 @@ pub(crate) fn line_with_name(
     text.extend_from_slice(cause.as_bytes())?;
     text.extend_from_slice(b" ")?;
     text.extend_from_slice(name.as_bytes())?;
+    text.extend_from_slice(b"\n")?;
+    Ok(text)
+}
+
+/// The line of a fork of which two branches write one variable.
+#[tactic(auto, unfolding(crate::specs::Refusal::with_branches))]
+pub(crate) fn two_writers(
+    alloc: Global,
+    line: u32,
+    name: &Name,
+    first: u32,
+    second: u32,
+) -> Result<List<u8>, NoMemory>
+    ensures { IfOk result (λ text. text ≡ with_branches line name.now first second) }
+{
+    let mut text = List::new(alloc);
+    text.extend_from_slice(b"refused ")?;
+    push_decimal(&mut text, line as u64)?;
+    text.extend_from_slice(b" two writers ")?;
+    text.extend_from_slice(name.as_bytes())?;
+    text.extend_from_slice(b" ")?;
+    push_decimal(&mut text, first as u64)?;
+    text.extend_from_slice(b" ")?;
+    push_decimal(&mut text, second as u64)?;
     text.extend_from_slice(b"\n")?;
     Ok(text)
 }

@@ -1,13 +1,13 @@
--- Statements and functions that are looked at one after another.
-use Rattle.std.proofs.Common.{◌≡◌, ◌<◌, ◌≤◌, ℕ, zero, suc, ◌+◌, Bool, true, false, List, [], ◌∷◌, ◌++◌, length, take, map, get_or, Some, refl, sym, ap, ◌∙◌, subst, arith, append_assoc, IsTrue, ◌⊎◌, inl, inr}
-use Rattle.std.specs.Prelude.{slice_get, bytes_eq, ◌||◌}
+-- Statements and functions that are looked at one after another, and what comes of all of them.
+use Rattle.std.proofs.Common.{◌≡◌, ◌<◌, ◌≤◌, ℕ, zero, suc, ◌+◌, Bool, true, false, List, [], ◌∷◌, ◌++◌, length, take, map, get_or, Option, Some, None, ◌↔◌, refl, sym, ap, ◌∙◌, subst, arith, append_assoc, IsTrue, ◌⊎◌, inl, inr}
+use Rattle.std.specs.Prelude.{slice_get, bytes_eq, is_some, ◌||◌}
 use Rattle.std.specs.Option.{option_map}
 use Rattle.std.proofs.lemmas.Bool.{or_parts}
 use Rattle.std.proofs.lemmas.List.{take_more}
 use Rattle.std.proofs.lemmas.Option.{slice_get-map, slice_get_read, slice_get_within, get_or_from_slice_get}
 use Rattle.shim_tool.specs.Plan.{Act, Declares, Assigns, Meets, Puts, Forks, Strange, Takes, Routine}
-use Rattle.shim_tool.specs.Process.{act_names, declared_names}
-use Rattle.shim_tool.specs.Form.{has, fork_count, is_allowed, known_first}
+use Rattle.shim_tool.specs.Lookup.{act_names, declared_names, routine_named}
+use Rattle.shim_tool.specs.Form.{has, fork_count, is_allowed, known_first, main_name, AreNamedOnce, AreRunnable, IsRun}
 
 -- an item, as a view of the list has it
 pub at_view : {X Y : Type 0} (f : X → Y) (xs : List X) (i : ℕ) (x : X) → i < length xs → x ≡ get_or xs i x → slice_get (map f xs) i ≡ Some (f x)
@@ -111,3 +111,8 @@ some_below [] zero x some = absurd (cc)
 some_below [] (suc n) x some = absurd (cc)
 some_below (s ∷ rs) zero x some = absurd (cc)
 some_below (s ∷ rs) (suc n) x some = below_of_test (bytes_eq s.name x) s rs n x (has (names_below rs n) x) refl (λ rest. some_below rs n x rest) some
+
+-- functions of which each can be run, and no two have one name, are run exactly where one is `main`
+pub run_by_main : {R : Type 0} (view : R → Routine) (rs : List Routine) (main : Option R) → option_map view main ≡ routine_named rs main_name → AreNamedOnce rs → AreRunnable rs rs → IsTrue (is_some main) ↔ IsRun rs
+run_by_main view rs None is once each = (λ no. absurd (cc), λ run. absurd (let found = run.1.found in cc (is, found)))
+run_by_main view rs (Some main) is once each = (λ _. ((view main).body, record { once = once; main = view main; found = sym is; has_body = refl; each = each }), λ _. refl)

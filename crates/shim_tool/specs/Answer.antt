@@ -1,23 +1,20 @@
 -- What the tool answers, from what it was asked and what it saw.
-use Rattle.std.specs.Prelude.{ℕ, ◌≡◌, ◌<◌, ◌≤◌, ◌⊎◌, IsTrue, List, [], ◌∷◌, ◌++◌, length, Some, Err, IfSome, IsSomeAnd, codes, decimal}
+use Rattle.std.specs.Prelude.{ℕ, ◌≡◌, ◌<◌, ◌≤◌, ◌⊎◌, IsTrue, List, [], ◌∷◌, ◌++◌, length, Some, Ok, Err, IfSome, IsSomeAnd, codes, decimal}
 use Rattle.shim_edge.specs.Files.{file_of, IsHeld}
 use Rattle.shim_syntax.specs.declared.Program.{Program}
 use Rattle.shim_syntax.specs.Text.{IsText}
 use Rattle.shim_parser.specs.declared.ParseFault.{ParseFault}
 use Rattle.shim_parser.specs.Parsing.{IsFaultOf}
-use Rattle.shim_scopes.specs.declared.ScopeFault.TheVariants.{Refused}
-use Rattle.shim_scopes.specs.Refusals.{Refusal}
-use Rattle.shim_scopes.specs.Functions.{bind_program}
 use Rattle.shim_report.specs.declared.SourceFault.{SourceFault}
-use Rattle.shim_report.specs.declared.SourceFault.TheVariants.{Parse, Scope}
+use Rattle.shim_report.specs.declared.SourceFault.TheVariants.{Parse}
 use Rattle.shim_report.specs.Refusal.{refusal}
 use Rattle.shim_tool.specs.declared.mode.Mode.{Mode}
 use Rattle.shim_tool.specs.declared.mode.Mode.TheVariants.{Run}
 use Rattle.shim_tool.specs.Asked.{Asked, nothing, job}
 use Rattle.shim_tool.specs.Moments.{FilesAt}
-use Rattle.shim_tool.specs.Plan.{Act, Routine, routines_of}
-use Rattle.shim_tool.specs.Form.{IsOfForm}
-use Rattle.shim_tool.specs.Source.{Source, IsSource, IsBound}
+use Rattle.shim_tool.specs.Plan.{routines_of}
+use Rattle.shim_tool.specs.Form.{IsRun}
+use Rattle.shim_tool.specs.Source.{Source, IsSource, IsOfOtherForm, checked}
 use Rattle.shim_tool.specs.Meaning.{report_of, status_of}
 
 -- a status and the text that goes with it
@@ -61,10 +58,6 @@ not_built = record { status = 5; text = not_built_line }
 abbrev pub refused : SourceFault → Answer
 refused fault = record { status = 5; text = refusal fault }
 
--- a place of a program that is refused, as the fault of its source
-abbrev pub scope_fault : Refusal → SourceFault
-scope_fault r = Scope (Refused r.line r.kind r.name)
-
 abbrev pub no_memory : Answer
 no_memory = record { status = 8; text = memory_line }
 
@@ -84,17 +77,17 @@ pub record IsOnlyFault (bytes : List ℕ) (fault : ParseFault) : Type 0 where
 abbrev pub IsNoSource : List ℕ → Type 0
 IsNoSource bytes = (source : Source) → IsSource bytes source → ⊥
 
--- functions of the form that is run are answered with the end of their run, and others as not built
-abbrev pub AnswersRoutines : Mode → List Routine → Answer → Type 0
-AnswersRoutines mode rs answer =
-    ((body : List Act) × IsOfForm rs body × (answer ≡ end_answer mode (record { routines = rs; body = body })))
-    ⊎ (((body : List Act) → IsOfForm rs body → ⊥) × (answer ≡ not_built))
+-- the units of a program of the form that is run are answered with the end of their run, and those of another as not built
+abbrev pub AnswersUnits : Mode → Program → Source → Answer → Type 0
+AnswersUnits mode program source answer =
+    (IsRun (routines_of program) × (answer ≡ end_answer mode source))
+    ⊎ (IsOfOtherForm program × (answer ≡ not_built))
 
--- those of a program whose names are bound; any other is answered with the line of its first place that is refused
+-- a program that is accepted is answered as its units, and another with the line of its first fault
 abbrev pub AnswersProgram : Mode → Program → Answer → Type 0
 AnswersProgram mode program answer =
-    (IsBound program × AnswersRoutines mode (routines_of program) answer)
-    ⊎ ((r : Refusal) × (bind_program program ≡ Err r) × (answer ≡ refused (scope_fault r)))
+    ((source : Source) × (checked program ≡ Ok source) × AnswersUnits mode program source answer)
+    ⊎ ((fault : SourceFault) × (checked program ≡ Err fault) × (answer ≡ refused fault))
 
 -- the text of a program is answered as the program, and other bytes with the line of their fault
 abbrev pub AnswersSource : Mode → List ℕ → Answer → Type 0

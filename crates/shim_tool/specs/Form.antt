@@ -4,7 +4,7 @@ use Rattle.std.specs.List.{list_any}
 use Rattle.shim_syntax.specs.declared.tree.Expr.{Expr, fold-Expr, Expr-F}
 use Rattle.shim_tool.specs.Sums.{is_small}
 use Rattle.shim_tool.specs.Plan.{Given, Act, Declares, Assigns, Meets, Puts, Forks, Strange, Takes, TakesNothing, TakesCopy, TakesReference, TakesOutput, TakesOther, Routine}
-use Rattle.shim_tool.specs.Process.{declared_names, routine_named, moves}
+use Rattle.shim_tool.specs.Lookup.{declared_names, routine_named, moves}
 
 -- the name is one of these
 abbrev pub has : List (List ℕ) → List ℕ → Bool
@@ -119,3 +119,7 @@ pub record IsOfForm (rs : List Routine) (body : List Act) : Type 0 where
   pub found : routine_named rs main_name ≡ Some main
   pub has_body : main.body ≡ body
   pub each : AreRunnable rs rs
+
+-- the functions are those of a program that is run
+abbrev pub IsRun : List Routine → Type 0
+IsRun rs = (body : List Act) × IsOfForm rs body

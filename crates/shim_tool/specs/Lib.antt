@@ -1,16 +1,10 @@
 -- The definitions of this crate, one module for each subject.
-pub mod Measure
 pub mod Sums
 pub mod Plan
 pub mod PlanView
 pub mod NameView
 pub mod Branches
-pub mod Process
-pub mod ProcessLaws
-pub mod Places
-pub mod Steps
-pub mod Counts
-pub mod Summable
+pub mod Lookup
 pub mod Form
 pub mod Source
 pub mod Meaning

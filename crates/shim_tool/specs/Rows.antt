@@ -7,16 +7,15 @@ use Rattle.shim_syntax.specs.declared.Program.{Program}
 use Rattle.shim_syntax.specs.Text.{IsText}
 use Rattle.shim_parser.specs.declared.ParseFault.{ParseFault}
 use Rattle.shim_parser.specs.Parsing.{IsFaultOf}
-use Rattle.shim_scopes.specs.Refusals.{Refusal}
-use Rattle.shim_scopes.specs.Functions.{bind_program}
+use Rattle.shim_report.specs.declared.SourceFault.{SourceFault}
 use Rattle.shim_report.specs.declared.SourceFault.TheVariants.{Parse}
 use Rattle.shim_report.specs.Refusal.{refusal}
 use Rattle.shim_tool.specs.declared.mode.Mode.{Mode}
 use Rattle.shim_tool.specs.Asked.{Asked, nothing, job}
 use Rattle.shim_tool.specs.Moments.{FilesAt, SinkAt}
-use Rattle.shim_tool.specs.Source.{Source, IsSource, IsBound, IsOfOtherForm}
+use Rattle.shim_tool.specs.Source.{Source, IsSource, IsAccepted, IsOfOtherForm, checked}
 use Rattle.shim_tool.specs.Meaning.{status_of}
-use Rattle.shim_tool.specs.Answer.{Answer, MayAnswer, FailedGrew, ReadFailed, IsTooLong, IsContent, IsNoSource, scope_fault, source_limit, text_of, usage_line, not_built_line, failed_line, longer_line, memory_line}
+use Rattle.shim_tool.specs.Answer.{Answer, MayAnswer, FailedGrew, ReadFailed, IsTooLong, IsContent, IsNoSource, source_limit, text_of, usage_line, not_built_line, failed_line, longer_line, memory_line}
 
 -- this status came with this text, whole
 abbrev pub Came : ℕ → List ℕ → SinkAt → SinkAt → ℕ → Type 0
@@ -50,11 +49,11 @@ pub record WordsRow (ask : Asked) (out_before out_now : SinkAt) (result : ℕ) :
   pub only : result ≡ 2 → (ask ≡ nothing) × (out_now.taken ≡ then_bytes out_before.taken usage_line)
   pub when : ask ≡ nothing → Comes 2 usage_line out_before out_now result
 
--- Why bytes are refused with this line: they are the text of a program whose names are bound, and which isn't of the form that is run; or of one in which this place is the first that is refused; or they have a fault.
+-- Why bytes are refused with this line: they are the text of a program that is accepted, and which isn't of the form that is run; or of one that isn't, with this first fault; or they are the text of none, with this fault.
 abbrev pub IsRefusal : List ℕ → List ℕ → Type 0
 IsRefusal bytes line =
-    ((program : Program) × IsText bytes program × IsBound program × IsOfOtherForm program × (line ≡ not_built_line))
-    ⊎ ((program : Program) × IsText bytes program × (r : Refusal) × (bind_program program ≡ Err r) × (line ≡ refusal (scope_fault r)))
+    ((program : Program) × IsText bytes program × IsAccepted program × IsOfOtherForm program × (line ≡ not_built_line))
+    ⊎ ((program : Program) × IsText bytes program × (fault : SourceFault) × (checked program ≡ Err fault) × (line ≡ refusal fault))
     ⊎ ((fault : ParseFault) × IsFaultOf bytes fault × (line ≡ refusal (Parse fault)))
 
 -- 5: exactly where the file is no source that is run, with the line of the cause; and no other text comes of such a file

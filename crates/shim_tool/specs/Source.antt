@@ -1,29 +1,57 @@
 -- The sources that are run.
-use Rattle.std.specs.Prelude.{◌≡◌, ℕ, List, Ok}
+use Rattle.std.specs.Prelude.{◌≡◌, ℕ, List, Result, Ok, Err}
 use Rattle.shim_syntax.specs.declared.Program.{Program}
 use Rattle.shim_syntax.specs.Text.{IsText}
-use Rattle.shim_scopes.specs.declared.form.Form.{Form}
+use Rattle.shim_scopes.specs.declared.form.Form.{Form as Resolved}
+use Rattle.shim_scopes.specs.declared.ScopeFault.TheVariants.{Refused, NoMemory}
+use Rattle.shim_scopes.specs.Refusals.{Refusal}
 use Rattle.shim_scopes.specs.Functions.{bind_program}
-use Rattle.shim_tool.specs.Plan.{Act, Routine, routines_of}
-use Rattle.shim_tool.specs.Form.{IsOfForm}
+use Rattle.shim_sharing.specs.declared.form.Form.{Form}
+use Rattle.shim_sharing.specs.declared.ShareFault.{ShareFault}
+use Rattle.shim_sharing.specs.declared.ShareFault.TheVariants.{TwoWriters, Alias, NoMemory as NoShareMemory}
+use Rattle.shim_sharing.specs.Accepting.{accepted}
+use Rattle.shim_report.specs.declared.SourceFault.{SourceFault}
+use Rattle.shim_report.specs.declared.SourceFault.TheVariants.{Parse, Scope, Share}
+use Rattle.shim_tool.specs.Plan.{routines_of}
+use Rattle.shim_tool.specs.Form.{IsRun}
 
--- what is run: the functions of a program, and the body of its `main`
-pub record Source : Type 0 where
-  pub routines : List Routine
-  pub body : List Act
+-- what is run: a program in its units
+abbrev pub Source : Type 0
+Source = Form
 
--- each name of the program is bound, and nothing of it is refused
-abbrev pub IsBound : Program → Type 0
-IsBound program = (form : Form) × (bind_program program ≡ Ok form)
+abbrev pub shared : Result Form ShareFault → Result Form SourceFault
+shared (Ok form) = Ok form
+shared (Err fault) = Err (Share fault)
 
--- the bytes are the text of a program whose names are bound and which is of the form that is run, and this is it
+abbrev pub bound : Result Resolved Refusal → Result Form SourceFault
+bound (Ok resolved) = shared (accepted resolved)
+bound (Err r) = Err (Scope (Refused r.line r.kind r.name))
+
+-- the units of a program, or its first fault: names are asked about before their sharing
+abbrev pub checked : Program → Result Form SourceFault
+checked program = bound (bind_program program)
+
+-- the answer is the one that is meant, and want of memory may stand in its place
+abbrev pub IsMeant : Result Form SourceFault → Result Form SourceFault → Type 0
+IsMeant (Ok form) meant = meant ≡ Ok form
+IsMeant (Err (Parse fault)) meant = ⊥
+IsMeant (Err (Scope (Refused line kind name))) meant = meant ≡ Err (Scope (Refused line kind name))
+IsMeant (Err (Scope NoMemory)) meant = Unit {0}
+IsMeant (Err (Share (TwoWriters line name first second))) meant = meant ≡ Err (Share (TwoWriters line name first second))
+IsMeant (Err (Share (Alias line name))) meant = meant ≡ Err (Share (Alias line name))
+IsMeant (Err (Share NoShareMemory)) meant = Unit {0}
+
+-- each name of the program is bound, its variables are shared by the rule, and nothing of it is refused
+abbrev pub IsAccepted : Program → Type 0
+IsAccepted program = (form : Form) × (checked program ≡ Ok form)
+
+-- the bytes are the text of a program that is accepted and of the form that is run, and these are its units
 pub record IsSource (bytes : List ℕ) (source : Source) : Type 0 where
   pub program : Program
   pub text : IsText bytes program
-  pub bound : IsBound program
-  pub functions : source.routines ≡ routines_of program
-  pub form : IsOfForm source.routines source.body
+  pub units : checked program ≡ Ok source
+  pub runs : IsRun (routines_of program)
 
 -- the program isn't of the form that is run
 abbrev pub IsOfOtherForm : Program → Type 0
-IsOfOtherForm program = (body : List Act) → IsOfForm (routines_of program) body → ⊥
+IsOfOtherForm program = IsRun (routines_of program) → ⊥

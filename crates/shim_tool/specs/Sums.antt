@@ -1,5 +1,5 @@
--- Sums of names and small numbers, and what they come to.
-use Rattle.std.specs.Prelude.{ℕ, ℤ, pos, ◌+ℤ◌, Bool, true, false, ◌&&◌, not, List, Option, Some, None, int_lt, if◌then◌else◌}
+-- Sums of names and small numbers.
+use Rattle.std.specs.Prelude.{pos, Bool, true, false, ◌&&◌, not, int_lt, if◌then◌else◌}
 use Rattle.std.specs.Int.{is_negative}
 use Rattle.shim_base.specs.declared.operators.BinOp.TheVariants.{Add}
 use Rattle.shim_syntax.specs.declared.tree.Expr.{Expr, fold-Expr, Expr-F}
@@ -31,23 +31,3 @@ is_part _ = true
 -- the expression is a sum of names and of small numbers
 abbrev pub is_small : Expr → Bool
 is_small e = is_part (part_of e)
-
--- the value of each name
-abbrev pub Values : Type 0
-Values = List ℕ → ℤ
-
-abbrev pub total_step : Values → Expr-F ℤ → ℤ
-total_step values (Expr-F.Number n) = n
-total_step values (Expr-F.Var x) = values x
-total_step values (Expr-F.Unary op a) = pos 0
-total_step values (Expr-F.Binary Add a b) = a +ℤ b
--- no sum has another operator
-total_step values (Expr-F.Binary op a b) = pos 0
-
--- the whole number that a sum adds up to
-abbrev pub total : Values → Expr → ℤ
-total values = fold-Expr ℤ (total_step values)
-
-abbrev pub first_value : Values → Option Expr → ℤ
-first_value values None = pos 0
-first_value values (Some e) = total values e

@@ -2,6 +2,7 @@
 ghost use Rattle.std.specs.Prelude.{◌≡◌, ◌≢◌, IfOk};
 ghost use Rattle.shim_scopes.specs.declared.ScopeFault.TheVariants as scope_faults;
 ghost use Rattle.shim_parser.specs.declared.ParseFault.TheVariants as parse_faults;
+ghost use Rattle.shim_sharing.specs.declared.ShareFault.TheVariants as share_faults;
 ghost use Rattle.shim_report.specs.declared.SourceFault.TheVariants as faults;
 ghost use Rattle.shim_tool.specs.Answer as answers;
 ghost use Rattle.shim_tool.specs.Views.{answer_view};
@@ -48,7 +49,7 @@ pub(crate) fn not_built(alloc: Global) -> Result<Answer, NoMemory>
 /// The answer to a source that has this fault. Want of memory is answered as itself.
 pub(crate) fn refused(alloc: Global, fault: SourceFault) -> Result<Answer, NoMemory>
     ensures { IfOk result (λ a. (fault ≢ faults.Parse parse_faults.NoMemory) × (fault ≢ faults.Scope scope_faults.NoMemory)
-        × (answer_view a ≡ answers.refused fault)) }
+        × (fault ≢ faults.Share share_faults.NoMemory) × (answer_view a ≡ answers.refused fault)) }
 {
     Ok(Answer {
         status: Status::Refused,

@@ -1,104 +1,116 @@
 // From the bytes of a source to the answer.
-ghost use Rattle.std.specs.Prelude.{◌≡◌, ◌≤◌, length, IfOk};
+ghost use Rattle.std.specs.Prelude.{◌≡◌, ◌≤◌, ◌↔◌, length, IfOk, IsTrue};
 ghost use Rattle.shim_scopes.specs.Resolving.{HasText};
-ghost use Rattle.shim_tool.specs.Answer.{AnswersRoutines, AnswersProgram, AnswersSource, text_of, end_answer};
+ghost use Rattle.shim_sharing.specs.Accepting.{accepted};
+ghost use Rattle.shim_tool.specs.Answer.{AnswersUnits, AnswersProgram, AnswersSource, text_of, end_answer};
+ghost use Rattle.shim_tool.specs.Form.{IsRun};
 ghost use Rattle.shim_tool.specs.Meaning as meanings;
 ghost use Rattle.shim_tool.specs.Plan.{routines_of};
-ghost use Rattle.shim_tool.specs.Source.{Source};
-ghost use Rattle.shim_tool.specs.PlanView.{plan_view, body_view};
-ghost use Rattle.shim_tool.specs.Process as processes;
-ghost use Rattle.shim_tool.specs.Summable.{AreSummable, AreAllSummable, HaveShortSums};
+ghost use Rattle.shim_tool.specs.Source.{IsMeant, checked, shared};
 ghost use Rattle.shim_tool.specs.Views.{answer_view};
 
 use crate::answer::{Answer, not_built, refused};
-use crate::form::main_of;
+use crate::form::is_run;
 use crate::mode::Mode;
-use crate::names::names_of;
-use crate::plan::{Action, Routine, plan_of};
-use crate::process::Process;
+use crate::plan::plan_of;
 use crate::run::run;
 use crate::status::Status;
-use shim_base::{List, NoMemory};
+use shim_base::{List, NoMemory, Shared};
 use shim_parser::parse;
 use shim_report::{Ended, SourceFault, text};
-use shim_scopes::resolve;
+use shim_scopes::{Resolved, resolve};
+use shim_sharing::{Accepted, accept};
 use shim_syntax::Program;
+use shim_walk::Walk;
 use std::alloc::Global;
 
 /// The most events of a run: the budget where none is asked for.
 const BUDGET: u64 = 1000000;
 
-// What a source's run comes to.
+// What a source's run comes to. It has no input.
 #[tactic(auto, unfolding(crate::specs::Meaning::end_of))]
-fn end_of(alloc: Global, routines: &[Routine], body: &[Action]) -> Result<Ended, NoMemory>
-    requires routines { AreAllSummable (plan_view routines.now) }
-    requires body { AreSummable (body_view body.now) }
-    ensures { IfOk result (λ end. end ≡ meanings.end_of (record { routines = plan_view routines.now; body = body_view body.now })) }
+fn end_of(alloc: Global, source: Shared<Accepted>) -> Result<Ended, NoMemory>
+    ensures { IfOk result (λ end. end ≡ meanings.end_of source) }
 {
-    run(alloc, Process::root(alloc, routines, body)?, BUDGET)
+    let input = Shared::new(alloc, List::new(alloc))?;
+    let main = Walk::main(alloc, source, input)?;
+    run(alloc, main, BUDGET)
 }
 
-// What a mode writes of a run that has ended so.
-fn text_of(
-    alloc: Global,
-    mode: Mode,
-    routines: &[Routine],
-    end: &Ended,
-) -> Result<List<u8>, NoMemory>
-    ensures { IfOk result (λ text. (source : Source) → source.routines ≡ plan_view routines.now → end.now ≡ meanings.end_of source → text ≡ text_of mode source) }
+// What a mode writes of a source's run that has ended so.
+fn text_of(alloc: Global, mode: Mode, source: &Accepted, end: &Ended) -> Result<List<u8>, NoMemory>
+    requires { end.now ≡ meanings.end_of source.now }
+    ensures { IfOk result (λ text. text ≡ text_of mode source.now) }
 {
     match mode {
-        Mode::Run => {
-            let names = names_of(alloc, routines)?;
-            text(alloc, end, names.as_slice())
-        }
+        Mode::Run => text(alloc, end, source.names()),
     }
 }
 
-// Runs a program, and tells its end.
-fn end_answer(
-    alloc: Global,
-    mode: Mode,
-    routines: &[Routine],
-    body: &[Action],
-) -> Result<Answer, NoMemory>
-    requires routines { AreAllSummable (plan_view routines.now) }
-    requires body { AreSummable (body_view body.now) }
-    ensures { IfOk result (λ a. answer_view a ≡ end_answer mode (record { routines = plan_view routines.now; body = body_view body.now })) }
+// Runs a source, and tells its end.
+fn end_answer(alloc: Global, mode: Mode, source: Accepted) -> Result<Answer, NoMemory>
+    ensures { IfOk result (λ a. answer_view a ≡ end_answer mode source) }
 {
-    let end = end_of(alloc, routines, body)?;
+    let source = Shared::new(alloc, source)?;
+    let end = end_of(alloc, source.share()?)?;
     Ok(Answer {
         status: Status::of(end.outcome),
-        text: text_of(alloc, mode, routines, &end)?,
+        text: text_of(alloc, mode, &source, &end)?,
     })
 }
 
-fn answer_routines(alloc: Global, mode: Mode, routines: &[Routine]) -> Result<Answer, NoMemory>
-    requires { HaveShortSums (plan_view routines.now) }
-    ensures { IfOk result (λ a. AnswersRoutines mode (plan_view routines.now) (answer_view a)) }
+// Whether the program has the form that is run.
+fn has_form(alloc: Global, program: &Program) -> Result<bool, NoMemory>
+    ensures { IfOk result (λ has. IsTrue has ↔ IsRun (routines_of program.now)) }
 {
-    match main_of(alloc, routines)? {
-        Some(body) => end_answer(alloc, mode, routines, body),
-        None => not_built(alloc),
+    let routines = plan_of(alloc, program)?;
+    is_run(alloc, routines.as_slice())
+}
+
+// Runs the units of a program that is accepted, if it has the form that is run.
+fn answer_accepted(
+    alloc: Global,
+    mode: Mode,
+    program: &Program,
+    units: Accepted,
+) -> Result<Answer, NoMemory>
+    ensures { IfOk result (λ a. AnswersUnits mode program.now units (answer_view a)) }
+{
+    if has_form(alloc, program)? {
+        end_answer(alloc, mode, units)
+    } else {
+        not_built(alloc)
     }
 }
 
-// Runs a program whose names are bound, if it has the form that is run.
-fn answer_bound(alloc: Global, mode: Mode, program: &Program) -> Result<Answer, NoMemory>
-    requires { HaveShortSums (routines_of program.now) }
-    ensures { IfOk result (λ a. AnswersRoutines mode (routines_of program.now) (answer_view a)) }
+// The units of a resolved program, or its first fault.
+fn share(alloc: Global, resolved: Resolved) -> Result<Accepted, SourceFault>
+    ensures { IsMeant result (shared (accepted resolved)) }
 {
-    let routines = plan_of(alloc, program)?;
-    answer_routines(alloc, mode, routines.as_slice())
+    match accept(alloc, resolved) {
+        Ok(accepted) => Ok(accepted),
+        Err(fault) => Err(SourceFault::Share(fault)),
+    }
+}
+
+// The units of a program, or its first fault.
+fn check(alloc: Global, program: &Program) -> Result<Accepted, SourceFault>
+    requires { HasText program.now }
+    ensures { IsMeant result (checked program.now) }
+{
+    match resolve(alloc, program) {
+        Ok(resolved) => share(alloc, resolved),
+        Err(fault) => Err(SourceFault::Scope(fault)),
+    }
 }
 
 fn answer_program(alloc: Global, mode: Mode, program: &Program) -> Result<Answer, NoMemory>
     requires { HasText program.now }
     ensures { IfOk result (λ a. AnswersProgram mode program.now (answer_view a)) }
 {
-    match resolve(alloc, program) {
-        Ok(_) => answer_bound(alloc, mode, program),
-        Err(fault) => refused(alloc, SourceFault::Scope(fault)),
+    match check(alloc, program) {
+        Ok(units) => answer_accepted(alloc, mode, program, units),
+        Err(fault) => refused(alloc, fault),
     }
 }
 

@@ -1,12 +1,11 @@
 // Whether a program is of the form that is run.
-ghost use Rattle.std.specs.Prelude.{◌≡◌, ◌≤◌, ◌↔◌, [], ◌∷◌, ◌++◌, List, IsTrue, IfOk, OnOk, MatchOption};
+ghost use Rattle.std.specs.Prelude.{◌≡◌, ◌≤◌, ◌↔◌, [], ◌∷◌, ◌++◌, IsTrue, IfOk, OnOk};
 ghost use Rattle.std.specs.Option.{option_map};
-ghost use Rattle.shim_tool.specs.Plan.{Act};
 ghost use Rattle.shim_tool.specs.PlanView.{action_view, body_view, given_view, plan_view, routine_view, taken_view};
 ghost use Rattle.shim_tool.specs.NameView.{texts_of};
-ghost use Rattle.shim_tool.specs.Process as process;
+ghost use Rattle.shim_tool.specs.Lookup.{act_names};
 ghost use Rattle.shim_tool.specs.Form as forms;
-ghost use Rattle.shim_tool.specs.Form.{IsOfForm, IsRunnable, AreNamedOnce, AreAllowed, AreRunnable};
+ghost use Rattle.shim_tool.specs.Form.{IsRun, IsRunnable, AreNamedOnce, AreAllowed, AreRunnable};
 
 use crate::lookup::{moves, routine_named};
 use crate::plan::{Action, Given, Routine, Taken};
@@ -15,24 +14,17 @@ use shim_base::{Name, NoMemory};
 use shim_syntax::Expr;
 use std::alloc::Global;
 
-/// The body of `main`, where the functions are those of a program that is run.
-pub(crate) fn main_of<'a, 'b>(
-    alloc: Global,
-    routines: &'a [Routine<'b>],
-) -> Result<Option<&'a [Action<'b>]>, NoMemory>
-    ensures { IfOk result (λ main. MatchOption main ((body : List Act) → IsOfForm (plan_view routines.now) body → ⊥)
-        (λ body. IsOfForm (plan_view routines.now) (body_view body.now))) }
+/// Whether the functions are those of a program that is run.
+pub(crate) fn is_run(alloc: Global, routines: &[Routine<'_>]) -> Result<bool, NoMemory>
+    ensures { IfOk result (λ run. IsTrue run ↔ IsRun (plan_view routines.now)) }
 {
     if !are_named_once(alloc, routines)? {
-        return Ok(None);
+        return Ok(false);
     }
     if !are_runnable(alloc, routines)? {
-        return Ok(None);
+        return Ok(false);
     }
-    match routine_named(routines, b"main") {
-        None => Ok(None),
-        Some(main) => Ok(Some(main.body.as_slice())),
-    }
+    Ok(routine_named(routines, b"main").is_some())
 }
 
 // Whether no two functions have one name.
@@ -149,7 +141,7 @@ fn add_taken<'a>(names: &mut Vec<&'a Name>, takes: Taken<'a>) -> Result<(), NoMe
 
 // Adds the name that the statement declares.
 fn add_declared<'a>(names: &mut Vec<&'a Name>, action: Action<'a>) -> Result<(), NoMemory>
-    ensures { OnOk result (texts_of names.new.items ≡ texts_of names.old.items ++ process.act_names (action_view action.entry)) }
+    ensures { OnOk result (texts_of names.new.items ≡ texts_of names.old.items ++ act_names (action_view action.entry)) }
 {
     match action {
         Action::Declare(name, _) => names.push(name)?,

@@ -2,18 +2,13 @@
 #![tactic(auto)]
 
 mod answer;
-mod branch;
 mod call;
 mod execute;
 mod form;
 mod lookup;
 mod mode;
-mod names;
-mod place;
 mod plan;
-mod process;
 mod run;
-mod statement;
 mod status;
 mod sum;
 mod words;

@@ -2,10 +2,10 @@
 use Rattle.std.proofs.Common.{◌≡◌, ℕ, zero, suc, ◌+◌, ◌<◌, ◌≤◌, true, Some, None, List, [], ◌∷◌, ◌++◌, length, get_or, slice_set, vec_len, refl, sym, ap, subst, ◌∙◌, arith}
 use Rattle.std.specs.declared.vec.Vec.{Vec}
 use Rattle.std.specs.declared.alloc.Global.{Global}
-use Rattle.shim_local.specs.Process.{Ops, AtFork}
+use Rattle.shim_local.specs.Process.{Ops, AtFork, Parted}
 use Rattle.shim_tree.specs.Nodes as model
 use Rattle.shim_tree.specs.Nodes.{state, states, all_ended}
-use Rattle.shim_tree.specs.Acts.{Acted, act, act_child, act_here, act_live, within, in_front, behind}
+use Rattle.shim_tree.specs.Acts.{Acted, act, act_child, act_here, act_live, parted, within, in_front, behind}
 use Rattle.shim_tree.specs.Places.{SoundBelow, SoundChildren}
 use Rattle.shim_tree.specs.declared.below.Below.{Below}
 use Rattle.shim_tree.specs.declared.below.Below.TheVariants as code
@@ -56,10 +56,10 @@ states_together (l ∷ ls) [] = ap (λ z. l ∷ z) (states_together ls [])
 states_together (l ∷ ls) (b ∷ bs) = ap (λ z. z ∷ states (together ls (nodes bs))) (state_node l b) ∙ ap (λ z. l ∷ z) (states_together ls bs)
 
 -- a fork, as the code does it
-pub fork_acts : {S : Type 0} (o : Ops S) (l m : S) (b : Below S) (ls : Vec S Global) (bs : Vec (Below S) Global) → b ≡ code.Live → o.stop l ≡ AtFork → o.fork l ≡ (m, ls.items) → bs.items ≡ []
+pub fork_acts : {S : Type 0} (o : Ops S) (l m : S) (b : Below S) (ls : Vec S Global) (bs : Vec (Below S) Global) → b ≡ code.Live → o.stop l ≡ AtFork → o.fork l ≡ Parted m ls.items → bs.items ≡ []
     → act_here o (node l b) ≡ Some (record { node = node m (code.Forked ls bs); bytes = [] })
 fork_acts {S} o l m b ls bs e s f none_of =
-    ap (act_here o) (ap (node l) e ∙ node_live l) ∙ (ap (act_live o l) s ∙ (ap (λ z. let r : Acted S = record { node = model.Forked z.0 (model.all_live z.1); bytes = [] } in Some r) f
+    ap (act_here o) (ap (node l) e ∙ node_live l) ∙ (ap (act_live o l) s ∙ (ap (λ z. let r : Acted S = record { node = parted z; bytes = [] } in Some r) f
     ∙ sym (ap (λ z. let r : Acted S = record { node = z; bytes = [] } in Some r) (node_forked m ls bs ∙ ap (model.Forked m) (ap (λ z. together ls.items (nodes z)) none_of ∙ together_none ls.items)))))
 
 -- the children of a fork are born of its process
@@ -117,8 +117,8 @@ sound_child {S} o i ls bs l b h k d e s = sound_place s.0 s.1 s.2 i ls bs h k d 
         → SoundChildren o p f j (together ls (nodes bs)) → SoundBelow o (node l b)
     sound_place p f j i [] bs h k d e s = absurd (omega arith)
     sound_place p f j i (m ∷ ls) [] h k d e s = absurd (omega arith)
-    sound_place p f j zero (m ∷ ls) (c ∷ bs) h k d e s = subst (SoundBelow o) (λ t. node (sym d t) (sym e t)) s.1
-    sound_place p f j (suc i) (m ∷ ls) (c ∷ bs) h k d e s = sound_place p f (j + 1) i ls bs (omega arith) (omega arith) d e s.2
+    sound_place p f j zero (m ∷ ls) (c ∷ bs) h k d e s = subst (SoundBelow o) (λ t. node (sym d t) (sym e t)) s.2
+    sound_place p f j (suc i) (m ∷ ls) (c ∷ bs) h k d e s = sound_place p f (j + 1) i ls bs (omega arith) (omega arith) d e s.3
 
 -- the child at a place acts
 pub acts_none : {S : Type 0} (o : Ops S) (i : ℕ) (q : List ℕ) (ls : List S) (bs : List (Below S)) (l : S) (b : Below S) → i < length ls → i < length bs → l ≡ get_or ls i l → b ≡ get_or bs i b

@@ -1,7 +1,7 @@
 -- The walk of a sound tree lists the enabled events, and no others.
 use Rattle.std.proofs.Common.{◌≡◌, Bool, true, false, Option, Some, None, List, [], ◌∷◌, ◌&&◌, ◌||◌, inl, inr, not, cond, map, filter, refl, sym, ap, subst, ◌∙◌, ℕ}
 use Rattle.shim_base.specs.Paths.{Path, Channel, same_path, same_channel}
-use Rattle.shim_local.specs.Process.{Ops, StopView, AtQuiet, AtNext, AtPut, AtFork, AtFinish}
+use Rattle.shim_local.specs.Process.{Ops, StopView, AtQuiet, AtNext, AtPut, AtFork, AtFinish, AtThrow, AtTrap}
 use Rattle.shim_tree.specs.Nodes.{Node, Nodes, Live, Forked, Ended, Dead, no_node, node_and, state, states, goes, is_dead, all_ended, next_of, is_next, any_sharer, ready, all_ready, source, value_of}
 use Rattle.shim_tree.specs.Acts.{Acted, act_here, act_live}
 use Rattle.shim_tree.specs.Listing.{IsAmong, ListsEnabled}
@@ -41,6 +41,8 @@ live_does e p AtFork d (inl h) = (sym (ap doer h), ap (λ z. same_kind (does z) 
 live_does e p AtFork d (inr h) = absurd h
 live_does e p AtFinish d (inl h) = (sym (ap doer h), ap (λ z. same_kind (does z) Ends) h)
 live_does e p AtFinish d (inr h) = absurd h
+live_does e p (AtThrow label) d h = absurd h
+live_does e p (AtTrap kind line) d h = absurd h
 live_does e p (AtNext c) d h = no_meet (same_path c.channel.home p) h
   where
     no_meet : {A : Type 0} (b : Bool) → IsAmong e (cond b (Meet c.channel ∷ []) []) → A
@@ -54,21 +56,29 @@ does_live (Own p) AtPut e = inl refl
 does_live (Own p) AtFork e = inl refl
 does_live (Own p) AtFinish e = absurd cc
 does_live (Own p) (AtNext c) e = absurd cc
+does_live (Own p) (AtThrow label) e = absurd cc
+does_live (Own p) (AtTrap kind line) e = absurd cc
 does_live (Meet c) AtQuiet e = absurd cc
 does_live (Meet c) AtPut e = absurd cc
 does_live (Meet c) AtFork e = absurd cc
 does_live (Meet c) AtFinish e = absurd cc
 does_live (Meet c) (AtNext d) e = absurd cc
+does_live (Meet c) (AtThrow label) e = absurd cc
+does_live (Meet c) (AtTrap kind line) e = absurd cc
 does_live (Close p) AtQuiet e = absurd cc
 does_live (Close p) AtPut e = absurd cc
 does_live (Close p) AtFork e = absurd cc
 does_live (Close p) AtFinish e = absurd cc
 does_live (Close p) (AtNext c) e = absurd cc
+does_live (Close p) (AtThrow label) e = absurd cc
+does_live (Close p) (AtTrap kind line) e = absurd cc
 does_live (End p) AtQuiet e = absurd cc
 does_live (End p) AtPut e = absurd cc
 does_live (End p) AtFork e = absurd cc
 does_live (End p) AtFinish e = inl refl
 does_live (End p) (AtNext c) e = absurd cc
+does_live (End p) (AtThrow label) e = absurd cc
+does_live (End p) (AtTrap kind line) e = absurd cc
 
 -- the close that a fork lists
 among_close : (e : Event) (q : Path) (b : Bool) → IsAmong e (cond b (Close q ∷ []) []) → (b ≡ true) × (e ≡ Close q)
@@ -96,6 +106,14 @@ module _ {S : Type 0} (o : Ops S) where
   live_acts l Ends (AtNext c) e = absurd cc
   live_acts l Closes (AtNext c) e = absurd cc
   live_acts l Nothing (AtNext c) e = absurd cc
+  live_acts l Steps (AtThrow label) e = absurd cc
+  live_acts l Ends (AtThrow label) e = absurd cc
+  live_acts l Closes (AtThrow label) e = absurd cc
+  live_acts l Nothing (AtThrow label) e = absurd cc
+  live_acts l Steps (AtTrap kind line) e = absurd cc
+  live_acts l Ends (AtTrap kind line) e = absurd cc
+  live_acts l Closes (AtTrap kind line) e = absurd cc
+  live_acts l Nothing (AtTrap kind line) e = absurd cc
 
   fork_acts : (l : S) (ks : Nodes S) → all_ended ks ≡ true → (a : Acted S) × (act_here o (Forked l ks) ≡ Some a)
   fork_acts l ks e =
@@ -140,6 +158,8 @@ module _ {S : Type 0} (o : Ops S) where
   next_waited AtPut c e = absurd cc
   next_waited AtFork c e = absurd cc
   next_waited AtFinish c e = absurd cc
+  next_waited (AtThrow label) c e = absurd cc
+  next_waited (AtTrap kind line) c e = absurd cc
 
   must_be : (a g d r : Bool) → g && a ≡ true → not (a && (g || d)) || r ≡ true → r ≡ true
   must_be true true d r e f = f
@@ -184,6 +204,8 @@ module _ {S : Type 0} (o : Ops S) where
   live_meets c p AtFork (inr h) = absurd h
   live_meets c p AtFinish (inl h) = absurd cc
   live_meets c p AtFinish (inr h) = absurd h
+  live_meets c p (AtThrow label) h = absurd h
+  live_meets c p (AtTrap kind line) h = absurd h
 
   -- the node that lists a meeting declared the channel, and is ready on it
   listed_meets : (c : Channel) (m : Node S) → IsAmong (Meet c) (here o m) → meets_here o m c ≡ true
@@ -213,6 +235,8 @@ module _ {S : Type 0} (o : Ops S) where
       live AtPut e = absurd cc
       live AtFork e = absurd cc
       live AtFinish e = absurd cc
+      live (AtThrow label) e = absurd cc
+      live (AtTrap kind line) e = absurd cc
   meets_listed c (Ended l) h = absurd (let e = second_holds (same_path c.home (o.path l)) _ h in cc)
   meets_listed c (Dead l x) h = absurd (let e = second_holds (same_path c.home (o.path l)) _ h in cc)
   meets_listed c (Forked l ks) h =

@@ -36,11 +36,11 @@ module _ {S : Type 0} (o : Ops S) where
     at_path_in : (l : S) (f j : ℕ) (ks : Nodes S) (m : Node S) (i : ℕ) (q : List ℕ) → SoundChildren o l f j ks → child_at i q ks ≡ Some m → (r : Path) × (o.path (state m) ≡ o.path l ++ (f, j + i) ∷ r) × (branches r ≡ q)
     at_path_in l f j no_node m i q s e = none_some m e
     at_path_in l f j (node_and k ks) m zero q s e =
-        let h = at_path k m q s.1 e in
+        let h = at_path k m q s.2 e in
         let w : j ≡ j + zero = omega arith in
         (h.0, h.1 ∙ (further (o.path l) (f, j) (o.path (state k)) h.0 s.0 ∙ ap (λ z. o.path l ++ (f, z) ∷ h.0) w), h.2)
     at_path_in l f j (node_and k ks) m (suc i) q s e =
-        let h = at_path_in l f (j + 1) ks m i q s.2 e in
+        let h = at_path_in l f (j + 1) ks m i q s.3 e in
         let w : j + 1 + i ≡ j + suc i = omega arith in
         (h.0, h.1 ∙ ap (λ z. o.path l ++ (f, z) ∷ h.0) w, h.2)
 

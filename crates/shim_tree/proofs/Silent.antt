@@ -1,7 +1,7 @@
 -- A close and an end put no byte.
 use Rattle.std.proofs.Common.{◌≡◌, ℕ, Bool, true, false, Option, Some, None, List, [], ◌&&◌, sym, ap, subst, ◌∙◌}
 use Rattle.shim_base.specs.Paths.{Path, same_path}
-use Rattle.shim_local.specs.Process.{Ops, StopView, AtQuiet, AtNext, AtPut, AtFork, AtFinish}
+use Rattle.shim_local.specs.Process.{Ops, StopView, AtQuiet, AtNext, AtPut, AtFork, AtFinish, AtThrow, AtTrap}
 use Rattle.shim_tree.specs.Nodes.{Node, Live, Forked, Ended, Dead, state, all_ended}
 use Rattle.shim_tree.specs.Acts.{Acted, act_here, act_live}
 use Rattle.shim_tree.specs.Places.{at, at_route, route, led_to}
@@ -21,6 +21,8 @@ live_silent o l AtPut a k e = absurd cc
 live_silent o l AtFork a k e = absurd cc
 live_silent o l AtFinish a k e = ap (λ z. z.bytes) (sym (some_same _ a e))
 live_silent o l (AtNext c) a k e = none_some a e
+live_silent o l (AtThrow label) a k e = none_some a e
+live_silent o l (AtTrap kind line) a k e = none_some a e
 
 ends_silent : {S : Type 0} (o : Ops S) (n : Node S) (a : Acted S) → same_kind Ends (kind_of o n) ≡ true → act_here o n ≡ Some a → a.bytes ≡ []
 ends_silent o (Live l) a k e = live_silent o l (o.stop l) a k e
@@ -38,6 +40,8 @@ closes_silent {S} o (Live l) a k e = rest (o.stop l) k
     rest AtFork k = absurd cc
     rest AtFinish k = absurd cc
     rest (AtNext c) k = absurd cc
+    rest (AtThrow label) k = absurd cc
+    rest (AtTrap kind line) k = absurd cc
 closes_silent o (Forked l ks) a k e = ap (λ z. z.bytes) (sym (cond_some (all_ended ks) _ a e).1)
 closes_silent o (Ended l) a k e = none_some a e
 closes_silent o (Dead l x) a k e = none_some a e

@@ -1,15 +1,11 @@
 -- What an event at a process of the code leaves, with the byte that it puts.
-use Rattle.std.specs.Prelude.{◌≡◌, ℕ, Option, Some, None, List, [], ◌∷◌}
+use Rattle.std.specs.Prelude.{◌≡◌, ℕ, Option, Some, List, []}
 use Rattle.shim_base.specs.Paths.{Path}
 use Rattle.shim_local.specs.Process.{Ops}
 use Rattle.shim_tree.specs.Nodes.{Node, Nodes, state}
-use Rattle.shim_tree.specs.Acts.{Acted, act_here, act, act_child}
+use Rattle.shim_tree.specs.Acts.{Acted, byte_list, act_here, act, act_child}
 use Rattle.shim_tree.specs.Places.{route, SoundChildren}
 use Rattle.shim_tree.specs.Trees.{act_route}
-
-abbrev pub byte_list : Option ℕ → List ℕ
-byte_list None = []
-byte_list (Some b) = b ∷ []
 
 -- the process of the node does its one thing
 abbrev pub ActsHere : {S : Type 0} → Ops S → Node S → Option ℕ → Node S → Type 0

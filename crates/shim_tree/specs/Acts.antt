@@ -1,6 +1,6 @@
 -- What a process does by itself: a step of its own, its end, or the close of its fork.
 use Rattle.std.specs.Prelude.{ℕ, zero, suc, Option, Some, None, List, [], ◌∷◌, cond, true}
-use Rattle.shim_local.specs.Process.{Ops, StopView, AtQuiet, AtNext, AtPut, AtFork, AtFinish}
+use Rattle.shim_local.specs.Process.{Ops, StopView, Parting, AtQuiet, AtNext, AtPut, AtFork, AtFinish, AtThrow, AtTrap, Parted, Stuck}
 use Rattle.shim_tree.specs.Nodes.{Node, Nodes, Live, Forked, Ended, Dead, no_node, node_and, states, all_live, all_ended}
 
 -- what stands in place of a node afterwards, and the bytes that were put
@@ -8,12 +8,25 @@ pub record Acted (S : Type 0) : Type 0 where
   pub node : Node S
   pub bytes : List ℕ
 
+-- a put that traps puts no byte
+abbrev pub byte_list : Option ℕ → List ℕ
+byte_list None = []
+byte_list (Some b) = b ∷ []
+
+-- what a fork leaves: the parent above its children, or the process that trapped, which lives on
+abbrev pub parted : {S : Type 0} → Parting S → Node S
+parted (Parted l ks) = Forked l (all_live ks)
+parted (Stuck l) = Live l
+
+-- a process that stands at a throw or trapped does nothing by itself yet
 abbrev pub act_live : {S : Type 0} → Ops S → S → StopView → Option (Acted S)
 act_live o l AtQuiet = Some (record { node = Live (o.quiet l); bytes = [] })
-act_live o l AtPut = Some (record { node = Live (o.put l); bytes = o.byte l ∷ [] })
-act_live o l AtFork = Some (record { node = Forked (o.fork l).0 (all_live (o.fork l).1); bytes = [] })
+act_live o l AtPut = Some (record { node = Live (o.put l); bytes = byte_list (o.byte l) })
+act_live o l AtFork = Some (record { node = parted (o.fork l); bytes = [] })
 act_live o l AtFinish = Some (record { node = Ended l; bytes = [] })
 act_live o l (AtNext c) = None
+act_live o l (AtThrow label) = None
+act_live o l (AtTrap kind line) = None
 
 -- the one thing that the process of a node can do by itself; a fork closes when every child has ended, and their values come back
 abbrev pub act_here : {S : Type 0} → Ops S → Node S → Option (Acted S)

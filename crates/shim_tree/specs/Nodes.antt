@@ -1,7 +1,7 @@
 -- A process with what came of it, and the processes below it.
 use Rattle.std.specs.Prelude.{ℕ, ℤ, pos, Bool, true, false, Option, Some, None, List, [], ◌∷◌, ◌&&◌, ◌||◌, not, cond}
 use Rattle.shim_base.specs.Paths.{Channel, NamedChannel, same_channel}
-use Rattle.shim_local.specs.Process.{Ops, StopView, AtQuiet, AtNext, AtPut, AtFork, AtFinish}
+use Rattle.shim_local.specs.Process.{Ops, StopView, AtQuiet, AtNext, AtPut, AtFork, AtFinish, AtThrow, AtTrap}
 
 -- A process lives, has forked, has ended, or has died of an exception with this label. A process that has forked has its children below it, in order.
 mutual
@@ -60,6 +60,8 @@ next_of AtQuiet = None
 next_of AtPut = None
 next_of AtFork = None
 next_of AtFinish = None
+next_of (AtThrow label) = None
+next_of (AtTrap kind line) = None
 
 -- it stands at this channel
 abbrev pub is_next : StopView → Channel → Bool
@@ -68,6 +70,8 @@ is_next AtQuiet c = false
 is_next AtPut c = false
 is_next AtFork c = false
 is_next AtFinish c = false
+is_next (AtThrow label) c = false
+is_next (AtTrap kind line) c = false
 
 -- one of them shares the channel and has neither ended nor died
 abbrev pub any_sharer : {S : Type 0} → Ops S → Channel → Nodes S → Bool

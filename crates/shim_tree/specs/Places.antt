@@ -52,15 +52,15 @@ is_ready_at o c (Some n) = same_path (o.path (state n)) c.home && ready o c n
 abbrev pub meets : {S : Type 0} → Ops S → Channel → Node S → Bool
 meets o c root = is_ready_at o c (led_to o root c.home)
 
--- Sound: each child's path is its parent's with one pair more, the same fork's number for all children of a fork and the child's place from 0; and the children of a fork are born of it.
+-- Sound: each state is one that a process comes to; each child's path is its parent's with one pair more, the same fork's number for all children of a fork and the child's place from 0; as many exception places are in force around a child as with those of its parent; and the children of a fork are born of it.
 abbrev mutual
   pub SoundBelow : {S : Type 0} → Ops S → Node S → Type 0
-  SoundBelow o (Live l) = Unit {0}
-  SoundBelow o (Ended l) = Unit {0}
-  SoundBelow o (Dead l x) = Unit {0}
-  SoundBelow o (Forked l ks) = (f : ℕ) × SoundChildren o l f 0 ks × o.born l (states ks)
+  SoundBelow o (Live l) = o.sound l
+  SoundBelow o (Ended l) = o.sound l
+  SoundBelow o (Dead l x) = o.sound l
+  SoundBelow o (Forked l ks) = (f : ℕ) × SoundChildren o l f 0 ks × o.born l (states ks) × o.sound l
 
   -- the children of l from the place i on
   pub SoundChildren : {S : Type 0} → Ops S → S → ℕ → ℕ → Nodes S → Type 0
   SoundChildren o l f i no_node = Unit {0}
-  SoundChildren o l f i (node_and k ks) = (o.path (state k) ≡ o.path l ++ (f, i) ∷ []) × SoundBelow o k × SoundChildren o l f (i + 1) ks
+  SoundChildren o l f i (node_and k ks) = (o.path (state k) ≡ o.path l ++ (f, i) ∷ []) × (o.base (state k) ≡ o.handlers l) × SoundBelow o k × SoundChildren o l f (i + 1) ks

@@ -2,7 +2,7 @@
 use Rattle.std.specs.Prelude.{◌≡◌, ℕ, ℤ, ◌+◌, Bool, true, false, Option, Some, None, List, [], ◌∷◌, ◌++◌, ◌&&◌, cond, unwrap_or}
 use Rattle.std.specs.FinMap as map
 use Rattle.shim_base.specs.Paths.{Path, Channel, path_order, channel_order, same_path}
-use Rattle.shim_local.specs.Process.{Ops, StopView, AtQuiet, AtNext, AtPut, AtFork, AtFinish}
+use Rattle.shim_local.specs.Process.{Ops, StopView, AtQuiet, AtNext, AtPut, AtFork, AtFinish, AtThrow, AtTrap}
 use Rattle.shim_tree.specs.Nodes.{Node, Live, Forked, Ended, Dead, state, source, value_of, first_name, received}
 use Rattle.shim_tree.specs.Acts.{Acted, act}
 use Rattle.shim_tree.specs.Places.{route, led_to, meets}
@@ -57,6 +57,8 @@ kind_of_stop AtPut = Steps
 kind_of_stop AtFork = Steps
 kind_of_stop AtFinish = Ends
 kind_of_stop (AtNext c) = Nothing
+kind_of_stop (AtThrow label) = Nothing
+kind_of_stop (AtTrap kind line) = Nothing
 
 abbrev pub kind_of : {S : Type 0} → Ops S → Node S → Kind
 kind_of o (Live l) = kind_of_stop (o.stop l)

@@ -3,7 +3,7 @@ use Rattle.std.specs.Prelude.{ℕ, zero, suc, Bool, Option, Some, None, List, []
 use Rattle.std.specs.declared.cmp.Ordering.{Ordering}
 use Rattle.std.specs.declared.cmp.Ordering.TheVariants.{Less, Equal, Greater}
 use Rattle.shim_base.specs.Paths.{Path, Channel, NamedChannel, same_path, channel_order}
-use Rattle.shim_local.specs.Process.{Ops, StopView, AtQuiet, AtNext, AtPut, AtFork, AtFinish}
+use Rattle.shim_local.specs.Process.{Ops, StopView, AtQuiet, AtNext, AtPut, AtFork, AtFinish, AtThrow, AtTrap}
 use Rattle.shim_tree.specs.Nodes.{Node, Nodes, Live, Forked, Ended, Dead, no_node, node_and, state, all_ended, ready, next_of}
 use Rattle.shim_tree.specs.Trees.{Tree, Event, Own, Meet, Close, End, after}
 
@@ -47,6 +47,8 @@ own_events p AtPut = Own p ∷ []
 own_events p AtFork = Own p ∷ []
 own_events p AtFinish = End p ∷ []
 own_events p (AtNext c) = cond (same_path c.channel.home p) (Meet c.channel ∷ []) []
+own_events p (AtThrow label) = []
+own_events p (AtTrap kind line) = []
 
 -- the process declared the channel and is ready on it
 abbrev pub meets_here : {S : Type 0} → Ops S → Node S → Channel → Bool

@@ -23,7 +23,7 @@ fn step_quietly<L: Local>(process: &mut L) -> Result<(), NoMemory>
     Ok(())
 }
 
-// The children of the fork at which the process stands come to be, and live.
+// The children of the fork at which the process stands come to be, and live, or the fork traps.
 fn fork<L: Local>(process: &mut L, below: &mut Below<L>) -> Result<(), NoMemory>
     requires lives { below.old ≡ Below.Live }
     requires forks { L.ops.stop process.old ≡ AtFork }
@@ -35,13 +35,13 @@ fn fork<L: Local>(process: &mut L, below: &mut Below<L>) -> Result<(), NoMemory>
             let belows = Vec::new(children.allocator());
             *below = Below::Forked(children.into_vec(), belows);
         }
-        // no process that there is today answers so
+        // it stands trapped, and lives
         Forked::Trapped => {}
     }
     Ok(())
 }
 
-// A live process does what it stands at. The answer is the byte that it puts.
+// A live process does what it stands at. The answer is the byte that it puts; a put that traps has none.
 fn act_live<L: Local>(process: &mut L, below: &mut Below<L>) -> Result<Option<u8>, NoMemory>
     requires lives { below.old ≡ Below.Live }
     requires acts { act_here L.ops (node process.old below.old) ≢ None }
@@ -62,8 +62,8 @@ fn act_live<L: Local>(process: &mut L, below: &mut Below<L>) -> Result<Option<u8
             *below = Below::Ended;
             Ok(None)
         }
-        // it waits, and does nothing by itself
-        Stop::Next(_) => Ok(None),
+        // it waits, or stands where no event is its own yet, and does nothing by itself
+        Stop::Next(_) | Stop::Throw(_) | Stop::Trapped(_, _) => Ok(None),
     }
 }
 

@@ -98,5 +98,7 @@ fn gather_live<L: Local>(process: &L, waits: &mut Waits) -> Result<(), NoMemory>
         Stop::Put => Ok(()),
         Stop::Fork => Ok(()),
         Stop::Finish => Ok(()),
+        Stop::Throw(_) => Ok(()),
+        Stop::Trapped(_, _) => Ok(()),
     }
 }

@@ -15,7 +15,12 @@ pub(crate) fn stands_at<L: Local>(l: &L) -> Option<&Chan>
 {
     match l.stop() {
         Stop::Next(c) => Some(c),
-        Stop::Quiet | Stop::Put | Stop::Fork | Stop::Finish => None,
+        Stop::Quiet
+        | Stop::Put
+        | Stop::Fork
+        | Stop::Finish
+        | Stop::Throw(_)
+        | Stop::Trapped(_, _) => None,
     }
 }
 

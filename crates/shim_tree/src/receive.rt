@@ -93,7 +93,12 @@ fn name_here<L: Local>(process: &L, chan: &Chan) -> Option<u32>
                 None
             }
         }
-        Stop::Quiet | Stop::Put | Stop::Fork | Stop::Finish => None,
+        Stop::Quiet
+        | Stop::Put
+        | Stop::Fork
+        | Stop::Finish
+        | Stop::Throw(_)
+        | Stop::Trapped(_, _) => None,
     }
 }
 

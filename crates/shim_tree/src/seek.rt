@@ -51,6 +51,7 @@ fn own_event<L: Local>(l: &L) -> Option<Found<'_>>
         }
         Stop::Quiet | Stop::Put | Stop::Fork => Some(Found::Own(l.path())),
         Stop::Finish => Some(Found::End(l.path())),
+        Stop::Throw(_) | Stop::Trapped(_, _) => None,
     }
 }
 

@@ -143,3 +143,39 @@ fn a_run_that_is_stopped_is_spent(rt: HostRuntime) -> Result<(), Fail> {
     assert!(rt; ended.waits.is_empty() && ended.histories.is_empty());
     Ok(())
 }
+
+// Whether a root with these steps does these events, and stands still then: it is blocked, put no byte,
+// and nobody waits.
+fn stands_still(alloc: Global, left: &[Step], text: &[u8]) -> Result<bool, NoMemory> {
+    let mut tree = Tree::start(alloc, root(alloc, left, Path::root(alloc))?)?;
+    let mut told = List::new(alloc);
+    do_events(&mut tree, 10, &mut told)?;
+    let ended = tree.ended(10)?;
+    Ok(
+        told.as_slice() == text
+            && ended.outcome == Outcome::Blocked
+            && ended.output.is_empty()
+            && ended.waits.is_empty(),
+    )
+}
+
+#[test]
+fn a_put_that_traps_stands_still(rt: HostRuntime) -> Result<(), Fail> {
+    let alloc = rt.alloc();
+    assert!(rt; stands_still(alloc, &[Step::Put, Step::Trap], b" own ; none")?);
+    Ok(())
+}
+
+#[test]
+fn a_fork_that_traps_stands_still(rt: HostRuntime) -> Result<(), Fail> {
+    let alloc = rt.alloc();
+    assert!(rt; stands_still(alloc, &[Step::Fork, Step::Trap], b" own ; none")?);
+    Ok(())
+}
+
+#[test]
+fn a_throw_stands_still(rt: HostRuntime) -> Result<(), Fail> {
+    let alloc = rt.alloc();
+    assert!(rt; stands_still(alloc, &[Step::Throw(0), Step::Put], b" none")?);
+    Ok(())
+}

@@ -25,7 +25,8 @@ use std::marker::Model;
 
 /// A tree of processes: the root with those below it, the bytes that were put, the values that the
 /// meetings on each channel gave, and how many events there were. Contracts see that, and its type
-/// keeps that each child's path is as its fork made it and that the children of a fork are born of it.
+/// keeps that each state is one that a process comes to, that each child's path and base are as its
+/// fork made them, and that the children of a fork are born of it.
 #[derive(Drop)]
 pub struct Tree<L: Local> {
     pub(crate) root: L,
@@ -101,6 +102,7 @@ impl<L: Local> Tree<L> {
     fn of_one(alloc: Global, root: L) -> Tree<L>
         ensures { result ≡ trees.start root }
     {
+        let _path = root.path(); // brings into the proof that its state is sound
         Tree {
             root,
             below: Below::Live,

@@ -13,4 +13,4 @@ returns-in-Ok c = if_ok_weaker c.answer_program.result _ _ (λ a. as_source c.ar
 
 pub returns-in-Err : goal.returns-in-Err
 returns-in-Err c = if_ok_weaker c.refused.result _ _
-    (λ a is. inr (c.in-Err.fault, only_fault c.args.bytes.now c.in-Err.fault (λ none. is.0 (ap Parse none)) c.in-Err.ensures.answers c.in-Err.ensures.only, is.2)) c.refused.ensures
+    (λ a is. inr (c.in-Err.fault, only_fault c.args.bytes.now c.in-Err.fault (λ none. is.0 (ap Parse none)) c.in-Err.ensures.answers c.in-Err.ensures.only, is.3)) c.refused.ensures

@@ -2,7 +2,7 @@ use Rattle.std.proofs.Common.{◌≡◌, ◌≤◌, ◌∙◌, sym, ap, subst, �
 use Rattle.std.specs.Prelude.{slice_get}
 use Rattle.std.proofs.lemmas.List.{length-map}
 use Rattle.shim_tool.specs.Plan.{Act}
-use Rattle.shim_tool.specs.Process.{act_names, declared_names}
+use Rattle.shim_tool.specs.Lookup.{act_names, declared_names}
 use Rattle.shim_tool.specs.Form.{is_allowed, known_first}
 use Rattle.shim_tool.specs.PlanView.{plan_view, body_view, taken_view, action_view}
 use Rattle.shim_tool.specs.NameView.{texts_of}

@@ -1,5 +1,5 @@
 use Rattle.std.proofs.Common.{◌≡◌, ◌++◌, take}
-use Rattle.shim_tool.specs.Process.{declared_names}
+use Rattle.shim_tool.specs.Lookup.{declared_names}
 use Rattle.shim_tool.specs.PlanView.{plan_view, body_view, taken_view}
 use Rattle.shim_tool.specs.NameView.{texts_of}
 use Rattle.shim_tool.specs.Form.{known_first}

@@ -1,9 +1,9 @@
 use Rattle.std.proofs.Common.{rules, ◌≡◌, ◌∙◌, sym, ap, subst, arith, length, slice_set, ◌∷◌}
 use Rattle.std.proofs.lemmas.Result.{IfOk-weaker, on_err_weaker}
-use Rattle.shim_tree.specs.Acts.{act, act_child}
+use Rattle.shim_tree.specs.Acts.{act, act_child, byte_list}
 use Rattle.shim_tree.specs.Places.{branches}
 use Rattle.shim_tree.specs.Below.{together, nodes, node}
-use Rattle.shim_tree.specs.Acting.{ActsAt, ActsAmong, SoundAmong, byte_list}
+use Rattle.shim_tree.specs.Acting.{ActsAt, ActsAmong, SoundAmong}
 use Rattle.shim_tree.proofs.Children.{child_there, place_of, acts_none, acts_some, acts_same, sound_child, forked_among, forked_acts}
 use Rattle.shim_tree.proofs.act.+act.Goals as goal
 
@@ -19,9 +19,12 @@ act_at-act_child-requires g t c κs within =
       (
         search rules,
         (
-          subst (SoundAmong o) (λ u. together (sym c.in-Forked.processes-is u).items (nodes (sym c.in-Forked.belows-is u).items)) (forked_among o c.args.process.now c.args.below.now c.in-Forked.processes c.in-Forked.belows c.in-Forked.is c.requires.sound),
-          λ z. forked_acts o c.args.process.now c.args.below.now c.in-Forked.processes c.in-Forked.belows i q c.in-Forked.is (λ y. c.requires.acts (ap (λ w. act o w n) e ∙ y))
-              ((λ u. act_child o i q (together (sym c.in-Forked.processes-is u).items (nodes (sym c.in-Forked.belows-is u).items))) ∙ z),
+          search rules,
+          (
+            subst (SoundAmong o) (λ u. together (sym c.in-Forked.processes-is u).items (nodes (sym c.in-Forked.belows-is u).items)) (forked_among o c.args.process.now c.args.below.now c.in-Forked.processes c.in-Forked.belows c.in-Forked.is c.requires.sound),
+            λ z. forked_acts o c.args.process.now c.args.below.now c.in-Forked.processes c.in-Forked.belows i q c.in-Forked.is (λ y. c.requires.acts (ap (λ w. act o w n) e ∙ y))
+                ((λ u. act_child o i q (together (sym c.in-Forked.processes-is u).items (nodes (sym c.in-Forked.belows-is u).items))) ∙ z),
+          ),
         ),
       ),
     )
@@ -51,8 +54,11 @@ act_child-act_at-requires g t c κs within =
       (
         search rules,
         (
-          sound_child o i ls bs c.index_mut.result.now c.index_mut-2.result.now p.there p.said c.index_mut.ensures.value c.index_mut-2.ensures.value (subst (SoundAmong o) (sym p.same) c.requires.sound),
-          λ e. c.requires.acts (ap (act_child o i q) (sym p.same) ∙ acts_none o i q ls bs c.index_mut.result.now c.index_mut-2.result.now p.there p.said c.index_mut.ensures.value c.index_mut-2.ensures.value e),
+          search rules,
+          (
+            sound_child o i ls bs c.index_mut.result.now c.index_mut-2.result.now p.there p.said c.index_mut.ensures.value c.index_mut-2.ensures.value (subst (SoundAmong o) (sym p.same) c.requires.sound),
+            λ e. c.requires.acts (ap (act_child o i q) (sym p.same) ∙ acts_none o i q ls bs c.index_mut.result.now c.index_mut-2.result.now p.there p.said c.index_mut.ensures.value c.index_mut-2.ensures.value e),
+          ),
         ),
       ),
     )

@@ -13,17 +13,17 @@ pub behind-requires : goal.behind-requires
 behind-requires g c =
     let o = g.L.Local.ops in
     let n = node c.args.process.now c.args.below.now in
-    let e : c.pairs-front.result.now ≡ o.path (state n) = c.pairs-front.ensures ∙ (c.path.ensures ∙ ap o.path (sym (state_node c.args.process.now c.args.below.now))) in
+    let e : c.pairs-front.result.now ≡ o.path (state n) = c.pairs-front.ensures ∙ (c.path.ensures.path ∙ ap o.path (sym (state_node c.args.process.now c.args.below.now))) in
     let h = on_bound o n (o.path (state n)) c.args.path.now c.requires.acts in
     let a = ap length e in
     let b = ap length c.pairs.ensures in
     omega arith
 
 pub act_at-requires-clause-acts : goal.act_at-requires-clause-acts
-act_at-requires-clause-acts g c z =
+act_at-requires-clause-acts g c κs within z =
     let o = g.L.Local.ops in
     let n = node c.args.process.now c.args.below.now in
-    let e : c.pairs-front.result.now ≡ o.path (state n) = c.pairs-front.ensures ∙ (c.path.ensures ∙ ap o.path (sym (state_node c.args.process.now c.args.below.now))) in
+    let e : c.pairs-front.result.now ≡ o.path (state n) = c.pairs-front.ensures ∙ (c.path.ensures.path ∙ ap o.path (sym (state_node c.args.process.now c.args.below.now))) in
     let f : c.behind.result.now ≡ drop (length (o.path (state n))) c.args.path.now = c.behind.ensures ∙ λ t. drop (length (e t)) (c.pairs.ensures t) in
     c.requires.acts (on_route o n (o.path (state n)) c.args.path.now c.requires.acts ∙ (ap (λ q. act o (branches q) n) (sym f) ∙ z))
 
@@ -31,7 +31,7 @@ pub returns-clause-ok : goal.returns-clause-ok
 returns-clause-ok g c =
     let o = g.L.Local.ops in
     let n = node c.args.process.now c.args.below.now in
-    let e : c.pairs-front.result.now ≡ o.path (state n) = c.pairs-front.ensures ∙ (c.path.ensures ∙ ap o.path (sym (state_node c.args.process.now c.args.below.now))) in
+    let e : c.pairs-front.result.now ≡ o.path (state n) = c.pairs-front.ensures ∙ (c.path.ensures.path ∙ ap o.path (sym (state_node c.args.process.now c.args.below.now))) in
     let f : c.behind.result.now ≡ drop (length (o.path (state n))) c.args.path.now = c.behind.ensures ∙ λ t. drop (length (e t)) (c.pairs.ensures t) in
     let m = node c.act_at.new.process c.act_at.new.below in
     IfOk-weaker c.act_at.result (λ byte. ActsAt o (branches c.behind.result.now) n byte m) (λ byte. ActsOn o c.args.path.now n byte m)

@@ -1,4 +1,4 @@
-use Rattle.std.proofs.Common.{arith}
+use Rattle.std.proofs.Common.{arith, rules}
 use Rattle.shim_local.specs.Laws.{none_taken}
 use Rattle.shim_local.specs.Small.{small_ops}
 use Rattle.shim_local.proofs.Quiets.{one_after}
@@ -8,4 +8,5 @@ pub loop-taken-init : goal.loop-taken-init
 loop-taken-init c = (none_taken c.args.self.now, omega arith)
 
 pub loop-taken-preserved : goal.loop-taken-preserved
-loop-taken-preserved c = (one_after small_ops c.loop-taken.invariant.0 (c.is_quiet.ensures.0 c.if-is_quiet.true) c.pass.ensures, omega (arith, c.loop-taken-test.true))
+loop-taken-preserved c =
+    (one_after small_ops c.loop-taken.invariant.0 (c.is_quiet.ensures.0 c.if-is_quiet.true) (search rules), omega (arith, c.loop-taken-test.true))

@@ -5,7 +5,7 @@ use Rattle.shim_tree.proofs.Silent.{close_silent, end_silent}
 use Rattle.shim_tree.proofs.tree.Tree.happen.Goals as goal
 
 pub change-requires-clause-silent : goal.change-requires-clause-silent
-change-requires-clause-silent g c =
+change-requires-clause-silent g c κs within =
     let o = g.L.Local.ops in
     let t = c.args.self.now in
     elim (c.in-Close.is) [

@@ -1,0 +1,33 @@
+-- Where paths lead, and the channels of a list.
+use Rattle.std.proofs.Common.{◌≡◌, ℕ, zero, suc, ◌+◌, true, List, [], ◌∷◌, ◌++◌, length, Some, sym, ap, ◌∙◌, subst, arith, append_assoc, append-nil, length-append}
+use Rattle.std.proofs.lemmas.Bool.{or_left, or_right}
+use Rattle.std.specs.Prelude.{slice_get}
+use Rattle.shim_base.specs.Paths.{Path, Channel, NamedChannel, same_channel}
+use Rattle.shim_sharing.specs.Sharers.{is_among}
+use Rattle.shim_process.specs.Sound.{LeadsTo}
+use Rattle.shim_process.proofs.PlaceLocations.{same_some}
+use Rattle.shim_process.proofs.CarryChannels.{same_channel_refl}
+
+pub same_channel_of : (c d : Channel) → c ≡ d → same_channel c d ≡ true
+same_channel_of c d e = subst (λ (z : Channel). same_channel c z ≡ true) e (same_channel_refl c)
+
+-- a channel at some place of a list is among those of it
+pub place_among : (ds : List NamedChannel) (at : ℕ) (d : NamedChannel) (c : Channel) → slice_get ds at ≡ Some d → d.channel ≡ c → is_among c ds ≡ true
+place_among [] at d c e f = absurd cc
+place_among (x ∷ ds) zero d c e f = or_left _ _ (same_channel_of x.channel c (ap (λ (z : NamedChannel). z.channel) (same_some x d e) ∙ f))
+place_among (x ∷ ds) (suc at) d c e f = or_right (same_channel x.channel c) _ (place_among ds at d c e f)
+
+pub leads_here : (p q : Path) → p ≡ q → LeadsTo p q
+leads_here p q e = ([], append-nil p ∙ e)
+
+pub leads_on : (p q : Path) (x : ℕ × ℕ) → LeadsTo p q → LeadsTo p (q ++ x ∷ [])
+leads_on p q x (rest, e) = (rest ++ x ∷ [], sym (append_assoc p rest (x ∷ [])) ∙ ap (λ (z : Path). z ++ x ∷ []) e)
+
+-- no child's path leads to its parent
+pub leads_no_child : (p q : Path) (x : ℕ × ℕ) → LeadsTo p q → p ≡ q ++ x ∷ [] → ⊥
+leads_no_child p q x (rest, e) h =
+    let a : length (p ++ rest) ≡ length q = ap length e in
+    let b : length p ≡ length (q ++ x ∷ []) = ap length h in
+    let c : length (p ++ rest) ≡ length p + length rest = length-append p rest in
+    let d : length (q ++ x ∷ []) ≡ length q + 1 = length-append q (x ∷ []) in
+    absurd (omega (arith, a, b, c, d))

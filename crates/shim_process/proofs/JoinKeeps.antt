@@ -1,0 +1,121 @@
+-- What a join keeps of a state, and what it brings back.
+use Rattle.std.proofs.Common.{◌≡◌, ◌∙◌, ℕ, ◌≤◌, ◌⊎◌, inl, inr, Bool, true, false, ◌||◌, List, [], ◌∷◌, Some, refl, sym, ap, subst, arith}
+use Rattle.std.proofs.lemmas.Bool.{or_cases}
+use Rattle.std.specs.Prelude.{slice_get}
+use Rattle.shim_base.specs.Paths.{Channel, NamedChannel}
+use Rattle.shim_local.specs.Laws.{AllOf, AnyOf}
+use Rattle.shim_sharing.specs.Locations.{Location, Own, at_number}
+use Rattle.shim_sharing.specs.Todo.{On}
+use Rattle.shim_sharing.specs.LocalState.{LocalState, handlers}
+use Rattle.shim_sharing.specs.Ends.{gone}
+use Rattle.shim_sharing.specs.Forks.{item_branches, output_back, joined, join}
+use Rattle.shim_sharing.specs.Sharers.{shares, carries}
+use Rattle.shim_process.specs.Sound.{LeadsTo, IsOwned, FramesBelow, Sound}
+use Rattle.shim_process.specs.Born.{Born}
+use Rattle.shim_process.proofs.PlaceLocations.{choose}
+use Rattle.shim_process.proofs.CarryChannels.{shares_same, Carried, carried_at, carries_at}
+use Rattle.shim_process.proofs.LabelFrames.{Left, gone_left, none_left}
+use Rattle.shim_process.proofs.JoinLocations.{Kept, same_mark, came_back, OneCarries, all_kept, kept_owned, kept_channel}
+
+-- one of the children has the output
+abbrev pub OneHolds : List LocalState → Type 0
+OneHolds ks = AnyOf (λ k. k.holds_output ≡ true) ks
+
+-- the second state is the first with what came back from the children
+pub record Joined (l : LocalState) (ks : List LocalState) (m : LocalState) : Type 0 where
+  pub path : m.path ≡ l.path
+  pub base : m.base ≡ l.base
+  pub made : m.made ≡ l.made
+  pub given : m.given ≡ l.given
+  pub output : m.holds_output ≡ true → (l.holds_output ≡ true) ⊎ OneHolds ks
+  pub kept : (n : ℕ) (x : Location) → at_number m.locations n ≡ Some x → Kept (OneCarries ks) l.locations n x
+  pub labels : FramesBelow l.base (m.frame ∷ m.callers)
+
+output_kept : (ks : List LocalState) (holds : Bool) → output_back ks holds ≡ true → (holds ≡ true) ⊎ OneHolds ks
+output_kept [] holds e = inl e
+output_kept (k ∷ ks) holds e = elim (output_kept ks (k.holds_output || holds) e) [
+  | inl h ↦ elim (or_cases k.holds_output holds h) [ inl first ↦ inr (inl first) | inr second ↦ inl second ]
+  | inr h ↦ inr (inr h)
+]
+
+-- and units may be left then
+left_joined : (l : LocalState) (ks : List LocalState) (m : LocalState) → Left l.base (joined l ks) m → Joined l ks m
+left_joined l ks m h = record {
+  path = h.path;
+  base = h.base;
+  made = h.made;
+  given = h.given;
+  output = λ e. output_kept ks l.holds_output (sym h.output ∙ e);
+  kept = λ n x e. all_kept l.frame.slots (item_branches l.frame.todo) ks l.locations n x (h.at n x e);
+  labels = h.labels;
+}
+
+pub join_joined : (l : LocalState) (ks : List LocalState) (goes_on : Bool) → Sound l → Joined l ks (join l ks goes_on)
+unfolding join
+join_joined l ks goes_on s =
+    left_joined l ks (join l ks goes_on)
+    (choose (Left l.base (joined l ks)) goes_on (gone On (joined l ks)) (joined l ks) (gone_left l.base On (joined l ks) s.labels) (none_left l.base (joined l ks) s.labels))
+
+joined_shares : (l : LocalState) (ks : List LocalState) (m : LocalState) (c : Channel) → Joined l ks m → shares m c ≡ shares l c
+joined_shares l ks m c h = shares_same l m c h.path h.given h.made
+
+joined_once : (l : LocalState) (ks : List LocalState) (n i : ℕ) (x y : Location) → Sound l → Kept (OneCarries ks) l.locations n x → Kept (OneCarries ks) l.locations i y → IsOwned x.mark → IsOwned y.mark
+    → x.channel.channel ≡ y.channel.channel → n ≡ i
+joined_once l ks n i x y s a b p q same =
+    let v = kept_owned (OneCarries ks) l.locations n x a p in
+    let w = kept_owned (OneCarries ks) l.locations i y b q in
+    s.once n i v.0 w.0 v.1 w.1 v.2 w.2 (ap (λ (d : NamedChannel). d.channel) v.3 ∙ same ∙ sym (ap (λ (d : NamedChannel). d.channel) w.3))
+
+joined_channel : (l : LocalState) (ks : List LocalState) (m : LocalState) (n : ℕ) (x : Location) → Sound l → Joined l ks m → at_number m.locations n ≡ Some x → shares m x.channel.channel ≡ true
+joined_channel l ks m n x s h e =
+    let w = kept_channel (OneCarries ks) l.locations n x (h.kept n x e) in
+    joined_shares l ks m x.channel.channel h ∙ subst (λ (d : NamedChannel). shares l d.channel ≡ true) w.2 (s.channels n w.0 w.1)
+
+pub joined_sound : (l : LocalState) (ks : List LocalState) (m : LocalState) → Sound l → Joined l ks m → Sound m
+joined_sound l ks m s h = record {
+  base = subst (λ b. 1 ≤ b) (sym h.base) s.base;
+  labels = subst (λ b. FramesBelow b (m.frame ∷ m.callers)) (sym h.base) h.labels;
+  channels = λ n x e. joined_channel l ks m n x s h e;
+  once = λ n i x y e f p q same. joined_once l ks n i x y s (h.kept n x e) (h.kept i y f) p q same;
+  homes = λ at d e. subst (LeadsTo d.channel.home) (sym h.path) (s.homes at d (ap (λ g. slice_get g at) (sym h.given) ∙ e));
+  serials = λ at d e home.
+      let below = s.serials at d (ap (λ g. slice_get g at) (sym h.given) ∙ e) (home ∙ h.path) in
+      let made = h.made in
+      omega (arith, below, made);
+  root = λ e. h.given ∙ s.root (sym h.path ∙ e);
+}
+
+kept_carries : (l : LocalState) (ks : List LocalState) (n : ℕ) (x : Location) (c : Channel) → Kept (OneCarries ks) l.locations n x → x.mark ≡ Own → x.channel.channel ≡ c
+    → (carries l c ≡ true) ⊎ OneCarries ks c
+kept_carries l ks n x c (same_mark w) own on = inl (carries_at l c n w.location w.there (w.mark ∙ own) (ap (λ (d : NamedChannel). d.channel) w.channel ∙ on))
+kept_carries l ks n x c (came_back y there channel lent own away) mark on = inr (subst (OneCarries ks) on away)
+
+pub join_sound : (l : LocalState) (ks : List LocalState) (goes_on : Bool) → Sound l → AllOf Sound ks → Born l ks → Sound (join l ks goes_on)
+join_sound l ks goes_on s all born = joined_sound l ks (join l ks goes_on) s (join_joined l ks goes_on s)
+
+pub join_path : (l : LocalState) (ks : List LocalState) (goes_on : Bool) → Sound l → AllOf Sound ks → Born l ks → (join l ks goes_on).path ≡ l.path
+join_path l ks goes_on s all born = (join_joined l ks goes_on s).path
+
+pub join_base : (l : LocalState) (ks : List LocalState) (goes_on : Bool) → Sound l → AllOf Sound ks → Born l ks → (join l ks goes_on).base ≡ l.base
+join_base l ks goes_on s all born = (join_joined l ks goes_on s).base
+
+pub join_given : (l : LocalState) (ks : List LocalState) (goes_on : Bool) → Sound l → AllOf Sound ks → Born l ks → (join l ks goes_on).given ≡ l.given
+join_given l ks goes_on s all born = (join_joined l ks goes_on s).given
+
+-- the process still stands at the fork
+pub join_handlers : (l : LocalState) (ks : List LocalState) → Sound l → AllOf Sound ks → Born l ks → handlers (join l ks false) ≡ handlers l
+unfolding join
+join_handlers l ks s all born = refl
+
+pub join_shares : (l : LocalState) (ks : List LocalState) (goes_on : Bool) (c : Channel) → Sound l → AllOf Sound ks → Born l ks → shares (join l ks goes_on) c ≡ shares l c
+join_shares l ks goes_on c s all born = joined_shares l ks (join l ks goes_on) c (join_joined l ks goes_on s)
+
+pub join_carries : (l : LocalState) (ks : List LocalState) (goes_on : Bool) (c : Channel) → Sound l → AllOf Sound ks → Born l ks → carries (join l ks goes_on) c ≡ true
+    → (carries l c ≡ true) ⊎ OneCarries ks c
+join_carries l ks goes_on c s all born e =
+    let w : Carried (join l ks goes_on).locations c = carried_at (join l ks goes_on) c e in
+    kept_carries l ks w.number w.location c ((join_joined l ks goes_on s).kept w.number w.location w.there) w.mark w.channel
+
+pub join_holds : (l : LocalState) (ks : List LocalState) (goes_on : Bool) → Sound l → AllOf Sound ks → Born l ks → (join l ks goes_on).holds_output ≡ true
+    → (l.holds_output ≡ true) ⊎ OneHolds ks
+join_holds l ks goes_on s all born e = (join_joined l ks goes_on s).output e

@@ -1,0 +1,89 @@
+-- Behind a put that puts a byte a process doesn't stand trapped.
+use Rattle.std.proofs.Common.{◌≡◌, ◌∙◌, ℕ, Bool, true, false, List, [], ◌∷◌, take, Option, Some, None, Ok, Err, refl, subst}
+use Rattle.shim_local.specs.Process.{StopView}
+use Rattle.shim_local.specs.Process as local
+use Rattle.shim_local.specs.Laws.{IsTrapped}
+use Rattle.shim_sharing.specs.declared.unit.UBranch.{UBranch}
+use Rattle.shim_sharing.specs.declared.unit.UStmt.{UStmt}
+use Rattle.shim_sharing.specs.declared.unit.UWhat.{UWhat, UWhat-F, out-UWhat}
+use Rattle.shim_sharing.specs.Values.{Value}
+use Rattle.shim_sharing.specs.Locations.{Location}
+use Rattle.shim_sharing.specs.Todo.{Item, Do, Leave, Way, On}
+use Rattle.shim_sharing.specs.LocalState.{LocalState, Frame, Trapping, location_of}
+use Rattle.shim_sharing.specs.Ends.{went, is_over, settled, gone}
+use Rattle.shim_sharing.specs.Stops.{Stop, AtQuiet, at_next, at_put, at_fork, what_stop, item_stop, stop_or, stop, put_value, low_bits, byte, after_put, put}
+use Rattle.shim_process.specs.Ops.{stands, process_ops}
+use Rattle.shim_process.proofs.PlaceLocations.{choose}
+
+-- to go on sets no trap
+
+settled_trap : (callers : List Frame) (f : Frame) (l : LocalState) → (settled callers f l).trap ≡ l.trap
+settled_trap [] f l = refl
+settled_trap (caller ∷ callers) f l =
+    let left : LocalState = record l { locations = take f.floor l.locations } in
+    choose (λ (m : LocalState). m.trap ≡ l.trap) (is_over f.todo) (settled callers (went On caller) left) (record l { frame = f; callers = caller ∷ callers }) (settled_trap callers (went On caller) left) refl
+
+gone_trap : (way : Way) (l : LocalState) → (gone way l).trap ≡ l.trap
+unfolding gone
+gone_trap way l = settled_trap l.callers (went way l.frame) l
+
+after_put_trap : (r : Value) (l : LocalState) (b : ℕ) → low_bits r ≡ Some b → (after_put r l).trap ≡ l.trap
+after_put_trap (Ok v) l b e = gone_trap On l
+after_put_trap (Err t) l b e = absurd cc
+
+put_trap : (l : LocalState) (b : ℕ) → byte l ≡ Some b → (put l).trap ≡ l.trap
+unfolding put byte
+put_trap l b e = after_put_trap (put_value l) l b e
+
+-- without one a process doesn't stand trapped
+
+abbrev IsFree : StopView → Type 0
+IsFree (local.AtTrap kind line) = ⊥
+IsFree _ = Unit {0}
+
+free_next : (o : Option Location) → IsFree (stands (at_next o))
+free_next None = tt
+free_next (Some x) = tt
+
+free_put : (b : Bool) → IsFree (stands (at_put b))
+free_put true = tt
+free_put false = tt
+
+free_fork : (branches : List UBranch) → IsFree (stands (at_fork branches))
+free_fork [] = tt
+free_fork (b ∷ branches) = tt
+
+free_what : (w : UWhat-F UWhat UStmt) (f : Frame) (l : LocalState) → IsFree (stands (what_stop w f l))
+free_what (UWhat-F.Next x) f l = free_next (location_of l.locations f.slots x)
+free_what (UWhat-F.NextAssign x e) f l = choose (λ t. IsFree (stands t)) f.halfway (at_next (location_of l.locations f.slots x)) AtQuiet (free_next (location_of l.locations f.slots x)) tt
+free_what (UWhat-F.AssignNext x y) f l = choose (λ t. IsFree (stands t)) f.halfway AtQuiet (at_next (location_of l.locations f.slots y)) tt (free_next (location_of l.locations f.slots y))
+free_what (UWhat-F.Put o e) f l = free_put l.holds_output
+free_what (UWhat-F.Throw x) f l = tt
+free_what (UWhat-F.Par branches) f l = free_fork branches
+free_what _ f l = tt
+
+free_item : (todo : List Item) (f : Frame) (l : LocalState) → IsFree (stands (item_stop todo f l))
+free_item [] f l = tt
+free_item (Leave ∷ k) f l = tt
+free_item (Do n s ∷ k) f l = free_what (out-UWhat s.what) f l
+
+free_or : (t : Option Trapping) (s : Stop) → t ≡ None → IsFree (stands s) → IsFree (stands (stop_or t s))
+free_or None s none h = h
+free_or (Some t) s none h = absurd cc
+
+free_stop : (l : LocalState) → l.trap ≡ None → IsFree (stands (stop l))
+unfolding stop
+free_stop l none = free_or l.trap (item_stop l.frame.todo l.frame l) none (free_item l.frame.todo l.frame l)
+
+-- who stands at a put has none
+
+none_or : (t : Option Trapping) (s : Stop) → stands (stop_or t s) ≡ local.AtPut → t ≡ None
+none_or None s e = refl
+none_or (Some t) s e = absurd cc
+
+none_at_put : (l : LocalState) → stands (stop l) ≡ local.AtPut → l.trap ≡ None
+unfolding stop
+none_at_put l e = none_or l.trap (item_stop l.frame.todo l.frame l) e
+
+pub put_goes : (l : LocalState) (b : ℕ) → stands (stop l) ≡ local.AtPut → byte l ≡ Some b → IsTrapped process_ops (put l) → ⊥
+put_goes l b at e (kind, line, trapped) = subst IsFree trapped (free_stop (put l) (put_trap l b e ∙ none_at_put l at))

@@ -1,0 +1,43 @@
+-- What is accepted: a program that obeys the sharing rule, in its units.
+use Rattle.std.specs.Prelude.{◌≡◌, Option, Some, None, Result, Ok, Err}
+use Rattle.shim_scopes.specs.declared.form.Form.{Form as Resolved}
+use Rattle.shim_scopes.specs.Resolving.{IsFormOfText}
+use Rattle.shim_sharing.specs.declared.form.Form.{Form}
+use Rattle.shim_sharing.specs.declared.fault.ShareFault.{ShareFault}
+use Rattle.shim_sharing.specs.declared.fault.ShareFault.TheVariants.{TwoWriters, Alias, NoMemory}
+use Rattle.shim_sharing.specs.Units.{Obeys, refusal, lifted}
+
+-- the units of a program that has a text of at most 1 MiB, that is bound and obeys the sharing rule
+pub record IsUnitsOfText (form : Form) : Type 0 where
+  pub resolved : Resolved
+  pub of_text : ∥ IsFormOfText resolved ∥₁
+  pub obeys : Obeys resolved
+  pub meant : lifted resolved ≡ form
+
+abbrev pub unless_refused : Option ShareFault → Form → Result Form ShareFault
+unless_refused None form = Ok form
+unless_refused (Some fault) form = Err fault
+
+-- the units of a program that obeys the rule, and of another the first place that is refused
+abbrev pub accepted : Resolved → Result Form ShareFault
+accepted p = unless_refused (refusal p) (lifted p)
+
+-- the answer is the one that is meant, and want of memory may stand in its place
+abbrev pub Gives : {T : Type 0} → Result T ShareFault → Result T ShareFault → Type 0
+Gives (Ok t) meant = meant ≡ Ok t
+Gives (Err (TwoWriters line name first second)) meant = meant ≡ Err (TwoWriters line name first second)
+Gives (Err (Alias line name)) meant = meant ≡ Err (Alias line name)
+Gives (Err NoMemory) meant = Unit {0}
+
+-- the fault is the one that is meant, or want of memory in its place
+abbrev pub IsTold : ShareFault → ShareFault → Type 0
+IsTold (TwoWriters line name first second) meant = meant ≡ TwoWriters line name first second
+IsTold (Alias line name) meant = meant ≡ Alias line name
+IsTold NoMemory meant = Unit {0}
+
+-- what passes isn't refused
+abbrev pub Passes : Result (Unit {0}) ShareFault → Option ShareFault → Type 0
+Passes (Ok t) refused = refused ≡ None
+Passes (Err (TwoWriters line name first second)) refused = refused ≡ Some (TwoWriters line name first second)
+Passes (Err (Alias line name)) refused = refused ≡ Some (Alias line name)
+Passes (Err NoMemory) refused = Unit {0}

@@ -1,0 +1,164 @@
+// Two branches of a fork that take one variable by reference.
+ghost use Rattle.std.specs.Prelude.{◌≡◌, ◌+◌, ◌<◌, ◌^◌, ◌&&◌, IfOk, length, map, Option, false};
+ghost use Rattle.shim_sharing.specs.Sharing.{least, common, clash_with, clash_from, two_writers};
+ghost use Rattle.shim_sharing.specs.Taking.{is_reference, takes};
+ghost use Rattle.shim_sharing.specs.Marks.{takes_of, shared};
+ghost use Rattle.shim_sharing.specs.Parts.{each_uses};
+ghost use Rattle.shim_sharing.specs.Meaning.{branch_parts};
+
+use crate::found::{Offence, Taking};
+use crate::taking::{is_reference, take_all, taking_at};
+use crate::uses::push_branch;
+use shim_base::{List, NoMemory};
+use shim_scopes::{RBranch, RFunction};
+use shim_syntax::Sort;
+use std::alloc::Global;
+
+// Two branches, and the variable that both take.
+#[derive(Clone, Copy, Debug, PartialEq, Eq)]
+pub struct Clash {
+    pub first: usize,
+    pub second: usize,
+    pub slot: usize,
+}
+
+fn is_common(one: &[Taking], other: &[Taking], slot: usize) -> bool
+    ensures { result ≡ (is_reference (takes_of one.now slot) && is_reference (takes_of other.now slot)) }
+{
+    is_reference(taking_at(one, slot)) && is_reference(taking_at(other, slot))
+}
+
+// The variable declared first that both take by reference.
+#[tactic(auto, using(crate::proofs::Least::least_found))]
+fn find_common(count: usize, one: &[Taking], other: &[Taking]) -> Option<usize>
+    ensures { result ≡ common count (takes_of one.now) (takes_of other.now) }
+{
+    for slot in 0..count {
+        if is_common(one, other, slot) {
+            return Some(slot);
+        }
+    }
+    None
+}
+
+fn find_clash_with(
+    count: usize,
+    first: usize,
+    one: &[Taking],
+    second: usize,
+    behind: &[List<Taking>],
+) -> Option<Clash>
+    requires { second + length behind.now < 2 ^ 64 }
+    ensures { result ≡ clash_with count first (takes_of one.now) second (map takes_of behind.now) }
+{
+    match behind {
+        [] => None,
+        [other, behind @ ..] => match find_common(count, one, other.as_slice()) {
+            Some(slot) => Some(Clash {
+                first,
+                second,
+                slot,
+            }),
+            None => find_clash_with(count, first, one, second + 1, behind),
+        },
+    }
+}
+
+// The least pair of branches that share a variable.
+fn find_clash(count: usize, first: usize, branches: &[List<Taking>]) -> Option<Clash>
+    requires { first + length branches.now < 2 ^ 64 }
+    ensures { result ≡ clash_from count first (map takes_of branches.now) }
+{
+    match branches {
+        [] => None,
+        [one, behind @ ..] => match find_clash_with(
+            count,
+            first,
+            one.as_slice(),
+            first + 1,
+            behind,
+        ) {
+            Some(clash) => Some(clash),
+            None => find_clash(count, first + 1, behind),
+        },
+    }
+}
+
+// Whether two of the branches take the variable of a slot by reference.
+fn is_shared(branches: &[List<Taking>], slot: usize) -> bool
+    ensures { result ≡ shared slot false (map takes_of branches.now) }
+{
+    let mut taken = false;
+    for one in branches {
+        let by_ref = is_reference(taking_at(one.as_slice(), slot));
+        if by_ref && taken {
+            return true;
+        }
+        taken = by_ref || taken;
+    }
+    false
+}
+
+// The variable declared first that two of the branches take by reference.
+fn find_shared(count: usize, branches: &[List<Taking>]) -> Option<usize>
+    ensures { result ≡ least count (λ x. shared x false (map takes_of branches.now)) }
+{
+    for slot in 0..count {
+        if is_shared(branches, slot) {
+            return Some(slot);
+        }
+    }
+    None
+}
+
+// The least pair of all branches that share a variable. Pairs are compared only where there is one, since
+// that takes the square of the branches.
+#[tactic(auto, using(crate::proofs::Shared::none_shared))]
+fn find_first_clash(count: usize, branches: &[List<Taking>]) -> Option<Clash>
+    ensures { result ≡ clash_from count 0 (map takes_of branches.now) }
+{
+    match find_shared(count, branches) {
+        Some(_) => find_clash(count, 0, branches),
+        None => None,
+    }
+}
+
+// How each branch takes the variables.
+fn take_each(
+    alloc: Global,
+    functions: &[RFunction],
+    sorts: &[Sort],
+    branches: &[RBranch],
+) -> Result<List<List<Taking>>, NoMemory>
+    ensures { IfOk result (λ made. map takes_of made ≡ map (takes sorts.now) (each_uses functions.now (branch_parts branches.now))) }
+{
+    let mut made = List::new(alloc);
+    for branch in branches {
+        let mut uses = List::new(alloc);
+        push_branch(&mut uses, functions, branch)?;
+        made.push(take_all(alloc, sorts, uses.as_slice())?)?;
+    }
+    Ok(made)
+}
+
+// What the sharing rule refuses of a fork itself.
+pub fn find_two_writers(
+    alloc: Global,
+    functions: &[RFunction],
+    sorts: &[Sort],
+    line: u32,
+    branches: &[RBranch],
+) -> Result<Option<Offence>, NoMemory>
+    ensures { IfOk result (λ found. found ≡ two_writers line (clash_from (length sorts.now) 0 (map (takes sorts.now) (each_uses functions.now (branch_parts branches.now))))) }
+{
+    let taken = take_each(alloc, functions, sorts, branches)?;
+    match find_first_clash(sorts.len(), taken.as_slice()) {
+        Some(clash) => Ok(Some(Offence::TwoWriters {
+            line,
+            first: clash.first,
+            second: clash.second,
+            slot: clash.slot,
+        })),
+        None => Ok(None),
+    }
+}

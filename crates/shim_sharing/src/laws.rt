@@ -1,0 +1,35 @@
+// Laws of the sharing rule.
+ghost use Rattle.std.specs.Prelude.{◌≡◌, ◌↔◌, ℕ, List, None, Some, Ok};
+ghost use Rattle.shim_scopes.specs.declared.form.Form.{Form as Resolved};
+ghost use Rattle.shim_scopes.specs.Resolving.{IsFormOfText};
+ghost use Rattle.shim_sharing.specs.declared.fork.Clash.{Clash};
+ghost use Rattle.shim_sharing.specs.declared.form.Form.{Form};
+ghost use Rattle.shim_sharing.specs.Accepting.{accepted};
+ghost use Rattle.shim_sharing.specs.Laws.{HasTwoWriters, IsClash, IsLeast};
+ghost use Rattle.shim_sharing.specs.Sharing.{clash_from};
+ghost use Rattle.shim_sharing.specs.Sizes.{AreSmall};
+ghost use Rattle.shim_sharing.specs.Taking.{Takes};
+ghost use Rattle.shim_sharing.specs.Units.{Obeys, refusal};
+
+/// Nothing of a program is refused exactly where every fork and call of it obeys the sharing rule.
+pub fn refused_unless_obeyed()
+    ensures { (p : Resolved) → (refusal p ≡ None) ↔ Obeys p }
+{}
+
+/// Where nothing is refused, no two branches of a fork take one variable or stream by reference.
+pub fn accepted_has_no_two_writers()
+    ensures { (p : Resolved) → refusal p ≡ None → HasTwoWriters p → ⊥ }
+{}
+
+/// The two branches that a refusal of a fork tells do share the variable that it tells; no lesser pair of
+/// them shares any, and this pair none that is declared before it.
+pub fn least_clash_is_told()
+    ensures { (n : ℕ) (branches : List Takes) (c : Clash) → clash_from n 0 branches ≡ Some c → IsClash n branches c × IsLeast n branches c }
+{}
+
+/// Of a program that has a text of at most 1,048,576 bytes, the units are fewer than 2 ^ 21, and so are
+/// the numbers of all their statements. With the expressions and the arguments of calls, of functions
+/// and of lifted branches, all units together are smaller than 2 ^ 28.
+pub fn units_are_small()
+    ensures { (p : Resolved) (form : Form) → IsFormOfText p → accepted p ≡ Ok form → AreSmall form.units }
+{}

@@ -1,0 +1,77 @@
+// The tree of an accepted program: its functions and its block branches as units.
+use shim_base::{List, Ty};
+use shim_scopes::{UExpr, UParam};
+use shim_syntax::Sort;
+
+/// A function, or a block branch that was lifted out of one. Its name, and those of its slots and
+/// `try` statements, are numbers in the list of names.
+#[derive(Debug, Drop, PartialEq, Eq)]
+pub struct Unit {
+    /// The function's name; behind it, for a lifted branch, a dot and the branch's number there.
+    pub title: List<u8>,
+    /// The number of the function in whose text it stands.
+    pub function: u32,
+    /// For a lifted branch, the variables that it takes of the unit around it.
+    pub params: List<UParam>,
+    /// What each slot holds. The first slots are the parameters'; those that the unit itself declares
+    /// follow.
+    pub slots: List<Sort>,
+    pub slot_names: List<u32>,
+    /// How many exceptions it is given, which are the first ones.
+    pub throws: u32,
+    /// The names of the `try` statements of its own text, whose numbers follow those.
+    pub tries: List<u32>,
+    pub body: List<UStmt>,
+}
+
+#[derive(Debug, Drop, PartialEq, Eq)]
+#[cycle(statements)]
+pub struct UStmt {
+    pub line: u32,
+    pub what: UWhat,
+}
+
+/// What a statement does, with the unit's slots and numbers of exceptions.
+#[derive(Debug, Drop, PartialEq, Eq)]
+#[cycle(statements)]
+pub enum UWhat {
+    Declare(Ty, u32, Option<UExpr>),
+    Assign(u32, UExpr),
+    Next(u32),
+    NextAssign(u32, UExpr),
+    AssignNext(u32, u32),
+    Get(u32, u32),
+    Put(u32, UExpr),
+    If(UExpr, List<UStmt>, List<UStmt>),
+    While(UExpr, List<UStmt>),
+    For(List<UStmt>, Option<UExpr>, List<UStmt>, List<UStmt>),
+    Block(List<UStmt>),
+    Call(UCall),
+    Try(List<UStmt>, u32, List<UStmt>),
+    Throw(u32),
+    Par(List<UBranch>),
+}
+
+/// One branch of a fork: the call of a unit.
+#[derive(Debug, Drop, PartialEq, Eq)]
+pub struct UBranch {
+    pub line: u32,
+    pub call: UCall,
+}
+
+/// A call of a unit by its number; `throws` has the caller's exception for each that the unit is given.
+#[derive(Debug, Drop, PartialEq, Eq)]
+pub struct UCall {
+    pub unit: u32,
+    pub args: List<Arg>,
+    pub throws: List<u32>,
+}
+
+#[derive(Debug, Drop, PartialEq, Eq)]
+pub enum Arg {
+    /// A variable by reference, or a stream.
+    Ref(u32),
+    /// A bare variable by value.
+    Pass(u32),
+    Fresh(UExpr),
+}

@@ -1,0 +1,170 @@
+// A whole program as units.
+ghost use Rattle.std.specs.Prelude.{◌≡◌, ◌+◌, ◌++◌, ◌<◌, ◌^◌, length, IfOk, OnOk, slice_get};
+ghost use Rattle.shim_sharing.specs.Room.{FunctionHasRoom, FunctionsHaveRoom};
+ghost use Rattle.shim_sharing.specs.Units.{upto, lift_function, lift_functions, throws_of, lifted};
+
+use crate::branch::{make_unit, open_unit};
+use crate::form::Form;
+use crate::home::Home;
+use crate::lift::lift_body;
+use crate::own::{push_declares, push_tries};
+use crate::refusal::copy_text;
+use crate::unit::Unit;
+use crate::word::{number, number_after};
+use shim_base::{List, Name, NoMemory};
+use shim_scopes::{RFunction, UParam};
+use std::alloc::Global;
+
+// The functions' own units, and those that are lifted out of them.
+#[derive(Drop)]
+pub struct Made {
+    pub own: List<Unit>,
+    pub lifted: List<Unit>,
+}
+
+fn upto(alloc: Global, count: usize) -> Result<List<u32>, NoMemory>
+    requires { count < 2 ^ 32 }
+    ensures { IfOk result (λ made. made ≡ upto count) }
+{
+    let mut made = List::new(alloc);
+    for at in 0..count {
+        made.push(number(at))?;
+    }
+    Ok(made)
+}
+
+fn copy_params(alloc: Global, params: &[UParam]) -> Result<List<UParam>, NoMemory>
+    ensures { IfOk result (λ made. made ≡ params.now) }
+{
+    let mut made = List::new(alloc);
+    for param in params {
+        made.push(UParam {
+            sort: param.sort,
+            by_ref: param.by_ref,
+            name: param.name,
+        })?;
+    }
+    Ok(made)
+}
+
+fn copy_names(alloc: Global, names: &[Name]) -> Result<List<Name>, NoMemory>
+    ensures { IfOk result (λ made. made ≡ names.now) }
+{
+    let mut made = List::new(alloc);
+    for name in names {
+        made.push(Name::new(alloc, name.as_bytes())?)?;
+    }
+    Ok(made)
+}
+
+// A function as a unit. What is lifted out of it goes behind other units, the first of which has the
+// number `base`.
+fn lift_function(
+    alloc: Global,
+    names: &[Name],
+    functions: &[RFunction],
+    number: u32,
+    base: u32,
+    lifted: &mut List<Unit>,
+    function: &RFunction,
+) -> Result<Unit, NoMemory>
+    requires { FunctionHasRoom (base + length lifted.now) function.now }
+    ensures own { IfOk result (λ made. made ≡ (lift_function names.now functions.now number (base + length lifted.old) function.now).own) }
+    ensures lifted { OnOk result (lifted.new ≡ lifted.old ++ (lift_function names.now functions.now number (base + length lifted.old) function.now).lifted) }
+{
+    let name = copy_text(alloc, names, function.name)?;
+    let home = Home {
+        functions,
+        function,
+        number,
+        name: &name,
+        first: number_after(base, lifted.len()),
+    };
+    let slots = upto(alloc, function.params.len())?;
+    let exceptions = upto(alloc, function.throws.len())?;
+    let mut declares = List::new(alloc);
+    push_declares(&mut declares, function.body.as_slice())?;
+    let mut tries = List::new(alloc);
+    push_tries(&mut tries, function.body.as_slice())?;
+    let within = open_unit(
+        alloc,
+        slots.as_slice(),
+        declares.as_slice(),
+        exceptions.as_slice(),
+        tries.as_slice(),
+    )?;
+    let body = lift_body(
+        alloc,
+        &home,
+        &within,
+        base,
+        lifted,
+        function.body.as_slice(),
+    )?;
+    let title = List::from_slice(alloc, name.as_bytes())?;
+    let params = copy_params(alloc, function.params.as_slice())?;
+    let made = make_unit(
+        alloc,
+        &home,
+        title,
+        params,
+        function.throws.len(),
+        &within,
+        tries.as_slice(),
+        body,
+    )?;
+    Ok(made)
+}
+
+fn lift_functions(alloc: Global, names: &[Name], functions: &[RFunction]) -> Result<Made, NoMemory>
+    requires { FunctionsHaveRoom (length functions.now) functions.now }
+    ensures own { IfOk result (λ made. made.own ≡ (lift_functions names.now functions.now 0 (length functions.now) functions.now).own) }
+    ensures lifted { IfOk result (λ made. made.lifted ≡ (lift_functions names.now functions.now 0 (length functions.now) functions.now).lifted) }
+{
+    let base = number(functions.len());
+    let mut own = List::new(alloc);
+    let mut lifted = List::new(alloc);
+    for (at, function) in functions.iter().enumerate() {
+        let at = number(at);
+        own.push(lift_function(alloc, names, functions, at, base, &mut lifted, function)?)?;
+    }
+    Ok(Made { own, lifted })
+}
+
+// The names of what a function throws.
+fn throws_of(alloc: Global, functions: &[RFunction], number: u32) -> Result<List<u32>, NoMemory>
+    ensures { IfOk result (λ made. made ≡ throws_of (slice_get functions.now number)) }
+{
+    match functions.get(number as usize) {
+        Some(function) => {
+            let throws = List::from_slice(alloc, function.throws.as_slice())?;
+            Ok(throws)
+        }
+        None => Ok(List::new(alloc)),
+    }
+}
+
+// The units of a program, be it one that obeys the sharing rule or not.
+pub fn lift_program(
+    alloc: Global,
+    names: &[Name],
+    functions: &[RFunction],
+    main: u32,
+) -> Result<Form, NoMemory>
+    requires { FunctionsHaveRoom (length functions.now) functions.now }
+    ensures { IfOk result (λ form. form ≡ lifted (record { functions = functions.now; names = names.now; main = main })) }
+{
+    let Made {
+        own: mut units,
+        lifted,
+    } = lift_functions(alloc, names, functions)?;
+    units.append(lifted)?;
+    let names = copy_names(alloc, names)?;
+    let main_throws = throws_of(alloc, functions, main)?;
+    Ok(Form {
+        units,
+        names,
+        main,
+        main_throws,
+    })
+}

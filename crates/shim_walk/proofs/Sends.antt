@@ -1,0 +1,79 @@
+-- A process may cross threads: what it owns are numbers and lists, and what it shares by `Arc` says the same to every thread.
+use denote.RattleType.{RattleType}
+use denote.Builtin.{u8}
+use denote.Param.Send.{IsSend, IsSync, recorded_send, sendable, struct_send}
+use denote.Struct.Declared.{shape}
+use Rattle.std.proofs.Crossing.{Arc-send, crosses}
+use Rattle.shim_base.proofs.chan.Chan.TheSendSync as channels
+use Rattle.shim_base.specs.contracts.chan.Chan as Chan
+use Rattle.shim_base.specs.contracts.list.List as List
+use Rattle.shim_base.specs.contracts.path.Path as Path
+use Rattle.shim_base.specs.contracts.shared.Shared as Shared
+use Rattle.shim_sharing.proofs.Sends.{accepted_send, accepted_sync, list_send, list_sync}
+use Rattle.shim_sharing.specs.contracts.accepted.Accepted as Accepted
+use Rattle.shim_walk.proofs.activation.Activation.TheSendSync as activations
+use Rattle.shim_walk.proofs.callers.Callers.TheSendSync as callers
+use Rattle.shim_walk.proofs.cells.Cells.TheSendSync as cells
+use Rattle.shim_walk.specs.contracts.process.Process as Process
+use Rattle.shim_walk.specs.contracts.process.Process.TheInside as inside
+use Rattle.shim_walk.specs.contracts.walk.Walk as Walk
+
+shared_send : (T : RattleType) → IsSend T → IsSync T → IsSend (Shared.the_row T)
+shared_send T s y = search (sendable, crosses) depth 20
+
+path_send : IsSend Path.the_row
+path_send = search (list_send, sendable) depth 20
+
+path_sync : IsSync Path.the_row
+path_sync = search (list_sync, sendable) depth 20
+
+channels_send : IsSend (List.the_row Chan.the_row)
+channels_send = list_send Chan.the_row channels.the_send
+
+program_send : IsSend (Shared.the_row Accepted.the_row)
+program_send = shared_send Accepted.the_row accepted_send accepted_sync
+
+bytes_send : IsSend (List.the_row u8)
+bytes_send = search (list_send, sendable) depth 20
+
+bytes_sync : IsSync (List.the_row u8)
+bytes_sync = search (list_sync, sendable) depth 20
+
+input_send : IsSend (Shared.the_row (List.the_row u8))
+input_send = shared_send (List.the_row u8) bytes_send bytes_sync
+
+fields_send : IsSend inside.the_row
+fields_send = recorded_send (inside.the_field).row _ _ (inside.the_type).to_one (struct_send (shape inside.the_type) (
+  Arc-send Path.the_row path_send path_sync,
+  (
+    search sendable,
+    (
+      search sendable,
+      (
+        search sendable,
+        (
+          channels_send,
+          (
+            activations.the_send,
+            (
+              callers.the_send,
+              (
+                cells.the_send,
+                (
+                  search sendable depth 20,
+                  (search sendable, (search sendable depth 20, (program_send, (input_send, tt)))),
+                ),
+              ),
+            ),
+          ),
+        ),
+      ),
+    ),
+  ),
+))
+
+process_send : IsSend Process.the_row
+process_send = let s = fields_send in search sendable
+
+pub walk_send : IsSend Walk.the_row
+walk_send = let s = process_send in search sendable depth 20

@@ -1,0 +1,67 @@
+-- Each call leaves a walk in a state that a process comes to.
+use Rattle.std.proofs.Common.{◌≡◌, ◌≤◌, ◌<◌, ◌+◌, ℕ, ℤ, List, [], ◌∷◌, ◌++◌, length, Result, Ok, Err, OnOk, OnErr, arith, refl, sym, ap, subst, ◌∙◌, append_assoc, append-nil}
+use Rattle.shim_base.specs.declared.memory.NoMemory.{NoMemory}
+use Rattle.shim_base.specs.Paths.{NamedChannel}
+use Rattle.shim_base.specs.declared.operators.Trap.{Trap}
+use Rattle.shim_local.specs.Laws.{AllOf, by_quiet, by_call, by_put, by_receive, by_unwind, by_fork, by_trap}
+use Rattle.shim_local.specs.Process as local
+use Rattle.shim_sharing.specs.LocalState.{LocalState, handlers, trapped}
+use Rattle.shim_sharing.specs.Steps.{line_of, quiet}
+use Rattle.shim_sharing.specs.Stops.{stop, put, receive}
+use Rattle.shim_sharing.specs.Unwinding.{unwind}
+use Rattle.shim_process.specs.Ops.{parts, stands}
+use Rattle.shim_process.specs.Sound.{Sound}
+use Rattle.shim_walk.specs.declared.left.Left.{Left}
+use Rattle.shim_walk.specs.declared.process.Offspring.{Offspring}
+use Rattle.shim_walk.specs.declared.process.Offspring.TheVariants.{Children, Trapped}
+use Rattle.shim_walk.specs.Lendings.{left_of}
+use Rattle.shim_walk.specs.Partings.{Comes}
+use Rattle.shim_walk.specs.WalkLaws.{walk_laws}
+
+stands_so : (l now : LocalState) (s : local.StopView) → l ≡ now → stands (stop now) ≡ s → stands (stop l) ≡ s
+stands_so l now s e at = subst (λ k. stands (stop k) ≡ s) (sym e) at
+
+pub step_sound : (l now m : LocalState) (r : Result (Unit {0}) NoMemory) → l ≡ now → Sound l → stands (stop now) ≡ local.AtQuiet → OnOk r (m ≡ quiet l) → OnErr r (m ≡ l) → Sound m
+step_sound l now m (Ok x) e s at ok err = walk_laws.moved_sound l m s (by_quiet (stands_so l now local.AtQuiet e at) ok)
+step_sound l now m (Err x) e s at ok err = subst Sound (sym err) s
+
+pub put_sound : (l now m : LocalState) → l ≡ now → Sound l → stands (stop now) ≡ local.AtPut → m ≡ put l → Sound m
+put_sound l now m e s at is = walk_laws.moved_sound l m s (by_call (by_put (stands_so l now local.AtPut e at) is))
+
+pub receive_sound : (l now m : LocalState) (c : NamedChannel) (v : ℤ) → l ≡ now → Sound l → stands (stop now) ≡ local.AtNext c → m ≡ receive l v → Sound m
+receive_sound l now m c v e s at is = walk_laws.moved_sound l m s (by_call (by_receive c v (stands_so l now (local.AtNext c) e at) is))
+
+pub unwind_sound : (l now m : LocalState) (label : ℕ) → l ≡ now → Sound l → now.base ≤ label → label < handlers now → m ≡ unwind l label → Sound m
+unwind_sound l now m label e s least most is =
+    walk_laws.moved_sound l m s
+    (by_call (by_unwind label (subst (λ k. k.base ≤ label) (sym e) least) (subst (λ k. label < handlers k) (sym e) most) is))
+
+pub trap_sound : (l now m : LocalState) (o : Offspring) (t : Trap) → l ≡ now → Sound l → stands (stop now) ≡ local.AtFork → o ≡ Trapped t → Comes o l → m ≡ trapped t (line_of l.frame.todo) l → Sound m
+trap_sound l now m o t e s at is comes n =
+    walk_laws.moved_sound l m s (by_trap (stands_so l now local.AtFork e at) (ap parts (subst (λ o. Comes o l) is comes) ∙ ap local.Stuck (sym n)))
+
+pub children_sound : (l now : LocalState) (o : Offspring) (ks : List LocalState) (left : Left) → l ≡ now → Sound l → stands (stop now) ≡ local.AtFork → o ≡ Children ks left → Comes o l → AllOf Sound ks
+children_sound l now o ks left e s at is comes =
+    walk_laws.fork_sound l (record (left_of l left) { forks = l.forks + 1 }) ks s (stands_so l now local.AtFork e at, ap parts (subst (λ o. Comes o l) is comes))
+
+pub lend_sound : (l now m : LocalState) (o : Offspring) (ks : List LocalState) (left : Left) (r : Result (Unit {0}) NoMemory) → l ≡ now → Sound l → stands (stop now) ≡ local.AtFork → o ≡ Children ks left → Comes o l
+    → OnOk r (m ≡ record (left_of l left) { forks = l.forks + 1 }) → OnErr r (m ≡ l) → Sound m
+lend_sound l now m o ks left (Ok x) e s at is comes ok err =
+    walk_laws.moved_sound l m s (by_fork ks (stands_so l now local.AtFork e at) (ap parts (subst (λ o. Comes o l) is comes) ∙ ap (λ p. local.Parted p ks) (sym ok)))
+lend_sound l now m o ks left (Err x) e s at is comes ok err = subst Sound (sym err) s
+
+-- one process more is a walk
+pub one_kept : (walks more rest after all : List LocalState) (p x : LocalState) → rest ≡ p ∷ after → x ≡ p → more ≡ walks ++ x ∷ [] → walks ++ rest ≡ all → more ++ after ≡ all
+one_kept walks more rest after all p x er ex em e =
+    ap (λ m. m ++ after) em
+    ∙ append_assoc walks (x ∷ []) after
+    ∙ ap (λ y. walks ++ y ∷ after) ex
+    ∙ ap (λ r. walks ++ r) (sym er)
+    ∙ e
+
+no_more : (rest : List LocalState) → length rest ≡ 0 → rest ≡ []
+no_more [] e = refl
+no_more (x ∷ rest) e = absurd (omega arith)
+
+pub all_kept : (walks rest all : List LocalState) → length rest ≡ 0 → walks ++ rest ≡ all → walks ≡ all
+all_kept walks rest all none e = sym (append-nil walks) ∙ ap (λ r. walks ++ r) (sym (no_more rest none)) ∙ e

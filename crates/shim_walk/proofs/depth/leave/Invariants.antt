@@ -1,0 +1,15 @@
+use Rattle.std.proofs.Common.{◌≡◌, ◌∷◌, List, length, map}
+use Rattle.shim_sharing.specs.declared.unit.Unit.{Unit as UnitOf}
+use Rattle.shim_walk.specs.Depths.{shown}
+use Rattle.shim_walk.specs.Leaving.{unwound_in}
+use Rattle.shim_walk.specs.Fronts.{AllStand}
+use Rattle.shim_walk.proofs.depth.leave.Given as goal
+
+abbrev pub invariant-loop-callers : goal.invariant-loop-callers
+invariant-loop-callers l = record {
+  same : (units : List UnitOf) → unwound_in (map (shown units) l.callers) (shown units l.top) l.place l.cells ≡ unwound_in (map (shown units) l.initial.callers) (shown units l.initial.top) l.place l.initial.cells;
+  fronts : (units : List UnitOf) → AllStand units (l.initial.top ∷ l.initial.callers) → AllStand units (l.top ∷ l.callers);
+}
+
+abbrev pub decreases-loop-callers : goal.decreases-loop-callers
+decreases-loop-callers l = length l.callers

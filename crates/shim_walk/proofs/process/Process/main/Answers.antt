@@ -1,0 +1,38 @@
+use Rattle.std.proofs.Common.{◌≡◌, ap, ◌∙◌, subst, slice_get, length, ◌+◌, ◌++◌, arith, if◌then◌else◌, Some, None, List}
+use Rattle.shim_sharing.specs.declared.unit.Unit.{Unit as UnitOf}
+use Rattle.std.specs.Arc.{arc_value}
+use Rattle.shim_sharing.specs.declared.form.Form.{Form}
+use Rattle.shim_sharing.specs.LocalState.{unit_or}
+use Rattle.shim_sharing.specs.Arguments.{empties, numbers_from}
+use Rattle.shim_sharing.specs.Forks.{takes_input, takes_output, labels_from}
+use Rattle.shim_walk.specs.Depths.{shown}
+use Rattle.shim_walk.specs.Entries.{enter_of}
+use Rattle.shim_walk.proofs.Births.{root_by}
+use Rattle.shim_walk.proofs.process.Process.main.Goals as goal
+
+pub returns : goal.returns
+returns c =
+    let program = c.args.program in
+    let u = c.units-units.ensures.value ∙ ap (λ (p : Form). p.units) c.deref.ensures in
+    let m = c.main-unit.ensures ∙ ap (λ (p : Form). p.main) c.deref-2.ensures in
+    let t = c.main_throws-names.ensures.value ∙ ap (λ (p : Form). p.main_throws) c.deref-3.ensures in
+    let names = c.main_throws-names.result.now in
+    let n = c.main-unit.result in
+    let e_top =
+    subst (λ (us : List UnitOf). shown us c.in_ok-top.top ≡ enter_of us n (numbers_from 0 (unit_or (slice_get us n)).slots) c.in_ok-labels.labels 0 0) u c.in_ok-top.ensures.value
+    ∙ ap (λ k. enter_of program.units k (numbers_from 0 (unit_or (slice_get program.units k)).slots) c.in_ok-labels.labels 0 0) m
+    ∙ ap (λ x. enter_of program.units program.main (numbers_from 0 (unit_or (slice_get program.units program.main)).slots) x 0 0) (c.in_ok-labels.ensures ∙ ap (labels_from 1) t) in
+    let e_slots = c.slots_of.ensures ∙ ap (λ us. (unit_or (slice_get us n)).slots) u ∙ ap (λ k. (unit_or (slice_get program.units k)).slots) m in
+    let e_params = c.params_of.ensures ∙ ap (λ us. (unit_or (slice_get us n)).params) u ∙ ap (λ k. (unit_or (slice_get program.units k)).params) m in
+    let e_params2 = c.params_of-2.ensures ∙ ap (λ us. (unit_or (slice_get us n)).params) u ∙ ap (λ k. (unit_or (slice_get program.units k)).params) m in
+    let z = ap length t in
+    let e_base : length names + 1 ≡ 1 + length program.main_throws = omega arith in
+    root_by program c.args.input (arc_value c.in_ok-new.field-0) (length names + 1) c.new-3.result c.in_ok-top.top c.new-4.result c.from_list.result c.input_for-input_at.result c.takes_output-holds_output.result
+    (c.in_ok-new.ensures.ok ∙ c.root.ensures)
+    e_base
+    c.new-3.ensures
+    e_top
+    c.new-4.ensures
+    (c.from_list.ensures ∙ c.in_ok-cells.ensures ∙ ap (λ x. x ++ empties c.slots_of.result.now) c.new.ensures ∙ ap empties e_slots)
+    (c.input_for-input_at.ensures ∙ ap (λ ps. if takes_input ps then Some 0 else None) e_params)
+    (c.takes_output-holds_output.ensures ∙ ap takes_output e_params2)

@@ -1,0 +1,28 @@
+use Rattle.std.proofs.Common.{ap, ◌∙◌}
+use Rattle.shim_sharing.specs.declared.form.Form.{Form}
+use Rattle.shim_sharing.specs.LocalState.{LocalState}
+use Rattle.shim_sharing.specs.Forks.{joined, all_back}
+use Rattle.shim_walk.specs.Bred.{branches_of}
+use Rattle.shim_walk.specs.Depths.{text}
+use Rattle.shim_walk.specs.Pieces.{at_all}
+use Rattle.shim_walk.specs.contracts.process.Process.{the_view}
+use Rattle.shim_walk.proofs.Births.{branches_next}
+use Rattle.shim_walk.proofs.Forking.{joined_by}
+use Rattle.shim_walk.proofs.process.Process.regain.Goals as goal
+
+pub returns : goal.returns
+returns c =
+    let i = c.self.inside in
+    let l = the_view i in
+    let u = c.units.ensures.value ∙ ap (λ (p : Form). p.units) c.deref.ensures in
+    let bs = c.branches_of-branches.result.now in
+    let e =
+    c.branches_of-branches.ensures
+    ∙ ap branches_of c.stmt_in.ensures
+    ∙ ap (λ us. branches_of (at_all (text us i.top.unit) i.top.at)) u
+    ∙ branches_next (text i.program.units i.top.unit) i.top.at in
+    joined_by l c.args.children.now bs c.regain_all.new.cells c.input_back-self-inside.result c.output_back-self-inside.result e
+    (c.regain_all.ensures ∙ ap (λ s. all_back s bs c.args.children.now i.cells) c.slots.ensures)
+    c.input_back-self-inside.ensures
+    c.output_back-self-inside.ensures
+    ∙ ap (λ (m : LocalState). joined m c.args.children.now) c.self.view_is

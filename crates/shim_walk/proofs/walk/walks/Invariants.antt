@@ -1,0 +1,10 @@
+use Rattle.std.proofs.Common.{◌≡◌, ◌++◌}
+use Rattle.shim_local.specs.Laws.{AllOf}
+use Rattle.shim_process.specs.Sound.{Sound}
+use Rattle.shim_walk.proofs.walk.walks.Given as goal
+
+abbrev pub invariant-loop-process : goal.invariant-loop-process
+invariant-loop-process l = record {
+  all : l.walks ++ l.process-iterator.rest.items ≡ l.fn.processes;
+  sound : AllOf Sound l.process-iterator.rest.items;
+}

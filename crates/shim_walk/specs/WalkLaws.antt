@@ -1,0 +1,7 @@
+-- A walk is a process.
+use Rattle.shim_local.specs.Laws.{LocalLaws}
+use Rattle.shim_process.specs.Ops.{process_ops}
+use Rattle.shim_process.proofs.AllLaws.{process_laws}
+
+pub walk_laws : LocalLaws process_ops
+walk_laws = process_laws

@@ -1,0 +1,32 @@
+// The input of a program, byte by byte.
+ghost use Rattle.std.specs.Prelude.{◌≡◌, slice_get};
+ghost use Rattle.shim_sharing.specs.Steps as step;
+
+/// The next byte, or -1 where the input is over or elsewhere.
+pub fn next_byte(at: Option<usize>, input: &[u8]) -> i64
+    ensures { result ≡ step.next_byte at input.now }
+{
+    match at {
+        None => -1,
+        Some(at) => byte_at(at, input),
+    }
+}
+
+fn byte_at(at: usize, input: &[u8]) -> i64
+    ensures { result ≡ step.byte_or_end (slice_get input.now at) }
+{
+    match input.get(at) {
+        None => -1,
+        Some(byte) => i64::from(*byte),
+    }
+}
+
+/// How far it is read behind that byte.
+pub fn read_on(at: Option<usize>, input: &[u8]) -> Option<usize>
+    ensures { result ≡ step.read_on at input.now }
+{
+    match at {
+        None => None,
+        Some(at) => Some(if input.len() <= at { at } else { at + 1 }),
+    }
+}

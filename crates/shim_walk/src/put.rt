@@ -1,0 +1,38 @@
+// What a `put` gives.
+ghost use Rattle.std.specs.Prelude.{◌≡◌, Ok, Some};
+ghost use Rattle.std.specs.Option.{option_copied};
+ghost use Rattle.shim_sharing.specs.declared.unit.UWhat.{out-UWhat};
+ghost use Rattle.shim_sharing.specs.Stops.{low_bits};
+ghost use Rattle.shim_walk.specs.Puts.{gives, gives_at};
+ghost use Rattle.shim_walk.specs.Scenes.{have};
+
+use crate::asks::Scene;
+use crate::value::value_of;
+use shim_base::Trap;
+use shim_sharing::{UStmt, UWhat};
+
+fn what_gives(stmt: &UStmt, scene: &Scene<'_>) -> Result<i64, Trap>
+    ensures { result ≡ gives (out-UWhat stmt.now.what) (have scene.now) }
+{
+    match &stmt.what {
+        UWhat::Put(_, expr) => value_of(expr, scene.cells, scene.slots),
+        _ => Ok(0),
+    }
+}
+
+/// The number that is put, or the trap.
+pub fn gives_at(stmt: Option<&UStmt>, scene: &Scene<'_>) -> Result<i64, Trap>
+    ensures { result ≡ gives_at (option_copied stmt.entry) (have scene.now) }
+{
+    match stmt {
+        None => Ok(0),
+        Some(stmt) => what_gives(stmt, scene),
+    }
+}
+
+/// The low 8 bits of a number.
+pub fn low_bits(value: i64) -> u8
+    ensures { low_bits (Ok value) ≡ Some result }
+{
+    value.rem_euclid(256) as u8
+}

@@ -1,0 +1,39 @@
+// Where the value of a meeting goes.
+ghost use Rattle.std.specs.Prelude.{◌≡◌};
+ghost use Rattle.std.specs.Option.{option_copied};
+ghost use Rattle.shim_sharing.specs.declared.unit.UWhat.{out-UWhat};
+ghost use Rattle.shim_walk.specs.Receivers.{receives, receives_at};
+
+use shim_sharing::{UStmt, UWhat};
+
+/// The slot in which a statement stores what its meeting gives.
+#[derive(Clone, Copy, Debug, PartialEq, Eq)]
+pub enum Receiver {
+    /// The statement is over then.
+    Whole(u32),
+    /// The statement's second part comes then.
+    First(u32),
+    /// It meets nobody.
+    Nothing,
+}
+
+fn what_receives(stmt: &UStmt) -> Receiver
+    ensures { result ≡ receives (out-UWhat stmt.now.what) }
+{
+    match &stmt.what {
+        UWhat::Next(slot) => Receiver::Whole(*slot),
+        UWhat::NextAssign(slot, _) => Receiver::Whole(*slot),
+        UWhat::AssignNext(_, slot) => Receiver::First(*slot),
+        _ => Receiver::Nothing,
+    }
+}
+
+/// The receiver of a statement, if there is one.
+pub fn receiver_at(stmt: Option<&UStmt>) -> Receiver
+    ensures { result ≡ receives_at (option_copied stmt.entry) }
+{
+    match stmt {
+        None => Receiver::Nothing,
+        Some(stmt) => what_receives(stmt),
+    }
+}

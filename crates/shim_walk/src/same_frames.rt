@@ -1,0 +1,109 @@
+// When two units that processes are in are the same.
+ghost use Rattle.std.specs.Prelude.{◌≡◌, ◌↔◌, ◌<◌, ◌^◌, map, IsTrue};
+ghost use Rattle.shim_walk.specs.Activations.{place_of};
+ghost use Rattle.shim_walk.specs.Depths.{AllFit, shown};
+ghost use Rattle.shim_walk.specs.Pieces.{left_all};
+ghost use Rattle.shim_walk.specs.Ways.{size_all};
+
+use crate::activation::Activation;
+use crate::armed::Armed;
+use crate::callers::Callers;
+use crate::same::same_all;
+use crate::text::text_of;
+use crate::ways::size_all;
+use shim_sharing::{UStmt, Unit};
+
+// Whether the same is left to do from two numbers of a text: nothing is from each behind its last.
+#[tactic(auto, using(crate::proofs::SamePlaces::both_behind, crate::proofs::SamePlaces::same_left))]
+fn same_place(body: &[UStmt], one: u32, other: u32) -> bool
+    requires { size_all body.now < 2 ^ 32 }
+    ensures { IsTrue result ↔ (left_all body.now one ≡ left_all body.now other) }
+{
+    if one == other {
+        return true;
+    }
+    let size = size_all(body);
+    size <= one && size <= other
+}
+
+// Whether they are the same exception place of a text.
+fn same_armed(body: &[UStmt], one: Armed, other: Armed) -> bool
+    requires { size_all body.now < 2 ^ 32 }
+    ensures { IsTrue result ↔ (place_of body.now one ≡ place_of body.now other) }
+{
+    one.exception == other.exception
+        && one.name == other.name
+        && one.line == other.line
+        && same_place(body, one.at, other.at)
+}
+
+// Whether the same exception places of a text are in force.
+fn same_places(body: &[UStmt], one: &[Armed], other: &[Armed]) -> bool
+    requires { size_all body.now < 2 ^ 32 }
+    ensures { IsTrue result ↔ (map (place_of body.now) one.now ≡ map (place_of body.now) other.now) }
+{
+    let mut left = other;
+    for place in one {
+        let Some((first, rest)) = left.split_first() else {
+            return false;
+        };
+        if !same_armed(body, *place, *first) {
+            return false;
+        }
+        left = rest;
+    }
+    left.is_empty()
+}
+
+// Whether they have the same variables and labels, and were entered at the same place.
+fn same_holdings(one: &Activation, other: &Activation) -> bool
+    ensures { IsTrue result ↔ ((one.now.slots ≡ other.now.slots) × (one.now.labels ≡ other.now.labels) × (one.now.floor ≡ other.now.floor) × (one.now.outer ≡ other.now.outer)) }
+{
+    same_all(one.slots(), other.slots())
+        && same_all(one.labels(), other.labels())
+        && one.floor() == other.floor()
+        && one.outer() == other.outer()
+}
+
+/// Whether they are the same in a program of these units.
+#[tactic(auto, using(crate::proofs::Returns::text_fits))]
+pub fn same_frame(units: &[Unit], one: &Activation, other: &Activation) -> bool
+    requires { AllFit units.now }
+    ensures { IsTrue result ↔ (shown units.now one.now ≡ shown units.now other.now) }
+{
+    if one.unit() != other.unit() || one.halfway() != other.halfway() {
+        return false;
+    }
+    if !same_holdings(one, other) {
+        return false;
+    }
+    let body = text_of(units, one.unit());
+    same_place(body, one.at(), other.at()) && same_places(body, one.places(), other.places())
+}
+
+// Whether they are the same, one by one.
+fn same_frames(units: &[Unit], one: &[Activation], other: &[Activation]) -> bool
+    requires { AllFit units.now }
+    ensures { IsTrue result ↔ (map (shown units.now) one.now ≡ map (shown units.now) other.now) }
+{
+    let mut left = other;
+    for frame in one {
+        let Some((first, rest)) = left.split_first() else {
+            return false;
+        };
+        if !same_frame(units, frame, first) {
+            return false;
+        }
+        left = rest;
+    }
+    left.is_empty()
+}
+
+/// Whether the same units wait, in a program of these units.
+#[tactic(auto, using(crate::proofs::SamePlaces::turned))]
+pub fn same_callers(units: &[Unit], one: &Callers, other: &Callers) -> bool
+    requires { AllFit units.now }
+    ensures { IsTrue result ↔ (map (shown units.now) one.now ≡ map (shown units.now) other.now) }
+{
+    same_frames(units, one.as_slice(), other.as_slice())
+}

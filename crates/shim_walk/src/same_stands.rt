@@ -1,0 +1,27 @@
+// When two processes are trapped alike, and have read as much.
+ghost use Rattle.std.specs.Prelude.{◌≡◌, ◌↔◌, IsTrue};
+ghost use Rattle.shim_walk.specs.States.{trapping_of};
+
+use crate::stuck::Stuck;
+
+/// Whether both have the input, and read as many bytes of it, or neither has it.
+pub fn same_input(one: Option<usize>, other: Option<usize>) -> bool
+    ensures { IsTrue result ↔ (one ≡ other) }
+{
+    match (one, other) {
+        (None, None) => true,
+        (Some(at), Some(other)) => at == other,
+        _ => false,
+    }
+}
+
+/// Whether both stand trapped for the same reason in the same line, or neither stands trapped.
+pub fn same_trap(one: Option<Stuck>, other: Option<Stuck>) -> bool
+    ensures { IsTrue result ↔ (trapping_of one ≡ trapping_of other) }
+{
+    match (one, other) {
+        (None, None) => true,
+        (Some(stuck), Some(other)) => stuck.kind == other.kind && stuck.line == other.line,
+        _ => false,
+    }
+}
