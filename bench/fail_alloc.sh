@@ -1,6 +1,7 @@
 #!/usr/bin/env bash
 # Runs ./shim with its first, second, .. allocation failing, until a run makes no more of them. Each run must
-# answer as ever, or write `no memory` and end with 8. Use: make shim && bench/fail_alloc.sh [SOURCE]
+# answer as ever, or write `no memory` and end with 8. Wants gcc.
+# Use: make shim && bench/fail_alloc.sh [SOURCE]
 set -eu
 cd "$(dirname "$0")/.."
 source=${1:-examples/frame.shim}

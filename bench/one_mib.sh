@@ -1,6 +1,7 @@
 #!/usr/bin/env bash
 # Runs a source of 1 MiB by ./shim, and lets gcc check C text of the same size and shape, in turn.
-# Prints the least time of each over some rounds, and their ratio. Use: make shim && bench/one_mib.sh [ROUNDS]
+# Prints the least time of each over some rounds, and their ratio. Wants gcc and awk.
+# Use: make shim && bench/one_mib.sh [ROUNDS]
 set -eu
 cd "$(dirname "$0")/.."
 rounds=${1:-5}

@@ -1,7 +1,7 @@
 #!/usr/bin/env bash
-# Lets ./shim read and bind sources of 1/2 and 1 MiB of five shapes, which are programs of the language that don't run
-# yet, and lets gcc check C text of the same size and shape, in turn: ordinary functions, deep nesting, long sums, many
-# names, and many calls. Prints the least time of each over some rounds, and their ratio. Wants gcc and awk.
+# Lets ./shim read and bind sources of 1/2 and 1 MiB of five shapes, whose main does nothing, and lets gcc check C text of
+# the same size and shape, in turn: ordinary functions, deep nesting, long sums, many names, and many calls. Prints the
+# least time of each over some rounds, and their ratio. Wants gcc and awk.
 # Use: make shim && bench/reading.sh [ROUNDS]
 set -eu
 cd "$(dirname "$0")/.."
@@ -46,7 +46,7 @@ compare() { # NAME SHIM-BODY C-BODY
     text "$size" 'void f@(int n, int &r) { int a; int b; ' "$2" 'void main() { }' > "$room/source.shim"
     text "$size" 'void f@(int n, int *r) { int a, b = 0; ' "$3" 'void main() { }' > "$room/source.c"
     shim=$(least ./shim run "$room/source.shim")
-    grep -q '^refused 1 not built$' "$room/out" || { cat "$room/out"; exit 1; }
+    grep -q '^end done 1$' "$room/out" || { cat "$room/out"; exit 1; }
     gcc=$(least gcc -w -fsyntax-only "$room/source.c")
     ! grep -q 'error' "$room/out" || { head -n 5 "$room/out"; exit 1; }
     awk -v name="$1" -v size="$size" -v shim="$shim" -v gcc="$gcc" 'BEGIN {

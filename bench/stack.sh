@@ -1,6 +1,7 @@
 #!/usr/bin/env bash
 # The least stack, in KiB, with which each of some sources that are nested to the limit ends as it
-# does with 8 MiB, in each of ten tries. Wants `make shim` and awk.
+# does with 8 MiB, in each of ten tries, to 32 KiB. Wants awk.
+# Use: make shim && bench/stack.sh
 set -u
 cd "$(dirname "$0")/.."
 folder=$(mktemp -d)

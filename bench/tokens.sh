@@ -59,7 +59,7 @@ for size in 262144 524288 1048576; do
   grep -q '^refused' "$room/out" || { cat "$room/out"; exit 1; }
   loop=$(least "$room/loop" "$room/text")
   awk -v size="$size" -v shim="$((shim - shim_idle))" -v loop="$((loop - loop_idle))" 'BEGIN {
-    if (loop < 1) loop = 1
+    if (shim <= 0 || loop <= 0) { printf "%7d bytes: no longer than nothing: more rounds may tell\n", size; exit }
     printf "%7d bytes: tokens %.1f ms, %.0f MB/s; C loop %.1f ms, %.0f MB/s; ratio %.1f\n", size, shim / 1e6, size / shim * 1e3, loop / 1e6, size / loop * 1e3, shim / loop
   }'
 done

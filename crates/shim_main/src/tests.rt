@@ -17,8 +17,6 @@ const REPORT: &str = "output 1 41\nend done 4\n";
 const USAGE: &str =
     "usage: shim MODE FILE [--input FILE] [--workers N] [--budget B] [--quantum Q] [--size N]\n";
 
-const NOT_BUILT: &str = "refused 1 not built\n";
-
 fn strings(alloc: Global, texts: &[&str]) -> Result<Vec<String>, AllocError> {
     let mut all = Vec::new(alloc);
     for text in texts {
@@ -80,122 +78,130 @@ fn repeated(
 }
 
 #[test]
-fn a_source_is_run_or_refused(rt: HostRuntime) -> Result<(), Fail> {
+fn plain_sources_run(rt: HostRuntime) -> Result<(), Fail> {
     let alloc = rt.alloc();
-    for (source, status, text) in [
-        (PUTS_A, 0, REPORT),
-        ("void main(ostream &o) { }", 0, "output 0\nend done 1\n"),
+    for (source, text) in [
+        (PUTS_A, REPORT),
+        ("void main(ostream &o) { }", "output 0\nend done 1\n"),
         (
             "\n\tvoid\rmain(ostream&o){\x0b\x0c}\n",
-            0,
             "output 0\nend done 1\n",
         ),
         (
             "void main(ostream &main) { put main, 0; }",
-            0,
             "output 1 00\nend done 2\n",
         ),
-        // Sums are whole numbers; what is put is their low 8 bits.
+        // What is put is the low 8 bits.
         (
             "void main(ostream &o) { put o, 255 + 1; put o, 2147483647 + 1; }",
-            0,
             "output 2 0000\nend done 3\n",
         ),
         (
             "void main(ostream &o) { int x; x = 2147483647 + 2; x = x + x; put o, x + 3; }",
-            0,
             "output 1 05\nend done 5\n",
         ),
         (
             "void main(ostream &o) { int x; put o, x; x = 7; put o, x; x = x + x + 007; put o, x; }",
-            0,
             "output 3 000715\nend done 7\n",
         ),
         // Numbers.
         (
             "void main(ostream &o) { put o, 2147483647; }",
-            0,
             "output 1 ff\nend done 2\n",
         ),
-        ("void main(ostream &o) { put o, 2147483648; }", 5, NOT_BUILT),
+        (
+            "void main(ostream &o) { put o, 2147483648; }",
+            "output 1 00\nend done 2\n",
+        ),
         (
             "void main(ostream &o) { put o, 00000000000000000000000000000065; }",
-            0,
             "output 1 41\nend done 2\n",
         ),
-        ("void main(ostream &o) { put o, -1; }", 5, NOT_BUILT),
+        (
+            "void main(ostream &o) { put o, -1; }",
+            "output 1 ff\nend done 2\n",
+        ),
         (
             "void main(ostream &o) { put o, 0x41; put o, 0X7fFfFfFf; }",
-            0,
             "output 2 41ff\nend done 3\n",
         ),
-        ("void main(ostream &o) { put o, 0x80000000; }", 5, NOT_BUILT),
-        ("void main(ostream &o) { put o, 2 * 3; }", 5, NOT_BUILT),
+        (
+            "void main(ostream &o) { put o, 0x80000000; }",
+            "output 1 00\nend done 2\n",
+        ),
+        (
+            "void main(ostream &o) { put o, 2 * 3; }",
+            "output 1 06\nend done 2\n",
+        ),
         // Names and keywords.
         (
             "void main(ostream &o) { int int9; }",
-            0,
             "output 0\nend done 2\n",
         ),
         (
             "void main(ostream &o) { int _; _ = 1; put o, _; }",
-            0,
             "output 1 01\nend done 4\n",
         ),
         (
             "void main(ostream &o) { int32 x; }",
-            0,
             "output 0\nend done 2\n",
         ),
-        // The form is that of the tree, whatever the text.
-        ("void main() { }", 0, "output 0\nend done 1\n"),
-        ("void main(void) { }", 0, "output 0\nend done 1\n"),
-        ("void main(ostream &o) throws T { }", 5, NOT_BUILT),
-        ("void main(ostream o) { }", 0, "output 0\nend done 1\n"),
-        ("void main(ostream &o) { ; }", 0, "output 0\nend done 1\n"),
+        ("void main() { }", "output 0\nend done 1\n"),
+        ("void main(void) { }", "output 0\nend done 1\n"),
+        (
+            "void main(ostream &o) throws T { }",
+            "output 0\nend done 1\n",
+        ),
+        ("void main(ostream o) { }", "output 0\nend done 1\n"),
+        ("void main(ostream &o) { ; }", "output 0\nend done 1\n"),
         (
             "void main(ostream &o) { int x, y; }",
-            0,
             "output 0\nend done 3\n",
         ),
         (
             "void main(ostream &o) { put o, (1); put o, (1 + 2) + 3; put o, true; }",
-            0,
             "output 3 010601\nend done 4\n",
         ),
         (
             "void main(ostream &o) { put o, 1 + (2 + 3); }",
-            5,
-            NOT_BUILT,
+            "output 1 06\nend done 2\n",
         ),
-        ("void main(ostream &o) { put o, 1 - 2; }", 5, NOT_BUILT),
+        (
+            "void main(ostream &o) { put o, 1 - 2; }",
+            "output 1 ff\nend done 2\n",
+        ),
         (
             "void main(ostream &o) { int x = 1; put o, x; }",
-            0,
             "output 1 01\nend done 3\n",
         ),
-        ("void main(ostream &o) { uint8 x; }", 5, NOT_BUILT),
+        (
+            "void main(ostream &o) { uint8 x; }",
+            "output 0\nend done 2\n",
+        ),
         (
             "void main(ostream &o) { while (0) put o, 1; }",
-            5,
-            NOT_BUILT,
+            "output 0\nend done 2\n",
         ),
         (
             "void main(ostream &o) { if (1) { } else { } }",
-            5,
-            NOT_BUILT,
+            "output 0\nend done 2\n",
         ),
-        ("void main(ostream &o) { { } par { } }", 5, NOT_BUILT),
-        ("void f() { } void main(ostream &o) { f(); }", 5, NOT_BUILT),
+        (
+            "void main(ostream &o) { { } par { } }",
+            "output 0\nend done 5\n",
+        ),
+        (
+            "void f() { } void main(ostream &o) { f(); }",
+            "output 0\nend done 2\n",
+        ),
         // Comments.
         (
             "void main(ostream &o) { put o, 1 /* + 2 */; } // later",
-            0,
             "output 1 01\nend done 2\n",
         ),
     ] {
         let (got, bytes) = run(alloc, source.as_bytes())?;
-        assert_eq!(rt; got, status, "status of {source}");
+        assert_eq!(rt; got, 0, "status of {source}");
         assert_eq!(rt; bytes.as_slice(), text.as_bytes(), "text of {source}");
     }
     Ok(())
@@ -283,35 +289,6 @@ fn a_long_source_comes_to_its_end(rt: HostRuntime) -> Result<(), Fail> {
     let (got, bytes) = run(alloc, &source)?;
     assert_eq!(rt; got, 0);
     assert_eq!(rt; bytes.as_slice(), b"output 0\nend done 400006\n".as_slice());
-    Ok(())
-}
-
-#[test]
-fn another_fork_is_not_built(rt: HostRuntime) -> Result<(), Fail> {
-    let alloc = rt.alloc();
-    for source in [
-        // Branches that aren't calls with a variable.
-        "void f(int a) { } void main() { int c; f(c); par f(c + 0); }",
-        "void f(int a) { } void main() { int c; f(c); par f(1); }",
-        "void f(int a) { } void main() { int c; f(c); par { } }",
-        "void f(int a) { } void main() { int c; f(c); par f(c); par f(c); }",
-        // A second fork, and one in another function.
-        "void f(int a) { } void main() { int c; f(c); par f(c); f(c); par f(c); }",
-        "void f(int a) { } void g(int a) { f(a); par f(a); } void main() { }",
-        // Functions that take no number, or more than one, or another thing.
-        "void f() { } void main() { }",
-        "void f(int a, int b) { } void main() { }",
-        "void f(int8 a) { } void main() { }",
-        "void f(ostream &o) { } void main() { }",
-        "void f(int a) throws T { } void main() { }",
-        "void main(istream &i) { }",
-        // What a function may not do.
-        "void f(int a) { next a = 1; } void main() { }",
-    ] {
-        let (got, bytes) = run(alloc, source.as_bytes())?;
-        assert_eq!(rt; got, 5, "status of {source}");
-        assert_eq!(rt; bytes.as_slice(), NOT_BUILT.as_bytes(), "text of {source}");
-    }
     Ok(())
 }
 

@@ -4,19 +4,19 @@ use Rattle.shim_base.specs.declared.operators.Trap.{Trap}
 use Rattle.shim_base.specs.declared.operators.Trap.TheVariants.{Depth}
 use Rattle.shim_local.specs.Process as local
 use Rattle.shim_local.specs.Laws.{Called, by_put, by_receive, by_unwind}
-use Rattle.shim_sharing.specs.declared.unit.UBranch.{UBranch}
-use Rattle.shim_sharing.specs.declared.unit.UStmt.{UStmt}
-use Rattle.shim_sharing.specs.declared.unit.UWhat.{UWhat, UWhat-F, out-UWhat}
-use Rattle.shim_sharing.specs.Values.{Value}
-use Rattle.shim_sharing.specs.Todo.{Item, Do, Leave, On}
-use Rattle.shim_sharing.specs.LocalState.{LocalState, is_full, trapped}
-use Rattle.shim_sharing.specs.Arguments.{Argument}
-use Rattle.shim_sharing.specs.Ends.{gone}
-use Rattle.shim_sharing.specs.Forks.{fork, parting, parent, children_from, is_far, item_branches, all_arguments}
-use Rattle.shim_sharing.specs.Forks as forks
-use Rattle.shim_sharing.specs.Steps.{line_of, stored_in, half}
-use Rattle.shim_sharing.specs.Stops.{put_value, after_put, put, what_receive, item_receive, receive}
-use Rattle.shim_sharing.specs.Unwinding.{unwind}
+use Rattle.shim_units.specs.declared.unit.UBranch.{UBranch}
+use Rattle.shim_units.specs.declared.unit.UStmt.{UStmt}
+use Rattle.shim_units.specs.declared.unit.UWhat.{UWhat, UWhat-F, out-UWhat}
+use Rattle.shim_units.specs.Values.{Value}
+use Rattle.shim_units.specs.Todo.{Item, Do, Leave, On}
+use Rattle.shim_units.specs.LocalState.{LocalState, is_full, trapped}
+use Rattle.shim_units.specs.Arguments.{Argument}
+use Rattle.shim_units.specs.Ends.{gone}
+use Rattle.shim_units.specs.Forks.{fork, parting, parent, children_from, is_far, item_branches, all_arguments}
+use Rattle.shim_units.specs.Forks as forks
+use Rattle.shim_units.specs.Steps.{line_of, stored_in, half}
+use Rattle.shim_units.specs.Stops.{put_value, after_put, put, what_receive, item_receive, receive}
+use Rattle.shim_units.specs.Unwinding.{unwind}
 use Rattle.shim_process.specs.Sound.{Sound}
 use Rattle.shim_process.specs.Ops.{parts, process_ops}
 use Rattle.shim_process.proofs.PlaceLocations.{choose}

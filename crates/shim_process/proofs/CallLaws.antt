@@ -3,11 +3,11 @@ use Rattle.std.proofs.Common.{◌≡◌, ◌∙◌, ◌≤◌, Bool, true, false
 use Rattle.shim_base.specs.Paths.{Channel}
 use Rattle.shim_local.specs.Process as local
 use Rattle.shim_local.specs.Laws.{AllOf, Called, Moved, by_quiet, by_call, by_fork, by_trap, by_join, IsTrapped, CarriesNoMore}
-use Rattle.shim_sharing.specs.LocalState.{LocalState, handlers}
-use Rattle.shim_sharing.specs.Forks.{fork, join}
-use Rattle.shim_sharing.specs.Sharers.{shares, carries}
-use Rattle.shim_sharing.specs.Steps.{quiet}
-use Rattle.shim_sharing.specs.Stops.{stop}
+use Rattle.shim_units.specs.LocalState.{LocalState, handlers}
+use Rattle.shim_units.specs.Forks.{fork, join}
+use Rattle.shim_units.specs.Sharers.{shares, carries}
+use Rattle.shim_units.specs.Steps.{quiet}
+use Rattle.shim_units.specs.Stops.{stop}
 use Rattle.shim_process.specs.Sound.{Sound}
 use Rattle.shim_process.specs.Born.{Born}
 use Rattle.shim_process.specs.Ops.{stands, parts, process_ops}

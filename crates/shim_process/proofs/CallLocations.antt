@@ -4,8 +4,8 @@ use Rattle.std.proofs.lemmas.Bool.Decides.{eqb_tells}
 use Rattle.std.specs.Prelude.{slice_get}
 use Rattle.shim_base.specs.declared.types.Ty.{Ty}
 use Rattle.shim_base.specs.Paths.{Path}
-use Rattle.shim_sharing.specs.Locations.{Location, Locations, Own, Copy, at_number}
-use Rattle.shim_sharing.specs.Arguments.{Argument, ByReference, ByCopy, ByValue, copied, new_location, new_channels, call_locations}
+use Rattle.shim_units.specs.Locations.{Location, Locations, Own, Copy, at_number}
+use Rattle.shim_units.specs.Arguments.{Argument, ByReference, ByCopy, ByValue, copied, new_location, new_channels, call_locations}
 use Rattle.shim_process.proofs.PlaceLocations.{same_some, opened_is}
 
 -- the number that the location on the new channel of this serial number gets

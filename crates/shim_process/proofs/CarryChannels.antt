@@ -3,9 +3,9 @@ use Rattle.std.proofs.Common.{◌≡◌, ◌∙◌, ℕ, zero, suc, ◌<◌, ◌
 use Rattle.std.proofs.lemmas.Bool.{ltb-true, lt-ltb}
 use Rattle.std.specs.Prelude.{slice_get, nat_lt}
 use Rattle.shim_base.specs.Paths.{Path, Channel, NamedChannel, same_pair, same_path, same_channel}
-use Rattle.shim_sharing.specs.Locations.{Location, Locations, Mark, Own, is_own, is_on, opened, at_number, own_of}
-use Rattle.shim_sharing.specs.LocalState.{LocalState}
-use Rattle.shim_sharing.specs.Sharers.{is_among, declared, shares, carries, is_there}
+use Rattle.shim_units.specs.Locations.{Location, Locations, Mark, Own, is_own, is_on, opened, at_number, own_of}
+use Rattle.shim_units.specs.LocalState.{LocalState}
+use Rattle.shim_units.specs.Sharers.{is_among, declared, shares, carries, is_there}
 use Rattle.shim_process.proofs.PlaceLocations.{same_some, choose, opened_is}
 
 first_holds : (a b : Bool) → a && b ≡ true → a ≡ true

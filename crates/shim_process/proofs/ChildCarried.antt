@@ -2,8 +2,8 @@
 use Rattle.std.proofs.Common.{◌≡◌, ℕ, ◌+◌, List, [], ◌∷◌, Option, Some, ◌⊎◌, inl, inr, refl, sym, ap, ◌∙◌, subst}
 use Rattle.std.proofs.lemmas.Bool.{cases_eq}
 use Rattle.shim_base.specs.Paths.{Path, Channel, NamedChannel}
-use Rattle.shim_sharing.specs.Locations.{Location, Locations, Own, at_number, lend_at, moved, with_moved}
-use Rattle.shim_sharing.specs.Arguments.{Argument, ByReference, ByCopy, ByValue, copied, new_location, branch_locations}
+use Rattle.shim_units.specs.Locations.{Location, Locations, Own, at_number, lend_at, moved, with_moved}
+use Rattle.shim_units.specs.Arguments.{Argument, ByReference, ByCopy, ByValue, copied, new_location, branch_locations}
 use Rattle.shim_process.specs.Sound.{IsOwned}
 use Rattle.shim_process.proofs.PlaceLocations.{same_some}
 use Rattle.shim_process.proofs.CarryChannels.{Carried}

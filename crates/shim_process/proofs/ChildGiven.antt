@@ -5,9 +5,9 @@ use Rattle.std.specs.Prelude.{slice_get}
 use Rattle.shim_base.specs.declared.types.Ty.{Ty}
 use Rattle.shim_base.specs.Paths.{Path, Channel, NamedChannel, same_channel}
 use Rattle.shim_syntax.specs.declared.tree.Sort.{Sort}
-use Rattle.shim_sharing.specs.Locations.{Location, Locations, at_number, lend_at, with_moved}
-use Rattle.shim_sharing.specs.Arguments.{Argument, ByReference, ByCopy, ByValue, copied, new_location, new_channels, branch_locations, channels_of, empties}
-use Rattle.shim_sharing.specs.Sharers.{is_among}
+use Rattle.shim_units.specs.Locations.{Location, Locations, at_number, lend_at, with_moved}
+use Rattle.shim_units.specs.Arguments.{Argument, ByReference, ByCopy, ByValue, copied, new_location, new_channels, branch_locations, channels_of, empties}
+use Rattle.shim_units.specs.Sharers.{is_among}
 use Rattle.shim_process.proofs.PlaceLocations.{same_some, at_empty}
 use Rattle.shim_process.proofs.ForkNames.{same_channel_of}
 

@@ -3,8 +3,8 @@ use Rattle.std.proofs.Common.{◌≡◌, ℕ, ℤ, zero, suc, ◌+◌, ◌<◌, 
 use Rattle.shim_base.specs.declared.types.Ty.{Ty}
 use Rattle.shim_base.specs.Value.{stored}
 use Rattle.shim_base.specs.Paths.{Path, Channel, NamedChannel}
-use Rattle.shim_sharing.specs.Locations.{Location, Locations, Mark, Own, Lent, Copy, at_number, lend_at, moved, with_moved}
-use Rattle.shim_sharing.specs.Arguments.{Argument, ByReference, ByCopy, ByValue, copied, new_location, new_channels, branch_locations}
+use Rattle.shim_units.specs.Locations.{Location, Locations, Mark, Own, Lent, Copy, at_number, lend_at, moved, with_moved}
+use Rattle.shim_units.specs.Arguments.{Argument, ByReference, ByCopy, ByValue, copied, new_location, new_channels, branch_locations}
 use Rattle.shim_process.specs.Sound.{IsOwned}
 use Rattle.shim_process.proofs.PlaceLocations.{same_some}
 use Rattle.shim_process.proofs.ForkPlaces.{IsOwn, owned, Place, within_lend, kept_owned, kept_own, lent_not_own}

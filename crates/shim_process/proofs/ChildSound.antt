@@ -3,12 +3,12 @@ use Rattle.std.proofs.Common.{◌≡◌, ℕ, ◌+◌, ◌<◌, true, List, [], 
 use Rattle.std.proofs.lemmas.Bool.{and_parts, or_cases, or_left, ltb-true}
 use Rattle.std.specs.Prelude.{slice_get}
 use Rattle.shim_base.specs.Paths.{Path, Channel, NamedChannel, same_path}
-use Rattle.shim_sharing.specs.declared.unit.UBranch.{UBranch}
-use Rattle.shim_sharing.specs.Locations.{Location, Locations, at_number}
-use Rattle.shim_sharing.specs.LocalState.{LocalState, unit_at, handlers}
-use Rattle.shim_sharing.specs.Arguments.{Argument, new_channels, branch_locations, channels_of, declared_slots, passed_labels}
-use Rattle.shim_sharing.specs.Forks.{child}
-use Rattle.shim_sharing.specs.Sharers.{is_among, declared, shares}
+use Rattle.shim_units.specs.declared.unit.UBranch.{UBranch}
+use Rattle.shim_units.specs.Locations.{Location, Locations, at_number}
+use Rattle.shim_units.specs.LocalState.{LocalState, unit_at, handlers}
+use Rattle.shim_units.specs.Arguments.{Argument, new_channels, branch_locations, channels_of, declared_slots, passed_labels}
+use Rattle.shim_units.specs.Forks.{child}
+use Rattle.shim_units.specs.Sharers.{is_among, declared, shares}
 use Rattle.shim_process.specs.Sound.{Sound, LeadsTo, LabelsBelow}
 use Rattle.shim_process.proofs.CarryChannels.{same_path_is, among_at}
 use Rattle.shim_process.proofs.LabelFrames.{passed_below}

@@ -3,12 +3,12 @@ use Rattle.std.proofs.Common.{◌≡◌, ℕ, suc, ◌+◌, Bool, true, false, �
 use Rattle.std.proofs.lemmas.Bool.{cases_Bool, false_from_ne_true, true≢false}
 use Rattle.shim_base.specs.Paths.{Channel}
 use Rattle.shim_local.specs.Laws.{how_many}
-use Rattle.shim_sharing.specs.declared.unit.UBranch.{UBranch}
-use Rattle.shim_sharing.specs.Locations.{Locations}
-use Rattle.shim_sharing.specs.LocalState.{LocalState, unit_at}
-use Rattle.shim_sharing.specs.Arguments.{Argument, branch_locations, declared_slots}
-use Rattle.shim_sharing.specs.Sharers.{shares, carries}
-use Rattle.shim_sharing.specs.Forks.{lent, takes_output, child, children_from, lending, all_lending}
+use Rattle.shim_units.specs.declared.unit.UBranch.{UBranch}
+use Rattle.shim_units.specs.Locations.{Locations}
+use Rattle.shim_units.specs.LocalState.{LocalState, unit_at}
+use Rattle.shim_units.specs.Arguments.{Argument, branch_locations, declared_slots}
+use Rattle.shim_units.specs.Sharers.{shares, carries}
+use Rattle.shim_units.specs.Forks.{lent, takes_output, child, children_from, lending, all_lending}
 use Rattle.shim_process.specs.Sound.{Sound}
 use Rattle.shim_process.proofs.CarryChannels.{Carried, carried_at, carries_at}
 use Rattle.shim_process.proofs.ForkLending.{Suit, given_away}

@@ -4,12 +4,12 @@ use Rattle.std.proofs.lemmas.Bool.{and_parts}
 use Rattle.shim_base.specs.Paths.{Path, Channel}
 use Rattle.shim_local.specs.Process as local
 use Rattle.shim_local.specs.Laws.{AllOf, Forks, AreChildren, IsGiven, how_many}
-use Rattle.shim_sharing.specs.declared.unit.UBranch.{UBranch}
-use Rattle.shim_sharing.specs.LocalState.{LocalState, Frame, unit_at, handlers}
-use Rattle.shim_sharing.specs.Arguments.{Argument}
-use Rattle.shim_sharing.specs.Sharers.{shares, carries}
-use Rattle.shim_sharing.specs.Forks.{item_branches, takes_output, child, children_from, lending, all_lending, parent, fork}
-use Rattle.shim_sharing.specs.Stops.{stop}
+use Rattle.shim_units.specs.declared.unit.UBranch.{UBranch}
+use Rattle.shim_units.specs.LocalState.{LocalState, Frame, unit_at, handlers}
+use Rattle.shim_units.specs.Arguments.{Argument}
+use Rattle.shim_units.specs.Sharers.{shares, carries}
+use Rattle.shim_units.specs.Forks.{item_branches, takes_output, child, children_from, lending, all_lending, parent, fork}
+use Rattle.shim_units.specs.Stops.{stop}
 use Rattle.shim_process.specs.Sound.{Sound, FramesBelow}
 use Rattle.shim_process.specs.Born.{Born, InBranches}
 use Rattle.shim_process.specs.Ops.{stands, parts, process_ops}

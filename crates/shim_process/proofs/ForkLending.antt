@@ -2,15 +2,15 @@
 use Rattle.std.proofs.Common.{◌≡◌, ℕ, suc, ◌+◌, Bool, true, false, cond, List, [], ◌∷◌, length, Some, Result, Ok, Err, refl, ap, ◌∙◌, subst}
 use Rattle.shim_base.specs.declared.operators.Trap.{Trap}
 use Rattle.shim_scopes.specs.declared.tree.UParam.{UParam}
-use Rattle.shim_sharing.specs.declared.form.Form.{Form}
-use Rattle.shim_sharing.specs.declared.unit.UBranch.{UBranch}
-use Rattle.shim_sharing.specs.declared.unit.Arg.{Arg}
-use Rattle.shim_sharing.specs.declared.unit.Arg.TheVariants.{Ref, Pass, Fresh}
-use Rattle.shim_sharing.specs.Values.{value}
-use Rattle.shim_sharing.specs.Locations.{Location, Locations, at_number, lend_at}
-use Rattle.shim_sharing.specs.LocalState.{LocalState, unit_at, number_of, env_of, type_of}
-use Rattle.shim_sharing.specs.Arguments.{Argument, ByReference, ByCopy, ByValue, on_value, arguments}
-use Rattle.shim_sharing.specs.Forks.{lent, lending, all_lending, all_arguments, children_from}
+use Rattle.shim_units.specs.declared.form.Form.{Form}
+use Rattle.shim_units.specs.declared.unit.UBranch.{UBranch}
+use Rattle.shim_units.specs.declared.unit.Arg.{Arg}
+use Rattle.shim_units.specs.declared.unit.Arg.TheVariants.{Ref, Pass, Fresh}
+use Rattle.shim_units.specs.Values.{value}
+use Rattle.shim_units.specs.Locations.{Location, Locations, at_number, lend_at}
+use Rattle.shim_units.specs.LocalState.{LocalState, unit_at, number_of, env_of, type_of}
+use Rattle.shim_units.specs.Arguments.{Argument, ByReference, ByCopy, ByValue, on_value, arguments}
+use Rattle.shim_units.specs.Forks.{lent, lending, all_lending, all_arguments, children_from}
 use Rattle.shim_process.specs.Sound.{IsOwned}
 use Rattle.shim_process.proofs.ForkPlaces.{IsOwn, Place, within_both, within_lent, kept_owned, kept_own}
 

@@ -3,7 +3,7 @@ use Rattle.std.proofs.Common.{◌≡◌, ℕ, zero, suc, ◌+◌, true, List, []
 use Rattle.std.proofs.lemmas.Bool.{or_left, or_right}
 use Rattle.std.specs.Prelude.{slice_get}
 use Rattle.shim_base.specs.Paths.{Path, Channel, NamedChannel, same_channel}
-use Rattle.shim_sharing.specs.Sharers.{is_among}
+use Rattle.shim_units.specs.Sharers.{is_among}
 use Rattle.shim_process.specs.Sound.{LeadsTo}
 use Rattle.shim_process.proofs.PlaceLocations.{same_some}
 use Rattle.shim_process.proofs.CarryChannels.{same_channel_refl}

@@ -4,16 +4,16 @@ use Rattle.shim_base.specs.declared.operators.Trap.{Trap}
 use Rattle.shim_base.specs.declared.operators.Trap.TheVariants.{Depth}
 use Rattle.shim_local.specs.Process as local
 use Rattle.shim_local.specs.Laws.{AllOf, Forks}
-use Rattle.shim_sharing.specs.declared.unit.UBranch.{UBranch}
-use Rattle.shim_sharing.specs.declared.unit.UStmt.{UStmt}
-use Rattle.shim_sharing.specs.declared.unit.UWhat.{UWhat, UWhat-F, out-UWhat}
-use Rattle.shim_sharing.specs.Locations.{Location}
-use Rattle.shim_sharing.specs.LocalState.{LocalState, Frame, Trapping, location_of, is_full, trapped}
-use Rattle.shim_sharing.specs.Todo.{Item, Do, Leave}
-use Rattle.shim_sharing.specs.Arguments.{Argument}
-use Rattle.shim_sharing.specs.Steps.{line_of}
-use Rattle.shim_sharing.specs.Stops.{Stop, AtQuiet, AtNext, AtPut, AtFork, AtFinish, AtThrow, AtTrap, at_next, at_put, what_stop, item_stop, stop_or, stop}
-use Rattle.shim_sharing.specs.Forks.{Parting, Parted, Trapped, what_branches, item_branches, all_arguments, child, children_from, lending, parent, is_far, parting, fork}
+use Rattle.shim_units.specs.declared.unit.UBranch.{UBranch}
+use Rattle.shim_units.specs.declared.unit.UStmt.{UStmt}
+use Rattle.shim_units.specs.declared.unit.UWhat.{UWhat, UWhat-F, out-UWhat}
+use Rattle.shim_units.specs.Locations.{Location}
+use Rattle.shim_units.specs.LocalState.{LocalState, Frame, Trapping, location_of, is_full, trapped}
+use Rattle.shim_units.specs.Todo.{Item, Do, Leave}
+use Rattle.shim_units.specs.Arguments.{Argument}
+use Rattle.shim_units.specs.Steps.{line_of}
+use Rattle.shim_units.specs.Stops.{Stop, AtQuiet, AtNext, AtPut, AtFork, AtFinish, AtThrow, AtTrap, at_next, at_put, what_stop, item_stop, stop_or, stop}
+use Rattle.shim_units.specs.Forks.{Parting, Parted, Trapped, what_branches, item_branches, all_arguments, child, children_from, lending, parent, is_far, parting, fork}
 use Rattle.shim_process.specs.Ops.{stands, parts, process_ops}
 use Rattle.shim_process.proofs.ForkLending.{Suit, all_suit}
 

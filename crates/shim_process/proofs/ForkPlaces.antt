@@ -3,11 +3,11 @@ use Rattle.std.proofs.Common.{◌≡◌, ℕ, zero, suc, List, [], ◌∷◌, Op
 use Rattle.std.specs.Prelude.{slice_set}
 use Rattle.shim_base.specs.Paths.{Channel, NamedChannel}
 use Rattle.shim_scopes.specs.declared.tree.UParam.{UParam}
-use Rattle.shim_sharing.specs.declared.unit.Arg.{Arg}
-use Rattle.shim_sharing.specs.declared.unit.Arg.TheVariants.{Ref, Pass, Fresh}
-use Rattle.shim_sharing.specs.Locations.{Location, Locations, Mark, Own, Lent, Copy, at_number, lend_at, kept, with_kept}
-use Rattle.shim_sharing.specs.LocalState.{number_of}
-use Rattle.shim_sharing.specs.Forks.{lent}
+use Rattle.shim_units.specs.declared.unit.Arg.{Arg}
+use Rattle.shim_units.specs.declared.unit.Arg.TheVariants.{Ref, Pass, Fresh}
+use Rattle.shim_units.specs.Locations.{Location, Locations, Mark, Own, Lent, Copy, at_number, lend_at, kept, with_kept}
+use Rattle.shim_units.specs.LocalState.{number_of}
+use Rattle.shim_units.specs.Forks.{lent}
 use Rattle.shim_process.specs.Sound.{IsOwned}
 use Rattle.shim_process.proofs.PlaceLocations.{same_some}
 use Rattle.shim_process.proofs.CarryChannels.{Carried}

@@ -4,12 +4,12 @@ use Rattle.std.proofs.lemmas.Bool.{or_cases}
 use Rattle.std.specs.Prelude.{slice_get}
 use Rattle.shim_base.specs.Paths.{Channel, NamedChannel}
 use Rattle.shim_local.specs.Laws.{AllOf, AnyOf}
-use Rattle.shim_sharing.specs.Locations.{Location, Own, at_number}
-use Rattle.shim_sharing.specs.Todo.{On}
-use Rattle.shim_sharing.specs.LocalState.{LocalState, handlers}
-use Rattle.shim_sharing.specs.Ends.{gone}
-use Rattle.shim_sharing.specs.Forks.{item_branches, output_back, joined, join}
-use Rattle.shim_sharing.specs.Sharers.{shares, carries}
+use Rattle.shim_units.specs.Locations.{Location, Own, at_number}
+use Rattle.shim_units.specs.Todo.{On}
+use Rattle.shim_units.specs.LocalState.{LocalState, handlers}
+use Rattle.shim_units.specs.Ends.{gone}
+use Rattle.shim_units.specs.Forks.{item_branches, output_back, joined, join}
+use Rattle.shim_units.specs.Sharers.{shares, carries}
 use Rattle.shim_process.specs.Sound.{LeadsTo, IsOwned, FramesBelow, Sound}
 use Rattle.shim_process.specs.Born.{Born}
 use Rattle.shim_process.proofs.PlaceLocations.{choose}

@@ -3,13 +3,13 @@ use Rattle.std.proofs.Common.{◌≡◌, ◌∙◌, ℕ, ◌+◌, ◌⊎◌, inl
 use Rattle.std.specs.Prelude.{slice_set}
 use Rattle.shim_base.specs.Paths.{Channel}
 use Rattle.shim_local.specs.Laws.{AnyOf}
-use Rattle.shim_sharing.specs.declared.unit.UBranch.{UBranch}
-use Rattle.shim_sharing.specs.declared.unit.Arg.{Arg}
-use Rattle.shim_sharing.specs.declared.unit.Arg.TheVariants.{Ref, Pass, Fresh}
-use Rattle.shim_sharing.specs.Locations.{Location, Locations, Mark, Own, Lent, Copy, at_number, is_on, regained, with_back}
-use Rattle.shim_sharing.specs.LocalState.{LocalState, number_of}
-use Rattle.shim_sharing.specs.Forks.{taken_back, all_back}
-use Rattle.shim_sharing.specs.Sharers.{carries}
+use Rattle.shim_units.specs.declared.unit.UBranch.{UBranch}
+use Rattle.shim_units.specs.declared.unit.Arg.{Arg}
+use Rattle.shim_units.specs.declared.unit.Arg.TheVariants.{Ref, Pass, Fresh}
+use Rattle.shim_units.specs.Locations.{Location, Locations, Mark, Own, Lent, Copy, at_number, is_on, regained, with_back}
+use Rattle.shim_units.specs.LocalState.{LocalState, number_of}
+use Rattle.shim_units.specs.Forks.{taken_back, all_back}
+use Rattle.shim_units.specs.Sharers.{carries}
 use Rattle.shim_process.specs.Sound.{IsOwned}
 use Rattle.shim_process.proofs.PlaceLocations.{same_some, Was, was_there, at_set}
 use Rattle.shim_process.proofs.CarryChannels.{same_channel_is, carries_at}

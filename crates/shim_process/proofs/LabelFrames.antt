@@ -2,13 +2,13 @@
 use Rattle.std.proofs.Common.{◌≡◌, ℕ, zero, suc, ◌+◌, ◌-◌, ◌<◌, ◌≤◌, false, List, [], ◌∷◌, length, take, Option, Some, None, nat_eq, nat_lt, cond, refl, sym, subst, arith}
 use Rattle.std.specs.Prelude.{slice_get}
 use Rattle.shim_base.specs.declared.operators.Trap.{Trap}
-use Rattle.shim_sharing.specs.Locations.{Location, at_number}
-use Rattle.shim_sharing.specs.Todo.{Item, Do, Leave, Way, On, Second, followed}
-use Rattle.shim_sharing.specs.LocalState.{LocalState, Frame, ExceptionPlace, number, number_of, handlers, label_among, label_of, trapped}
-use Rattle.shim_sharing.specs.Arguments.{passed_labels}
-use Rattle.shim_sharing.specs.Ends.{without_last, past_ends, went, is_over, settled, gone}
-use Rattle.shim_sharing.specs.Steps.{half}
-use Rattle.shim_sharing.specs.Unwinding.{handling, unwound, unwind}
+use Rattle.shim_units.specs.Locations.{Location, at_number}
+use Rattle.shim_units.specs.Todo.{Item, Do, Leave, Way, On, Second, followed}
+use Rattle.shim_units.specs.LocalState.{LocalState, Frame, ExceptionPlace, number, number_of, handlers, label_among, label_of, trapped}
+use Rattle.shim_units.specs.Arguments.{passed_labels}
+use Rattle.shim_units.specs.Ends.{without_last, past_ends, went, is_over, settled, gone}
+use Rattle.shim_units.specs.Steps.{half}
+use Rattle.shim_units.specs.Unwinding.{handling, unwound, unwind}
 use Rattle.shim_process.specs.Sound.{LabelsBelow, FramesBelow, Sound}
 use Rattle.shim_process.proofs.PlaceLocations.{choose, at_take}
 

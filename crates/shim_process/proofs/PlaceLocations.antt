@@ -2,8 +2,8 @@
 use Rattle.std.proofs.Common.{◌≡◌, ◌∙◌, ℕ, ℤ, zero, suc, ◌+◌, ◌⊎◌, inl, inr, Bool, true, false, List, [], ◌∷◌, ◌++◌, length, take, Option, Some, None, refl, ap, arith, cond}
 use Rattle.std.specs.Prelude.{slice_get, slice_set}
 use Rattle.shim_syntax.specs.declared.tree.Sort.{Sort}
-use Rattle.shim_sharing.specs.Locations.{Location, Locations, opened, at_number, with_value, store_at}
-use Rattle.shim_sharing.specs.Arguments.{empties}
+use Rattle.shim_units.specs.Locations.{Location, Locations, opened, at_number, with_value, store_at}
+use Rattle.shim_units.specs.Arguments.{empties}
 
 -- what holds of both sides holds of the one that a test takes
 pub choose : {A : Type 0} (P : A → Type 0) (t : Bool) (x y : A) → P x → P y → P (cond t x y)

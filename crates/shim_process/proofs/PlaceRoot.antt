@@ -1,10 +1,10 @@
 -- The process that runs `main` is in a sound state, and has no channel.
 use Rattle.std.proofs.Common.{◌≡◌, ℕ, ◌+◌, ◌≤◌, inl, inr, Bool, true, false, List, [], ◌∷◌, length, refl, arith}
 use Rattle.shim_base.specs.Paths.{Channel}
-use Rattle.shim_sharing.specs.declared.form.Form.{Form}
-use Rattle.shim_sharing.specs.LocalState.{unit_at}
-use Rattle.shim_sharing.specs.Forks.{labels_from, root}
-use Rattle.shim_sharing.specs.Sharers.{shares}
+use Rattle.shim_units.specs.declared.form.Form.{Form}
+use Rattle.shim_units.specs.LocalState.{unit_at}
+use Rattle.shim_units.specs.Forks.{labels_from, root}
+use Rattle.shim_units.specs.Sharers.{shares}
 use Rattle.shim_process.specs.Sound.{LabelsBelow, Sound}
 use Rattle.shim_process.proofs.PlaceLocations.{at_empty}
 use Rattle.shim_process.proofs.CarryChannels.{shares_how}

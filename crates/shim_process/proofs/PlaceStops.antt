@@ -4,16 +4,16 @@ use Rattle.shim_base.specs.declared.operators.Trap.{Trap}
 use Rattle.shim_base.specs.Paths.{NamedChannel}
 use Rattle.shim_local.specs.Process.{StopView}
 use Rattle.shim_local.specs.Process as local
-use Rattle.shim_sharing.specs.declared.unit.UBranch.{UBranch}
-use Rattle.shim_sharing.specs.declared.unit.UStmt.{UStmt}
-use Rattle.shim_sharing.specs.declared.unit.UWhat.{UWhat, UWhat-F, out-UWhat}
-use Rattle.shim_sharing.specs.Values.{Value}
-use Rattle.shim_sharing.specs.Locations.{Location, at_number}
-use Rattle.shim_sharing.specs.Todo.{Item, Do, Leave}
-use Rattle.shim_sharing.specs.LocalState.{LocalState, Trapping, location_of, number_of, handlers, trapped}
-use Rattle.shim_sharing.specs.Sharers.{shares}
-use Rattle.shim_sharing.specs.Steps.{line_of}
-use Rattle.shim_sharing.specs.Stops.{Stop, AtQuiet, at_next, at_put, at_fork, what_stop, item_stop, stop_or, stop, put_value, low_bits, byte, after_put, put}
+use Rattle.shim_units.specs.declared.unit.UBranch.{UBranch}
+use Rattle.shim_units.specs.declared.unit.UStmt.{UStmt}
+use Rattle.shim_units.specs.declared.unit.UWhat.{UWhat, UWhat-F, out-UWhat}
+use Rattle.shim_units.specs.Values.{Value}
+use Rattle.shim_units.specs.Locations.{Location, at_number}
+use Rattle.shim_units.specs.Todo.{Item, Do, Leave}
+use Rattle.shim_units.specs.LocalState.{LocalState, Trapping, location_of, number_of, handlers, trapped}
+use Rattle.shim_units.specs.Sharers.{shares}
+use Rattle.shim_units.specs.Steps.{line_of}
+use Rattle.shim_units.specs.Stops.{Stop, AtQuiet, at_next, at_put, at_fork, what_stop, item_stop, stop_or, stop, put_value, low_bits, byte, after_put, put}
 use Rattle.shim_process.specs.Sound.{Sound}
 use Rattle.shim_process.specs.Ops.{stands}
 use Rattle.shim_process.proofs.PlaceLocations.{choose}

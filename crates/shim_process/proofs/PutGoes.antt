@@ -3,15 +3,15 @@ use Rattle.std.proofs.Common.{◌≡◌, ◌∙◌, ℕ, Bool, true, false, List
 use Rattle.shim_local.specs.Process.{StopView}
 use Rattle.shim_local.specs.Process as local
 use Rattle.shim_local.specs.Laws.{IsTrapped}
-use Rattle.shim_sharing.specs.declared.unit.UBranch.{UBranch}
-use Rattle.shim_sharing.specs.declared.unit.UStmt.{UStmt}
-use Rattle.shim_sharing.specs.declared.unit.UWhat.{UWhat, UWhat-F, out-UWhat}
-use Rattle.shim_sharing.specs.Values.{Value}
-use Rattle.shim_sharing.specs.Locations.{Location}
-use Rattle.shim_sharing.specs.Todo.{Item, Do, Leave, Way, On}
-use Rattle.shim_sharing.specs.LocalState.{LocalState, Frame, Trapping, location_of}
-use Rattle.shim_sharing.specs.Ends.{went, is_over, settled, gone}
-use Rattle.shim_sharing.specs.Stops.{Stop, AtQuiet, at_next, at_put, at_fork, what_stop, item_stop, stop_or, stop, put_value, low_bits, byte, after_put, put}
+use Rattle.shim_units.specs.declared.unit.UBranch.{UBranch}
+use Rattle.shim_units.specs.declared.unit.UStmt.{UStmt}
+use Rattle.shim_units.specs.declared.unit.UWhat.{UWhat, UWhat-F, out-UWhat}
+use Rattle.shim_units.specs.Values.{Value}
+use Rattle.shim_units.specs.Locations.{Location}
+use Rattle.shim_units.specs.Todo.{Item, Do, Leave, Way, On}
+use Rattle.shim_units.specs.LocalState.{LocalState, Frame, Trapping, location_of}
+use Rattle.shim_units.specs.Ends.{went, is_over, settled, gone}
+use Rattle.shim_units.specs.Stops.{Stop, AtQuiet, at_next, at_put, at_fork, what_stop, item_stop, stop_or, stop, put_value, low_bits, byte, after_put, put}
 use Rattle.shim_process.specs.Ops.{stands, process_ops}
 use Rattle.shim_process.proofs.PlaceLocations.{choose}
 

@@ -5,17 +5,17 @@ use Rattle.shim_base.specs.declared.operators.Trap.{Trap}
 use Rattle.shim_base.specs.declared.operators.Trap.TheVariants.{Depth}
 use Rattle.shim_base.specs.Paths.{NamedChannel}
 use Rattle.shim_base.specs.Operators.{is_zero}
-use Rattle.shim_sharing.specs.declared.unit.Unit.{Unit as UnitOf}
-use Rattle.shim_sharing.specs.declared.unit.UStmt.{UStmt}
-use Rattle.shim_sharing.specs.declared.unit.UWhat.{UWhat, UWhat-F, out-UWhat}
-use Rattle.shim_sharing.specs.Values.{value}
-use Rattle.shim_sharing.specs.Locations.{Location, Locations, at_number}
-use Rattle.shim_sharing.specs.Todo.{Item, Do, Leave, On, First, Second}
-use Rattle.shim_sharing.specs.LocalState.{LocalState, Frame, unit_at, number_of, env_of, handlers, is_full, trapped}
-use Rattle.shim_sharing.specs.Arguments.{Argument, arguments, new_location, new_channels, call_locations, call_slots, declared_slots, empties, passed_labels, entered}
-use Rattle.shim_sharing.specs.Ends.{settled, gone}
-use Rattle.shim_sharing.specs.Sharers.{shares}
-use Rattle.shim_sharing.specs.Steps.{Deed, Go, Store, StoreFirst, Make, Read, Enter, Arm, Stick, Wait, deed, within, is_deep, value_or, try_name, what_deed, deed_of, next_deed, line_of, stored_in, made_in, next_byte, read_in, half, armed, called, done, quiet}
+use Rattle.shim_units.specs.declared.unit.Unit.{Unit as UnitOf}
+use Rattle.shim_units.specs.declared.unit.UStmt.{UStmt}
+use Rattle.shim_units.specs.declared.unit.UWhat.{UWhat, UWhat-F, out-UWhat}
+use Rattle.shim_units.specs.Values.{value}
+use Rattle.shim_units.specs.Locations.{Location, Locations, at_number}
+use Rattle.shim_units.specs.Todo.{Item, Do, Leave, On, First, Second}
+use Rattle.shim_units.specs.LocalState.{LocalState, Frame, unit_at, number_of, env_of, handlers, is_full, trapped}
+use Rattle.shim_units.specs.Arguments.{Argument, arguments, new_location, new_channels, call_locations, call_slots, declared_slots, empties, passed_labels, entered}
+use Rattle.shim_units.specs.Ends.{settled, gone}
+use Rattle.shim_units.specs.Sharers.{shares}
+use Rattle.shim_units.specs.Steps.{Deed, Go, Store, StoreFirst, Make, Read, Enter, Arm, Stick, Wait, deed, within, is_deep, value_or, try_name, what_deed, deed_of, next_deed, line_of, stored_in, made_in, next_byte, read_in, half, armed, called, done, quiet}
 use Rattle.shim_process.specs.Sound.{LabelsBelow, Sound}
 use Rattle.shim_process.proofs.PlaceLocations.{choose, same_some, was_there, at_store, at_set, at_append, at_empty}
 use Rattle.shim_process.proofs.CallLocations.{place_of, Passed, by_copy, by_value, at_passed}

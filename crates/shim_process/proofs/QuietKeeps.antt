@@ -2,9 +2,9 @@
 use Rattle.std.proofs.Common.{◌≡◌, ◌∙◌, ℕ, ◌<◌, ◌≤◌, ◌⊎◌, inl, inr, Bool, true, false, ◌∷◌, Some, refl, sym, ap, subst, arith}
 use Rattle.std.specs.Prelude.{slice_get}
 use Rattle.shim_base.specs.Paths.{Channel, NamedChannel}
-use Rattle.shim_sharing.specs.Locations.{Location, Own, Copy, at_number}
-use Rattle.shim_sharing.specs.LocalState.{LocalState}
-use Rattle.shim_sharing.specs.Sharers.{shares, carries}
+use Rattle.shim_units.specs.Locations.{Location, Own, Copy, at_number}
+use Rattle.shim_units.specs.LocalState.{LocalState}
+use Rattle.shim_units.specs.Sharers.{shares, carries}
 use Rattle.shim_process.specs.Sound.{LeadsTo, IsOwned, FramesBelow, Sound}
 use Rattle.shim_process.proofs.PlaceLocations.{Was}
 use Rattle.shim_process.proofs.CarryChannels.{shares_more, shares_new, shares_made, shares_how, Carried, carried_at, carries_at}

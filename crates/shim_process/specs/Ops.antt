@@ -1,14 +1,14 @@
 -- The definition's process, as a process that can be asked and stepped.
 use Rattle.shim_local.specs.Process.{Ops, StopView, Parting}
 use Rattle.shim_local.specs.Process as local
-use Rattle.shim_sharing.specs.Forks.{fork, join}
-use Rattle.shim_sharing.specs.Forks as forks
-use Rattle.shim_sharing.specs.LocalState.{LocalState, handlers}
-use Rattle.shim_sharing.specs.Sharers.{shares, carries, value_of, handler}
-use Rattle.shim_sharing.specs.Steps.{quiet}
-use Rattle.shim_sharing.specs.Stops.{Stop, stop, byte, put, receive}
-use Rattle.shim_sharing.specs.Stops as stops
-use Rattle.shim_sharing.specs.Unwinding.{unwind}
+use Rattle.shim_units.specs.Forks.{fork, join}
+use Rattle.shim_units.specs.Forks as forks
+use Rattle.shim_units.specs.LocalState.{LocalState, handlers}
+use Rattle.shim_units.specs.Sharers.{shares, carries, value_of, handler}
+use Rattle.shim_units.specs.Steps.{quiet}
+use Rattle.shim_units.specs.Stops.{Stop, stop, byte, put, receive}
+use Rattle.shim_units.specs.Stops as stops
+use Rattle.shim_units.specs.Unwinding.{unwind}
 use Rattle.shim_process.specs.Sound.{Sound}
 use Rattle.shim_process.specs.Born.{Born}
 

@@ -1,9 +1,9 @@
 -- What all states have that a process comes to; other states may have it, too.
 use Rattle.std.specs.Prelude.{◌≡◌, ◌<◌, ◌≤◌, ℕ, ◌+◌, true, List, [], ◌∷◌, ◌++◌, Some, slice_get}
 use Rattle.shim_base.specs.Paths.{Path, NamedChannel}
-use Rattle.shim_sharing.specs.Locations.{Location, Mark, Own, Lent, Copy, at_number}
-use Rattle.shim_sharing.specs.LocalState.{LocalState, Frame}
-use Rattle.shim_sharing.specs.Sharers.{shares}
+use Rattle.shim_units.specs.Locations.{Location, Mark, Own, Lent, Copy, at_number}
+use Rattle.shim_units.specs.LocalState.{LocalState, Frame}
+use Rattle.shim_units.specs.Sharers.{shares}
 
 -- the first path leads to the second, or is it
 abbrev pub LeadsTo : Path → Path → Type 0

@@ -37,7 +37,7 @@ use Rattle.shim_scopes.specs.Functions.{name_in, twice_after, param_names, wrong
 use Rattle.shim_scopes.specs.Sizes as text
 use Rattle.shim_scopes.specs.Sizes.{sum_of}
 use Rattle.shim_scopes.proofs.SizeSteps as source
-use Rattle.shim_sharing.specs.Sizes.{Extent, plain, expr_size, option_size, call_size, branch_what_extent, what_extent, branch_extent, stmt_extent, extent, fork_extent, function_size, functions_size}
+use Rattle.shim_units.specs.Sizes.{Extent, plain, expr_size, option_size, call_size, branch_what_extent, what_extent, branch_extent, stmt_extent, extent, fork_extent, function_size, functions_size}
 use Rattle.shim_sharing.proofs.TextLocals as counted
 use Rattle.shim_sharing.proofs.TextLocals.{locals, stmt_locals, branch_locals, what_locals, branch_what_locals, IsNarrow, AreNarrow}
 use Rattle.shim_sharing.proofs.ExtentSteps.{number_size, variable_size, unary_size, binary_size, of_stmt, of_branch, at_declare, at_assign, at_next, at_next_assign, at_assign_next, at_get, at_put, at_if, at_while, at_for, at_block, at_call, at_try, at_throw, at_par, at_block_branch, at_call_branch}

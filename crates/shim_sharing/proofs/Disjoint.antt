@@ -7,13 +7,14 @@ use Rattle.std.proofs.lemmas.Option.{slice_get-map}
 use Rattle.shim_syntax.specs.declared.tree.Sort.{Sort}
 use Rattle.shim_scopes.specs.declared.tree.RFunction.{RFunction}
 use Rattle.shim_scopes.specs.declared.form.Form.{Form as Resolved}
-use Rattle.shim_sharing.specs.declared.found.Use.{Use}
-use Rattle.shim_sharing.specs.Parts.{Place}
-use Rattle.shim_sharing.specs.Parts.Place.{Fork}
-use Rattle.shim_sharing.specs.Taking.{Takes, takes, is_reference}
-use Rattle.shim_sharing.specs.Sharing.{AreDisjoint, IsDisjointFromAll, ArePairwiseDisjoint, ObeysAt, Obey}
-use Rattle.shim_sharing.specs.Meaning.{places_in}
-use Rattle.shim_sharing.specs.Units.{ObeyAll, refusal}
+use Rattle.shim_units.specs.declared.found.Use.{Use}
+use Rattle.shim_units.specs.Parts.{Place}
+use Rattle.shim_units.specs.Parts.Place.{Fork}
+use Rattle.shim_units.specs.Taking.{Takes, takes, is_reference}
+use Rattle.shim_units.specs.Rule.{AreDisjoint, IsDisjointFromAll, ArePairwiseDisjoint, ObeysAt, Obey}
+use Rattle.shim_units.specs.Meaning.{places_in}
+use Rattle.shim_units.specs.Rule.{ObeyAll}
+use Rattle.shim_sharing.specs.Refusals.{refusal}
 use Rattle.shim_sharing.specs.Laws.{HasTwoWriters}
 use Rattle.shim_sharing.proofs.Rule.{obeys_unless_refused}
 

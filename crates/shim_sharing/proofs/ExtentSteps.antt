@@ -12,7 +12,7 @@ use Rattle.shim_scopes.specs.declared.tree.RWhat.TheVariants as r
 use Rattle.shim_scopes.specs.declared.tree.RBranch.{RBranch, fold-roll-RBranch}
 use Rattle.shim_scopes.specs.declared.tree.RBranchWhat.{RBranchWhat, RBranchWhat-F, fold-roll-RBranchWhat, map-RBranchWhat, roll-RBranchWhat}
 use Rattle.shim_scopes.specs.declared.tree.RBranchWhat.TheVariants as rb
-use Rattle.shim_sharing.specs.Sizes.{Extent, plain, declaration, larger, both, apart, expr_counts, expr_size, option_size, call_size, branch_extents, what_extents, branch_what_extent, what_extent, branch_extent, stmt_extent, extent, fork_extent}
+use Rattle.shim_units.specs.Sizes.{Extent, plain, declaration, larger, both, apart, expr_counts, expr_size, option_size, call_size, branch_extents, what_extents, branch_what_extent, what_extent, branch_extent, stmt_extent, extent, fork_extent}
 
 pub number_size : (n : ℤ) → expr_size (u.Number n) ≡ 1
 unfolding expr_size roll-UExpr denote.Hole.Carrier.roll

@@ -1,8 +1,8 @@
 -- How many branches the forks of a text have.
 use Rattle.std.proofs.Common.{ℕ, ◌≡◌, ◌≤◌, List, [], ◌∷◌, ◌++◌, length, arith}
 use Rattle.shim_scopes.specs.declared.tree.RFunction.{RFunction}
-use Rattle.shim_sharing.specs.Parts.{Place, Part, each_uses}
-use Rattle.shim_sharing.specs.Parts.Place.{Fork, Called}
+use Rattle.shim_units.specs.Parts.{Place, Part, each_uses}
+use Rattle.shim_units.specs.Parts.Place.{Fork, Called}
 
 -- each has n at the most
 abbrev pub ForksWithin : ℕ → List Place → Type 0

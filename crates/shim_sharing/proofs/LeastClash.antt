@@ -3,9 +3,9 @@ use Rattle.std.proofs.Common.{◌≡◌, ◌∙◌, ℕ, ◌+◌, ◌<◌, zero,
 use Rattle.std.specs.Prelude.{slice_get}
 use Rattle.std.specs.Option.{option_or}
 use Rattle.shim_sharing.specs.declared.fork.Clash.{Clash}
-use Rattle.shim_sharing.specs.declared.found.Taking.{Taking}
-use Rattle.shim_sharing.specs.declared.found.Taking.TheVariants.{Nothing, Copy, Reference}
-use Rattle.shim_sharing.specs.Taking.{Takes, is_reference}
+use Rattle.shim_units.specs.declared.found.Taking.{Taking}
+use Rattle.shim_units.specs.declared.found.Taking.TheVariants.{Nothing, Copy, Reference}
+use Rattle.shim_units.specs.Taking.{Takes, is_reference}
 use Rattle.shim_sharing.specs.Sharing.{if_true, least, common, clash_at, clash_with, clash_from}
 use Rattle.shim_sharing.specs.Laws.{IsClash, IsLeast}
 use Rattle.shim_sharing.proofs.Rule.{none_below, left_true, right_true, both_true, first_none, second_none, clash_none}

@@ -1,21 +1,19 @@
 -- The lemmas of this crate.
-pub mod EachKind
 pub mod Least
-pub mod LiftedKinds
-pub mod Lifts
-pub mod Marks
 pub mod Offences
 pub mod Rule
 pub mod Shared
 pub mod Disjoint
 pub mod LeastClash
-pub mod TextLocals
+pub mod Lifts
+pub mod LiftedKinds
 pub mod ExtentSteps
-pub mod BoundSizes
 pub mod UnitSteps
 pub mod ForkSizes
 pub mod LiftedSizes
-pub mod UnitSizes
+pub mod FunctionSizes
 pub mod Room
+pub mod TextLocals
+pub mod BoundSizes
+pub mod UnitSizes
 pub mod OffenceNumbers
-pub mod Sends

@@ -3,14 +3,14 @@ use Rattle.std.proofs.Common.{◌≡◌, ◌∙◌, ℕ, ◌+◌, List, ◌++◌
 use Rattle.shim_scopes.specs.declared.tree.UExpr.{UExpr}
 use Rattle.shim_scopes.specs.declared.tree.RStmt.{RStmt}
 use Rattle.shim_scopes.specs.declared.tree.RWhat.TheVariants as is
-use Rattle.shim_sharing.specs.declared.unit.Unit.{Unit as UnitOf}
-use Rattle.shim_sharing.specs.declared.unit.UStmt.{UStmt}
-use Rattle.shim_sharing.specs.declared.unit.UWhat.TheVariants as u
-use Rattle.shim_sharing.specs.declared.within.Within.{Within}
-use Rattle.shim_sharing.specs.Parts.{Home, Part}
-use Rattle.shim_sharing.specs.Moving.{place_of, moved, moved_option}
-use Rattle.shim_sharing.specs.Meaning.{part, lift_in}
-use Rattle.shim_sharing.proofs.EachKind.{at_if, at_for, at_try}
+use Rattle.shim_units.specs.declared.unit.Unit.{Unit as UnitOf}
+use Rattle.shim_units.specs.declared.unit.UStmt.{UStmt}
+use Rattle.shim_units.specs.declared.unit.UWhat.TheVariants as u
+use Rattle.shim_units.specs.declared.within.Within.{Within}
+use Rattle.shim_units.specs.Parts.{Home, Part}
+use Rattle.shim_units.specs.Moving.{place_of, moved, moved_option}
+use Rattle.shim_units.specs.Meaning.{part, lift_in}
+use Rattle.shim_units.proofs.EachKind.{at_if, at_for, at_try}
 use Rattle.shim_sharing.proofs.Lifts.{two_tree, two_units, three_tree, three_units}
 
 pub if_tree : (home : Home) (w : Within) (n : ℕ) (us vs : List UnitOf) (s : RStmt) (e : UExpr) (first other : List RStmt) (test : UExpr) (r q : List UStmt) → s.what ≡ is.If e first other

@@ -12,20 +12,20 @@ use Rattle.shim_scopes.specs.declared.tree.RWhat.{RWhat, RWhat-F, fold-RWhat, fo
 use Rattle.shim_scopes.specs.declared.tree.RBranch.{RBranch, RBranch-F, fold-roll-RBranch, ind-RBranch, map-RBranch, roll-RBranch}
 use Rattle.shim_scopes.specs.declared.tree.RBranchWhat.{RBranchWhat, RBranchWhat-F, fold-RBranchWhat, fold-roll-RBranchWhat, map-RBranchWhat, roll-RBranchWhat}
 use Rattle.shim_scopes.specs.Sizes.{sum_of}
-use Rattle.shim_sharing.specs.declared.unit.Unit.{Unit as UnitOf}
-use Rattle.shim_sharing.specs.declared.unit.UCall.{UCall}
-use Rattle.shim_sharing.specs.declared.unit.UStmt.{UStmt}
-use Rattle.shim_sharing.specs.declared.unit.UWhat.{UWhat}
-use Rattle.shim_sharing.specs.declared.unit.UWhat.TheVariants.{Declare, Assign, Next, NextAssign, AssignNext, Get, Put, If, While, For, Block, Call, Try, Throw, Par}
-use Rattle.shim_sharing.specs.declared.unit.UBranch.{UBranch}
-use Rattle.shim_sharing.specs.declared.within.Within.{Within}
-use Rattle.shim_sharing.specs.Calls.{bare, lends_first, behind_first, params_at}
-use Rattle.shim_sharing.specs.Moving.{place_of, moved_step, moved, moved_option, by_mode, arg_of, args_of, moved_call}
-use Rattle.shim_sharing.specs.Parts.{Home, Part, Lifts, all_places, all_declares, all_tries}
-use Rattle.shim_sharing.specs.Taking.{Takes, is_reference, is_taken}
-use Rattle.shim_sharing.specs.Lifting.{lift_all, whole, on_tree, lift_two, lift_three, branch_arg, branch_param, branch_takes, branch_slots, branch_inner, lift_branch}
-use Rattle.shim_sharing.specs.Meaning.{branch_what_step, what_step, branch_step, stmt_step, in_line, part, parts, branch_part, branch_parts}
-use Rattle.shim_sharing.specs.Sizes.{Extent, plain, declaration, larger, both, apart, expr_size, option_size, call_size, branch_extents, what_extents, branch_what_extent, what_extent, branch_extent, stmt_extent, extent, fork_extent, arg_size, args_size, unit_call_size, units_size, units_points}
+use Rattle.shim_units.specs.declared.unit.Unit.{Unit as UnitOf}
+use Rattle.shim_units.specs.declared.unit.UCall.{UCall}
+use Rattle.shim_units.specs.declared.unit.UStmt.{UStmt}
+use Rattle.shim_units.specs.declared.unit.UWhat.{UWhat}
+use Rattle.shim_units.specs.declared.unit.UWhat.TheVariants.{Declare, Assign, Next, NextAssign, AssignNext, Get, Put, If, While, For, Block, Call, Try, Throw, Par}
+use Rattle.shim_units.specs.declared.unit.UBranch.{UBranch}
+use Rattle.shim_units.specs.declared.within.Within.{Within}
+use Rattle.shim_units.specs.Calls.{bare, lends_first, behind_first, params_at}
+use Rattle.shim_units.specs.Moving.{place_of, moved_step, moved, moved_option, by_mode, arg_of, args_of, moved_call}
+use Rattle.shim_units.specs.Parts.{Home, Part, Lifts, all_places, all_declares, all_tries}
+use Rattle.shim_units.specs.Taking.{Takes, is_reference, is_taken}
+use Rattle.shim_units.specs.Lifting.{lift_all, whole, on_tree, lift_two, lift_three, branch_arg, branch_param, branch_takes, branch_slots, branch_inner, lift_branch}
+use Rattle.shim_units.specs.Meaning.{branch_what_step, what_step, branch_step, stmt_step, in_line, part, parts, branch_part, branch_parts}
+use Rattle.shim_units.specs.Sizes.{Extent, plain, declaration, larger, both, apart, expr_size, option_size, call_size, branch_extents, what_extents, branch_what_extent, what_extent, branch_extent, stmt_extent, extent, fork_extent, arg_size, args_size, unit_call_size, units_size, units_points}
 use Rattle.shim_sharing.proofs.ForkSizes.{ForksWithin, forks_fewer, forks_of_both, uses_of_each}
 use Rattle.shim_sharing.proofs.ExtentSteps as steps
 use Rattle.shim_sharing.proofs.ExtentSteps.{number_size, variable_size, unary_size, binary_size}

@@ -4,18 +4,18 @@ use Rattle.shim_scopes.specs.declared.tree.RBranch.{RBranch, fold_out-RBranch}
 use Rattle.shim_scopes.specs.declared.tree.RBranchWhat.{RBranchWhat, RBranchWhat-F, roll-RBranchWhat, fold-RBranchWhat, fold-roll-RBranchWhat}
 use Rattle.shim_scopes.specs.declared.tree.RBranchWhat.TheVariants as is
 use Rattle.shim_scopes.specs.declared.tree.RStmt.{RStmt}
-use Rattle.shim_sharing.specs.declared.branch.Opened.{Opened}
-use Rattle.shim_sharing.specs.declared.unit.Unit.{Unit as UnitOf}
-use Rattle.shim_sharing.specs.declared.unit.UCall.{UCall}
-use Rattle.shim_sharing.specs.declared.unit.UStmt.{UStmt}
-use Rattle.shim_sharing.specs.declared.unit.UWhat.{UWhat}
-use Rattle.shim_sharing.specs.declared.unit.UBranch.{UBranch}
-use Rattle.shim_sharing.specs.declared.within.Within.{Within}
-use Rattle.shim_sharing.specs.Parts.{Home, Part, Lifted, Lifts, all_tries}
-use Rattle.shim_sharing.specs.Marks.{takes_of}
-use Rattle.shim_sharing.specs.Lifting.{lift_two, lift_three, lift_all, lift_branch, branch_unit, branch_takes, branch_slots, branch_exceptions, branch_inner}
-use Rattle.shim_sharing.specs.Meaning.{branch_what_step, what_step, branch_step, stmt_step, in_line, parts, branch_part}
-use Rattle.shim_sharing.specs.Opening.{IsOpened}
+use Rattle.shim_units.specs.declared.branch.Opened.{Opened}
+use Rattle.shim_units.specs.declared.unit.Unit.{Unit as UnitOf}
+use Rattle.shim_units.specs.declared.unit.UCall.{UCall}
+use Rattle.shim_units.specs.declared.unit.UStmt.{UStmt}
+use Rattle.shim_units.specs.declared.unit.UWhat.{UWhat}
+use Rattle.shim_units.specs.declared.unit.UBranch.{UBranch}
+use Rattle.shim_units.specs.declared.within.Within.{Within}
+use Rattle.shim_units.specs.Parts.{Home, Part, Lifted, Lifts, all_tries}
+use Rattle.shim_units.specs.Marks.{takes_of}
+use Rattle.shim_units.specs.Lifting.{lift_two, lift_three, lift_all, lift_branch, branch_unit, branch_takes, branch_slots, branch_exceptions, branch_inner}
+use Rattle.shim_units.specs.Meaning.{branch_what_step, what_step, branch_step, stmt_step, in_line, parts, branch_part}
+use Rattle.shim_units.specs.Opening.{IsOpened}
 
 -- the number of the next unit, behind some
 behind : (n : ℕ) (us vs xs : List UnitOf) → vs ≡ us ++ xs → n + length vs ≡ n + length us + length xs

@@ -8,13 +8,14 @@ use Rattle.shim_scopes.specs.declared.tree.RFunction.{RFunction}
 use Rattle.shim_sharing.specs.declared.fork.Clash.{Clash}
 use Rattle.shim_sharing.specs.declared.found.Offence.{Offence}
 use Rattle.shim_sharing.specs.declared.found.Offence.TheVariants.{TwoWriters, Alias}
-use Rattle.shim_sharing.specs.Meaning.{places_in}
-use Rattle.shim_sharing.specs.Parts.{Place}
-use Rattle.shim_sharing.specs.Parts.Place.{Fork, Called}
-use Rattle.shim_sharing.specs.Room.{HasNumbers, FunctionHasRoom}
+use Rattle.shim_units.specs.Meaning.{places_in}
+use Rattle.shim_units.specs.Parts.{Place}
+use Rattle.shim_units.specs.Parts.Place.{Fork, Called}
+use Rattle.shim_sharing.specs.Numbers.{HasNumbers}
+use Rattle.shim_sharing.specs.Room.{FunctionHasRoom}
 use Rattle.shim_sharing.specs.Sharing.{clash_from, two_writers, alias, given_again, offence_at, first_offence}
-use Rattle.shim_sharing.specs.Sizes.{extent}
-use Rattle.shim_sharing.specs.Taking.{Takes, takes}
+use Rattle.shim_units.specs.Sizes.{extent}
+use Rattle.shim_units.specs.Taking.{Takes, takes}
 use Rattle.shim_sharing.proofs.ForkSizes.{ForksWithin}
 use Rattle.shim_sharing.proofs.LeastClash.{clash_is_least}
 use Rattle.shim_sharing.proofs.LiftedSizes.{body_within}

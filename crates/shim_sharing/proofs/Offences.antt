@@ -3,7 +3,7 @@ use Rattle.std.proofs.Common.{◌≡◌, ◌∙◌, List, [], ◌∷◌, ◌++�
 use Rattle.std.specs.Option.{option_or}
 use Rattle.shim_syntax.specs.declared.tree.Sort.{Sort}
 use Rattle.shim_sharing.specs.declared.found.Offence.{Offence}
-use Rattle.shim_sharing.specs.Parts.{Place}
+use Rattle.shim_units.specs.Parts.{Place}
 use Rattle.shim_sharing.specs.Sharing.{offence_at, first_offence}
 
 or_both : (a b c : Option Offence) → option_or a (option_or b c) ≡ option_or (option_or a b) c

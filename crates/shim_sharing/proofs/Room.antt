@@ -6,21 +6,19 @@ use Rattle.shim_scopes.specs.declared.tree.RWhat.{RWhat}
 use Rattle.shim_scopes.specs.declared.tree.RWhat.TheVariants as r
 use Rattle.shim_scopes.specs.declared.tree.RBranch.{RBranch}
 use Rattle.shim_scopes.specs.declared.tree.RFunction.{RFunction}
-use Rattle.shim_scopes.specs.declared.form.Form.{Form as Resolved}
-use Rattle.shim_scopes.specs.Resolving.{IsFormOfText}
-use Rattle.shim_sharing.specs.declared.branch.Opened.{Opened}
-use Rattle.shim_sharing.specs.declared.unit.Unit.{Unit as UnitOf}
-use Rattle.shim_sharing.specs.declared.within.Within.{Within}
-use Rattle.shim_sharing.specs.Lifting.{is_among, branch_takes, branch_slots, branch_exceptions}
-use Rattle.shim_sharing.specs.Meaning.{part, parts, branch_part, lift_in}
-use Rattle.shim_sharing.specs.Opening.{IsOpened}
-use Rattle.shim_sharing.specs.Parts.{Home, all_raises, all_declares, all_tries}
+use Rattle.shim_units.specs.declared.branch.Opened.{Opened}
+use Rattle.shim_units.specs.declared.unit.Unit.{Unit as UnitOf}
+use Rattle.shim_units.specs.declared.within.Within.{Within}
+use Rattle.shim_units.specs.Lifting.{is_among, branch_takes, branch_slots, branch_exceptions}
+use Rattle.shim_units.specs.Meaning.{part, parts, branch_part, lift_in}
+use Rattle.shim_units.specs.Opening.{IsOpened}
+use Rattle.shim_units.specs.Parts.{Home, all_raises, all_declares, all_tries}
 use Rattle.shim_sharing.specs.Room.{HasRoom, FunctionHasRoom, FunctionsHaveRoom}
-use Rattle.shim_sharing.specs.Sizes.{Extent, larger, both, apart, what_extent, stmt_extent, branch_extent, extent, fork_extent, functions_size}
-use Rattle.shim_sharing.specs.Taking.{is_taken}
-use Rattle.shim_sharing.specs.Units.{upto, function_within, lift_function, lift_functions}
+use Rattle.shim_units.specs.Sizes.{Extent, larger, both, apart, what_extent, stmt_extent, branch_extent, extent, fork_extent}
+use Rattle.shim_units.specs.Taking.{is_taken}
+use Rattle.shim_units.specs.Units.{upto, function_within, lift_function, lift_functions}
 use Rattle.shim_sharing.proofs.ExtentSteps.{of_stmt, at_if, at_for, at_try, at_par}
-use Rattle.shim_sharing.proofs.UnitSizes.{upto_length, function_points, below, functions_within_text}
+use Rattle.shim_sharing.proofs.FunctionSizes.{upto_length, function_points}
 use Rattle.shim_sharing.proofs.LiftedSizes.{stmt_within, branch_within, body_within, fork_within, fewer_taken}
 
 room_for_less : (w : Within) (k n : ℕ) (x y : Extent) → y.inside ≤ x.inside → k + y.size ≤ n + x.size → HasRoom w n x → HasRoom w k y
@@ -134,15 +132,3 @@ lifted_goes_on names all number base us vs whole f fs is before =
     let rest = (lift_functions names all (number + 1) (base + length us + length r.lifted) fs).lifted in
     let k : base + length vs ≡ base + length us + length r.lifted = omega (arith, ap (λ (l : List UnitOf). length l) is, length-append us r.lifted) in
     ap (λ m. vs ++ (lift_functions names all (number + 1) m fs).lifted) k ∙ ap (λ xs. xs ++ rest) is ∙ append_assoc us r.lifted rest ∙ before
-
--- a program that has a text
-
-functions_counted : (fs : List RFunction) → length fs ≤ functions_size fs
-functions_counted [] = omega arith
-functions_counted (f ∷ fs) = omega (arith, functions_counted fs)
-
-pub program_has_room : (p : Resolved) → ∥ IsFormOfText p ∥₁ → FunctionsHaveRoom (length p.functions) p.functions
-program_has_room p h = record { fits = below _ _ h (λ (t : IsFormOfText p). omega (arith, functions_within_text p t, functions_counted p.functions)) }
-
-pub functions_have_room : (n : ℕ) (fs : List RFunction) → FunctionsHaveRoom n fs → FunctionsHaveRoom 0 fs
-functions_have_room n fs h = record { fits = omega (arith, h.fits) }

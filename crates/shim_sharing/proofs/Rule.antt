@@ -7,15 +7,17 @@ use Rattle.shim_syntax.specs.declared.tree.Sort.{Sort}
 use Rattle.shim_scopes.specs.declared.tree.RFunction.{RFunction}
 use Rattle.shim_scopes.specs.declared.form.Form.{Form as Resolved}
 use Rattle.shim_sharing.specs.declared.fork.Clash.{Clash}
-use Rattle.shim_sharing.specs.declared.found.Given.{Given}
+use Rattle.shim_units.specs.declared.found.Given.{Given}
 use Rattle.shim_sharing.specs.declared.found.Offence.{Offence}
-use Rattle.shim_sharing.specs.declared.found.Use.{Use}
-use Rattle.shim_sharing.specs.Parts.{Place}
-use Rattle.shim_sharing.specs.Parts.Place.{Fork, Called}
-use Rattle.shim_sharing.specs.Taking.{Takes, takes, taken_of, declares, writes, names, is_reference}
-use Rattle.shim_sharing.specs.Sharing.{AreDisjoint, IsDisjointFromAll, ArePairwiseDisjoint, GivesOnce, ObeysAt, Obey, stands_in, if_true, least, common, clash_at, clash_with, clash_from, two_writers, again, given_again, alias, offence_at, first_offence}
-use Rattle.shim_sharing.specs.Meaning.{places_in}
-use Rattle.shim_sharing.specs.Units.{ObeyAll, Obeys, refused_for, function_refusal, refusal_in, refusal}
+use Rattle.shim_units.specs.declared.found.Use.{Use}
+use Rattle.shim_units.specs.Parts.{Place}
+use Rattle.shim_units.specs.Parts.Place.{Fork, Called}
+use Rattle.shim_units.specs.Taking.{Takes, takes, taken_of, declares, writes, names, is_reference}
+use Rattle.shim_units.specs.Rule.{AreDisjoint, IsDisjointFromAll, ArePairwiseDisjoint, GivesOnce, ObeysAt, Obey, stands_in}
+use Rattle.shim_sharing.specs.Sharing.{if_true, least, common, clash_at, clash_with, clash_from, two_writers, again, given_again, alias, offence_at, first_offence}
+use Rattle.shim_units.specs.Meaning.{places_in}
+use Rattle.shim_units.specs.Rule.{ObeyAll, Obeys}
+use Rattle.shim_sharing.specs.Refusals.{refused_for, function_refusal, refusal_in, refusal}
 
 -- neither of two
 pub first_none : {A : Type 0} (a b : Option A) → option_or a b ≡ None → a ≡ None

@@ -1,7 +1,7 @@
 -- Where no variable is taken by reference twice, no two branches clash.
 use Rattle.std.proofs.Common.{◌≡◌, ◌∙◌, ℕ, ◌+◌, ◌<◌, zero, suc, List, [], ◌∷◌, None, Bool, true, false, ◌||◌, ◌&&◌, refl, sym, ap, arith}
-use Rattle.shim_sharing.specs.Taking.{Takes, is_reference}
-use Rattle.shim_sharing.specs.Marks.{shared}
+use Rattle.shim_units.specs.Taking.{Takes, is_reference}
+use Rattle.shim_units.specs.Marks.{shared}
 use Rattle.shim_sharing.specs.Sharing.{if_true, least, common, clash_at, clash_with, clash_from}
 use Rattle.shim_sharing.proofs.Rule.{both_none, if_not_true, left_true, right_true, none_below, none_clash}
 

@@ -7,30 +7,24 @@ use Rattle.shim_scopes.specs.declared.form.Form.{Form as Resolved}
 use Rattle.shim_scopes.specs.Resolving.{IsFormOfText}
 use Rattle.shim_scopes.proofs.ByteSizes.{size_is_bounded}
 use Rattle.shim_sharing.specs.declared.fault.ShareFault.{ShareFault}
-use Rattle.shim_sharing.specs.declared.form.Form.{Form}
-use Rattle.shim_sharing.specs.declared.unit.Unit.{Unit as UnitOf}
-use Rattle.shim_sharing.specs.Accepting.{IsUnitsOfText, unless_refused, accepted}
-use Rattle.shim_sharing.specs.Meaning.{declares_in}
-use Rattle.shim_sharing.specs.Parts.{Home}
-use Rattle.shim_sharing.specs.Sizes.{extent, function_size, functions_size, unit_size, units_size, units_points, AreSmall, AreFit}
-use Rattle.shim_sharing.specs.Todo.{size_all}
-use Rattle.shim_sharing.specs.Units.{refusal, upto, text_of, throws_of, function_within, lift_function, lift_functions, lifted}
+use Rattle.shim_units.specs.declared.form.Form.{Form}
+use Rattle.shim_units.specs.declared.unit.Unit.{Unit as UnitOf}
+use Rattle.shim_units.specs.OfText.{IsUnitsOfText, IsKept}
+use Rattle.shim_sharing.specs.Accepting.{unless_refused, accepted}
+use Rattle.shim_units.specs.Meaning.{declares_in}
+use Rattle.shim_units.specs.Parts.{Home}
+use Rattle.shim_units.specs.Sizes.{extent, function_size, functions_size, unit_size, units_size, units_points, AreSmall, AreFit}
+use Rattle.shim_sharing.specs.Refusals.{refusal}
+use Rattle.shim_units.specs.Units.{upto, text_of, throws_of, function_within, lift_function, lift_functions, lifted}
 use Rattle.shim_sharing.proofs.TextLocals.{program_read}
 use Rattle.shim_sharing.proofs.BoundSizes.{HasFewSlots, HaveFewSlots, program_within}
+use Rattle.shim_sharing.specs.Room.{FunctionsHaveRoom}
+use Rattle.shim_sharing.proofs.FunctionSizes.{upto_length, function_points}
 use Rattle.shim_sharing.proofs.LiftedSizes.{body_within, joined_sizes, joined_points}
-
-pub upto_length : (n : ℕ) → length (upto n) ≡ n
-upto_length zero = omega arith
-upto_length (suc n) = omega (arith, upto_length n, length-append (upto n) (n ∷ []))
 
 module _ (names : List (List ℕ)) (all : List RFunction) where
   abbrev home_of : ℕ → ℕ → RFunction → Home
   home_of number next f = record { functions = all; function = f; number = number; name = text_of names f.name; first = next }
-
-  -- a function and what is lifted out of it
-  pub function_points : (number next : ℕ) (f : RFunction)
-      → suc (size_all (lift_function names all number next f).own.body + units_points (lift_function names all number next f).lifted + length (lift_function names all number next f).lifted) ≤ function_size f
-  function_points number next f = omega (arith, (body_within f.body).lifts.points (home_of number next f) (function_within f) next)
 
   slots_within : (f : RFunction) → HasFewSlots f → length (function_within f).slots + (extent f.body).forked ≤ 96
   slots_within f few = omega (arith, few, upto_length (length f.params), length-append (upto (length f.params)) (declares_in f.body), (body_within f.body).declares)
@@ -47,7 +41,7 @@ module _ (names : List (List ℕ)) (all : List RFunction) where
   functions_points number next (f ∷ fs) =
       let r = lift_function names all number next f in
       let rest = lift_functions names all (number + 1) (next + length r.lifted) fs in
-      omega (arith, function_points number next f, functions_points (number + 1) (next + length r.lifted) fs, joined_points r.lifted rest.lifted, length-append r.lifted rest.lifted)
+      omega (arith, function_points names all number next f, functions_points (number + 1) (next + length r.lifted) fs, joined_points r.lifted rest.lifted, length-append r.lifted rest.lifted)
 
   functions_sizes : (number next : ℕ) (fs : List RFunction) → HaveFewSlots fs
       → units_size (lift_functions names all number next fs).own + units_size (lift_functions names all number next fs).lifted ≤ 194 * functions_size fs
@@ -93,14 +87,14 @@ small us a so = record {
 }
 
 -- the units that are kept
-pub kept_small : (form : Form) → ∥ IsUnitsOfText form ∥₁ → AreSmall form.units
+kept_small : (form : Form) → ∥ IsUnitsOfText form ∥₁ → AreSmall form.units
 kept_small form h = small form.units h (λ (k : IsUnitsOfText form). small form.units k.of_text (λ t. subst (λ (f : Form). AreSmall f.units) k.meant (lifted_small k.resolved t)))
 
 fit_within : (us : List UnitOf) → units_points us < 2 ^ 31 → AreFit us
 fit_within [] h = tt
 fit_within (u ∷ us) h = (omega (arith, h), fit_within us (omega (arith, h)))
 
-pub kept_fit : (form : Form) → ∥ IsUnitsOfText form ∥₁ → AreFit form.units
+kept_fit : (form : Form) → ∥ IsUnitsOfText form ∥₁ → AreFit form.units
 kept_fit form h = fit_within form.units (omega (arith, (kept_small form h).points))
 
 throws_within : (fs : List RFunction) (n : ℕ) → length (throws_of (slice_get fs n)) ≤ functions_size fs
@@ -111,6 +105,20 @@ throws_within (f ∷ fs) (suc n) = omega (arith, throws_within fs n)
 lifted_throws : (p : Resolved) → IsFormOfText p → length (lifted p).main_throws < 2 ^ 21
 lifted_throws p h = omega (arith, throws_within p.functions p.main, functions_within_text p h)
 
--- and what is kept of `main`
-pub kept_throws : (form : Form) → ∥ IsUnitsOfText form ∥₁ → length form.main_throws < 2 ^ 21
+kept_throws : (form : Form) → ∥ IsUnitsOfText form ∥₁ → length form.main_throws < 2 ^ 21
 kept_throws form h = below _ _ h (λ (k : IsUnitsOfText form). below _ _ k.of_text (λ t. subst (λ (f : Form). length f.main_throws < 2 ^ 21) k.meant (lifted_throws k.resolved t)))
+
+pub kept : (form : Form) → ∥ IsUnitsOfText form ∥₁ → IsKept form
+kept form h = record { of_text = h; fit = kept_fit form h; few = kept_throws form h }
+
+-- the numbers that lifting takes
+
+functions_counted : (fs : List RFunction) → length fs ≤ functions_size fs
+functions_counted [] = omega arith
+functions_counted (f ∷ fs) = omega (arith, functions_counted fs)
+
+pub program_has_room : (p : Resolved) → ∥ IsFormOfText p ∥₁ → FunctionsHaveRoom (length p.functions) p.functions
+program_has_room p h = record { fits = below _ _ h (λ (t : IsFormOfText p). omega (arith, functions_within_text p t, functions_counted p.functions)) }
+
+pub functions_have_room : (n : ℕ) (fs : List RFunction) → FunctionsHaveRoom n fs → FunctionsHaveRoom 0 fs
+functions_have_room n fs h = record { fits = omega (arith, h.fits) }

@@ -3,14 +3,14 @@ use Rattle.std.proofs.Common.{ℕ, suc, ◌+◌, ◌≡◌, ◌∙◌, List, Opt
 use Rattle.shim_base.specs.declared.types.Ty.{Ty}
 use Rattle.shim_scopes.specs.declared.tree.UExpr.{UExpr}
 use Rattle.shim_scopes.specs.Sizes.{sum_of}
-use Rattle.shim_sharing.specs.declared.unit.UBranch.{UBranch}
-use Rattle.shim_sharing.specs.declared.unit.UCall.{UCall}
-use Rattle.shim_sharing.specs.declared.unit.UStmt.{UStmt, fold-roll-UStmt}
-use Rattle.shim_sharing.specs.declared.unit.UWhat.{UWhat, UWhat-F, fold-UWhat, fold-roll-UWhat, map-UWhat, roll-UWhat}
-use Rattle.shim_sharing.specs.declared.unit.UWhat.TheVariants as u
-use Rattle.shim_sharing.specs.Todo as todo
-use Rattle.shim_sharing.specs.Todo.{size_of, size_all}
-use Rattle.shim_sharing.specs.Sizes.{expr_size, option_size, unit_call_size, unit_branch_size, what_counts, what_size, stmt_size, stmts_size}
+use Rattle.shim_units.specs.declared.unit.UBranch.{UBranch}
+use Rattle.shim_units.specs.declared.unit.UCall.{UCall}
+use Rattle.shim_units.specs.declared.unit.UStmt.{UStmt, fold-roll-UStmt}
+use Rattle.shim_units.specs.declared.unit.UWhat.{UWhat, UWhat-F, fold-UWhat, fold-roll-UWhat, map-UWhat, roll-UWhat}
+use Rattle.shim_units.specs.declared.unit.UWhat.TheVariants as u
+use Rattle.shim_units.specs.Todo as todo
+use Rattle.shim_units.specs.Todo.{size_of, size_all}
+use Rattle.shim_units.specs.Sizes.{expr_size, option_size, unit_call_size, unit_branch_size, what_counts, what_size, stmt_size, stmts_size}
 
 -- how large a statement is, and how many numbers it takes
 pub record Measure : Type 0 where

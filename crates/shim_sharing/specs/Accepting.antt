@@ -1,18 +1,11 @@
 -- What is accepted: a program that obeys the sharing rule, in its units.
 use Rattle.std.specs.Prelude.{◌≡◌, Option, Some, None, Result, Ok, Err}
 use Rattle.shim_scopes.specs.declared.form.Form.{Form as Resolved}
-use Rattle.shim_scopes.specs.Resolving.{IsFormOfText}
-use Rattle.shim_sharing.specs.declared.form.Form.{Form}
+use Rattle.shim_units.specs.declared.form.Form.{Form}
 use Rattle.shim_sharing.specs.declared.fault.ShareFault.{ShareFault}
 use Rattle.shim_sharing.specs.declared.fault.ShareFault.TheVariants.{TwoWriters, Alias, NoMemory}
-use Rattle.shim_sharing.specs.Units.{Obeys, refusal, lifted}
-
--- the units of a program that has a text of at most 1 MiB, that is bound and obeys the sharing rule
-pub record IsUnitsOfText (form : Form) : Type 0 where
-  pub resolved : Resolved
-  pub of_text : ∥ IsFormOfText resolved ∥₁
-  pub obeys : Obeys resolved
-  pub meant : lifted resolved ≡ form
+use Rattle.shim_sharing.specs.Refusals.{refusal}
+use Rattle.shim_units.specs.Units.{lifted}
 
 abbrev pub unless_refused : Option ShareFault → Form → Result Form ShareFault
 unless_refused None form = Ok form

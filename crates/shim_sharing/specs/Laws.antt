@@ -3,11 +3,11 @@ use Rattle.std.specs.Prelude.{◌≡◌, ◌≢◌, ℕ, ◌<◌, List, Some, sl
 use Rattle.shim_scopes.specs.declared.tree.RFunction.{RFunction}
 use Rattle.shim_scopes.specs.declared.form.Form.{Form as Resolved}
 use Rattle.shim_sharing.specs.declared.fork.Clash.{Clash}
-use Rattle.shim_sharing.specs.declared.found.Use.{Use}
-use Rattle.shim_sharing.specs.declared.found.Taking.TheVariants.{Reference}
-use Rattle.shim_sharing.specs.Parts.Place.{Fork}
-use Rattle.shim_sharing.specs.Taking.{Takes, takes}
-use Rattle.shim_sharing.specs.Meaning.{places_in}
+use Rattle.shim_units.specs.declared.found.Use.{Use}
+use Rattle.shim_units.specs.declared.found.Taking.TheVariants.{Reference}
+use Rattle.shim_units.specs.Parts.Place.{Fork}
+use Rattle.shim_units.specs.Taking.{Takes, takes}
+use Rattle.shim_units.specs.Meaning.{places_in}
 
 -- a fork in the text of a function of the program, two of its branches, and a variable that both take by reference
 pub record HasTwoWriters (p : Resolved) : Type 0 where

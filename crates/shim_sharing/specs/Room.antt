@@ -1,10 +1,8 @@
 -- The numbers of a unit's variables and exceptions fit, and so do those of the units, with all that is still to be lifted.
 use Rattle.std.specs.Prelude.{ℕ, ◌+◌, ◌<◌, ◌^◌, List, length}
 use Rattle.shim_scopes.specs.declared.tree.RFunction.{RFunction}
-use Rattle.shim_sharing.specs.declared.found.Offence.{Offence}
-use Rattle.shim_sharing.specs.declared.found.Offence.TheVariants.{TwoWriters, Alias}
-use Rattle.shim_sharing.specs.declared.within.Within.{Within}
-use Rattle.shim_sharing.specs.Sizes.{Extent, function_size, functions_size}
+use Rattle.shim_units.specs.declared.within.Within.{Within}
+use Rattle.shim_units.specs.Sizes.{Extent, function_size, functions_size}
 
 -- what is lifted out of a part of that extent, which stands in a unit that has these, gets the numbers from `next` on
 pub record HasRoom (w : Within) (next : ℕ) (e : Extent) : Type 0 where
@@ -18,8 +16,3 @@ pub record FunctionHasRoom (next : ℕ) (f : RFunction) : Type 0 where
 
 pub record FunctionsHaveRoom (next : ℕ) (fs : List RFunction) : Type 0 where
   pub fits : next + functions_size fs < 2 ^ 32
-
--- the numbers of the branches that a refusal tells
-abbrev pub HasNumbers : Offence → Type 0
-HasNumbers (TwoWriters line first second slot) = (first < 2 ^ 32) × (second < 2 ^ 32)
-HasNumbers (Alias line slot) = Unit {0}

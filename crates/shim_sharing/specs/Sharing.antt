@@ -1,52 +1,15 @@
--- The sharing rule, and the first place that it refuses.
-use Rattle.std.specs.Prelude.{◌≡◌, ℕ, ◌+◌, zero, suc, List, [], ◌∷◌, ◌++◌, Option, Some, None, Bool, true, false, ◌&&◌, ◌||◌, nat_eq, length, map, IsTrue}
+-- The first place of a function that the sharing rule refuses.
+use Rattle.std.specs.Prelude.{ℕ, ◌+◌, zero, suc, List, [], ◌∷◌, ◌++◌, Option, Some, None, Bool, true, false, ◌&&◌, ◌||◌, length, map}
 use Rattle.std.specs.Option.{option_or}
 use Rattle.shim_syntax.specs.declared.tree.Sort.{Sort}
-use Rattle.shim_sharing.specs.declared.found.Given.{Given}
+use Rattle.shim_units.specs.declared.found.Given.{Given}
 use Rattle.shim_sharing.specs.declared.found.Offence.{Offence}
 use Rattle.shim_sharing.specs.declared.found.Offence.TheVariants.{TwoWriters, Alias}
 use Rattle.shim_sharing.specs.declared.fork.Clash.{Clash}
-use Rattle.shim_sharing.specs.Parts.{Place}
-use Rattle.shim_sharing.specs.Parts.Place.{Fork, Called}
-use Rattle.shim_sharing.specs.Taking.{Takes, takes, is_reference}
-
--- the rule
-
--- no variable is taken by reference by both
-abbrev pub AreDisjoint : Takes → Takes → Type 0
-AreDisjoint s t = (x : ℕ) → IsTrue (is_reference (s x)) → IsTrue (is_reference (t x)) → ⊥
-
-abbrev pub IsDisjointFromAll : Takes → List Takes → Type 0
-IsDisjointFromAll s [] = Unit {0}
-IsDisjointFromAll s (t ∷ ts) = AreDisjoint s t × IsDisjointFromAll s ts
-
--- what the branches of a fork take by reference is pairwise disjoint
-abbrev pub ArePairwiseDisjoint : List Takes → Type 0
-ArePairwiseDisjoint [] = Unit {0}
-ArePairwiseDisjoint (t ∷ ts) = IsDisjointFromAll t ts × ArePairwiseDisjoint ts
-
-abbrev pub is_bare : ℕ → Option ℕ → Bool
-is_bare x None = false
-is_bare x (Some y) = nat_eq y x
-
--- the variable is a bare argument among these
-abbrev pub stands_in : ℕ → List Given → Bool
-stands_in x [] = false
-stands_in x (g ∷ gs) = is_bare x g.bare || stands_in x gs
-
--- what a call gives by reference isn't another bare argument of it
-abbrev pub GivesOnce : List Given → Type 0
-GivesOnce gs = (before : List Given) (g : Given) (after : List Given) (x : ℕ) → gs ≡ before ++ g ∷ after → IsTrue g.lent → g.bare ≡ Some x → IsTrue (stands_in x before || stands_in x after) → ⊥
-
-abbrev pub ObeysAt : List Sort → Place → Type 0
-ObeysAt sorts (Fork line branches) = ArePairwiseDisjoint (map (takes sorts) branches)
-ObeysAt sorts (Called line gs) = GivesOnce gs
-
-abbrev pub Obey : List Sort → List Place → Type 0
-Obey sorts [] = Unit {0}
-Obey sorts (p ∷ ps) = ObeysAt sorts p × Obey sorts ps
-
--- the first refusal
+use Rattle.shim_units.specs.Parts.{Place}
+use Rattle.shim_units.specs.Parts.Place.{Fork, Called}
+use Rattle.shim_units.specs.Rule.{stands_in}
+use Rattle.shim_units.specs.Taking.{Takes, takes, is_reference}
 
 abbrev pub if_true : {A : Type 0} → A → Bool → Option A
 if_true a true = Some a

@@ -1,13 +1,14 @@
 // A variable that a call gives by reference and again.
 ghost use Rattle.std.specs.Prelude.{◌≡◌, ◌||◌, [], IfOk, Option};
-ghost use Rattle.shim_sharing.specs.Sharing.{is_bare, stands_in, again, given_again, alias, offence_at, first_offence};
-ghost use Rattle.shim_sharing.specs.Calls.{given, params_at};
-ghost use Rattle.shim_sharing.specs.Places.{call_place};
+ghost use Rattle.shim_units.specs.Rule.{is_bare, stands_in};
+ghost use Rattle.shim_sharing.specs.Sharing.{again, given_again, alias, offence_at, first_offence};
+ghost use Rattle.shim_units.specs.Calls.{given, params_at};
+ghost use Rattle.shim_units.specs.Places.{call_place};
 
-use crate::calls::{give, params_at};
-use crate::found::{Given, Offence};
+use crate::found::Offence;
 use shim_base::NoMemory;
 use shim_scopes::{RCall, RFunction};
+use shim_units::{Given, give, params_at};
 use std::alloc::Global;
 
 fn is_bare(slot: u32, bare: Option<u32>) -> bool

@@ -1,17 +1,16 @@
 // Two branches of a fork that take one variable by reference.
 ghost use Rattle.std.specs.Prelude.{◌≡◌, ◌+◌, ◌<◌, ◌^◌, ◌&&◌, IfOk, length, map, Option, false};
 ghost use Rattle.shim_sharing.specs.Sharing.{least, common, clash_with, clash_from, two_writers};
-ghost use Rattle.shim_sharing.specs.Taking.{is_reference, takes};
-ghost use Rattle.shim_sharing.specs.Marks.{takes_of, shared};
-ghost use Rattle.shim_sharing.specs.Parts.{each_uses};
-ghost use Rattle.shim_sharing.specs.Meaning.{branch_parts};
+ghost use Rattle.shim_units.specs.Taking.{is_reference, takes};
+ghost use Rattle.shim_units.specs.Marks.{takes_of, shared};
+ghost use Rattle.shim_units.specs.Parts.{each_uses};
+ghost use Rattle.shim_units.specs.Meaning.{branch_parts};
 
-use crate::found::{Offence, Taking};
-use crate::taking::{is_reference, take_all, taking_at};
-use crate::uses::push_branch;
+use crate::found::Offence;
 use shim_base::{List, NoMemory};
 use shim_scopes::{RBranch, RFunction};
 use shim_syntax::Sort;
+use shim_units::{Taking, is_reference, push_branch, take_all, taking_at};
 use std::alloc::Global;
 
 // Two branches, and the variable that both take.

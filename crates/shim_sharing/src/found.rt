@@ -1,36 +1,3 @@
-// What is found in a function's text on the way: uses of variables, arguments, ways to take a variable.
-
-// How a place uses a variable.
-#[derive(Clone, Copy, Debug, PartialEq, Eq)]
-pub enum How {
-    Declared,
-    // It is assigned to, or passed by reference.
-    Written,
-    Named,
-}
-
-// A place that uses a variable.
-#[derive(Clone, Copy, Debug, PartialEq, Eq)]
-pub struct Use {
-    pub slot: u32,
-    pub how: How,
-}
-
-// How a branch takes a variable from around it.
-#[derive(Clone, Copy, Debug, PartialEq, Eq)]
-pub enum Taking {
-    Nothing,
-    Copy,
-    Reference,
-}
-
-// An argument of a call: whether its parameter takes it by reference, and the variable that it is.
-#[derive(Clone, Copy, Debug, PartialEq, Eq)]
-pub struct Given {
-    pub lent: bool,
-    pub bare: Option<u32>,
-}
-
 // What the sharing rule refuses at a place.
 #[derive(Clone, Copy, Debug, PartialEq, Eq)]
 pub enum Offence {

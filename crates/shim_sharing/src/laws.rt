@@ -3,13 +3,14 @@ ghost use Rattle.std.specs.Prelude.{◌≡◌, ◌↔◌, ℕ, List, None, Some,
 ghost use Rattle.shim_scopes.specs.declared.form.Form.{Form as Resolved};
 ghost use Rattle.shim_scopes.specs.Resolving.{IsFormOfText};
 ghost use Rattle.shim_sharing.specs.declared.fork.Clash.{Clash};
-ghost use Rattle.shim_sharing.specs.declared.form.Form.{Form};
+ghost use Rattle.shim_units.specs.declared.form.Form.{Form};
 ghost use Rattle.shim_sharing.specs.Accepting.{accepted};
 ghost use Rattle.shim_sharing.specs.Laws.{HasTwoWriters, IsClash, IsLeast};
 ghost use Rattle.shim_sharing.specs.Sharing.{clash_from};
-ghost use Rattle.shim_sharing.specs.Sizes.{AreSmall};
-ghost use Rattle.shim_sharing.specs.Taking.{Takes};
-ghost use Rattle.shim_sharing.specs.Units.{Obeys, refusal};
+ghost use Rattle.shim_units.specs.Sizes.{AreSmall};
+ghost use Rattle.shim_units.specs.Taking.{Takes};
+ghost use Rattle.shim_units.specs.Rule.{Obeys};
+ghost use Rattle.shim_sharing.specs.Refusals.{refusal};
 
 /// Nothing of a program is refused exactly where every fork and call of it obeys the sharing rule.
 pub fn refused_unless_obeyed()

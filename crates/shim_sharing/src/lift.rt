@@ -1,19 +1,17 @@
 // The statements of a unit, and the units that are lifted out of them.
 ghost use Rattle.std.specs.Prelude.{◌≡◌, ◌+◌, ◌++◌, length, IfOk, OnOk};
-ghost use Rattle.shim_sharing.specs.HomeView.{home_view};
-ghost use Rattle.shim_sharing.specs.Lifting.{lift_all, lift_branch};
+ghost use Rattle.shim_units.specs.HomeView.{home_view};
+ghost use Rattle.shim_units.specs.Lifting.{lift_all, lift_branch};
 ghost use Rattle.shim_sharing.specs.Room.{HasRoom};
-ghost use Rattle.shim_sharing.specs.Sizes.{apart, stmt_extent, branch_extent, extent, fork_extent};
-ghost use Rattle.shim_sharing.specs.Meaning.{part, parts, branch_part, branch_parts, lift_in};
+ghost use Rattle.shim_units.specs.Sizes.{apart, stmt_extent, branch_extent, extent, fork_extent};
+ghost use Rattle.shim_units.specs.Meaning.{part, parts, branch_part, branch_parts, lift_in};
 
-use crate::branch::{call_branch, close_branch, open_branch};
-use crate::home::Home;
-use crate::moving::{move_call, move_expr, move_option, place};
-use crate::unit::{UBranch, UCall, UStmt, UWhat, Unit};
-use crate::within::Within;
-use crate::word::number_after;
 use shim_base::{List, NoMemory};
 use shim_scopes::{RBranch, RBranchWhat, RStmt, RWhat};
+use shim_units::{
+    Home, UBranch, UCall, UStmt, UWhat, Unit, Within, call_branch, close_branch, move_call,
+    move_expr, move_option, number_after, open_branch, place,
+};
 use std::alloc::Global;
 
 // Statements of a unit. What is lifted out of them goes behind other units, the first of which has the

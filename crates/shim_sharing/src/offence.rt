@@ -1,8 +1,8 @@
 // The first fork or call of a text that the sharing rule refuses.
 ghost use Rattle.std.specs.Prelude.{◌≡◌, IfOk, Option};
 ghost use Rattle.shim_sharing.specs.Sharing.{first_offence};
-ghost use Rattle.shim_sharing.specs.Parts.{all_places};
-ghost use Rattle.shim_sharing.specs.Meaning.{part, places_in, branch_part, branch_parts};
+ghost use Rattle.shim_units.specs.Parts.{all_places};
+ghost use Rattle.shim_units.specs.Meaning.{part, places_in, branch_part, branch_parts};
 
 use crate::alias::find_alias;
 use crate::fork::find_two_writers;

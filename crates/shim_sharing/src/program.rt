@@ -1,11 +1,11 @@
 // A whole program.
 ghost use Rattle.shim_sharing.specs.Accepting.{Gives, accepted};
 
-use crate::accepted::{Accepted, keep};
 use crate::fault::ShareFault;
 use crate::refusal::check;
 use crate::units::lift_program;
 use shim_scopes::Resolved;
+use shim_units::{Accepted, keep};
 use std::alloc::Global;
 
 /// The program with its block branches as units, or the first fork or call that the sharing rule

@@ -1,27 +1,19 @@
 // The first fork or call of a program that the sharing rule refuses, with its name.
 ghost use Rattle.std.specs.Prelude.{◌≡◌, IfOk};
-ghost use Rattle.shim_sharing.specs.Lifting.{name_of};
-ghost use Rattle.shim_sharing.specs.Room.{HasNumbers, FunctionHasRoom, FunctionsHaveRoom};
-ghost use Rattle.shim_sharing.specs.Units.{text_of, told, function_refusal, refusal_in};
+ghost use Rattle.shim_units.specs.Lifting.{name_of};
+ghost use Rattle.shim_sharing.specs.Numbers.{HasNumbers};
+ghost use Rattle.shim_sharing.specs.Room.{FunctionHasRoom, FunctionsHaveRoom};
+ghost use Rattle.shim_units.specs.Units.{text_of};
+ghost use Rattle.shim_sharing.specs.Refusals.{told, function_refusal, refusal_in};
 ghost use Rattle.shim_sharing.specs.Accepting.{IsTold, Passes};
 
 use crate::fault::ShareFault;
 use crate::found::Offence;
 use crate::offence::find_offence;
-use crate::word::{name_of, number};
 use shim_base::{Name, NoMemory};
 use shim_scopes::RFunction;
+use shim_units::{copy_text, name_of, number};
 use std::alloc::Global;
-
-// The name of that number.
-pub fn copy_text(alloc: Global, names: &[Name], number: u32) -> Result<Name, NoMemory>
-    ensures { IfOk result (λ name. name ≡ text_of names.now number) }
-{
-    match names.get(number as usize) {
-        Some(name) => Name::new(alloc, name.as_bytes()),
-        None => Name::new(alloc, b"?".as_slice()),
-    }
-}
 
 fn find_told(
     alloc: Global,

@@ -1,18 +1,18 @@
 // A whole program as units.
 ghost use Rattle.std.specs.Prelude.{◌≡◌, ◌+◌, ◌++◌, ◌<◌, ◌^◌, length, IfOk, OnOk, slice_get};
 ghost use Rattle.shim_sharing.specs.Room.{FunctionHasRoom, FunctionsHaveRoom};
-ghost use Rattle.shim_sharing.specs.Units.{upto, lift_function, lift_functions, throws_of, lifted};
+ghost use Rattle.shim_units.specs.HomeView.{home_view};
+ghost use Rattle.shim_units.specs.Lifting.{made_unit};
+ghost use Rattle.shim_units.specs.Meaning.{tries_in};
+ghost use Rattle.shim_units.specs.Units.{upto, function_within, lift_function, lift_functions, throws_of, lifted};
 
-use crate::branch::{make_unit, open_unit};
-use crate::form::Form;
-use crate::home::Home;
 use crate::lift::lift_body;
-use crate::own::{push_declares, push_tries};
-use crate::refusal::copy_text;
-use crate::unit::Unit;
-use crate::word::{number, number_after};
 use shim_base::{List, Name, NoMemory};
 use shim_scopes::{RFunction, UParam};
+use shim_units::{
+    Form, Home, UStmt, Unit, Within, copy_text, make_unit, number, number_after, open_unit,
+    push_declares, push_tries,
+};
 use std::alloc::Global;
 
 // The functions' own units, and those that are lifted out of them.
@@ -57,6 +57,60 @@ fn copy_names(alloc: Global, names: &[Name]) -> Result<List<Name>, NoMemory>
     Ok(made)
 }
 
+// What a function's own unit has, and the `try` statements of its text.
+#[derive(Drop)]
+struct Held {
+    within: Within,
+    tries: List<u32>,
+}
+
+fn open_function(alloc: Global, function: &RFunction) -> Result<Held, NoMemory>
+    requires params { length function.now.params < 2 ^ 32 }
+    requires throws { length function.now.throws < 2 ^ 32 }
+    ensures within { IfOk result (λ held. held.within ≡ function_within function.now) }
+    ensures tries { IfOk result (λ held. held.tries ≡ tries_in function.now.body) }
+{
+    let slots = upto(alloc, function.params.len())?;
+    let exceptions = upto(alloc, function.throws.len())?;
+    let mut declares = List::new(alloc);
+    push_declares(&mut declares, function.body.as_slice())?;
+    let mut tries = List::new(alloc);
+    push_tries(&mut tries, function.body.as_slice())?;
+    let within = open_unit(
+        alloc,
+        slots.as_slice(),
+        declares.as_slice(),
+        exceptions.as_slice(),
+        tries.as_slice(),
+    )?;
+    Ok(Held { within, tries })
+}
+
+fn close_function(
+    alloc: Global,
+    home: &Home,
+    held: &Held,
+    body: List<UStmt>,
+) -> Result<Unit, NoMemory>
+    requires { length (home_view home.now).function.throws < 2 ^ 32 }
+    ensures { IfOk result (λ made. made ≡ made_unit (home_view home.now) (home_view home.now).name (home_view home.now).function.params (length (home_view home.now).function.throws) held.now.within held.now.tries body) }
+{
+    let function = home.function;
+    let title = List::from_slice(alloc, home.name.as_bytes())?;
+    let params = copy_params(alloc, function.params.as_slice())?;
+    let throws = function.throws.len();
+    make_unit(
+        alloc,
+        home,
+        title,
+        params,
+        throws,
+        &held.within,
+        held.tries.as_slice(),
+        body,
+    )
+}
+
 // A function as a unit. What is lifted out of it goes behind other units, the first of which has the
 // number `base`.
 fn lift_function(
@@ -80,40 +134,16 @@ fn lift_function(
         name: &name,
         first: number_after(base, lifted.len()),
     };
-    let slots = upto(alloc, function.params.len())?;
-    let exceptions = upto(alloc, function.throws.len())?;
-    let mut declares = List::new(alloc);
-    push_declares(&mut declares, function.body.as_slice())?;
-    let mut tries = List::new(alloc);
-    push_tries(&mut tries, function.body.as_slice())?;
-    let within = open_unit(
-        alloc,
-        slots.as_slice(),
-        declares.as_slice(),
-        exceptions.as_slice(),
-        tries.as_slice(),
-    )?;
+    let held = open_function(alloc, function)?;
     let body = lift_body(
         alloc,
         &home,
-        &within,
+        &held.within,
         base,
         lifted,
         function.body.as_slice(),
     )?;
-    let title = List::from_slice(alloc, name.as_bytes())?;
-    let params = copy_params(alloc, function.params.as_slice())?;
-    let made = make_unit(
-        alloc,
-        &home,
-        title,
-        params,
-        function.throws.len(),
-        &within,
-        tries.as_slice(),
-        body,
-    )?;
-    Ok(made)
+    close_function(alloc, &home, &held, body)
 }
 
 fn lift_functions(alloc: Global, names: &[Name], functions: &[RFunction]) -> Result<Made, NoMemory>

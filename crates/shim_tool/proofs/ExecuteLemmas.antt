@@ -1,14 +1,44 @@
 -- From the program of a text to what is answered.
-use Rattle.std.proofs.Common.{ℕ, List, Result, Ok, Err, IfOk, inl}
+use Rattle.std.proofs.Common.{◌≡◌, ℕ, List, [], Result, Ok, Err, IfOk, OnOk, inl, ap, ◌∙◌, subst}
+use Rattle.shim_local.specs.declared.Ended.{Ended}
 use Rattle.shim_syntax.specs.declared.Program.{Program}
 use Rattle.shim_parser.specs.Parsing.{Answers, IsOnly}
 use Rattle.shim_tool.specs.declared.mode.Mode.{Mode}
-use Rattle.shim_tool.specs.Answer.{Answer, AnswersProgram, AnswersSource}
+use Rattle.shim_tool.specs.Source.{Source}
+use Rattle.shim_units.specs.Forks.{root}
+use Rattle.shim_units.specs.LocalState.{LocalState}
+use Rattle.shim_process.specs.Ops.{process_ops}
+use Rattle.shim_tree.specs.Trees.{start}
+use Rattle.shim_tree.specs.Walks.{meaning}
+use Rattle.shim_tool.specs.Meaning.{budget, tree_of, end_of, status_of_outcome, IsEndOfRun, WasRun}
+use Rattle.shim_tool.specs.Answer.{Answer, AnswersUnits, AnswersProgram, AnswersSource, text_of}
 
 -- what follows from a fact of the value follows from it where there is a value
 pub if_ok_weaker : {T E : Type 0} (r : Result T E) (P Q : T → Type 0) → ((x : T) → P x → Q x) → IfOk r P → IfOk r Q
 if_ok_weaker (Ok x) P Q f p = f x p
 if_ok_weaker (Err e) P Q f p = tt
+
+-- what holds anyhow holds where there is a value
+pub on_ok_anyhow : {T E : Type 0} (r : Result T E) (P : Type 0) → P → OnOk r P
+on_ok_anyhow (Ok x) P p = p
+on_ok_anyhow (Err e) P p = tt
+
+-- a source is run by the run of its root, which has no input
+pub run_was : {T E : Type 0} (r : Result T E) (source : Source) (l : LocalState) (input : List ℕ) → l ≡ root source input → input ≡ []
+    → OnOk r (IsEndOfRun process_ops budget (meaning process_ops budget (start l))) → OnOk r (WasRun source)
+unfolding tree_of
+run_was r source l input is none ran = subst (λ (k : LocalState). OnOk r (IsEndOfRun process_ops budget (meaning process_ops budget (start k)))) (is ∙ ap (root source) none) ran
+
+-- the same source was run
+pub run_of : (s t : Source) → s ≡ t → WasRun s → WasRun t
+run_of s t same ran = subst (λ (b : Source). WasRun b) same ran
+
+-- a run's status and text answer its source
+pub answers_units : (mode : Mode) (s t : Source) (e : Ended) (status : ℕ) (text : List ℕ) → s ≡ t → WasRun s → e ≡ end_of s → status ≡ status_of_outcome e.outcome → text ≡ text_of mode s
+    → AnswersUnits mode t (record { status = status; text = text })
+answers_units mode s t e status text same ran is told written =
+    subst (λ (b : Source). AnswersUnits mode b (record { status = status; text = text })) same
+    (ran, (λ i. record { status = (told ∙ ap (λ (x : Ended). status_of_outcome x.outcome) is) i; text = written i }))
 
 -- what is answered to the program of a text is answered to the text
 pub as_source : (mode : Mode) (bytes : List ℕ) (p : Program) (answer : Answer) → Answers bytes (Ok p) → IsOnly bytes (Ok p) → AnswersProgram mode p answer → AnswersSource mode bytes answer

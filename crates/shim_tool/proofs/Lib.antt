@@ -2,6 +2,8 @@
 pub mod ExecuteLemmas
 pub mod Faults
 pub mod FirstEvents
-pub mod FormLemmas
+pub mod Causes
 pub mod Outcomes
+pub mod Reached
+pub mod RootChannels
 pub mod RowLemmas

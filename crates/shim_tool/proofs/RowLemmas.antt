@@ -9,10 +9,12 @@ use Rattle.shim_tool.specs.Moments.{FilesAt, SinkAt}
 use Rattle.shim_local.specs.declared.Outcome.{Outcome as End}
 use Rattle.shim_local.specs.declared.Outcome.TheVariants.{Done, Uncaught, Trapped, Blocked, Spent}
 use Rattle.shim_tool.specs.Source.{Source, IsSource}
-use Rattle.shim_tool.specs.Meaning.{status_of, status_of_outcome, end_of}
+use Rattle.shim_tool.specs.Meaning.{status_of, status_of_outcome, end_of, budget, printed_steps, IsReachedIn, WasRun}
 use Rattle.shim_tool.specs.Answer.{Answer, Answers, AnswersSource, AnswersSeen, MayAnswer, ReadFailed, IsTooLong, IsContent, IsNoSource, Seen, unread, longer, whole, Sees, source_limit, text_of, memory_line}
 use Rattle.shim_tool.specs.Call.{Ran, Writes}
-use Rattle.shim_tool.specs.Rows.{Came, Comes, Holds, WasRead, IsRefusal, EndRow, RefusedRow, IsComplete}
+use Rattle.shim_tool.specs.Rows.{Came, Comes, Holds, WasRead, IsRefusal, EndRow, CountRow, RefusedRow, IsComplete}
+use Rattle.shim_tool.proofs.Causes.{Tells, spent_counts}
+use Rattle.shim_tool.proofs.Reached.{is_reached, is_reached_whole}
 use Rattle.shim_tool.proofs.Outcomes.{Outcome, runs, refuses, outcome}
 
 -- What came of an answer: it was written, or memory was wanted, or the sink failed.
@@ -83,20 +85,21 @@ end_below Trapped = omega arith
 end_below Blocked = omega arith
 end_below Spent = omega arith
 
--- a source's text was answered with the status of its end
+-- a source was run, and its text answered with the status of its end
 ended_with : (mode : Mode) (bytes : List ℕ) (source : Source) (answer : Answer) (ob on : SinkAt) (result : ℕ) → IsSource bytes source → Outcome mode bytes answer →
-    Came answer.status answer.text ob on result → Came (status_of source) (text_of mode source) ob on result
-ended_with mode bytes source answer ob on result has (runs other is_other only free is) came =
+    Came answer.status answer.text ob on result → WasRun source × Came (status_of source) (text_of mode source) ob on result
+ended_with mode bytes source answer ob on result has (runs other is_other was_run only free is) came =
     let same : source ≡ other = only source has in
     let text : answer.text ≡ text_of mode source = ap (λ (a : Answer). a.text) is ∙ sym (ap (λ (b : Source). text_of mode b) same) in
     let status : answer.status ≡ status_of source = ap (λ (a : Answer). a.status) is ∙ sym (ap (λ (b : Source). status_of b) same) in
-    (came.0 ∙ status, came.1 ∙ ap (λ (t : List ℕ). then_bytes ob.taken t) text)
+    let P : Source → Type 0 = λ b. WasRun b in
+    (subst P (sym same) was_run, (came.0 ∙ status, came.1 ∙ ap (λ (t : List ℕ). then_bytes ob.taken t) text))
 ended_with mode bytes source answer ob on result has (refuses line why only none is) came = absurd (none source has)
 
 -- a refusal's line was written with 5
 refused_with : (mode : Mode) (bytes line : List ℕ) (answer : Answer) (ob on : SinkAt) (result : ℕ) → IsRefusal bytes line → Outcome mode bytes answer →
     Came answer.status answer.text ob on result → Came 5 line ob on result
-refused_with mode bytes line answer ob on result why (runs source has only free is) came = absurd (free line why)
+refused_with mode bytes line answer ob on result why (runs source has was_run only free is) came = absurd (free line why)
 refused_with mode bytes line answer ob on result why (refuses other cause only none is) came =
     let text : answer.text ≡ line = ap (λ (a : Answer). a.text) is ∙ sym (only line why) in
     (came.0 ∙ ap (λ (a : Answer). a.status) is, came.1 ∙ ap (λ (t : List ℕ). then_bytes ob.taken t) text)
@@ -104,37 +107,27 @@ refused_with mode bytes line answer ob on result why (refuses other cause only n
 -- bytes that are no source are refused with some line
 refused_somehow : (mode : Mode) (bytes : List ℕ) (answer : Answer) (ob on : SinkAt) (result : ℕ) → IsNoSource bytes → Outcome mode bytes answer →
     Came answer.status answer.text ob on result → (line : List ℕ) × IsRefusal bytes line × Came 5 line ob on result
-refused_somehow mode bytes answer ob on result none (runs source has only free is) came = absurd (none source has)
+refused_somehow mode bytes answer ob on result none (runs source has was_run only free is) came = absurd (none source has)
 refused_somehow mode bytes answer ob on result none (refuses line why only _ is) came =
     (line, why, (came.0 ∙ ap (λ (a : Answer). a.status) is, came.1 ∙ ap (λ (a : Answer). then_bytes ob.taken a.text) is))
 
--- what is told where this status came
+-- what is told where the status of a run came
 abbrev EndedSo : ℕ → FilesAt → FilesAt → SinkAt → SinkAt → Asked → Type 0
-EndedSo status before now ob on a = (now.failed ≡ before.failed) × (mode : Mode) × (bytes : List ℕ) × (source : Source) × WasRead a mode before bytes × IsSource bytes source × (status_of source ≡ status) × (on.taken ≡ then_bytes ob.taken (text_of mode source))
+EndedSo status before now ob on a = (now.failed ≡ before.failed) × (mode : Mode) × (bytes : List ℕ) × (source : Source) × WasRead a mode before bytes × IsSource bytes source × WasRun source
+    × (status_of source ≡ status) × (on.taken ≡ then_bytes ob.taken (text_of mode source))
 
-pub end_row : (status : ℕ) → status < 5 → (status ≡ 2 → ⊥) → (ask : Asked) (before now : FilesAt) (ob on : SinkAt) (result : ℕ) → Ran ask before now ob on result → EndRow status ask before now ob on result
-end_row status few apart ask before now ob on result ran = record {
-  only = λ is. by_wrote ask (wrote ask before now ob on result ran) is;
-  when = λ mode name bytes source asks h within has ends. when mode name bytes source has ends (came_of ask mode name bytes before now ob on result ran asks h within);
-} where
-  comes : (mode : Mode) (source : Source) → status_of source ≡ status → Came (status_of source) (text_of mode source) ob on result → Came status (text_of mode source) ob on result
-  comes mode source ends came = (came.0 ∙ ends, came.1)
-
-  when : (mode : Mode) (name bytes : List ℕ) (source : Source) → IsSource bytes source → status_of source ≡ status → CameOf mode name bytes before now ob on result →
-      Comes status (text_of mode source) ob on result ⊎ ((result ≡ 6) × ReadFailed name before now)
-  when mode name bytes source has ends (of_source answer is came) = inl (inl (comes mode source ends (ended_with mode bytes source answer ob on result has is came)))
-  when mode name bytes source has ends (unreadable is read) = inr (is, read)
-  when mode name bytes source has ends (wanting is) = inl (inr (inr is))
-  when mode name bytes source has ends (unwritten is rose) = inl (inr (inl is))
-
+-- the status of a run comes of a run alone
+ended_so : (status : ℕ) → status < 5 → (status ≡ 2 → ⊥) → (ask : Asked) (before now : FilesAt) (ob on : SinkAt) (result : ℕ) → Ran ask before now ob on result → result ≡ status → EndedSo status before now ob on ask
+ended_so status few apart ask before now ob on result ran came_so = by_wrote ask (wrote ask before now ob on result ran) came_so where
   by_source : (mode : Mode) (name bytes : List ℕ) (answer : Answer) → now.failed ≡ before.failed → IsContent name before bytes → Outcome mode bytes answer → Came answer.status answer.text ob on result → result ≡ status → EndedSo status before now ob on (job mode name)
-  by_source mode name bytes answer same content (runs source has only free is) came ends = (
+  by_source mode name bytes answer same content (runs source has was_run only free is) came ends = (
     same,
     mode,
     bytes,
     source,
     record { name = name; asked = refl; content = content },
     has,
+    was_run,
     sym (ap (λ (a : Answer). a.status) is) ∙ (sym came.0 ∙ ends),
     came.1 ∙ ap (λ (a : Answer). then_bytes ob.taken a.text) is,
   )
@@ -150,6 +143,33 @@ end_row status few apart ask before now ob on result ran = record {
   by_wrote a (failed answer may is rose part) ends = absurd (omega (arith, is, ends, few))
   by_wrote nothing (answered answer (same, is) came) ends = absurd (apart (let e : answer.status ≡ 2 = ap (λ (a : Answer). a.status) is in omega (arith, e, came.0, ends)))
   by_wrote (job mode name) (answered answer (seen, sees, is) came) ends = by_seen mode name answer seen sees is came ends
+
+pub end_row : (status : ℕ) (Cause : Source → Type 0) → Tells status Cause → status < 5 → (status ≡ 2 → ⊥) → (ask : Asked) (before now : FilesAt) (ob on : SinkAt) (result : ℕ) → Ran ask before now ob on result
+    → EndRow status Cause ask before now ob on result
+end_row status Cause tells few apart ask before now ob on result ran = record {
+  only = λ is. only (ended_so status few apart ask before now ob on result ran is);
+  when = λ mode name bytes source asks h within has cause. when mode name bytes source has cause (came_of ask mode name bytes before now ob on result ran asks h within);
+} where
+  only : EndedSo status before now ob on ask
+      → (now.failed ≡ before.failed) × (mode : Mode) × (bytes : List ℕ) × (source : Source) × WasRead ask mode before bytes × IsSource bytes source × Cause source × ((n : ℕ) × (n ≤ budget) × IsReachedIn n source)
+      × (status_of source ≡ status) × (on.taken ≡ then_bytes ob.taken (text_of mode source))
+  only (same, mode, bytes, source, read, has, was_run, ends, taken) = (same, mode, bytes, source, read, has, tells.only source was_run ends, is_reached source, ends, taken)
+
+  comes : (mode : Mode) (source : Source) → Cause source → WasRun source × Came (status_of source) (text_of mode source) ob on result → Came status (text_of mode source) ob on result
+  comes mode source cause (was_run, came) = (came.0 ∙ tells.when source was_run cause, came.1)
+
+  when : (mode : Mode) (name bytes : List ℕ) (source : Source) → IsSource bytes source → Cause source → CameOf mode name bytes before now ob on result →
+      Comes status (text_of mode source) ob on result ⊎ ((result ≡ 6) × ReadFailed name before now)
+  when mode name bytes source has cause (of_source answer is came) = inl (inl (comes mode source cause (ended_with mode bytes source answer ob on result has is came)))
+  when mode name bytes source has cause (unreadable is read) = inr (is, read)
+  when mode name bytes source has cause (wanting is) = inl (inr (inr is))
+  when mode name bytes source has cause (unwritten is rose) = inl (inr (inl is))
+
+pub count_row : (ask : Asked) (before now : FilesAt) (ob on : SinkAt) (result : ℕ) → Ran ask before now ob on result → CountRow ask before ob on result
+count_row ask before now ob on result ran four = counts (ended_so 4 (omega arith) (λ e. omega (arith, e)) ask before now ob on result ran four) where
+  counts : EndedSo 4 before now ob on ask → (mode : Mode) × (bytes : List ℕ) × (source : Source) × WasRead ask mode before bytes × IsSource bytes source
+      × (on.taken ≡ then_bytes ob.taken (text_of mode source)) × IsReachedIn budget source × (printed_steps (end_of source) ≡ budget)
+  counts (same, mode, bytes, source, read, has, was_run, ends, taken) = (mode, bytes, source, read, has, taken, is_reached_whole source was_run ends, spent_counts source was_run ends)
 
 pub refused_row : (ask : Asked) (before now : FilesAt) (ob on : SinkAt) (result : ℕ) → Ran ask before now ob on result → RefusedRow ask before now ob on result
 refused_row ask before now ob on result ran = record {
@@ -173,7 +193,7 @@ refused_row ask before now ob on result ran = record {
 
   by_source : (mode : Mode) (name bytes : List ℕ) (answer : Answer) → now.failed ≡ before.failed → IsContent name before bytes → Outcome mode bytes answer → Came answer.status answer.text ob on result → result ≡ 5 →
       (now.failed ≡ before.failed) × (m : Mode) × (bs : List ℕ) × (line : List ℕ) × WasRead (job mode name) m before bs × IsNoSource bs × IsRefusal bs line × (on.taken ≡ then_bytes ob.taken line)
-  by_source mode name bytes answer same content (runs source has only free is) came five =
+  by_source mode name bytes answer same content (runs source has was_run only free is) came five =
       absurd (let e : answer.status ≡ status_of source = ap (λ (a : Answer). a.status) is in omega (arith, e, came.0, five, end_below (end_of source).outcome))
   by_source mode name bytes answer same content (refuses line why only none is) came five =
       (same, mode, bytes, line, record { name = name; asked = refl; content = content }, none, why, came.1 ∙ ap (λ (a : Answer). then_bytes ob.taken a.text) is)
@@ -194,7 +214,7 @@ refused_row ask before now ob on result ran = record {
 pub complete : (ask : Asked) (before now : FilesAt) (ob on : SinkAt) (result : ℕ) → Ran ask before now ob on result → IsComplete ask before ob on result
 complete ask before now ob on result ran mode name bytes source asks sound h within has calm = by_came (came_of ask mode name bytes before now ob on result ran asks h within) where
   by_came : CameOf mode name bytes before now ob on result → Came (status_of source) (text_of mode source) ob on result ⊎ (result ≡ 8)
-  by_came (of_source answer is came) = inl (ended_with mode bytes source answer ob on result has is came)
+  by_came (of_source answer is came) = inl ((ended_with mode bytes source answer ob on result has is came).1)
   by_came (unreadable is read) = absurd (read.1 sound (is_held before name bytes h))
   by_came (wanting is) = inr is
   by_came (unwritten is rose) = absurd (calm rose)

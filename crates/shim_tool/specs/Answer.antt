@@ -12,10 +12,8 @@ use Rattle.shim_tool.specs.declared.mode.Mode.{Mode}
 use Rattle.shim_tool.specs.declared.mode.Mode.TheVariants.{Run}
 use Rattle.shim_tool.specs.Asked.{Asked, nothing, job}
 use Rattle.shim_tool.specs.Moments.{FilesAt}
-use Rattle.shim_tool.specs.Plan.{routines_of}
-use Rattle.shim_tool.specs.Form.{IsRun}
-use Rattle.shim_tool.specs.Source.{Source, IsSource, IsOfOtherForm, checked}
-use Rattle.shim_tool.specs.Meaning.{report_of, status_of}
+use Rattle.shim_tool.specs.Source.{Source, IsSource, checked}
+use Rattle.shim_tool.specs.Meaning.{report_of, status_of, WasRun}
 
 -- a status and the text that goes with it
 pub record Answer : Type 0 where
@@ -31,9 +29,6 @@ usage_line = codes "usage: shim MODE FILE [--input FILE] [--workers N] [--budget
 
 unfoldable pub memory_line : List ℕ
 memory_line = codes "no memory\n"
-
-unfoldable pub not_built_line : List ℕ
-not_built_line = codes "refused 1 not built\n"
 
 unfoldable pub failed_line : List ℕ → List ℕ
 failed_line name = codes "file failed " ++ (name ++ codes "\n")
@@ -51,9 +46,6 @@ end_answer mode source = record { status = status_of source; text = text_of mode
 
 abbrev pub usage : Answer
 usage = record { status = 2; text = usage_line }
-
-abbrev pub not_built : Answer
-not_built = record { status = 5; text = not_built_line }
 
 abbrev pub refused : SourceFault → Answer
 refused fault = record { status = 5; text = refusal fault }
@@ -73,20 +65,18 @@ pub record IsOnlyFault (bytes : List ℕ) (fault : ParseFault) : Type 0 where
   pub only : (other : ParseFault) → IsFaultOf bytes other → other ≡ fault
   pub textless : (program : Program) → IsText bytes program → ⊥
 
--- the bytes are no source that is run
+-- the bytes are the text of no program that is accepted
 abbrev pub IsNoSource : List ℕ → Type 0
 IsNoSource bytes = (source : Source) → IsSource bytes source → ⊥
 
--- the units of a program of the form that is run are answered with the end of their run, and those of another as not built
-abbrev pub AnswersUnits : Mode → Program → Source → Answer → Type 0
-AnswersUnits mode program source answer =
-    (IsRun (routines_of program) × (answer ≡ end_answer mode source))
-    ⊎ (IsOfOtherForm program × (answer ≡ not_built))
+-- units are run, and answered with the end of their run
+abbrev pub AnswersUnits : Mode → Source → Answer → Type 0
+AnswersUnits mode source answer = WasRun source × (answer ≡ end_answer mode source)
 
 -- a program that is accepted is answered as its units, and another with the line of its first fault
 abbrev pub AnswersProgram : Mode → Program → Answer → Type 0
 AnswersProgram mode program answer =
-    ((source : Source) × (checked program ≡ Ok source) × AnswersUnits mode program source answer)
+    ((source : Source) × (checked program ≡ Ok source) × AnswersUnits mode source answer)
     ⊎ ((fault : SourceFault) × (checked program ≡ Err fault) × (answer ≡ refused fault))
 
 -- the text of a program is answered as the program, and other bytes with the line of their fault

@@ -1,12 +1,6 @@
 -- The definitions of this crate, one module for each subject.
-pub mod Sums
-pub mod Plan
-pub mod PlanView
-pub mod NameView
-pub mod Branches
-pub mod Lookup
-pub mod Form
 pub mod Source
+pub mod Naming
 pub mod Meaning
 pub mod Asked
 pub mod Moments

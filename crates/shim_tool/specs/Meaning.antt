@@ -1,23 +1,32 @@
 -- What a source means: the run from its root that always does the first event that is enabled.
-use Rattle.std.specs.Prelude.{ℕ, List, []}
+use Rattle.std.specs.Prelude.{◌≡◌, ◌≢◌, ◌⊎◌, ℕ, ◌+◌, IsTrue, Some, None, List, [], length, map}
+use Rattle.shim_local.specs.Process.{Ops}
 use Rattle.shim_local.specs.declared.Ended.{Ended}
 use Rattle.shim_local.specs.declared.Outcome.{Outcome}
 use Rattle.shim_local.specs.declared.Outcome.TheVariants.{Done, Uncaught, Trapped, Blocked, Spent}
-use Rattle.shim_sharing.specs.Forks.{root}
+use Rattle.shim_units.specs.Forks.{root}
+use Rattle.shim_units.specs.LocalState.{LocalState}
 use Rattle.shim_process.specs.Ops.{process_ops}
 use Rattle.shim_report.specs.Report.{report}
-use Rattle.shim_tree.specs.Trees.{start}
-use Rattle.shim_tree.specs.Walks.{meaning}
+use Rattle.shim_tree.specs.Nodes.{has_ended, is_dead, goes}
+use Rattle.shim_tree.specs.Systems.{run}
+use Rattle.shim_tree.specs.Trees.{Tree, Event, after, start, steps, sum, IsQuiescent}
+use Rattle.shim_tree.specs.Walks.{first, meaning}
 use Rattle.shim_tree.specs.Endings.{ended}
+use Rattle.shim_tool.specs.Naming.{named}
 use Rattle.shim_tool.specs.Source.{Source}
 
 -- the most events of a run: the budget where none is asked for
 abbrev pub budget : ℕ
 budget = 1000000
 
--- what is read off the tree in the end; no mode gives the program an input yet
+-- the tree to which the run comes; no mode gives the program an input yet
+unfoldable pub tree_of : Source → Tree LocalState
+tree_of source = meaning process_ops budget (start (root source []))
+
+-- what is read off it, with the name of an exception that nobody caught
 unfoldable pub end_of : Source → Ended
-end_of source = ended process_ops (meaning process_ops budget (start (root source [])))
+end_of source = named source.main_throws (ended process_ops (tree_of source))
 
 -- its report
 abbrev pub report_of : Source → List ℕ
@@ -33,3 +42,43 @@ status_of_outcome Spent = 4
 -- the status that tells how it ended
 abbrev pub status_of : Source → ℕ
 status_of source = status_of_outcome (end_of source).outcome
+
+-- nothing can happen any more, and the root has ended
+abbrev pub IsDone : Source → Type 0
+IsDone source = IsQuiescent process_ops (tree_of source) × IsTrue (has_ended (tree_of source).root)
+
+-- nothing can happen any more, and the root died: of an exception that nobody caught, or of a trap
+abbrev pub IsFailed : Source → Type 0
+IsFailed source = IsQuiescent process_ops (tree_of source) × IsTrue (is_dead (tree_of source).root)
+
+-- nothing can happen any more, and the root has neither ended nor died
+abbrev pub IsBlocked : Source → Type 0
+IsBlocked source = IsQuiescent process_ops (tree_of source) × IsTrue (goes (tree_of source).root)
+
+-- something can still happen after the budget's events
+abbrev pub IsSpent : Source → Type 0
+IsSpent source = IsQuiescent process_ops (tree_of source) → ⊥
+
+-- a run of so many events, each enabled in its turn, leads from the start to the tree to which the source's run comes
+abbrev pub IsReachedIn : ℕ → Source → Type 0
+IsReachedIn n source = (es : List Event) × (run (after process_ops) es (start (root source [])) ≡ Some (tree_of source)) × (length es ≡ n)
+
+-- the own steps and the other events that the report of a run which was stopped prints, added up
+abbrev pub printed_steps : Ended → ℕ
+printed_steps e = sum (map (λ s. s.count) e.own) + e.events
+
+-- nothing can happen in the tree, and the walk finds that
+abbrev pub IsAtRest : {S : Type 0} → Ops S → Tree S → Type 0
+IsAtRest o t = (first o t ≡ None) × IsQuiescent o t
+
+-- so many events led to the tree, and the walk finds one more that can happen
+abbrev pub IsStopped : {S : Type 0} → Ops S → ℕ → Tree S → Type 0
+IsStopped o b t = (first o t ≢ None) × (IsQuiescent o t → ⊥) × (steps t ≡ b)
+
+-- what a run of at most so many events comes to
+abbrev pub IsEndOfRun : {S : Type 0} → Ops S → ℕ → Tree S → Type 0
+IsEndOfRun o b t = IsAtRest o t ⊎ IsStopped o b t
+
+-- the source was run
+abbrev pub WasRun : Source → Type 0
+WasRun source = IsEndOfRun process_ops budget (tree_of source)

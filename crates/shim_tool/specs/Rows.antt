@@ -13,9 +13,9 @@ use Rattle.shim_report.specs.Refusal.{refusal}
 use Rattle.shim_tool.specs.declared.mode.Mode.{Mode}
 use Rattle.shim_tool.specs.Asked.{Asked, nothing, job}
 use Rattle.shim_tool.specs.Moments.{FilesAt, SinkAt}
-use Rattle.shim_tool.specs.Source.{Source, IsSource, IsAccepted, IsOfOtherForm, checked}
-use Rattle.shim_tool.specs.Meaning.{status_of}
-use Rattle.shim_tool.specs.Answer.{Answer, MayAnswer, FailedGrew, ReadFailed, IsTooLong, IsContent, IsNoSource, source_limit, text_of, usage_line, not_built_line, failed_line, longer_line, memory_line}
+use Rattle.shim_tool.specs.Source.{Source, IsSource, checked}
+use Rattle.shim_tool.specs.Meaning.{end_of, status_of, budget, printed_steps, IsReachedIn}
+use Rattle.shim_tool.specs.Answer.{Answer, MayAnswer, FailedGrew, ReadFailed, IsTooLong, IsContent, IsNoSource, source_limit, text_of, usage_line, failed_line, longer_line, memory_line}
 
 -- this status came with this text, whole
 abbrev pub Came : ℕ → List ℕ → SinkAt → SinkAt → ℕ → Type 0
@@ -37,26 +37,30 @@ pub record WasRead (ask : Asked) (mode : Mode) (before : FilesAt) (bytes : List 
   pub asked : ask ≡ job mode name
   pub content : IsContent name before bytes
 
--- 0, 1, 3, 4: exactly where the file is a source whose run ends done, uncaught or trapped, blocked, or spent, with the text of its mode, which for `run` is the report of its meaning
-pub record EndRow (status : ℕ) (ask : Asked) (before now : FilesAt) (out_before out_now : SinkAt) (result : ℕ) : Type 0 where
+-- 0, 1, 3, 4: exactly where the file is a source whose run ends for this cause, with the text of its mode, which for `run` is the report of its meaning. A run within the budget leads to the tree that is told.
+pub record EndRow (status : ℕ) (Cause : Source → Type 0) (ask : Asked) (before now : FilesAt) (out_before out_now : SinkAt) (result : ℕ) : Type 0 where
   pub only : result ≡ status → (now.failed ≡ before.failed) × (mode : Mode) × (bytes : List ℕ) × (source : Source) × WasRead ask mode before bytes × IsSource bytes source
-      × (status_of source ≡ status) × (out_now.taken ≡ then_bytes out_before.taken (text_of mode source))
-  pub when : (mode : Mode) (name bytes : List ℕ) (source : Source) → ask ≡ job mode name → Holds before name bytes → length bytes ≤ source_limit → IsSource bytes source → status_of source ≡ status
+      × Cause source × ((n : ℕ) × (n ≤ budget) × IsReachedIn n source) × (status_of source ≡ status) × (out_now.taken ≡ then_bytes out_before.taken (text_of mode source))
+  pub when : (mode : Mode) (name bytes : List ℕ) (source : Source) → ask ≡ job mode name → Holds before name bytes → length bytes ≤ source_limit → IsSource bytes source → Cause source
       → Comes status (text_of mode source) out_before out_now result ⊎ ((result ≡ 6) × ReadFailed name before now)
+
+-- 4: a run of as many events as the budget has leads to the tree that is told, and the own steps and the events that are printed add up to the budget
+abbrev pub CountRow : Asked → FilesAt → SinkAt → SinkAt → ℕ → Type 0
+CountRow ask before out_before out_now result = result ≡ 4 → (mode : Mode) × (bytes : List ℕ) × (source : Source) × WasRead ask mode before bytes × IsSource bytes source
+    × (out_now.taken ≡ then_bytes out_before.taken (text_of mode source)) × IsReachedIn budget source × (printed_steps (end_of source) ≡ budget)
 
 -- 2: exactly where the words ask for nothing
 pub record WordsRow (ask : Asked) (out_before out_now : SinkAt) (result : ℕ) : Type 0 where
   pub only : result ≡ 2 → (ask ≡ nothing) × (out_now.taken ≡ then_bytes out_before.taken usage_line)
   pub when : ask ≡ nothing → Comes 2 usage_line out_before out_now result
 
--- Why bytes are refused with this line: they are the text of a program that is accepted, and which isn't of the form that is run; or of one that isn't, with this first fault; or they are the text of none, with this fault.
+-- why bytes are refused with this line: they are the text of a program that isn't accepted, with this first fault, or they are the text of none, with this fault
 abbrev pub IsRefusal : List ℕ → List ℕ → Type 0
 IsRefusal bytes line =
-    ((program : Program) × IsText bytes program × IsAccepted program × IsOfOtherForm program × (line ≡ not_built_line))
-    ⊎ ((program : Program) × IsText bytes program × (fault : SourceFault) × (checked program ≡ Err fault) × (line ≡ refusal fault))
+    ((program : Program) × IsText bytes program × (fault : SourceFault) × (checked program ≡ Err fault) × (line ≡ refusal fault))
     ⊎ ((fault : ParseFault) × IsFaultOf bytes fault × (line ≡ refusal (Parse fault)))
 
--- 5: exactly where the file is no source that is run, with the line of the cause; and no other text comes of such a file
+-- 5: exactly where the file is no source, with the line of the cause; and no other text comes of such a file
 pub record RefusedRow (ask : Asked) (before now : FilesAt) (out_before out_now : SinkAt) (result : ℕ) : Type 0 where
   pub only : result ≡ 5 → (now.failed ≡ before.failed) × (mode : Mode) × (bytes : List ℕ) × (line : List ℕ) × WasRead ask mode before bytes × IsNoSource bytes
       × IsRefusal bytes line × (out_now.taken ≡ then_bytes out_before.taken line)

@@ -6,14 +6,12 @@ use Rattle.shim_scopes.specs.declared.form.Form.{Form as Resolved}
 use Rattle.shim_scopes.specs.declared.ScopeFault.TheVariants.{Refused, NoMemory}
 use Rattle.shim_scopes.specs.Refusals.{Refusal}
 use Rattle.shim_scopes.specs.Functions.{bind_program}
-use Rattle.shim_sharing.specs.declared.form.Form.{Form}
+use Rattle.shim_units.specs.declared.form.Form.{Form}
 use Rattle.shim_sharing.specs.declared.ShareFault.{ShareFault}
 use Rattle.shim_sharing.specs.declared.ShareFault.TheVariants.{TwoWriters, Alias, NoMemory as NoShareMemory}
 use Rattle.shim_sharing.specs.Accepting.{accepted}
 use Rattle.shim_report.specs.declared.SourceFault.{SourceFault}
 use Rattle.shim_report.specs.declared.SourceFault.TheVariants.{Parse, Scope, Share}
-use Rattle.shim_tool.specs.Plan.{routines_of}
-use Rattle.shim_tool.specs.Form.{IsRun}
 
 -- what is run: a program in its units
 abbrev pub Source : Type 0
@@ -41,17 +39,8 @@ IsMeant (Err (Share (TwoWriters line name first second))) meant = meant ≡ Err 
 IsMeant (Err (Share (Alias line name))) meant = meant ≡ Err (Share (Alias line name))
 IsMeant (Err (Share NoShareMemory)) meant = Unit {0}
 
--- each name of the program is bound, its variables are shared by the rule, and nothing of it is refused
-abbrev pub IsAccepted : Program → Type 0
-IsAccepted program = (form : Form) × (checked program ≡ Ok form)
-
--- the bytes are the text of a program that is accepted and of the form that is run, and these are its units
+-- The bytes are the text of a program that is accepted, and these are its units: each name is bound, its variables are shared by the rule, and nothing of it is refused.
 pub record IsSource (bytes : List ℕ) (source : Source) : Type 0 where
   pub program : Program
   pub text : IsText bytes program
   pub units : checked program ≡ Ok source
-  pub runs : IsRun (routines_of program)
-
--- the program isn't of the form that is run
-abbrev pub IsOfOtherForm : Program → Type 0
-IsOfOtherForm program = IsRun (routines_of program) → ⊥

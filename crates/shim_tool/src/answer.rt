@@ -35,17 +35,6 @@ pub(crate) fn usage(alloc: Global) -> Result<Answer, NoMemory>
     })
 }
 
-/// The answer to a program that isn't of the form that is run.
-#[tactic(auto, unfolding(crate::specs::Answer::not_built_line))]
-pub(crate) fn not_built(alloc: Global) -> Result<Answer, NoMemory>
-    ensures { IfOk result (λ a. answer_view a ≡ answers.not_built) }
-{
-    Ok(Answer {
-        status: Status::Refused,
-        text: List::from_slice(alloc, b"refused 1 not built\n")?,
-    })
-}
-
 /// The answer to a source that has this fault. Want of memory is answered as itself.
 pub(crate) fn refused(alloc: Global, fault: SourceFault) -> Result<Answer, NoMemory>
     ensures { IfOk result (λ a. (fault ≢ faults.Parse parse_faults.NoMemory) × (fault ≢ faults.Scope scope_faults.NoMemory)

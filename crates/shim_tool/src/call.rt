@@ -4,7 +4,8 @@ ghost use Rattle.shim_tool.specs.Asked.{asked, texts_of_words};
 ghost use Rattle.shim_tool.specs.Moments.{files_at, sink_at};
 ghost use Rattle.shim_tool.specs.Answer as answers;
 ghost use Rattle.shim_tool.specs.Call.{Ran, Writes, KeepsFiles};
-ghost use Rattle.shim_tool.specs.Rows.{EndRow, WordsRow, RefusedRow, FileRow, SinkRow, MemoryRow, FilesRow, IsComplete};
+ghost use Rattle.shim_tool.specs.Meaning.{IsDone, IsFailed, IsBlocked, IsSpent};
+ghost use Rattle.shim_tool.specs.Rows.{EndRow, CountRow, WordsRow, RefusedRow, FileRow, SinkRow, MemoryRow, FilesRow, IsComplete};
 ghost use Rattle.shim_tool.specs.AnswerView.{code_of};
 ghost use Rattle.shim_tool.specs.Views.{answer_view, found_view, seen_of};
 
@@ -122,26 +123,30 @@ pub fn shim<F: Files, K: Sink>(alloc: Global, words: &[String], files: &mut F, o
     ensures ran { Ran (asked (texts_of_words words.now)) (files_at F.held F.sound F.failed files.old)
         (files_at F.held F.sound F.failed files.new) (sink_at K.taken K.faults out.old)
         (sink_at K.taken K.faults out.new) result }
-    // 0: exactly where the file is a source whose run ends done, with the report of its meaning.
-    ensures done { EndRow 0 (asked (texts_of_words words.now)) (files_at F.held F.sound F.failed files.old)
+    // 0: exactly where the file is a source whose root ends, with the report of its meaning.
+    ensures done { EndRow 0 IsDone (asked (texts_of_words words.now)) (files_at F.held F.sound F.failed files.old)
         (files_at F.held F.sound F.failed files.new) (sink_at K.taken K.faults out.old)
         (sink_at K.taken K.faults out.new) result }
-    // 1: exactly where it ends by an exception that nobody caught, or by a trap; with that report.
-    ensures failed { EndRow 1 (asked (texts_of_words words.now)) (files_at F.held F.sound F.failed files.old)
+    // 1: exactly where the root dies of an exception that nobody caught, or of a trap; with that report.
+    ensures failed { EndRow 1 IsFailed (asked (texts_of_words words.now)) (files_at F.held F.sound F.failed files.old)
         (files_at F.held F.sound F.failed files.new) (sink_at K.taken K.faults out.old)
         (sink_at K.taken K.faults out.new) result }
     // 2: exactly where the words ask for nothing.
     ensures words { WordsRow (asked (texts_of_words words.now)) (sink_at K.taken K.faults out.old)
         (sink_at K.taken K.faults out.new) result }
-    // 3: exactly where it ends blocked; with that report.
-    ensures blocked { EndRow 3 (asked (texts_of_words words.now)) (files_at F.held F.sound F.failed files.old)
+    // 3: exactly where nothing can happen any more and the root has neither ended nor died; with that
+    // report.
+    ensures blocked { EndRow 3 IsBlocked (asked (texts_of_words words.now)) (files_at F.held F.sound F.failed files.old)
         (files_at F.held F.sound F.failed files.new) (sink_at K.taken K.faults out.old)
         (sink_at K.taken K.faults out.new) result }
     // 4: exactly where something can still happen after the budget's events; with that report.
-    ensures spent { EndRow 4 (asked (texts_of_words words.now)) (files_at F.held F.sound F.failed files.old)
+    ensures spent { EndRow 4 IsSpent (asked (texts_of_words words.now)) (files_at F.held F.sound F.failed files.old)
         (files_at F.held F.sound F.failed files.new) (sink_at K.taken K.faults out.old)
         (sink_at K.taken K.faults out.new) result }
-    // 5: exactly where the file is no source that is run, with the line of the cause.
+    // Then the own steps and the events that it prints add up to the budget.
+    ensures counts { CountRow (asked (texts_of_words words.now)) (files_at F.held F.sound F.failed files.old)
+        (sink_at K.taken K.faults out.old) (sink_at K.taken K.faults out.new) result }
+    // 5: exactly where the file is no source, with the line of the cause.
     ensures refused { RefusedRow (asked (texts_of_words words.now)) (files_at F.held F.sound F.failed files.old)
         (files_at F.held F.sound F.failed files.new) (sink_at K.taken K.faults out.old)
         (sink_at K.taken K.faults out.new) result }

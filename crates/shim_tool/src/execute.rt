@@ -1,18 +1,17 @@
 // From the bytes of a source to the answer.
-ghost use Rattle.std.specs.Prelude.{◌≡◌, ◌≤◌, ◌↔◌, length, IfOk, IsTrue};
+ghost use Rattle.std.specs.Prelude.{◌≡◌, ◌≤◌, length, IfOk, OnOk};
 ghost use Rattle.shim_scopes.specs.Resolving.{HasText};
 ghost use Rattle.shim_sharing.specs.Accepting.{accepted};
-ghost use Rattle.shim_tool.specs.Answer.{AnswersUnits, AnswersProgram, AnswersSource, text_of, end_answer};
-ghost use Rattle.shim_tool.specs.Form.{IsRun};
+ghost use Rattle.shim_process.specs.Ops.{process_ops};
+ghost use Rattle.shim_tree.specs.Endings as endings;
+ghost use Rattle.shim_tool.specs.Answer.{AnswersUnits, AnswersProgram, AnswersSource, text_of};
 ghost use Rattle.shim_tool.specs.Meaning as meanings;
-ghost use Rattle.shim_tool.specs.Plan.{routines_of};
 ghost use Rattle.shim_tool.specs.Source.{IsMeant, checked, shared};
 ghost use Rattle.shim_tool.specs.Views.{answer_view};
 
-use crate::answer::{Answer, not_built, refused};
-use crate::form::is_run;
+use crate::answer::{Answer, refused};
 use crate::mode::Mode;
-use crate::plan::plan_of;
+use crate::naming::named;
 use crate::run::run;
 use crate::status::Status;
 use shim_base::{List, NoMemory, Shared};
@@ -27,14 +26,25 @@ use std::alloc::Global;
 /// The most events of a run: the budget where none is asked for.
 const BUDGET: u64 = 1000000;
 
-// What a source's run comes to. It has no input.
-#[tactic(auto, unfolding(crate::specs::Meaning::end_of))]
-fn end_of(alloc: Global, source: Shared<Accepted>) -> Result<Ended, NoMemory>
-    ensures { IfOk result (λ end. end ≡ meanings.end_of source) }
+// What is read off the tree to which a source's run comes. It has no input.
+#[tactic(auto, unfolding(crate::specs::Meaning::tree_of))]
+fn ended_of(alloc: Global, source: Shared<Accepted>) -> Result<Ended, NoMemory>
+    ensures end { IfOk result (λ end. end ≡ endings.ended process_ops (meanings.tree_of source)) }
+    ensures ran { OnOk result (meanings.WasRun source) }
 {
     let input = Shared::new(alloc, List::new(alloc))?;
     let main = Walk::main(alloc, source, input)?;
     run(alloc, main, BUDGET)
+}
+
+// What a source's run comes to.
+#[tactic(auto, unfolding(crate::specs::Meaning::end_of))]
+fn end_of(alloc: Global, source: &Shared<Accepted>) -> Result<Ended, NoMemory>
+    ensures end { IfOk result (λ end. end ≡ meanings.end_of source.now) }
+    ensures ran { OnOk result (meanings.WasRun source.now) }
+{
+    let end = ended_of(alloc, source.share()?)?;
+    Ok(named(end, source.main_throws()))
 }
 
 // What a mode writes of a source's run that has ended so.
@@ -48,39 +58,15 @@ fn text_of(alloc: Global, mode: Mode, source: &Accepted, end: &Ended) -> Result<
 }
 
 // Runs a source, and tells its end.
-fn end_answer(alloc: Global, mode: Mode, source: Accepted) -> Result<Answer, NoMemory>
-    ensures { IfOk result (λ a. answer_view a ≡ end_answer mode source) }
+fn answer_units(alloc: Global, mode: Mode, source: Accepted) -> Result<Answer, NoMemory>
+    ensures { IfOk result (λ a. AnswersUnits mode source (answer_view a)) }
 {
     let source = Shared::new(alloc, source)?;
-    let end = end_of(alloc, source.share()?)?;
+    let end = end_of(alloc, &source)?;
     Ok(Answer {
         status: Status::of(end.outcome),
         text: text_of(alloc, mode, &source, &end)?,
     })
-}
-
-// Whether the program has the form that is run.
-fn has_form(alloc: Global, program: &Program) -> Result<bool, NoMemory>
-    ensures { IfOk result (λ has. IsTrue has ↔ IsRun (routines_of program.now)) }
-{
-    let routines = plan_of(alloc, program)?;
-    is_run(alloc, routines.as_slice())
-}
-
-// Runs the units of a program that is accepted, if it has the form that is run.
-fn answer_accepted(
-    alloc: Global,
-    mode: Mode,
-    program: &Program,
-    units: Accepted,
-) -> Result<Answer, NoMemory>
-    ensures { IfOk result (λ a. AnswersUnits mode program.now units (answer_view a)) }
-{
-    if has_form(alloc, program)? {
-        end_answer(alloc, mode, units)
-    } else {
-        not_built(alloc)
-    }
 }
 
 // The units of a resolved program, or its first fault.
@@ -109,7 +95,7 @@ fn answer_program(alloc: Global, mode: Mode, program: &Program) -> Result<Answer
     ensures { IfOk result (λ a. AnswersProgram mode program.now (answer_view a)) }
 {
     match check(alloc, program) {
-        Ok(units) => answer_accepted(alloc, mode, program, units),
+        Ok(units) => answer_units(alloc, mode, units),
         Err(fault) => refused(alloc, fault),
     }
 }

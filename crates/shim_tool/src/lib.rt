@@ -4,13 +4,10 @@
 mod answer;
 mod call;
 mod execute;
-mod form;
-mod lookup;
 mod mode;
-mod plan;
+mod naming;
 mod run;
 mod status;
-mod sum;
 mod words;
 
 pub use call::{lacks_memory, shim};

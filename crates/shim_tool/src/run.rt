@@ -3,6 +3,8 @@ ghost use Rattle.std.specs.Prelude.{◌≡◌, ◌≤◌, ◌⊎◌, OnOk, IfOk}
 ghost use Rattle.shim_tree.specs.Trees.{start, steps, IsQuiescent};
 ghost use Rattle.shim_tree.specs.Walks.{meaning};
 ghost use Rattle.shim_tree.specs.Endings.{ended};
+ghost use Rattle.shim_tree.specs.Sound.{SharesItsOwn};
+ghost use Rattle.shim_tool.specs.Meaning.{IsEndOfRun};
 
 use shim_base::NoMemory;
 use shim_local::{Ended, Local};
@@ -25,12 +27,16 @@ fn do_first_events<L: Local>(tree: &mut Tree<L>, budget: u64) -> Result<(), NoMe
     Ok(())
 }
 
-/// What is read off the tree of this one process after at most so many first events.
+/// What is read off the tree of this one process, which shares channels of its own alone, after at most
+/// so many first events.
 pub(crate) fn run<L: Local>(alloc: Global, root: L, budget: u64) -> Result<Ended, NoMemory>
-    requires { budget ≤ 4000000 }
-    ensures { IfOk result (λ end. end ≡ ended L.ops (meaning L.ops budget (start root))) }
+    requires few { budget ≤ 4000000 }
+    requires own { SharesItsOwn L.ops root }
+    ensures end { IfOk result (λ end. end ≡ ended L.ops (meaning L.ops budget (start root))) }
+    ensures ran { OnOk result (IsEndOfRun L.ops budget (meaning L.ops budget (start root))) }
 {
     let mut tree = Tree::start(alloc, root)?;
     do_first_events(&mut tree, budget)?;
+    let _next = tree.first()?; // brings into the proof that the walk finds an event wherever one can happen
     tree.ended(budget)
 }

@@ -1,11 +1,11 @@
 -- What each form of a process means with what came of it, and a child in its place.
-use Rattle.std.proofs.Common.{◌≡◌, ℕ, zero, suc, ◌+◌, ◌<◌, ◌≤◌, true, Some, None, List, [], ◌∷◌, ◌++◌, length, get_or, slice_set, vec_len, refl, sym, ap, subst, ◌∙◌, arith}
+use Rattle.std.proofs.Common.{◌≡◌, ℕ, zero, suc, ◌+◌, ◌<◌, ◌≤◌, Some, None, List, [], ◌∷◌, ◌++◌, length, get_or, slice_set, vec_len, refl, sym, ap, subst, ◌∙◌, arith}
 use Rattle.std.specs.declared.vec.Vec.{Vec}
 use Rattle.std.specs.declared.alloc.Global.{Global}
 use Rattle.shim_local.specs.Process.{Ops, AtFork, Parted}
 use Rattle.shim_tree.specs.Nodes as model
-use Rattle.shim_tree.specs.Nodes.{state, states, all_ended}
-use Rattle.shim_tree.specs.Acts.{Acted, act, act_child, act_here, act_live, parted, within, in_front, behind}
+use Rattle.shim_tree.specs.Nodes.{state, states, all_done, least_label}
+use Rattle.shim_tree.specs.Acts.{Said, Acted, nothing, act, act_child, act_here, act_live, parted, closed, within, in_front, behind}
 use Rattle.shim_tree.specs.Places.{SoundBelow, SoundChildren}
 use Rattle.shim_tree.specs.declared.below.Below.{Below}
 use Rattle.shim_tree.specs.declared.below.Below.TheVariants as code
@@ -57,31 +57,29 @@ states_together (l ∷ ls) (b ∷ bs) = ap (λ z. z ∷ states (together ls (nod
 
 -- a fork, as the code does it
 pub fork_acts : {S : Type 0} (o : Ops S) (l m : S) (b : Below S) (ls : Vec S Global) (bs : Vec (Below S) Global) → b ≡ code.Live → o.stop l ≡ AtFork → o.fork l ≡ Parted m ls.items → bs.items ≡ []
-    → act_here o (node l b) ≡ Some (record { node = node m (code.Forked ls bs); bytes = [] })
+    → act_here o (node l b) ≡ Some (record { node = node m (code.Forked ls bs); said = nothing })
 fork_acts {S} o l m b ls bs e s f none_of =
-    ap (act_here o) (ap (node l) e ∙ node_live l) ∙ (ap (act_live o l) s ∙ (ap (λ z. let r : Acted S = record { node = parted z; bytes = [] } in Some r) f
-    ∙ sym (ap (λ z. let r : Acted S = record { node = z; bytes = [] } in Some r) (node_forked m ls bs ∙ ap (model.Forked m) (ap (λ z. together ls.items (nodes z)) none_of ∙ together_none ls.items)))))
+    ap (act_here o) (ap (node l) e ∙ node_live l) ∙ (ap (act_live o l) s ∙ (ap (λ z. let r : Acted S = record { node = parted z; said = nothing } in Some r) f
+    ∙ sym (ap (λ z. let r : Acted S = record { node = z; said = nothing } in Some r) (node_forked m ls bs ∙ ap (model.Forked m) (ap (λ z. together ls.items (nodes z)) none_of ∙ together_none ls.items)))))
 
 -- the children of a fork are born of its process
 pub forked_born : {S : Type 0} (o : Ops S) (l : S) (b : Below S) (ls : _) (bs : _) → b ≡ code.Forked ls bs → SoundBelow o (node l b) → o.born l ls.items
 forked_born o l b ls bs e s =
     let w = subst (SoundBelow o) (at_forked l b ls bs e) s in
-    subst (o.born l) (states_together ls.items bs.items) w.2
+    subst (o.born l) (states_together ls.items bs.items) w.born
 
 -- a fork's close
-pub close_acts : {S : Type 0} (o : Ops S) (l m : S) (b : Below S) (ls : _) (bs : _) → b ≡ code.Forked ls bs → (act_here o (node l b) ≡ None → ⊥) → m ≡ o.join l ls.items true
-    → act_here o (node l b) ≡ Some (record { node = node m code.Live; bytes = [] })
-close_acts {S} o l m b ls bs e h f =
+pub close_acts : {S : Type 0} (o : Ops S) (l : S) (b : Below S) (ls : _) (bs : _) → b ≡ code.Forked ls bs → (act_here o (node l b) ≡ None → ⊥)
+    → act_here o (node l b) ≡ Some (closed o l ls.items (least_label (together ls.items (nodes bs.items))))
+close_acts {S} o l b ls bs e h =
     let n = at_forked l b ls bs e in
     let ks = together ls.items (nodes bs.items) in
-    let d : Acted S = record { node = model.Live (o.join l (states ks) true); bytes = [] } in
-    let w = cond_there (all_ended ks) (Some d) (λ z. h (ap (act_here o) n ∙ z)) in
-    let v : node m code.Live ≡ model.Live (o.join l (states ks) true) = node_live m ∙ ap model.Live (f ∙ ap (λ z. o.join l z true) (sym (states_together ls.items bs.items))) in
-    ap (act_here o) n ∙ (w.1 ∙ ap (λ z. let a : Acted S = record { node = z; bytes = [] } in Some a) (sym v))
+    let w = cond_there (all_done ks) (Some (closed o l (states ks) (least_label ks))) (λ z. h (ap (act_here o) n ∙ z)) in
+    ap (act_here o) n ∙ (w.1 ∙ ap (λ z. Some (closed o l z (least_label ks))) (states_together ls.items bs.items))
 
 pub forked_among : {S : Type 0} (o : Ops S) (l : S) (b : Below S) (ls : _) (bs : _) → b ≡ code.Forked ls bs → SoundBelow o (node l b) → SoundAmong o (together ls.items (nodes bs.items))
 forked_among o l b ls bs e s =
-    let w = subst (SoundBelow o) (at_forked l b ls bs e) s in (l, w.0, 0, w.1)
+    let w = subst (SoundBelow o) (at_forked l b ls bs e) s in (l, w.number, 0, w.children)
 
 -- what acts below a fork acts among the children
 pub forked_acts : {S : Type 0} (o : Ops S) (l : S) (b : Below S) (ls : _) (bs : _) (i : ℕ) (q : List ℕ) → b ≡ code.Forked ls bs → (act o (i ∷ q) (node l b) ≡ None → ⊥)
@@ -117,8 +115,8 @@ sound_child {S} o i ls bs l b h k d e s = sound_place s.0 s.1 s.2 i ls bs h k d 
         → SoundChildren o p f j (together ls (nodes bs)) → SoundBelow o (node l b)
     sound_place p f j i [] bs h k d e s = absurd (omega arith)
     sound_place p f j i (m ∷ ls) [] h k d e s = absurd (omega arith)
-    sound_place p f j zero (m ∷ ls) (c ∷ bs) h k d e s = subst (SoundBelow o) (λ t. node (sym d t) (sym e t)) s.2
-    sound_place p f j (suc i) (m ∷ ls) (c ∷ bs) h k d e s = sound_place p f (j + 1) i ls bs (omega arith) (omega arith) d e s.3
+    sound_place p f j zero (m ∷ ls) (c ∷ bs) h k d e s = subst (SoundBelow o) (λ t. node (sym d t) (sym e t)) s.1
+    sound_place p f j (suc i) (m ∷ ls) (c ∷ bs) h k d e s = sound_place p f (j + 1) i ls bs (omega arith) (omega arith) d e s.2
 
 -- the child at a place acts
 pub acts_none : {S : Type 0} (o : Ops S) (i : ℕ) (q : List ℕ) (ls : List S) (bs : List (Below S)) (l : S) (b : Below S) → i < length ls → i < length bs → l ≡ get_or ls i l → b ≡ get_or bs i b
@@ -128,8 +126,8 @@ acts_none o i q (m ∷ ls) [] l b h k e f n = absurd (omega arith)
 acts_none o zero q (m ∷ ls) (c ∷ bs) l b h k e f n = ap (in_front (together ls (nodes bs))) (ap (act o q) (λ t. node (sym e t) (sym f t)) ∙ n)
 acts_none o (suc i) q (m ∷ ls) (c ∷ bs) l b h k e f n = ap (behind (node m c)) (acts_none o i q ls bs l b (omega arith) (omega arith) e f n)
 
-pub acts_some : {S : Type 0} (o : Ops S) (i : ℕ) (q : List ℕ) (ls : List S) (bs : List (Below S)) (l l' : S) (b b' : Below S) (x : List ℕ) → i < length ls → i < length bs → l ≡ get_or ls i l → b ≡ get_or bs i b
-    → act o q (node l b) ≡ Some (record { node = node l' b'; bytes = x }) → act_child o i q (together ls (nodes bs)) ≡ Some (together (slice_set ls i l') (nodes (slice_set bs i b')), x)
+pub acts_some : {S : Type 0} (o : Ops S) (i : ℕ) (q : List ℕ) (ls : List S) (bs : List (Below S)) (l l' : S) (b b' : Below S) (x : Said) → i < length ls → i < length bs → l ≡ get_or ls i l → b ≡ get_or bs i b
+    → act o q (node l b) ≡ Some (record { node = node l' b'; said = x }) → act_child o i q (together ls (nodes bs)) ≡ Some (together (slice_set ls i l') (nodes (slice_set bs i b')), x)
 acts_some o i q [] bs l l' b b' x h k e f n = absurd (omega arith)
 acts_some o i q (m ∷ ls) [] l l' b b' x h k e f n = absurd (omega arith)
 acts_some o zero q (m ∷ ls) (c ∷ bs) l l' b b' x h k e f n = ap (in_front (together ls (nodes bs))) (ap (act o q) (λ t. node (sym e t) (sym f t)) ∙ n)

@@ -9,7 +9,7 @@ use Rattle.shim_tree.specs.Trees.{act_route}
 use Rattle.shim_tree.proofs.Options.{some_same}
 
 -- a route is made of the branches behind the front
-route_rest : (r p : Path) (q : List ℕ) → route r p ≡ Some q → (length r ≤ length p) × (q ≡ branches (drop (length r) p))
+pub route_rest : (r p : Path) (q : List ℕ) → route r p ≡ Some q → (length r ≤ length p) × (q ≡ branches (drop (length r) p))
 route_rest [] p q e = (omega arith, some_same q (branches p) (sym e))
 route_rest (x ∷ r) [] q e = absurd cc
 route_rest (x ∷ r) (y ∷ p) q e = rest (same_pair x y) (λ f. route_rest r p q f) e

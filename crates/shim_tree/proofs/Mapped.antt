@@ -1,5 +1,5 @@
 -- A `BTreeMap` of the code and the finite map that its entries make.
-use Rattle.std.specs.Prelude.{◌≡◌, ◌≤◌, ◌+◌, ℕ, Bool, true, false, Option, Some, None, List, [], ◌∷◌, map, cond, length}
+use Rattle.std.specs.Prelude.{◌≡◌, ◌≤◌, ◌+◌, ℕ, Bool, true, false, Option, Some, None, List, [], ◌∷◌, map, cond}
 use Rattle.std.specs.List.{AllByRecursion}
 use Rattle.std.specs.List.Sorted.{IsStrictlySortedBy}
 use Rattle.std.proofs.Common.{refl, sym, ap, ◌∙◌, arith}
@@ -7,12 +7,13 @@ use Rattle.std.specs.declared.cmp.Ordering.{Ordering}
 use Rattle.std.specs.declared.cmp.Ordering.TheVariants.{Less, Equal, Greater}
 use Rattle.std.specs.Ordering.{is_eq, eq_by_cmp}
 use Rattle.std.specs.Cmp.{IsTotalOrder, eq_by_cmp_equiv}
-use Rattle.std.specs.FinMap.{FinMap, IsAntisymmetric, find, put, get, insert, remove, values, entries, empty, from_entries, len-entries, len-empty, get-entries, get-from_entries, get-insert, get-remove, get_tied, entries-insert, same_map}
+use Rattle.std.specs.FinMap.{FinMap, IsAntisymmetric, find, put, get, insert, remove, values, entries, from_entries, get-entries, get-from_entries, get-insert, get-remove, get_tied, entries-insert, same_map}
 use Rattle.std.specs.Map.{lookup, keys_of}
 use Rattle.std.specs.BTreeMap.{is_at}
 use Rattle.std.proofs.lemmas.Map.Keys.{sorted_head, sorted_tail}
 use Rattle.std.proofs.lemmas.Option.{none-some, same_Some}
 use Rattle.shim_tree.specs.Trees.{sum}
+use Rattle.shim_tree.proofs.InOrder.{no_entries}
 
 find_lookup : {K X : Type 0} (R : K → K → Ordering) (es : List (K × X)) (q : K) → find R q es ≡ lookup (is_at (R q)) es
 find_lookup R [] q = refl
@@ -28,10 +29,6 @@ shadowed : {A : Type 0} (b : Bool) (x y z w : A) → (b ≡ true → x ≡ w) �
 shadowed true x y z w h g = h refl
 shadowed false x y z w h g = g refl
 
-no_items : {A : Type 0} (xs : List A) → length xs ≡ 0 → xs ≡ []
-no_items [] e = refl
-no_items (x ∷ xs) e = absurd (omega (arith, e))
-
 module _ {K X : Type 0} {R : K → K → Ordering} (o : IsTotalOrder R) where
   pub get_of : (es : List (K × X)) (q : K) → get (from_entries {R = R} es) q ≡ lookup (is_at (R q)) es
   get_of es q = get-from_entries o es q ∙ find_lookup R es q
@@ -42,7 +39,7 @@ module _ {K X : Type 0} {R : K → K → Ordering} (o : IsTotalOrder R) where
 
   -- entries in order are those of the map that they make
   pub entries_of : (es : List (K × X)) → IsStrictlySortedBy R (keys_of es) → entries (from_entries {R = R} es) ≡ es
-  entries_of [] h = no_items _ (sym (len-entries empty) ∙ len-empty R X)
+  entries_of [] h = no_entries R
   entries_of (e ∷ es) h = entries-insert o (from_entries es) e.0 e.1 ∙ ap (put R e.0 e.1) (entries_of es (sorted_tail R e.0 (keys_of es) h)) ∙ put_before e.0 e.1 es (sorted_head R e.0 (keys_of es) h)
 
   found_after_insert : (m : FinMap R X) (k : K) (v : X) → get (insert m k v) k ≡ Some v

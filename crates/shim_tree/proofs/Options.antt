@@ -1,7 +1,7 @@
 -- Facts of options and of what an event gives, taken apart.
-use Rattle.std.proofs.Common.{◌≡◌, ℕ, Bool, true, false, Option, Some, None, List, cond, ◌⊎◌, inl, inr, refl}
+use Rattle.std.proofs.Common.{◌≡◌, Bool, true, false, Option, Some, None, cond, ◌⊎◌, inl, inr, refl}
 use Rattle.shim_tree.specs.Nodes.{Node, Nodes, Forked, node_and}
-use Rattle.shim_tree.specs.Acts.{Acted, within, in_front, behind}
+use Rattle.shim_tree.specs.Acts.{Said, Acted, within, in_front, behind}
 
 pub some_same : {A : Type 0} (x y : A) → Some x ≡ Some y → x ≡ y
 some_same x y e = cc
@@ -22,17 +22,17 @@ pub true_or_false : (b : Bool) → (b ≡ true) ⊎ (b ≡ false)
 true_or_false true = inl refl
 true_or_false false = inr refl
 
-pub within_some : {S : Type 0} (l : S) (x : Option (Nodes S × List ℕ)) (a : Acted S) → within l x ≡ Some a
-    → (r : Nodes S × List ℕ) × (x ≡ Some r) × (record { node = Forked l r.0; bytes = r.1 } ≡ a)
+pub within_some : {S : Type 0} (l : S) (x : Option (Nodes S × Said)) (a : Acted S) → within l x ≡ Some a
+    → (r : Nodes S × Said) × (x ≡ Some r) × (record { node = Forked l r.0; said = r.1 } ≡ a)
 within_some l None a e = none_some a e
 within_some l (Some r) a e = (r, refl, some_same _ a e)
 
-pub in_front_some : {S : Type 0} (ks : Nodes S) (x : Option (Acted S)) (r : Nodes S × List ℕ) → in_front ks x ≡ Some r
-    → (a : Acted S) × (x ≡ Some a) × ((node_and a.node ks, a.bytes) ≡ r)
+pub in_front_some : {S : Type 0} (ks : Nodes S) (x : Option (Acted S)) (r : Nodes S × Said) → in_front ks x ≡ Some r
+    → (a : Acted S) × (x ≡ Some a) × ((node_and a.node ks, a.said) ≡ r)
 in_front_some ks None r e = none_some r e
 in_front_some ks (Some a) r e = (a, refl, some_same _ r e)
 
-pub behind_some : {S : Type 0} (k : Node S) (x : Option (Nodes S × List ℕ)) (r : Nodes S × List ℕ) → behind k x ≡ Some r
-    → (s : Nodes S × List ℕ) × (x ≡ Some s) × ((node_and k s.0, s.1) ≡ r)
+pub behind_some : {S : Type 0} (k : Node S) (x : Option (Nodes S × Said)) (r : Nodes S × Said) → behind k x ≡ Some r
+    → (s : Nodes S × Said) × (x ≡ Some s) × ((node_and k s.0, s.1) ≡ r)
 behind_some k None r e = none_some r e
 behind_some k (Some s) r e = (s, refl, some_same _ r e)

@@ -1,17 +1,17 @@
 -- What is read off a tree, put together of its parts.
-use Rattle.std.proofs.Common.{◌≡◌, ◌+◌, Bool, [], map, cond, ap, ◌∙◌}
+use Rattle.std.proofs.Common.{◌≡◌, ◌+◌, Bool, map, cond, ap, ◌∙◌}
 use Rattle.std.specs.FinMap as finite
 use Rattle.shim_local.specs.Process.{Ops}
 use Rattle.shim_local.specs.declared.Ended.{Ended as Read}
 use Rattle.shim_local.specs.declared.Outcome.TheVariants.{Spent}
 use Rattle.shim_tree.specs.Trees.{Tree, sum}
 use Rattle.shim_tree.specs.Walks.{walk}
-use Rattle.shim_tree.specs.Endings.{ended, is_empty, outcome, outcome_of_root, waits_of, history_of, own_steps}
+use Rattle.shim_tree.specs.Endings.{ended, is_empty, outcome, outcome_of_root, waits_of, history_of, own_steps, all_logs}
 
 pub read_off : {S : Type 0} (o : Ops S) (t : Tree S) (r : Read) (quiescent : Bool) → quiescent ≡ is_empty (walk o t.root)
     → r.output ≡ t.output
     → r.histories ≡ map history_of (finite.entries t.histories)
-    → r.logs ≡ []
+    → r.logs ≡ all_logs (finite.entries t.logs)
     → r.waits ≡ waits_of o t.root r.outcome
     → r.own ≡ map own_steps (finite.entries t.counts)
     → r.events ≡ t.events

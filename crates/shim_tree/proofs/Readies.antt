@@ -11,6 +11,7 @@ use Rattle.shim_tree.specs.declared.below.Below.{Below}
 use Rattle.shim_tree.specs.declared.below.Below.TheVariants as code
 use Rattle.shim_tree.proofs.Beside.{is_forked, state_place, from, from_next, from_end}
 
+-- what is ready goes
 ready_goes : {S : Type 0} (o : Ops S) (c : Channel) (k : Node S) → ready o c k ≡ true → goes k ≡ true
 ready_goes o c (Live l) e = refl
 ready_goes o c (Forked l ks) e = refl
@@ -48,11 +49,13 @@ held_up (Ended l) false r y e f = absurd cc
 held_up (Dead l z) true r y e f = ap (λ z. z && y) f
 held_up (Dead l z) false r y e f = absurd cc
 
+-- true on either side makes an "or" true
 or_true : (b : Bool) → (b || true) ≡ true
 or_true true = refl
 or_true false = refl
 
 module _ {S : Type 0} (o : Ops S) (c : Channel) (i : ℕ) (ls : List S) (bs : List (Below S)) (l : S) (h : i < length ls) (e : l ≡ get_or ls i l) where
+  -- the two questions about the children from a place on, as one about the first and the rest
   any_here : any_sharer o c (from i ls bs) ≡ ((goes (place l (nodes bs) i) && o.shares l c) || any_sharer o c (from (i + 1) ls bs))
   any_here =
       ap (any_sharer o c) (from_next i ls bs l h e)
@@ -64,6 +67,7 @@ module _ {S : Type 0} (o : Ops S) (c : Channel) (i : ℕ) (ls : List S) (bs : Li
       ∙ ap (λ z. (not (o.shares z c && (goes (place l (nodes bs) i) || is_dead (place l (nodes bs) i))) || ready o c (place l (nodes bs) i)) && all_ready o c (from (i + 1) ls bs)) (state_place l bs i)
 
   module _ (any sharer all concerned : Bool) (f : concerned ≡ o.shares l c && not (has_ended (place l (nodes bs) i))) (some : (any || any_sharer o c (from i ls bs)) ≡ sharer) (each : all_ready o c (from i ls bs) ≡ all) where
+    -- what the loop has come to after a child of each kind
     pub unconcerned : concerned ≡ false → ((any || any_sharer o c (from (i + 1) ls bs)) ≡ sharer) × (all_ready o c (from (i + 1) ls bs) ≡ all)
     unconcerned n =
         let w = passed (place l (nodes bs) i) (o.shares l c) (ready o c (place l (nodes bs) i)) (any_sharer o c (from (i + 1) ls bs)) (all_ready o c (from (i + 1) ls bs)) (sym f ∙ n) in
@@ -78,11 +82,13 @@ module _ {S : Type 0} (o : Ops S) (c : Channel) (i : ℕ) (ls : List S) (bs : Li
     one_holds_up n r =
         sym (held_up (place l (nodes bs) i) (o.shares l c) (ready o c (place l (nodes bs) i)) (all_ready o c (from (i + 1) ls bs)) (sym f ∙ n) r) ∙ (sym all_here ∙ each)
 
+-- false on the right makes an "and" false
 and_false : (x : Bool) → false ≡ (x && false)
 and_false true = refl
 and_false false = refl
 
 module _ {S : Type 0} (o : Ops S) (c : Channel) (l : S) (b : Below S) (ls : Vec S Global) (bs : Vec (Below S) Global) (is : b ≡ code.Forked ls bs) where
+  -- the answer for the fork, as soon as one holds the others up, and after all
   pub not_ready : false ≡ all_ready o c (from 0 ls.items bs.items) → false ≡ ready o c (node l b)
   not_ready h =
       let a = any_sharer o c (from 0 ls.items bs.items) in

@@ -1,25 +1,13 @@
 -- The branches that lead to a node are those of its path, and what it does there.
-use Rattle.std.proofs.Common.{◌≡◌, ℕ, zero, suc, ◌+◌, Option, Some, None, List, [], ◌∷◌, ◌++◌, refl, sym, ap, ◌∙◌, arith}
+use Rattle.std.proofs.Common.{◌≡◌, ℕ, zero, suc, ◌+◌, Some, List, [], ◌∷◌, ◌++◌, refl, sym, ap, ◌∙◌, arith}
 use Rattle.std.proofs.lemmas.List.{append-nil}
 use Rattle.shim_base.specs.Paths.{Path}
 use Rattle.shim_local.specs.Process.{Ops}
 use Rattle.shim_tree.specs.Nodes.{Node, Nodes, Live, Forked, Ended, Dead, no_node, node_and, state}
-use Rattle.shim_tree.specs.Acts.{Acted, act, act_child, act_here, within, in_front, behind}
+use Rattle.shim_tree.specs.Acts.{Said, Acted, act, act_child, act_here, within, in_front, behind}
 use Rattle.shim_tree.specs.Places.{at, child_at, branches, branches_of, route, SoundBelow, SoundChildren}
-use Rattle.shim_tree.proofs.Choices.{some_same, none_some}
+use Rattle.shim_tree.proofs.Options.{some_same, none_some, within_some, in_front_some, behind_some}
 use Rattle.shim_tree.proofs.Sameness.{behind_front_of, further}
-
-within_some : {S : Type 0} (l : S) (x : Option (Nodes S × List ℕ)) (a : Acted S) → within l x ≡ Some a → (r : Nodes S × List ℕ) × (x ≡ Some r)
-within_some l None a e = none_some a e
-within_some l (Some r) a e = (r, refl)
-
-in_front_some : {S : Type 0} (ks : Nodes S) (x : Option (Acted S)) (r : Nodes S × List ℕ) → in_front ks x ≡ Some r → (a : Acted S) × (x ≡ Some a)
-in_front_some ks None r e = none_some r e
-in_front_some ks (Some a) r e = (a, refl)
-
-behind_some : {S : Type 0} (k : Node S) (x : Option (Nodes S × List ℕ)) (r : Nodes S × List ℕ) → behind k x ≡ Some r → (s : Nodes S × List ℕ) × (x ≡ Some s)
-behind_some k None r e = none_some r e
-behind_some k (Some s) r e = (s, refl)
 
 module _ {S : Type 0} (o : Ops S) where
   mutual
@@ -29,18 +17,18 @@ module _ {S : Type 0} (o : Ops S) where
     at_path (Ended l) m (i ∷ q) s e = none_some m e
     at_path (Dead l x) m (i ∷ q) s e = none_some m e
     at_path (Forked l ks) m (i ∷ q) s e =
-        let h = at_path_in l s.0 0 ks m i q s.1 e in
+        let h = at_path_in l s.number 0 ks m i q s.children e in
         let w : 0 + i ≡ i = omega arith in
-        ((s.0, 0 + i) ∷ h.0, h.1, ap (λ z. z ∷ branches h.0) w ∙ ap (λ z. i ∷ z) h.2)
+        ((s.number, 0 + i) ∷ h.0, h.1, ap (λ z. z ∷ branches h.0) w ∙ ap (λ z. i ∷ z) h.2)
 
     at_path_in : (l : S) (f j : ℕ) (ks : Nodes S) (m : Node S) (i : ℕ) (q : List ℕ) → SoundChildren o l f j ks → child_at i q ks ≡ Some m → (r : Path) × (o.path (state m) ≡ o.path l ++ (f, j + i) ∷ r) × (branches r ≡ q)
     at_path_in l f j no_node m i q s e = none_some m e
     at_path_in l f j (node_and k ks) m zero q s e =
-        let h = at_path k m q s.2 e in
+        let h = at_path k m q s.1 e in
         let w : j ≡ j + zero = omega arith in
-        (h.0, h.1 ∙ (further (o.path l) (f, j) (o.path (state k)) h.0 s.0 ∙ ap (λ z. o.path l ++ (f, z) ∷ h.0) w), h.2)
+        (h.0, h.1 ∙ (further (o.path l) (f, j) (o.path (state k)) h.0 s.0.path ∙ ap (λ z. o.path l ++ (f, z) ∷ h.0) w), h.2)
     at_path_in l f j (node_and k ks) m (suc i) q s e =
-        let h = at_path_in l f (j + 1) ks m i q s.3 e in
+        let h = at_path_in l f (j + 1) ks m i q s.2 e in
         let w : j + 1 + i ≡ j + suc i = omega arith in
         (h.0, h.1 ∙ ap (λ z. o.path l ++ (f, z) ∷ h.0) w, h.2)
 
@@ -74,7 +62,7 @@ module _ {S : Type 0} (o : Ops S) where
         let r = acts_in i q ks x.0 x.1 in
         record { node = r.node; acted = r.acted; there = r.there; acts = r.acts }
 
-    acts_in : (i : ℕ) (q : List ℕ) (ks : Nodes S) (r : Nodes S × List ℕ) → act_child o i q ks ≡ Some r → ActsIn i q ks
+    acts_in : (i : ℕ) (q : List ℕ) (ks : Nodes S) (r : Nodes S × Said) → act_child o i q ks ≡ Some r → ActsIn i q ks
     acts_in i q no_node r e = none_some r e
     acts_in zero q (node_and k ks) r e =
         let x = in_front_some ks (act o q k) r e in
@@ -94,7 +82,7 @@ module _ {S : Type 0} (o : Ops S) where
     act_of (i ∷ q) (Dead l x) m a e h = none_some m e
     act_of (i ∷ q) (Forked l ks) m a e h = let w = act_in_of i q ks m a e h in (_, ap (within l) w.1)
 
-    act_in_of : (i : ℕ) (q : List ℕ) (ks : Nodes S) (m : Node S) (a : Acted S) → child_at i q ks ≡ Some m → act_here o m ≡ Some a → (r : Nodes S × List ℕ) × (act_child o i q ks ≡ Some r)
+    act_in_of : (i : ℕ) (q : List ℕ) (ks : Nodes S) (m : Node S) (a : Acted S) → child_at i q ks ≡ Some m → act_here o m ≡ Some a → (r : Nodes S × Said) × (act_child o i q ks ≡ Some r)
     act_in_of i q no_node m a e h = none_some m e
     act_in_of zero q (node_and k ks) m a e h = let w = act_of q k m a e h in (_, ap (in_front ks) w.1)
     act_in_of (suc i) q (node_and k ks) m a e h = let w = act_in_of i q ks m a e h in (_, ap (behind k) w.1)

@@ -30,5 +30,6 @@ nodes {S} bs = map (fold-Below S (S → model.Node S) node_step) bs
 abbrev pub event_of : Event → trees.Event
 event_of (code.Own p) = trees.Own p
 event_of (code.Meet c) = trees.Meet c.channel
+event_of (code.Poison p c) = trees.Poison p c.channel
 event_of (code.Close p) = trees.Close p
 event_of (code.End p) = trees.End p

@@ -1,9 +1,14 @@
 -- How the checker stores a tree: its nodes as a list of marks, from which they can be told again.
-use Rattle.std.specs.Prelude.{◌≡◌, ℕ, ℤ, zero, suc, List, [], ◌∷◌, refl}
+use Rattle.std.specs.Prelude.{◌≡◌, ◌⊎◌, ℕ, ℤ, zero, suc, List, [], ◌∷◌, refl}
 use Rattle.std.proofs.Common.{sym, ap, ◌∙◌}
-use Rattle.std.specs.Coded.{Coded, coded×, coded_ℕ, coded_ℤ, coded_list, code_by}
+use Rattle.std.specs.Coded.{Coded, coded×, coded_ℕ, coded_ℤ, coded_list, coded⊎, code_by}
 use Rattle.std.specs.FinMap as finite
 use base.Stored.{coded_via}
+use mathlib.Core.Logic.{inl, inr}
+use Rattle.shim_base.specs.declared.operators.Trap.{Trap}
+use Rattle.shim_base.specs.declared.operators.Trap.TheVariants.{Overflow, Zero, Shift, Depth}
+use Rattle.shim_local.specs.declared.LogWhat.{LogWhat}
+use Rattle.shim_local.specs.declared.LogWhat.TheVariants.{Caught, Trap as Trapping}
 use Rattle.shim_tree.specs.Nodes.{Node, Nodes, Live, Forked, Ended, Dead, no_node, node_and}
 use Rattle.shim_base.specs.Paths.{Path, Channel, path_order, channel_order}
 use Rattle.shim_tree.specs.Trees.{Tree, Met}
@@ -92,8 +97,44 @@ histories_code = finite.code channel_code met_code
 abbrev pub counts_code : Coded (finite.FinMap path_order ℕ)
 counts_code = finite.code path_code coded_ℕ
 
+abbrev pub kind_number : Trap → ℕ
+kind_number Overflow = 0
+kind_number Zero = 1
+kind_number Shift = 2
+kind_number Depth = 3
+
+abbrev pub kind_of_number : ℕ → Trap
+kind_of_number zero = Overflow
+kind_of_number (suc zero) = Zero
+kind_of_number (suc (suc zero)) = Shift
+kind_of_number (suc (suc (suc n))) = Depth
+
+pub kind_back : (k : Trap) → kind_of_number (kind_number k) ≡ k
+kind_back Overflow = refl
+kind_back Zero = refl
+kind_back Shift = refl
+kind_back Depth = refl
+
+abbrev pub log_numbers : LogWhat → (ℕ × ℕ) ⊎ (ℕ × ℕ)
+log_numbers (Caught name line) = inl (name, line)
+log_numbers (Trapping kind line) = inr (kind_number kind, line)
+
+abbrev pub log_of_numbers : (ℕ × ℕ) ⊎ (ℕ × ℕ) → LogWhat
+log_of_numbers (inl p) = Caught p.0 p.1
+log_of_numbers (inr p) = Trapping (kind_of_number p.0) p.1
+
+pub log_back : (w : LogWhat) → log_of_numbers (log_numbers w) ≡ w
+log_back (Caught name line) = refl
+log_back (Trapping kind line) = ap (λ k. Trapping k line) (kind_back kind)
+
+abbrev pub log_code : Coded LogWhat
+log_code = code_by ((ℕ × ℕ) ⊎ (ℕ × ℕ)) (coded⊎ (coded× coded_ℕ coded_ℕ) (coded× coded_ℕ coded_ℕ)) log_numbers log_of_numbers log_back
+
+abbrev pub logs_code : Coded (finite.FinMap path_order (List LogWhat))
+logs_code = finite.code path_code (coded_list log_code)
+
 abbrev pub tree_code : {S : Type 0} → Coded S → Coded (Tree S)
-tree_code {S} s = code_by (Node S × (List ℕ × (finite.FinMap channel_order Met × (finite.FinMap path_order ℕ × ℕ))))
-    (coded× (node_code s) (coded× (coded_list coded_ℕ) (coded× histories_code (coded× counts_code coded_ℕ))))
-    (λ t. (t.root, (t.output, (t.histories, (t.counts, t.events)))))
-    (λ p. record { root = p.0; output = p.1.0; histories = p.1.1.0; counts = p.1.1.1.0; events = p.1.1.1.1 }) (λ _. refl)
+tree_code {S} s = code_by (Node S × (List ℕ × (finite.FinMap channel_order Met × (finite.FinMap path_order (List LogWhat) × (finite.FinMap path_order ℕ × ℕ)))))
+    (coded× (node_code s) (coded× (coded_list coded_ℕ) (coded× histories_code (coded× logs_code (coded× counts_code coded_ℕ)))))
+    (λ t. (t.root, (t.output, (t.histories, (t.logs, (t.counts, t.events))))))
+    (λ p. record { root = p.0; output = p.1.0; histories = p.1.1.0; logs = p.1.1.1.0; counts = p.1.1.1.1.0; events = p.1.1.1.1.1 }) (λ _. refl)

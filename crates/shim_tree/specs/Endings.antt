@@ -1,10 +1,12 @@
 -- What is read off a tree.
-use Rattle.std.specs.Prelude.{ℕ, zero, suc, Bool, true, false, Option, Some, None, List, [], ◌∷◌, ◌++◌, map, cond}
+use Rattle.std.specs.Prelude.{ℕ, ℤ, zero, suc, Bool, true, false, Option, Some, None, List, [], ◌∷◌, ◌++◌, map, cond}
 use Rattle.std.specs.FinMap as finite
 use Rattle.shim_base.specs.Paths.{Path, Channel, NamedChannel, path_order}
 use Rattle.shim_local.specs.Process.{Ops}
 use Rattle.shim_local.specs.declared.Ended.{Ended as Read}
 use Rattle.shim_local.specs.declared.History.{History}
+use Rattle.shim_local.specs.declared.Log.{Log}
+use Rattle.shim_local.specs.declared.LogWhat.{LogWhat}
 use Rattle.shim_local.specs.declared.WaitAt.{WaitAt}
 use Rattle.shim_local.specs.declared.OwnSteps.{OwnSteps}
 use Rattle.shim_local.specs.declared.Outcome.{Outcome}
@@ -58,15 +60,30 @@ history_of h = record { chan = record { channel = h.0; name = h.1.name }; values
 abbrev pub own_steps : Path × ℕ → OwnSteps
 own_steps c = record { path = c.0; count = c.1 }
 
--- no exception and no trap is logged yet
+abbrev pub log_at : Path → LogWhat → Log
+log_at p w = record { path = p; what = w }
+
+-- what was logged of each of these processes, one after another
+abbrev pub all_logs : List (Path × List LogWhat) → List Log
+all_logs [] = []
+all_logs (e ∷ es) = map (log_at e.0) e.1 ++ all_logs es
+
 unfoldable pub ended : {S : Type 0} → Ops S → Tree S → Read
 ended o t = record {
   output = t.output;
   histories = map history_of (finite.entries t.histories);
-  logs = [];
+  logs = all_logs (finite.entries t.logs);
   waits = waits_of o t.root (outcome o t.root);
   own = map own_steps (finite.entries t.counts);
   events = t.events;
   steps = steps t;
   outcome = outcome o t.root;
 }
+
+abbrev pub values_in : Option Met → Option (List ℤ)
+values_in None = None
+values_in (Some h) = Some h.values
+
+-- the values that the channel's meetings gave, where it had one
+abbrev pub history_at : {S : Type 0} → Channel → Tree S → Option (List ℤ)
+history_at c t = values_in (finite.get t.histories c)

@@ -3,7 +3,7 @@ use Rattle.std.specs.Prelude.{Bool, Option, Some, None, List, [], ◌∷◌, con
 use Rattle.std.specs.declared.cmp.Ordering.{Ordering}
 use Rattle.std.specs.declared.cmp.Ordering.TheVariants.{Less, Equal, Greater}
 use Rattle.shim_base.specs.Paths.{Channel, NamedChannel, channel_order}
-use Rattle.shim_tree.specs.Trees.{Event, Own, Meet, Close, End}
+use Rattle.shim_tree.specs.Trees.{Event, Own, Meet, Poison, Close, End}
 use Rattle.shim_tree.specs.declared.seek.Found.{Found}
 use Rattle.shim_tree.specs.declared.seek.Found.TheVariants as found
 
@@ -28,5 +28,6 @@ least passes best (c ∷ cs) = least passes (cond (passes c) (Some (or_sooner c 
 abbrev pub found_event : Found → Event
 found_event (found.Own p) = Own p.now
 found_event (found.Meet c) = Meet c.now.channel
+found_event (found.Poison p c) = Poison p.now c.now.channel
 found_event (found.Close p) = Close p.now
 found_event (found.End p) = End p.now

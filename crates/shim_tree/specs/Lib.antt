@@ -1,9 +1,14 @@
 -- The definitions of this crate, one module for each subject.
 pub mod Nodes
 pub mod Acts
+pub mod Poison
 pub mod Places
 pub mod Trees
+pub mod Systems
 pub mod Walks
+pub mod Sound
+pub mod Quiets
+pub mod Laws
 pub mod Endings
 pub mod Codes
 pub mod Below
@@ -11,6 +16,14 @@ pub mod Maps
 pub mod Listing
 pub mod Beside
 pub mod Finding
+pub mod Searching
 pub mod Acting
+pub mod Telling
+pub mod Labels
 pub mod Meeting
 pub mod Readings
+pub mod Sought
+pub mod Advancing
+pub mod Births
+pub mod Filled
+pub mod Poisoning

@@ -1,5 +1,5 @@
 -- A process with what came of it, and the processes below it.
-use Rattle.std.specs.Prelude.{ℕ, ℤ, pos, Bool, true, false, Option, Some, None, List, [], ◌∷◌, ◌&&◌, ◌||◌, not, cond}
+use Rattle.std.specs.Prelude.{ℕ, ℤ, pos, Bool, true, false, Option, Some, None, List, [], ◌∷◌, ◌++◌, ◌&&◌, ◌||◌, not, cond, min}
 use Rattle.shim_base.specs.Paths.{Channel, NamedChannel, same_channel}
 use Rattle.shim_local.specs.Process.{Ops, StopView, AtQuiet, AtNext, AtPut, AtFork, AtFinish, AtThrow, AtTrap}
 
@@ -40,13 +40,38 @@ has_ended (Forked l ks) = false
 has_ended (Ended l) = true
 has_ended (Dead l x) = false
 
-abbrev pub all_ended : {S : Type 0} → Nodes S → Bool
-all_ended no_node = true
-all_ended (node_and k ks) = has_ended k && all_ended ks
+-- each of them has ended or died
+abbrev pub all_done : {S : Type 0} → Nodes S → Bool
+all_done no_node = true
+all_done (node_and k ks) = not (goes k) && all_done ks
+
+abbrev pub lesser : ℕ → Option ℕ → Option ℕ
+lesser x None = Some x
+lesser x (Some y) = Some (min x y)
+
+-- the least label of those that died, which is that of the outermost exception
+abbrev pub least_label : {S : Type 0} → Nodes S → Option ℕ
+least_label no_node = None
+least_label (node_and (Live l) ks) = least_label ks
+least_label (node_and (Forked l js) ks) = least_label ks
+least_label (node_and (Ended l) ks) = least_label ks
+least_label (node_and (Dead l x) ks) = lesser x (least_label ks)
 
 abbrev pub states : {S : Type 0} → Nodes S → List S
 states no_node = []
 states (node_and k ks) = state k ∷ states ks
+
+-- the states of a process and of all below it, from the root with leftmost children first
+abbrev mutual
+  pub everyone : {S : Type 0} → Node S → List S
+  everyone (Live l) = l ∷ []
+  everyone (Forked l ks) = l ∷ everyone_of ks
+  everyone (Ended l) = l ∷ []
+  everyone (Dead l x) = l ∷ []
+
+  pub everyone_of : {S : Type 0} → Nodes S → List S
+  everyone_of no_node = []
+  everyone_of (node_and k ks) = everyone k ++ everyone_of ks
 
 -- all of these live
 abbrev pub all_live : {S : Type 0} → List S → Nodes S

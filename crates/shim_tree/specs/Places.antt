@@ -1,5 +1,5 @@
 -- Where the process of a path stands in a tree, and that the paths are as forks make them.
-use Rattle.std.specs.Prelude.{◌≡◌, ℕ, zero, suc, ◌+◌, Bool, false, Option, Some, None, List, [], ◌∷◌, ◌++◌, ◌&&◌, cond}
+use Rattle.std.specs.Prelude.{◌≡◌, ◌≢◌, ◌<◌, ◌⊎◌, ℕ, zero, suc, ◌+◌, Bool, true, false, Option, Some, None, List, [], ◌∷◌, ◌++◌, ◌&&◌, cond}
 use Rattle.shim_base.specs.Paths.{Path, Channel, same_pair, same_path}
 use Rattle.shim_local.specs.Process.{Ops}
 use Rattle.shim_tree.specs.Nodes.{Node, Nodes, Live, Forked, Ended, Dead, no_node, node_and, state, states, ready}
@@ -52,15 +52,43 @@ is_ready_at o c (Some n) = same_path (o.path (state n)) c.home && ready o c n
 abbrev pub meets : {S : Type 0} → Ops S → Channel → Node S → Bool
 meets o c root = is_ready_at o c (led_to o root c.home)
 
--- Sound: each state is one that a process comes to; each child's path is its parent's with one pair more, the same fork's number for all children of a fork and the child's place from 0; as many exception places are in force around a child as with those of its parent; and the children of a fork are born of it.
+-- this node is that of the path
+abbrev pub has_path : {S : Type 0} → Ops S → Path → Option (Node S) → Bool
+has_path o p None = false
+has_path o p (Some n) = same_path (o.path (state n)) p
+
+-- k is the child in place i of the fork of number f of l, after any calls
+pub record IsChild {S : Type 0} (o : Ops S) (l : S) (f i : ℕ) (k : S) : Type 0 where
+  pub path : o.path k ≡ o.path l ++ (f, i) ∷ []
+  -- as many exception places are in force around it as with those of its parent
+  pub base : o.base k ≡ o.handlers l
+  -- it shares only what its parent shares, and channels of its own
+  pub shares : (c : Channel) → o.shares k c ≡ true → (o.shares l c ≡ true) ⊎ (c.home ≡ o.path k)
+
+-- what holds of a process that forked, where something holds of its children for the number of the fork
+pub record IsFork {S : Type 0} (o : Ops S) (l : S) (ks : Nodes S) (Children : ℕ → Type 0) : Type 0 where
+  pub number : ℕ
+  pub children : Children number
+  -- there is a child
+  pub some : ks ≢ no_node
+  -- they are born of it
+  pub born : o.born l (states ks)
+  pub alone : o.sound l
+
+-- a process that died of a label for which it has no handler
+pub record IsDeath {S : Type 0} (o : Ops S) (l : S) (x : ℕ) : Type 0 where
+  pub below_base : x < o.base l
+  pub alone : o.sound l
+
+-- Each state is one that a process comes to; each forked process has the children of a fork, and each dead one a death of its own.
 abbrev mutual
   pub SoundBelow : {S : Type 0} → Ops S → Node S → Type 0
   SoundBelow o (Live l) = o.sound l
   SoundBelow o (Ended l) = o.sound l
-  SoundBelow o (Dead l x) = o.sound l
-  SoundBelow o (Forked l ks) = (f : ℕ) × SoundChildren o l f 0 ks × o.born l (states ks) × o.sound l
+  SoundBelow o (Dead l x) = IsDeath o l x
+  SoundBelow o (Forked l ks) = IsFork o l ks (λ f. SoundChildren o l f 0 ks)
 
   -- the children of l from the place i on
   pub SoundChildren : {S : Type 0} → Ops S → S → ℕ → ℕ → Nodes S → Type 0
   SoundChildren o l f i no_node = Unit {0}
-  SoundChildren o l f i (node_and k ks) = (o.path (state k) ≡ o.path l ++ (f, i) ∷ []) × (o.base (state k) ≡ o.handlers l) × SoundBelow o k × SoundChildren o l f (i + 1) ks
+  SoundChildren o l f i (node_and k ks) = IsChild o l f i (state k) × SoundBelow o k × SoundChildren o l f (i + 1) ks

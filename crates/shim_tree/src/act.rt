@@ -1,14 +1,19 @@
 // What a process does by itself: a step of its own, its end, or the close of its fork.
-ghost use Rattle.std.specs.Prelude.{◌≡◌, ◌≢◌, ◌≤◌, None, IfOk, OnOk, OnErr, length, vec_len, drop};
-ghost use Rattle.shim_local.specs.Process.{AtQuiet, AtFork};
-ghost use Rattle.shim_tree.specs.Acts.{act_here, act, act_child};
+ghost use Rattle.std.specs.Prelude.{◌≡◌, ◌≢◌, ◌<◌, ◌≤◌, None, is_none, IfOk, OnOk, OnErr, length, vec_len, drop};
+ghost use Rattle.shim_local.specs.Process.{AtQuiet, AtPut, AtFork};
+ghost use Rattle.shim_tree.specs.Nodes.{least_label};
+ghost use Rattle.shim_tree.specs.Acts.{nothing, putting, act_here, act, act_child};
 ghost use Rattle.shim_tree.specs.Places.{SoundBelow, branches};
 ghost use Rattle.shim_tree.specs.Below.{node, nodes, together};
-ghost use Rattle.shim_tree.specs.Acting.{ActsHere, ActsAt, ActsAmong, SoundAmong, acted_on, ActsOn};
+ghost use Rattle.shim_tree.specs.Beside.{place};
+ghost use Rattle.shim_tree.specs.Labels.{label_of, least_of, ThrowLeaves};
+ghost use Rattle.shim_tree.specs.Acting.{said_of, ActsHere, ActsAt, ActsAmong, SoundAmong, acted_on, ActsOn};
 
 use crate::below::Below;
+use crate::fill::{behind, fill};
+use crate::told::Told;
 use shim_base::{NoMemory, Path};
-use shim_local::{Forked, Local, Stop};
+use shim_local::{Forked, Local, LogWhat, Stop};
 
 // One quiet step.
 fn step_quietly<L: Local>(process: &mut L) -> Result<(), NoMemory>
@@ -23,11 +28,24 @@ fn step_quietly<L: Local>(process: &mut L) -> Result<(), NoMemory>
     Ok(())
 }
 
+// The put at which the process stands. Where its expression traps, nothing is told yet, and the
+// process stands trapped.
+fn put<L: Local>(process: &mut L) -> Told
+    requires { L.ops.stop process.old ≡ AtPut }
+    ensures told { said_of result ≡ putting (L.ops.byte process.old) }
+    ensures after { process.new ≡ L.ops.put process.old }
+{
+    match process.put() {
+        Some(byte) => Told::Byte(byte),
+        None => Told::Nothing,
+    }
+}
+
 // The children of the fork at which the process stands come to be, and live, or the fork traps.
 fn fork<L: Local>(process: &mut L, below: &mut Below<L>) -> Result<(), NoMemory>
     requires lives { below.old ≡ Below.Live }
     requires forks { L.ops.stop process.old ≡ AtFork }
-    ensures ok { OnOk result (ActsHere L.ops (node process.old below.old) None (node process.new below.new)) }
+    ensures ok { OnOk result (ActsHere L.ops (node process.old below.old) nothing (node process.new below.new)) }
     ensures err { OnErr result (node process.new below.new ≡ node process.old below.old) }
 {
     match process.fork()? {
@@ -41,59 +59,131 @@ fn fork<L: Local>(process: &mut L, below: &mut Below<L>) -> Result<(), NoMemory>
     Ok(())
 }
 
-// A live process does what it stands at. The answer is the byte that it puts; a put that traps has none.
-fn act_live<L: Local>(process: &mut L, below: &mut Below<L>) -> Result<Option<u8>, NoMemory>
+// The exception of this label is thrown in the process, whatever came of it until now. It dies of a
+// label that is none of its own handlers', and else goes on at the handler.
+fn throw<L: Local>(process: &mut L, below: &mut Below<L>, label: u32) -> Told
+    requires { label < L.ops.handlers process.old }
+    ensures { ThrowLeaves L.ops process.old label (said_of result) (node process.new below.new) }
+{
+    if label < process.base() {
+        *below = Below::Dead(label);
+        return Told::Nothing;
+    }
+    let (name, line) = process.handler(label);
+    process.unwind(label);
+    *below = Below::Live;
+    Told::Log(LogWhat::Caught(name, line))
+}
+
+// A live process does what it stands at.
+fn act_live<L: Local>(process: &mut L, below: &mut Below<L>) -> Result<Told, NoMemory>
     requires lives { below.old ≡ Below.Live }
+    requires sound { SoundBelow L.ops (node process.old below.old) }
     requires acts { act_here L.ops (node process.old below.old) ≢ None }
-    ensures ok { IfOk result (λ byte. ActsHere L.ops (node process.old below.old) byte (node process.new below.new)) }
+    ensures ok { IfOk result (λ told. ActsHere L.ops (node process.old below.old) (said_of told) (node process.new below.new)) }
     ensures err { OnErr result (node process.new below.new ≡ node process.old below.old) }
 {
     match process.stop() {
         Stop::Quiet => {
             step_quietly(process)?;
-            Ok(None)
+            Ok(Told::Nothing)
         }
-        Stop::Put => Ok(process.put()),
+        Stop::Put => Ok(put(process)),
         Stop::Fork => {
             fork(process, below)?;
-            Ok(None)
+            Ok(Told::Nothing)
         }
         Stop::Finish => {
             *below = Below::Ended;
-            Ok(None)
+            Ok(Told::Nothing)
         }
-        // it waits, or stands where no event is its own yet, and does nothing by itself
-        Stop::Next(_) | Stop::Throw(_) | Stop::Trapped(_, _) => Ok(None),
+        Stop::Throw(label) => Ok(throw(process, below, label)),
+        // a trap is the exception of a label that no handler has
+        Stop::Trapped(kind, line) => {
+            *below = Below::Dead(0);
+            Ok(Told::Log(LogWhat::Trap(kind, line)))
+        }
+        // it waits, and does nothing by itself
+        Stop::Next(_) => Ok(Told::Nothing),
     }
 }
 
-// Says of each of the processes what came of it: of which nothing was said, that one lives.
-fn fill<L: Local>(processes: &[L], belows: &mut Vec<Below<L>>) -> Result<(), NoMemory>
-    ensures same { together processes.now (nodes belows.new.items) ≡ together processes.now (nodes belows.old.items) }
-    ensures ok { OnOk result (length processes.now ≤ vec_len belows.new) }
+// The label of which a process died of which this came, if it did.
+fn label_of<L>(below: &Below<L>) -> Option<u32>
+    ensures { (l : L) → result ≡ label_of (node l below.now) }
 {
-    while belows.len() < processes.len() {
-        belows.push(Below::Live)?;
+    match below {
+        Below::Dead(label) => Some(*label),
+        Below::Live | Below::Ended | Below::Forked(_, _) => None,
     }
-    Ok(())
 }
 
-// The process does the one thing that it can do by itself. The answer is the byte that it puts.
-fn act_alone<L: Local>(process: &mut L, below: &mut Below<L>) -> Result<Option<u8>, NoMemory>
+// The label of which the child in this place died, given what came of the children.
+fn label_at<L>(belows: &[Below<L>], i: usize) -> Option<u32>
+    ensures { (l : L) → result ≡ label_of (place l (nodes belows.now) i) }
+{
+    if i < belows.len() {
+        label_of(&belows[i])
+    } else {
+        None
+    }
+}
+
+// The lesser of two labels, of which each may be missing.
+fn lesser(one: Option<u32>, other: Option<u32>) -> Option<u32>
+    ensures { result ≡ least_of one other }
+{
+    match one {
+        None => other,
+        Some(x) => match other {
+            None => one,
+            Some(y) => Some(x.min(y)),
+        },
+    }
+}
+
+// The least label of which one of these children died, if one did.
+fn least_label<L>(children: &[L], belows: &[Below<L>]) -> Option<u32>
+    ensures { result ≡ least_label (together children.now (nodes belows.now)) }
+{
+    let mut least = None;
+    for i in 0..children.len() {
+        least = lesser(least, label_at(belows, i));
+    }
+    least
+}
+
+// The process takes back the values of its children, each of which has ended or died. The answer is
+// the least label of which one died, which is then to be thrown where the process still stands.
+fn take_back<L: Local>(process: &mut L, children: &[L], belows: &[Below<L>]) -> Option<u32>
+    requires { L.ops.born process.old children.now }
+    ensures label { result ≡ least_label (together children.now (nodes belows.now)) }
+    ensures joined { process.new ≡ L.ops.join process.old children.now (is_none result) }
+{
+    let label = least_label(children, belows);
+    process.join(children, label.is_none());
+    label
+}
+
+// The process does the one thing that it can do by itself.
+fn act_alone<L: Local>(process: &mut L, below: &mut Below<L>) -> Result<Told, NoMemory>
     requires sound { SoundBelow L.ops (node process.old below.old) }
     requires acts { act_here L.ops (node process.old below.old) ≢ None }
-    ensures ok { IfOk result (λ byte. ActsHere L.ops (node process.old below.old) byte (node process.new below.new)) }
+    ensures ok { IfOk result (λ told. ActsHere L.ops (node process.old below.old) (said_of told) (node process.new below.new)) }
     ensures err { OnErr result (node process.new below.new ≡ node process.old below.old) }
 {
     match below {
         Below::Live => act_live(process, below),
-        // each child has ended, and its values come back
-        Below::Forked(processes, _) => {
-            process.join(processes.as_slice(), true);
-            *below = Below::Live;
-            Ok(None)
+        Below::Forked(processes, belows) => {
+            match take_back(process, processes.as_slice(), belows.as_slice()) {
+                None => {
+                    *below = Below::Live;
+                    Ok(Told::Nothing)
+                }
+                Some(label) => Ok(throw(process, below, label)),
+            }
         }
-        Below::Ended | Below::Dead(_) => Ok(None),
+        Below::Ended | Below::Dead(_) => Ok(Told::Nothing),
     }
 }
 
@@ -104,10 +194,10 @@ fn act_child<L: Local>(
     belows: &mut Vec<Below<L>>,
     place: usize,
     pairs: &[(u32, u32)],
-) -> Result<Option<u8>, NoMemory>
+) -> Result<Told, NoMemory>
     requires sound { SoundAmong L.ops (together processes.old.items (nodes belows.old.items)) }
     requires acts { act_child L.ops place (branches pairs.now) (together processes.old.items (nodes belows.old.items)) ≢ None }
-    ensures ok { IfOk result (λ byte. ActsAmong L.ops place (branches pairs.now) (together processes.old.items (nodes belows.old.items)) byte (together processes.new.items (nodes belows.new.items))) }
+    ensures ok { IfOk result (λ told. ActsAmong L.ops place (branches pairs.now) (together processes.old.items (nodes belows.old.items)) (said_of told) (together processes.new.items (nodes belows.new.items))) }
     ensures err { OnErr result (together processes.new.items (nodes belows.new.items) ≡ together processes.old.items (nodes belows.old.items)) }
 {
     // takes memory, so it comes before anything has changed
@@ -116,16 +206,16 @@ fn act_child<L: Local>(
 }
 
 /// The process to which these pairs of a path lead from here does the one thing that it can do by
-/// itself. The answer is the byte that it puts. Want of memory changes nothing.
+/// itself. The answer is what that tells. Want of memory changes nothing.
 #[cycle(act)]
 pub(crate) fn act_at<L: Local>(
     process: &mut L,
     below: &mut Below<L>,
     pairs: &[(u32, u32)],
-) -> Result<Option<u8>, NoMemory>
+) -> Result<Told, NoMemory>
     requires sound { SoundBelow L.ops (node process.old below.old) }
     requires acts { act L.ops (branches pairs.now) (node process.old below.old) ≢ None }
-    ensures ok { IfOk result (λ byte. ActsAt L.ops (branches pairs.now) (node process.old below.old) byte (node process.new below.new)) }
+    ensures ok { IfOk result (λ told. ActsAt L.ops (branches pairs.now) (node process.old below.old) (said_of told) (node process.new below.new)) }
     ensures err { OnErr result (node process.new below.new ≡ node process.old below.old) }
 {
     let Some((first, rest)) = pairs.split_first() else {
@@ -133,27 +223,20 @@ pub(crate) fn act_at<L: Local>(
     };
     match below {
         Below::Forked(processes, belows) => act_child(processes, belows, first.1 as usize, rest),
-        Below::Live | Below::Ended | Below::Dead(_) => Ok(None),
+        Below::Live | Below::Ended | Below::Dead(_) => Ok(Told::Nothing),
     }
 }
 
-// What is left of the pairs behind a front of so many.
-fn behind(pairs: &[(u32, u32)], front: usize) -> &[(u32, u32)]
-    requires { front ≤ length pairs.now }
-    ensures { result.now ≡ drop front pairs.now }
-{
-    &pairs[front..]
-}
-
-/// The process of this path does the one thing that it can do by itself.
+/// The process of this path does the one thing that it can do by itself. The answer is what that
+/// tells. Want of memory changes nothing.
 pub(crate) fn act_on<L: Local>(
     process: &mut L,
     below: &mut Below<L>,
     path: &Path,
-) -> Result<Option<u8>, NoMemory>
+) -> Result<Told, NoMemory>
     requires sound { SoundBelow L.ops (node process.old below.old) }
     requires acts { acted_on L.ops path.now (node process.old below.old) ≢ None }
-    ensures ok { IfOk result (λ byte. ActsOn L.ops path.now (node process.old below.old) byte (node process.new below.new)) }
+    ensures ok { IfOk result (λ told. ActsOn L.ops path.now (node process.old below.old) (said_of told) (node process.new below.new)) }
     ensures err { OnErr result (node process.new below.new ≡ node process.old below.old) }
 {
     let front = process.path().pairs().len();

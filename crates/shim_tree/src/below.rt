@@ -7,7 +7,7 @@
 pub(crate) enum Below<L> {
     Live,
     Ended,
-    /// It died of an exception with this label. No event that there is today leaves it.
+    /// It died of an exception with this label.
     Dead(u32),
     Forked(Vec<L>, Vec<Below<L>>),
 }

@@ -1,17 +1,20 @@
 // How many steps of its own each process did.
-ghost use Rattle.shim_base.specs.Paths.{path_order};
-ghost use Rattle.std.specs.Prelude.{ℕ, Some, ◌≡◌, ◌<◌, ◌^◌, ◌+◌, OnOk, OnErr, IfOk, map};
+ghost use Rattle.std.specs.Prelude.{◌≡◌, ◌<◌, ◌^◌, ◌+◌, [], ◌∷◌, ◌++◌, OnOk, OnErr, IfOk, map, filter};
 ghost use Rattle.std.specs.FinMap as finite;
-ghost use Rattle.shim_tree.specs.Trees.{count_of, one_more, sum};
+ghost use Rattle.shim_local.specs.Laws.{AllOf};
+ghost use Rattle.shim_tree.specs.Trees.{count_of, sum};
+ghost use Rattle.shim_tree.specs.Maps.{has_stepped};
+ghost use Rattle.shim_tree.specs.Advancing.{stepped, HasPlace, KeepsPlaces, with_place, more_steps};
 ghost use Rattle.shim_tree.specs.Endings.{own_steps};
 
 use shim_base::{List, NoMemory, Path};
-use shim_local::OwnSteps;
+use shim_local::{Local, OwnSteps};
 use std::alloc::Global;
 use std::collections::BTreeMap;
 use std::marker::Model;
 
-/// For each process that did a step of its own, how many it did.
+/// For each process that has a place, how many steps of its own it did. A process has its place before
+/// its first step, so that no step takes memory.
 #[derive(Drop)]
 pub(crate) struct Counts {
     kept: BTreeMap<Path, u64, Global>,
@@ -41,52 +44,45 @@ impl Counts {
         }
     }
 
-    /// How many steps the process did, if it did any.
-    pub(crate) fn get(&self, path: &Path) -> Option<u64>
-        ensures { result ≡ finite.get self.now path.now }
-    {
-        self.kept.get(path).copied()
-    }
-
-    /// The process did one step more.
-    pub(crate) fn add(&mut self, path: &Path) -> Result<(), NoMemory>
-        requires { sum (finite.values self.old) < 4000000 }
-        ensures ok { OnOk result (self.new ≡ one_more self.old path.now) }
+    /// Gives the process of this path its place.
+    pub(crate) fn place(&mut self, path: &Path) -> Result<(), NoMemory>
+        ensures ok { OnOk result (self.new ≡ with_place self.old path.now) }
         ensures err { OnErr result (self.new ≡ self.old) }
     {
-        if let Some(count) = self.kept.get_mut(path) {
-            *count += 1;
+        if self.kept.contains_key(path) {
             return Ok(());
         }
-        self.kept.insert(path.copy()?, 1)?;
+        self.kept.insert(path.copy()?, 0)?;
         Ok(())
     }
 
-    /// Takes back what `add` did last, given what `get` said before it.
-    pub(crate) fn take_back(&mut self, path: &Path, before: Option<u64>)
-        ensures { (m : finite.FinMap path_order ℕ) → finite.get m path.now ≡ before → self.old ≡ one_more m path.now → self.new ≡ m }
+    /// Gives each of these processes its place. Want of memory may leave some of them without.
+    pub(crate) fn place_all<L: Local>(&mut self, processes: &[L]) -> Result<(), NoMemory>
+        ensures ok { OnOk result (AllOf (λ (l : L). HasPlace self.new (L.ops.path l)) processes.now) }
+        ensures keeps { KeepsPlaces self.old self.new }
+        ensures same { stepped self.new ≡ stepped self.old }
     {
-        match before {
-            Some(count) => self.put_back(path, count),
-            None => {
-                self.kept.remove(path);
-            }
+        for process in processes.iter() {
+            self.place(process.path())?;
         }
+        Ok(())
     }
 
-    // Sets the count of a process that has one.
-    fn put_back(&mut self, path: &Path, count: u64)
-        ensures { (m : finite.FinMap path_order ℕ) → finite.get m path.now ≡ Some count → self.old ≡ one_more m path.now → self.new ≡ m }
+    /// The process of this path, which has its place, did so many steps more.
+    pub(crate) fn add(&mut self, path: &Path, steps: u64)
+        requires place { HasPlace self.old path.now }
+        requires few { count_of self.old path.now + steps < 2 ^ 64 }
+        ensures { self.new ≡ more_steps self.old path.now steps }
     {
-        if let Some(kept) = self.kept.get_mut(path) {
-            *kept = count;
+        if let Some(count) = self.kept.get_mut(path) {
+            *count += steps;
         }
     }
 
     /// How many steps of their own all processes did together.
     pub(crate) fn total(&self) -> u64
-        requires { sum (finite.values self.now) < 2 ^ 64 }
-        ensures { result ≡ sum (finite.values self.now) }
+        requires { sum (finite.values (stepped self.now)) < 2 ^ 64 }
+        ensures { result ≡ sum (finite.values (stepped self.now)) }
     {
         let mut total = 0;
         for count in self.kept.values() {
@@ -95,17 +91,27 @@ impl Counts {
         total
     }
 
-    /// Each process with its count, by path.
+    /// Each process that did a step, with its count, by path.
     pub(crate) fn list(&self, alloc: Global) -> Result<List<OwnSteps>, NoMemory>
-        ensures { IfOk result (λ list. list ≡ map own_steps (finite.entries self.now)) }
+        ensures { IfOk result (λ list. list ≡ map own_steps (finite.entries (stepped self.now))) }
     {
         let mut list = List::new(alloc);
         for (path, count) in self.kept.iter() {
-            list.push(OwnSteps {
-                path: path.copy()?,
-                count: *count,
-            })?;
+            list_steps(path, *count, &mut list)?;
         }
         Ok(list)
     }
+}
+
+// Adds to the list how many steps the process of this path did, if it did any.
+fn list_steps(path: &Path, count: u64, list: &mut List<OwnSteps>) -> Result<(), NoMemory>
+    ensures { OnOk result (list.new ≡ list.old ++ map own_steps (filter has_stepped ((path.now, count) ∷ []))) }
+{
+    if count == 0 {
+        return Ok(());
+    }
+    list.push(OwnSteps {
+        path: path.copy()?,
+        count,
+    })
 }

@@ -8,7 +8,11 @@ pub enum Event {
     Own(Path),
     /// The processes that share this channel meet.
     Meet(Chan),
-    /// The fork of the process of this path closes: its children have ended.
+    /// The child of this path waits for this channel with all whom it concerns there, and a process at
+    /// or below another child of its fork, which shares the channel, died of an exception whose handler
+    /// is outside the fork. Each live process at the child or below it that shares the channel dies.
+    Poison(Path, Chan),
+    /// The fork of the process of this path closes: its children have ended or died.
     Close(Path),
     /// The process of this path ends.
     End(Path),

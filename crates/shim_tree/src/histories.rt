@@ -1,8 +1,9 @@
 // The values that the meetings on each channel gave.
 ghost use Rattle.std.specs.Prelude.{◌≡◌, OnOk, OnErr, IfOk, map};
+ghost use Rattle.std.specs.Option.{option_copied};
 ghost use Rattle.std.specs.FinMap as finite;
 ghost use Rattle.shim_tree.specs.Trees.{recorded};
-ghost use Rattle.shim_tree.specs.Endings.{history_of};
+ghost use Rattle.shim_tree.specs.Endings.{history_of, values_in};
 
 use shim_base::{Chan, List, NoMemory};
 use shim_local::History;
@@ -57,6 +58,16 @@ impl Histories {
         self.kept
             .insert(Chan::new(home, chan.serial(), name), values)?;
         Ok(())
+    }
+
+    /// The values of the channel, if it had a meeting. It takes no memory.
+    pub(crate) fn get(&self, chan: &Chan) -> Option<&[i64]>
+        ensures { option_copied result ≡ values_in (finite.get self.now chan.now.channel) }
+    {
+        match self.kept.get(chan) {
+            Some(values) => Some(values.as_slice()),
+            None => None,
+        }
     }
 
     /// Each channel with its values, by home and then by serial.

@@ -2,20 +2,27 @@
 #![tactic(auto)]
 
 mod act;
+mod advance;
 mod below;
+mod births;
 mod counts;
+mod doing;
+mod doom;
 mod event;
+mod fill;
 mod histories;
 pub mod laws;
+mod listing;
+mod logs;
+mod poison;
+mod quiet;
 mod reading;
 mod ready;
 mod receive;
 mod seek;
+mod told;
 mod tree;
 mod waits;
 
 pub use event::Event;
 pub use tree::Tree;
-
-#[cfg(test)]
-mod tests;

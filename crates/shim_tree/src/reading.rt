@@ -5,11 +5,14 @@ ghost use Rattle.shim_tree.specs.Below.{node};
 ghost use Rattle.shim_tree.specs.Nodes.{next_of};
 ghost use Rattle.shim_tree.specs.Endings as endings;
 ghost use Rattle.shim_tree.specs.Readings.{outcome_of_label, with_waits};
+ghost use Rattle.shim_tree.specs.Telling.{logged};
+ghost use Rattle.std.specs.FinMap as finite;
 
 use crate::below::Below;
+use crate::logs::Logs;
 use crate::waits::Waits;
 use shim_base::{List, NoMemory};
-use shim_local::{Local, Outcome, Stop, WaitAt};
+use shim_local::{Local, Log, Outcome, Stop, WaitAt};
 use std::alloc::Global;
 
 /// How a run has ended whose tree is quiescent or not.
@@ -101,4 +104,15 @@ fn gather_live<L: Local>(process: &L, waits: &mut Waits) -> Result<(), NoMemory>
         Stop::Throw(_) => Ok(()),
         Stop::Trapped(_, _) => Ok(()),
     }
+}
+
+/// What was logged in the order of the events, by path, and for one path in that order.
+pub(crate) fn logs_by_path(alloc: Global, logs: &[Log]) -> Result<List<Log>, NoMemory>
+    ensures { IfOk result (λ list. list ≡ endings.all_logs (finite.entries (logged logs.now))) }
+{
+    let mut by_path = Logs::new(alloc);
+    for log in logs.iter() {
+        by_path.add(&log.path, log.what)?;
+    }
+    by_path.list(alloc)
 }

@@ -1,15 +1,18 @@
 // The first event of the walk from a process, lent out of the states.
-ghost use Rattle.std.specs.Prelude.{◌≡◌, IfOk, true, IsTrue};
+ghost use Rattle.std.specs.Prelude.{◌≡◌, None, IfOk};
 ghost use Rattle.std.specs.Option.{option_copied, option_map};
-ghost use Rattle.shim_tree.specs.Nodes.{all_ended};
+ghost use Rattle.shim_tree.specs.Nodes.{Forked, goes, all_done, ready};
 ghost use Rattle.shim_tree.specs.Below.{node, nodes, together, event_of};
-ghost use Rattle.shim_tree.specs.Walks.{as_list, head, own_events, waited, meets_here, walk};
+ghost use Rattle.shim_tree.specs.Beside.{place};
+ghost use Rattle.shim_tree.specs.Walks.{as_list, head, own_events, here, waited, poisons_of, walk};
 ghost use Rattle.shim_tree.specs.Endings.{is_empty};
 ghost use Rattle.shim_tree.specs.Finding.{channel_in, or_sooner, least, found_event};
+ghost use Rattle.shim_tree.specs.Searching.{passes};
 
 use crate::below::Below;
+use crate::doom::is_doomed;
 use crate::event::Event;
-use crate::ready::{is_ended_at, is_ready, stands_at};
+use crate::ready::{is_ready, stands_at, waits_at};
 use shim_base::{Chan, NoMemory, Path};
 use shim_local::{Local, Stop};
 
@@ -18,6 +21,7 @@ use shim_local::{Local, Stop};
 pub(crate) enum Found<'a> {
     Own(&'a Path),
     Meet(&'a Chan),
+    Poison(&'a Path, &'a Chan),
     Close(&'a Path),
     End(&'a Path),
 }
@@ -30,15 +34,26 @@ impl Found<'_> {
         match self {
             Found::Own(path) => Ok(Event::Own(path.copy()?)),
             Found::Meet(chan) => Ok(Event::Meet(chan.copy()?)),
+            Found::Poison(path, chan) => Ok(Event::Poison(path.copy()?, chan.copy()?)),
             Found::Close(path) => Ok(Event::Close(path.copy()?)),
             Found::End(path) => Ok(Event::End(path.copy()?)),
         }
     }
 }
 
-// What a live process can do: a step of its own, its end, or the meeting at which it stands, if it
-// declared that channel.
-fn own_event<L: Local>(l: &L) -> Option<Found<'_>>
+/// What a channel is to pass at which some process stands.
+#[derive(Drop)]
+pub(crate) enum Test<'a, L> {
+    /// This process, which has forked, declared the channel and is ready on it.
+    Meets(&'a L, &'a Below<L>),
+    /// Of these children of a process the one in this place, which is given, too, is ready on the
+    /// channel and doomed on it.
+    Poisons(&'a L, &'a [L], &'a [Below<L>], usize, &'a L),
+}
+
+/// What a live process can do: a step of its own, its end, or the meeting at which it stands, if it
+/// declared that channel.
+pub(crate) fn own_event<L: Local>(l: &L) -> Option<Found<'_>>
     ensures { option_map found_event result ≡ head (own_events (L.ops.path l.now) (L.ops.stop l.now)) }
 {
     match l.stop() {
@@ -49,29 +64,68 @@ fn own_event<L: Local>(l: &L) -> Option<Found<'_>>
                 None
             }
         }
-        Stop::Quiet | Stop::Put | Stop::Fork => Some(Found::Own(l.path())),
+        Stop::Quiet | Stop::Put | Stop::Fork | Stop::Throw(_) | Stop::Trapped(_, _) => {
+            Some(Found::Own(l.path()))
+        }
         Stop::Finish => Some(Found::End(l.path())),
-        Stop::Throw(_) | Stop::Trapped(_, _) => None,
     }
 }
 
-// Whether all of these children have ended.
-fn have_ended<L>(children: &[L], belows: &[Below<L>]) -> bool
-    ensures { result ≡ all_ended (together children.now (nodes belows.now)) }
+// Whether a process of which this came has neither ended nor died.
+fn is_going<L>(below: &Below<L>) -> bool
+    ensures { (l : L) → result ≡ goes (node l below.now) }
+{
+    match below {
+        Below::Live | Below::Forked(_, _) => true,
+        Below::Ended | Below::Dead(_) => false,
+    }
+}
+
+// The same of the child in this place, given what came of the children.
+fn is_going_at<L>(belows: &[Below<L>], i: usize) -> bool
+    ensures { (l : L) → result ≡ goes (place l (nodes belows.now) i) }
+{
+    if i < belows.len() {
+        is_going(&belows[i])
+    } else {
+        true
+    }
+}
+
+/// Whether each of these children has ended or died.
+pub(crate) fn are_done<L>(children: &[L], belows: &[Below<L>]) -> bool
+    ensures { result ≡ all_done (together children.now (nodes belows.now)) }
 {
     for i in 0..children.len() {
-        if !is_ended_at(belows, i) {
+        if is_going_at(belows, i) {
             return false;
         }
     }
     true
 }
 
-// Whether this forked process declared the channel and is ready on it.
-fn meets_on<L: Local>(home: &L, fork: &Below<L>, c: &Chan) -> bool
-    ensures { result ≡ meets_here L.ops (node home.now fork.now) c.now.channel }
+// Whether the child in this place is ready on the channel.
+fn is_ready_at<L: Local>(child: &L, belows: &[Below<L>], i: usize, c: &Chan) -> bool
+    ensures { result ≡ ready L.ops c.now.channel (place child.now (nodes belows.now) i) }
 {
-    c.home() == home.path() && is_ready(home, fork, c)
+    if i < belows.len() {
+        is_ready(child, &belows[i], c)
+    } else {
+        waits_at(child, c)
+    }
+}
+
+/// Whether the channel passes.
+pub(crate) fn is_passing<L: Local>(test: &Test<'_, L>, c: &Chan) -> bool
+    ensures { result ≡ passes L.ops test.now c.now.channel }
+{
+    match test {
+        Test::Meets(home, fork) => c.home() == home.path() && is_ready(*home, *fork, c),
+        Test::Poisons(l, children, belows, i, child) => {
+            is_ready_at(*child, *belows, *i, c)
+                && is_doomed(*children, *belows, *i, c, l.handlers())
+        }
+    }
 }
 
 // The channel, or the best until now if that is sooner.
@@ -85,20 +139,18 @@ fn sooner<'a>(c: &'a Chan, best: Option<&'a Chan>) -> &'a Chan
     }
 }
 
-// The best until now, or the channel at which some process stands, if this home meets on it and it
-// is sooner.
+// The best until now, or the channel at which some process stands, if that passes and is sooner.
 fn with_one<'a, L: Local>(
-    home: &L,
-    fork: &Below<L>,
+    test: &Test<'_, L>,
     c: Option<&'a Chan>,
     best: Option<&'a Chan>,
 ) -> Option<&'a Chan>
-    ensures { channel_in (option_copied result) ≡ least (meets_here L.ops (node home.now fork.now)) (channel_in (option_copied best.entry)) (as_list (option_copied c.entry)) }
+    ensures { channel_in (option_copied result) ≡ least (passes L.ops test.now) (channel_in (option_copied best.entry)) (as_list (option_copied c.entry)) }
 {
     match c {
         None => best,
         Some(d) => {
-            if meets_on(home, fork, d) {
+            if is_passing(test, d) {
                 Some(sooner(d, best))
             } else {
                 best
@@ -107,27 +159,26 @@ fn with_one<'a, L: Local>(
     }
 }
 
-// The first in order of the channels on which this home meets, of those at which live processes
-// stand at and below `l` and the best until now. One look at each of them suffices.
+// The first in order of the channels that pass, of those at which live processes stand at and below
+// `l`, and the best until now. One look at each of them suffices.
 fn least_below<'a, L: Local>(
     l: &'a L,
     below: &'a Below<L>,
-    home: &L,
-    fork: &Below<L>,
+    test: &Test<'_, L>,
     best: Option<&'a Chan>,
 ) -> Option<&'a Chan>
-    ensures { channel_in (option_copied result) ≡ least (meets_here L.ops (node home.now fork.now)) (channel_in (option_copied best.entry)) (waited L.ops (node l.now below.now)) }
+    ensures { channel_in (option_copied result) ≡ least (passes L.ops test.now) (channel_in (option_copied best.entry)) (waited L.ops (node l.now below.now)) }
 {
     match below {
-        Below::Live => with_one(home, fork, stands_at(l), best),
+        Below::Live => with_one(test, stands_at(l), best),
         Below::Ended | Below::Dead(_) => best,
         Below::Forked(children, belows) => {
             let mut found = best;
             for i in 0..children.len() {
                 if i < belows.len() {
-                    found = least_below(&children[i], &belows[i], home, fork, found);
+                    found = least_below(&children[i], &belows[i], test, found);
                 } else {
-                    found = with_one(home, fork, stands_at(&children[i]), found);
+                    found = with_one(test, stands_at(&children[i]), found);
                 }
             }
             found
@@ -135,10 +186,65 @@ fn least_below<'a, L: Local>(
     }
 }
 
+// The same of the child in this place, with nothing until now.
+fn least_at<'a, L: Local>(
+    child: &'a L,
+    belows: &'a [Below<L>],
+    i: usize,
+    test: &Test<'_, L>,
+) -> Option<&'a Chan>
+    ensures { channel_in (option_copied result) ≡ least (passes L.ops test.now) None (waited L.ops (place child.now (nodes belows.now) i)) }
+{
+    if i < belows.len() {
+        least_below(child, &belows[i], test, None)
+    } else {
+        with_one(test, stands_at(child), None)
+    }
+}
+
+// What a process that has forked can do first: its close, where all children are done, and else the
+// meeting of the first of the channels that it declared and on which it is ready.
+fn found_here<'a, L: Local>(
+    l: &'a L,
+    below: &'a Below<L>,
+    children: &'a [L],
+    belows: &'a [Below<L>],
+) -> Option<Found<'a>>
+    requires { node l.now below.now ≡ Forked l.now (together children.now (nodes belows.now)) }
+    ensures { option_map found_event result ≡ head (here L.ops (node l.now below.now)) }
+{
+    if are_done(children, belows) {
+        return Some(Found::Close(l.path()));
+    }
+    let test = Test::Meets(l, below);
+    match least_below(l, below, &test, None) {
+        Some(c) => Some(Found::Meet(c)),
+        None => None,
+    }
+}
+
+// The poison of the child in this place, on the first of the channels on which it is ready and
+// doomed.
+fn poison_of<'a, L: Local>(
+    l: &'a L,
+    children: &'a [L],
+    belows: &'a [Below<L>],
+    i: usize,
+    child: &'a L,
+) -> Option<Found<'a>>
+    ensures { option_map found_event result ≡ head (poisons_of L.ops l.now (together children.now (nodes belows.now)) i (place child.now (nodes belows.now) i)) }
+{
+    let test = Test::Poisons(l, children, belows, i, child);
+    match least_at(child, belows, i, &test) {
+        Some(c) => Some(Found::Poison(child.path(), c)),
+        None => None,
+    }
+}
+
 /// The first event of the walk from this process. It takes no memory.
 ///
-/// At a fork that is its close, where all children have ended, and else the meeting of the first of
-/// the channels that it declared and on which it is ready, and else the first event of a child.
+/// At a fork that is what the process there can do first, and else the first event of a child: its
+/// poison, or the first event of the walk from it.
 pub(crate) fn found_first<'a, L: Local>(l: &'a L, below: &'a Below<L>) -> Option<Found<'a>>
     ensures { option_map found_event result ≡ head (walk L.ops (node l.now below.now)) }
 {
@@ -146,17 +252,24 @@ pub(crate) fn found_first<'a, L: Local>(l: &'a L, below: &'a Below<L>) -> Option
         Below::Live => own_event(l),
         Below::Ended | Below::Dead(_) => None,
         Below::Forked(children, belows) => {
-            if have_ended(children.as_slice(), belows.as_slice()) {
-                return Some(Found::Close(l.path()));
-            }
-            if let Some(c) = least_below(l, below, l, below, None) {
-                return Some(Found::Meet(c));
+            let states = children.as_slice();
+            let came = belows.as_slice();
+            let at_fork = found_here(l, below, states, came);
+            let acts = at_fork.is_some();
+            if acts {
+                return at_fork;
             }
             for i in 0..children.len() {
+                let child = &children[i];
+                let poison = poison_of(l, states, came, i, child);
+                let poisoned = poison.is_some();
+                if poisoned {
+                    return poison;
+                }
                 let found = if i < belows.len() {
-                    found_first(&children[i], &belows[i])
+                    found_first(child, &belows[i])
                 } else {
-                    own_event(&children[i])
+                    own_event(child)
                 };
                 if found.is_some() {
                     return found;

@@ -1,38 +1,48 @@
 // A tree of processes.
-ghost use Rattle.std.specs.Prelude.{◌≡◌, ◌≢◌, ◌<◌, ◌≤◌, ◌+◌, ◌^◌, ◌↔◌, ◌⊎◌, Some, None, IfOk, OnOk, OnErr, IfSome};
-ghost use Rattle.std.specs.Option.{option_map};
+ghost use Rattle.std.specs.Prelude.{◌≡◌, ◌≢◌, ◌<◌, ◌≤◌, ◌+◌, ◌^◌, ◌↔◌, ◌⊎◌, true, Some, None, IfOk, OnOk, OnErr, IfSome, IsTrue, map};
+ghost use Rattle.std.specs.Option.{option_map, option_copied};
 ghost use Rattle.shim_tree.specs.Trees as trees;
-ghost use Rattle.shim_tree.specs.Trees.{after, steps, IsQuiescent, sum, own, other, met};
+ghost use Rattle.shim_tree.specs.Trees.{after, steps, IsQuiescent, sum, own, other, silently, poisons, met};
 ghost use Rattle.shim_tree.specs.Walks as walks;
 ghost use Rattle.shim_tree.specs.Endings as endings;
+ghost use Rattle.shim_tree.specs.Sound.{SharesItsOwn, IsSound};
+ghost use Rattle.shim_tree.specs.Listing.{AreEnabled};
 ghost use Rattle.shim_tree.specs.Below.{event_of};
 ghost use Rattle.shim_tree.specs.Nodes.{source, value_of};
-ghost use Rattle.shim_tree.specs.Acting.{acted_on, IsSilent};
+ghost use Rattle.shim_tree.specs.Places.{led_to, has_path};
+ghost use Rattle.shim_tree.specs.Acting.{acted_on};
+ghost use Rattle.shim_tree.specs.Quiets.{quiet_at, ComesBy, Advances};
+ghost use Rattle.shim_local.specs.declared.Outcome.TheVariants.{Spent};
 ghost use Rattle.std.specs.FinMap as finite;
 
-use crate::act::act_on;
+use crate::advance::swap_on;
 use crate::below::Below;
 use crate::counts::Counts;
+use crate::doing::do_alone;
 use crate::event::Event;
 use crate::histories::Histories;
-use crate::reading::{outcome_of, waits_of};
+use crate::listing;
+use crate::poison::poison_on;
+use crate::quiet::quiet_from;
+use crate::reading::{logs_by_path, outcome_of, waits_of};
 use crate::receive::{name_met, receive_at, value_met};
 use crate::seek::{found_first, is_quiescent};
 use shim_base::{Chan, List, NoMemory, Path};
-use shim_local::{Ended, Local};
+use shim_local::{Ended, Local, Log};
 use std::alloc::Global;
 use std::marker::Model;
 
 /// A tree of processes: the root with those below it, the bytes that were put, the values that the
-/// meetings on each channel gave, and how many events there were. Contracts see that, and its type
-/// keeps that each state is one that a process comes to, that each child's path and base are as its
-/// fork made them, and that the children of a fork are born of it.
+/// meetings on each channel gave, what was logged, how many steps of its own each process did, and how
+/// many events were no process's own. Contracts see that, and its type keeps that the tree is sound.
 #[derive(Drop)]
 pub struct Tree<L: Local> {
     pub(crate) root: L,
     pub(crate) below: Below<L>,
     pub(crate) output: Vec<u8>,
     pub(crate) histories: Histories,
+    /// In the order of the events.
+    pub(crate) logs: Vec<Log>,
     pub(crate) counts: Counts,
     pub(crate) events: u64,
 }
@@ -41,30 +51,48 @@ impl<L: Local> Model for Tree<L> {
     ghost use Rattle.shim_tree.specs.Trees as trees;
     ghost use Rattle.shim_tree.specs.Codes.{tree_code};
     ghost use Rattle.shim_tree.specs.Below.{node};
-    ghost use Rattle.shim_tree.specs.Places.{SoundBelow};
+    ghost use Rattle.shim_tree.specs.Sound.{IsSound};
+    ghost use Rattle.shim_tree.specs.Advancing.{stepped, AllHavePlaces};
+    ghost use Rattle.shim_tree.specs.Telling.{logged};
 
     ghost Value = { trees.Tree L };
 
     ghost coded = { tree_code L.code };
 
-    ghost view = { λ t. record { root = node t.root t.below; output = t.output.items; histories = t.histories; counts = t.counts; events = t.events } };
+    ghost view = { λ t. record { root = node t.root t.below; output = t.output.items; histories = t.histories; logs = logged t.logs.items; counts = stepped t.counts; events = t.events } };
 
-    ghost invariant = { λ t. SoundBelow L.ops (node t.root t.below) };
+    ghost invariant = { λ t. IsSound L.ops (node t.root t.below) × AllHavePlaces L.ops t.counts (node t.root t.below) };
 }
 
 impl<L: Local> Tree<L> {
     /// The tree of this one live process, to which nothing has happened.
     pub fn start(alloc: Global, root: L) -> Result<Tree<L>, NoMemory>
+        requires own { SharesItsOwn L.ops root }
         ensures tree { IfOk result (λ tree. tree ≡ trees.start root) }
         ensures fresh { IfOk result (λ tree. steps tree ≡ 0) }
     {
-        Ok(Tree::of_one(alloc, root))
+        let mut counts = Counts::new(alloc);
+        counts.place(root.path())?;
+        Ok(Tree {
+            root,
+            below: Below::Live,
+            output: Vec::new(alloc),
+            histories: Histories::new(alloc),
+            logs: Vec::new(alloc),
+            counts,
+            events: 0,
+        })
     }
 
-    /// The first enabled event of the walk from the root: at a process its own step, its end, or the
-    /// meeting of the channel at which it stands, if it declared that; at a fork its close, then the
-    /// meetings of the channels that the process declared, by serial, then the children from the left.
-    /// `None` exactly where no event is enabled.
+    /// All enabled events, in the order of the walk from the root.
+    pub fn enabled(&self) -> Result<List<Event>, NoMemory>
+        ensures walk { IfOk result (λ events. map event_of events ≡ walks.walk L.ops self.now.root) }
+        ensures exactly { IfOk result (λ events. AreEnabled L.ops self.now (map event_of events)) }
+    {
+        listing::enabled(*self.output.allocator(), &self.root, &self.below)
+    }
+
+    /// The first of them. `None` exactly where no event is enabled.
     pub fn first(&self) -> Result<Option<Event>, NoMemory>
         ensures first { IfOk result (λ event. option_map event_of event ≡ walks.first L.ops self.now) }
         ensures none { IfOk result (λ event. (event ≡ None) ↔ IsQuiescent L.ops self.now) }
@@ -90,27 +118,49 @@ impl<L: Local> Tree<L> {
         self.happen(event)
     }
 
-    /// What is read off a tree in which nothing can happen, or in which the budget's steps were taken.
-    /// Where something can still happen the outcome is `Spent`.
-    pub fn ended(&self, budget: u64) -> Result<Ended, NoMemory>
-        requires { ((steps self.now ≤ budget) × IsQuiescent L.ops self.now) ⊎ (steps self.now ≡ budget) }
-        ensures { IfOk result (λ ended. ended ≡ endings.ended L.ops self.now) }
+    /// Whether no event is enabled. It takes no memory. Its clauses tell, too, that the tree is sound,
+    /// which its type keeps.
+    pub fn quiescent(&self) -> bool
+        ensures rests { IsTrue result ↔ IsQuiescent L.ops self.now }
+        ensures sound { IsSound L.ops self.now.root }
     {
-        self.ended_of(is_quiescent(&self.root, &self.below))
+        is_quiescent(&self.root, &self.below)
     }
 
-    fn of_one(alloc: Global, root: L) -> Tree<L>
-        ensures { result ≡ trees.start root }
+    /// The live process that has this number, from 0, among those that stand before a quiet step, from
+    /// the root with leftmost children first. It takes no memory.
+    pub fn at_quiet(&self, at: usize) -> Option<&L>
+        ensures { option_copied result ≡ quiet_at L.ops at self.now }
     {
-        let _path = root.path(); // brings into the proof that its state is sound
-        Tree {
-            root,
-            below: Below::Live,
-            output: Vec::new(alloc),
-            histories: Histories::new(alloc),
-            counts: Counts::new(alloc),
-            events: 0,
-        }
+        quiet_from(&self.root, &self.below, at)
+    }
+
+    /// So many quiet steps of one process happen at once; this is its state after them. It takes no
+    /// memory.
+    pub fn advance(&mut self, last: L, steps: u64)
+        requires comes { ComesBy L.ops self.old steps last }
+        requires few { trees.steps self.old + steps ≤ 4000000 }
+        ensures { Advances L.ops (L.ops.path last) steps self.old self.new }
+    {
+        let mut state = last;
+        self.counts.add(state.path(), steps);
+        swap_on(&mut self.root, &mut self.below, &mut state);
+    }
+
+    /// The values that the meetings on the channel gave, if it had one. It takes no memory.
+    pub fn history(&self, c: &Chan) -> Option<&[i64]>
+        ensures { option_copied result ≡ endings.history_at c.now.channel self.now }
+    {
+        self.histories.get(c)
+    }
+
+    /// What is read off a tree in which nothing can happen, or in which the budget's steps were taken.
+    pub fn ended(&self, budget: u64) -> Result<Ended, NoMemory>
+        requires { ((steps self.now ≤ budget) × IsQuiescent L.ops self.now) ⊎ (steps self.now ≡ budget) }
+        ensures ended { IfOk result (λ ended. ended ≡ endings.ended L.ops self.now) }
+        ensures spent { IfOk result (λ ended. (ended.outcome ≡ Spent) ↔ (IsQuiescent L.ops self.now → ⊥)) }
+    {
+        self.ended_of(is_quiescent(&self.root, &self.below))
     }
 
     // What is read off a tree that is quiescent or not.
@@ -124,7 +174,7 @@ impl<L: Local> Tree<L> {
         Ok(Ended {
             output: List::from_slice(alloc, self.output.as_slice())?,
             histories: self.histories.list(alloc)?,
-            logs: List::new(alloc),
+            logs: logs_by_path(alloc, self.logs.as_slice())?,
             waits: waits_of(alloc, &self.root, &self.below, outcome)?,
             own: self.counts.list(alloc)?,
             events: self.events,
@@ -143,6 +193,7 @@ impl<L: Local> Tree<L> {
         match event {
             Event::Own(path) => self.step(path),
             Event::Meet(chan) => self.meet(chan),
+            Event::Poison(path, chan) => self.poison(path, chan),
             Event::Close(path) | Event::End(path) => self.change(path),
         }
     }
@@ -150,37 +201,38 @@ impl<L: Local> Tree<L> {
     // The process of this path does a step of its own.
     fn step(&mut self, path: &Path) -> Result<(), NoMemory>
         requires acts { acted_on L.ops path.now self.old.root ≢ None }
+        requires its { has_path L.ops path.now (led_to L.ops self.old.root path.now) ≡ true }
         requires few { sum (finite.values self.old.counts) < 4000000 }
         ensures ok { OnOk result (own path.now self.old (acted_on L.ops path.now self.old.root) ≡ Some self.new) }
         ensures err { OnErr result (self.new ≡ self.old) }
     {
-        // what may be refused comes first, since a step that is done can't be taken back
-        self.output.reserve(1)?;
-        let before = self.counts.get(path);
-        self.counts.add(path)?;
-        match act_on(&mut self.root, &mut self.below, path) {
-            Ok(byte) => {
-                if let Some(byte) = byte {
-                    self.output.push_reserved(byte);
-                }
-                Ok(())
-            }
-            Err(error) => {
-                self.counts.take_back(path, before);
-                Err(error)
-            }
-        }
+        do_alone(
+            &mut self.root,
+            &mut self.below,
+            &mut self.output,
+            &mut self.logs,
+            &mut self.counts,
+            path,
+        )?;
+        self.counts.add(path, 1);
+        Ok(())
     }
 
-    // The fork of the process of this path closes, or the process ends. It puts no byte.
+    // The fork of the process of this path closes, or the process ends.
     fn change(&mut self, path: &Path) -> Result<(), NoMemory>
         requires acts { acted_on L.ops path.now self.old.root ≢ None }
-        requires silent { IsSilent (acted_on L.ops path.now self.old.root) }
         requires few { self.old.events < 4000000 }
-        ensures ok { OnOk result (other self.old (acted_on L.ops path.now self.old.root) ≡ Some self.new) }
+        ensures ok { OnOk result (other path.now self.old (acted_on L.ops path.now self.old.root) ≡ Some self.new) }
         ensures err { OnErr result (self.new ≡ self.old) }
     {
-        act_on(&mut self.root, &mut self.below, path)?;
+        do_alone(
+            &mut self.root,
+            &mut self.below,
+            &mut self.output,
+            &mut self.logs,
+            &mut self.counts,
+            path,
+        )?;
         self.events += 1;
         Ok(())
     }
@@ -195,6 +247,18 @@ impl<L: Local> Tree<L> {
         let name = name_met(&self.root, &self.below, chan);
         self.histories.record(chan, name, value)?;
         receive_at(&mut self.root, &mut self.below, chan, value);
+        self.events += 1;
+        Ok(())
+    }
+
+    // The child of this path is poisoned on the channel.
+    fn poison(&mut self, path: &Path, chan: &Chan) -> Result<(), NoMemory>
+        requires enabled { poisons L.ops path.now chan.now.channel self.old.root ≢ None }
+        requires few { self.old.events < 4000000 }
+        ensures ok { OnOk result (silently self.old (poisons L.ops path.now chan.now.channel self.old.root) ≡ Some self.new) }
+        ensures err { OnErr result (self.new ≡ self.old) }
+    {
+        poison_on(&self.root, &mut self.below, path, chan)?;
         self.events += 1;
         Ok(())
     }

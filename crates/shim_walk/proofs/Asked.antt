@@ -1,22 +1,23 @@
 -- What the statement at a number asks for is what the state's next one does.
 use Rattle.std.proofs.Common.{◌≡◌, ℕ, ℤ, ◌||◌, List, Some, None, refl, sym, ap, ◌∙◌, ⊎_elim}
 use Rattle.std.proofs.lemmas.Bool.{cases_lt}
-use Rattle.shim_sharing.specs.declared.unit.UStmt.{UStmt}
-use Rattle.shim_sharing.specs.declared.unit.UWhat.{UWhat, UWhat-F, out-UWhat}
-use Rattle.shim_sharing.specs.LocalState.{LocalState, unit_at, is_full}
-use Rattle.shim_sharing.specs.Arguments.{arguments}
-use Rattle.shim_sharing.specs.Steps.{Enter, deed, within, is_deep, what_deed, deed_of, next_deed, line_of}
-use Rattle.shim_sharing.specs.LocalState.{Trapping}
-use Rattle.shim_sharing.specs.Stops.{Stop as StopOf, AtThrow, AtTrap, what_stop, item_stop, stop, stop_or, what_put, item_put, put_value, what_receive, item_receive, receive}
+use Rattle.shim_units.specs.declared.unit.UStmt.{UStmt}
+use Rattle.shim_units.specs.declared.unit.UWhat.{UWhat, UWhat-F, out-UWhat}
+use Rattle.shim_units.specs.LocalState.{LocalState, unit_at, is_full}
+use Rattle.shim_units.specs.Arguments.{arguments}
+use Rattle.shim_units.specs.Steps.{Enter, deed, within, is_deep, what_deed, deed_of, next_deed, line_of}
+use Rattle.shim_units.specs.LocalState.{Trapping}
+use Rattle.shim_units.specs.Stops.{Stop as StopOf, AtThrow, AtTrap, what_stop, item_stop, stop, stop_or, what_put, item_put, put_value, what_receive, item_receive, receive}
 use Rattle.shim_walk.specs.Receivers.{receives, receives_at, received}
 use Rattle.shim_walk.specs.Puts.{gives, gives_at}
 use Rattle.shim_walk.specs.StopViews.{stands, stands_at}
-use Rattle.shim_walk.specs.declared.ways.Choice.TheVariants.{On}
-use Rattle.shim_walk.specs.Ways.{size_all}
-use Rattle.shim_walk.specs.Pieces.{left_all, at_all}
+use Rattle.shim_frames.specs.declared.ways.Choice.TheVariants.{On}
+use Rattle.shim_frames.specs.Ways.{size_all}
+use Rattle.shim_frames.specs.Pieces.{left_all, at_all}
 use Rattle.shim_walk.specs.Asks.{asked, asked_at}
-use Rattle.shim_walk.specs.Lines.{line_at, have_of}
-use Rattle.shim_walk.proofs.Goes.{goes_at, ends, none_at}
+use Rattle.shim_frames.specs.Lines.{line_at}
+use Rattle.shim_walk.specs.Haves.{have_of}
+use Rattle.shim_frames.proofs.Goes.{goes_at, ends, none_at}
 use Rattle.shim_walk.proofs.Labelling.{label_is, labels_are}
 
 asked_is : (x : UWhat-F UWhat UStmt) (l : LocalState) → asked x (have_of l) ≡ what_deed x l.frame l

@@ -4,24 +4,24 @@ use Rattle.std.proofs.lemmas.Bool.{cases_lt}
 use Rattle.std.proofs.lemmas.List.{drop_all}
 use Rattle.shim_base.specs.declared.operators.Trap.{Trap}
 use Rattle.shim_base.specs.Paths.{Path, NamedChannel}
-use Rattle.shim_sharing.specs.declared.form.Form.{Form}
-use Rattle.shim_sharing.specs.declared.unit.UBranch.{UBranch}
-use Rattle.shim_sharing.specs.declared.unit.UStmt.{UStmt}
-use Rattle.shim_sharing.specs.Locations.{Locations}
-use Rattle.shim_sharing.specs.LocalState.{LocalState, unit_or, unit_at, handlers, label_of}
-use Rattle.shim_sharing.specs.Arguments.{Argument, on_value, arguments, numbers_from, passed_labels, branch_locations, channels_of, new_channels, empties, declared_slots}
-use Rattle.shim_sharing.specs.Forks.{root, child, lending, all_lending, children_from, all_arguments, parting, fork, item_branches, takes_input, takes_output, labels_from}
-use Rattle.shim_walk.specs.declared.ways.Choice.TheVariants.{On}
-use Rattle.shim_walk.specs.Activations.{Stand}
-use Rattle.shim_walk.specs.declared.left.Left.{Left}
-use Rattle.shim_walk.specs.Depths.{shown}
+use Rattle.shim_units.specs.declared.form.Form.{Form}
+use Rattle.shim_units.specs.declared.unit.UBranch.{UBranch}
+use Rattle.shim_units.specs.declared.unit.UStmt.{UStmt}
+use Rattle.shim_units.specs.Locations.{Locations}
+use Rattle.shim_units.specs.LocalState.{LocalState, unit_or, unit_at, handlers, label_of}
+use Rattle.shim_units.specs.Arguments.{Argument, on_value, arguments, numbers_from, passed_labels, branch_locations, channels_of, new_channels, empties, declared_slots}
+use Rattle.shim_units.specs.Forks.{root, child, lending, all_lending, children_from, all_arguments, parting, fork, item_branches, takes_input, takes_output, labels_from}
+use Rattle.shim_frames.specs.declared.ways.Choice.TheVariants.{On}
+use Rattle.shim_frames.specs.Activations.{Stand}
+use Rattle.shim_cells.specs.declared.left.Left.{Left}
+use Rattle.shim_frames.specs.Depths.{shown}
 use Rattle.shim_walk.specs.Entries.{enter_of}
 use Rattle.shim_walk.specs.States.{state_of}
-use Rattle.shim_walk.specs.Ways.{size_all}
-use Rattle.shim_walk.specs.Pieces.{left_all, at_all}
-use Rattle.shim_walk.specs.Lendings.{left_of}
+use Rattle.shim_frames.specs.Ways.{size_all}
+use Rattle.shim_frames.specs.Pieces.{left_all, at_all}
+use Rattle.shim_cells.specs.Lendings.{left_of}
 use Rattle.shim_walk.specs.Bred.{bred, behind, parted, branches_of}
-use Rattle.shim_walk.proofs.Goes.{goes_at, ends, none_at}
+use Rattle.shim_frames.proofs.Goes.{goes_at, ends, none_at}
 
 pub same_state : (l m : LocalState) → l.path ≡ m.path → l.base ≡ m.base → l.made ≡ m.made → l.forks ≡ m.forks → l.given ≡ m.given → l.frame ≡ m.frame → l.callers ≡ m.callers → l.locations ≡ m.locations
     → l.input_at ≡ m.input_at → l.holds_output ≡ m.holds_output → l.trap ≡ m.trap → l.program ≡ m.program → l.input ≡ m.input → l ≡ m

@@ -2,22 +2,22 @@
 use Rattle.std.proofs.Common.{◌≡◌, ℕ, ◌+◌, Bool, false, List, [], ◌∷◌, ◌++◌, map, length, Option, refl, sym, ap, subst, ◌∙◌, slice_get}
 use Rattle.std.proofs.lemmas.List.{length-map}
 use Rattle.shim_base.specs.Paths.{Path, NamedChannel}
-use Rattle.shim_sharing.specs.declared.form.Form.{Form}
-use Rattle.shim_sharing.specs.Locations.{Locations}
+use Rattle.shim_units.specs.declared.form.Form.{Form}
+use Rattle.shim_units.specs.Locations.{Locations}
 use Rattle.shim_walk.specs.declared.stuck.Stuck.{Stuck}
 use Rattle.shim_walk.specs.declared.entry.Entry.{Entry}
-use Rattle.shim_walk.specs.declared.front.Front.{Front}
+use Rattle.shim_frames.specs.declared.front.Front.{Front}
 use Rattle.shim_walk.specs.States.{state_of}
-use Rattle.shim_sharing.specs.declared.unit.Unit.{Unit as UnitOf}
-use Rattle.shim_sharing.specs.LocalState.{LocalState, Frame, unit_or, unit_at}
-use Rattle.shim_sharing.specs.Arguments.{Argument, call_slots, declared_slots}
-use Rattle.shim_sharing.specs.Ends.{settled}
-use Rattle.shim_sharing.specs.Steps.{called}
-use Rattle.shim_walk.specs.Activations.{Stand, place_of}
-use Rattle.shim_walk.specs.Depths.{shown, text, returned}
+use Rattle.shim_units.specs.declared.unit.Unit.{Unit as UnitOf}
+use Rattle.shim_units.specs.LocalState.{LocalState, Frame, unit_or, unit_at}
+use Rattle.shim_units.specs.Arguments.{Argument, call_slots, declared_slots}
+use Rattle.shim_units.specs.Ends.{settled}
+use Rattle.shim_units.specs.Steps.{called}
+use Rattle.shim_frames.specs.Activations.{Stand, place_of}
+use Rattle.shim_frames.specs.Depths.{shown, text, returned}
 use Rattle.shim_walk.specs.Entries.{enter_of, inside_of, IsEntry}
-use Rattle.shim_walk.proofs.Goes.{left_first}
-use Rattle.shim_walk.proofs.Returns.{settled_is, at_depth}
+use Rattle.shim_frames.proofs.Goes.{left_first}
+use Rattle.shim_frames.proofs.Returns.{settled_is, at_depth}
 
 pub entry_top : (units : List UnitOf) (unit floor outer : ℕ) (front : Front) (slots labels slots' labels' : List ℕ) (top : Stand)
     → top ≡ record { unit = unit; at = 0; front = front; halfway = false; slots = slots'; labels = labels'; floor = floor; outer = outer; places = [] }

@@ -3,15 +3,15 @@ use Rattle.std.proofs.Common.{◌≡◌, ℕ, ◌+◌, Bool, true, false, ◌||�
 use Rattle.shim_base.specs.declared.operators.Trap.{Trap}
 use Rattle.shim_base.specs.declared.operators.Trap.TheVariants.{Depth}
 use Rattle.shim_scopes.specs.declared.tree.UParam.{UParam}
-use Rattle.shim_sharing.specs.declared.unit.UBranch.{UBranch}
-use Rattle.shim_sharing.specs.declared.unit.Arg.{Arg}
-use Rattle.shim_sharing.specs.Locations.{Locations}
-use Rattle.shim_sharing.specs.LocalState.{LocalState, unit_or, unit_at, is_full, trapped}
-use Rattle.shim_sharing.specs.Steps.{line_of}
-use Rattle.shim_sharing.specs.Forks.{Parted, Trapped as TrappedParting, fork, all_lending, lending, takes_input, takes_output, parent, is_far, item_branches, lent, joined, all_back, input_back, output_back}
+use Rattle.shim_units.specs.declared.unit.UBranch.{UBranch}
+use Rattle.shim_units.specs.declared.unit.Arg.{Arg}
+use Rattle.shim_units.specs.Locations.{Locations}
+use Rattle.shim_units.specs.LocalState.{LocalState, unit_or, unit_at, is_full, trapped}
+use Rattle.shim_units.specs.Steps.{line_of}
+use Rattle.shim_units.specs.Forks.{Parted, Trapped as TrappedParting, fork, all_lending, lending, takes_input, takes_output, parent, is_far, item_branches, lent, joined, all_back, input_back, output_back}
 use Rattle.shim_walk.specs.declared.process.Offspring.TheVariants.{Children, Trapped}
-use Rattle.shim_walk.specs.declared.left.Left.{Left}
-use Rattle.shim_walk.specs.Lendings.{lent_at, left_of}
+use Rattle.shim_cells.specs.declared.left.Left.{Left}
+use Rattle.shim_cells.specs.Lendings.{lent_at, left_of}
 use Rattle.shim_walk.specs.Bred.{bred, parted}
 use Rattle.shim_walk.specs.Partings.{Comes}
 use Rattle.shim_walk.proofs.Births.{parts}

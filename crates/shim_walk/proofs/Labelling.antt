@@ -1,12 +1,12 @@
 -- The labels of exceptions are those of the definition.
 use Rattle.std.proofs.Common.{◌≡◌, ℕ, ◌+◌, List, [], ◌∷◌, map, refl, ap, ◌∙◌, if◌then◌else◌, nat_eq}
-use Rattle.shim_sharing.specs.declared.unit.UStmt.{UStmt}
-use Rattle.shim_sharing.specs.LocalState.{LocalState, ExceptionPlace, number_of, label_among, label_of}
-use Rattle.shim_sharing.specs.Arguments.{passed_labels}
-use Rattle.shim_walk.specs.declared.armed.Armed.{Armed}
-use Rattle.shim_walk.specs.Activations.{place_of}
+use Rattle.shim_units.specs.declared.unit.UStmt.{UStmt}
+use Rattle.shim_units.specs.LocalState.{LocalState, ExceptionPlace, number_of, label_among, label_of}
+use Rattle.shim_units.specs.Arguments.{passed_labels}
+use Rattle.shim_frames.specs.declared.armed.Armed.{Armed}
+use Rattle.shim_frames.specs.Activations.{place_of}
 use Rattle.shim_walk.specs.Asks.{label_by, label_for, labels_for}
-use Rattle.shim_walk.specs.Lines.{have_of, exceptions_in}
+use Rattle.shim_walk.specs.Haves.{have_of, exceptions_in}
 use Rattle.shim_walk.specs.Scenes.{exceptions_of}
 
 -- the exceptions are kept

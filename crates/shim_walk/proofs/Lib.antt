@@ -1,22 +1,11 @@
 -- The lemmas of this crate.
-pub mod Rolls
-pub mod Sound
-pub mod Goes
-pub mod Fronts
-pub mod Went
-pub mod Returns
-pub mod Given
 pub mod Labelling
 pub mod Asked
 pub mod Entering
-pub mod OneMore
-pub mod Lent
-pub mod Leaves
 pub mod Births
 pub mod Forking
 pub mod SamePlaces
 pub mod SameStates
 pub mod Standing
 pub mod Sounding
-pub mod Fitting
 pub mod Sends

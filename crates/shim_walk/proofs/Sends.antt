@@ -9,11 +9,11 @@ use Rattle.shim_base.specs.contracts.chan.Chan as Chan
 use Rattle.shim_base.specs.contracts.list.List as List
 use Rattle.shim_base.specs.contracts.path.Path as Path
 use Rattle.shim_base.specs.contracts.shared.Shared as Shared
-use Rattle.shim_sharing.proofs.Sends.{accepted_send, accepted_sync, list_send, list_sync}
-use Rattle.shim_sharing.specs.contracts.accepted.Accepted as Accepted
-use Rattle.shim_walk.proofs.activation.Activation.TheSendSync as activations
-use Rattle.shim_walk.proofs.callers.Callers.TheSendSync as callers
-use Rattle.shim_walk.proofs.cells.Cells.TheSendSync as cells
+use Rattle.shim_units.proofs.Sends.{accepted_send, accepted_sync, list_send, list_sync}
+use Rattle.shim_units.specs.contracts.accepted.Accepted as Accepted
+use Rattle.shim_frames.proofs.activation.Activation.TheSendSync as activations
+use Rattle.shim_frames.proofs.callers.Callers.TheSendSync as callers
+use Rattle.shim_cells.proofs.cells.Cells.TheSendSync as cells
 use Rattle.shim_walk.specs.contracts.process.Process as Process
 use Rattle.shim_walk.specs.contracts.process.Process.TheInside as inside
 use Rattle.shim_walk.specs.contracts.walk.Walk as Walk

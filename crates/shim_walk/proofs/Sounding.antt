@@ -5,16 +5,16 @@ use Rattle.shim_base.specs.Paths.{NamedChannel}
 use Rattle.shim_base.specs.declared.operators.Trap.{Trap}
 use Rattle.shim_local.specs.Laws.{AllOf, by_quiet, by_call, by_put, by_receive, by_unwind, by_fork, by_trap}
 use Rattle.shim_local.specs.Process as local
-use Rattle.shim_sharing.specs.LocalState.{LocalState, handlers, trapped}
-use Rattle.shim_sharing.specs.Steps.{line_of, quiet}
-use Rattle.shim_sharing.specs.Stops.{stop, put, receive}
-use Rattle.shim_sharing.specs.Unwinding.{unwind}
+use Rattle.shim_units.specs.LocalState.{LocalState, handlers, trapped}
+use Rattle.shim_units.specs.Steps.{line_of, quiet}
+use Rattle.shim_units.specs.Stops.{stop, put, receive}
+use Rattle.shim_units.specs.Unwinding.{unwind}
 use Rattle.shim_process.specs.Ops.{parts, stands}
 use Rattle.shim_process.specs.Sound.{Sound}
-use Rattle.shim_walk.specs.declared.left.Left.{Left}
+use Rattle.shim_cells.specs.declared.left.Left.{Left}
 use Rattle.shim_walk.specs.declared.process.Offspring.{Offspring}
 use Rattle.shim_walk.specs.declared.process.Offspring.TheVariants.{Children, Trapped}
-use Rattle.shim_walk.specs.Lendings.{left_of}
+use Rattle.shim_cells.specs.Lendings.{left_of}
 use Rattle.shim_walk.specs.Partings.{Comes}
 use Rattle.shim_walk.specs.WalkLaws.{walk_laws}
 

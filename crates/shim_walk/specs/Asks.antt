@@ -1,16 +1,16 @@
 -- What a statement asks for, from what a process has for it.
 use Rattle.std.specs.Prelude.{ℕ, ◌+◌, nat_eq, pos, Bool, ◌||◌, List, [], ◌∷◌, Option, Some, None, slice_get, if◌then◌else◌}
 use Rattle.shim_base.specs.Operators.{is_zero}
-use Rattle.shim_sharing.specs.declared.unit.Unit.{Unit as UnitOf}
-use Rattle.shim_sharing.specs.declared.unit.UCall.{UCall}
-use Rattle.shim_sharing.specs.declared.unit.UStmt.{UStmt}
-use Rattle.shim_sharing.specs.declared.unit.UWhat.{UWhat, UWhat-F, out-UWhat}
-use Rattle.shim_sharing.specs.Values.{value}
-use Rattle.shim_sharing.specs.Locations.{Locations}
-use Rattle.shim_sharing.specs.LocalState.{unit_or, number_of, env_of}
-use Rattle.shim_sharing.specs.Arguments.{arguments}
-use Rattle.shim_sharing.specs.Todo.{On, First, Second}
-use Rattle.shim_sharing.specs.Steps.{Deed, Go, Store, StoreFirst, Make, Read, Enter, Arm, Wait, deed, within, value_or, try_name}
+use Rattle.shim_units.specs.declared.unit.Unit.{Unit as UnitOf}
+use Rattle.shim_units.specs.declared.unit.UCall.{UCall}
+use Rattle.shim_units.specs.declared.unit.UStmt.{UStmt}
+use Rattle.shim_units.specs.declared.unit.UWhat.{UWhat, UWhat-F, out-UWhat}
+use Rattle.shim_units.specs.Values.{value}
+use Rattle.shim_units.specs.Locations.{Locations}
+use Rattle.shim_units.specs.LocalState.{unit_or, number_of, env_of}
+use Rattle.shim_units.specs.Arguments.{arguments}
+use Rattle.shim_units.specs.Todo.{On, First, Second}
+use Rattle.shim_units.specs.Steps.{Deed, Go, Store, StoreFirst, Make, Read, Enter, Arm, Wait, deed, within, value_or, try_name}
 
 pub record Have : Type 0 where
   pub cells : Locations

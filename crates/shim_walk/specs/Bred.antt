@@ -2,15 +2,15 @@
 use Rattle.std.specs.Prelude.{◌≡◌, ℕ, ◌+◌, ◌||◌, List, [], ◌∷◌, ◌++◌, Option, Some, None, Result, Ok, Err, if◌then◌else◌}
 use Rattle.shim_base.specs.declared.operators.Trap.{Trap}
 use Rattle.shim_base.specs.declared.operators.Trap.TheVariants.{Depth}
-use Rattle.shim_sharing.specs.declared.unit.UBranch.{UBranch}
-use Rattle.shim_sharing.specs.declared.unit.UStmt.{UStmt}
-use Rattle.shim_sharing.specs.declared.unit.UWhat.{out-UWhat}
-use Rattle.shim_sharing.specs.LocalState.{LocalState, unit_at, is_full, trapped}
-use Rattle.shim_sharing.specs.Arguments.{on_value, arguments}
-use Rattle.shim_sharing.specs.Steps.{line_of}
-use Rattle.shim_sharing.specs.Forks.{Parting, Parted, Trapped, child, lending, parent, is_far, what_branches}
-use Rattle.shim_walk.specs.declared.halt.Halt.{Halt}
-use Rattle.shim_walk.specs.declared.halt.Halt.TheVariants as halt
+use Rattle.shim_units.specs.declared.unit.UBranch.{UBranch}
+use Rattle.shim_units.specs.declared.unit.UStmt.{UStmt}
+use Rattle.shim_units.specs.declared.unit.UWhat.{out-UWhat}
+use Rattle.shim_units.specs.LocalState.{LocalState, unit_at, is_full, trapped}
+use Rattle.shim_units.specs.Arguments.{on_value, arguments}
+use Rattle.shim_units.specs.Steps.{line_of}
+use Rattle.shim_units.specs.Forks.{Parting, Parted, Trapped, child, lending, parent, is_far, what_branches}
+use Rattle.shim_cells.specs.declared.halt.Halt.{Halt}
+use Rattle.shim_cells.specs.declared.halt.Halt.TheVariants as halt
 
 -- The children of a process, of which the branches before have left the second state; the first child has this place.
 abbrev pub bred : LocalState → LocalState → ℕ → List UBranch → Result (List LocalState) Trap

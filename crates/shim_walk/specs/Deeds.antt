@@ -1,23 +1,10 @@
 -- What a statement asks for, as the definition of a process names it.
-use Rattle.std.specs.Prelude.{List, [], ◌∷◌}
-use Rattle.shim_sharing.specs.Arguments.{Argument as ArgumentOf}
-use Rattle.shim_sharing.specs.Arguments as arg
-use Rattle.shim_sharing.specs.Steps.{Deed as DeedOf}
-use Rattle.shim_sharing.specs.Steps as deed
-use Rattle.shim_walk.specs.declared.argument.Argument.{Argument}
-use Rattle.shim_walk.specs.declared.argument.Argument.TheVariants.{ByReference, ByCopy, ByValue}
+use Rattle.shim_units.specs.Steps.{Deed as DeedOf}
+use Rattle.shim_units.specs.Steps as deed
 use Rattle.shim_walk.specs.declared.deed.Deed.{Deed}
 use Rattle.shim_walk.specs.declared.deed.Deed.TheVariants.{Go, Store, StoreFirst, Make, Read, Enter, Arm, Stick, Wait}
-use Rattle.shim_walk.specs.Turns.{way_of}
-
-abbrev pub argument_of : Argument → ArgumentOf
-argument_of (ByReference n) = arg.ByReference n
-argument_of (ByCopy t n) = arg.ByCopy t n
-argument_of (ByValue t name v) = arg.ByValue t name v
-
-abbrev pub arguments_of : List Argument → List ArgumentOf
-arguments_of [] = []
-arguments_of (a ∷ rest) = argument_of a ∷ arguments_of rest
+use Rattle.shim_frames.specs.Turns.{way_of}
+use Rattle.shim_cells.specs.Given.{arguments_of}
 
 abbrev pub deed_of : Deed → DeedOf
 deed_of (Go choice) = deed.Go (way_of choice)

@@ -1,14 +1,14 @@
 -- What a call makes of a process, before ends that follow.
 use Rattle.std.specs.Prelude.{◌≡◌, ℕ, ◌+◌, false, List, [], ◌∷◌, ◌++◌, length, slice_get}
 use Rattle.shim_base.specs.Paths.{Path}
-use Rattle.shim_sharing.specs.declared.unit.Unit.{Unit as UnitOf}
-use Rattle.shim_sharing.specs.Locations.{Locations}
-use Rattle.shim_sharing.specs.Todo.{items_all}
-use Rattle.shim_sharing.specs.LocalState.{LocalState, Frame, unit_or}
-use Rattle.shim_sharing.specs.Arguments.{Argument, call_locations, call_slots, new_channels, declared_slots, empties}
+use Rattle.shim_units.specs.declared.unit.Unit.{Unit as UnitOf}
+use Rattle.shim_units.specs.Locations.{Locations}
+use Rattle.shim_units.specs.Todo.{items_all}
+use Rattle.shim_units.specs.LocalState.{LocalState, Frame, unit_or}
+use Rattle.shim_units.specs.Arguments.{Argument, call_locations, call_slots, new_channels, declared_slots, empties}
 use Rattle.shim_walk.specs.declared.entry.Entry.{Entry}
-use Rattle.shim_walk.specs.Depths.{shown}
-use Rattle.shim_walk.specs.Fronts.{Stands}
+use Rattle.shim_frames.specs.Depths.{shown}
+use Rattle.shim_frames.specs.Fronts.{Stands}
 
 -- a unit of these at its first statement
 abbrev pub enter_of : List UnitOf → ℕ → List ℕ → List ℕ → ℕ → ℕ → Frame

@@ -1,24 +1,13 @@
 -- The definitions of this crate, one module for each subject.
-pub mod Ways
-pub mod Pieces
-pub mod Turns
-pub mod Marks
-pub mod Cells
-pub mod Activations
-pub mod Depths
-pub mod Fronts
 pub mod States
 pub mod Deeds
-pub mod Halts
 pub mod Asks
 pub mod Scenes
-pub mod Lines
+pub mod Haves
 pub mod Entries
 pub mod StopViews
 pub mod WalkLaws
 pub mod Puts
 pub mod Receivers
-pub mod Leaving
-pub mod Lendings
 pub mod Bred
 pub mod Partings

@@ -1,9 +1,9 @@
 -- What a fork comes to.
 use Rattle.std.specs.Prelude.{◌≡◌, ◌+◌}
-use Rattle.shim_sharing.specs.LocalState.{LocalState, trapped}
-use Rattle.shim_sharing.specs.Forks.{Parted, Trapped as StandsTrapped, fork}
-use Rattle.shim_sharing.specs.Steps.{line_of}
-use Rattle.shim_walk.specs.Lendings.{left_of}
+use Rattle.shim_units.specs.LocalState.{LocalState, trapped}
+use Rattle.shim_units.specs.Forks.{Parted, Trapped as StandsTrapped, fork}
+use Rattle.shim_units.specs.Steps.{line_of}
+use Rattle.shim_cells.specs.Lendings.{left_of}
 use Rattle.shim_walk.specs.declared.process.Offspring.{Offspring}
 use Rattle.shim_walk.specs.declared.process.Offspring.TheVariants.{Children, Trapped}
 

@@ -1,9 +1,9 @@
 -- What a statement puts, and where it stores what a meeting gives.
 use Rattle.std.specs.Prelude.{pos, Option, Some, None, Ok}
-use Rattle.shim_sharing.specs.declared.unit.UStmt.{UStmt}
-use Rattle.shim_sharing.specs.declared.unit.UWhat.{UWhat, UWhat-F, out-UWhat}
-use Rattle.shim_sharing.specs.LocalState.{env_of}
-use Rattle.shim_sharing.specs.Values.{Value, value}
+use Rattle.shim_units.specs.declared.unit.UStmt.{UStmt}
+use Rattle.shim_units.specs.declared.unit.UWhat.{UWhat, UWhat-F, out-UWhat}
+use Rattle.shim_units.specs.LocalState.{env_of}
+use Rattle.shim_units.specs.Values.{Value, value}
 use Rattle.shim_walk.specs.Asks.{Have}
 
 abbrev pub gives : UWhat-F UWhat UStmt → Have → Value

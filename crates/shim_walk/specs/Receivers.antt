@@ -1,11 +1,11 @@
 -- Where the value of a meeting goes.
 use Rattle.std.specs.Prelude.{ℤ, Option, Some, None}
-use Rattle.shim_sharing.specs.declared.unit.UStmt.{UStmt}
-use Rattle.shim_sharing.specs.declared.unit.UWhat.{UWhat, UWhat-F, out-UWhat}
-use Rattle.shim_sharing.specs.Todo.{On}
-use Rattle.shim_sharing.specs.LocalState.{LocalState}
-use Rattle.shim_sharing.specs.Ends.{gone}
-use Rattle.shim_sharing.specs.Steps.{half, stored_in}
+use Rattle.shim_units.specs.declared.unit.UStmt.{UStmt}
+use Rattle.shim_units.specs.declared.unit.UWhat.{UWhat, UWhat-F, out-UWhat}
+use Rattle.shim_units.specs.Todo.{On}
+use Rattle.shim_units.specs.LocalState.{LocalState}
+use Rattle.shim_units.specs.Ends.{gone}
+use Rattle.shim_units.specs.Steps.{half, stored_in}
 use Rattle.shim_walk.specs.declared.receiver.Receiver.{Receiver}
 use Rattle.shim_walk.specs.declared.receiver.Receiver.TheVariants.{Whole, First, Nothing}
 

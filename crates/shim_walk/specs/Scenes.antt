@@ -1,6 +1,6 @@
 -- What a process has for a statement, as values.
 use Rattle.std.specs.Prelude.{ℕ, List, map}
-use Rattle.shim_walk.specs.declared.armed.Armed.{Armed}
+use Rattle.shim_frames.specs.declared.armed.Armed.{Armed}
 use Rattle.shim_walk.specs.declared.asks.Scene.{Scene}
 use Rattle.shim_walk.specs.Asks.{Have}
 

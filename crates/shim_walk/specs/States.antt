@@ -1,12 +1,12 @@
 -- The state of a process, from what is kept of it.
 use Rattle.std.specs.Prelude.{ℕ, Bool, List, map, Option, Some, None}
 use Rattle.shim_base.specs.Paths.{Path, NamedChannel}
-use Rattle.shim_sharing.specs.declared.form.Form.{Form}
-use Rattle.shim_sharing.specs.Locations.{Locations}
-use Rattle.shim_sharing.specs.LocalState.{LocalState, Trapping}
+use Rattle.shim_units.specs.declared.form.Form.{Form}
+use Rattle.shim_units.specs.Locations.{Locations}
+use Rattle.shim_units.specs.LocalState.{LocalState, Trapping}
 use Rattle.shim_walk.specs.declared.stuck.Stuck.{Stuck}
-use Rattle.shim_walk.specs.Activations.{Stand}
-use Rattle.shim_walk.specs.Depths.{shown}
+use Rattle.shim_frames.specs.Activations.{Stand}
+use Rattle.shim_frames.specs.Depths.{shown}
 
 abbrev pub trapping_of : Option Stuck → Option Trapping
 trapping_of None = None

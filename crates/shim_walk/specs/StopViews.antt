@@ -1,9 +1,9 @@
 -- At what a process stands, as the definition of a process names it.
 use Rattle.std.specs.Prelude.{ℕ, Option, Some, None, if◌then◌else◌}
-use Rattle.shim_sharing.specs.declared.unit.UStmt.{UStmt}
-use Rattle.shim_sharing.specs.declared.unit.UWhat.{UWhat, UWhat-F, out-UWhat}
-use Rattle.shim_sharing.specs.LocalState.{location_of}
-use Rattle.shim_sharing.specs.Stops.{Stop as StopOf, AtQuiet, AtNext, AtPut, AtFork, AtFinish, AtThrow, AtTrap, at_next, at_put, at_fork}
+use Rattle.shim_units.specs.declared.unit.UStmt.{UStmt}
+use Rattle.shim_units.specs.declared.unit.UWhat.{UWhat, UWhat-F, out-UWhat}
+use Rattle.shim_units.specs.LocalState.{location_of}
+use Rattle.shim_units.specs.Stops.{Stop as StopOf, AtQuiet, AtNext, AtPut, AtFork, AtFinish, AtThrow, AtTrap, at_next, at_put, at_fork}
 use Rattle.shim_local.specs.declared.local.Stop.{Stop}
 use Rattle.shim_local.specs.declared.local.Stop.TheVariants.{Quiet, Next, Put, Fork, Finish, Throw, Trapped}
 use Rattle.shim_walk.specs.Asks.{Have, label_for}

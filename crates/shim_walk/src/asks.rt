@@ -1,27 +1,27 @@
 // What the statement at which a process stands asks for.
 ghost use Rattle.std.specs.Prelude.{◌≡◌, ◌<◌, ◌+◌, ◌^◌, length, slice_get, IfOk, if◌then◌else◌};
-ghost use Rattle.shim_sharing.specs.declared.unit.UWhat.{out-UWhat};
-ghost use Rattle.shim_sharing.specs.LocalState.{unit_or, env_of};
-ghost use Rattle.shim_sharing.specs.Values.{value};
+ghost use Rattle.shim_units.specs.declared.unit.UWhat.{out-UWhat};
+ghost use Rattle.shim_units.specs.LocalState.{unit_or, env_of};
+ghost use Rattle.shim_units.specs.Values.{value};
 ghost use Rattle.std.specs.Option.{option_copied};
 ghost use Rattle.shim_walk.specs.Scenes.{have};
-ghost use Rattle.shim_sharing.specs.Steps as step;
+ghost use Rattle.shim_units.specs.Steps as step;
 ghost use Rattle.shim_walk.specs.Asks.{asked, asked_at, call_deed};
 ghost use Rattle.shim_walk.specs.Deeds.{deed_of};
 
-use crate::arguments::arguments;
-use crate::armed::Armed;
-use crate::cell::Cell;
-use crate::cells::{label_of, value_in};
 use crate::deed::Deed;
-use crate::halt::Halt;
 use crate::labels::labels_for;
 use crate::small::{assign, assign_first, declare, test, test_or};
-use crate::text::params_of;
-use crate::ways::Choice;
 use shim_base::{NoMemory, Trap};
+use shim_cells::arguments::arguments;
+use shim_cells::cell::Cell;
+use shim_cells::cells::value_in;
+use shim_cells::halt::Halt;
+use shim_frames::armed::Armed;
+use shim_frames::text::{label_of, params_of};
+use shim_frames::ways::Choice;
 use shim_scopes::UExpr;
-use shim_sharing::{UCall, UStmt, UWhat, Unit};
+use shim_units::{UCall, UStmt, UWhat, Unit};
 use std::alloc::Global;
 
 /// What a process has for a statement: its cells, and the slots and labels of its innermost unit.
@@ -44,7 +44,7 @@ pub struct Scene<'a> {
 }
 
 // The name of the `try` of an exception.
-#[tactic(auto, unfolding(shim_sharing::specs::LocalState::number_of))]
+#[tactic(auto, unfolding(shim_units::specs::LocalState::number_of))]
 fn try_name(units: &[Unit], unit: u32, exception: u32) -> u32
     ensures { result ≡ step.try_name (unit_or (slice_get units.now unit)) exception }
 {

@@ -1,28 +1,26 @@
 // What a new process begins with.
-ghost use Rattle.std.specs.Prelude.{◌≡◌, ◌+◌, slice_get, None, false, if◌then◌else◌, IfOk};
-ghost use Rattle.shim_sharing.specs.Arguments.{numbers_from};
-ghost use Rattle.shim_sharing.specs.Forks.{is_input, is_output, labels_from, takes_input, takes_output, what_branches};
-ghost use Rattle.shim_sharing.specs.LocalState.{unit_or};
+ghost use Rattle.std.specs.Prelude.{◌≡◌, ◌+◌, slice_get, IfOk};
+ghost use Rattle.shim_units.specs.Arguments.{numbers_from};
+ghost use Rattle.shim_units.specs.Forks.{labels_from, what_branches};
+ghost use Rattle.shim_units.specs.LocalState.{unit_or};
 ghost use Rattle.std.specs.Option.{option_copied};
-ghost use Rattle.shim_sharing.specs.declared.unit.UWhat.{out-UWhat};
+ghost use Rattle.shim_units.specs.declared.unit.UWhat.{out-UWhat};
 ghost use Rattle.shim_walk.specs.Bred.{branches_of};
-ghost use Rattle.shim_walk.specs.Depths.{AllFit, shown};
+ghost use Rattle.shim_frames.specs.Depths.{AllFit, shown};
 ghost use Rattle.shim_walk.specs.Entries.{enter_of};
-ghost use Rattle.shim_walk.specs.Fronts.{Stands};
+ghost use Rattle.shim_frames.specs.Fronts.{Stands};
 
-use crate::activation::Activation;
 use crate::count::one_more;
-use crate::front::front_of;
-use crate::slots::with_declared;
-use crate::text::{slots_of, text_of};
 use shim_base::{List, NoMemory};
-use shim_scopes::UParam;
-use shim_sharing::{UBranch, UStmt, UWhat, Unit};
-use shim_syntax::Sort;
+use shim_cells::slots::with_declared;
+use shim_frames::activation::Activation;
+use shim_frames::front::front_of;
+use shim_frames::text::{slots_of, text_of};
+use shim_units::{UBranch, UStmt, UWhat, Unit};
 use std::alloc::Global;
 
 /// A unit at its first statement, in a process that has none but it.
-#[tactic(auto, using(crate::proofs::Returns::text_fits))]
+#[tactic(auto, using(shim_frames::proofs::Returns::text_fits))]
 pub fn first_unit(
     alloc: Global,
     units: &[Unit],
@@ -50,62 +48,6 @@ pub fn labels_from(alloc: Global, first: u32, names: &[u32]) -> Result<List<u32>
         next = one_more(next)?;
     }
     Ok(labels)
-}
-
-fn is_input(sort: &Sort) -> bool
-    ensures { result ≡ is_input sort.now }
-{
-    match sort {
-        Sort::Input => true,
-        _ => false,
-    }
-}
-
-fn is_output(sort: &Sort) -> bool
-    ensures { result ≡ is_output sort.now }
-{
-    match sort {
-        Sort::Output => true,
-        _ => false,
-    }
-}
-
-/// Whether a unit with these parameters takes the input.
-pub fn takes_input(params: &[UParam]) -> bool
-    ensures { result ≡ takes_input params.now }
-{
-    for param in params {
-        if is_input(&param.sort) {
-            return true;
-        }
-    }
-    false
-}
-
-/// Whether a unit with these parameters takes the output.
-pub fn takes_output(params: &[UParam]) -> bool
-    ensures { result ≡ takes_output params.now }
-{
-    for param in params {
-        if is_output(&param.sort) {
-            return true;
-        }
-    }
-    false
-}
-
-/// Where a unit begins to read the input, of which so much is read, if it takes that.
-pub fn input_for(params: &[UParam], at: Option<usize>) -> Option<usize>
-    ensures { result ≡ if takes_input params.now then at else None }
-{
-    if takes_input(params) { at } else { None }
-}
-
-/// Whether a unit has the output, where its parent had it.
-pub fn output_for(params: &[UParam], held: bool) -> bool
-    ensures { result ≡ if takes_output params.now then held else false }
-{
-    if takes_output(params) { held } else { false }
 }
 
 /// The branches of the fork that a statement is.

@@ -1,7 +1,7 @@
 // What a statement asks for.
-use crate::argument::Argument;
-use crate::ways::Choice;
 use shim_base::{List, Trap, Ty};
+use shim_cells::argument::Argument;
+use shim_frames::ways::Choice;
 
 /// What a statement asks for, its expressions computed.
 #[derive(Drop)]

@@ -1,22 +1,22 @@
 // Returns to callers.
 ghost use Rattle.std.specs.Prelude.{◌≡◌, ◌≢◌, ◌≤◌, ◌-◌, [], ◌∷◌, List as ListOf, map, slice_get};
-ghost use Rattle.shim_sharing.specs.declared.unit.Unit.{Unit as UnitOf};
-ghost use Rattle.shim_sharing.specs.Unwinding.{handling};
-ghost use Rattle.shim_walk.specs.Leaving.{unwound_in};
-ghost use Rattle.shim_sharing.specs.Ends.{went};
-ghost use Rattle.shim_walk.specs.Turns.{way_of};
-ghost use Rattle.shim_walk.specs.Depths.{AllFit, depth_of, returned, shown, text};
-ghost use Rattle.shim_walk.specs.Fronts.{AllStand, Stands};
+ghost use Rattle.shim_units.specs.declared.unit.Unit.{Unit as UnitOf};
+ghost use Rattle.shim_units.specs.Unwinding.{handling};
+ghost use Rattle.shim_frames.specs.Leaving.{unwound_in};
+ghost use Rattle.shim_units.specs.Ends.{went};
+ghost use Rattle.shim_frames.specs.Turns.{way_of};
+ghost use Rattle.shim_frames.specs.Depths.{AllFit, depth_of, returned, shown, text};
+ghost use Rattle.shim_frames.specs.Fronts.{AllStand, Stands};
 
-use crate::activation::Activation;
-use crate::callers::Callers;
-use crate::cells::Cells;
-use crate::text::text_of;
-use crate::ways::Choice;
-use shim_sharing::Unit;
+use shim_cells::cells::Cells;
+use shim_frames::activation::Activation;
+use shim_frames::callers::Callers;
+use shim_frames::text::text_of;
+use shim_frames::ways::Choice;
+use shim_units::Unit;
 
 /// Past the ends of called units, whose cells go.
-#[tactic(auto, using(crate::proofs::Returns::stays_in, crate::proofs::Returns::ends_here, crate::proofs::Returns::comes_back, crate::proofs::Returns::text_fits))]
+#[tactic(auto, using(shim_frames::proofs::Returns::stays_in, shim_frames::proofs::Returns::ends_here, shim_frames::proofs::Returns::comes_back, shim_frames::proofs::Returns::text_fits))]
 pub fn settle(units: &[Unit], top: &mut Activation, callers: &mut Callers, cells: &mut Cells)
     requires fit { AllFit units.now }
     requires fronts { AllStand units.now (top.old ∷ callers.old) }
@@ -35,7 +35,7 @@ pub fn settle(units: &[Unit], top: &mut Activation, callers: &mut Callers, cells
 }
 
 /// On from a statement, with the ends that follow.
-#[tactic(auto, using(crate::proofs::Returns::text_fits))]
+#[tactic(auto, using(shim_frames::proofs::Returns::text_fits))]
 pub fn go_on(
     units: &[Unit],
     top: &mut Activation,
@@ -54,7 +54,7 @@ pub fn go_on(
 }
 
 // The innermost unit goes on with its handler of this place.
-#[tactic(auto, using(crate::proofs::Returns::text_fits))]
+#[tactic(auto, using(shim_frames::proofs::Returns::text_fits))]
 fn handle(units: &[Unit], top: &mut Activation, place: u32)
     requires fit { AllFit units.now }
     requires front { Stands units.now top.old }
@@ -67,7 +67,7 @@ fn handle(units: &[Unit], top: &mut Activation, place: u32)
 }
 
 // The units that were entered since a place came into force are left.
-#[tactic(auto, using(crate::proofs::Leaves::leaves_one))]
+#[tactic(auto, using(shim_frames::proofs::Leaves::leaves_one))]
 fn leave(top: &mut Activation, callers: &mut Callers, cells: &mut Cells, place: u32)
     ensures same { (units : ListOf UnitOf) → unwound_in (map (shown units) callers.new) (shown units top.new) place cells.new ≡ unwound_in (map (shown units) callers.old) (shown units top.old) place cells.old }
     ensures there { callers.new ≢ [] → top.new.outer ≤ place }
@@ -83,7 +83,7 @@ fn leave(top: &mut Activation, callers: &mut Callers, cells: &mut Cells, place: 
 }
 
 /// At the handler of an exception place, counted from the outermost of the process.
-#[tactic(auto, using(crate::proofs::Leaves::handles_here, crate::proofs::Leaves::handles_last))]
+#[tactic(auto, using(shim_frames::proofs::Leaves::handles_here, shim_frames::proofs::Leaves::handles_last))]
 pub fn unwind_to(
     units: &[Unit],
     top: &mut Activation,

@@ -1,19 +1,19 @@
 // What a call makes for the called unit.
 ghost use Rattle.std.specs.Prelude.{◌≡◌, ◌<◌, ◌^◌, IfOk};
 ghost use Rattle.std.specs.Arc.{arc_value};
-ghost use Rattle.shim_walk.specs.Deeds.{arguments_of};
-ghost use Rattle.shim_walk.specs.Depths.{AllFit};
+ghost use Rattle.shim_cells.specs.Given.{arguments_of};
+ghost use Rattle.shim_frames.specs.Depths.{AllFit};
 ghost use Rattle.shim_walk.specs.Entries.{IsEntry};
 
-use crate::activation::Activation;
-use crate::argument::Argument;
-use crate::cell::Cell;
-use crate::front::front_of;
-use crate::passing::{call_cells, with_empties};
-use crate::slots::call_slots;
-use crate::text::{declared_of, text_of};
 use shim_base::{List, NoMemory, Path};
-use shim_sharing::Unit;
+use shim_cells::argument::Argument;
+use shim_cells::cell::Cell;
+use shim_cells::passing::{call_cells, with_empties};
+use shim_cells::slots::call_slots;
+use shim_frames::activation::Activation;
+use shim_frames::front::front_of;
+use shim_frames::text::{declared_of, text_of};
+use shim_units::Unit;
 use std::alloc::Global;
 use std::sync::Arc;
 
@@ -26,7 +26,7 @@ pub struct Entry {
 }
 
 /// What is made for a call.
-#[tactic(auto, using(crate::proofs::Returns::text_fits))]
+#[tactic(auto, using(shim_frames::proofs::Returns::text_fits))]
 pub fn make_entry(
     alloc: Global,
     units: &[Unit],

@@ -4,8 +4,8 @@ ghost use Rattle.shim_walk.specs.Asks.{label_for, labels_for};
 ghost use Rattle.shim_walk.specs.Scenes.{have};
 
 use crate::asks::Scene;
-use crate::cells::label_of;
 use shim_base::{List, NoMemory};
+use shim_frames::text::label_of;
 use std::alloc::Global;
 
 /// That of an exception of the innermost unit: of its innermost place in force, or else the one that

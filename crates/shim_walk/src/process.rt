@@ -1,61 +1,63 @@
 // One process as a value.
 ghost use Rattle.std.specs.Prelude.{◌≡◌, ◌≢◌, ◌<◌, ◌≤◌, ◌↔◌, ◌+◌, ◌^◌, IsTrue, false, length, ℕ, ℤ, List as ListOf, IfOk, OnOk, OnErr};
 ghost use Rattle.std.specs.Option.{option_copied};
-ghost use Rattle.shim_sharing.specs.declared.unit.UStmt.{UStmt};
-ghost use Rattle.shim_sharing.specs.Ends.{gone, settled};
-ghost use Rattle.shim_sharing.specs.Forks.{all_back, all_lending, child, fork, input_back, is_far, item_branches, join, joined, lending, output_back, root, some_or};
-ghost use Rattle.shim_sharing.specs.Arguments.{arguments};
-ghost use Rattle.shim_sharing.specs.LocalState.{handlers, is_full, trapped, unit_at};
-ghost use Rattle.shim_sharing.specs.Steps.{armed, called, done, half, is_deep, line_of, made_in, next_deed, quiet, read_in, stored_in};
-ghost use Rattle.shim_sharing.specs.Stops.{AtQuiet, byte, put, put_value, receive, stop};
-ghost use Rattle.shim_sharing.specs.Sharers.{carries, given_at, handler, shares, value_of};
-ghost use Rattle.shim_sharing.specs.Unwinding.{unwind};
+ghost use Rattle.shim_units.specs.declared.unit.UStmt.{UStmt};
+ghost use Rattle.shim_units.specs.Ends.{gone, settled};
+ghost use Rattle.shim_units.specs.Forks.{all_back, all_lending, child, fork, input_back, is_far, item_branches, join, joined, lending, output_back, root, some_or};
+ghost use Rattle.shim_units.specs.Arguments.{arguments};
+ghost use Rattle.shim_units.specs.LocalState.{handlers, is_full, trapped, unit_at};
+ghost use Rattle.shim_units.specs.Steps.{armed, called, done, half, is_deep, line_of, made_in, next_deed, quiet, read_in, stored_in};
+ghost use Rattle.shim_units.specs.Stops.{AtQuiet, byte, put, put_value, receive, stop};
+ghost use Rattle.shim_units.specs.Sharers.{carries, given_at, handler, shares, value_of};
+ghost use Rattle.shim_units.specs.Unwinding.{unwind};
 ghost use Rattle.shim_walk.specs.Receivers.{received};
 ghost use Rattle.shim_walk.specs.Bred.{Breeds, bred};
-ghost use Rattle.shim_walk.specs.Deeds.{arguments_of, deed_of};
+ghost use Rattle.shim_cells.specs.Given.{arguments_of};
+ghost use Rattle.shim_walk.specs.Deeds.{deed_of};
 ghost use Rattle.shim_walk.specs.Entries.{inside_of};
-ghost use Rattle.shim_walk.specs.Halts.{Gives};
-ghost use Rattle.shim_walk.specs.Lendings.{left_of};
-ghost use Rattle.shim_walk.specs.Lines.{have_of};
+ghost use Rattle.shim_cells.specs.Halts.{Gives};
+ghost use Rattle.shim_cells.specs.Lendings.{left_of};
+ghost use Rattle.shim_walk.specs.Haves.{have_of};
 ghost use Rattle.shim_walk.specs.Partings.{Comes};
-ghost use Rattle.shim_walk.specs.Pieces.{at_all, left_all};
+ghost use Rattle.shim_frames.specs.Pieces.{at_all, left_all};
 ghost use Rattle.shim_walk.specs.Scenes.{have};
 ghost use Rattle.shim_walk.specs.StopViews.{stop_view};
-ghost use Rattle.shim_walk.specs.Turns.{way_of};
+ghost use Rattle.shim_frames.specs.Turns.{way_of};
 
-use crate::activation::Activation;
-use crate::argument::Argument;
-use crate::arguments::arguments;
-use crate::armed::named;
 use crate::asks::{Scene, asks};
-use crate::birth::{branches_of, first_unit, input_for, labels_from, output_for, takes_output};
-use crate::callers::{Callers, armed_in};
-use crate::cell::Cell;
-use crate::cells::{Cells, number_of};
+use crate::birth::{branches_of, first_unit, labels_from};
 use crate::count::one_more;
 use crate::deed::Deed;
 use crate::depth::{go_on, settle, unwind_to};
 use crate::entry::{Entry, make_entry};
-use crate::halt::Halt;
 use crate::input::{next_byte, read_on};
 use crate::labels::labels_for;
-use crate::left::{Left, take};
-use crate::passing::{branch_cells, channels_of, copy_channels, fresh, with_empties};
 use crate::put::{gives_at, low_bits};
 use crate::receiver::{Receiver, receiver_at};
-use crate::same::{Same, same_all};
+use crate::same_cells::same_cells;
 use crate::same_frames::{same_callers, same_frame};
-use crate::same_program::same_program;
 use crate::same_stands::{same_input, same_trap};
-use crate::sharers::{declared, is_among, own_of};
 use crate::stop::{stop_at, trapped};
 use crate::stuck::Stuck;
-use crate::text::{declared_of, line_of, params_of, slot_name, slots_of, stmt_in};
 use crate::walk::Walk;
-use crate::ways::Choice;
 use shim_base::{Chan, List, NoMemory, Path, Shared, Trap, Ty};
+use shim_cells::argument::Argument;
+use shim_cells::arguments::arguments;
+use shim_cells::cell::Cell;
+use shim_cells::cells::{Cells, number_of};
+use shim_cells::halt::Halt;
+use shim_cells::left::{Left, take};
+use shim_cells::passing::{branch_cells, channels_of, copy_channels, fresh, with_empties};
+use shim_cells::sharers::{declared, is_among, own_of};
+use shim_cells::streams::{input_for, output_for, takes_output};
+use shim_frames::activation::Activation;
+use shim_frames::armed::named;
+use shim_frames::callers::{Callers, armed_in};
+use shim_frames::text::{declared_of, line_of, params_of, slot_name, slots_of, stmt_in};
+use shim_frames::ways::Choice;
 use shim_local::Stop;
-use shim_sharing::{Accepted, UBranch, UStmt};
+use shim_same::{Same, same_all, same_program};
+use shim_units::{Accepted, UBranch, UStmt};
 use std::alloc::Global;
 use std::marker::Model;
 use std::mem::replace;
@@ -92,17 +94,17 @@ impl Model for Process {
     ghost use Rattle.std.specs.Prelude.{◌<◌, ◌^◌, ◌∷◌};
     ghost use Rattle.std.specs.Arc.{arc_value};
     ghost use Rattle.std.specs.Coded.{codes};
-    ghost use Rattle.shim_sharing.specs.LocalState.{LocalState};
-    ghost use Rattle.shim_sharing.specs.contracts.unit.Unit as unit;
-    ghost use Rattle.shim_sharing.specs.contracts.unit.UWhat as what;
+    ghost use Rattle.shim_units.specs.LocalState.{LocalState};
+    ghost use Rattle.shim_units.specs.contracts.unit.Unit as unit;
+    ghost use Rattle.shim_units.specs.contracts.unit.UWhat as what;
 
     ghost Value = { LocalState };
 
     ghost coded = { Prim.hlevel (codes, unit.the_row.coded, what.the_row.coded) };
 
     ghost use Rattle.shim_walk.specs.States.{state_of};
-    ghost use Rattle.shim_walk.specs.Depths.{AllFit};
-    ghost use Rattle.shim_walk.specs.Fronts.{AllStand};
+    ghost use Rattle.shim_frames.specs.Depths.{AllFit};
+    ghost use Rattle.shim_frames.specs.Fronts.{AllStand};
 
     ghost view = { λ p. state_of (arc_value p.home) p.base p.made p.forks p.given p.top p.callers p.cells p.input_at p.holds_output p.trap p.program p.input };
 
@@ -111,7 +113,7 @@ impl Model for Process {
 
 impl Process {
     /// The process that runs `main`.
-    #[tactic(auto, using(crate::proofs::Fitting::all_fit))]
+    #[tactic(auto, using(shim_frames::proofs::Fitting::all_fit))]
     pub fn main(
         alloc: Global,
         program: Shared<Accepted>,
@@ -241,7 +243,7 @@ impl Process {
     }
 
     // The slot's cell is on a new channel. A refusal changes nothing.
-    #[tactic(auto, unfolding(shim_sharing::specs::LocalState::unit_at))]
+    #[tactic(auto, unfolding(shim_units::specs::LocalState::unit_at))]
     fn make(&mut self, ty: Ty, slot: u32, value: i64) -> Result<(), NoMemory>
         ensures ok { OnOk result (self.new ≡ made_in ty slot value self.old) }
         ensures err { OnErr result (self.new ≡ self.old) }
@@ -355,7 +357,7 @@ impl Process {
     }
 
     /// One quiet step. A refusal changes nothing.
-    #[tactic(auto, unfolding(shim_sharing::specs::Steps::quiet))]
+    #[tactic(auto, unfolding(shim_units::specs::Steps::quiet))]
     pub fn step(&mut self) -> Result<(), NoMemory>
         ensures ok { OnOk result (self.new ≡ quiet self.old) }
         ensures err { OnErr result (self.new ≡ self.old) }
@@ -383,7 +385,7 @@ impl Process {
 
     /// The byte of the `put` at which it stands, which is then done. `None` exactly where the expression
     /// traps, and then it stands trapped.
-    #[tactic(auto, unfolding(shim_sharing::specs::Stops::put, shim_sharing::specs::Stops::byte))]
+    #[tactic(auto, unfolding(shim_units::specs::Stops::put, shim_units::specs::Stops::byte))]
     pub fn put(&mut self) -> Option<u8>
         ensures byte { result ≡ byte self.old }
         ensures after { self.new ≡ put self.old }
@@ -453,7 +455,7 @@ impl Process {
     }
 
     /// Whether an argument gave it the channel, or it declared it.
-    #[tactic(auto, unfolding(shim_sharing::specs::Sharers::shares))]
+    #[tactic(auto, unfolding(shim_units::specs::Sharers::shares))]
     pub fn shares(&self, c: &Chan) -> bool
         ensures { result ≡ shares self.now c.now.channel }
     {
@@ -461,7 +463,7 @@ impl Process {
     }
 
     /// Whether the channel's own variable is one of its own.
-    #[tactic(auto, unfolding(shim_sharing::specs::Sharers::carries))]
+    #[tactic(auto, unfolding(shim_units::specs::Sharers::carries))]
     pub fn carries(&self, c: &Chan) -> bool
         ensures { result ≡ carries self.now c.now.channel }
     {
@@ -469,7 +471,7 @@ impl Process {
     }
 
     /// The value of the channel's own variable, where it carries that.
-    #[tactic(auto, unfolding(shim_sharing::specs::Sharers::value_of))]
+    #[tactic(auto, unfolding(shim_units::specs::Sharers::value_of))]
     pub fn value(&self, c: &Chan) -> i64
         ensures { result ≡ value_of self.now c.now.channel }
     {
@@ -681,7 +683,7 @@ impl Process {
 
     /// Takes back the values of the children of its last fork, given in order. It then stands behind
     /// the fork, where `goes_on`, and else still at it.
-    #[tactic(auto, unfolding(shim_sharing::specs::Forks::join))]
+    #[tactic(auto, unfolding(shim_units::specs::Forks::join))]
     pub fn join(&mut self, children: &[Walk], goes_on: bool)
         ensures { self.new ≡ join self.old children.now goes_on }
     {
@@ -745,7 +747,7 @@ impl Process {
     fn same_keeping(&self, other: &Process) -> bool
         ensures { IsTrue result ↔ ((self.now.locations ≡ other.now.locations) × (self.now.input_at ≡ other.now.input_at) × (self.now.holds_output ≡ other.now.holds_output) × (self.now.trap ≡ other.now.trap)) }
     {
-        same_all(self.cells.as_slice(), other.cells.as_slice())
+        same_cells(self.cells.as_slice(), other.cells.as_slice())
             && same_input(self.input_at, other.input_at)
             && self.holds_output == other.holds_output
             && same_trap(self.trap, other.trap)

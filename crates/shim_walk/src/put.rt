@@ -1,15 +1,15 @@
 // What a `put` gives.
 ghost use Rattle.std.specs.Prelude.{◌≡◌, Ok, Some};
 ghost use Rattle.std.specs.Option.{option_copied};
-ghost use Rattle.shim_sharing.specs.declared.unit.UWhat.{out-UWhat};
-ghost use Rattle.shim_sharing.specs.Stops.{low_bits};
+ghost use Rattle.shim_units.specs.declared.unit.UWhat.{out-UWhat};
+ghost use Rattle.shim_units.specs.Stops.{low_bits};
 ghost use Rattle.shim_walk.specs.Puts.{gives, gives_at};
 ghost use Rattle.shim_walk.specs.Scenes.{have};
 
 use crate::asks::Scene;
-use crate::value::value_of;
 use shim_base::Trap;
-use shim_sharing::{UStmt, UWhat};
+use shim_cells::value::value_of;
+use shim_units::{UStmt, UWhat};
 
 fn what_gives(stmt: &UStmt, scene: &Scene<'_>) -> Result<i64, Trap>
     ensures { result ≡ gives (out-UWhat stmt.now.what) (have scene.now) }

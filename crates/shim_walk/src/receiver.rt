@@ -1,10 +1,10 @@
 // Where the value of a meeting goes.
 ghost use Rattle.std.specs.Prelude.{◌≡◌};
 ghost use Rattle.std.specs.Option.{option_copied};
-ghost use Rattle.shim_sharing.specs.declared.unit.UWhat.{out-UWhat};
+ghost use Rattle.shim_units.specs.declared.unit.UWhat.{out-UWhat};
 ghost use Rattle.shim_walk.specs.Receivers.{receives, receives_at};
 
-use shim_sharing::{UStmt, UWhat};
+use shim_units::{UStmt, UWhat};
 
 /// The slot in which a statement stores what its meeting gives.
 #[derive(Clone, Copy, Debug, PartialEq, Eq)]

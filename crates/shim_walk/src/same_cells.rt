@@ -1,31 +1,10 @@
-// When two cells, or two channels, are the same.
+// When two lists of cells are the same.
 ghost use Rattle.std.specs.Prelude.{◌≡◌, ◌↔◌, IsTrue};
-ghost use Rattle.shim_walk.specs.Marks.{mark_of};
+ghost use Rattle.shim_cells.specs.Marks.{mark_of};
 
-use crate::cell::Cell;
-use crate::mark::Mark;
-use crate::same::{Same, same_all};
-use shim_base::{Chan, Path};
-
-impl Same for (u32, u32) {
-    fn same(&self, other: &(u32, u32)) -> bool {
-        self.0 == other.0 && self.1 == other.1
-    }
-}
-
-impl Same for Path {
-    fn same(&self, other: &Path) -> bool {
-        same_all(self.pairs(), other.pairs())
-    }
-}
-
-impl Same for Chan {
-    fn same(&self, other: &Chan) -> bool {
-        self.home().same(other.home())
-            && self.serial() == other.serial()
-            && self.name() == other.name()
-    }
-}
+use shim_cells::cell::Cell;
+use shim_cells::mark::Mark;
+use shim_same::Same;
 
 fn same_mark(one: Mark, other: Mark) -> bool
     ensures { IsTrue result ↔ (mark_of one ≡ mark_of other) }
@@ -33,21 +12,39 @@ fn same_mark(one: Mark, other: Mark) -> bool
     one == other
 }
 
-impl Same for Cell {
-    fn same(&self, other: &Cell) -> bool {
-        self.ty() == other.ty()
-            && self.value() == other.value()
-            && same_mark(self.mark(), other.mark())
-            && self.chan().same(other.chan())
+fn same_cell(one: &Cell, other: &Cell) -> bool
+    ensures { IsTrue result ↔ (one.now ≡ other.now) }
+{
+    one.ty() == other.ty()
+        && one.value() == other.value()
+        && same_mark(one.mark(), other.mark())
+        && one.chan().same(other.chan())
+}
+
+// Whether both are empty, or they are the same.
+fn same_option(one: &Option<Cell>, other: &Option<Cell>) -> bool
+    ensures { IsTrue result ↔ (one.now ≡ other.now) }
+{
+    match (one, other) {
+        (None, None) => true,
+        (Some(cell), Some(other)) => same_cell(cell, other),
+        _ => false,
     }
 }
 
-impl Same for Option<Cell> {
-    fn same(&self, other: &Option<Cell>) -> bool {
-        match (self, other) {
-            (None, None) => true,
-            (Some(cell), Some(other)) => cell.same(other),
-            _ => false,
+/// Whether they are the same, one by one.
+pub fn same_cells(one: &[Option<Cell>], other: &[Option<Cell>]) -> bool
+    ensures { IsTrue result ↔ (one.now ≡ other.now) }
+{
+    let mut left = other;
+    for cell in one {
+        let Some((first, rest)) = left.split_first() else {
+            return false;
+        };
+        if !same_option(cell, first) {
+            return false;
         }
+        left = rest;
     }
+    left.is_empty()
 }

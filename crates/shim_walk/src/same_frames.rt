@@ -1,17 +1,17 @@
 // When two units that processes are in are the same.
 ghost use Rattle.std.specs.Prelude.{◌≡◌, ◌↔◌, ◌<◌, ◌^◌, map, IsTrue};
-ghost use Rattle.shim_walk.specs.Activations.{place_of};
-ghost use Rattle.shim_walk.specs.Depths.{AllFit, shown};
-ghost use Rattle.shim_walk.specs.Pieces.{left_all};
-ghost use Rattle.shim_walk.specs.Ways.{size_all};
+ghost use Rattle.shim_frames.specs.Activations.{place_of};
+ghost use Rattle.shim_frames.specs.Depths.{AllFit, shown};
+ghost use Rattle.shim_frames.specs.Pieces.{left_all};
+ghost use Rattle.shim_frames.specs.Ways.{size_all};
 
-use crate::activation::Activation;
-use crate::armed::Armed;
-use crate::callers::Callers;
-use crate::same::same_all;
-use crate::text::text_of;
-use crate::ways::size_all;
-use shim_sharing::{UStmt, Unit};
+use shim_frames::activation::Activation;
+use shim_frames::armed::Armed;
+use shim_frames::callers::Callers;
+use shim_frames::text::text_of;
+use shim_frames::ways::size_all;
+use shim_same::same_all;
+use shim_units::{UStmt, Unit};
 
 // Whether the same is left to do from two numbers of a text: nothing is from each behind its last.
 #[tactic(auto, using(crate::proofs::SamePlaces::both_behind, crate::proofs::SamePlaces::same_left))]
@@ -66,7 +66,7 @@ fn same_holdings(one: &Activation, other: &Activation) -> bool
 }
 
 /// Whether they are the same in a program of these units.
-#[tactic(auto, using(crate::proofs::Returns::text_fits))]
+#[tactic(auto, using(shim_frames::proofs::Returns::text_fits))]
 pub fn same_frame(units: &[Unit], one: &Activation, other: &Activation) -> bool
     requires { AllFit units.now }
     ensures { IsTrue result ↔ (shown units.now one.now ≡ shown units.now other.now) }

@@ -1,18 +1,18 @@
 // The deeds of statements that concern variables alone.
 ghost use Rattle.std.specs.Prelude.{◌≡◌, pos, if◌then◌else◌};
 ghost use Rattle.shim_base.specs.Operators.{is_zero};
-ghost use Rattle.shim_sharing.specs.LocalState.{env_of};
-ghost use Rattle.shim_sharing.specs.Steps as step;
-ghost use Rattle.shim_sharing.specs.Todo as todo;
-ghost use Rattle.shim_sharing.specs.Values.{value};
+ghost use Rattle.shim_units.specs.LocalState.{env_of};
+ghost use Rattle.shim_units.specs.Steps as step;
+ghost use Rattle.shim_units.specs.Todo as todo;
+ghost use Rattle.shim_units.specs.Values.{value};
 ghost use Rattle.shim_walk.specs.Deeds.{deed_of};
-ghost use Rattle.shim_walk.specs.Turns.{way_of};
+ghost use Rattle.shim_frames.specs.Turns.{way_of};
 
-use crate::cell::Cell;
 use crate::deed::Deed;
-use crate::value::value_of;
-use crate::ways::Choice;
 use shim_base::{Trap, Ty};
+use shim_cells::cell::Cell;
+use shim_cells::value::value_of;
+use shim_frames::ways::Choice;
 use shim_scopes::UExpr;
 
 /// A declaration; an absent start is 0.

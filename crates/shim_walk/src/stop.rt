@@ -1,17 +1,17 @@
 // At what a process stands.
 ghost use Rattle.std.specs.Prelude.{◌≡◌, ◌<◌, ◌+◌, ◌^◌, length, if◌then◌else◌};
 ghost use Rattle.std.specs.Option.{option_copied};
-ghost use Rattle.shim_sharing.specs.declared.unit.UWhat.{out-UWhat};
-ghost use Rattle.shim_sharing.specs.Stops as stops;
+ghost use Rattle.shim_units.specs.declared.unit.UWhat.{out-UWhat};
+ghost use Rattle.shim_units.specs.Stops as stops;
 ghost use Rattle.shim_walk.specs.Scenes.{have};
 ghost use Rattle.shim_walk.specs.StopViews.{next_of, stands, stands_at, stop_view};
 
 use crate::asks::Scene;
-use crate::cells::{cell_at, number_of};
 use crate::labels::label_for;
 use crate::stuck::Stuck;
+use shim_cells::cells::{cell_at, number_of};
 use shim_local::Stop;
-use shim_sharing::{UBranch, UStmt, UWhat};
+use shim_units::{UBranch, UStmt, UWhat};
 
 // At a `next` of a variable.
 fn next_of<'a>(scene: &Scene<'a>, slot: u32) -> Stop<'a>

@@ -1,6 +1,6 @@
 // One process as a value.
 ghost use Rattle.std.specs.Prelude.{◌≡◌, ◌≢◌, ◌≤◌, ◌<◌, ◌↔◌, IsTrue, IfOk, OnOk, OnErr, false};
-ghost use Rattle.shim_sharing.specs.Forks.{root};
+ghost use Rattle.shim_units.specs.Forks.{root};
 ghost use Rattle.shim_local.specs.Laws.{AllOf};
 ghost use Rattle.shim_local.specs.Process.{AtQuiet};
 ghost use Rattle.shim_process.specs.Ops.{process_ops};
@@ -9,7 +9,7 @@ ghost use Rattle.shim_process.specs.Sound.{Sound};
 use crate::process::{Offspring, Process};
 use shim_base::{Chan, List, NoMemory, Path, Shared};
 use shim_local::{Forked, Local, Quiet, Stop};
-use shim_sharing::Accepted;
+use shim_units::Accepted;
 use std::alloc::Global;
 use std::marker::Model;
 
@@ -22,9 +22,9 @@ pub struct Walk {
 
 impl Model for Walk {
     ghost use Rattle.std.specs.Coded.{codes};
-    ghost use Rattle.shim_sharing.specs.LocalState.{LocalState};
-    ghost use Rattle.shim_sharing.specs.contracts.unit.Unit as unit;
-    ghost use Rattle.shim_sharing.specs.contracts.unit.UWhat as what;
+    ghost use Rattle.shim_units.specs.LocalState.{LocalState};
+    ghost use Rattle.shim_units.specs.contracts.unit.Unit as unit;
+    ghost use Rattle.shim_units.specs.contracts.unit.UWhat as what;
     ghost use Rattle.shim_process.specs.Sound.{Sound};
 
     ghost Value = { LocalState };

@@ -1,5 +1,5 @@
 use Rattle.std.proofs.Common.{◌≡◌, drop}
-use Rattle.shim_sharing.specs.Sharing.{stands_in}
+use Rattle.shim_units.specs.Rule.{stands_in}
 use Rattle.shim_sharing.proofs.alias.stands_in.Given as goal
 
 abbrev pub invariant-loop-one : goal.invariant-loop-one

@@ -1,6 +1,6 @@
 use Rattle.std.proofs.Common.{◌≡◌, None}
 use Rattle.shim_sharing.specs.Sharing.{common}
-use Rattle.shim_sharing.specs.Marks.{takes_of}
+use Rattle.shim_units.specs.Marks.{takes_of}
 use Rattle.shim_sharing.proofs.fork.find_common.Given as goal
 
 abbrev pub invariant-loop-slot : goal.invariant-loop-slot

@@ -1,5 +1,5 @@
 use Rattle.std.proofs.Common.{◌∙◌, map, false, sym, arith}
-use Rattle.shim_sharing.specs.Marks.{takes_of, shared}
+use Rattle.shim_units.specs.Marks.{takes_of, shared}
 use Rattle.shim_sharing.proofs.Least.{least_found}
 use Rattle.shim_sharing.proofs.fork.find_shared.Goals as goal
 

@@ -1,5 +1,5 @@
 use Rattle.std.proofs.Common.{◌≡◌, map, false, None}
-use Rattle.shim_sharing.specs.Marks.{takes_of, shared}
+use Rattle.shim_units.specs.Marks.{takes_of, shared}
 use Rattle.shim_sharing.specs.Sharing.{least}
 use Rattle.shim_sharing.proofs.fork.find_shared.Given as goal
 

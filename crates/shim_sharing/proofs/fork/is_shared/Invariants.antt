@@ -1,5 +1,5 @@
 use Rattle.std.proofs.Common.{◌≡◌, map, drop, false}
-use Rattle.shim_sharing.specs.Marks.{takes_of, shared}
+use Rattle.shim_units.specs.Marks.{takes_of, shared}
 use Rattle.shim_sharing.proofs.fork.is_shared.Given as goal
 
 abbrev pub invariant-loop-one : goal.invariant-loop-one

@@ -1,8 +1,8 @@
 use Rattle.std.proofs.Common.{◌≡◌, ◌++◌, map, drop}
-use Rattle.shim_sharing.specs.Taking.{takes}
-use Rattle.shim_sharing.specs.Marks.{takes_of}
-use Rattle.shim_sharing.specs.Parts.{each_uses}
-use Rattle.shim_sharing.specs.Meaning.{branch_parts}
+use Rattle.shim_units.specs.Taking.{takes}
+use Rattle.shim_units.specs.Marks.{takes_of}
+use Rattle.shim_units.specs.Parts.{each_uses}
+use Rattle.shim_units.specs.Meaning.{branch_parts}
 use Rattle.shim_sharing.proofs.fork.take_each.Given as goal
 
 abbrev pub invariant-loop-branch : goal.invariant-loop-branch

@@ -2,12 +2,12 @@ use Rattle.std.proofs.Common.{rules, arith, ◌≡◌, ◌+◌, ◌∷◌, ◌++
 use Rattle.std.proofs.lemmas.Grind.{common_steps}
 use Rattle.shim_scopes.specs.declared.tree.RStmt.{RStmt, the_lemmas}
 use Rattle.shim_scopes.specs.declared.tree.RBranch.{RBranch}
-use Rattle.shim_sharing.specs.declared.unit.Unit.{Unit as UnitOf}
-use Rattle.shim_sharing.specs.HomeView.{home_view}
-use Rattle.shim_sharing.specs.Lifting.{lift_all}
-use Rattle.shim_sharing.specs.Meaning.{part, parts, branch_part, branch_parts, lift_in}
+use Rattle.shim_units.specs.declared.unit.Unit.{Unit as UnitOf}
+use Rattle.shim_units.specs.HomeView.{home_view}
+use Rattle.shim_units.specs.Lifting.{lift_all}
+use Rattle.shim_units.specs.Meaning.{part, parts, branch_part, branch_parts, lift_in}
 use Rattle.shim_sharing.specs.Room.{HasRoom}
-use Rattle.shim_sharing.specs.Sizes.{extent, fork_extent}
+use Rattle.shim_units.specs.Sizes.{extent, fork_extent}
 use Rattle.shim_sharing.proofs.Lifts.{branch_tree, branch_units, block_units, tree_goes_on, units_go_on}
 use Rattle.shim_sharing.proofs.LiftedKinds.{if_tree, if_units, for_tree, for_units, try_tree, try_units}
 use Rattle.shim_sharing.proofs.Room.{room_for_other, room_for_handler, room_for_step, room_for_loop, room_for_fork, room_behind_stmt, room_behind_branch, room_in_branch, exceptions_in_branch}

@@ -1,9 +1,9 @@
 use Rattle.std.proofs.Common.{◌≡◌, ◌++◌, ◌+◌, length, drop}
-use Rattle.shim_sharing.specs.HomeView.{home_view}
-use Rattle.shim_sharing.specs.Lifting.{lift_all}
-use Rattle.shim_sharing.specs.Meaning.{lift_in, branch_parts}
+use Rattle.shim_units.specs.HomeView.{home_view}
+use Rattle.shim_units.specs.Lifting.{lift_all}
+use Rattle.shim_units.specs.Meaning.{lift_in, branch_parts}
 use Rattle.shim_sharing.specs.Room.{HasRoom}
-use Rattle.shim_sharing.specs.Sizes.{extent, fork_extent}
+use Rattle.shim_units.specs.Sizes.{extent, fork_extent}
 use Rattle.shim_sharing.proofs.lift.+lift.Given as goal
 
 abbrev pub invariant-lift_body-loop-stmt : goal.invariant-lift_body-loop-stmt

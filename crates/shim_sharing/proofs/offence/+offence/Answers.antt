@@ -1,6 +1,6 @@
 use Rattle.std.proofs.Common.{arith}
 use Rattle.std.proofs.lemmas.Grind.{common_steps}
-use Rattle.shim_sharing.proofs.EachKind.{at_if, at_for, at_try, at_par}
+use Rattle.shim_units.proofs.EachKind.{at_if, at_for, at_try, at_par}
 use Rattle.shim_sharing.proofs.Offences.{refused_here, refused_further}
 use Rattle.shim_sharing.proofs.offence.+offence.Goals as goal
 

@@ -1,17 +1,17 @@
 use Rattle.std.proofs.Common.{sym, subst}
 use Rattle.std.proofs.lemmas.Grind.{merely}
 use Rattle.shim_scopes.specs.Resolving.{IsFormOfText}
-use Rattle.shim_sharing.proofs.Room.{program_has_room, functions_have_room}
+use Rattle.shim_sharing.proofs.UnitSizes.{kept, program_has_room, functions_have_room}
 use Rattle.shim_sharing.proofs.Rule.{obeys_unless_refused}
 use Rattle.shim_sharing.proofs.program.accept.Goals as goal
 
 pub keep-requires : goal.keep-requires
-keep-requires c = merely (record {
+keep-requires c = kept _ (merely (record {
   resolved = c.args.resolved;
   of_text = subst (λ f. ∥ IsFormOfText f ∥₁) c.resolved.view_is c.resolved.invariant;
   obeys = obeys_unless_refused c.args.resolved (rw (c.functions-functions.ensures, c.names-names.ensures) at c.in_ok-check.ensures);
   meant = sym (rw (c.functions-functions.ensures, c.names-names.ensures, c.main.ensures) at c.in_ok-form.ensures);
-})
+}))
 
 pub check-requires : goal.check-requires
 check-requires c =

@@ -1,6 +1,6 @@
 use Rattle.std.proofs.Common.{◌≡◌, drop}
 use Rattle.shim_sharing.specs.Room.{FunctionsHaveRoom}
-use Rattle.shim_sharing.specs.Units.{refusal_in}
+use Rattle.shim_sharing.specs.Refusals.{refusal_in}
 use Rattle.shim_sharing.proofs.refusal.check.Given as goal
 
 abbrev pub invariant-loop-function : goal.invariant-loop-function

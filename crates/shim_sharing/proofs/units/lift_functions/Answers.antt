@@ -2,7 +2,7 @@ use Rattle.std.proofs.Common.{rules, arith, ◌≡◌, ◌+◌, ◌∷◌, ◌++
 use Rattle.std.proofs.lemmas.Grind.{common_steps}
 use Rattle.shim_scopes.specs.declared.tree.RFunction.{RFunction}
 use Rattle.shim_sharing.specs.Room.{FunctionsHaveRoom}
-use Rattle.shim_sharing.specs.Units.{lift_functions}
+use Rattle.shim_units.specs.Units.{lift_functions}
 use Rattle.shim_sharing.proofs.Room.{room_behind_function, own_goes_on, lifted_goes_on}
 use Rattle.shim_sharing.proofs.units.lift_functions.Goals as goal
 

@@ -1,6 +1,6 @@
 use Rattle.std.proofs.Common.{◌≡◌, ◌+◌, ◌++◌, length, drop}
 use Rattle.shim_sharing.specs.Room.{FunctionsHaveRoom}
-use Rattle.shim_sharing.specs.Units.{lift_functions}
+use Rattle.shim_units.specs.Units.{lift_functions}
 use Rattle.shim_sharing.proofs.units.lift_functions.Given as goal
 
 abbrev pub invariant-loop-at : goal.invariant-loop-at

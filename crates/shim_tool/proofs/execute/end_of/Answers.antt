@@ -1,6 +1,5 @@
-use denote.Param.Send.{sendable}
-use Rattle.shim_walk.proofs.Sends.{walk_send}
+use Rattle.shim_tool.proofs.ExecuteLemmas.{run_of}
 use Rattle.shim_tool.proofs.execute.end_of.Goals as goal
 
-pub run-requires-send-L : goal.run-requires-send-L
-run-requires-send-L c κs = search (walk_send, sendable)
+pub returns-clause-ran : goal.returns-clause-ran
+returns-clause-ran c = run_of _ _ c.in_ok-share.ensures c.in_ok-end.ensures.ran

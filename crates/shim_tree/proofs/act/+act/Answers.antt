@@ -1,9 +1,9 @@
 use Rattle.std.proofs.Common.{rules, ◌≡◌, ◌∙◌, sym, ap, subst, arith, length, slice_set, ◌∷◌}
 use Rattle.std.proofs.lemmas.Result.{IfOk-weaker, on_err_weaker}
-use Rattle.shim_tree.specs.Acts.{act, act_child, byte_list}
+use Rattle.shim_tree.specs.Acts.{act, act_child}
 use Rattle.shim_tree.specs.Places.{branches}
 use Rattle.shim_tree.specs.Below.{together, nodes, node}
-use Rattle.shim_tree.specs.Acting.{ActsAt, ActsAmong, SoundAmong}
+use Rattle.shim_tree.specs.Acting.{said_of, ActsAt, ActsAmong, SoundAmong}
 use Rattle.shim_tree.proofs.Children.{child_there, place_of, acts_none, acts_some, acts_same, sound_child, forked_among, forked_acts}
 use Rattle.shim_tree.proofs.act.+act.Goals as goal
 
@@ -83,8 +83,8 @@ act_child-returns-clause-ok g t c =
     let q = branches c.args.pairs.now in
     let p = place_of o i q ls c.deref.result.now c.args.belows.now.items c.fill.new.belows c.requires.acts c.deref.ensures.value c.in_ok-fill.ensures.same c.in_ok-fill.ensures.ok in
     IfOk-weaker c.act_at.result
-    (λ byte. ActsAt o q (node c.index_mut.result.now c.index_mut-2.result.now) byte (node c.act_at.new.process c.act_at.new.below))
-    (λ byte. ActsAmong o i q (together ls (nodes c.args.belows.now.items)) byte (together (slice_set ls i c.act_at.new.process) (nodes (slice_set bs i c.act_at.new.below))))
-    (λ byte e. ap (act_child o i q) (sym p.same)
-    ∙ acts_some o i q ls bs c.index_mut.result.now c.act_at.new.process c.index_mut-2.result.now c.act_at.new.below (byte_list byte) p.there p.said c.index_mut.ensures.value c.index_mut-2.ensures.value e)
+    (λ told. ActsAt o q (node c.index_mut.result.now c.index_mut-2.result.now) (said_of told) (node c.act_at.new.process c.act_at.new.below))
+    (λ told. ActsAmong o i q (together ls (nodes c.args.belows.now.items)) (said_of told) (together (slice_set ls i c.act_at.new.process) (nodes (slice_set bs i c.act_at.new.below))))
+    (λ told e. ap (act_child o i q) (sym p.same)
+    ∙ acts_some o i q ls bs c.index_mut.result.now c.act_at.new.process c.index_mut-2.result.now c.act_at.new.below (said_of told) p.there p.said c.index_mut.ensures.value c.index_mut-2.ensures.value e)
     c.act_at.ensures.ok

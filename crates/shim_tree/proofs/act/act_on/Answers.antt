@@ -4,7 +4,7 @@ use Rattle.shim_tree.specs.Nodes.{state}
 use Rattle.shim_tree.specs.Acts.{act}
 use Rattle.shim_tree.specs.Places.{branches}
 use Rattle.shim_tree.specs.Below.{node}
-use Rattle.shim_tree.specs.Acting.{ActsAt, ActsOn}
+use Rattle.shim_tree.specs.Acting.{said_of, ActsAt, ActsOn}
 use Rattle.shim_tree.proofs.Children.{state_node}
 use Rattle.shim_tree.proofs.Leading.{on_bound, on_route}
 use Rattle.shim_tree.proofs.act.act_on.Goals as goal
@@ -34,5 +34,5 @@ returns-clause-ok g c =
     let e : c.pairs-front.result.now ≡ o.path (state n) = c.pairs-front.ensures ∙ (c.path.ensures.path ∙ ap o.path (sym (state_node c.args.process.now c.args.below.now))) in
     let f : c.behind.result.now ≡ drop (length (o.path (state n))) c.args.path.now = c.behind.ensures ∙ λ t. drop (length (e t)) (c.pairs.ensures t) in
     let m = node c.act_at.new.process c.act_at.new.below in
-    IfOk-weaker c.act_at.result (λ byte. ActsAt o (branches c.behind.result.now) n byte m) (λ byte. ActsOn o c.args.path.now n byte m)
-    (λ byte h. on_route o n (o.path (state n)) c.args.path.now c.requires.acts ∙ (ap (λ q. act o (branches q) n) (sym f) ∙ h)) c.act_at.ensures.ok
+    IfOk-weaker c.act_at.result (λ told. ActsAt o (branches c.behind.result.now) n (said_of told) m) (λ told. ActsOn o c.args.path.now n (said_of told) m)
+    (λ told h. on_route o n (o.path (state n)) c.args.path.now c.requires.acts ∙ (ap (λ q. act o (branches q) n) (sym f) ∙ h)) c.act_at.ensures.ok

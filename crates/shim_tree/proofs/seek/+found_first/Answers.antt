@@ -1,68 +1,97 @@
-use Rattle.std.proofs.Common.{◌≡◌, ◌∙◌, sym, ap, false}
-use Rattle.std.specs.Option.{option_copied, option_map}
-use Rattle.shim_tree.specs.Nodes.{all_ended}
+use Rattle.std.proofs.Common.{◌≡◌, ◌∙◌, sym, ap}
+use Rattle.std.specs.Option.{option_map}
+use Rattle.shim_tree.specs.Nodes.{Forked}
 use Rattle.shim_tree.specs.Below.{nodes, together}
-use Rattle.shim_tree.specs.Walks.{head, walk}
-use Rattle.shim_tree.specs.Finding.{channel_in, found_event}
-use Rattle.shim_tree.proofs.Beside.{from, inside, outside, asked_in, asked_past}
-use Rattle.shim_tree.proofs.Seeks.{meets_first, found_there, found_later, found_none}
+use Rattle.shim_tree.specs.Beside.{place}
+use Rattle.shim_tree.specs.Walks.{head, walk, poisons_of}
+use Rattle.shim_tree.specs.Finding.{found_event}
+use Rattle.shim_tree.proofs.Beside.{is_forked, inside, outside, asked_in, asked_past}
+use Rattle.shim_tree.proofs.Seeks.{found_here, found_poison, found_there, found_later, found_none}
 use Rattle.shim_tree.proofs.seek.+found_first.Goals as goal
 use Rattle.shim_tree.proofs.seek.+found_first.Goals.{then-i-len, else-i-len}
 
-pub returns-in-Some : goal.returns-in-Some
-returns-in-Some g t c =
-    let not_all : all_ended (from 0 c.in-Forked.children.items c.in-Forked.belows.items) ≡ false =
-    sym (c.have_ended.ensures ∙ λ u. all_ended (together (c.as_slice.ensures.value u) (nodes (c.as_slice-in-Forked.ensures.value u)))) ∙ c.if-have_ended.false in
-    meets_first g.L.Local.ops c.args.l.now c.args.below.now c.in-Forked.children c.in-Forked.belows c.in-Forked.is c.in-Some.c.now.channel not_all
-    (sym (ap (λ z. channel_in (option_copied z)) c.in-Some.is) ∙ c.least_below.ensures)
+pub found_here-at_fork-requires-after_bounds : goal.found_here-at_fork-requires-after_bounds
+found_here-at_fork-requires-after_bounds g t c κs within =
+    is_forked c.args.l.now c.args.below.now c.in-Forked.children c.in-Forked.belows c.in-Forked.is
+    ∙ λ u. Forked c.args.l.now (together (sym c.as_slice-states.ensures.value u) (nodes (sym c.as_slice-came.ensures.value u)))
+
+pub returns-then-acts : goal.returns-then-acts
+returns-then-acts g t c =
+    let o = g.L.Local.ops in
+    let l = c.args.l.now in
+    let b = c.args.below.now in
+    let ls = c.in-Forked.children in
+    let bs = c.in-Forked.belows in
+    found_here o found_event l b ls bs c.in-Forked.is c.found_here-at_fork.result c.found_here-at_fork.ensures (sym c.is_some-acts.ensures ∙ c.if-acts.true)
+
+pub returns-then-poisoned : goal.returns-then-poisoned
+returns-then-poisoned g t c =
+    let o = g.L.Local.ops in
+    let l = c.args.l.now in
+    let b = c.args.below.now in
+    let ls = c.in-Forked.children in
+    let bs = c.in-Forked.belows in
+    let i = c.loop-i.i in
+    let m = c.index-child.result.now in
+    let there = inside ls c.len-i-end.result i c.len-i-end.ensures c.loop-i-test.true in
+    let none = sym c.is_some-acts.ensures ∙ c.if-acts.false in
+    let of_poison : option_map found_event c.poison_of-poison.result ≡ head (poisons_of o l (together ls.items (nodes bs.items)) i (place m (nodes bs.items) i)) =
+    c.poison_of-poison.ensures ∙ λ u. head (poisons_of o l (together (c.as_slice-states.ensures.value u) (nodes (c.as_slice-came.ensures.value u))) i (place m (nodes (c.as_slice-came.ensures.value u)) i)) in
+    let x = c.poison_of-poison.result in
+    found_poison o found_event l b ls bs c.in-Forked.is c.found_here-at_fork.result c.found_here-at_fork.ensures none i m there c.index-child.ensures c.loop-i.invariant x x of_poison (sym c.is_some-poisoned.ensures ∙ c.if-poisoned.true)
 
 pub returns-then-is_some : goal.returns-then-is_some
 returns-then-is_some g t c =
     let o = g.L.Local.ops in
-    let i = c.loop-i.i in
+    let l = c.args.l.now in
+    let b = c.args.below.now in
     let ls = c.in-Forked.children in
     let bs = c.in-Forked.belows in
+    let i = c.loop-i.i in
+    let m = c.index-child.result.now in
     let there = inside ls c.len-i-end.result i c.len-i-end.ensures c.loop-i-test.true in
-    let not_all : all_ended (from 0 ls.items bs.items) ≡ false =
-    sym (c.have_ended.ensures ∙ λ u. all_ended (together (c.as_slice.ensures.value u) (nodes (c.as_slice-in-Forked.ensures.value u)))) ∙ c.if-have_ended.false in
-    let none_meets = sym (ap (λ z. channel_in (option_copied z)) c.in_default.is) ∙ c.least_below.ensures in
-    let some = sym c.is_some.ensures ∙ c.if-is_some.true in
-    let found = option_map found_event c.if-i-len.found in
-    elim c.if-i-len.branch [
+    let none = sym c.is_some-acts.ensures ∙ c.if-acts.false in
+    let of_poison : option_map found_event c.poison_of-poison.result ≡ head (poisons_of o l (together ls.items (nodes bs.items)) i (place m (nodes bs.items) i)) =
+    c.poison_of-poison.ensures ∙ λ u. head (poisons_of o l (together (c.as_slice-states.ensures.value u) (nodes (c.as_slice-came.ensures.value u))) i (place m (nodes (c.as_slice-came.ensures.value u)) i)) in
+    let not_poisoned = sym c.is_some-poisoned.ensures ∙ c.if-poisoned.false in
+    let of_child : option_map found_event c.if-i-len.found ≡ head (walk o (place m (nodes bs.items) i)) = elim c.if-i-len.branch [
       | then-i-len w ↦
-          found_there o c.args.l.now c.args.below.now ls bs c.in-Forked.is found_event c.if-i-len.found i w.index.result.now there w.index.ensures
-          (asked_in (λ z. head (walk o z)) w.index.result.now bs c.len.result i w.index-then-i-len.result.now found c.len.ensures w.if-i-len.true w.index-then-i-len.ensures
-          (ap (option_map found_event) w.found-is ∙ w.found_first-found.ensures)) c.loop-i.invariant some not_all none_meets
+          asked_in (λ z. head (walk o z)) m bs c.len.result i w.index.result.now (option_map found_event c.if-i-len.found) c.len.ensures w.if-i-len.true w.index.ensures (ap (option_map found_event) w.found-is ∙ w.found_first-found.ensures)
       | else-i-len w ↦
-          found_there o c.args.l.now c.args.below.now ls bs c.in-Forked.is found_event c.if-i-len.found i w.index-else-i-len.result.now there w.index-else-i-len.ensures
-          (asked_past (λ z. head (walk o z)) w.index-else-i-len.result.now bs c.len.result i found c.len.ensures w.if-i-len.false
-          (ap (option_map found_event) w.found-is ∙ w.own_event-found.ensures)) c.loop-i.invariant some not_all none_meets
-    ]
+          asked_past (λ z. head (walk o z)) m bs c.len.result i (option_map found_event c.if-i-len.found) c.len.ensures w.if-i-len.false (ap (option_map found_event) w.found-is ∙ w.own_event-found.ensures)
+    ] in
+    found_there o found_event l b ls bs c.in-Forked.is c.found_here-at_fork.result c.found_here-at_fork.ensures none i m there c.index-child.ensures c.loop-i.invariant c.poison_of-poison.result c.if-i-len.found of_poison
+    not_poisoned of_child (sym c.is_some.ensures ∙ c.if-is_some.true)
 
 pub loop-i-preserved : goal.loop-i-preserved
 loop-i-preserved g t c =
     let o = g.L.Local.ops in
-    let i = c.loop-i.i in
+    let l = c.args.l.now in
+    let b = c.args.below.now in
     let ls = c.in-Forked.children in
     let bs = c.in-Forked.belows in
+    let i = c.loop-i.i in
+    let m = c.index-child.result.now in
     let there = inside ls c.len-i-end.result i c.len-i-end.ensures c.loop-i-test.true in
-    let none = sym c.is_some.ensures ∙ c.if-is_some.false in
-    let found = option_map found_event c.if-i-len.found in
-    elim c.if-i-len.branch [
+    let none = sym c.is_some-acts.ensures ∙ c.if-acts.false in
+    let of_poison : option_map found_event c.poison_of-poison.result ≡ head (poisons_of o l (together ls.items (nodes bs.items)) i (place m (nodes bs.items) i)) =
+    c.poison_of-poison.ensures ∙ λ u. head (poisons_of o l (together (c.as_slice-states.ensures.value u) (nodes (c.as_slice-came.ensures.value u))) i (place m (nodes (c.as_slice-came.ensures.value u)) i)) in
+    let not_poisoned = sym c.is_some-poisoned.ensures ∙ c.if-poisoned.false in
+    let of_child : option_map found_event c.if-i-len.found ≡ head (walk o (place m (nodes bs.items) i)) = elim c.if-i-len.branch [
       | then-i-len w ↦
-          found_later o c.args.l.now c.args.below.now ls bs c.in-Forked.is found_event c.if-i-len.found i w.index.result.now there w.index.ensures
-          (asked_in (λ z. head (walk o z)) w.index.result.now bs c.len.result i w.index-then-i-len.result.now found c.len.ensures w.if-i-len.true w.index-then-i-len.ensures
-          (ap (option_map found_event) w.found-is ∙ w.found_first-found.ensures)) c.loop-i.invariant none
+          asked_in (λ z. head (walk o z)) m bs c.len.result i w.index.result.now (option_map found_event c.if-i-len.found) c.len.ensures w.if-i-len.true w.index.ensures (ap (option_map found_event) w.found-is ∙ w.found_first-found.ensures)
       | else-i-len w ↦
-          found_later o c.args.l.now c.args.below.now ls bs c.in-Forked.is found_event c.if-i-len.found i w.index-else-i-len.result.now there w.index-else-i-len.ensures
-          (asked_past (λ z. head (walk o z)) w.index-else-i-len.result.now bs c.len.result i found c.len.ensures w.if-i-len.false
-          (ap (option_map found_event) w.found-is ∙ w.own_event-found.ensures)) c.loop-i.invariant none
-    ]
+          asked_past (λ z. head (walk o z)) m bs c.len.result i (option_map found_event c.if-i-len.found) c.len.ensures w.if-i-len.false (ap (option_map found_event) w.found-is ∙ w.own_event-found.ensures)
+    ] in
+    found_later o found_event l b ls bs c.in-Forked.is c.found_here-at_fork.result c.found_here-at_fork.ensures none i m there c.index-child.ensures c.loop-i.invariant c.poison_of-poison.result c.if-i-len.found of_poison
+    not_poisoned of_child (sym c.is_some.ensures ∙ c.if-is_some.false)
 
 pub returns-after-loop-i : goal.returns-after-loop-i
 returns-after-loop-i g t c =
-    let not_all : all_ended (from 0 c.in-Forked.children.items c.in-Forked.belows.items) ≡ false =
-    sym (c.have_ended.ensures ∙ λ u. all_ended (together (c.as_slice.ensures.value u) (nodes (c.as_slice-in-Forked.ensures.value u)))) ∙ c.if-have_ended.false in
-    found_none g.L.Local.ops c.args.l.now c.args.below.now c.in-Forked.children c.in-Forked.belows c.in-Forked.is c.loop-i.i
-    (outside c.in-Forked.children c.len-i-end.result c.loop-i.i c.len-i-end.ensures c.loop-i-test.false) c.loop-i.invariant not_all
-    (sym (ap (λ z. channel_in (option_copied z)) c.in_default.is) ∙ c.least_below.ensures)
+    let o = g.L.Local.ops in
+    let l = c.args.l.now in
+    let b = c.args.below.now in
+    let ls = c.in-Forked.children in
+    let bs = c.in-Forked.belows in
+    found_none o found_event l b ls bs c.in-Forked.is c.found_here-at_fork.result c.found_here-at_fork.ensures c.loop-i.i (outside ls c.len-i-end.result c.loop-i.i c.len-i-end.ensures c.loop-i-test.false)
+    (sym c.is_some-acts.ensures ∙ c.if-acts.false) c.loop-i.invariant

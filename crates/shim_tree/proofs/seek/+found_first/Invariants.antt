@@ -8,4 +8,5 @@ decreases-found_first g l = goal.size-found_first g l
 
 abbrev pub invariant-loop-i : goal.invariant-loop-i
 invariant-loop-i g l =
-    head (walk_all g.L.Local.ops (from l.i l.children.items l.belows.items)) ≡ head (walk_all g.L.Local.ops (from 0 l.children.items l.belows.items))
+    head (walk_all g.L.Local.ops l.l (from 0 l.children.items l.belows.items) l.i (from l.i l.children.items l.belows.items))
+    ≡ head (walk_all g.L.Local.ops l.l (from 0 l.children.items l.belows.items) 0 (from 0 l.children.items l.belows.items))

@@ -1,8 +1,8 @@
 use Rattle.std.proofs.Common.{◌∙◌, ap}
 use Rattle.std.specs.Option.{option_copied}
-use Rattle.shim_tree.specs.Below.{node}
-use Rattle.shim_tree.specs.Walks.{as_list, waited, meets_here}
+use Rattle.shim_tree.specs.Walks.{as_list, waited}
 use Rattle.shim_tree.specs.Finding.{channel_in, least}
+use Rattle.shim_tree.specs.Searching.{passes}
 use Rattle.shim_tree.proofs.Beside.{inside, outside, asked_in, asked_past}
 use Rattle.shim_tree.proofs.Seeks.{least_more, least_all}
 use Rattle.shim_tree.proofs.seek.+least_below.Goals as goal
@@ -11,7 +11,7 @@ use Rattle.shim_tree.proofs.seek.+least_below.Goals.{then-i-len, else-i-len}
 pub loop-i-preserved : goal.loop-i-preserved
 loop-i-preserved g t c =
     let o = g.L.Local.ops in
-    let p = meets_here o (node c.args.home.now c.args.fork.now) in
+    let p = passes o c.args.test.now in
     let i = c.loop-i.i in
     let ls = c.in-Forked.children in
     let bs = c.in-Forked.belows in
@@ -31,5 +31,5 @@ loop-i-preserved g t c =
 
 pub returns-after-loop-i : goal.returns-after-loop-i
 returns-after-loop-i g t c =
-    least_all g.L.Local.ops (meets_here g.L.Local.ops (node c.args.home.now c.args.fork.now)) c.args.l.now c.args.below.now c.in-Forked.children c.in-Forked.belows c.loop-i.i
+    least_all g.L.Local.ops (passes g.L.Local.ops c.args.test.now) c.args.l.now c.args.below.now c.in-Forked.children c.in-Forked.belows c.loop-i.i
     (channel_in (option_copied c.loop-i.found)) (channel_in (option_copied c.args.best)) c.in-Forked.is (outside c.in-Forked.children c.len-i-end.result c.loop-i.i c.len-i-end.ensures c.loop-i-test.false) c.loop-i.invariant

@@ -1,5 +1,5 @@
 use Rattle.std.proofs.Common.{◌∙◌, ◌++◌, ap}
-use Rattle.shim_sharing.specs.Arguments.{numbers_from}
+use Rattle.shim_units.specs.Arguments.{numbers_from}
 use Rattle.shim_walk.proofs.Entering.{entry_top}
 use Rattle.shim_walk.proofs.birth.first_unit.Goals as goal
 

@@ -1,6 +1,6 @@
 use Rattle.std.proofs.Common.{◌∙◌, ◌+◌, ◌++◌, ap, drop}
-use Rattle.shim_sharing.specs.Forks.{labels_from}
-use Rattle.shim_walk.proofs.OneMore.{one_label_more}
+use Rattle.shim_units.specs.Forks.{labels_from}
+use Rattle.shim_cells.proofs.OneMore.{one_label_more}
 use Rattle.shim_walk.proofs.birth.labels_from.Goals as goal
 
 pub loop-name-preserved : goal.loop-name-preserved

@@ -1,5 +1,5 @@
 use Rattle.std.proofs.Common.{◌≡◌, ◌++◌, drop}
-use Rattle.shim_sharing.specs.Forks.{labels_from}
+use Rattle.shim_units.specs.Forks.{labels_from}
 use Rattle.shim_walk.proofs.birth.labels_from.Given as goal
 
 abbrev pub invariant-loop-name : goal.invariant-loop-name

@@ -1,8 +1,8 @@
 use Rattle.std.proofs.Common.{◌≡◌, ◌∷◌, List, length, map}
-use Rattle.shim_sharing.specs.declared.unit.Unit.{Unit as UnitOf}
-use Rattle.shim_walk.specs.Depths.{shown}
-use Rattle.shim_walk.specs.Leaving.{unwound_in}
-use Rattle.shim_walk.specs.Fronts.{AllStand}
+use Rattle.shim_units.specs.declared.unit.Unit.{Unit as UnitOf}
+use Rattle.shim_frames.specs.Depths.{shown}
+use Rattle.shim_frames.specs.Leaving.{unwound_in}
+use Rattle.shim_frames.specs.Fronts.{AllStand}
 use Rattle.shim_walk.proofs.depth.leave.Given as goal
 
 abbrev pub invariant-loop-callers : goal.invariant-loop-callers

@@ -1,6 +1,6 @@
 use Rattle.std.proofs.Common.{◌≡◌, ◌∷◌, length, map}
-use Rattle.shim_walk.specs.Depths.{returned, shown}
-use Rattle.shim_walk.specs.Fronts.{AllStand}
+use Rattle.shim_frames.specs.Depths.{returned, shown}
+use Rattle.shim_frames.specs.Fronts.{AllStand}
 use Rattle.shim_walk.proofs.depth.settle.Given as goal
 
 abbrev pub invariant-loop-callers : goal.invariant-loop-callers

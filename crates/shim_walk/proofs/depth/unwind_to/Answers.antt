@@ -1,4 +1,4 @@
-use Rattle.shim_walk.proofs.Leaves.{unwinds}
+use Rattle.shim_frames.proofs.Leaves.{unwinds}
 use Rattle.shim_walk.proofs.depth.unwind_to.Goals as goal
 
 pub returns-clause-value : goal.returns-clause-value

@@ -1,9 +1,9 @@
 use Rattle.std.proofs.Common.{◌∙◌, ◌++◌, ap, sym, subst, length}
 use Rattle.std.specs.Arc.{arc_value}
-use Rattle.shim_sharing.specs.Locations.{Locations}
-use Rattle.shim_sharing.specs.Arguments.{call_locations, call_slots, empties}
-use Rattle.shim_walk.specs.Deeds.{arguments_of}
-use Rattle.shim_walk.specs.Fronts.{IsFront, Stands}
+use Rattle.shim_units.specs.Locations.{Locations}
+use Rattle.shim_units.specs.Arguments.{call_locations, call_slots, empties}
+use Rattle.shim_cells.specs.Given.{arguments_of}
+use Rattle.shim_frames.specs.Fronts.{IsFront, Stands}
 use Rattle.shim_walk.proofs.Entering.{entry_top}
 use Rattle.shim_walk.proofs.entry.make_entry.Goals as goal
 

@@ -1,5 +1,5 @@
 use Rattle.std.proofs.Common.{◌≡◌, drop}
-use Rattle.shim_sharing.specs.Forks.{all_back}
+use Rattle.shim_units.specs.Forks.{all_back}
 use Rattle.shim_walk.proofs.process.regain_all.Given as goal
 
 abbrev pub invariant-loop-branch : goal.invariant-loop-branch

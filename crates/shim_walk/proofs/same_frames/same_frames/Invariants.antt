@@ -1,5 +1,5 @@
 use Rattle.std.proofs.Common.{◌≡◌, ◌↔◌, drop, map}
-use Rattle.shim_walk.specs.Depths.{shown}
+use Rattle.shim_frames.specs.Depths.{shown}
 use Rattle.shim_walk.proofs.same_frames.same_frames.Given as goal
 
 abbrev pub invariant-loop-frame : goal.invariant-loop-frame

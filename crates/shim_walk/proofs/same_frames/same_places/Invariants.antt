@@ -1,5 +1,5 @@
 use Rattle.std.proofs.Common.{◌≡◌, ◌↔◌, drop, map}
-use Rattle.shim_walk.specs.Activations.{place_of}
+use Rattle.shim_frames.specs.Activations.{place_of}
 use Rattle.shim_walk.proofs.same_frames.same_places.Given as goal
 
 abbrev pub invariant-loop-place : goal.invariant-loop-place

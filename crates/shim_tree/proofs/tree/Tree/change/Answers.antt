@@ -1,13 +1,11 @@
-use Rattle.shim_tree.specs.Acts.{byte_list}
-use Rattle.shim_tree.specs.Nodes.{state}
-use Rattle.shim_tree.specs.Places.{route}
 use Rattle.shim_tree.specs.Below.{node}
-use Rattle.shim_tree.proofs.Moves.{sound_route}
+use Rattle.shim_tree.proofs.Happens.{told_sound}
 use Rattle.shim_tree.proofs.tree.Tree.change.Goals as goal
 
 pub invariant_of-self-2 : goal.invariant_of-self-2
 invariant_of-self-2 g c =
     let o = g.L.Local.ops in
-    let laws = (g.met.L.Local g.world.𝓛 g.world.𝓜 g.world.𝓡 ((λ s x. x), (λ x. x), (λ x. x), λ x. x)).laws in
-    let n = node c.self.inside.root c.self.inside.below in
-    sound_route o laws (route (o.path (state n)) c.args.path.now) n (record { node = node c.act_on.new.process c.act_on.new.below; bytes = byte_list c.in_ok-act_on.field-0 }) c.self.invariant c.in_ok-act_on.ensures.ok
+    let laws = (g.met.L.Local g.world.𝓛 g.world.𝓜 g.world.𝓡 ((λ s x. x), (λ x. x), (λ x. x), λ x. x)).laws in (
+      told_sound o laws c.args.path.now (node c.self.inside.root c.self.inside.below) (node c.do_alone.new.root c.do_alone.new.below) _ _ _ _ c.self.invariant.0 c.in_ok-do_alone.ensures.ok,
+      c.in_ok-do_alone.ensures.places c.self.invariant.1,
+    )

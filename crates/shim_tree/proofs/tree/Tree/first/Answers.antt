@@ -18,7 +18,7 @@ pub returns-in_ok-event-in-Some-clause-none : goal.returns-in_ok-event-in-Some-c
 returns-in_ok-event-in-Some-clause-none g c =
     let o = g.L.Local.ops in
     let root : node c.self.inside.root c.self.inside.below ≡ c.args.self.now.root = ap (λ t. t.root) c.self.view_is in
-    let sound = subst (SoundBelow o) root c.self.invariant in (
+    let sound = subst (SoundBelow o) root c.self.invariant.0.below in (
       λ h. none_some c.in_ok-event-in-Some.event (sym h),
       λ h. absurd (first_enabled o c.args.self.now (found_event c.in-Some.found) sound (sym (ap (option_map found_event) c.in-Some.is) ∙ (c.found_first.ensures ∙ ap (λ z. head (walk o z)) root)) (h (found_event c.in-Some.found))),
     )
@@ -27,6 +27,6 @@ pub returns-in_ok-event-in-Some-clause-enabled : goal.returns-in_ok-event-in-Som
 returns-in_ok-event-in-Some-clause-enabled g c =
     let o = g.L.Local.ops in
     let root : node c.self.inside.root c.self.inside.below ≡ c.args.self.now.root = ap (λ t. t.root) c.self.view_is in
-    let sound = subst (SoundBelow o) root c.self.invariant in
+    let sound = subst (SoundBelow o) root c.self.invariant.0.below in
     first_enabled o c.args.self.now (event_of c.in_ok-event-in-Some.event) sound
     (ap Some c.in_ok-event-in-Some.ensures ∙ (sym (ap (option_map found_event) c.in-Some.is) ∙ (c.found_first.ensures ∙ ap (λ z. head (walk o z)) root)))

@@ -1,14 +1,11 @@
-use Rattle.std.proofs.Common.{◌∙◌, ap, inl, inr}
-use Rattle.shim_tree.specs.Trees.{after, other}
+use Rattle.std.proofs.Common.{◌∙◌, ap}
+use Rattle.shim_tree.specs.Trees.{Steps, after, own}
 use Rattle.shim_tree.specs.Below.{event_of}
-use Rattle.shim_tree.proofs.Silent.{close_silent, end_silent}
+use Rattle.shim_tree.proofs.Happens.{its_path}
 use Rattle.shim_tree.proofs.tree.Tree.happen.Goals as goal
 
-pub change-requires-clause-silent : goal.change-requires-clause-silent
-change-requires-clause-silent g c κs within =
+pub step-requires-clause-its : goal.step-requires-clause-its
+step-requires-clause-its g c κs within =
     let o = g.L.Local.ops in
     let t = c.args.self.now in
-    elim (c.in-Close.is) [
-      | inl closes ↦ close_silent o c.in-Close.path t.root (λ e. c.requires.enabled (ap (λ z. after o (event_of z) t) closes ∙ ap (other t) e))
-      | inr ends ↦ end_silent o c.in-Close.path t.root (λ e. c.requires.enabled (ap (λ z. after o (event_of z) t) ends ∙ ap (other t) e))
-    ]
+    its_path o Steps c.in-Own.path t.root (λ e. c.requires.enabled (ap (λ z. after o (event_of z) t) c.in-Own.is ∙ ap (own c.in-Own.path t) e))

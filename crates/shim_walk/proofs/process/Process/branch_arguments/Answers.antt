@@ -1,8 +1,8 @@
 use Rattle.std.proofs.Common.{ap, ◌∙◌, subst, slice_get}
-use Rattle.shim_sharing.specs.declared.form.Form.{Form}
-use Rattle.shim_sharing.specs.LocalState.{LocalState, unit_at, unit_or}
-use Rattle.shim_sharing.specs.Arguments.{arguments}
-use Rattle.shim_walk.specs.Halts.{Gives}
+use Rattle.shim_units.specs.declared.form.Form.{Form}
+use Rattle.shim_units.specs.LocalState.{LocalState, unit_at, unit_or}
+use Rattle.shim_units.specs.Arguments.{arguments}
+use Rattle.shim_cells.specs.Halts.{Gives}
 use Rattle.shim_walk.proofs.process.Process.branch_arguments.Goals as goal
 
 pub returns : goal.returns

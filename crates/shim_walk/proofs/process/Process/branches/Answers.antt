@@ -1,5 +1,5 @@
 use Rattle.std.proofs.Common.{ap, ◌∙◌, sym}
-use Rattle.shim_sharing.specs.Forks.{item_branches}
+use Rattle.shim_units.specs.Forks.{item_branches}
 use Rattle.shim_walk.specs.Bred.{branches_of}
 use Rattle.shim_walk.proofs.Births.{branches_next}
 use Rattle.shim_walk.proofs.process.Process.branches.Goals as goal

@@ -1,16 +1,16 @@
 use Rattle.std.proofs.Common.{◌≡◌, ap, ◌∙◌, sym, subst, slice_get, ◌++◌, ◌∷◌, [], if◌then◌else◌, None, false, List}
 use Rattle.std.specs.Arc.{arc_value}
-use Rattle.shim_sharing.specs.declared.form.Form.{Form}
-use Rattle.shim_sharing.specs.declared.unit.Unit.{Unit as UnitOf}
-use Rattle.shim_sharing.specs.LocalState.{LocalState, unit_or, handlers}
-use Rattle.shim_sharing.specs.Arguments.{branch_locations, channels_of, declared_slots, empties, numbers_from}
-use Rattle.shim_sharing.specs.Forks.{child, takes_input, takes_output}
+use Rattle.shim_units.specs.declared.form.Form.{Form}
+use Rattle.shim_units.specs.declared.unit.Unit.{Unit as UnitOf}
+use Rattle.shim_units.specs.LocalState.{LocalState, unit_or, handlers}
+use Rattle.shim_units.specs.Arguments.{branch_locations, channels_of, declared_slots, empties, numbers_from}
+use Rattle.shim_units.specs.Forks.{child, takes_input, takes_output}
 use Rattle.shim_walk.specs.Asks.{labels_for}
-use Rattle.shim_walk.specs.Deeds.{arguments_of}
-use Rattle.shim_walk.specs.Depths.{shown}
+use Rattle.shim_cells.specs.Given.{arguments_of}
+use Rattle.shim_frames.specs.Depths.{shown}
 use Rattle.shim_walk.specs.Entries.{enter_of}
-use Rattle.shim_walk.specs.Lendings.{left_of, lent_at}
-use Rattle.shim_walk.specs.Lines.{have_of}
+use Rattle.shim_cells.specs.Lendings.{left_of, lent_at}
+use Rattle.shim_walk.specs.Haves.{have_of}
 use Rattle.shim_walk.specs.contracts.process.Process.{the_view}
 use Rattle.shim_walk.proofs.Births.{child_by, labels_left}
 use Rattle.shim_walk.proofs.Labelling.{labels_are}

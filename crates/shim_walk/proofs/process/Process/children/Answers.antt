@@ -1,10 +1,10 @@
 use Rattle.std.proofs.Common.{◌≡◌, ap, ◌∙◌, subst, Ok}
-use Rattle.shim_sharing.specs.declared.unit.UBranch.{UBranch}
-use Rattle.shim_sharing.specs.LocalState.{unit_at}
-use Rattle.shim_sharing.specs.Arguments.{arguments}
-use Rattle.shim_sharing.specs.Forks.{child, lending}
-use Rattle.shim_walk.specs.Deeds.{arguments_of}
-use Rattle.shim_walk.specs.Lendings.{left_of}
+use Rattle.shim_units.specs.declared.unit.UBranch.{UBranch}
+use Rattle.shim_units.specs.LocalState.{unit_at}
+use Rattle.shim_units.specs.Arguments.{arguments}
+use Rattle.shim_units.specs.Forks.{child, lending}
+use Rattle.shim_cells.specs.Given.{arguments_of}
+use Rattle.shim_cells.specs.Lendings.{left_of}
 use Rattle.shim_walk.proofs.Births.{one_born, one_lent}
 use Rattle.shim_walk.proofs.process.Process.children.Goals as goal
 

@@ -1,7 +1,7 @@
 use Rattle.std.proofs.Common.{◌≡◌, drop}
-use Rattle.shim_sharing.specs.Forks.{all_lending}
+use Rattle.shim_units.specs.Forks.{all_lending}
 use Rattle.shim_walk.specs.Bred.{bred, behind}
-use Rattle.shim_walk.specs.Lendings.{left_of}
+use Rattle.shim_cells.specs.Lendings.{left_of}
 use Rattle.shim_walk.proofs.process.Process.children.Given as goal
 
 abbrev pub invariant-loop-branch : goal.invariant-loop-branch

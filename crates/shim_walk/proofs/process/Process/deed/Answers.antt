@@ -1,5 +1,5 @@
 use Rattle.std.proofs.Common.{◌≡◌, ap, ◌∙◌, subst, IfOk}
-use Rattle.shim_sharing.specs.Steps.{Deed as DeedOf}
+use Rattle.shim_units.specs.Steps.{Deed as DeedOf}
 use Rattle.shim_walk.specs.Asks.{asked_at}
 use Rattle.shim_walk.specs.Deeds.{deed_of}
 use Rattle.shim_walk.specs.Scenes.{have}

@@ -1,11 +1,11 @@
 use Rattle.std.proofs.Common.{◌≡◌, ap, ◌∙◌, subst, map, List}
-use Rattle.shim_sharing.specs.declared.unit.Unit.{Unit as UnitOf}
-use Rattle.shim_sharing.specs.declared.form.Form.{Form}
-use Rattle.shim_sharing.specs.Ends.{gone, went}
-use Rattle.shim_walk.specs.Turns.{way_of}
-use Rattle.shim_walk.specs.Depths.{depth_of, returned, shown}
+use Rattle.shim_units.specs.declared.unit.Unit.{Unit as UnitOf}
+use Rattle.shim_units.specs.declared.form.Form.{Form}
+use Rattle.shim_units.specs.Ends.{gone, went}
+use Rattle.shim_frames.specs.Turns.{way_of}
+use Rattle.shim_frames.specs.Depths.{depth_of, returned, shown}
 use Rattle.shim_walk.specs.contracts.process.Process.{the_view}
-use Rattle.shim_walk.proofs.Returns.{gone_by}
+use Rattle.shim_frames.proofs.Returns.{gone_by}
 use Rattle.shim_walk.proofs.process.Process.go.Goals as goal
 
 pub returns : goal.returns

@@ -1,9 +1,9 @@
 use Rattle.std.proofs.Common.{ap, ◌∙◌, refl}
-use Rattle.shim_sharing.specs.LocalState.{LocalState}
-use Rattle.shim_sharing.specs.Sharers.{handler}
-use Rattle.shim_walk.specs.Leaving.{armed_in, named_of}
+use Rattle.shim_units.specs.LocalState.{LocalState}
+use Rattle.shim_units.specs.Sharers.{handler}
+use Rattle.shim_frames.specs.Leaving.{armed_in, named_of}
 use Rattle.shim_walk.specs.contracts.process.Process.{the_view}
-use Rattle.shim_walk.proofs.Leaves.{handler_by}
+use Rattle.shim_frames.proofs.Leaves.{handler_by}
 use Rattle.shim_walk.proofs.process.Process.handler.Goals as goal
 
 pub returns : goal.returns

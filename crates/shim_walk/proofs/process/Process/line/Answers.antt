@@ -1,6 +1,6 @@
 use Rattle.std.proofs.Common.{ap, ◌∙◌, sym}
-use Rattle.shim_sharing.specs.Steps.{line_of}
-use Rattle.shim_walk.specs.Lines.{line_at}
+use Rattle.shim_units.specs.Steps.{line_of}
+use Rattle.shim_frames.specs.Lines.{line_at}
 use Rattle.shim_walk.proofs.Asked.{line_next}
 use Rattle.shim_walk.proofs.process.Process.line.Goals as goal
 

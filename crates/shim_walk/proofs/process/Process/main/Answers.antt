@@ -1,11 +1,11 @@
 use Rattle.std.proofs.Common.{◌≡◌, ap, ◌∙◌, subst, slice_get, length, ◌+◌, ◌++◌, arith, if◌then◌else◌, Some, None, List}
-use Rattle.shim_sharing.specs.declared.unit.Unit.{Unit as UnitOf}
+use Rattle.shim_units.specs.declared.unit.Unit.{Unit as UnitOf}
 use Rattle.std.specs.Arc.{arc_value}
-use Rattle.shim_sharing.specs.declared.form.Form.{Form}
-use Rattle.shim_sharing.specs.LocalState.{unit_or}
-use Rattle.shim_sharing.specs.Arguments.{empties, numbers_from}
-use Rattle.shim_sharing.specs.Forks.{takes_input, takes_output, labels_from}
-use Rattle.shim_walk.specs.Depths.{shown}
+use Rattle.shim_units.specs.declared.form.Form.{Form}
+use Rattle.shim_units.specs.LocalState.{unit_or}
+use Rattle.shim_units.specs.Arguments.{empties, numbers_from}
+use Rattle.shim_units.specs.Forks.{takes_input, takes_output, labels_from}
+use Rattle.shim_frames.specs.Depths.{shown}
 use Rattle.shim_walk.specs.Entries.{enter_of}
 use Rattle.shim_walk.proofs.Births.{root_by}
 use Rattle.shim_walk.proofs.process.Process.main.Goals as goal

@@ -1,7 +1,7 @@
 use Rattle.std.proofs.Common.{refl, ap, ◌∙◌}
 use Rattle.std.specs.Arc.{arc_value}
-use Rattle.shim_sharing.specs.declared.form.Form.{Form}
-use Rattle.shim_walk.specs.Deeds.{arguments_of}
+use Rattle.shim_units.specs.declared.form.Form.{Form}
+use Rattle.shim_cells.specs.Given.{arguments_of}
 use Rattle.shim_walk.specs.Entries.{inside_of}
 use Rattle.shim_walk.proofs.Entering.{put_by}
 use Rattle.shim_walk.proofs.process.Process.put_in.Goals as goal

@@ -1,10 +1,10 @@
 use Rattle.std.proofs.Common.{ap, ◌∙◌}
-use Rattle.shim_sharing.specs.declared.form.Form.{Form}
-use Rattle.shim_sharing.specs.LocalState.{LocalState}
-use Rattle.shim_sharing.specs.Forks.{joined, all_back}
+use Rattle.shim_units.specs.declared.form.Form.{Form}
+use Rattle.shim_units.specs.LocalState.{LocalState}
+use Rattle.shim_units.specs.Forks.{joined, all_back}
 use Rattle.shim_walk.specs.Bred.{branches_of}
-use Rattle.shim_walk.specs.Depths.{text}
-use Rattle.shim_walk.specs.Pieces.{at_all}
+use Rattle.shim_frames.specs.Depths.{text}
+use Rattle.shim_frames.specs.Pieces.{at_all}
 use Rattle.shim_walk.specs.contracts.process.Process.{the_view}
 use Rattle.shim_walk.proofs.Births.{branches_next}
 use Rattle.shim_walk.proofs.Forking.{joined_by}

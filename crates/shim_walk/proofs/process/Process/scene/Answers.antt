@@ -1,6 +1,6 @@
 use Rattle.std.proofs.Common.{◌≡◌, ap, ◌∙◌, rules}
-use Rattle.shim_walk.specs.Depths.{text}
-use Rattle.shim_walk.specs.Lines.{exceptions_in}
+use Rattle.shim_frames.specs.Depths.{text}
+use Rattle.shim_walk.specs.Haves.{exceptions_in}
 use Rattle.shim_walk.specs.Scenes.{exceptions_of}
 use Rattle.shim_walk.specs.contracts.process.Process.{the_view}
 use Rattle.shim_walk.proofs.Labelling.{same_exceptions}

@@ -1,11 +1,11 @@
 use Rattle.std.proofs.Common.{◌≡◌, ap, ◌∙◌, sym, subst, map, List}
-use Rattle.shim_sharing.specs.declared.unit.Unit.{Unit as UnitOf}
-use Rattle.shim_sharing.specs.declared.form.Form.{Form}
-use Rattle.shim_sharing.specs.LocalState.{LocalState}
-use Rattle.shim_sharing.specs.Ends.{settled}
-use Rattle.shim_walk.specs.Depths.{depth_of, returned, shown}
+use Rattle.shim_units.specs.declared.unit.Unit.{Unit as UnitOf}
+use Rattle.shim_units.specs.declared.form.Form.{Form}
+use Rattle.shim_units.specs.LocalState.{LocalState}
+use Rattle.shim_units.specs.Ends.{settled}
+use Rattle.shim_frames.specs.Depths.{depth_of, returned, shown}
 use Rattle.shim_walk.specs.contracts.process.Process.{the_view}
-use Rattle.shim_walk.proofs.Returns.{settled_is, at_depth}
+use Rattle.shim_frames.proofs.Returns.{settled_is, at_depth}
 use Rattle.shim_walk.proofs.process.Process.settle.Goals as goal
 
 pub returns : goal.returns

@@ -1,5 +1,5 @@
 use Rattle.std.proofs.Common.{ap, ◌∙◌, sym}
-use Rattle.shim_sharing.specs.LocalState.{LocalState}
+use Rattle.shim_units.specs.LocalState.{LocalState}
 use Rattle.shim_walk.specs.States.{trapping_of}
 use Rattle.shim_walk.specs.Scenes.{have}
 use Rattle.shim_walk.specs.StopViews.{stands_at, stop_view}

@@ -1,8 +1,8 @@
 use Rattle.std.proofs.Common.{◌≡◌, ap, ◌∙◌, subst, slice_get, OnOk}
-use Rattle.shim_sharing.specs.declared.form.Form.{Form}
-use Rattle.shim_sharing.specs.LocalState.{LocalState, unit_or}
-use Rattle.shim_sharing.specs.Forks.{lending}
-use Rattle.shim_walk.specs.Lendings.{left_of}
+use Rattle.shim_units.specs.declared.form.Form.{Form}
+use Rattle.shim_units.specs.LocalState.{LocalState, unit_or}
+use Rattle.shim_units.specs.Forks.{lending}
+use Rattle.shim_cells.specs.Lendings.{left_of}
 use Rattle.shim_walk.specs.contracts.process.Process.{the_view}
 use Rattle.shim_walk.proofs.Forking.{lending_by, on_three}
 use Rattle.shim_walk.proofs.process.Process.take.Goals as goal

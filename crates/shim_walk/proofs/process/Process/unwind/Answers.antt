@@ -1,12 +1,12 @@
 use Rattle.std.proofs.Common.{◌≡◌, ap, ◌∙◌, subst, map, List}
-use Rattle.shim_sharing.specs.declared.unit.Unit.{Unit as UnitOf}
-use Rattle.shim_sharing.specs.declared.form.Form.{Form}
-use Rattle.shim_sharing.specs.LocalState.{LocalState}
-use Rattle.shim_sharing.specs.Unwinding.{unwind}
-use Rattle.shim_walk.specs.Depths.{depth_of, shown}
-use Rattle.shim_walk.specs.Leaving.{unwound_in}
+use Rattle.shim_units.specs.declared.unit.Unit.{Unit as UnitOf}
+use Rattle.shim_units.specs.declared.form.Form.{Form}
+use Rattle.shim_units.specs.LocalState.{LocalState}
+use Rattle.shim_units.specs.Unwinding.{unwind}
+use Rattle.shim_frames.specs.Depths.{depth_of, shown}
+use Rattle.shim_frames.specs.Leaving.{unwound_in}
 use Rattle.shim_walk.specs.contracts.process.Process.{the_view}
-use Rattle.shim_walk.proofs.Leaves.{unwound_by}
+use Rattle.shim_frames.proofs.Leaves.{unwound_by}
 use Rattle.shim_walk.proofs.process.Process.unwind.Goals as goal
 
 pub returns : goal.returns

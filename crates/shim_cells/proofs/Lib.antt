@@ -1,0 +1,4 @@
+-- The lemmas of this crate.
+pub mod Given
+pub mod OneMore
+pub mod Lent

@@ -1,0 +1,100 @@
+// What a process has left while the children of a fork are made.
+ghost use Rattle.std.specs.Prelude.{◌≡◌, ◌∷◌, [], None, false, if◌then◌else◌, OnOk};
+ghost use Rattle.shim_units.specs.Forks.{lent, takes_input, takes_output};
+ghost use Rattle.shim_units.specs.Locations.{Locations};
+ghost use Rattle.shim_scopes.specs.declared.tree.UParam.{UParam};
+ghost use Rattle.shim_cells.specs.Lendings.{is_taken, lent_at};
+
+use crate::cells::number_of;
+use crate::streams::{takes_input, takes_output};
+use shim_base::{List, NoMemory};
+use shim_scopes::UParam;
+use shim_units::Arg;
+
+/// What the branches of a fork have left of a process. Its cells stay as they are until all children are
+/// there, so that a refusal changes nothing.
+#[derive(Drop)]
+pub struct Left {
+    /// The numbers of the cells that were given by reference.
+    pub taken: List<usize>,
+    /// How many bytes of the input were read, where the process has that still.
+    pub input_at: Option<usize>,
+    pub holds_output: bool,
+}
+
+/// Whether the number is one of these.
+pub fn is_taken(number: usize, taken: &[usize]) -> bool
+    ensures { result ≡ is_taken number taken.now }
+{
+    for one in taken {
+        if *one == number {
+            return true;
+        }
+    }
+    false
+}
+
+// The cell that an argument gives by reference is taken.
+#[tactic(auto, using(crate::proofs::Lent::lent_more))]
+fn take_one(taken: &mut List<usize>, slots: &[usize], arg: &Arg) -> Result<(), NoMemory>
+    ensures { OnOk result ((cells : Locations) (param : UParam) → lent_at taken.new cells ≡ lent slots.now (param ∷ []) (arg.now ∷ []) (lent_at taken.old cells)) }
+{
+    match arg {
+        Arg::Ref(slot) => {
+            taken.push(number_of(slots, *slot))?;
+            Ok(())
+        }
+        _ => Ok(()),
+    }
+}
+
+// The arguments go with the parameters.
+fn take_all(
+    taken: &mut List<usize>,
+    slots: &[usize],
+    params: &[UParam],
+    args: &[Arg],
+) -> Result<(), NoMemory>
+    ensures { OnOk result ((cells : Locations) → lent_at taken.new cells ≡ lent slots.now params.now args.now (lent_at taken.old cells)) }
+{
+    let mut rest = args;
+    for _param in params {
+        let Some((arg, after)) = rest.split_first() else {
+            return Ok(());
+        };
+        take_one(taken, slots, arg)?;
+        rest = after;
+    }
+    Ok(())
+}
+
+// Where the input is read by what a branch with these parameters leaves.
+fn input_left(params: &[UParam], at: Option<usize>) -> Option<usize>
+    ensures { result ≡ if takes_input params.now then None else at }
+{
+    if takes_input(params) { None } else { at }
+}
+
+// Whether a branch with these parameters leaves the output.
+fn output_left(params: &[UParam], held: bool) -> bool
+    ensures { result ≡ if takes_output params.now then false else held }
+{
+    if takes_output(params) { false } else { held }
+}
+
+/// A branch with these parameters takes its arguments.
+pub fn take(
+    left: &mut Left,
+    slots: &[usize],
+    params: &[UParam],
+    args: &[Arg],
+) -> Result<(), NoMemory>
+    ensures cells { OnOk result ((cells : Locations) → lent_at left.new.taken cells ≡ lent slots.now params.now args.now (lent_at left.old.taken cells)) }
+    ensures input { OnOk result (left.new.input_at ≡ if takes_input params.now then None else left.old.input_at) }
+    ensures output { OnOk result (left.new.holds_output ≡ if takes_output params.now then false else left.old.holds_output) }
+{
+    take_all(&mut left.taken, slots, params, args)?;
+    left.input_at = input_left(params, left.input_at);
+    left.holds_output = output_left(params, left.holds_output);
+    Ok(())
+}

@@ -1,0 +1,5 @@
+//! Tests of trees over small processes: their events, what is seen of a tree behind them, and what is read off it.
+#![tactic(auto)]
+
+#[cfg(test)]
+mod small_trees;

@@ -1,0 +1,7 @@
+use Rattle.std.proofs.Common.{◌≡◌}
+use Rattle.shim_tree.specs.Trees.{steps}
+use Rattle.shim_runs.proofs.tree_rows.do_first_events.Given as goal
+
+-- each event counted one step
+abbrev pub invariant-loop : goal.invariant-loop
+invariant-loop g l = steps l.tree ≡ l.counter

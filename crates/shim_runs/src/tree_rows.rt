@@ -1,0 +1,205 @@
+// Trees of whole programs, with an input: the reports that they come to, and the events that can happen on the way.
+ghost use Rattle.std.specs.Prelude.{◌≡◌, ◌≤◌, ◌⊎◌, length, OnOk, IfOk};
+ghost use Rattle.shim_units.specs.Forks.{root};
+ghost use Rattle.shim_tree.specs.Sound.{SharesItsOwn};
+ghost use Rattle.shim_tree.specs.Trees.{steps, IsQuiescent};
+
+use crate::expect::FILTER;
+use shim_base::{List, NoMemory, Shared};
+use shim_local::{Ended, Local};
+use shim_parser::parse;
+use shim_report::text;
+use shim_scopes::resolve;
+use shim_sharing::{Accepted, accept};
+use shim_tree::Tree;
+use shim_walk::Walk;
+use std::alloc::Global;
+use std::process::Abort;
+use std::str;
+use std::test::Fail;
+
+// The units of a text, or nothing where it is refused.
+fn units_of(alloc: Global, text: &[u8]) -> Option<Accepted>
+    requires { length text.now ≤ 1048576 }
+{
+    let program = match parse(alloc, text) {
+        Ok(program) => program,
+        Err(_) => return None,
+    };
+    let resolved = match resolve(alloc, &program) {
+        Ok(resolved) => resolved,
+        Err(_) => return None,
+    };
+    match accept(alloc, resolved) {
+        Ok(accepted) => Some(accepted),
+        Err(_) => None,
+    }
+}
+
+// The process that runs the `main` of a program on this input.
+fn walk_of(alloc: Global, program: Shared<Accepted>, input: &str) -> Result<Walk, NoMemory>
+    ensures { IfOk result (λ walk. walk ≡ root program input.now) }
+{
+    let input = Shared::new(alloc, List::from_slice(alloc, input.as_bytes())?)?;
+    Walk::main(alloc, program, input)
+}
+
+// Does the first enabled event again and again, until none is enabled or so many were done.
+fn do_first_events<L: Local>(tree: &mut Tree<L>, most: u64) -> Result<(), NoMemory>
+    requires fresh { steps tree.old ≡ 0 }
+    requires small { most ≤ 4000000 }
+    ensures end { OnOk result (((steps tree.new ≤ most) × IsQuiescent L.ops tree.new) ⊎ (steps tree.new ≡ most)) }
+{
+    for _ in 0..most {
+        match tree.first()? {
+            None => return Ok(()),
+            Some(event) => tree.do_event(&event)?,
+        }
+    }
+    Ok(())
+}
+
+// What the tree of this one process comes to, by at most a thousand events.
+fn end_of<L: Local>(alloc: Global, root: L) -> Result<Ended, NoMemory>
+    requires own { SharesItsOwn L.ops root }
+{
+    let mut tree = Tree::start(alloc, root)?;
+    do_first_events(&mut tree, 1000)?;
+    tree.ended(1000)
+}
+
+// The report of a program's run on this input.
+fn report_of(alloc: Global, program: &Shared<Accepted>, input: &str) -> Result<List<u8>, NoMemory> {
+    let root = walk_of(alloc, program.share()?, input)?;
+    let end = end_of(alloc, root)?;
+    text(alloc, &end, program.names())
+}
+
+fn expect_report(
+    rt: &impl Abort,
+    alloc: Global,
+    source: &str,
+    input: &str,
+    wanted: &str,
+) -> Result<(), Fail> {
+    assert!(rt; source.len() <= 1048576);
+    let units = units_of(alloc, source.as_bytes()).expect(rt, "accepted");
+    let report = report_of(alloc, &Shared::new(alloc, units)?, input)?;
+    assert_eq!(rt; str::from_utf8(report.as_slice())?, wanted, "of {input}");
+    Ok(())
+}
+
+// Expects of each source and input this report.
+fn expect_reports(rt: &impl Abort, alloc: Global, rows: &[(&str, &str, &str)]) -> Result<(), Fail> {
+    for row in rows {
+        expect_report(rt, alloc, row.0, row.1, row.2)?;
+    }
+    Ok(())
+}
+
+#[test]
+fn a_program_reads_its_input(rt: HostRuntime) -> Result<(), Fail> {
+    expect_reports(
+        &rt,
+        rt.alloc(),
+        &[
+            (
+                FILTER,
+                "AB",
+                "output 2 8284\nchan main#0 a : 65 66\nchan main#1 b : 130 132\ncatch main Done 15\nend done 32\n",
+            ),
+            (FILTER, "", "output 0\ncatch main Done 15\nend done 14\n"),
+            // The branch that has the input hands it back, as far as it was read.
+            (
+                "void main(istream &i, ostream &o) {
+  int x;
+  { int y; y = get i; } par { }
+  x = get i;
+  put o, x;
+}
+",
+                "AB",
+                "output 1 42\nend done 10\n",
+            ),
+        ],
+    )
+}
+
+// Expects that so many events are enabled after so many first ones, as each call of the tree says it.
+fn expect_enabled<L: Local>(
+    rt: &impl Abort,
+    alloc: Global,
+    root: L,
+    done: u64,
+    wanted: usize,
+) -> Result<(), Fail>
+    requires own { SharesItsOwn L.ops root }
+    requires small { done ≤ 4000000 }
+{
+    let mut tree = Tree::start(alloc, root)?;
+    do_first_events(&mut tree, done)?;
+    assert_eq!(rt; tree.enabled()?.len(), wanted, "after {done}");
+    assert_eq!(rt; tree.first()?.is_none(), wanted == 0, "after {done}");
+    assert_eq!(rt; tree.quiescent(), wanted == 0, "after {done}");
+    Ok(())
+}
+
+fn expect_enabled_of(
+    rt: &impl Abort,
+    alloc: Global,
+    source: &str,
+    done: u64,
+    wanted: usize,
+) -> Result<(), Fail> {
+    assert!(rt; source.len() <= 1048576);
+    assert!(rt; done <= 4000000);
+    let units = units_of(alloc, source.as_bytes()).expect(rt, "accepted");
+    let root = walk_of(alloc, Shared::new(alloc, units)?, "")?;
+    expect_enabled(rt, alloc, root, done, wanted)
+}
+
+// Expects of a source, after so many first events, so many that are enabled.
+fn expect_counts(
+    rt: &impl Abort,
+    alloc: Global,
+    source: &str,
+    rows: &[(u64, usize)],
+) -> Result<(), Fail> {
+    for row in rows {
+        expect_enabled_of(rt, alloc, source, row.0, row.1)?;
+    }
+    Ok(())
+}
+
+#[test]
+fn nothing_can_happen_in_a_deadlock(rt: HostRuntime) -> Result<(), Fail> {
+    expect_counts(
+        &rt,
+        rt.alloc(),
+        "void main() {
+  int a; int b;
+  { next a; next b; } par { next b; next a; }
+}
+",
+        &[(0, 1), (1, 1), (2, 1), (3, 0), (4, 0)],
+    )
+}
+
+#[test]
+fn branches_can_each_go_on(rt: HostRuntime) -> Result<(), Fail> {
+    expect_counts(
+        &rt,
+        rt.alloc(),
+        "void main() { { int x; } par { int y; } }",
+        &[
+            (0, 1),
+            (1, 2),
+            (2, 2),
+            (3, 1),
+            (4, 1),
+            (5, 1),
+            (6, 1),
+            (7, 0),
+        ],
+    )
+}

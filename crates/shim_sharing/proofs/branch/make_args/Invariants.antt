@@ -1,7 +1,0 @@
-use Rattle.std.proofs.Common.{◌≡◌, map, take}
-use Rattle.shim_sharing.specs.Marks.{takes_of}
-use Rattle.shim_sharing.specs.Lifting.{branch_arg}
-use Rattle.shim_sharing.proofs.branch.make_args.Given as goal
-
-abbrev pub invariant-loop-slot : goal.invariant-loop-slot
-invariant-loop-slot l = l.made ≡ map (branch_arg l.around (takes_of l.takes)) (take l.slot-index l.slots)

@@ -1,6 +1,0 @@
-use Rattle.std.proofs.Common.{◌≡◌, map, take}
-use Rattle.shim_sharing.specs.Lifting.{try_name}
-use Rattle.shim_sharing.proofs.branch.name_tries.Given as goal
-
-abbrev pub invariant-loop-exception : goal.invariant-loop-exception
-invariant-loop-exception l = l.made ≡ map (try_name l.function) (take l.exception-index l.tries)

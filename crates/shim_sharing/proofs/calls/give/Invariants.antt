@@ -1,6 +1,0 @@
-use Rattle.std.proofs.Common.{◌≡◌, ◌++◌, drop}
-use Rattle.shim_sharing.specs.Calls.{given}
-use Rattle.shim_sharing.proofs.calls.give.Given as goal
-
-abbrev pub invariant-loop-arg : goal.invariant-loop-arg
-invariant-loop-arg l = l.made ++ given l.left (drop l.arg-index l.args) ≡ given l.params l.args

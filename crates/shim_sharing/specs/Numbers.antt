@@ -1,0 +1,9 @@
+-- The numbers of the branches that a refusal tells fit.
+use Rattle.std.specs.Prelude.{◌<◌, ◌^◌}
+use Rattle.shim_sharing.specs.declared.found.Offence.{Offence}
+use Rattle.shim_sharing.specs.declared.found.Offence.TheVariants.{TwoWriters, Alias}
+
+-- the numbers of the branches that a refusal tells
+abbrev pub HasNumbers : Offence → Type 0
+HasNumbers (TwoWriters line first second slot) = (first < 2 ^ 32) × (second < 2 ^ 32)
+HasNumbers (Alias line slot) = Unit {0}

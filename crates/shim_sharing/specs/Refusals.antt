@@ -1,0 +1,33 @@
+-- What is told of the first place of a program that the sharing rule refuses.
+use Rattle.std.specs.Prelude.{ℕ, List, [], ◌∷◌, Option, Some, None}
+use Rattle.std.specs.Option.{option_or}
+use Rattle.shim_scopes.specs.declared.tree.RFunction.{RFunction}
+use Rattle.shim_scopes.specs.declared.form.Form.{Form as Resolved}
+use Rattle.shim_sharing.specs.declared.fault.ShareFault.{ShareFault}
+use Rattle.shim_sharing.specs.declared.fault.ShareFault.TheVariants as refuses
+use Rattle.shim_sharing.specs.declared.found.Offence.{Offence}
+use Rattle.shim_sharing.specs.declared.found.Offence.TheVariants.{TwoWriters, Alias}
+use Rattle.shim_sharing.specs.Sharing.{first_offence}
+use Rattle.shim_units.specs.Lifting.{name_of}
+use Rattle.shim_units.specs.Meaning.{places_in}
+use Rattle.shim_units.specs.Units.{text_of}
+
+abbrev pub told : List (List ℕ) → RFunction → Offence → ShareFault
+told names f (TwoWriters line i j x) = refuses.TwoWriters line (text_of names (name_of f x)) i j
+told names f (Alias line x) = refuses.Alias line (text_of names (name_of f x))
+
+abbrev pub refused_for : List (List ℕ) → RFunction → Option Offence → Option ShareFault
+refused_for names f None = None
+refused_for names f (Some offence) = Some (told names f offence)
+
+-- of one function
+abbrev pub function_refusal : List (List ℕ) → List RFunction → RFunction → Option ShareFault
+function_refusal names all f = refused_for names f (first_offence f.slots (places_in all f.body))
+
+abbrev pub refusal_in : List (List ℕ) → List RFunction → List RFunction → Option ShareFault
+refusal_in names all [] = None
+refusal_in names all (f ∷ fs) = option_or (function_refusal names all f) (refusal_in names all fs)
+
+-- the first place of a program that the sharing rule refuses, if any
+abbrev pub refusal : Resolved → Option ShareFault
+refusal p = refusal_in p.names p.functions p.functions

@@ -1,0 +1,144 @@
+-- What the status of a run tells of the tree to which it came.
+use Rattle.std.proofs.Common.{◌≡◌, ◌≢◌, ◌↔◌, ℕ, zero, suc, ◌+◌, inl, inr, Bool, IsTrue, None, List, [], ◌∷◌, map, cond, refl, sym, ap, ◌∙◌, arith}
+use Rattle.std.specs.FinMap as finite
+use Rattle.shim_base.specs.Paths.{Path}
+use Rattle.shim_local.specs.Process.{Ops}
+use Rattle.shim_local.specs.declared.Outcome.{Outcome}
+use Rattle.shim_local.specs.declared.Outcome.TheVariants.{Done, Uncaught, Trapped, Blocked, Spent}
+use Rattle.shim_process.specs.Ops.{process_ops}
+use Rattle.shim_units.specs.LocalState.{LocalState}
+use Rattle.shim_tree.specs.Nodes.{Node, Live, Forked, Ended, Dead, has_ended, is_dead, goes}
+use Rattle.shim_tree.specs.Trees.{Tree, Event, steps, sum, IsQuiescent}
+use Rattle.shim_tree.specs.Walks.{walk, first, head}
+use Rattle.shim_tree.specs.Endings.{ended, own_steps, is_empty, outcome, outcome_of_root}
+use Rattle.shim_tool.specs.Naming.{named, named_outcome}
+use Rattle.shim_tool.specs.Source.{Source}
+use Rattle.shim_tool.specs.Meaning.{budget, tree_of, end_of, status_of, status_of_outcome, printed_steps, IsDone, IsFailed, IsBlocked, IsSpent, WasRun}
+
+-- a name in a label's place changes no status
+status_named : (throws : List ℕ) (e : Outcome) → status_of_outcome (named_outcome throws e) ≡ status_of_outcome e
+status_named throws Done = refl
+status_named throws (Uncaught label) = refl
+status_named throws Trapped = refl
+status_named throws Blocked = refl
+status_named throws Spent = refl
+
+-- how a tree has ended whose walk finds nothing
+at_rest : {S : Type 0} (root : Node S) (es : List Event) → head es ≡ None → cond (is_empty es) (outcome_of_root root) Spent ≡ outcome_of_root root
+at_rest root [] none = refl
+at_rest root (e ∷ es) none = absurd (cc)
+
+-- and how one has whose walk finds something
+still_going : {S : Type 0} (root : Node S) (es : List Event) → head es ≢ None → cond (is_empty es) (outcome_of_root root) Spent ≡ Spent
+still_going root [] some = absurd (some refl)
+still_going root (e ∷ es) some = refl
+
+-- the outcome that is told of a source is that of its tree, named
+told : {S : Type 0} (o : Ops S) (throws : List ℕ) (t : Tree S) → (named throws (ended o t)).outcome ≡ named_outcome throws (outcome o t.root)
+unfolding ended
+told o throws t = refl
+
+-- the status of a source tells the outcome of its tree
+status_told : (source : Source) → status_of source ≡ status_of_outcome (outcome process_ops (tree_of source).root)
+unfolding end_of
+status_told source =
+    let t = tree_of source in
+    ap status_of_outcome (told process_ops source.main_throws t) ∙ status_named source.main_throws (outcome process_ops t.root)
+
+status_at_rest : (source : Source) → first process_ops (tree_of source) ≡ None → status_of source ≡ status_of_outcome (outcome_of_root (tree_of source).root)
+status_at_rest source none =
+    let t = tree_of source in
+    status_told source ∙ ap status_of_outcome (at_rest t.root (walk process_ops t.root) none)
+
+status_stopped : (source : Source) → first process_ops (tree_of source) ≢ None → status_of source ≡ 4
+status_stopped source some =
+    let t = tree_of source in
+    status_told source ∙ ap status_of_outcome (still_going t.root (walk process_ops t.root) some)
+
+-- what the status of a root at rest tells of it
+root_ended : {S : Type 0} (n : Node S) → IsTrue (has_ended n) ↔ (status_of_outcome (outcome_of_root n) ≡ 0)
+root_ended (Live l) = (λ h. absurd (cc), λ e. absurd (omega (arith, e)))
+root_ended (Forked l ks) = (λ h. absurd (cc), λ e. absurd (omega (arith, e)))
+root_ended (Ended l) = (λ h. refl, λ e. refl)
+root_ended (Dead l zero) = (λ h. absurd (cc), λ e. absurd (omega (arith, e)))
+root_ended (Dead l (suc x)) = (λ h. absurd (cc), λ e. absurd (omega (arith, e)))
+
+root_died : {S : Type 0} (n : Node S) → IsTrue (is_dead n) ↔ (status_of_outcome (outcome_of_root n) ≡ 1)
+root_died (Live l) = (λ h. absurd (cc), λ e. absurd (omega (arith, e)))
+root_died (Forked l ks) = (λ h. absurd (cc), λ e. absurd (omega (arith, e)))
+root_died (Ended l) = (λ h. absurd (cc), λ e. absurd (omega (arith, e)))
+root_died (Dead l zero) = (λ h. refl, λ e. refl)
+root_died (Dead l (suc x)) = (λ h. refl, λ e. refl)
+
+root_goes : {S : Type 0} (n : Node S) → IsTrue (goes n) ↔ (status_of_outcome (outcome_of_root n) ≡ 3)
+root_goes (Live l) = (λ h. refl, λ e. refl)
+root_goes (Forked l ks) = (λ h. refl, λ e. refl)
+root_goes (Ended l) = (λ h. absurd (cc), λ e. absurd (omega (arith, e)))
+root_goes (Dead l zero) = (λ h. absurd (cc), λ e. absurd (omega (arith, e)))
+root_goes (Dead l (suc x)) = (λ h. absurd (cc), λ e. absurd (omega (arith, e)))
+
+-- no root at rest has the status of a run that was stopped
+never_spent : {S : Type 0} (n : Node S) → status_of_outcome (outcome_of_root n) ≡ 4 → ⊥
+never_spent (Live l) e = omega (arith, e)
+never_spent (Forked l ks) e = omega (arith, e)
+never_spent (Ended l) e = omega (arith, e)
+never_spent (Dead l zero) e = omega (arith, e)
+never_spent (Dead l (suc x)) e = omega (arith, e)
+
+-- of a source that was run the status comes exactly where this is so
+pub record Tells (status : ℕ) (Cause : Source → Type 0) : Type 0 where
+  pub only : (source : Source) → WasRun source → status_of source ≡ status → Cause source
+  pub when : (source : Source) → WasRun source → Cause source → status_of source ≡ status
+
+-- nothing can happen any more, and the root is of this kind
+abbrev RestsSo : (Node LocalState → Bool) → Source → Type 0
+RestsSo kind source = IsQuiescent process_ops (tree_of source) × IsTrue (kind (tree_of source).root)
+
+rest_tells : (status : ℕ) (kind : Node LocalState → Bool) → (status ≡ 4 → ⊥) → ((n : Node LocalState) → IsTrue (kind n) ↔ (status_of_outcome (outcome_of_root n) ≡ status)) → Tells status (RestsSo kind)
+rest_tells status kind apart tells = record { only = λ source ran is. only source ran is; when = λ source ran cause. when source ran cause } where
+  only : (source : Source) → WasRun source → status_of source ≡ status → RestsSo kind source
+  only source (inl (none, quiet)) is = (quiet, (tells (tree_of source).root).1 (sym (status_at_rest source none) ∙ is))
+  only source (inr (some, busy, full)) is = absurd (apart (sym is ∙ status_stopped source some))
+
+  when : (source : Source) → WasRun source → RestsSo kind source → status_of source ≡ status
+  when source (inl (none, quiet)) cause = status_at_rest source none ∙ (tells (tree_of source).root).0 cause.1
+  when source (inr (some, busy, full)) cause = absurd (busy cause.0)
+
+pub tells_done : Tells 0 IsDone
+tells_done = rest_tells 0 has_ended (λ e. omega (arith, e)) root_ended
+
+pub tells_failed : Tells 1 IsFailed
+tells_failed = rest_tells 1 is_dead (λ e. omega (arith, e)) root_died
+
+pub tells_blocked : Tells 3 IsBlocked
+tells_blocked = rest_tells 3 goes (λ e. omega (arith, e)) root_goes
+
+pub tells_spent : Tells 4 IsSpent
+tells_spent = record { only = λ source ran is. only source ran is; when = λ source ran cause. when source ran cause } where
+  only : (source : Source) → WasRun source → status_of source ≡ 4 → IsSpent source
+  only source (inl (none, quiet)) is = absurd (never_spent (tree_of source).root (sym (status_at_rest source none) ∙ is))
+  only source (inr (some, busy, full)) is = busy
+
+  when : (source : Source) → WasRun source → IsSpent source → status_of source ≡ 4
+  when source (inl (none, quiet)) cause = absurd (cause quiet)
+  when source (inr (some, busy, full)) cause = status_stopped source some
+
+-- the counts that are printed are those of the tree
+counts_of : (es : List (Path × ℕ)) → map (λ s. s.count) (map own_steps es) ≡ map (λ e. e.1) es
+counts_of [] = refl
+counts_of (e ∷ es) = ap (λ (ns : List ℕ). e.1 ∷ ns) (counts_of es)
+
+-- so they add up to its steps
+printed : {S : Type 0} (o : Ops S) (throws : List ℕ) (t : Tree S) → printed_steps (named throws (ended o t)) ≡ steps t
+unfolding ended
+printed o throws t = ap (λ (ns : List ℕ). sum ns + t.events) (counts_of (finite.entries t.counts))
+
+-- a run that was stopped did as many events as the budget has
+pub spent_steps : (source : Source) → WasRun source → status_of source ≡ 4 → steps (tree_of source) ≡ budget
+spent_steps source (inl (none, quiet)) is = absurd (never_spent (tree_of source).root (sym (status_at_rest source none) ∙ is))
+spent_steps source (inr (some, busy, full)) is = full
+
+-- and those of a run that was stopped to the budget
+pub spent_counts : (source : Source) → WasRun source → status_of source ≡ 4 → printed_steps (end_of source) ≡ budget
+unfolding end_of
+spent_counts source was_run is = printed process_ops source.main_throws (tree_of source) ∙ spent_steps source was_run is

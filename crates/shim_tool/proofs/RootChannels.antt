@@ -1,0 +1,13 @@
+-- The process that runs `main` shares only channels of its own: at first it has none.
+use Rattle.std.proofs.Common.{◌≡◌, ℕ, true, List, ap, ◌∙◌}
+use Rattle.shim_base.specs.Paths.{Channel}
+use Rattle.shim_units.specs.declared.form.Form.{Form}
+use Rattle.shim_units.specs.Forks.{root}
+use Rattle.shim_units.specs.LocalState.{LocalState}
+use Rattle.shim_process.specs.Ops.{process_ops}
+use Rattle.shim_process.proofs.PlaceRoot.{root_shares_nothing}
+
+pub main_shares_its_own : (l : LocalState) (program : Form) (input : List ℕ) → l ≡ root program input → (c : Channel) → process_ops.shares l c ≡ true → c.home ≡ process_ops.path l
+main_shares_its_own l program input is c shares =
+    let none = ap (λ (s : LocalState). process_ops.shares s c) is ∙ root_shares_nothing program input c in
+    absurd (cc (none, shares))

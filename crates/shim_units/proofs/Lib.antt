@@ -1,0 +1,4 @@
+-- The lemmas of this crate.
+pub mod EachKind
+pub mod Marks
+pub mod Sends

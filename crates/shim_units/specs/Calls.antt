@@ -1,0 +1,45 @@
+-- The arguments of a call, by the parameters of the function that is called.
+use Rattle.std.specs.Prelude.{ℕ, List, [], ◌∷◌, Option, Some, None, Bool, true, false, ◌||◌, slice_get}
+use Rattle.shim_syntax.specs.declared.tree.Sort.{Sort}
+use Rattle.shim_syntax.specs.declared.tree.Sort.TheVariants.{Value, Input, Output}
+use Rattle.shim_scopes.specs.declared.tree.UExpr.{UExpr, fold-UExpr, UExpr-F}
+use Rattle.shim_scopes.specs.declared.tree.UParam.{UParam}
+use Rattle.shim_scopes.specs.declared.tree.RFunction.{RFunction}
+use Rattle.shim_units.specs.declared.found.Given.{Given}
+
+abbrev pub is_stream : Sort → Bool
+is_stream (Value ty) = false
+is_stream Input = true
+is_stream Output = true
+
+-- a stream is always given by reference
+abbrev pub lends : UParam → Bool
+lends p = p.by_ref || is_stream p.sort
+
+abbrev pub lends_first : List UParam → Bool
+lends_first [] = false
+lends_first (p ∷ ps) = lends p
+
+abbrev pub behind_first : List UParam → List UParam
+behind_first [] = []
+behind_first (p ∷ ps) = ps
+
+abbrev pub params_of : Option RFunction → List UParam
+params_of None = []
+params_of (Some f) = f.params
+
+abbrev pub params_at : List RFunction → ℕ → List UParam
+params_at fs n = params_of (slice_get fs n)
+
+abbrev pub bare_step : UExpr-F (Option ℕ) → Option ℕ
+bare_step (UExpr-F.Var x) = Some x
+bare_step _ = None
+
+-- the variable that an expression is, where it is one
+unfoldable pub bare : UExpr → Option ℕ
+bare = fold-UExpr (Option ℕ) bare_step
+
+-- each argument with its parameter
+abbrev pub given : List UParam → List UExpr → List Given
+given ps [] = []
+given ps (e ∷ es) = record { lent = lends_first ps; bare = bare e } ∷ given (behind_first ps) es

@@ -1,0 +1,26 @@
+-- The forks and calls of a text, in textual order, a fork before what stands in its branches.
+use Rattle.std.specs.Prelude.{ℕ, List, [], ◌∷◌, ◌++◌}
+use Rattle.shim_scopes.specs.declared.tree.RCall.{RCall}
+use Rattle.shim_scopes.specs.declared.tree.RFunction.{RFunction}
+use Rattle.shim_scopes.specs.declared.tree.RWhat.{RWhat-F}
+use Rattle.shim_scopes.specs.declared.tree.RBranchWhat.{RBranchWhat-F}
+use Rattle.shim_units.specs.Parts.{Place, Part, all_places, each_uses}
+use Rattle.shim_units.specs.Parts.Place.{Fork, Called}
+use Rattle.shim_units.specs.Calls.{given, params_at}
+
+abbrev pub call_place : List RFunction → RCall → ℕ → Place
+call_place fs c line = Called line (given (params_at fs c.function) c.args)
+
+abbrev pub branch_what_places : {S T U V : Type 0} → List RFunction → RBranchWhat-F (ℕ → Part S) (ℕ → Part T) (Part U) (Part V) → ℕ → List Place
+branch_what_places fs (RBranchWhat-F.RBranchWhat::Block body) line = all_places fs body
+branch_what_places fs (RBranchWhat-F.RBranchWhat::Call c) line = call_place fs c line ∷ []
+
+abbrev pub what_places : {S T U V : Type 0} → List RFunction → RWhat-F (ℕ → Part S) (ℕ → Part T) (Part U) (Part V) → ℕ → List Place
+what_places fs (RWhat-F.If e first other) line = all_places fs first ++ all_places fs other
+what_places fs (RWhat-F.While e body) line = all_places fs body
+what_places fs (RWhat-F.For first test step body) line = all_places fs first ++ (all_places fs step ++ all_places fs body)
+what_places fs (RWhat-F.RWhat::Block body) line = all_places fs body
+what_places fs (RWhat-F.RWhat::Call c) line = call_place fs c line ∷ []
+what_places fs (RWhat-F.Try body x handler) line = all_places fs body ++ all_places fs handler
+what_places fs (RWhat-F.Par branches) line = Fork line (each_uses fs branches) ∷ all_places fs branches
+what_places fs _ line = []

@@ -1,0 +1,172 @@
+-- How large a program is, bound and as units: as in its text, each number, each operator, each statement and each name that is declared, called or used counts one, and so do the functions, the units, their parameters and the branches that are blocks.
+use Rattle.std.specs.Prelude.{ℕ, suc, ◌+◌, ◌<◌, ◌^◌, List, [], ◌∷◌, Option, Some, None, map, length}
+use Rattle.shim_scopes.specs.Sizes.{sum_of}
+use Rattle.shim_scopes.specs.declared.tree.UExpr.{UExpr, fold-UExpr, UExpr-F}
+use Rattle.shim_scopes.specs.declared.tree.RCall.{RCall}
+use Rattle.shim_scopes.specs.declared.tree.RFunction.{RFunction}
+use Rattle.shim_scopes.specs.declared.tree.RStmt.{RStmt, fold-RStmt}
+use Rattle.shim_scopes.specs.declared.tree.RWhat.{RWhat, RWhat-F, fold-RWhat}
+use Rattle.shim_scopes.specs.declared.tree.RBranch.{RBranch, fold-RBranch}
+use Rattle.shim_scopes.specs.declared.tree.RBranchWhat.{RBranchWhat, RBranchWhat-F, fold-RBranchWhat}
+use Rattle.shim_units.specs.declared.unit.Arg.{Arg}
+use Rattle.shim_units.specs.declared.unit.Arg.TheVariants.{Ref, Pass, Fresh}
+use Rattle.shim_units.specs.declared.unit.UCall.{UCall}
+use Rattle.shim_units.specs.declared.unit.UStmt.{UStmt, fold-UStmt}
+use Rattle.shim_units.specs.declared.unit.UWhat.{UWhat, UWhat-F, fold-UWhat}
+use Rattle.shim_units.specs.declared.unit.UBranch.{UBranch}
+use Rattle.shim_units.specs.declared.unit.Unit.{Unit as UnitOf}
+use Rattle.shim_units.specs.Todo.{size_all}
+
+abbrev pub expr_counts : UExpr-F ℕ → ℕ
+expr_counts (UExpr-F.Number n) = 1
+expr_counts (UExpr-F.Var x) = 1
+expr_counts (UExpr-F.Unary op a) = suc a
+expr_counts (UExpr-F.Binary op a b) = suc (a + b)
+
+unfoldable pub expr_size : UExpr → ℕ
+expr_size = fold-UExpr ℕ expr_counts
+
+abbrev pub option_size : Option UExpr → ℕ
+option_size None = 0
+option_size (Some e) = expr_size e
+
+-- bound statements
+
+-- how large a part of a function's text is, how many variables it declares, those in block branches apart, and how large its forks are
+pub record Extent : Type 0 where
+  pub size : ℕ
+  pub own : ℕ
+  pub forked : ℕ
+  pub inside : ℕ
+
+abbrev pub plain : ℕ → Extent
+plain n = record { size = n; own = 0; forked = 0; inside = 0 }
+
+abbrev pub declaration : ℕ → Extent
+declaration n = record { size = n; own = 1; forked = 0; inside = 0 }
+
+abbrev pub larger : ℕ → Extent → Extent
+larger n e = record { size = n + e.size; own = e.own; forked = e.forked; inside = e.inside }
+
+abbrev pub both : Extent → Extent → Extent
+both a b = record { size = a.size + b.size; own = a.own + b.own; forked = a.forked + b.forked; inside = a.inside + b.inside }
+
+abbrev pub together : List Extent → Extent
+together [] = plain 0
+together (e ∷ es) = both e (together es)
+
+-- of a block branch, or of a fork: what is declared there is in units of their own
+abbrev pub apart : Extent → Extent
+apart e = record { size = suc e.size; own = 0; forked = e.own + e.forked; inside = e.size }
+
+abbrev pub call_size : RCall → ℕ
+call_size c = suc (sum_of (map expr_size c.args))
+
+abbrev pub branch_extents : RBranchWhat-F Extent Extent Extent Extent → Extent
+branch_extents (RBranchWhat-F.RBranchWhat::Block body) = apart (together body)
+branch_extents (RBranchWhat-F.RBranchWhat::Call c) = plain (call_size c)
+
+abbrev pub what_extents : RWhat-F Extent Extent Extent Extent → Extent
+what_extents (RWhat-F.Declare ty x e) = declaration (suc (option_size e))
+what_extents (RWhat-F.Assign x e) = plain (suc (expr_size e))
+what_extents (RWhat-F.Next x) = plain 1
+what_extents (RWhat-F.NextAssign x e) = plain (suc (expr_size e))
+what_extents (RWhat-F.AssignNext x y) = plain 2
+what_extents (RWhat-F.Get x y) = plain 2
+what_extents (RWhat-F.Put x e) = plain (suc (expr_size e))
+what_extents (RWhat-F.If e first other) = larger (suc (expr_size e)) (both (together first) (together other))
+what_extents (RWhat-F.While e body) = larger (suc (expr_size e)) (together body)
+what_extents (RWhat-F.For first test step body) = larger (suc (option_size test)) (both (together first) (both (together step) (together body)))
+what_extents (RWhat-F.RWhat::Block body) = larger 1 (together body)
+what_extents (RWhat-F.RWhat::Call c) = plain (call_size c)
+what_extents (RWhat-F.Try body x handler) = larger 1 (both (together body) (together handler))
+what_extents (RWhat-F.Throw x) = plain 1
+what_extents (RWhat-F.Par branches) = apart (together branches)
+
+abbrev pub branch_what_extent : RBranchWhat → Extent
+branch_what_extent = fold-RBranchWhat Extent Extent Extent Extent branch_extents what_extents (λ b. b.what) (λ s. s.what)
+
+abbrev pub what_extent : RWhat → Extent
+what_extent = fold-RWhat Extent Extent Extent Extent branch_extents what_extents (λ b. b.what) (λ s. s.what)
+
+abbrev pub branch_extent : RBranch → Extent
+branch_extent = fold-RBranch Extent Extent Extent Extent branch_extents what_extents (λ b. b.what) (λ s. s.what)
+
+abbrev pub stmt_extent : RStmt → Extent
+stmt_extent = fold-RStmt Extent Extent Extent Extent branch_extents what_extents (λ b. b.what) (λ s. s.what)
+
+abbrev pub extent : List RStmt → Extent
+extent body = together (map stmt_extent body)
+
+abbrev pub fork_extent : List RBranch → Extent
+fork_extent branches = together (map branch_extent branches)
+
+abbrev pub function_size : RFunction → ℕ
+function_size f = suc (length f.params + (length f.throws + (extent f.body).size))
+
+abbrev pub functions_size : List RFunction → ℕ
+functions_size fs = sum_of (map function_size fs)
+
+-- units
+
+abbrev pub arg_size : Arg → ℕ
+arg_size (Ref x) = 1
+arg_size (Pass x) = 1
+arg_size (Fresh e) = expr_size e
+
+abbrev pub args_size : List Arg → ℕ
+args_size args = sum_of (map arg_size args)
+
+abbrev pub unit_call_size : UCall → ℕ
+unit_call_size c = suc (args_size c.args)
+
+abbrev pub unit_branch_size : UBranch → ℕ
+unit_branch_size b = unit_call_size b.call
+
+abbrev pub what_counts : UWhat-F ℕ ℕ → ℕ
+what_counts (UWhat-F.Declare ty x e) = suc (option_size e)
+what_counts (UWhat-F.Assign x e) = suc (expr_size e)
+what_counts (UWhat-F.Next x) = 1
+what_counts (UWhat-F.NextAssign x e) = suc (expr_size e)
+what_counts (UWhat-F.AssignNext x y) = 2
+what_counts (UWhat-F.Get x y) = 2
+what_counts (UWhat-F.Put x e) = suc (expr_size e)
+what_counts (UWhat-F.If e first other) = suc (expr_size e + (sum_of first + sum_of other))
+what_counts (UWhat-F.While e body) = suc (expr_size e + sum_of body)
+what_counts (UWhat-F.For first test step body) = suc (option_size test + (sum_of first + (sum_of step + sum_of body)))
+what_counts (UWhat-F.Block body) = suc (sum_of body)
+what_counts (UWhat-F.Call c) = unit_call_size c
+what_counts (UWhat-F.Try body x handler) = suc (sum_of body + sum_of handler)
+what_counts (UWhat-F.Throw x) = 1
+what_counts (UWhat-F.Par branches) = suc (sum_of (map unit_branch_size branches))
+
+abbrev pub what_size : UWhat → ℕ
+what_size = fold-UWhat ℕ ℕ what_counts (λ s. s.what)
+
+abbrev pub stmt_size : UStmt → ℕ
+stmt_size = fold-UStmt ℕ ℕ what_counts (λ s. s.what)
+
+abbrev pub stmts_size : List UStmt → ℕ
+stmts_size body = sum_of (map stmt_size body)
+
+-- with the arguments of its calls, be it of functions or of lifted branches
+abbrev pub unit_size : UnitOf → ℕ
+unit_size u = suc (length u.params + stmts_size u.body)
+
+abbrev pub units_size : List UnitOf → ℕ
+units_size us = sum_of (map unit_size us)
+
+-- the numbers that the statements of all units have in them
+abbrev pub units_points : List UnitOf → ℕ
+units_points us = sum_of (map (λ (u : UnitOf). size_all u.body) us)
+
+-- how many units there are, how many numbers their statements have, and how large they are, all of them together
+pub record AreSmall (us : List UnitOf) : Type 0 where
+  pub count : length us < 2 ^ 21
+  pub points : units_points us < 2 ^ 21
+  pub size : units_size us < 2 ^ 28
+
+-- the numbers of the statements of each unit are signed numbers of 32 bits
+abbrev pub AreFit : List UnitOf → Type 0
+AreFit [] = Unit {0}
+AreFit (u ∷ us) = (size_all u.body < 2 ^ 31) × AreFit us

@@ -1,0 +1,73 @@
+// An accepted program.
+ghost use Rattle.std.specs.Prelude.{◌≡◌, ◌<◌, ◌^◌, length};
+ghost use Rattle.shim_units.specs.OfText.{IsUnitsOfText, IsKept};
+ghost use Rattle.shim_units.specs.Sizes.{AreFit};
+
+use crate::form::Form;
+use crate::unit::Unit;
+use shim_base::Name;
+use std::marker::Model;
+
+/// The units of a program that has a text of at most 1 MiB, that is bound and that obeys the sharing
+/// rule.
+#[derive(Debug, Drop)]
+pub struct Accepted {
+    form: Form,
+}
+
+impl Model for Accepted {
+    ghost use Rattle.std.specs.Coded.{codes};
+    ghost use Rattle.shim_units.specs.contracts.unit.Unit as unit;
+    ghost use Rattle.shim_units.specs.declared.form.Form.{Form};
+    ghost use Rattle.shim_units.specs.OfText.{IsKept};
+
+    ghost Value = { Form };
+
+    ghost coded = { Prim.hlevel (codes, unit.the_row.coded) };
+
+    ghost view = { λ accepted. accepted.form };
+
+    ghost invariant = { λ accepted. IsKept accepted.form };
+}
+
+impl Accepted {
+    /// The units of the functions, as they come in the source. Behind them all stand those of the
+    /// block branches, as these begin in it. The statements of each have less than 2 ^ 31 numbers.
+    pub fn units(&self) -> &[Unit]
+        ensures value { result.now ≡ self.now.units }
+        ensures of_text { ∥ IsUnitsOfText self.now ∥₁ }
+        ensures fit { AreFit self.now.units }
+    {
+        self.form.units.as_slice()
+    }
+
+    /// The names of the source, none of them twice, in the order in which they come up.
+    pub fn names(&self) -> &[Name]
+        ensures { result.now ≡ self.now.names }
+    {
+        self.form.names.as_slice()
+    }
+
+    /// The number of the unit of the function `main`.
+    pub fn main(&self) -> u32
+        ensures { result ≡ self.now.main }
+    {
+        self.form.main
+    }
+
+    /// The names behind the `throws` of `main`, of which there are less than 2 ^ 21.
+    pub fn main_throws(&self) -> &[u32]
+        ensures value { result.now ≡ self.now.main_throws }
+        ensures few { length result.now < 2 ^ 21 }
+    {
+        self.form.main_throws.as_slice()
+    }
+}
+
+/// The units, kept with what they are the units of.
+pub fn keep(form: Form) -> Accepted
+    requires { IsKept form }
+    ensures { result ≡ form }
+{
+    Accepted { form }
+}

@@ -1,0 +1,81 @@
+// The arguments of a call, each with its parameter.
+ghost use Rattle.std.specs.Prelude.{◌≡◌, IfOk};
+ghost use Rattle.shim_units.specs.Calls.{is_stream, lends, lends_first, behind_first, params_at, bare, given};
+
+use crate::found::Given;
+use shim_base::{List, NoMemory};
+use shim_scopes::{RFunction, UExpr, UParam};
+use shim_syntax::Sort;
+use std::alloc::Global;
+
+pub fn is_stream(sort: Sort) -> bool
+    ensures { result ≡ is_stream sort }
+{
+    match sort {
+        Sort::Value(_) => false,
+        Sort::Input => true,
+        Sort::Output => true,
+    }
+}
+
+// A stream is always given by reference.
+fn is_lent(param: &UParam) -> bool
+    ensures { result ≡ lends param.now }
+{
+    param.by_ref || is_stream(param.sort)
+}
+
+// Whether the first of the parameters is given by reference.
+pub fn lends_first(params: &[UParam]) -> bool
+    ensures { result ≡ lends_first params.now }
+{
+    match params {
+        [] => false,
+        [param, ..] => is_lent(param),
+    }
+}
+
+pub fn behind_first(params: &[UParam]) -> &[UParam]
+    ensures { result.now ≡ behind_first params.now }
+{
+    match params {
+        [] => params,
+        [_, behind @ ..] => behind,
+    }
+}
+
+/// The parameters of a function by its number.
+pub fn params_at(functions: &[RFunction], number: u32) -> &[UParam]
+    ensures { result.now ≡ params_at functions.now number }
+{
+    match functions.get(number as usize) {
+        Some(function) => function.params.as_slice(),
+        None => &[],
+    }
+}
+
+// The variable that an expression is, where it is one.
+#[tactic(auto, unfolding(crate::specs::Calls::bare))]
+pub fn find_bare(expr: &UExpr) -> Option<u32>
+    ensures { result ≡ bare expr.now }
+{
+    match expr {
+        UExpr::Var(slot) => Some(*slot),
+        _ => None,
+    }
+}
+
+pub fn give(alloc: Global, params: &[UParam], args: &[UExpr]) -> Result<List<Given>, NoMemory>
+    ensures { IfOk result (λ made. made ≡ given params.now args.now) }
+{
+    let mut made = List::new(alloc);
+    let mut left = params;
+    for arg in args {
+        made.push(Given {
+            lent: lends_first(left),
+            bare: find_bare(arg),
+        })?;
+        left = behind_first(left);
+    }
+    Ok(made)
+}

@@ -1,0 +1,155 @@
+// Expressions and calls with a unit's own numbers of variables and exceptions.
+ghost use Rattle.std.specs.Prelude.{◌≡◌, ◌<◌, ◌≤◌, ◌^◌, IfOk, length, position, nat_eq, Option};
+ghost use Rattle.shim_units.specs.Calls.{bare, params_at};
+ghost use Rattle.shim_units.specs.Moving.{place_of, places_of, moved, moved_option, by_mode, arg_of, args_of, moved_call};
+
+use crate::calls::{behind_first, find_bare, lends_first, params_at};
+use crate::unit::{Arg, UCall};
+use crate::within::Within;
+use crate::word::number;
+use shim_base::{Boxed, List, NoMemory};
+use shim_scopes::{RCall, RFunction, UExpr, UParam};
+use std::alloc::Global;
+
+fn find_place(all: &[u32], one: u32) -> Option<usize>
+    ensures { result ≡ position (λ y. nat_eq y one) all.now }
+{
+    all.iter().position(|other| *other == one)
+}
+
+#[tactic(auto, unfolding(crate::specs::Moving::place_of))]
+fn place_at(all: &[u32], one: u32) -> usize
+    ensures is { result ≡ place_of all.now one }
+    ensures within { result ≤ length all.now }
+{
+    match find_place(all, one) {
+        Some(at) => at,
+        None => all.len(),
+    }
+}
+
+/// The number that one of the function's has among those that a unit has.
+pub fn place(all: &[u32], one: u32) -> u32
+    requires { length all.now < 2 ^ 32 }
+    ensures { result ≡ place_of all.now one }
+{
+    number(place_at(all, one))
+}
+
+pub fn place_all(alloc: Global, all: &[u32], some: &[u32]) -> Result<List<u32>, NoMemory>
+    requires { length all.now < 2 ^ 32 }
+    ensures { IfOk result (λ made. made ≡ places_of all.now some.now) }
+{
+    let mut made = List::new(alloc);
+    for one in some {
+        made.push(place(all, *one))?;
+    }
+    Ok(made)
+}
+
+#[tactic(auto, unfolding(crate::specs::Moving::moved))]
+pub fn move_expr(alloc: Global, slots: &[u32], expr: &UExpr) -> Result<UExpr, NoMemory>
+    requires { length slots.now < 2 ^ 32 }
+    ensures { IfOk result (λ made. made ≡ moved slots.now expr.now) }
+{
+    match expr {
+        UExpr::Number(number) => Ok(UExpr::Number(*number)),
+        UExpr::Var(slot) => Ok(UExpr::Var(place(slots, *slot))),
+        UExpr::Unary(op, inner) => {
+            let inner = move_expr(alloc, slots, inner)?;
+            Ok(UExpr::Unary(*op, Boxed::new(alloc, inner)?))
+        }
+        UExpr::Binary(op, left, right) => {
+            let left = move_expr(alloc, slots, left)?;
+            let right = move_expr(alloc, slots, right)?;
+            Ok(UExpr::Binary(*op, Boxed::new(alloc, left)?, Boxed::new(alloc, right)?))
+        }
+    }
+}
+
+pub fn move_option(
+    alloc: Global,
+    slots: &[u32],
+    expr: &Option<UExpr>,
+) -> Result<Option<UExpr>, NoMemory>
+    requires { length slots.now < 2 ^ 32 }
+    ensures { IfOk result (λ made. made ≡ moved_option slots.now expr.now) }
+{
+    match expr {
+        Some(expr) => {
+            let expr = move_expr(alloc, slots, expr)?;
+            Ok(Some(expr))
+        }
+        None => Ok(None),
+    }
+}
+
+// A bare variable as an argument.
+pub fn pass(by_ref: bool, slot: u32) -> Arg
+    ensures { result ≡ by_mode by_ref slot }
+{
+    if by_ref {
+        Arg::Ref(slot)
+    } else {
+        Arg::Pass(slot)
+    }
+}
+
+fn move_arg(alloc: Global, slots: &[u32], lent: bool, arg: &UExpr) -> Result<Arg, NoMemory>
+    requires { length slots.now < 2 ^ 32 }
+    ensures { IfOk result (λ made. made ≡ arg_of slots.now lent (bare arg.now) arg.now) }
+{
+    match find_bare(arg) {
+        Some(slot) => {
+            let slot = place(slots, slot);
+            Ok(pass(lent, slot))
+        }
+        None => {
+            let arg = move_expr(alloc, slots, arg)?;
+            Ok(Arg::Fresh(arg))
+        }
+    }
+}
+
+fn move_args(
+    alloc: Global,
+    slots: &[u32],
+    params: &[UParam],
+    args: &[UExpr],
+) -> Result<List<Arg>, NoMemory>
+    requires { length slots.now < 2 ^ 32 }
+    ensures { IfOk result (λ made. made ≡ args_of slots.now params.now args.now) }
+{
+    let mut made = List::new(alloc);
+    let mut left = params;
+    for arg in args {
+        made.push(move_arg(alloc, slots, lends_first(left), arg)?)?;
+        left = behind_first(left);
+    }
+    Ok(made)
+}
+
+/// A call of a function in a unit.
+pub fn move_call(
+    alloc: Global,
+    functions: &[RFunction],
+    call: &RCall,
+    within: &Within,
+) -> Result<UCall, NoMemory>
+    requires slots { length within.now.slots < 2 ^ 32 }
+    requires exceptions { length within.now.exceptions < 2 ^ 32 }
+    ensures { IfOk result (λ made. made ≡ moved_call functions.now call.now within.now) }
+{
+    let args = move_args(
+        alloc,
+        within.slots.as_slice(),
+        params_at(functions, call.function),
+        call.args.as_slice(),
+    )?;
+    let throws = place_all(alloc, within.exceptions.as_slice(), call.throws.as_slice())?;
+    Ok(UCall {
+        unit: call.function,
+        args,
+        throws,
+    })
+}
