@@ -5,6 +5,7 @@ use crate::{
 };
 use std::alloc::Global;
 use std::cmp::Ordering;
+use std::process::Abort;
 use std::sync::Arc;
 use std::test::Fail;
 
@@ -53,6 +54,19 @@ fn a_name_is_its_bytes(rt: HostRuntime) -> Result<(), Fail> {
     Ok(())
 }
 
+fn is_less(less: &Path, greater: &Path) -> bool {
+    less.cmp(greater) == Ordering::Less
+}
+
+fn is_another(path: &Path, other: &Path) -> bool {
+    path != other
+}
+
+fn expect_less(rt: &impl Abort, less: &Path, greater: &Path) {
+    assert!(rt; is_less(less, greater));
+    assert!(rt; is_another(less, greater));
+}
+
 #[test]
 fn a_path_is_its_pairs_and_stands_before_those_that_go_on_from_it(
     rt: HostRuntime,
@@ -64,34 +78,70 @@ fn a_path_is_its_pairs_and_stands_before_those_that_go_on_from_it(
     assert_eq!(rt; root.pairs().len(), 0);
     assert_eq!(rt; grandchild.pairs(), [(2, 1), (0, 3)].as_slice());
     assert!(rt; grandchild.copy()? == grandchild);
-    for (less, greater) in [
-        (&root, &child),
-        (&child, &grandchild),
-        (&grandchild, &second),
-        (&second, &later),
-    ] {
-        assert_eq!(rt; less.cmp(greater), Ordering::Less);
-        assert!(rt; less != greater);
-    }
+    expect_less(&rt, &root, &child);
+    expect_less(&rt, &child, &grandchild);
+    expect_less(&rt, &grandchild, &second);
+    expect_less(&rt, &second, &later);
     Ok(())
 }
 
-fn channel(home: Path, serial: u32, name: u32, alloc: Global) -> Result<Chan, NoMemory> {
-    Ok(Chan::new(Arc::new(alloc, home)?, serial, name))
+// A channel, as a test writes it: its home, its serial and the number of its name.
+type Told<'a> = (&'a [(u32, u32)], u32, u32);
+
+fn channels(alloc: Global, told: &[Told]) -> Result<Vec<Chan>, NoMemory> {
+    let mut channels = Vec::new(alloc);
+    for chan in told {
+        let mut home = Path::root(alloc);
+        for pair in chan.0 {
+            home = home.child(pair.0, pair.1)?;
+        }
+        channels.push(Chan::new(Arc::new(alloc, home)?, chan.1, chan.2))?;
+    }
+    Ok(channels)
+}
+
+fn is_same(chan: &Chan, other: &Chan) -> bool {
+    chan == other
+}
+
+fn is_before(chan: &Chan, other: &Chan) -> bool {
+    chan < other
+}
+
+// Whether the first channel is each of the others, and whether it stands before that.
+fn expect_compared(rt: &impl Abort, channels: &[Chan], wanted: &[(bool, bool)]) {
+    assert!(rt; channels.len() == 1 + wanted.len());
+    let Some((first, others)) = channels.split_first() else {
+        return;
+    };
+    for (other, is) in others.iter().zip(wanted) {
+        assert!(rt; is_same(first, other) == is.0);
+        assert!(rt; is_before(first, other) == is.1);
+    }
 }
 
 #[test]
 fn channels_are_told_apart_by_home_and_serial_alone(rt: HostRuntime) -> Result<(), Fail> {
-    let alloc = rt.alloc();
-    let root = Path::root(alloc);
-    let chan = channel(root.child(0, 1)?, 3, 7, alloc)?;
+    let told: [Told; 5] = [
+        (&[(0, 1)], 3, 7),
+        (&[(0, 1)], 3, 8),
+        (&[(0, 0)], 3, 7),
+        (&[(0, 1)], 4, 0),
+        (&[], 9, 9),
+    ];
+    let channels = channels(rt.alloc(), &told)?;
+    let wanted = [(true, false), (false, false), (false, true), (false, false)];
+    expect_compared(&rt, &channels, &wanted);
+    Ok(())
+}
+
+#[test]
+fn a_channel_has_its_home_serial_and_name(rt: HostRuntime) -> Result<(), Fail> {
+    let home = Path::root(rt.alloc()).child(0, 1)?;
+    let chan = Chan::new(Arc::new(rt.alloc(), home)?, 3, 7);
     assert_eq!(rt; chan.home().pairs(), [(0, 1)].as_slice());
     assert_eq!(rt; (chan.serial(), chan.name()), (3, 7));
     assert_eq!(rt; chan.copy()?.name(), 7);
-    assert!(rt; chan == channel(root.child(0, 1)?, 3, 8, alloc)?);
-    assert!(rt; chan != channel(root.child(0, 0)?, 3, 7, alloc)?);
-    assert!(rt; chan < channel(root.child(0, 1)?, 4, 0, alloc)?);
-    assert!(rt; channel(root, 9, 9, alloc)? < chan);
     Ok(())
 }
 
@@ -105,9 +155,15 @@ fn a_shared_value_has_many_owners(rt: HostRuntime) -> Result<(), Fail> {
     Ok(())
 }
 
+fn expect_kept(rt: &impl Abort, rows: &[(Ty, i64, i64)]) {
+    for row in rows {
+        assert_eq!(rt; store(row.0, row.1), row.2, "{} as {:?}", row.1, row.0);
+    }
+}
+
 #[test]
 fn a_store_keeps_a_number_modulo_the_size_of_its_type(rt: HostRuntime) {
-    for (ty, number, kept) in [
+    let rows = [
         (Ty::Bool, 0, 0),
         (Ty::Bool, 256, 1),
         (Ty::Bool, -1, 1),
@@ -130,14 +186,20 @@ fn a_store_keeps_a_number_modulo_the_size_of_its_type(rt: HostRuntime) {
         (Ty::Uint32, -1, 4294967295),
         (Ty::Uint32, i64::MIN, 0),
         (Ty::Uint32, i64::MAX, 4294967295),
-    ] {
-        assert_eq!(rt; store(ty, number), kept, "{number} as {ty:?}");
+    ];
+    expect_kept(&rt, &rows);
+}
+
+fn expect_applied(rt: &impl Abort, rows: &[(BinOp, i64, i64, Result<i64, Trap>)]) {
+    for row in rows {
+        let (op, a, b) = (row.0, row.1, row.2);
+        assert_eq!(rt; apply(op, a, b), row.3, "{op:?} of {a} and {b}");
     }
 }
 
 #[test]
 fn an_operator_gives_its_number_or_traps(rt: HostRuntime) {
-    for (op, a, b, wanted) in [
+    let rows = [
         (BinOp::Mul, -3, 7, Ok(-21)),
         (BinOp::Mul, 3037000500, 3037000500, Err(Trap::Overflow)),
         (BinOp::Mul, 4294967296, -2147483648, Ok(i64::MIN)),
@@ -164,14 +226,13 @@ fn an_operator_gives_its_number_or_traps(rt: HostRuntime) {
         (BinOp::Rem, i64::MIN, -1, Ok(0)),
         (BinOp::Rem, i64::MIN, 3, Ok(-2)),
         (BinOp::Rem, 0, 0, Err(Trap::Zero)),
-    ] {
-        assert_eq!(rt; apply(op, a, b), wanted, "{op:?} of {a} and {b}");
-    }
+    ];
+    expect_applied(&rt, &rows);
 }
 
 #[test]
 fn a_shift_asks_its_count_and_then_its_product(rt: HostRuntime) {
-    for (op, a, b, wanted) in [
+    let rows = [
         (BinOp::Shl, 3, 4, Ok(48)),
         (BinOp::Shl, -3, 4, Ok(-48)),
         (BinOp::Shl, 1, 62, Ok(4611686018427387904)),
@@ -193,46 +254,50 @@ fn a_shift_asks_its_count_and_then_its_product(rt: HostRuntime) {
         (BinOp::Shr, 1, 64, Err(Trap::Shift)),
         (BinOp::Shr, 1, -1, Err(Trap::Shift)),
         (BinOp::Shr, 1, i64::MIN, Err(Trap::Shift)),
-    ] {
-        assert_eq!(rt; apply(op, a, b), wanted, "{op:?} of {a} and {b}");
-    }
+    ];
+    expect_applied(&rt, &rows);
 }
 
 #[test]
 fn a_comparison_and_an_operator_on_bits_never_trap(rt: HostRuntime) {
-    for (op, a, b, wanted) in [
-        (BinOp::Lt, i64::MIN, i64::MAX, 1),
-        (BinOp::Lt, 2, 2, 0),
-        (BinOp::Le, 2, 2, 1),
-        (BinOp::Le, 3, -2, 0),
-        (BinOp::Gt, 3, -2, 1),
-        (BinOp::Gt, 2, 2, 0),
-        (BinOp::Ge, 2, 2, 1),
-        (BinOp::Ge, i64::MIN, 0, 0),
-        (BinOp::Eq, -1, -1, 1),
-        (BinOp::Eq, -1, 1, 0),
-        (BinOp::Ne, -1, 1, 1),
-        (BinOp::Ne, 0, 0, 0),
-        (BinOp::BitAnd, -4, 7, 4),
-        (BinOp::BitAnd, i64::MIN, -1, i64::MIN),
-        (BinOp::BitXor, -1, 5, -6),
-        (BinOp::BitXor, i64::MIN, i64::MAX, -1),
-        (BinOp::BitOr, 12, 10, 14),
-        (BinOp::BitOr, i64::MIN, 1, -9223372036854775807),
-        (BinOp::And, 0, 1, 0),
-        (BinOp::And, -2, 2, 1),
-        (BinOp::And, 256, 0, 0),
-        (BinOp::Or, 0, 0, 0),
-        (BinOp::Or, 0, i64::MIN, 1),
-        (BinOp::Or, 2, 0, 1),
-    ] {
-        assert_eq!(rt; apply(op, a, b), Ok(wanted), "{op:?} of {a} and {b}");
+    let rows = [
+        (BinOp::Lt, i64::MIN, i64::MAX, Ok(1)),
+        (BinOp::Lt, 2, 2, Ok(0)),
+        (BinOp::Le, 2, 2, Ok(1)),
+        (BinOp::Le, 3, -2, Ok(0)),
+        (BinOp::Gt, 3, -2, Ok(1)),
+        (BinOp::Gt, 2, 2, Ok(0)),
+        (BinOp::Ge, 2, 2, Ok(1)),
+        (BinOp::Ge, i64::MIN, 0, Ok(0)),
+        (BinOp::Eq, -1, -1, Ok(1)),
+        (BinOp::Eq, -1, 1, Ok(0)),
+        (BinOp::Ne, -1, 1, Ok(1)),
+        (BinOp::Ne, 0, 0, Ok(0)),
+        (BinOp::BitAnd, -4, 7, Ok(4)),
+        (BinOp::BitAnd, i64::MIN, -1, Ok(i64::MIN)),
+        (BinOp::BitXor, -1, 5, Ok(-6)),
+        (BinOp::BitXor, i64::MIN, i64::MAX, Ok(-1)),
+        (BinOp::BitOr, 12, 10, Ok(14)),
+        (BinOp::BitOr, i64::MIN, 1, Ok(-9223372036854775807)),
+        (BinOp::And, 0, 1, Ok(0)),
+        (BinOp::And, -2, 2, Ok(1)),
+        (BinOp::And, 256, 0, Ok(0)),
+        (BinOp::Or, 0, 0, Ok(0)),
+        (BinOp::Or, 0, i64::MIN, Ok(1)),
+        (BinOp::Or, 2, 0, Ok(1)),
+    ];
+    expect_applied(&rt, &rows);
+}
+
+fn expect_applied_alone(rt: &impl Abort, rows: &[(UnOp, i64, Result<i64, Trap>)]) {
+    for row in rows {
+        assert_eq!(rt; apply1(row.0, row.1), row.2, "{:?} of {}", row.0, row.1);
     }
 }
 
 #[test]
 fn an_operator_before_one_number_traps_at_the_least_alone(rt: HostRuntime) {
-    for (op, a, wanted) in [
+    let rows = [
         (UnOp::Neg, 5, Ok(-5)),
         (UnOp::Neg, 0, Ok(0)),
         (UnOp::Neg, i64::MAX, Ok(-9223372036854775807)),
@@ -243,7 +308,6 @@ fn an_operator_before_one_number_traps_at_the_least_alone(rt: HostRuntime) {
         (UnOp::Flip, 0, Ok(-1)),
         (UnOp::Flip, 5, Ok(-6)),
         (UnOp::Flip, i64::MIN, Ok(i64::MAX)),
-    ] {
-        assert_eq!(rt; apply1(op, a), wanted, "{op:?} of {a}");
-    }
+    ];
+    expect_applied_alone(&rt, &rows);
 }

@@ -1,4 +1,4 @@
-// Where a process goes from a statement: its number in the unit is all that is kept.
+// Where a process goes from a statement, which is known by its number in the unit.
 ghost use Rattle.std.specs.Prelude.{◌≡◌, ◌+◌, ◌<◌, ◌≤◌, ◌^◌};
 ghost use Rattle.shim_frames.specs.Ways.{ways, size_of, size_all, go_all, to, shifted, inside, into, two_start, loop_start};
 ghost use Rattle.shim_frames.specs.Pieces.{stmt_at, at_all};
