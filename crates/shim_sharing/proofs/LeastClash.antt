@@ -15,11 +15,11 @@ reference Nothing e = cc
 reference Copy e = cc
 reference Reference e = refl
 
-some_or : {A : Type 0} (a b : Option A) (x : A) → option_or a b ≡ Some x → (a ≡ Some x) ⊎ ((a ≡ None) × (b ≡ Some x))
+pub some_or : {A : Type 0} (a b : Option A) (x : A) → option_or a b ≡ Some x → (a ≡ Some x) ⊎ ((a ≡ None) × (b ≡ Some x))
 some_or None b x e = inr (refl, e)
 some_or (Some y) b x e = inl e
 
-true_of : (n x : ℕ) (b : Bool) → if_true n b ≡ Some x → (b ≡ true) × (n ≡ x)
+pub true_of : (n x : ℕ) (b : Bool) → if_true n b ≡ Some x → (b ≡ true) × (n ≡ x)
 true_of n x true e = (refl, cc)
 true_of n x false e = cc
 

@@ -5,6 +5,9 @@ pub mod Rule
 pub mod Shared
 pub mod Disjoint
 pub mod LeastClash
+pub mod Aliases
+pub mod FirstPlace
+pub mod Accepting
 pub mod Lifts
 pub mod LiftedKinds
 pub mod ExtentSteps

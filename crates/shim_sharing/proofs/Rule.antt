@@ -118,7 +118,7 @@ no_clash n i (t ∷ ts) d = both_none (clash_with n i t (i + 1) ts) (clash_from 
 
 -- calls
 
-not_again : (lent : Bool) (before after : List Given) (bare : Option ℕ) (x : ℕ) → again lent before after bare ≡ None → lent ≡ true → bare ≡ Some x → (stands_in x before || stands_in x after) ≡ true → ⊥
+pub not_again : (lent : Bool) (before after : List Given) (bare : Option ℕ) (x : ℕ) → again lent before after bare ≡ None → lent ≡ true → bare ≡ Some x → (stands_in x before || stands_in x after) ≡ true → ⊥
 not_again true before after None x e l b t = cc
 not_again true before after (Some y) x e l b t =
     let is : y ≡ x = cc in
@@ -191,15 +191,15 @@ none_alias : (line : ℕ) (o : Option ℕ) → o ≡ None → alias line o ≡ N
 none_alias line None e = refl
 none_alias line (Some c) e = cc
 
-obeys_at : (sorts : List Sort) (p : Place) → offence_at sorts p ≡ None → ObeysAt sorts p
+pub obeys_at : (sorts : List Sort) (p : Place) → offence_at sorts p ≡ None → ObeysAt sorts p
 obeys_at sorts (Fork line branches) e = all_apart sorts 0 branches (two_none line (clash_from (length sorts) 0 (map (takes sorts) branches)) e)
 obeys_at sorts (Called line gs) e = gives_once gs (alias_none line (given_again [] gs) e)
 
-none_at : (sorts : List Sort) (p : Place) → ObeysAt sorts p → offence_at sorts p ≡ None
+pub none_at : (sorts : List Sort) (p : Place) → ObeysAt sorts p → offence_at sorts p ≡ None
 none_at sorts (Fork line branches) o = none_two line (clash_from (length sorts) 0 (map (takes sorts) branches)) (no_clash (length sorts) 0 (map (takes sorts) branches) o)
 none_at sorts (Called line gs) o = none_alias line (given_again [] gs) (given_once gs o)
 
-all_obey : (sorts : List Sort) (ps : List Place) → first_offence sorts ps ≡ None → Obey sorts ps
+pub all_obey : (sorts : List Sort) (ps : List Place) → first_offence sorts ps ≡ None → Obey sorts ps
 all_obey sorts [] e = tt
 all_obey sorts (p ∷ ps) e =
     (obeys_at sorts p (first_none (offence_at sorts p) (first_offence sorts ps) e), all_obey sorts ps (second_none (offence_at sorts p) (first_offence sorts ps) e))
@@ -208,7 +208,7 @@ none_of : (sorts : List Sort) (ps : List Place) → Obey sorts ps → first_offe
 none_of sorts [] o = refl
 none_of sorts (p ∷ ps) o = both_none (offence_at sorts p) (first_offence sorts ps) (none_at sorts p o.0) (none_of sorts ps o.1)
 
-refused_none : (ns : List (List ℕ)) (f : RFunction) (o : Option Offence) → refused_for ns f o ≡ None → o ≡ None
+pub refused_none : (ns : List (List ℕ)) (f : RFunction) (o : Option Offence) → refused_for ns f o ≡ None → o ≡ None
 refused_none ns f None e = refl
 refused_none ns f (Some c) e = cc
 

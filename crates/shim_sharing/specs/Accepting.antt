@@ -22,6 +22,13 @@ Gives (Err (TwoWriters line name first second)) meant = meant ≡ Err (TwoWriter
 Gives (Err (Alias line name)) meant = meant ≡ Err (Alias line name)
 Gives (Err NoMemory) meant = Unit {0}
 
+-- what holds of the refusal, where the program is refused
+abbrev pub IfRefused : {T : Type 0} → Result T ShareFault → (ShareFault → Type 0) → Type 0
+IfRefused (Ok t) P = Unit {0}
+IfRefused (Err (TwoWriters line name first second)) P = P (TwoWriters line name first second)
+IfRefused (Err (Alias line name)) P = P (Alias line name)
+IfRefused (Err NoMemory) P = Unit {0}
+
 -- the fault is the one that is meant, or want of memory in its place
 abbrev pub IsTold : ShareFault → ShareFault → Type 0
 IsTold (TwoWriters line name first second) meant = meant ≡ TwoWriters line name first second

@@ -1,11 +1,19 @@
 -- What the laws speak of.
-use Rattle.std.specs.Prelude.{◌≡◌, ◌≢◌, ℕ, ◌<◌, List, Some, slice_get}
+use Rattle.std.specs.Prelude.{◌≡◌, ◌≢◌, ℕ, ◌<◌, List, ◌∷◌, ◌++◌, Some, slice_get, length, map, IsTrue}
+use Rattle.shim_syntax.specs.declared.tree.Sort.{Sort}
 use Rattle.shim_scopes.specs.declared.tree.RFunction.{RFunction}
 use Rattle.shim_scopes.specs.declared.form.Form.{Form as Resolved}
+use Rattle.shim_sharing.specs.declared.fault.ShareFault.{ShareFault}
 use Rattle.shim_sharing.specs.declared.fork.Clash.{Clash}
+use Rattle.shim_sharing.specs.declared.found.Offence.{Offence}
+use Rattle.shim_sharing.specs.declared.found.Offence.TheVariants.{TwoWriters, Alias}
+use Rattle.shim_sharing.specs.Refusals.{told}
+use Rattle.shim_units.specs.declared.found.Given.{Given}
 use Rattle.shim_units.specs.declared.found.Use.{Use}
 use Rattle.shim_units.specs.declared.found.Taking.TheVariants.{Reference}
-use Rattle.shim_units.specs.Parts.Place.{Fork}
+use Rattle.shim_units.specs.Parts.{Place}
+use Rattle.shim_units.specs.Parts.Place.{Fork, Called}
+use Rattle.shim_units.specs.Rule.{ObeysAt, Obey, ObeyAll}
 use Rattle.shim_units.specs.Taking.{Takes, takes}
 use Rattle.shim_units.specs.Meaning.{places_in}
 
@@ -45,3 +53,52 @@ pub record IsLeast (n : ℕ) (branches : List Takes) (c : Clash) : Type 0 where
   pub first : (d : Clash) → IsClash n branches d → d.first < c.first → ⊥
   pub second : (d : Clash) → IsClash n branches d → d.first ≡ c.first → d.second < c.second → ⊥
   pub slot : (d : Clash) → IsClash n branches d → d.first ≡ c.first → d.second ≡ c.second → d.slot < c.slot → ⊥
+
+-- the argument of that number gives the variable by reference, and another argument is the same variable
+pub record IsAlias (gs : List Given) (number x : ℕ) : Type 0 where
+  pub one : Given
+  pub stands : slice_get gs number ≡ Some one
+  pub by_reference : IsTrue one.lent
+  pub gives : one.bare ≡ Some x
+  pub place : ℕ
+  pub apart : place ≢ number
+  pub other : Given
+  pub is_other : slice_get gs place ≡ Some other
+  pub again : other.bare ≡ Some x
+
+-- no argument by reference left of that one is given again
+pub record IsLeftmostAlias (gs : List Given) (x : ℕ) : Type 0 where
+  pub number : ℕ
+  pub is_alias : IsAlias gs number x
+  pub leftmost : (m y : ℕ) → m < number → IsAlias gs m y → ⊥
+
+-- what is told of a fork is its line with the least clash of its branches, and of a call its line with the variable of its leftmost alias
+abbrev pub IsToldOf : List Sort → Place → Offence → Type 0
+IsToldOf sorts (Fork line branches) o =
+    (c : Clash) × (o ≡ TwoWriters line c.first c.second c.slot) × IsClash (length sorts) (map (takes sorts) branches) c × IsLeast (length sorts) (map (takes sorts) branches) c
+IsToldOf sorts (Called line gs) o = (x : ℕ) × (o ≡ Alias line x) × IsLeftmostAlias gs x
+
+-- all places before one of these obey the rule, that one does not, and this is what is told of it
+pub record IsFirstOffence (sorts : List Sort) (places : List Place) (o : Offence) : Type 0 where
+  pub before : List Place
+  pub place : Place
+  pub after : List Place
+  pub stands : places ≡ before ++ place ∷ after
+  pub obeyed : Obey sorts before
+  pub refused : ObeysAt sorts place → ⊥
+  pub is_told : IsToldOf sorts place o
+
+-- all functions before one of these obey the rule, and this is told of its first place that does not, with the variable by its name
+pub record IsFirstRefusalIn (names : List (List ℕ)) (all fs : List RFunction) (fault : ShareFault) : Type 0 where
+  pub before : List RFunction
+  pub function : RFunction
+  pub after : List RFunction
+  pub stands : fs ≡ before ++ function ∷ after
+  pub obeyed : ObeyAll all before
+  pub offence : Offence
+  pub first : IsFirstOffence function.slots (places_in all function.body) offence
+  pub named : fault ≡ told names function offence
+
+-- what is told of the first fork or call of a program that does not obey the rule
+abbrev pub IsFirstRefusal : Resolved → ShareFault → Type 0
+IsFirstRefusal p = IsFirstRefusalIn p.names p.functions p.functions

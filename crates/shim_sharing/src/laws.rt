@@ -1,14 +1,19 @@
 // Laws of the sharing rule.
-ghost use Rattle.std.specs.Prelude.{◌≡◌, ◌↔◌, ℕ, List, None, Some, Ok};
+ghost use Rattle.std.specs.Prelude.{◌≡◌, ◌↔◌, ℕ, List, [], None, Some, Ok};
+ghost use Rattle.shim_syntax.specs.declared.tree.Sort.{Sort};
 ghost use Rattle.shim_scopes.specs.declared.form.Form.{Form as Resolved};
 ghost use Rattle.shim_scopes.specs.Resolving.{IsFormOfText};
+ghost use Rattle.shim_sharing.specs.declared.fault.ShareFault.{ShareFault};
 ghost use Rattle.shim_sharing.specs.declared.fork.Clash.{Clash};
+ghost use Rattle.shim_sharing.specs.declared.found.Offence.{Offence};
+ghost use Rattle.shim_units.specs.declared.found.Given.{Given};
 ghost use Rattle.shim_units.specs.declared.form.Form.{Form};
 ghost use Rattle.shim_sharing.specs.Accepting.{accepted};
-ghost use Rattle.shim_sharing.specs.Laws.{HasTwoWriters, IsClash, IsLeast};
-ghost use Rattle.shim_sharing.specs.Sharing.{clash_from};
+ghost use Rattle.shim_sharing.specs.Laws.{HasTwoWriters, IsClash, IsLeast, IsLeftmostAlias, IsFirstOffence, IsFirstRefusal};
+ghost use Rattle.shim_sharing.specs.Sharing.{clash_from, given_again, first_offence};
 ghost use Rattle.shim_units.specs.Sizes.{AreSmall};
 ghost use Rattle.shim_units.specs.Taking.{Takes};
+ghost use Rattle.shim_units.specs.Parts.{Place};
 ghost use Rattle.shim_units.specs.Rule.{Obeys};
 ghost use Rattle.shim_sharing.specs.Refusals.{refusal};
 
@@ -26,6 +31,25 @@ pub fn accepted_has_no_two_writers()
 /// them shares any, and this pair none that is declared before it.
 pub fn least_clash_is_told()
     ensures { (n : ℕ) (branches : List Takes) (c : Clash) → clash_from n 0 branches ≡ Some c → IsClash n branches c × IsLeast n branches c }
+{}
+
+/// The variable that a refusal of a call tells is given by reference at one of its arguments and is
+/// another argument, too; and no argument by reference left of that one is given again.
+pub fn leftmost_alias_is_told()
+    ensures { (gs : List Given) (x : ℕ) → given_again [] gs ≡ Some x → IsLeftmostAlias gs x }
+{}
+
+/// What is told of a function's places tells of the first, in textual order, that the rule refuses: all
+/// before it obey the rule, and it does not. The line is that of the fork or the call; of a fork the
+/// least clash is told, of a call the leftmost alias.
+pub fn first_offence_is_told()
+    ensures { (sorts : List Sort) (places : List Place) (o : Offence) → first_offence sorts places ≡ Some o → IsFirstOffence sorts places o }
+{}
+
+/// What is told of a program is told of the first place of the first function that does not obey the
+/// rule, with the variable by its name in the text.
+pub fn first_refusal_is_told()
+    ensures { (p : Resolved) (fault : ShareFault) → refusal p ≡ Some fault → IsFirstRefusal p fault }
 {}
 
 /// Of a program that has a text of at most 1,048,576 bytes, the units are fewer than 2 ^ 21, and so are

@@ -1,5 +1,9 @@
 // A whole program.
-ghost use Rattle.shim_sharing.specs.Accepting.{Gives, accepted};
+ghost use Rattle.std.specs.Prelude.{◌≡◌, IfOk};
+ghost use Rattle.shim_sharing.specs.Accepting.{Gives, IfRefused, accepted};
+ghost use Rattle.shim_sharing.specs.Laws.{IsFirstRefusal};
+ghost use Rattle.shim_units.specs.Rule.{Obeys};
+ghost use Rattle.shim_units.specs.Units.{lifted};
 
 use crate::fault::ShareFault;
 use crate::refusal::check;
@@ -12,7 +16,11 @@ use std::alloc::Global;
 /// refuses. Functions come in textual order, each statement before what stands in it, and a fork
 /// before its branches. Want of memory may come in place of any answer.
 pub fn accept(alloc: Global, resolved: Resolved) -> Result<Accepted, ShareFault>
-    ensures { Gives result (accepted resolved) }
+    ensures meant { Gives result (accepted resolved) }
+    ensures obeys { IfOk result (λ form. Obeys resolved) }
+    ensures units { IfOk result (λ form. form ≡ lifted resolved) }
+    ensures refused { IfRefused result (λ fault. Obeys resolved → ⊥) }
+    ensures first { IfRefused result (IsFirstRefusal resolved) }
 {
     let names = resolved.names();
     let functions = resolved.functions();

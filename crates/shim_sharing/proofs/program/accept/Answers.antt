@@ -3,6 +3,7 @@ use Rattle.std.proofs.lemmas.Grind.{merely}
 use Rattle.shim_scopes.specs.Resolving.{IsFormOfText}
 use Rattle.shim_sharing.proofs.UnitSizes.{kept, program_has_room, functions_have_room}
 use Rattle.shim_sharing.proofs.Rule.{obeys_unless_refused}
+use Rattle.shim_sharing.proofs.Accepting as exits
 use Rattle.shim_sharing.proofs.program.accept.Goals as goal
 
 pub keep-requires : goal.keep-requires
@@ -19,3 +20,12 @@ check-requires c =
 
 pub lift_program-requires : goal.lift_program-requires
 lift_program-requires c = rw (c.functions-functions.ensures) (program_has_room c.args.resolved (subst (λ f. ∥ IsFormOfText f ∥₁) c.resolved.view_is c.resolved.invariant))
+
+pub returns-clause-obeys : goal.returns-clause-obeys
+returns-clause-obeys c = obeys_unless_refused c.args.resolved (rw (c.functions-functions.ensures, c.names-names.ensures) at c.in_ok-check.ensures)
+
+pub returns-in_err-check-clause-refused : goal.returns-in_err-check-clause-refused
+returns-in_err-check-clause-refused c = exits.refused c.args.resolved _ _ c.from_residual.ensures (rw (c.functions-functions.ensures, c.names-names.ensures) at c.in_err-check.ensures)
+
+pub returns-in_err-check-clause-first : goal.returns-in_err-check-clause-first
+returns-in_err-check-clause-first c = exits.first c.args.resolved _ _ c.from_residual.ensures (rw (c.functions-functions.ensures, c.names-names.ensures) at c.in_err-check.ensures)
