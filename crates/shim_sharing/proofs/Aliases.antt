@@ -1,11 +1,10 @@
 -- The alias that is found first is the leftmost.
-use Rattle.std.proofs.Common.{◌≡◌, ◌≢◌, ◌∙◌, ℕ, ◌<◌, ◌≤◌, zero, suc, List, [], ◌∷◌, ◌++◌, Option, Some, None, Bool, true, false, ◌||◌, ◌⊎◌, length, nat_eq, slice_get, IsTrue, refl, sym, ap, subst, arith, inl, inr, append_assoc, length-append}
-use Rattle.std.specs.Option.{option_or}
+use Rattle.std.proofs.Common.{◌≡◌, ◌≢◌, ◌∙◌, ℕ, ◌<◌, ◌≤◌, zero, suc, List, [], ◌∷◌, ◌++◌, Option, Some, None, Bool, true, false, ◌||◌, ◌⊎◌, length, slice_get, refl, sym, ap, subst, arith, inl, inr, append_assoc, length-append}
 use Rattle.std.proofs.lemmas.Bool.{cases_lt, eqb-true, eq-eqb}
 use Rattle.shim_units.specs.declared.found.Given.{Given}
 use Rattle.shim_units.specs.Rule.{is_bare, stands_in}
 use Rattle.shim_sharing.specs.Laws.{IsAlias, IsLeftmostAlias}
-use Rattle.shim_sharing.specs.Sharing.{if_true, again, given_again}
+use Rattle.shim_sharing.specs.Sharing.{again, given_again}
 use Rattle.shim_sharing.proofs.LeastClash.{some_or, true_of}
 use Rattle.shim_sharing.proofs.Rule.{not_again}
 

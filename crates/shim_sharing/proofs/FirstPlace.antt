@@ -1,5 +1,5 @@
 -- What is told is told of the first place that the rule refuses.
-use Rattle.std.proofs.Common.{◌≡◌, ◌∙◌, ℕ, List, [], ◌∷◌, ◌++◌, Option, Some, None, length, map, refl, sym, ap, subst, inl, inr}
+use Rattle.std.proofs.Common.{◌≡◌, ℕ, List, [], ◌∷◌, Option, Some, None, length, map, refl, ap, inl, inr}
 use Rattle.shim_syntax.specs.declared.tree.Sort.{Sort}
 use Rattle.shim_scopes.specs.declared.tree.RFunction.{RFunction}
 use Rattle.shim_scopes.specs.declared.form.Form.{Form as Resolved}
@@ -14,7 +14,7 @@ use Rattle.shim_units.specs.Meaning.{places_in}
 use Rattle.shim_units.specs.Parts.{Place}
 use Rattle.shim_units.specs.Parts.Place.{Fork, Called}
 use Rattle.shim_units.specs.Rule.{ObeysAt}
-use Rattle.shim_units.specs.Taking.{Takes, takes}
+use Rattle.shim_units.specs.Taking.{takes}
 use Rattle.shim_sharing.proofs.Aliases.{leftmost_alias}
 use Rattle.shim_sharing.proofs.LeastClash.{clash_is_least, some_or}
 use Rattle.shim_sharing.proofs.Rule.{obeys_at, none_at, all_obey, refused_none}
@@ -44,14 +44,14 @@ first_place sorts [] o e = cc
 first_place sorts (p ∷ ps) o e =
     elim (some_or (offence_at sorts p) (first_offence sorts ps) o e) [
       | inl here ↦ record {
-          before = [];
-          place = p;
-          after = ps;
-          stands = refl;
-          obeyed = tt;
-          refused = not_obeyed sorts p o here;
-          is_told = told_of sorts p o here;
-        }
+        before = [];
+        place = p;
+        after = ps;
+        stands = refl;
+        obeyed = tt;
+        refused = not_obeyed sorts p o here;
+        is_told = told_of sorts p o here;
+      }
       | inr w ↦
           let h : IsFirstOffence sorts ps o = first_place sorts ps o w.1 in
           record {

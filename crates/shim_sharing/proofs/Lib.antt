@@ -19,4 +19,5 @@ pub mod Room
 pub mod TextLocals
 pub mod BoundSizes
 pub mod UnitSizes
+pub mod Kept
 pub mod OffenceNumbers

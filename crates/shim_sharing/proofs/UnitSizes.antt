@@ -68,7 +68,7 @@ lifted_small p h =
       size = omega (arith, most, sizes, joined_sizes r.own r.lifted);
     }
 
-its_form : (o : Option ShareFault) (made form : Form) → unless_refused o made ≡ Ok form → made ≡ form
+pub its_form : (o : Option ShareFault) (made form : Form) → unless_refused o made ≡ Ok form → made ≡ form
 its_form None made form h = cc
 its_form (Some fault) made form h = absurd (cc)
 

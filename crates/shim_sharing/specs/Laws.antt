@@ -1,13 +1,16 @@
 -- What the laws speak of.
-use Rattle.std.specs.Prelude.{◌≡◌, ◌≢◌, ℕ, ◌<◌, List, ◌∷◌, ◌++◌, Some, slice_get, length, map, IsTrue}
+use Rattle.std.specs.Prelude.{◌≡◌, ◌≢◌, ℕ, ◌<◌, List, ◌∷◌, ◌++◌, Some, Ok, slice_get, length, map, IsTrue}
 use Rattle.shim_syntax.specs.declared.tree.Sort.{Sort}
 use Rattle.shim_scopes.specs.declared.tree.RFunction.{RFunction}
 use Rattle.shim_scopes.specs.declared.form.Form.{Form as Resolved}
+use Rattle.shim_scopes.specs.Resolving.{IsFormOfText}
 use Rattle.shim_sharing.specs.declared.fault.ShareFault.{ShareFault}
 use Rattle.shim_sharing.specs.declared.fork.Clash.{Clash}
 use Rattle.shim_sharing.specs.declared.found.Offence.{Offence}
 use Rattle.shim_sharing.specs.declared.found.Offence.TheVariants.{TwoWriters, Alias}
+use Rattle.shim_sharing.specs.Accepting.{accepted}
 use Rattle.shim_sharing.specs.Refusals.{told}
+use Rattle.shim_units.specs.declared.form.Form.{Form}
 use Rattle.shim_units.specs.declared.found.Given.{Given}
 use Rattle.shim_units.specs.declared.found.Use.{Use}
 use Rattle.shim_units.specs.declared.found.Taking.TheVariants.{Reference}
@@ -66,7 +69,7 @@ pub record IsAlias (gs : List Given) (number x : ℕ) : Type 0 where
   pub is_other : slice_get gs place ≡ Some other
   pub again : other.bare ≡ Some x
 
--- no argument by reference left of that one is given again
+-- one of the arguments is an alias of the variable, and none left of it is an alias of any
 pub record IsLeftmostAlias (gs : List Given) (x : ℕ) : Type 0 where
   pub number : ℕ
   pub is_alias : IsAlias gs number x
@@ -102,3 +105,9 @@ pub record IsFirstRefusalIn (names : List (List ℕ)) (all fs : List RFunction) 
 -- what is told of the first fork or call of a program that does not obey the rule
 abbrev pub IsFirstRefusal : Resolved → ShareFault → Type 0
 IsFirstRefusal p = IsFirstRefusalIn p.names p.functions p.functions
+
+-- what is answered to some program that has a text
+pub record IsAccepted (form : Form) : Type 0 where
+  pub resolved : Resolved
+  pub of_text : ∥ IsFormOfText resolved ∥₁
+  pub is_answer : accepted resolved ≡ Ok form

@@ -9,10 +9,11 @@ ghost use Rattle.shim_sharing.specs.declared.found.Offence.{Offence};
 ghost use Rattle.shim_units.specs.declared.found.Given.{Given};
 ghost use Rattle.shim_units.specs.declared.form.Form.{Form};
 ghost use Rattle.shim_sharing.specs.Accepting.{accepted};
-ghost use Rattle.shim_sharing.specs.Laws.{HasTwoWriters, IsClash, IsLeast, IsLeftmostAlias, IsFirstOffence, IsFirstRefusal};
+ghost use Rattle.shim_sharing.specs.Laws.{HasTwoWriters, IsClash, IsLeast, IsLeftmostAlias, IsFirstOffence, IsFirstRefusal, IsAccepted};
 ghost use Rattle.shim_sharing.specs.Sharing.{clash_from, given_again, first_offence};
 ghost use Rattle.shim_units.specs.Sizes.{AreSmall};
 ghost use Rattle.shim_units.specs.Taking.{Takes};
+ghost use Rattle.shim_units.specs.OfText.{IsKept};
 ghost use Rattle.shim_units.specs.Parts.{Place};
 ghost use Rattle.shim_units.specs.Rule.{Obeys};
 ghost use Rattle.shim_sharing.specs.Refusals.{refusal};
@@ -39,17 +40,23 @@ pub fn leftmost_alias_is_told()
     ensures { (gs : List Given) (x : ℕ) → given_again [] gs ≡ Some x → IsLeftmostAlias gs x }
 {}
 
-/// What is told of a function's places tells of the first, in textual order, that the rule refuses: all
-/// before it obey the rule, and it does not. The line is that of the fork or the call; of a fork the
-/// least clash is told, of a call the leftmost alias.
+/// What is told of some places is told of the first of them that does not obey the rule: all before it
+/// do. The line is that of the fork or the call; of a fork the least clash is told, of a call the leftmost
+/// alias.
 pub fn first_offence_is_told()
     ensures { (sorts : List Sort) (places : List Place) (o : Offence) → first_offence sorts places ≡ Some o → IsFirstOffence sorts places o }
 {}
 
-/// What is told of a program is told of the first place of the first function that does not obey the
-/// rule, with the variable by its name in the text.
+/// What is told of a program is told of its first place that does not obey the rule, in the first
+/// function that has such a place, with the variable by its name in the text.
 pub fn first_refusal_is_told()
     ensures { (p : Resolved) (fault : ShareFault) → refusal p ≡ Some fault → IsFirstRefusal p fault }
+{}
+
+/// What `keep` asks for is had by exactly the units that are answered to some program, so no others are
+/// kept.
+pub fn kept_is_accepted()
+    ensures { (form : Form) → IsKept form ↔ ∥ IsAccepted form ∥₁ }
 {}
 
 /// Of a program that has a text of at most 1,048,576 bytes, the units are fewer than 2 ^ 21, and so are
