@@ -14,7 +14,7 @@ pub struct Ended {
     pub waits: List<WaitAt>,
     /// Each process that did a step of its own, by path.
     pub own: List<OwnSteps>,
-    /// How many events were no process's own: meetings, closes and ends.
+    /// How many events were no process's own: meetings, poisons, closes and ends.
     pub events: u64,
     pub steps: u64,
     pub outcome: Outcome,

@@ -1,2 +1,3 @@
 -- The lemmas of this crate, one module for each subject.
+pub mod OtherOrders
 pub mod OwnChannels

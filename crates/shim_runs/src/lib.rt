@@ -12,6 +12,10 @@ mod expression_rows;
 #[cfg(test)]
 mod fork_rows;
 #[cfg(test)]
+mod order_rows;
+#[cfg(test)]
 mod poison_rows;
 #[cfg(test)]
 mod tree_rows;
+#[cfg(test)]
+mod trees;

@@ -1,63 +1,18 @@
 // Trees of whole programs, with an input: the reports that they come to, and the events that can happen on the way.
-ghost use Rattle.std.specs.Prelude.{◌≡◌, ◌≤◌, ◌⊎◌, length, OnOk, IfOk};
-ghost use Rattle.shim_units.specs.Forks.{root};
+ghost use Rattle.std.specs.Prelude.{◌≤◌};
 ghost use Rattle.shim_tree.specs.Sound.{SharesItsOwn};
-ghost use Rattle.shim_tree.specs.Trees.{steps, IsQuiescent};
 
 use crate::expect::FILTER;
+use crate::trees::{do_first_events, units_of, walk_of};
 use shim_base::{List, NoMemory, Shared};
 use shim_local::{Ended, Local};
-use shim_parser::parse;
 use shim_report::text;
-use shim_scopes::resolve;
-use shim_sharing::{Accepted, accept};
+use shim_sharing::Accepted;
 use shim_tree::Tree;
-use shim_walk::Walk;
 use std::alloc::Global;
 use std::process::Abort;
 use std::str;
 use std::test::Fail;
-
-// The units of a text, or nothing where it is refused.
-fn units_of(alloc: Global, text: &[u8]) -> Option<Accepted>
-    requires { length text.now ≤ 1048576 }
-{
-    let program = match parse(alloc, text) {
-        Ok(program) => program,
-        Err(_) => return None,
-    };
-    let resolved = match resolve(alloc, &program) {
-        Ok(resolved) => resolved,
-        Err(_) => return None,
-    };
-    match accept(alloc, resolved) {
-        Ok(accepted) => Some(accepted),
-        Err(_) => None,
-    }
-}
-
-// The process that runs the `main` of a program on this input.
-fn walk_of(alloc: Global, program: Shared<Accepted>, input: &str) -> Result<Walk, NoMemory>
-    ensures { IfOk result (λ walk. walk ≡ root program input.now) }
-{
-    let input = Shared::new(alloc, List::from_slice(alloc, input.as_bytes())?)?;
-    Walk::main(alloc, program, input)
-}
-
-// Does the first enabled event again and again, until none is enabled or so many were done.
-fn do_first_events<L: Local>(tree: &mut Tree<L>, most: u64) -> Result<(), NoMemory>
-    requires fresh { steps tree.old ≡ 0 }
-    requires small { most ≤ 4000000 }
-    ensures end { OnOk result (((steps tree.new ≤ most) × IsQuiescent L.ops tree.new) ⊎ (steps tree.new ≡ most)) }
-{
-    for _ in 0..most {
-        match tree.first()? {
-            None => return Ok(()),
-            Some(event) => tree.do_event(&event)?,
-        }
-    }
-    Ok(())
-}
 
 // What the tree of this one process comes to, by at most a thousand events.
 fn end_of<L: Local>(alloc: Global, root: L) -> Result<Ended, NoMemory>

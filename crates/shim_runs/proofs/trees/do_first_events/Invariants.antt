@@ -1,6 +1,6 @@
 use Rattle.std.proofs.Common.{◌≡◌}
 use Rattle.shim_tree.specs.Trees.{steps}
-use Rattle.shim_runs.proofs.tree_rows.do_first_events.Given as goal
+use Rattle.shim_runs.proofs.trees.do_first_events.Given as goal
 
 -- each event counted one step
 abbrev pub invariant-loop : goal.invariant-loop
