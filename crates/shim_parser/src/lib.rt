@@ -18,8 +18,6 @@ mod plain;
 mod reader;
 mod stmt;
 mod terminal;
-#[cfg(test)]
-mod tests;
 mod text;
 mod token;
 

@@ -1,0 +1,106 @@
+// Texts, each with what is read of it: its tree in short form, or its fault.
+use shim_parser::{ParseFault, parse};
+use shim_syntax::Program;
+use std::alloc::Global;
+use std::process::Abort;
+use std::test::Fail;
+
+/// The program of a text, or its fault.
+pub fn read(rt: &impl Abort, alloc: Global, text: &str) -> Result<Program, ParseFault> {
+    assert!(rt; text.len() <= 1048576);
+    parse(alloc, text.as_bytes())
+}
+
+// The text with each of these long forms in its short form, one after the other.
+fn shorter(alloc: Global, text: String, forms: &[(&str, &str)]) -> Result<String, Fail> {
+    let mut text = text;
+    for form in forms {
+        text = text.replace(alloc, form.0, form.1)?;
+    }
+    Ok(text)
+}
+
+// The text with each name of one of these letters as that letter.
+fn with_letters(alloc: Global, text: String, letters: &[u8]) -> Result<String, Fail> {
+    let mut text = text;
+    for letter in letters {
+        let long = format!(in alloc; "Name {{ bytes: [{letter}]")?;
+        let short = String::from_utf8(Vec::from_slice(alloc, &[*letter])?)?;
+        text = text.replace(alloc, long.as_str(), short.as_str())?;
+    }
+    Ok(text)
+}
+
+// A program as `{:?}` prints it, in short form: a statement and a branch is its line and what it
+// does, lists are in brackets, boxes aren't shown, and names are their letters.
+fn shown(alloc: Global, program: &Program) -> Result<String, Fail> {
+    let text = format!(in alloc; "{program:?}")?;
+    let text = shorter(
+        alloc,
+        text,
+        &[
+            (" }", ""),
+            ("List { items: ", ""),
+            ("Boxed { inner: ", ""),
+            ("Program { functions: ", ""),
+            ("Function { line: ", ""),
+            ("Stmt { line: ", ""),
+            ("Branch { line: ", ""),
+            (", what: ", " "),
+            ("Call { function: ", ""),
+            (", args: ", ", "),
+            ("Param { sort: ", ""),
+            (", by_ref: true, name: ", " & "),
+            (", by_ref: false, name: ", " "),
+            (", name: ", " "),
+            (", params: ", " params "),
+            (", throws: ", " throws "),
+            (", body: ", " body "),
+        ],
+    )?;
+    with_letters(alloc, text, b"abcdefghikmnoxyzABTU")
+}
+
+fn expect_program(rt: &impl Abort, alloc: Global, text: &str, wanted: &str) -> Result<(), Fail> {
+    let program = read(rt, alloc, text)?;
+    let shown = shown(alloc, &program)?;
+    assert_eq!(rt; shown.as_str(), wanted, "of {text}");
+    Ok(())
+}
+
+/// Expects these trees of these whole texts.
+pub fn expect_programs(rt: &impl Abort, alloc: Global, rows: &[(&str, &str)]) -> Result<(), Fail> {
+    for row in rows {
+        expect_program(rt, alloc, row.0, row.1)?;
+    }
+    Ok(())
+}
+
+/// Expects these lists of statements of these bodies of a function.
+pub fn expect_bodies(rt: &impl Abort, alloc: Global, rows: &[(&str, &str)]) -> Result<(), Fail> {
+    for row in rows {
+        let body = row.0;
+        let wanted = row.1;
+        let text = format!(in alloc; "void f() {{{body}}}")?;
+        let wanted = format!(in alloc; "[1 f params [] throws [] body {wanted}]")?;
+        expect_program(rt, alloc, text.as_str(), wanted.as_str())?;
+    }
+    Ok(())
+}
+
+/// Expects that a text has this fault.
+pub fn expect_fault(
+    rt: &impl Abort,
+    alloc: Global,
+    text: &str,
+    fault: ParseFault,
+) -> Result<(), Fail> {
+    assert_eq!(rt; read(rt, alloc, text).err(), Some(fault), "of {text}");
+    Ok(())
+}
+
+/// Expects that a text has a program.
+pub fn expect_read(rt: &impl Abort, alloc: Global, text: &str) -> Result<(), Fail> {
+    assert_eq!(rt; read(rt, alloc, text).err(), None, "of {text}");
+    Ok(())
+}

@@ -1,0 +1,19 @@
+//! Tests of texts: what is read, refused and printed.
+#![tactic(auto)]
+
+#[cfg(test)]
+mod expect;
+#[cfg(test)]
+mod expression_rows;
+#[cfg(test)]
+mod function_rows;
+#[cfg(test)]
+mod limit_rows;
+#[cfg(test)]
+mod printed_rows;
+#[cfg(test)]
+mod refusal_rows;
+#[cfg(test)]
+mod same_rows;
+#[cfg(test)]
+mod statement_rows;

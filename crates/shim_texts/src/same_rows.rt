@@ -1,0 +1,94 @@
+// Pairs of bodies of a function that have one tree, or two.
+use crate::expect::read;
+use std::alloc::Global;
+use std::process::Abort;
+use std::test::Fail;
+
+// Whether the two bodies have one tree.
+fn are_same(rt: &impl Abort, alloc: Global, body: &str, other: &str) -> Result<bool, Fail> {
+    let text = format!(in alloc; "void f() {{{body}}}")?;
+    let other = format!(in alloc; "void f() {{{other}}}")?;
+    let one = read(rt, alloc, text.as_str())?;
+    let another = read(rt, alloc, other.as_str())?;
+    Ok(one == another)
+}
+
+/// Expects that the two bodies of each row have one tree.
+pub fn expect_same(rt: &impl Abort, alloc: Global, rows: &[(&str, &str)]) -> Result<(), Fail> {
+    for row in rows {
+        let body = row.0;
+        let is_same = are_same(rt, alloc, body, row.1)?;
+        assert!(rt; is_same, "of {body}");
+    }
+    Ok(())
+}
+
+fn expect_other(rt: &impl Abort, alloc: Global, rows: &[(&str, &str)]) -> Result<(), Fail> {
+    for row in rows {
+        let body = row.0;
+        let is_same = are_same(rt, alloc, body, row.1)?;
+        assert!(rt; !is_same, "of {body}");
+    }
+    Ok(())
+}
+
+#[test]
+fn two_texts_have_one_tree(rt: HostRuntime) -> Result<(), Fail> {
+    expect_same(
+        &rt,
+        rt.alloc(),
+        &[
+            ("x = - - !~1;", "x = -(-(!(~(1))));"),
+            ("x = -a * b;", "x = (-a) * b;"),
+            ("x = a - -b;", "x = a - (-b);"),
+            ("x = ((y));", "x = y;"),
+            ("x = true; x = false;", "x = 1; x = 0;"),
+            ("x = 0x1F;", "x = 31;"),
+            ("int x;", "int32 x;"),
+            ("int a, b = 1;", "int a; int b = 1;"),
+            (
+                "if (a) if (b) ; else x = 1;",
+                "if (a) { if (b) ; else x = 1; }",
+            ),
+            (
+                "if (a) if (b) ; else ; else x = 1;",
+                "if (a) { if (b) ; } else x = 1;",
+            ),
+            ("if (a) ; else ;", "if (a) { }"),
+            ("if (a) f(x); par g(y);", "if (a) { f(x); par g(y); }"),
+            (
+                "if (a) ; else f(x); par g(y);",
+                "if (a) ; else { f(x); par g(y); }",
+            ),
+            ("while (a) f(x); par g(y);", "while (a) { f(x); par g(y); }"),
+            ("for (;;) f(x); par g(y);", "for (;;) { f(x); par g(y); }"),
+            (
+                "while (a) { f(x); } par g(y);",
+                "while (a) { { f(x); } par g(y); }",
+            ),
+            ("while (a) { f(x); } ;", "while (a) f(x);"),
+        ],
+    )
+}
+
+#[test]
+fn two_texts_have_two_trees(rt: HostRuntime) -> Result<(), Fail> {
+    expect_other(
+        &rt,
+        rt.alloc(),
+        &[
+            (
+                "if (a) if (b) ; else x = 1;",
+                "if (a) { if (b) ; } else x = 1;",
+            ),
+            ("x = a - b - c;", "x = a - (b - c);"),
+            ("x = -a * b;", "x = -(a * b);"),
+            ("{ x = 1; }", "x = 1;"),
+            ("int a; int b;", "int b; int a;"),
+            ("if (a) f(x); par g(y);", "{ if (a) f(x); } par g(y);"),
+            ("f(x); par g(y);", "g(y); par f(x);"),
+            ("f(x); par g(y);", "f(x); g(y);"),
+            ("x = 1;\n", "\nx = 1;"),
+        ],
+    )
+}
