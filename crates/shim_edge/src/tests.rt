@@ -3,9 +3,41 @@ use crate::{
     FileFault, Files, Got, HostFiles, HostSink, MemFiles, MemSink, Sink, SinkFault, write_all,
 };
 use shim_base::{List, Name};
+use std::alloc::Global;
 use std::fmt::Display;
+use std::process::Abort;
 use std::test::Fail;
 use std::{fs, io};
+
+// What a read has to give.
+#[derive(Clone, Copy)]
+enum Wanted<'a> {
+    Whole(&'a [u8]),
+    Longer,
+    Failed,
+}
+
+fn is_as_wanted(got: &Result<Got, FileFault>, wanted: Wanted) -> bool {
+    match (got, wanted) {
+        (Ok(Got::Whole(bytes)), Wanted::Whole(whole)) => bytes.as_slice() == whole,
+        (Ok(Got::Longer), Wanted::Longer) => true,
+        (Err(FileFault::Failed), Wanted::Failed) => true,
+        _ => false,
+    }
+}
+
+// Reads each of these names up to so many bytes.
+fn expect_reads<F: Files>(
+    rt: &impl Abort,
+    alloc: Global,
+    files: &mut F,
+    reads: &[(&[u8], usize, Wanted)],
+) {
+    for read in reads {
+        let got = files.read(alloc, read.0, read.1);
+        assert!(rt; is_as_wanted(&got, read.2), "{:?} gave {got:?}", read.0);
+    }
+}
 
 #[test]
 fn a_real_file_is_read_whole_or_is_longer_and_what_is_no_file_fails(
@@ -14,35 +46,32 @@ fn a_real_file_is_read_whole_or_is_longer_and_what_is_no_file_fails(
     let alloc = rt.alloc();
     fs::write(&rt, "shim_edge_five_bytes", "five\n")?;
     fs::create_dir(&rt, "shim_edge_folder")?;
-    let mut files = HostFiles::new(alloc, &rt);
-    let five = b"shim_edge_five_bytes".as_slice();
-    let reads = [
-        (
-            five,
-            5,
-            Ok(Got::Whole(List::from_slice(alloc, b"five\n".as_slice())?)),
-        ),
-        (
-            five,
-            usize::MAX,
-            Ok(Got::Whole(List::from_slice(alloc, b"five\n".as_slice())?)),
-        ),
-        (five, 4, Ok(Got::Longer)),
-        (five, 0, Ok(Got::Longer)),
-        (b"shim_edge_missing".as_slice(), 5, Err(FileFault::Failed)),
-        (b"shim_edge_folder".as_slice(), 5, Err(FileFault::Failed)),
-        (b"shim_edge_\xff".as_slice(), 5, Err(FileFault::Failed)),
-        (b"shim_edge_\0".as_slice(), 5, Err(FileFault::Failed)),
-    ];
-    for (name, most, want) in reads.iter() {
-        assert_eq!(rt; &files.read(alloc, *name, *most), want);
-    }
+    expect_reads(
+        &rt,
+        alloc,
+        &mut HostFiles::new(alloc, &rt),
+        &[
+            (b"shim_edge_five_bytes", 5, Wanted::Whole(b"five\n")),
+            (
+                b"shim_edge_five_bytes",
+                usize::MAX,
+                Wanted::Whole(b"five\n"),
+            ),
+            (b"shim_edge_five_bytes", 4, Wanted::Longer),
+            (b"shim_edge_five_bytes", 0, Wanted::Longer),
+            (b"shim_edge_missing", 5, Wanted::Failed),
+            (b"shim_edge_folder", 5, Wanted::Failed),
+            (b"shim_edge_\xff", 5, Wanted::Failed),
+            (b"shim_edge_\0", 5, Wanted::Failed),
+        ],
+    );
     fs::remove_file(&rt, "shim_edge_five_bytes")?;
     fs::remove_dir(&rt, "shim_edge_folder")?;
     Ok(())
 }
 
 // An output that answers every write with this count, or with an error.
+#[derive(Drop)]
 struct Answers(Option<usize>);
 
 impl Print for Answers {
@@ -66,87 +95,106 @@ impl Print for Answers {
     }
 }
 
+// What a write to that output gives.
+fn written(output: Option<usize>) -> Result<usize, SinkFault> {
+    let output = Answers(output);
+    HostSink::new(&output).write(b"a text\n".as_slice())
+}
+
 #[test]
-fn the_standard_output_takes_a_text_and_one_that_takes_nothing_fails(
-    rt: HostRuntime,
-) -> Result<(), Fail> {
-    assert_eq!(rt;
-        write_all(&mut HostSink::new(&rt), b"a text\n".as_slice()),
-        Ok(())
-    );
-    assert_eq!(rt;
-        HostSink::new(&Answers(Some(2))).write(b"a text\n".as_slice()),
-        Ok(2)
-    );
-    assert_eq!(rt;
-        HostSink::new(&Answers(Some(0))).write(b"a text\n".as_slice()),
-        Err(SinkFault::Failed)
-    );
-    assert_eq!(rt;
-        HostSink::new(&Answers(None)).write(b"a text\n".as_slice()),
-        Err(SinkFault::Failed)
-    );
-    Ok(())
+fn the_standard_output_takes_a_text_and_one_that_takes_nothing_fails(rt: HostRuntime) {
+    assert!(rt; write_all(&mut HostSink::new(&rt), b"a text\n".as_slice()).is_ok());
+    assert!(rt; written(Some(2)) == Ok(2));
+    assert!(rt; written(Some(0)) == Err(SinkFault::Failed));
+    assert!(rt; written(None) == Err(SinkFault::Failed));
+}
+
+// Files in memory with these names and contents, of which the second read fails.
+fn held(rt: &impl Abort, alloc: Global, files: &[(&[u8], &[u8])]) -> Result<MemFiles, Fail> {
+    let mut held = List::new(alloc);
+    for file in files {
+        let name = file.0;
+        assert!(rt; !name.is_empty() && name.len() < 9);
+        held.push((Name::new(alloc, name)?, List::from_slice(alloc, file.1)?))?;
+    }
+    Ok(MemFiles::new(alloc, held, List::from_slice(alloc, [1].as_slice())?))
 }
 
 #[test]
 fn files_in_memory_give_each_answer_at_its_call(rt: HostRuntime) -> Result<(), Fail> {
     let alloc = rt.alloc();
-    let mut held = List::new(alloc);
-    for (name, content) in [
-        (b"short".as_slice(), b"one".as_slice()),
-        (b"long".as_slice(), b"three".as_slice()),
-        (b"long".as_slice(), b"".as_slice()),
-    ] {
-        assert!(rt; !name.is_empty() && name.len() < 9);
-        held.push((Name::new(alloc, name)?, List::from_slice(alloc, content)?))?;
-    }
-    let mut files = MemFiles::new(alloc, held, List::from_slice(alloc, [1].as_slice())?);
-    let reads = [
-        (
-            b"short".as_slice(),
-            3,
-            Ok(Got::Whole(List::from_slice(alloc, b"one".as_slice())?)),
-        ),
-        (b"short".as_slice(), 3, Err(FileFault::Failed)),
-        (b"long".as_slice(), 4, Ok(Got::Longer)),
-        (b"missing".as_slice(), 4, Err(FileFault::Failed)),
-        (
-            b"long".as_slice(),
-            5,
-            Ok(Got::Whole(List::from_slice(alloc, b"three".as_slice())?)),
-        ),
-    ];
-    for (name, most, want) in reads.iter() {
-        assert_eq!(rt; &files.read(alloc, *name, *most), want);
-    }
+    let mut files = held(
+        &rt,
+        alloc,
+        &[(b"short", b"one"), (b"long", b"three"), (b"long", b"")],
+    )?;
+    expect_reads(
+        &rt,
+        alloc,
+        &mut files,
+        &[
+            (b"short", 3, Wanted::Whole(b"one")),
+            (b"short", 3, Wanted::Failed),
+            (b"long", 4, Wanted::Longer),
+            (b"missing", 4, Wanted::Failed),
+            (b"long", 5, Wanted::Whole(b"three")),
+        ],
+    );
     Ok(())
+}
+
+// Writes each of these pieces, and looks at what was taken up to then.
+fn expect_writes(
+    rt: &impl Abort,
+    sink: &mut MemSink,
+    writes: &[(&[u8], Result<usize, SinkFault>, &[u8])],
+) {
+    for write in writes {
+        let bytes = write.0;
+        assert!(rt; !bytes.is_empty());
+        assert!(rt; sink.write(bytes) == write.1, "of {bytes:?}");
+        assert!(rt; sink.taken() == write.2, "behind {bytes:?}");
+    }
+}
+
+// A sink that takes four bytes a write, with so much room, of which one write fails.
+fn sink(alloc: Global, failing: u64, room: usize) -> Result<MemSink, Fail> {
+    let mut sink = MemSink::new(alloc, 4, List::from_slice(alloc, [failing].as_slice())?);
+    sink.room(room)?;
+    Ok(sink)
 }
 
 #[test]
 fn a_sink_in_memory_takes_pieces_and_fails_when_told_to_or_past_its_room(
     rt: HostRuntime,
 ) -> Result<(), Fail> {
-    let alloc = rt.alloc();
-    let mut sink = MemSink::new(alloc, 4, List::from_slice(alloc, [1].as_slice())?);
-    sink.room(10)?;
-    let writes = [
-        (b"output".as_slice(), Ok(4), b"outp".as_slice()),
-        (b"ut".as_slice(), Err(SinkFault::Failed), b"outp".as_slice()),
-        (b"ut".as_slice(), Ok(2), b"output".as_slice()),
-        (b" 12".as_slice(), Ok(3), b"output 12".as_slice()),
-        (
-            b"\nend".as_slice(),
-            Err(SinkFault::Failed),
-            b"output 12".as_slice(),
-        ),
-        (b"\n".as_slice(), Ok(1), b"output 12\n".as_slice()),
-    ];
-    for (bytes, want, taken) in writes {
-        assert!(rt; !bytes.is_empty());
-        assert_eq!(rt; sink.write(bytes), want);
-        assert_eq!(rt; sink.taken(), taken);
-    }
+    let mut sink = sink(rt.alloc(), 1, 10)?;
+    expect_writes(
+        &rt,
+        &mut sink,
+        &[
+            (b"output", Ok(4), b"outp"),
+            (b"ut", Err(SinkFault::Failed), b"outp"),
+            (b"ut", Ok(2), b"output"),
+            (b" 12", Ok(3), b"output 12"),
+            (b"\nend", Err(SinkFault::Failed), b"output 12"),
+            (b"\n", Ok(1), b"output 12\n"),
+        ],
+    );
+    Ok(())
+}
+
+// Writes a text of 21 bytes where one write fails.
+fn expect_text(
+    rt: &impl Abort,
+    alloc: Global,
+    failing: u64,
+    wanted: Result<(), SinkFault>,
+    taken: &[u8],
+) -> Result<(), Fail> {
+    let mut sink = sink(alloc, failing, 21)?;
+    assert!(rt; write_all(&mut sink, b"output 12\nend done 9\n") == wanted);
+    assert!(rt; sink.taken() == taken);
     Ok(())
 }
 
@@ -155,20 +203,13 @@ fn a_text_is_written_whole_in_six_pieces_or_up_to_the_one_that_fails(
     rt: HostRuntime,
 ) -> Result<(), Fail> {
     let alloc = rt.alloc();
-    let text = b"output 12\nend done 9\n".as_slice();
-    for (failing, want, taken) in [
-        (6, Ok(()), text),
-        (
-            5,
-            Err(SinkFault::Failed),
-            b"output 12\nend done 9".as_slice(),
-        ),
-        (1, Err(SinkFault::Failed), b"outp".as_slice()),
-    ] {
-        let mut sink = MemSink::new(alloc, 4, List::from_slice(alloc, [failing].as_slice())?);
-        sink.room(text.len())?;
-        assert_eq!(rt; write_all(&mut sink, text), want);
-        assert_eq!(rt; sink.taken(), taken);
-    }
-    Ok(())
+    expect_text(&rt, alloc, 6, Ok(()), b"output 12\nend done 9\n")?;
+    expect_text(
+        &rt,
+        alloc,
+        5,
+        Err(SinkFault::Failed),
+        b"output 12\nend done 9",
+    )?;
+    expect_text(&rt, alloc, 1, Err(SinkFault::Failed), b"outp")
 }
