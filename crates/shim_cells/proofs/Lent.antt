@@ -51,6 +51,11 @@ pub lent_more : (taken : List ℕ) (n : ℕ) (x : Locations) → lent_at (taken 
 lent_more [] n x = refl
 lent_more (m ∷ ms) n x = lent_more ms n (lend_at x m)
 
+-- what is given in two turns
+pub lent_join : (taken more : List ℕ) (x : Locations) → lent_at (taken ++ more) x ≡ lent_at more (lent_at taken x)
+lent_join [] more x = refl
+lent_join (n ∷ ns) more x = lent_join ns more (lend_at x n)
+
 moved_none : (b : Bool) → with_moved (if b then with_kept None else None) ≡ None
 moved_none true = refl
 moved_none false = refl

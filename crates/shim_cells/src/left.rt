@@ -1,5 +1,5 @@
 // What a process has left while the children of a fork are made.
-ghost use Rattle.std.specs.Prelude.{◌≡◌, ◌∷◌, [], None, false, if◌then◌else◌, OnOk};
+ghost use Rattle.std.specs.Prelude.{◌≡◌, ◌∷◌, [], None, false, if◌then◌else◌, OnErr, OnOk};
 ghost use Rattle.shim_units.specs.Forks.{lent, takes_input, takes_output};
 ghost use Rattle.shim_units.specs.Locations.{Locations};
 ghost use Rattle.shim_scopes.specs.declared.tree.UParam.{UParam};
@@ -82,7 +82,8 @@ fn output_left(params: &[UParam], held: bool) -> bool
     if takes_output(params) { false } else { held }
 }
 
-/// A branch with these parameters takes its arguments.
+/// A branch with these parameters takes its arguments. A refusal changes nothing.
+#[tactic(auto, using(crate::proofs::Lent::lent_join))]
 pub fn take(
     left: &mut Left,
     slots: &[usize],
@@ -92,8 +93,11 @@ pub fn take(
     ensures cells { OnOk result ((cells : Locations) → lent_at left.new.taken cells ≡ lent slots.now params.now args.now (lent_at left.old.taken cells)) }
     ensures input { OnOk result (left.new.input_at ≡ if takes_input params.now then None else left.old.input_at) }
     ensures output { OnOk result (left.new.holds_output ≡ if takes_output params.now then false else left.old.holds_output) }
+    ensures err { OnErr result (left.new ≡ left.old) }
 {
-    take_all(&mut left.taken, slots, params, args)?;
+    let mut more = List::new(left.taken.allocator());
+    take_all(&mut more, slots, params, args)?;
+    left.taken.append(more)?;
     left.input_at = input_left(params, left.input_at);
     left.holds_output = output_left(params, left.holds_output);
     Ok(())
