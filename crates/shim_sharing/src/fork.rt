@@ -10,7 +10,7 @@ use crate::found::Offence;
 use shim_base::{List, NoMemory};
 use shim_scopes::{RBranch, RFunction};
 use shim_syntax::Sort;
-use shim_units::{Taking, is_reference, push_branch, take_all, taking_at};
+use shim_units::{Taking, is_reference, take_all, taking_at, uses_in_branch};
 use std::alloc::Global;
 
 // Two branches, and the variable that both take.
@@ -133,8 +133,7 @@ fn take_each(
 {
     let mut made = List::new(alloc);
     for branch in branches {
-        let mut uses = List::new(alloc);
-        push_branch(&mut uses, functions, branch)?;
+        let uses = uses_in_branch(alloc, functions, branch)?;
         made.push(take_all(alloc, sorts, uses.as_slice())?)?;
     }
     Ok(made)

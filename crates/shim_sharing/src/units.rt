@@ -10,8 +10,8 @@ use crate::lift::lift_body;
 use shim_base::{List, Name, NoMemory};
 use shim_scopes::{RFunction, UParam};
 use shim_units::{
-    Form, Home, UStmt, Unit, Within, copy_text, make_unit, number, number_after, open_unit,
-    push_declares, push_tries,
+    Form, Home, UStmt, Unit, Within, copy_text, declares_in, make_unit, number, number_after,
+    open_unit, tries_in,
 };
 use std::alloc::Global;
 
@@ -72,10 +72,8 @@ fn open_function(alloc: Global, function: &RFunction) -> Result<Held, NoMemory>
 {
     let slots = upto(alloc, function.params.len())?;
     let exceptions = upto(alloc, function.throws.len())?;
-    let mut declares = List::new(alloc);
-    push_declares(&mut declares, function.body.as_slice())?;
-    let mut tries = List::new(alloc);
-    push_tries(&mut tries, function.body.as_slice())?;
+    let declares = declares_in(alloc, function.body.as_slice())?;
+    let tries = tries_in(alloc, function.body.as_slice())?;
     let within = open_unit(
         alloc,
         slots.as_slice(),

@@ -10,7 +10,7 @@ ghost use Rattle.shim_units.specs.Lifting.{sort_of, name_of, try_name};
 use crate::found::Taking;
 use crate::home::Home;
 use crate::moving::{pass, place, place_all};
-use crate::own::{push_declares, push_raises, push_tries};
+use crate::own::{declares_in, push_raises, tries_in};
 use crate::taking::{is_reference, is_taken, take_all, taking_at};
 use crate::unit::{Arg, UCall, UStmt, Unit};
 use crate::uses::push_stmts;
@@ -217,10 +217,8 @@ pub fn open_branch(
     let takes = take_all(alloc, home.function.slots.as_slice(), uses.as_slice())?;
     let mut raises = List::new(alloc);
     push_raises(&mut raises, body)?;
-    let mut declares = List::new(alloc);
-    push_declares(&mut declares, body)?;
-    let mut tries = List::new(alloc);
-    push_tries(&mut tries, body)?;
+    let declares = declares_in(alloc, body)?;
+    let tries = tries_in(alloc, body)?;
     let slots = take_some(alloc, takes.as_slice(), within.slots.as_slice())?;
     let exceptions = give_exceptions(alloc, raises.as_slice(), within.exceptions.as_slice())?;
     let inner = open_unit(

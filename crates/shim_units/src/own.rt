@@ -1,10 +1,11 @@
 // The exceptions that a text throws or passes on, and what a unit has of its own.
-ghost use Rattle.std.specs.Prelude.{◌≡◌, ◌++◌, OnOk};
+ghost use Rattle.std.specs.Prelude.{◌≡◌, ◌++◌, IfOk, OnOk};
 ghost use Rattle.shim_units.specs.Parts.{all_raises};
 ghost use Rattle.shim_units.specs.Meaning.{part, raises_in, declares_in, tries_in, branch_part, branch_parts};
 
 use shim_base::{List, NoMemory};
 use shim_scopes::{RBranch, RBranchWhat, RStmt, RWhat};
+use std::alloc::Global;
 
 // The exceptions that statements throw or pass on, in textual order.
 #[cycle(raises)]
@@ -68,8 +69,16 @@ fn push_raises_of_branch(raises: &mut List<u32>, branch: &RBranch) -> Result<(),
 }
 
 /// The variables that statements declare, without those in block branches, in textual order.
+pub fn declares_in(alloc: Global, body: &[RStmt]) -> Result<List<u32>, NoMemory>
+    ensures { IfOk result (λ made. made ≡ declares_in body.now) }
+{
+    let mut slots = List::new(alloc);
+    push_declares(&mut slots, body)?;
+    Ok(slots)
+}
+
 #[cycle(declares)]
-pub fn push_declares(slots: &mut List<u32>, body: &[RStmt]) -> Result<(), NoMemory>
+fn push_declares(slots: &mut List<u32>, body: &[RStmt]) -> Result<(), NoMemory>
     ensures { OnOk result (slots.new ≡ slots.old ++ declares_in body.now) }
 {
     for stmt in body {
@@ -107,8 +116,16 @@ fn push_declares_of(slots: &mut List<u32>, stmt: &RStmt) -> Result<(), NoMemory>
 }
 
 /// The exceptions of `try` statements, without those in block branches, in textual order.
+pub fn tries_in(alloc: Global, body: &[RStmt]) -> Result<List<u32>, NoMemory>
+    ensures { IfOk result (λ made. made ≡ tries_in body.now) }
+{
+    let mut exceptions = List::new(alloc);
+    push_tries(&mut exceptions, body)?;
+    Ok(exceptions)
+}
+
 #[cycle(tries)]
-pub fn push_tries(exceptions: &mut List<u32>, body: &[RStmt]) -> Result<(), NoMemory>
+fn push_tries(exceptions: &mut List<u32>, body: &[RStmt]) -> Result<(), NoMemory>
     ensures { OnOk result (exceptions.new ≡ exceptions.old ++ tries_in body.now) }
 {
     for stmt in body {

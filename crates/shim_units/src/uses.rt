@@ -1,5 +1,5 @@
 // The uses of variables in a text.
-ghost use Rattle.std.specs.Prelude.{◌≡◌, ◌∷◌, ◌++◌, [], OnOk};
+ghost use Rattle.std.specs.Prelude.{◌≡◌, ◌∷◌, ◌++◌, [], IfOk, OnOk};
 ghost use Rattle.shim_units.specs.Parts.{all_uses};
 ghost use Rattle.shim_units.specs.Uses.{names_in, names_in_option, lent_uses, arg_uses, args_uses, call_uses};
 ghost use Rattle.shim_units.specs.Calls.{bare};
@@ -9,6 +9,7 @@ use crate::calls::{behind_first, find_bare, lends_first, params_at};
 use crate::found::{How, Use};
 use shim_base::{List, NoMemory};
 use shim_scopes::{RBranch, RBranchWhat, RCall, RFunction, RStmt, RWhat, UExpr, UParam};
+use std::alloc::Global;
 
 fn push(uses: &mut List<Use>, how: How, slot: u32) -> Result<(), NoMemory>
     ensures { OnOk result (uses.new ≡ uses.old ++ record { slot = slot; how = how } ∷ []) }
@@ -178,7 +179,7 @@ fn push_branches(
 }
 
 #[cycle(uses)]
-pub fn push_branch(
+fn push_branch(
     uses: &mut List<Use>,
     functions: &[RFunction],
     branch: &RBranch,
@@ -189,4 +190,17 @@ pub fn push_branch(
         RBranchWhat::Block(body) => push_stmts(uses, functions, body.as_slice()),
         RBranchWhat::Call(call) => push_call(uses, functions, call),
     }
+}
+
+/// The uses in the text of a branch, in textual order.
+pub fn uses_in_branch(
+    alloc: Global,
+    functions: &[RFunction],
+    branch: &RBranch,
+) -> Result<List<Use>, NoMemory>
+    ensures { IfOk result (λ made. made ≡ (branch_part branch.now).uses functions.now) }
+{
+    let mut uses = List::new(alloc);
+    push_branch(&mut uses, functions, branch)?;
+    Ok(uses)
 }
