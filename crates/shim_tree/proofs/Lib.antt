@@ -20,6 +20,7 @@ pub mod Follows
 pub mod ForkKeeps
 pub mod Gathered
 pub mod Happens
+pub mod HaveValues
 pub mod HowMany
 pub mod InOrder
 pub mod Labels

@@ -47,10 +47,10 @@ again false x y z = refl
 apart : (q c d : Channel) → same c d ≡ false → same q d ≡ true → same q c ≡ true → ⊥
 apart q c d f s t = true≢false (sym s ∙ ap (λ z. same z d) (exact_same q c t) ∙ f)
 
-record Written (c : Channel) (w old : List ℤ) (es : List (NamedChannel × List ℤ)) : Type 0 where
-  name : ℕ
-  found : find channel_order c (mets es) ≡ Some (record { name = name; values = old })
-  after : (q : Channel) → find channel_order q (mets (set_value (is_of c) es w)) ≡ cond (same q c) (Some (record { name = name; values = w })) (find channel_order q (mets es))
+pub record Written (c : Channel) (w old : List ℤ) (es : List (NamedChannel × List ℤ)) : Type 0 where
+  pub name : ℕ
+  pub found : find channel_order c (mets es) ≡ Some (record { name = name; values = old })
+  pub after : (q : Channel) → find channel_order q (mets (set_value (is_of c) es w)) ≡ cond (same q c) (Some (record { name = name; values = w })) (find channel_order q (mets es))
 
 written_first : (c : Channel) (w old : List ℤ) (e : NamedChannel × List ℤ) (es : List (NamedChannel × List ℤ)) → same c e.0.channel ≡ true → lookup (is_of c) (e ∷ es) ≡ Some old → Written c w old (e ∷ es)
 written_first c w old e es t h = record {
@@ -78,7 +78,7 @@ written_at c w old e es true t go h = written_first c w old e es t h
 written_at c w old e es false f go h = written_later c w old e es f (go (sym (ap (λ b. cond b (Some e.1) (lookup (is_of c) es)) f) ∙ h))
 
 -- the values of a channel that has some change, and its name stays
-written : (c : Channel) (w old : List ℤ) (es : List (NamedChannel × List ℤ)) → lookup (is_of c) es ≡ Some old → Written c w old es
+pub written : (c : Channel) (w old : List ℤ) (es : List (NamedChannel × List ℤ)) → lookup (is_of c) es ≡ Some old → Written c w old es
 written c w old [] h = absurd (none-some old h)
 written c w old (e ∷ es) h = written_at c w old e es _ refl (written c w old es) h
 

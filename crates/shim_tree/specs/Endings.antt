@@ -1,5 +1,5 @@
 -- What is read off a tree.
-use Rattle.std.specs.Prelude.{ℕ, ℤ, zero, suc, Bool, true, false, Option, Some, None, List, [], ◌∷◌, ◌++◌, map, cond}
+use Rattle.std.specs.Prelude.{ℕ, ℤ, zero, suc, Bool, true, false, Option, Some, None, List, [], ◌∷◌, ◌++◌, map, cond, unwrap_or}
 use Rattle.std.specs.FinMap as finite
 use Rattle.shim_base.specs.Paths.{Path, Channel, NamedChannel, path_order}
 use Rattle.shim_local.specs.Process.{Ops}
@@ -87,3 +87,7 @@ values_in (Some h) = Some h.values
 -- the values that the channel's meetings gave, where it had one
 abbrev pub history_at : {S : Type 0} → Channel → Tree S → Option (List ℤ)
 history_at c t = values_in (finite.get t.histories c)
+
+-- The same as one list, which is empty where the channel has no recorded value.
+abbrev pub values_on : {S : Type 0} → Channel → Tree S → List ℤ
+values_on c t = unwrap_or (history_at c t) []

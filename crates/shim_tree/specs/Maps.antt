@@ -1,5 +1,5 @@
 -- The maps of the code, as the finite maps that they mean.
-use Rattle.std.specs.Prelude.{ℕ, ℤ, Bool, not, eqb, List, map, refl}
+use Rattle.std.specs.Prelude.{◌≡◌, ◌≢◌, ℕ, ℤ, Bool, Some, not, eqb, List, [], map, refl}
 use Rattle.std.specs.Coded.{Coded, coded×, coded_ℕ, code_by}
 use Rattle.std.specs.FinMap as finite
 use Rattle.std.specs.BTreeMap.{BTreeMap}
@@ -23,6 +23,10 @@ met_of e = (e.0.channel, record { name = e.0.name; values = e.1 })
 
 abbrev pub histories_of : BTreeMap NamedChannel (List ℤ) → finite.FinMap channel_order Met
 histories_of m = finite.from_entries (map met_of m.entries)
+
+-- each channel that has an entry has a value
+abbrev pub AllHaveValues : finite.FinMap channel_order Met → Type 0
+AllHaveValues m = (c : Channel) (h : Met) → finite.get m c ≡ Some h → h.values ≢ []
 
 abbrev pub waits_in : BTreeMap Path NamedChannel → finite.FinMap path_order NamedChannel
 waits_in m = finite.from_entries m.entries

@@ -4,6 +4,7 @@ ghost use Rattle.std.specs.Option.{option_copied};
 ghost use Rattle.std.specs.FinMap as finite;
 ghost use Rattle.shim_tree.specs.Trees.{recorded};
 ghost use Rattle.shim_tree.specs.Endings.{history_of, values_in};
+ghost use Rattle.shim_tree.specs.Maps.{AllHaveValues};
 
 use shim_base::{Chan, List, NoMemory};
 use shim_local::History;
@@ -24,13 +25,15 @@ impl Model for Histories {
     ghost use Rattle.shim_base.specs.Paths.{channel_order};
     ghost use Rattle.shim_tree.specs.Trees.{Met};
     ghost use Rattle.shim_tree.specs.Codes.{histories_code};
-    ghost use Rattle.shim_tree.specs.Maps.{histories_of};
+    ghost use Rattle.shim_tree.specs.Maps.{histories_of, AllHaveValues};
 
     ghost Value = { finite.FinMap channel_order Met };
 
     ghost coded = { histories_code };
 
     ghost view = { λ h. histories_of h.kept };
+
+    ghost invariant = { λ h. AllHaveValues (histories_of h.kept) };
 }
 
 impl Histories {
@@ -62,7 +65,8 @@ impl Histories {
 
     /// The values of the channel, if it had a meeting. It takes no memory.
     pub(crate) fn get(&self, chan: &Chan) -> Option<&[i64]>
-        ensures { option_copied result ≡ values_in (finite.get self.now chan.now.channel) }
+        ensures values { option_copied result ≡ values_in (finite.get self.now chan.now.channel) }
+        ensures filled { AllHaveValues self.now }
     {
         match self.kept.get(chan) {
             Some(values) => Some(values.as_slice()),

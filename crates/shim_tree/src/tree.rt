@@ -1,5 +1,5 @@
 // A tree of processes.
-ghost use Rattle.std.specs.Prelude.{◌≡◌, ◌≢◌, ◌<◌, ◌≤◌, ◌+◌, ◌^◌, ◌↔◌, ◌⊎◌, true, Some, None, IfOk, OnOk, OnErr, IfSome, IsTrue, map};
+ghost use Rattle.std.specs.Prelude.{◌≡◌, ◌≢◌, ◌<◌, ◌≤◌, ◌+◌, ◌^◌, ◌↔◌, ◌⊎◌, true, Some, None, IfOk, OnOk, OnErr, IfSome, IsTrue, map, []};
 ghost use Rattle.std.specs.Option.{option_map, option_copied};
 ghost use Rattle.shim_tree.specs.Trees as trees;
 ghost use Rattle.shim_tree.specs.Trees.{after, steps, IsQuiescent, sum, own, other, silently, poisons, met};
@@ -147,9 +147,12 @@ impl<L: Local> Tree<L> {
         swap_on(&mut self.root, &mut self.below, &mut state);
     }
 
-    /// The values that the meetings on the channel gave, if it had one. It takes no memory.
+    /// The values that the meetings on the channel gave, if it had one; it lends no empty list. It takes
+    /// no memory.
     pub fn history(&self, c: &Chan) -> Option<&[i64]>
-        ensures { option_copied result ≡ endings.history_at c.now.channel self.now }
+        ensures values { option_copied result ≡ endings.history_at c.now.channel self.now }
+        ensures none { (option_copied result ≡ None) ↔ (endings.values_on c.now.channel self.now ≡ []) }
+        ensures some { IfSome (option_copied result) (λ values. values ≢ []) }
     {
         self.histories.get(c)
     }

@@ -4,14 +4,14 @@ use Rattle.shim_tree.specs.Endings.{values_in}
 use Rattle.shim_tree.proofs.Values.{values_of}
 use Rattle.shim_tree.proofs.histories.Histories.get.Goals as goal
 
-pub returns-in-Some : goal.returns-in-Some
-returns-in-Some c =
+pub returns-in-Some-clause-values : goal.returns-in-Some-clause-values
+returns-in-Some-clause-values c =
     ap Some c.as_slice.ensures ∙ c.in-Some.ensures.value
     ∙ sym (values_of c.args.chan.now.channel c.self.inside.kept.entries)
     ∙ ap (λ m. values_in (finite.get m c.args.chan.now.channel)) c.self.view_is
 
-pub returns-in-None : goal.returns-in-None
-returns-in-None c =
+pub returns-in-None-clause-values : goal.returns-in-None-clause-values
+returns-in-None-clause-values c =
     c.in-None.ensures.value
     ∙ sym (values_of c.args.chan.now.channel c.self.inside.kept.entries)
     ∙ ap (λ m. values_in (finite.get m c.args.chan.now.channel)) c.self.view_is
