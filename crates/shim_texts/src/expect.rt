@@ -21,17 +21,18 @@ fn shorter(alloc: Global, text: String, forms: &[(&str, &str)]) -> Result<String
 }
 
 // The text with each name of one of these letters as that letter.
-fn with_letters(alloc: Global, text: String, letters: &[u8]) -> Result<String, Fail> {
+fn with_letters(alloc: Global, text: String, letters: &str) -> Result<String, Fail> {
     let mut text = text;
-    for letter in letters {
-        let long = format!(in alloc; "Name {{ bytes: [{letter}]")?;
-        let short = String::from_utf8(Vec::from_slice(alloc, &[*letter])?)?;
+    for letter in letters.chars() {
+        let code = u32::from(letter);
+        let long = format!(in alloc; "Name {{ bytes: [{code}]")?;
+        let short = format!(in alloc; "{letter}")?;
         text = text.replace(alloc, long.as_str(), short.as_str())?;
     }
     Ok(text)
 }
 
-// A program as `{:?}` prints it, in short form: a statement and a branch is its line and what it
+// The tree of a program as `{:?}` prints it, in short form: a statement and a branch is its line and what it
 // does, lists are in brackets, boxes aren't shown, and names are their letters.
 fn shown(alloc: Global, program: &Program) -> Result<String, Fail> {
     let text = format!(in alloc; "{program:?}")?;
@@ -58,20 +59,26 @@ fn shown(alloc: Global, program: &Program) -> Result<String, Fail> {
             (", body: ", " body "),
         ],
     )?;
-    with_letters(alloc, text, b"abcdefghikmnoxyzABTU")
+    with_letters(alloc, text, "abcdefghikmnoxyzABTU")
 }
 
-fn expect_program(rt: &impl Abort, alloc: Global, text: &str, wanted: &str) -> Result<(), Fail> {
+fn tree_of(rt: &impl Abort, alloc: Global, text: &str) -> Result<String, Fail> {
     let program = read(rt, alloc, text)?;
-    let shown = shown(alloc, &program)?;
-    assert_eq!(rt; shown.as_str(), wanted, "of {text}");
-    Ok(())
+    shown(alloc, &program)
+}
+
+/// The tree, in short form, of the function that has this body.
+pub fn tree_of_body(rt: &impl Abort, alloc: Global, body: &str) -> Result<String, Fail> {
+    let text = format!(in alloc; "void f() {{{body}}}")?;
+    tree_of(rt, alloc, text.as_str())
 }
 
 /// Expects these trees of these whole texts.
 pub fn expect_programs(rt: &impl Abort, alloc: Global, rows: &[(&str, &str)]) -> Result<(), Fail> {
     for row in rows {
-        expect_program(rt, alloc, row.0, row.1)?;
+        let text = row.0;
+        let tree = tree_of(rt, alloc, text)?;
+        assert_eq!(rt; tree.as_str(), row.1, "of {text}");
     }
     Ok(())
 }
@@ -80,10 +87,10 @@ pub fn expect_programs(rt: &impl Abort, alloc: Global, rows: &[(&str, &str)]) ->
 pub fn expect_bodies(rt: &impl Abort, alloc: Global, rows: &[(&str, &str)]) -> Result<(), Fail> {
     for row in rows {
         let body = row.0;
-        let wanted = row.1;
-        let text = format!(in alloc; "void f() {{{body}}}")?;
-        let wanted = format!(in alloc; "[1 f params [] throws [] body {wanted}]")?;
-        expect_program(rt, alloc, text.as_str(), wanted.as_str())?;
+        let statements = row.1;
+        let tree = tree_of_body(rt, alloc, body)?;
+        let wanted = format!(in alloc; "[1 f params [] throws [] body {statements}]")?;
+        assert_eq!(rt; tree.as_str(), wanted.as_str(), "of {body}");
     }
     Ok(())
 }

@@ -1,33 +1,27 @@
 // Pairs of bodies of a function that have one tree, or two.
-use crate::expect::read;
+use crate::expect::tree_of_body;
 use std::alloc::Global;
 use std::process::Abort;
 use std::test::Fail;
-
-// Whether the two bodies have one tree.
-fn are_same(rt: &impl Abort, alloc: Global, body: &str, other: &str) -> Result<bool, Fail> {
-    let text = format!(in alloc; "void f() {{{body}}}")?;
-    let other = format!(in alloc; "void f() {{{other}}}")?;
-    let one = read(rt, alloc, text.as_str())?;
-    let another = read(rt, alloc, other.as_str())?;
-    Ok(one == another)
-}
 
 /// Expects that the two bodies of each row have one tree.
 pub fn expect_same(rt: &impl Abort, alloc: Global, rows: &[(&str, &str)]) -> Result<(), Fail> {
     for row in rows {
         let body = row.0;
-        let is_same = are_same(rt, alloc, body, row.1)?;
-        assert!(rt; is_same, "of {body}");
+        let tree = tree_of_body(rt, alloc, body)?;
+        let other_tree = tree_of_body(rt, alloc, row.1)?;
+        assert_eq!(rt; tree, other_tree, "of {body}");
     }
     Ok(())
 }
 
+// Expects that the two bodies of each row have two trees.
 fn expect_other(rt: &impl Abort, alloc: Global, rows: &[(&str, &str)]) -> Result<(), Fail> {
     for row in rows {
         let body = row.0;
-        let is_same = are_same(rt, alloc, body, row.1)?;
-        assert!(rt; !is_same, "of {body}");
+        let tree = tree_of_body(rt, alloc, body)?;
+        let other_tree = tree_of_body(rt, alloc, row.1)?;
+        assert!(rt; tree != other_tree, "of {body}");
     }
     Ok(())
 }
