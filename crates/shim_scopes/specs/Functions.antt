@@ -13,7 +13,7 @@ use Rattle.shim_scopes.specs.declared.tree.RFunction.{RFunction}
 use Rattle.shim_scopes.specs.declared.form.Form.{Form}
 use Rattle.shim_scopes.specs.declared.fault.ScopeKind.TheVariants.{Twice, NoMain, MainParameters}
 use Rattle.shim_scopes.specs.declared.scope.Handled.{Handled}
-use Rattle.shim_scopes.specs.Names.{Texts, number_of, with_functions}
+use Rattle.shim_names.specs.Names.{Texts, number_of, param_names, with_functions}
 use Rattle.shim_scopes.specs.Refusals.{Refusal, and_then, refused_for}
 use Rattle.shim_scopes.specs.Statements.{Whole, Before, BoundTo, declared}
 use Rattle.shim_scopes.specs.Calls.{if_false}
@@ -30,10 +30,6 @@ name_in seen x = if_name x (find (λ n. bytes_eq n x) seen)
 abbrev pub twice_after : Texts → Texts → Option (List ℕ)
 twice_after seen [] = None
 twice_after seen (x ∷ xs) = option_or (name_in seen x) (twice_after (seen ++ x ∷ []) xs)
-
-abbrev pub param_names : List Param → Texts
-param_names [] = []
-param_names (p ∷ ps) = p.name ∷ param_names ps
 
 -- `main` may take each stream once, whatever came before, and nothing else
 abbrev pub suits_main : Bool → Bool → List Param → Bool

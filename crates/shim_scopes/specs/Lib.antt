@@ -1,7 +1,4 @@
 -- The definitions of this crate, one module for each subject.
-pub mod Names
-pub mod Table
-pub mod Sizes
 pub mod Binding
 pub mod Refusals
 pub mod Statements
@@ -11,5 +8,3 @@ pub mod Functions
 pub mod State
 pub mod Resolving
 pub mod Innermost
-pub mod Distinct
-pub mod Occurrences

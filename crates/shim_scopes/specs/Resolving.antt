@@ -1,15 +1,9 @@
 -- What is resolved: a program that has a text, in its one form.
-use Rattle.std.specs.Prelude.{◌≡◌, ◌≤◌, ℕ, List, Ok, length}
+use Rattle.std.specs.Prelude.{◌≡◌, Ok}
 use Rattle.shim_syntax.specs.declared.tree.Program.{Program}
-use Rattle.shim_syntax.specs.Text.{IsText}
+use Rattle.shim_names.specs.ShortText.{HasText}
 use Rattle.shim_scopes.specs.declared.form.Form.{Form}
 use Rattle.shim_scopes.specs.Functions.{bind_program}
-
--- the program has a text of at most 1 MiB
-pub record HasText (program : Program) : Type 0 where
-  pub bytes : List ℕ
-  pub short : length bytes ≤ 1048576
-  pub text : IsText bytes program
 
 -- the resolved form of a program that has such a text
 pub record IsFormOfText (form : Form) : Type 0 where

@@ -14,10 +14,11 @@ use crate::lookup::{
     exception_at, find_bare, find_stream, find_unhandled, find_unknown_of_all, look_up, place_all,
 };
 use crate::scope::{Bound, Handled, Local, Scope};
-use crate::table::NameTable;
 use crate::tree::RCall;
-use crate::word::{is_same, number};
+use crate::word::number;
 use shim_base::{List, Name, NoMemory, Ty};
+use shim_names::NameTable;
+use shim_names::word::is_same;
 use shim_syntax::{Call, Expr, Function, Param, Sort};
 use std::alloc::Global;
 

@@ -3,8 +3,8 @@ ghost use Rattle.std.specs.Option.{option_copied};
 ghost use Rattle.shim_scopes.specs.State.{Passes, IsRefusal};
 
 use crate::fault::{ScopeFault, ScopeKind};
-use crate::word::copy;
 use shim_base::Name;
+use shim_names::word::copy;
 use std::alloc::Global;
 
 // The refusal of a place for a name.

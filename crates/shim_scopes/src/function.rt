@@ -3,7 +3,7 @@ ghost use Rattle.std.specs.Prelude.{[]};
 ghost use Rattle.shim_scopes.specs.Functions.{bind_function, bind_functions};
 ghost use Rattle.shim_scopes.specs.Refusals.{Gives};
 ghost use Rattle.shim_scopes.specs.State.{AreNumbers, IsNumber, whole};
-ghost use Rattle.shim_scopes.specs.Sizes.{function_size, functions_size};
+ghost use Rattle.shim_names.specs.Sizes.{function_size, functions_size};
 
 use crate::check::check;
 use crate::fault::{ScopeFault, ScopeKind};
@@ -11,10 +11,11 @@ use crate::header::{
     copy_names, find_twice, find_wrong_main, number_names, open_function, place_params,
 };
 use crate::stmt::resolve_body;
-use crate::table::NameTable;
 use crate::tree::RFunction;
-use crate::word::{copy, find_in};
+use crate::word::find_in;
 use shim_base::{List, Name};
+use shim_names::NameTable;
+use shim_names::word::copy;
 use shim_syntax::Function;
 use std::alloc::Global;
 

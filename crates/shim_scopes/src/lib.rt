@@ -9,13 +9,11 @@ mod function;
 mod header;
 pub mod laws;
 mod lookup;
-mod names;
 mod program;
 mod resolved;
 mod scope;
 mod simple;
 mod stmt;
-mod table;
 mod tree;
 mod word;
 

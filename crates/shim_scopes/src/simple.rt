@@ -14,10 +14,11 @@ use crate::lookup::{
     first_of, place, place_option, slot_in,
 };
 use crate::scope::{Bound, Handled, Local, Scope};
-use crate::table::NameTable;
 use crate::tree::{RWhat, UExpr};
-use crate::word::{copy, is_same, number};
+use crate::word::number;
 use shim_base::{List, Name, NoMemory, Ty};
+use shim_names::NameTable;
+use shim_names::word::{copy, is_same};
 use shim_syntax::{Expr, Function, Sort};
 use std::alloc::Global;
 

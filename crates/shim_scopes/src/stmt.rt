@@ -1,6 +1,6 @@
 // Statements and branches, each with what stands in it.
 ghost use Rattle.std.specs.Prelude.{◌≡◌, ◌≤◌, ◌++◌, length, OnOk};
-ghost use Rattle.shim_scopes.specs.Sizes.{stmt_size, stmts_size, branch_size, branches_size};
+ghost use Rattle.shim_names.specs.Sizes.{stmt_size, stmts_size, branch_size, branches_size};
 ghost use Rattle.shim_scopes.specs.Statements.{bind_block, bind_first_test};
 ghost use Rattle.shim_scopes.specs.Meaning.{bind_stmt, bind_what, bind_branch, bind_stmts, bind_branches, declared_first};
 ghost use Rattle.shim_scopes.specs.Refusals.{Gives};
@@ -15,10 +15,11 @@ use crate::simple::{
     begin_try, resolve_assign, resolve_assign_next, resolve_declare, resolve_get, resolve_next,
     resolve_next_assign, resolve_put, resolve_test, resolve_throw,
 };
-use crate::table::NameTable;
 use crate::tree::{RBranch, RBranchWhat, RStmt, RWhat};
-use crate::word::{copy, number};
+use crate::word::number;
 use shim_base::{List, NoMemory};
+use shim_names::NameTable;
+use shim_names::word::copy;
 use shim_syntax::{Branch, BranchWhat, Expr, Function, Sort, Stmt, What};
 use std::alloc::Global;
 

@@ -1,0 +1,111 @@
+-- The distinct identifiers of a program, in the order of their first occurrences.
+use Rattle.std.specs.Prelude.{ℕ, List, [], ◌∷◌, ◌++◌, Option, Some, None, map, length, position}
+use Rattle.std.specs.List.{find}
+use Rattle.std.specs.Str.{bytes_eq}
+use Rattle.shim_syntax.specs.declared.tree.Expr.{Expr, fold-Expr, Expr-F}
+use Rattle.shim_syntax.specs.declared.tree.Call.{Call as CallOf}
+use Rattle.shim_syntax.specs.declared.tree.Param.{Param}
+use Rattle.shim_syntax.specs.declared.tree.Function.{Function}
+use Rattle.shim_syntax.specs.declared.tree.Stmt.{Stmt, fold-Stmt}
+use Rattle.shim_syntax.specs.declared.tree.What.{What-F}
+use Rattle.shim_syntax.specs.declared.tree.Branch.{Branch as BranchOf, fold-Branch}
+use Rattle.shim_syntax.specs.declared.tree.BranchWhat.{BranchWhat-F}
+
+abbrev pub Texts : Type 0
+Texts = List (List ℕ)
+
+-- how a part of the program changes the list of the names before it
+abbrev pub Adds : Type 0
+Adds = Texts → Texts
+
+abbrev pub unless_there : Option (List ℕ) → Texts → Texts → Texts
+unless_there None new old = new
+unless_there (Some x) new old = old
+
+-- the known names, and behind them this one where it is new
+abbrev pub with_name : List ℕ → Adds
+with_name x known = unless_there (find (λ n. bytes_eq n x) known) (known ++ x ∷ []) known
+
+abbrev pub in_turn : List Adds → Adds
+in_turn [] known = known
+in_turn (f ∷ fs) known = in_turn fs (f known)
+
+abbrev pub expr_step : Expr-F Adds → Adds
+expr_step (Expr-F.Number n) known = known
+expr_step (Expr-F.Var x) known = with_name x known
+expr_step (Expr-F.Unary op a) known = a known
+expr_step (Expr-F.Binary op a b) known = b (a known)
+
+unfoldable pub with_expr : Expr → Adds
+with_expr = fold-Expr Adds expr_step
+
+abbrev pub with_exprs : List Expr → Adds
+with_exprs [] known = known
+with_exprs (e ∷ es) known = with_exprs es (with_expr e known)
+
+abbrev pub with_option : Option Expr → Adds
+with_option None known = known
+with_option (Some e) known = with_expr e known
+
+abbrev pub with_call : CallOf → Adds
+with_call c known = with_exprs c.args (with_name c.function known)
+
+abbrev pub branch_names : BranchWhat-F Adds Adds Adds Adds → Adds
+branch_names (BranchWhat-F.BranchWhat::Block body) = in_turn body
+branch_names (BranchWhat-F.BranchWhat::Call c) = with_call c
+
+abbrev pub what_names : What-F Adds Adds Adds Adds → Adds
+what_names (What-F.Declare ty x e) known = with_option e (with_name x known)
+what_names (What-F.Assign x e) known = with_expr e (with_name x known)
+what_names (What-F.Next x) known = with_name x known
+what_names (What-F.NextAssign x e) known = with_expr e (with_name x known)
+what_names (What-F.AssignNext x y) known = with_name y (with_name x known)
+what_names (What-F.Get x y) known = with_name y (with_name x known)
+what_names (What-F.Put x e) known = with_expr e (with_name x known)
+what_names (What-F.If e first other) known = in_turn other (in_turn first (with_expr e known))
+what_names (What-F.While e body) known = in_turn body (with_expr e known)
+what_names (What-F.For first test step body) known = in_turn body (in_turn step (with_option test (in_turn first known)))
+what_names (What-F.What::Block body) known = in_turn body known
+what_names (What-F.What::Call c) known = with_call c known
+what_names (What-F.Try body x handler) known = in_turn handler (with_name x (in_turn body known))
+what_names (What-F.Throw x) known = with_name x known
+what_names (What-F.Par branches) known = in_turn branches known
+
+abbrev pub with_stmt : Stmt → Adds
+with_stmt = fold-Stmt Adds Adds Adds Adds branch_names what_names (λ b. b.what) (λ s. s.what)
+
+abbrev pub with_branch : BranchOf → Adds
+with_branch = fold-Branch Adds Adds Adds Adds branch_names what_names (λ b. b.what) (λ s. s.what)
+
+abbrev pub with_stmts : List Stmt → Adds
+with_stmts body = in_turn (map with_stmt body)
+
+abbrev pub with_branches : List BranchOf → Adds
+with_branches branches = in_turn (map with_branch branches)
+
+abbrev pub with_texts : Texts → Adds
+with_texts [] known = known
+with_texts (x ∷ xs) known = with_texts xs (with_name x known)
+
+abbrev pub param_names : List Param → Texts
+param_names [] = []
+param_names (p ∷ ps) = p.name ∷ param_names ps
+
+abbrev pub with_params : List Param → Adds
+with_params [] known = known
+with_params (p ∷ ps) known = with_params ps (with_name p.name known)
+
+unfoldable pub with_function : Function → Adds
+with_function f known = with_stmts f.body (with_texts f.throws (with_params f.params (with_name f.name known)))
+
+abbrev pub with_functions : List Function → Adds
+with_functions [] known = known
+with_functions (f ∷ fs) known = with_functions fs (with_function f known)
+
+abbrev pub position_else : ℕ → Option ℕ → ℕ
+position_else n None = n
+position_else n (Some at) = at
+
+-- where the name stands in the list
+abbrev pub number_of : Texts → List ℕ → ℕ
+number_of names x = position_else (length names) (position (λ n. bytes_eq n x) names)
