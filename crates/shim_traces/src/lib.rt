@@ -18,6 +18,8 @@ mod operator_rows;
 #[cfg(test)]
 mod same_tests;
 #[cfg(test)]
+mod shares_rows;
+#[cfg(test)]
 mod statement_rows;
 #[cfg(test)]
 mod tell;
