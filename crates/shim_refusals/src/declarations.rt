@@ -1,5 +1,5 @@
 // Uses of variables, and declarations that hide and end.
-use super::{expect, expect_in_main};
+use crate::expect::{expect, expect_in_main};
 use std::test::Fail;
 
 #[test]

@@ -1,5 +1,5 @@
 // Exceptions that are thrown, and those of calls.
-use super::{expect, expect_in_main};
+use crate::expect::{expect, expect_in_main};
 use std::test::Fail;
 
 #[test]

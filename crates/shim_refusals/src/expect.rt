@@ -1,27 +1,22 @@
-// Sources whose names are bound or refused, each with the line that is told of it.
+// Sources, each with the line that is told of it, or with what is shown of its forms.
 ghost use Rattle.std.specs.Prelude.{◌≤◌, length};
 
-use crate::{SourceFault, fault_text};
-use shim_base::{List, NoMemory};
+use shim_base::{List, Name, NoMemory};
 use shim_parser::parse;
+use shim_report::{SourceFault, fault_text};
 use shim_scopes::{Resolved, resolve};
+use shim_sharing::{Accepted, accept};
 use std::alloc::Global;
+use std::fmt::Debug;
 use std::process::Abort;
 use std::str;
 use std::test::Fail;
 
-mod declarations;
-mod exceptions;
-mod headers;
-mod kinds;
-mod order;
-mod resolved;
-
 // Sources, or parts of them, and the lines without their line feeds.
-type Cases<'a> = &'a [(&'a str, &'a str)];
+pub type Cases<'a> = &'a [(&'a str, &'a str)];
 
-// The resolved form of a text.
-fn form_of(alloc: Global, text: &[u8]) -> Result<Resolved, SourceFault>
+/// The resolved form of a text.
+pub fn form_of(alloc: Global, text: &[u8]) -> Result<Resolved, SourceFault>
     requires { length text.now ≤ 1048576 }
 {
     match parse(alloc, text) {
@@ -33,16 +28,28 @@ fn form_of(alloc: Global, text: &[u8]) -> Result<Resolved, SourceFault>
     }
 }
 
+/// The units of a text.
+pub fn units_of(alloc: Global, text: &[u8]) -> Result<Accepted, SourceFault>
+    requires { length text.now ≤ 1048576 }
+{
+    let resolved = form_of(alloc, text)?;
+    match accept(alloc, resolved) {
+        Ok(accepted) => Ok(accepted),
+        Err(fault) => Err(SourceFault::Share(fault)),
+    }
+}
+
 fn answer(alloc: Global, text: &[u8]) -> Result<List<u8>, NoMemory>
     requires { length text.now ≤ 1048576 }
 {
-    match form_of(alloc, text) {
+    match units_of(alloc, text) {
         Ok(_) => List::from_slice(alloc, b"accepted\n"),
         Err(fault) => fault_text(alloc, &fault),
     }
 }
 
-fn expect_between(
+/// Expects the lines of sources of which these parts stand between this front and this back.
+pub fn expect_between(
     rt: &impl Abort,
     alloc: Global,
     front: &str,
@@ -62,12 +69,14 @@ fn expect_between(
     Ok(())
 }
 
-fn expect(rt: &impl Abort, alloc: Global, sources: Cases) -> Result<(), Fail> {
+/// Expects the lines of whole sources.
+pub fn expect(rt: &impl Abort, alloc: Global, sources: Cases) -> Result<(), Fail> {
     expect_between(rt, alloc, "", "", sources)
 }
 
-// Expects the lines of statements of `main`, whose first one stands on the first line.
-fn expect_in_main(
+/// Expects the lines of statements of `main`, whose first one stands on the first line, behind these
+/// functions.
+pub fn expect_in_main(
     rt: &impl Abort,
     alloc: Global,
     functions: &str,
@@ -75,4 +84,28 @@ fn expect_in_main(
 ) -> Result<(), Fail> {
     let front = format!(in alloc; "{functions} void main(istream input, ostream output) {{")?;
     expect_between(rt, alloc, &front, "}", bodies)
+}
+
+/// The names in their order, each with a space before it.
+pub fn listed(alloc: Global, names: &[Name]) -> Result<Vec<u8>, Fail> {
+    let mut text = Vec::new(alloc);
+    for name in names {
+        text.push(b' ')?;
+        text.extend_from_slice(name.as_bytes())?;
+    }
+    Ok(text)
+}
+
+/// Expects of a value what `{:?}` prints, but with each list as a slice is printed.
+pub fn expect_shown<T: Debug>(
+    rt: &impl Abort,
+    alloc: Global,
+    value: &T,
+    wanted: &str,
+) -> Result<(), Fail> {
+    let shown = format!(in alloc; "{value:?}")?;
+    let shown = shown.replace(alloc, "List { items: [", "[")?;
+    let shown = shown.replace(alloc, "] }", "]")?;
+    assert_eq!(rt; shown.as_str(), wanted);
+    Ok(())
 }

@@ -1,5 +1,5 @@
 // Functions and what their headers declare.
-use super::expect;
+use crate::expect::expect;
 use std::test::Fail;
 
 #[test]

@@ -1,5 +1,5 @@
 // Arguments, numbers and streams.
-use super::expect_in_main;
+use crate::expect::expect_in_main;
 use std::test::Fail;
 
 #[test]
@@ -136,7 +136,7 @@ fn a_reference_is_a_bare_variable_of_the_type(rt: HostRuntime) -> Result<(), Fai
         &[
             ("int x; f(x);", "accepted"),
             ("int32 x; f(x);", "accepted"),
-            ("int x; f((x)); par { f(((x))); }", "accepted"),
+            ("int x, y; f((x)); par { f(((y))); }", "accepted"),
             ("int x; f(x + 0);", "refused 1 wrong kind a"),
             ("f(1);", "refused 1 wrong kind a"),
             ("f(true);", "refused 1 wrong kind a"),

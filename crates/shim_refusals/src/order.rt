@@ -1,5 +1,5 @@
 // Which of several offences is told, and on which line.
-use super::{expect, expect_in_main};
+use crate::expect::{expect, expect_in_main};
 use std::test::Fail;
 
 #[test]

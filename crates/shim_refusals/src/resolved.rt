@@ -1,27 +1,8 @@
 // Sources and their resolved forms.
-use super::form_of;
-use shim_base::Name;
-use shim_scopes::RFunction;
+use crate::expect::{expect_shown, form_of, listed};
 use std::alloc::Global;
 use std::process::Abort;
 use std::test::Fail;
-
-// The names in their order, each with a space before it.
-fn listed(alloc: Global, names: &[Name]) -> Result<Vec<u8>, Fail> {
-    let mut text = Vec::new(alloc);
-    for name in names {
-        text.push(b' ')?;
-        text.extend_from_slice(name.as_bytes())?;
-    }
-    Ok(text)
-}
-
-// A function as `{:?}` prints it, but with each list as a slice is printed.
-fn shown(alloc: Global, function: &RFunction) -> Result<String, Fail> {
-    let text = format!(in alloc; "{function:?}")?;
-    let text = text.replace(alloc, "List { items: [", "[")?;
-    Ok(text.replace(alloc, "] }", "]")?)
-}
 
 fn expect(
     rt: &impl Abort,
@@ -38,8 +19,7 @@ fn expect(
     assert_eq!(rt; resolved.main(), main);
     assert_eq!(rt; resolved.functions().len(), functions.len());
     for (function, wanted) in resolved.functions().iter().zip(functions) {
-        let shown = shown(alloc, function)?;
-        assert_eq!(rt; shown.as_str(), *wanted);
+        expect_shown(rt, alloc, function, wanted)?;
     }
     Ok(())
 }

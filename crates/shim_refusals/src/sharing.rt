@@ -1,63 +1,15 @@
 // Sources whose variables are shared, each with the line that is told of it.
-ghost use Rattle.std.specs.Prelude.{◌≤◌, length};
-
-use crate::{SourceFault, fault_text};
-use shim_base::{List, NoMemory};
-use shim_parser::parse;
-use shim_scopes::resolve;
-use shim_sharing::{Accepted, accept};
+use crate::expect::{Cases, expect_between};
 use std::alloc::Global;
 use std::process::Abort;
-use std::str;
 use std::test::Fail;
 
-// The units of a text.
-fn units_of(alloc: Global, text: &[u8]) -> Result<Accepted, SourceFault>
-    requires { length text.now ≤ 1048576 }
-{
-    let program = match parse(alloc, text) {
-        Ok(program) => program,
-        Err(fault) => return Err(SourceFault::Parse(fault)),
-    };
-    let resolved = match resolve(alloc, &program) {
-        Ok(resolved) => resolved,
-        Err(fault) => return Err(SourceFault::Scope(fault)),
-    };
-    match accept(alloc, resolved) {
-        Ok(accepted) => Ok(accepted),
-        Err(fault) => Err(SourceFault::Share(fault)),
-    }
-}
-
-fn answer(alloc: Global, text: &[u8]) -> Result<List<u8>, NoMemory>
-    requires { length text.now ≤ 1048576 }
-{
-    match units_of(alloc, text) {
-        Ok(_) => List::from_slice(alloc, b"accepted\n"),
-        Err(fault) => fault_text(alloc, &fault),
-    }
-}
-
-// Expects the lines of statements of `main`, behind these functions.
-fn expect(
-    rt: &impl Abort,
-    alloc: Global,
-    functions: &str,
-    bodies: &[(&str, &str)],
-) -> Result<(), Fail> {
-    for case in bodies {
-        let body = case.0;
-        let line = case.1;
-        let text = format!(in alloc;
-            "{functions} void main(istream i, ostream o) {{ int a; int b; int c; {body} }}"
-        )?;
-        assert!(rt; text.len() <= 1048576);
-        let told = answer(alloc, text.as_bytes())?;
-        let told = str::from_utf8(told.as_slice())?;
-        let wanted = format!(in alloc; "{line}\n")?;
-        assert_eq!(rt; told, wanted.as_str(), "of {text}");
-    }
-    Ok(())
+// Expects the lines of statements of `main`, which has three variables, behind these functions.
+fn expect(rt: &impl Abort, alloc: Global, functions: &str, bodies: Cases) -> Result<(), Fail> {
+    let front = format!(in alloc;
+        "{functions} void main(istream i, ostream o) {{ int a; int b; int c; "
+    )?;
+    expect_between(rt, alloc, &front, " }", bodies)
 }
 
 #[test]

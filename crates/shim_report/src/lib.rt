@@ -15,8 +15,4 @@ pub use shim_sharing::ShareFault;
 #[cfg(test)]
 mod report_tests;
 #[cfg(test)]
-mod scope_tests;
-#[cfg(test)]
-mod share_tests;
-#[cfg(test)]
 mod tests;

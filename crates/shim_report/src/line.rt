@@ -1,4 +1,4 @@
-// The three forms of a refusal's line.
+// The four forms of a refusal's line.
 ghost use Rattle.std.specs.Prelude.{◌≡◌, IfOk};
 ghost use Rattle.shim_report.specs.Refusal.{with_branches, with_name, with_place, without_place, word_of};
 

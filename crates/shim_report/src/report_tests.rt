@@ -2,6 +2,7 @@
 use crate::{Ended, History, Log, LogWhat, Outcome, OwnSteps, WaitAt, text};
 use shim_base::{Chan, List, Name, NoMemory, Path, Trap};
 use std::alloc::Global;
+use std::process::Abort;
 use std::sync::Arc;
 use std::test::Fail;
 
@@ -94,13 +95,34 @@ fn ended(alloc: Global, case: &Case) -> Result<Ended, NoMemory> {
     })
 }
 
+// The list of these names.
+fn names(rt: &impl Abort, alloc: Global, texts: &[&[u8]]) -> Result<List<Name>, Fail> {
+    let mut names = List::new(alloc);
+    for text in texts {
+        assert!(rt; !text.is_empty() && text.len() < 9);
+        names.push(Name::new(alloc, text)?)?;
+    }
+    Ok(names)
+}
+
+fn expect(rt: &impl Abort, alloc: Global, names: &[Name], cases: &[Case]) -> Result<(), Fail> {
+    for case in cases {
+        let ended = ended(alloc, case)?;
+        let told = text(alloc, &ended, names)?;
+        assert_eq!(rt;
+            told.as_slice(),
+            case.text.as_bytes(),
+            "of {:?}",
+            case.outcome
+        );
+    }
+    Ok(())
+}
+
 #[test]
 fn each_run_has_its_text(rt: HostRuntime) -> Result<(), Fail> {
     let alloc = rt.alloc();
-    let mut names = List::new(alloc);
-    names.push(Name::new(alloc, b"main")?)?;
-    names.push(Name::new(alloc, b"level")?)?;
-    names.push(Name::new(alloc, b"Stop_2")?)?;
+    let names = names(&rt, alloc, &[b"main", b"level", b"Stop_2"])?;
     let nothing = Case {
         output: b"",
         histories: &[],
@@ -112,7 +134,7 @@ fn each_run_has_its_text(rt: HostRuntime) -> Result<(), Fail> {
         outcome: Outcome::Done,
         text: "output 0\nend done 7\n",
     };
-    for case in [
+    let cases = [
         nothing,
         Case {
             output: b"\x00\x0f\xf0\x9a\xff",
@@ -184,15 +206,6 @@ fn each_run_has_its_text(rt: HostRuntime) -> Result<(), Fail> {
             text: "output 0\nevents 0\nend spent 0\n",
             ..nothing
         },
-    ] {
-        let ended = ended(alloc, &case)?;
-        let told = text(alloc, &ended, names.as_slice())?;
-        assert_eq!(rt;
-            told.as_slice(),
-            case.text.as_bytes(),
-            "of {:?}",
-            case.outcome
-        );
-    }
-    Ok(())
+    ];
+    expect(&rt, alloc, names.as_slice(), &cases)
 }
