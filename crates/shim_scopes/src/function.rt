@@ -1,7 +1,8 @@
 // Functions.
-ghost use Rattle.std.specs.Prelude.{[]};
-ghost use Rattle.shim_scopes.specs.Functions.{bind_function, bind_functions};
-ghost use Rattle.shim_scopes.specs.Refusals.{Gives};
+ghost use Rattle.std.specs.Prelude.{[], Ok, length};
+ghost use Rattle.shim_scopes.specs.Meaning.{bind_stmts};
+ghost use Rattle.shim_scopes.specs.Functions.{bind_function, bind_functions, function_begin, handled_from, made_function, params_from};
+ghost use Rattle.shim_scopes.specs.Refusals.{Gives, and_then};
 ghost use Rattle.shim_scopes.specs.State.{AreNumbers, IsNumber, whole};
 ghost use Rattle.shim_names.specs.Sizes.{function_size, functions_size};
 
@@ -18,6 +19,35 @@ use shim_names::NameTable;
 use shim_names::word::copy;
 use shim_syntax::Function;
 use std::alloc::Global;
+
+// What stands in a function whose header is in order.
+fn resolve_inside(
+    alloc: Global,
+    functions: &[Function],
+    names: &NameTable,
+    function: &Function,
+) -> Result<RFunction, ScopeFault>
+    requires few { AreNumbers (whole functions.now names.now) }
+    requires size { IsNumber (function_size function.now) }
+    ensures { Gives result (and_then (bind_stmts (whole functions.now names.now) function.now.body (record { outer = []; handled = handled_from [] function.now.throws; throws = length function.now.throws }) (params_from names.now function_begin function.now.params)) (λ r. Ok (made_function (whole functions.now names.now) function.now r))) }
+{
+    let mut scope = open_function(alloc, names, function)?;
+    let body = function.body.as_slice();
+    let body = resolve_body(alloc, functions, names, &mut scope, 0, body)?;
+    let name = names.number(&function.name);
+    let params = place_params(alloc, names, function.params.as_slice())?;
+    let throws = number_names(alloc, names, function.throws.as_slice())?;
+    Ok(RFunction {
+        line: function.line,
+        name,
+        params,
+        slots: scope.slots,
+        slot_names: scope.slot_names,
+        throws,
+        tries: scope.tries,
+        body,
+    })
+}
 
 #[tactic(auto, unfolding(crate::specs::Functions::bind_function))]
 fn resolve_function(
@@ -57,22 +87,7 @@ fn resolve_function(
         ScopeKind::MainParameters,
         find_wrong_main(function),
     )?;
-    let mut scope = open_function(alloc, names, function)?;
-    let body = function.body.as_slice();
-    let body = resolve_body(alloc, functions, names, &mut scope, 0, body)?;
-    let name = names.number(&function.name);
-    let params = place_params(alloc, names, function.params.as_slice())?;
-    let throws = number_names(alloc, names, function.throws.as_slice())?;
-    Ok(RFunction {
-        line,
-        name,
-        params,
-        slots: scope.slots,
-        slot_names: scope.slot_names,
-        throws,
-        tries: scope.tries,
-        body,
-    })
+    resolve_inside(alloc, functions, names, function)
 }
 
 #[tactic(auto, using(crate::proofs::Joins::one_bound))]

@@ -1,5 +1,6 @@
 // Statements and branches, each with what stands in it.
 ghost use Rattle.std.specs.Prelude.{◌≡◌, ◌≤◌, ◌++◌, length, OnOk};
+ghost use Rattle.shim_syntax.specs.declared.tree.What.TheVariants.{If, For, Try};
 ghost use Rattle.shim_names.specs.Sizes.{stmt_size, stmts_size, branch_size, branches_size};
 ghost use Rattle.shim_scopes.specs.Statements.{bind_block, bind_first_test};
 ghost use Rattle.shim_scopes.specs.Meaning.{bind_stmt, bind_what, bind_branch, bind_stmts, bind_branches, declared_first};
@@ -17,7 +18,7 @@ use crate::simple::{
 };
 use crate::tree::{RBranch, RBranchWhat, RStmt, RWhat};
 use crate::word::number;
-use shim_base::{List, NoMemory};
+use shim_base::{List, Name, NoMemory};
 use shim_names::NameTable;
 use shim_names::word::copy;
 use shim_syntax::{Branch, BranchWhat, Expr, Function, Sort, Stmt, What};
@@ -133,6 +134,100 @@ fn resolve_block(
     Ok(made)
 }
 
+// An `if` of these parts.
+#[cycle(resolve)]
+fn resolve_if(
+    alloc: Global,
+    functions: &[Function],
+    names: &NameTable,
+    scope: &mut Scope,
+    start: usize,
+    stmt: &Stmt,
+    test: &Expr,
+    first: &List<Stmt>,
+    other: &List<Stmt>,
+) -> Result<RWhat, ScopeFault>
+    requires begun { start ≤ length scope.old.visible }
+    requires few { AreNumbers (whole functions.now names.now) }
+    requires parts { stmt.now.what ≡ If test.now first.now other.now }
+    requires room { HasRoom (stmt_size stmt.now) scope.old }
+    ensures meant { Answers result (before_of start scope.new) (bind_what (whole functions.now names.now) stmt.now (around_of start scope.old) (before_of start scope.old)) }
+    ensures kept { OnOk result (Kept start scope.old scope.new) }
+{
+    let test = resolve_test(alloc, scope, start, stmt.line, test)?;
+    let first = resolve_block(alloc, functions, names, scope, start, first.as_slice())?;
+    let other = resolve_block(alloc, functions, names, scope, start, other.as_slice())?;
+    Ok(RWhat::If(test, first, other))
+}
+
+// A `for` of these parts.
+#[cycle(resolve)]
+fn resolve_for(
+    alloc: Global,
+    functions: &[Function],
+    names: &NameTable,
+    scope: &mut Scope,
+    start: usize,
+    stmt: &Stmt,
+    first: &List<Stmt>,
+    test: &Option<Expr>,
+    step: &List<Stmt>,
+    body: &List<Stmt>,
+) -> Result<RWhat, ScopeFault>
+    requires begun { start ≤ length scope.old.visible }
+    requires few { AreNumbers (whole functions.now names.now) }
+    requires parts { stmt.now.what ≡ For first.now test.now step.now body.now }
+    requires room { HasRoom (stmt_size stmt.now) scope.old }
+    ensures meant { Answers result (before_of start scope.new) (bind_what (whole functions.now names.now) stmt.now (around_of start scope.old) (before_of start scope.old)) }
+    ensures kept { OnOk result (Kept start scope.old scope.new) }
+{
+    check_test(
+        alloc,
+        functions,
+        names,
+        scope,
+        start,
+        stmt.line,
+        first.as_slice(),
+        test,
+    )?;
+    let inner = scope.visible.len();
+    let first = resolve_body(alloc, functions, names, scope, inner, first.as_slice())?;
+    let test = place_option(alloc, scope.visible.as_slice(), test)?;
+    let step = resolve_body(alloc, functions, names, scope, inner, step.as_slice())?;
+    let body = resolve_block(alloc, functions, names, scope, inner, body.as_slice())?;
+    cut(&mut scope.visible, inner);
+    Ok(RWhat::For(first, test, step, body))
+}
+
+// A `try` of these parts.
+#[cycle(resolve)]
+fn resolve_try(
+    alloc: Global,
+    functions: &[Function],
+    names: &NameTable,
+    scope: &mut Scope,
+    start: usize,
+    stmt: &Stmt,
+    body: &List<Stmt>,
+    name: &Name,
+    handler: &List<Stmt>,
+) -> Result<RWhat, ScopeFault>
+    requires begun { start ≤ length scope.old.visible }
+    requires few { AreNumbers (whole functions.now names.now) }
+    requires parts { stmt.now.what ≡ Try body.now name.now handler.now }
+    requires room { HasRoom (stmt_size stmt.now) scope.old }
+    ensures meant { Answers result (before_of start scope.new) (bind_what (whole functions.now names.now) stmt.now (around_of start scope.old) (before_of start scope.old)) }
+    ensures kept { OnOk result (Kept start scope.old scope.new) }
+{
+    let outside = scope.handled.len();
+    let caught = begin_try(alloc, names, scope, name)?;
+    let body = resolve_block(alloc, functions, names, scope, start, body.as_slice())?;
+    cut(&mut scope.handled, outside);
+    let handler = resolve_block(alloc, functions, names, scope, start, handler.as_slice())?;
+    Ok(RWhat::Try(body, caught, handler))
+}
+
 #[cycle(resolve)]
 fn resolve_what(
     alloc: Global,
@@ -162,10 +257,9 @@ fn resolve_what(
         What::Get(name, input) => resolve_get(alloc, scope, start, line, name, input),
         What::Put(output, expr) => resolve_put(alloc, scope, start, line, output, expr),
         What::If(test, first, other) => {
-            let test = resolve_test(alloc, scope, start, line, test)?;
-            let first = resolve_block(alloc, functions, names, scope, start, first.as_slice())?;
-            let other = resolve_block(alloc, functions, names, scope, start, other.as_slice())?;
-            Ok(RWhat::If(test, first, other))
+            resolve_if(
+                alloc, functions, names, scope, start, stmt, test, first, other,
+            )
         }
         What::While(test, body) => {
             let test = resolve_test(alloc, scope, start, line, test)?;
@@ -173,23 +267,9 @@ fn resolve_what(
             Ok(RWhat::While(test, body))
         }
         What::For(first, test, step, body) => {
-            check_test(
-                alloc,
-                functions,
-                names,
-                scope,
-                start,
-                line,
-                first.as_slice(),
-                test,
-            )?;
-            let inner = scope.visible.len();
-            let first = resolve_body(alloc, functions, names, scope, inner, first.as_slice())?;
-            let test = place_option(alloc, scope.visible.as_slice(), test)?;
-            let step = resolve_body(alloc, functions, names, scope, inner, step.as_slice())?;
-            let body = resolve_block(alloc, functions, names, scope, inner, body.as_slice())?;
-            cut(&mut scope.visible, inner);
-            Ok(RWhat::For(first, test, step, body))
+            resolve_for(
+                alloc, functions, names, scope, start, stmt, first, test, step, body,
+            )
         }
         What::Block(body) => {
             let body = resolve_block(alloc, functions, names, scope, start, body.as_slice())?;
@@ -200,12 +280,9 @@ fn resolve_what(
             Ok(RWhat::Call(call))
         }
         What::Try(body, name, handler) => {
-            let outside = scope.handled.len();
-            let caught = begin_try(alloc, names, scope, name)?;
-            let body = resolve_block(alloc, functions, names, scope, start, body.as_slice())?;
-            cut(&mut scope.handled, outside);
-            let handler = resolve_block(alloc, functions, names, scope, start, handler.as_slice())?;
-            Ok(RWhat::Try(body, caught, handler))
+            resolve_try(
+                alloc, functions, names, scope, start, stmt, body, name, handler,
+            )
         }
         What::Throw(name) => resolve_throw(alloc, scope, start, line, name),
         What::Par(branches) => {

@@ -61,69 +61,80 @@ pub resolve_branch-resolve_block-requires : goal.resolve_branch-resolve_block-re
 resolve_branch-resolve_block-requires t c =
     (search (rules, the_lemmas), (c.requires.begun, (c.requires.few, rw (c.as_slice.ensures) (room_in_branch c.args.branch.now c.args.scope.now c.in-Block.body c.in-Block.is c.requires.room))))
 
+-- the parts of an `if`, a `for` and a `try`
+
+pub resolve_what-resolve_if-requires : goal.resolve_what-resolve_if-requires
+resolve_what-resolve_if-requires t c = (search (rules, the_lemmas), (c.requires.begun, (c.requires.few, (c.in-If.is, c.requires.room))))
+
+pub resolve_what-resolve_for-requires : goal.resolve_what-resolve_for-requires
+resolve_what-resolve_for-requires t c = (search (rules, the_lemmas), (c.requires.begun, (c.requires.few, (c.in-For.is, c.requires.room))))
+
+pub resolve_what-resolve_try-requires : goal.resolve_what-resolve_try-requires
+resolve_what-resolve_try-requires t c = (search (rules, the_lemmas), (c.requires.begun, (c.requires.few, (c.in-Try.is, c.requires.room))))
+
 -- the room of what stands in a statement
 
 pub resolve_what-resolve_declare-requires-clause-room : goal.resolve_what-resolve_declare-requires-clause-room
 resolve_what-resolve_declare-requires-clause-room t c = room_in_declare c.args.stmt.now c.args.scope.now _ _ _ c.in-Declare.is c.requires.room
 
-pub resolve_what-resolve_block-requires : goal.resolve_what-resolve_block-requires
-resolve_what-resolve_block-requires t c =
-    (search (rules, the_lemmas), (c.requires.begun, (c.requires.few, rw (c.as_slice.ensures) (room_for_first _ _ c.args.scope.now (room_in_if c.args.stmt.now c.args.scope.now _ c.in-If.first c.in-If.other c.in-If.is c.requires.room)))))
+pub resolve_if-resolve_block-requires : goal.resolve_if-resolve_block-requires
+resolve_if-resolve_block-requires t c =
+    (search (rules, the_lemmas), (c.requires.begun, (c.requires.few, rw (c.as_slice.ensures) (room_for_first _ _ c.args.scope.now (room_in_if c.args.stmt.now c.args.scope.now _ c.args.first.now c.args.other.now c.requires.parts c.requires.room)))))
 
-pub resolve_what-resolve_block-requires-in-If : goal.resolve_what-resolve_block-requires-in-If
-resolve_what-resolve_block-requires-in-If t c = (
+pub resolve_if-resolve_block-requires-2 : goal.resolve_if-resolve_block-requires-2
+resolve_if-resolve_block-requires-2 t c = (
   search (rules, the_lemmas),
   (
-    c.in_ok-first-in-If.ensures.kept.long,
+    c.in_ok-first.ensures.kept.long,
     (
       c.requires.few,
-      rw (c.as_slice-in-If.ensures)
-          (behind_block (whole c.args.functions.now c.args.names.now) c.args.start (stmts_size c.in-If.other) c.args.scope.now c.resolve_block.new.scope c.in-If.first c.in_ok-first-in-If.first
-          (rw (c.as_slice.ensures) at c.in_ok-first-in-If.ensures.meant) c.in_ok-first-in-If.ensures.kept (room_in_if c.args.stmt.now c.args.scope.now _ c.in-If.first c.in-If.other c.in-If.is c.requires.room)),
+      rw (c.as_slice-2.ensures)
+          (behind_block (whole c.args.functions.now c.args.names.now) c.args.start (stmts_size c.args.other.now) c.args.scope.now c.resolve_block.new.scope c.args.first.now c.in_ok-first.first
+          (rw (c.as_slice.ensures) at c.in_ok-first.ensures.meant) c.in_ok-first.ensures.kept (room_in_if c.args.stmt.now c.args.scope.now _ c.args.first.now c.args.other.now c.requires.parts c.requires.room)),
     ),
   ),
 )
 
-pub resolve_what-resolve_block-requires-in-While : goal.resolve_what-resolve_block-requires-in-While
-resolve_what-resolve_block-requires-in-While t c =
-    (search (rules, the_lemmas), (c.requires.begun, (c.requires.few, rw (c.as_slice-in-While.ensures) (room_in_while c.args.stmt.now c.args.scope.now _ c.in-While.body c.in-While.is c.requires.room))))
+pub resolve_what-resolve_block-requires : goal.resolve_what-resolve_block-requires
+resolve_what-resolve_block-requires t c =
+    (search (rules, the_lemmas), (c.requires.begun, (c.requires.few, rw (c.as_slice.ensures) (room_in_while c.args.stmt.now c.args.scope.now _ c.in-While.body c.in-While.is c.requires.room))))
 
-pub resolve_what-check_test-requires : goal.resolve_what-check_test-requires
-resolve_what-check_test-requires t c = room_for_test c.args.stmt.now c.args.scope.now _ _ _ _ c.in-For.is c.requires.room
+pub resolve_for-check_test-requires : goal.resolve_for-check_test-requires
+resolve_for-check_test-requires t c = room_for_test c.args.stmt.now c.args.scope.now _ _ _ _ c.requires.parts c.requires.room
 
-pub resolve_what-resolve_body-requires : goal.resolve_what-resolve_body-requires
-resolve_what-resolve_body-requires t c =
-    let room : HasRoom (stmts_size c.in-For.first + (stmts_size c.in-For.step + stmts_size c.in-For.body)) c.check_test.new.scope =
-    subst (λ v. HasRoom (stmts_size c.in-For.first + (stmts_size c.in-For.step + stmts_size c.in-For.body)) v) (sym c.in_ok-check_test-in-For.ensures.kept)
-    (room_in_for c.args.stmt.now c.args.scope.now c.in-For.first _ c.in-For.step c.in-For.body c.in-For.is c.requires.room) in
-    (search (rules, the_lemmas), (omega (arith, c.len-inner.ensures), (c.requires.few, rw (c.as_slice-in-For-2.ensures) (room_for_first (stmts_size c.in-For.first) _ c.check_test.new.scope room))))
+pub resolve_for-resolve_body-requires : goal.resolve_for-resolve_body-requires
+resolve_for-resolve_body-requires t c =
+    let room : HasRoom (stmts_size c.args.first.now + (stmts_size c.args.step.now + stmts_size c.args.body.now)) c.check_test.new.scope =
+    subst (λ v. HasRoom (stmts_size c.args.first.now + (stmts_size c.args.step.now + stmts_size c.args.body.now)) v) (sym c.in_ok-check_test.ensures.kept)
+    (room_in_for c.args.stmt.now c.args.scope.now c.args.first.now _ c.args.step.now c.args.body.now c.requires.parts c.requires.room) in
+    (search (rules, the_lemmas), (omega (arith, c.len-inner.ensures), (c.requires.few, rw (c.as_slice-2.ensures) (room_for_first (stmts_size c.args.first.now) _ c.check_test.new.scope room))))
 
-pub resolve_what-resolve_body-requires-in-For : goal.resolve_what-resolve_body-requires-in-For
-resolve_what-resolve_body-requires-in-For t c =
-    let room : HasRoom (stmts_size c.in-For.first + (stmts_size c.in-For.step + stmts_size c.in-For.body)) c.check_test.new.scope =
-    subst (λ v. HasRoom (stmts_size c.in-For.first + (stmts_size c.in-For.step + stmts_size c.in-For.body)) v) (sym c.in_ok-check_test-in-For.ensures.kept)
-    (room_in_for c.args.stmt.now c.args.scope.now c.in-For.first _ c.in-For.step c.in-For.body c.in-For.is c.requires.room) in
-    let behind_first : HasRoom (stmts_size c.in-For.step + stmts_size c.in-For.body) c.resolve_body.new.scope =
-    behind_body (whole c.args.functions.now c.args.names.now) c.len-inner.result (stmts_size c.in-For.step + stmts_size c.in-For.body) c.check_test.new.scope c.resolve_body.new.scope c.in-For.first c.in_ok-first-in-For.first
-    (rw (c.as_slice-in-For-2.ensures) at c.in_ok-first-in-For.ensures.meant) c.in_ok-first-in-For.ensures.kept room in
-    (search (rules, the_lemmas), (c.in_ok-first-in-For.ensures.kept.long, (c.requires.few, rw (c.as_slice-in-For-4.ensures) (room_for_first (stmts_size c.in-For.step) (stmts_size c.in-For.body) c.resolve_body.new.scope behind_first))))
+pub resolve_for-resolve_body-requires-2 : goal.resolve_for-resolve_body-requires-2
+resolve_for-resolve_body-requires-2 t c =
+    let room : HasRoom (stmts_size c.args.first.now + (stmts_size c.args.step.now + stmts_size c.args.body.now)) c.check_test.new.scope =
+    subst (λ v. HasRoom (stmts_size c.args.first.now + (stmts_size c.args.step.now + stmts_size c.args.body.now)) v) (sym c.in_ok-check_test.ensures.kept)
+    (room_in_for c.args.stmt.now c.args.scope.now c.args.first.now _ c.args.step.now c.args.body.now c.requires.parts c.requires.room) in
+    let behind_first : HasRoom (stmts_size c.args.step.now + stmts_size c.args.body.now) c.resolve_body.new.scope =
+    behind_body (whole c.args.functions.now c.args.names.now) c.len-inner.result (stmts_size c.args.step.now + stmts_size c.args.body.now) c.check_test.new.scope c.resolve_body.new.scope c.args.first.now c.in_ok-first.first
+    (rw (c.as_slice-2.ensures) at c.in_ok-first.ensures.meant) c.in_ok-first.ensures.kept room in
+    (search (rules, the_lemmas), (c.in_ok-first.ensures.kept.long, (c.requires.few, rw (c.as_slice-4.ensures) (room_for_first (stmts_size c.args.step.now) (stmts_size c.args.body.now) c.resolve_body.new.scope behind_first))))
 
-pub resolve_what-resolve_block-requires-in-For : goal.resolve_what-resolve_block-requires-in-For
-resolve_what-resolve_block-requires-in-For t c =
-    let room : HasRoom (stmts_size c.in-For.first + (stmts_size c.in-For.step + stmts_size c.in-For.body)) c.check_test.new.scope =
-    subst (λ v. HasRoom (stmts_size c.in-For.first + (stmts_size c.in-For.step + stmts_size c.in-For.body)) v) (sym c.in_ok-check_test-in-For.ensures.kept)
-    (room_in_for c.args.stmt.now c.args.scope.now c.in-For.first _ c.in-For.step c.in-For.body c.in-For.is c.requires.room) in
-    let behind_first : HasRoom (stmts_size c.in-For.step + stmts_size c.in-For.body) c.resolve_body.new.scope =
-    behind_body (whole c.args.functions.now c.args.names.now) c.len-inner.result (stmts_size c.in-For.step + stmts_size c.in-For.body) c.check_test.new.scope c.resolve_body.new.scope c.in-For.first c.in_ok-first-in-For.first
-    (rw (c.as_slice-in-For-2.ensures) at c.in_ok-first-in-For.ensures.meant) c.in_ok-first-in-For.ensures.kept room in (
+pub resolve_for-resolve_block-requires : goal.resolve_for-resolve_block-requires
+resolve_for-resolve_block-requires t c =
+    let room : HasRoom (stmts_size c.args.first.now + (stmts_size c.args.step.now + stmts_size c.args.body.now)) c.check_test.new.scope =
+    subst (λ v. HasRoom (stmts_size c.args.first.now + (stmts_size c.args.step.now + stmts_size c.args.body.now)) v) (sym c.in_ok-check_test.ensures.kept)
+    (room_in_for c.args.stmt.now c.args.scope.now c.args.first.now _ c.args.step.now c.args.body.now c.requires.parts c.requires.room) in
+    let behind_first : HasRoom (stmts_size c.args.step.now + stmts_size c.args.body.now) c.resolve_body.new.scope =
+    behind_body (whole c.args.functions.now c.args.names.now) c.len-inner.result (stmts_size c.args.step.now + stmts_size c.args.body.now) c.check_test.new.scope c.resolve_body.new.scope c.args.first.now c.in_ok-first.first
+    (rw (c.as_slice-2.ensures) at c.in_ok-first.ensures.meant) c.in_ok-first.ensures.kept room in (
       search (rules, the_lemmas),
       (
-        c.in_ok-step-in-For.ensures.kept.long,
+        c.in_ok-step.ensures.kept.long,
         (
           c.requires.few,
-          rw (c.as_slice-in-For-5.ensures)
-              (behind_body (whole c.args.functions.now c.args.names.now) c.len-inner.result (stmts_size c.in-For.body) c.resolve_body.new.scope c.resolve_body-in-For.new.scope c.in-For.step c.in_ok-step-in-For.step
-              (rw (c.as_slice-in-For-4.ensures) at c.in_ok-step-in-For.ensures.meant) c.in_ok-step-in-For.ensures.kept behind_first),
+          rw (c.as_slice-5.ensures)
+              (behind_body (whole c.args.functions.now c.args.names.now) c.len-inner.result (stmts_size c.args.body.now) c.resolve_body.new.scope c.resolve_body-2.new.scope c.args.step.now c.in_ok-step.step
+              (rw (c.as_slice-4.ensures) at c.in_ok-step.ensures.meant) c.in_ok-step.ensures.kept behind_first),
         ),
       ),
     )
@@ -132,33 +143,33 @@ pub resolve_what-resolve_block-requires-in-Block : goal.resolve_what-resolve_blo
 resolve_what-resolve_block-requires-in-Block t c =
     (search (rules, the_lemmas), (c.requires.begun, (c.requires.few, rw (c.as_slice-in-Block.ensures) (room_in_block c.args.stmt.now c.args.scope.now c.in-Block.body c.in-Block.is c.requires.room))))
 
-pub resolve_what-begin_try-requires-clause-room : goal.resolve_what-begin_try-requires-clause-room
-resolve_what-begin_try-requires-clause-room t c = room_for_first 1 _ c.args.scope.now (room_in_try c.args.stmt.now c.args.scope.now c.in-Try.body c.in-Try.name c.in-Try.handler c.in-Try.is c.requires.room)
+pub resolve_try-begin_try-requires-clause-room : goal.resolve_try-begin_try-requires-clause-room
+resolve_try-begin_try-requires-clause-room t c = room_for_first 1 _ c.args.scope.now (room_in_try c.args.stmt.now c.args.scope.now c.args.body.now c.args.name.now c.args.handler.now c.requires.parts c.requires.room)
 
-pub resolve_what-resolve_block-requires-in-Try : goal.resolve_what-resolve_block-requires-in-Try
-resolve_what-resolve_block-requires-in-Try t c = (
+pub resolve_try-resolve_block-requires : goal.resolve_try-resolve_block-requires
+resolve_try-resolve_block-requires t c = (
   search (rules, the_lemmas),
   (
-    omega (arith, c.requires.begun, ap (λ (v : Scope). length v.visible) c.in_ok-caught-in-Try.ensures.after),
+    omega (arith, c.requires.begun, ap (λ (v : Scope). length v.visible) c.in_ok-caught.ensures.after),
     (
       c.requires.few,
-      rw (c.as_slice-in-Try.ensures) (room_for_first (stmts_size c.in-Try.body) (stmts_size c.in-Try.handler) c.begin_try.new.scope
-          (behind_try c.args.names.now _ c.args.scope.now c.begin_try.new.scope _ (stmts_size c.in-Try.body + stmts_size c.in-Try.handler) c.in_ok-caught-in-Try.ensures (room_in_try c.args.stmt.now c.args.scope.now _ _ _ c.in-Try.is c.requires.room))),
+      rw (c.as_slice.ensures) (room_for_first (stmts_size c.args.body.now) (stmts_size c.args.handler.now) c.begin_try.new.scope
+          (behind_try c.args.names.now _ c.args.scope.now c.begin_try.new.scope _ (stmts_size c.args.body.now + stmts_size c.args.handler.now) c.in_ok-caught.ensures (room_in_try c.args.stmt.now c.args.scope.now _ _ _ c.requires.parts c.requires.room))),
     ),
   ),
 )
 
-pub resolve_what-resolve_block-requires-in-Try-2 : goal.resolve_what-resolve_block-requires-in-Try-2
-resolve_what-resolve_block-requires-in-Try-2 t c = (
+pub resolve_try-resolve_block-requires-2 : goal.resolve_try-resolve_block-requires-2
+resolve_try-resolve_block-requires-2 t c = (
   search (rules, the_lemmas),
   (
-    c.in_ok-body-in-Try.ensures.kept.long,
+    c.in_ok-body.ensures.kept.long,
     (
       c.requires.few,
-      rw (c.as_slice-in-Try-2.ensures) (room_outside c.resolve_block-in-Try.new.scope _ (stmts_size c.in-Try.handler)
-          (behind_block (whole c.args.functions.now c.args.names.now) c.args.start (stmts_size c.in-Try.handler) c.begin_try.new.scope c.resolve_block-in-Try.new.scope c.in-Try.body c.in_ok-body-in-Try.body
-          (rw (c.as_slice-in-Try.ensures) at c.in_ok-body-in-Try.ensures.meant) c.in_ok-body-in-Try.ensures.kept
-          (behind_try c.args.names.now _ c.args.scope.now c.begin_try.new.scope _ (stmts_size c.in-Try.body + stmts_size c.in-Try.handler) c.in_ok-caught-in-Try.ensures (room_in_try c.args.stmt.now c.args.scope.now _ _ _ c.in-Try.is c.requires.room)))),
+      rw (c.as_slice-2.ensures) (room_outside c.resolve_block.new.scope _ (stmts_size c.args.handler.now)
+          (behind_block (whole c.args.functions.now c.args.names.now) c.args.start (stmts_size c.args.handler.now) c.begin_try.new.scope c.resolve_block.new.scope c.args.body.now c.in_ok-body.body
+          (rw (c.as_slice.ensures) at c.in_ok-body.ensures.meant) c.in_ok-body.ensures.kept
+          (behind_try c.args.names.now _ c.args.scope.now c.begin_try.new.scope _ (stmts_size c.args.body.now + stmts_size c.args.handler.now) c.in_ok-caught.ensures (room_in_try c.args.stmt.now c.args.scope.now _ _ _ c.requires.parts c.requires.room)))),
     ),
   ),
 )
@@ -169,43 +180,43 @@ resolve_what-resolve_branches-requires t c =
 
 -- what a `for` and a `try` mean
 
-pub resolve_what-returns-in_err-first-in-For-clause-meant : goal.resolve_what-returns-in_err-first-in-For-clause-meant
-resolve_what-returns-in_err-first-in-For-clause-meant t c =
-    passed_on _ _ _ _ _ _ c.from_residual-in_err-first-in-For.ensures
+pub resolve_for-returns-in_err-first-clause-meant : goal.resolve_for-returns-in_err-first-clause-meant
+resolve_for-returns-in_err-first-clause-meant t c =
+    passed_on _ _ _ _ _ _ c.from_residual-in_err-first.ensures
     (λ x q. for_at_first (whole c.args.functions.now c.args.names.now) c.args.start c.len-inner.result c.args.stmt.now.line c.args.scope.now c.check_test.new.scope _ _ _ _ _ x
-    c.in-For.is c.in_ok-check_test-in-For.ensures.kept c.len-inner.ensures (rw (c.as_slice-in-For.ensures) at c.in_ok-check_test-in-For.ensures.meant) q)
-    (rw (c.as_slice-in-For-2.ensures) at c.in_err-first-in-For.ensures.meant)
+    c.requires.parts c.in_ok-check_test.ensures.kept c.len-inner.ensures (rw (c.as_slice.ensures) at c.in_ok-check_test.ensures.meant) q)
+    (rw (c.as_slice-2.ensures) at c.in_err-first.ensures.meant)
 
-pub resolve_what-returns-in_err-step-in-For-clause-meant : goal.resolve_what-returns-in_err-step-in-For-clause-meant
-resolve_what-returns-in_err-step-in-For-clause-meant t c =
-    passed_on _ _ _ _ _ _ c.from_residual-in_err-step-in-For.ensures
-    (λ x q. for_at_step (whole c.args.functions.now c.args.names.now) c.args.start c.len-inner.result c.args.stmt.now.line c.args.scope.now c.check_test.new.scope c.resolve_body.new.scope _ _ _ _ _ c.in_ok-first-in-For.first x
-    c.in-For.is c.in_ok-check_test-in-For.ensures.kept c.len-inner.ensures (rw (c.as_slice-in-For.ensures) at c.in_ok-check_test-in-For.ensures.meant) (rw (c.as_slice-in-For-2.ensures) at c.in_ok-first-in-For.ensures.meant) c.in_ok-first-in-For.ensures.kept q)
-    (rw (c.as_slice-in-For-4.ensures) at c.in_err-step-in-For.ensures.meant)
+pub resolve_for-returns-in_err-step-clause-meant : goal.resolve_for-returns-in_err-step-clause-meant
+resolve_for-returns-in_err-step-clause-meant t c =
+    passed_on _ _ _ _ _ _ c.from_residual-in_err-step.ensures
+    (λ x q. for_at_step (whole c.args.functions.now c.args.names.now) c.args.start c.len-inner.result c.args.stmt.now.line c.args.scope.now c.check_test.new.scope c.resolve_body.new.scope _ _ _ _ _ c.in_ok-first.first x
+    c.requires.parts c.in_ok-check_test.ensures.kept c.len-inner.ensures (rw (c.as_slice.ensures) at c.in_ok-check_test.ensures.meant) (rw (c.as_slice-2.ensures) at c.in_ok-first.ensures.meant) c.in_ok-first.ensures.kept q)
+    (rw (c.as_slice-4.ensures) at c.in_err-step.ensures.meant)
 
-pub resolve_what-returns-in_err-body-in-For-clause-meant : goal.resolve_what-returns-in_err-body-in-For-clause-meant
-resolve_what-returns-in_err-body-in-For-clause-meant t c =
-    passed_on _ _ _ _ _ _ c.from_residual-in_err-body-in-For.ensures
-    (λ x r. for_at_body (whole c.args.functions.now c.args.names.now) c.args.start c.len-inner.result c.args.stmt.now.line c.args.scope.now c.check_test.new.scope c.resolve_body.new.scope c.resolve_body-in-For.new.scope _ _ _ _ _ c.in_ok-first-in-For.first c.in_ok-step-in-For.step x
-    c.in-For.is c.in_ok-check_test-in-For.ensures.kept c.len-inner.ensures (rw (c.as_slice-in-For.ensures) at c.in_ok-check_test-in-For.ensures.meant) (rw (c.as_slice-in-For-2.ensures) at c.in_ok-first-in-For.ensures.meant) c.in_ok-first-in-For.ensures.kept (rw (c.as_slice-in-For-4.ensures) at c.in_ok-step-in-For.ensures.meant) c.in_ok-step-in-For.ensures.kept r)
-    (rw (c.as_slice-in-For-5.ensures) at c.in_err-body-in-For.ensures.meant)
+pub resolve_for-returns-in_err-body-clause-meant : goal.resolve_for-returns-in_err-body-clause-meant
+resolve_for-returns-in_err-body-clause-meant t c =
+    passed_on _ _ _ _ _ _ c.from_residual-in_err-body.ensures
+    (λ x r. for_at_body (whole c.args.functions.now c.args.names.now) c.args.start c.len-inner.result c.args.stmt.now.line c.args.scope.now c.check_test.new.scope c.resolve_body.new.scope c.resolve_body-2.new.scope _ _ _ _ _ c.in_ok-first.first c.in_ok-step.step x
+    c.requires.parts c.in_ok-check_test.ensures.kept c.len-inner.ensures (rw (c.as_slice.ensures) at c.in_ok-check_test.ensures.meant) (rw (c.as_slice-2.ensures) at c.in_ok-first.ensures.meant) c.in_ok-first.ensures.kept (rw (c.as_slice-4.ensures) at c.in_ok-step.ensures.meant) c.in_ok-step.ensures.kept r)
+    (rw (c.as_slice-5.ensures) at c.in_err-body.ensures.meant)
 
-pub resolve_what-returns-in_err-handler-in-Try-clause-meant : goal.resolve_what-returns-in_err-handler-in-Try-clause-meant
-resolve_what-returns-in_err-handler-in-Try-clause-meant t c =
-    passed_on _ _ _ _ _ _ c.from_residual-in_err-handler-in-Try.ensures
-    (λ x q. try_refused (whole c.args.functions.now c.args.names.now) c.args.start c.len-outside.result c.args.stmt.now.line c.args.scope.now c.begin_try.new.scope c.resolve_block-in-Try.new.scope _ _ _ _ _ c.in_ok-caught-in-Try.caught c.in_ok-body-in-Try.body x
-    c.in-Try.is c.len-outside.ensures c.in_ok-caught-in-Try.ensures (rw (c.as_slice-in-Try.ensures) at c.in_ok-body-in-Try.ensures.meant) c.in_ok-body-in-Try.ensures.kept (ap (λ hs. record c.resolve_block-in-Try.new.scope { handled = hs }) c.cut-in-Try.ensures) q)
-    (rw (c.as_slice-in-Try-2.ensures) at c.in_err-handler-in-Try.ensures.meant)
+pub resolve_try-returns-in_err-handler-clause-meant : goal.resolve_try-returns-in_err-handler-clause-meant
+resolve_try-returns-in_err-handler-clause-meant t c =
+    passed_on _ _ _ _ _ _ c.from_residual-in_err-handler.ensures
+    (λ x q. try_refused (whole c.args.functions.now c.args.names.now) c.args.start c.len-outside.result c.args.stmt.now.line c.args.scope.now c.begin_try.new.scope c.resolve_block.new.scope _ _ _ _ _ c.in_ok-caught.caught c.in_ok-body.body x
+    c.requires.parts c.len-outside.ensures c.in_ok-caught.ensures (rw (c.as_slice.ensures) at c.in_ok-body.ensures.meant) c.in_ok-body.ensures.kept (ap (λ hs. record c.resolve_block.new.scope { handled = hs }) c.cut.ensures) q)
+    (rw (c.as_slice-2.ensures) at c.in_err-handler.ensures.meant)
 
-pub resolve_what-returns-in_ok-body-in-For-clause-meant : goal.resolve_what-returns-in_ok-body-in-For-clause-meant
-resolve_what-returns-in_ok-body-in-For-clause-meant t c =
-    for_whole (whole c.args.functions.now c.args.names.now) c.args.start c.len-inner.result c.args.stmt.now.line c.args.scope.now c.check_test.new.scope c.resolve_body.new.scope c.resolve_body-in-For.new.scope c.resolve_block-in-For.new.scope _ _ _ _ _
-    c.in_ok-first-in-For.first c.in_ok-step-in-For.step c.in_ok-body-in-For.body c.in_ok-test-in-For.test c.cut.new.list
-    c.in-For.is c.in_ok-check_test-in-For.ensures.kept c.len-inner.ensures (rw (c.as_slice-in-For.ensures) at c.in_ok-check_test-in-For.ensures.meant) (rw (c.as_slice-in-For-2.ensures) at c.in_ok-first-in-For.ensures.meant) c.in_ok-first-in-For.ensures.kept (rw (c.as_slice-in-For-3.ensures) at c.in_ok-test-in-For.ensures) (rw (c.as_slice-in-For-4.ensures) at c.in_ok-step-in-For.ensures.meant) c.in_ok-step-in-For.ensures.kept
-    (rw (c.as_slice-in-For-5.ensures) at c.in_ok-body-in-For.ensures.meant) c.in_ok-body-in-For.ensures.kept c.cut.ensures
+pub resolve_for-returns-clause-meant : goal.resolve_for-returns-clause-meant
+resolve_for-returns-clause-meant t c =
+    for_whole (whole c.args.functions.now c.args.names.now) c.args.start c.len-inner.result c.args.stmt.now.line c.args.scope.now c.check_test.new.scope c.resolve_body.new.scope c.resolve_body-2.new.scope c.resolve_block.new.scope _ _ _ _ _
+    c.in_ok-first.first c.in_ok-step.step c.in_ok-body.body c.in_ok-test.test c.cut.new.list
+    c.requires.parts c.in_ok-check_test.ensures.kept c.len-inner.ensures (rw (c.as_slice.ensures) at c.in_ok-check_test.ensures.meant) (rw (c.as_slice-2.ensures) at c.in_ok-first.ensures.meant) c.in_ok-first.ensures.kept (rw (c.as_slice-3.ensures) at c.in_ok-test.ensures) (rw (c.as_slice-4.ensures) at c.in_ok-step.ensures.meant) c.in_ok-step.ensures.kept
+    (rw (c.as_slice-5.ensures) at c.in_ok-body.ensures.meant) c.in_ok-body.ensures.kept c.cut.ensures
 
-pub resolve_what-returns-in_ok-handler-in-Try-clause-meant : goal.resolve_what-returns-in_ok-handler-in-Try-clause-meant
-resolve_what-returns-in_ok-handler-in-Try-clause-meant t c =
-    try_whole (whole c.args.functions.now c.args.names.now) c.args.start c.len-outside.result c.args.stmt.now.line c.args.scope.now c.begin_try.new.scope c.resolve_block-in-Try.new.scope _ c.resolve_block-in-Try-2.new.scope _ _ _ _ c.in_ok-caught-in-Try.caught c.in_ok-body-in-Try.body c.in_ok-handler-in-Try.handler
-    c.in-Try.is c.len-outside.ensures c.in_ok-caught-in-Try.ensures (rw (c.as_slice-in-Try.ensures) at c.in_ok-body-in-Try.ensures.meant) c.in_ok-body-in-Try.ensures.kept (ap (λ hs. record c.resolve_block-in-Try.new.scope { handled = hs }) c.cut-in-Try.ensures)
-    (rw (c.as_slice-in-Try-2.ensures) at c.in_ok-handler-in-Try.ensures.meant)
+pub resolve_try-returns-clause-meant : goal.resolve_try-returns-clause-meant
+resolve_try-returns-clause-meant t c =
+    try_whole (whole c.args.functions.now c.args.names.now) c.args.start c.len-outside.result c.args.stmt.now.line c.args.scope.now c.begin_try.new.scope c.resolve_block.new.scope _ c.resolve_block-2.new.scope _ _ _ _ c.in_ok-caught.caught c.in_ok-body.body c.in_ok-handler.handler
+    c.requires.parts c.len-outside.ensures c.in_ok-caught.ensures (rw (c.as_slice.ensures) at c.in_ok-body.ensures.meant) c.in_ok-body.ensures.kept (ap (λ hs. record c.resolve_block.new.scope { handled = hs }) c.cut.ensures)
+    (rw (c.as_slice-2.ensures) at c.in_ok-handler.ensures.meant)

@@ -1,5 +1,5 @@
 use Rattle.shim_scopes.proofs.Room.{room_in_function}
-use Rattle.shim_scopes.proofs.function.resolve_function.Goals as goal
+use Rattle.shim_scopes.proofs.function.resolve_inside.Goals as goal
 
 pub resolve_body-requires-clause-room : goal.resolve_body-requires-clause-room
 resolve_body-requires-clause-room c =
