@@ -6,6 +6,7 @@ use crate::local::{Forked, Local, Stop};
 use crate::small::{Small, Step};
 use shim_base::{Chan, List, NoMemory, Path, push_decimal};
 use std::alloc::Global;
+use std::process::Abort;
 use std::sync::Arc;
 use std::test::Fail;
 
@@ -104,6 +105,11 @@ fn meet_first<L: Local>(children: &mut Vec<L>)
     }
 }
 
+// A channel of the root.
+fn chan(alloc: Global, serial: u32, name: u32) -> Result<Chan, NoMemory> {
+    Ok(Chan::new(Arc::new(alloc, Path::root(alloc))?, serial, name))
+}
+
 // A process of this path with these steps to do, on a channel of the root.
 fn small(
     path: Path,
@@ -112,7 +118,7 @@ fn small(
     name: u32,
     alloc: Global,
 ) -> Result<Small, NoMemory> {
-    let chan = Chan::new(Arc::new(alloc, Path::root(alloc))?, serial, name);
+    let chan = chan(alloc, serial, name)?;
     Ok(Small::new(path, Vec::from_slice(alloc, left)?, chan))
 }
 
@@ -126,80 +132,95 @@ fn is_told(alloc: Global, left: &[Step], times: u32, text: &[u8]) -> Result<bool
     Ok(told.as_slice() == text)
 }
 
+// What is told of a root, by the steps that it has to do and how often it goes on.
+type Told<'a> = &'a [(&'a [Step], u32, &'a [u8])];
+
+fn expect_told(rt: &impl Abort, alloc: Global, rows: Told) -> Result<(), Fail> {
+    for row in rows {
+        assert!(rt; is_told(alloc, row.0, row.1, row.2)?);
+    }
+    Ok(())
+}
+
 #[test]
 fn each_stop_is_gone_through(rt: HostRuntime) -> Result<(), Fail> {
-    let alloc = rt.alloc();
-    let steps = [
-        Step::Put,
-        Step::Quiet,
-        Step::Quiet,
-        Step::Quiet,
-        Step::Next,
-        Step::Put,
-    ];
-    assert!(rt;
-        is_told(
-            alloc,
-            &steps,
-            6,
-            b" put 0 quiet 2 quiet 1 next 3 put 1 finish"
-        )?
-    );
-    Ok(())
+    expect_told(
+        &rt,
+        rt.alloc(),
+        &[
+            (
+                &[
+                    Step::Put,
+                    Step::Quiet,
+                    Step::Quiet,
+                    Step::Quiet,
+                    Step::Next,
+                    Step::Put,
+                ],
+                6,
+                b" put 0 quiet 2 quiet 1 next 3 put 1 finish",
+            ),
+            // Children are told their places and channels.
+            (
+                &[Step::Fork, Step::Try(6, 30), Step::Fork, Step::Put],
+                4,
+                b" fork 0.0 in 1 with 3 0.1 in 1 with 3 quiet 1 fork 1.0 in 2 with 3 1.1 in 2 with 3 put 0",
+            ),
+        ],
+    )
 }
 
 #[test]
-fn children_are_told_their_places_and_channels(rt: HostRuntime) -> Result<(), Fail> {
-    let alloc = rt.alloc();
-    let steps = [Step::Fork, Step::Try(6, 30), Step::Fork, Step::Put];
-    let text =
-        b" fork 0.0 in 1 with 3 0.1 in 1 with 3 quiet 1 fork 1.0 in 2 with 3 1.1 in 2 with 3 put 0";
-    assert!(rt; is_told(alloc, &steps, 4, text)?);
-    Ok(())
+fn an_exception_goes_to_its_handler(rt: HostRuntime) -> Result<(), Fail> {
+    expect_told(
+        &rt,
+        rt.alloc(),
+        &[
+            (
+                &[
+                    Step::Try(3, 20),
+                    Step::Try(4, 21),
+                    Step::Throw(2),
+                    Step::Put,
+                ],
+                4,
+                b" quiet 2 throw 2 of 4.21 put 0 finish",
+            ),
+            // An inner place goes with the outer one.
+            (
+                &[
+                    Step::Try(3, 20),
+                    Step::Try(4, 21),
+                    Step::Throw(1),
+                    Step::Throw(2),
+                ],
+                3,
+                b" quiet 2 throw 1 of 3.20 trapped 1",
+            ),
+            (&[Step::Throw(0)], 1, b" throw 0"),
+        ],
+    )
 }
 
 #[test]
-fn exception_goes_to_its_handler(rt: HostRuntime) -> Result<(), Fail> {
-    let alloc = rt.alloc();
-    let steps = [
-        Step::Try(3, 20),
-        Step::Try(4, 21),
-        Step::Throw(2),
-        Step::Put,
-    ];
-    assert!(rt; is_told(alloc, &steps, 4, b" quiet 2 throw 2 of 4.21 put 0 finish")?);
-    Ok(())
+fn traps_are_stood_at_and_nothing_is_put_before_one(rt: HostRuntime) -> Result<(), Fail> {
+    expect_told(
+        &rt,
+        rt.alloc(),
+        &[
+            (&[Step::Put, Step::Trap], 2, b" put trapped 1"),
+            (&[Step::Fork, Step::Trap], 2, b" fork trapped 1"),
+            (&[Step::Put, Step::Throw(1)], 2, b" put trapped 1"),
+            (&[Step::Put, Step::Throw(0)], 2, b" put 0 throw 0"),
+            (&[Step::Fork, Step::Throw(1)], 2, b" fork trapped 1"),
+        ],
+    )
 }
 
-#[test]
-fn inner_place_goes_with_the_outer_one(rt: HostRuntime) -> Result<(), Fail> {
-    let alloc = rt.alloc();
-    let steps = [
-        Step::Try(3, 20),
-        Step::Try(4, 21),
-        Step::Throw(1),
-        Step::Throw(2),
-    ];
-    assert!(rt; is_told(alloc, &steps, 3, b" quiet 2 throw 1 of 3.20 trapped 1")?);
-    assert!(rt; is_told(alloc, &[Step::Throw(0)], 1, b" throw 0")?);
-    Ok(())
-}
-
-#[test]
-fn traps_are_stood_at(rt: HostRuntime) -> Result<(), Fail> {
-    let alloc = rt.alloc();
-    assert!(rt; is_told(alloc, &[Step::Put, Step::Trap], 2, b" put trapped 1")?);
-    assert!(rt; is_told(alloc, &[Step::Fork, Step::Trap], 2, b" fork trapped 1")?);
-    Ok(())
-}
-
-#[test]
-fn nothing_is_put_before_a_trap(rt: HostRuntime) -> Result<(), Fail> {
-    let alloc = rt.alloc();
-    assert!(rt; is_told(alloc, &[Step::Put, Step::Throw(1)], 2, b" put trapped 1")?);
-    assert!(rt; is_told(alloc, &[Step::Put, Step::Throw(0)], 2, b" put 0 throw 0")?);
-    assert!(rt; is_told(alloc, &[Step::Fork, Step::Throw(1)], 2, b" fork trapped 1")?);
-    Ok(())
+// The second branch of a root's first fork, with a put to do.
+fn child(alloc: Global) -> Result<Small, NoMemory> {
+    let path = Path::root(alloc).child(0, 1)?;
+    small(path, &[Step::Put], 3, 0, alloc)
 }
 
 // Whether the process stands trapped.
@@ -212,23 +233,33 @@ fn is_trapped<L: Local>(process: &L) -> bool {
 
 #[test]
 fn a_child_holds_no_output(rt: HostRuntime) -> Result<(), Fail> {
-    let alloc = rt.alloc();
-    let path = Path::root(alloc).child(0, 1)?;
-    let child = small(path, &[Step::Put], 3, 0, alloc)?;
-    assert!(rt; is_trapped(&child) && !child.holds_output());
+    let child = child(rt.alloc())?;
+    assert!(rt; is_trapped(&child));
+    assert!(rt; !child.holds_output());
     Ok(())
+}
+
+// The value of the channel that the process carries; nothing where it doesn't. It shares just what it
+// carries.
+fn value<L: Local>(rt: &impl Abort, process: &L, chan: &Chan) -> Option<i64> {
+    assert!(rt; process.carries(chan) == process.shares(chan));
+    if process.carries(chan) {
+        Some(process.value(chan))
+    } else {
+        None
+    }
 }
 
 #[test]
 fn a_root_carries_its_channel(rt: HostRuntime) -> Result<(), Fail> {
     let alloc = rt.alloc();
-    let chan = Chan::new(Arc::new(alloc, Path::root(alloc))?, 3, 0);
-    let other = Chan::new(Arc::new(alloc, Path::root(alloc))?, 4, 0);
+    let its = chan(alloc, 3, 0)?;
+    let other = chan(alloc, 4, 0)?;
     let process = behind(alloc, &[Step::Next])?;
-    assert!(rt; process.carries(&chan) && process.shares(&chan));
-    assert!(rt; !process.carries(&other) && !process.shares(&other));
-    assert!(rt; process.holds_output() && process.given(0).is_none());
-    assert!(rt; process.value(&chan) == 5);
+    assert!(rt; value(&rt, &process, &its) == Some(5));
+    assert!(rt; value(&rt, &process, &other).is_none());
+    assert!(rt; process.holds_output());
+    assert!(rt; process.given(0).is_none());
     Ok(())
 }
 
@@ -257,8 +288,7 @@ fn differs(alloc: Global, left: &[Step], serial: u32, name: u32) -> Result<bool,
 // Whether a root is told apart from a child.
 fn child_differs(alloc: Global) -> Result<bool, NoMemory> {
     let root = small(Path::root(alloc), &[Step::Put], 3, 0, alloc)?;
-    let path = Path::root(alloc).child(0, 0)?;
-    let child = small(path, &[Step::Put], 3, 0, alloc)?;
+    let child = child(alloc)?;
     are_apart(&root, &child)
 }
 
@@ -269,22 +299,52 @@ fn differ_behind(alloc: Global, a: &[Step], b: &[Step]) -> Result<bool, NoMemory
     are_apart(&a, &b)
 }
 
+// Expects of roots with these steps to do, on these channels, that each differs from one with a put.
+fn expect_differ(rt: &impl Abort, alloc: Global, rows: &[(&[Step], u32, u32)]) -> Result<(), Fail> {
+    for row in rows {
+        assert!(rt; differs(alloc, row.0, row.1, row.2)?);
+    }
+    Ok(())
+}
+
+// Expects of roots that had these steps to do, and went on once, that the two differ.
+fn expect_differ_behind(
+    rt: &impl Abort,
+    alloc: Global,
+    rows: &[(&[Step], &[Step])],
+) -> Result<(), Fail> {
+    for row in rows {
+        assert!(rt; differ_behind(alloc, row.0, row.1)?);
+    }
+    Ok(())
+}
+
 #[test]
 fn states_that_differ_are_told_apart(rt: HostRuntime) -> Result<(), Fail> {
     let alloc = rt.alloc();
-    assert!(rt; differs(alloc, &[Step::Quiet], 3, 0)?);
-    assert!(rt; differs(alloc, &[Step::Put], 4, 0)?);
-    assert!(rt; differs(alloc, &[Step::Put], 3, 1)?);
+    expect_differ(
+        &rt,
+        alloc,
+        &[
+            (&[Step::Quiet], 3, 0),
+            (&[Step::Put], 4, 0),
+            (&[Step::Put], 3, 1),
+        ],
+    )?;
     assert!(rt; child_differs(alloc)?);
     Ok(())
 }
 
 #[test]
 fn what_was_done_tells_states_apart(rt: HostRuntime) -> Result<(), Fail> {
-    let alloc = rt.alloc();
-    assert!(rt; differ_behind(alloc, &[Step::Quiet], &[Step::Next])?);
-    assert!(rt; differ_behind(alloc, &[Step::Quiet], &[Step::Fork])?);
-    assert!(rt; differ_behind(alloc, &[Step::Try(3, 20)], &[Step::Try(3, 21)])?);
-    assert!(rt; differ_behind(alloc, &[Step::Try(3, 20)], &[Step::Try(4, 20)])?);
-    Ok(())
+    expect_differ_behind(
+        &rt,
+        rt.alloc(),
+        &[
+            (&[Step::Quiet], &[Step::Next]),
+            (&[Step::Quiet], &[Step::Fork]),
+            (&[Step::Try(3, 20)], &[Step::Try(3, 21)]),
+            (&[Step::Try(3, 20)], &[Step::Try(4, 20)]),
+        ],
+    )
 }
