@@ -15,9 +15,9 @@ fn many(line: u32, what: Many) -> ParseFault {
 
 fn expect(rt: &impl Abort, alloc: Global, cases: &[(ParseFault, &str)]) -> Result<(), Fail> {
     for case in cases {
-        let fault = case.0;
-        let text = fault_text(alloc, &SourceFault::Parse(fault))?;
-        assert_eq!(rt; text.as_slice(), case.1.as_bytes(), "line of {fault:?}");
+        let line = case.1;
+        let text = fault_text(alloc, &SourceFault::Parse(case.0))?;
+        assert_eq!(rt; text.as_slice(), line.as_bytes(), "not {line}");
     }
     Ok(())
 }
