@@ -19,7 +19,7 @@ use Rattle.shim_scopes.specs.declared.tree.RWhat.{RWhat}
 use Rattle.shim_scopes.specs.declared.tree.RWhat.TheVariants.{Declare, Assign, Next, NextAssign, AssignNext, Get, Put, If, While, For, Try, Throw}
 use Rattle.shim_scopes.specs.declared.tree.UExpr.{UExpr}
 use Rattle.shim_scopes.specs.Binding.{unknown, unknown_in_option, stream_in, stream_in_option, no_number, no_input, no_output, slot_of, placed, placed_option, exception_number, unhandled}
-use Rattle.shim_names.specs.Names.{Texts, number_of}
+use Rattle.shim_syntax.specs.Names.{Texts, number_of}
 use Rattle.shim_scopes.specs.Refusals.{refused_for}
 use Rattle.shim_scopes.specs.Statements.{Whole, Around, Before, BoundTo, Bind, declared, local_of, within, opened, closed, caught, tried, bind_declare, bind_store, bind_next, bind_assign_next, bind_get, bind_put, bind_throw, bind_block, on_tree, bind_two, bind_test, bind_if, bind_while, bind_try, bind_parts, bind_first_test, bind_for, visible, declared_in, unknown_in_both, unknown_of_two}
 use Rattle.shim_scopes.specs.Calls.{bind_call, bind_called}

@@ -9,10 +9,10 @@ use Rattle.std.proofs.lemmas.List.Folds.{find-append, find_at}
 use Rattle.std.proofs.lemmas.Option.{slice_get_within, get_or_from_slice_get}
 use Rattle.std.proofs.lemmas.Slice.Eq.{bytes_eq-Decides}
 use Rattle.shim_syntax.specs.declared.tree.Function.{Function}
-use Rattle.shim_names.specs.Names.{Texts, unless_there, with_name, with_texts, with_functions, position_else, number_of}
+use Rattle.shim_syntax.specs.Names.{Texts, unless_there, with_name, with_texts, with_functions, position_else, number_of}
 use Rattle.shim_scopes.specs.Calls.{function_number, function_of}
-use Rattle.shim_names.specs.Occurrences.{identifiers}
-use Rattle.shim_names.proofs.OccurrenceLemmas.{names_are_the_identifiers}
+use Rattle.shim_syntax.specs.Occurrences.{identifiers}
+use Rattle.shim_syntax.proofs.OccurrenceLemmas.{names_are_the_identifiers}
 use Rattle.shim_binding.specs.Naming.{name_at, names_at}
 use Rattle.shim_binding.proofs.Lists.{Each}
 

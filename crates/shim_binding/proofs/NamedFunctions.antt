@@ -11,8 +11,8 @@ use Rattle.shim_scopes.specs.declared.form.Form.{Form}
 use Rattle.shim_scopes.specs.declared.scope.Handled.{Handled}
 use Rattle.shim_scopes.specs.declared.tree.RFunction.{RFunction}
 use Rattle.shim_scopes.specs.declared.tree.RStmt.{RStmt}
-use Rattle.shim_names.specs.Names.{Texts, number_of, param_names}
-use Rattle.shim_names.specs.Occurrences.{joined, in_stmt, in_function, identifiers}
+use Rattle.shim_syntax.specs.Names.{Texts, number_of, param_names}
+use Rattle.shim_syntax.specs.Occurrences.{joined, in_stmt, in_function, identifiers}
 use Rattle.shim_scopes.specs.Statements.{Whole, Before, BoundTo, local_of}
 use Rattle.shim_scopes.specs.Functions.{placed_param, with_param, params_from, placed_params, handled_from, numbers_of, function_begin, made_function, bind_function, bind_functions, bind_program}
 use Rattle.shim_scopes.specs.Calls.{function_number}

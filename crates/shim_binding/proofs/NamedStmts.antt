@@ -13,7 +13,7 @@ use Rattle.shim_scopes.specs.declared.tree.RWhat.{RWhat}
 use Rattle.shim_scopes.specs.declared.tree.RWhat.TheVariants as bt
 use Rattle.shim_scopes.specs.declared.tree.RBranchWhat.{RBranchWhat}
 use Rattle.shim_scopes.specs.declared.tree.RBranchWhat.TheVariants as bb
-use Rattle.shim_names.specs.Names.{Texts}
+use Rattle.shim_syntax.specs.Names.{Texts}
 use Rattle.shim_scopes.specs.Statements.{Whole, Bind}
 use Rattle.shim_scopes.specs.Meaning.{WhatMeans, StmtMeans, BranchMeans, BranchWhatMeans, bind_all, bind_fork, first_declares, branch_what_step, what_step, branch_step, stmt_step, meaning, bind_stmts, bind_branch}
 use Rattle.shim_scopes.specs.declared.tree.RCall.{RCall}

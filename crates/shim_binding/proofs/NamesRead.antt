@@ -18,8 +18,8 @@ use Rattle.shim_syntax.specs.Limits.{Limits}
 use Rattle.shim_syntax.specs.Text.{IsText}
 use Rattle.shim_syntax.specs.Grammar as is
 use Rattle.shim_syntax.specs.Grammar.{Counts, operator_of_sign, IsExpr, IsChain, IsArguments, IsMoreArguments, IsDeclared, IsDeclarations, IsFirst, IsTest, IsStep, IsBlock, IsStmt, IsBody, IsPlain, IsBranches, IsBranch, IsParam, IsParams, IsMoreParams, IsThrows, IsMoreThrows, IsFunction, IsFunctions}
-use Rattle.shim_names.specs.Names.{Texts, param_names}
-use Rattle.shim_names.specs.Occurrences.{in_expr, in_exprs, in_option, in_call, in_stmt, in_function, identifiers}
+use Rattle.shim_syntax.specs.Names.{Texts, param_names}
+use Rattle.shim_syntax.specs.Occurrences.{in_expr, in_exprs, in_option, in_call, in_stmt, in_function, identifiers}
 use Rattle.shim_binding.specs.TextNames.{names_among}
 use Rattle.shim_binding.proofs.OccurrenceSteps.{in_number, in_variable, in_unary, in_binary, in_what, in_branch, in_stmts, in_branches, in_one, in_single, in_declare, in_assign, in_next, in_next_assign, in_assign_next, in_get, in_put, in_if, in_while, in_for, in_block, in_called, in_try, in_throw, in_par, in_block_branch, in_call_branch}
 

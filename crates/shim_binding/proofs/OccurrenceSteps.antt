@@ -13,8 +13,8 @@ use Rattle.shim_syntax.specs.declared.tree.What.TheVariants as st
 use Rattle.shim_syntax.specs.declared.tree.Branch.{Branch, fold-Branch, fold-roll-Branch}
 use Rattle.shim_syntax.specs.declared.tree.BranchWhat.{BranchWhat, BranchWhat-F, roll-BranchWhat, fold-BranchWhat, fold-roll-BranchWhat, map-BranchWhat}
 use Rattle.shim_syntax.specs.declared.tree.BranchWhat.TheVariants as br
-use Rattle.shim_names.specs.Names.{Texts}
-use Rattle.shim_names.specs.Occurrences.{joined, expr_occurs, in_expr, in_option, in_call, branch_occurs, what_occurs, in_stmt}
+use Rattle.shim_syntax.specs.Names.{Texts}
+use Rattle.shim_syntax.specs.Occurrences.{joined, expr_occurs, in_expr, in_option, in_call, branch_occurs, what_occurs, in_stmt}
 
 pub in_number : (n : ℤ) → in_expr (e.Number n) ≡ []
 unfolding roll-Expr denote.Hole.Carrier.roll

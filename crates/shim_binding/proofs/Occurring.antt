@@ -4,8 +4,8 @@ use Rattle.shim_syntax.specs.declared.tree.Stmt.{Stmt, Stmt-F, fold-roll-Stmt, i
 use Rattle.shim_syntax.specs.declared.tree.What.{What, What-F, fold-What, fold-roll-What, map-What, roll-What}
 use Rattle.shim_syntax.specs.declared.tree.Branch.{Branch, Branch-F, fold-Branch, fold-roll-Branch, map-Branch, roll-Branch}
 use Rattle.shim_syntax.specs.declared.tree.BranchWhat.{BranchWhat, BranchWhat-F, fold-BranchWhat, fold-roll-BranchWhat, map-BranchWhat, roll-BranchWhat}
-use Rattle.shim_names.specs.Names.{Texts}
-use Rattle.shim_names.specs.Occurrences.{joined, in_expr, in_option, branch_occurs, what_occurs, in_stmt}
+use Rattle.shim_syntax.specs.Names.{Texts}
+use Rattle.shim_syntax.specs.Occurrences.{joined, in_expr, in_option, branch_occurs, what_occurs, in_stmt}
 use Rattle.shim_binding.specs.TextOrder.{Declaration, Declarations, together, branch_declares, what_declares, stmt_declares, declarations, branch_tries, what_tries, stmt_tries, tries_among}
 use Rattle.shim_binding.proofs.Lists.{Each, each_of_both, each_of_first, each_of_second}
 

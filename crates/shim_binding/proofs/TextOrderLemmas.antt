@@ -8,7 +8,7 @@ use Rattle.shim_scopes.specs.declared.fault.ScopeKind.TheVariants.{Twice, MainPa
 use Rattle.shim_scopes.specs.declared.form.Form.{Form}
 use Rattle.shim_scopes.specs.declared.tree.RFunction.{RFunction}
 use Rattle.shim_scopes.specs.declared.tree.RStmt.{RStmt}
-use Rattle.shim_names.specs.Names.{Texts, with_functions, param_names}
+use Rattle.shim_syntax.specs.Names.{Texts, with_functions, param_names}
 use Rattle.shim_scopes.specs.Statements.{Whole, Around, Before, BoundTo, local_of}
 use Rattle.shim_scopes.specs.Functions.{name_in, twice_after, wrong_main, with_param, params_from, handled_from, function_begin, made_function, bind_function, bind_functions, bind_program, main_of}
 use Rattle.shim_scopes.specs.Meaning.{bind_stmts}

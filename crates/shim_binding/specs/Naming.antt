@@ -20,7 +20,7 @@ use Rattle.shim_scopes.specs.declared.tree.RStmt.{RStmt, RStmt-F, fold-RStmt}
 use Rattle.shim_scopes.specs.declared.tree.RWhat.{RWhat-F}
 use Rattle.shim_scopes.specs.declared.tree.RBranch.{RBranch-F}
 use Rattle.shim_scopes.specs.declared.tree.RBranchWhat.{RBranchWhat-F}
-use Rattle.shim_names.specs.Names.{Texts}
+use Rattle.shim_syntax.specs.Names.{Texts}
 
 -- the name at a place of a list
 abbrev pub name_at : Texts → ℕ → List ℕ

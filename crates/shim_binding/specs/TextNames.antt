@@ -1,7 +1,7 @@
 -- The names of a text, in its order.
 use Rattle.std.specs.Prelude.{List, [], ◌∷◌, ◌++◌}
 use Rattle.shim_syntax.specs.Terminals.{Terminal, Name}
-use Rattle.shim_names.specs.Names.{Texts}
+use Rattle.shim_syntax.specs.Names.{Texts}
 
 -- the name that a terminal is, where it is one
 abbrev pub name_in : Terminal → Texts

@@ -8,7 +8,7 @@ use Rattle.shim_syntax.specs.declared.tree.Stmt.{Stmt, fold-Stmt}
 use Rattle.shim_syntax.specs.declared.tree.What.{What-F}
 use Rattle.shim_syntax.specs.declared.tree.BranchWhat.{BranchWhat-F}
 use Rattle.shim_scopes.specs.declared.tree.RFunction.{RFunction}
-use Rattle.shim_names.specs.Names.{Texts, number_of}
+use Rattle.shim_syntax.specs.Names.{Texts, number_of}
 
 -- a name that is declared, and what it holds
 pub record Declaration : Type 0 where

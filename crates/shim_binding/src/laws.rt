@@ -4,7 +4,7 @@ ghost use Rattle.shim_scopes.specs.declared.form.Form.{Form};
 ghost use Rattle.shim_scopes.specs.declared.scope.Handled.{Handled};
 ghost use Rattle.shim_scopes.specs.Binding.{exception_of};
 ghost use Rattle.shim_scopes.specs.Functions.{bind_program};
-ghost use Rattle.shim_names.specs.Occurrences.{identifiers};
+ghost use Rattle.shim_syntax.specs.Occurrences.{identifiers};
 ghost use Rattle.shim_syntax.specs.Text.{IsText};
 ghost use Rattle.shim_syntax.specs.declared.tree.Program.{Program};
 ghost use Rattle.shim_binding.specs.TextNames.{names_among};

@@ -18,14 +18,14 @@ use Rattle.shim_scopes.specs.declared.tree.RWhat.TheVariants.{Declare, Assign, N
 use Rattle.shim_syntax.specs.declared.tree.Sort.TheVariants.{Value}
 use Rattle.std.specs.Option.{option_or}
 use Rattle.shim_scopes.specs.Binding.{unknown, unknown_in_option, stream_in, stream_in_option, no_number, no_input, no_output, slot_of, placed, placed_option, exception_number, unhandled}
-use Rattle.shim_names.specs.Names.{number_of}
+use Rattle.shim_syntax.specs.Names.{number_of}
 use Rattle.shim_scopes.specs.declared.tree.UExpr.{UExpr}
 use Rattle.shim_scopes.specs.Refusals.{Refusal, and_then, refused_for}
 use Rattle.shim_scopes.specs.Statements.{Whole, Around, Before, BoundTo, Bind, declared, within, opened, closed, caught, tried, bind_declare, bind_store, bind_next, bind_assign_next, bind_get, bind_put, bind_throw, bind_block, on_tree, bind_two, bind_test, bind_if, bind_while, bind_try, bind_parts, bind_first_test, bind_for, Meant, visible, declared_in, unknown_in_both, unknown_of_two}
 use Rattle.shim_scopes.specs.Calls.{bind_call, bind_called}
 use Rattle.shim_scopes.specs.Meaning.{WhatMeans, StmtMeans, BranchMeans, BranchWhatMeans, bind_all, bind_fork, first_declares, branch_what_step, what_step, branch_step, stmt_step, meaning, bind_stmts, bind_branch}
-use Rattle.shim_names.specs.Sizes.{sum_of, expr_size, option_size, branch_counts, what_counts, what_size, stmt_size, branch_size, stmts_size}
-use Rattle.shim_names.proofs.SizeSteps.{branch_what_size, of_branch, at_branch, of_stmt, at_what}
+use Rattle.shim_syntax.specs.Sizes.{sum_of, expr_size, option_size, branch_counts, what_counts, what_size, stmt_size, branch_size, stmts_size}
+use Rattle.shim_syntax.proofs.SizeSteps.{branch_what_size, of_branch, at_branch, of_stmt, at_what}
 
 -- how many slots and exceptions stand before a place, without those of the `throws`
 abbrev pub given : Before → ℕ

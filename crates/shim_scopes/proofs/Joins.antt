@@ -4,7 +4,7 @@ use Rattle.std.proofs.lemmas.List.{append_assoc}
 use Rattle.shim_scopes.specs.declared.tree.RFunction.{RFunction}
 use Rattle.shim_scopes.specs.Refusals.{Refusal, and_then}
 use Rattle.shim_syntax.specs.declared.tree.Function.{Function}
-use Rattle.shim_names.specs.Names.{Texts}
+use Rattle.shim_syntax.specs.Names.{Texts}
 use Rattle.shim_scopes.specs.Statements.{Whole}
 use Rattle.shim_scopes.specs.Functions.{bind_function, bind_functions}
 use Rattle.shim_scopes.specs.State.{after_some}

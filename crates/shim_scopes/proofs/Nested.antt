@@ -14,7 +14,7 @@ use Rattle.shim_scopes.specs.declared.fault.ScopeFault.TheVariants.{Refused, NoM
 use Rattle.shim_scopes.specs.declared.scope.Handled.{Handled}
 use Rattle.shim_scopes.specs.declared.scope.Local.{Local}
 use Rattle.shim_scopes.specs.declared.scope.Scope.{Scope}
-use Rattle.shim_names.specs.Names.{Texts}
+use Rattle.shim_syntax.specs.Names.{Texts}
 use Rattle.shim_scopes.specs.Refusals.{Refusal, and_then}
 use Rattle.shim_scopes.specs.Binding.{placed_option}
 use Rattle.shim_scopes.specs.Statements.{Whole, Around, Before, BoundTo, Meant, Bind, visible, within, opened, closed, bind_block, bind_parts, bind_first_test, bind_for, bind_try, caught, tried}

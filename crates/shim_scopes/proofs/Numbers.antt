@@ -5,7 +5,7 @@ use Rattle.std.specs.List.{position_or_len}
 use Rattle.std.specs.Str.{bytes_eq}
 use Rattle.std.proofs.lemmas.List.Sums.{prefix_len-le-length}
 use Rattle.shim_syntax.specs.declared.tree.Function.{Function}
-use Rattle.shim_names.specs.Names.{Texts, position_else, number_of}
+use Rattle.shim_syntax.specs.Names.{Texts, position_else, number_of}
 use Rattle.shim_scopes.specs.Calls.{function_number}
 
 place_by : (b : Bool) (at n : ℕ) → at ≤ n → position_else n (cond b (Some at) None) ≤ n

@@ -14,14 +14,14 @@ use Rattle.shim_scopes.specs.declared.scope.Handled.{Handled}
 use Rattle.shim_scopes.specs.declared.scope.Scope.{Scope}
 use Rattle.shim_scopes.specs.declared.tree.RStmt.{RStmt}
 use Rattle.shim_scopes.specs.declared.tree.RBranch.{RBranch}
-use Rattle.shim_names.specs.Names.{Texts, number_of}
-use Rattle.shim_names.specs.Sizes.{what_size, stmt_size, stmts_size, branch_size, branches_size, function_size, functions_size}
+use Rattle.shim_syntax.specs.Names.{Texts, number_of}
+use Rattle.shim_syntax.specs.Sizes.{what_size, stmt_size, stmts_size, branch_size, branches_size, function_size, functions_size}
 use Rattle.shim_scopes.specs.Statements.{Whole, Before, bind_block}
 use Rattle.shim_scopes.specs.Meaning.{bind_stmt, bind_stmts, bind_branch}
 use Rattle.shim_scopes.specs.Functions.{params_from, with_param, function_begin}
 use Rattle.shim_scopes.specs.State.{HasRoom, IsNumber, IsOpened, IsTried, Kept, around_of, before_of}
 use Rattle.shim_scopes.proofs.BindSizes.{given, block_adds, stmt_adds, branch_adds, body_adds}
-use Rattle.shim_names.proofs.SizeSteps.{of_stmt, declare_size, if_size, while_size, for_size, block_size, try_size, par_size, block_branch_size}
+use Rattle.shim_syntax.proofs.SizeSteps.{of_stmt, declare_size, if_size, while_size, for_size, block_size, try_size, par_size, block_branch_size}
 
 -- room for so many is room for fewer
 room_for_fewer : (m n : ℕ) (s : Scope) → m ≤ n → HasRoom n s → HasRoom m s

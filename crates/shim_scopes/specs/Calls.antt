@@ -16,7 +16,7 @@ use Rattle.shim_scopes.specs.declared.fault.ScopeKind.TheVariants.{UnknownName, 
 use Rattle.shim_scopes.specs.declared.scope.Bound.{Bound}
 use Rattle.shim_scopes.specs.declared.scope.Local.{Local}
 use Rattle.shim_scopes.specs.declared.scope.Handled.{Handled}
-use Rattle.shim_names.specs.Names.{Texts, position_else}
+use Rattle.shim_syntax.specs.Names.{Texts, position_else}
 use Rattle.shim_scopes.specs.Refusals.{Refusal, and_then, refused_for}
 use Rattle.shim_scopes.specs.Binding.{binding_of, stream_in, bare, unknown_in_all, placed_all, exception_number, unhandled}
 use Rattle.shim_scopes.specs.Statements.{Whole, Around, Before, Bind, visible}

@@ -13,7 +13,7 @@ use Rattle.shim_scopes.specs.declared.tree.RFunction.{RFunction}
 use Rattle.shim_scopes.specs.declared.form.Form.{Form}
 use Rattle.shim_scopes.specs.declared.fault.ScopeKind.TheVariants.{Twice, NoMain, MainParameters}
 use Rattle.shim_scopes.specs.declared.scope.Handled.{Handled}
-use Rattle.shim_names.specs.Names.{Texts, number_of, param_names, with_functions}
+use Rattle.shim_syntax.specs.Names.{Texts, number_of, param_names, with_functions}
 use Rattle.shim_scopes.specs.Refusals.{Refusal, and_then, refused_for}
 use Rattle.shim_scopes.specs.Statements.{Whole, Before, BoundTo, declared}
 use Rattle.shim_scopes.specs.Calls.{if_false}

@@ -1,7 +1,7 @@
 -- What is resolved: a program that has a text, in its one form.
 use Rattle.std.specs.Prelude.{◌≡◌, Ok}
 use Rattle.shim_syntax.specs.declared.tree.Program.{Program}
-use Rattle.shim_names.specs.ShortText.{HasText}
+use Rattle.shim_syntax.specs.ShortText.{HasText}
 use Rattle.shim_scopes.specs.declared.form.Form.{Form}
 use Rattle.shim_scopes.specs.Functions.{bind_program}
 

@@ -6,7 +6,7 @@ use Rattle.shim_scopes.specs.declared.fault.ScopeKind.{ScopeKind}
 use Rattle.shim_scopes.specs.declared.fault.ScopeFault.{ScopeFault}
 use Rattle.shim_scopes.specs.declared.fault.ScopeFault.TheVariants.{Refused, NoMemory}
 use Rattle.shim_scopes.specs.declared.scope.Scope.{Scope}
-use Rattle.shim_names.specs.Names.{Texts, number_of}
+use Rattle.shim_syntax.specs.Names.{Texts, number_of}
 use Rattle.shim_scopes.specs.Refusals.{Refusal}
 use Rattle.shim_scopes.specs.Statements.{Whole, Around, Before, Meant, declared}
 use Rattle.shim_scopes.specs.Functions.{params_from, function_begin, handled_from}

@@ -15,7 +15,7 @@ use Rattle.shim_scopes.specs.declared.tree.RWhat.TheVariants.{Declare, Assign, N
 use Rattle.shim_scopes.specs.declared.fault.ScopeKind.TheVariants.{UnknownName, UnknownException, Twice, WrongKind}
 use Rattle.shim_scopes.specs.declared.scope.Local.{Local}
 use Rattle.shim_scopes.specs.declared.scope.Handled.{Handled}
-use Rattle.shim_names.specs.Names.{Texts, number_of}
+use Rattle.shim_syntax.specs.Names.{Texts, number_of}
 use Rattle.shim_scopes.specs.Refusals.{Refusal, and_then, refused_for}
 use Rattle.shim_scopes.specs.Binding.{unknown, unknown_in, no_number, no_input, no_output, stream_in, slot_of, placed, unknown_in_option, stream_in_option, placed_option, exception_number, unhandled}
 

@@ -17,9 +17,8 @@ use crate::scope::{Bound, Handled, Local, Scope};
 use crate::tree::RCall;
 use crate::word::number;
 use shim_base::{List, Name, NoMemory, Ty};
-use shim_names::NameTable;
-use shim_names::word::is_same;
-use shim_syntax::{Call, Expr, Function, Param, Sort};
+use shim_syntax::word::is_same;
+use shim_syntax::{Call, Expr, Function, NameTable, Param, Sort};
 use std::alloc::Global;
 
 fn find_function<'a>(functions: &'a [Function], name: &Name) -> Option<&'a Function>

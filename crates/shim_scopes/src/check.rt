@@ -4,7 +4,7 @@ ghost use Rattle.shim_scopes.specs.State.{Passes, IsRefusal};
 
 use crate::fault::{ScopeFault, ScopeKind};
 use shim_base::Name;
-use shim_names::word::copy;
+use shim_syntax::word::copy;
 use std::alloc::Global;
 
 // The refusal of a place for a name.

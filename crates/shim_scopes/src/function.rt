@@ -4,7 +4,7 @@ ghost use Rattle.shim_scopes.specs.Meaning.{bind_stmts};
 ghost use Rattle.shim_scopes.specs.Functions.{bind_function, bind_functions, function_begin, handled_from, made_function, params_from};
 ghost use Rattle.shim_scopes.specs.Refusals.{Gives, and_then};
 ghost use Rattle.shim_scopes.specs.State.{AreNumbers, IsNumber, whole};
-ghost use Rattle.shim_names.specs.Sizes.{function_size, functions_size};
+ghost use Rattle.shim_syntax.specs.Sizes.{function_size, functions_size};
 
 use crate::check::check;
 use crate::fault::{ScopeFault, ScopeKind};
@@ -15,9 +15,8 @@ use crate::stmt::resolve_body;
 use crate::tree::RFunction;
 use crate::word::find_in;
 use shim_base::{List, Name};
-use shim_names::NameTable;
-use shim_names::word::copy;
-use shim_syntax::Function;
+use shim_syntax::word::copy;
+use shim_syntax::{Function, NameTable};
 use std::alloc::Global;
 
 // What stands in a function whose header is in order.

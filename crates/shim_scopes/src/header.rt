@@ -1,18 +1,17 @@
 // What stands in the header of a function.
 ghost use Rattle.std.specs.Prelude.{◌≡◌, [], IfOk, length};
 ghost use Rattle.std.specs.Option.{option_copied};
-ghost use Rattle.shim_names.specs.Names.{param_names};
+ghost use Rattle.shim_syntax.specs.Names.{param_names};
 ghost use Rattle.shim_scopes.specs.Functions.{twice_after, handled_from, numbers_of, placed_params, suits_main, wrong_main};
 ghost use Rattle.shim_scopes.specs.State.{IsOpened, IsNumber};
-ghost use Rattle.shim_names.specs.Sizes.{function_size};
+ghost use Rattle.shim_syntax.specs.Sizes.{function_size};
 
 use crate::scope::{Bound, Handled, Local, Scope};
 use crate::tree::UParam;
 use crate::word::{find_in, number};
 use shim_base::{List, Name, NoMemory};
-use shim_names::NameTable;
-use shim_names::word::copy;
-use shim_syntax::{Function, Param, Sort};
+use shim_syntax::word::copy;
+use shim_syntax::{Function, NameTable, Param, Sort};
 use std::alloc::Global;
 
 // The leftmost name that stands twice.

@@ -6,7 +6,7 @@ ghost use Rattle.shim_scopes.specs.Binding.{binding_of, exception_of, unknown, u
 use crate::scope::{Bound, Handled, Local};
 use crate::tree::UExpr;
 use shim_base::{Boxed, List, Name, NoMemory};
-use shim_names::word::is_same;
+use shim_syntax::word::is_same;
 use shim_syntax::{Expr, Sort};
 use std::alloc::Global;
 

@@ -1,10 +1,10 @@
 // A whole program.
 ghost use Rattle.std.specs.Prelude.{◌≡◌, length};
 ghost use Rattle.shim_scopes.specs.Functions.{main_of, bind_program};
-ghost use Rattle.shim_names.specs.ShortText.{HasText};
+ghost use Rattle.shim_syntax.specs.ShortText.{HasText};
 ghost use Rattle.shim_scopes.specs.Refusals.{Gives};
 ghost use Rattle.shim_scopes.specs.State.{IsNumber};
-ghost use Rattle.shim_names.specs.Sizes.{functions_size};
+ghost use Rattle.shim_syntax.specs.Sizes.{functions_size};
 
 use crate::call::find_function_at;
 use crate::check::refuse;
@@ -14,8 +14,7 @@ use crate::function::resolve_functions;
 use crate::resolved::{Resolved, keep};
 use crate::word::number;
 use shim_base::Name;
-use shim_names::{NameTable, add_functions};
-use shim_syntax::{Function, Program};
+use shim_syntax::{Function, NameTable, Program, add_functions};
 use std::alloc::Global;
 
 #[tactic(auto, using(crate::proofs::Numbers::found_within))]
@@ -31,7 +30,7 @@ fn find_main(alloc: Global, functions: &[Function]) -> Result<u32, ScopeFault>
 }
 
 // The resolved form of a program whose counts fit its numbers, be it of a text or not.
-#[tactic(auto, using(shim_names::proofs::OccurrenceSizes::names_few, shim_names::proofs::OccurrenceSizes::functions_counted))]
+#[tactic(auto, using(shim_syntax::proofs::OccurrenceSizes::names_few, shim_syntax::proofs::OccurrenceSizes::functions_counted))]
 pub fn form_of(alloc: Global, program: &Program) -> Result<Form, ScopeFault>
     requires { IsNumber (functions_size program.now.functions) }
     ensures { Gives result (bind_program program.now) }
@@ -52,7 +51,7 @@ pub fn form_of(alloc: Global, program: &Program) -> Result<Form, ScopeFault>
 /// textual order, each header before its statements. A statement's own names and expressions come
 /// before what stands in it, and are asked about in the order of `ScopeKind`, of one kind from the
 /// left. Want of memory may come in place of any answer.
-#[tactic(auto, using(shim_names::proofs::ByteSizes::size_is_bounded))]
+#[tactic(auto, using(shim_syntax::proofs::ByteSizes::size_is_bounded))]
 pub fn resolve(alloc: Global, program: &Program) -> Result<Resolved, ScopeFault>
     requires { HasText program.now }
     ensures { Gives result (bind_program program.now) }

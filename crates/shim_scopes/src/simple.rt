@@ -17,9 +17,8 @@ use crate::scope::{Bound, Handled, Local, Scope};
 use crate::tree::{RWhat, UExpr};
 use crate::word::number;
 use shim_base::{List, Name, NoMemory, Ty};
-use shim_names::NameTable;
-use shim_names::word::{copy, is_same};
-use shim_syntax::{Expr, Function, Sort};
+use shim_syntax::word::{copy, is_same};
+use shim_syntax::{Expr, Function, NameTable, Sort};
 use std::alloc::Global;
 
 // The name, where one of some declarations has it.

@@ -1,7 +1,7 @@
 // Statements and branches, each with what stands in it.
 ghost use Rattle.std.specs.Prelude.{◌≡◌, ◌≤◌, ◌++◌, length, OnOk};
 ghost use Rattle.shim_syntax.specs.declared.tree.What.TheVariants.{If, For, Try};
-ghost use Rattle.shim_names.specs.Sizes.{stmt_size, stmts_size, branch_size, branches_size};
+ghost use Rattle.shim_syntax.specs.Sizes.{stmt_size, stmts_size, branch_size, branches_size};
 ghost use Rattle.shim_scopes.specs.Statements.{bind_block, bind_first_test};
 ghost use Rattle.shim_scopes.specs.Meaning.{bind_stmt, bind_what, bind_branch, bind_stmts, bind_branches, declared_first};
 ghost use Rattle.shim_scopes.specs.Refusals.{Gives};
@@ -19,9 +19,8 @@ use crate::simple::{
 use crate::tree::{RBranch, RBranchWhat, RStmt, RWhat};
 use crate::word::number;
 use shim_base::{List, Name, NoMemory};
-use shim_names::NameTable;
-use shim_names::word::copy;
-use shim_syntax::{Branch, BranchWhat, Expr, Function, Sort, Stmt, What};
+use shim_syntax::word::copy;
+use shim_syntax::{Branch, BranchWhat, Expr, Function, NameTable, Sort, Stmt, What};
 use std::alloc::Global;
 
 // Puts what the first statement of a `for` declares into scope.

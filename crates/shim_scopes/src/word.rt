@@ -5,7 +5,7 @@ ghost use Rattle.shim_scopes.specs.Functions.{name_in};
 ghost use Rattle.shim_scopes.specs.State.{IsNumber};
 
 use shim_base::Name;
-use shim_names::word::is_same;
+use shim_syntax::word::is_same;
 
 // The name, where it stands among some.
 pub fn find_in<'a>(seen: &[Name], name: &'a Name) -> Option<&'a Name>

@@ -28,15 +28,15 @@ use Rattle.shim_scopes.specs.declared.tree.RBranchWhat.TheVariants.{Block as Bra
 use Rattle.shim_scopes.specs.declared.tree.RFunction.{RFunction}
 use Rattle.shim_scopes.specs.declared.form.Form.{Form as Resolved}
 use Rattle.shim_scopes.specs.Binding.{unknown, unknown_in, unknown_in_option, unknown_in_all, stream_in, stream_in_option, no_number, no_input, no_output, slot_of, placed_step, placed, placed_option, placed_all, exception_number, unhandled}
-use Rattle.shim_names.specs.Names.{Texts, number_of, with_functions, param_names}
+use Rattle.shim_syntax.specs.Names.{Texts, number_of, with_functions, param_names}
 use Rattle.shim_scopes.specs.Refusals.{Refusal, and_then, refused_for}
 use Rattle.shim_scopes.specs.Statements.{Whole, Around, Before, BoundTo, Bind, declared, within, opened, closed, caught, tried, bind_declare, bind_store, bind_next, bind_assign_next, bind_get, bind_put, bind_throw, bind_block, on_tree, bind_test, bind_if, bind_while, bind_try, bind_parts, bind_first_test, bind_for, Meant, visible, declared_in, unknown_in_both, unknown_of_two}
 use Rattle.shim_scopes.specs.Calls.{bind_call, bind_called, bind_known, function_of, unhandled_of_all, wrong_in_all, if_false}
 use Rattle.shim_scopes.specs.Meaning.{WhatMeans, StmtMeans, BranchMeans, BranchWhatMeans, bind_all, bind_fork, first_declares, branch_what_step, what_step, branch_step, stmt_step, meaning, bind_stmts, bind_branch}
 use Rattle.shim_scopes.specs.Functions.{name_in, twice_after, wrong_main, placed_param, made_function, bind_function, bind_functions, main_of, bind_program}
-use Rattle.shim_names.specs.Sizes as text
-use Rattle.shim_names.specs.Sizes.{sum_of}
-use Rattle.shim_names.proofs.SizeSteps as source
+use Rattle.shim_syntax.specs.Sizes as text
+use Rattle.shim_syntax.specs.Sizes.{sum_of}
+use Rattle.shim_syntax.proofs.SizeSteps as source
 use Rattle.shim_units.specs.Sizes.{Extent, plain, expr_size, option_size, call_size, branch_what_extent, what_extent, branch_extent, stmt_extent, extent, fork_extent, function_size, functions_size}
 use Rattle.shim_sharing.proofs.TextLocals as counted
 use Rattle.shim_sharing.proofs.TextLocals.{locals, stmt_locals, branch_locals, what_locals, branch_what_locals, IsNarrow, AreNarrow}

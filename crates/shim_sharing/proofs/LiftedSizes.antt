@@ -11,7 +11,7 @@ use Rattle.shim_scopes.specs.declared.tree.RStmt.{RStmt, RStmt-F, fold-roll-RStm
 use Rattle.shim_scopes.specs.declared.tree.RWhat.{RWhat, RWhat-F, fold-RWhat, fold-roll-RWhat, map-RWhat, roll-RWhat}
 use Rattle.shim_scopes.specs.declared.tree.RBranch.{RBranch, RBranch-F, fold-roll-RBranch, ind-RBranch, map-RBranch, roll-RBranch}
 use Rattle.shim_scopes.specs.declared.tree.RBranchWhat.{RBranchWhat, RBranchWhat-F, fold-RBranchWhat, fold-roll-RBranchWhat, map-RBranchWhat, roll-RBranchWhat}
-use Rattle.shim_names.specs.Sizes.{sum_of}
+use Rattle.shim_syntax.specs.Sizes.{sum_of}
 use Rattle.shim_units.specs.declared.unit.Unit.{Unit as UnitOf}
 use Rattle.shim_units.specs.declared.unit.UCall.{UCall}
 use Rattle.shim_units.specs.declared.unit.UStmt.{UStmt}

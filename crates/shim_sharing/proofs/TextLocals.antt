@@ -15,7 +15,7 @@ use Rattle.shim_syntax.specs.Terminals.{Terminal}
 use Rattle.shim_syntax.specs.Limits.{limits}
 use Rattle.shim_syntax.specs.Grammar as is
 use Rattle.shim_syntax.specs.Grammar.{Counts, IsExpr, IsChain, IsArguments, IsMoreArguments, IsDeclared, IsDeclarations, IsFirst, IsTest, IsStep, IsBlock, IsStmt, IsBody, IsPlain, IsBranches, IsBranch, IsParams, IsMoreParams, IsFunction, IsFunctions, Derives}
-use Rattle.shim_names.specs.Sizes.{sum_of}
+use Rattle.shim_syntax.specs.Sizes.{sum_of}
 
 -- how many declarations there are in a statement's text
 

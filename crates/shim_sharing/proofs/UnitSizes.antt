@@ -5,7 +5,7 @@ use Rattle.std.proofs.lemmas.Grind.{not_there}
 use Rattle.shim_scopes.specs.declared.tree.RFunction.{RFunction}
 use Rattle.shim_scopes.specs.declared.form.Form.{Form as Resolved}
 use Rattle.shim_scopes.specs.Resolving.{IsFormOfText}
-use Rattle.shim_names.proofs.ByteSizes.{size_is_bounded}
+use Rattle.shim_syntax.proofs.ByteSizes.{size_is_bounded}
 use Rattle.shim_sharing.specs.declared.fault.ShareFault.{ShareFault}
 use Rattle.shim_units.specs.declared.form.Form.{Form}
 use Rattle.shim_units.specs.declared.unit.Unit.{Unit as UnitOf}

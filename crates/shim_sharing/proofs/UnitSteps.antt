@@ -2,7 +2,7 @@
 use Rattle.std.proofs.Common.{ℕ, suc, ◌+◌, ◌≡◌, ◌∙◌, List, Option, map, ap}
 use Rattle.shim_base.specs.declared.types.Ty.{Ty}
 use Rattle.shim_scopes.specs.declared.tree.UExpr.{UExpr}
-use Rattle.shim_names.specs.Sizes.{sum_of}
+use Rattle.shim_syntax.specs.Sizes.{sum_of}
 use Rattle.shim_units.specs.declared.unit.UBranch.{UBranch}
 use Rattle.shim_units.specs.declared.unit.UCall.{UCall}
 use Rattle.shim_units.specs.declared.unit.UStmt.{UStmt, fold-roll-UStmt}

@@ -9,3 +9,10 @@ pub mod Simple
 pub mod Compound
 pub mod Statements
 pub mod Programs
+pub mod TableLemmas
+pub mod DistinctLemmas
+pub mod OccurrenceLemmas
+pub mod SizeSteps
+pub mod TextSizes
+pub mod ByteSizes
+pub mod OccurrenceSizes

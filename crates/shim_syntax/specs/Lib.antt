@@ -5,3 +5,9 @@ pub mod Grammar
 pub mod Text
 pub mod Printing
 pub mod Same
+pub mod Names
+pub mod Table
+pub mod Distinct
+pub mod Occurrences
+pub mod Sizes
+pub mod ShortText

@@ -1,6 +1,6 @@
 // From the bytes of a source to the answer.
 ghost use Rattle.std.specs.Prelude.{◌≡◌, ◌≤◌, length, IfOk, OnOk};
-ghost use Rattle.shim_names.specs.ShortText.{HasText};
+ghost use Rattle.shim_syntax.specs.ShortText.{HasText};
 ghost use Rattle.shim_sharing.specs.Accepting.{accepted};
 ghost use Rattle.shim_process.specs.Ops.{process_ops};
 ghost use Rattle.shim_tree.specs.Endings as endings;

@@ -1,6 +1,6 @@
 -- How large a program is, bound and as units: as in its text, each number, each operator, each statement and each name that is declared, called or used counts one, and so do the functions, the units, their parameters and the branches that are blocks.
 use Rattle.std.specs.Prelude.{ℕ, suc, ◌+◌, ◌<◌, ◌^◌, List, [], ◌∷◌, Option, Some, None, map, length}
-use Rattle.shim_names.specs.Sizes.{sum_of}
+use Rattle.shim_syntax.specs.Sizes.{sum_of}
 use Rattle.shim_scopes.specs.declared.tree.UExpr.{UExpr, fold-UExpr, UExpr-F}
 use Rattle.shim_scopes.specs.declared.tree.RCall.{RCall}
 use Rattle.shim_scopes.specs.declared.tree.RFunction.{RFunction}

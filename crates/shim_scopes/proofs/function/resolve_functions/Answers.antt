@@ -3,7 +3,7 @@ use Rattle.std.proofs.lemmas.Grind.{common_steps}
 use Rattle.shim_scopes.specs.Statements.{Whole}
 use Rattle.shim_scopes.specs.Functions.{bind_function, bind_functions}
 use Rattle.shim_scopes.specs.State.{whole, after_some}
-use Rattle.shim_names.specs.Sizes.{function_size}
+use Rattle.shim_syntax.specs.Sizes.{function_size}
 use Rattle.shim_syntax.specs.declared.tree.Function.{Function}
 use Rattle.shim_scopes.proofs.Joins.{one_bound}
 use Rattle.shim_scopes.proofs.Room.{size_of_one}

@@ -1,5 +1,5 @@
 use Rattle.std.proofs.Common.{◌≡◌, ◌++◌, drop}
-use Rattle.shim_names.specs.Names.{param_names}
+use Rattle.shim_syntax.specs.Names.{param_names}
 use Rattle.shim_scopes.proofs.header.copy_names.Given as goal
 
 abbrev pub invariant-loop-param : goal.invariant-loop-param

@@ -2,7 +2,7 @@ use Rattle.std.proofs.Common.{rules, arith, ap, sym, subst, ◌≡◌, ◌+◌, 
 use Rattle.std.proofs.lemmas.Grind.{common_steps}
 use Rattle.shim_syntax.specs.declared.tree.Stmt.{the_lemmas}
 use Rattle.shim_scopes.specs.declared.scope.Scope.{Scope}
-use Rattle.shim_names.specs.Sizes.{stmts_size}
+use Rattle.shim_syntax.specs.Sizes.{stmts_size}
 use Rattle.shim_scopes.specs.State.{whole, HasRoom}
 use Rattle.shim_scopes.proofs.Nested.{passed_on, kept_both, for_at_first, for_at_step, for_at_body, for_whole, try_refused, try_whole}
 use Rattle.shim_scopes.proofs.Loops.{body_goes_on, body_ends, fork_goes_on, fork_ends}

@@ -1,5 +1,0 @@
-use Rattle.shim_names.proofs.DistinctLemmas.{names_stand_once}
-use Rattle.shim_names.proofs.laws.names_stand_once.Goals as goal
-
-pub returns : goal.returns
-returns c = names_stand_once

@@ -1,0 +1,64 @@
+-- The identifiers of a program in the order of its text, each as often as it stands there.
+use Rattle.std.specs.Prelude.{List, [], ◌∷◌, ◌++◌, Option, Some, None, map}
+use Rattle.shim_syntax.specs.declared.tree.Expr.{Expr, fold-Expr, Expr-F}
+use Rattle.shim_syntax.specs.declared.tree.Call.{Call as CallOf}
+use Rattle.shim_syntax.specs.declared.tree.Function.{Function}
+use Rattle.shim_syntax.specs.declared.tree.Stmt.{Stmt, fold-Stmt}
+use Rattle.shim_syntax.specs.declared.tree.What.{What-F}
+use Rattle.shim_syntax.specs.declared.tree.BranchWhat.{BranchWhat-F}
+use Rattle.shim_syntax.specs.Names.{Texts, param_names}
+
+abbrev pub joined : List Texts → Texts
+joined [] = []
+joined (t ∷ ts) = t ++ joined ts
+
+abbrev pub expr_occurs : Expr-F Texts → Texts
+expr_occurs (Expr-F.Number n) = []
+expr_occurs (Expr-F.Var x) = x ∷ []
+expr_occurs (Expr-F.Unary op a) = a
+expr_occurs (Expr-F.Binary op a b) = a ++ b
+
+abbrev pub in_expr : Expr → Texts
+in_expr = fold-Expr Texts expr_occurs
+
+abbrev pub in_exprs : List Expr → Texts
+in_exprs [] = []
+in_exprs (e ∷ es) = in_expr e ++ in_exprs es
+
+abbrev pub in_option : Option Expr → Texts
+in_option None = []
+in_option (Some e) = in_expr e
+
+abbrev pub in_call : CallOf → Texts
+in_call c = c.function ∷ in_exprs c.args
+
+abbrev pub branch_occurs : BranchWhat-F Texts Texts Texts Texts → Texts
+branch_occurs (BranchWhat-F.BranchWhat::Block body) = joined body
+branch_occurs (BranchWhat-F.BranchWhat::Call c) = in_call c
+
+abbrev pub what_occurs : What-F Texts Texts Texts Texts → Texts
+what_occurs (What-F.Declare ty x e) = x ∷ in_option e
+what_occurs (What-F.Assign x e) = x ∷ in_expr e
+what_occurs (What-F.Next x) = x ∷ []
+what_occurs (What-F.NextAssign x e) = x ∷ in_expr e
+what_occurs (What-F.AssignNext x y) = x ∷ y ∷ []
+what_occurs (What-F.Get x y) = x ∷ y ∷ []
+what_occurs (What-F.Put x e) = x ∷ in_expr e
+what_occurs (What-F.If e first other) = in_expr e ++ (joined first ++ joined other)
+what_occurs (What-F.While e body) = in_expr e ++ joined body
+what_occurs (What-F.For first test step body) = joined first ++ (in_option test ++ (joined step ++ joined body))
+what_occurs (What-F.What::Block body) = joined body
+what_occurs (What-F.What::Call c) = in_call c
+what_occurs (What-F.Try body x handler) = joined body ++ x ∷ joined handler
+what_occurs (What-F.Throw x) = x ∷ []
+what_occurs (What-F.Par branches) = joined branches
+
+abbrev pub in_stmt : Stmt → Texts
+in_stmt = fold-Stmt Texts Texts Texts Texts branch_occurs what_occurs (λ b. b.what) (λ s. s.what)
+
+abbrev pub in_function : Function → Texts
+in_function f = f.name ∷ (param_names f.params ++ (f.throws ++ joined (map in_stmt f.body)))
+
+abbrev pub identifiers : List Function → Texts
+identifiers [] = []
+identifiers (f ∷ fs) = in_function f ++ identifiers fs
