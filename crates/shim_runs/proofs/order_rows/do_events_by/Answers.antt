@@ -13,5 +13,5 @@ pub do_event-requires-clause-enabled : goal.do_event-requires-clause-enabled
 do_event-requires-clause-enabled g c κs within =
     let event = c.index-as_slice-at.result in
     let there = among_at event_of c.in_ok-events.events c.place-at.result event (omega (arith, c.place-at.ensures, c.len-count.ensures))
-        (c.index-as_slice-at.is ∙ ap (λ xs. get_or xs c.place-at.result event) c.as_slice.ensures) in
+    (c.index-as_slice-at.is ∙ ap (λ xs. get_or xs c.place-at.result event) c.as_slice.ensures) in
     (c.in_ok-events.ensures.exactly (event_of event)).0 there

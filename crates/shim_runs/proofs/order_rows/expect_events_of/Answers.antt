@@ -7,4 +7,4 @@ pub events_after-requires-send-L : goal.events_after-requires-send-L
 events_after-requires-send-L g c κs = search (walk_send, sendable)
 
 pub events_after-requires-clause-own : goal.events_after-requires-clause-own
-events_after-requires-clause-own g c κs within = begins_with_its_own _ _ _ c.in_ok-root.ensures
+events_after-requires-clause-own g c κs = begins_with_its_own _ _ _ c.in_ok-root.ensures
