@@ -14,7 +14,7 @@ use crate::function::resolve_functions;
 use crate::resolved::{Resolved, keep};
 use crate::word::number;
 use shim_base::Name;
-use shim_syntax::{Function, NameTable, Program, add_functions};
+use shim_syntax::{Function, Program, names_of};
 use std::alloc::Global;
 
 #[tactic(auto, using(crate::proofs::Numbers::found_within))]
@@ -36,8 +36,7 @@ pub fn form_of(alloc: Global, program: &Program) -> Result<Form, ScopeFault>
     ensures { Gives result (bind_program program.now) }
 {
     let functions = program.functions.as_slice();
-    let mut names = NameTable::new(alloc);
-    add_functions(alloc, &mut names, functions)?;
+    let names = names_of(alloc, functions)?;
     let resolved = resolve_functions(alloc, functions, &names)?;
     let main = find_main(alloc, functions)?;
     Ok(Form {

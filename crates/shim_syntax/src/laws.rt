@@ -19,7 +19,8 @@ pub fn names_are_the_identifiers()
     ensures { (fs : List Function) → with_functions fs [] ≡ with_texts (identifiers fs) [] }
 {}
 
-/// A program that has a text is no larger than the text and its end.
+/// The size of a program that has a text of at most 1 MiB is at most the number of bytes that such a
+/// text may have, and one for its end. So its counts fit 32 bits.
 pub fn size_is_bounded()
     ensures { (p : Program) → HasText p → functions_size p.functions ≤ 1048577 }
 {}

@@ -11,7 +11,7 @@ mod tree;
 pub mod word;
 
 pub use limits::{MOST_NESTING, Many};
-pub use names::add_functions;
+pub use names::names_of;
 pub use printing::print;
 pub use table::NameTable;
 pub use tree::{Branch, BranchWhat, Call, Expr, Function, Param, Program, Sort, Stmt, What};

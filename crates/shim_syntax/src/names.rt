@@ -1,5 +1,5 @@
 // The list of a program's names.
-ghost use Rattle.std.specs.Prelude.{◌≡◌, OnOk};
+ghost use Rattle.std.specs.Prelude.{◌≡◌, [], IfOk, OnOk};
 ghost use Rattle.shim_syntax.specs.Names.{with_expr, with_exprs, with_option, with_call, with_stmt, with_stmts, with_branch, with_branches, with_texts, with_params, with_function, with_functions};
 
 use crate::table::NameTable;
@@ -204,8 +204,7 @@ fn add_function(alloc: Global, known: &mut NameTable, function: &Function) -> Re
     Ok(())
 }
 
-// The names of the functions, each in the order of its first occurrence.
-pub fn add_functions(
+fn add_functions(
     alloc: Global,
     known: &mut NameTable,
     functions: &[Function],
@@ -216,4 +215,13 @@ pub fn add_functions(
         add_function(alloc, known, function)?;
     }
     Ok(())
+}
+
+/// The names of the functions of a program, each once, in the order of its first occurrence.
+pub fn names_of(alloc: Global, functions: &[Function]) -> Result<NameTable, NoMemory>
+    ensures { IfOk result (λ names. names ≡ with_functions functions.now []) }
+{
+    let mut names = NameTable::new(alloc);
+    add_functions(alloc, &mut names, functions)?;
+    Ok(names)
 }

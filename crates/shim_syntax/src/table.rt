@@ -31,7 +31,7 @@ impl Model for NameTable {
 
 impl NameTable {
     // A table of no names, which takes no memory.
-    pub fn new(alloc: Global) -> NameTable
+    pub(crate) fn new(alloc: Global) -> NameTable
         ensures { result ≡ [] }
     {
         NameTable {
@@ -42,7 +42,7 @@ impl NameTable {
 
     // Puts a name behind the others, where it is new. A refusal leaves the table as it was.
     #[tactic(auto, using(crate::proofs::TableLemmas::known_stays, crate::proofs::TableLemmas::new_is_last))]
-    pub fn add(&mut self, alloc: Global, name: &Name) -> Result<(), NoMemory>
+    pub(crate) fn add(&mut self, alloc: Global, name: &Name) -> Result<(), NoMemory>
         ensures ok { OnOk result (self.new ≡ with_name name.now self.old) }
         ensures err { OnErr result (self.new ≡ self.old) }
     {
