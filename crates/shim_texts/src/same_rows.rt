@@ -1,5 +1,5 @@
 // Pairs of bodies of a function that have one tree, or two.
-use crate::expect::tree_of_body;
+use crate::expect::{read, tree_of_body};
 use std::alloc::Global;
 use std::process::Abort;
 use std::test::Fail;
@@ -83,6 +83,39 @@ fn two_texts_have_two_trees(rt: HostRuntime) -> Result<(), Fail> {
             ("f(x); par g(y);", "g(y); par f(x);"),
             ("f(x); par g(y);", "f(x); g(y);"),
             ("x = 1;\n", "\nx = 1;"),
+        ],
+    )
+}
+
+fn are_equal(rt: &impl Abort, alloc: Global, one: &str, other: &str) -> Result<bool, Fail> {
+    let one = read(rt, alloc, one)?;
+    let other = read(rt, alloc, other)?;
+    Ok(one == other)
+}
+
+// Expects of each of the other texts that its program isn't that of the first.
+fn expect_unequal(rt: &impl Abort, alloc: Global, one: &str, others: &[&str]) -> Result<(), Fail> {
+    for other in others {
+        assert!(rt; !are_equal(rt, alloc, one, other)?, "{other}");
+    }
+    Ok(())
+}
+
+#[test]
+fn programs_are_equal_with_their_lines(rt: HostRuntime) -> Result<(), Fail> {
+    let alloc = rt.alloc();
+    let one = "void f() { int a = 1; } void g() { }";
+    assert!(&rt; are_equal(&rt, alloc, one, "void f(){int32 a=0x1;}void g(){;}")?);
+    expect_unequal(
+        &rt,
+        alloc,
+        one,
+        &[
+            "",
+            "void f() { int a = 1; }",
+            "void g() { } void f() { int a = 1; }",
+            "void f() { int a = 2; } void g() { }",
+            "void f() { int a = 1; }\nvoid g() { }",
         ],
     )
 }
