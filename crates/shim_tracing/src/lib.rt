@@ -1,0 +1,10 @@
+//! What one process over syntax does, step by step, written down for the tests of it.
+#![tactic(auto)]
+
+mod source;
+/// The words of a trace.
+pub mod tell;
+mod trace;
+
+pub use source::{differing, differing_sources, start};
+pub use trace::{Fate, trace};
