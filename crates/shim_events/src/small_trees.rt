@@ -2,8 +2,8 @@
 // is read off it in the end.
 ghost use Rattle.std.specs.Prelude.{◌≡◌, ◌≤◌, ◌⊎◌, IfOk, OnOk};
 ghost use Rattle.shim_local.specs.Small.{small_ops};
-ghost use Rattle.shim_tree.specs.Sound.{SharesItsOwn};
-ghost use Rattle.shim_tree.specs.Trees.{steps, IsQuiescent};
+ghost use Rattle.shim_meaning.specs.Sound.{SharesItsOwn};
+ghost use Rattle.shim_meaning.specs.Trees.{steps, IsQuiescent};
 
 use shim_base::{Chan, List, NoMemory, Path, Trap, push_decimal};
 use shim_local::{Ended, History, Local, Log, LogWhat, Outcome, OwnSteps, Small, Step, WaitAt};

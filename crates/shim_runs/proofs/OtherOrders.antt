@@ -3,9 +3,9 @@ use Rattle.std.proofs.Common.{◌≡◌, ◌≢◌, ◌<◌, ℕ, zero, suc, Opt
 use Rattle.std.specs.Prelude.{length}
 use lib.ListN.{get_or}
 use Rattle.shim_local.specs.Process.{Ops}
-use Rattle.shim_tree.specs.Listing.{IsAmong, AreEnabled}
-use Rattle.shim_tree.specs.Trees.{Tree, Event, after, IsQuiescent}
-use Rattle.shim_tree.proofs.Options.{none_some}
+use Rattle.shim_meaning.specs.Listing.{IsAmong, AreEnabled}
+use Rattle.shim_meaning.specs.Trees.{Tree, Event, after, IsQuiescent}
+use Rattle.shim_meaning.proofs.Options.{none_some}
 
 -- what has a number in a list is among it
 pub among_at : {A B : Type 0} (f : A → B) (xs : List A) (i : ℕ) (x : A) → i < length xs → x ≡ get_or xs i x → IsAmong (f x) (map f xs)

@@ -1,7 +1,7 @@
 // The events that can happen in trees of whole programs, by name, and runs that do them in other orders.
 ghost use Rattle.std.specs.Prelude.{◌≡◌, ◌≤◌, ◌<◌, ◌⊎◌, OnOk};
-ghost use Rattle.shim_tree.specs.Sound.{SharesItsOwn};
-ghost use Rattle.shim_tree.specs.Trees.{steps, IsQuiescent};
+ghost use Rattle.shim_meaning.specs.Sound.{SharesItsOwn};
+ghost use Rattle.shim_meaning.specs.Trees.{steps, IsQuiescent};
 
 use crate::trees::{do_first_events, units_of, walk_of};
 use shim_base::{Chan, List, NoMemory, Path, Shared, push_decimal};

@@ -1,6 +1,6 @@
 // Trees of whole programs, with an input: the reports that they come to, and the events that can happen on the way.
 ghost use Rattle.std.specs.Prelude.{◌≤◌};
-ghost use Rattle.shim_tree.specs.Sound.{SharesItsOwn};
+ghost use Rattle.shim_meaning.specs.Sound.{SharesItsOwn};
 
 use crate::expect::FILTER;
 use crate::trees::{do_first_events, units_of, walk_of};

@@ -1,7 +1,7 @@
 // Trees of whole programs, each with an input, and the first events that happen to them.
 ghost use Rattle.std.specs.Prelude.{◌≡◌, ◌≤◌, ◌⊎◌, length, OnOk, IfOk};
 ghost use Rattle.shim_units.specs.Forks.{root};
-ghost use Rattle.shim_tree.specs.Trees.{steps, IsQuiescent};
+ghost use Rattle.shim_meaning.specs.Trees.{steps, IsQuiescent};
 
 use shim_base::{List, NoMemory, Shared};
 use shim_local::Local;

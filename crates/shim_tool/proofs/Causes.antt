@@ -7,10 +7,10 @@ use Rattle.shim_local.specs.declared.Outcome.{Outcome}
 use Rattle.shim_local.specs.declared.Outcome.TheVariants.{Done, Uncaught, Trapped, Blocked, Spent}
 use Rattle.shim_process.specs.Ops.{process_ops}
 use Rattle.shim_units.specs.LocalState.{LocalState}
-use Rattle.shim_tree.specs.Nodes.{Node, Live, Forked, Ended, Dead, has_ended, is_dead, goes}
-use Rattle.shim_tree.specs.Trees.{Tree, Event, steps, sum, IsQuiescent}
-use Rattle.shim_tree.specs.Walks.{walk, first, head}
-use Rattle.shim_tree.specs.Endings.{ended, own_steps, is_empty, outcome, outcome_of_root}
+use Rattle.shim_meaning.specs.Nodes.{Node, Live, Forked, Ended, Dead, has_ended, is_dead, goes}
+use Rattle.shim_meaning.specs.Trees.{Tree, Event, steps, sum, IsQuiescent}
+use Rattle.shim_meaning.specs.Walks.{walk, first, head}
+use Rattle.shim_meaning.specs.Endings.{ended, own_steps, is_empty, outcome, outcome_of_root}
 use Rattle.shim_tool.specs.Naming.{named, named_outcome}
 use Rattle.shim_tool.specs.Source.{Source}
 use Rattle.shim_tool.specs.Meaning.{budget, tree_of, end_of, status_of, status_of_outcome, printed_steps, IsDone, IsFailed, IsBlocked, IsSpent, WasRun}

@@ -8,8 +8,8 @@ use Rattle.shim_tool.specs.Source.{Source}
 use Rattle.shim_units.specs.Forks.{root}
 use Rattle.shim_units.specs.LocalState.{LocalState}
 use Rattle.shim_process.specs.Ops.{process_ops}
-use Rattle.shim_tree.specs.Trees.{start}
-use Rattle.shim_tree.specs.Walks.{meaning}
+use Rattle.shim_meaning.specs.Trees.{start}
+use Rattle.shim_meaning.specs.Walks.{meaning}
 use Rattle.shim_tool.specs.Meaning.{budget, tree_of, end_of, status_of_outcome, IsEndOfRun, WasRun}
 use Rattle.shim_tool.specs.Answer.{Answer, AnswersUnits, AnswersProgram, AnswersSource, text_of}
 

@@ -3,10 +3,10 @@ use Rattle.std.proofs.Common.{◌≡◌, ℕ, zero, suc, ◌+◌, ◌≤◌, Opt
 use Rattle.shim_local.specs.Process.{Ops}
 use Rattle.shim_units.specs.Forks.{root}
 use Rattle.shim_process.specs.Ops.{process_ops}
-use Rattle.shim_tree.specs.Systems.{run, go_on}
-use Rattle.shim_tree.specs.Trees.{Tree, Event, after, start, steps}
-use Rattle.shim_tree.specs.Walks.{first, after_first, or_stay, meaning}
-use Rattle.shim_tree.proofs.Counting.{event_counts, none_counted}
+use Rattle.shim_meaning.specs.Systems.{run, go_on}
+use Rattle.shim_meaning.specs.Trees.{Tree, Event, after, start, steps}
+use Rattle.shim_meaning.specs.Walks.{first, after_first, or_stay, meaning}
+use Rattle.shim_meaning.proofs.Counting.{event_counts, none_counted}
 use Rattle.shim_tool.specs.Source.{Source}
 use Rattle.shim_tool.specs.Meaning.{budget, tree_of, status_of, IsReachedIn, WasRun}
 use Rattle.shim_tool.proofs.Causes.{spent_steps}

@@ -8,11 +8,11 @@ use Rattle.shim_units.specs.Forks.{root}
 use Rattle.shim_units.specs.LocalState.{LocalState}
 use Rattle.shim_process.specs.Ops.{process_ops}
 use Rattle.shim_report.specs.Report.{report}
-use Rattle.shim_tree.specs.Nodes.{has_ended, is_dead, goes}
-use Rattle.shim_tree.specs.Systems.{run}
-use Rattle.shim_tree.specs.Trees.{Tree, Event, after, start, steps, sum, IsQuiescent}
-use Rattle.shim_tree.specs.Walks.{first, meaning}
-use Rattle.shim_tree.specs.Endings.{ended}
+use Rattle.shim_meaning.specs.Nodes.{has_ended, is_dead, goes}
+use Rattle.shim_meaning.specs.Systems.{run}
+use Rattle.shim_meaning.specs.Trees.{Tree, Event, after, start, steps, sum, IsQuiescent}
+use Rattle.shim_meaning.specs.Walks.{first, meaning}
+use Rattle.shim_meaning.specs.Endings.{ended}
 use Rattle.shim_tool.specs.Naming.{named}
 use Rattle.shim_tool.specs.Source.{Source}
 

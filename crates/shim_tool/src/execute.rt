@@ -3,7 +3,7 @@ ghost use Rattle.std.specs.Prelude.{◌≡◌, ◌≤◌, length, IfOk, OnOk};
 ghost use Rattle.shim_syntax.specs.ShortText.{HasText};
 ghost use Rattle.shim_sharing.specs.Accepting.{accepted};
 ghost use Rattle.shim_process.specs.Ops.{process_ops};
-ghost use Rattle.shim_tree.specs.Endings as endings;
+ghost use Rattle.shim_meaning.specs.Endings as endings;
 ghost use Rattle.shim_tool.specs.Answer.{AnswersUnits, AnswersProgram, AnswersSource, text_of};
 ghost use Rattle.shim_tool.specs.Meaning as meanings;
 ghost use Rattle.shim_tool.specs.Source.{IsMeant, checked, shared};

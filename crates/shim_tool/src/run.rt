@@ -1,9 +1,9 @@
 // The run that always does the first event.
 ghost use Rattle.std.specs.Prelude.{◌≡◌, ◌≤◌, ◌⊎◌, OnOk, IfOk};
-ghost use Rattle.shim_tree.specs.Trees.{start, steps, IsQuiescent};
-ghost use Rattle.shim_tree.specs.Walks.{meaning};
-ghost use Rattle.shim_tree.specs.Endings.{ended};
-ghost use Rattle.shim_tree.specs.Sound.{SharesItsOwn};
+ghost use Rattle.shim_meaning.specs.Trees.{start, steps, IsQuiescent};
+ghost use Rattle.shim_meaning.specs.Walks.{meaning};
+ghost use Rattle.shim_meaning.specs.Endings.{ended};
+ghost use Rattle.shim_meaning.specs.Sound.{SharesItsOwn};
 ghost use Rattle.shim_tool.specs.Meaning.{IsEndOfRun};
 
 use shim_base::NoMemory;

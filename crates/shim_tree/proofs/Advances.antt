@@ -6,15 +6,15 @@ use Rattle.std.specs.FinMap.{FinMap}
 use Rattle.shim_base.specs.Paths.{Path, path_order, same_path}
 use Rattle.shim_local.specs.Process.{Ops, AtQuiet}
 use Rattle.shim_local.specs.Laws.{LocalLaws, QuietSteps, none_taken, one_more, by_quiet}
-use Rattle.shim_tree.specs.Nodes.{Node, Nodes, Live, Forked, Ended, Dead, no_node, node_and, state}
-use Rattle.shim_tree.specs.Acts.{Acted, nothing, act, act_child, act_live, within, in_front, behind}
-use Rattle.shim_tree.specs.Places.{at, child_at, route, at_route, SoundBelow, SoundChildren}
-use Rattle.shim_tree.specs.Trees.{Tree, Own, Steps, after, acts, own, is_its, act_route, same_kind, kind_of_stop}
-use Rattle.shim_tree.specs.Systems.{run, go_on}
-use Rattle.shim_tree.specs.Quiets.{ComesBy, Advances}
+use Rattle.shim_meaning.specs.Nodes.{Node, Nodes, Live, Forked, Ended, Dead, no_node, node_and, state}
+use Rattle.shim_meaning.specs.Acts.{Acted, nothing, act, act_child, act_live, within, in_front, behind}
+use Rattle.shim_meaning.specs.Places.{at, child_at, route, at_route, SoundBelow, SoundChildren}
+use Rattle.shim_meaning.specs.Trees.{Tree, Own, Steps, after, acts, own, is_its, act_route, same_kind, kind_of_stop}
+use Rattle.shim_meaning.specs.Systems.{run, go_on}
+use Rattle.shim_meaning.specs.Quiets.{ComesBy, Advances}
 use Rattle.shim_tree.specs.Advancing.{with_state, with_state_at, with_state_in, steps_taken}
-use Rattle.shim_tree.proofs.Options.{some_same, none_some}
-use Rattle.shim_tree.proofs.Sameness.{same_path_refl}
+use Rattle.shim_meaning.proofs.Options.{some_same, none_some}
+use Rattle.shim_meaning.proofs.Sameness.{same_path_refl}
 
 -- the tree with this node as its root and these counts, in which all else is as in t
 abbrev pub moved_on : {S : Type 0} → Tree S → Node S → FinMap path_order ℕ → Tree S

@@ -5,12 +5,12 @@ use Rattle.std.specs.FinMap.{FinMap, values}
 use Rattle.shim_base.specs.Paths.{Path, path_order}
 use Rattle.shim_local.specs.Process.{Ops}
 use Rattle.shim_local.specs.Laws.{LocalLaws}
-use Rattle.shim_tree.specs.Nodes.{Node, state}
-use Rattle.shim_tree.specs.Places.{route}
-use Rattle.shim_tree.specs.Trees.{Tree, Own, steps, sum, count_of}
-use Rattle.shim_tree.specs.Quiets.{ComesBy, Advances}
-use Rattle.shim_tree.specs.Laws.{RunsStaySound}
-use Rattle.shim_tree.specs.Sound.{IsSound}
+use Rattle.shim_meaning.specs.Nodes.{Node, state}
+use Rattle.shim_meaning.specs.Places.{route}
+use Rattle.shim_meaning.specs.Trees.{Tree, Own, steps, sum, count_of}
+use Rattle.shim_meaning.specs.Quiets.{ComesBy, Advances}
+use Rattle.shim_meaning.specs.Laws.{RunsStaySound}
+use Rattle.shim_meaning.specs.Sound.{IsSound}
 use Rattle.shim_tree.specs.Advancing.{stepped, HasPlace, AllHavePlaces, more_steps, steps_taken, with_state_at}
 use Rattle.shim_tree.proofs.Counted.{few_steps, more_stay, steps_more}
 use Rattle.shim_tree.proofs.Placed.{comes_placed, advanced_placed}

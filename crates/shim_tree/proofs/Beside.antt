@@ -2,8 +2,8 @@
 use Rattle.std.proofs.Common.{◌≡◌, ℕ, zero, suc, ◌+◌, ◌<◌, ◌≤◌, List, [], ◌∷◌, length, vec_len, drop, get_or, refl, sym, ap, ◌∙◌, arith}
 use Rattle.std.specs.declared.vec.Vec.{Vec}
 use Rattle.std.specs.declared.alloc.Global.{Global}
-use Rattle.shim_tree.specs.Nodes as model
-use Rattle.shim_tree.specs.Nodes.{state}
+use Rattle.shim_meaning.specs.Nodes as model
+use Rattle.shim_meaning.specs.Nodes.{state}
 use Rattle.shim_tree.specs.Below.{node, nodes, node_step, together}
 use Rattle.shim_tree.specs.Beside.{place}
 use Rattle.shim_tree.specs.declared.below.Below.{Below}

@@ -5,23 +5,23 @@ use Rattle.std.specs.FinMap.{FinMap}
 use Rattle.shim_base.specs.Paths.{Path, Channel, path_order}
 use Rattle.shim_local.specs.Process.{Ops, StopView, Parting, AtQuiet, AtNext, AtPut, AtFork, AtFinish, AtThrow, AtTrap, Parted, Stuck}
 use Rattle.shim_local.specs.Laws.{LocalLaws, AllOf}
-use Rattle.shim_tree.specs.Nodes.{Node, Nodes, Live, Forked, Ended, Dead, no_node, node_and, state, states, everyone, everyone_of, all_live, all_done, least_label, received, all_received}
-use Rattle.shim_tree.specs.Acts.{Acted, nothing, catching, act_here, act_live, parted, thrown, closed}
-use Rattle.shim_tree.specs.Poison.{poison_route}
-use Rattle.shim_tree.specs.Places.{at, child_at, route, at_route, led_to, has_path, SoundBelow, SoundChildren}
-use Rattle.shim_tree.specs.Trees.{act_route, poisons}
+use Rattle.shim_meaning.specs.Nodes.{Node, Nodes, Live, Forked, Ended, Dead, no_node, node_and, state, states, everyone, everyone_of, all_live, all_done, least_label, received, all_received}
+use Rattle.shim_meaning.specs.Acts.{Acted, nothing, catching, act_here, act_live, parted, thrown, closed}
+use Rattle.shim_meaning.specs.Poison.{poison_route}
+use Rattle.shim_meaning.specs.Places.{at, child_at, route, at_route, led_to, has_path, SoundBelow, SoundChildren}
+use Rattle.shim_meaning.specs.Trees.{act_route, poisons}
 use Rattle.shim_tree.specs.Acting.{acted_on}
 use Rattle.shim_tree.specs.Advancing.{HasPlace, AllHavePlaces}
 use Rattle.shim_tree.specs.Births.{live_in, children_of, born_by, BirthsPlaced}
-use Rattle.shim_tree.proofs.Options.{some_same, none_some, cond_some}
-use Rattle.shim_tree.proofs.Choices.{chosen}
-use Rattle.shim_tree.proofs.Sameness.{same_path_is}
-use Rattle.shim_tree.proofs.Spots.{put, put_child, acts_there}
+use Rattle.shim_meaning.proofs.Options.{some_same, none_some, cond_some}
+use Rattle.shim_meaning.proofs.Choices.{chosen}
+use Rattle.shim_meaning.proofs.Sameness.{same_path_is}
+use Rattle.shim_meaning.proofs.Spots.{put, put_child, acts_there}
 use Rattle.shim_tree.proofs.Placed.{all_left, all_right, all_both}
-use Rattle.shim_tree.proofs.Replaced.{sound_at}
-use Rattle.shim_tree.proofs.MeetStays.{meeting_stays}
-use Rattle.shim_tree.proofs.PoisonStays.{route_alike}
-use Rattle.shim_tree.proofs.SoundEvents.{here_keeps}
+use Rattle.shim_meaning.proofs.Replaced.{sound_at}
+use Rattle.shim_meaning.proofs.MeetStays.{meeting_stays}
+use Rattle.shim_meaning.proofs.PoisonStays.{route_alike}
+use Rattle.shim_meaning.proofs.SoundEvents.{here_keeps}
 
 -- those of whom all live
 everyone_live : {S : Type 0} (ks : List S) → everyone_of (all_live ks) ≡ ks

@@ -3,17 +3,17 @@ use Rattle.std.proofs.Common.{◌≡◌, ℕ, zero, suc, ◌+◌, ◌<◌, ◌�
 use Rattle.std.specs.declared.vec.Vec.{Vec}
 use Rattle.std.specs.declared.alloc.Global.{Global}
 use Rattle.shim_local.specs.Process.{Ops, AtFork, Parted}
-use Rattle.shim_tree.specs.Nodes as model
-use Rattle.shim_tree.specs.Nodes.{state, states, all_done, least_label}
-use Rattle.shim_tree.specs.Acts.{Said, Acted, nothing, act, act_child, act_here, act_live, parted, closed, within, in_front, behind}
-use Rattle.shim_tree.specs.Places.{SoundBelow, SoundChildren}
+use Rattle.shim_meaning.specs.Nodes as model
+use Rattle.shim_meaning.specs.Nodes.{state, states, all_done, least_label}
+use Rattle.shim_meaning.specs.Acts.{Said, Acted, nothing, act, act_child, act_here, act_live, parted, closed, within, in_front, behind}
+use Rattle.shim_meaning.specs.Places.{SoundBelow, SoundChildren}
 use Rattle.shim_tree.specs.declared.below.Below.{Below}
 use Rattle.shim_tree.specs.declared.below.Below.TheVariants as code
 use Rattle.shim_tree.specs.declared.below.Below.TheOpen as open_below
 use Rattle.shim_tree.specs.declared.below.Below.TheFolds.{fold-roll-Below, fold_out-Below, fold-Below}
 use Rattle.shim_tree.specs.Below.{node, nodes, node_step, together}
 use Rattle.shim_tree.specs.Acting.{SoundAmong}
-use Rattle.shim_tree.proofs.Options.{cond_there}
+use Rattle.shim_meaning.proofs.Options.{cond_there}
 
 pub node_live : {S : Type 0} (l : S) → node l code.Live ≡ model.Live l
 node_live {S} l = ap (node l) (sym code.rolls-Live) ∙ ap (λ f. f l) (fold-roll-Below S (S → model.Node S) node_step open_below.Live)

@@ -10,11 +10,11 @@ use Rattle.std.specs.FinMap.Entries.{below_all}
 use Rattle.std.proofs.lemmas.Bool.{true≢false}
 use Rattle.shim_base.specs.Paths.{Path, path_order}
 use Rattle.shim_base.specs.PathLaws.{path_order_total, exact_path}
-use Rattle.shim_tree.specs.Trees.{sum, count_of, one_more}
+use Rattle.shim_meaning.specs.Trees.{sum, count_of, one_more}
 use Rattle.shim_tree.specs.Maps.{has_stepped}
-use Rattle.shim_tree.specs.Endings.{own_steps}
+use Rattle.shim_meaning.specs.Endings.{own_steps}
 use Rattle.shim_tree.specs.Advancing.{stepped, HasPlace, KeepsPlaces, with_place, more_steps, steps_taken}
-use Rattle.shim_tree.proofs.InOrder.{first_holds, second_holds, no_entries, none_below, entries_from, sorted_filtered}
+use Rattle.shim_meaning.proofs.InOrder.{first_holds, second_holds, no_entries, none_below, entries_from, sorted_filtered}
 use Rattle.shim_tree.proofs.Mapped.{tied, count_below}
 
 -- a count of 0 is left out, and each other one stays

@@ -4,8 +4,8 @@ use Rattle.std.specs.declared.vec.Vec.{Vec}
 use Rattle.std.specs.declared.alloc.Global.{Global}
 use Rattle.shim_base.specs.Paths.{Channel}
 use Rattle.shim_local.specs.Process.{Ops}
-use Rattle.shim_tree.specs.Nodes.{Nodes, no_node, node_and}
-use Rattle.shim_tree.specs.Poison.{dooms, any_dooms, is_doomed}
+use Rattle.shim_meaning.specs.Nodes.{Nodes, no_node, node_and}
+use Rattle.shim_meaning.specs.Poison.{dooms, any_dooms, is_doomed}
 use Rattle.shim_tree.specs.Below.{node, nodes}
 use Rattle.shim_tree.specs.Beside.{place}
 use Rattle.shim_tree.specs.declared.below.Below.{Below}

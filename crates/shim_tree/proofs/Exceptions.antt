@@ -3,10 +3,10 @@ use Rattle.std.proofs.Common.{◌≡◌, ℕ, ◌<◌, Bool, true, false, not, O
 use Rattle.shim_base.specs.declared.operators.Trap.{Trap}
 use Rattle.shim_local.specs.Process.{Ops, AtThrow, AtTrap, AtPut}
 use Rattle.shim_local.specs.Laws.{LocalLaws}
-use Rattle.shim_tree.specs.Nodes as model
-use Rattle.shim_tree.specs.Nodes.{states, least_label}
-use Rattle.shim_tree.specs.Acts.{Said, Acted, nothing, putting, trapping, thrown, closed, act_here, act_live}
-use Rattle.shim_tree.specs.Places.{SoundBelow}
+use Rattle.shim_meaning.specs.Nodes as model
+use Rattle.shim_meaning.specs.Nodes.{states, least_label}
+use Rattle.shim_meaning.specs.Acts.{Said, Acted, nothing, putting, trapping, thrown, closed, act_here, act_live}
+use Rattle.shim_meaning.specs.Places.{SoundBelow}
 use Rattle.shim_tree.specs.declared.below.Below.{Below}
 use Rattle.shim_tree.specs.declared.below.Below.TheVariants as code
 use Rattle.shim_tree.specs.declared.below.Below.TheOpen as open_below

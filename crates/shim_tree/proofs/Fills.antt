@@ -2,7 +2,7 @@
 use Rattle.std.proofs.Common.{◌≡◌, ℕ, zero, suc, ◌+◌, ◌<◌, ◌≤◌, Bool, true, false, ◌&&◌, List, [], ◌∷◌, ◌++◌, length, get_or, slice_set, vec_len, Result, Ok, Err, OnErr, refl, sym, ap, ◌∙◌, arith}
 use Rattle.std.specs.declared.vec.Vec.{Vec}
 use Rattle.std.specs.declared.alloc.Global.{Global}
-use Rattle.shim_tree.specs.Nodes as model
+use Rattle.shim_meaning.specs.Nodes as model
 use Rattle.shim_tree.specs.Below.{node, nodes, together}
 use Rattle.shim_tree.specs.Filled.{said_of_all, filled_step, is_filled, filled, are_filled}
 use Rattle.shim_tree.specs.declared.below.Below.{Below}
@@ -10,7 +10,7 @@ use Rattle.shim_tree.specs.declared.below.Below.TheVariants as code
 use Rattle.shim_tree.specs.declared.below.Below.TheOpen as open_below
 use Rattle.shim_tree.specs.declared.below.Below.TheFolds.{fold-roll-Below}
 use Rattle.shim_tree.proofs.Children.{node_forked, at_forked}
-use Rattle.shim_tree.proofs.Choices.{first_holds, second_holds, both_hold}
+use Rattle.shim_meaning.proofs.Choices.{first_holds, second_holds, both_hold}
 
 pub forked_filled : {S : Type 0} (ls : Vec S Global) (bs : Vec (Below S) Global) → is_filled (code.Forked ls bs) ≡ said_of_all ls.items (filled bs.items)
 forked_filled {S} ls bs = ap is_filled (sym (code.rolls-Forked ls bs)) ∙ fold-roll-Below S Bool filled_step (open_below.Forked ls bs)

@@ -7,9 +7,9 @@ use Rattle.shim_base.specs.Paths.{Path, NamedChannel, path_order}
 use Rattle.shim_base.specs.PathLaws.{path_order_total, exact_path}
 use Rattle.shim_local.specs.Process.{Ops}
 use Rattle.shim_local.specs.declared.Outcome.TheVariants.{Blocked}
-use Rattle.shim_tree.specs.Nodes as model
-use Rattle.shim_tree.specs.Nodes.{next_of}
-use Rattle.shim_tree.specs.Endings.{wait_of, wait_at, waits_of, waiting, all_waiting, outcome_of_root}
+use Rattle.shim_meaning.specs.Nodes as model
+use Rattle.shim_meaning.specs.Nodes.{next_of}
+use Rattle.shim_meaning.specs.Endings.{wait_of, wait_at, waits_of, waiting, all_waiting, outcome_of_root}
 use Rattle.shim_tree.specs.Below.{together, node, nodes, node_step}
 use Rattle.shim_tree.specs.Readings.{with_wait, with_waits, outcome_of_label}
 use Rattle.shim_tree.specs.declared.below.Below.{Below}

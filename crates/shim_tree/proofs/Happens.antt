@@ -8,21 +8,21 @@ use Rattle.shim_local.specs.Process.{Ops}
 use Rattle.shim_local.specs.Laws.{LocalLaws}
 use Rattle.shim_local.specs.declared.Log.{Log}
 use Rattle.shim_local.specs.declared.LogWhat.{LogWhat}
-use Rattle.shim_tree.specs.Nodes.{Node, Live, state}
-use Rattle.shim_tree.specs.Acts.{nothing}
-use Rattle.shim_tree.specs.Places.{route, led_to, has_path}
-use Rattle.shim_tree.specs.Trees.{Tree, start, with_logs, own, acts, Kind, is_its, act_route, count_of, sum}
+use Rattle.shim_meaning.specs.Nodes.{Node, Live, state}
+use Rattle.shim_meaning.specs.Acts.{nothing}
+use Rattle.shim_meaning.specs.Places.{route, led_to, has_path}
+use Rattle.shim_meaning.specs.Trees.{Tree, start, with_logs, own, acts, Kind, is_its, act_route, count_of, sum}
 use Rattle.shim_tree.specs.Acting.{said_of, acted_on, ActsOn}
 use Rattle.shim_tree.specs.Advancing.{stepped, HasPlace, AllHavePlaces, KeepsPlaces, with_place, more_steps}
-use Rattle.shim_tree.specs.Sound.{IsSound}
+use Rattle.shim_meaning.specs.Sound.{IsSound}
 use Rattle.shim_tree.specs.Telling.{with_each, logged, Tells}
 use Rattle.shim_tree.specs.declared.told.Told.{Told}
 use Rattle.shim_tree.specs.declared.told.Told.TheVariants as told
-use Rattle.shim_tree.proofs.Choices.{first_holds}
-use Rattle.shim_tree.proofs.Options.{cond_there}
+use Rattle.shim_meaning.proofs.Choices.{first_holds}
+use Rattle.shim_meaning.proofs.Options.{cond_there}
 use Rattle.shim_tree.proofs.Counted.{few_steps, placed, steps_placed, none_stepped, more_stay, steps_more}
 use Rattle.shim_tree.proofs.Placed.{still_placed}
-use Rattle.shim_tree.proofs.SoundEvents.{route_sound}
+use Rattle.shim_meaning.proofs.SoundEvents.{route_sound}
 
 -- nothing is left behind the end
 drop_past : {A : Type 0} (xs : List A) (i : ℕ) → length xs ≤ i → drop i xs ≡ []

@@ -3,14 +3,14 @@ use Rattle.std.proofs.Common.{◌≡◌, ℕ, zero, suc, ◌+◌, ◌<◌, ◌�
 use Rattle.std.proofs.Math.Nat.{min-le_left}
 use Rattle.shim_local.specs.Process.{Ops}
 use Rattle.shim_local.specs.Laws.{AllOf}
-use Rattle.shim_tree.specs.Nodes.{Node, Nodes, Live, Forked, Ended, Dead, no_node, node_and, state, states, lesser, least_label}
-use Rattle.shim_tree.specs.Places.{SoundBelow, SoundChildren}
+use Rattle.shim_meaning.specs.Nodes.{Node, Nodes, Live, Forked, Ended, Dead, no_node, node_and, state, states, lesser, least_label}
+use Rattle.shim_meaning.specs.Places.{SoundBelow, SoundChildren}
 use Rattle.shim_tree.specs.Below.{nodes}
 use Rattle.shim_tree.specs.Beside.{place}
 use Rattle.shim_tree.specs.Labels.{label_of, least_of}
 use Rattle.shim_tree.specs.declared.below.Below.{Below}
 use Rattle.shim_tree.proofs.Beside.{from, from_next, from_end}
-use Rattle.shim_tree.proofs.Options.{some_same, none_some}
+use Rattle.shim_meaning.proofs.Options.{some_same, none_some}
 
 -- ---- the least of the labels
 

@@ -6,15 +6,15 @@ use Rattle.std.specs.declared.vec.Vec.{Vec}
 use Rattle.std.specs.declared.alloc.Global.{Global}
 use Rattle.shim_base.specs.Paths.{Path}
 use Rattle.shim_local.specs.Process.{Ops}
-use Rattle.shim_tree.specs.Nodes.{Node, Live}
-use Rattle.shim_tree.specs.Places.{at, child_at, branches, route, at_route}
-use Rattle.shim_tree.specs.Trees.{act_route}
+use Rattle.shim_meaning.specs.Nodes.{Node, Live}
+use Rattle.shim_meaning.specs.Places.{at, child_at, branches, route, at_route}
+use Rattle.shim_meaning.specs.Trees.{act_route}
 use Rattle.shim_tree.specs.Below.{node, nodes, together}
 use Rattle.shim_tree.specs.Beside.{place}
 use Rattle.shim_tree.specs.Births.{live_in}
 use Rattle.shim_tree.specs.declared.below.Below.{Below}
 use Rattle.shim_tree.specs.declared.below.Below.TheVariants as code
-use Rattle.shim_tree.proofs.Leading.{route_rest}
+use Rattle.shim_meaning.proofs.Leading.{route_rest}
 use Rattle.shim_tree.proofs.Beside.{is_forked, place_in, place_past, inside, outside}
 
 -- the child in a place, by the branches that begin there

@@ -4,12 +4,12 @@ use Rattle.std.specs.FinMap.{FinMap}
 use Rattle.shim_base.specs.Paths.{Path, path_order}
 use Rattle.shim_local.specs.Process.{Ops}
 use Rattle.shim_local.specs.Laws.{AllOf}
-use Rattle.shim_tree.specs.Nodes.{Node, Nodes, Live, Forked, Ended, Dead, no_node, node_and, everyone, everyone_of, state}
-use Rattle.shim_tree.specs.Places.{at, child_at, route}
-use Rattle.shim_tree.specs.Trees.{Tree}
-use Rattle.shim_tree.specs.Quiets.{ComesBy}
+use Rattle.shim_meaning.specs.Nodes.{Node, Nodes, Live, Forked, Ended, Dead, no_node, node_and, everyone, everyone_of, state}
+use Rattle.shim_meaning.specs.Places.{at, child_at, route}
+use Rattle.shim_meaning.specs.Trees.{Tree}
+use Rattle.shim_meaning.specs.Quiets.{ComesBy}
 use Rattle.shim_tree.specs.Advancing.{HasPlace, AllHavePlaces, KeepsPlaces, with_place, stepped, with_state, with_state_at, with_state_in}
-use Rattle.shim_tree.proofs.Options.{some_same, none_some}
+use Rattle.shim_meaning.proofs.Options.{some_same, none_some}
 use Rattle.shim_tree.proofs.Advances.{stands_by}
 use Rattle.shim_tree.proofs.Counted.{placed, places_stay, steps_placed}
 

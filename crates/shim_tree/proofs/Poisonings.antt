@@ -4,18 +4,18 @@ use Rattle.std.specs.declared.vec.Vec.{Vec}
 use Rattle.std.specs.declared.alloc.Global.{Global}
 use Rattle.shim_base.specs.Paths.{Path, Channel, same_pair}
 use Rattle.shim_local.specs.Process.{Ops}
-use Rattle.shim_tree.specs.Nodes as model
-use Rattle.shim_tree.specs.Nodes.{state}
-use Rattle.shim_tree.specs.Poison.{dooms, any_dooms, is_doomed, is_ready_child, poisoned, all_poisoned, one_poisoned, can_poison, poison_here, above, before_rest, after_one, poison_route}
+use Rattle.shim_meaning.specs.Nodes as model
+use Rattle.shim_meaning.specs.Nodes.{state}
+use Rattle.shim_meaning.specs.Poison.{dooms, any_dooms, is_doomed, is_ready_child, poisoned, all_poisoned, one_poisoned, can_poison, poison_here, above, before_rest, after_one, poison_route}
 use Rattle.shim_tree.specs.Poisoning.{poison_by, poison_among}
-use Rattle.shim_tree.specs.Places.{behind_front, branches, branches_of, route, led_to, has_path}
-use Rattle.shim_tree.specs.Trees.{poisons}
+use Rattle.shim_meaning.specs.Places.{behind_front, branches, branches_of, route, led_to, has_path}
+use Rattle.shim_meaning.specs.Trees.{poisons}
 use Rattle.shim_tree.specs.Below.{node, nodes, together}
 use Rattle.shim_tree.specs.declared.below.Below.{Below}
 use Rattle.shim_tree.specs.declared.below.Below.TheVariants as code
 use Rattle.shim_tree.proofs.Children.{node_forked, at_forked}
-use Rattle.shim_tree.proofs.Choices.{first_holds, second_holds, either_holds}
-use Rattle.shim_tree.proofs.Options.{some_same, cond_there}
+use Rattle.shim_meaning.proofs.Choices.{first_holds, second_holds, either_holds}
+use Rattle.shim_meaning.proofs.Options.{some_same, cond_there}
 
 -- the children from a place on are poisoned
 abbrev pub poisoned_from : {S : Type 0} → Ops S → Channel → ℕ → ℕ → model.Nodes S → model.Nodes S

@@ -7,7 +7,7 @@ use Rattle.shim_base.specs.Paths.{Channel, NamedChannel, channel_order}
 use Rattle.shim_local.specs.Process.{Ops}
 use Rattle.shim_tree.specs.Below.{node, nodes}
 use Rattle.shim_tree.specs.Beside.{place}
-use Rattle.shim_tree.specs.Walks.{put_before, inserted, all_inserted, waited, all_waited}
+use Rattle.shim_meaning.specs.Walks.{put_before, inserted, all_inserted, waited, all_waited}
 use Rattle.shim_tree.specs.Searching.{channels}
 use Rattle.shim_tree.specs.declared.below.Below.{Below}
 use Rattle.shim_tree.specs.declared.below.Below.TheVariants as code

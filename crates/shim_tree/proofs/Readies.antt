@@ -4,7 +4,7 @@ use Rattle.std.specs.declared.vec.Vec.{Vec}
 use Rattle.std.specs.declared.alloc.Global.{Global}
 use Rattle.shim_base.specs.Paths.{Channel}
 use Rattle.shim_local.specs.Process.{Ops}
-use Rattle.shim_tree.specs.Nodes.{Node, Live, Forked, Ended, Dead, goes, is_dead, has_ended, ready, any_sharer, all_ready}
+use Rattle.shim_meaning.specs.Nodes.{Node, Live, Forked, Ended, Dead, goes, is_dead, has_ended, ready, any_sharer, all_ready}
 use Rattle.shim_tree.specs.Below.{node, nodes}
 use Rattle.shim_tree.specs.Beside.{place}
 use Rattle.shim_tree.specs.declared.below.Below.{Below}

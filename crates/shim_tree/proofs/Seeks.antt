@@ -5,11 +5,11 @@ use Rattle.std.specs.declared.vec.Vec.{Vec}
 use Rattle.std.specs.declared.alloc.Global.{Global}
 use Rattle.shim_base.specs.Paths.{Channel}
 use Rattle.shim_local.specs.Process.{Ops}
-use Rattle.shim_tree.specs.Nodes.{goes, all_done}
+use Rattle.shim_meaning.specs.Nodes.{goes, all_done}
 use Rattle.shim_tree.specs.Below.{node, nodes}
 use Rattle.shim_tree.specs.Beside.{place}
-use Rattle.shim_tree.specs.Trees.{Event}
-use Rattle.shim_tree.specs.Walks.{waited, all_waited, poisons_of, here, walk, walk_all, head}
+use Rattle.shim_meaning.specs.Trees.{Event}
+use Rattle.shim_meaning.specs.Walks.{waited, all_waited, poisons_of, here, walk, walk_all, head}
 use Rattle.shim_tree.specs.Finding.{least}
 use Rattle.shim_tree.specs.declared.below.Below.{Below}
 use Rattle.shim_tree.specs.declared.below.Below.TheVariants as code

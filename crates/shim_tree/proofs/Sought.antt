@@ -4,8 +4,8 @@ use Rattle.std.specs.Prelude.{slice_get}
 use Rattle.std.specs.declared.vec.Vec.{Vec}
 use Rattle.std.specs.declared.alloc.Global.{Global}
 use Rattle.shim_local.specs.Process.{Ops}
-use Rattle.shim_tree.specs.Nodes.{Node}
-use Rattle.shim_tree.specs.Quiets.{quiets, all_quiets}
+use Rattle.shim_meaning.specs.Nodes.{Node}
+use Rattle.shim_meaning.specs.Quiets.{quiets, all_quiets}
 use Rattle.shim_tree.specs.Below.{node, nodes}
 use Rattle.shim_tree.specs.Beside.{place}
 use Rattle.shim_tree.specs.Sought.{seek}

@@ -4,13 +4,13 @@ use Rattle.std.specs.Vec.{vec_len, with_item}
 use Rattle.std.specs.declared.vec.Vec.{Vec}
 use Rattle.std.specs.declared.alloc.Global.{Global}
 use Rattle.shim_base.specs.Paths.{Path, same_pair}
-use Rattle.shim_tree.specs.Nodes as model
-use Rattle.shim_tree.specs.Places.{branches, branches_of, behind_front, route}
+use Rattle.shim_meaning.specs.Nodes as model
+use Rattle.shim_meaning.specs.Places.{branches, branches_of, behind_front, route}
 use Rattle.shim_tree.specs.Below.{node, nodes, together}
 use Rattle.shim_tree.specs.Advancing.{with_state_at, with_state_in}
 use Rattle.shim_tree.specs.declared.below.Below.{Below}
 use Rattle.shim_tree.specs.declared.below.Below.TheVariants as code
-use Rattle.shim_tree.proofs.Options.{some_same}
+use Rattle.shim_meaning.proofs.Options.{some_same}
 use Rattle.shim_tree.proofs.Children.{node_forked, at_forked}
 use Rattle.shim_tree.proofs.Beside.{inside, outside}
 

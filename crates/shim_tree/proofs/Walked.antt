@@ -6,11 +6,11 @@ use Rattle.std.specs.declared.vec.Vec.{Vec}
 use Rattle.std.specs.declared.alloc.Global.{Global}
 use Rattle.shim_base.specs.Paths.{Path, same_path}
 use Rattle.shim_local.specs.Process.{Ops, StopView, AtQuiet, AtNext, AtPut, AtFork, AtFinish, AtThrow, AtTrap}
-use Rattle.shim_tree.specs.Nodes.{Node, Nodes, Forked, all_done}
+use Rattle.shim_meaning.specs.Nodes.{Node, Nodes, Forked, all_done}
 use Rattle.shim_tree.specs.Below.{node, nodes}
 use Rattle.shim_tree.specs.Beside.{place}
-use Rattle.shim_tree.specs.Trees as trees
-use Rattle.shim_tree.specs.Walks.{own_events, here, in_order, all_waited, waited, meets_here, poisons_of, walk, walk_all, head}
+use Rattle.shim_meaning.specs.Trees as trees
+use Rattle.shim_meaning.specs.Walks.{own_events, here, in_order, all_waited, waited, meets_here, poisons_of, walk, walk_all, head}
 use Rattle.shim_tree.specs.Finding.{found_event}
 use Rattle.shim_tree.specs.Searching.{found_list}
 use Rattle.shim_tree.specs.declared.seek.Found.{Found}

@@ -2,12 +2,12 @@
 use Rattle.std.specs.Prelude.{◌≡◌, ℕ, Option, Some, List, [], ◌∷◌}
 use Rattle.shim_base.specs.Paths.{Path}
 use Rattle.shim_local.specs.Process.{Ops}
-use Rattle.shim_tree.specs.Nodes.{Node, Nodes, state}
+use Rattle.shim_meaning.specs.Nodes.{Node, Nodes, state}
 use Rattle.shim_tree.specs.declared.told.Told.{Told}
 use Rattle.shim_tree.specs.declared.told.Told.TheVariants as told
-use Rattle.shim_tree.specs.Acts.{Said, nothing, putting, Acted, act_here, act, act_child}
-use Rattle.shim_tree.specs.Places.{route, SoundChildren}
-use Rattle.shim_tree.specs.Trees.{act_route}
+use Rattle.shim_meaning.specs.Acts.{Said, nothing, putting, Acted, act_here, act, act_child}
+use Rattle.shim_meaning.specs.Places.{route, SoundChildren}
+use Rattle.shim_meaning.specs.Trees.{act_route}
 
 -- what the code tells of an event
 abbrev pub said_of : Told → Said

@@ -4,9 +4,9 @@ use Rattle.std.specs.FinMap as finite
 use Rattle.shim_base.specs.Paths.{Path, path_order}
 use Rattle.shim_local.specs.Process.{Ops}
 use Rattle.shim_local.specs.Laws.{AllOf}
-use Rattle.shim_tree.specs.Nodes.{Node, Nodes, Live, Forked, Ended, Dead, no_node, node_and, everyone}
-use Rattle.shim_tree.specs.Places.{branches}
-use Rattle.shim_tree.specs.Trees.{count_of, one_more}
+use Rattle.shim_meaning.specs.Nodes.{Node, Nodes, Live, Forked, Ended, Dead, no_node, node_and, everyone}
+use Rattle.shim_meaning.specs.Places.{branches}
+use Rattle.shim_meaning.specs.Trees.{count_of, one_more}
 use Rattle.shim_tree.specs.Maps.{has_stepped}
 
 -- the same came of it, and this is its state

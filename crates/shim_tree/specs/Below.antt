@@ -1,7 +1,7 @@
 -- What a process of the code means with what came of it beside it.
 use Rattle.std.specs.Prelude.{List, [], ◌∷◌, map}
-use Rattle.shim_tree.specs.Nodes as model
-use Rattle.shim_tree.specs.Trees as trees
+use Rattle.shim_meaning.specs.Nodes as model
+use Rattle.shim_meaning.specs.Trees as trees
 use Rattle.shim_tree.specs.declared.below.Below.{Below}
 use Rattle.shim_tree.specs.declared.below.Below.TheOpen.{Below-F, Live, Forked, Ended, Dead}
 use Rattle.shim_tree.specs.declared.below.Below.TheFolds.{fold-Below}

@@ -1,6 +1,6 @@
 -- A child, with what is said of it in the list that lies beside the states.
 use Rattle.std.specs.Prelude.{ℕ, zero, suc, List, [], ◌∷◌}
-use Rattle.shim_tree.specs.Nodes.{Node, Live}
+use Rattle.shim_meaning.specs.Nodes.{Node, Live}
 
 -- the child of this state in its place; one of which nothing is said lives
 abbrev pub place : {S : Type 0} → S → List (S → Node S) → ℕ → Node S

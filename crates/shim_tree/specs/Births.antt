@@ -4,7 +4,7 @@ use Rattle.std.specs.FinMap as finite
 use Rattle.shim_base.specs.Paths.{path_order}
 use Rattle.shim_local.specs.Process.{Ops, StopView, Parting, AtQuiet, AtNext, AtPut, AtFork, AtFinish, AtThrow, AtTrap, Parted, Stuck}
 use Rattle.shim_local.specs.Laws.{AllOf}
-use Rattle.shim_tree.specs.Nodes.{Node, Live, Forked, Ended, Dead}
+use Rattle.shim_meaning.specs.Nodes.{Node, Live, Forked, Ended, Dead}
 use Rattle.shim_tree.specs.Advancing.{HasPlace}
 
 -- the process of the node, if it lives

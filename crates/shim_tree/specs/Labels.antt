@@ -1,8 +1,8 @@
 -- The labels of which children died, as the code compares them, and what a thrown exception leaves.
 use Rattle.std.specs.Prelude.{◌≡◌, ℕ, Option, Some, None}
 use Rattle.shim_local.specs.Process.{Ops}
-use Rattle.shim_tree.specs.Nodes.{Node, Live, Forked, Ended, Dead, lesser}
-use Rattle.shim_tree.specs.Acts.{Said, thrown}
+use Rattle.shim_meaning.specs.Nodes.{Node, Live, Forked, Ended, Dead, lesser}
+use Rattle.shim_meaning.specs.Acts.{Said, thrown}
 
 -- the label of which it died
 abbrev pub label_of : {S : Type 0} → Node S → Option ℕ

@@ -2,9 +2,9 @@
 use Rattle.std.specs.Prelude.{ℕ, Option}
 use Rattle.shim_base.specs.Paths.{Path, Channel}
 use Rattle.shim_local.specs.Process.{Ops}
-use Rattle.shim_tree.specs.Nodes.{Node, Nodes}
-use Rattle.shim_tree.specs.Poison.{poison, poison_child, to_fork, last_branch}
-use Rattle.shim_tree.specs.Places.{branches}
+use Rattle.shim_meaning.specs.Nodes.{Node, Nodes}
+use Rattle.shim_meaning.specs.Poison.{poison, poison_child, to_fork, last_branch}
+use Rattle.shim_meaning.specs.Places.{branches}
 
 -- the child to which this branch and then those of the pairs lead is poisoned
 abbrev pub poison_by : {S : Type 0} → Ops S → Channel → ℕ → Path → Node S → Option (Node S)

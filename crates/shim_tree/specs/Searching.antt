@@ -5,8 +5,8 @@ use Rattle.shim_base.specs.Paths.{Channel, NamedChannel}
 use Rattle.shim_local.specs.Process.{Ops}
 use Rattle.shim_tree.specs.Below.{node, nodes, together}
 use Rattle.shim_tree.specs.Beside.{place}
-use Rattle.shim_tree.specs.Trees.{Event}
-use Rattle.shim_tree.specs.Walks.{meets_here, poisons_here}
+use Rattle.shim_meaning.specs.Trees.{Event}
+use Rattle.shim_meaning.specs.Walks.{meets_here, poisons_here}
 use Rattle.shim_tree.specs.Finding.{found_event}
 use Rattle.shim_tree.specs.declared.seek.Found.{Found}
 use Rattle.shim_tree.specs.declared.seek.Test.{Test}

@@ -5,9 +5,9 @@ use Rattle.shim_base.specs.Paths.{Path, path_order}
 use Rattle.shim_local.specs.Process.{Ops}
 use Rattle.shim_local.specs.declared.Log.{Log}
 use Rattle.shim_local.specs.declared.LogWhat.{LogWhat}
-use Rattle.shim_tree.specs.Nodes.{Node}
-use Rattle.shim_tree.specs.Acts.{Said}
-use Rattle.shim_tree.specs.Trees.{with_logs}
+use Rattle.shim_meaning.specs.Nodes.{Node}
+use Rattle.shim_meaning.specs.Acts.{Said}
+use Rattle.shim_meaning.specs.Trees.{with_logs}
 use Rattle.shim_tree.specs.Acting.{ActsOn}
 
 -- these are logged, one after another

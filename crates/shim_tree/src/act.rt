@@ -1,9 +1,9 @@
 // What a process does by itself: a step of its own, its end, or the close of its fork.
 ghost use Rattle.std.specs.Prelude.{◌≡◌, ◌≢◌, ◌<◌, ◌≤◌, None, is_none, IfOk, OnOk, OnErr, length, vec_len, drop};
 ghost use Rattle.shim_local.specs.Process.{AtQuiet, AtPut, AtFork};
-ghost use Rattle.shim_tree.specs.Nodes.{least_label};
-ghost use Rattle.shim_tree.specs.Acts.{nothing, putting, act_here, act, act_child};
-ghost use Rattle.shim_tree.specs.Places.{SoundBelow, branches};
+ghost use Rattle.shim_meaning.specs.Nodes.{least_label};
+ghost use Rattle.shim_meaning.specs.Acts.{nothing, putting, act_here, act, act_child};
+ghost use Rattle.shim_meaning.specs.Places.{SoundBelow, branches};
 ghost use Rattle.shim_tree.specs.Below.{node, nodes, together};
 ghost use Rattle.shim_tree.specs.Beside.{place};
 ghost use Rattle.shim_tree.specs.Labels.{label_of, least_of, ThrowLeaves};

@@ -1,7 +1,7 @@
 // The state of one process put in place of another in a tree.
 ghost use Rattle.std.specs.Prelude.{◌≡◌, ℕ, List, Some, drop};
-ghost use Rattle.shim_tree.specs.Nodes.{Live};
-ghost use Rattle.shim_tree.specs.Places.{branches, route};
+ghost use Rattle.shim_meaning.specs.Nodes.{Live};
+ghost use Rattle.shim_meaning.specs.Places.{branches, route};
 ghost use Rattle.shim_tree.specs.Below.{node};
 ghost use Rattle.shim_tree.specs.Advancing.{with_state_at, led_on};
 

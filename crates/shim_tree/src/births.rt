@@ -3,7 +3,7 @@ ghost use Rattle.std.specs.Prelude.{◌≡◌, ◌≢◌, None, Some, OnOk};
 ghost use Rattle.std.specs.Option.{option_copied};
 ghost use Rattle.shim_local.specs.Process.{AtFork};
 ghost use Rattle.shim_local.specs.Laws.{AllOf};
-ghost use Rattle.shim_tree.specs.Places.{at, branches, led_to};
+ghost use Rattle.shim_meaning.specs.Places.{at, branches, led_to};
 ghost use Rattle.shim_tree.specs.Below.{node};
 ghost use Rattle.shim_tree.specs.Acting.{acted_on};
 ghost use Rattle.shim_tree.specs.Advancing.{stepped, HasPlace, KeepsPlaces};

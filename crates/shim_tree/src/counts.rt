@@ -2,10 +2,10 @@
 ghost use Rattle.std.specs.Prelude.{◌≡◌, ◌<◌, ◌^◌, ◌+◌, [], ◌∷◌, ◌++◌, OnOk, OnErr, IfOk, map, filter};
 ghost use Rattle.std.specs.FinMap as finite;
 ghost use Rattle.shim_local.specs.Laws.{AllOf};
-ghost use Rattle.shim_tree.specs.Trees.{count_of, sum};
+ghost use Rattle.shim_meaning.specs.Trees.{count_of, sum};
 ghost use Rattle.shim_tree.specs.Maps.{has_stepped};
 ghost use Rattle.shim_tree.specs.Advancing.{stepped, HasPlace, KeepsPlaces, with_place, more_steps};
-ghost use Rattle.shim_tree.specs.Endings.{own_steps};
+ghost use Rattle.shim_meaning.specs.Endings.{own_steps};
 
 use shim_base::{List, NoMemory, Path};
 use shim_local::{Local, OwnSteps};
@@ -24,7 +24,7 @@ impl Model for Counts {
     ghost use Rattle.std.specs.FinMap as finite;
     ghost use Rattle.std.specs.Prelude.{ℕ};
     ghost use Rattle.shim_base.specs.Paths.{path_order};
-    ghost use Rattle.shim_tree.specs.Codes.{counts_code};
+    ghost use Rattle.shim_meaning.specs.Codes.{counts_code};
     ghost use Rattle.shim_tree.specs.Maps.{counts_of};
 
     ghost Value = { finite.FinMap path_order ℕ };

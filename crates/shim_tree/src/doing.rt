@@ -1,6 +1,6 @@
 // What a process does by itself, with what that tells put and logged.
 ghost use Rattle.std.specs.Prelude.{◌≡◌, ◌≢◌, None, OnOk, OnErr};
-ghost use Rattle.shim_tree.specs.Places.{SoundBelow};
+ghost use Rattle.shim_meaning.specs.Places.{SoundBelow};
 ghost use Rattle.shim_tree.specs.Below.{node};
 ghost use Rattle.shim_tree.specs.Acting.{acted_on};
 ghost use Rattle.shim_tree.specs.Advancing.{stepped, AllHavePlaces, KeepsPlaces};

@@ -2,8 +2,8 @@
 ghost use Rattle.std.specs.Prelude.{◌≡◌, ◌&&◌, not, eqb};
 ghost use Rattle.shim_tree.specs.Below.{node, nodes, together};
 ghost use Rattle.shim_tree.specs.Beside.{place};
-ghost use Rattle.shim_tree.specs.Poison as poison;
-ghost use Rattle.shim_tree.specs.Poison.{dooms};
+ghost use Rattle.shim_meaning.specs.Poison as poison;
+ghost use Rattle.shim_meaning.specs.Poison.{dooms};
 
 use crate::below::Below;
 use shim_base::Chan;

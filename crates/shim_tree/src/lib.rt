@@ -11,7 +11,6 @@ mod doom;
 mod event;
 mod fill;
 mod histories;
-pub mod laws;
 mod listing;
 mod logs;
 mod poison;
@@ -25,4 +24,5 @@ mod tree;
 mod waits;
 
 pub use event::Event;
+pub use shim_meaning::laws;
 pub use tree::Tree;

@@ -1,11 +1,11 @@
 // All events of the walk from a process, in its order.
 ghost use Rattle.std.specs.Prelude.{◌≡◌, ◌++◌, ◌∷◌, [], IfOk, OnOk, cond, map, filter};
 ghost use Rattle.std.specs.Option.{option_copied};
-ghost use Rattle.shim_tree.specs.Nodes.{Forked, all_done};
+ghost use Rattle.shim_meaning.specs.Nodes.{Forked, all_done};
 ghost use Rattle.shim_tree.specs.Below.{node, nodes, together, event_of};
 ghost use Rattle.shim_tree.specs.Beside.{place};
-ghost use Rattle.shim_tree.specs.Trees as trees;
-ghost use Rattle.shim_tree.specs.Walks.{as_list, own_events, here, waited, poisons_of, walk, inserted, all_inserted};
+ghost use Rattle.shim_meaning.specs.Trees as trees;
+ghost use Rattle.shim_meaning.specs.Walks.{as_list, own_events, here, waited, poisons_of, walk, inserted, all_inserted};
 ghost use Rattle.shim_tree.specs.Searching.{passes, channels, found_list};
 
 use crate::below::Below;

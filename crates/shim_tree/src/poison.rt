@@ -3,9 +3,9 @@
 ghost use Rattle.std.specs.Prelude.{◌≡◌, ◌≢◌, ◌<◌, true, Some, None, OnOk, OnErr, length};
 ghost use Rattle.shim_tree.specs.Below.{node, nodes, together};
 ghost use Rattle.shim_tree.specs.Filled.{is_filled};
-ghost use Rattle.shim_tree.specs.Poison.{poisoned, one_poisoned, poison_here};
+ghost use Rattle.shim_meaning.specs.Poison.{poisoned, one_poisoned, poison_here};
 ghost use Rattle.shim_tree.specs.Poisoning.{poison_by, poison_among};
-ghost use Rattle.shim_tree.specs.Trees.{poisons};
+ghost use Rattle.shim_meaning.specs.Trees.{poisons};
 
 use crate::below::Below;
 use crate::fill::{behind, fill_below, fill_to};

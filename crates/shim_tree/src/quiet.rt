@@ -1,8 +1,8 @@
 // The processes that stand before a quiet step, by their number.
 ghost use Rattle.std.specs.Prelude.{◌≡◌, slice_get};
 ghost use Rattle.std.specs.Option.{option_copied};
-ghost use Rattle.shim_tree.specs.Nodes.{Live};
-ghost use Rattle.shim_tree.specs.Quiets.{quiets};
+ghost use Rattle.shim_meaning.specs.Nodes.{Live};
+ghost use Rattle.shim_meaning.specs.Quiets.{quiets};
 ghost use Rattle.shim_tree.specs.Below.{node};
 ghost use Rattle.shim_tree.specs.Sought.{seek, sought_of};
 

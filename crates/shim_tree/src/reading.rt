@@ -2,8 +2,8 @@
 ghost use Rattle.std.specs.Prelude.{◌≡◌, cond, OnOk, IfOk};
 ghost use Rattle.shim_local.specs.declared.Outcome.TheVariants.{Spent};
 ghost use Rattle.shim_tree.specs.Below.{node};
-ghost use Rattle.shim_tree.specs.Nodes.{next_of};
-ghost use Rattle.shim_tree.specs.Endings as endings;
+ghost use Rattle.shim_meaning.specs.Nodes.{next_of};
+ghost use Rattle.shim_meaning.specs.Endings as endings;
 ghost use Rattle.shim_tree.specs.Readings.{outcome_of_label, with_waits};
 ghost use Rattle.shim_tree.specs.Telling.{logged};
 ghost use Rattle.std.specs.FinMap as finite;

@@ -1,7 +1,7 @@
 // Whether all whom a channel concerns wait at it.
 ghost use Rattle.std.specs.Prelude.{◌≡◌, ◌&&◌, not, true, IsTrue};
 ghost use Rattle.std.specs.Option.{option_copied};
-ghost use Rattle.shim_tree.specs.Nodes.{next_of, is_next, has_ended, ready};
+ghost use Rattle.shim_meaning.specs.Nodes.{next_of, is_next, has_ended, ready};
 ghost use Rattle.shim_tree.specs.Below.{node, nodes};
 ghost use Rattle.shim_tree.specs.Beside.{place};
 

@@ -1,6 +1,6 @@
 // What a meeting reads of a tree, and what it leaves.
 ghost use Rattle.std.specs.Prelude.{◌≡◌, cond, unwrap_or};
-ghost use Rattle.shim_tree.specs.Nodes.{is_next, received, source, value_of, next_of, name_at, first_name};
+ghost use Rattle.shim_meaning.specs.Nodes.{is_next, received, source, value_of, next_of, name_at, first_name};
 ghost use Rattle.shim_tree.specs.Below.{node};
 ghost use Rattle.shim_tree.specs.Meeting.{valued, value_carried};
 

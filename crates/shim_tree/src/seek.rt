@@ -1,11 +1,11 @@
 // The first event of the walk from a process, lent out of the states.
 ghost use Rattle.std.specs.Prelude.{◌≡◌, None, IfOk};
 ghost use Rattle.std.specs.Option.{option_copied, option_map};
-ghost use Rattle.shim_tree.specs.Nodes.{Forked, goes, all_done, ready};
+ghost use Rattle.shim_meaning.specs.Nodes.{Forked, goes, all_done, ready};
 ghost use Rattle.shim_tree.specs.Below.{node, nodes, together, event_of};
 ghost use Rattle.shim_tree.specs.Beside.{place};
-ghost use Rattle.shim_tree.specs.Walks.{as_list, head, own_events, here, waited, poisons_of, walk};
-ghost use Rattle.shim_tree.specs.Endings.{is_empty};
+ghost use Rattle.shim_meaning.specs.Walks.{as_list, head, own_events, here, waited, poisons_of, walk};
+ghost use Rattle.shim_meaning.specs.Endings.{is_empty};
 ghost use Rattle.shim_tree.specs.Finding.{channel_in, or_sooner, least, found_event};
 ghost use Rattle.shim_tree.specs.Searching.{passes};
 

@@ -1,17 +1,17 @@
 // A tree of processes.
 ghost use Rattle.std.specs.Prelude.{◌≡◌, ◌≢◌, ◌<◌, ◌≤◌, ◌+◌, ◌^◌, ◌↔◌, ◌⊎◌, true, Some, None, IfOk, OnOk, OnErr, IfSome, IsTrue, map, []};
 ghost use Rattle.std.specs.Option.{option_map, option_copied};
-ghost use Rattle.shim_tree.specs.Trees as trees;
-ghost use Rattle.shim_tree.specs.Trees.{after, steps, IsQuiescent, sum, own, other, silently, poisons, met};
-ghost use Rattle.shim_tree.specs.Walks as walks;
-ghost use Rattle.shim_tree.specs.Endings as endings;
-ghost use Rattle.shim_tree.specs.Sound.{SharesItsOwn, IsSound};
-ghost use Rattle.shim_tree.specs.Listing.{AreEnabled};
+ghost use Rattle.shim_meaning.specs.Trees as trees;
+ghost use Rattle.shim_meaning.specs.Trees.{after, steps, IsQuiescent, sum, own, other, silently, poisons, met};
+ghost use Rattle.shim_meaning.specs.Walks as walks;
+ghost use Rattle.shim_meaning.specs.Endings as endings;
+ghost use Rattle.shim_meaning.specs.Sound.{SharesItsOwn, IsSound};
+ghost use Rattle.shim_meaning.specs.Listing.{AreEnabled};
 ghost use Rattle.shim_tree.specs.Below.{event_of};
-ghost use Rattle.shim_tree.specs.Nodes.{source, value_of};
-ghost use Rattle.shim_tree.specs.Places.{led_to, has_path};
+ghost use Rattle.shim_meaning.specs.Nodes.{source, value_of};
+ghost use Rattle.shim_meaning.specs.Places.{led_to, has_path};
 ghost use Rattle.shim_tree.specs.Acting.{acted_on};
-ghost use Rattle.shim_tree.specs.Quiets.{quiet_at, ComesBy, Advances};
+ghost use Rattle.shim_meaning.specs.Quiets.{quiet_at, ComesBy, Advances};
 ghost use Rattle.shim_local.specs.declared.Outcome.TheVariants.{Spent};
 ghost use Rattle.std.specs.FinMap as finite;
 
@@ -48,10 +48,10 @@ pub struct Tree<L: Local> {
 }
 
 impl<L: Local> Model for Tree<L> {
-    ghost use Rattle.shim_tree.specs.Trees as trees;
-    ghost use Rattle.shim_tree.specs.Codes.{tree_code};
+    ghost use Rattle.shim_meaning.specs.Trees as trees;
+    ghost use Rattle.shim_meaning.specs.Codes.{tree_code};
     ghost use Rattle.shim_tree.specs.Below.{node};
-    ghost use Rattle.shim_tree.specs.Sound.{IsSound};
+    ghost use Rattle.shim_meaning.specs.Sound.{IsSound};
     ghost use Rattle.shim_tree.specs.Advancing.{stepped, AllHavePlaces};
     ghost use Rattle.shim_tree.specs.Telling.{logged};
 

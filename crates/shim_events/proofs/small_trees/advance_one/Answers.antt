@@ -3,16 +3,16 @@ use Rattle.std.specs.Prelude.{slice_get, replicate}
 use Rattle.std.specs.Option.{option_copied}
 use Rattle.shim_local.specs.Process.{Ops}
 use Rattle.shim_local.specs.Laws.{LocalLaws, QuietSteps, none_taken, one_more, by_quiet}
-use Rattle.shim_tree.specs.Listing.{IsAmong}
-use Rattle.shim_tree.specs.Nodes.{Node, Nodes, Live, Forked, Ended, Dead, no_node, node_and}
-use Rattle.shim_tree.specs.Places.{at, child_at, at_route, SoundBelow, SoundChildren}
-use Rattle.shim_tree.specs.Quiets.{is_quiet, quiets, all_quiets, ComesBy}
-use Rattle.shim_tree.specs.Systems.{run, go_on}
-use Rattle.shim_tree.specs.Trees.{Tree, Event, Own, after, steps}
-use Rattle.shim_tree.proofs.Counting.{event_counts}
-use Rattle.shim_tree.proofs.Members.{among_either}
-use Rattle.shim_tree.proofs.Options.{some_same, none_some}
-use Rattle.shim_tree.proofs.Routes.{route_of}
+use Rattle.shim_meaning.specs.Listing.{IsAmong}
+use Rattle.shim_meaning.specs.Nodes.{Node, Nodes, Live, Forked, Ended, Dead, no_node, node_and}
+use Rattle.shim_meaning.specs.Places.{at, child_at, at_route, SoundBelow, SoundChildren}
+use Rattle.shim_meaning.specs.Quiets.{is_quiet, quiets, all_quiets, ComesBy}
+use Rattle.shim_meaning.specs.Systems.{run, go_on}
+use Rattle.shim_meaning.specs.Trees.{Tree, Event, Own, after, steps}
+use Rattle.shim_meaning.proofs.Counting.{event_counts}
+use Rattle.shim_meaning.proofs.Members.{among_either}
+use Rattle.shim_meaning.proofs.Options.{some_same, none_some}
+use Rattle.shim_meaning.proofs.Routes.{route_of}
 use Rattle.shim_events.proofs.small_trees.advance_one.Goals as goal
 
 -- what has a number in a list is among it

@@ -1,5 +1,5 @@
 use Rattle.std.proofs.Common.{◌≡◌}
-use Rattle.shim_tree.specs.Trees.{steps}
+use Rattle.shim_meaning.specs.Trees.{steps}
 use Rattle.shim_events.proofs.small_trees.do_events.Given as goal
 
 -- each event counted one step

@@ -1,5 +1,5 @@
 use Rattle.std.proofs.Common.{◌≡◌}
-use Rattle.shim_tree.specs.Trees.{steps}
+use Rattle.shim_meaning.specs.Trees.{steps}
 use Rattle.shim_runs.proofs.order_rows.do_events_by.Given as goal
 
 -- each event counted one step

@@ -1,7 +1,7 @@
 use Rattle.std.proofs.Common.{◌≡◌, ap, ◌∙◌}
 use Rattle.shim_tree.specs.Below.{event_of}
-use Rattle.shim_tree.specs.Trees.{start}
-use Rattle.shim_tree.specs.Walks.{meaning}
+use Rattle.shim_meaning.specs.Trees.{start}
+use Rattle.shim_meaning.specs.Walks.{meaning}
 use Rattle.shim_tool.proofs.ExecuteLemmas.{on_ok_anyhow}
 use Rattle.shim_tool.proofs.FirstEvents.{run_ended}
 use Rattle.shim_tool.proofs.run.run.Goals as goal

@@ -1,7 +1,7 @@
 use Rattle.std.proofs.Common.{rules, ◌≡◌, ◌∙◌, sym, ap, subst, arith, length, slice_set, ◌∷◌}
 use Rattle.std.proofs.lemmas.Result.{IfOk-weaker, on_err_weaker}
-use Rattle.shim_tree.specs.Acts.{act, act_child}
-use Rattle.shim_tree.specs.Places.{branches}
+use Rattle.shim_meaning.specs.Acts.{act, act_child}
+use Rattle.shim_meaning.specs.Places.{branches}
 use Rattle.shim_tree.specs.Below.{together, nodes, node}
 use Rattle.shim_tree.specs.Acting.{said_of, ActsAt, ActsAmong, SoundAmong}
 use Rattle.shim_tree.proofs.Children.{child_there, place_of, acts_none, acts_some, acts_same, sound_child, forked_among, forked_acts}

@@ -1,12 +1,12 @@
 use Rattle.std.proofs.Common.{◌≡◌, ◌∙◌, sym, ap, length, drop, arith}
 use Rattle.std.proofs.lemmas.Result.{IfOk-weaker}
-use Rattle.shim_tree.specs.Nodes.{state}
-use Rattle.shim_tree.specs.Acts.{act}
-use Rattle.shim_tree.specs.Places.{branches}
+use Rattle.shim_meaning.specs.Nodes.{state}
+use Rattle.shim_meaning.specs.Acts.{act}
+use Rattle.shim_meaning.specs.Places.{branches}
 use Rattle.shim_tree.specs.Below.{node}
 use Rattle.shim_tree.specs.Acting.{said_of, ActsAt, ActsOn}
 use Rattle.shim_tree.proofs.Children.{state_node}
-use Rattle.shim_tree.proofs.Leading.{on_bound, on_route}
+use Rattle.shim_meaning.proofs.Leading.{on_bound, on_route}
 use Rattle.shim_tree.proofs.act.act_on.Goals as goal
 
 pub behind-requires : goal.behind-requires

@@ -1,5 +1,5 @@
 use Rattle.std.proofs.Common.{◌≡◌}
-use Rattle.shim_tree.specs.Nodes.{least_label}
+use Rattle.shim_meaning.specs.Nodes.{least_label}
 use Rattle.shim_tree.specs.Labels.{least_of}
 use Rattle.shim_tree.proofs.Beside.{from}
 use Rattle.shim_tree.proofs.act.least_label.Given as goal

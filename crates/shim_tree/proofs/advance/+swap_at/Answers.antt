@@ -1,5 +1,5 @@
 use Rattle.std.proofs.Common.{drop}
-use Rattle.shim_tree.specs.Places.{branches}
+use Rattle.shim_meaning.specs.Places.{branches}
 use Rattle.shim_tree.proofs.Swaps.{swapped_child, swapped_live_child, none_swapped}
 use Rattle.shim_tree.proofs.advance.+swap_at.Goals as goal
 

@@ -1,10 +1,10 @@
 use Rattle.std.proofs.Common.{◌≡◌, ◌∙◌, sym, ap, length, drop, arith}
-use Rattle.shim_tree.specs.Nodes.{state}
-use Rattle.shim_tree.specs.Places.{at, branches}
+use Rattle.shim_meaning.specs.Nodes.{state}
+use Rattle.shim_meaning.specs.Places.{at, branches}
 use Rattle.shim_tree.specs.Below.{node}
 use Rattle.shim_tree.specs.Births.{live_in}
 use Rattle.shim_tree.proofs.Children.{state_node}
-use Rattle.shim_tree.proofs.Leading.{on_bound}
+use Rattle.shim_meaning.proofs.Leading.{on_bound}
 use Rattle.shim_tree.proofs.LiveSpots.{on_spot}
 use Rattle.shim_tree.proofs.births.live_on.Goals as goal
 

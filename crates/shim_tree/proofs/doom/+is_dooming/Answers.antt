@@ -1,5 +1,5 @@
 use Rattle.std.proofs.Common.{◌∙◌, sym, ap}
-use Rattle.shim_tree.specs.Poison.{dooms}
+use Rattle.shim_meaning.specs.Poison.{dooms}
 use Rattle.shim_tree.proofs.Beside.{inside, outside, asked_in, place_past}
 use Rattle.shim_tree.proofs.Seeks.{item_there}
 use Rattle.shim_tree.proofs.Dooms.{dooms_there, dooms_later, any_is, none_dooms}

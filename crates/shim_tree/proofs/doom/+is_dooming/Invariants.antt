@@ -1,5 +1,5 @@
 use Rattle.std.proofs.Common.{◌≡◌}
-use Rattle.shim_tree.specs.Poison.{any_dooms}
+use Rattle.shim_meaning.specs.Poison.{any_dooms}
 use Rattle.shim_tree.proofs.Beside.{from}
 use Rattle.shim_tree.proofs.doom.+is_dooming.Given as goal
 

@@ -1,4 +1,4 @@
-use Rattle.shim_tree.specs.Poison.{dooms}
+use Rattle.shim_meaning.specs.Poison.{dooms}
 use Rattle.shim_tree.specs.Below.{nodes}
 use Rattle.shim_tree.specs.Beside.{place}
 use Rattle.shim_tree.proofs.Dooms.{other_dooms, same_dooms}

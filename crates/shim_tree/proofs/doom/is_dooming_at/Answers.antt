@@ -1,5 +1,5 @@
 use Rattle.std.proofs.Common.{◌∙◌, sym, ap}
-use Rattle.shim_tree.specs.Poison.{dooms}
+use Rattle.shim_meaning.specs.Poison.{dooms}
 use Rattle.shim_tree.proofs.Beside.{place_in, place_past}
 use Rattle.shim_tree.proofs.doom.is_dooming_at.Goals as goal
 

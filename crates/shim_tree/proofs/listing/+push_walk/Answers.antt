@@ -1,8 +1,8 @@
 use Rattle.std.proofs.Common.{◌≡◌, ◌∙◌, ◌++◌, sym, ap, map}
-use Rattle.shim_tree.specs.Nodes.{Forked}
+use Rattle.shim_meaning.specs.Nodes.{Forked}
 use Rattle.shim_tree.specs.Below.{nodes, together, event_of}
 use Rattle.shim_tree.specs.Beside.{place}
-use Rattle.shim_tree.specs.Walks.{walk, poisons_of}
+use Rattle.shim_meaning.specs.Walks.{walk, poisons_of}
 use Rattle.shim_tree.proofs.Beside.{is_forked, inside, outside, asked_in, asked_past}
 use Rattle.shim_tree.proofs.Walked.{walked_child, walked_all}
 use Rattle.shim_tree.proofs.listing.+push_walk.Goals as goal

@@ -1,6 +1,6 @@
 use Rattle.std.proofs.Common.{◌≡◌, ◌++◌, map}
 use Rattle.shim_tree.specs.Below.{event_of}
-use Rattle.shim_tree.specs.Walks.{walk_all}
+use Rattle.shim_meaning.specs.Walks.{walk_all}
 use Rattle.shim_tree.proofs.Beside.{from}
 use Rattle.shim_tree.proofs.listing.+push_walk.Given as goal
 

@@ -1,8 +1,8 @@
 use Rattle.std.proofs.Common.{◌∙◌, ◌++◌, ap, map, filter}
 use Rattle.std.proofs.lemmas.Result.{on_ok_weaker}
 use Rattle.shim_tree.specs.Below.{node, nodes, together, event_of}
-use Rattle.shim_tree.specs.Trees.{Meet}
-use Rattle.shim_tree.specs.Walks.{all_inserted, meets_here, waited}
+use Rattle.shim_meaning.specs.Trees.{Meet}
+use Rattle.shim_meaning.specs.Walks.{all_inserted, meets_here, waited}
 use Rattle.shim_tree.specs.Searching.{channels}
 use Rattle.shim_tree.proofs.Walked.{fork_listed}
 use Rattle.shim_tree.proofs.listing.push_here.Goals as goal

@@ -1,10 +1,10 @@
 use Rattle.std.proofs.Common.{◌∙◌, ◌++◌, sym, ap, map, filter}
 use Rattle.std.proofs.lemmas.Result.{on_ok_weaker}
-use Rattle.shim_tree.specs.Nodes.{state}
+use Rattle.shim_meaning.specs.Nodes.{state}
 use Rattle.shim_tree.specs.Below.{nodes, together, event_of}
 use Rattle.shim_tree.specs.Beside.{place}
-use Rattle.shim_tree.specs.Trees.{Poison}
-use Rattle.shim_tree.specs.Walks.{all_inserted, poisons_here, waited}
+use Rattle.shim_meaning.specs.Trees.{Poison}
+use Rattle.shim_meaning.specs.Walks.{all_inserted, poisons_here, waited}
 use Rattle.shim_tree.specs.Searching.{channels}
 use Rattle.shim_tree.proofs.Beside.{state_place}
 use Rattle.shim_tree.proofs.listing.push_poisons_of.Goals as goal

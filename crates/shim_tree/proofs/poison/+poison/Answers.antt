@@ -1,7 +1,7 @@
 use Rattle.std.proofs.Common.{rules, ◌∙◌, ◌<◌, sym, ap, arith, length}
 use Rattle.std.proofs.lemmas.Result.{on_ok_weaker, on_err_weaker}
 use Rattle.shim_tree.specs.Below.{together, nodes}
-use Rattle.shim_tree.specs.Poison.{above}
+use Rattle.shim_meaning.specs.Poison.{above}
 use Rattle.shim_tree.specs.Poisoning.{poison_among}
 use Rattle.shim_tree.proofs.Fills.{same_place, same_fork}
 use Rattle.shim_tree.proofs.Poisonings.{descent_there, descent_none, descent_some, fork_leads, fork_poisoned}

@@ -1,5 +1,5 @@
 use Rattle.std.proofs.Common.{rules, ◌∙◌, arith, refl}
-use Rattle.shim_tree.specs.Poison.{all_poisoned}
+use Rattle.shim_meaning.specs.Poison.{all_poisoned}
 use Rattle.shim_tree.specs.Below.{together, nodes}
 use Rattle.shim_tree.proofs.Fills.{said_from, said_all, said_enough, said_there, said_here, said_next, place_inside, place_outside}
 use Rattle.shim_tree.proofs.Poisonings.{poisoned_next, poisoned_fork}

@@ -1,5 +1,5 @@
 use Rattle.std.proofs.Common.{◌≡◌, ◌≤◌, true, vec_len}
-use Rattle.shim_tree.specs.Poison.{all_poisoned}
+use Rattle.shim_meaning.specs.Poison.{all_poisoned}
 use Rattle.shim_tree.specs.Below.{nodes, together}
 use Rattle.shim_tree.proofs.Fills.{said_from}
 use Rattle.shim_tree.proofs.Poisonings.{poisoned_from}

@@ -1,6 +1,6 @@
 use Rattle.std.proofs.Common.{◌∙◌, ◌<◌, ap, arith, length}
 use Rattle.std.proofs.lemmas.Result.{on_ok_weaker, on_err_weaker}
-use Rattle.shim_tree.specs.Poison.{one_poisoned}
+use Rattle.shim_meaning.specs.Poison.{one_poisoned}
 use Rattle.shim_tree.proofs.Fills.{same_place}
 use Rattle.shim_tree.proofs.Poisonings.{one_there}
 use Rattle.shim_tree.proofs.poison.poison_child.Goals as goal

@@ -1,7 +1,7 @@
 use Rattle.std.proofs.Common.{◌-◌, ◌∙◌, ap, arith}
 use Rattle.std.proofs.lemmas.Result.{on_ok_weaker, on_err_weaker}
 use Rattle.shim_tree.specs.Below.{together, nodes}
-use Rattle.shim_tree.specs.Poison.{one_poisoned}
+use Rattle.shim_meaning.specs.Poison.{one_poisoned}
 use Rattle.shim_tree.proofs.Fills.{same_fork, place_same}
 use Rattle.shim_tree.proofs.Poisonings.{poisons_here, poison_done}
 use Rattle.shim_tree.proofs.poison.poison_here.Goals as goal

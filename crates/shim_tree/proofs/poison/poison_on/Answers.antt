@@ -1,6 +1,6 @@
 use Rattle.std.proofs.Common.{◌≡◌, ◌∙◌, sym, ap, length, drop, arith}
 use Rattle.std.proofs.lemmas.Result.{on_ok_weaker}
-use Rattle.shim_tree.specs.Nodes.{state}
+use Rattle.shim_meaning.specs.Nodes.{state}
 use Rattle.shim_tree.specs.Below.{node}
 use Rattle.shim_tree.proofs.Children.{state_node}
 use Rattle.shim_tree.proofs.Poisonings.{leads, leads_on, leads_nowhere}

@@ -1,5 +1,5 @@
 use Rattle.std.proofs.Common.{◌≡◌}
-use Rattle.shim_tree.specs.Quiets.{all_quiets}
+use Rattle.shim_meaning.specs.Quiets.{all_quiets}
 use Rattle.shim_tree.specs.Sought.{seek}
 use Rattle.shim_tree.proofs.Beside.{from}
 use Rattle.shim_tree.proofs.quiet.+seek_quiet.Given as goal

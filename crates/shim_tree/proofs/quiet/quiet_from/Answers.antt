@@ -1,5 +1,5 @@
 use Rattle.std.proofs.Common.{◌∙◌, sym, ap}
-use Rattle.shim_tree.specs.Quiets.{quiets}
+use Rattle.shim_meaning.specs.Quiets.{quiets}
 use Rattle.shim_tree.specs.Below.{node}
 use Rattle.shim_tree.specs.Sought.{sought_of}
 use Rattle.shim_tree.proofs.Sought.{got_here, got_none}

@@ -1,7 +1,7 @@
 use Rattle.std.proofs.Common.{ap, sym, cond, ◌∙◌}
 use Rattle.shim_local.specs.declared.Outcome.TheVariants.{Spent}
 use Rattle.shim_tree.specs.Below.{node}
-use Rattle.shim_tree.specs.Endings.{outcome_of_root}
+use Rattle.shim_meaning.specs.Endings.{outcome_of_root}
 use Rattle.shim_tree.proofs.reading.outcome_of.Goals as goal
 
 pub returns-then-quiescent : goal.returns-then-quiescent

@@ -2,7 +2,7 @@ use Rattle.std.proofs.Common.{ap, sym, map, ◌≡◌, ◌∙◌}
 use Rattle.std.specs.FinMap.{entries}
 use Rattle.std.proofs.lemmas.Result.{IfOk-weaker}
 use Rattle.shim_tree.specs.Below.{node}
-use Rattle.shim_tree.specs.Endings.{waits_of, wait_at}
+use Rattle.shim_meaning.specs.Endings.{waits_of, wait_at}
 use Rattle.shim_tree.proofs.Gathered.{blocked_waits}
 use Rattle.shim_tree.proofs.reading.waits_of.Goals as goal
 

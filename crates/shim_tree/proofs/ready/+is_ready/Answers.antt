@@ -1,5 +1,5 @@
 use Rattle.std.proofs.Common.{◌≡◌, ◌∙◌, sym, ap, ◌+◌, ◌&&◌, ◌||◌, not}
-use Rattle.shim_tree.specs.Nodes.{has_ended, ready, any_sharer}
+use Rattle.shim_meaning.specs.Nodes.{has_ended, ready, any_sharer}
 use Rattle.shim_tree.specs.Below.{nodes}
 use Rattle.shim_tree.specs.Beside.{place}
 use Rattle.shim_tree.proofs.Beside.{from, inside, outside, asked_in, asked_past}

@@ -1,5 +1,5 @@
 use Rattle.std.proofs.Common.{◌≡◌, ◌||◌}
-use Rattle.shim_tree.specs.Nodes.{any_sharer, all_ready}
+use Rattle.shim_meaning.specs.Nodes.{any_sharer, all_ready}
 use Rattle.shim_tree.proofs.Beside.{from}
 use Rattle.shim_tree.proofs.ready.+is_ready.Given as goal
 

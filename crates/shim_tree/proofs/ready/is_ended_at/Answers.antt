@@ -1,5 +1,5 @@
 use Rattle.std.proofs.Common.{◌∙◌, sym, ap}
-use Rattle.shim_tree.specs.Nodes.{has_ended}
+use Rattle.shim_meaning.specs.Nodes.{has_ended}
 use Rattle.shim_tree.proofs.Beside.{place_in, place_past}
 use Rattle.shim_tree.proofs.ready.is_ended_at.Goals as goal
 

@@ -1,5 +1,5 @@
 use Rattle.std.proofs.Common.{◌≡◌, drop}
-use Rattle.shim_tree.specs.Nodes.{first_name_among}
+use Rattle.shim_meaning.specs.Nodes.{first_name_among}
 use Rattle.shim_tree.specs.Below.{nodes, together}
 use Rattle.shim_tree.proofs.receive.+name_at.Given as goal
 

@@ -1,6 +1,6 @@
 use Rattle.std.proofs.Common.{rules, ◌≡◌, ◌∙◌, ap, suc, ◌+◌, ◌<◌, ◌≤◌, arith, length, to_z, of_z, w64}
 use Rattle.std.proofs.lemmas.Int.{to_z-of_z}
-use Rattle.shim_tree.specs.Nodes.{received, all_received}
+use Rattle.shim_meaning.specs.Nodes.{received, all_received}
 use Rattle.shim_tree.specs.Below.{node, together, nodes}
 use Rattle.shim_tree.specs.Meeting.{received_from}
 use Rattle.shim_tree.proofs.Meetings.{received_child, received_live, received_all}

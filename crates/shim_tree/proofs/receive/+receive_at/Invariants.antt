@@ -1,5 +1,5 @@
 use Rattle.std.proofs.Common.{◌≡◌}
-use Rattle.shim_tree.specs.Nodes.{all_received}
+use Rattle.shim_meaning.specs.Nodes.{all_received}
 use Rattle.shim_tree.specs.Below.{nodes, together}
 use Rattle.shim_tree.specs.Meeting.{received_from}
 use Rattle.shim_tree.proofs.receive.+receive_at.Given as goal

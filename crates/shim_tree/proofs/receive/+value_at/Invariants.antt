@@ -1,5 +1,5 @@
 use Rattle.std.proofs.Common.{◌≡◌, drop}
-use Rattle.shim_tree.specs.Nodes.{source_among}
+use Rattle.shim_meaning.specs.Nodes.{source_among}
 use Rattle.shim_tree.specs.Below.{nodes, together}
 use Rattle.shim_tree.specs.Meeting.{valued}
 use Rattle.shim_tree.proofs.receive.+value_at.Given as goal

@@ -1,9 +1,9 @@
 use Rattle.std.proofs.Common.{◌≡◌, ◌∙◌, sym, ap}
 use Rattle.std.specs.Option.{option_map}
-use Rattle.shim_tree.specs.Nodes.{Forked}
+use Rattle.shim_meaning.specs.Nodes.{Forked}
 use Rattle.shim_tree.specs.Below.{nodes, together}
 use Rattle.shim_tree.specs.Beside.{place}
-use Rattle.shim_tree.specs.Walks.{head, walk, poisons_of}
+use Rattle.shim_meaning.specs.Walks.{head, walk, poisons_of}
 use Rattle.shim_tree.specs.Finding.{found_event}
 use Rattle.shim_tree.proofs.Beside.{is_forked, inside, outside, asked_in, asked_past}
 use Rattle.shim_tree.proofs.Seeks.{found_here, found_poison, found_there, found_later, found_none}

@@ -1,5 +1,5 @@
 use Rattle.std.proofs.Common.{◌≡◌}
-use Rattle.shim_tree.specs.Walks.{head, walk_all}
+use Rattle.shim_meaning.specs.Walks.{head, walk_all}
 use Rattle.shim_tree.proofs.Beside.{from}
 use Rattle.shim_tree.proofs.seek.+found_first.Given as goal
 

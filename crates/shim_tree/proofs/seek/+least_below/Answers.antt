@@ -1,6 +1,6 @@
 use Rattle.std.proofs.Common.{◌∙◌, ap}
 use Rattle.std.specs.Option.{option_copied}
-use Rattle.shim_tree.specs.Walks.{as_list, waited}
+use Rattle.shim_meaning.specs.Walks.{as_list, waited}
 use Rattle.shim_tree.specs.Finding.{channel_in, least}
 use Rattle.shim_tree.specs.Searching.{passes}
 use Rattle.shim_tree.proofs.Beside.{inside, outside, asked_in, asked_past}

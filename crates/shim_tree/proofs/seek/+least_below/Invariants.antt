@@ -1,6 +1,6 @@
 use Rattle.std.proofs.Common.{◌≡◌}
 use Rattle.std.specs.Option.{option_copied}
-use Rattle.shim_tree.specs.Walks.{all_waited}
+use Rattle.shim_meaning.specs.Walks.{all_waited}
 use Rattle.shim_tree.specs.Finding.{channel_in, least}
 use Rattle.shim_tree.specs.Searching.{passes}
 use Rattle.shim_tree.proofs.Beside.{from}

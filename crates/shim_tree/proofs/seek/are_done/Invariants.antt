@@ -1,5 +1,5 @@
 use Rattle.std.proofs.Common.{◌≡◌}
-use Rattle.shim_tree.specs.Nodes.{all_done}
+use Rattle.shim_meaning.specs.Nodes.{all_done}
 use Rattle.shim_tree.proofs.Beside.{from}
 use Rattle.shim_tree.proofs.seek.are_done.Given as goal
 

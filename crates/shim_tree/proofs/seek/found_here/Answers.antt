@@ -1,7 +1,7 @@
 use Rattle.std.proofs.Common.{◌∙◌, sym, ap, Some, None}
 use Rattle.std.specs.Option.{option_copied}
 use Rattle.shim_tree.specs.Below.{node, nodes, together}
-use Rattle.shim_tree.specs.Trees.{Close}
+use Rattle.shim_meaning.specs.Trees.{Close}
 use Rattle.shim_tree.specs.Finding.{channel_in}
 use Rattle.shim_tree.proofs.Firsts.{closes_here, met_here}
 use Rattle.shim_tree.proofs.seek.found_here.Goals as goal

@@ -1,5 +1,5 @@
 use Rattle.std.proofs.Common.{◌∙◌, sym, ap}
-use Rattle.shim_tree.specs.Nodes.{goes}
+use Rattle.shim_meaning.specs.Nodes.{goes}
 use Rattle.shim_tree.proofs.Beside.{place_in, place_past}
 use Rattle.shim_tree.proofs.seek.is_going_at.Goals as goal
 

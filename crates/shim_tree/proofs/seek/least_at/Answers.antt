@@ -1,5 +1,5 @@
 use Rattle.std.proofs.Common.{◌∙◌, sym, ap, None}
-use Rattle.shim_tree.specs.Walks.{as_list, waited}
+use Rattle.shim_meaning.specs.Walks.{as_list, waited}
 use Rattle.shim_tree.specs.Finding.{least}
 use Rattle.shim_tree.specs.Searching.{passes}
 use Rattle.shim_tree.proofs.Beside.{place_in, place_past}

@@ -2,7 +2,7 @@ use Rattle.std.proofs.Common.{◌∙◌, sym, ap, Some, None}
 use Rattle.std.specs.Option.{option_copied}
 use Rattle.shim_tree.specs.Below.{nodes, together}
 use Rattle.shim_tree.specs.Beside.{place}
-use Rattle.shim_tree.specs.Trees.{Poison}
+use Rattle.shim_meaning.specs.Trees.{Poison}
 use Rattle.shim_tree.specs.Finding.{channel_in}
 use Rattle.shim_tree.proofs.Beside.{state_place}
 use Rattle.shim_tree.proofs.Firsts.{poisoned_first}

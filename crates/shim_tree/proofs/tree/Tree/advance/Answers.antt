@@ -1,9 +1,9 @@
 use Rattle.std.proofs.Common.{refl, sym, ap, ◌∙◌}
-use Rattle.shim_tree.specs.Places.{route}
+use Rattle.shim_meaning.specs.Places.{route}
 use Rattle.shim_tree.specs.Below.{node}
 use Rattle.shim_tree.proofs.Children.{state_node}
 use Rattle.shim_tree.proofs.AtOnce.{at_its_place, within_bounds, advances_from, stays_whole}
-use Rattle.shim_tree.proofs.SoundEvents.{runs_stay_sound}
+use Rattle.shim_meaning.proofs.SoundEvents.{runs_stay_sound}
 use Rattle.shim_tree.proofs.tree.Tree.advance.Goals as goal
 
 pub add-requires-clause-place : goal.add-requires-clause-place

@@ -2,10 +2,10 @@ use Rattle.std.proofs.Common.{◌≡◌, ◌∙◌, sym, ap, subst, Some, refl}
 use Rattle.std.specs.Option.{option_map}
 use Rattle.shim_tree.specs.Below.{node, event_of}
 use Rattle.shim_tree.specs.Finding.{found_event}
-use Rattle.shim_tree.specs.Places.{SoundBelow}
-use Rattle.shim_tree.specs.Walks.{head, walk}
-use Rattle.shim_tree.proofs.Choices.{none_some}
-use Rattle.shim_tree.proofs.Enabled.{first_enabled, none_first}
+use Rattle.shim_meaning.specs.Places.{SoundBelow}
+use Rattle.shim_meaning.specs.Walks.{head, walk}
+use Rattle.shim_meaning.proofs.Choices.{none_some}
+use Rattle.shim_meaning.proofs.Enabled.{first_enabled, none_first}
 use Rattle.shim_tree.proofs.tree.Tree.first.Goals as goal
 
 pub returns-in-None-clause-none : goal.returns-in-None-clause-none

@@ -1,5 +1,5 @@
 use Rattle.std.proofs.Common.{◌∙◌, ap}
-use Rattle.shim_tree.specs.Trees.{Steps, after, own}
+use Rattle.shim_meaning.specs.Trees.{Steps, after, own}
 use Rattle.shim_tree.specs.Below.{event_of}
 use Rattle.shim_tree.proofs.Happens.{its_path}
 use Rattle.shim_tree.proofs.tree.Tree.happen.Goals as goal

@@ -1,8 +1,8 @@
 use Rattle.std.proofs.Common.{sym, subst, to_z, of_z, w64}
 use Rattle.shim_tree.specs.Below.{node}
-use Rattle.shim_tree.specs.Sound.{IsSound}
+use Rattle.shim_meaning.specs.Sound.{IsSound}
 use Rattle.shim_tree.specs.Advancing.{AllHavePlaces}
-use Rattle.shim_tree.proofs.SoundEvents.{meeting_sound}
+use Rattle.shim_meaning.proofs.SoundEvents.{meeting_sound}
 use Rattle.shim_tree.proofs.BirthPlaces.{meeting_placed}
 use Rattle.shim_tree.proofs.tree.Tree.meet.Goals as goal
 

@@ -1,5 +1,5 @@
 use Rattle.shim_tree.specs.Below.{node}
-use Rattle.shim_tree.proofs.SoundEvents.{poisons_sound}
+use Rattle.shim_meaning.proofs.SoundEvents.{poisons_sound}
 use Rattle.shim_tree.proofs.BirthPlaces.{poison_placed}
 use Rattle.shim_tree.proofs.tree.Tree.poison.Goals as goal
 

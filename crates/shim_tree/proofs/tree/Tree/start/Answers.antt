@@ -1,9 +1,9 @@
 use Rattle.std.proofs.Common.{refl, sym, subst}
-use Rattle.shim_tree.specs.Sound.{IsSound}
+use Rattle.shim_meaning.specs.Sound.{IsSound}
 use Rattle.shim_tree.specs.Advancing.{AllHavePlaces}
 use Rattle.shim_tree.proofs.Children.{node_live}
-use Rattle.shim_tree.proofs.SoundEvents.{events_keep_sound}
-use Rattle.shim_tree.proofs.Counting.{none_counted}
+use Rattle.shim_meaning.proofs.SoundEvents.{events_keep_sound}
+use Rattle.shim_meaning.proofs.Counting.{none_counted}
 use Rattle.shim_tree.proofs.Happens.{first_placed, started}
 use Rattle.shim_tree.proofs.tree.Tree.start.Goals as goal
 

@@ -1,6 +1,6 @@
 use Rattle.std.proofs.Common.{refl, ap, sym, ◌∙◌}
 use Rattle.shim_tree.specs.Below.{node}
-use Rattle.shim_tree.specs.Places.{has_path, led_to}
+use Rattle.shim_meaning.specs.Places.{has_path, led_to}
 use Rattle.shim_tree.proofs.BirthPlaces.{place_of_path}
 use Rattle.shim_tree.proofs.Happens.{told_sound, more_placed, few_counted, own_done}
 use Rattle.shim_tree.proofs.tree.Tree.step.Goals as goal

@@ -1,0 +1,42 @@
+-- The tests of paths and channels tell whether they are the same.
+use Rattle.std.proofs.Common.{◌≡◌, ℕ, true, Some, None, [], ◌∷◌, ◌++◌, cond, refl, ap, ◌∙◌, eq-eqb, eqb-true, eqb}
+use Rattle.std.proofs.lemmas.List.{append_assoc}
+use Rattle.shim_base.specs.Paths.{Path, Channel, same_pair, same_path, same_channel}
+use Rattle.shim_meaning.specs.Places.{behind_front}
+use Rattle.shim_meaning.proofs.Choices.{first_holds, second_holds, both_hold}
+
+same_pair_refl : (x : ℕ × ℕ) → same_pair x x ≡ true
+same_pair_refl x = both_hold _ _ (eq-eqb x.0 x.0 refl) (eq-eqb x.1 x.1 refl)
+
+pub same_path_refl : (p : Path) → same_path p p ≡ true
+same_path_refl [] = refl
+same_path_refl (x ∷ p) = both_hold _ _ (same_pair_refl x) (same_path_refl p)
+
+pub same_path_is : (p q : Path) → same_path p q ≡ true → p ≡ q
+same_path_is [] [] e = refl
+same_path_is [] (y ∷ q) e = absurd cc
+same_path_is (x ∷ p) [] e = absurd cc
+same_path_is (x ∷ p) (y ∷ q) e =
+    let here = first_holds (same_pair x y) (same_path p q) e in
+    let a = eqb-true x.0 y.0 (first_holds (eqb x.0 y.0) _ here) in
+    let b = eqb-true x.1 y.1 (second_holds (eqb x.0 y.0) _ here) in
+    let t = same_path_is p q (second_holds (same_pair x y) _ e) in
+    let xy : x ≡ y = λ i. (a i, b i) in
+    λ i. xy i ∷ t i
+
+pub same_channel_is : (c d : Channel) → same_channel c d ≡ true → c ≡ d
+same_channel_is c d e =
+    let a = same_path_is c.home d.home (first_holds (same_path c.home d.home) _ e) in
+    let b = eqb-true c.serial d.serial (second_holds (same_path c.home d.home) _ e) in
+    λ i. record { home = a i; serial = b i }
+
+pub same_channel_refl : (c : Channel) → same_channel c c ≡ true
+same_channel_refl c = both_hold _ _ (same_path_refl c.home) (eq-eqb c.serial c.serial refl)
+
+pub behind_front_of : (p r : Path) → behind_front p (p ++ r) ≡ Some r
+behind_front_of [] r = refl
+behind_front_of (x ∷ p) r = ap (λ b. cond b (behind_front p (p ++ r)) None) (same_pair_refl x) ∙ behind_front_of p r
+
+-- one pair further
+pub further : (p : Path) (x : ℕ × ℕ) (q r : Path) → q ≡ p ++ x ∷ [] → q ++ r ≡ p ++ x ∷ r
+further p x q r e = ap (λ z. z ++ r) e ∙ append_assoc p (x ∷ []) r
