@@ -4,7 +4,7 @@
 mod source;
 /// The words of a trace.
 pub mod tell;
-mod trace;
+mod tracing;
 
 pub use source::{differing, differing_sources, start};
-pub use trace::{Fate, trace};
+pub use tracing::{Fate, trace};

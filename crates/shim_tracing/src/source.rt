@@ -1,5 +1,5 @@
 // Whole sources, each with the trace of the process that runs its `main`.
-use crate::trace::trace;
+use crate::tracing::trace;
 use shim_base::{List, NoMemory, Shared};
 use shim_parser::parse;
 use shim_scopes::resolve;

@@ -1,5 +1,5 @@
 use Rattle.shim_tracing.proofs.Keeping.{quiet_steps}
-use Rattle.shim_tracing.proofs.trace.go_quietly.Goals as goal
+use Rattle.shim_tracing.proofs.tracing.go_quietly.Goals as goal
 
 pub returns : goal.returns
 returns g c =

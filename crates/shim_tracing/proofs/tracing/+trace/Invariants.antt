@@ -1,6 +1,6 @@
 use Rattle.std.proofs.Common.{ℕ, ◌+◌, ◌*◌}
 use Rattle.shim_tracing.specs.Kept.{StaysChild, StayChildren}
-use Rattle.shim_tracing.proofs.trace.+trace.Given as goal
+use Rattle.shim_tracing.proofs.tracing.+trace.Given as goal
 
 -- a level is left with each fork
 abbrev pub decreases-trace : goal.decreases-trace

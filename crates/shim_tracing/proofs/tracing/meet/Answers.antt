@@ -1,6 +1,6 @@
 use Rattle.shim_local.specs.Laws.{by_call, by_receive}
 use Rattle.shim_tracing.proofs.Keeping.{one_call}
-use Rattle.shim_tracing.proofs.trace.meet.Goals as goal
+use Rattle.shim_tracing.proofs.tracing.meet.Goals as goal
 
 pub returns : goal.returns
 returns g c =

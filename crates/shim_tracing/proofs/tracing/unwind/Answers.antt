@@ -1,7 +1,7 @@
 use Rattle.std.proofs.Common.{◌≤◌, ◌<◌, arith}
 use Rattle.shim_local.specs.Laws.{by_call, by_unwind}
 use Rattle.shim_tracing.proofs.Keeping.{one_call}
-use Rattle.shim_tracing.proofs.trace.unwind.Goals as goal
+use Rattle.shim_tracing.proofs.tracing.unwind.Goals as goal
 
 pub returns-in_ok-at_line : goal.returns-in_ok-at_line
 returns-in_ok-at_line g c =

@@ -5,7 +5,7 @@ use Rattle.shim_local.specs.Laws.{AllOf}
 use Rattle.shim_local.specs.Views.{ForkGives}
 use Rattle.shim_tracing.specs.Kept.{StaysChild, StayChildren}
 use Rattle.shim_tracing.proofs.Keeping.{fork_and_join, stays_then, one_moved, stay_then}
-use Rattle.shim_tracing.proofs.trace.+trace.Goals as goal
+use Rattle.shim_tracing.proofs.tracing.+trace.Goals as goal
 
 pub fork-returns-in_ok-extend_from_slice-in-Children : goal.fork-returns-in_ok-extend_from_slice-in-Children
 fork-returns-in_ok-extend_from_slice-in-Children g t c =
