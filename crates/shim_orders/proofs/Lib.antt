@@ -1,0 +1,21 @@
+-- The lemmas of this crate, one module for each subject.
+pub mod Lengths
+pub mod Rounds
+pub mod Events
+pub mod Maps
+pub mod Longer
+pub mod Orders
+pub mod Two
+pub mod Pairs
+pub mod Putters
+pub mod Diamond
+pub mod EveryPair
+pub mod DeadBelow
+pub mod Forks
+pub mod Leaves
+pub mod Stood
+pub mod MeetSpares
+pub mod PoisonSpares
+pub mod Threw
+pub mod Thrown
+pub mod CatchLogs
