@@ -570,6 +570,7 @@ fn words_files_and_the_sink_decide_the_status(rt: HostRuntime) -> Result<(), Fai
     let none: &[u64] = &[];
     for (words, reads, most, writes, status, text) in [
         (run, none, 1000, none, 0, REPORT),
+        (&["shim", "ref", "p.shim"], none, 1000, none, 0, REPORT),
         (&[], none, 1000, none, 2, USAGE),
         (&["shim"], none, 1000, none, 2, USAGE),
         (&["shim", "run"], none, 1000, none, 2, USAGE),

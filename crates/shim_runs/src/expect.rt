@@ -44,12 +44,12 @@ fn files(alloc: Global, source: &str) -> Result<MemFiles, Fail> {
     Ok(MemFiles::new(alloc, held, List::new(alloc)))
 }
 
-// The status, and what was written.
-fn run(alloc: Global, source: &str) -> Result<(u8, Vec<u8>), Fail> {
+// The status, and what was written, in a mode.
+fn run(alloc: Global, mode: &str, source: &str) -> Result<(u8, Vec<u8>), Fail> {
     let mut files = files(alloc, source)?;
     let mut out = MemSink::new(alloc, 1000, List::new(alloc));
     out.room(1000)?;
-    let words = strings(alloc, &["shim", "run", "p.shim"])?;
+    let words = strings(alloc, &["shim", mode, "p.shim"])?;
     let status = shim(alloc, &words, &mut files, &mut out);
     Ok((status, out.taken().to_vec(alloc)?))
 }
@@ -57,21 +57,23 @@ fn run(alloc: Global, source: &str) -> Result<(u8, Vec<u8>), Fail> {
 fn expect_one(
     rt: &impl Abort,
     alloc: Global,
+    mode: &str,
     source: &str,
     wanted: u8,
     report: &str,
 ) -> Result<(), Fail> {
-    let (status, written) = run(alloc, source)?;
+    let (status, written) = run(alloc, mode, source)?;
     let written = str::from_utf8(written.as_slice())?;
-    assert_eq!(rt; written, report, "of {source}");
-    assert_eq!(rt; status, wanted, "of {source}");
+    assert_eq!(rt; written, report, "{mode} of {source}");
+    assert_eq!(rt; status, wanted, "{mode} of {source}");
     Ok(())
 }
 
-/// Expects of each source this status and this report.
+/// Expects of each source this status and this report, in the modes `run` and `ref`.
 pub fn expect(rt: &impl Abort, alloc: Global, rows: &[(&str, u8, &str)]) -> Result<(), Fail> {
     for row in rows {
-        expect_one(rt, alloc, row.0, row.1, row.2)?;
+        expect_one(rt, alloc, "run", row.0, row.1, row.2)?;
+        expect_one(rt, alloc, "ref", row.0, row.1, row.2)?;
     }
     Ok(())
 }

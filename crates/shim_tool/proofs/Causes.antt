@@ -11,7 +11,8 @@ use Rattle.shim_meaning.specs.Nodes.{Node, Live, Forked, Ended, Dead, has_ended,
 use Rattle.shim_meaning.specs.Trees.{Tree, Event, steps, sum, IsQuiescent}
 use Rattle.shim_meaning.specs.Walks.{walk, first, head}
 use Rattle.shim_meaning.specs.Endings.{ended, own_steps, is_empty, outcome, outcome_of_root}
-use Rattle.shim_tool.specs.Naming.{named, named_outcome}
+use Rattle.shim_reference.specs.Naming.{named, named_outcome}
+use Rattle.shim_reference.specs.Reference.{reference_of}
 use Rattle.shim_tool.specs.Source.{Source}
 use Rattle.shim_tool.specs.Meaning.{budget, tree_of, end_of, status_of, status_of_outcome, printed_steps, IsDone, IsFailed, IsBlocked, IsSpent, WasRun}
 
@@ -40,7 +41,7 @@ told o throws t = refl
 
 -- the status of a source tells the outcome of its tree
 status_told : (source : Source) → status_of source ≡ status_of_outcome (outcome process_ops (tree_of source).root)
-unfolding end_of
+unfolding end_of reference_of tree_of
 status_told source =
     let t = tree_of source in
     ap status_of_outcome (told process_ops source.main_throws t) ∙ status_named source.main_throws (outcome process_ops t.root)
@@ -140,5 +141,5 @@ spent_steps source (inr (some, busy, full)) is = full
 
 -- and those of a run that was stopped to the budget
 pub spent_counts : (source : Source) → WasRun source → status_of source ≡ 4 → printed_steps (end_of source) ≡ budget
-unfolding end_of
+unfolding end_of reference_of tree_of
 spent_counts source was_run is = printed process_ops source.main_throws (tree_of source) ∙ spent_steps source was_run is

@@ -5,12 +5,10 @@ use Rattle.shim_syntax.specs.declared.Program.{Program}
 use Rattle.shim_parser.specs.Parsing.{Answers, IsOnly}
 use Rattle.shim_tool.specs.declared.mode.Mode.{Mode}
 use Rattle.shim_tool.specs.Source.{Source}
-use Rattle.shim_units.specs.Forks.{root}
-use Rattle.shim_units.specs.LocalState.{LocalState}
 use Rattle.shim_process.specs.Ops.{process_ops}
-use Rattle.shim_meaning.specs.Trees.{start}
-use Rattle.shim_meaning.specs.Walks.{meaning}
-use Rattle.shim_tool.specs.Meaning.{budget, tree_of, end_of, status_of_outcome, IsEndOfRun, WasRun}
+use Rattle.shim_reference.specs.Reference.{meaning_of, reference_of}
+use Rattle.shim_reference.specs.Runs.{IsEndOfRun}
+use Rattle.shim_tool.specs.Meaning.{budget, tree_of, end_of, status_of_outcome, WasRun}
 use Rattle.shim_tool.specs.Answer.{Answer, AnswersUnits, AnswersProgram, AnswersSource, text_of}
 
 -- what follows from a fact of the value follows from it where there is a value
@@ -18,20 +16,17 @@ pub if_ok_weaker : {T E : Type 0} (r : Result T E) (P Q : T → Type 0) → ((x 
 if_ok_weaker (Ok x) P Q f p = f x p
 if_ok_weaker (Err e) P Q f p = tt
 
--- what holds anyhow holds where there is a value
-pub on_ok_anyhow : {T E : Type 0} (r : Result T E) (P : Type 0) → P → OnOk r P
-on_ok_anyhow (Ok x) P p = p
-on_ok_anyhow (Err e) P p = tt
+-- a source's run has no input, and what is read off it is that of the program
+pub end_was : {E : Type 0} (r : Result Ended E) (source program : Source) (input : List ℕ) → program ≡ source → input ≡ []
+    → IfOk r (λ end. end ≡ reference_of program input budget) → IfOk r (λ end. end ≡ end_of source)
+unfolding end_of
+end_was r source program input same none is = subst (λ (p : Source). IfOk r (λ end. end ≡ reference_of p [] budget)) same (subst (λ (i : List ℕ). IfOk r (λ end. end ≡ reference_of program i budget)) none is)
 
--- a source is run by the run of its root, which has no input
-pub run_was : {T E : Type 0} (r : Result T E) (source : Source) (l : LocalState) (input : List ℕ) → l ≡ root source input → input ≡ []
-    → OnOk r (IsEndOfRun process_ops budget (meaning process_ops budget (start l))) → OnOk r (WasRun source)
+-- and that it was run
+pub run_was : {T E : Type 0} (r : Result T E) (source program : Source) (input : List ℕ) → program ≡ source → input ≡ []
+    → OnOk r (IsEndOfRun process_ops budget (meaning_of program input budget)) → OnOk r (WasRun source)
 unfolding tree_of
-run_was r source l input is none ran = subst (λ (k : LocalState). OnOk r (IsEndOfRun process_ops budget (meaning process_ops budget (start k)))) (is ∙ ap (root source) none) ran
-
--- the same source was run
-pub run_of : (s t : Source) → s ≡ t → WasRun s → WasRun t
-run_of s t same ran = subst (λ (b : Source). WasRun b) same ran
+run_was r source program input same none ran = subst (λ (p : Source). OnOk r (IsEndOfRun process_ops budget (meaning_of p [] budget))) same (subst (λ (i : List ℕ). OnOk r (IsEndOfRun process_ops budget (meaning_of program i budget))) none ran)
 
 -- a run's status and text answer its source
 pub answers_units : (mode : Mode) (s t : Source) (e : Ended) (status : ℕ) (text : List ℕ) → s ≡ t → WasRun s → e ≡ end_of s → status ≡ status_of_outcome e.outcome → text ≡ text_of mode s

@@ -1,9 +1,7 @@
 -- The lemmas of this crate, one module for each subject.
 pub mod ExecuteLemmas
 pub mod Faults
-pub mod FirstEvents
 pub mod Causes
 pub mod Outcomes
 pub mod Reached
-pub mod RootChannels
 pub mod RowLemmas

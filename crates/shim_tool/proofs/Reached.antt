@@ -7,6 +7,7 @@ use Rattle.shim_meaning.specs.Systems.{run, go_on}
 use Rattle.shim_meaning.specs.Trees.{Tree, Event, after, start, steps}
 use Rattle.shim_meaning.specs.Walks.{first, after_first, or_stay, meaning}
 use Rattle.shim_meaning.proofs.Counting.{event_counts, none_counted}
+use Rattle.shim_reference.specs.Reference.{meaning_of}
 use Rattle.shim_tool.specs.Source.{Source}
 use Rattle.shim_tool.specs.Meaning.{budget, tree_of, status_of, IsReachedIn, WasRun}
 use Rattle.shim_tool.proofs.Causes.{spent_steps}
@@ -39,7 +40,7 @@ module _ {S : Type 0} (o : Ops S) where
 
 -- the run of a source
 tree_reached : (source : Source) → Reaches process_ops budget (start (root source [])) (tree_of source)
-unfolding tree_of
+unfolding tree_of meaning_of
 tree_reached source = reached process_ops budget (start (root source []))
 
 -- the tree to which a source's run comes is reached by a run within the budget

@@ -9,7 +9,7 @@ use Rattle.shim_report.specs.declared.SourceFault.{SourceFault}
 use Rattle.shim_report.specs.declared.SourceFault.TheVariants.{Parse}
 use Rattle.shim_report.specs.Refusal.{refusal}
 use Rattle.shim_tool.specs.declared.mode.Mode.{Mode}
-use Rattle.shim_tool.specs.declared.mode.Mode.TheVariants.{Run}
+use Rattle.shim_tool.specs.declared.mode.Mode.TheVariants.{Run, Reference}
 use Rattle.shim_tool.specs.Asked.{Asked, nothing, job}
 use Rattle.shim_tool.specs.Moments.{FilesAt}
 use Rattle.shim_tool.specs.Source.{Source, IsSource, checked}
@@ -39,6 +39,7 @@ longer_line name = codes "file too long " ++ (name ++ (codes " " ++ (decimal sou
 -- what a mode writes of a source
 abbrev pub text_of : Mode → Source → List ℕ
 text_of Run source = report_of source
+text_of Reference source = report_of source
 
 -- the end of the source's run, told as the mode tells it
 abbrev pub end_answer : Mode → Source → Answer

@@ -2,7 +2,7 @@
 use Rattle.std.specs.Prelude.{ℕ, List, [], ◌∷◌, map, Option, Some, None, if◌then◌else◌, bytes_eq, codes, string_bytes, String}
 use Rattle.std.specs.declared.alloc.Global.{Global}
 use Rattle.shim_tool.specs.declared.mode.Mode.{Mode}
-use Rattle.shim_tool.specs.declared.mode.Mode.TheVariants.{Run}
+use Rattle.shim_tool.specs.declared.mode.Mode.TheVariants.{Run, Reference}
 
 pub data Asked : Type 0 where
   nothing : Asked
@@ -13,7 +13,7 @@ texts_of_words words = map string_bytes words
 
 -- the mode that a word names
 abbrev pub mode_of : List ℕ → Option Mode
-mode_of word = if bytes_eq word (codes "run") then Some Run else None
+mode_of word = if bytes_eq word (codes "run") then Some Run else (if bytes_eq word (codes "ref") then Some Reference else None)
 
 abbrev pub ask : Option Mode → List ℕ → Asked
 ask None file = nothing

@@ -1,6 +1,5 @@
 -- The definitions of this crate, one module for each subject.
 pub mod Source
-pub mod Naming
 pub mod Meaning
 pub mod Asked
 pub mod Moments

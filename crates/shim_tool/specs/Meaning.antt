@@ -1,6 +1,5 @@
 -- What a source means: the run from its root that always does the first event that is enabled.
-use Rattle.std.specs.Prelude.{◌≡◌, ◌≢◌, ◌⊎◌, ℕ, ◌+◌, IsTrue, Some, None, List, [], length, map}
-use Rattle.shim_local.specs.Process.{Ops}
+use Rattle.std.specs.Prelude.{◌≡◌, ℕ, ◌+◌, IsTrue, Some, List, [], length, map}
 use Rattle.shim_local.specs.declared.Ended.{Ended}
 use Rattle.shim_local.specs.declared.Outcome.{Outcome}
 use Rattle.shim_local.specs.declared.Outcome.TheVariants.{Done, Uncaught, Trapped, Blocked, Spent}
@@ -10,10 +9,9 @@ use Rattle.shim_process.specs.Ops.{process_ops}
 use Rattle.shim_report.specs.Report.{report}
 use Rattle.shim_meaning.specs.Nodes.{has_ended, is_dead, goes}
 use Rattle.shim_meaning.specs.Systems.{run}
-use Rattle.shim_meaning.specs.Trees.{Tree, Event, after, start, steps, sum, IsQuiescent}
-use Rattle.shim_meaning.specs.Walks.{first, meaning}
-use Rattle.shim_meaning.specs.Endings.{ended}
-use Rattle.shim_tool.specs.Naming.{named}
+use Rattle.shim_meaning.specs.Trees.{Tree, Event, after, start, sum, IsQuiescent}
+use Rattle.shim_reference.specs.Reference.{meaning_of, reference_of}
+use Rattle.shim_reference.specs.Runs.{IsEndOfRun}
 use Rattle.shim_tool.specs.Source.{Source}
 
 -- the most events of a run: the budget where none is asked for
@@ -22,11 +20,11 @@ budget = 1000000
 
 -- the tree to which the run comes; no mode gives the program an input yet
 unfoldable pub tree_of : Source → Tree LocalState
-tree_of source = meaning process_ops budget (start (root source []))
+tree_of source = meaning_of source [] budget
 
 -- what is read off it, with the name of an exception that nobody caught
 unfoldable pub end_of : Source → Ended
-end_of source = named source.main_throws (ended process_ops (tree_of source))
+end_of source = reference_of source [] budget
 
 -- its report
 abbrev pub report_of : Source → List ℕ
@@ -66,18 +64,6 @@ IsReachedIn n source = (es : List Event) × (run (after process_ops) es (start (
 -- the own steps and the other events that the report of a run which was stopped prints, added up
 abbrev pub printed_steps : Ended → ℕ
 printed_steps e = sum (map (λ s. s.count) e.own) + e.events
-
--- nothing can happen in the tree, and the walk finds that
-abbrev pub IsAtRest : {S : Type 0} → Ops S → Tree S → Type 0
-IsAtRest o t = (first o t ≡ None) × IsQuiescent o t
-
--- so many events led to the tree, and the walk finds one more that can happen
-abbrev pub IsStopped : {S : Type 0} → Ops S → ℕ → Tree S → Type 0
-IsStopped o b t = (first o t ≢ None) × (IsQuiescent o t → ⊥) × (steps t ≡ b)
-
--- what a run of at most so many events comes to
-abbrev pub IsEndOfRun : {S : Type 0} → Ops S → ℕ → Tree S → Type 0
-IsEndOfRun o b t = IsAtRest o t ⊎ IsStopped o b t
 
 -- the source was run
 abbrev pub WasRun : Source → Type 0

@@ -2,8 +2,6 @@
 ghost use Rattle.std.specs.Prelude.{◌≡◌, ◌≤◌, length, IfOk, OnOk};
 ghost use Rattle.shim_syntax.specs.ShortText.{HasText};
 ghost use Rattle.shim_sharing.specs.Accepting.{accepted};
-ghost use Rattle.shim_process.specs.Ops.{process_ops};
-ghost use Rattle.shim_meaning.specs.Endings as endings;
 ghost use Rattle.shim_tool.specs.Answer.{AnswersUnits, AnswersProgram, AnswersSource, text_of};
 ghost use Rattle.shim_tool.specs.Meaning as meanings;
 ghost use Rattle.shim_tool.specs.Source.{IsMeant, checked, shared};
@@ -11,40 +9,27 @@ ghost use Rattle.shim_tool.specs.Views.{answer_view};
 
 use crate::answer::{Answer, refused};
 use crate::mode::Mode;
-use crate::naming::named;
-use crate::run::run;
 use crate::status::Status;
 use shim_base::{List, NoMemory, Shared};
 use shim_parser::parse;
+use shim_reference::reference;
 use shim_report::{Ended, SourceFault, text};
 use shim_scopes::{Resolved, resolve};
 use shim_sharing::{Accepted, accept};
 use shim_syntax::Program;
-use shim_walk::Walk;
 use std::alloc::Global;
 
 /// The most events of a run: the budget where none is asked for.
 const BUDGET: u64 = 1000000;
 
-// What is read off the tree to which a source's run comes. It has no input.
-#[tactic(auto, unfolding(crate::specs::Meaning::tree_of))]
-fn ended_of(alloc: Global, source: Shared<Accepted>) -> Result<Ended, NoMemory>
-    ensures end { IfOk result (λ end. end ≡ endings.ended process_ops (meanings.tree_of source)) }
-    ensures ran { OnOk result (meanings.WasRun source) }
-{
-    let input = Shared::new(alloc, List::new(alloc))?;
-    let main = Walk::main(alloc, source, input)?;
-    run(alloc, main, BUDGET)
-}
-
-// What a source's run comes to.
+// What a source's run comes to. It has no input.
 #[tactic(auto, unfolding(crate::specs::Meaning::end_of))]
 fn end_of(alloc: Global, source: &Shared<Accepted>) -> Result<Ended, NoMemory>
     ensures end { IfOk result (λ end. end ≡ meanings.end_of source.now) }
     ensures ran { OnOk result (meanings.WasRun source.now) }
 {
-    let end = ended_of(alloc, source.share()?)?;
-    Ok(named(end, source.main_throws()))
+    let input = Shared::new(alloc, List::new(alloc))?;
+    reference(alloc, source.share()?, input, BUDGET)
 }
 
 // What a mode writes of a source's run that has ended so.
@@ -53,7 +38,7 @@ fn text_of(alloc: Global, mode: Mode, source: &Accepted, end: &Ended) -> Result<
     ensures { IfOk result (λ text. text ≡ text_of mode source.now) }
 {
     match mode {
-        Mode::Run => text(alloc, end, source.names()),
+        Mode::Run | Mode::Reference => text(alloc, end, source.names()),
     }
 }
 

@@ -5,8 +5,6 @@ mod answer;
 mod call;
 mod execute;
 mod mode;
-mod naming;
-mod run;
 mod status;
 mod words;
 

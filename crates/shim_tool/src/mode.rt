@@ -4,4 +4,6 @@
 pub enum Mode {
     /// It is run, and the run is reported.
     Run,
+    /// Its meaning is reported: the run of one worker that always does the first event.
+    Reference,
 }

@@ -15,7 +15,13 @@ pub(crate) struct Job<'a> {
 fn mode_of(word: &str) -> Option<Mode>
     ensures { result ≡ mode_of word.now }
 {
-    if word == "run" { Some(Mode::Run) } else { None }
+    if word == "run" {
+        Some(Mode::Run)
+    } else if word == "ref" {
+        Some(Mode::Reference)
+    } else {
+        None
+    }
 }
 
 /// Reads the words, the first of which is the program's own name. `None` asks for nothing.

@@ -4,7 +4,7 @@ ghost use Rattle.shim_meaning.specs.Trees.{start, steps, IsQuiescent};
 ghost use Rattle.shim_meaning.specs.Walks.{meaning};
 ghost use Rattle.shim_meaning.specs.Endings.{ended};
 ghost use Rattle.shim_meaning.specs.Sound.{SharesItsOwn};
-ghost use Rattle.shim_tool.specs.Meaning.{IsEndOfRun};
+ghost use Rattle.shim_reference.specs.Runs.{IsEndOfRun};
 
 use shim_base::NoMemory;
 use shim_local::{Ended, Local};

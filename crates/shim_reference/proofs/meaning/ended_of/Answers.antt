@@ -1,9 +1,8 @@
-use Rattle.std.proofs.Common.{◌∙◌}
 use denote.Param.Send.{sendable}
 use Rattle.shim_walk.proofs.Sends.{walk_send}
-use Rattle.shim_tool.proofs.ExecuteLemmas.{run_was}
-use Rattle.shim_tool.proofs.RootChannels.{main_shares_its_own}
-use Rattle.shim_tool.proofs.execute.ended_of.Goals as goal
+use Rattle.shim_reference.proofs.Outcomes.{run_was}
+use Rattle.shim_reference.proofs.RootChannels.{main_shares_its_own}
+use Rattle.shim_reference.proofs.meaning.ended_of.Goals as goal
 
 pub run-requires-send-L : goal.run-requires-send-L
 run-requires-send-L c κs = search (walk_send, sendable)
@@ -12,4 +11,4 @@ pub run-requires-clause-own : goal.run-requires-clause-own
 run-requires-clause-own c κs = main_shares_its_own _ _ _ c.in_ok-main.ensures
 
 pub returns-clause-ran : goal.returns-clause-ran
-returns-clause-ran c = run_was c.run.result _ _ _ c.in_ok-main.ensures (c.in_ok-input.ensures ∙ c.new.ensures) c.run.ensures.ran
+returns-clause-ran c = run_was c.run.result _ _ _ _ c.in_ok-main.ensures c.run.ensures.ran

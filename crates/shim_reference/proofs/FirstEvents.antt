@@ -4,7 +4,7 @@ use Rattle.std.specs.Option.{option_map}
 use Rattle.shim_local.specs.Process.{Ops}
 use Rattle.shim_meaning.specs.Trees.{Tree, Event, after, steps, IsQuiescent}
 use Rattle.shim_meaning.specs.Walks.{first, after_first, or_stay, meaning}
-use Rattle.shim_tool.specs.Meaning.{IsEndOfRun}
+use Rattle.shim_reference.specs.Runs.{IsEndOfRun}
 
 -- where nothing is enabled nothing more happens
 pub stays : {S : Type 0} (o : Ops S) (b : ℕ) (t : Tree S) → first o t ≡ None → meaning o b t ≡ t

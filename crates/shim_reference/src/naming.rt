@@ -1,6 +1,6 @@
 // The name of an exception that nobody caught, in place of its label.
 ghost use Rattle.std.specs.Prelude.{◌≡◌};
-ghost use Rattle.shim_tool.specs.Naming as naming;
+ghost use Rattle.shim_reference.specs.Naming as naming;
 
 use shim_local::{Ended, Outcome};
 

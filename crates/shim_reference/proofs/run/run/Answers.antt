@@ -2,9 +2,9 @@ use Rattle.std.proofs.Common.{◌≡◌, ap, ◌∙◌}
 use Rattle.shim_tree.specs.Below.{event_of}
 use Rattle.shim_meaning.specs.Trees.{start}
 use Rattle.shim_meaning.specs.Walks.{meaning}
-use Rattle.shim_tool.proofs.ExecuteLemmas.{on_ok_anyhow}
-use Rattle.shim_tool.proofs.FirstEvents.{run_ended}
-use Rattle.shim_tool.proofs.run.run.Goals as goal
+use Rattle.shim_reference.proofs.Outcomes.{on_ok_anyhow}
+use Rattle.shim_reference.proofs.FirstEvents.{run_ended}
+use Rattle.shim_reference.proofs.run.run.Goals as goal
 
 pub returns-clause-ran : goal.returns-clause-ran
 returns-clause-ran g c =

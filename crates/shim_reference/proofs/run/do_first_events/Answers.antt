@@ -2,8 +2,8 @@ use Rattle.std.proofs.Common.{◌≡◌, ◌+◌, ◌-◌, zero, sym, ap, ◌∙
 use Rattle.std.specs.Option.{option_map}
 use Rattle.shim_tree.specs.Below.{event_of}
 use Rattle.shim_meaning.specs.Walks.{meaning}
-use Rattle.shim_tool.proofs.FirstEvents.{stays, goes_on, no_more, one_less}
-use Rattle.shim_tool.proofs.run.do_first_events.Goals as goal
+use Rattle.shim_reference.proofs.FirstEvents.{stays, goes_on, no_more, one_less}
+use Rattle.shim_reference.proofs.run.do_first_events.Goals as goal
 
 pub returns-in-None-clause-tree : goal.returns-in-None-clause-tree
 returns-in-None-clause-tree g c =

@@ -1,0 +1,21 @@
+-- What holds of a run's answer.
+use Rattle.std.proofs.Common.{◌≡◌, ℕ, List, Result, Ok, Err, OnOk, subst}
+use Rattle.shim_units.specs.declared.form.Form.{Form}
+use Rattle.shim_units.specs.Forks.{root}
+use Rattle.shim_units.specs.LocalState.{LocalState}
+use Rattle.shim_process.specs.Ops.{process_ops}
+use Rattle.shim_meaning.specs.Trees.{start}
+use Rattle.shim_meaning.specs.Walks.{meaning}
+use Rattle.shim_reference.specs.Reference.{meaning_of}
+use Rattle.shim_reference.specs.Runs.{IsEndOfRun}
+
+-- what holds anyhow holds where there is a value
+pub on_ok_anyhow : {T E : Type 0} (r : Result T E) (P : Type 0) → P → OnOk r P
+on_ok_anyhow (Ok x) P p = p
+on_ok_anyhow (Err e) P p = tt
+
+-- the run of a program's root is that of the program
+pub run_was : {T E : Type 0} (r : Result T E) (program : Form) (input : List ℕ) (b : ℕ) (l : LocalState) → l ≡ root program input
+    → OnOk r (IsEndOfRun process_ops b (meaning process_ops b (start l))) → OnOk r (IsEndOfRun process_ops b (meaning_of program input b))
+unfolding meaning_of
+run_was r program input b l is ran = subst (λ (k : LocalState). OnOk r (IsEndOfRun process_ops b (meaning process_ops b (start k)))) is ran
