@@ -1,0 +1,21 @@
+-- The lemmas of this crate.
+pub mod Along
+pub mod AlongEvents
+pub mod InputMoves
+pub mod Input
+pub mod FittingItems
+pub mod FittingFrames
+pub mod CallSlots
+pub mod Marks
+pub mod AtPlaces
+pub mod WholeEnds
+pub mod WholeStores
+pub mod WholeCalls
+pub mod WholeSteps
+pub mod LendingPlaces
+pub mod ForkArguments
+pub mod ForkHomes
+pub mod WholeJoins
+pub mod Homes
+pub mod Carried
+pub mod Reached
