@@ -32,10 +32,22 @@ fn a_differing_trace_is_told(rt: HostRuntime) -> Result<(), Fail> {
         ("void main(ostream o) { put o, 2; }", "put=1 end"),
         ("void main(ostream o) { put 2; }", ""),
     ];
-    let differing = differing_sources(alloc, &rows)?;
+    let told = differing_sources(alloc, &rows)?;
     assert_eq!(&rt;
-        str::from_utf8(differing.as_slice())?,
+        str::from_utf8(told.as_slice())?,
         "void main(ostream o) { put o, 2; } : put=2 end\nvoid main(ostream o) { put 2; } : refused\n"
+    );
+    Ok(())
+}
+
+#[test]
+fn differing_statements_are_told(rt: HostRuntime) -> Result<(), Fail> {
+    let alloc = rt.alloc();
+    let rows = [("put o, 1;", "put=1 end"), ("f(o);", "put=1 end")];
+    let told = differing(alloc, "void f(ostream o) { put o, 2; }", &rows)?;
+    assert_eq!(&rt;
+        str::from_utf8(told.as_slice())?,
+        "void f(ostream o) { put o, 2; } void main(istream i, ostream o) { f(o); } : q1 put=2 end\n"
     );
     Ok(())
 }
