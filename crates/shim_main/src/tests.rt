@@ -8,6 +8,7 @@ use shim_tool::shim;
 use std::alloc::{AllocError, Global};
 use std::fs;
 use std::io::{self, ErrorKind};
+use std::process::Abort;
 use std::test::Fail;
 
 const PUTS_A: &str = "void main(ostream &o) { int x; x = 65; put o, x; }";
@@ -61,6 +62,22 @@ fn run(alloc: Global, source: &[u8]) -> Result<(u8, Vec<u8>), Fail> {
     outcome(alloc, &["shim", "run", "p.shim"], source, &[], 1000, &[])
 }
 
+// Expects that each source is answered with this status and with the text beside it.
+fn expect_each(
+    rt: &impl Abort,
+    alloc: Global,
+    wanted: u8,
+    rows: &[(&str, &str)],
+) -> Result<(), Fail> {
+    for row in rows {
+        let source = row.0;
+        let (got, bytes) = run(alloc, source.as_bytes())?;
+        assert_eq!(rt; got, wanted, "status of {source}");
+        assert_eq!(rt; bytes.as_slice(), row.1.as_bytes(), "text of {source}");
+    }
+    Ok(())
+}
+
 // A text in which a part stands so many times.
 fn repeated(
     alloc: Global,
@@ -80,200 +97,200 @@ fn repeated(
 #[test]
 fn plain_sources_run(rt: HostRuntime) -> Result<(), Fail> {
     let alloc = rt.alloc();
-    for (source, text) in [
-        (PUTS_A, REPORT),
-        ("void main(ostream &o) { }", "output 0\nend done 1\n"),
-        (
-            "\n\tvoid\rmain(ostream&o){\x0b\x0c}\n",
-            "output 0\nend done 1\n",
-        ),
-        (
-            "void main(ostream &main) { put main, 0; }",
-            "output 1 00\nend done 2\n",
-        ),
-        // What is put is the low 8 bits.
-        (
-            "void main(ostream &o) { put o, 255 + 1; put o, 2147483647 + 1; }",
-            "output 2 0000\nend done 3\n",
-        ),
-        (
-            "void main(ostream &o) { int x; x = 2147483647 + 2; x = x + x; put o, x + 3; }",
-            "output 1 05\nend done 5\n",
-        ),
-        (
-            "void main(ostream &o) { int x; put o, x; x = 7; put o, x; x = x + x + 007; put o, x; }",
-            "output 3 000715\nend done 7\n",
-        ),
-        // Numbers.
-        (
-            "void main(ostream &o) { put o, 2147483647; }",
-            "output 1 ff\nend done 2\n",
-        ),
-        (
-            "void main(ostream &o) { put o, 2147483648; }",
-            "output 1 00\nend done 2\n",
-        ),
-        (
-            "void main(ostream &o) { put o, 00000000000000000000000000000065; }",
-            "output 1 41\nend done 2\n",
-        ),
-        (
-            "void main(ostream &o) { put o, -1; }",
-            "output 1 ff\nend done 2\n",
-        ),
-        (
-            "void main(ostream &o) { put o, 0x41; put o, 0X7fFfFfFf; }",
-            "output 2 41ff\nend done 3\n",
-        ),
-        (
-            "void main(ostream &o) { put o, 0x80000000; }",
-            "output 1 00\nend done 2\n",
-        ),
-        (
-            "void main(ostream &o) { put o, 2 * 3; }",
-            "output 1 06\nend done 2\n",
-        ),
-        // Names and keywords.
-        (
-            "void main(ostream &o) { int int9; }",
-            "output 0\nend done 2\n",
-        ),
-        (
-            "void main(ostream &o) { int _; _ = 1; put o, _; }",
-            "output 1 01\nend done 4\n",
-        ),
-        (
-            "void main(ostream &o) { int32 x; }",
-            "output 0\nend done 2\n",
-        ),
-        ("void main() { }", "output 0\nend done 1\n"),
-        ("void main(void) { }", "output 0\nend done 1\n"),
-        (
-            "void main(ostream &o) throws T { }",
-            "output 0\nend done 1\n",
-        ),
-        ("void main(ostream o) { }", "output 0\nend done 1\n"),
-        ("void main(ostream &o) { ; }", "output 0\nend done 1\n"),
-        (
-            "void main(ostream &o) { int x, y; }",
-            "output 0\nend done 3\n",
-        ),
-        (
-            "void main(ostream &o) { put o, (1); put o, (1 + 2) + 3; put o, true; }",
-            "output 3 010601\nend done 4\n",
-        ),
-        (
-            "void main(ostream &o) { put o, 1 + (2 + 3); }",
-            "output 1 06\nend done 2\n",
-        ),
-        (
-            "void main(ostream &o) { put o, 1 - 2; }",
-            "output 1 ff\nend done 2\n",
-        ),
-        (
-            "void main(ostream &o) { int x = 1; put o, x; }",
-            "output 1 01\nend done 3\n",
-        ),
-        (
-            "void main(ostream &o) { uint8 x; }",
-            "output 0\nend done 2\n",
-        ),
-        (
-            "void main(ostream &o) { while (0) put o, 1; }",
-            "output 0\nend done 2\n",
-        ),
-        (
-            "void main(ostream &o) { if (1) { } else { } }",
-            "output 0\nend done 2\n",
-        ),
-        (
-            "void main(ostream &o) { { } par { } }",
-            "output 0\nend done 5\n",
-        ),
-        (
-            "void f() { } void main(ostream &o) { f(); }",
-            "output 0\nend done 2\n",
-        ),
-        // Comments.
-        (
-            "void main(ostream &o) { put o, 1 /* + 2 */; } // later",
-            "output 1 01\nend done 2\n",
-        ),
-    ] {
-        let (got, bytes) = run(alloc, source.as_bytes())?;
-        assert_eq!(rt; got, 0, "status of {source}");
-        assert_eq!(rt; bytes.as_slice(), text.as_bytes(), "text of {source}");
-    }
-    Ok(())
+    expect_each(
+        &rt,
+        alloc,
+        0,
+        &[
+            (PUTS_A, REPORT),
+            ("void main(ostream &o) { }", "output 0\nend done 1\n"),
+            (
+                "\n\tvoid\rmain(ostream&o){\x0b\x0c}\n",
+                "output 0\nend done 1\n",
+            ),
+            (
+                "void main(ostream &main) { put main, 0; }",
+                "output 1 00\nend done 2\n",
+            ),
+            // What is put is the low 8 bits.
+            (
+                "void main(ostream &o) { put o, 255 + 1; put o, 2147483647 + 1; }",
+                "output 2 0000\nend done 3\n",
+            ),
+            (
+                "void main(ostream &o) { int x; x = 2147483647 + 2; x = x + x; put o, x + 3; }",
+                "output 1 05\nend done 5\n",
+            ),
+            (
+                "void main(ostream &o) { int x; put o, x; x = 7; put o, x; x = x + x + 007; put o, x; }",
+                "output 3 000715\nend done 7\n",
+            ),
+            // Numbers.
+            (
+                "void main(ostream &o) { put o, 2147483647; }",
+                "output 1 ff\nend done 2\n",
+            ),
+            (
+                "void main(ostream &o) { put o, 2147483648; }",
+                "output 1 00\nend done 2\n",
+            ),
+            (
+                "void main(ostream &o) { put o, 00000000000000000000000000000065; }",
+                "output 1 41\nend done 2\n",
+            ),
+            (
+                "void main(ostream &o) { put o, -1; }",
+                "output 1 ff\nend done 2\n",
+            ),
+            (
+                "void main(ostream &o) { put o, 0x41; put o, 0X7fFfFfFf; }",
+                "output 2 41ff\nend done 3\n",
+            ),
+            (
+                "void main(ostream &o) { put o, 0x80000000; }",
+                "output 1 00\nend done 2\n",
+            ),
+            (
+                "void main(ostream &o) { put o, 2 * 3; }",
+                "output 1 06\nend done 2\n",
+            ),
+            // Names and keywords.
+            (
+                "void main(ostream &o) { int int9; }",
+                "output 0\nend done 2\n",
+            ),
+            (
+                "void main(ostream &o) { int _; _ = 1; put o, _; }",
+                "output 1 01\nend done 4\n",
+            ),
+            (
+                "void main(ostream &o) { int32 x; }",
+                "output 0\nend done 2\n",
+            ),
+            ("void main() { }", "output 0\nend done 1\n"),
+            ("void main(void) { }", "output 0\nend done 1\n"),
+            (
+                "void main(ostream &o) throws T { }",
+                "output 0\nend done 1\n",
+            ),
+            ("void main(ostream o) { }", "output 0\nend done 1\n"),
+            ("void main(ostream &o) { ; }", "output 0\nend done 1\n"),
+            (
+                "void main(ostream &o) { int x, y; }",
+                "output 0\nend done 3\n",
+            ),
+            (
+                "void main(ostream &o) { put o, (1); put o, (1 + 2) + 3; put o, true; }",
+                "output 3 010601\nend done 4\n",
+            ),
+            (
+                "void main(ostream &o) { put o, 1 + (2 + 3); }",
+                "output 1 06\nend done 2\n",
+            ),
+            (
+                "void main(ostream &o) { put o, 1 - 2; }",
+                "output 1 ff\nend done 2\n",
+            ),
+            (
+                "void main(ostream &o) { int x = 1; put o, x; }",
+                "output 1 01\nend done 3\n",
+            ),
+            (
+                "void main(ostream &o) { uint8 x; }",
+                "output 0\nend done 2\n",
+            ),
+            (
+                "void main(ostream &o) { while (0) put o, 1; }",
+                "output 0\nend done 2\n",
+            ),
+            (
+                "void main(ostream &o) { if (1) { } else { } }",
+                "output 0\nend done 2\n",
+            ),
+            (
+                "void main(ostream &o) { { } par { } }",
+                "output 0\nend done 5\n",
+            ),
+            (
+                "void f() { } void main(ostream &o) { f(); }",
+                "output 0\nend done 2\n",
+            ),
+            // Comments.
+            (
+                "void main(ostream &o) { put o, 1 /* + 2 */; } // later",
+                "output 1 01\nend done 2\n",
+            ),
+        ],
+    )
 }
 
 #[test]
 fn processes_fork_and_meet(rt: HostRuntime) -> Result<(), Fail> {
     let alloc = rt.alloc();
-    for (source, text) in [
-        // The copy is overwritten by the value of the process with the reference, on either side.
-        (
-            "void f(int a) { a = 3; next a; }\nvoid g(int &b) { b = 5; next b; }\nvoid main() { int c; f(c); par g(c); }\n",
-            "output 0\nchan main#0 c : 5\nend done 9\n",
-        ),
-        (
-            "void main() { int c; g(c); par f(c); } void f(int a) { a = 3; next a; } void g(int &b) { b = 5; next b; }",
-            "output 0\nchan main#0 c : 5\nend done 9\n",
-        ),
-        // One process meets alone.
-        (
-            "void main() { int x = 7; next x; next x; }",
-            "output 0\nchan main#0 x : 7 7\nend done 4\n",
-        ),
-        (
-            "void main() { int x = 2147483647 + 1; next x; }",
-            "output 0\nchan main#0 x : -2147483648\nend done 3\n",
-        ),
-        // The process with the reference ends, and is the source still.
-        (
-            "void f(int &c) { c = 4; next c; } void g(int c) { next c; next c; } void main() { int c; f(c); par g(c); }",
-            "output 0\nchan main#0 c : 4 4\nend done 9\n",
-        ),
-        // The parent is the source, of two branches of one function.
-        (
-            "void f(int a) { next a; } void main() { int c = 9; f(c); par f((c)); }",
-            "output 0\nchan main#0 c : 9\nend done 7\n",
-        ),
-        // The branches share no variable, and the parent goes on with what came back.
-        (
-            "void f(int p) { p = 1; next p; } void g(int &q) { q = 2; next q; } void main() { int a; int b; f(a); par g(b); next a; next b; }",
-            "output 0\nchan main#0 a : 0 0\nchan main#1 b : 2 2\nend done 13\n",
-        ),
-        // A branch that ended takes no further part.
-        (
-            "void f(int a) { } void g(int &b) { b = 5; next b; } void main(ostream &o) { int c; f(c); par g(c); put o, c; }",
-            "output 1 05\nchan main#0 c : 5\nend done 9\n",
-        ),
-        // Only what a branch took by reference comes back.
-        (
-            "void f(int a) { a = 3; } void main(ostream &o) { int c = 1; f(c); par f(c); put o, c; }",
-            "output 1 01\nend done 9\n",
-        ),
-        (
-            "void f(int &a) { a = 3; } void main(ostream &o) { int c = 1; int d = 2; f(c); par f(d); put o, c; put o, d; }",
-            "output 2 0303\nend done 11\n",
-        ),
-        // A channel that a branch declares is its own.
-        (
-            "void f(int a) { int z = 8; next z; } void g(int a) { next a; } void main() { int c; f(c); par g(c); }",
-            "output 0\nchan main#0 c : 0\nchan main/0.0#0 z : 8\nend done 9\n",
-        ),
-        // A function that no branch calls is only checked.
-        (
-            "void h(int &a) { next a; } void main() { int h; next h; }",
-            "output 0\nchan main#0 h : 0\nend done 3\n",
-        ),
-    ] {
-        let (got, bytes) = run(alloc, source.as_bytes())?;
-        assert_eq!(rt; got, 0, "status of {source}");
-        assert_eq!(rt; bytes.as_slice(), text.as_bytes(), "text of {source}");
-    }
-    Ok(())
+    expect_each(
+        &rt,
+        alloc,
+        0,
+        &[
+            // The copy is overwritten by the value of the process with the reference, on either side.
+            (
+                "void f(int a) { a = 3; next a; }\nvoid g(int &b) { b = 5; next b; }\nvoid main() { int c; f(c); par g(c); }\n",
+                "output 0\nchan main#0 c : 5\nend done 9\n",
+            ),
+            (
+                "void main() { int c; g(c); par f(c); } void f(int a) { a = 3; next a; } void g(int &b) { b = 5; next b; }",
+                "output 0\nchan main#0 c : 5\nend done 9\n",
+            ),
+            // One process meets alone.
+            (
+                "void main() { int x = 7; next x; next x; }",
+                "output 0\nchan main#0 x : 7 7\nend done 4\n",
+            ),
+            (
+                "void main() { int x = 2147483647 + 1; next x; }",
+                "output 0\nchan main#0 x : -2147483648\nend done 3\n",
+            ),
+            // The process with the reference ends, and is the source still.
+            (
+                "void f(int &c) { c = 4; next c; } void g(int c) { next c; next c; } void main() { int c; f(c); par g(c); }",
+                "output 0\nchan main#0 c : 4 4\nend done 9\n",
+            ),
+            // The parent is the source, of two branches of one function.
+            (
+                "void f(int a) { next a; } void main() { int c = 9; f(c); par f((c)); }",
+                "output 0\nchan main#0 c : 9\nend done 7\n",
+            ),
+            // The branches share no variable, and the parent goes on with what came back.
+            (
+                "void f(int p) { p = 1; next p; } void g(int &q) { q = 2; next q; } void main() { int a; int b; f(a); par g(b); next a; next b; }",
+                "output 0\nchan main#0 a : 0 0\nchan main#1 b : 2 2\nend done 13\n",
+            ),
+            // A branch that ended takes no further part.
+            (
+                "void f(int a) { } void g(int &b) { b = 5; next b; } void main(ostream &o) { int c; f(c); par g(c); put o, c; }",
+                "output 1 05\nchan main#0 c : 5\nend done 9\n",
+            ),
+            // Only what a branch took by reference comes back.
+            (
+                "void f(int a) { a = 3; } void main(ostream &o) { int c = 1; f(c); par f(c); put o, c; }",
+                "output 1 01\nend done 9\n",
+            ),
+            (
+                "void f(int &a) { a = 3; } void main(ostream &o) { int c = 1; int d = 2; f(c); par f(d); put o, c; put o, d; }",
+                "output 2 0303\nend done 11\n",
+            ),
+            // A channel that a branch declares is its own.
+            (
+                "void f(int a) { int z = 8; next z; } void g(int a) { next a; } void main() { int c; f(c); par g(c); }",
+                "output 0\nchan main#0 c : 0\nchan main/0.0#0 z : 8\nend done 9\n",
+            ),
+            // A function that no branch calls is only checked.
+            (
+                "void h(int &a) { next a; } void main() { int h; next h; }",
+                "output 0\nchan main#0 h : 0\nend done 3\n",
+            ),
+        ],
+    )
 }
 
 #[test]
@@ -295,185 +312,185 @@ fn a_long_source_comes_to_its_end(rt: HostRuntime) -> Result<(), Fail> {
 #[test]
 fn a_program_that_is_refused_has_the_line_of_its_first_place(rt: HostRuntime) -> Result<(), Fail> {
     let alloc = rt.alloc();
-    for (source, text) in [
-        // Without a `main` a program has no place of its own.
-        ("", "refused 1 no main\n"),
-        (" \n", "refused 1 no main\n"),
-        ("void Main(ostream &o) { }", "refused 1 no main\n"),
-        ("\nvoid f(int a) { }", "refused 1 no main\n"),
-        ("void main(int a) { }", "refused 1 main parameters\n"),
-        (
-            "void f() { }\nvoid\nmain(ostream &o, ostream &p) { }",
-            "refused 2 main parameters\n",
-        ),
-        // Names.
-        ("void main() { put o, 1; }", "refused 1 unknown name o\n"),
-        (
-            "void main(ostream &o) {\n put o, x; }",
-            "refused 2 unknown name x\n",
-        ),
-        (
-            "void main() { next x; int x; }",
-            "refused 1 unknown name x\n",
-        ),
-        (
-            "void main(ostream &o) { int x = x; }",
-            "refused 1 unknown name x\n",
-        ),
-        (
-            "void f(int a) { } void main() { int c; f(c);\npar\nf(d); }",
-            "refused 3 unknown name d\n",
-        ),
-        ("void main() { g(1); }", "refused 1 unknown function g\n"),
-        (
-            "void f(int a) { } void main() { int c; f(c); par g(c); }",
-            "refused 1 unknown function g\n",
-        ),
-        (
-            "void main() { throw T; }",
-            "refused 1 unknown exception T\n",
-        ),
-        (
-            "void f() throws T { } void main() { f(); }",
-            "refused 1 unknown exception T\n",
-        ),
-        // Declared once.
-        ("void main() { int x; int x; }", "refused 1 twice x\n"),
-        ("void main() {\n int x;\n int x; }", "refused 3 twice x\n"),
-        ("void main(ostream &o) { int o; }", "refused 1 twice o\n"),
-        (
-            "void main(ostream &o) { }\nvoid main(ostream &o) { }",
-            "refused 2 twice main\n",
-        ),
-        // Calls and kinds.
-        (
-            "void f(int a) { } void main() { int c; f(c); par main(c); }",
-            "refused 1 arity main\n",
-        ),
-        (
-            "void f(int a) { } void main() { int c; f(c, c); par f(c); }",
-            "refused 1 arity f\n",
-        ),
-        (
-            "void main(ostream &o) { o = 1; }",
-            "refused 1 wrong kind o\n",
-        ),
-        (
-            "void main(ostream &o) { put o, o; }",
-            "refused 1 wrong kind o\n",
-        ),
-        (
-            "void main() { int x; put x, 1; }",
-            "refused 1 wrong kind x\n",
-        ),
-        (
-            "void f(int &a) { } void main() { int8 x; f(x); }",
-            "refused 1 wrong kind x\n",
-        ),
-        (
-            "void f(int &a) { } void main() { int x; f(x + 0); }",
-            "refused 1 wrong kind a\n",
-        ),
-        // Sharing: one writer of each variable and stream in a fork, and one reference in a call.
-        (
-            "void main() {\n  int x;\n  { x = 1; } par { { x = 2; } }\n}\n",
-            "refused 3 two writers x 0 1\n",
-        ),
-        (
-            "void f(int &a) { } void main() { int c; f(c); par f((c)); }",
-            "refused 1 two writers c 0 1\n",
-        ),
-        (
-            "void f(int &a, int b) { } void main() { int a; f(a, a); }",
-            "refused 1 alias a\n",
-        ),
-        // Names come before sharing, in the whole program.
-        (
-            "void main() { int x; { x = 1; } par { x = 2; }\n y = 1; }",
-            "refused 2 unknown name y\n",
-        ),
-        // The first place stands, whatever the form of the program.
-        (
-            "void main() { while (1) { x = y; } z = 1; }",
-            "refused 1 unknown name x\n",
-        ),
-    ] {
-        let (got, bytes) = run(alloc, source.as_bytes())?;
-        assert_eq!(rt; got, 5, "status of {source}");
-        assert_eq!(rt; bytes.as_slice(), text.as_bytes(), "text of {source}");
-    }
-    Ok(())
+    expect_each(
+        &rt,
+        alloc,
+        5,
+        &[
+            // Without a `main` a program has no place of its own.
+            ("", "refused 1 no main\n"),
+            (" \n", "refused 1 no main\n"),
+            ("void Main(ostream &o) { }", "refused 1 no main\n"),
+            ("\nvoid f(int a) { }", "refused 1 no main\n"),
+            ("void main(int a) { }", "refused 1 main parameters\n"),
+            (
+                "void f() { }\nvoid\nmain(ostream &o, ostream &p) { }",
+                "refused 2 main parameters\n",
+            ),
+            // Names.
+            ("void main() { put o, 1; }", "refused 1 unknown name o\n"),
+            (
+                "void main(ostream &o) {\n put o, x; }",
+                "refused 2 unknown name x\n",
+            ),
+            (
+                "void main() { next x; int x; }",
+                "refused 1 unknown name x\n",
+            ),
+            (
+                "void main(ostream &o) { int x = x; }",
+                "refused 1 unknown name x\n",
+            ),
+            (
+                "void f(int a) { } void main() { int c; f(c);\npar\nf(d); }",
+                "refused 3 unknown name d\n",
+            ),
+            ("void main() { g(1); }", "refused 1 unknown function g\n"),
+            (
+                "void f(int a) { } void main() { int c; f(c); par g(c); }",
+                "refused 1 unknown function g\n",
+            ),
+            (
+                "void main() { throw T; }",
+                "refused 1 unknown exception T\n",
+            ),
+            (
+                "void f() throws T { } void main() { f(); }",
+                "refused 1 unknown exception T\n",
+            ),
+            // Declared once.
+            ("void main() { int x; int x; }", "refused 1 twice x\n"),
+            ("void main() {\n int x;\n int x; }", "refused 3 twice x\n"),
+            ("void main(ostream &o) { int o; }", "refused 1 twice o\n"),
+            (
+                "void main(ostream &o) { }\nvoid main(ostream &o) { }",
+                "refused 2 twice main\n",
+            ),
+            // Calls and kinds.
+            (
+                "void f(int a) { } void main() { int c; f(c); par main(c); }",
+                "refused 1 arity main\n",
+            ),
+            (
+                "void f(int a) { } void main() { int c; f(c, c); par f(c); }",
+                "refused 1 arity f\n",
+            ),
+            (
+                "void main(ostream &o) { o = 1; }",
+                "refused 1 wrong kind o\n",
+            ),
+            (
+                "void main(ostream &o) { put o, o; }",
+                "refused 1 wrong kind o\n",
+            ),
+            (
+                "void main() { int x; put x, 1; }",
+                "refused 1 wrong kind x\n",
+            ),
+            (
+                "void f(int &a) { } void main() { int8 x; f(x); }",
+                "refused 1 wrong kind x\n",
+            ),
+            (
+                "void f(int &a) { } void main() { int x; f(x + 0); }",
+                "refused 1 wrong kind a\n",
+            ),
+            // Sharing: one writer of each variable and stream in a fork, and one reference in a call.
+            (
+                "void main() {\n  int x;\n  { x = 1; } par { { x = 2; } }\n}\n",
+                "refused 3 two writers x 0 1\n",
+            ),
+            (
+                "void f(int &a) { } void main() { int c; f(c); par f((c)); }",
+                "refused 1 two writers c 0 1\n",
+            ),
+            (
+                "void f(int &a, int b) { } void main() { int a; f(a, a); }",
+                "refused 1 alias a\n",
+            ),
+            // Names come before sharing, in the whole program.
+            (
+                "void main() { int x; { x = 1; } par { x = 2; }\n y = 1; }",
+                "refused 2 unknown name y\n",
+            ),
+            // The first place stands, whatever the form of the program.
+            (
+                "void main() { while (1) { x = y; } z = 1; }",
+                "refused 1 unknown name x\n",
+            ),
+        ],
+    )
 }
 
 #[test]
 fn the_text_of_no_program_has_the_line_of_its_fault(rt: HostRuntime) -> Result<(), Fail> {
     let alloc = rt.alloc();
-    for (source, text) in [
-        // A token that can't follow those before it.
-        (
-            "void main(ostream &o) { int int8; }",
-            "refused 1 unexpected 28\n",
-        ),
-        (
-            "void main(ostream &o) { intx; }",
-            "refused 1 unexpected 28\n",
-        ),
-        ("void main(ostream &put) { }", "refused 1 unexpected 19\n"),
-        ("void main(ostream &o) { } }", "refused 1 unexpected 26\n"),
-        (
-            "void main(ostream &o) { put o, 1 }",
-            "refused 1 unexpected 33\n",
-        ),
-        (
-            "void main(ostream &o) { put o, ; }",
-            "refused 1 unexpected 31\n",
-        ),
-        (
-            "void main(ostream &o) { put o, 1 +; }",
-            "refused 1 unexpected 34\n",
-        ),
-        (
-            "void main(ostream &o) { put o, 1 + + 2; }",
-            "refused 1 unexpected 35\n",
-        ),
-        ("int x;", "refused 1 unexpected 0\n"),
-        ("void main()\n{\n  }\n}", "refused 4 unexpected 18\n"),
-        // The end of the text, which is on its last line.
-        ("void main(ostream &o) {", "refused 1 unexpected 23\n"),
-        ("void main() { try { } catch (", "refused 1 unexpected 29\n"),
-        ("void\nmain(\n", "refused 3 unexpected 11\n"),
-        // What can't be cut into tokens.
-        (
-            "void main(ostream &o) { put o, 9223372036854775808; }",
-            "refused 1 big number 31\n",
-        ),
-        (
-            "void main(ostream &o) { put o, 340282366920938463463374607431768211456; }",
-            "refused 1 big number 31\n",
-        ),
-        (
-            "void main() { x = 9223372036854775808; }",
-            "refused 1 big number 18\n",
-        ),
-        (
-            "void main(ostream &o) { /* open }",
-            "refused 1 open comment 24\n",
-        ),
-        ("void main() {\n /*/ }", "refused 2 open comment 15\n"),
-        ("void main() { @ }", "refused 1 bad byte 14\n"),
-        ("void main() /* a", "refused 1 open comment 12\n"),
-        ("void main(ostream &o) {\0}", "refused 1 bad byte 23\n"),
-        ("void main(ostream &o) { }\0", "refused 1 bad byte 25\n"),
-        ("void main(ostream &ö) { }", "refused 1 bad byte 19\n"),
-        // The first fault stands, whatever follows it.
-        ("main \0", "refused 1 unexpected 0\n"),
-        ("\0 main", "refused 1 bad byte 0\n"),
-    ] {
-        let (got, bytes) = run(alloc, source.as_bytes())?;
-        assert_eq!(rt; got, 5, "status of {source}");
-        assert_eq!(rt; bytes.as_slice(), text.as_bytes(), "text of {source}");
-    }
-    Ok(())
+    expect_each(
+        &rt,
+        alloc,
+        5,
+        &[
+            // A token that can't follow those before it.
+            (
+                "void main(ostream &o) { int int8; }",
+                "refused 1 unexpected 28\n",
+            ),
+            (
+                "void main(ostream &o) { intx; }",
+                "refused 1 unexpected 28\n",
+            ),
+            ("void main(ostream &put) { }", "refused 1 unexpected 19\n"),
+            ("void main(ostream &o) { } }", "refused 1 unexpected 26\n"),
+            (
+                "void main(ostream &o) { put o, 1 }",
+                "refused 1 unexpected 33\n",
+            ),
+            (
+                "void main(ostream &o) { put o, ; }",
+                "refused 1 unexpected 31\n",
+            ),
+            (
+                "void main(ostream &o) { put o, 1 +; }",
+                "refused 1 unexpected 34\n",
+            ),
+            (
+                "void main(ostream &o) { put o, 1 + + 2; }",
+                "refused 1 unexpected 35\n",
+            ),
+            ("int x;", "refused 1 unexpected 0\n"),
+            ("void main()\n{\n  }\n}", "refused 4 unexpected 18\n"),
+            // The end of the text, which is on its last line.
+            ("void main(ostream &o) {", "refused 1 unexpected 23\n"),
+            ("void main() { try { } catch (", "refused 1 unexpected 29\n"),
+            ("void\nmain(\n", "refused 3 unexpected 11\n"),
+            // What can't be cut into tokens.
+            (
+                "void main(ostream &o) { put o, 9223372036854775808; }",
+                "refused 1 big number 31\n",
+            ),
+            (
+                "void main(ostream &o) { put o, 340282366920938463463374607431768211456; }",
+                "refused 1 big number 31\n",
+            ),
+            (
+                "void main() { x = 9223372036854775808; }",
+                "refused 1 big number 18\n",
+            ),
+            (
+                "void main(ostream &o) { /* open }",
+                "refused 1 open comment 24\n",
+            ),
+            ("void main() {\n /*/ }", "refused 2 open comment 15\n"),
+            ("void main() { @ }", "refused 1 bad byte 14\n"),
+            ("void main() /* a", "refused 1 open comment 12\n"),
+            ("void main(ostream &o) {\0}", "refused 1 bad byte 23\n"),
+            ("void main(ostream &o) { }\0", "refused 1 bad byte 25\n"),
+            ("void main(ostream &ö) { }", "refused 1 bad byte 19\n"),
+            // The first fault stands, whatever follows it.
+            ("main \0", "refused 1 unexpected 0\n"),
+            ("\0 main", "refused 1 bad byte 0\n"),
+        ],
+    )
 }
 
 // A filter: what comes in is doubled on its way out.
