@@ -13,6 +13,7 @@ use Rattle.shim_base.specs.declared.token.TokenKind.TheVariants.{Word, Key, Numb
 use Rattle.shim_base.specs.declared.token.Keyword.{Keyword}
 use Rattle.shim_base.specs.declared.token.Sign.{Sign}
 use Rattle.shim_base.specs.Tokens.{is_spacing, is_digit, is_letter, is_name_byte, entry, signs, keyword_of, sign_of, is_name, is_numeral, is_hex_digit, is_hex_numeral, value, hex_value, IsNumeralOf, Spells, IsFirst}
+use Rattle.shim_base.proofs.Facts.{not_false}
 
 -- both halves of a test
 pub both_true : (a b : Bool) → (a && b) ≡ true → (a ≡ true) × (b ≡ true)
@@ -41,11 +42,6 @@ pub sign-is_like : (text : List ℕ) (sign : Sign) → sign_of text ≡ Some sig
 unfolding sign_of
 sign-is_like text sign is = entry-passes is_sign_like signs text sign refl is
 
--- a test whose opposite passes fails
-not-true : (b : Bool) → not b ≡ true → b ≡ false
-not-true true h = absurd (cc)
-not-true false h = refl
-
 -- what is known of a sign
 pub record IsSignLike (b : ℕ) (bytes : List ℕ) : Type 0 where
   pub no_letter : is_letter b ≡ false
@@ -61,9 +57,9 @@ sign_like b bytes sign is =
     let m = both_true (not (is_spacing b)) (nat_le (length bytes) 1) k.1 in
     let s = m.1 in
     record {
-      no_letter = not-true (is_letter b) h.0;
-      no_digit = not-true (is_digit b) k.0;
-      no_spacing = not-true (is_spacing b) m.0;
+      no_letter = not_false (is_letter b) h.0;
+      no_digit = not_false (is_digit b) k.0;
+      no_spacing = not_false (is_spacing b) m.0;
       short = grind (arith, nat_tests, s);
     }
 
@@ -579,7 +575,7 @@ no_feeds : (text : List ℕ) → list_all is_on_line text ≡ true → count_by 
 no_feeds [] h = refl
 no_feeds (b ∷ bytes) h =
     let k = both_true (is_on_line b) (list_all is_on_line bytes) h in
-    let no_feed : (b == 10) ≡ false = not-true (b == 10) k.0 in
+    let no_feed : (b == 10) ≡ false = not_false (b == 10) k.0 in
     let more = no_feeds bytes k.1 in
     rw no_feed more
 

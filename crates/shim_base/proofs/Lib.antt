@@ -1,3 +1,5 @@
+pub mod Facts
+pub mod SamePaths
 pub mod Reduced
 pub mod Shifts
 pub mod Stored

@@ -8,7 +8,7 @@ use Rattle.std.specs.declared.cmp.Ordering.{Ordering}
 abbrev pub Path : Type 0
 Path = List (ℕ × ℕ)
 
--- A channel is named by the process that declared it, its home, and a serial number there.
+-- A channel is named by its home, which is the path of the process that made it, and by its number among those that this one made.
 pub record Channel : Type 0 where
   pub home : Path
   pub serial : ℕ

@@ -151,7 +151,7 @@ IsComment bytes = Begins bytes line_opener ⊎ Begins bytes block_opener
 -- what is passed over at once, at the front of bytes, and the rest: a byte of spacing, or a comment
 pub data Passes : List ℕ → List ℕ → List ℕ → Type 0 where
   spacing : (b : ℕ) (rest : List ℕ) → is_spacing b ≡ true → Passes (b ∷ rest) (b ∷ []) rest
-  -- up to the next line feed, or the end of the text
+  -- `//` and the rest of its line, without the line feed
   line_comment : (inside rest : List ℕ) → All (λ b. b ≢ 10) inside → (rest ≡ []) ⊎ Begins rest (10 ∷ [])
       → Passes (line_opener ++ (inside ++ rest)) (line_opener ++ inside) rest
   -- up to the next `*/`, and with it

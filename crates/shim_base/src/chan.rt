@@ -57,7 +57,7 @@ impl Chan {
         self.name
     }
 
-    /// The same channel, with the same printed name.
+    /// Another value of this channel, with its printed name.
     pub fn copy(&self) -> Result<Chan, NoMemory>
         ensures { IfOk result (λ chan. chan ≡ self.now) }
     {

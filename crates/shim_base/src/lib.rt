@@ -8,6 +8,7 @@ pub mod laws;
 mod list;
 mod memory;
 mod name;
+mod named;
 mod operators;
 mod path;
 mod shared;
@@ -20,11 +21,9 @@ pub use decimal::push_decimal;
 pub use list::List;
 pub use memory::NoMemory;
 pub use name::Name;
+pub use named::Named;
 pub use operators::{BinOp, Trap, UnOp, apply, apply1};
 pub use path::Path;
 pub use shared::Shared;
 pub use token::{Keyword, LexKind, Sign, TokenKind};
 pub use types::{Ty, store};
-
-#[cfg(test)]
-mod tests;

@@ -65,7 +65,7 @@ impl<T> List<T> {
         *self.items.allocator()
     }
 
-    /// The same elements, as a `Vec`.
+    /// The elements of the list, as a `Vec`.
     pub fn into_vec(self) -> Vec<T>
         ensures { result.items ≡ self }
     {
@@ -75,7 +75,8 @@ impl<T> List<T> {
 }
 
 impl<T: Drop> List<T> {
-    /// Adds a value at the end. A refusal drops the value and leaves the list as it was.
+    /// Adds a value at the end. Where there is no memory for it, the list stays as it was, and the value
+    /// is dropped.
     pub fn push(&mut self, value: T) -> Result<(), NoMemory>
         ensures ok { OnOk result (self.new ≡ self.old ++ value ∷ []) }
         ensures err { OnErr result (self.new ≡ self.old) }

@@ -75,12 +75,12 @@ pub enum Sign {
 /// Why a text can't be cut into tokens from some byte on.
 #[derive(Clone, Copy, Debug, PartialEq, Eq)]
 pub enum LexKind {
-    /// The byte begins no token, no spacing and no comment.
+    /// Nothing that may stand in a text begins with the byte.
     BadByte,
     /// A name has more than 64 bytes.
     LongName,
     /// A number is 2^63 or more.
     BigNumber,
-    /// A comment that `/*` begins has no `*/` after it.
+    /// A `/*` is never closed.
     OpenComment,
 }

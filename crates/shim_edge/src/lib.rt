@@ -13,6 +13,3 @@ pub use host::{HostFiles, HostSink};
 pub use memory_files::MemFiles;
 pub use memory_sink::MemSink;
 pub use sink::{Sink, SinkFault, write_all};
-
-#[cfg(test)]
-mod tests;

@@ -9,8 +9,8 @@ use Rattle.shim_syntax.specs.declared.tree.Sort.TheVariants.{Value}
 use Rattle.shim_syntax.specs.Terminals.{Terminal, Name, Sort, Key, Sign, End}
 use Rattle.shim_syntax.specs.Limits.{Nesting, Count}
 use Rattle.shim_syntax.specs.Grammar.{Counts, at_level, new_expression, behind_body}
-use Rattle.shim_grammar.specs.declared.mark.Mark.{Mark}
-use Rattle.shim_grammar.specs.declared.mark.Mark.TheVariants as mark
+use Rattle.shim_grammar.specs.declared.punctuation.Punctuation.{Punctuation}
+use Rattle.shim_grammar.specs.declared.punctuation.Punctuation.TheVariants as punctuation
 use Rattle.shim_grammar.specs.Machine as m
 use Rattle.shim_grammar.specs.Machine.{Fixed, Word, Operand, Inside, Expression, Operators, Arguments, MoreArguments, Argument, Declarations, AfterDeclared, MoreDeclarations, Declaration, AfterDeclaration, Statement, Body, Block, AfterWord, AfterEqual, AfterNext, First, Test, Step, Else, AfterBody, Pars, Branch, Parameters, AfterSort, Throws, MoreParameters, Parameter, Thrown, MoreThrows, Functions, Stack, Ask, Want, ask, go, wants}
 
@@ -44,14 +44,14 @@ number : (what : Many) (n : ℕ) (o : Option Want) → NoLevel o → NoLevel (as
 number what n None h = tt
 number what n (Some w) h = (what, refl, h)
 
-fixed_asks : (f : Mark) (x : Terminal) (k : Stack) (w : Counts) → NoLevel (m.fixed f x k w)
-fixed_asks mark.LeftParen (Sign g.LeftParen p) k w = tt
-fixed_asks mark.RightParen (Sign g.RightParen p) k w = tt
-fixed_asks mark.LeftBrace (Sign g.LeftBrace p) k w = tt
-fixed_asks mark.Comma (Sign g.Comma p) k w = tt
-fixed_asks mark.Semicolon (Sign g.Semicolon p) k w = tt
-fixed_asks mark.Equal (Sign g.Equal p) k w = tt
-fixed_asks mark.Catch (Key k.Catch p) k w = tt
+fixed_asks : (f : Punctuation) (x : Terminal) (k : Stack) (w : Counts) → NoLevel (m.fixed f x k w)
+fixed_asks punctuation.LeftParen (Sign g.LeftParen p) k w = tt
+fixed_asks punctuation.RightParen (Sign g.RightParen p) k w = tt
+fixed_asks punctuation.LeftBrace (Sign g.LeftBrace p) k w = tt
+fixed_asks punctuation.Comma (Sign g.Comma p) k w = tt
+fixed_asks punctuation.Semicolon (Sign g.Semicolon p) k w = tt
+fixed_asks punctuation.Equal (Sign g.Equal p) k w = tt
+fixed_asks punctuation.Catch (Key k.Catch p) k w = tt
 fixed_asks _ _ k w = tt
 
 operand_asks : (x : Terminal) (l : ℕ) (k : Stack) (w : Counts) → NoLevel (m.operand x l k w)
@@ -141,7 +141,7 @@ after_word_asks _ l k w = tt
 after_equal_asks : (x : Terminal) (l : ℕ) (k : Stack) (w : Counts) → NoLevel (m.after_equal x l k w)
 after_equal_asks (Key k.Next p) l k w = tt
 after_equal_asks (Key k.Get p) l k w = tt
-after_equal_asks x l k w = operand_asks x l (Operators l ∷ Fixed mark.Semicolon ∷ k) (new_expression w)
+after_equal_asks x l k w = operand_asks x l (Operators l ∷ Fixed punctuation.Semicolon ∷ k) (new_expression w)
 
 after_next_asks : (x : Terminal) (l : ℕ) (k : Stack) (w : Counts) → NoLevel (m.after_next x l k w)
 after_next_asks (Sign g.Semicolon p) l k w = tt
@@ -156,7 +156,7 @@ first_asks _ l k w = tt
 
 test_asks : (x : Terminal) (l : ℕ) (k : Stack) (w : Counts) → NoLevel (m.test_of_for x l k w)
 test_asks (Sign g.Semicolon p) l k w = tt
-test_asks x l k w = operand_asks x l (Operators l ∷ Fixed mark.Semicolon ∷ k) (new_expression w)
+test_asks x l k w = operand_asks x l (Operators l ∷ Fixed punctuation.Semicolon ∷ k) (new_expression w)
 
 step_asks : (x : Terminal) (l : ℕ) (k : Stack) (w : Counts) → OneLevel (m.step_of_for x l k w)
 step_asks (Sign g.RightParen p) l k w = tt

@@ -15,18 +15,18 @@ use Rattle.shim_syntax.specs.declared.tree.Function.{Function}
 use Rattle.shim_syntax.specs.Terminals.{Terminal, Name, Sort, Key, Sign, first}
 use Rattle.shim_syntax.specs.Limits.{Limit, Nesting, Count, Limits}
 use Rattle.shim_syntax.specs.Grammar.{Counts, with_local, new_expression, at_level, behind_body, as_branch, is_else, is_par, IsExpr, IsWhole, IsArguments, IsMoreArguments, IsDeclared, IsDeclarations, IsFirst, IsTest, IsStep, IsBlock, IsStmt, IsBody, IsPlain, IsBranches, IsBranch, IsParam, IsParams, IsMoreParams, IsThrows, IsMoreThrows, IsFunctions}
-use Rattle.shim_grammar.specs.declared.mark.Mark.{Mark}
-use Rattle.shim_grammar.specs.declared.mark.Mark.TheVariants as mark
+use Rattle.shim_grammar.specs.declared.punctuation.Punctuation.{Punctuation}
+use Rattle.shim_grammar.specs.declared.punctuation.Punctuation.TheVariants as punctuation
 use Rattle.shim_grammar.specs.Machine.{Symbol, Fixed, Word, Operand, Inside, Expression, Operators, Arguments, MoreArguments, Argument, Declarations, AfterDeclared, MoreDeclarations, Declaration, AfterDeclaration, Statement, Body, Block, AfterWord, AfterEqual, AfterNext, First, Test, Step as StepOfFor, Else, AfterBody, Pars, Branch, Parameters, AfterSort, Throws, MoreParameters, Parameter, Thrown, MoreThrows, Functions, Stack, Ask, Want}
 
-abbrev pub terminal_of : Mark → Place → Terminal
-terminal_of mark.LeftParen p = Sign g.LeftParen p
-terminal_of mark.RightParen p = Sign g.RightParen p
-terminal_of mark.LeftBrace p = Sign g.LeftBrace p
-terminal_of mark.Comma p = Sign g.Comma p
-terminal_of mark.Semicolon p = Sign g.Semicolon p
-terminal_of mark.Equal p = Sign g.Equal p
-terminal_of mark.Catch p = Key k.Catch p
+abbrev pub terminal_of : Punctuation → Place → Terminal
+terminal_of punctuation.LeftParen p = Sign g.LeftParen p
+terminal_of punctuation.RightParen p = Sign g.RightParen p
+terminal_of punctuation.LeftBrace p = Sign g.LeftBrace p
+terminal_of punctuation.Comma p = Sign g.Comma p
+terminal_of punctuation.Semicolon p = Sign g.Semicolon p
+terminal_of punctuation.Equal p = Sign g.Equal p
+terminal_of punctuation.Catch p = Key k.Catch p
 
 -- what a symbol gives from s up to r; w and v are what was counted before it and behind it
 abbrev pub Gives : Limits → Symbol → Counts → Counts → List Terminal → List Terminal → Type 0

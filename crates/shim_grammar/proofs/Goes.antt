@@ -9,7 +9,7 @@ use Rattle.shim_syntax.specs.Terminals.{Terminal, Name, Number, Sort, Sign, End,
 use Rattle.shim_syntax.specs.Limits.{Limits}
 use Rattle.shim_syntax.specs.Grammar as is
 use Rattle.shim_syntax.specs.Grammar.{Counts, new_function, with_local, new_expression, with_operator, at_level, new_body, behind_body, is_else, is_par}
-use Rattle.shim_grammar.specs.declared.mark.Mark.TheVariants as mark
+use Rattle.shim_grammar.specs.declared.punctuation.Punctuation.TheVariants as punctuation
 use Rattle.shim_grammar.specs.Machine.{Symbol, Fixed, Word, Operand, Inside, Expression, Operators, Arguments, MoreArguments, Argument, Declarations, AfterDeclared, MoreDeclarations, Declaration, AfterDeclaration, Statement, Body, Block, AfterWord, AfterEqual, AfterNext, First, Test, Else, AfterBody, Pars, Branch, Parameters, AfterSort, Throws, MoreParameters, Parameter, Thrown, MoreThrows, Functions, Stack, wants}
 use Rattle.shim_grammar.specs.Machine.{Step as StepOfFor}
 use Rattle.shim_grammar.proofs.Gives.{terminal_of, Gives, Takes, Step, Free}
@@ -99,7 +99,7 @@ finish (Functions n ∷ k) = End start ∷ finish k
 -- a symbol that falls through begins as what stands below it
 pub no_else : (k : Stack) → is_else (first (finish k)) ≡ false
 no_else [] = refl
-no_else (Fixed mark.Catch ∷ k) = refl
+no_else (Fixed punctuation.Catch ∷ k) = refl
 no_else (Fixed y ∷ k) = refl
 no_else (Operators l ∷ k) = no_else k
 no_else (Else l ∷ k) = no_else k
@@ -109,7 +109,7 @@ no_else (y ∷ k) = refl
 
 pub no_par : (k : Stack) → is_par (first (finish k)) ≡ false
 no_par [] = refl
-no_par (Fixed mark.Catch ∷ k) = refl
+no_par (Fixed punctuation.Catch ∷ k) = refl
 no_par (Fixed y ∷ k) = refl
 no_par (Operators l ∷ k) = no_par k
 no_par (Else l ∷ k) = no_par k

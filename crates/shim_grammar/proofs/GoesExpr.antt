@@ -13,8 +13,8 @@ use Rattle.shim_syntax.specs.Terminals.{Terminal, Name, Number, Key, Sign}
 use Rattle.shim_syntax.specs.Limits.{Nesting, Count, Limits}
 use Rattle.shim_syntax.specs.Grammar as is
 use Rattle.shim_syntax.specs.Grammar.{Counts, with_local, new_expression, with_operator, at_level, row_of_sign, IsExpr, IsWhole, IsArguments, IsMoreArguments, IsDeclared, IsDeclarations}
-use Rattle.shim_grammar.specs.declared.mark.Mark.{Mark}
-use Rattle.shim_grammar.specs.declared.mark.Mark.TheVariants as mark
+use Rattle.shim_grammar.specs.declared.punctuation.Punctuation.{Punctuation}
+use Rattle.shim_grammar.specs.declared.punctuation.Punctuation.TheVariants as punctuation
 use Rattle.shim_grammar.specs.Machine as machine
 use Rattle.shim_grammar.specs.Machine.{Symbol, Fixed, Word, Operand, Inside, Expression, Operators, Arguments, MoreArguments, Argument, Declarations, AfterDeclared, MoreDeclarations, Declaration, AfterDeclaration, Stack, Want, ask, go, joins, joins_sign}
 use Rattle.shim_grammar.proofs.Gives.{Gives, Takes, Step}
@@ -25,23 +25,23 @@ use Rattle.shim_grammar.proofs.Takes.{leads_on, leads_asking, moved, whole, clos
 pub falls : (c : Limits) (y : Symbol) (x : Terminal) (k : Stack) (w v : Counts) (o : Option Want) → ((s : List Terminal) → Gives c y w v (x ∷ s) (x ∷ s)) → Step c x k v o → Step c x (y ∷ k) w o
 falls c y x k w v o g h = leads_on c x (λ s. Takes c k v (x ∷ s)) (λ s. Takes c (y ∷ k) w (x ∷ s)) o h (λ s t. (x ∷ s, v, g s, t))
 
-pub fixed_sound : (c : Limits) (f : Mark) (x : Terminal) (k : Stack) (w : Counts) → Step c x (Fixed f ∷ k) w (machine.fixed f x k w)
-fixed_sound c mark.LeftParen (Sign g.LeftParen p) k w = λ s h t. (s, w, (p, refl, refl), t)
-fixed_sound c mark.RightParen (Sign g.RightParen p) k w = λ s h t. (s, w, (p, refl, refl), t)
-fixed_sound c mark.LeftBrace (Sign g.LeftBrace p) k w = λ s h t. (s, w, (p, refl, refl), t)
-fixed_sound c mark.Comma (Sign g.Comma p) k w = λ s h t. (s, w, (p, refl, refl), t)
-fixed_sound c mark.Semicolon (Sign g.Semicolon p) k w = λ s h t. (s, w, (p, refl, refl), t)
-fixed_sound c mark.Equal (Sign g.Equal p) k w = λ s h t. (s, w, (p, refl, refl), t)
-fixed_sound c mark.Catch (Key key.Catch p) k w = λ s h t. (s, w, (p, refl, refl), t)
+pub fixed_sound : (c : Limits) (f : Punctuation) (x : Terminal) (k : Stack) (w : Counts) → Step c x (Fixed f ∷ k) w (machine.fixed f x k w)
+fixed_sound c punctuation.LeftParen (Sign g.LeftParen p) k w = λ s h t. (s, w, (p, refl, refl), t)
+fixed_sound c punctuation.RightParen (Sign g.RightParen p) k w = λ s h t. (s, w, (p, refl, refl), t)
+fixed_sound c punctuation.LeftBrace (Sign g.LeftBrace p) k w = λ s h t. (s, w, (p, refl, refl), t)
+fixed_sound c punctuation.Comma (Sign g.Comma p) k w = λ s h t. (s, w, (p, refl, refl), t)
+fixed_sound c punctuation.Semicolon (Sign g.Semicolon p) k w = λ s h t. (s, w, (p, refl, refl), t)
+fixed_sound c punctuation.Equal (Sign g.Equal p) k w = λ s h t. (s, w, (p, refl, refl), t)
+fixed_sound c punctuation.Catch (Key key.Catch p) k w = λ s h t. (s, w, (p, refl, refl), t)
 fixed_sound c _ _ k w = tt
 
 pub word_sound : (c : Limits) (x : Terminal) (k : Stack) (w : Counts) → Step c x (Word ∷ k) w (machine.word x k w)
 word_sound c (Name x p) k w = λ s h t. (s, w, (x, p, refl, refl), t)
 word_sound c _ k w = tt
 
-parens_gives : (c : Limits) (p : Place) (l : ℕ) (k : Stack) (w : Counts) (s : List Terminal) → Takes c (Inside (suc l) ∷ Operators (suc l) ∷ Fixed mark.RightParen ∷ k) w s
+parens_gives : (c : Limits) (p : Place) (l : ℕ) (k : Stack) (w : Counts) (s : List Terminal) → Takes c (Inside (suc l) ∷ Operators (suc l) ∷ Fixed punctuation.RightParen ∷ k) w s
     → Takes c (Operand l ∷ k) w (Sign g.LeftParen p ∷ s)
-parens_gives c p l k w s (r, v, (x, h, d), (i, u, e, (j, a, f, t))) = let z = closed mark.RightParen d e f in (j, a, (_, is.parens h z.2), t)
+parens_gives c p l k w s (r, v, (x, h, d), (i, u, e, (j, a, f, t))) = let z = closed punctuation.RightParen d e f in (j, a, (_, is.parens h z.2), t)
 
 pub operand_sound : (c : Limits) (x : Terminal) (l : ℕ) (k : Stack) (w : Counts) → Step c x (Operand l ∷ k) w (machine.operand x l k w)
 operand_sound c (Number n p) l k w = λ s h t. (s, w, (_, is.number), t)
@@ -148,6 +148,6 @@ declaration_sound c _ l k w = tt
 
 pub after_declaration_sound : (c : Limits) (x : Terminal) (l : ℕ) (k : Stack) (w : Counts) → Step c x (AfterDeclaration l ∷ k) w (machine.after_declaration x l k w)
 after_declaration_sound c (Sign g.Equal p) l k w = λ s h t.
-    let z = closed mark.Semicolon t.2.1 t.3.2 t.3.3.2 in (t.3.3.0, t.3.3.1, (λ u x q e i. (z.0, _, valued e i z.2)), t.3.3.3)
+    let z = closed punctuation.Semicolon t.2.1 t.3.2 t.3.3.2 in (t.3.3.0, t.3.3.1, (λ u x q e i. (z.0, _, valued e i z.2)), t.3.3.3)
 after_declaration_sound c (Sign g.Semicolon p) l k w = λ s h t. (s, w, (λ u x q e i. (p, None, unvalued e i)), t)
 after_declaration_sound c _ l k w = tt

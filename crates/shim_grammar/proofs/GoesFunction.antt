@@ -11,7 +11,7 @@ use Rattle.shim_syntax.specs.Terminals.{Terminal, Name, Sort, Key, Sign, End}
 use Rattle.shim_syntax.specs.Limits.{Count, Limits}
 use Rattle.shim_syntax.specs.Grammar as is
 use Rattle.shim_syntax.specs.Grammar.{Counts, new_function, IsParam, IsParams, IsThrows, IsBlock, IsFunctions}
-use Rattle.shim_grammar.specs.declared.mark.Mark.TheVariants as mark
+use Rattle.shim_grammar.specs.declared.punctuation.Punctuation.TheVariants as punctuation
 use Rattle.shim_grammar.specs.Machine as machine
 use Rattle.shim_grammar.specs.Machine.{Fixed, Word, Block, Parameters, AfterSort, Throws, MoreParameters, Parameter, Thrown, MoreThrows, Functions, Stack}
 use Rattle.shim_grammar.proofs.Gives.{Takes, Step}
@@ -27,8 +27,8 @@ pub parameter_sound : (c : Limits) (x : Terminal) (n : ℕ) (k : Stack) (w : Cou
 parameter_sound c (Sort sort p) n k w = λ s h t. let z = t.2.0 sort p in (t.3.0, t.3.1, (t.0, z.0, t.3.2.0, h.0, z.1, t.3.2.1, t.2.1 ∙ t.3.2.2), t.3.3)
 parameter_sound c _ n k w = tt
 
-void_gives : (c : Limits) (p : Place) (k : Stack) (w : Counts) (s : List Terminal) → Takes c (Fixed mark.RightParen ∷ k) w s → Takes c (Parameters ∷ k) w (Key key.Void p ∷ s)
-void_gives c p k w = fixed_then c k w (λ s. Takes c (Parameters ∷ k) w (Key key.Void p ∷ s)) mark.RightParen (λ q r t. (r, w, (_, is.void_params, refl), t))
+void_gives : (c : Limits) (p : Place) (k : Stack) (w : Counts) (s : List Terminal) → Takes c (Fixed punctuation.RightParen ∷ k) w s → Takes c (Parameters ∷ k) w (Key key.Void p ∷ s)
+void_gives c p k w = fixed_then c k w (λ s. Takes c (Parameters ∷ k) w (Key key.Void p ∷ s)) punctuation.RightParen (λ q r t. (r, w, (_, is.void_params, refl), t))
 
 pub parameters_sound : (c : Limits) (x : Terminal) (k : Stack) (w : Counts) → Step c x (Parameters ∷ k) w (machine.parameters x k w)
 parameters_sound c (Sign g.RightParen p) k w = λ s h t. (s, w, (_, is.no_params, refl), t)
@@ -71,13 +71,13 @@ function_gives : {c : Limits} {p q o : Place} {f : List ℕ} {n : ℕ} {w u v : 
 function_gives {c = c} {v = v} {j = j} {a = a} {ys = ys} h d e i b k = (_, is.another_function h (is.function d e (subst (λ u. IsBlock c 1 u v j a ys) (sym i) b)) k)
 
 functions_give : (c : Limits) (p : Place) (n : ℕ) (k : Stack) (w : Counts) (s : List Terminal)
-    → Takes c (Word ∷ Fixed mark.LeftParen ∷ Parameters ∷ Throws ∷ Block 1 ∷ Functions (suc n) ∷ k) (new_function w) s → c (Key key.Void p ∷ s) (Count many.Functions) (suc n) ≡ true
+    → Takes c (Word ∷ Fixed punctuation.LeftParen ∷ Parameters ∷ Throws ∷ Block 1 ∷ Functions (suc n) ∷ k) (new_function w) s → c (Key key.Void p ∷ s) (Count many.Functions) (suc n) ≡ true
     → Takes c (Functions n ∷ k) w (Key key.Void p ∷ s)
 functions_give c p n k w =
     let j = Parameters ∷ Throws ∷ Block 1 ∷ Functions (suc n) ∷ k in
     let u = new_function w in
-    word_then c (Fixed mark.LeftParen ∷ j) u (λ s. c (Key key.Void p ∷ s) (Count many.Functions) (suc n) ≡ true → Takes c (Functions n ∷ k) w (Key key.Void p ∷ s))
-    (λ x q. fixed_then c j u (λ s. c (Key key.Void p ∷ Name x q ∷ s) (Count many.Functions) (suc n) ≡ true → Takes c (Functions n ∷ k) w (Key key.Void p ∷ Name x q ∷ s)) mark.LeftParen
+    word_then c (Fixed punctuation.LeftParen ∷ j) u (λ s. c (Key key.Void p ∷ s) (Count many.Functions) (suc n) ≡ true → Takes c (Functions n ∷ k) w (Key key.Void p ∷ s))
+    (λ x q. fixed_then c j u (λ s. c (Key key.Void p ∷ Name x q ∷ s) (Count many.Functions) (suc n) ≡ true → Takes c (Functions n ∷ k) w (Key key.Void p ∷ Name x q ∷ s)) punctuation.LeftParen
     (λ o r t h. let b = t.3.3 in (b.3.0, b.3.1, function_gives h t.2.1 t.3.2.1 (t.2.2 ∙ t.3.2.2) b.2.1 b.3.2.1, b.3.3)))
 
 pub functions_sound : (c : Limits) (x : Terminal) (n : ℕ) (k : Stack) (w : Counts) → Step c x (Functions n ∷ k) w (machine.functions x n k w)

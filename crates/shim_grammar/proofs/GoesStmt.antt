@@ -12,7 +12,7 @@ use Rattle.shim_syntax.specs.Terminals.{Terminal, Name, Sort, Key, Sign}
 use Rattle.shim_syntax.specs.Limits.{Nesting, Count, Limits}
 use Rattle.shim_syntax.specs.Grammar as is
 use Rattle.shim_syntax.specs.Grammar.{Counts, new_expression, at_level, new_body, behind_body, as_branch, is_else, is_par, IsWhole, IsArguments, IsBlock, IsStmt, IsBody, IsPlain, IsBranches, IsBranch}
-use Rattle.shim_grammar.specs.declared.mark.Mark.TheVariants as mark
+use Rattle.shim_grammar.specs.declared.punctuation.Punctuation.TheVariants as punctuation
 use Rattle.shim_grammar.specs.Machine as machine
 use Rattle.shim_grammar.specs.Machine.{Fixed, Word, Operand, Expression, Operators, Arguments, Declarations, Statement, Body, Block, AfterWord, AfterEqual, AfterNext, First, Test, Else, AfterBody, Pars, Branch, Stack, Want}
 use Rattle.shim_grammar.specs.Machine.{Step as StepOfFor}
@@ -21,10 +21,10 @@ use Rattle.shim_grammar.proofs.Takes.{Leads, leads_on, leads_asking, moved, fixe
 use Rattle.shim_grammar.proofs.GoesExpr.{falls, operand_sound}
 
 first_gives : (c : Limits) (x : List ℕ) (p : Place) (l : ℕ) (k : Stack) (w : Counts) (s : List Terminal)
-    → Takes c (Fixed mark.Equal ∷ Expression l ∷ Operators l ∷ Fixed mark.Semicolon ∷ k) (at_level l w) s → c (Name x p ∷ s) Nesting l ≡ true → Takes c (First l ∷ k) w (Name x p ∷ s)
+    → Takes c (Fixed punctuation.Equal ∷ Expression l ∷ Operators l ∷ Fixed punctuation.Semicolon ∷ k) (at_level l w) s → c (Name x p ∷ s) Nesting l ≡ true → Takes c (First l ∷ k) w (Name x p ∷ s)
 first_gives c x p l k w =
-    fixed_then c (Expression l ∷ Operators l ∷ Fixed mark.Semicolon ∷ k) (at_level l w) (λ s. c (Name x p ∷ s) Nesting l ≡ true → Takes c (First l ∷ k) w (Name x p ∷ s)) mark.Equal
-    (λ q r t h. let z = closed mark.Semicolon t.2.1 t.3.2 t.3.3.2 in (t.3.3.0, t.3.3.1, (_, is.first_assign h z.2), t.3.3.3))
+    fixed_then c (Expression l ∷ Operators l ∷ Fixed punctuation.Semicolon ∷ k) (at_level l w) (λ s. c (Name x p ∷ s) Nesting l ≡ true → Takes c (First l ∷ k) w (Name x p ∷ s)) punctuation.Equal
+    (λ q r t h. let z = closed punctuation.Semicolon t.2.1 t.3.2 t.3.3.2 in (t.3.3.0, t.3.3.1, (_, is.first_assign h z.2), t.3.3.3))
 
 pub first_sound : (c : Limits) (x : Terminal) (l : ℕ) (k : Stack) (w : Counts) → Step c x (First l ∷ k) w (machine.first_of_for x l k w)
 first_sound c (Sign g.Semicolon p) l k w = λ s h t. (s, w, (_, is.no_first), t)
@@ -36,15 +36,15 @@ first_sound c _ l k w = tt
 pub test_sound : (c : Limits) (x : Terminal) (l : ℕ) (k : Stack) (w : Counts) → Step c x (Test l ∷ k) w (machine.test_of_for x l k w)
 test_sound c (Sign g.Semicolon p) l k w = λ s h t. (s, w, (_, is.no_test), t)
 test_sound c x l k w =
-    let j = Operators l ∷ Fixed mark.Semicolon ∷ k in
+    let j = Operators l ∷ Fixed punctuation.Semicolon ∷ k in
     leads_on c x (λ s. Takes c (Operand l ∷ j) (new_expression w) (x ∷ s)) (λ s. Takes c (Test l ∷ k) w (x ∷ s)) (machine.operand x l j (new_expression w))
-    (operand_sound c x l j (new_expression w)) (λ s t. let z = closed mark.Semicolon t.2.1 t.3.2 t.3.3.2 in (t.3.3.0, t.3.3.1, (_, is.test z.2), t.3.3.3))
+    (operand_sound c x l j (new_expression w)) (λ s t. let z = closed punctuation.Semicolon t.2.1 t.3.2 t.3.3.2 in (t.3.3.0, t.3.3.1, (_, is.test z.2), t.3.3.3))
 
 step_gives : (c : Limits) (x : List ℕ) (p : Place) (l : ℕ) (k : Stack) (w : Counts) (s : List Terminal)
-    → Takes c (Fixed mark.Equal ∷ Expression l ∷ Operators l ∷ Fixed mark.RightParen ∷ k) (at_level l w) s → c (Name x p ∷ s) Nesting l ≡ true → Takes c (StepOfFor l ∷ k) w (Name x p ∷ s)
+    → Takes c (Fixed punctuation.Equal ∷ Expression l ∷ Operators l ∷ Fixed punctuation.RightParen ∷ k) (at_level l w) s → c (Name x p ∷ s) Nesting l ≡ true → Takes c (StepOfFor l ∷ k) w (Name x p ∷ s)
 step_gives c x p l k w =
-    fixed_then c (Expression l ∷ Operators l ∷ Fixed mark.RightParen ∷ k) (at_level l w) (λ s. c (Name x p ∷ s) Nesting l ≡ true → Takes c (StepOfFor l ∷ k) w (Name x p ∷ s)) mark.Equal
-    (λ q r t h. let z = closed mark.RightParen t.2.1 t.3.2 t.3.3.2 in (t.3.3.0, t.3.3.1, (_, is.step h z.2), t.3.3.3))
+    fixed_then c (Expression l ∷ Operators l ∷ Fixed punctuation.RightParen ∷ k) (at_level l w) (λ s. c (Name x p ∷ s) Nesting l ≡ true → Takes c (StepOfFor l ∷ k) w (Name x p ∷ s)) punctuation.Equal
+    (λ q r t h. let z = closed punctuation.RightParen t.2.1 t.3.2 t.3.3.2 in (t.3.3.0, t.3.3.1, (_, is.step h z.2), t.3.3.3))
 
 pub step_sound : (c : Limits) (x : Terminal) (l : ℕ) (k : Stack) (w : Counts) → Step c x (StepOfFor l ∷ k) w (machine.step_of_for x l k w)
 step_sound c (Sign g.RightParen p) l k w = λ s h t. (s, w, (_, is.no_step), t)
@@ -91,11 +91,11 @@ pub pars_sound : (c : Limits) (x : Terminal) (l n : ℕ) (k : Stack) (w : Counts
 pars_sound c (Key key.Par p) l n k w o f = λ s h t. let z = branches_give t.2.1 t.2.2 t.3.2 in (t.3.0, t.3.1, inr (p, s, z.0, refl, z.1), t.3.3)
 pars_sound c x l n k w o f = falls c (Pars l n) x k w w o (λ s. inl (refl, refl, refl)) f
 
-call_branch_gives : (c : Limits) (x : List ℕ) (p : Place) (l n : ℕ) (k : Stack) (w : Counts) (s : List Terminal) → Takes c (Fixed mark.LeftParen ∷ Arguments l ∷ Fixed mark.Semicolon ∷ k) w s
+call_branch_gives : (c : Limits) (x : List ℕ) (p : Place) (l n : ℕ) (k : Stack) (w : Counts) (s : List Terminal) → Takes c (Fixed punctuation.LeftParen ∷ Arguments l ∷ Fixed punctuation.Semicolon ∷ k) w s
     → c (Name x p ∷ s) (Count many.Branches) n ≡ true → Takes c (Branch l n ∷ k) w (Name x p ∷ s)
 call_branch_gives c x p l n k w =
-    fixed_then c (Arguments l ∷ Fixed mark.Semicolon ∷ k) w (λ s. c (Name x p ∷ s) (Count many.Branches) n ≡ true → Takes c (Branch l n ∷ k) w (Name x p ∷ s)) mark.LeftParen
-    (λ q r t h. let z = closed_arguments mark.Semicolon t.2.1 t.3.2 in (t.3.0, t.3.1, (_, h, is.call_branch z.1), t.3.3))
+    fixed_then c (Arguments l ∷ Fixed punctuation.Semicolon ∷ k) w (λ s. c (Name x p ∷ s) (Count many.Branches) n ≡ true → Takes c (Branch l n ∷ k) w (Name x p ∷ s)) punctuation.LeftParen
+    (λ q r t h. let z = closed_arguments punctuation.Semicolon t.2.1 t.3.2 in (t.3.0, t.3.1, (_, h, is.call_branch z.1), t.3.3))
 
 pub branch_sound : (c : Limits) (x : Terminal) (l n : ℕ) (k : Stack) (w : Counts) → Step c x (Branch l n ∷ k) w (machine.branch x l n k w)
 branch_sound c (Sign g.LeftBrace p) l n k w = λ s h t. (t.0, t.1, (_, h.0, is.block_branch t.2.1), t.3)
@@ -109,12 +109,12 @@ Plain c l k w s = (r : List Terminal) × (v : Counts) × ((xs : List Stmt) × Is
 next_gives : (c : Limits) (p : Place) (l : ℕ) (k : Stack) (w : Counts) (s : List Terminal) → Takes c (Word ∷ AfterNext l ∷ k) w s → Plain c l k w (Key key.Next p ∷ s)
 next_gives c p l k w = word_then c (AfterNext l ∷ k) w (λ s. Plain c l k w (Key key.Next p ∷ s)) (λ x q r t. (t.0, t.1, t.2 x p q, t.3))
 
-put_gives : (c : Limits) (p : Place) (l : ℕ) (k : Stack) (w : Counts) (s : List Terminal) → Takes c (Word ∷ Fixed mark.Comma ∷ Expression l ∷ Operators l ∷ Fixed mark.Semicolon ∷ k) w s
+put_gives : (c : Limits) (p : Place) (l : ℕ) (k : Stack) (w : Counts) (s : List Terminal) → Takes c (Word ∷ Fixed punctuation.Comma ∷ Expression l ∷ Operators l ∷ Fixed punctuation.Semicolon ∷ k) w s
     → Plain c l k w (Key key.Put p ∷ s)
 put_gives c p l k w =
-    let j = Expression l ∷ Operators l ∷ Fixed mark.Semicolon ∷ k in
-    word_then c (Fixed mark.Comma ∷ j) w (λ s. Plain c l k w (Key key.Put p ∷ s)) (λ x q. fixed_then c j w (λ s. Plain c l k w (Key key.Put p ∷ Name x q ∷ s)) mark.Comma
-    (λ o r t. let z = closed mark.Semicolon t.2.1 t.3.2 t.3.3.2 in (t.3.3.0, t.3.3.1, (_, is.put z.2), t.3.3.3)))
+    let j = Expression l ∷ Operators l ∷ Fixed punctuation.Semicolon ∷ k in
+    word_then c (Fixed punctuation.Comma ∷ j) w (λ s. Plain c l k w (Key key.Put p ∷ s)) (λ x q. fixed_then c j w (λ s. Plain c l k w (Key key.Put p ∷ Name x q ∷ s)) punctuation.Comma
+    (λ o r t. let z = closed punctuation.Semicolon t.2.1 t.3.2 t.3.3.2 in (t.3.3.0, t.3.3.1, (_, is.put z.2), t.3.3.3)))
 
 -- an `if` up to its body, and what its `else` gives
 else_gives : {c : Limits} {p q o : Place} {l : ℕ} {w u a v : Counts} {s i j r : List Terminal} {x : Expr} {xs : List Stmt} → IsWhole c l w u s (Sign g.RightParen o ∷ i) x → IsBody c (suc l) u a i j xs
@@ -123,54 +123,54 @@ else_gives {c = c} {l = l} {u = u} {i = i} {xs = xs} d b (inl (e, f, h)) = (_, i
 else_gives {c = c} {l = l} {u = u} {a = a} {i = i} {xs = xs} d b (inr (p, q, ys, e, f)) = (_, is.if_else d (subst (λ t. IsBody c (suc l) u a i t xs) e b) f)
 
 if_gives : (c : Limits) (p : Place) (l : ℕ) (k : Stack) (w : Counts) (s : List Terminal)
-    → Takes c (Fixed mark.LeftParen ∷ Expression l ∷ Operators l ∷ Fixed mark.RightParen ∷ Body (suc l) ∷ Else (suc l) ∷ k) w s → Plain c l k w (Key key.If p ∷ s)
+    → Takes c (Fixed punctuation.LeftParen ∷ Expression l ∷ Operators l ∷ Fixed punctuation.RightParen ∷ Body (suc l) ∷ Else (suc l) ∷ k) w s → Plain c l k w (Key key.If p ∷ s)
 if_gives c p l k w =
-    fixed_then c (Expression l ∷ Operators l ∷ Fixed mark.RightParen ∷ Body (suc l) ∷ Else (suc l) ∷ k) w (λ s. Plain c l k w (Key key.If p ∷ s)) mark.LeftParen
-    (λ q s t. let z = closed mark.RightParen t.2.1 t.3.2 t.3.3.2 in let b = t.3.3.3 in (b.3.0, b.3.1, else_gives z.2 b.2.1 b.3.2, b.3.3))
+    fixed_then c (Expression l ∷ Operators l ∷ Fixed punctuation.RightParen ∷ Body (suc l) ∷ Else (suc l) ∷ k) w (λ s. Plain c l k w (Key key.If p ∷ s)) punctuation.LeftParen
+    (λ q s t. let z = closed punctuation.RightParen t.2.1 t.3.2 t.3.3.2 in let b = t.3.3.3 in (b.3.0, b.3.1, else_gives z.2 b.2.1 b.3.2, b.3.3))
 
 while_gives : (c : Limits) (p : Place) (l : ℕ) (k : Stack) (w : Counts) (s : List Terminal)
-    → Takes c (Fixed mark.LeftParen ∷ Expression l ∷ Operators l ∷ Fixed mark.RightParen ∷ Body (suc l) ∷ k) w s → Plain c l k w (Key key.While p ∷ s)
+    → Takes c (Fixed punctuation.LeftParen ∷ Expression l ∷ Operators l ∷ Fixed punctuation.RightParen ∷ Body (suc l) ∷ k) w s → Plain c l k w (Key key.While p ∷ s)
 while_gives c p l k w =
-    fixed_then c (Expression l ∷ Operators l ∷ Fixed mark.RightParen ∷ Body (suc l) ∷ k) w (λ s. Plain c l k w (Key key.While p ∷ s)) mark.LeftParen
-    (λ q s t. let z = closed mark.RightParen t.2.1 t.3.2 t.3.3.2 in let b = t.3.3.3 in (b.0, b.1, (_, is.while z.2 b.2.1), b.3))
+    fixed_then c (Expression l ∷ Operators l ∷ Fixed punctuation.RightParen ∷ Body (suc l) ∷ k) w (λ s. Plain c l k w (Key key.While p ∷ s)) punctuation.LeftParen
+    (λ q s t. let z = closed punctuation.RightParen t.2.1 t.3.2 t.3.3.2 in let b = t.3.3.3 in (b.0, b.1, (_, is.while z.2 b.2.1), b.3))
 
 for_gives : (c : Limits) (p : Place) (l : ℕ) (k : Stack) (w : Counts) (s : List Terminal)
-    → Takes c (Fixed mark.LeftParen ∷ First (suc l) ∷ Test l ∷ StepOfFor (suc l) ∷ Body (suc l) ∷ k) w s → Plain c l k w (Key key.For p ∷ s)
+    → Takes c (Fixed punctuation.LeftParen ∷ First (suc l) ∷ Test l ∷ StepOfFor (suc l) ∷ Body (suc l) ∷ k) w s → Plain c l k w (Key key.For p ∷ s)
 for_gives c p l k w =
-    fixed_then c (First (suc l) ∷ Test l ∷ StepOfFor (suc l) ∷ Body (suc l) ∷ k) w (λ s. Plain c l k w (Key key.For p ∷ s)) mark.LeftParen
+    fixed_then c (First (suc l) ∷ Test l ∷ StepOfFor (suc l) ∷ Body (suc l) ∷ k) w (λ s. Plain c l k w (Key key.For p ∷ s)) punctuation.LeftParen
     (λ q s t. let b = t.3.3.3 in (b.0, b.1, (_, is.for_loop t.2.1 t.3.2.1 t.3.3.2.1 b.2.1), b.3))
 
 -- what stands between the two blocks of a `try`
 catch_then : (c : Limits) (k : Stack) (w : Counts) (P : List Terminal → Type 0)
     → ((o a : Place) (x : List ℕ) (b d i : Place) (r : List Terminal) → Takes c k w r → P (Key key.Catch o ∷ Sign g.LeftParen a ∷ Name x b ∷ Sign g.RightParen d ∷ Sign g.LeftBrace i ∷ r))
-    → (s : List Terminal) → Takes c (Fixed mark.Catch ∷ Fixed mark.LeftParen ∷ Word ∷ Fixed mark.RightParen ∷ Fixed mark.LeftBrace ∷ k) w s → P s
+    → (s : List Terminal) → Takes c (Fixed punctuation.Catch ∷ Fixed punctuation.LeftParen ∷ Word ∷ Fixed punctuation.RightParen ∷ Fixed punctuation.LeftBrace ∷ k) w s → P s
 catch_then c k w P f =
-    fixed_then c (Fixed mark.LeftParen ∷ Word ∷ Fixed mark.RightParen ∷ Fixed mark.LeftBrace ∷ k) w P mark.Catch
-    (λ o. fixed_then c (Word ∷ Fixed mark.RightParen ∷ Fixed mark.LeftBrace ∷ k) w (λ s. P (Key key.Catch o ∷ s)) mark.LeftParen
-    (λ a. word_then c (Fixed mark.RightParen ∷ Fixed mark.LeftBrace ∷ k) w (λ s. P (Key key.Catch o ∷ Sign g.LeftParen a ∷ s))
-    (λ x b. fixed_then c (Fixed mark.LeftBrace ∷ k) w (λ s. P (Key key.Catch o ∷ Sign g.LeftParen a ∷ Name x b ∷ s)) mark.RightParen
-    (λ d. fixed_then c k w (λ s. P (Key key.Catch o ∷ Sign g.LeftParen a ∷ Name x b ∷ Sign g.RightParen d ∷ s)) mark.LeftBrace (λ i r t. f o a x b d i r t)))))
+    fixed_then c (Fixed punctuation.LeftParen ∷ Word ∷ Fixed punctuation.RightParen ∷ Fixed punctuation.LeftBrace ∷ k) w P punctuation.Catch
+    (λ o. fixed_then c (Word ∷ Fixed punctuation.RightParen ∷ Fixed punctuation.LeftBrace ∷ k) w (λ s. P (Key key.Catch o ∷ s)) punctuation.LeftParen
+    (λ a. word_then c (Fixed punctuation.RightParen ∷ Fixed punctuation.LeftBrace ∷ k) w (λ s. P (Key key.Catch o ∷ Sign g.LeftParen a ∷ s))
+    (λ x b. fixed_then c (Fixed punctuation.LeftBrace ∷ k) w (λ s. P (Key key.Catch o ∷ Sign g.LeftParen a ∷ Name x b ∷ s)) punctuation.RightParen
+    (λ d. fixed_then c k w (λ s. P (Key key.Catch o ∷ Sign g.LeftParen a ∷ Name x b ∷ Sign g.RightParen d ∷ s)) punctuation.LeftBrace (λ i r t. f o a x b d i r t)))))
 
 caught_gives : (c : Limits) (p q : Place) (l : ℕ) (k : Stack) (w u : Counts) (s : List Terminal) (xs : List Stmt) (r : List Terminal)
-    → Takes c (Fixed mark.Catch ∷ Fixed mark.LeftParen ∷ Word ∷ Fixed mark.RightParen ∷ Fixed mark.LeftBrace ∷ Block (suc l) ∷ k) u r → IsBlock c (suc l) w u s r xs
+    → Takes c (Fixed punctuation.Catch ∷ Fixed punctuation.LeftParen ∷ Word ∷ Fixed punctuation.RightParen ∷ Fixed punctuation.LeftBrace ∷ Block (suc l) ∷ k) u r → IsBlock c (suc l) w u s r xs
     → Plain c l k w (Key key.Try p ∷ Sign g.LeftBrace q ∷ s)
 caught_gives c p q l k w u s xs =
     catch_then c (Block (suc l) ∷ k) u (λ r. IsBlock c (suc l) w u s r xs → Plain c l k w (Key key.Try p ∷ Sign g.LeftBrace q ∷ s))
     (λ o a x b d i r t e. (t.0, t.1, (_, is.try e t.2.1), t.3))
 
 try_gives : (c : Limits) (p : Place) (l : ℕ) (k : Stack) (w : Counts) (s : List Terminal)
-    → Takes c (Fixed mark.LeftBrace ∷ Block (suc l) ∷ Fixed mark.Catch ∷ Fixed mark.LeftParen ∷ Word ∷ Fixed mark.RightParen ∷ Fixed mark.LeftBrace ∷ Block (suc l) ∷ k) w s
+    → Takes c (Fixed punctuation.LeftBrace ∷ Block (suc l) ∷ Fixed punctuation.Catch ∷ Fixed punctuation.LeftParen ∷ Word ∷ Fixed punctuation.RightParen ∷ Fixed punctuation.LeftBrace ∷ Block (suc l) ∷ k) w s
     → Plain c l k w (Key key.Try p ∷ s)
 try_gives c p l k w =
-    fixed_then c (Block (suc l) ∷ Fixed mark.Catch ∷ Fixed mark.LeftParen ∷ Word ∷ Fixed mark.RightParen ∷ Fixed mark.LeftBrace ∷ Block (suc l) ∷ k) w
-    (λ s. Plain c l k w (Key key.Try p ∷ s)) mark.LeftBrace (λ q s t. caught_gives c p q l k w t.1 s t.2.0 t.0 t.3 t.2.1)
+    fixed_then c (Block (suc l) ∷ Fixed punctuation.Catch ∷ Fixed punctuation.LeftParen ∷ Word ∷ Fixed punctuation.RightParen ∷ Fixed punctuation.LeftBrace ∷ Block (suc l) ∷ k) w
+    (λ s. Plain c l k w (Key key.Try p ∷ s)) punctuation.LeftBrace (λ q s t. caught_gives c p q l k w t.1 s t.2.0 t.0 t.3 t.2.1)
 
 -- a name and a semicolon
 ended_then : (c : Limits) (k : Stack) (w : Counts) (P : List Terminal → Type 0) → ((x : List ℕ) (p o : Place) (r : List Terminal) → Takes c k w r → P (Name x p ∷ Sign g.Semicolon o ∷ r))
-    → (s : List Terminal) → Takes c (Word ∷ Fixed mark.Semicolon ∷ k) w s → P s
-ended_then c k w P f = word_then c (Fixed mark.Semicolon ∷ k) w P (λ x p. fixed_then c k w (λ s. P (Name x p ∷ s)) mark.Semicolon (λ o r t. f x p o r t))
+    → (s : List Terminal) → Takes c (Word ∷ Fixed punctuation.Semicolon ∷ k) w s → P s
+ended_then c k w P f = word_then c (Fixed punctuation.Semicolon ∷ k) w P (λ x p. fixed_then c k w (λ s. P (Name x p ∷ s)) punctuation.Semicolon (λ o r t. f x p o r t))
 
-throw_gives : (c : Limits) (p : Place) (l : ℕ) (k : Stack) (w : Counts) (s : List Terminal) → Takes c (Word ∷ Fixed mark.Semicolon ∷ k) w s → Plain c l k w (Key key.Throw p ∷ s)
+throw_gives : (c : Limits) (p : Place) (l : ℕ) (k : Stack) (w : Counts) (s : List Terminal) → Takes c (Word ∷ Fixed punctuation.Semicolon ∷ k) w s → Plain c l k w (Key key.Throw p ∷ s)
 throw_gives c p l k w = ended_then c k w (λ s. Plain c l k w (Key key.Throw p ∷ s)) (λ x q o r t. (r, w, (_, is.throw), t))
 
 abbrev opens : Terminal → Bool
@@ -218,24 +218,24 @@ body_sound c x l k w =
 
 pub after_word_sound : (c : Limits) (x : Terminal) (l : ℕ) (k : Stack) (w : Counts) → Step c x (AfterWord l ∷ k) w (machine.after_word x l k w)
 after_word_sound c (Sign g.Equal p) l k w = λ s h t. (t.0, t.1, (λ x q. t.2 x q p), t.3)
-after_word_sound c (Sign g.LeftParen p) l k w = λ s h t. let z = closed_arguments mark.Semicolon t.2.1 t.3.2 in (t.3.3.0, t.3.3.1, (λ x q. call_gives z.1 t.3.3.2), t.3.3.3)
+after_word_sound c (Sign g.LeftParen p) l k w = λ s h t. let z = closed_arguments punctuation.Semicolon t.2.1 t.3.2 in (t.3.3.0, t.3.3.1, (λ x q. call_gives z.1 t.3.3.2), t.3.3.3)
 after_word_sound c _ l k w = tt
 
-assign_next_gives : (c : Limits) (p : Place) (l : ℕ) (k : Stack) (w : Counts) (s : List Terminal) → Takes c (Word ∷ Fixed mark.Semicolon ∷ k) w s → Takes c (AfterEqual l ∷ k) w (Key key.Next p ∷ s)
+assign_next_gives : (c : Limits) (p : Place) (l : ℕ) (k : Stack) (w : Counts) (s : List Terminal) → Takes c (Word ∷ Fixed punctuation.Semicolon ∷ k) w s → Takes c (AfterEqual l ∷ k) w (Key key.Next p ∷ s)
 assign_next_gives c p l k w = ended_then c k w (λ s. Takes c (AfterEqual l ∷ k) w (Key key.Next p ∷ s)) (λ y a b r t. (r, w, (λ x q o. (_, is.assign_next)), t))
 
-get_gives : (c : Limits) (p : Place) (l : ℕ) (k : Stack) (w : Counts) (s : List Terminal) → Takes c (Word ∷ Fixed mark.Semicolon ∷ k) w s → Takes c (AfterEqual l ∷ k) w (Key key.Get p ∷ s)
+get_gives : (c : Limits) (p : Place) (l : ℕ) (k : Stack) (w : Counts) (s : List Terminal) → Takes c (Word ∷ Fixed punctuation.Semicolon ∷ k) w s → Takes c (AfterEqual l ∷ k) w (Key key.Get p ∷ s)
 get_gives c p l k w = ended_then c k w (λ s. Takes c (AfterEqual l ∷ k) w (Key key.Get p ∷ s)) (λ y a b r t. (r, w, (λ x q o. (_, is.get)), t))
 
 pub after_equal_sound : (c : Limits) (x : Terminal) (l : ℕ) (k : Stack) (w : Counts) → Step c x (AfterEqual l ∷ k) w (machine.after_equal x l k w)
 after_equal_sound c (Key key.Next p) l k w = λ s h t. assign_next_gives c p l k w s t
 after_equal_sound c (Key key.Get p) l k w = λ s h t. get_gives c p l k w s t
 after_equal_sound c x l k w =
-    let j = Operators l ∷ Fixed mark.Semicolon ∷ k in
+    let j = Operators l ∷ Fixed punctuation.Semicolon ∷ k in
     leads_on c x (λ s. Takes c (Operand l ∷ j) (new_expression w) (x ∷ s)) (λ s. Takes c (AfterEqual l ∷ k) w (x ∷ s)) (machine.operand x l j (new_expression w))
-    (operand_sound c x l j (new_expression w)) (λ s t. let z = closed mark.Semicolon t.2.1 t.3.2 t.3.3.2 in (t.3.3.0, t.3.3.1, (λ x p q. (_, is.assign z.2)), t.3.3.3))
+    (operand_sound c x l j (new_expression w)) (λ s t. let z = closed punctuation.Semicolon t.2.1 t.3.2 t.3.3.2 in (t.3.3.0, t.3.3.1, (λ x p q. (_, is.assign z.2)), t.3.3.3))
 
 pub after_next_sound : (c : Limits) (x : Terminal) (l : ℕ) (k : Stack) (w : Counts) → Step c x (AfterNext l ∷ k) w (machine.after_next x l k w)
 after_next_sound c (Sign g.Semicolon p) l k w = λ s h t. (s, w, (λ x q o. (_, is.next)), t)
-after_next_sound c (Sign g.Equal p) l k w = λ s h t. let z = closed mark.Semicolon t.2.1 t.3.2 t.3.3.2 in (t.3.3.0, t.3.3.1, (λ x q o. (_, is.next_assign z.2)), t.3.3.3)
+after_next_sound c (Sign g.Equal p) l k w = λ s h t. let z = closed punctuation.Semicolon t.2.1 t.3.2 t.3.3.2 in (t.3.3.0, t.3.3.1, (λ x q o. (_, is.next_assign z.2)), t.3.3.3)
 after_next_sound c _ l k w = tt

@@ -9,8 +9,8 @@ use Rattle.shim_syntax.specs.declared.tree.Sort.TheVariants.{Value}
 use Rattle.shim_syntax.specs.Terminals.{Terminal, Name, Sort, Key, Sign, End}
 use Rattle.shim_syntax.specs.Limits.{Limit, Nesting, Count, limits}
 use Rattle.shim_syntax.specs.Grammar.{Counts, at_level, new_expression, behind_body}
-use Rattle.shim_grammar.specs.declared.mark.Mark.{Mark}
-use Rattle.shim_grammar.specs.declared.mark.Mark.TheVariants as mark
+use Rattle.shim_grammar.specs.declared.punctuation.Punctuation.{Punctuation}
+use Rattle.shim_grammar.specs.declared.punctuation.Punctuation.TheVariants as punctuation
 use Rattle.shim_grammar.specs.Machine as m
 use Rattle.shim_grammar.specs.Machine.{Fixed, Word, Operand, Inside, Expression, Operators, Arguments, MoreArguments, Argument, Declarations, AfterDeclared, MoreDeclarations, Declaration, AfterDeclaration, Statement, Body, Block, AfterWord, AfterEqual, AfterNext, First, Test, Step, Else, AfterBody, Pars, Branch, Parameters, AfterSort, Throws, MoreParameters, Parameter, Thrown, MoreThrows, Functions, Stack, Ask, Want, ask, wants}
 use Rattle.shim_grammar.proofs.Gives.{Allowed}
@@ -43,14 +43,14 @@ operand_small (Sign g.Bang p) l k w = (refl, tt)
 operand_small (Sign g.Tilde p) l k w = (refl, tt)
 operand_small _ l k w = tt
 
-fixed_one : (f : Mark) (x : Terminal) (k : Stack) (w : Counts) → Single (m.fixed f x k w)
-fixed_one mark.LeftParen (Sign g.LeftParen p) k w = tt
-fixed_one mark.RightParen (Sign g.RightParen p) k w = tt
-fixed_one mark.LeftBrace (Sign g.LeftBrace p) k w = tt
-fixed_one mark.Comma (Sign g.Comma p) k w = tt
-fixed_one mark.Semicolon (Sign g.Semicolon p) k w = tt
-fixed_one mark.Equal (Sign g.Equal p) k w = tt
-fixed_one mark.Catch (Key k.Catch p) k w = tt
+fixed_one : (f : Punctuation) (x : Terminal) (k : Stack) (w : Counts) → Single (m.fixed f x k w)
+fixed_one punctuation.LeftParen (Sign g.LeftParen p) k w = tt
+fixed_one punctuation.RightParen (Sign g.RightParen p) k w = tt
+fixed_one punctuation.LeftBrace (Sign g.LeftBrace p) k w = tt
+fixed_one punctuation.Comma (Sign g.Comma p) k w = tt
+fixed_one punctuation.Semicolon (Sign g.Semicolon p) k w = tt
+fixed_one punctuation.Equal (Sign g.Equal p) k w = tt
+fixed_one punctuation.Catch (Key k.Catch p) k w = tt
 fixed_one _ _ k w = tt
 
 operand_one : (x : Terminal) (l : ℕ) (k : Stack) (w : Counts) → Single (m.operand x l k w)
@@ -140,7 +140,7 @@ after_word_one _ l k w = tt
 after_equal_one : (x : Terminal) (l : ℕ) (k : Stack) (w : Counts) → Single (m.after_equal x l k w)
 after_equal_one (Key k.Next p) l k w = tt
 after_equal_one (Key k.Get p) l k w = tt
-after_equal_one x l k w = operand_one x l (Operators l ∷ Fixed mark.Semicolon ∷ k) (new_expression w)
+after_equal_one x l k w = operand_one x l (Operators l ∷ Fixed punctuation.Semicolon ∷ k) (new_expression w)
 
 after_next_one : (x : Terminal) (l : ℕ) (k : Stack) (w : Counts) → Single (m.after_next x l k w)
 after_next_one (Sign g.Semicolon p) l k w = tt
@@ -155,7 +155,7 @@ first_one _ l k w = tt
 
 test_one : (x : Terminal) (l : ℕ) (k : Stack) (w : Counts) → Single (m.test_of_for x l k w)
 test_one (Sign g.Semicolon p) l k w = tt
-test_one x l k w = operand_one x l (Operators l ∷ Fixed mark.Semicolon ∷ k) (new_expression w)
+test_one x l k w = operand_one x l (Operators l ∷ Fixed punctuation.Semicolon ∷ k) (new_expression w)
 
 step_one : (x : Terminal) (l : ℕ) (k : Stack) (w : Counts) → Single (m.step_of_for x l k w)
 step_one (Sign g.RightParen p) l k w = tt

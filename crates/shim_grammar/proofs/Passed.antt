@@ -6,8 +6,8 @@ use Rattle.shim_syntax.specs.Terminals.{Terminal, Broken}
 use Rattle.shim_syntax.specs.Limits.{Limit, Limits, until}
 use Rattle.shim_syntax.specs.Grammar.{Counts, nothing_read, behind_body}
 use Rattle.shim_syntax.specs.Text.{Begins}
-use Rattle.shim_grammar.specs.declared.mark.Mark.{Mark}
-use Rattle.shim_grammar.specs.declared.mark.Mark.TheVariants as mark
+use Rattle.shim_grammar.specs.declared.punctuation.Punctuation.{Punctuation}
+use Rattle.shim_grammar.specs.declared.punctuation.Punctuation.TheVariants as punctuation
 use Rattle.shim_grammar.specs.Machine as m
 use Rattle.shim_grammar.specs.Machine.{Functions, Stack, Want, At, Cause, Unwanted, Past, Whole, run, wants}
 use Rattle.shim_grammar.proofs.Gives.{Allowed}
@@ -70,14 +70,14 @@ module _ (c : Limits) (p : Plain c) (x : Terminal) (s : List Terminal) where
   halts_or_passes (y ∷ b) k w e = next_there y b (wants k y w) e (halts_or_passes b)
 
 -- nothing wants a place where the text can't be cut
-unwanted_fixed : (f : Mark) (kind : LexKind) (p : Place) (k : Stack) (w : Counts) → m.fixed f (Broken kind p) k w ≡ None
-unwanted_fixed mark.LeftParen kind p k w = refl
-unwanted_fixed mark.RightParen kind p k w = refl
-unwanted_fixed mark.LeftBrace kind p k w = refl
-unwanted_fixed mark.Comma kind p k w = refl
-unwanted_fixed mark.Semicolon kind p k w = refl
-unwanted_fixed mark.Equal kind p k w = refl
-unwanted_fixed mark.Catch kind p k w = refl
+unwanted_fixed : (f : Punctuation) (kind : LexKind) (p : Place) (k : Stack) (w : Counts) → m.fixed f (Broken kind p) k w ≡ None
+unwanted_fixed punctuation.LeftParen kind p k w = refl
+unwanted_fixed punctuation.RightParen kind p k w = refl
+unwanted_fixed punctuation.LeftBrace kind p k w = refl
+unwanted_fixed punctuation.Comma kind p k w = refl
+unwanted_fixed punctuation.Semicolon kind p k w = refl
+unwanted_fixed punctuation.Equal kind p k w = refl
+unwanted_fixed punctuation.Catch kind p k w = refl
 
 unwanted : (k : Stack) (kind : LexKind) (p : Place) (w : Counts) → wants k (Broken kind p) w ≡ None
 unwanted [] kind p w = refl

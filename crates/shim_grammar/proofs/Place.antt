@@ -17,6 +17,7 @@ use Rattle.shim_grammar.proofs.Runs.{run_on}
 use Rattle.shim_grammar.proofs.RunsStmt.{program_runs}
 use Rattle.shim_grammar.proofs.Asks.{LevelFirst, level_first}
 use Rattle.shim_grammar.proofs.Judged.{judged, judge_allowed, judge_refused, allowed_more, refused_more, refused_passes, left_of, no_sooner, halts_here, halts_later}
+use Rattle.shim_base.proofs.Facts.{or_left, or_right, or_of_false}
 
 -- what the machine's halt comes to
 abbrev pub fault_of : Cause → Terminal → Fault
@@ -24,18 +25,6 @@ fault_of Unwanted (Broken kind p) = Lexical kind
 fault_of Unwanted _ = Unexpected
 fault_of (Past Nesting) _ = TooDeep
 fault_of (Past (Count what)) _ = TooMany what
-
-or_left : (a b : Bool) → a ≡ true → (a || b) ≡ true
-or_left true b h = refl
-or_left false b h = absurd (cc)
-
-or_right : (a b : Bool) → b ≡ true → (a || b) ≡ true
-or_right true b h = refl
-or_right false b h = h
-
-or_false : (a b : Bool) → b ≡ false → (a || b) ≡ a
-or_false true b h = refl
-or_false false b h = h
 
 le_true : (a b : ℕ) → a ≤ b → nat_le a b ≡ true
 le_true a b h = le-leb a b h
@@ -54,7 +43,7 @@ until_more : (c : Limits) → Plain c → (t s u : List Terminal) (limit : Limit
 until_more c p t s u limit n e = or_left (c u limit n) _ (p u s limit n ∙ e)
 
 pub until_same : (c : Limits) → Plain c → (t s u : List Terminal) (limit : Limit) (n : ℕ) → length t < length u → until t c u limit n ≡ c s limit n
-until_same c p t s u limit n h = or_false (c u limit n) _ (le_false _ _ h) ∙ p u s limit n
+until_same c p t s u limit n h = or_of_false (c u limit n) _ (le_false _ _ h) ∙ p u s limit n
 
 -- another run over other terminals behind x, whose judgements are the same up to x
 module _ (c d : Limits) (f : Cause) (x : Terminal) (s t : List Terminal) (same : (b : List Terminal) (limit : Limit) (n : ℕ) → d (b ++ x ∷ t) limit n ≡ c (b ++ x ∷ s) limit n) where

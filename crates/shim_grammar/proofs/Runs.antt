@@ -10,7 +10,7 @@ use Rattle.shim_syntax.specs.Terminals.{Terminal, Key, Sign, first}
 use Rattle.shim_syntax.specs.Limits.{Limit, Nesting, Count, Limits}
 use Rattle.shim_syntax.specs.Grammar as is
 use Rattle.shim_syntax.specs.Grammar.{Counts, with_operator, with_local, new_expression, new_body, new_function, at_level, behind_body, as_branch, row_of_sign, is_else, is_par, IsExpr, IsChain, IsWhole, IsArguments, IsMoreArguments, IsTest}
-use Rattle.shim_grammar.specs.declared.mark.Mark.TheVariants as mark
+use Rattle.shim_grammar.specs.declared.punctuation.Punctuation.TheVariants as punctuation
 use Rattle.shim_grammar.specs.Machine.{Fixed, Operand, Inside, Expression, Operators, Arguments, MoreArguments, Argument, AfterEqual, Test, Statement, Body, Block, Else, AfterBody, Pars, Stack, Want, Halt, At, Unwanted, ask, go, joins, joins_sign, operand, operators, judge, run}
 
 -- how a run goes on with what a terminal wants
@@ -32,7 +32,7 @@ expression_runs c [] l w k = refl
 expression_runs c (x ∷ s) l w k = refl
 
 -- a sign of a row joins
-joins_of_row : (o : SignOf) (n : ℕ) → row_of_sign o ≡ suc n → joins_sign o ≡ true
+pub joins_of_row : (o : SignOf) (n : ℕ) → row_of_sign o ≡ suc n → joins_sign o ≡ true
 joins_of_row g.Star n e = refl
 joins_of_row g.Slash n e = refl
 joins_of_row g.Percent n e = refl
@@ -77,7 +77,7 @@ mutual
   pub operand_runs : {c : Limits} {l : ℕ} {v w : Counts} {s r : List Terminal} {x : Expr} → IsExpr c 0 l v w s r x → (k : Stack) → run c s (Operand l ∷ k) v ≡ run c r k w
   operand_runs is.number k = refl
   operand_runs is.variable k = refl
-  operand_runs {v = v} (is.parens h d) k = inside_open v h d _ ∙ expr_runs d (Fixed mark.RightParen ∷ k)
+  operand_runs {v = v} (is.parens h d) k = inside_open v h d _ ∙ expr_runs d (Fixed punctuation.RightParen ∷ k)
   operand_runs {v = v} (is.negative g h d) k = rw g (inside_open (with_operator v) h d k ∙ operand_runs d k)
   operand_runs {v = v} (is.negation g h d) k = rw g (inside_open (with_operator v) h d k ∙ operand_runs d k)
   operand_runs {v = v} (is.complement g h d) k = rw g (inside_open (with_operator v) h d k ∙ operand_runs d k)
@@ -85,7 +85,7 @@ mutual
   pub expr_runs : {c : Limits} {n l : ℕ} {v w : Counts} {s r : List Terminal} {x : Expr} → IsExpr c n l v w s r x → (k : Stack) → run c s (Operand l ∷ Operators l ∷ k) v ≡ run c r (Operators l ∷ k) w
   expr_runs is.number k = refl
   expr_runs is.variable k = refl
-  expr_runs {l = l} {v = v} (is.parens h d) k = inside_open v h d _ ∙ expr_runs d (Fixed mark.RightParen ∷ Operators l ∷ k)
+  expr_runs {l = l} {v = v} (is.parens h d) k = inside_open v h d _ ∙ expr_runs d (Fixed punctuation.RightParen ∷ Operators l ∷ k)
   expr_runs {l = l} {v = v} (is.negative g h d) k = rw g (inside_open (with_operator v) h d _ ∙ operand_runs d (Operators l ∷ k))
   expr_runs {l = l} {v = v} (is.negation g h d) k = rw g (inside_open (with_operator v) h d _ ∙ operand_runs d (Operators l ∷ k))
   expr_runs {l = l} {v = v} (is.complement g h d) k = rw g (inside_open (with_operator v) h d _ ∙ operand_runs d (Operators l ∷ k))
@@ -135,14 +135,14 @@ arguments_skips c (Sign g.RightParen p ∷ s) l w k h = absurd (cc)
 arguments_skips c (_ ∷ s) l w k h = refl
 
 pub equal_skips : (c : Limits) (s : List Terminal) (l : ℕ) (w : Counts) (k : Stack) → is_next_or_get (first s) ≡ false
-    → run c s (AfterEqual l ∷ k) w ≡ run c s (Expression l ∷ Operators l ∷ Fixed mark.Semicolon ∷ k) w
+    → run c s (AfterEqual l ∷ k) w ≡ run c s (Expression l ∷ Operators l ∷ Fixed punctuation.Semicolon ∷ k) w
 equal_skips c [] l w k h = refl
 equal_skips c (Key k.Next p ∷ s) l w k h = absurd (cc)
 equal_skips c (Key k.Get p ∷ s) l w k h = absurd (cc)
 equal_skips c (_ ∷ s) l w k h = refl
 
 pub test_skips : (c : Limits) (s : List Terminal) (l : ℕ) (w : Counts) (k : Stack) → is_semicolon (first s) ≡ false
-    → run c s (Test l ∷ k) w ≡ run c s (Expression l ∷ Operators l ∷ Fixed mark.Semicolon ∷ k) w
+    → run c s (Test l ∷ k) w ≡ run c s (Expression l ∷ Operators l ∷ Fixed punctuation.Semicolon ∷ k) w
 test_skips c [] l w k h = refl
 test_skips c (Sign g.Semicolon p ∷ s) l w k h = absurd (cc)
 test_skips c (_ ∷ s) l w k h = refl
@@ -188,11 +188,11 @@ pub arguments_open : {c : Limits} {n l : ℕ} {v w : Counts} {s r : List Termina
 arguments_open {c = c} {s = s} d j u k = arguments_skips c s j u k (expr_begins d).0
 
 pub test_open : {c : Limits} {n l : ℕ} {v w : Counts} {s r : List Terminal} {x : Expr} → IsExpr c n l v w s r x → (j : ℕ) (u : Counts) (k : Stack)
-    → run c s (Test j ∷ k) u ≡ run c s (Expression j ∷ Operators j ∷ Fixed mark.Semicolon ∷ k) u
+    → run c s (Test j ∷ k) u ≡ run c s (Expression j ∷ Operators j ∷ Fixed punctuation.Semicolon ∷ k) u
 test_open {c = c} {s = s} d j u k = test_skips c s j u k (expr_begins d).1
 
 pub equal_open : {c : Limits} {n l : ℕ} {v w : Counts} {s r : List Terminal} {x : Expr} → IsExpr c n l v w s r x → (j : ℕ) (u : Counts) (k : Stack)
-    → run c s (AfterEqual j ∷ k) u ≡ run c s (Expression j ∷ Operators j ∷ Fixed mark.Semicolon ∷ k) u
+    → run c s (AfterEqual j ∷ k) u ≡ run c s (Expression j ∷ Operators j ∷ Fixed punctuation.Semicolon ∷ k) u
 equal_open {c = c} {s = s} d j u k = equal_skips c s j u k (expr_begins d).2
 
 argument_open : {c : Limits} {l : ℕ} {w : Counts} {s r : List Terminal} {x : Expr} (n : ℕ) (v : Counts) → c s (Count many.Arguments) n ≡ true → IsWhole c l v w s r x → (k : Stack)
@@ -211,8 +211,8 @@ arguments_runs {l = l} {v = v} (is.arguments h d t) k = arguments_open d l v k �
 -- a value up to its semicolon, and a test
 pub equal_runs : {c : Limits} {l : ℕ} {w : Counts} {s r : List Terminal} {x : Expr} {p : Place} (v : Counts) → IsWhole c l v w s (Sign g.Semicolon p ∷ r) x → (k : Stack)
     → run c s (AfterEqual l ∷ k) v ≡ run c r k w
-equal_runs {l = l} v d k = equal_open d l v k ∙ whole_runs v d (Fixed mark.Semicolon ∷ k)
+equal_runs {l = l} v d k = equal_open d l v k ∙ whole_runs v d (Fixed punctuation.Semicolon ∷ k)
 
 pub test_runs : {c : Limits} {l : ℕ} {v w : Counts} {s r : List Terminal} {x : Option Expr} → IsTest c l v w s r x → (k : Stack) → run c s (Test l ∷ k) v ≡ run c r k w
 test_runs is.no_test k = refl
-test_runs {l = l} {v = v} (is.test d) k = test_open d l v k ∙ whole_runs v d (Fixed mark.Semicolon ∷ k)
+test_runs {l = l} {v = v} (is.test d) k = test_open d l v k ∙ whole_runs v d (Fixed punctuation.Semicolon ∷ k)

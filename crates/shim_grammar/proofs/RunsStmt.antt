@@ -13,14 +13,14 @@ use Rattle.shim_syntax.specs.Terminals.{Terminal, Sign, first}
 use Rattle.shim_syntax.specs.Limits.{Nesting, Count, Limits}
 use Rattle.shim_syntax.specs.Grammar as is
 use Rattle.shim_syntax.specs.Grammar.{Counts, nothing_read, new_function, with_local, new_body, at_level, behind_body, as_branch, is_else, is_par, IsDeclared, IsDeclarations, IsFirst, IsStep, IsBlock, IsStmt, IsBody, IsPlain, IsBranches, IsBranch, IsParam, IsParams, IsMoreParams, IsThrows, IsMoreThrows, IsFunction, IsFunctions, Derives}
-use Rattle.shim_grammar.specs.declared.mark.Mark.TheVariants as mark
+use Rattle.shim_grammar.specs.declared.punctuation.Punctuation.TheVariants as punctuation
 use Rattle.shim_grammar.specs.Machine.{Fixed, Word, Declarations, MoreDeclarations, Declaration, Statement, Body, Block, First, Test, Step, Else, AfterBody, Pars, Branch, Parameters, Throws, MoreParameters, Parameter, MoreThrows, Functions, Stack, Halt, Whole, statement, run}
 use Rattle.shim_grammar.proofs.Runs.{run_on, asked, is_left_brace, is_right_brace, else_skips, pars_skips, after_body_skips, block_skips, body_skips, whole_runs, arguments_runs, equal_runs, test_runs}
 
 pub declared_runs : {c : Limits} {l : ℕ} {w : Counts} {s r : List Terminal} {x : List ℕ} {p : Place} {value : Option Expr} (v : Counts) → IsDeclared c l v w s (Sign g.Semicolon p ∷ r) x value
     → (k : Stack) → run c s (Declaration l ∷ k) v ≡ run c r k w
 declared_runs v (is.without_value h) k = rw h refl
-declared_runs v (is.with_value h d) k = rw h (whole_runs (with_local v) d (Fixed mark.Semicolon ∷ k))
+declared_runs v (is.with_value h d) k = rw h (whole_runs (with_local v) d (Fixed punctuation.Semicolon ∷ k))
 
 pub last_declared_runs : {c : Limits} {l : ℕ} {w : Counts} {s r : List Terminal} {x : List ℕ} {p : Place} {value : Option Expr} (v : Counts) → IsDeclared c l v w s (Sign g.Semicolon p ∷ r) x value
     → (k : Stack) → run c s (Declarations l ∷ k) v ≡ run c r k w
@@ -40,11 +40,11 @@ declarations_runs {v = v} (is.declared d t) k = next_declared_runs v d k ∙ dec
 pub first_runs : {c : Limits} {l : ℕ} {v w : Counts} {s r : List Terminal} {xs : List Stmt} → IsFirst c l v w s r xs → (k : Stack) → run c s (First l ∷ k) v ≡ run c r k w
 first_runs is.no_first k = refl
 first_runs {l = l} {v = v} (is.first_declare h d) k = rw h (declared_runs (at_level l v) d k)
-first_runs {l = l} {v = v} (is.first_assign h d) k = rw h (whole_runs (at_level l v) d (Fixed mark.Semicolon ∷ k))
+first_runs {l = l} {v = v} (is.first_assign h d) k = rw h (whole_runs (at_level l v) d (Fixed punctuation.Semicolon ∷ k))
 
 pub step_runs : {c : Limits} {l : ℕ} {v w : Counts} {s r : List Terminal} {xs : List Stmt} → IsStep c l v w s r xs → (k : Stack) → run c s (Step l ∷ k) v ≡ run c r k w
 step_runs is.no_step k = refl
-step_runs {l = l} {v = v} (is.step h d) k = rw h (whole_runs (at_level l v) d (Fixed mark.RightParen ∷ k))
+step_runs {l = l} {v = v} (is.step h d) k = rw h (whole_runs (at_level l v) d (Fixed punctuation.RightParen ∷ k))
 
 -- a plain statement begins with no brace
 pub plain_begins : {c : Limits} {l : ℕ} {v w : Counts} {s r : List Terminal} {xs : List Stmt} → IsPlain c l v w s r xs → (is_left_brace (first s) ≡ false) × (is_right_brace (first s) ≡ false)
@@ -117,17 +117,17 @@ mutual
   plain_begun_runs is.assign_next k = refl
   plain_begun_runs is.get k = refl
   plain_begun_runs is.next k = refl
-  plain_begun_runs {v = v} (is.next_assign d) k = whole_runs v d (Fixed mark.Semicolon ∷ k)
-  plain_begun_runs {v = v} (is.put d) k = whole_runs v d (Fixed mark.Semicolon ∷ k)
-  plain_begun_runs {c = c} {l = l} {v = v} {w = w} {r = r} (is.if_alone d b e) k = whole_runs v d (Fixed mark.RightParen ∷ Body (suc l) ∷ Else (suc l) ∷ k) ∙ body_runs b (Else (suc l) ∷ k)
+  plain_begun_runs {v = v} (is.next_assign d) k = whole_runs v d (Fixed punctuation.Semicolon ∷ k)
+  plain_begun_runs {v = v} (is.put d) k = whole_runs v d (Fixed punctuation.Semicolon ∷ k)
+  plain_begun_runs {c = c} {l = l} {v = v} {w = w} {r = r} (is.if_alone d b e) k = whole_runs v d (Fixed punctuation.RightParen ∷ Body (suc l) ∷ Else (suc l) ∷ k) ∙ body_runs b (Else (suc l) ∷ k)
       ∙ else_skips c r (suc l) w k e
-  plain_begun_runs {l = l} {v = v} (is.if_else d b e) k = whole_runs v d (Fixed mark.RightParen ∷ Body (suc l) ∷ Else (suc l) ∷ k) ∙ body_runs b (Else (suc l) ∷ k) ∙ body_runs e k
-  plain_begun_runs {l = l} {v = v} (is.while d b) k = whole_runs v d (Fixed mark.RightParen ∷ Body (suc l) ∷ k) ∙ body_runs b k
+  plain_begun_runs {l = l} {v = v} (is.if_else d b e) k = whole_runs v d (Fixed punctuation.RightParen ∷ Body (suc l) ∷ Else (suc l) ∷ k) ∙ body_runs b (Else (suc l) ∷ k) ∙ body_runs e k
+  plain_begun_runs {l = l} {v = v} (is.while d b) k = whole_runs v d (Fixed punctuation.RightParen ∷ Body (suc l) ∷ k) ∙ body_runs b k
   plain_begun_runs {l = l} (is.for_loop a d e b) k = first_runs a (Test l ∷ Step (suc l) ∷ Body (suc l) ∷ k) ∙ test_runs d (Step (suc l) ∷ Body (suc l) ∷ k)
       ∙ step_runs e (Body (suc l) ∷ k) ∙ body_runs b k
-  plain_begun_runs {c = c} {l = l} {w = w} {r = r} (is.call d e) k = arguments_runs d (Fixed mark.Semicolon ∷ Pars l 1 ∷ k) ∙ pars_skips c r l 1 w k e
-  plain_begun_runs {l = l} (is.call_fork d b) k = arguments_runs d (Fixed mark.Semicolon ∷ Pars l 1 ∷ k) ∙ branches_runs b k
-  plain_begun_runs {l = l} (is.try b d) k = block_runs b (Fixed mark.Catch ∷ Fixed mark.LeftParen ∷ Word ∷ Fixed mark.RightParen ∷ Fixed mark.LeftBrace ∷ Block (suc l) ∷ k) ∙ block_runs d k
+  plain_begun_runs {c = c} {l = l} {w = w} {r = r} (is.call d e) k = arguments_runs d (Fixed punctuation.Semicolon ∷ Pars l 1 ∷ k) ∙ pars_skips c r l 1 w k e
+  plain_begun_runs {l = l} (is.call_fork d b) k = arguments_runs d (Fixed punctuation.Semicolon ∷ Pars l 1 ∷ k) ∙ branches_runs b k
+  plain_begun_runs {l = l} (is.try b d) k = block_runs b (Fixed punctuation.Catch ∷ Fixed punctuation.LeftParen ∷ Word ∷ Fixed punctuation.RightParen ∷ Fixed punctuation.LeftBrace ∷ Block (suc l) ∷ k) ∙ block_runs d k
   plain_begun_runs is.throw k = refl
 
   pub branches_runs : {c : Limits} {l n : ℕ} {v w : Counts} {s r : List Terminal} {bs : List BranchTree} → IsBranches c l n v w s r bs → (k : Stack)
@@ -138,7 +138,7 @@ mutual
   pub branch_runs : {c : Limits} {l : ℕ} {v w : Counts} {s r : List Terminal} {b : BranchTree} → IsBranch c l v w s r b → (n : ℕ) → c s (Count many.Branches) n ≡ true → (k : Stack)
       → run c s (Branch l n ∷ k) v ≡ run c r k w
   branch_runs (is.block_branch d) n h k = rw h (block_runs d k)
-  branch_runs (is.call_branch d) n h k = rw h (arguments_runs d (Fixed mark.Semicolon ∷ k))
+  branch_runs (is.call_branch d) n h k = rw h (arguments_runs d (Fixed punctuation.Semicolon ∷ k))
 
 pub stmt_runs : {c : Limits} {l : ℕ} {w : Counts} {s r : List Terminal} {xs : List Stmt} (v : Counts) → c s Nesting l ≡ true → IsStmt c l (at_level l v) w s r xs → (k : Stack)
     → run c s (Statement l ∷ k) v ≡ run c r k w

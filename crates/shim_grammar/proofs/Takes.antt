@@ -6,7 +6,7 @@ use Rattle.shim_syntax.specs.declared.tree.Expr.{Expr}
 use Rattle.shim_syntax.specs.Terminals.{Terminal, Name}
 use Rattle.shim_syntax.specs.Limits.{Limit, Limits}
 use Rattle.shim_syntax.specs.Grammar.{Counts, IsExpr, IsArguments}
-use Rattle.shim_grammar.specs.declared.mark.Mark.{Mark}
+use Rattle.shim_grammar.specs.declared.punctuation.Punctuation.{Punctuation}
 use Rattle.shim_grammar.specs.Machine.{Fixed, Word, Operators, Stack, Want, ask}
 use Rattle.shim_grammar.proofs.Gives.{terminal_of, Gives, Takes, Allowed}
 use Rattle.shim_grammar.proofs.Joins.{lift, Longer}
@@ -35,7 +35,7 @@ module _ (c : Limits) (k : Stack) (w : Counts) (P : List Terminal → Type 0) wh
   same_counts r e t = subst (λ a. Takes c k a r) (sym e) t
 
   -- what holds behind each such terminal holds from it on
-  pub fixed_then : (f : Mark) → ((p : Place) (r : List Terminal) → Takes c k w r → P (terminal_of f p ∷ r)) → (s : List Terminal) → Takes c (Fixed f ∷ k) w s → P s
+  pub fixed_then : (f : Punctuation) → ((p : Place) (r : List Terminal) → Takes c k w r → P (terminal_of f p ∷ r)) → (s : List Terminal) → Takes c (Fixed f ∷ k) w s → P s
   fixed_then f g s (r, v, (p, e, i), t) = subst P (sym e) (g p r (same_counts r i t))
 
   pub word_then : ((x : List ℕ) (p : Place) (r : List Terminal) → Takes c k w r → P (Name x p ∷ r)) → (s : List Terminal) → Takes c (Word ∷ k) w s → P s
@@ -46,11 +46,11 @@ pub whole : {c : Limits} {l : ℕ} {a u v : Counts} {s i r : List Terminal} {x :
 whole d g = g _ _ _ (lift 10 d)
 
 -- an expression from its first operand on, up to a fixed terminal
-pub closed : (f : Mark) {c : Limits} {l : ℕ} {a u v w : Counts} {s i j r : List Terminal} {x : Expr} → IsExpr c 0 l a u s i x → Gives c (Operators l) u v i j → Gives c (Fixed f) v w j r
+pub closed : (f : Punctuation) {c : Limits} {l : ℕ} {a u v w : Counts} {s i j r : List Terminal} {x : Expr} → IsExpr c 0 l a u s i x → Gives c (Operators l) u v i j → Gives c (Fixed f) v w j r
     → (p : Place) × (y : Expr) × IsExpr c 10 l a w s (terminal_of f p ∷ r) y
 closed f {c = c} {l = l} {a = a} {s = s} d g (p, e, i) = let z = whole d g in (p, z.0, moved (λ k t. IsExpr c 10 l a k s t z.0) e i z.1)
 
 -- arguments up to a fixed terminal
-pub closed_arguments : (f : Mark) {c : Limits} {l : ℕ} {u v w : Counts} {s i r : List Terminal} {xs : List Expr} → IsArguments c l u v s i xs → Gives c (Fixed f) v w i r
+pub closed_arguments : (f : Punctuation) {c : Limits} {l : ℕ} {u v w : Counts} {s i r : List Terminal} {xs : List Expr} → IsArguments c l u v s i xs → Gives c (Fixed f) v w i r
     → (p : Place) × IsArguments c l u w s (terminal_of f p ∷ r) xs
 closed_arguments f {c = c} {l = l} {u = u} {s = s} {xs = xs} d (p, e, i) = (p, moved (λ k t. IsArguments c l u k s t xs) e i d)

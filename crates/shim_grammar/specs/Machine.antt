@@ -9,11 +9,11 @@ use Rattle.shim_syntax.specs.declared.tree.Sort.TheVariants.{Value}
 use Rattle.shim_syntax.specs.Terminals.{Terminal, Name, Number, Sort, Key, Sign, End}
 use Rattle.shim_syntax.specs.Limits.{Limit, Nesting, Count, Limits}
 use Rattle.shim_syntax.specs.Grammar.{Counts, new_function, with_local, new_expression, with_operator, at_level, new_body, behind_body, as_branch}
-use Rattle.shim_grammar.specs.declared.mark.Mark.{Mark}
-use Rattle.shim_grammar.specs.declared.mark.Mark.TheVariants as mark
+use Rattle.shim_grammar.specs.declared.punctuation.Punctuation.{Punctuation}
+use Rattle.shim_grammar.specs.declared.punctuation.Punctuation.TheVariants as punctuation
 
 pub data Symbol : Type 0 where
-  Fixed : Mark → Symbol
+  Fixed : Punctuation → Symbol
   Word : Symbol
   -- an operand; the same as a thing that begins; the first one of an expression; what may follow one
   Operand Inside Expression Operators : ℕ → Symbol
@@ -53,14 +53,14 @@ abbrev pub ask : Limit → ℕ → Option Want → Option Want
 ask limit n None = None
 ask limit n (Some w) = Some (record { asks = record { limit = limit; number = n } ∷ w.asks; stack = w.stack; counts = w.counts })
 
-abbrev pub fixed : Mark → Terminal → Stack → Counts → Option Want
-fixed mark.LeftParen (Sign g.LeftParen p) k w = go k w
-fixed mark.RightParen (Sign g.RightParen p) k w = go k w
-fixed mark.LeftBrace (Sign g.LeftBrace p) k w = go k w
-fixed mark.Comma (Sign g.Comma p) k w = go k w
-fixed mark.Semicolon (Sign g.Semicolon p) k w = go k w
-fixed mark.Equal (Sign g.Equal p) k w = go k w
-fixed mark.Catch (Key k.Catch p) k w = go k w
+abbrev pub fixed : Punctuation → Terminal → Stack → Counts → Option Want
+fixed punctuation.LeftParen (Sign g.LeftParen p) k w = go k w
+fixed punctuation.RightParen (Sign g.RightParen p) k w = go k w
+fixed punctuation.LeftBrace (Sign g.LeftBrace p) k w = go k w
+fixed punctuation.Comma (Sign g.Comma p) k w = go k w
+fixed punctuation.Semicolon (Sign g.Semicolon p) k w = go k w
+fixed punctuation.Equal (Sign g.Equal p) k w = go k w
+fixed punctuation.Catch (Key k.Catch p) k w = go k w
 fixed _ _ k w = None
 
 abbrev pub word : Terminal → Stack → Counts → Option Want
@@ -70,7 +70,7 @@ word _ k w = None
 abbrev pub operand : Terminal → ℕ → Stack → Counts → Option Want
 operand (Number n p) l k w = go k w
 operand (Name x p) l k w = go k w
-operand (Sign g.LeftParen p) l k w = go (Inside (suc l) ∷ Operators (suc l) ∷ Fixed mark.RightParen ∷ k) w
+operand (Sign g.LeftParen p) l k w = go (Inside (suc l) ∷ Operators (suc l) ∷ Fixed punctuation.RightParen ∷ k) w
 operand (Sign g.Minus p) l k w = ask (Count m.Operators) (suc w.operators) (go (Inside (suc l) ∷ k) (with_operator w))
 operand (Sign g.Bang p) l k w = ask (Count m.Operators) (suc w.operators) (go (Inside (suc l) ∷ k) (with_operator w))
 operand (Sign g.Tilde p) l k w = ask (Count m.Operators) (suc w.operators) (go (Inside (suc l) ∷ k) (with_operator w))
@@ -135,7 +135,7 @@ declaration (Name x p) l k w = ask (Count m.Locals) (suc w.locals) (go (AfterDec
 declaration _ l k w = None
 
 abbrev pub after_declaration : Terminal → ℕ → Stack → Counts → Option Want
-after_declaration (Sign g.Equal p) l k w = go (Expression l ∷ Operators l ∷ Fixed mark.Semicolon ∷ k) w
+after_declaration (Sign g.Equal p) l k w = go (Expression l ∷ Operators l ∷ Fixed punctuation.Semicolon ∷ k) w
 after_declaration (Sign g.Semicolon p) l k w = go k w
 after_declaration _ l k w = None
 
@@ -144,13 +144,13 @@ statement (Sign g.Semicolon p) l k w = go k w
 statement (Sort (Value ty) p) l k w = go (Declarations l ∷ k) w
 statement (Name x p) l k w = go (AfterWord l ∷ k) w
 statement (Key k.Next p) l k w = go (Word ∷ AfterNext l ∷ k) w
-statement (Key k.Put p) l k w = go (Word ∷ Fixed mark.Comma ∷ Expression l ∷ Operators l ∷ Fixed mark.Semicolon ∷ k) w
-statement (Key k.If p) l k w = go (Fixed mark.LeftParen ∷ Expression l ∷ Operators l ∷ Fixed mark.RightParen ∷ Body (suc l) ∷ Else (suc l) ∷ k) w
-statement (Key k.While p) l k w = go (Fixed mark.LeftParen ∷ Expression l ∷ Operators l ∷ Fixed mark.RightParen ∷ Body (suc l) ∷ k) w
-statement (Key k.For p) l k w = go (Fixed mark.LeftParen ∷ First (suc l) ∷ Test l ∷ Step (suc l) ∷ Body (suc l) ∷ k) w
+statement (Key k.Put p) l k w = go (Word ∷ Fixed punctuation.Comma ∷ Expression l ∷ Operators l ∷ Fixed punctuation.Semicolon ∷ k) w
+statement (Key k.If p) l k w = go (Fixed punctuation.LeftParen ∷ Expression l ∷ Operators l ∷ Fixed punctuation.RightParen ∷ Body (suc l) ∷ Else (suc l) ∷ k) w
+statement (Key k.While p) l k w = go (Fixed punctuation.LeftParen ∷ Expression l ∷ Operators l ∷ Fixed punctuation.RightParen ∷ Body (suc l) ∷ k) w
+statement (Key k.For p) l k w = go (Fixed punctuation.LeftParen ∷ First (suc l) ∷ Test l ∷ Step (suc l) ∷ Body (suc l) ∷ k) w
 statement (Key k.Try p) l k w =
-    go (Fixed mark.LeftBrace ∷ Block (suc l) ∷ Fixed mark.Catch ∷ Fixed mark.LeftParen ∷ Word ∷ Fixed mark.RightParen ∷ Fixed mark.LeftBrace ∷ Block (suc l) ∷ k) w
-statement (Key k.Throw p) l k w = go (Word ∷ Fixed mark.Semicolon ∷ k) w
+    go (Fixed punctuation.LeftBrace ∷ Block (suc l) ∷ Fixed punctuation.Catch ∷ Fixed punctuation.LeftParen ∷ Word ∷ Fixed punctuation.RightParen ∷ Fixed punctuation.LeftBrace ∷ Block (suc l) ∷ k) w
+statement (Key k.Throw p) l k w = go (Word ∷ Fixed punctuation.Semicolon ∷ k) w
 statement (Sign g.LeftBrace p) l k w = go (Block (suc l) ∷ Pars l 1 ∷ k) w
 statement _ l k w = None
 
@@ -168,32 +168,32 @@ body x l k w = thing x l k w
 
 abbrev pub after_word : Terminal → ℕ → Stack → Counts → Option Want
 after_word (Sign g.Equal p) l k w = go (AfterEqual l ∷ k) w
-after_word (Sign g.LeftParen p) l k w = go (Arguments l ∷ Fixed mark.Semicolon ∷ Pars l 1 ∷ k) w
+after_word (Sign g.LeftParen p) l k w = go (Arguments l ∷ Fixed punctuation.Semicolon ∷ Pars l 1 ∷ k) w
 after_word _ l k w = None
 
 abbrev pub after_equal : Terminal → ℕ → Stack → Counts → Option Want
-after_equal (Key k.Next p) l k w = go (Word ∷ Fixed mark.Semicolon ∷ k) w
-after_equal (Key k.Get p) l k w = go (Word ∷ Fixed mark.Semicolon ∷ k) w
-after_equal x l k w = operand x l (Operators l ∷ Fixed mark.Semicolon ∷ k) (new_expression w)
+after_equal (Key k.Next p) l k w = go (Word ∷ Fixed punctuation.Semicolon ∷ k) w
+after_equal (Key k.Get p) l k w = go (Word ∷ Fixed punctuation.Semicolon ∷ k) w
+after_equal x l k w = operand x l (Operators l ∷ Fixed punctuation.Semicolon ∷ k) (new_expression w)
 
 abbrev pub after_next : Terminal → ℕ → Stack → Counts → Option Want
 after_next (Sign g.Semicolon p) l k w = go k w
-after_next (Sign g.Equal p) l k w = go (Expression l ∷ Operators l ∷ Fixed mark.Semicolon ∷ k) w
+after_next (Sign g.Equal p) l k w = go (Expression l ∷ Operators l ∷ Fixed punctuation.Semicolon ∷ k) w
 after_next _ l k w = None
 
 abbrev pub first_of_for : Terminal → ℕ → Stack → Counts → Option Want
 first_of_for (Sign g.Semicolon p) l k w = go k w
 first_of_for (Sort (Value ty) p) l k w = ask Nesting l (go (Declaration l ∷ k) (at_level l w))
-first_of_for (Name x p) l k w = ask Nesting l (go (Fixed mark.Equal ∷ Expression l ∷ Operators l ∷ Fixed mark.Semicolon ∷ k) (at_level l w))
+first_of_for (Name x p) l k w = ask Nesting l (go (Fixed punctuation.Equal ∷ Expression l ∷ Operators l ∷ Fixed punctuation.Semicolon ∷ k) (at_level l w))
 first_of_for _ l k w = None
 
 abbrev pub test_of_for : Terminal → ℕ → Stack → Counts → Option Want
 test_of_for (Sign g.Semicolon p) l k w = go k w
-test_of_for x l k w = operand x l (Operators l ∷ Fixed mark.Semicolon ∷ k) (new_expression w)
+test_of_for x l k w = operand x l (Operators l ∷ Fixed punctuation.Semicolon ∷ k) (new_expression w)
 
 abbrev pub step_of_for : Terminal → ℕ → Stack → Counts → Option Want
 step_of_for (Sign g.RightParen p) l k w = go k w
-step_of_for (Name x p) l k w = ask Nesting l (go (Fixed mark.Equal ∷ Expression l ∷ Operators l ∷ Fixed mark.RightParen ∷ k) (at_level l w))
+step_of_for (Name x p) l k w = ask Nesting l (go (Fixed punctuation.Equal ∷ Expression l ∷ Operators l ∷ Fixed punctuation.RightParen ∷ k) (at_level l w))
 step_of_for _ l k w = None
 
 -- what an `else` or a `par` does, and what is done where another terminal stands
@@ -212,7 +212,7 @@ after_body _ l d k w other = other
 
 abbrev pub branch : Terminal → ℕ → ℕ → Stack → Counts → Option Want
 branch (Sign g.LeftBrace p) l n k w = ask (Count m.Branches) n (go (Block (suc l) ∷ k) w)
-branch (Name x p) l n k w = ask (Count m.Branches) n (go (Fixed mark.LeftParen ∷ Arguments l ∷ Fixed mark.Semicolon ∷ k) w)
+branch (Name x p) l n k w = ask (Count m.Branches) n (go (Fixed punctuation.LeftParen ∷ Arguments l ∷ Fixed punctuation.Semicolon ∷ k) w)
 branch _ l n k w = None
 
 abbrev pub parameter : Terminal → ℕ → Stack → Counts → Option Want
@@ -221,7 +221,7 @@ parameter _ n k w = None
 
 abbrev pub parameters : Terminal → Stack → Counts → Option Want
 parameters (Sign g.RightParen p) k w = go k w
-parameters (Key k.Void p) k w = go (Fixed mark.RightParen ∷ k) w
+parameters (Key k.Void p) k w = go (Fixed punctuation.RightParen ∷ k) w
 parameters x k w = parameter x 1 k w
 
 abbrev pub more_parameters : Terminal → ℕ → Stack → Counts → Option Want
@@ -251,7 +251,7 @@ more_throws _ n k w = None
 -- behind n functions
 abbrev pub functions : Terminal → ℕ → Stack → Counts → Option Want
 functions (End p) n k w = go k w
-functions (Key k.Void p) n k w = ask (Count m.Functions) (suc n) (go (Word ∷ Fixed mark.LeftParen ∷ Parameters ∷ Throws ∷ Block 1 ∷ Functions (suc n) ∷ k) (new_function w))
+functions (Key k.Void p) n k w = ask (Count m.Functions) (suc n) (go (Word ∷ Fixed punctuation.LeftParen ∷ Parameters ∷ Throws ∷ Block 1 ∷ Functions (suc n) ∷ k) (new_function w))
 functions _ n k w = None
 
 abbrev pub wants : Stack → Terminal → Counts → Option Want

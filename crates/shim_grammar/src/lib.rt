@@ -3,6 +3,6 @@
 
 /// What is proved of the grammar: no text has two programs, two faults, or one of each.
 pub mod laws;
-mod mark;
+mod punctuation;
 
-pub use mark::Mark;
+pub use punctuation::Punctuation;

@@ -9,7 +9,7 @@ use Rattle.shim_base.specs.Tokens.{Token, Place, after, Fault, Cuts, ended, pass
 use Rattle.shim_base.proofs.FirstToken.{token_has_no_feed}
 use Rattle.shim_base.proofs.Front.{pass_takes}
 use Rattle.shim_base.proofs.Cutting.{first_takes, token_at}
-use Rattle.shim_lexer.specs.Front.{IsPassed, IsTaken}
+use Rattle.shim_lexer.specs.Scanned.{IsPassed, IsTaken}
 use Rattle.shim_lexer.specs.Lexing.{IsNext, token_of}
 
 -- the text from the first place up to this one is passed over

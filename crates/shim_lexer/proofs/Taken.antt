@@ -12,7 +12,7 @@ use Rattle.shim_base.specs.Tokens.{is_spacing, is_digit, is_letter, is_name_byte
 use Rattle.shim_base.proofs.FirstToken.{name_kind, front_of, name_is_first, decimal_is_first, hex_is_first, sign_is_first, no_sign_no_first}
 use Rattle.shim_base.proofs.Passing.{line_passes, IsCloserAt as ClosesAt, block_passes, block_open, no_pass, no_pass_of_open, no_pass_of_token}
 use Rattle.shim_base.proofs.Front.{pass_takes}
-use Rattle.shim_lexer.specs.Front.{is_on_line, IsCloserAt, IsTokenPlace, IsPassed, IsTaken}
+use Rattle.shim_lexer.specs.Scanned.{is_on_line, IsCloserAt, IsTokenPlace, IsPassed, IsTaken}
 
 -- what is passed over, by its length
 pub is_passed : (text over rest : List ℕ) (len : ℕ) → Passes text over rest → length over ≡ len → IsPassed text len

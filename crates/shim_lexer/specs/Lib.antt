@@ -1,3 +1,3 @@
 -- The definitions of this crate, one module for each subject.
-pub mod Front
+pub mod Scanned
 pub mod Lexing

@@ -2,7 +2,7 @@
 ghost use Rattle.std.specs.Prelude.{◌≡◌, ◌≤◌, ◌==◌, length, count_by};
 ghost use Rattle.std.specs.List.{prefix_len};
 ghost use Rattle.shim_base.specs.Tokens as tokens;
-ghost use Rattle.shim_lexer.specs.Front.{is_on_line};
+ghost use Rattle.shim_lexer.specs.Scanned.{is_on_line};
 
 pub(crate) fn is_spacing(b: u8) -> bool
     ensures { result ≡ tokens.is_spacing b }

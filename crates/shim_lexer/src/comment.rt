@@ -1,10 +1,10 @@
 // Comments.
 ghost use Rattle.std.specs.Prelude.{◌≡◌, ◌↔◌, IsTrue};
 ghost use Rattle.shim_base.specs.Tokens.{Begins, block_opener, line_opener};
-ghost use Rattle.shim_lexer.specs.Front.{FindsCloser, Stands};
+ghost use Rattle.shim_lexer.specs.Scanned.{FindsCloser, Stands};
 
 use crate::bytes::line_len;
-use crate::front::Front;
+use crate::scanner::Scanned;
 use shim_base::LexKind;
 
 /// Whether the text begins with these bytes.
@@ -15,11 +15,11 @@ pub(crate) fn begins(text: &[u8], front: &[u8]) -> bool
 }
 
 /// What a comment is that `//` begins: it ends before the next line feed.
-pub(crate) fn line_comment(text: &[u8]) -> Front
+pub(crate) fn line_comment(text: &[u8]) -> Scanned
     requires { Begins text.now line_opener }
     ensures { Stands text.now result }
 {
-    Front::Passed(line_len(text))
+    Scanned::Passed(line_len(text))
 }
 
 /// Where the first `*/` begins.
@@ -37,13 +37,13 @@ fn closer_at(text: &[u8]) -> Option<usize>
 }
 
 /// What a comment is that `/*` begins: it ends behind the next `*/`, and is open without one.
-pub(crate) fn block_comment(text: &[u8]) -> Front
+pub(crate) fn block_comment(text: &[u8]) -> Scanned
     requires { Begins text.now block_opener }
     ensures { Stands text.now result }
 {
     let (_, inside) = text.split_at(2);
     match closer_at(inside) {
-        Some(at) => Front::Passed(at + 4),
-        None => Front::Fault(LexKind::OpenComment),
+        Some(at) => Scanned::Passed(at + 4),
+        None => Scanned::Fault(LexKind::OpenComment),
     }
 }

@@ -4,7 +4,7 @@ ghost use Rattle.shim_base.specs.Tokens.{start};
 ghost use Rattle.shim_lexer.specs.Lexing.{Answers, Finds, IsInText};
 
 use crate::bytes::line_feeds;
-use crate::front::{Front, front_of};
+use crate::scanner::{Scanned, scan};
 use crate::token::{LexFault, Token};
 use std::marker::Model;
 
@@ -89,14 +89,14 @@ fn token_from(text: &[u8], from: usize, first_line: u32) -> Result<Option<Token>
     let mut line = first_line;
     'passing: loop {
         let (_, rest) = text.split_at(at);
-        match front_of(rest) {
-            Front::End => return Ok(None),
-            Front::Passed(len) => {
+        match scan(rest) {
+            Scanned::End => return Ok(None),
+            Scanned::Passed(len) => {
                 let (over, _) = rest.split_at(len);
                 line += line_feeds(over);
                 at += len;
             }
-            Front::Token(kind, len) => {
+            Scanned::Token(kind, len) => {
                 return Ok(Some(Token {
                     kind,
                     at,
@@ -104,7 +104,7 @@ fn token_from(text: &[u8], from: usize, first_line: u32) -> Result<Option<Token>
                     line,
                 }));
             }
-            Front::Fault(kind) => return Err(LexFault { at, line, kind }),
+            Scanned::Fault(kind) => return Err(LexFault { at, line, kind }),
         }
     }
 }

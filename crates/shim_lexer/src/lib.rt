@@ -3,10 +3,10 @@
 
 mod bytes;
 mod comment;
-mod front;
 pub mod laws;
 mod lexer;
 mod number;
+mod scanner;
 mod token;
 mod word;
 
@@ -14,6 +14,3 @@ pub use bytes::line_feeds;
 pub use lexer::Lexer;
 pub use shim_base::{Keyword, LexKind, Sign, TokenKind};
 pub use token::{LexFault, Token};
-
-#[cfg(test)]
-mod tests;

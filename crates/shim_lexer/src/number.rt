@@ -1,14 +1,14 @@
 // Numbers.
 ghost use Rattle.std.specs.Prelude.{◌≡◌, false, IsTrue, slice_index, take};
 ghost use Rattle.shim_base.specs.Tokens as tokens;
-ghost use Rattle.shim_lexer.specs.Front.{Holds, IsTokenPlace, Stands};
+ghost use Rattle.shim_lexer.specs.Scanned.{Holds, IsTokenPlace, Stands};
 
 use crate::bytes::{digits_len, hex_digits_len, is_digit, is_hex_digit};
-use crate::front::Front;
+use crate::scanner::Scanned;
 use shim_base::{LexKind, TokenKind};
 
 /// The number that decimal digits stand for, if it is below 2^63.
-fn value_of(digits: &[u8]) -> Option<i64>
+fn decimal_value(digits: &[u8]) -> Option<i64>
     ensures { Holds (tokens.value digits.now) result }
 {
     let mut number: u64 = 0;
@@ -53,7 +53,7 @@ fn begins_hex(text: &[u8]) -> bool
     *zero == b'0' && (*x == b'x' || *x == b'X') && is_hex_digit(*digit)
 }
 
-fn hex_number(text: &[u8]) -> Front
+fn hex_number(text: &[u8]) -> Scanned
     requires place { IsTokenPlace text.now }
     requires hex { IsTrue (tokens.is_hex_numeral (take 3 text.now)) }
     ensures { Stands text.now result }
@@ -61,26 +61,26 @@ fn hex_number(text: &[u8]) -> Front
     let (_, behind) = text.split_at(2);
     let (digits, _) = behind.split_at(hex_digits_len(behind));
     match hex_value_of(digits) {
-        Some(value) => Front::Token(TokenKind::Number(value), digits.len() + 2),
-        None => Front::Fault(LexKind::BigNumber),
+        Some(value) => Scanned::Token(TokenKind::Number(value), digits.len() + 2),
+        None => Scanned::Fault(LexKind::BigNumber),
     }
 }
 
-fn decimal_number(text: &[u8]) -> Front
+fn decimal_number(text: &[u8]) -> Scanned
     requires place { IsTokenPlace text.now }
     requires digit { IsTrue (tokens.is_digit (slice_index text.now 0)) }
     requires no_hex { tokens.is_hex_numeral (take 3 text.now) ≡ false }
     ensures { Stands text.now result }
 {
     let (digits, _) = text.split_at(digits_len(text));
-    match value_of(digits) {
-        Some(value) => Front::Token(TokenKind::Number(value), digits.len()),
-        None => Front::Fault(LexKind::BigNumber),
+    match decimal_value(digits) {
+        Some(value) => Scanned::Token(TokenKind::Number(value), digits.len()),
+        None => Scanned::Fault(LexKind::BigNumber),
     }
 }
 
 /// What stands where a digit does.
-pub(crate) fn number(text: &[u8]) -> Front
+pub(crate) fn number(text: &[u8]) -> Scanned
     requires place { IsTokenPlace text.now }
     requires digit { IsTrue (tokens.is_digit (slice_index text.now 0)) }
     ensures { Stands text.now result }

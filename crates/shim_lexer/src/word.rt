@@ -1,10 +1,10 @@
 // Names, keywords and signs.
 ghost use Rattle.std.specs.Prelude.{◌≡◌, ◌<◌, ◌≤◌, length, map, take, ℕ, false, IsNone, IfSome, IsTrue, slice_index};
 ghost use Rattle.shim_base.specs.Tokens as tokens;
-ghost use Rattle.shim_lexer.specs.Front.{IsTokenPlace, Stands};
+ghost use Rattle.shim_lexer.specs.Scanned.{IsTokenPlace, Stands};
 
 use crate::bytes::name_len;
-use crate::front::Front;
+use crate::scanner::Scanned;
 use shim_base::{Keyword, LexKind, Sign, TokenKind};
 
 /// How many bytes a name may have.
@@ -96,16 +96,16 @@ fn sign_of(text: &[u8]) -> Option<Sign>
 }
 
 /// What stands where a letter does: a name, which has at most 64 bytes if it is no keyword.
-pub(crate) fn name(text: &[u8]) -> Front
+pub(crate) fn name(text: &[u8]) -> Scanned
     requires place { IsTokenPlace text.now }
     requires letter { IsTrue (tokens.is_letter (slice_index text.now 0)) }
     ensures { Stands text.now result }
 {
     let (name, _) = text.split_at(name_len(text));
     match keyword_of(name) {
-        Some(keyword) => Front::Token(TokenKind::Key(keyword), name.len()),
-        None if name.len() <= LONGEST_NAME => Front::Token(TokenKind::Word, name.len()),
-        None => Front::Fault(LexKind::LongName),
+        Some(keyword) => Scanned::Token(TokenKind::Key(keyword), name.len()),
+        None if name.len() <= LONGEST_NAME => Scanned::Token(TokenKind::Word, name.len()),
+        None => Scanned::Fault(LexKind::LongName),
     }
 }
 
@@ -127,14 +127,14 @@ fn sign_at(text: &[u8]) -> Option<(Sign, usize)>
 }
 
 /// What stands where neither a letter nor a digit does.
-pub(crate) fn sign(text: &[u8]) -> Front
+pub(crate) fn sign(text: &[u8]) -> Scanned
     requires place { IsTokenPlace text.now }
     requires no_letter { tokens.is_letter (slice_index text.now 0) ≡ false }
     requires no_digit { tokens.is_digit (slice_index text.now 0) ≡ false }
     ensures { Stands text.now result }
 {
     match sign_at(text) {
-        Some((sign, len)) => Front::Token(TokenKind::Sign(sign), len),
-        None => Front::Fault(LexKind::BadByte),
+        Some((sign, len)) => Scanned::Token(TokenKind::Sign(sign), len),
+        None => Scanned::Fault(LexKind::BadByte),
     }
 }

@@ -1,3 +1,2 @@
 pub mod Quiets
-pub mod Children
 pub mod Steps

@@ -2,7 +2,7 @@
 use Rattle.std.specs.Prelude.{◌≡◌, ◌≢◌, ◌<◌, ◌≤◌, ◌⊎◌, ◌↔◌, ℕ, zero, suc, ℤ, ◌+◌, Bool, true, false, List, [], ◌∷◌, ◌++◌, Some, None, if◌then◌else◌, slice_get}
 use Rattle.shim_base.specs.declared.operators.Trap.{Trap}
 use Rattle.shim_base.specs.Paths.{Path, Channel, NamedChannel}
-use Rattle.shim_local.specs.Process.{Ops, Parted, Stuck, AtQuiet, AtNext, AtPut, AtFork, AtThrow, AtTrap}
+use Rattle.shim_local.specs.Process.{Ops, Parted, Trapped, AtQuiet, AtNext, AtPut, AtFork, AtThrow, AtTrap}
 
 -- it holds of each of these
 abbrev pub AllOf : {S : Type 0} → (S → Type 0) → List S → Type 0
@@ -30,7 +30,7 @@ pub data Moved {S : Type 0} (o : Ops S) (l m : S) : Type 0 where
   by_quiet : o.stop l ≡ AtQuiet → m ≡ o.quiet l → Moved o l m
   by_call : Called o l m → Moved o l m
   by_fork : (children : List S) → o.stop l ≡ AtFork → o.fork l ≡ Parted m children → Moved o l m
-  by_trap : o.stop l ≡ AtFork → o.fork l ≡ Stuck m → Moved o l m
+  by_trap : o.stop l ≡ AtFork → o.fork l ≡ Trapped m → Moved o l m
   by_join : (children : List S) (goes_on : Bool) → AllOf o.sound children → o.born l children → m ≡ o.join l children goes_on → Moved o l m
 
 -- so many quiet steps lead from the first state to the second
@@ -72,7 +72,7 @@ pub record LocalLaws {S : Type 0} (o : Ops S) : Type 0 where
   pub base_least : (l : S) → o.sound l → 1 ≤ o.base l
   pub base_most : (l : S) → o.sound l → o.base l ≤ o.handlers l
   pub fork_handlers : (l p : S) (ks : List S) → o.sound l → Forks o l p ks → o.handlers p ≡ o.handlers l
-  pub fork_trap_handlers : (l m : S) → o.sound l → o.stop l ≡ AtFork → o.fork l ≡ Stuck m → o.handlers m ≡ o.handlers l
+  pub fork_trap_handlers : (l m : S) → o.sound l → o.stop l ≡ AtFork → o.fork l ≡ Trapped m → o.handlers m ≡ o.handlers l
   pub join_handlers : (l : S) (ks : List S) → o.sound l → AllOf o.sound ks → o.born l ks → o.handlers (o.join l ks false) ≡ o.handlers l
   -- what it stands at is its own
   pub next_shares : (l : S) (c : NamedChannel) → o.sound l → o.stop l ≡ AtNext c → o.shares l c.channel ≡ true
@@ -82,13 +82,13 @@ pub record LocalLaws {S : Type 0} (o : Ops S) : Type 0 where
   -- a trap is stood at, and behind a put that puts a byte there is none
   pub put_traps : (l : S) → o.sound l → o.stop l ≡ AtPut → o.byte l ≡ None → IsTrapped o (o.put l)
   pub put_goes : (l : S) (b : ℕ) → o.sound l → o.stop l ≡ AtPut → o.byte l ≡ Some b → IsTrapped o (o.put l) → ⊥
-  pub fork_traps : (l m : S) → o.sound l → o.stop l ≡ AtFork → o.fork l ≡ Stuck m → IsTrapped o m
+  pub fork_traps : (l m : S) → o.sound l → o.stop l ≡ AtFork → o.fork l ≡ Trapped m → IsTrapped o m
   -- what it shares: a quiet step adds channels of its own alone, and loses none; no other call changes anything
   pub quiet_shares : (l : S) (c : Channel) → o.sound l → o.stop l ≡ AtQuiet → o.shares l c ≡ true → o.shares (o.quiet l) c ≡ true
   pub quiet_adds : (l : S) (c : Channel) → o.sound l → o.stop l ≡ AtQuiet → o.shares l c ≡ false → o.shares (o.quiet l) c ≡ true → c.home ≡ o.path l
   pub call_shares : (l m : S) (c : Channel) → o.sound l → Called o l m → o.shares m c ≡ o.shares l c
   pub fork_shares : (l p : S) (ks : List S) (c : Channel) → o.sound l → Forks o l p ks → o.shares p c ≡ o.shares l c
-  pub fork_trap_shares : (l m : S) (c : Channel) → o.sound l → o.stop l ≡ AtFork → o.fork l ≡ Stuck m → o.shares m c ≡ o.shares l c
+  pub fork_trap_shares : (l m : S) (c : Channel) → o.sound l → o.stop l ≡ AtFork → o.fork l ≡ Trapped m → o.shares m c ≡ o.shares l c
   pub join_shares : (l : S) (ks : List S) (goes_on : Bool) (c : Channel) → o.sound l → AllOf o.sound ks → o.born l ks → o.shares (o.join l ks goes_on) c ≡ o.shares l c
   -- the children of a fork: there is one, and each has its path and base, and shares what the parent does and channels of its own; these are the given ones
   pub fork_some : (l p : S) (ks : List S) → o.sound l → Forks o l p ks → ks ≢ []
@@ -106,8 +106,8 @@ pub record LocalLaws {S : Type 0} (o : Ops S) : Type 0 where
   pub children_hold : (l p : S) (ks : List S) → o.sound l → Forks o l p ks → AllOf (λ k. o.holds_output k ≡ true → o.holds_output l ≡ true) ks
   pub fork_carries : (l p : S) (ks : List S) (c : Channel) → o.sound l → Forks o l p ks → o.carries p c ≡ true → o.carries l c ≡ true
   pub fork_holds : (l p : S) (ks : List S) → o.sound l → Forks o l p ks → o.holds_output p ≡ true → o.holds_output l ≡ true
-  pub fork_trap_carries : (l m : S) (c : Channel) → o.sound l → o.stop l ≡ AtFork → o.fork l ≡ Stuck m → o.carries m c ≡ true → o.carries l c ≡ true
-  pub fork_trap_holds : (l m : S) → o.sound l → o.stop l ≡ AtFork → o.fork l ≡ Stuck m → o.holds_output m ≡ true → o.holds_output l ≡ true
+  pub fork_trap_carries : (l m : S) (c : Channel) → o.sound l → o.stop l ≡ AtFork → o.fork l ≡ Trapped m → o.carries m c ≡ true → o.carries l c ≡ true
+  pub fork_trap_holds : (l m : S) → o.sound l → o.stop l ≡ AtFork → o.fork l ≡ Trapped m → o.holds_output m ≡ true → o.holds_output l ≡ true
   -- and a join brings it back
   pub join_carries : (l : S) (ks : List S) (goes_on : Bool) (c : Channel) → o.sound l → AllOf o.sound ks → o.born l ks → o.carries (o.join l ks goes_on) c ≡ true
       → (o.carries l c ≡ true) ⊎ AnyOf (λ k. o.carries k c ≡ true) ks

@@ -16,9 +16,9 @@ pub data StopView : Type 0 where
   AtTrap : Trap → ℕ → StopView
 
 -- what a fork gives: the parent as it stands at the fork then, with the children in order, or the parent trapped
-pub data Parting (S : Type 0) : Type 0 where
-  Parted : S → List S → Parting S
-  Stuck : S → Parting S
+pub data ForkedView (S : Type 0) : Type 0 where
+  Parted : S → List S → ForkedView S
+  Trapped : S → ForkedView S
 
 -- The state after each call, and what the calls answer, for states of any kind. A call says nothing of a state that stands at another stop.
 pub record Ops (S : Type 0) : Type 1 where
@@ -32,10 +32,10 @@ pub record Ops (S : Type 0) : Type 1 where
   pub put : S → S
   -- after the meeting at which it stands gave this value
   pub receive : S → ℤ → S
-  pub fork : S → Parting S
+  pub fork : S → ForkedView S
   -- after the children's values came back: behind the fork, or still at it
   pub join : S → List S → Bool → S
-  -- these have the places of the children of the last fork, in order, each after any calls
+  -- these stand for the children of the last fork, one for each and in their order, whatever calls they have had since
   pub born : S → List S → Type 0
   -- at the handler of the exception of this label
   pub unwind : S → ℕ → S

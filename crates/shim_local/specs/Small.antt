@@ -2,7 +2,7 @@
 use Rattle.std.specs.Prelude.{◌≡◌, ◌≤◌, ℕ, zero, ◌+◌, ◌-◌, Bool, true, false, ◌&&◌, ltb, Option, Some, None, List, [], ◌∷◌, ◌++◌, length, map, take, drop, slice_index_or, ℤ, pos, if◌then◌else◌}
 use Rattle.shim_base.specs.Paths.{Path, NamedChannel, same_channel}
 use Rattle.shim_base.specs.declared.operators.Trap.TheVariants as trap
-use Rattle.shim_local.specs.Process.{Ops, StopView, Parting, AtQuiet, AtNext, AtPut, AtFork, AtFinish, AtThrow, AtTrap, Parted, Stuck}
+use Rattle.shim_local.specs.Process.{Ops, StopView, ForkedView, AtQuiet, AtNext, AtPut, AtFork, AtFinish, AtThrow, AtTrap, Parted, Trapped}
 use Rattle.shim_local.specs.declared.small.Step.{Step}
 use Rattle.shim_local.specs.declared.small.Step.TheVariants as step
 
@@ -19,8 +19,8 @@ pub record SmallView : Type 0 where
   pub places : List (ℕ × ℕ)
 
 -- the place of a trap is around every process
-abbrev pub IsSound : SmallView → Type 0
-IsSound s = 1 ≤ s.base
+abbrev pub IsSoundSmall : SmallView → Type 0
+IsSoundSmall s = 1 ≤ s.base
 
 -- how many exception places are in force
 abbrev pub in_force : SmallView → ℕ
@@ -109,22 +109,22 @@ abbrev pub forked : SmallView → SmallView
 forked s = record s { forks = s.forks + 1 }
 
 -- a fork that traps, or not
-abbrev pub parting : Bool → SmallView → Parting SmallView
-parting true s = Stuck (passed s)
-parting false s = Parted (forked s) (children_of s)
+abbrev pub fork_result : Bool → SmallView → ForkedView SmallView
+fork_result true s = Trapped (passed s)
+fork_result false s = Parted (forked s) (children_of s)
 
 -- its path, and how many places are in force around it
-abbrev pub mark_of : SmallView → Path × ℕ
-mark_of s = (s.path, s.base)
+abbrev pub identity_of : SmallView → Path × ℕ
+identity_of s = (s.path, s.base)
 
 -- those of the child in this branch
-abbrev pub mark : Path → ℕ → ℕ → ℕ → Path × ℕ
-mark path base fork branch = (path ++ (fork, branch) ∷ [], base)
+abbrev pub identity : Path → ℕ → ℕ → ℕ → Path × ℕ
+identity path base fork branch = (path ++ (fork, branch) ∷ [], base)
 
 -- the children are those of the last fork
 abbrev pub AreOfLastFork : SmallView → List SmallView → Type 0
 AreOfLastFork s children = (fork : ℕ) × (s.forks ≡ fork + 1)
-    × (map mark_of children ≡ mark s.path (in_force s) fork 0 ∷ mark s.path (in_force s) fork 1 ∷ [])
+    × (map identity_of children ≡ identity s.path (in_force s) fork 0 ∷ identity s.path (in_force s) fork 1 ∷ [])
 
 -- the value of the first child
 abbrev pub value_given : ℤ → List SmallView → ℤ
@@ -145,13 +145,13 @@ given_to false c = c ∷ []
 
 abbrev pub small_ops : Ops SmallView
 small_ops = record {
-  sound = IsSound;
+  sound = IsSoundSmall;
   stop = stop_of;
   quiet = quieted;
   byte = λ s. byte_put (trap_behind s s.left) s.value;
   put = passed;
   receive = λ s v. record s { value = v; left = drop 1 s.left };
-  fork = λ s. parting (trap_behind s s.left) s;
+  fork = λ s. fork_result (trap_behind s s.left) s;
   join = joined;
   born = AreOfLastFork;
   unwind = unwound;

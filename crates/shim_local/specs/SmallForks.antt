@@ -3,13 +3,13 @@ use Rattle.std.specs.Prelude.{◌≡◌, ◌≢◌, ◌≤◌, ◌⊎◌, ◌↔
 use Rattle.std.proofs.Common.{ap, sym, subst, ◌∙◌, inl, arith, true≢false}
 use Rattle.shim_base.specs.Paths.{Path, Channel, NamedChannel, same_channel}
 use Rattle.shim_base.specs.declared.operators.Trap.{Trap}
-use Rattle.shim_local.specs.Process.{StopView, Parted, Stuck, AtQuiet, AtNext, AtPut, AtFork, AtFinish, AtThrow, AtTrap}
+use Rattle.shim_local.specs.Process.{StopView, Parted, Trapped, AtQuiet, AtNext, AtPut, AtFork, AtFinish, AtThrow, AtTrap}
 use Rattle.shim_local.specs.Laws.{AllOf, AreChildren, Forks, IsGiven, IsTrapped, how_many}
 use Rattle.shim_local.specs.Sameness.{channel_decides}
-use Rattle.shim_local.specs.Small.{SmallView, IsSound, AreOfLastFork, children_of, child_of, forked, given_to, in_force, is_root, is_trap, mark, mark_of, parting, passed, small_ops, stop_at, stop_of, trap_behind}
+use Rattle.shim_local.specs.Small.{SmallView, IsSoundSmall, AreOfLastFork, children_of, child_of, forked, given_to, in_force, is_root, is_trap, identity, identity_of, fork_result, passed, small_ops, stop_at, stop_of, trap_behind}
 use Rattle.shim_local.specs.declared.small.Step.{Step}
 
-parted : (b : Bool) (s p : SmallView) (ks : List SmallView) → parting b s ≡ Parted p ks → (p ≡ forked s) × (ks ≡ children_of s)
+parted : (b : Bool) (s p : SmallView) (ks : List SmallView) → fork_result b s ≡ Parted p ks → (p ≡ forked s) × (ks ≡ children_of s)
 parted true s p ks e = absurd cc
 parted false s p ks e = (cc, cc)
 
@@ -23,13 +23,13 @@ at_fork P l p ks forks holds =
     let is = parted (trap_behind l l.left) l p ks forks.1 in
     subst (λ x. P x ks) (sym is.0) (subst (λ xs. P (forked l) xs) (sym is.1) holds)
 
-stuck : (b : Bool) (s m : SmallView) → parting b s ≡ Stuck m → (m ≡ passed s) × (b ≡ true)
-stuck true s m e = (cc, refl)
-stuck false s m e = absurd cc
+trapped : (b : Bool) (s m : SmallView) → fork_result b s ≡ Trapped m → (m ≡ passed s) × (b ≡ true)
+trapped true s m e = (cc, refl)
+trapped false s m e = absurd cc
 
 -- the process after a fork that trapped
-pub stuck_is : (l m : SmallView) → small_ops.fork l ≡ Stuck m → m ≡ passed l
-stuck_is l m e = (stuck (trap_behind l l.left) l m e).0
+pub trapped_is : (l m : SmallView) → small_ops.fork l ≡ Trapped m → m ≡ passed l
+trapped_is l m e = (trapped (trap_behind l l.left) l m e).0
 
 -- a state that is passed stands at the steps behind the next one
 passed_stands : (s : SmallView) (left : List Step) → is_trap (stop_at s (drop 1 left)) ≡ trap_behind s left
@@ -53,9 +53,9 @@ is_trapped l e = stands_so (stop_of (passed l)) (passed_stands l l.left ∙ e)
 pub not_trapped : (l : SmallView) → trap_behind l l.left ≡ false → IsTrapped small_ops (passed l) → ⊥
 not_trapped l none (kind, line, at) = true≢false (sym (ap is_trap at) ∙ (passed_stands l l.left ∙ none))
 
-pub fork_traps : (l m : SmallView) → small_ops.fork l ≡ Stuck m → IsTrapped small_ops m
+pub fork_traps : (l m : SmallView) → small_ops.fork l ≡ Trapped m → IsTrapped small_ops m
 fork_traps l m e =
-    let is = stuck (trap_behind l l.left) l m e in
+    let is = trapped (trap_behind l l.left) l m e in
     subst (IsTrapped small_ops) (sym is.0) (is_trapped l is.1)
 
 -- no child is the root
@@ -108,23 +108,23 @@ pub children_given : (l p : SmallView) (ks : List SmallView) (c : Channel) → F
 children_given l p ks c forks = at_fork (λ p ks. AllOf (λ k. (small_ops.shares k c ≡ true) ↔ IsGiven small_ops k c) ks) l p ks forks
     (child_given l 0 c, (child_given l 1 c, tt))
 
--- those that have the marks of a fork's children are its children
-marked : (p : Path) (base f : ℕ) (ks : List SmallView) → map mark_of ks ≡ mark p base f 0 ∷ mark p base f 1 ∷ [] → AreChildren small_ops p base f 0 ks
+-- those that have the identities of a fork's children are its children
+marked : (p : Path) (base f : ℕ) (ks : List SmallView) → map identity_of ks ≡ identity p base f 0 ∷ identity p base f 1 ∷ [] → AreChildren small_ops p base f 0 ks
 marked p base f [] e = absurd cc
 marked p base f (k ∷ []) e = absurd cc
 marked p base f (k ∷ j ∷ []) e =
-    let first : mark_of k ≡ mark p base f 0 = cc in
-    let second : mark_of j ≡ mark p base f 1 = cc in
+    let first : identity_of k ≡ identity p base f 0 = cc in
+    let second : identity_of j ≡ identity p base f 1 = cc in
     (ap (λ x. x.0) first, ap (λ x. x.1) first, (ap (λ x. x.0) second, ap (λ x. x.1) second, tt))
 marked p base f (k ∷ j ∷ i ∷ ks) e = absurd cc
 
 pub born_children : (l : SmallView) (ks : List SmallView) → AreOfLastFork l ks → (f : ℕ) × AreChildren small_ops l.path (in_force l) f 0 ks
 born_children l ks born = (born.0, marked l.path (in_force l) born.0 ks born.2)
 
-pub fork_sound : (l p : SmallView) (ks : List SmallView) → IsSound l → Forks small_ops l p ks → AllOf IsSound ks
+pub fork_sound : (l p : SmallView) (ks : List SmallView) → IsSoundSmall l → Forks small_ops l p ks → AllOf IsSoundSmall ks
 fork_sound l p ks sound forks =
     let in_it : 1 ≤ l.base + length l.places = omega (arith, sound) in
-    at_fork (λ p ks. AllOf IsSound ks) l p ks forks (in_it, (in_it, tt))
+    at_fork (λ p ks. AllOf IsSoundSmall ks) l p ks forks (in_it, (in_it, tt))
 
 pub fork_some : (l p : SmallView) (ks : List SmallView) → Forks small_ops l p ks → ks ≢ []
 fork_some l p ks forks = at_fork (λ p ks. ks ≢ []) l p ks forks (λ e. absurd cc)

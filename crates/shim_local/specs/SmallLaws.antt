@@ -7,7 +7,7 @@ use Rattle.shim_base.specs.Paths.{Path, Channel, NamedChannel, same_channel}
 use Rattle.shim_local.specs.Process.{AtNext, AtPut, AtThrow}
 use Rattle.shim_local.specs.Laws.{LocalLaws, Moved, Called, by_quiet, by_call, by_fork, by_trap, by_join, by_put, by_receive, by_unwind}
 use Rattle.shim_local.specs.Sameness.{channel_decides}
-use Rattle.shim_local.specs.Small.{SmallView, IsSound, AreOfLastFork, byte_put, given_to, in_force, is_root, mark_of, put_stop, small_ops, stop_at, throw_stop, trap_behind}
+use Rattle.shim_local.specs.Small.{SmallView, IsSoundSmall, AreOfLastFork, byte_put, given_to, in_force, is_root, identity_of, put_stop, small_ops, stop_at, throw_stop, trap_behind}
 use Rattle.shim_local.specs.SmallForks as forks
 use Rattle.shim_local.specs.declared.small.Step.{Step}
 use Rattle.shim_local.specs.declared.small.Step.TheVariants as step
@@ -25,19 +25,19 @@ moved_kept : (l m : SmallView) → Moved small_ops l m → kept m ≡ kept l
 moved_kept l m (by_quiet at e) = ap kept e
 moved_kept l m (by_call called) = called_kept l m called
 moved_kept l m (by_fork children at e) = ap kept (forks.parent_is l m children e)
-moved_kept l m (by_trap at e) = ap kept (forks.stuck_is l m e)
+moved_kept l m (by_trap at e) = ap kept (forks.trapped_is l m e)
 moved_kept l m (by_join children goes_on sound born e) = ap kept e
 
-moved_sound : (l m : SmallView) → IsSound l → Moved small_ops l m → IsSound m
+moved_sound : (l m : SmallView) → IsSoundSmall l → Moved small_ops l m → IsSoundSmall m
 moved_sound l m sound moved = subst (λ b. 1 ≤ b) (sym (ap (λ k. k.1.0) (moved_kept l m moved))) sound
 
-same_marks : (k m : SmallView) (before after : List SmallView) → kept m ≡ kept k
-    → map mark_of (before ++ m ∷ after) ≡ map mark_of (before ++ k ∷ after)
-same_marks k m [] after e = ap (λ x. (let y : Path × ℕ = (x.0, x.1.0) in y) ∷ map mark_of after) e
-same_marks k m (s ∷ before) after e = ap (λ xs. mark_of s ∷ xs) (same_marks k m before after e)
+same_identities : (k m : SmallView) (before after : List SmallView) → kept m ≡ kept k
+    → map identity_of (before ++ m ∷ after) ≡ map identity_of (before ++ k ∷ after)
+same_identities k m [] after e = ap (λ x. (let y : Path × ℕ = (x.0, x.1.0) in y) ∷ map identity_of after) e
+same_identities k m (s ∷ before) after e = ap (λ xs. identity_of s ∷ xs) (same_identities k m before after e)
 
 born_moved : (l k m : SmallView) (before after : List SmallView) → AreOfLastFork l (before ++ k ∷ after) → Moved small_ops k m → AreOfLastFork l (before ++ m ∷ after)
-born_moved l k m before after (fork, is, marks) moved = (fork, is, same_marks k m before after (moved_kept k m moved) ∙ marks)
+born_moved l k m before after (fork, is, identities) moved = (fork, is, same_identities k m before after (moved_kept k m moved) ∙ identities)
 
 put_at_root : (b : Bool) → put_stop b ≡ AtPut → b ≡ true
 put_at_root true e = refl
@@ -121,7 +121,7 @@ small_laws = record {
   base_least = λ l sound. sound;
   base_most = λ l sound. omega arith;
   fork_handlers = λ l p ks sound forked. ap in_force (forks.parent_is l p ks forked.1);
-  fork_trap_handlers = λ l m sound at e. ap in_force (forks.stuck_is l m e);
+  fork_trap_handlers = λ l m sound at e. ap in_force (forks.trapped_is l m e);
   join_handlers = λ l ks sound all born. refl;
   next_shares = λ l c sound at. (channel_decides c.channel l.chan.channel).1 (ap (λ d. d.channel) (next_is l l.left c at));
   carries_shares = λ l c sound e. carries_shares l c e;
@@ -134,7 +134,7 @@ small_laws = record {
   quiet_adds = λ l c sound at not e. absurd (true≢false (sym e ∙ not));
   call_shares = λ l m c sound called. ap (λ k. same_channel c k.1.1.channel) (called_kept l m called);
   fork_shares = λ l p ks c sound forked. ap (λ s. small_ops.shares s c) (forks.parent_is l p ks forked.1);
-  fork_trap_shares = λ l m c sound at e. ap (λ s. small_ops.shares s c) (forks.stuck_is l m e);
+  fork_trap_shares = λ l m c sound at e. ap (λ s. small_ops.shares s c) (forks.trapped_is l m e);
   join_shares = λ l ks goes_on c sound all born. refl;
   fork_some = λ l p ks sound forked. forks.fork_some l p ks forked;
   fork_children = λ l p ks sound forked. forks.fork_children l p ks forked;
@@ -149,8 +149,8 @@ small_laws = record {
   children_hold = λ l p ks sound forked. forks.children_hold l p ks forked;
   fork_carries = λ l p ks c sound forked e. sym (ap (λ s. small_ops.carries s c) (forks.parent_is l p ks forked.1)) ∙ e;
   fork_holds = λ l p ks sound forked e. sym (ap (λ s. small_ops.holds_output s) (forks.parent_is l p ks forked.1)) ∙ e;
-  fork_trap_carries = λ l m c sound at is e. sym (ap (λ s. small_ops.carries s c) (forks.stuck_is l m is)) ∙ e;
-  fork_trap_holds = λ l m sound at is e. sym (ap (λ s. small_ops.holds_output s) (forks.stuck_is l m is)) ∙ e;
+  fork_trap_carries = λ l m c sound at is e. sym (ap (λ s. small_ops.carries s c) (forks.trapped_is l m is)) ∙ e;
+  fork_trap_holds = λ l m sound at is e. sym (ap (λ s. small_ops.holds_output s) (forks.trapped_is l m is)) ∙ e;
   join_carries = λ l ks goes_on c sound all born e. inl e;
   join_holds = λ l ks goes_on sound all born e. inl e;
   quiet_carries = λ l c sound at e. inl e;

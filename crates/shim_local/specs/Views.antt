@@ -1,6 +1,6 @@
 -- Answers of the code, as the definitions name them.
 use Rattle.std.specs.Prelude.{◌≡◌}
-use Rattle.shim_local.specs.Process.{Ops, StopView, AtQuiet, AtNext, AtPut, AtFork, AtFinish, AtThrow, AtTrap, Parted, Stuck}
+use Rattle.shim_local.specs.Process.{Ops, StopView, AtQuiet, AtNext, AtPut, AtFork, AtFinish, AtThrow, AtTrap, Parted, Trapped}
 use Rattle.shim_local.specs.declared.local.Stop.{Stop}
 use Rattle.shim_local.specs.declared.local.Stop.TheVariants as stop
 use Rattle.shim_local.specs.declared.local.Forked.{Forked}
@@ -18,4 +18,4 @@ stop_view (stop.Trapped kind line) = AtTrap kind line
 -- what a fork gave of the first state, which left the second: the children, or a trap
 abbrev pub ForkGives : {S : Type 0} → Ops S → S → S → Forked S → Type 0
 ForkGives o before after (forked.Children ks) = o.fork before ≡ Parted after ks
-ForkGives o before after forked.Trapped = o.fork before ≡ Stuck after
+ForkGives o before after forked.Trapped = o.fork before ≡ Trapped after

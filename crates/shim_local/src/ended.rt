@@ -1,14 +1,14 @@
 // What is read off a run that has ended, or was stopped.
 use shim_base::{Chan, List, Path, Trap};
 
-/// What a run has come to. The counts of `own` and `events` add up to `steps`.
+/// What a run has come to. Each of its `steps` is counted once, in `own` or in `events`.
 #[derive(Drop)]
 pub struct Ended {
     /// The bytes that were put, in order.
     pub output: List<u8>,
     /// Each channel that had a meeting, by home and then by serial.
     pub histories: List<History>,
-    /// What was logged, by path, and for one path in the order of its events.
+    /// What was logged, by path, and of one process in the order in which it happened.
     pub logs: List<Log>,
     /// Each process that waits, by path; it is empty unless the outcome is `Blocked`.
     pub waits: List<WaitAt>,

@@ -8,6 +8,3 @@ mod small;
 pub use ended::{Ended, History, Log, LogWhat, Outcome, OwnSteps, WaitAt};
 pub use local::{Forked, Local, Quiet, Stop};
 pub use small::{Small, Step};
-
-#[cfg(test)]
-mod tests;

@@ -82,8 +82,8 @@ pub trait Local: Send + Sized + Drop {
         ensures ok { IfOk result (λ forked. ForkGives ops self.old self.new forked) }
         ensures err { OnErr result (self.new ≡ self.old) };
 
-    /// Takes back the values of the children of its last fork, which have to be given in order, each
-    /// after any calls. It then stands behind the fork, where `goes_on`, and else still at it.
+    /// Takes back the values of the children of its last fork, whatever calls they have had since. They
+    /// have to be given in order. It then stands behind the fork, where `goes_on`, and else still at it.
     fn join(&mut self, children: &[Self], goes_on: bool)
         requires { ops.born self.old children.now }
         ensures { self.new ≡ ops.join self.old children.now goes_on };

@@ -6,7 +6,7 @@ ghost use Rattle.shim_main.specs.Ended.{EndsWithoutWords, EndsWithWords};
 ghost use Rattle.shim_tool.specs.Moments.{files_at, sink_at};
 
 use shim_edge::{Files, HostFiles, HostSink, Sink};
-use shim_tool::{lacks_memory, shim};
+use shim_tool::{shim, write_no_memory};
 use std::alloc::Global;
 use std::env;
 use std::io::{self, ErrorKind};
@@ -30,7 +30,7 @@ fn status<F: Files, K: Sink>(
 {
     match words {
         Ok(words) => shim(alloc, &words, files, out),
-        Err(e) if e.kind() == ErrorKind::OutOfMemory => lacks_memory(out),
+        Err(e) if e.kind() == ErrorKind::OutOfMemory => write_no_memory(out),
         Err(_) => shim(alloc, &[], files, out),
     }
 }

@@ -9,7 +9,7 @@ use Rattle.shim_syntax.specs.Terminals.{Terminal, Name, Number, Sign, first}
 use Rattle.shim_syntax.specs.Limits.{Count, limits, is_within}
 use Rattle.shim_syntax.specs.Grammar as is
 use Rattle.shim_syntax.specs.Grammar.{Counts, new_expression, IsWhole, IsArguments, IsMoreArguments}
-use Rattle.shim_grammar.specs.declared.mark.Mark.TheVariants as mark
+use Rattle.shim_grammar.specs.declared.punctuation.Punctuation.TheVariants as punctuation
 use Rattle.shim_grammar.specs.Machine.{Stack, Unwanted, Past, Fixed, Expression, Operators, Argument, Arguments, MoreArguments, joins, operand, more_arguments, run}
 use Rattle.shim_grammar.proofs.Runs.{is_right_paren, argument_runs, arguments_open, arguments_skips, arguments_runs}
 use Rattle.shim_parser.specs.declared.terminal.Terminal as read
@@ -134,9 +134,9 @@ more_unwanted l n a b xs err t p c v h i m = fails_as (Arguments l ∷ []) (More
     (unwanted (MoreArguments l n) [] b err (λ k. ap (λ u. more_arguments u l n k b.counts) (sym v) ∙ no_more t p l n k b.counts h i) m)
 
 -- the semicolon behind the arguments
-pub call_mark_fails : (l : ℕ) (a b at : Reading) (xs : List Expr) (err : ParseFault) → IsArguments limits l a.counts b.counts a.rest b.rest xs → Fails (Fixed mark.Semicolon ∷ []) b at err
-    → Fails (Arguments l ∷ Fixed mark.Semicolon ∷ []) a at err
-call_mark_fails l a b at xs err d f = fails_as (Arguments l ∷ Fixed mark.Semicolon ∷ []) (Fixed mark.Semicolon ∷ []) a b at err (λ k. arguments_runs d (Fixed mark.Semicolon ∷ k)) f
+pub call_punctuation_fails : (l : ℕ) (a b at : Reading) (xs : List Expr) (err : ParseFault) → IsArguments limits l a.counts b.counts a.rest b.rest xs → Fails (Fixed punctuation.Semicolon ∷ []) b at err
+    → Fails (Arguments l ∷ Fixed punctuation.Semicolon ∷ []) a at err
+call_punctuation_fails l a b at xs err d f = fails_as (Arguments l ∷ Fixed punctuation.Semicolon ∷ []) (Fixed punctuation.Semicolon ∷ []) a b at err (λ k. arguments_runs d (Fixed punctuation.Semicolon ∷ k)) f
 
 more_arguments_shorter : {l n : ℕ} {v w : Counts} {s r : List Terminal} {xs : List Expr} → IsMoreArguments limits l n v w s r xs → suc (length r) ≤ length s
 more_arguments_shorter is.arguments_end = omega arith

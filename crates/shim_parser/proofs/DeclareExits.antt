@@ -11,7 +11,7 @@ use Rattle.shim_syntax.specs.Terminals.{Terminal, Name, Sign, first}
 use Rattle.shim_syntax.specs.Limits.{Count, limits, is_within}
 use Rattle.shim_syntax.specs.Grammar as is
 use Rattle.shim_syntax.specs.Grammar.{Counts, with_local, IsWhole, IsDeclared, IsDeclarations}
-use Rattle.shim_grammar.specs.declared.mark.Mark.TheVariants as mark
+use Rattle.shim_grammar.specs.declared.punctuation.Punctuation.TheVariants as punctuation
 use Rattle.shim_grammar.specs.Machine.{Symbol, Stack, Unwanted, Fixed, Expression, Operators, Declarations, AfterDeclared, MoreDeclarations, Declaration, AfterDeclaration, go, ask, wants, more_declarations, run}
 use Rattle.shim_grammar.proofs.Runs.{run_on, asked, whole_runs, operators_skip}
 use Rattle.shim_parser.specs.declared.terminal.Terminal as read
@@ -35,7 +35,7 @@ after_declared_skips [] l k w h = refl
 after_declared_skips (Sign g.Equal p ∷ s) l k w h = absurd (cc)
 after_declared_skips (_ ∷ s) l k w h = refl
 
-after_declaration_skips : (s : List Terminal) (l : ℕ) (k : Stack) (w : Counts) → is_equal (first s) ≡ false → run limits s (AfterDeclaration l ∷ k) w ≡ run limits s (Fixed mark.Semicolon ∷ k) w
+after_declaration_skips : (s : List Terminal) (l : ℕ) (k : Stack) (w : Counts) → is_equal (first s) ≡ false → run limits s (AfterDeclaration l ∷ k) w ≡ run limits s (Fixed punctuation.Semicolon ∷ k) w
 after_declaration_skips [] l k w h = refl
 after_declaration_skips (Sign g.Equal p ∷ s) l k w h = absurd (cc)
 after_declaration_skips (Sign g.Semicolon p ∷ s) l k w h = refl
@@ -48,7 +48,7 @@ among l = record {
   skips = λ s k w h. after_declared_skips s l k w h;
 }
 
-pub alone : (l : ℕ) → Declaring l (Declaration l) (AfterDeclaration l) (Fixed mark.Semicolon)
+pub alone : (l : ℕ) → Declaring l (Declaration l) (AfterDeclaration l) (Fixed punctuation.Semicolon)
 alone l = record {
   name = λ x p k w. refl;
   equal = λ p k w. refl;

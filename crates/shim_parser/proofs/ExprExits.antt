@@ -13,15 +13,15 @@ use Rattle.shim_syntax.specs.Terminals.{Terminal, Name, Number, Sign, first}
 use Rattle.shim_syntax.specs.Limits.{Nesting, Count, limits, is_within}
 use Rattle.shim_syntax.specs.Grammar as is
 use Rattle.shim_syntax.specs.Grammar.{Counts, new_expression, with_operator, at_level, row_of, row_of_sign, operator_of_sign, IsExpr, IsChain, IsWhole}
-use Rattle.shim_grammar.specs.declared.mark.Mark.{Mark}
-use Rattle.shim_grammar.specs.declared.mark.Mark.TheVariants as mark
-use Rattle.shim_grammar.specs.Machine.{Stack, Past, Fixed, Operand, Inside, Expression, Operators, go, ask, joins, joins_sign, wants, run}
-use Rattle.shim_grammar.proofs.Runs.{asked, inside_runs, expression_runs, operator_runs, operators_skip, expr_runs, whole_runs}
+use Rattle.shim_grammar.specs.declared.punctuation.Punctuation.{Punctuation}
+use Rattle.shim_grammar.specs.declared.punctuation.Punctuation.TheVariants as punctuation
+use Rattle.shim_grammar.specs.Machine.{Stack, Past, Fixed, Operand, Inside, Expression, Operators, go, ask, joins, wants, run}
+use Rattle.shim_grammar.proofs.Runs.{asked, inside_runs, expression_runs, operator_runs, operators_skip, expr_runs, whole_runs, joins_of_row}
 use Rattle.shim_parser.specs.declared.terminal.Terminal as read
 use Rattle.shim_parser.specs.declared.terminal.Terminal.TheVariants as here
 use Rattle.shim_parser.specs.TerminalView.{terminal_view}
 use Rattle.shim_parser.specs.declared.fault.ParseFault.{ParseFault}
-use Rattle.shim_parser.specs.Parts.{unary_sign, IsMark, IsEntered, IsUnarySign, Stops}
+use Rattle.shim_parser.specs.Parts.{unary_sign, IsPunctuation, IsEntered, IsUnarySign, Stops}
 use Rattle.shim_parser.specs.Reading.{Reading, Blames, Fails, Reads, counted}
 use Rattle.shim_parser.proofs.Exits.{Leads, Took, took, fails_as, fails_under, reads_as, refused}
 
@@ -120,25 +120,25 @@ module _ (l j : ℕ) (e : j ≡ suc l) (p : Place) (a b : Reading) (h : Sign g.L
   opened : Took (Sign g.LeftParen p) a b
   opened = took h q
 
-  opened_leads : Leads (Operand l ∷ []) (Inside j ∷ Operators j ∷ Fixed mark.RightParen ∷ []) a b
-  opened_leads = subst (λ i. Leads (Operand l ∷ []) (Inside i ∷ Operators i ∷ Fixed mark.RightParen ∷ []) a b) (sym e)
-      (λ k. ap (λ u. run limits u (Operand l ∷ k) a.counts) opened.rest ∙ ap (λ u. run limits b.rest (Inside (suc l) ∷ Operators (suc l) ∷ Fixed mark.RightParen ∷ k) u) opened.counts)
+  opened_leads : Leads (Operand l ∷ []) (Inside j ∷ Operators j ∷ Fixed punctuation.RightParen ∷ []) a b
+  opened_leads = subst (λ i. Leads (Operand l ∷ []) (Inside i ∷ Operators i ∷ Fixed punctuation.RightParen ∷ []) a b) (sym e)
+      (λ k. ap (λ u. run limits u (Operand l ∷ k) a.counts) opened.rest ∙ ap (λ u. run limits b.rest (Inside (suc l) ∷ Operators (suc l) ∷ Fixed punctuation.RightParen ∷ k) u) opened.counts)
 
   pub parens_enter_fails : (at : Reading) (err : ParseFault) → Fails (Inside j ∷ []) b at err → Fails (Operand l ∷ []) a at err
-  parens_enter_fails at err f = fails_under (Operand l ∷ []) (Inside j ∷ []) (Operators j ∷ Fixed mark.RightParen ∷ []) a b at err opened_leads f
+  parens_enter_fails at err f = fails_under (Operand l ∷ []) (Inside j ∷ []) (Operators j ∷ Fixed punctuation.RightParen ∷ []) a b at err opened_leads f
 
-  inside_leads : (d : Reading) → IsEntered j b.counts d.counts b.rest d.rest tt → Leads (Operand l ∷ []) (Operand j ∷ Operators j ∷ Fixed mark.RightParen ∷ []) a d
-  inside_leads d n = λ k. opened_leads k ∙ entered_leads j (Operators j ∷ Fixed mark.RightParen ∷ []) b d n k
+  inside_leads : (d : Reading) → IsEntered j b.counts d.counts b.rest d.rest tt → Leads (Operand l ∷ []) (Operand j ∷ Operators j ∷ Fixed punctuation.RightParen ∷ []) a d
+  inside_leads d n = λ k. opened_leads k ∙ entered_leads j (Operators j ∷ Fixed punctuation.RightParen ∷ []) b d n k
 
   pub parens_row_fails : (d at : Reading) (err : ParseFault) → IsEntered j b.counts d.counts b.rest d.rest tt → Fails (Operand j ∷ Operators j ∷ []) d at err → Fails (Operand l ∷ []) a at err
-  parens_row_fails d at err n f = fails_under (Operand l ∷ []) (Operand j ∷ Operators j ∷ []) (Fixed mark.RightParen ∷ []) a d at err (inside_leads d n) f
+  parens_row_fails d at err n f = fails_under (Operand l ∷ []) (Operand j ∷ Operators j ∷ []) (Fixed punctuation.RightParen ∷ []) a d at err (inside_leads d n) f
 
-  pub parens_mark_fails : (d f at : Reading) (x : Expr) (err : ParseFault) → IsEntered j b.counts d.counts b.rest d.rest tt → IsExpr limits 10 j d.counts f.counts d.rest f.rest x → Stops 10 f.rest
-      → Fails (Fixed mark.RightParen ∷ []) f at err → Fails (Operand l ∷ []) a at err
-  parens_mark_fails d f at x err n r s = fails_as (Operand l ∷ []) (Fixed mark.RightParen ∷ []) a f at err
-      (λ k. inside_leads d n k ∙ expr_runs r (Fixed mark.RightParen ∷ k) ∙ operators_skip limits f.rest j f.counts (Fixed mark.RightParen ∷ k) (stops_joins f.rest s))
+  pub parens_punctuation_fails : (d f at : Reading) (x : Expr) (err : ParseFault) → IsEntered j b.counts d.counts b.rest d.rest tt → IsExpr limits 10 j d.counts f.counts d.rest f.rest x → Stops 10 f.rest
+      → Fails (Fixed punctuation.RightParen ∷ []) f at err → Fails (Operand l ∷ []) a at err
+  parens_punctuation_fails d f at x err n r s = fails_as (Operand l ∷ []) (Fixed punctuation.RightParen ∷ []) a f at err
+      (λ k. inside_leads d n k ∙ expr_runs r (Fixed punctuation.RightParen ∷ k) ∙ operators_skip limits f.rest j f.counts (Fixed punctuation.RightParen ∷ k) (stops_joins f.rest s))
 
-  pub parens_reads : (d f i : Reading) (x : Expr) → IsEntered j b.counts d.counts b.rest d.rest tt → IsExpr limits 10 j d.counts f.counts d.rest f.rest x → IsMark mark.RightParen f.counts i.counts f.rest i.rest tt
+  pub parens_reads : (d f i : Reading) (x : Expr) → IsEntered j b.counts d.counts b.rest d.rest tt → IsExpr limits 10 j d.counts f.counts d.rest f.rest x → IsPunctuation punctuation.RightParen f.counts i.counts f.rest i.rest tt
       → IsExpr limits 0 l a.counts i.counts a.rest i.rest x
   parens_reads d f i x n r m =
       let v : d.counts ≡ at_level (suc l) a.counts = n.1 ∙ ap (λ u. at_level u b.counts) e ∙ ap (λ u. at_level (suc l) u) (sym opened.counts) in
@@ -168,27 +168,6 @@ chain_starts k l i a b x p d h = record {
 
 pub chain_ends : (k l : ℕ) (a b : Reading) (x : Expr) → ChainSoFar k l a b x → row_of (first b.rest) ≢ k → IsExpr limits k l a.counts b.counts a.rest b.rest x × Stops k b.rest
 chain_ends k l a b x c h = (c.reads b.counts b.rest x is.stop, λ j e n. omega (arith, c.stops j e))
-
-joins_of_row : (o : SignOf) (n : ℕ) → row_of_sign o ≡ suc n → joins_sign o ≡ true
-joins_of_row g.Star n e = refl
-joins_of_row g.Slash n e = refl
-joins_of_row g.Percent n e = refl
-joins_of_row g.Plus n e = refl
-joins_of_row g.Minus n e = refl
-joins_of_row g.Shl n e = refl
-joins_of_row g.Shr n e = refl
-joins_of_row g.Less n e = refl
-joins_of_row g.Le n e = refl
-joins_of_row g.Greater n e = refl
-joins_of_row g.Ge n e = refl
-joins_of_row g.EqEq n e = refl
-joins_of_row g.NotEq n e = refl
-joins_of_row g.Amp n e = refl
-joins_of_row g.Caret n e = refl
-joins_of_row g.Bar n e = refl
-joins_of_row g.AndAnd n e = refl
-joins_of_row g.OrOr n e = refl
-joins_of_row _ n e = absurd (cc)
 
 -- an operator of the row at b
 module _ (k l : ℕ) (a b : Reading) (x : Expr) (c : ChainSoFar k l a b x) (o : SignOf) (p : Place) (h : Sign o p ≡ first b.rest) (s : row_of_sign o ≡ k) where
@@ -272,6 +251,6 @@ whole_stops r (Err e) h = tt
 pub whole_leads : (l : ℕ) (z : Stack) (a b : Reading) (x : Expr) → IsWhole limits l a.counts b.counts a.rest b.rest x → joins (first b.rest) ≡ false → Leads (Expression l ∷ Operators l ∷ z) z a b
 whole_leads l z a b x d s = λ k. whole_runs a.counts d (z ++ k) ∙ operators_skip limits b.rest l b.counts (z ++ k) s
 
-pub whole_mark_fails : (f : Mark) (l : ℕ) (a b at : Reading) (x : Expr) (err : ParseFault) → IsWhole limits l a.counts b.counts a.rest b.rest x → joins (first b.rest) ≡ false
+pub whole_punctuation_fails : (f : Punctuation) (l : ℕ) (a b at : Reading) (x : Expr) (err : ParseFault) → IsWhole limits l a.counts b.counts a.rest b.rest x → joins (first b.rest) ≡ false
     → Fails (Fixed f ∷ []) b at err → Fails (Expression l ∷ Operators l ∷ Fixed f ∷ []) a at err
-whole_mark_fails f l a b at x err d s = fails_as (Expression l ∷ Operators l ∷ Fixed f ∷ []) (Fixed f ∷ []) a b at err (whole_leads l (Fixed f ∷ []) a b x d s)
+whole_punctuation_fails f l a b at x err d s = fails_as (Expression l ∷ Operators l ∷ Fixed f ∷ []) (Fixed f ∷ []) a b at err (whole_leads l (Fixed f ∷ []) a b x d s)

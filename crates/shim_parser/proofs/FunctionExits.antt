@@ -13,12 +13,12 @@ use Rattle.shim_syntax.specs.Terminals.{Terminal, Name, Sort, Key, Sign, first, 
 use Rattle.shim_syntax.specs.Limits.{Count, limits, is_within}
 use Rattle.shim_syntax.specs.Grammar as is
 use Rattle.shim_syntax.specs.Grammar.{Counts, is_stream, IsParam, IsParams, IsMoreParams, IsThrows, IsMoreThrows}
-use Rattle.shim_grammar.specs.declared.mark.Mark.TheVariants as mark
+use Rattle.shim_grammar.specs.declared.punctuation.Punctuation.TheVariants as punctuation
 use Rattle.shim_grammar.specs.Machine.{Stack, Fixed, Word, Parameter, Parameters, MoreParameters, AfterSort, Thrown, Throws, MoreThrows, go, run}
 use Rattle.shim_grammar.proofs.Runs.{asked}
 use Rattle.shim_parser.specs.declared.fault.ParseFault.{ParseFault}
 use Rattle.shim_parser.specs.Functions.{is_reference, is_comma, is_sort, is_void, is_throws, IsParameter, IsParameters, IsThrown, IsThrowsHere}
-use Rattle.shim_parser.specs.Parts.{IsName, IsMark}
+use Rattle.shim_parser.specs.Parts.{IsName, IsPunctuation}
 use Rattle.shim_parser.specs.Reading.{Reading, Fails}
 use Rattle.shim_parser.proofs.Exits.{Leads, Took, took, fails_as, fails_under}
 
@@ -53,23 +53,23 @@ parameters_begin [] w j h = refl
 parameters_begin (Sort sort p ∷ s) w j h = refl
 parameters_begin (_ ∷ s) w j h = absurd (cc)
 
-parameters_close : (s : List Terminal) (w : Counts) (j : Stack) → is_void (first s) ≡ false → is_sort (first s) ≡ false → run limits s (Parameters ∷ j) w ≡ run limits s (Fixed mark.RightParen ∷ j) w
+parameters_close : (s : List Terminal) (w : Counts) (j : Stack) → is_void (first s) ≡ false → is_sort (first s) ≡ false → run limits s (Parameters ∷ j) w ≡ run limits s (Fixed punctuation.RightParen ∷ j) w
 parameters_close [] w j h i = refl
 parameters_close (Sort sort p ∷ s) w j h i = absurd (cc)
 parameters_close (Key k.Void p ∷ s) w j h i = absurd (cc)
 parameters_close (_ ∷ s) w j h i = refl
 
-more_parameters_close : (n : ℕ) (s : List Terminal) (w : Counts) (j : Stack) → is_comma (first s) ≡ false → run limits s (MoreParameters n ∷ j) w ≡ run limits s (Fixed mark.RightParen ∷ j) w
+more_parameters_close : (n : ℕ) (s : List Terminal) (w : Counts) (j : Stack) → is_comma (first s) ≡ false → run limits s (MoreParameters n ∷ j) w ≡ run limits s (Fixed punctuation.RightParen ∷ j) w
 more_parameters_close n [] w j h = refl
 more_parameters_close n (Sign g.Comma p ∷ s) w j h = absurd (cc)
 more_parameters_close n (_ ∷ s) w j h = refl
 
-throws_close : (s : List Terminal) (w : Counts) (j : Stack) → is_throws (first s) ≡ false → run limits s (Throws ∷ j) w ≡ run limits s (Fixed mark.LeftBrace ∷ j) w
+throws_close : (s : List Terminal) (w : Counts) (j : Stack) → is_throws (first s) ≡ false → run limits s (Throws ∷ j) w ≡ run limits s (Fixed punctuation.LeftBrace ∷ j) w
 throws_close [] w j h = refl
 throws_close (Key k.Throws p ∷ s) w j h = absurd (cc)
 throws_close (_ ∷ s) w j h = refl
 
-more_throws_close : (n : ℕ) (s : List Terminal) (w : Counts) (j : Stack) → is_comma (first s) ≡ false → run limits s (MoreThrows n ∷ j) w ≡ run limits s (Fixed mark.LeftBrace ∷ j) w
+more_throws_close : (n : ℕ) (s : List Terminal) (w : Counts) (j : Stack) → is_comma (first s) ≡ false → run limits s (MoreThrows n ∷ j) w ≡ run limits s (Fixed punctuation.LeftBrace ∷ j) w
 more_throws_close n [] w j h = refl
 more_throws_close n (Sign g.Comma p ∷ s) w j h = absurd (cc)
 more_throws_close n (_ ∷ s) w j h = refl
@@ -123,17 +123,17 @@ module _ (a b : Reading) (h : is_void (first a.rest) ≡ true) (q : a ≡ record
   void_took : Took (Key k.Void (place_of (first a.rest))) a b
   void_took = took (sym (void_is (first a.rest) h)) q
 
-  pub void_reads : (e : Reading) (xs : List Param) → xs ≡ [] → IsMark mark.RightParen b.counts e.counts b.rest e.rest tt → IsParameters a.counts e.counts a.rest e.rest xs
+  pub void_reads : (e : Reading) (xs : List Param) → xs ≡ [] → IsPunctuation punctuation.RightParen b.counts e.counts b.rest e.rest tt → IsParameters a.counts e.counts a.rest e.rest xs
   void_reads e xs i m = (
     subst (λ u. IsParams limits a.rest e.rest u) (sym i)
         (subst (λ u. IsParams limits u e.rest []) (sym (void_took.rest ∙ ap (λ u. Key k.Void (place_of (first a.rest)) ∷ u) m.1)) is.void_params),
     void_took.counts ∙ m.2,
   )
 
-pub none_fails : (a at : Reading) (err : ParseFault) → is_void (first a.rest) ≡ false → is_sort (first a.rest) ≡ false → Fails (Fixed mark.RightParen ∷ []) a at err → Fails (Parameters ∷ []) a at err
-none_fails a at err h i w = fails_as (Parameters ∷ []) (Fixed mark.RightParen ∷ []) a a at err (λ j. parameters_close a.rest a.counts j h i) w
+pub none_fails : (a at : Reading) (err : ParseFault) → is_void (first a.rest) ≡ false → is_sort (first a.rest) ≡ false → Fails (Fixed punctuation.RightParen ∷ []) a at err → Fails (Parameters ∷ []) a at err
+none_fails a at err h i w = fails_as (Parameters ∷ []) (Fixed punctuation.RightParen ∷ []) a a at err (λ j. parameters_close a.rest a.counts j h i) w
 
-pub none_reads : (a e : Reading) (xs : List Param) → xs ≡ [] → IsMark mark.RightParen a.counts e.counts a.rest e.rest tt → IsParameters a.counts e.counts a.rest e.rest xs
+pub none_reads : (a e : Reading) (xs : List Param) → xs ≡ [] → IsPunctuation punctuation.RightParen a.counts e.counts a.rest e.rest tt → IsParameters a.counts e.counts a.rest e.rest xs
 none_reads a e xs i m = (subst (λ u. IsParams limits a.rest e.rest u) (sym i) (subst (λ u. IsParams limits u e.rest []) (sym m.1) is.no_params), m.2)
 
 pub param_first_fails : (a at : Reading) (err : ParseFault) → is_sort (first a.rest) ≡ true → Fails (Parameter 1 ∷ []) a at err → Fails (Parameters ∷ []) a at err
@@ -155,10 +155,10 @@ params_start a b x xs h i e = record {
 }
 
 module _ (a b : Reading) (n : ℕ) (xs : List Param) (c : ParamsSoFar a b n xs) where
-  pub params_end_fails : (at : Reading) (err : ParseFault) → is_comma (first b.rest) ≡ false → Fails (Fixed mark.RightParen ∷ []) b at err → Fails (Parameters ∷ []) a at err
-  params_end_fails at err h w = fails_as (Parameters ∷ []) (Fixed mark.RightParen ∷ []) a b at err (λ j. c.runs j ∙ more_parameters_close n b.rest b.counts j h) w
+  pub params_end_fails : (at : Reading) (err : ParseFault) → is_comma (first b.rest) ≡ false → Fails (Fixed punctuation.RightParen ∷ []) b at err → Fails (Parameters ∷ []) a at err
+  params_end_fails at err h w = fails_as (Parameters ∷ []) (Fixed punctuation.RightParen ∷ []) a b at err (λ j. c.runs j ∙ more_parameters_close n b.rest b.counts j h) w
 
-  pub params_end_reads : (e : Reading) → IsMark mark.RightParen b.counts e.counts b.rest e.rest tt → IsParameters a.counts e.counts a.rest e.rest xs
+  pub params_end_reads : (e : Reading) → IsPunctuation punctuation.RightParen b.counts e.counts b.rest e.rest tt → IsParameters a.counts e.counts a.rest e.rest xs
   params_end_reads e m = (
     subst (λ u. IsParams limits a.rest e.rest u) (append-nil xs)
         (c.reads e.rest [] (subst (λ u. IsMoreParams limits n u e.rest []) (sym m.1) is.params_end)),
@@ -191,10 +191,10 @@ thrown_leads : (n : ℕ) (a b : Reading) (x : List ℕ) → IsThrown n a.counts 
 thrown_leads n a b x h = λ j. ap (λ u. run limits u (Thrown n ∷ j) a.counts) h.1
     ∙ asked limits (Name x h.0) b.rest (Count many.Throws) n (go (MoreThrows n ∷ j) a.counts) h.2 ∙ ap (λ u. run limits b.rest (MoreThrows n ∷ j) u) h.3
 
-pub no_throws_fails : (a at : Reading) (err : ParseFault) → is_throws (first a.rest) ≡ false → Fails (Fixed mark.LeftBrace ∷ []) a at err → Fails (Throws ∷ []) a at err
-no_throws_fails a at err h w = fails_as (Throws ∷ []) (Fixed mark.LeftBrace ∷ []) a a at err (λ j. throws_close a.rest a.counts j h) w
+pub no_throws_fails : (a at : Reading) (err : ParseFault) → is_throws (first a.rest) ≡ false → Fails (Fixed punctuation.LeftBrace ∷ []) a at err → Fails (Throws ∷ []) a at err
+no_throws_fails a at err h w = fails_as (Throws ∷ []) (Fixed punctuation.LeftBrace ∷ []) a a at err (λ j. throws_close a.rest a.counts j h) w
 
-pub no_throws_reads : (a e : Reading) (xs : List (List ℕ)) → xs ≡ [] → IsMark mark.LeftBrace a.counts e.counts a.rest e.rest tt → IsThrowsHere a.counts e.counts a.rest e.rest xs
+pub no_throws_reads : (a e : Reading) (xs : List (List ℕ)) → xs ≡ [] → IsPunctuation punctuation.LeftBrace a.counts e.counts a.rest e.rest tt → IsThrowsHere a.counts e.counts a.rest e.rest xs
 no_throws_reads a e xs i m = (subst (λ u. IsThrows limits a.rest e.rest u) (sym i) (subst (λ u. IsThrows limits u e.rest []) (sym m.1) is.no_throws), m.2)
 
 -- what reads on from here reads from the start
@@ -221,10 +221,10 @@ module _ (a b : Reading) (h : is_throws (first a.rest) ≡ true) (q : a ≡ reco
   }
 
 module _ (a b : Reading) (n : ℕ) (xs : List (List ℕ)) (c : ThrowsSoFar a b n xs) where
-  pub throws_end_fails : (at : Reading) (err : ParseFault) → is_comma (first b.rest) ≡ false → Fails (Fixed mark.LeftBrace ∷ []) b at err → Fails (Throws ∷ []) a at err
-  throws_end_fails at err h w = fails_as (Throws ∷ []) (Fixed mark.LeftBrace ∷ []) a b at err (λ j. c.runs j ∙ more_throws_close n b.rest b.counts j h) w
+  pub throws_end_fails : (at : Reading) (err : ParseFault) → is_comma (first b.rest) ≡ false → Fails (Fixed punctuation.LeftBrace ∷ []) b at err → Fails (Throws ∷ []) a at err
+  throws_end_fails at err h w = fails_as (Throws ∷ []) (Fixed punctuation.LeftBrace ∷ []) a b at err (λ j. c.runs j ∙ more_throws_close n b.rest b.counts j h) w
 
-  pub throws_end_reads : (e : Reading) → IsMark mark.LeftBrace b.counts e.counts b.rest e.rest tt → IsThrowsHere a.counts e.counts a.rest e.rest xs
+  pub throws_end_reads : (e : Reading) → IsPunctuation punctuation.LeftBrace b.counts e.counts b.rest e.rest tt → IsThrowsHere a.counts e.counts a.rest e.rest xs
   throws_end_reads e m = (
     subst (λ u. IsThrows limits a.rest e.rest u) (append-nil xs)
         (c.reads e.rest [] (subst (λ u. IsMoreThrows limits n u e.rest []) (sym m.1) is.throws_end)),

@@ -11,7 +11,7 @@ use Rattle.shim_syntax.specs.Terminals.{Terminal, Key, End, first, place_of}
 use Rattle.shim_syntax.specs.Limits.{Count, limits, is_within}
 use Rattle.shim_syntax.specs.Grammar as is
 use Rattle.shim_syntax.specs.Grammar.{Counts, new_function, IsThrows, IsBlock, IsFunction, IsFunctions}
-use Rattle.shim_grammar.specs.declared.mark.Mark.TheVariants as mark
+use Rattle.shim_grammar.specs.declared.punctuation.Punctuation.TheVariants as punctuation
 use Rattle.shim_grammar.specs.Machine.{Stack, Fixed, Word, Block, Parameters, Throws, Functions, run}
 use Rattle.shim_grammar.proofs.RunsStmt.{params_runs, throws_runs, function_runs}
 use Rattle.shim_parser.specs.declared.terminal.Terminal as read
@@ -32,12 +32,12 @@ place_is _ p = refl
 
 -- what a function has behind its `void`
 abbrev pub whole : Stack
-whole = Word ∷ Fixed mark.LeftParen ∷ Parameters ∷ Throws ∷ Block 1 ∷ []
+whole = Word ∷ Fixed punctuation.LeftParen ∷ Parameters ∷ Throws ∷ Block 1 ∷ []
 
 -- a function, behind its name and the left parenthesis
-module _ (a b : Reading) (x : List ℕ) (m : IsNameBefore mark.LeftParen a.counts b.counts a.rest b.rest x) where
+module _ (a b : Reading) (x : List ℕ) (m : IsNameBefore punctuation.LeftParen a.counts b.counts a.rest b.rest x) where
   name_leads : Leads whole (Parameters ∷ Throws ∷ Block 1 ∷ []) a b
-  name_leads = λ j. ap (λ u. run limits u (Word ∷ Fixed mark.LeftParen ∷ Parameters ∷ Throws ∷ Block 1 ∷ j) a.counts) m.2
+  name_leads = λ j. ap (λ u. run limits u (Word ∷ Fixed punctuation.LeftParen ∷ Parameters ∷ Throws ∷ Block 1 ∷ j) a.counts) m.2
       ∙ ap (λ u. run limits b.rest (Parameters ∷ Throws ∷ Block 1 ∷ j) u) m.3
 
   module _ (d : Reading) (ps : List Param) (n : IsParameters b.counts d.counts b.rest d.rest ps) where

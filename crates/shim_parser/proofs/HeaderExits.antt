@@ -11,7 +11,7 @@ use Rattle.shim_syntax.specs.Terminals.{Terminal, Name, Sort, Sign, first}
 use Rattle.shim_syntax.specs.Limits.{Nesting, limits, is_within}
 use Rattle.shim_syntax.specs.Grammar as is
 use Rattle.shim_syntax.specs.Grammar.{Counts, at_level, IsWhole, IsDeclared, IsFirst, IsTest, IsStep}
-use Rattle.shim_grammar.specs.declared.mark.Mark.TheVariants as mark
+use Rattle.shim_grammar.specs.declared.punctuation.Punctuation.TheVariants as punctuation
 use Rattle.shim_grammar.specs.Machine.{Fixed, Expression, Operators, Declaration, AfterDeclaration, First, Test, Step, go, run}
 use Rattle.shim_grammar.proofs.Runs.{asked, is_semicolon, test_skips, test_runs}
 use Rattle.shim_grammar.proofs.RunsStmt.{first_runs}
@@ -21,7 +21,7 @@ use Rattle.shim_parser.specs.declared.name_value.Declared.{Declared}
 use Rattle.shim_parser.specs.declared.for_parts.ForParts.{ForParts}
 use Rattle.shim_parser.specs.TerminalView.{terminal_view}
 use Rattle.shim_parser.specs.declared.fault.ParseFault.{ParseFault}
-use Rattle.shim_parser.specs.Parts.{IsMark, IsWholeBefore}
+use Rattle.shim_parser.specs.Parts.{IsPunctuation, IsWholeBefore}
 use Rattle.shim_parser.specs.Declares.{IsDeclaredHere}
 use Rattle.shim_parser.specs.Headers.{IsValueBehind, IsHeader}
 use Rattle.shim_parser.specs.Reading.{Reading, Fails, counted}
@@ -38,11 +38,11 @@ pub not_semicolon : (t : read.Terminal) (p : Place) → (t ≡ here.Sign g.Semic
 not_semicolon (here.Sign g.Semicolon) p h = absurd (h refl)
 not_semicolon _ p h = refl
 
-pub test_fails : (l : ℕ) (a at : Reading) (err : ParseFault) → is_semicolon (first a.rest) ≡ false → Fails (Expression l ∷ Operators l ∷ Fixed mark.Semicolon ∷ []) a at err
+pub test_fails : (l : ℕ) (a at : Reading) (err : ParseFault) → is_semicolon (first a.rest) ≡ false → Fails (Expression l ∷ Operators l ∷ Fixed punctuation.Semicolon ∷ []) a at err
     → Fails (Test l ∷ []) a at err
-test_fails l a at err h f = fails_as (Test l ∷ []) (Expression l ∷ Operators l ∷ Fixed mark.Semicolon ∷ []) a a at err (λ k. test_skips limits a.rest l a.counts k h) f
+test_fails l a at err h f = fails_as (Test l ∷ []) (Expression l ∷ Operators l ∷ Fixed punctuation.Semicolon ∷ []) a a at err (λ k. test_skips limits a.rest l a.counts k h) f
 
-pub test_reads : (l : ℕ) (a b : Reading) (x : Expr) → IsWholeBefore mark.Semicolon l a.counts b.counts a.rest b.rest x → IsTest limits l a.counts b.counts a.rest b.rest (Some x)
+pub test_reads : (l : ℕ) (a b : Reading) (x : Expr) → IsWholeBefore punctuation.Semicolon l a.counts b.counts a.rest b.rest x → IsTest limits l a.counts b.counts a.rest b.rest (Some x)
 test_reads l a b x w = is.test w.1
 
 -- nothing before a semicolon, and nothing before a right parenthesis
@@ -64,11 +64,11 @@ module _ (l : ℕ) (a b d i : Reading) (ty : Ty) (p : Place) (x : Declared) (h :
   type_leads = λ k. ap (λ u. run limits u (First l ∷ k) a.counts) type_took.rest ∙ asked limits (Sort (Value ty) p) d.rest Nesting l (go (Declaration l ∷ k) (at_level l a.counts)) n
       ∙ ap (λ u. run limits d.rest (Declaration l ∷ k) u) (sym type_took.counts)
 
-  pub first_mark_fails : (at : Reading) (err : ParseFault) → Fails (Fixed mark.Semicolon ∷ []) i at err → Fails (First l ∷ []) a at err
-  first_mark_fails at err f = fails_as (First l ∷ []) (Fixed mark.Semicolon ∷ []) a i at err
-      (λ k. type_leads k ∙ declared_leads l (Declaration l) (AfterDeclaration l) (Fixed mark.Semicolon) (alone l) d i x r k) f
+  pub first_punctuation_fails : (at : Reading) (err : ParseFault) → Fails (Fixed punctuation.Semicolon ∷ []) i at err → Fails (First l ∷ []) a at err
+  first_punctuation_fails at err f = fails_as (First l ∷ []) (Fixed punctuation.Semicolon ∷ []) a i at err
+      (λ k. type_leads k ∙ declared_leads l (Declaration l) (AfterDeclaration l) (Fixed punctuation.Semicolon) (alone l) d i x r k) f
 
-  pub first_declare_reads : (j : Reading) (xs : List Stmt) → IsMark mark.Semicolon i.counts j.counts i.rest j.rest tt → xs ≡ record { line = p.line; what = st.Declare ty x.name x.value } ∷ []
+  pub first_declare_reads : (j : Reading) (xs : List Stmt) → IsPunctuation punctuation.Semicolon i.counts j.counts i.rest j.rest tt → xs ≡ record { line = p.line; what = st.Declare ty x.name x.value } ∷ []
       → IsFirst limits l a.counts j.counts a.rest j.rest xs
   first_declare_reads j xs m s =
       let r₁ : IsDeclared limits l d.counts j.counts d.rest (Sign g.Semicolon m.0 ∷ j.rest) x.name x.value =
@@ -83,37 +83,37 @@ module _ (l : ℕ) (a b d i : Reading) (x o : List ℕ) (p : Place) (value : Exp
   target_took : Counted (at_level l) (Name x p) a d
   target_took = counted_took (at_level l) (Name x p) a b d (sym h) e q
 
-  pub first_assign_reads : IsValueBehind mark.Semicolon l d.counts i.counts d.rest i.rest value → IsFirst limits l a.counts i.counts a.rest i.rest xs
+  pub first_assign_reads : IsValueBehind punctuation.Semicolon l d.counts i.counts d.rest i.rest value → IsFirst limits l a.counts i.counts a.rest i.rest xs
   first_assign_reads v =
       let r : IsWhole limits l (at_level l a.counts) i.counts v.2 (Sign g.Semicolon v.1 ∷ i.rest) value =
       subst (λ u. IsWhole limits l u i.counts v.2 (Sign g.Semicolon v.1 ∷ i.rest) value) target_took.counts v.4 in
       rw (s, same, target_took.rest, v.3) (is.first_assign n r)
 
-  pub step_reads : IsValueBehind mark.RightParen l d.counts i.counts d.rest i.rest value → IsStep limits l a.counts i.counts a.rest i.rest xs
+  pub step_reads : IsValueBehind punctuation.RightParen l d.counts i.counts d.rest i.rest value → IsStep limits l a.counts i.counts a.rest i.rest xs
   step_reads v =
       let r : IsWhole limits l (at_level l a.counts) i.counts v.2 (Sign g.RightParen v.1 ∷ i.rest) value =
       subst (λ u. IsWhole limits l u i.counts v.2 (Sign g.RightParen v.1 ∷ i.rest) value) target_took.counts v.4 in
       rw (s, same, target_took.rest, v.3) (is.step n r)
 
 -- the parts in turn; j is the level that the code counts
-module _ (l j : ℕ) (e : j ≡ suc l) (a b : Reading) (m : IsMark mark.LeftParen a.counts b.counts a.rest b.rest tt) where
-  paren_leads : Leads (Fixed mark.LeftParen ∷ First (suc l) ∷ Test l ∷ Step (suc l) ∷ []) (First j ∷ Test l ∷ Step j ∷ []) a b
-  paren_leads = subst (λ i. Leads (Fixed mark.LeftParen ∷ First (suc l) ∷ Test l ∷ Step (suc l) ∷ []) (First i ∷ Test l ∷ Step i ∷ []) a b) (sym e)
-      (λ k. ap (λ u. run limits u (Fixed mark.LeftParen ∷ First (suc l) ∷ Test l ∷ Step (suc l) ∷ k) a.counts) m.1 ∙ ap (λ u. run limits b.rest (First (suc l) ∷ Test l ∷ Step (suc l) ∷ k) u) m.2)
+module _ (l j : ℕ) (e : j ≡ suc l) (a b : Reading) (m : IsPunctuation punctuation.LeftParen a.counts b.counts a.rest b.rest tt) where
+  paren_leads : Leads (Fixed punctuation.LeftParen ∷ First (suc l) ∷ Test l ∷ Step (suc l) ∷ []) (First j ∷ Test l ∷ Step j ∷ []) a b
+  paren_leads = subst (λ i. Leads (Fixed punctuation.LeftParen ∷ First (suc l) ∷ Test l ∷ Step (suc l) ∷ []) (First i ∷ Test l ∷ Step i ∷ []) a b) (sym e)
+      (λ k. ap (λ u. run limits u (Fixed punctuation.LeftParen ∷ First (suc l) ∷ Test l ∷ Step (suc l) ∷ k) a.counts) m.1 ∙ ap (λ u. run limits b.rest (First (suc l) ∷ Test l ∷ Step (suc l) ∷ k) u) m.2)
 
-  pub header_first_fails : (at : Reading) (err : ParseFault) → Fails (First j ∷ []) b at err → Fails (Fixed mark.LeftParen ∷ First (suc l) ∷ Test l ∷ Step (suc l) ∷ []) a at err
-  header_first_fails at err f = fails_under (Fixed mark.LeftParen ∷ First (suc l) ∷ Test l ∷ Step (suc l) ∷ []) (First j ∷ []) (Test l ∷ Step j ∷ []) a b at err paren_leads f
+  pub header_first_fails : (at : Reading) (err : ParseFault) → Fails (First j ∷ []) b at err → Fails (Fixed punctuation.LeftParen ∷ First (suc l) ∷ Test l ∷ Step (suc l) ∷ []) a at err
+  header_first_fails at err f = fails_under (Fixed punctuation.LeftParen ∷ First (suc l) ∷ Test l ∷ Step (suc l) ∷ []) (First j ∷ []) (Test l ∷ Step j ∷ []) a b at err paren_leads f
 
   module _ (d : Reading) (xs : List Stmt) (r : IsFirst limits j b.counts d.counts b.rest d.rest xs) where
-    first_leads : Leads (Fixed mark.LeftParen ∷ First (suc l) ∷ Test l ∷ Step (suc l) ∷ []) (Test l ∷ Step j ∷ []) a d
+    first_leads : Leads (Fixed punctuation.LeftParen ∷ First (suc l) ∷ Test l ∷ Step (suc l) ∷ []) (Test l ∷ Step j ∷ []) a d
     first_leads = λ k. paren_leads k ∙ first_runs r (Test l ∷ Step j ∷ k)
 
-    pub header_test_fails : (at : Reading) (err : ParseFault) → Fails (Test l ∷ []) d at err → Fails (Fixed mark.LeftParen ∷ First (suc l) ∷ Test l ∷ Step (suc l) ∷ []) a at err
-    header_test_fails at err f = fails_under (Fixed mark.LeftParen ∷ First (suc l) ∷ Test l ∷ Step (suc l) ∷ []) (Test l ∷ []) (Step j ∷ []) a d at err first_leads f
+    pub header_test_fails : (at : Reading) (err : ParseFault) → Fails (Test l ∷ []) d at err → Fails (Fixed punctuation.LeftParen ∷ First (suc l) ∷ Test l ∷ Step (suc l) ∷ []) a at err
+    header_test_fails at err f = fails_under (Fixed punctuation.LeftParen ∷ First (suc l) ∷ Test l ∷ Step (suc l) ∷ []) (Test l ∷ []) (Step j ∷ []) a d at err first_leads f
 
     pub header_step_fails : (i at : Reading) (x : Option Expr) (err : ParseFault) → IsTest limits l d.counts i.counts d.rest i.rest x → Fails (Step j ∷ []) i at err
-        → Fails (Fixed mark.LeftParen ∷ First (suc l) ∷ Test l ∷ Step (suc l) ∷ []) a at err
-    header_step_fails i at x err t f = fails_as (Fixed mark.LeftParen ∷ First (suc l) ∷ Test l ∷ Step (suc l) ∷ []) (Step j ∷ []) a i at err (λ k. first_leads k ∙ test_runs t (Step j ∷ k)) f
+        → Fails (Fixed punctuation.LeftParen ∷ First (suc l) ∷ Test l ∷ Step (suc l) ∷ []) a at err
+    header_step_fails i at x err t f = fails_as (Fixed punctuation.LeftParen ∷ First (suc l) ∷ Test l ∷ Step (suc l) ∷ []) (Step j ∷ []) a i at err (λ k. first_leads k ∙ test_runs t (Step j ∷ k)) f
 
 pub first_shorter : {l : ℕ} {v w : Counts} {s r : List Terminal} {xs : List Stmt} → IsFirst limits l v w s r xs → suc (length r) ≤ length s
 first_shorter is.no_first = omega arith

@@ -1,7 +1,7 @@
 pub mod Steps
 pub mod CutSteps
 pub mod Exits
-pub mod Marks
+pub mod Punctuations
 pub mod ExprExits
 pub mod CallExits
 pub mod PlainExits

@@ -10,16 +10,16 @@ use Rattle.shim_syntax.specs.Terminals.{Terminal, Name, Key, Sign, first}
 use Rattle.shim_syntax.specs.Limits.{limits}
 use Rattle.shim_syntax.specs.Grammar as is
 use Rattle.shim_syntax.specs.Grammar.{is_else, IsBlock, IsBody, IsWhole}
-use Rattle.shim_grammar.specs.declared.mark.Mark.TheVariants as mark
+use Rattle.shim_grammar.specs.declared.punctuation.Punctuation.TheVariants as punctuation
 use Rattle.shim_grammar.specs.Machine.{Stack, Fixed, Word, Expression, Operators, Block, Body, Else, First, Test, Step}
 use Rattle.shim_parser.specs.declared.fault.ParseFault.{ParseFault}
 use Rattle.shim_parser.specs.declared.for_parts.ForParts.{ForParts}
-use Rattle.shim_parser.specs.Parts.{IsMark, IsNameBefore, IsTestOf}
+use Rattle.shim_parser.specs.Parts.{IsPunctuation, IsNameBefore, IsTestOf}
 use Rattle.shim_parser.specs.Headers.{IsHeader}
 use Rattle.shim_parser.specs.Statements.{IsKeyAt, IsKeyed}
 use Rattle.shim_parser.specs.Reading.{Reading, Fails}
 use Rattle.shim_parser.proofs.Exits.{Leads, Took, took, fails_as, fails_under}
-use Rattle.shim_parser.proofs.Sequences.{then, same_run, mark_leads, name_before_leads, test_leads, header_leads, block_leads, body_leads}
+use Rattle.shim_parser.proofs.Sequences.{then, same_run, punctuation_leads, name_before_leads, test_leads, header_leads, block_leads, body_leads}
 use Rattle.shim_parser.proofs.StmtExits.{no_key}
 
 not_else : (t : Terminal) (b : Bool) → IsTrue b ↔ IsKeyAt k.Else t → b ≡ false → is_else t ≡ false
@@ -30,7 +30,7 @@ not_else t b h n = none t (no_key k.Else t b h n)
     none _ h = refl
 
 abbrev pub IfStack : ℕ → Stack
-IfStack l = Fixed mark.LeftParen ∷ Expression l ∷ Operators l ∷ Fixed mark.RightParen ∷ Body (suc l) ∷ Else (suc l) ∷ []
+IfStack l = Fixed punctuation.LeftParen ∷ Expression l ∷ Operators l ∷ Fixed punctuation.RightParen ∷ Body (suc l) ∷ Else (suc l) ∷ []
 
 -- behind `if`: at b behind the test
 module _ (l j : ℕ) (e : j ≡ suc l) (a b : Reading) (x : Expr) (t : IsTestOf l a.counts b.counts a.rest b.rest x) where
@@ -66,8 +66,8 @@ module _ (l j : ℕ) (e : j ≡ suc l) (a b : Reading) (x : Expr) (t : IsTestOf 
           (subst (λ u. IsBody limits (suc l) b.counts d.counts b.rest u xs) else_took.rest then_is)) (subst (λ u. IsBody limits u m.counts n.counts m.rest n.rest ys) e w))
 
   -- behind `while`
-  pub while_body_fails : (at : Reading) (err : ParseFault) → Fails (Body j ∷ []) b at err → Fails (Fixed mark.LeftParen ∷ Expression l ∷ Operators l ∷ Fixed mark.RightParen ∷ Body (suc l) ∷ []) a at err
-  while_body_fails at err f = fails_as (Fixed mark.LeftParen ∷ Expression l ∷ Operators l ∷ Fixed mark.RightParen ∷ Body (suc l) ∷ []) (Body (suc l) ∷ []) a b at err
+  pub while_body_fails : (at : Reading) (err : ParseFault) → Fails (Body j ∷ []) b at err → Fails (Fixed punctuation.LeftParen ∷ Expression l ∷ Operators l ∷ Fixed punctuation.RightParen ∷ Body (suc l) ∷ []) a at err
+  while_body_fails at err f = fails_as (Fixed punctuation.LeftParen ∷ Expression l ∷ Operators l ∷ Fixed punctuation.RightParen ∷ Body (suc l) ∷ []) (Body (suc l) ∷ []) a b at err
       (test_leads l (Body (suc l) ∷ []) a b x t) (subst (λ u. Fails (Body u ∷ []) b at err) e f)
 
   pub while_reads : (d : Reading) (xs : List Stmt) → IsBody limits j b.counts d.counts b.rest d.rest xs → IsKeyed k.While l a.counts d.counts a.rest d.rest (st.While x xs)
@@ -75,29 +75,29 @@ module _ (l j : ℕ) (e : j ≡ suc l) (a b : Reading) (x : Expr) (t : IsTestOf 
 
 -- behind `for`: at b behind the parentheses
 module _ (l j : ℕ) (e : j ≡ suc l) (a b : Reading) (parts : ForParts) (t : IsHeader l a.counts b.counts a.rest b.rest parts) where
-  pub for_body_fails : (at : Reading) (err : ParseFault) → Fails (Body j ∷ []) b at err → Fails (Fixed mark.LeftParen ∷ First (suc l) ∷ Test l ∷ Step (suc l) ∷ Body (suc l) ∷ []) a at err
-  for_body_fails at err f = fails_as (Fixed mark.LeftParen ∷ First (suc l) ∷ Test l ∷ Step (suc l) ∷ Body (suc l) ∷ []) (Body (suc l) ∷ []) a b at err
+  pub for_body_fails : (at : Reading) (err : ParseFault) → Fails (Body j ∷ []) b at err → Fails (Fixed punctuation.LeftParen ∷ First (suc l) ∷ Test l ∷ Step (suc l) ∷ Body (suc l) ∷ []) a at err
+  for_body_fails at err f = fails_as (Fixed punctuation.LeftParen ∷ First (suc l) ∷ Test l ∷ Step (suc l) ∷ Body (suc l) ∷ []) (Body (suc l) ∷ []) a b at err
       (header_leads l (Body (suc l) ∷ []) a b parts t) (subst (λ u. Fails (Body u ∷ []) b at err) e f)
 
   pub for_reads : (d : Reading) (xs : List Stmt) → IsBody limits j b.counts d.counts b.rest d.rest xs → IsKeyed k.For l a.counts d.counts a.rest d.rest (st.For parts.first parts.test parts.step xs)
   for_reads d xs o p = rw t.6 (is.for_loop t.7 t.8 t.9 (subst (λ u. IsBody limits u b.counts d.counts b.rest d.rest xs) e o))
 
 abbrev pub HandlerStack : ℕ → Stack
-HandlerStack l = Fixed mark.LeftBrace ∷ Block (suc l) ∷ []
+HandlerStack l = Fixed punctuation.LeftBrace ∷ Block (suc l) ∷ []
 
 abbrev pub NamedStack : ℕ → Stack
-NamedStack l = Word ∷ Fixed mark.RightParen ∷ HandlerStack l
+NamedStack l = Word ∷ Fixed punctuation.RightParen ∷ HandlerStack l
 
 abbrev pub CatchStack : ℕ → Stack
-CatchStack l = Fixed mark.Catch ∷ Fixed mark.LeftParen ∷ NamedStack l
+CatchStack l = Fixed punctuation.Catch ∷ Fixed punctuation.LeftParen ∷ NamedStack l
 
 abbrev pub TryStack : ℕ → Stack
-TryStack l = Fixed mark.LeftBrace ∷ Block (suc l) ∷ CatchStack l
+TryStack l = Fixed punctuation.LeftBrace ∷ Block (suc l) ∷ CatchStack l
 
 -- behind `try`: at b behind the brace
-module _ (l j : ℕ) (e : j ≡ suc l) (a b : Reading) (t : IsMark mark.LeftBrace a.counts b.counts a.rest b.rest tt) where
+module _ (l j : ℕ) (e : j ≡ suc l) (a b : Reading) (t : IsPunctuation punctuation.LeftBrace a.counts b.counts a.rest b.rest tt) where
   try_opened : Leads (TryStack l) (Block (suc l) ∷ CatchStack l) a b
-  try_opened = mark_leads mark.LeftBrace (Block (suc l) ∷ CatchStack l) a b t
+  try_opened = punctuation_leads punctuation.LeftBrace (Block (suc l) ∷ CatchStack l) a b t
 
   pub tried_fails : (at : Reading) (err : ParseFault) → Fails (Block j ∷ []) b at err → Fails (TryStack l) a at err
   tried_fails at err f = fails_under (TryStack l) (Block (suc l) ∷ []) (CatchStack l) a b at err try_opened (subst (λ u. Fails (Block u ∷ []) b at err) e f)
@@ -110,38 +110,38 @@ module _ (l j : ℕ) (e : j ≡ suc l) (a b : Reading) (t : IsMark mark.LeftBrac
     tried_leads : Leads (TryStack l) (CatchStack l) a d
     tried_leads = then (TryStack l) (Block (suc l) ∷ CatchStack l) (CatchStack l) a b d try_opened (block_leads (suc l) (CatchStack l) b d xs tried_is)
 
-    pub catch_fails : (at : Reading) (err : ParseFault) → Fails (Fixed mark.Catch ∷ []) d at err → Fails (TryStack l) a at err
-    catch_fails at err f = fails_under (TryStack l) (Fixed mark.Catch ∷ []) (Fixed mark.LeftParen ∷ NamedStack l) a d at err tried_leads f
+    pub catch_fails : (at : Reading) (err : ParseFault) → Fails (Fixed punctuation.Catch ∷ []) d at err → Fails (TryStack l) a at err
+    catch_fails at err f = fails_under (TryStack l) (Fixed punctuation.Catch ∷ []) (Fixed punctuation.LeftParen ∷ NamedStack l) a d at err tried_leads f
 
     -- at m behind `catch`
-    module _ (m : Reading) (c : IsMark mark.Catch d.counts m.counts d.rest m.rest tt) where
-      catch_leads : Leads (TryStack l) (Fixed mark.LeftParen ∷ NamedStack l) a m
-      catch_leads = then (TryStack l) (CatchStack l) (Fixed mark.LeftParen ∷ NamedStack l) a d m tried_leads (mark_leads mark.Catch (Fixed mark.LeftParen ∷ NamedStack l) d m c)
+    module _ (m : Reading) (c : IsPunctuation punctuation.Catch d.counts m.counts d.rest m.rest tt) where
+      catch_leads : Leads (TryStack l) (Fixed punctuation.LeftParen ∷ NamedStack l) a m
+      catch_leads = then (TryStack l) (CatchStack l) (Fixed punctuation.LeftParen ∷ NamedStack l) a d m tried_leads (punctuation_leads punctuation.Catch (Fixed punctuation.LeftParen ∷ NamedStack l) d m c)
 
-      pub catch_paren_fails : (at : Reading) (err : ParseFault) → Fails (Fixed mark.LeftParen ∷ []) m at err → Fails (TryStack l) a at err
-      catch_paren_fails at err f = fails_under (TryStack l) (Fixed mark.LeftParen ∷ []) (NamedStack l) a m at err catch_leads f
+      pub catch_paren_fails : (at : Reading) (err : ParseFault) → Fails (Fixed punctuation.LeftParen ∷ []) m at err → Fails (TryStack l) a at err
+      catch_paren_fails at err f = fails_under (TryStack l) (Fixed punctuation.LeftParen ∷ []) (NamedStack l) a m at err catch_leads f
 
       -- at n behind its parenthesis
-      module _ (n : Reading) (p : IsMark mark.LeftParen m.counts n.counts m.rest n.rest tt) where
+      module _ (n : Reading) (p : IsPunctuation punctuation.LeftParen m.counts n.counts m.rest n.rest tt) where
         paren_leads : Leads (TryStack l) (NamedStack l) a n
-        paren_leads = then (TryStack l) (Fixed mark.LeftParen ∷ NamedStack l) (NamedStack l) a m n catch_leads (mark_leads mark.LeftParen (NamedStack l) m n p)
+        paren_leads = then (TryStack l) (Fixed punctuation.LeftParen ∷ NamedStack l) (NamedStack l) a m n catch_leads (punctuation_leads punctuation.LeftParen (NamedStack l) m n p)
 
-        pub exception_fails : (at : Reading) (err : ParseFault) → Fails (Word ∷ Fixed mark.RightParen ∷ []) n at err → Fails (TryStack l) a at err
-        exception_fails at err f = fails_under (TryStack l) (Word ∷ Fixed mark.RightParen ∷ []) (HandlerStack l) a n at err paren_leads f
+        pub exception_fails : (at : Reading) (err : ParseFault) → Fails (Word ∷ Fixed punctuation.RightParen ∷ []) n at err → Fails (TryStack l) a at err
+        exception_fails at err f = fails_under (TryStack l) (Word ∷ Fixed punctuation.RightParen ∷ []) (HandlerStack l) a n at err paren_leads f
 
         -- at q behind the name
-        module _ (q : Reading) (x : List ℕ) (w : IsNameBefore mark.RightParen n.counts q.counts n.rest q.rest x) where
+        module _ (q : Reading) (x : List ℕ) (w : IsNameBefore punctuation.RightParen n.counts q.counts n.rest q.rest x) where
           name_leads : Leads (TryStack l) (HandlerStack l) a q
-          name_leads = then (TryStack l) (NamedStack l) (HandlerStack l) a n q paren_leads (name_before_leads mark.RightParen (HandlerStack l) n q x w)
+          name_leads = then (TryStack l) (NamedStack l) (HandlerStack l) a n q paren_leads (name_before_leads punctuation.RightParen (HandlerStack l) n q x w)
 
-          pub handler_brace_fails : (at : Reading) (err : ParseFault) → Fails (Fixed mark.LeftBrace ∷ []) q at err → Fails (TryStack l) a at err
-          handler_brace_fails at err f = fails_under (TryStack l) (Fixed mark.LeftBrace ∷ []) (Block (suc l) ∷ []) a q at err name_leads f
+          pub handler_brace_fails : (at : Reading) (err : ParseFault) → Fails (Fixed punctuation.LeftBrace ∷ []) q at err → Fails (TryStack l) a at err
+          handler_brace_fails at err f = fails_under (TryStack l) (Fixed punctuation.LeftBrace ∷ []) (Block (suc l) ∷ []) a q at err name_leads f
 
           -- at r behind the brace
-          module _ (r : Reading) (v : IsMark mark.LeftBrace q.counts r.counts q.rest r.rest tt) where
+          module _ (r : Reading) (v : IsPunctuation punctuation.LeftBrace q.counts r.counts q.rest r.rest tt) where
             pub handler_fails : (at : Reading) (err : ParseFault) → Fails (Block j ∷ []) r at err → Fails (TryStack l) a at err
             handler_fails at err f = fails_as (TryStack l) (Block (suc l) ∷ []) a r at err
-                (then (TryStack l) (HandlerStack l) (Block (suc l) ∷ []) a q r name_leads (mark_leads mark.LeftBrace (Block (suc l) ∷ []) q r v)) (subst (λ u. Fails (Block u ∷ []) r at err) e f)
+                (then (TryStack l) (HandlerStack l) (Block (suc l) ∷ []) a q r name_leads (punctuation_leads punctuation.LeftBrace (Block (suc l) ∷ []) q r v)) (subst (λ u. Fails (Block u ∷ []) r at err) e f)
 
             pub try_reads : (s : Reading) (ys : List Stmt) → IsBlock limits j r.counts s.counts r.rest s.rest ys → IsKeyed k.Try l a.counts s.counts a.rest s.rest (st.Try xs x ys)
             try_reads s ys z place =

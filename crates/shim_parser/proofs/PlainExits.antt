@@ -9,7 +9,7 @@ use Rattle.shim_syntax.specs.Terminals.{Key, Sign, first}
 use Rattle.shim_syntax.specs.Limits.{limits}
 use Rattle.shim_syntax.specs.Grammar as is
 use Rattle.shim_syntax.specs.Grammar.{Counts}
-use Rattle.shim_grammar.specs.declared.mark.Mark.TheVariants as mark
+use Rattle.shim_grammar.specs.declared.punctuation.Punctuation.TheVariants as punctuation
 use Rattle.shim_grammar.specs.Machine.{Stack, Unwanted, Fixed, Word, Expression, Operators, AfterEqual, AfterNext, after_next, run}
 use Rattle.shim_grammar.proofs.Runs.{is_next_or_get, equal_skips}
 use Rattle.shim_parser.specs.declared.terminal.Terminal as read
@@ -31,20 +31,20 @@ not_next_or_get (here.Key key.Next) p h i = absurd (h refl)
 not_next_or_get (here.Key key.Get) p h i = absurd (i refl)
 not_next_or_get _ p h i = refl
 
-pub value_fails : (l : ℕ) (a at : Reading) (err : ParseFault) → is_next_or_get (first a.rest) ≡ false → Fails (Expression l ∷ Operators l ∷ Fixed mark.Semicolon ∷ []) a at err
+pub value_fails : (l : ℕ) (a at : Reading) (err : ParseFault) → is_next_or_get (first a.rest) ≡ false → Fails (Expression l ∷ Operators l ∷ Fixed punctuation.Semicolon ∷ []) a at err
     → Fails (AfterEqual l ∷ []) a at err
-value_fails l a at err h f = fails_as (AfterEqual l ∷ []) (Expression l ∷ Operators l ∷ Fixed mark.Semicolon ∷ []) a a at err (λ k. equal_skips limits a.rest l a.counts k h) f
+value_fails l a at err h f = fails_as (AfterEqual l ∷ []) (Expression l ∷ Operators l ∷ Fixed punctuation.Semicolon ∷ []) a a at err (λ k. equal_skips limits a.rest l a.counts k h) f
 
-pub value_reads : (l : ℕ) (a b : Reading) (x : List ℕ) (value : Expr) → IsWholeBefore mark.Semicolon l a.counts b.counts a.rest b.rest value
+pub value_reads : (l : ℕ) (a b : Reading) (x : List ℕ) (value : Expr) → IsWholeBefore punctuation.Semicolon l a.counts b.counts a.rest b.rest value
     → IsAssigned x l a.counts b.counts a.rest b.rest (st.Assign x value)
 value_reads l a b x value w p q = is.assign w.1
 
 pub assign_next_reads : (l : ℕ) (a b d : Reading) (x y : List ℕ) (o : Place) → Key key.Next o ≡ first a.rest → a ≡ record { rest = first a.rest ∷ b.rest; counts = b.counts }
-    → IsNameBefore mark.Semicolon b.counts d.counts b.rest d.rest y → IsAssigned x l a.counts d.counts a.rest d.rest (st.AssignNext x y)
+    → IsNameBefore punctuation.Semicolon b.counts d.counts b.rest d.rest y → IsAssigned x l a.counts d.counts a.rest d.rest (st.AssignNext x y)
 assign_next_reads l a b d x y o h e n p q = let w = took {t = Key key.Next o} {a = a} {b = b} h e in rw (w.rest, w.counts, n.2, n.3) is.assign_next
 
 pub get_reads : (l : ℕ) (a b d : Reading) (x y : List ℕ) (o : Place) → Key key.Get o ≡ first a.rest → a ≡ record { rest = first a.rest ∷ b.rest; counts = b.counts }
-    → IsNameBefore mark.Semicolon b.counts d.counts b.rest d.rest y → IsAssigned x l a.counts d.counts a.rest d.rest (st.Get x y)
+    → IsNameBefore punctuation.Semicolon b.counts d.counts b.rest d.rest y → IsAssigned x l a.counts d.counts a.rest d.rest (st.Get x y)
 get_reads l a b d x y o h e n p q = let w = took {t = Key key.Get o} {a = a} {b = b} h e in rw (w.rest, w.counts, n.2, n.3) is.get
 
 -- behind `next`
@@ -54,7 +54,7 @@ pub next_reads : (l : ℕ) (a b d : Reading) (x : List ℕ) (o : Place) → IsNa
 next_reads l a b d x o n h e p = let w = took {t = Sign g.Semicolon o} {a = b} {b = d} h e in rw (n.1, n.2, w.rest, w.counts) is.next
 
 pub next_assign_reads : (l : ℕ) (a b d i : Reading) (x : List ℕ) (value : Expr) (o : Place) → IsName a.counts b.counts a.rest b.rest x → Sign g.Equal o ≡ first b.rest
-    → b ≡ record { rest = first b.rest ∷ d.rest; counts = d.counts } → IsWholeBefore mark.Semicolon l d.counts i.counts d.rest i.rest value
+    → b ≡ record { rest = first b.rest ∷ d.rest; counts = d.counts } → IsWholeBefore punctuation.Semicolon l d.counts i.counts d.rest i.rest value
     → IsKeyed key.Next l a.counts i.counts a.rest i.rest (st.NextAssign x value)
 next_assign_reads l a b d i x value o n h e v p = let w = took {t = Sign g.Equal o} {a = b} {b = d} h e in rw (n.1, n.2, w.rest, w.counts) (is.next_assign v.1)
 
@@ -69,9 +69,9 @@ next_unwanted l a b x err t p n v h i m = fails_as (Word ∷ AfterNext l ∷ [])
     (unwanted (AfterNext l) [] b err (λ k. ap (λ u. after_next u l k b.counts) (sym v) ∙ no_after_next t p l k b.counts h i) m)
 
 -- behind `put` and `throw`
-pub put_reads : (l : ℕ) (a b d : Reading) (x : List ℕ) (value : Expr) → IsNameBefore mark.Comma a.counts b.counts a.rest b.rest x → IsWholeBefore mark.Semicolon l b.counts d.counts b.rest d.rest value
+pub put_reads : (l : ℕ) (a b d : Reading) (x : List ℕ) (value : Expr) → IsNameBefore punctuation.Comma a.counts b.counts a.rest b.rest x → IsWholeBefore punctuation.Semicolon l b.counts d.counts b.rest d.rest value
     → IsKeyed key.Put l a.counts d.counts a.rest d.rest (st.Put x value)
 put_reads l a b d x value n v p = rw (n.2, n.3) (is.put v.1)
 
-pub throw_reads : (l : ℕ) (a b : Reading) (x : List ℕ) → IsNameBefore mark.Semicolon a.counts b.counts a.rest b.rest x → IsKeyed key.Throw l a.counts b.counts a.rest b.rest (st.Throw x)
+pub throw_reads : (l : ℕ) (a b : Reading) (x : List ℕ) → IsNameBefore punctuation.Semicolon a.counts b.counts a.rest b.rest x → IsKeyed key.Throw l a.counts b.counts a.rest b.rest (st.Throw x)
 throw_reads l a b x n p = rw (n.2, n.3) is.throw

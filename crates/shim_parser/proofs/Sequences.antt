@@ -6,15 +6,15 @@ use Rattle.shim_syntax.specs.declared.Stmt.{Stmt}
 use Rattle.shim_syntax.specs.Terminals.{Terminal, Name, first}
 use Rattle.shim_syntax.specs.Limits.{limits}
 use Rattle.shim_syntax.specs.Grammar.{Counts, IsBlock, IsBody}
-use Rattle.shim_grammar.specs.declared.mark.Mark.{Mark}
-use Rattle.shim_grammar.specs.declared.mark.Mark.TheVariants as mark
+use Rattle.shim_grammar.specs.declared.punctuation.Punctuation.{Punctuation}
+use Rattle.shim_grammar.specs.declared.punctuation.Punctuation.TheVariants as punctuation
 use Rattle.shim_grammar.specs.Machine.{Stack, At, Fixed, Word, Expression, Operators, Arguments, Block, Body, First, Test, Step, run}
 use Rattle.shim_grammar.proofs.Runs.{whole_runs, arguments_runs, test_runs}
 use Rattle.shim_grammar.proofs.RunsStmt.{block_runs, body_runs, first_runs, step_runs}
 use Rattle.shim_parser.specs.declared.fault.ParseFault.{ParseFault}
 use Rattle.shim_parser.specs.declared.fault.ParseFault.TheVariants.{Lex, Unexpected, TooDeep, TooMany, NoMemory}
 use Rattle.shim_parser.specs.declared.for_parts.ForParts.{ForParts}
-use Rattle.shim_parser.specs.Parts.{marked, IsMark, IsNameBefore, IsTestOf}
+use Rattle.shim_parser.specs.Parts.{punctuationed, IsPunctuation, IsNameBefore, IsTestOf}
 use Rattle.shim_parser.specs.Calls.{IsCall}
 use Rattle.shim_parser.specs.Headers.{IsHeader}
 use Rattle.shim_parser.specs.Reading.{Reading, Blames, Halts, Fails}
@@ -27,20 +27,20 @@ then x y z a b c f g = λ k. f k ∙ g k
 pub same_run : (s t : List Terminal) (k : Stack) (v w : Counts) → s ≡ t → v ≡ w → run limits s k v ≡ run limits t k w
 same_run s t k v w p q = ap (λ u. run limits u k v) p ∙ ap (λ u. run limits t k u) q
 
-mark_run : (f : Mark) (p : Place) (s : List Terminal) (k : Stack) (w : Counts) → run limits (marked f p ∷ s) (Fixed f ∷ k) w ≡ run limits s k w
-mark_run mark.LeftParen p s k w = refl
-mark_run mark.RightParen p s k w = refl
-mark_run mark.LeftBrace p s k w = refl
-mark_run mark.Comma p s k w = refl
-mark_run mark.Semicolon p s k w = refl
-mark_run mark.Equal p s k w = refl
-mark_run mark.Catch p s k w = refl
+punctuation_run : (f : Punctuation) (p : Place) (s : List Terminal) (k : Stack) (w : Counts) → run limits (punctuationed f p ∷ s) (Fixed f ∷ k) w ≡ run limits s k w
+punctuation_run punctuation.LeftParen p s k w = refl
+punctuation_run punctuation.RightParen p s k w = refl
+punctuation_run punctuation.LeftBrace p s k w = refl
+punctuation_run punctuation.Comma p s k w = refl
+punctuation_run punctuation.Semicolon p s k w = refl
+punctuation_run punctuation.Equal p s k w = refl
+punctuation_run punctuation.Catch p s k w = refl
 
-pub mark_leads : (f : Mark) (z : Stack) (a b : Reading) → IsMark f a.counts b.counts a.rest b.rest tt → Leads (Fixed f ∷ z) z a b
-mark_leads f z a b h = λ k. same_run a.rest (marked f h.0 ∷ b.rest) (Fixed f ∷ (z ++ k)) a.counts b.counts h.1 h.2 ∙ mark_run f h.0 b.rest (z ++ k) b.counts
+pub punctuation_leads : (f : Punctuation) (z : Stack) (a b : Reading) → IsPunctuation f a.counts b.counts a.rest b.rest tt → Leads (Fixed f ∷ z) z a b
+punctuation_leads f z a b h = λ k. same_run a.rest (punctuationed f h.0 ∷ b.rest) (Fixed f ∷ (z ++ k)) a.counts b.counts h.1 h.2 ∙ punctuation_run f h.0 b.rest (z ++ k) b.counts
 
-pub name_before_leads : (f : Mark) (z : Stack) (a b : Reading) (x : List ℕ) → IsNameBefore f a.counts b.counts a.rest b.rest x → Leads (Word ∷ Fixed f ∷ z) z a b
-name_before_leads f z a b x h = λ k. same_run a.rest (Name x h.0 ∷ marked f h.1 ∷ b.rest) (Word ∷ Fixed f ∷ (z ++ k)) a.counts b.counts h.2 h.3 ∙ mark_run f h.1 b.rest (z ++ k) b.counts
+pub name_before_leads : (f : Punctuation) (z : Stack) (a b : Reading) (x : List ℕ) → IsNameBefore f a.counts b.counts a.rest b.rest x → Leads (Word ∷ Fixed f ∷ z) z a b
+name_before_leads f z a b x h = λ k. same_run a.rest (Name x h.0 ∷ punctuationed f h.1 ∷ b.rest) (Word ∷ Fixed f ∷ (z ++ k)) a.counts b.counts h.2 h.3 ∙ punctuation_run f h.1 b.rest (z ++ k) b.counts
 
 pub block_leads : (l : ℕ) (z : Stack) (a b : Reading) (xs : List Stmt) → IsBlock limits l a.counts b.counts a.rest b.rest xs → Leads (Block l ∷ z) z a b
 block_leads l z a b xs d = λ k. block_runs d (z ++ k)
@@ -48,15 +48,15 @@ block_leads l z a b xs d = λ k. block_runs d (z ++ k)
 pub body_leads : (l : ℕ) (z : Stack) (a b : Reading) (xs : List Stmt) → IsBody limits l a.counts b.counts a.rest b.rest xs → Leads (Body l ∷ z) z a b
 body_leads l z a b xs d = λ k. body_runs d (z ++ k)
 
-pub test_leads : (l : ℕ) (z : Stack) (a b : Reading) (x : Expr) → IsTestOf l a.counts b.counts a.rest b.rest x → Leads (Fixed mark.LeftParen ∷ Expression l ∷ Operators l ∷ Fixed mark.RightParen ∷ z) z a b
-test_leads l z a b x h = λ k. ap (λ u. run limits u (Fixed mark.LeftParen ∷ Expression l ∷ Operators l ∷ Fixed mark.RightParen ∷ (z ++ k)) a.counts) h.3
-    ∙ whole_runs a.counts h.4 (Fixed mark.RightParen ∷ (z ++ k))
+pub test_leads : (l : ℕ) (z : Stack) (a b : Reading) (x : Expr) → IsTestOf l a.counts b.counts a.rest b.rest x → Leads (Fixed punctuation.LeftParen ∷ Expression l ∷ Operators l ∷ Fixed punctuation.RightParen ∷ z) z a b
+test_leads l z a b x h = λ k. ap (λ u. run limits u (Fixed punctuation.LeftParen ∷ Expression l ∷ Operators l ∷ Fixed punctuation.RightParen ∷ (z ++ k)) a.counts) h.3
+    ∙ whole_runs a.counts h.4 (Fixed punctuation.RightParen ∷ (z ++ k))
 
-pub call_leads : (l : ℕ) (z : Stack) (a b : Reading) (xs : List Expr) → IsCall l a.counts b.counts a.rest b.rest xs → Leads (Arguments l ∷ Fixed mark.Semicolon ∷ z) z a b
-call_leads l z a b xs h = λ k. arguments_runs h.1 (Fixed mark.Semicolon ∷ (z ++ k))
+pub call_leads : (l : ℕ) (z : Stack) (a b : Reading) (xs : List Expr) → IsCall l a.counts b.counts a.rest b.rest xs → Leads (Arguments l ∷ Fixed punctuation.Semicolon ∷ z) z a b
+call_leads l z a b xs h = λ k. arguments_runs h.1 (Fixed punctuation.Semicolon ∷ (z ++ k))
 
-pub header_leads : (l : ℕ) (z : Stack) (a b : Reading) (parts : ForParts) → IsHeader l a.counts b.counts a.rest b.rest parts → Leads (Fixed mark.LeftParen ∷ First (suc l) ∷ Test l ∷ Step (suc l) ∷ z) z a b
-header_leads l z a b parts h = λ k. ap (λ u. run limits u (Fixed mark.LeftParen ∷ First (suc l) ∷ Test l ∷ Step (suc l) ∷ (z ++ k)) a.counts) h.6
+pub header_leads : (l : ℕ) (z : Stack) (a b : Reading) (parts : ForParts) → IsHeader l a.counts b.counts a.rest b.rest parts → Leads (Fixed punctuation.LeftParen ∷ First (suc l) ∷ Test l ∷ Step (suc l) ∷ z) z a b
+header_leads l z a b parts h = λ k. ap (λ u. run limits u (Fixed punctuation.LeftParen ∷ First (suc l) ∷ Test l ∷ Step (suc l) ∷ (z ++ k)) a.counts) h.6
     ∙ first_runs h.7 (Test l ∷ Step (suc l) ∷ (z ++ k)) ∙ test_runs h.8 (Step (suc l) ∷ (z ++ k)) ∙ step_runs h.9 (z ++ k)
 
 -- only the terminals that are left matter to a fault

@@ -26,13 +26,13 @@ use Rattle.shim_parser.specs.declared.terminal.Terminal as read
 use Rattle.shim_parser.specs.declared.terminal.Terminal.TheVariants as here
 use Rattle.shim_parser.specs.TerminalView.{terminal_view}
 use Rattle.shim_parser.specs.declared.fault.ParseFault.{ParseFault}
-use Rattle.shim_grammar.specs.declared.mark.Mark.TheVariants as mark
-use Rattle.shim_parser.specs.Parts.{IsMark}
+use Rattle.shim_grammar.specs.declared.punctuation.Punctuation.TheVariants as punctuation
+use Rattle.shim_parser.specs.Parts.{IsPunctuation}
 use Rattle.shim_parser.specs.Calls.{IsCall}
 use Rattle.shim_parser.specs.Statements.{IsSignAt, IsKeyAt, IsThing, IsAssigned, IsNamed, IsBraced, IsBehindPar, IsNumberedBranch}
 use Rattle.shim_parser.specs.Reading.{Reading, Fails, Reads}
 use Rattle.shim_parser.proofs.Exits.{Leads, Took, took, fails_as, fails_under, reads_as}
-use Rattle.shim_parser.proofs.Sequences.{then, same_run, mark_leads, call_leads, block_leads}
+use Rattle.shim_parser.proofs.Sequences.{then, same_run, punctuation_leads, call_leads, block_leads}
 
 -- the statements so far
 pub record BlockSoFar (l : ℕ) (a b : Reading) (all : List Stmt) : Type 0 where
@@ -136,18 +136,18 @@ module _ (n l : ℕ) (x : List ℕ) (p : Place) (a a' d : Reading) (h : Name x p
   call_took : Took (Name x p) a d
   call_took = took h q
 
-  call_branch_leads : Leads (Branch l n ∷ []) (Fixed mark.LeftParen ∷ Arguments l ∷ Fixed mark.Semicolon ∷ []) a d
+  call_branch_leads : Leads (Branch l n ∷ []) (Fixed punctuation.LeftParen ∷ Arguments l ∷ Fixed punctuation.Semicolon ∷ []) a d
   call_branch_leads = λ k. same_run a.rest (Name x p ∷ d.rest) (Branch l n ∷ k) a.counts d.counts call_took.rest call_took.counts
-      ∙ asked limits (Name x p) d.rest (Count many.Branches) n (go (Fixed mark.LeftParen ∷ Arguments l ∷ Fixed mark.Semicolon ∷ k) d.counts) o
+      ∙ asked limits (Name x p) d.rest (Count many.Branches) n (go (Fixed punctuation.LeftParen ∷ Arguments l ∷ Fixed punctuation.Semicolon ∷ k) d.counts) o
 
-  pub branch_mark_fails : (at : Reading) (err : ParseFault) → Fails (Fixed mark.LeftParen ∷ []) d at err → Fails (Branch l n ∷ []) a at err
-  branch_mark_fails at err f = fails_under (Branch l n ∷ []) (Fixed mark.LeftParen ∷ []) (Arguments l ∷ Fixed mark.Semicolon ∷ []) a d at err call_branch_leads f
+  pub branch_punctuation_fails : (at : Reading) (err : ParseFault) → Fails (Fixed punctuation.LeftParen ∷ []) d at err → Fails (Branch l n ∷ []) a at err
+  branch_punctuation_fails at err f = fails_under (Branch l n ∷ []) (Fixed punctuation.LeftParen ∷ []) (Arguments l ∷ Fixed punctuation.Semicolon ∷ []) a d at err call_branch_leads f
 
-  pub branch_args_fails : (m at : Reading) (err : ParseFault) → IsMark mark.LeftParen d.counts m.counts d.rest m.rest tt → Fails (Arguments l ∷ Fixed mark.Semicolon ∷ []) m at err → Fails (Branch l n ∷ []) a at err
-  branch_args_fails m at err t f = fails_as (Branch l n ∷ []) (Arguments l ∷ Fixed mark.Semicolon ∷ []) a m at err
-      (then (Branch l n ∷ []) (Fixed mark.LeftParen ∷ Arguments l ∷ Fixed mark.Semicolon ∷ []) (Arguments l ∷ Fixed mark.Semicolon ∷ []) a d m call_branch_leads (mark_leads mark.LeftParen (Arguments l ∷ Fixed mark.Semicolon ∷ []) d m t)) f
+  pub branch_args_fails : (m at : Reading) (err : ParseFault) → IsPunctuation punctuation.LeftParen d.counts m.counts d.rest m.rest tt → Fails (Arguments l ∷ Fixed punctuation.Semicolon ∷ []) m at err → Fails (Branch l n ∷ []) a at err
+  branch_args_fails m at err t f = fails_as (Branch l n ∷ []) (Arguments l ∷ Fixed punctuation.Semicolon ∷ []) a m at err
+      (then (Branch l n ∷ []) (Fixed punctuation.LeftParen ∷ Arguments l ∷ Fixed punctuation.Semicolon ∷ []) (Arguments l ∷ Fixed punctuation.Semicolon ∷ []) a d m call_branch_leads (punctuation_leads punctuation.LeftParen (Arguments l ∷ Fixed punctuation.Semicolon ∷ []) d m t)) f
 
-  pub branch_call_reads : (m i : Reading) (y : List ℕ) (xs : List Expr) (b : BranchTree) → IsMark mark.LeftParen d.counts m.counts d.rest m.rest tt → IsCall l m.counts i.counts m.rest i.rest xs → y ≡ x
+  pub branch_call_reads : (m i : Reading) (y : List ℕ) (xs : List Expr) (b : BranchTree) → IsPunctuation punctuation.LeftParen d.counts m.counts d.rest m.rest tt → IsCall l m.counts i.counts m.rest i.rest xs → y ≡ x
       → b ≡ record { line = p.line; what = br.Call (record { function = y; args = xs }) } → IsNumberedBranch n l a.counts i.counts a.rest i.rest b
   branch_call_reads m i y xs b t u w z = (o, rw (z, w, call_took.rest, call_took.counts, t.1, t.2) (is.call_branch u.1))
 
@@ -178,7 +178,7 @@ named_equal l line x a d n y r h i q f =
     (λ what z at. rw (w.rest, w.counts) (z (record { at = at; line = line }) s.0))
     (λ k. same_run a.rest (Sign g.Equal s.0 ∷ d.rest) (AfterWord l ∷ k) a.counts d.counts w.rest w.counts) f
 
-word_skips : (s : List Terminal) (l : ℕ) (w : Counts) (k : Stack) → (IsSignAt g.Equal (first s) → ⊥) → run limits s (AfterWord l ∷ k) w ≡ run limits s (Fixed mark.LeftParen ∷ Arguments l ∷ Fixed mark.Semicolon ∷ Pars l 1 ∷ k) w
+word_skips : (s : List Terminal) (l : ℕ) (w : Counts) (k : Stack) → (IsSignAt g.Equal (first s) → ⊥) → run limits s (AfterWord l ∷ k) w ≡ run limits s (Fixed punctuation.LeftParen ∷ Arguments l ∷ Fixed punctuation.Semicolon ∷ Pars l 1 ∷ k) w
 word_skips [] l w k h = refl
 word_skips (Sign g.Equal p ∷ s) l w k h = absurd (h (p, refl))
 word_skips (Sign g.LeftParen p ∷ s) l w k h = refl
@@ -186,19 +186,19 @@ word_skips (_ ∷ s) l w k h = refl
 
 -- a name, and no `=`
 module _ (l line : ℕ) (x : List ℕ) (a : Reading) (y : Bool) (h : IsTrue y ↔ IsSignAt g.Equal (first a.rest)) (i : y ≡ false) where
-  named_leads : Leads (AfterWord l ∷ []) (Fixed mark.LeftParen ∷ Arguments l ∷ Fixed mark.Semicolon ∷ Pars l 1 ∷ []) a a
+  named_leads : Leads (AfterWord l ∷ []) (Fixed punctuation.LeftParen ∷ Arguments l ∷ Fixed punctuation.Semicolon ∷ Pars l 1 ∷ []) a a
   named_leads = λ k. word_skips a.rest l a.counts k (no_sign g.Equal (first a.rest) y h i)
 
-  pub named_mark_fails : (at : Reading) (err : ParseFault) → Fails (Fixed mark.LeftParen ∷ []) a at err → Fails (AfterWord l ∷ []) a at err
-  named_mark_fails at err f = fails_under (AfterWord l ∷ []) (Fixed mark.LeftParen ∷ []) (Arguments l ∷ Fixed mark.Semicolon ∷ Pars l 1 ∷ []) a a at err named_leads f
+  pub named_punctuation_fails : (at : Reading) (err : ParseFault) → Fails (Fixed punctuation.LeftParen ∷ []) a at err → Fails (AfterWord l ∷ []) a at err
+  named_punctuation_fails at err f = fails_under (AfterWord l ∷ []) (Fixed punctuation.LeftParen ∷ []) (Arguments l ∷ Fixed punctuation.Semicolon ∷ Pars l 1 ∷ []) a a at err named_leads f
 
-  module _ (d : Reading) (t : IsMark mark.LeftParen a.counts d.counts a.rest d.rest tt) where
-    named_opened : Leads (AfterWord l ∷ []) (Arguments l ∷ Fixed mark.Semicolon ∷ Pars l 1 ∷ []) a d
-    named_opened = then (AfterWord l ∷ []) (Fixed mark.LeftParen ∷ Arguments l ∷ Fixed mark.Semicolon ∷ Pars l 1 ∷ []) (Arguments l ∷ Fixed mark.Semicolon ∷ Pars l 1 ∷ []) a a d named_leads
-        (mark_leads mark.LeftParen (Arguments l ∷ Fixed mark.Semicolon ∷ Pars l 1 ∷ []) a d t)
+  module _ (d : Reading) (t : IsPunctuation punctuation.LeftParen a.counts d.counts a.rest d.rest tt) where
+    named_opened : Leads (AfterWord l ∷ []) (Arguments l ∷ Fixed punctuation.Semicolon ∷ Pars l 1 ∷ []) a d
+    named_opened = then (AfterWord l ∷ []) (Fixed punctuation.LeftParen ∷ Arguments l ∷ Fixed punctuation.Semicolon ∷ Pars l 1 ∷ []) (Arguments l ∷ Fixed punctuation.Semicolon ∷ Pars l 1 ∷ []) a a d named_leads
+        (punctuation_leads punctuation.LeftParen (Arguments l ∷ Fixed punctuation.Semicolon ∷ Pars l 1 ∷ []) a d t)
 
-    pub named_args_fails : (at : Reading) (err : ParseFault) → Fails (Arguments l ∷ Fixed mark.Semicolon ∷ []) d at err → Fails (AfterWord l ∷ []) a at err
-    named_args_fails at err f = fails_under (AfterWord l ∷ []) (Arguments l ∷ Fixed mark.Semicolon ∷ []) (Pars l 1 ∷ []) a d at err named_opened f
+    pub named_args_fails : (at : Reading) (err : ParseFault) → Fails (Arguments l ∷ Fixed punctuation.Semicolon ∷ []) d at err → Fails (AfterWord l ∷ []) a at err
+    named_args_fails at err f = fails_under (AfterWord l ∷ []) (Arguments l ∷ Fixed punctuation.Semicolon ∷ []) (Pars l 1 ∷ []) a d at err named_opened f
 
     module _ (m : Reading) (xs : List Expr) (u : IsCall l d.counts m.counts d.rest m.rest xs) (z : Bool) (o : IsTrue z ↔ IsKeyAt k.Par (first m.rest)) where
       pub named_call : z ≡ false → IsNamed x line l a.counts m.counts a.rest m.rest (st.Call (record { function = x; args = xs }))
@@ -206,7 +206,7 @@ module _ (l line : ℕ) (x : List ℕ) (a : Reading) (y : Bool) (h : IsTrue y �
 
       pub named_branches_fails : (at : Reading) (err : ParseFault) → Fails (Pars l 1 ∷ []) m at err → Fails (AfterWord l ∷ []) a at err
       named_branches_fails at err f = fails_as (AfterWord l ∷ []) (Pars l 1 ∷ []) a m at err
-          (then (AfterWord l ∷ []) (Arguments l ∷ Fixed mark.Semicolon ∷ Pars l 1 ∷ []) (Pars l 1 ∷ []) a d m named_opened (call_leads l (Pars l 1 ∷ []) d m xs u)) f
+          (then (AfterWord l ∷ []) (Arguments l ∷ Fixed punctuation.Semicolon ∷ Pars l 1 ∷ []) (Pars l 1 ∷ []) a d m named_opened (call_leads l (Pars l 1 ∷ []) d m xs u)) f
 
       pub named_fork : (n : Reading) (bs : List BranchTree) → IsBehindPar (record { line = line; what = br.Call (record { function = x; args = xs }) }) l m.counts n.counts m.rest n.rest bs
           → IsNamed x line l a.counts n.counts a.rest n.rest (st.Par bs)

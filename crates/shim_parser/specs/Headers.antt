@@ -6,13 +6,13 @@ use Rattle.shim_syntax.specs.declared.Expr.{Expr}
 use Rattle.shim_syntax.specs.Terminals.{Terminal, Sign}
 use Rattle.shim_syntax.specs.Limits.{limits}
 use Rattle.shim_syntax.specs.Grammar.{Counts, IsWhole, IsFirst, IsTest, IsStep}
-use Rattle.shim_grammar.specs.declared.Mark.{Mark}
+use Rattle.shim_grammar.specs.declared.Punctuation.{Punctuation}
 use Rattle.shim_parser.specs.declared.for_parts.ForParts.{ForParts}
-use Rattle.shim_parser.specs.Parts.{marked}
+use Rattle.shim_parser.specs.Parts.{punctuationed}
 
--- an `=`, a value, and a mark
-abbrev pub IsValueBehind : Mark → ℕ → Counts → Counts → List Terminal → List Terminal → Expr → Type 0
-IsValueBehind f l v w s r x = (p : Place) × (q : Place) × (m : List Terminal) × (s ≡ Sign Equal p ∷ m) × IsWhole limits l v w m (marked f q ∷ r) x
+-- an `=`, a value, and a punctuation
+abbrev pub IsValueBehind : Punctuation → ℕ → Counts → Counts → List Terminal → List Terminal → Expr → Type 0
+IsValueBehind f l v w s r x = (p : Place) × (q : Place) × (m : List Terminal) × (s ≡ Sign Equal p ∷ m) × IsWhole limits l v w m (punctuationed f q ∷ r) x
 
 -- the parentheses of a `for` of the level l
 abbrev pub IsHeader : ℕ → Counts → Counts → List Terminal → List Terminal → ForParts → Type 0

@@ -10,37 +10,37 @@ use Rattle.shim_syntax.specs.declared.Expr.{Expr}
 use Rattle.shim_syntax.specs.Terminals.{Terminal, Name, Number, Key, Sign, first}
 use Rattle.shim_syntax.specs.Limits.{Nesting, limits, is_within}
 use Rattle.shim_syntax.specs.Grammar.{Counts, at_level, row_of, IsWhole}
-use Rattle.shim_grammar.specs.declared.mark.Mark.{Mark}
-use Rattle.shim_grammar.specs.declared.mark.Mark.TheVariants as mark
+use Rattle.shim_grammar.specs.declared.punctuation.Punctuation.{Punctuation}
+use Rattle.shim_grammar.specs.declared.punctuation.Punctuation.TheVariants as punctuation
 
-abbrev pub marked : Mark → Place → Terminal
-marked mark.LeftParen p = Sign g.LeftParen p
-marked mark.RightParen p = Sign g.RightParen p
-marked mark.LeftBrace p = Sign g.LeftBrace p
-marked mark.Comma p = Sign g.Comma p
-marked mark.Semicolon p = Sign g.Semicolon p
-marked mark.Equal p = Sign g.Equal p
-marked mark.Catch p = Key k.Catch p
+abbrev pub punctuationed : Punctuation → Place → Terminal
+punctuationed punctuation.LeftParen p = Sign g.LeftParen p
+punctuationed punctuation.RightParen p = Sign g.RightParen p
+punctuationed punctuation.LeftBrace p = Sign g.LeftBrace p
+punctuationed punctuation.Comma p = Sign g.Comma p
+punctuationed punctuation.Semicolon p = Sign g.Semicolon p
+punctuationed punctuation.Equal p = Sign g.Equal p
+punctuationed punctuation.Catch p = Key k.Catch p
 
--- the mark that a terminal is
-abbrev pub mark_of : Terminal → Option Mark
-mark_of (Sign g.LeftParen p) = Some mark.LeftParen
-mark_of (Sign g.RightParen p) = Some mark.RightParen
-mark_of (Sign g.LeftBrace p) = Some mark.LeftBrace
-mark_of (Sign g.Comma p) = Some mark.Comma
-mark_of (Sign g.Semicolon p) = Some mark.Semicolon
-mark_of (Sign g.Equal p) = Some mark.Equal
-mark_of (Key k.Catch p) = Some mark.Catch
-mark_of _ = None
+-- the punctuation that a terminal is
+abbrev pub punctuation_of : Terminal → Option Punctuation
+punctuation_of (Sign g.LeftParen p) = Some punctuation.LeftParen
+punctuation_of (Sign g.RightParen p) = Some punctuation.RightParen
+punctuation_of (Sign g.LeftBrace p) = Some punctuation.LeftBrace
+punctuation_of (Sign g.Comma p) = Some punctuation.Comma
+punctuation_of (Sign g.Semicolon p) = Some punctuation.Semicolon
+punctuation_of (Sign g.Equal p) = Some punctuation.Equal
+punctuation_of (Key k.Catch p) = Some punctuation.Catch
+punctuation_of _ = None
 
-abbrev pub IsMark : Mark → Counts → Counts → List Terminal → List Terminal → Unit {0} → Type 0
-IsMark f v w s r x = (p : Place) × (s ≡ marked f p ∷ r) × (v ≡ w)
+abbrev pub IsPunctuation : Punctuation → Counts → Counts → List Terminal → List Terminal → Unit {0} → Type 0
+IsPunctuation f v w s r x = (p : Place) × (s ≡ punctuationed f p ∷ r) × (v ≡ w)
 
 abbrev pub IsName : Counts → Counts → List Terminal → List Terminal → List ℕ → Type 0
 IsName v w s r x = (p : Place) × (s ≡ Name x p ∷ r) × (v ≡ w)
 
-abbrev pub IsNameBefore : Mark → Counts → Counts → List Terminal → List Terminal → List ℕ → Type 0
-IsNameBefore f v w s r x = (p : Place) × (q : Place) × (s ≡ Name x p ∷ marked f q ∷ r) × (v ≡ w)
+abbrev pub IsNameBefore : Punctuation → Counts → Counts → List Terminal → List Terminal → List ℕ → Type 0
+IsNameBefore f v w s r x = (p : Place) × (q : Place) × (s ≡ Name x p ∷ punctuationed f q ∷ r) × (v ≡ w)
 
 -- an operand begins with it
 abbrev pub begins_operand : Terminal → Bool
@@ -64,8 +64,8 @@ unary_sign Flip = g.Tilde
 abbrev pub IsUnarySign : UnOp → Terminal → Type 0
 IsUnarySign op t = (p : Place) × (t ≡ Sign (unary_sign op) p)
 
-abbrev pub IsWholeBefore : Mark → ℕ → Counts → Counts → List Terminal → List Terminal → Expr → Type 0
-IsWholeBefore f l v w s r x = (p : Place) × IsWhole limits l v w s (marked f p ∷ r) x
+abbrev pub IsWholeBefore : Punctuation → ℕ → Counts → Counts → List Terminal → List Terminal → Expr → Type 0
+IsWholeBefore f l v w s r x = (p : Place) × IsWhole limits l v w s (punctuationed f p ∷ r) x
 
 -- an expression in the parentheses of an `if` or a `while`
 abbrev pub IsTestOf : ℕ → Counts → Counts → List Terminal → List Terminal → Expr → Type 0

@@ -4,17 +4,17 @@ ghost use Rattle.shim_syntax.specs.Terminals.{first};
 ghost use Rattle.shim_syntax.specs.Limits.{limits};
 ghost use Rattle.shim_syntax.specs.Grammar.{IsArguments};
 ghost use Rattle.shim_grammar.specs.Machine.{Argument, Arguments, Fixed, joins};
-ghost use Rattle.shim_grammar.specs.declared.mark.Mark.TheVariants.{Semicolon};
+ghost use Rattle.shim_grammar.specs.declared.punctuation.Punctuation.TheVariants.{Semicolon};
 ghost use Rattle.shim_parser.specs.Calls.{IsArgument, IsCall};
 ghost use Rattle.shim_parser.specs.Reading.{Reads};
 
 use crate::expr::{begins_operand, expression};
 use crate::fault::ParseFault;
-use crate::parts::mark;
+use crate::parts::punctuation;
 use crate::reader::Reader;
 use crate::terminal::Terminal;
 use shim_base::{List, Sign};
-use shim_grammar::Mark;
+use shim_grammar::Punctuation;
 use shim_syntax::{Expr, Many};
 use std::alloc::Global;
 
@@ -67,6 +67,6 @@ pub(crate) fn call(alloc: Global, tokens: &mut Reader, level: u16) -> Result<Lis
     ensures { Reads (IsCall level) (Arguments level ∷ Fixed Semicolon ∷ []) result tokens.old tokens.new }
 {
     let all = arguments(alloc, tokens, level)?;
-    mark(tokens, Mark::Semicolon)?;
+    punctuation(tokens, Punctuation::Semicolon)?;
     Ok(all)
 }

@@ -4,7 +4,7 @@ ghost use Rattle.shim_syntax.specs.Terminals.{first};
 ghost use Rattle.shim_syntax.specs.Limits.{limits};
 ghost use Rattle.shim_syntax.specs.Grammar.{IsExpr, IsWhole};
 ghost use Rattle.shim_grammar.specs.Machine.{Fixed, Operand, Inside, Operators, Expression};
-ghost use Rattle.shim_grammar.specs.declared.mark.Mark.TheVariants as mark;
+ghost use Rattle.shim_grammar.specs.declared.punctuation.Punctuation.TheVariants as punctuation;
 ghost use Rattle.shim_grammar.specs.Machine.{joins};
 ghost use Rattle.shim_parser.specs.Parts as parts;
 ghost use Rattle.shim_parser.specs.Parts.{IsEntered, IsUnarySign, IsWholeBefore, IsTestOf, Stops};
@@ -12,11 +12,11 @@ ghost use Rattle.shim_parser.specs.Reading.{Reads};
 
 use crate::fault::ParseFault;
 use crate::operator::{binary_of, row_of_sign};
-use crate::parts::mark;
+use crate::parts::punctuation;
 use crate::reader::Reader;
 use crate::terminal::Terminal;
 use shim_base::{BinOp, Boxed, Name, NoMemory, Sign, UnOp};
-use shim_grammar::Mark;
+use shim_grammar::Punctuation;
 use shim_syntax::Expr;
 use std::alloc::Global;
 
@@ -90,7 +90,7 @@ fn operand(alloc: Global, tokens: &mut Reader, level: u16) -> Result<Expr, Parse
             tokens.advance();
             enter_operand(tokens, level + 1)?;
             let inside = row(alloc, tokens, LOOSEST, level + 1)?;
-            mark(tokens, Mark::RightParen)?;
+            punctuation(tokens, Punctuation::RightParen)?;
             Ok(inside)
         }
         Terminal::Sign(Sign::Minus) => operand_of(alloc, tokens, UnOp::Neg, level),
@@ -141,21 +141,21 @@ pub(crate) fn expression_before(
     alloc: Global,
     tokens: &mut Reader,
     level: u16,
-    behind: Mark,
+    behind: Punctuation,
 ) -> Result<Expr, ParseFault>
     requires { level ≤ 64 }
     ensures { Reads (IsWholeBefore behind level) (Expression level ∷ Operators level ∷ Fixed behind ∷ []) result tokens.old tokens.new }
 {
     let value = expression(alloc, tokens, level)?;
-    mark(tokens, behind)?;
+    punctuation(tokens, behind)?;
     Ok(value)
 }
 
 /// A test in parentheses.
 pub(crate) fn test(alloc: Global, tokens: &mut Reader, level: u16) -> Result<Expr, ParseFault>
     requires { level ≤ 64 }
-    ensures { Reads (IsTestOf level) (Fixed mark.LeftParen ∷ Expression level ∷ Operators level ∷ Fixed mark.RightParen ∷ []) result tokens.old tokens.new }
+    ensures { Reads (IsTestOf level) (Fixed punctuation.LeftParen ∷ Expression level ∷ Operators level ∷ Fixed punctuation.RightParen ∷ []) result tokens.old tokens.new }
 {
-    mark(tokens, Mark::LeftParen)?;
-    expression_before(alloc, tokens, level, Mark::RightParen)
+    punctuation(tokens, Punctuation::LeftParen)?;
+    expression_before(alloc, tokens, level, Punctuation::RightParen)
 }

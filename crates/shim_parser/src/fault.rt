@@ -6,19 +6,20 @@ use shim_lexer::LexFault;
 use shim_syntax::Many;
 use std::alloc::{AllocError, AllocFailed};
 
-/// Why a text is no program, at the first token that shows it. Lines are counted from 1, places from 0.
+/// Why a text is no program. Of several faults it is the one that shows first, read from the left. `line`
+/// is 1 for the first line, `at` is how many bytes stand before the place.
 #[derive(Clone, Copy, Debug, PartialEq, Eq)]
 pub enum ParseFault {
-    /// No token can be taken there.
+    /// The bytes there make no token.
     Lex(LexFault),
-    /// The tokens up to and with the one at this place begin no program. At the end of the text, `at`
-    /// is its length and `line` its last line.
+    /// No program has this token behind those before it. Where the text ends too early, the place is its
+    /// end.
     Unexpected { at: usize, line: u32 },
-    /// A thing stands deeper than `MOST_NESTING`.
+    /// Statements, parentheses and operands stand in each other more than `MOST_NESTING` deep.
     TooDeep { line: u32 },
-    /// There are more of these than `what.most()`.
+    /// The text has more of these than `what.most()` where that is the limit.
     TooMany { what: Many, line: u32 },
-    /// No memory was found. This alone may come in place of any other answer.
+    /// No memory was found, which says nothing of the text.
     NoMemory,
 }
 

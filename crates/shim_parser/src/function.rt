@@ -2,7 +2,7 @@
 ghost use Rattle.std.specs.Prelude.{◌≡◌, ◌≤◌, [], ◌∷◌};
 ghost use Rattle.shim_grammar.specs.Machine as machine;
 ghost use Rattle.shim_grammar.specs.Machine.{Block, Fixed, Parameter, Parameters, Thrown, Word};
-ghost use Rattle.shim_grammar.specs.declared.mark.Mark.TheVariants as mark;
+ghost use Rattle.shim_grammar.specs.declared.punctuation.Punctuation.TheVariants as punctuation;
 ghost use Rattle.shim_syntax.specs.Terminals.{first};
 ghost use Rattle.shim_syntax.specs.Grammar as grammar;
 ghost use Rattle.shim_parser.specs.Functions as pieces;
@@ -10,12 +10,12 @@ ghost use Rattle.shim_parser.specs.Functions.{IsParameter, IsParameters, IsThrow
 ghost use Rattle.shim_parser.specs.Reading.{Reads};
 
 use crate::fault::ParseFault;
-use crate::parts::{mark, name, name_before};
+use crate::parts::{name, name_before, punctuation};
 use crate::reader::Reader;
 use crate::stmt::block;
 use crate::terminal::Terminal;
 use shim_base::{Keyword, List, Name, Sign};
-use shim_grammar::Mark;
+use shim_grammar::Punctuation;
 use shim_syntax::{Function, Many, Param, Sort};
 use std::alloc::Global;
 
@@ -120,11 +120,11 @@ fn parameters(alloc: Global, tokens: &mut Reader) -> Result<List<Param>, ParseFa
     let mut all = List::new(alloc);
     if is_void(tokens) {
         tokens.advance();
-        mark(tokens, Mark::RightParen)?;
+        punctuation(tokens, Punctuation::RightParen)?;
         return Ok(all);
     }
     if !is_sort(tokens) {
-        mark(tokens, Mark::RightParen)?;
+        punctuation(tokens, Punctuation::RightParen)?;
         return Ok(all);
     }
     let first = parameter(alloc, tokens, 1)?;
@@ -132,7 +132,7 @@ fn parameters(alloc: Global, tokens: &mut Reader) -> Result<List<Param>, ParseFa
     let mut count = 1;
     'more: loop {
         if !is_comma(tokens) {
-            mark(tokens, Mark::RightParen)?;
+            punctuation(tokens, Punctuation::RightParen)?;
             return Ok(all);
         }
         tokens.advance();
@@ -160,7 +160,7 @@ fn throws(alloc: Global, tokens: &mut Reader) -> Result<List<Name>, ParseFault>
 {
     let mut all = List::new(alloc);
     if !is_throws(tokens) {
-        mark(tokens, Mark::LeftBrace)?;
+        punctuation(tokens, Punctuation::LeftBrace)?;
         return Ok(all);
     }
     tokens.advance();
@@ -169,7 +169,7 @@ fn throws(alloc: Global, tokens: &mut Reader) -> Result<List<Name>, ParseFault>
     let mut count = 1;
     'more: loop {
         if !is_comma(tokens) {
-            mark(tokens, Mark::LeftBrace)?;
+            punctuation(tokens, Punctuation::LeftBrace)?;
             return Ok(all);
         }
         tokens.advance();
@@ -181,9 +181,9 @@ fn throws(alloc: Global, tokens: &mut Reader) -> Result<List<Name>, ParseFault>
 
 /// Behind `void` on this line.
 fn function(alloc: Global, tokens: &mut Reader, line: u32) -> Result<Function, ParseFault>
-    ensures { Reads (IsFunctionBehind line) (Word ∷ Fixed mark.LeftParen ∷ Parameters ∷ machine.Throws ∷ Block 1 ∷ []) result tokens.old tokens.new }
+    ensures { Reads (IsFunctionBehind line) (Word ∷ Fixed punctuation.LeftParen ∷ Parameters ∷ machine.Throws ∷ Block 1 ∷ []) result tokens.old tokens.new }
 {
-    let name = name_before(alloc, tokens, Mark::LeftParen)?;
+    let name = name_before(alloc, tokens, Punctuation::LeftParen)?;
     let params = parameters(alloc, tokens)?;
     let throws = throws(alloc, tokens)?;
     let body = block(alloc, tokens, 1)?;

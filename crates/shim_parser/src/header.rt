@@ -3,7 +3,7 @@ ghost use Rattle.std.specs.Prelude.{◌≤◌, [], ◌∷◌, suc, ◌+◌};
 ghost use Rattle.shim_syntax.specs.Limits.{limits};
 ghost use Rattle.shim_syntax.specs.Grammar.{IsFirst, IsTest, IsStep};
 ghost use Rattle.shim_grammar.specs.Machine.{Fixed, Expression, Operators, First, Test, Step};
-ghost use Rattle.shim_grammar.specs.declared.mark.Mark.TheVariants as mark;
+ghost use Rattle.shim_grammar.specs.declared.punctuation.Punctuation.TheVariants as punctuation;
 ghost use Rattle.shim_parser.specs.Headers.{IsValueBehind, IsHeader};
 ghost use Rattle.shim_parser.specs.Reading.{Reads};
 
@@ -12,11 +12,11 @@ use crate::expr::expression_before;
 use crate::fault::ParseFault;
 use crate::for_parts::ForParts;
 use crate::name_value::Declared;
-use crate::parts::{alone, mark};
+use crate::parts::{alone, punctuation};
 use crate::reader::Reader;
 use crate::terminal::Terminal;
 use shim_base::{List, Name, Sign};
-use shim_grammar::Mark;
+use shim_grammar::Punctuation;
 use shim_syntax::{Expr, Sort, Stmt, What};
 use std::alloc::Global;
 
@@ -25,12 +25,12 @@ fn value_behind_equal(
     alloc: Global,
     tokens: &mut Reader,
     level: u16,
-    behind: Mark,
+    behind: Punctuation,
 ) -> Result<Expr, ParseFault>
     requires { level ≤ 64 }
-    ensures { Reads (IsValueBehind behind level) (Fixed mark.Equal ∷ Expression level ∷ Operators level ∷ Fixed behind ∷ []) result tokens.old tokens.new }
+    ensures { Reads (IsValueBehind behind level) (Fixed punctuation.Equal ∷ Expression level ∷ Operators level ∷ Fixed behind ∷ []) result tokens.old tokens.new }
 {
-    mark(tokens, Mark::Equal)?;
+    punctuation(tokens, Punctuation::Equal)?;
     expression_before(alloc, tokens, level, behind)
 }
 
@@ -48,7 +48,7 @@ fn first_statement(alloc: Global, tokens: &mut Reader, level: u16) -> Result<Lis
             tokens.enter(level)?;
             tokens.advance();
             let Declared { name, value } = declared(alloc, tokens, level)?;
-            mark(tokens, Mark::Semicolon)?;
+            punctuation(tokens, Punctuation::Semicolon)?;
             let what = What::Declare(ty, name, value);
             Ok(alone(
                 alloc,
@@ -61,7 +61,7 @@ fn first_statement(alloc: Global, tokens: &mut Reader, level: u16) -> Result<Lis
         Terminal::Name(text) => {
             tokens.enter(level)?;
             tokens.advance();
-            let value = value_behind_equal(alloc, tokens, level, Mark::Semicolon)?;
+            let value = value_behind_equal(alloc, tokens, level, Punctuation::Semicolon)?;
             let what = What::Assign(Name::new(alloc, text)?, value);
             Ok(alone(
                 alloc,
@@ -84,7 +84,7 @@ fn test(alloc: Global, tokens: &mut Reader, level: u16) -> Result<Option<Expr>, 
         tokens.advance();
         return Ok(None);
     }
-    let test = expression_before(alloc, tokens, level, Mark::Semicolon)?;
+    let test = expression_before(alloc, tokens, level, Punctuation::Semicolon)?;
     Ok(Some(test))
 }
 
@@ -101,7 +101,7 @@ fn step(alloc: Global, tokens: &mut Reader, level: u16) -> Result<List<Stmt>, Pa
         Terminal::Name(text) => {
             tokens.enter(level)?;
             tokens.advance();
-            let value = value_behind_equal(alloc, tokens, level, Mark::RightParen)?;
+            let value = value_behind_equal(alloc, tokens, level, Punctuation::RightParen)?;
             let what = What::Assign(Name::new(alloc, text)?, value);
             Ok(alone(
                 alloc,
@@ -118,9 +118,9 @@ fn step(alloc: Global, tokens: &mut Reader, level: u16) -> Result<List<Stmt>, Pa
 /// What stands in the parentheses of a `for` of this level, with these.
 pub(crate) fn header(alloc: Global, tokens: &mut Reader, level: u16) -> Result<ForParts, ParseFault>
     requires { level ≤ 64 }
-    ensures { Reads (IsHeader level) (Fixed mark.LeftParen ∷ First (suc level) ∷ Test level ∷ Step (suc level) ∷ []) result tokens.old tokens.new }
+    ensures { Reads (IsHeader level) (Fixed punctuation.LeftParen ∷ First (suc level) ∷ Test level ∷ Step (suc level) ∷ []) result tokens.old tokens.new }
 {
-    mark(tokens, Mark::LeftParen)?;
+    punctuation(tokens, Punctuation::LeftParen)?;
     let first = first_statement(alloc, tokens, level + 1)?;
     let test = test(alloc, tokens, level)?;
     let step = step(alloc, tokens, level + 1)?;

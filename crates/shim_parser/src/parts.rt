@@ -4,44 +4,44 @@ ghost use Rattle.shim_grammar.specs.Machine.{Fixed, Word};
 ghost use Rattle.shim_base.specs.Tokens.{Place};
 ghost use Rattle.shim_parser.specs.TerminalView.{terminal_view};
 ghost use Rattle.shim_parser.specs.Parts as parts;
-ghost use Rattle.shim_parser.specs.Parts.{IsMark, IsName, IsNameBefore};
+ghost use Rattle.shim_parser.specs.Parts.{IsPunctuation, IsName, IsNameBefore};
 ghost use Rattle.shim_parser.specs.Reading.{Reads};
 
 use crate::fault::ParseFault;
 use crate::reader::Reader;
 use crate::terminal::Terminal;
 use shim_base::{Keyword, List, Name, NoMemory, Sign};
-use shim_grammar::Mark;
+use shim_grammar::Punctuation;
 use std::alloc::Global;
 
-/// The mark that a terminal is.
-fn mark_of(what: Terminal) -> Option<Mark>
-    ensures { (p : Place) → result ≡ parts.mark_of (terminal_view what.entry p) }
+/// The punctuation that a terminal is.
+fn punctuation_of(what: Terminal) -> Option<Punctuation>
+    ensures { (p : Place) → result ≡ parts.punctuation_of (terminal_view what.entry p) }
 {
     match what {
-        Terminal::Sign(Sign::LeftParen) => Some(Mark::LeftParen),
-        Terminal::Sign(Sign::RightParen) => Some(Mark::RightParen),
-        Terminal::Sign(Sign::LeftBrace) => Some(Mark::LeftBrace),
-        Terminal::Sign(Sign::Comma) => Some(Mark::Comma),
-        Terminal::Sign(Sign::Semicolon) => Some(Mark::Semicolon),
-        Terminal::Sign(Sign::Equal) => Some(Mark::Equal),
-        Terminal::Key(Keyword::Catch) => Some(Mark::Catch),
+        Terminal::Sign(Sign::LeftParen) => Some(Punctuation::LeftParen),
+        Terminal::Sign(Sign::RightParen) => Some(Punctuation::RightParen),
+        Terminal::Sign(Sign::LeftBrace) => Some(Punctuation::LeftBrace),
+        Terminal::Sign(Sign::Comma) => Some(Punctuation::Comma),
+        Terminal::Sign(Sign::Semicolon) => Some(Punctuation::Semicolon),
+        Terminal::Sign(Sign::Equal) => Some(Punctuation::Equal),
+        Terminal::Key(Keyword::Catch) => Some(Punctuation::Catch),
         _ => None,
     }
 }
 
-/// Whether a terminal is this mark.
-fn is_mark(what: Terminal, mark: Mark) -> bool
-    ensures { (p : Place) → IsTrue result ↔ (parts.mark_of (terminal_view what.entry p) ≡ Some mark) }
+/// Whether a terminal is this punctuation.
+fn is_punctuation(what: Terminal, punctuation: Punctuation) -> bool
+    ensures { (p : Place) → IsTrue result ↔ (parts.punctuation_of (terminal_view what.entry p) ≡ Some punctuation) }
 {
-    mark_of(what) == Some(mark)
+    punctuation_of(what) == Some(punctuation)
 }
 
 /// Takes a terminal that must come.
-pub(crate) fn mark(tokens: &mut Reader, mark: Mark) -> Result<(), ParseFault>
-    ensures { Reads (IsMark mark) (Fixed mark ∷ []) result tokens.old tokens.new }
+pub(crate) fn punctuation(tokens: &mut Reader, punctuation: Punctuation) -> Result<(), ParseFault>
+    ensures { Reads (IsPunctuation punctuation) (Fixed punctuation ∷ []) result tokens.old tokens.new }
 {
-    if !is_mark(tokens.peek().what, mark) {
+    if !is_punctuation(tokens.peek().what, punctuation) {
         return Err(tokens.unexpected());
     }
     tokens.advance();
@@ -64,12 +64,12 @@ pub(crate) fn name(alloc: Global, tokens: &mut Reader) -> Result<Name, ParseFaul
 pub(crate) fn name_before(
     alloc: Global,
     tokens: &mut Reader,
-    behind: Mark,
+    behind: Punctuation,
 ) -> Result<Name, ParseFault>
     ensures { Reads (IsNameBefore behind) (Word ∷ Fixed behind ∷ []) result tokens.old tokens.new }
 {
     let name = name(alloc, tokens)?;
-    mark(tokens, behind)?;
+    punctuation(tokens, behind)?;
     Ok(name)
 }
 

@@ -2,7 +2,7 @@
 ghost use Rattle.std.specs.Prelude.{◌≡◌, ◌≤◌, [], ◌∷◌};
 ghost use Rattle.shim_base.specs.declared.token.Keyword.TheVariants as k;
 ghost use Rattle.shim_grammar.specs.Machine.{AfterEqual, AfterNext, Expression, Fixed, Operators, Word};
-ghost use Rattle.shim_grammar.specs.declared.mark.Mark.TheVariants as mark;
+ghost use Rattle.shim_grammar.specs.declared.punctuation.Punctuation.TheVariants as punctuation;
 ghost use Rattle.shim_parser.specs.Statements.{IsAssigned, IsKeyed};
 ghost use Rattle.shim_parser.specs.Reading.{Reads};
 
@@ -12,7 +12,7 @@ use crate::parts::{name, name_before};
 use crate::reader::Reader;
 use crate::terminal::Terminal;
 use shim_base::{Keyword, Name, Sign};
-use shim_grammar::Mark;
+use shim_grammar::Punctuation;
 use shim_syntax::What;
 use std::alloc::Global;
 
@@ -29,16 +29,16 @@ pub(crate) fn assignment(
     match tokens.peek().what {
         Terminal::Key(Keyword::Next) => {
             tokens.advance();
-            let source = name_before(alloc, tokens, Mark::Semicolon)?;
+            let source = name_before(alloc, tokens, Punctuation::Semicolon)?;
             Ok(What::AssignNext(target, source))
         }
         Terminal::Key(Keyword::Get) => {
             tokens.advance();
-            let stream = name_before(alloc, tokens, Mark::Semicolon)?;
+            let stream = name_before(alloc, tokens, Punctuation::Semicolon)?;
             Ok(What::Get(target, stream))
         }
         _ => {
-            let value = expression_before(alloc, tokens, level, Mark::Semicolon)?;
+            let value = expression_before(alloc, tokens, level, Punctuation::Semicolon)?;
             Ok(What::Assign(target, value))
         }
     }
@@ -57,7 +57,7 @@ pub(crate) fn next(alloc: Global, tokens: &mut Reader, level: u16) -> Result<Wha
         }
         Terminal::Sign(Sign::Equal) => {
             tokens.advance();
-            let value = expression_before(alloc, tokens, level, Mark::Semicolon)?;
+            let value = expression_before(alloc, tokens, level, Punctuation::Semicolon)?;
             Ok(What::NextAssign(variable, value))
         }
         _ => Err(tokens.unexpected()),
@@ -68,17 +68,17 @@ pub(crate) fn next(alloc: Global, tokens: &mut Reader, level: u16) -> Result<Wha
 pub(crate) fn put(alloc: Global, tokens: &mut Reader, level: u16) -> Result<What, ParseFault>
     requires { level ≤ 64 }
     ensures { Reads (IsKeyed k.Put level)
-        (Word ∷ Fixed mark.Comma ∷ Expression level ∷ Operators level ∷ Fixed mark.Semicolon ∷ []) result tokens.old tokens.new }
+        (Word ∷ Fixed punctuation.Comma ∷ Expression level ∷ Operators level ∷ Fixed punctuation.Semicolon ∷ []) result tokens.old tokens.new }
 {
-    let stream = name_before(alloc, tokens, Mark::Comma)?;
-    let value = expression_before(alloc, tokens, level, Mark::Semicolon)?;
+    let stream = name_before(alloc, tokens, Punctuation::Comma)?;
+    let value = expression_before(alloc, tokens, level, Punctuation::Semicolon)?;
     Ok(What::Put(stream, value))
 }
 
 /// Behind `throw`.
 pub(crate) fn throw(alloc: Global, tokens: &mut Reader, level: u16) -> Result<What, ParseFault>
-    ensures { Reads (IsKeyed k.Throw level) (Word ∷ Fixed mark.Semicolon ∷ []) result tokens.old tokens.new }
+    ensures { Reads (IsKeyed k.Throw level) (Word ∷ Fixed punctuation.Semicolon ∷ []) result tokens.old tokens.new }
 {
-    let exception = name_before(alloc, tokens, Mark::Semicolon)?;
+    let exception = name_before(alloc, tokens, Punctuation::Semicolon)?;
     Ok(What::Throw(exception))
 }

@@ -7,7 +7,7 @@ ghost use Rattle.shim_syntax.specs.Limits.{limits};
 ghost use Rattle.shim_syntax.specs.Grammar.{IsBlock, IsBody};
 ghost use Rattle.shim_grammar.specs.Machine as machine;
 ghost use Rattle.shim_grammar.specs.Machine.{AfterWord, Else, Expression, First, Fixed, Operators, Pars, Statement, Step, Test, Word};
-ghost use Rattle.shim_grammar.specs.declared.mark.Mark.TheVariants as mark;
+ghost use Rattle.shim_grammar.specs.declared.punctuation.Punctuation.TheVariants as punctuation;
 ghost use Rattle.shim_parser.specs.Statements.{IsSignAt, IsKeyAt, Becomes, IsThing, IsBraced, IsNamed, IsKeyed, IsBehindPar, IsNumberedBranch};
 ghost use Rattle.shim_parser.specs.Reading.{Reads};
 
@@ -18,12 +18,12 @@ use crate::fault::ParseFault;
 use crate::for_parts::ForParts;
 use crate::header::header;
 use crate::opening::{Opening, opening_of};
-use crate::parts::{alone, mark, name_before};
+use crate::parts::{alone, name_before, punctuation};
 use crate::plain::{assignment, next, put, throw};
 use crate::reader::Reader;
 use crate::terminal::Terminal;
 use shim_base::{Keyword, List, Name, Sign};
-use shim_grammar::Mark;
+use shim_grammar::Punctuation;
 use shim_syntax::{Branch, BranchWhat, Call, Many, Stmt, What};
 use std::alloc::Global;
 
@@ -140,7 +140,7 @@ fn named(
         tokens.advance();
         return assignment(alloc, tokens, name, level);
     }
-    mark(tokens, Mark::LeftParen)?;
+    punctuation(tokens, Punctuation::LeftParen)?;
     let args = call(alloc, tokens, level)?;
     let call = Call {
         function: name,
@@ -189,7 +189,7 @@ fn body(alloc: Global, tokens: &mut Reader, level: u16) -> Result<List<Stmt>, Pa
 fn if_statement(alloc: Global, tokens: &mut Reader, level: u16) -> Result<What, ParseFault>
     requires { level ≤ 64 }
     ensures { Reads (IsKeyed k.If level)
-        (Fixed mark.LeftParen ∷ Expression level ∷ Operators level ∷ Fixed mark.RightParen ∷ machine.Body (suc level) ∷ Else (suc level) ∷ [])
+        (Fixed punctuation.LeftParen ∷ Expression level ∷ Operators level ∷ Fixed punctuation.RightParen ∷ machine.Body (suc level) ∷ Else (suc level) ∷ [])
         result tokens.old tokens.new }
 {
     let test = test(alloc, tokens, level)?;
@@ -207,7 +207,7 @@ fn if_statement(alloc: Global, tokens: &mut Reader, level: u16) -> Result<What, 
 fn while_loop(alloc: Global, tokens: &mut Reader, level: u16) -> Result<What, ParseFault>
     requires { level ≤ 64 }
     ensures { Reads (IsKeyed k.While level)
-        (Fixed mark.LeftParen ∷ Expression level ∷ Operators level ∷ Fixed mark.RightParen ∷ machine.Body (suc level) ∷ []) result tokens.old tokens.new }
+        (Fixed punctuation.LeftParen ∷ Expression level ∷ Operators level ∷ Fixed punctuation.RightParen ∷ machine.Body (suc level) ∷ []) result tokens.old tokens.new }
 {
     let test = test(alloc, tokens, level)?;
     let repeated = body(alloc, tokens, level + 1)?;
@@ -219,7 +219,7 @@ fn while_loop(alloc: Global, tokens: &mut Reader, level: u16) -> Result<What, Pa
 fn for_loop(alloc: Global, tokens: &mut Reader, level: u16) -> Result<What, ParseFault>
     requires { level ≤ 64 }
     ensures { Reads (IsKeyed k.For level)
-        (Fixed mark.LeftParen ∷ First (suc level) ∷ Test level ∷ Step (suc level) ∷ machine.Body (suc level) ∷ []) result tokens.old tokens.new }
+        (Fixed punctuation.LeftParen ∷ First (suc level) ∷ Test level ∷ Step (suc level) ∷ machine.Body (suc level) ∷ []) result tokens.old tokens.new }
 {
     let ForParts { first, test, step } = header(alloc, tokens, level)?;
     let repeated = body(alloc, tokens, level + 1)?;
@@ -231,15 +231,15 @@ fn for_loop(alloc: Global, tokens: &mut Reader, level: u16) -> Result<What, Pars
 fn try_statement(alloc: Global, tokens: &mut Reader, level: u16) -> Result<What, ParseFault>
     requires { level ≤ 64 }
     ensures { Reads (IsKeyed k.Try level)
-        (Fixed mark.LeftBrace ∷ machine.Block (suc level) ∷ Fixed mark.Catch ∷ Fixed mark.LeftParen ∷ Word ∷ Fixed mark.RightParen ∷ Fixed mark.LeftBrace ∷ machine.Block (suc level) ∷ [])
+        (Fixed punctuation.LeftBrace ∷ machine.Block (suc level) ∷ Fixed punctuation.Catch ∷ Fixed punctuation.LeftParen ∷ Word ∷ Fixed punctuation.RightParen ∷ Fixed punctuation.LeftBrace ∷ machine.Block (suc level) ∷ [])
         result tokens.old tokens.new }
 {
-    mark(tokens, Mark::LeftBrace)?;
+    punctuation(tokens, Punctuation::LeftBrace)?;
     let tried = block(alloc, tokens, level + 1)?;
-    mark(tokens, Mark::Catch)?;
-    mark(tokens, Mark::LeftParen)?;
-    let exception = name_before(alloc, tokens, Mark::RightParen)?;
-    mark(tokens, Mark::LeftBrace)?;
+    punctuation(tokens, Punctuation::Catch)?;
+    punctuation(tokens, Punctuation::LeftParen)?;
+    let exception = name_before(alloc, tokens, Punctuation::RightParen)?;
+    punctuation(tokens, Punctuation::LeftBrace)?;
     let handler = block(alloc, tokens, level + 1)?;
     Ok(What::Try(tried, exception, handler))
 }
@@ -284,7 +284,7 @@ fn branch(alloc: Global, tokens: &mut Reader, n: u16, level: u16) -> Result<Bran
     };
     tokens.number(Many::Branches, n)?;
     tokens.advance();
-    mark(tokens, Mark::LeftParen)?;
+    punctuation(tokens, Punctuation::LeftParen)?;
     let args = call(alloc, tokens, level)?;
     let call = Call {
         function: Name::new(alloc, text)?,

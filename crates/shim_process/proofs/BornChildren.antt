@@ -2,7 +2,7 @@
 use Rattle.std.proofs.Common.{◌≡◌, ◌∙◌, ℕ, suc, ◌+◌, List, [], ◌∷◌, ◌++◌, length, refl, ap}
 use Rattle.shim_base.specs.Paths.{Path}
 use Rattle.shim_local.specs.Laws.{AreChildren, Moved}
-use Rattle.shim_units.specs.LocalState.{LocalState, handlers}
+use Rattle.shim_process.specs.LocalState.{LocalState, handlers}
 use Rattle.shim_process.specs.Sound.{Sound}
 use Rattle.shim_process.specs.Born.{InBranches, Born}
 use Rattle.shim_process.specs.Ops.{process_ops}

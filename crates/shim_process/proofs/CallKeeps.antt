@@ -7,32 +7,32 @@ use Rattle.shim_local.specs.Laws.{Called, by_put, by_receive, by_unwind}
 use Rattle.shim_units.specs.declared.unit.UBranch.{UBranch}
 use Rattle.shim_units.specs.declared.unit.UStmt.{UStmt}
 use Rattle.shim_units.specs.declared.unit.UWhat.{UWhat, UWhat-F, out-UWhat}
-use Rattle.shim_units.specs.Values.{Value}
-use Rattle.shim_units.specs.Todo.{Item, Do, Leave, On}
-use Rattle.shim_units.specs.LocalState.{LocalState, is_full, trapped}
-use Rattle.shim_units.specs.Arguments.{Argument}
-use Rattle.shim_units.specs.Ends.{gone}
-use Rattle.shim_units.specs.Forks.{fork, parting, parent, children_from, is_far, item_branches, all_arguments}
-use Rattle.shim_units.specs.Forks as forks
-use Rattle.shim_units.specs.Steps.{line_of, stored_in, half}
-use Rattle.shim_units.specs.Stops.{put_value, after_put, put, what_receive, item_receive, receive}
-use Rattle.shim_units.specs.Unwinding.{unwind}
+use Rattle.shim_process.specs.Values.{Value}
+use Rattle.shim_process.specs.Todo.{Item, Do, Leave, On}
+use Rattle.shim_process.specs.LocalState.{LocalState, is_full, trapped}
+use Rattle.shim_process.specs.Arguments.{Argument}
+use Rattle.shim_process.specs.Ends.{gone}
+use Rattle.shim_process.specs.Forks.{fork, fork_result, parent, children_from, is_far, item_branches, all_arguments}
+use Rattle.shim_process.specs.Forks as forks
+use Rattle.shim_process.specs.Steps.{line_of, stored_in, half}
+use Rattle.shim_process.specs.Stops.{put_value, after_put, put, what_receive, item_receive, receive}
+use Rattle.shim_process.specs.Unwinding.{unwind}
 use Rattle.shim_process.specs.Sound.{Sound}
 use Rattle.shim_process.specs.Ops.{parts, process_ops}
-use Rattle.shim_process.proofs.PlaceLocations.{choose}
-use Rattle.shim_process.proofs.LabelFrames.{Left, gone_left, unwind_left, half_left, trapped_left, none_left}
+use Rattle.shim_process.proofs.LabelFrames.{HasLeft, gone_left, unwind_left, half_left, trapped_left, none_left}
 use Rattle.shim_process.proofs.QuietKeeps.{Keeps, keeps}
-use Rattle.shim_process.proofs.QuietDeeds.{unchanged, store_changed}
+use Rattle.shim_process.proofs.QuietActions.{unchanged, store_changed}
+use Rattle.shim_base.proofs.Facts.{choose}
 
 -- the second state keeps what a call keeps of the first, and no channel was made
 pub record MakesNone (l m : LocalState) : Type 0 where
   pub keeps : Keeps l m
   pub made : m.made ≡ l.made
 
-left_makes_none : (l m : LocalState) → Left l.base l m → MakesNone l m
+left_makes_none : (l m : LocalState) → HasLeft l.base l m → MakesNone l m
 left_makes_none l m h = record { keeps = keeps l l m (unchanged l) h; made = h.made }
 
-stored_makes_none : (l m : LocalState) (x : ℕ) (v : ℤ) → Left l.base (stored_in x v l) m → MakesNone l m
+stored_makes_none : (l m : LocalState) (x : ℕ) (v : ℤ) → HasLeft l.base (stored_in x v l) m → MakesNone l m
 stored_makes_none l m x v h = record { keeps = keeps l (stored_in x v l) m (store_changed l x v) h; made = h.made }
 
 trapped_makes_none : (kind : Trap) (line : ℕ) (l : LocalState) → Sound l → MakesNone l (trapped kind line l)
@@ -70,28 +70,28 @@ called_makes_none l m s (by_receive c v at e) = subst (MakesNone l) (sym e) (rec
 called_makes_none l m s (by_unwind label least below e) = subst (MakesNone l) (sym e) (unwind_makes_none l label s)
 
 -- the process is trapped where it stood
-abbrev pub IsStuck : LocalState → LocalState → Type 0
-IsStuck l m = (kind : Trap) × (line : ℕ) × (m ≡ trapped kind line l)
+abbrev pub StandsTrapped : LocalState → LocalState → Type 0
+StandsTrapped l m = (kind : Trap) × (line : ℕ) × (m ≡ trapped kind line l)
 
-abbrev stuck_or : LocalState → local.Parting LocalState → LocalState
-stuck_or d (local.Parted l ks) = d
-stuck_or d (local.Stuck l) = l
+abbrev trapped_or : LocalState → local.ForkedView LocalState → LocalState
+trapped_or d (local.Parted l ks) = d
+trapped_or d (local.Trapped l) = l
 
-stuck_is : (l m : LocalState) (kind : Trap) (line : ℕ) → local.Stuck (trapped kind line l) ≡ local.Stuck m → IsStuck l m
-stuck_is l m kind line e = (kind, line, sym (ap (stuck_or l) e))
+trapped_is : (l m : LocalState) (kind : Trap) (line : ℕ) → local.Trapped (trapped kind line l) ≡ local.Trapped m → StandsTrapped l m
+trapped_is l m kind line e = (kind, line, sym (ap (trapped_or l) e))
 
-parted_stuck : {A : Type 0} (l m : LocalState) (ks : List LocalState) → local.Parted l ks ≡ local.Stuck m → A
-parted_stuck l m ks e = absurd (cc)
+parted_trapped : {A : Type 0} (l m : LocalState) (ks : List LocalState) → local.Parted l ks ≡ local.Trapped m → A
+parted_trapped l m ks e = absurd (cc)
 
-parting_stuck : (r : Result (List (List Argument)) Trap) (l m : LocalState) (branches : List UBranch) → parts (parting r l branches) ≡ local.Stuck m → IsStuck l m
-parting_stuck (Ok given) l m branches =
-    choose (λ p. parts p ≡ local.Stuck m → IsStuck l m) (is_far l || is_full l) (forks.Trapped (trapped Depth (line_of l.frame.todo) l)) (forks.Parted (parent l branches) (children_from l 0 branches given))
-    (λ e. stuck_is l m Depth (line_of l.frame.todo) e) (λ e. parted_stuck (parent l branches) m (children_from l 0 branches given) e)
-parting_stuck (Err t) l m branches = λ e. stuck_is l m t (line_of l.frame.todo) e
+fork_result_trapped : (r : Result (List (List Argument)) Trap) (l m : LocalState) (branches : List UBranch) → parts (fork_result r l branches) ≡ local.Trapped m → StandsTrapped l m
+fork_result_trapped (Ok given) l m branches =
+    choose (λ p. parts p ≡ local.Trapped m → StandsTrapped l m) (is_far l || is_full l) (forks.Trapped (trapped Depth (line_of l.frame.todo) l)) (forks.Parted (parent l branches) (children_from l 0 branches given))
+    (λ e. trapped_is l m Depth (line_of l.frame.todo) e) (λ e. parted_trapped (parent l branches) m (children_from l 0 branches given) e)
+fork_result_trapped (Err t) l m branches = λ e. trapped_is l m t (line_of l.frame.todo) e
 
-pub fork_stuck : (l m : LocalState) → parts (fork l) ≡ local.Stuck m → IsStuck l m
+pub fork_trapped : (l m : LocalState) → parts (fork l) ≡ local.Trapped m → StandsTrapped l m
 unfolding fork
-fork_stuck l m e = parting_stuck (all_arguments l (item_branches l.frame.todo)) l m (item_branches l.frame.todo) e
+fork_trapped l m e = fork_result_trapped (all_arguments l (item_branches l.frame.todo)) l m (item_branches l.frame.todo) e
 
-pub stuck_makes_none : (l m : LocalState) → Sound l → parts (fork l) ≡ local.Stuck m → MakesNone l m
-stuck_makes_none l m s e = let w = fork_stuck l m e in subst (MakesNone l) (sym w.2) (trapped_makes_none w.0 w.1 l s)
+pub fork_trapped_makes_none : (l m : LocalState) → Sound l → parts (fork l) ≡ local.Trapped m → MakesNone l m
+fork_trapped_makes_none l m s e = let w = fork_trapped l m e in subst (MakesNone l) (sym w.2) (trapped_makes_none w.0 w.1 l s)

@@ -3,19 +3,19 @@ use Rattle.std.proofs.Common.{◌≡◌, ◌∙◌, ◌≤◌, Bool, true, false
 use Rattle.shim_base.specs.Paths.{Channel}
 use Rattle.shim_local.specs.Process as local
 use Rattle.shim_local.specs.Laws.{AllOf, Called, Moved, by_quiet, by_call, by_fork, by_trap, by_join, IsTrapped, CarriesNoMore}
-use Rattle.shim_units.specs.LocalState.{LocalState, handlers}
-use Rattle.shim_units.specs.Forks.{fork, join}
-use Rattle.shim_units.specs.Sharers.{shares, carries}
-use Rattle.shim_units.specs.Steps.{quiet}
-use Rattle.shim_units.specs.Stops.{stop}
+use Rattle.shim_process.specs.LocalState.{LocalState, handlers}
+use Rattle.shim_process.specs.Forks.{fork, join}
+use Rattle.shim_process.specs.Sharers.{shares, carries}
+use Rattle.shim_process.specs.Steps.{quiet}
+use Rattle.shim_process.specs.Stops.{stop}
 use Rattle.shim_process.specs.Sound.{Sound}
 use Rattle.shim_process.specs.Born.{Born}
 use Rattle.shim_process.specs.Ops.{stands, parts, process_ops}
 use Rattle.shim_process.proofs.CarryChannels.{shares_same, Carried, carried_at}
 use Rattle.shim_process.proofs.PlaceStops.{trapped_stands}
 use Rattle.shim_process.proofs.QuietKeeps.{Keeps, keeps_sound, keeps_shares, keeps_adds, keeps_carries, keeps_holds}
-use Rattle.shim_process.proofs.QuietDeeds.{quiet_keeps}
-use Rattle.shim_process.proofs.CallKeeps.{MakesNone, called_makes_none, fork_stuck, stuck_makes_none, IsStuck}
+use Rattle.shim_process.proofs.QuietActions.{quiet_keeps}
+use Rattle.shim_process.proofs.CallKeeps.{MakesNone, called_makes_none, fork_trapped, fork_trapped_makes_none, StandsTrapped}
 
 -- What holds of each two states of which the second keeps what a call keeps, and of a fork and a join, holds of each call.
 pub moved : (P : LocalState → LocalState → Type 0) → ((l m : LocalState) → Sound l → Keeps l m → P l m)
@@ -25,7 +25,7 @@ pub moved : (P : LocalState → LocalState → Type 0) → ((l m : LocalState) �
 moved P each forks joins l m s (by_quiet at e) = subst (P l) (sym e) (each l (quiet l) s (quiet_keeps l s))
 moved P each forks joins l m s (by_call c) = each l m s (called_makes_none l m s c).keeps
 moved P each forks joins l m s (by_fork ks at e) = forks l m ks s at e
-moved P each forks joins l m s (by_trap at e) = each l m s (stuck_makes_none l m s e).keeps
+moved P each forks joins l m s (by_trap at e) = each l m s (fork_trapped_makes_none l m s e).keeps
 moved P each forks joins l m s (by_join ks goes_on all born e) = subst (P l) (sym e) (joins l ks goes_on s all born)
 
 pub moved_sound : ((l m : LocalState) (ks : List LocalState) → Sound l → stands (stop l) ≡ local.AtFork → parts (fork l) ≡ local.Parted m ks → Sound m)
@@ -62,9 +62,9 @@ carries_shares l c s e =
     let w : Carried l.locations c = carried_at l c e in
     subst (λ d. shares l d ≡ true) w.channel (s.channels w.number w.location w.there)
 
-pub fork_traps : (l m : LocalState) → Sound l → stands (stop l) ≡ local.AtFork → parts (fork l) ≡ local.Stuck m → IsTrapped process_ops m
+pub fork_traps : (l m : LocalState) → Sound l → stands (stop l) ≡ local.AtFork → parts (fork l) ≡ local.Trapped m → IsTrapped process_ops m
 fork_traps l m s at e =
-    let w : IsStuck l m = fork_stuck l m e in
+    let w : StandsTrapped l m = fork_trapped l m e in
     (w.0, w.1, ap (λ k. stands (stop k)) w.2 ∙ trapped_stands w.0 w.1 l)
 
 pub quiet_shares : (l : LocalState) (c : Channel) → Sound l → stands (stop l) ≡ local.AtQuiet → shares l c ≡ true → shares (quiet l) c ≡ true
@@ -80,20 +80,20 @@ pub call_shares : (l m : LocalState) (c : Channel) → Sound l → Called proces
 call_shares l m c s h = none_made_shares l m c (called_makes_none l m s h)
 
 -- a fork that traps leaves the exception places as they are
-pub fork_trap_handlers : (l m : LocalState) → Sound l → stands (stop l) ≡ local.AtFork → parts (fork l) ≡ local.Stuck m → handlers m ≡ handlers l
-fork_trap_handlers l m s at e = let w : IsStuck l m = fork_stuck l m e in ap (λ (k : LocalState). handlers k) w.2
+pub fork_trap_handlers : (l m : LocalState) → Sound l → stands (stop l) ≡ local.AtFork → parts (fork l) ≡ local.Trapped m → handlers m ≡ handlers l
+fork_trap_handlers l m s at e = let w : StandsTrapped l m = fork_trapped l m e in ap (λ (k : LocalState). handlers k) w.2
 
-pub fork_trap_shares : (l m : LocalState) (c : Channel) → Sound l → stands (stop l) ≡ local.AtFork → parts (fork l) ≡ local.Stuck m → shares m c ≡ shares l c
-fork_trap_shares l m c s at e = none_made_shares l m c (stuck_makes_none l m s e)
+pub fork_trap_shares : (l m : LocalState) (c : Channel) → Sound l → stands (stop l) ≡ local.AtFork → parts (fork l) ≡ local.Trapped m → shares m c ≡ shares l c
+fork_trap_shares l m c s at e = none_made_shares l m c (fork_trapped_makes_none l m s e)
 
-pub fork_trap_carries : (l m : LocalState) (c : Channel) → Sound l → stands (stop l) ≡ local.AtFork → parts (fork l) ≡ local.Stuck m → carries m c ≡ true → carries l c ≡ true
+pub fork_trap_carries : (l m : LocalState) (c : Channel) → Sound l → stands (stop l) ≡ local.AtFork → parts (fork l) ≡ local.Trapped m → carries m c ≡ true → carries l c ≡ true
 unfolding carries
 fork_trap_carries l m c s at e h =
-    let w : IsStuck l m = fork_stuck l m e in
+    let w : StandsTrapped l m = fork_trapped l m e in
     ap (λ k. carries k c) (sym w.2) ∙ h
 
-pub fork_trap_holds : (l m : LocalState) → Sound l → stands (stop l) ≡ local.AtFork → parts (fork l) ≡ local.Stuck m → m.holds_output ≡ true → l.holds_output ≡ true
-fork_trap_holds l m s at e h = keeps_holds l m (stuck_makes_none l m s e).keeps h
+pub fork_trap_holds : (l m : LocalState) → Sound l → stands (stop l) ≡ local.AtFork → parts (fork l) ≡ local.Trapped m → m.holds_output ≡ true → l.holds_output ≡ true
+fork_trap_holds l m s at e h = keeps_holds l m (fork_trapped_makes_none l m s e).keeps h
 
 pub quiet_carries : (l : LocalState) (c : Channel) → Sound l → stands (stop l) ≡ local.AtQuiet → CarriesNoMore process_ops l (quiet l) c
 quiet_carries l c s at = λ e. keeps_carries l (quiet l) c s (quiet_keeps l s) e

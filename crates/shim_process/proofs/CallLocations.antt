@@ -4,9 +4,10 @@ use Rattle.std.proofs.lemmas.Bool.Decides.{eqb_tells}
 use Rattle.std.specs.Prelude.{slice_get}
 use Rattle.shim_base.specs.declared.types.Ty.{Ty}
 use Rattle.shim_base.specs.Paths.{Path}
-use Rattle.shim_units.specs.Locations.{Location, Locations, Own, Copy, at_number}
-use Rattle.shim_units.specs.Arguments.{Argument, ByReference, ByCopy, ByValue, copied, new_location, new_channels, call_locations}
-use Rattle.shim_process.proofs.PlaceLocations.{same_some, opened_is}
+use Rattle.shim_process.specs.Locations.{Location, Locations, Own, Copy, at_number}
+use Rattle.shim_process.specs.Arguments.{Argument, ByReference, ByCopy, ByValue, copied, new_location, new_channels, call_locations}
+use Rattle.shim_process.proofs.PlaceLocations.{flattened_is}
+use Rattle.shim_base.proofs.Facts.{some_same}
 
 -- the number that the location on the new channel of this serial number gets
 abbrev pub place_of : List Argument → ℕ → ℕ → ℕ → ℕ
@@ -17,20 +18,20 @@ place_of (ByValue t name v ∷ rest) serial first s = cond (nat_eq s serial) fir
 
 -- what it is that an argument put there
 pub data Passed (home : Path) (locations : Locations) (given : List Argument) (serial first n : ℕ) (x : Location) : Type 0 where
-  by_copy : (m : ℕ) (y : Location) → at_number locations m ≡ Some y → y.channel ≡ x.channel → x.mark ≡ Copy → Passed home locations given serial first n x
-  by_value : x.mark ≡ Own → x.channel.channel.home ≡ home → serial ≤ x.channel.channel.serial → x.channel.channel.serial < serial + new_channels given
+  by_copy : (m : ℕ) (y : Location) → at_number locations m ≡ Some y → y.channel ≡ x.channel → x.ownership ≡ Copy → Passed home locations given serial first n x
+  by_value : x.ownership ≡ Own → x.channel.channel.home ≡ home → serial ≤ x.channel.channel.serial → x.channel.channel.serial < serial + new_channels given
       → first + n ≡ place_of given serial first x.channel.channel.serial → Passed home locations given serial first n x
 
-copy_is : (t : Ty) (o : Option Location) (x : Location) → copied t o ≡ Some x → (y : Location) × (o ≡ Some y) × (y.channel ≡ x.channel) × (x.mark ≡ Copy)
+copy_is : (t : Ty) (o : Option Location) (x : Location) → copied t o ≡ Some x → (y : Location) × (o ≡ Some y) × (y.channel ≡ x.channel) × (x.ownership ≡ Copy)
 copy_is t None x e = absurd (cc)
-copy_is t (Some l) x e = let same = same_some _ x e in (l, refl, ap (λ (r : Location). r.channel) same, sym (ap (λ (r : Location). r.mark) same))
+copy_is t (Some l) x e = let same = some_same _ x e in (l, refl, ap (λ (r : Location). r.channel) same, sym (ap (λ (r : Location). r.ownership) same))
 
 new_passed : (home : Path) (locations : Locations) (serial first : ℕ) (t : Ty) (name : ℕ) (v : ℤ) (rest : List Argument) (x : Location) → new_location home serial name t v ≡ x
     → Passed home locations (ByValue t name v ∷ rest) serial first zero x
 new_passed home locations serial first t name v rest x e =
     let number : serial ≡ x.channel.channel.serial = ap (λ (r : Location). r.channel.channel.serial) e in
     let place : first + zero ≡ first = omega arith in
-    by_value (sym (ap (λ (r : Location). r.mark) e)) (sym (ap (λ (r : Location). r.channel.channel.home) e)) (omega (arith, number)) (omega (arith, number))
+    by_value (sym (ap (λ (r : Location). r.ownership) e)) (sym (ap (λ (r : Location). r.channel.channel.home) e)) (omega (arith, number)) (omega (arith, number))
     (place ∙ sym (ap (λ b. cond b first (place_of rest (serial + 1) (first + 1) x.channel.channel.serial)) (eq-eqb x.channel.channel.serial serial (sym number))))
 
 past_reference : (home : Path) (locations : Locations) (serial first m n : ℕ) (rest : List Argument) (x : Location) → Passed home locations rest serial first n x
@@ -60,13 +61,13 @@ get_passed : (home : Path) (locations : Locations) (serial first : ℕ) (given :
     → Passed home locations given serial first n x
 get_passed home locations serial first [] n x e = absurd (cc)
 get_passed home locations serial first (ByReference m ∷ rest) n x e = past_reference home locations serial first m n rest x (get_passed home locations serial first rest n x e)
-get_passed home locations serial first (ByCopy t m ∷ rest) zero x e = let w = copy_is t (at_number locations m) x (same_some _ (Some x) e) in by_copy m w.0 w.1 w.2 w.3
+get_passed home locations serial first (ByCopy t m ∷ rest) zero x e = let w = copy_is t (at_number locations m) x (some_same _ (Some x) e) in by_copy m w.0 w.1 w.2 w.3
 get_passed home locations serial first (ByCopy t m ∷ rest) (suc n) x e = past_copy home locations serial first t m n rest x (get_passed home locations serial (first + 1) rest n x e)
-get_passed home locations serial first (ByValue t name v ∷ rest) zero x e = new_passed home locations serial first t name v rest x (same_some _ x (same_some _ (Some x) e))
+get_passed home locations serial first (ByValue t name v ∷ rest) zero x e = new_passed home locations serial first t name v rest x (some_same _ x (some_same _ (Some x) e))
 get_passed home locations serial first (ByValue t name v ∷ rest) (suc n) x e = past_value home locations serial first t name v n rest x (get_passed home locations (serial + 1) (first + 1) rest n x e)
 
 -- each is a copy of one that was there, or a new channel's own variable
 pub at_passed : (home : Path) (locations : Locations) (serial first : ℕ) (given : List Argument) (n : ℕ) (x : Location) → at_number (call_locations home locations serial given) n ≡ Some x
     → Passed home locations given serial first n x
 unfolding at_number
-at_passed home locations serial first given n x e = get_passed home locations serial first given n x (opened_is _ x e)
+at_passed home locations serial first given n x e = get_passed home locations serial first given n x (flattened_is _ x e)

@@ -5,11 +5,12 @@ use Rattle.std.specs.Prelude.{slice_get}
 use Rattle.shim_base.specs.declared.types.Ty.{Ty}
 use Rattle.shim_base.specs.Paths.{Path, Channel, NamedChannel, same_channel}
 use Rattle.shim_syntax.specs.declared.tree.Sort.{Sort}
-use Rattle.shim_units.specs.Locations.{Location, Locations, at_number, lend_at, with_moved}
-use Rattle.shim_units.specs.Arguments.{Argument, ByReference, ByCopy, ByValue, copied, new_location, new_channels, branch_locations, channels_of, empties}
-use Rattle.shim_units.specs.Sharers.{is_among}
-use Rattle.shim_process.proofs.PlaceLocations.{same_some, at_empty}
+use Rattle.shim_process.specs.Locations.{Location, Locations, at_number, lend_at, with_moved}
+use Rattle.shim_process.specs.Arguments.{Argument, ByReference, ByCopy, ByValue, copied, new_location, new_channels, branch_locations, channels_of, empties}
+use Rattle.shim_process.specs.Sharers.{is_among}
+use Rattle.shim_process.proofs.PlaceLocations.{at_empty}
 use Rattle.shim_process.proofs.ForkNames.{same_channel_of}
+use Rattle.shim_base.proofs.Facts.{some_same}
 
 -- empty locations behind change nothing
 
@@ -32,7 +33,7 @@ unfolding at_number
 among_given [] n x e = absurd cc
 among_given (None ∷ xs) zero x e = absurd cc
 among_given (None ∷ xs) (suc n) x e = among_given xs n x e
-among_given (Some z ∷ xs) zero x e = or_left _ _ (same_channel_of z.channel.channel x.channel.channel (ap (λ (l : Location). l.channel.channel) (same_some z x e)))
+among_given (Some z ∷ xs) zero x e = or_left _ _ (same_channel_of z.channel.channel x.channel.channel (ap (λ (l : Location). l.channel.channel) (some_same z x e)))
 among_given (Some z ∷ xs) (suc n) x e = or_right (same_channel z.channel.channel x.channel.channel) _ (among_given xs n x e)
 
 -- a location on a channel that is given
@@ -53,7 +54,7 @@ given_first x xs c e = record { number = zero; place = x; at = refl; on = e }
 pub given_where : (xs : Locations) (at : ℕ) (c : NamedChannel) → slice_get (channels_of xs) at ≡ Some c → Given xs c
 given_where [] at c e = absurd cc
 given_where (None ∷ xs) at c e = given_behind None xs c (given_where xs at c e)
-given_where (Some x ∷ xs) zero c e = given_first x xs c (same_some x.channel c e)
+given_where (Some x ∷ xs) zero c e = given_first x xs c (some_same x.channel c e)
 given_where (Some x ∷ xs) (suc at) c e = given_behind (Some x) xs c (given_where xs at c e)
 
 -- a location on each new channel

@@ -4,17 +4,18 @@ use Rattle.std.proofs.lemmas.Bool.{and_parts, or_cases, or_left, ltb-true}
 use Rattle.std.specs.Prelude.{slice_get}
 use Rattle.shim_base.specs.Paths.{Path, Channel, NamedChannel, same_path}
 use Rattle.shim_units.specs.declared.unit.UBranch.{UBranch}
-use Rattle.shim_units.specs.Locations.{Location, Locations, at_number}
-use Rattle.shim_units.specs.LocalState.{LocalState, unit_at, handlers}
-use Rattle.shim_units.specs.Arguments.{Argument, new_channels, branch_locations, channels_of, declared_slots, passed_labels}
-use Rattle.shim_units.specs.Forks.{child}
-use Rattle.shim_units.specs.Sharers.{is_among, declared, shares}
+use Rattle.shim_process.specs.Locations.{Location, Locations, at_number}
+use Rattle.shim_process.specs.LocalState.{LocalState, unit_at, handlers}
+use Rattle.shim_process.specs.Arguments.{Argument, new_channels, branch_locations, channels_of, declared_slots, passed_labels}
+use Rattle.shim_process.specs.Forks.{child}
+use Rattle.shim_process.specs.Sharers.{is_among, declared, shares}
 use Rattle.shim_process.specs.Sound.{Sound, LeadsTo, LabelsBelow}
-use Rattle.shim_process.proofs.CarryChannels.{same_path_is, among_at}
+use Rattle.shim_process.proofs.CarryChannels.{among_at}
 use Rattle.shim_process.proofs.LabelFrames.{passed_below}
 use Rattle.shim_process.proofs.ForkNames.{place_among, leads_here, leads_on, leads_no_child}
 use Rattle.shim_process.proofs.ChildPlaces.{Taken, origin, once_child}
 use Rattle.shim_process.proofs.ChildGiven.{Given, before_empties, among_given, given_where, among_made}
+use Rattle.shim_base.proofs.SamePaths.{same_path_is}
 
 -- what a process shares is of a process on the way to it
 pub shared_leads : (l : LocalState) (c : Channel) → Sound l → shares l c ≡ true → LeadsTo c.home l.path

@@ -4,11 +4,11 @@ use Rattle.std.proofs.lemmas.Bool.{cases_Bool, false_from_ne_true, true≢false}
 use Rattle.shim_base.specs.Paths.{Channel}
 use Rattle.shim_local.specs.Laws.{how_many}
 use Rattle.shim_units.specs.declared.unit.UBranch.{UBranch}
-use Rattle.shim_units.specs.Locations.{Locations}
-use Rattle.shim_units.specs.LocalState.{LocalState, unit_at}
-use Rattle.shim_units.specs.Arguments.{Argument, branch_locations, declared_slots}
-use Rattle.shim_units.specs.Sharers.{shares, carries}
-use Rattle.shim_units.specs.Forks.{lent, takes_output, child, children_from, lending, all_lending}
+use Rattle.shim_process.specs.Locations.{Locations}
+use Rattle.shim_process.specs.LocalState.{LocalState, unit_at}
+use Rattle.shim_process.specs.Arguments.{Argument, branch_locations, declared_slots}
+use Rattle.shim_process.specs.Sharers.{shares, carries}
+use Rattle.shim_process.specs.Forks.{lent, takes_output, child, children_from, lending, all_lending}
 use Rattle.shim_process.specs.Sound.{Sound}
 use Rattle.shim_process.proofs.CarryChannels.{Carried, carried_at, carries_at}
 use Rattle.shim_process.proofs.ForkLending.{Suit, given_away}
@@ -20,7 +20,7 @@ abbrev pub bit : Bool → ℕ
 bit true = 1
 bit false = 0
 
-one_bit : (b : Bool) → cond b (suc 0) 0 ≡ bit b
+pub one_bit : (b : Bool) → cond b (suc 0) 0 ≡ bit b
 one_bit true = refl
 one_bit false = refl
 
@@ -52,14 +52,14 @@ count_children f I on one l i (b ∷ bs) (g ∷ gs) h suit =
 pub child_carried : (l : LocalState) (i : ℕ) (b : UBranch) (g : List Argument) (c : Channel) → carries (child l i b g) c ≡ true → Carried (branch_locations (below l i) l.locations 0 g) c
 child_carried l i b g c e =
     let w : Carried (child l i b g).locations c = carried_at (child l i b g) c e in
-    record { number = w.number; location = w.location; there = before_empties (branch_locations (below l i) l.locations 0 g) (declared_slots (unit_at l.program b.call.unit)) w.number w.location w.there; mark = w.mark; channel = w.channel }
+    record { number = w.number; location = w.location; there = before_empties (branch_locations (below l i) l.locations 0 g) (declared_slots (unit_at l.program b.call.unit)) w.number w.location w.there; ownership = w.ownership; channel = w.channel }
 
 carried_child : (l : LocalState) (i : ℕ) (b : UBranch) (g : List Argument) (c : Channel) → Carried (branch_locations (below l i) l.locations 0 g) c → carries (child l i b g) c ≡ true
 carried_child l i b g c w =
-    carries_at (child l i b g) c w.number w.location (with_empties (branch_locations (below l i) l.locations 0 g) (declared_slots (unit_at l.program b.call.unit)) w.number w.location w.there) w.mark w.channel
+    carries_at (child l i b g) c w.number w.location (with_empties (branch_locations (below l i) l.locations 0 g) (declared_slots (unit_at l.program b.call.unit)) w.number w.location w.there) w.ownership w.channel
 
 pub state_carries : (l : LocalState) (c : Channel) → Carried l.locations c → carries l c ≡ true
-state_carries l c w = carries_at l c w.number w.location w.there w.mark w.channel
+state_carries l c w = carries_at l c w.number w.location w.there w.ownership w.channel
 
 none_carried : (l : LocalState) (c : Channel) → (Carried l.locations c → ⊥) → carries l c ≡ false
 none_carried l c f = false_from_ne_true (carries l c) (λ e. f (carried_at l c e))

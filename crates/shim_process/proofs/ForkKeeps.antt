@@ -2,9 +2,9 @@
 use Rattle.std.proofs.Common.{◌≡◌, ℕ, ◌<◌, ◌≤◌, true, List, ◌∷◌, Some, sym, ap, ◌∙◌, subst}
 use Rattle.std.specs.Prelude.{slice_get}
 use Rattle.shim_base.specs.Paths.{Path, Channel, NamedChannel}
-use Rattle.shim_units.specs.Locations.{Location, at_number}
-use Rattle.shim_units.specs.LocalState.{LocalState}
-use Rattle.shim_units.specs.Sharers.{shares}
+use Rattle.shim_process.specs.Locations.{Location, at_number}
+use Rattle.shim_process.specs.LocalState.{LocalState}
+use Rattle.shim_process.specs.Sharers.{shares}
 use Rattle.shim_process.specs.Sound.{Sound, LeadsTo, IsOwned, FramesBelow}
 use Rattle.shim_process.proofs.CarryChannels.{shares_same}
 use Rattle.shim_process.proofs.ForkPlaces.{Place}

@@ -1,15 +1,15 @@
 -- The laws of a fork.
-use Rattle.std.proofs.Common.{◌≡◌, ◌≢◌, ◌↔◌, ◌⊎◌, ℕ, suc, ◌+◌, Bool, true, cond, List, [], ◌∷◌, length, inl, inr, refl, sym, ap, ◌∙◌, subst, arith}
+use Rattle.std.proofs.Common.{◌≡◌, ◌≢◌, ◌↔◌, ◌⊎◌, ℕ, suc, ◌+◌, Bool, true, cond, List, [], ◌∷◌, length, inl, inr, refl, sym, ap, ◌∙◌, subst}
 use Rattle.std.proofs.lemmas.Bool.{and_parts}
 use Rattle.shim_base.specs.Paths.{Path, Channel}
 use Rattle.shim_local.specs.Process as local
 use Rattle.shim_local.specs.Laws.{AllOf, Forks, AreChildren, IsGiven, how_many}
 use Rattle.shim_units.specs.declared.unit.UBranch.{UBranch}
-use Rattle.shim_units.specs.LocalState.{LocalState, Frame, unit_at, handlers}
-use Rattle.shim_units.specs.Arguments.{Argument}
-use Rattle.shim_units.specs.Sharers.{shares, carries}
-use Rattle.shim_units.specs.Forks.{item_branches, takes_output, child, children_from, lending, all_lending, parent, fork}
-use Rattle.shim_units.specs.Stops.{stop}
+use Rattle.shim_process.specs.LocalState.{LocalState, Frame, unit_at, handlers}
+use Rattle.shim_process.specs.Arguments.{Argument}
+use Rattle.shim_process.specs.Sharers.{shares, carries}
+use Rattle.shim_process.specs.Forks.{item_branches, takes_output, child, children_from, lending, all_lending, parent, fork}
+use Rattle.shim_process.specs.Stops.{stop}
 use Rattle.shim_process.specs.Sound.{Sound, FramesBelow}
 use Rattle.shim_process.specs.Born.{Born, InBranches}
 use Rattle.shim_process.specs.Ops.{stands, parts, process_ops}
@@ -24,6 +24,7 @@ use Rattle.shim_process.proofs.ForkBorn.{born_in_branches}
 use Rattle.shim_process.proofs.ForkCounts.{bit, state_carries, child_carried, count_children, carries_balanced, output_balanced}
 use Rattle.shim_process.proofs.ChildCarried.{child_carries}
 use Rattle.shim_process.proofs.ChildSound.{below, child_sound, child_shares, child_given, given_shared}
+use Rattle.shim_base.proofs.Facts.{no_items}
 
 -- the branches of the fork at which the process stands
 abbrev branches : LocalState → List UBranch
@@ -31,7 +32,7 @@ branches l = item_branches l.frame.todo
 
 -- the parent
 
-lends_keeps : (l m : LocalState) → Lends l m → Keeps l m
+pub lends_keeps : (l m : LocalState) → Lends l m → Keeps l m
 lends_keeps l m w = record {
   path = w.path;
   base = w.base;
@@ -86,15 +87,11 @@ fork_sound l p ks s h =
     subst (AllOf Sound) (sym w.children_are)
     (each_child Sound Sound (λ m b sm. kept_sound m (lending m b) (lends_keeps m (lending m b) (lends_one m b)) sm) (λ m i b g sm. child_sound m i b g sm) l 0 (branches l) w.given s)
 
-none_long : {A : Type 0} (xs : List A) → length xs ≡ 0 → xs ≡ []
-none_long [] e = refl
-none_long (x ∷ xs) e = absurd (omega (arith, e))
-
 pub fork_some : (l p : LocalState) (ks : List LocalState) → Sound l → Forks process_ops l p ks → ks ≢ []
 fork_some l p ks s h none =
     let w : Parts l p ks = parts_of l p ks h in
     let long : length ks ≡ length (branches l) = ap length w.children_are ∙ as_many l 0 (branches l) w.given w.suit in
-    branches_there l w.at (none_long (branches l) (sym long ∙ ap length none))
+    branches_there l w.at (no_items (branches l) (sym long ∙ ap length none))
 
 pub fork_born : (l p : LocalState) (ks : List LocalState) → Sound l → Forks process_ops l p ks → Born p ks
 fork_born l p ks s h =

@@ -6,18 +6,18 @@ use Rattle.shim_units.specs.declared.form.Form.{Form}
 use Rattle.shim_units.specs.declared.unit.UBranch.{UBranch}
 use Rattle.shim_units.specs.declared.unit.Arg.{Arg}
 use Rattle.shim_units.specs.declared.unit.Arg.TheVariants.{Ref, Pass, Fresh}
-use Rattle.shim_units.specs.Values.{value}
-use Rattle.shim_units.specs.Locations.{Location, Locations, at_number, lend_at}
-use Rattle.shim_units.specs.LocalState.{LocalState, unit_at, number_of, env_of, type_of}
-use Rattle.shim_units.specs.Arguments.{Argument, ByReference, ByCopy, ByValue, on_value, arguments}
-use Rattle.shim_units.specs.Forks.{lent, lending, all_lending, all_arguments, children_from}
+use Rattle.shim_process.specs.Values.{value}
+use Rattle.shim_process.specs.Locations.{Location, Locations, at_number, lend_at}
+use Rattle.shim_process.specs.LocalState.{LocalState, unit_at, number_of, env_of, type_of}
+use Rattle.shim_process.specs.Arguments.{Argument, ByReference, ByCopy, ByValue, on_value, arguments}
+use Rattle.shim_process.specs.Forks.{lent, lending, all_lending, all_arguments, children_from}
 use Rattle.shim_process.specs.Sound.{IsOwned}
 use Rattle.shim_process.proofs.ForkPlaces.{IsOwn, Place, within_both, within_lent, kept_owned, kept_own}
 
-abbrev fine : {A : Type 0} → A → Result A Trap
+abbrev pub fine : {A : Type 0} → A → Result A Trap
 fine x = Ok x
 
-ok_same : {A : Type 0} (x y : A) → fine x ≡ fine y → x ≡ y
+pub ok_same : {A : Type 0} (x y : A) → fine x ≡ fine y → x ≡ y
 ok_same x y e = cc
 
 -- what is computed from a value has one

@@ -7,13 +7,13 @@ use Rattle.shim_local.specs.Laws.{AllOf, Forks}
 use Rattle.shim_units.specs.declared.unit.UBranch.{UBranch}
 use Rattle.shim_units.specs.declared.unit.UStmt.{UStmt}
 use Rattle.shim_units.specs.declared.unit.UWhat.{UWhat, UWhat-F, out-UWhat}
-use Rattle.shim_units.specs.Locations.{Location}
-use Rattle.shim_units.specs.LocalState.{LocalState, Frame, Trapping, location_of, is_full, trapped}
-use Rattle.shim_units.specs.Todo.{Item, Do, Leave}
-use Rattle.shim_units.specs.Arguments.{Argument}
-use Rattle.shim_units.specs.Steps.{line_of}
-use Rattle.shim_units.specs.Stops.{Stop, AtQuiet, AtNext, AtPut, AtFork, AtFinish, AtThrow, AtTrap, at_next, at_put, what_stop, item_stop, stop_or, stop}
-use Rattle.shim_units.specs.Forks.{Parting, Parted, Trapped, what_branches, item_branches, all_arguments, child, children_from, lending, parent, is_far, parting, fork}
+use Rattle.shim_process.specs.Locations.{Location}
+use Rattle.shim_process.specs.LocalState.{LocalState, Frame, TrappedAt, location_of, is_full, trapped}
+use Rattle.shim_process.specs.Todo.{Item, Do, Leave}
+use Rattle.shim_process.specs.Arguments.{Argument}
+use Rattle.shim_process.specs.Steps.{line_of}
+use Rattle.shim_process.specs.Stops.{Stop, AtQuiet, AtNext, AtPut, AtFork, AtFinish, AtThrow, AtTrap, at_next, at_put, what_stop, item_stop, stop_or, stop}
+use Rattle.shim_process.specs.Forks.{Forked, Parted, Trapped, what_branches, item_branches, all_arguments, child, children_from, lending, parent, is_far, fork_result, fork}
 use Rattle.shim_process.specs.Ops.{stands, parts, process_ops}
 use Rattle.shim_process.proofs.ForkLending.{Suit, all_suit}
 
@@ -26,7 +26,7 @@ stands_fork AtFinish e = absurd cc
 stands_fork (AtThrow x) e = absurd cc
 stands_fork (AtTrap t line) e = absurd cc
 
-parted_parts : (p : Parting) (m : LocalState) (ks : List LocalState) → parts p ≡ local.Parted m ks → p ≡ Parted m ks
+pub parted_parts : (p : Forked) (m : LocalState) (ks : List LocalState) → parts p ≡ local.Parted m ks → p ≡ Parted m ks
 parted_parts (Parted n others) m ks e = parted_same n m others ks e
   where
     parted_same : (n m : LocalState) (others ks : List LocalState) → local.Parted n others ≡ local.Parted m ks → Parted n others ≡ Parted m ks
@@ -41,21 +41,21 @@ pub record Parts (l p : LocalState) (ks : List LocalState) : Type 0 where
   pub children_are : ks ≡ children_from l 0 (item_branches l.frame.todo) given
   pub at : stop l ≡ AtFork
 
-first_part : (m p : LocalState) (ns ks : List LocalState) → Parted m ns ≡ Parted p ks → p ≡ m
+pub first_part : (m p : LocalState) (ns ks : List LocalState) → Parted m ns ≡ Parted p ks → p ≡ m
 first_part m p ns ks e = cc
 
-second_part : (m p : LocalState) (ns ks : List LocalState) → Parted m ns ≡ Parted p ks → ks ≡ ns
+pub second_part : (m p : LocalState) (ns ks : List LocalState) → Parted m ns ≡ Parted p ks → ks ≡ ns
 second_part m p ns ks e = cc
 
-trapped_parts : {A : Type 0} (m p : LocalState) (ks : List LocalState) → Trapped m ≡ Parted p ks → A
+pub trapped_parts : {A : Type 0} (m p : LocalState) (ks : List LocalState) → Trapped m ≡ Parted p ks → A
 trapped_parts m p ks e = absurd cc
 
-of_refusal : (l p : LocalState) (ks : List LocalState) (given : List (List Argument)) (bs : List UBranch) (refused : Bool)
+pub of_refusal : (l p : LocalState) (ks : List LocalState) (given : List (List Argument)) (bs : List UBranch) (refused : Bool)
     → cond refused (Trapped (trapped Depth (line_of l.frame.todo) l)) (Parted (parent l bs) (children_from l 0 bs given)) ≡ Parted p ks → Parted (parent l bs) (children_from l 0 bs given) ≡ Parted p ks
 of_refusal l p ks given bs true e = trapped_parts (trapped Depth (line_of l.frame.todo) l) p ks e
 of_refusal l p ks given bs false e = e
 
-of_arguments : (l p : LocalState) (ks : List LocalState) (bs : List UBranch) (r : Result (List (List Argument)) Trap) → parting r l bs ≡ Parted p ks
+of_arguments : (l p : LocalState) (ks : List LocalState) (bs : List UBranch) (r : Result (List (List Argument)) Trap) → fork_result r l bs ≡ Parted p ks
     → (given : List (List Argument)) × (r ≡ Ok given) × (p ≡ parent l bs) × (ks ≡ children_from l 0 bs given)
 of_arguments l p ks bs (Ok given) e =
     let h = of_refusal l p ks given bs (is_far l || is_full l) e in
@@ -110,7 +110,7 @@ still_at_item [] f l m e = absurd cc
 still_at_item (Leave ∷ k) f l m e = absurd cc
 still_at_item (Do n s ∷ k) f l m e = still_there (out-UWhat s.what) f l m e
 
-still_at : (t : Option Trapping) (f : Frame) (l m : LocalState) → stop_or t (item_stop f.todo f l) ≡ AtFork → stop_or t (item_stop f.todo f m) ≡ AtFork
+still_at : (t : Option TrappedAt) (f : Frame) (l m : LocalState) → stop_or t (item_stop f.todo f l) ≡ AtFork → stop_or t (item_stop f.todo f m) ≡ AtFork
 still_at None f l m e = still_at_item f.todo f l m e
 still_at (Some t) f l m e = absurd cc
 
@@ -135,7 +135,7 @@ item_some [] f l e h = cc
 item_some (Leave ∷ k) f l e h = cc
 item_some (Do n s ∷ k) f l e h = what_some (out-UWhat s.what) f l e h
 
-stop_some : (t : Option Trapping) (f : Frame) (l : LocalState) → stop_or t (item_stop f.todo f l) ≡ AtFork → item_branches f.todo ≡ [] → ⊥
+stop_some : (t : Option TrappedAt) (f : Frame) (l : LocalState) → stop_or t (item_stop f.todo f l) ≡ AtFork → item_branches f.todo ≡ [] → ⊥
 stop_some None f l e h = item_some f.todo f l e h
 stop_some (Some t) f l e h = cc
 

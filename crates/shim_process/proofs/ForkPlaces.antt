@@ -5,34 +5,34 @@ use Rattle.shim_base.specs.Paths.{Channel, NamedChannel}
 use Rattle.shim_scopes.specs.declared.tree.UParam.{UParam}
 use Rattle.shim_units.specs.declared.unit.Arg.{Arg}
 use Rattle.shim_units.specs.declared.unit.Arg.TheVariants.{Ref, Pass, Fresh}
-use Rattle.shim_units.specs.Locations.{Location, Locations, Mark, Own, Lent, Copy, at_number, lend_at, kept, with_kept}
-use Rattle.shim_units.specs.LocalState.{number_of}
-use Rattle.shim_units.specs.Forks.{lent}
+use Rattle.shim_process.specs.Locations.{Location, Locations, Ownership, Own, Lent, Copy, at_number, lend_at, kept, with_kept}
+use Rattle.shim_process.specs.LocalState.{number_of}
+use Rattle.shim_process.specs.Forks.{lent}
 use Rattle.shim_process.specs.Sound.{IsOwned}
-use Rattle.shim_process.proofs.PlaceLocations.{same_some}
 use Rattle.shim_process.proofs.CarryChannels.{Carried}
+use Rattle.shim_base.proofs.Facts.{some_same}
 
-abbrev pub IsOwn : Mark → Type 0
+abbrev pub IsOwn : Ownership → Type 0
 IsOwn m = m ≡ Own
 
-pub owned : (m : Mark) → m ≡ Own → IsOwned m
+pub owned : (m : Ownership) → m ≡ Own → IsOwned m
 owned m e = subst IsOwned (sym e) tt
 
--- a location at this number from which that one comes: on the same channel, with a mark that has P where the other's has
-pub record Place (P : Mark → Type 0) (xs : Locations) (n : ℕ) (y : Location) : Type 0 where
+-- a location at this number from which that one comes: on the same channel, with an ownership that has P where the other's has
+pub record Place (P : Ownership → Type 0) (xs : Locations) (n : ℕ) (y : Location) : Type 0 where
   pub was : Location
   pub at : at_number xs n ≡ Some was
   pub channel : was.channel ≡ y.channel
-  pub marked : P y.mark → P was.mark
+  pub marked : P y.ownership → P was.ownership
 
 -- each location of the first list comes from that of the second one at its number
-abbrev pub Within : (Mark → Type 0) → Locations → Locations → Type 0
+abbrev pub Within : (Ownership → Type 0) → Locations → Locations → Type 0
 Within P ys xs = (n : ℕ) (y : Location) → at_number ys n ≡ Some y → Place P xs n y
 
-pub same_place : (P : Mark → Type 0) (xs : Locations) (n : ℕ) (y : Location) → at_number xs n ≡ Some y → Place P xs n y
+pub same_place : (P : Ownership → Type 0) (xs : Locations) (n : ℕ) (y : Location) → at_number xs n ≡ Some y → Place P xs n y
 same_place P xs n y e = record { was = y; at = e; channel = refl; marked = λ h. h }
 
-pub within_both : (P : Mark → Type 0) (zs ys xs : Locations) → Within P zs ys → Within P ys xs → (n : ℕ) (z : Location) → at_number zs n ≡ Some z → Place P xs n z
+pub within_both : (P : Ownership → Type 0) (zs ys xs : Locations) → Within P zs ys → Within P ys xs → (n : ℕ) (z : Location) → at_number zs n ≡ Some z → Place P xs n z
 within_both P zs ys xs f g n z e =
     let a = f n z e in
     let b = g n a.was a.at in
@@ -62,31 +62,31 @@ at_unchanged x (z ∷ xs) (suc k) (suc n) y ne e = at_unchanged x xs k n y (λ w
 
 -- what is kept of a location that is lent
 
-pub kept_owned : (m : Mark) → IsOwned (kept m) → IsOwned m
+pub kept_owned : (m : Ownership) → IsOwned (kept m) → IsOwned m
 kept_owned Own h = tt
 kept_owned Lent h = tt
 kept_owned Copy h = h
 
-pub kept_not_own : (m : Mark) → kept m ≡ Own → ⊥
+pub kept_not_own : (m : Ownership) → kept m ≡ Own → ⊥
 kept_not_own Own e = cc
 kept_not_own Lent e = cc
 kept_not_own Copy e = cc
 
-pub kept_own : (m : Mark) → IsOwn (kept m) → IsOwn m
+pub kept_own : (m : Ownership) → IsOwn (kept m) → IsOwn m
 kept_own m e = absurd (kept_not_own m e)
 
-kept_place : (P : Mark → Type 0) → ((m : Mark) → P (kept m) → P m) → (xs : Locations) (n : ℕ) (y : Location) (o : Option Location) → at_number xs n ≡ o → with_kept o ≡ Some y → Place P xs n y
+kept_place : (P : Ownership → Type 0) → ((m : Ownership) → P (kept m) → P m) → (xs : Locations) (n : ℕ) (y : Location) (o : Option Location) → at_number xs n ≡ o → with_kept o ≡ Some y → Place P xs n y
 kept_place P keep xs n y None at e = absurd cc
 kept_place P keep xs n y (Some x) at e =
-    let same : record x { mark = kept x.mark } ≡ y = same_some (record x { mark = kept x.mark }) y e in
+    let same : record x { ownership = kept x.ownership } ≡ y = some_same (record x { ownership = kept x.ownership }) y e in
     record {
       was = x;
       at = at;
       channel = ap (λ (z : Location). z.channel) same;
-      marked = λ h. keep x.mark (subst P (ap (λ (z : Location). z.mark) (sym same)) h);
+      marked = λ h. keep x.ownership (subst P (ap (λ (z : Location). z.ownership) (sym same)) h);
     }
 
-pub within_lend : (P : Mark → Type 0) → ((m : Mark) → P (kept m) → P m) → (xs : Locations) (k n : ℕ) (y : Location) → at_number (lend_at xs k) n ≡ Some y → Place P xs n y
+pub within_lend : (P : Ownership → Type 0) → ((m : Ownership) → P (kept m) → P m) → (xs : Locations) (k n : ℕ) (y : Location) → at_number (lend_at xs k) n ≡ Some y → Place P xs n y
 unfolding lend_at
 within_lend P keep xs k n y e =
     elim (at_changed with_kept xs k n y e) [
@@ -94,12 +94,12 @@ within_lend P keep xs k n y e =
       | inr w ↦ same_place P xs n y w.1
     ]
 
-kept_is_not_own : (o : Option Location) (y : Location) → with_kept o ≡ Some y → y.mark ≡ Own → ⊥
+kept_is_not_own : (o : Option Location) (y : Location) → with_kept o ≡ Some y → y.ownership ≡ Own → ⊥
 kept_is_not_own None y e own = cc
-kept_is_not_own (Some x) y e own = kept_not_own x.mark (ap (λ (z : Location). z.mark) (same_some (record x { mark = kept x.mark }) y e) ∙ own)
+kept_is_not_own (Some x) y e own = kept_not_own x.ownership (ap (λ (z : Location). z.ownership) (some_same (record x { ownership = kept x.ownership }) y e) ∙ own)
 
 -- what is lent isn't the process's own any more
-pub lent_not_own : (xs : Locations) (k n : ℕ) (y : Location) → at_number (lend_at xs k) n ≡ Some y → y.mark ≡ Own → k ≡ n → ⊥
+pub lent_not_own : (xs : Locations) (k n : ℕ) (y : Location) → at_number (lend_at xs k) n ≡ Some y → y.ownership ≡ Own → k ≡ n → ⊥
 unfolding lend_at
 lent_not_own xs k n y e own same =
     elim (at_changed with_kept xs k n y e) [
@@ -111,7 +111,7 @@ pub at_not_lent : (xs : Locations) (k n : ℕ) (y : Location) → (k ≡ n → �
 unfolding lend_at
 at_not_lent xs k n y ne e = at_unchanged (with_kept (at_number xs k)) xs k n y ne e
 
-pub within_lent : (P : Mark → Type 0) → ((m : Mark) → P (kept m) → P m) → (slots : List ℕ) (ps : List UParam) (args : List Arg) (xs : Locations) (n : ℕ) (y : Location) → at_number (lent slots ps args xs) n ≡ Some y → Place P xs n y
+pub within_lent : (P : Ownership → Type 0) → ((m : Ownership) → P (kept m) → P m) → (slots : List ℕ) (ps : List UParam) (args : List Arg) (xs : Locations) (n : ℕ) (y : Location) → at_number (lent slots ps args xs) n ≡ Some y → Place P xs n y
 within_lent P keep slots [] args xs n y e = same_place P xs n y e
 within_lent P keep slots (p ∷ ps) [] xs n y e = same_place P xs n y e
 within_lent P keep slots (p ∷ ps) (Ref x ∷ rest) xs n y e =
@@ -124,7 +124,7 @@ within_lent P keep slots (p ∷ ps) (Fresh v ∷ rest) xs n y e = within_lent P 
 pub carried_within : (c : Channel) (ys xs : Locations) → Within IsOwn ys xs → Carried ys c → Carried xs c
 carried_within c ys xs f w =
     let p = f w.number w.location w.there in
-    record { number = w.number; location = p.was; there = p.at; mark = p.marked w.mark; channel = ap (λ (d : NamedChannel). d.channel) p.channel ∙ w.channel }
+    record { number = w.number; location = p.was; there = p.at; ownership = p.marked w.ownership; channel = ap (λ (d : NamedChannel). d.channel) p.channel ∙ w.channel }
 
 pub carried_none : (c : Channel) → Carried [] c → ⊥
 unfolding at_number
@@ -132,18 +132,18 @@ carried_none c w = let e : None ≡ Some w.location = w.there in cc
 
 pub carried_behind : (c : Channel) (o : Option Location) (xs : Locations) → Carried xs c → Carried (o ∷ xs) c
 unfolding at_number
-carried_behind c o xs w = record { number = suc w.number; location = w.location; there = w.there; mark = w.mark; channel = w.channel }
+carried_behind c o xs w = record { number = suc w.number; location = w.location; there = w.there; ownership = w.ownership; channel = w.channel }
 
-pub carried_head : (c : Channel) (o : Option Location) (xs : Locations) (x : Location) → o ≡ Some x → x.mark ≡ Own → x.channel.channel ≡ c → Carried (o ∷ xs) c
+pub carried_head : (c : Channel) (o : Option Location) (xs : Locations) (x : Location) → o ≡ Some x → x.ownership ≡ Own → x.channel.channel ≡ c → Carried (o ∷ xs) c
 unfolding at_number
-carried_head c o xs x e own on = record { number = zero; location = x; there = e; mark = own; channel = on }
+carried_head c o xs x e own on = record { number = zero; location = x; there = e; ownership = own; channel = on }
 
-carried_next : (c : Channel) (o : Option Location) (xs : Locations) (n : ℕ) (x : Location) → at_number (o ∷ xs) n ≡ Some x → x.mark ≡ Own → x.channel.channel ≡ c
-    → ((z : Location) → o ≡ Some z → z.mark ≡ Own → z.channel.channel ≡ c → ⊥) → Carried xs c
+carried_next : (c : Channel) (o : Option Location) (xs : Locations) (n : ℕ) (x : Location) → at_number (o ∷ xs) n ≡ Some x → x.ownership ≡ Own → x.channel.channel ≡ c
+    → ((z : Location) → o ≡ Some z → z.ownership ≡ Own → z.channel.channel ≡ c → ⊥) → Carried xs c
 unfolding at_number
 carried_next c o xs zero x e own on f = absurd (f x e own on)
-carried_next c o xs (suc n) x e own on f = record { number = n; location = x; there = e; mark = own; channel = on }
+carried_next c o xs (suc n) x e own on f = record { number = n; location = x; there = e; ownership = own; channel = on }
 
 -- where the first location isn't the channel's own variable
-pub carried_rest : (c : Channel) (o : Option Location) (xs : Locations) → ((z : Location) → o ≡ Some z → z.mark ≡ Own → z.channel.channel ≡ c → ⊥) → Carried (o ∷ xs) c → Carried xs c
-carried_rest c o xs f w = carried_next c o xs w.number w.location w.there w.mark w.channel f
+pub carried_rest : (c : Channel) (o : Option Location) (xs : Locations) → ((z : Location) → o ≡ Some z → z.ownership ≡ Own → z.channel.channel ≡ c → ⊥) → Carried (o ∷ xs) c → Carried xs c
+carried_rest c o xs f w = carried_next c o xs w.number w.location w.there w.ownership w.channel f

@@ -4,18 +4,18 @@ use Rattle.std.proofs.lemmas.Bool.{or_cases}
 use Rattle.std.specs.Prelude.{slice_get}
 use Rattle.shim_base.specs.Paths.{Channel, NamedChannel}
 use Rattle.shim_local.specs.Laws.{AllOf, AnyOf}
-use Rattle.shim_units.specs.Locations.{Location, Own, at_number}
-use Rattle.shim_units.specs.Todo.{On}
-use Rattle.shim_units.specs.LocalState.{LocalState, handlers}
-use Rattle.shim_units.specs.Ends.{gone}
-use Rattle.shim_units.specs.Forks.{item_branches, output_back, joined, join}
-use Rattle.shim_units.specs.Sharers.{shares, carries}
+use Rattle.shim_process.specs.Locations.{Location, Own, at_number}
+use Rattle.shim_process.specs.Todo.{On}
+use Rattle.shim_process.specs.LocalState.{LocalState, handlers}
+use Rattle.shim_process.specs.Ends.{gone}
+use Rattle.shim_process.specs.Forks.{item_branches, output_back, joined, join}
+use Rattle.shim_process.specs.Sharers.{shares, carries}
 use Rattle.shim_process.specs.Sound.{LeadsTo, IsOwned, FramesBelow, Sound}
 use Rattle.shim_process.specs.Born.{Born}
-use Rattle.shim_process.proofs.PlaceLocations.{choose}
 use Rattle.shim_process.proofs.CarryChannels.{shares_same, Carried, carried_at, carries_at}
-use Rattle.shim_process.proofs.LabelFrames.{Left, gone_left, none_left}
-use Rattle.shim_process.proofs.JoinLocations.{Kept, same_mark, came_back, OneCarries, all_kept, kept_owned, kept_channel}
+use Rattle.shim_process.proofs.LabelFrames.{HasLeft, gone_left, none_left}
+use Rattle.shim_process.proofs.JoinLocations.{Kept, same_ownership, came_back, OneCarries, all_kept, kept_owned, kept_channel}
+use Rattle.shim_base.proofs.Facts.{choose}
 
 -- one of the children has the output
 abbrev pub OneHolds : List LocalState → Type 0
@@ -39,7 +39,7 @@ output_kept (k ∷ ks) holds e = elim (output_kept ks (k.holds_output || holds) 
 ]
 
 -- and units may be left then
-left_joined : (l : LocalState) (ks : List LocalState) (m : LocalState) → Left l.base (joined l ks) m → Joined l ks m
+left_joined : (l : LocalState) (ks : List LocalState) (m : LocalState) → HasLeft l.base (joined l ks) m → Joined l ks m
 left_joined l ks m h = record {
   path = h.path;
   base = h.base;
@@ -54,12 +54,12 @@ pub join_joined : (l : LocalState) (ks : List LocalState) (goes_on : Bool) → S
 unfolding join
 join_joined l ks goes_on s =
     left_joined l ks (join l ks goes_on)
-    (choose (Left l.base (joined l ks)) goes_on (gone On (joined l ks)) (joined l ks) (gone_left l.base On (joined l ks) s.labels) (none_left l.base (joined l ks) s.labels))
+    (choose (HasLeft l.base (joined l ks)) goes_on (gone On (joined l ks)) (joined l ks) (gone_left l.base On (joined l ks) s.labels) (none_left l.base (joined l ks) s.labels))
 
 joined_shares : (l : LocalState) (ks : List LocalState) (m : LocalState) (c : Channel) → Joined l ks m → shares m c ≡ shares l c
 joined_shares l ks m c h = shares_same l m c h.path h.given h.made
 
-joined_once : (l : LocalState) (ks : List LocalState) (n i : ℕ) (x y : Location) → Sound l → Kept (OneCarries ks) l.locations n x → Kept (OneCarries ks) l.locations i y → IsOwned x.mark → IsOwned y.mark
+joined_once : (l : LocalState) (ks : List LocalState) (n i : ℕ) (x y : Location) → Sound l → Kept (OneCarries ks) l.locations n x → Kept (OneCarries ks) l.locations i y → IsOwned x.ownership → IsOwned y.ownership
     → x.channel.channel ≡ y.channel.channel → n ≡ i
 joined_once l ks n i x y s a b p q same =
     let v = kept_owned (OneCarries ks) l.locations n x a p in
@@ -85,10 +85,10 @@ joined_sound l ks m s h = record {
   root = λ e. h.given ∙ s.root (sym h.path ∙ e);
 }
 
-kept_carries : (l : LocalState) (ks : List LocalState) (n : ℕ) (x : Location) (c : Channel) → Kept (OneCarries ks) l.locations n x → x.mark ≡ Own → x.channel.channel ≡ c
+kept_carries : (l : LocalState) (ks : List LocalState) (n : ℕ) (x : Location) (c : Channel) → Kept (OneCarries ks) l.locations n x → x.ownership ≡ Own → x.channel.channel ≡ c
     → (carries l c ≡ true) ⊎ OneCarries ks c
-kept_carries l ks n x c (same_mark w) own on = inl (carries_at l c n w.location w.there (w.mark ∙ own) (ap (λ (d : NamedChannel). d.channel) w.channel ∙ on))
-kept_carries l ks n x c (came_back y there channel lent own away) mark on = inr (subst (OneCarries ks) on away)
+kept_carries l ks n x c (same_ownership w) own on = inl (carries_at l c n w.location w.there (w.ownership ∙ own) (ap (λ (d : NamedChannel). d.channel) w.channel ∙ on))
+kept_carries l ks n x c (came_back y there channel lent own away) ownership on = inr (subst (OneCarries ks) on away)
 
 pub join_sound : (l : LocalState) (ks : List LocalState) (goes_on : Bool) → Sound l → AllOf Sound ks → Born l ks → Sound (join l ks goes_on)
 join_sound l ks goes_on s all born = joined_sound l ks (join l ks goes_on) s (join_joined l ks goes_on s)
@@ -114,7 +114,7 @@ pub join_carries : (l : LocalState) (ks : List LocalState) (goes_on : Bool) (c :
     → (carries l c ≡ true) ⊎ OneCarries ks c
 join_carries l ks goes_on c s all born e =
     let w : Carried (join l ks goes_on).locations c = carried_at (join l ks goes_on) c e in
-    kept_carries l ks w.number w.location c ((join_joined l ks goes_on s).kept w.number w.location w.there) w.mark w.channel
+    kept_carries l ks w.number w.location c ((join_joined l ks goes_on s).kept w.number w.location w.there) w.ownership w.channel
 
 pub join_holds : (l : LocalState) (ks : List LocalState) (goes_on : Bool) → Sound l → AllOf Sound ks → Born l ks → (join l ks goes_on).holds_output ≡ true
     → (l.holds_output ≡ true) ⊎ OneHolds ks

@@ -6,18 +6,20 @@ use Rattle.shim_local.specs.Laws.{AnyOf}
 use Rattle.shim_units.specs.declared.unit.UBranch.{UBranch}
 use Rattle.shim_units.specs.declared.unit.Arg.{Arg}
 use Rattle.shim_units.specs.declared.unit.Arg.TheVariants.{Ref, Pass, Fresh}
-use Rattle.shim_units.specs.Locations.{Location, Locations, Mark, Own, Lent, Copy, at_number, is_on, regained, with_back}
-use Rattle.shim_units.specs.LocalState.{LocalState, number_of}
-use Rattle.shim_units.specs.Forks.{taken_back, all_back}
-use Rattle.shim_units.specs.Sharers.{carries}
+use Rattle.shim_process.specs.Locations.{Location, Locations, Ownership, Own, Lent, Copy, at_number, is_on, regained, with_back}
+use Rattle.shim_process.specs.LocalState.{LocalState, number_of}
+use Rattle.shim_process.specs.Forks.{taken_back, all_back}
+use Rattle.shim_process.specs.Sharers.{carries}
 use Rattle.shim_process.specs.Sound.{IsOwned}
-use Rattle.shim_process.proofs.PlaceLocations.{same_some, Was, was_there, at_set}
-use Rattle.shim_process.proofs.CarryChannels.{same_channel_is, carries_at}
+use Rattle.shim_process.proofs.PlaceLocations.{Was, was_there, at_set}
+use Rattle.shim_process.proofs.CarryChannels.{carries_at}
+use Rattle.shim_base.proofs.Facts.{some_same}
+use Rattle.shim_base.proofs.SamePaths.{same_channel_is}
 
--- A location was at this number, on the same channel: with the same mark, or lent, and then it is the channel's own variable again, which had been somewhere else.
+-- A location was at this number, on the same channel: with the same ownership, or lent, and then it is the channel's own variable again, which had been somewhere else.
 pub data Kept (Elsewhere : Channel → Type 0) (before : Locations) (n : ℕ) (x : Location) : Type 0 where
-  same_mark : Was before n x → Kept Elsewhere before n x
-  came_back : (y : Location) → at_number before n ≡ Some y → y.channel ≡ x.channel → y.mark ≡ Lent → x.mark ≡ Own → Elsewhere x.channel.channel → Kept Elsewhere before n x
+  same_ownership : Was before n x → Kept Elsewhere before n x
+  came_back : (y : Location) → at_number before n ≡ Some y → y.channel ≡ x.channel → y.ownership ≡ Lent → x.ownership ≡ Own → Elsewhere x.channel.channel → Kept Elsewhere before n x
 
 -- the child carries the channel
 abbrev pub Carries : LocalState → Channel → Type 0
@@ -27,51 +29,51 @@ Carries k c = carries k c ≡ true
 abbrev pub OneCarries : List LocalState → Channel → Type 0
 OneCarries ks c = AnyOf (λ k. carries k c ≡ true) ks
 
-own_not_lent : (x : Location) → x.mark ≡ Own → x.mark ≡ Lent → ⊥
+own_not_lent : (x : Location) → x.ownership ≡ Own → x.ownership ≡ Lent → ⊥
 own_not_lent x a b = absurd (cc)
 
-same_chained : (P : Channel → Type 0) (before : Locations) (n : ℕ) (y x : Location) → y.channel ≡ x.channel → y.mark ≡ x.mark → Kept P before n y → Kept P before n x
-same_chained P before n y x channel mark (same_mark v) = same_mark (record { location = v.location; there = v.there; channel = v.channel ∙ channel; mark = v.mark ∙ mark })
-same_chained P before n y x channel mark (came_back z there other lent own away) =
-    came_back z there (other ∙ channel) lent (sym mark ∙ own) (subst (λ d. P d.channel) channel away)
+same_chained : (P : Channel → Type 0) (before : Locations) (n : ℕ) (y x : Location) → y.channel ≡ x.channel → y.ownership ≡ x.ownership → Kept P before n y → Kept P before n x
+same_chained P before n y x channel ownership (same_ownership v) = same_ownership (record { location = v.location; there = v.there; channel = v.channel ∙ channel; ownership = v.ownership ∙ ownership })
+same_chained P before n y x channel ownership (came_back z there other lent own away) =
+    came_back z there (other ∙ channel) lent (sym ownership ∙ own) (subst (λ d. P d.channel) channel away)
 
-back_chained : (P : Channel → Type 0) (before : Locations) (n : ℕ) (y x : Location) → y.channel ≡ x.channel → y.mark ≡ Lent → x.mark ≡ Own → P x.channel.channel → Kept P before n y → Kept P before n x
-back_chained P before n y x channel lent own away (same_mark v) = came_back v.location v.there (v.channel ∙ channel) (v.mark ∙ lent) own away
+back_chained : (P : Channel → Type 0) (before : Locations) (n : ℕ) (y x : Location) → y.channel ≡ x.channel → y.ownership ≡ Lent → x.ownership ≡ Own → P x.channel.channel → Kept P before n y → Kept P before n x
+back_chained P before n y x channel lent own away (same_ownership v) = came_back v.location v.there (v.channel ∙ channel) (v.ownership ∙ lent) own away
 back_chained P before n y x channel lent own away (came_back z there other gone is_own back) = absurd (own_not_lent y is_own lent)
 
 -- what came back twice came back
 chained : (P : Channel → Type 0) (before between : Locations) (n : ℕ) (x : Location) → ((y : Location) → at_number between n ≡ Some y → Kept P before n y) → Kept P between n x → Kept P before n x
-chained P before between n x h (same_mark w) = same_chained P before n w.location x w.channel w.mark (h w.location w.there)
+chained P before between n x h (same_ownership w) = same_chained P before n w.location x w.channel w.ownership (h w.location w.there)
 chained P before between n x h (came_back y there channel lent own away) = back_chained P before n y x channel lent own away (h y there)
 
 -- from one of more places
 widened : (P Q : Channel → Type 0) (before : Locations) (n : ℕ) (x : Location) → ((c : Channel) → P c → Q c) → Kept P before n x → Kept Q before n x
-widened P Q before n x h (same_mark w) = same_mark w
+widened P Q before n x h (same_ownership w) = same_ownership w
 widened P Q before n x h (came_back y there channel lent own away) = came_back y there channel lent own (h x.channel.channel away)
 
-mark_back : (m k : Mark) → (regained m k ≡ k) ⊎ ((m ≡ Own) × (k ≡ Lent) × (regained m k ≡ Own))
-mark_back Own Own = inl refl
-mark_back Own Lent = inr (refl, refl, refl)
-mark_back Own Copy = inl refl
-mark_back Lent k = inl refl
-mark_back Copy k = inl refl
+ownership_back : (m k : Ownership) → (regained m k ≡ k) ⊎ ((m ≡ Own) × (k ≡ Lent) × (regained m k ≡ Own))
+ownership_back Own Own = inl refl
+ownership_back Own Lent = inr (refl, refl, refl)
+ownership_back Own Copy = inl refl
+ownership_back Lent k = inl refl
+ownership_back Copy k = inl refl
 
 by_channel : (k : LocalState) (m : ℕ) (before : Locations) (n : ℕ) (back l x : Location) → at_number k.locations m ≡ Some back → at_number before n ≡ Some l
-    → (t : Bool) → is_on l.channel.channel back ≡ t → cond t (Some (record l { value = back.value; mark = regained back.mark l.mark })) (Some l) ≡ Some x → Kept (Carries k) before n x
+    → (t : Bool) → is_on l.channel.channel back ≡ t → cond t (Some (record l { value = back.value; ownership = regained back.ownership l.ownership })) (Some l) ≡ Some x → Kept (Carries k) before n x
 by_channel k m before n back l x a b true on e =
-    let same = same_some (record l { value = back.value; mark = regained back.mark l.mark }) x e in
-    elim (mark_back back.mark l.mark) [
-      | inl h ↦ same_mark (record { location = l; there = b; channel = ap (λ (r : Location). r.channel) same; mark = sym h ∙ ap (λ (r : Location). r.mark) same })
+    let same = some_same (record l { value = back.value; ownership = regained back.ownership l.ownership }) x e in
+    elim (ownership_back back.ownership l.ownership) [
+      | inl h ↦ same_ownership (record { location = l; there = b; channel = ap (λ (r : Location). r.channel) same; ownership = sym h ∙ ap (λ (r : Location). r.ownership) same })
       | inr h ↦
-          came_back l b (ap (λ (r : Location). r.channel) same) h.1 (sym (ap (λ (r : Location). r.mark) same) ∙ h.2)
+          came_back l b (ap (λ (r : Location). r.channel) same) h.1 (sym (ap (λ (r : Location). r.ownership) same) ∙ h.2)
           (carries_at k x.channel.channel m back a h.0 (same_channel_is back.channel.channel l.channel.channel on ∙ ap (λ (r : Location). r.channel.channel) same))
     ]
-by_channel k m before n back l x a b false on e = same_mark (was_there before n x (b ∙ e))
+by_channel k m before n back l x a b false on e = same_ownership (was_there before n x (b ∙ e))
 
 by_locations : (k : LocalState) (m : ℕ) (before : Locations) (n : ℕ) (o p : Option Location) (x : Location) → at_number k.locations m ≡ o → at_number before n ≡ p → with_back o p ≡ Some x
     → Kept (Carries k) before n x
-by_locations k m before n None p x a b e = same_mark (was_there before n x (b ∙ e))
-by_locations k m before n (Some back) None x a b e = same_mark (was_there before n x (b ∙ e))
+by_locations k m before n None p x a b e = same_ownership (was_there before n x (b ∙ e))
+by_locations k m before n (Some back) None x a b e = same_ownership (was_there before n x (b ∙ e))
 by_locations k m before n (Some back) (Some l) x a b e = by_channel k m before n back l x a b (is_on l.channel.channel back) refl e
 
 -- one location's value comes back
@@ -79,13 +81,13 @@ one_kept : (k : LocalState) (m i : ℕ) (before : Locations) (n : ℕ) (x : Loca
     → Kept (Carries k) before n x
 one_kept k m i before n x e = elim (at_set before i n (with_back (at_number k.locations m) (at_number before i)) x e) [
   | inl h ↦ subst (λ j. Kept (Carries k) before j x) (sym h.0) (by_locations k m before i (at_number k.locations m) (at_number before i) x refl refl h.1)
-  | inr h ↦ same_mark (was_there before n x h)
+  | inr h ↦ same_ownership (was_there before n x h)
 ]
 
 -- all values of one child come back
 taken_kept : (slots : List ℕ) (m : ℕ) (args : List Arg) (k : LocalState) (before : Locations) (n : ℕ) (x : Location) → at_number (taken_back slots m args k.locations before) n ≡ Some x
     → Kept (Carries k) before n x
-taken_kept slots m [] k before n x e = same_mark (was_there before n x e)
+taken_kept slots m [] k before n x e = same_ownership (was_there before n x e)
 taken_kept slots m (Ref y ∷ rest) k before n x e =
     let between : Locations = slice_set before (number_of slots y) (with_back (at_number k.locations m) (at_number before (number_of slots y))) in
     chained (Carries k) before between n x (λ z f. one_kept k m (number_of slots y) before n z f) (taken_kept slots (m + 1) rest k between n x e)
@@ -95,8 +97,8 @@ taken_kept slots m (Fresh y ∷ rest) k before n x e = taken_kept slots (m + 1) 
 -- the values of all children come back
 pub all_kept : (slots : List ℕ) (branches : List UBranch) (ks : List LocalState) (before : Locations) (n : ℕ) (x : Location) → at_number (all_back slots branches ks before) n ≡ Some x
     → Kept (OneCarries ks) before n x
-all_kept slots [] ks before n x e = same_mark (was_there before n x e)
-all_kept slots (b ∷ branches) [] before n x e = same_mark (was_there before n x e)
+all_kept slots [] ks before n x e = same_ownership (was_there before n x e)
+all_kept slots (b ∷ branches) [] before n x e = same_ownership (was_there before n x e)
 all_kept slots (b ∷ branches) (k ∷ ks) before n x e =
     let between : Locations = taken_back slots 0 b.call.args k.locations before in
     chained (OneCarries (k ∷ ks)) before between n x
@@ -104,12 +106,12 @@ all_kept slots (b ∷ branches) (k ∷ ks) before n x e =
     (widened (OneCarries ks) (OneCarries (k ∷ ks)) between n x (λ c h. inr h) (all_kept slots branches ks between n x e))
 
 -- the channel's own variable, here or with a child, was that before
-pub kept_owned : (P : Channel → Type 0) (before : Locations) (n : ℕ) (x : Location) → Kept P before n x → IsOwned x.mark
-    → (y : Location) × (at_number before n ≡ Some y) × IsOwned y.mark × (y.channel ≡ x.channel)
-kept_owned P before n x (same_mark w) owned = (w.location, w.there, subst IsOwned (sym w.mark) owned, w.channel)
+pub kept_owned : (P : Channel → Type 0) (before : Locations) (n : ℕ) (x : Location) → Kept P before n x → IsOwned x.ownership
+    → (y : Location) × (at_number before n ≡ Some y) × IsOwned y.ownership × (y.channel ≡ x.channel)
+kept_owned P before n x (same_ownership w) owned = (w.location, w.there, subst IsOwned (sym w.ownership) owned, w.channel)
 kept_owned P before n x (came_back y there channel lent own away) owned = (y, there, subst IsOwned (sym lent) tt, channel)
 
 -- the channel was the location's
 pub kept_channel : (P : Channel → Type 0) (before : Locations) (n : ℕ) (x : Location) → Kept P before n x → (y : Location) × (at_number before n ≡ Some y) × (y.channel ≡ x.channel)
-kept_channel P before n x (same_mark w) = (w.location, w.there, w.channel)
+kept_channel P before n x (same_ownership w) = (w.location, w.there, w.channel)
 kept_channel P before n x (came_back y there channel lent own away) = (y, there, channel)

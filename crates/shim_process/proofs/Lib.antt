@@ -1,11 +1,12 @@
 -- The lemmas of this crate.
+pub mod TodoItems
 pub mod PlaceRoot
 pub mod PlaceLocations
 pub mod CallLocations
 pub mod CarryChannels
 pub mod LabelFrames
 pub mod QuietKeeps
-pub mod QuietDeeds
+pub mod QuietActions
 pub mod CallKeeps
 pub mod PlaceStops
 pub mod PutGoes

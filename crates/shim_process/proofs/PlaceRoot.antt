@@ -2,9 +2,9 @@
 use Rattle.std.proofs.Common.{◌≡◌, ℕ, ◌+◌, ◌≤◌, inl, inr, Bool, true, false, List, [], ◌∷◌, length, refl, arith}
 use Rattle.shim_base.specs.Paths.{Channel}
 use Rattle.shim_units.specs.declared.form.Form.{Form}
-use Rattle.shim_units.specs.LocalState.{unit_at}
-use Rattle.shim_units.specs.Forks.{labels_from, root}
-use Rattle.shim_units.specs.Sharers.{shares}
+use Rattle.shim_process.specs.LocalState.{unit_at}
+use Rattle.shim_process.specs.Forks.{labels_from, root}
+use Rattle.shim_process.specs.Sharers.{shares}
 use Rattle.shim_process.specs.Sound.{LabelsBelow, Sound}
 use Rattle.shim_process.proofs.PlaceLocations.{at_empty}
 use Rattle.shim_process.proofs.CarryChannels.{shares_how}

@@ -7,17 +7,17 @@ use Rattle.shim_local.specs.Process as local
 use Rattle.shim_units.specs.declared.unit.UBranch.{UBranch}
 use Rattle.shim_units.specs.declared.unit.UStmt.{UStmt}
 use Rattle.shim_units.specs.declared.unit.UWhat.{UWhat, UWhat-F, out-UWhat}
-use Rattle.shim_units.specs.Values.{Value}
-use Rattle.shim_units.specs.Locations.{Location, at_number}
-use Rattle.shim_units.specs.Todo.{Item, Do, Leave}
-use Rattle.shim_units.specs.LocalState.{LocalState, Trapping, location_of, number_of, handlers, trapped}
-use Rattle.shim_units.specs.Sharers.{shares}
-use Rattle.shim_units.specs.Steps.{line_of}
-use Rattle.shim_units.specs.Stops.{Stop, AtQuiet, at_next, at_put, at_fork, what_stop, item_stop, stop_or, stop, put_value, low_bits, byte, after_put, put}
+use Rattle.shim_process.specs.Values.{Value}
+use Rattle.shim_process.specs.Locations.{Location, at_number}
+use Rattle.shim_process.specs.Todo.{Item, Do, Leave}
+use Rattle.shim_process.specs.LocalState.{LocalState, TrappedAt, location_of, number_of, handlers, trapped}
+use Rattle.shim_process.specs.Sharers.{shares}
+use Rattle.shim_process.specs.Steps.{line_of}
+use Rattle.shim_process.specs.Stops.{Stop, AtQuiet, at_next, at_put, at_fork, what_stop, item_stop, stop_or, stop, put_value, low_bits, byte, after_put, put}
 use Rattle.shim_process.specs.Sound.{Sound}
 use Rattle.shim_process.specs.Ops.{stands}
-use Rattle.shim_process.proofs.PlaceLocations.{choose}
 use Rattle.shim_process.proofs.LabelFrames.{label_below}
+use Rattle.shim_base.proofs.Facts.{choose}
 
 -- at one of its locations
 abbrev pub StandsOn : LocalState → NamedChannel → Type 0
@@ -58,7 +58,7 @@ own_item [] l s = tt
 own_item (Leave ∷ k) l s = tt
 own_item (Do n st ∷ k) l s = own_what (out-UWhat st.what) l s
 
-own_or : (l : LocalState) (t : Option Trapping) (s : Stop) → IsItsOwn l (stands s) → IsItsOwn l (stands (stop_or t s))
+own_or : (l : LocalState) (t : Option TrappedAt) (s : Stop) → IsItsOwn l (stands s) → IsItsOwn l (stands (stop_or t s))
 own_or l None s h = h
 own_or l (Some t) s h = tt
 

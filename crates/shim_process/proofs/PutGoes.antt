@@ -6,14 +6,14 @@ use Rattle.shim_local.specs.Laws.{IsTrapped}
 use Rattle.shim_units.specs.declared.unit.UBranch.{UBranch}
 use Rattle.shim_units.specs.declared.unit.UStmt.{UStmt}
 use Rattle.shim_units.specs.declared.unit.UWhat.{UWhat, UWhat-F, out-UWhat}
-use Rattle.shim_units.specs.Values.{Value}
-use Rattle.shim_units.specs.Locations.{Location}
-use Rattle.shim_units.specs.Todo.{Item, Do, Leave, Way, On}
-use Rattle.shim_units.specs.LocalState.{LocalState, Frame, Trapping, location_of}
-use Rattle.shim_units.specs.Ends.{went, is_over, settled, gone}
-use Rattle.shim_units.specs.Stops.{Stop, AtQuiet, at_next, at_put, at_fork, what_stop, item_stop, stop_or, stop, put_value, low_bits, byte, after_put, put}
+use Rattle.shim_process.specs.Values.{Value}
+use Rattle.shim_process.specs.Locations.{Location}
+use Rattle.shim_process.specs.Todo.{Item, Do, Leave, Successor, On}
+use Rattle.shim_process.specs.LocalState.{LocalState, Frame, TrappedAt, location_of}
+use Rattle.shim_process.specs.Ends.{went, is_over, settled, gone}
+use Rattle.shim_process.specs.Stops.{Stop, AtQuiet, at_next, at_put, at_fork, what_stop, item_stop, stop_or, stop, put_value, low_bits, byte, after_put, put}
 use Rattle.shim_process.specs.Ops.{stands, process_ops}
-use Rattle.shim_process.proofs.PlaceLocations.{choose}
+use Rattle.shim_base.proofs.Facts.{choose}
 
 -- to go on sets no trap
 
@@ -23,9 +23,9 @@ settled_trap (caller ∷ callers) f l =
     let left : LocalState = record l { locations = take f.floor l.locations } in
     choose (λ (m : LocalState). m.trap ≡ l.trap) (is_over f.todo) (settled callers (went On caller) left) (record l { frame = f; callers = caller ∷ callers }) (settled_trap callers (went On caller) left) refl
 
-gone_trap : (way : Way) (l : LocalState) → (gone way l).trap ≡ l.trap
+gone_trap : (successor : Successor) (l : LocalState) → (gone successor l).trap ≡ l.trap
 unfolding gone
-gone_trap way l = settled_trap l.callers (went way l.frame) l
+gone_trap successor l = settled_trap l.callers (went successor l.frame) l
 
 after_put_trap : (r : Value) (l : LocalState) (b : ℕ) → low_bits r ≡ Some b → (after_put r l).trap ≡ l.trap
 after_put_trap (Ok v) l b e = gone_trap On l
@@ -67,7 +67,7 @@ free_item [] f l = tt
 free_item (Leave ∷ k) f l = tt
 free_item (Do n s ∷ k) f l = free_what (out-UWhat s.what) f l
 
-free_or : (t : Option Trapping) (s : Stop) → t ≡ None → IsFree (stands s) → IsFree (stands (stop_or t s))
+free_or : (t : Option TrappedAt) (s : Stop) → t ≡ None → IsFree (stands s) → IsFree (stands (stop_or t s))
 free_or None s none h = h
 free_or (Some t) s none h = absurd cc
 
@@ -77,7 +77,7 @@ free_stop l none = free_or l.trap (item_stop l.frame.todo l.frame l) none (free_
 
 -- who stands at a put has none
 
-none_or : (t : Option Trapping) (s : Stop) → stands (stop_or t s) ≡ local.AtPut → t ≡ None
+none_or : (t : Option TrappedAt) (s : Stop) → stands (stop_or t s) ≡ local.AtPut → t ≡ None
 none_or None s e = refl
 none_or (Some t) s e = absurd cc
 

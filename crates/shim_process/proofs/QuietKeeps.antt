@@ -2,19 +2,19 @@
 use Rattle.std.proofs.Common.{◌≡◌, ◌∙◌, ℕ, ◌<◌, ◌≤◌, ◌⊎◌, inl, inr, Bool, true, false, ◌∷◌, Some, refl, sym, ap, subst, arith}
 use Rattle.std.specs.Prelude.{slice_get}
 use Rattle.shim_base.specs.Paths.{Channel, NamedChannel}
-use Rattle.shim_units.specs.Locations.{Location, Own, Copy, at_number}
-use Rattle.shim_units.specs.LocalState.{LocalState}
-use Rattle.shim_units.specs.Sharers.{shares, carries}
+use Rattle.shim_process.specs.Locations.{Location, Own, Copy, at_number}
+use Rattle.shim_process.specs.LocalState.{LocalState}
+use Rattle.shim_process.specs.Sharers.{shares, carries}
 use Rattle.shim_process.specs.Sound.{LeadsTo, IsOwned, FramesBelow, Sound}
 use Rattle.shim_process.proofs.PlaceLocations.{Was}
 use Rattle.shim_process.proofs.CarryChannels.{shares_more, shares_new, shares_made, shares_how, Carried, carried_at, carries_at}
-use Rattle.shim_process.proofs.LabelFrames.{Left}
+use Rattle.shim_process.proofs.LabelFrames.{HasLeft}
 
 -- What a location was before: the same, or one that is made, of an older channel or of a new one. The new channels are those from l's count on to this one, and each has a place.
 pub data From (l : LocalState) (made : ℕ) (place : ℕ → ℕ) (n : ℕ) (x : Location) : Type 0 where
   as_was : Was l.locations n x → From l made place n x
-  as_copy : x.mark ≡ Copy → shares l x.channel.channel ≡ true → From l made place n x
-  as_new : x.mark ≡ Own → x.channel.channel.home ≡ l.path → l.made ≤ x.channel.channel.serial → x.channel.channel.serial < made → n ≡ place x.channel.channel.serial
+  as_copy : x.ownership ≡ Copy → shares l x.channel.channel ≡ true → From l made place n x
+  as_new : x.ownership ≡ Own → x.channel.channel.home ≡ l.path → l.made ≤ x.channel.channel.serial → x.channel.channel.serial < made → n ≡ place x.channel.channel.serial
       → From l made place n x
 
 -- all but the units that a process is in
@@ -32,7 +32,7 @@ pub record Keeps (l m : LocalState) : Type 0 where
   pub labels : FramesBelow l.base (m.frame ∷ m.callers)
 
 -- a change, and then units left
-pub keeps : (l k m : LocalState) → Changed l k → Left l.base k m → Keeps l m
+pub keeps : (l k m : LocalState) → Changed l k → HasLeft l.base k m → Keeps l m
 keeps l k m c e = record {
   changed = record {
     path = e.path ∙ c.path;
@@ -58,8 +58,8 @@ serial_below l c s home e = elim (shares_how l c e) [
 from_shares : (l m : LocalState) (n : ℕ) (x : Location) → Sound l → (c : Changed l m) → From l m.made c.place n x → shares m x.channel.channel ≡ true
 from_shares l m n x s c (as_was w) =
     shares_more l m x.channel.channel c.path c.given c.made (subst (λ (d : NamedChannel). shares l d.channel ≡ true) w.channel (s.channels n w.location w.there))
-from_shares l m n x s c (as_copy mark e) = shares_more l m x.channel.channel c.path c.given c.made e
-from_shares l m n x s c (as_new mark home least below is) = shares_made m x.channel.channel (home ∙ sym c.path) below
+from_shares l m n x s c (as_copy ownership e) = shares_more l m x.channel.channel c.path c.given c.made e
+from_shares l m n x s c (as_new ownership home least below is) = shares_made m x.channel.channel (home ∙ sym c.path) below
 
 was_shared : (l : LocalState) (n : ℕ) (x : Location) → Sound l → Was l.locations n x → shares l x.channel.channel ≡ true
 was_shared l n x s w = subst (λ (d : NamedChannel). shares l d.channel ≡ true) w.channel (s.channels n w.location w.there)
@@ -71,19 +71,19 @@ never_new l n x c s w same home least =
     let below = serial_below l c s home shared in
     omega (arith, below, least)
 
-no_copy : (x : Location) → x.mark ≡ Copy → IsOwned x.mark → ⊥
-no_copy x mark owned = subst IsOwned mark owned
+no_copy : (x : Location) → x.ownership ≡ Copy → IsOwned x.ownership → ⊥
+no_copy x ownership owned = subst IsOwned ownership owned
 
-from_once : (l : LocalState) (made : ℕ) (place : ℕ → ℕ) (n m : ℕ) (x y : Location) → Sound l → From l made place n x → From l made place m y → IsOwned x.mark → IsOwned y.mark
+from_once : (l : LocalState) (made : ℕ) (place : ℕ → ℕ) (n m : ℕ) (x y : Location) → Sound l → From l made place n x → From l made place m y → IsOwned x.ownership → IsOwned y.ownership
     → x.channel.channel ≡ y.channel.channel → n ≡ m
-from_once l made place n m x y s (as_copy mark e) b p q same = absurd (no_copy x mark p)
-from_once l made place n m x y s a (as_copy mark e) p q same = absurd (no_copy y mark q)
+from_once l made place n m x y s (as_copy ownership e) b p q same = absurd (no_copy x ownership p)
+from_once l made place n m x y s a (as_copy ownership e) p q same = absurd (no_copy y ownership q)
 from_once l made place n m x y s (as_was v) (as_was w) p q same =
-    s.once n m v.location w.location v.there w.there (subst IsOwned (sym v.mark) p) (subst IsOwned (sym w.mark) q)
+    s.once n m v.location w.location v.there w.there (subst IsOwned (sym v.ownership) p) (subst IsOwned (sym w.ownership) q)
     (ap (λ (d : NamedChannel). d.channel) v.channel ∙ same ∙ sym (ap (λ (d : NamedChannel). d.channel) w.channel))
-from_once l made place n m x y s (as_was v) (as_new mark home least below is) p q same = absurd (never_new l n x y.channel.channel s v same home least)
-from_once l made place n m x y s (as_new mark home least below is) (as_was w) p q same = absurd (never_new l m y x.channel.channel s w (sym same) home least)
-from_once l made place n m x y s (as_new mark home least below is) (as_new other_mark other_home other_least other_below other_is) p q same =
+from_once l made place n m x y s (as_was v) (as_new ownership home least below is) p q same = absurd (never_new l n x y.channel.channel s v same home least)
+from_once l made place n m x y s (as_new ownership home least below is) (as_was w) p q same = absurd (never_new l m y x.channel.channel s w (sym same) home least)
+from_once l made place n m x y s (as_new ownership home least below is) (as_new other_ownership other_home other_least other_below other_is) p q same =
     is ∙ ap (λ (d : Channel). place d.serial) same ∙ sym other_is
 
 -- a state stays sound
@@ -113,21 +113,21 @@ unshared : (l : LocalState) (c : Channel) (b : Bool) → shares l c ≡ b → So
 unshared l c true e s home least = absurd (let below = serial_below l c s home e in omega (arith, below, least))
 unshared l c false e s home least = refl
 
-not_copy : (x : Location) → x.mark ≡ Own → x.mark ≡ Copy → ⊥
+not_copy : (x : Location) → x.ownership ≡ Own → x.ownership ≡ Copy → ⊥
 not_copy x a b = subst IsOwned (sym a ∙ b) tt
 
-from_carries : (l : LocalState) (made : ℕ) (place : ℕ → ℕ) (n : ℕ) (x : Location) (c : Channel) → Sound l → From l made place n x → x.mark ≡ Own → x.channel.channel ≡ c
+from_carries : (l : LocalState) (made : ℕ) (place : ℕ → ℕ) (n : ℕ) (x : Location) (c : Channel) → Sound l → From l made place n x → x.ownership ≡ Own → x.channel.channel ≡ c
     → (carries l c ≡ true) ⊎ ((c.home ≡ l.path) × (shares l c ≡ false))
-from_carries l made place n x c s (as_was w) own on = inl (carries_at l c n w.location w.there (w.mark ∙ own) (ap (λ (d : NamedChannel). d.channel) w.channel ∙ on))
-from_carries l made place n x c s (as_copy mark e) own on = absurd (not_copy x own mark)
-from_carries l made place n x c s (as_new mark home least below is) own on =
+from_carries l made place n x c s (as_was w) own on = inl (carries_at l c n w.location w.there (w.ownership ∙ own) (ap (λ (d : NamedChannel). d.channel) w.channel ∙ on))
+from_carries l made place n x c s (as_copy ownership e) own on = absurd (not_copy x own ownership)
+from_carries l made place n x c s (as_new ownership home least below is) own on =
     inr (subst (λ (d : Channel). d.home ≡ l.path) on home, unshared l c (shares l c) refl s (subst (λ (d : Channel). d.home ≡ l.path) on home) (subst (λ (d : Channel). l.made ≤ d.serial) on least))
 
 -- it carries no more, but for what is new and its own
 pub keeps_carries : (l m : LocalState) (c : Channel) → Sound l → Keeps l m → carries m c ≡ true → (carries l c ≡ true) ⊎ ((c.home ≡ l.path) × (shares l c ≡ false))
 keeps_carries l m c s k e =
     let w : Carried m.locations c = carried_at m c e in
-    from_carries l m.made k.changed.place w.number w.location c s (k.changed.from w.number w.location w.there) w.mark w.channel
+    from_carries l m.made k.changed.place w.number w.location c s (k.changed.from w.number w.location w.there) w.ownership w.channel
 
 pub keeps_holds : (l m : LocalState) → Keeps l m → m.holds_output ≡ true → l.holds_output ≡ true
 keeps_holds l m k e = sym k.changed.output ∙ e

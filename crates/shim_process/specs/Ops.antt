@@ -1,14 +1,14 @@
 -- The definition's process, as a process that can be asked and stepped.
-use Rattle.shim_local.specs.Process.{Ops, StopView, Parting}
+use Rattle.shim_local.specs.Process.{Ops, StopView, ForkedView}
 use Rattle.shim_local.specs.Process as local
-use Rattle.shim_units.specs.Forks.{fork, join}
-use Rattle.shim_units.specs.Forks as forks
-use Rattle.shim_units.specs.LocalState.{LocalState, handlers}
-use Rattle.shim_units.specs.Sharers.{shares, carries, value_of, handler}
-use Rattle.shim_units.specs.Steps.{quiet}
-use Rattle.shim_units.specs.Stops.{Stop, stop, byte, put, receive}
-use Rattle.shim_units.specs.Stops as stops
-use Rattle.shim_units.specs.Unwinding.{unwind}
+use Rattle.shim_process.specs.Forks.{fork, join}
+use Rattle.shim_process.specs.Forks as forks
+use Rattle.shim_process.specs.LocalState.{LocalState, handlers}
+use Rattle.shim_process.specs.Sharers.{shares, carries, channel_value, handler}
+use Rattle.shim_process.specs.Steps.{quiet}
+use Rattle.shim_process.specs.Stops.{Stop, stop, byte, put, receive}
+use Rattle.shim_process.specs.Stops as stops
+use Rattle.shim_process.specs.Unwinding.{unwind}
 use Rattle.shim_process.specs.Sound.{Sound}
 use Rattle.shim_process.specs.Born.{Born}
 
@@ -21,9 +21,9 @@ stands stops.AtFinish = local.AtFinish
 stands (stops.AtThrow x) = local.AtThrow x
 stands (stops.AtTrap t line) = local.AtTrap t line
 
-abbrev pub parts : forks.Parting → Parting LocalState
+abbrev pub parts : forks.Forked → ForkedView LocalState
 parts (forks.Parted l children) = local.Parted l children
-parts (forks.Trapped l) = local.Stuck l
+parts (forks.Trapped l) = local.Trapped l
 
 abbrev pub process_ops : Ops LocalState
 process_ops = record {
@@ -37,7 +37,7 @@ process_ops = record {
   join = join;
   born = Born;
   unwind = unwind;
-  value = value_of;
+  value = channel_value;
   shares = shares;
   carries = carries;
   given = λ l. l.given;

@@ -3,8 +3,8 @@ ghost use Rattle.std.specs.Prelude.{ℕ, List, false, ◌≡◌};
 ghost use Rattle.shim_base.specs.Paths.{Channel};
 ghost use Rattle.shim_local.specs.Laws.{LocalLaws};
 ghost use Rattle.shim_units.specs.declared.form.Form.{Form};
-ghost use Rattle.shim_units.specs.Forks.{root};
-ghost use Rattle.shim_units.specs.Sharers.{shares};
+ghost use Rattle.shim_process.specs.Forks.{root};
+ghost use Rattle.shim_process.specs.Sharers.{shares};
 ghost use Rattle.shim_process.specs.Ops.{process_ops};
 ghost use Rattle.shim_process.specs.Sound.{Sound};
 

@@ -2,8 +2,8 @@
 use Rattle.std.proofs.Common.{◌≡◌, ◌↔◌, ◌⊎◌, inl, inr, ℕ, zero, suc, ◌+◌, ◌-◌, ◌<◌, ◌≤◌, Option, Some, None, refl, sym, ap, ◌∙◌, subst, arith}
 use Rattle.std.specs.Option.{option_map}
 use Rattle.shim_local.specs.Process.{Ops}
-use Rattle.shim_meaning.specs.Trees.{Tree, Event, after, steps, IsQuiescent}
-use Rattle.shim_meaning.specs.Walks.{first, after_first, or_stay, meaning}
+use Rattle.shim_semantics.specs.Trees.{Tree, Event, after, steps, IsQuiescent}
+use Rattle.shim_semantics.specs.Walks.{first, after_first, or_stay, meaning}
 use Rattle.shim_reference.specs.Runs.{IsEndOfRun}
 
 -- where nothing is enabled nothing more happens

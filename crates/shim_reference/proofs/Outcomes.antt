@@ -1,11 +1,11 @@
 -- What holds of a run's answer.
 use Rattle.std.proofs.Common.{◌≡◌, ℕ, List, Result, Ok, Err, OnOk, subst}
 use Rattle.shim_units.specs.declared.form.Form.{Form}
-use Rattle.shim_units.specs.Forks.{root}
-use Rattle.shim_units.specs.LocalState.{LocalState}
+use Rattle.shim_process.specs.Forks.{root}
+use Rattle.shim_process.specs.LocalState.{LocalState}
 use Rattle.shim_process.specs.Ops.{process_ops}
-use Rattle.shim_meaning.specs.Trees.{start}
-use Rattle.shim_meaning.specs.Walks.{meaning}
+use Rattle.shim_semantics.specs.Trees.{start}
+use Rattle.shim_semantics.specs.Walks.{meaning}
 use Rattle.shim_reference.specs.Reference.{meaning_of}
 use Rattle.shim_reference.specs.Runs.{IsEndOfRun}
 

@@ -2,8 +2,8 @@
 use Rattle.std.proofs.Common.{◌≡◌, ℕ, true, List, ap, ◌∙◌}
 use Rattle.shim_base.specs.Paths.{Channel}
 use Rattle.shim_units.specs.declared.form.Form.{Form}
-use Rattle.shim_units.specs.Forks.{root}
-use Rattle.shim_units.specs.LocalState.{LocalState}
+use Rattle.shim_process.specs.Forks.{root}
+use Rattle.shim_process.specs.LocalState.{LocalState}
 use Rattle.shim_process.specs.Ops.{process_ops}
 use Rattle.shim_process.proofs.PlaceRoot.{root_shares_nothing}
 

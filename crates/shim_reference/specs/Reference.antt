@@ -2,12 +2,12 @@
 use Rattle.std.specs.Prelude.{ℕ, List}
 use Rattle.shim_local.specs.declared.Ended.{Ended}
 use Rattle.shim_units.specs.declared.form.Form.{Form}
-use Rattle.shim_units.specs.Forks.{root}
-use Rattle.shim_units.specs.LocalState.{LocalState}
+use Rattle.shim_process.specs.Forks.{root}
+use Rattle.shim_process.specs.LocalState.{LocalState}
 use Rattle.shim_process.specs.Ops.{process_ops}
-use Rattle.shim_meaning.specs.Trees.{Tree, start}
-use Rattle.shim_meaning.specs.Walks.{meaning}
-use Rattle.shim_meaning.specs.Endings.{ended}
+use Rattle.shim_semantics.specs.Trees.{Tree, start}
+use Rattle.shim_semantics.specs.Walks.{meaning}
+use Rattle.shim_semantics.specs.Endings.{ended}
 use Rattle.shim_reference.specs.Naming.{named}
 
 -- the tree after at most so many events

@@ -1,12 +1,12 @@
 -- What a run of first events comes to.
 use Rattle.std.specs.Prelude.{◌≡◌, ◌≢◌, ◌⊎◌, ℕ, None}
 use Rattle.shim_local.specs.Process.{Ops}
-use Rattle.shim_meaning.specs.Trees.{Tree, steps, IsQuiescent}
-use Rattle.shim_meaning.specs.Walks.{first}
+use Rattle.shim_semantics.specs.Trees.{Tree, steps, IsQuiescent}
+use Rattle.shim_semantics.specs.Walks.{first}
 
 -- nothing can happen in the tree, and the walk finds that
-abbrev pub IsAtRest : {S : Type 0} → Ops S → Tree S → Type 0
-IsAtRest o t = (first o t ≡ None) × IsQuiescent o t
+abbrev pub IsQuiescentTree : {S : Type 0} → Ops S → Tree S → Type 0
+IsQuiescentTree o t = (first o t ≡ None) × IsQuiescent o t
 
 -- so many events led to the tree, and the walk finds one more that can happen
 abbrev pub IsStopped : {S : Type 0} → Ops S → ℕ → Tree S → Type 0
@@ -14,4 +14,4 @@ IsStopped o b t = (first o t ≢ None) × (IsQuiescent o t → ⊥) × (steps t 
 
 -- what a run of at most so many events comes to
 abbrev pub IsEndOfRun : {S : Type 0} → Ops S → ℕ → Tree S → Type 0
-IsEndOfRun o b t = IsAtRest o t ⊎ IsStopped o b t
+IsEndOfRun o b t = IsQuiescentTree o t ⊎ IsStopped o b t

@@ -1,7 +1,7 @@
 // The meaning of a program on an input.
 ghost use Rattle.std.specs.Prelude.{◌≡◌, ◌≤◌, IfOk, OnOk};
 ghost use Rattle.shim_process.specs.Ops.{process_ops};
-ghost use Rattle.shim_meaning.specs.Endings as endings;
+ghost use Rattle.shim_semantics.specs.Endings as endings;
 ghost use Rattle.shim_reference.specs.Reference.{meaning_of, reference_of};
 ghost use Rattle.shim_reference.specs.Runs.{IsEndOfRun};
 

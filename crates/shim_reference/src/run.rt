@@ -1,9 +1,9 @@
 // The run that always does the first event.
 ghost use Rattle.std.specs.Prelude.{◌≡◌, ◌≤◌, ◌⊎◌, OnOk, IfOk};
-ghost use Rattle.shim_meaning.specs.Trees.{start, steps, IsQuiescent};
-ghost use Rattle.shim_meaning.specs.Walks.{meaning};
-ghost use Rattle.shim_meaning.specs.Endings.{ended};
-ghost use Rattle.shim_meaning.specs.Sound.{SharesItsOwn};
+ghost use Rattle.shim_semantics.specs.Trees.{start, steps, IsQuiescent};
+ghost use Rattle.shim_semantics.specs.Walks.{meaning};
+ghost use Rattle.shim_semantics.specs.Endings.{ended};
+ghost use Rattle.shim_semantics.specs.Sound.{SharesItsOwn};
 ghost use Rattle.shim_reference.specs.Runs.{IsEndOfRun};
 
 use shim_base::NoMemory;

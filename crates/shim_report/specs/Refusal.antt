@@ -13,8 +13,8 @@ use Rattle.shim_scopes.specs.declared.fault.ScopeFault.{ScopeFault}
 use Rattle.shim_scopes.specs.declared.fault.ScopeFault.TheVariants.{Refused, NoMemory as NoScopeMemory}
 use Rattle.shim_sharing.specs.declared.fault.ShareFault.{ShareFault}
 use Rattle.shim_sharing.specs.declared.fault.ShareFault.TheVariants.{TwoWriters, Alias, NoMemory as NoShareMemory}
-use Rattle.shim_report.specs.declared.fault.SourceFault.{SourceFault}
-use Rattle.shim_report.specs.declared.fault.SourceFault.TheVariants.{Parse, Scope, Share}
+use Rattle.shim_front_end.specs.declared.SourceFault.{SourceFault}
+use Rattle.shim_front_end.specs.declared.SourceFault.TheVariants.{Parse, Scope, Share}
 
 -- `refused LINE CAUSE AT`, AT being a place of the source, counted from 0
 unfoldable pub with_place : ℕ → List ℕ → ℕ → List ℕ

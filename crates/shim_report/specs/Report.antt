@@ -8,7 +8,7 @@ use Rattle.shim_local.specs.declared.ended.Ended.{Ended}
 use Rattle.shim_local.specs.declared.ended.History.{History}
 use Rattle.shim_local.specs.declared.ended.Log.{Log}
 use Rattle.shim_local.specs.declared.ended.LogWhat.{LogWhat}
-use Rattle.shim_local.specs.declared.ended.LogWhat.TheVariants.{Caught, Trap as Trapping}
+use Rattle.shim_local.specs.declared.ended.LogWhat.TheVariants.{Caught, Trap as LoggedTrap}
 use Rattle.shim_local.specs.declared.ended.WaitAt.{WaitAt}
 use Rattle.shim_local.specs.declared.ended.OwnSteps.{OwnSteps}
 use Rattle.shim_local.specs.declared.ended.Outcome.{Outcome}
@@ -70,7 +70,7 @@ trap_word Depth = codes "depth"
 -- `catch PATH NAME LINE` or `trap PATH KIND LINE`
 unfoldable pub told_line : Names → Path → LogWhat → List ℕ
 told_line names path (Caught name line) = codes "catch " ++ (path_text path ++ (codes " " ++ (name_text names name ++ (codes " " ++ (decimal line ++ codes "\n")))))
-told_line names path (Trapping trap line) = codes "trap " ++ (path_text path ++ (codes " " ++ (trap_word trap ++ (codes " " ++ (decimal line ++ codes "\n")))))
+told_line names path (LoggedTrap trap line) = codes "trap " ++ (path_text path ++ (codes " " ++ (trap_word trap ++ (codes " " ++ (decimal line ++ codes "\n")))))
 
 abbrev pub log_line : Names → Log → List ℕ
 log_line names l = told_line names l.path l.what
@@ -87,7 +87,7 @@ own_line s = codes "steps " ++ (path_text s.path ++ (codes " " ++ (decimal s.cou
 unfoldable pub events_line : ℕ → List ℕ
 events_line n = codes "events " ++ (decimal n ++ codes "\n")
 
--- who did how many steps, of a run that was stopped alone
+-- of a run that was stopped, and of no other: how many steps each process did, and how many events were no step of one
 unfoldable pub spent_part : Outcome → List OwnSteps → ℕ → List ℕ
 spent_part Spent own events = flat_map own_line own ++ events_line events
 spent_part _ own events = []

@@ -1,4 +1,4 @@
-// Why a source is refused, and the line that tells of it.
+// The line that tells why a source is refused.
 ghost use Rattle.std.specs.Prelude.{◌≡◌, ◌≢◌, IfOk};
 ghost use Rattle.shim_parser.specs.declared.ParseFault.TheVariants as faults;
 ghost use Rattle.shim_scopes.specs.declared.ScopeFault.TheVariants as scope_faults;
@@ -7,21 +7,11 @@ ghost use Rattle.shim_report.specs.Refusal.{refusal, refusal_of, refusal_of_bind
 
 use crate::line::{line_with_name, line_with_place, line_without_place, too_many, two_writers};
 use shim_base::{List, Name, NoMemory};
+use shim_front_end::SourceFault;
 use shim_parser::{LexFault, LexKind, ParseFault};
 use shim_scopes::{ScopeFault, ScopeKind};
 use shim_sharing::ShareFault;
 use std::alloc::Global;
-
-/// Why a source is refused.
-#[derive(Debug, Drop, PartialEq, Eq)]
-pub enum SourceFault {
-    /// It is the text of no program.
-    Parse(ParseFault),
-    /// It is the text of a program that has no resolved form.
-    Scope(ScopeFault),
-    /// It is the text of a program whose variables are shared in a way that is refused.
-    Share(ShareFault),
-}
 
 // The line of a text that can't be cut.
 fn lexical(alloc: Global, fault: &LexFault) -> Result<List<u8>, NoMemory>

@@ -5,14 +5,10 @@ mod fault;
 mod line;
 mod report;
 
-pub use fault::{SourceFault, fault_text};
+pub use fault::fault_text;
 pub use report::text;
+pub use shim_front_end::SourceFault;
 pub use shim_local::{Ended, History, Log, LogWhat, Outcome, OwnSteps, WaitAt};
 pub use shim_parser::ParseFault;
 pub use shim_scopes::{ScopeFault, ScopeKind};
 pub use shim_sharing::ShareFault;
-
-#[cfg(test)]
-mod report_tests;
-#[cfg(test)]
-mod tests;

@@ -1,10 +1,22 @@
 // The four forms of a refusal's line.
-ghost use Rattle.std.specs.Prelude.{◌≡◌, IfOk};
+ghost use Rattle.std.specs.Prelude.{◌≡◌, ◌++◌, IfOk, codes, decimal};
 ghost use Rattle.shim_report.specs.Refusal.{with_branches, with_name, with_place, without_place, word_of};
 
 use shim_base::{List, Name, NoMemory, push_decimal};
 use shim_parser::Many;
 use std::alloc::Global;
+
+// How each line begins: up to its cause.
+fn begun(alloc: Global, line: u32, cause: &str) -> Result<List<u8>, NoMemory>
+    ensures { IfOk result (λ text. text ≡ codes "refused " ++ (decimal line ++ (codes " " ++ cause.now))) }
+{
+    let mut text = List::new(alloc);
+    text.extend_from_slice(b"refused ")?;
+    push_decimal(&mut text, line as u64)?;
+    text.extend_from_slice(b" ")?;
+    text.extend_from_slice(cause.as_bytes())?;
+    Ok(text)
+}
 
 /// The line of a cause that stands at a place of the source.
 #[tactic(auto, unfolding(crate::specs::Refusal::with_place))]
@@ -16,11 +28,7 @@ pub(crate) fn line_with_place(
 ) -> Result<List<u8>, NoMemory>
     ensures { IfOk result (λ text. text ≡ with_place line cause.now at) }
 {
-    let mut text = List::new(alloc);
-    text.extend_from_slice(b"refused ")?;
-    push_decimal(&mut text, line as u64)?;
-    text.extend_from_slice(b" ")?;
-    text.extend_from_slice(cause.as_bytes())?;
+    let mut text = begun(alloc, line, cause)?;
     text.extend_from_slice(b" ")?;
     push_decimal(&mut text, at as u64)?;
     text.extend_from_slice(b"\n")?;
@@ -37,11 +45,7 @@ pub(crate) fn line_with_name(
 ) -> Result<List<u8>, NoMemory>
     ensures { IfOk result (λ text. text ≡ with_name line cause.now name.now) }
 {
-    let mut text = List::new(alloc);
-    text.extend_from_slice(b"refused ")?;
-    push_decimal(&mut text, line as u64)?;
-    text.extend_from_slice(b" ")?;
-    text.extend_from_slice(cause.as_bytes())?;
+    let mut text = begun(alloc, line, cause)?;
     text.extend_from_slice(b" ")?;
     text.extend_from_slice(name.as_bytes())?;
     text.extend_from_slice(b"\n")?;
@@ -81,11 +85,7 @@ pub(crate) fn line_without_place(
 ) -> Result<List<u8>, NoMemory>
     ensures { IfOk result (λ text. text ≡ without_place line cause.now) }
 {
-    let mut text = List::new(alloc);
-    text.extend_from_slice(b"refused ")?;
-    push_decimal(&mut text, line as u64)?;
-    text.extend_from_slice(b" ")?;
-    text.extend_from_slice(cause.as_bytes())?;
+    let mut text = begun(alloc, line, cause)?;
     text.extend_from_slice(b"\n")?;
     Ok(text)
 }

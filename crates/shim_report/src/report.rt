@@ -10,9 +10,9 @@ use shim_base::{List, Name, NoMemory};
 use shim_local::{Ended, History, Log, Outcome, OwnSteps, WaitAt};
 use std::alloc::Global;
 
-/// The report of a run, whose names are numbered by their places in the list: the output, then a line
-/// for each history, log and wait, then, where the run was stopped, how many steps each process did,
-/// and last how it ended.
+/// The report of a run, whose names are numbered by their places in the list: what was put, what each
+/// channel's meetings gave, what was caught and what trapped, who waits, of a run that was stopped how
+/// many steps each process did, and last how it ended.
 #[tactic(auto, unfolding(crate::specs::Report::report))]
 pub fn text(alloc: Global, ended: &Ended, names: &[Name]) -> Result<List<u8>, NoMemory>
     ensures { IfOk result (λ text. text ≡ report names.now ended.now) }

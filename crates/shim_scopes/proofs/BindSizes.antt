@@ -1,5 +1,5 @@
 -- What is read adds no more slots and exceptions to a function than its size.
-use Rattle.std.proofs.Common.{ℕ, suc, ◌+◌, ◌≡◌, ◌≤◌, List, [], ◌∷◌, Option, Some, None, Result, Ok, Err, length, map, refl, sym, ap, subst, arith}
+use Rattle.std.proofs.Common.{ℕ, suc, ◌+◌, ◌≡◌, ◌≤◌, List, [], ◌∷◌, Option, Ok, length, map, sym, ap, subst, arith}
 use Rattle.std.proofs.lemmas.List.{length-append}
 use Rattle.shim_base.specs.declared.types.Ty.{Ty}
 use Rattle.shim_syntax.specs.declared.tree.Expr.{Expr}
@@ -20,12 +20,13 @@ use Rattle.std.specs.Option.{option_or}
 use Rattle.shim_scopes.specs.Binding.{unknown, unknown_in_option, stream_in, stream_in_option, no_number, no_input, no_output, slot_of, placed, placed_option, exception_number, unhandled}
 use Rattle.shim_syntax.specs.Names.{number_of}
 use Rattle.shim_scopes.specs.declared.tree.UExpr.{UExpr}
-use Rattle.shim_scopes.specs.Refusals.{Refusal, and_then, refused_for}
-use Rattle.shim_scopes.specs.Statements.{Whole, Around, Before, BoundTo, Bind, declared, within, opened, closed, caught, tried, bind_declare, bind_store, bind_next, bind_assign_next, bind_get, bind_put, bind_throw, bind_block, on_tree, bind_two, bind_test, bind_if, bind_while, bind_try, bind_parts, bind_first_test, bind_for, Meant, visible, declared_in, unknown_in_both, unknown_of_two}
+use Rattle.shim_scopes.specs.Refusals.{refused_for}
+use Rattle.shim_scopes.specs.Statements.{Whole, Around, Before, BoundTo, Bind, declared, within, opened, closed, caught, tried, bind_declare, bind_store, bind_next, bind_assign_next, bind_get, bind_put, bind_throw, bind_block, on_tree, bind_two, bind_test, bind_if, bind_while, bind_try, bind_parts, bind_first_test, bind_for, visible, declared_in, unknown_in_both, unknown_of_two}
 use Rattle.shim_scopes.specs.Calls.{bind_call, bind_called}
-use Rattle.shim_scopes.specs.Meaning.{WhatMeans, StmtMeans, BranchMeans, BranchWhatMeans, bind_all, bind_fork, first_declares, branch_what_step, what_step, branch_step, stmt_step, meaning, bind_stmts, bind_branch}
+use Rattle.shim_scopes.specs.Bodies.{WhatMeans, StmtMeans, BranchMeans, BranchWhatMeans, bind_all, bind_fork, first_declares, branch_what_step, what_step, branch_step, stmt_step, meaning, bind_stmts, bind_branch}
 use Rattle.shim_syntax.specs.Sizes.{sum_of, expr_size, option_size, branch_counts, what_counts, what_size, stmt_size, branch_size, stmts_size}
 use Rattle.shim_syntax.proofs.SizeSteps.{branch_what_size, of_branch, at_branch, of_stmt, at_what}
+use Rattle.shim_scopes.proofs.Refusals.{passed, first_ok, bound}
 
 -- how many slots and exceptions stand before a place, without those of the `throws`
 abbrev pub given : Before → ℕ
@@ -37,18 +38,6 @@ AddsAtMost {T = T} n f = (a : Around) (b : Before) (r : BoundTo T) → f a b ≡
 
 abbrev WhatAdds : ℕ → (ℕ → Bind RWhat) → Type 0
 WhatAdds n f = (line : ℕ) → AddsAtMost n (f line)
-
-passed : {A : Type 0} (line : ℕ) (kind : ScopeKind) (o : Option (List ℕ)) (rest : Result A Refusal) (x : A) → refused_for line kind o rest ≡ Ok x → rest ≡ Ok x
-passed line kind None rest x e = e
-passed line kind (Some n) rest x e = absurd (cc)
-
-first_ok : {A B : Type 0} (m : Result A Refusal) (f : A → Result B Refusal) (y : B) → and_then m f ≡ Ok y → (x : A) × (m ≡ Ok x) × (f x ≡ Ok y)
-first_ok (Ok x) f y e = (x, refl, e)
-first_ok (Err r) f y e = absurd (cc)
-
--- a tree, and what then stands before the next place
-abbrev bound : {T : Type 0} → T → Before → Meant T
-bound t b = Ok (record { tree = t; before = b })
 
 behind_tree : {T : Type 0} (t : T) (b : Before) (r : BoundTo T) → bound t b ≡ Ok r → given r.before ≡ given b
 behind_tree {T = T} t b r e = let s : BoundTo T = record { tree = t; before = b } in let p : s ≡ r = cc in ap (λ (s : BoundTo T). given s.before) (sym p)

@@ -1,4 +1,5 @@
 -- The lemmas of this crate.
+pub mod Refusals
 pub mod BindSizes
 pub mod Numbers
 pub mod Room

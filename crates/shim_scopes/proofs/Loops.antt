@@ -8,7 +8,7 @@ use Rattle.shim_scopes.specs.declared.tree.RBranch.{RBranch}
 use Rattle.shim_scopes.specs.declared.scope.Scope.{Scope}
 use Rattle.shim_scopes.specs.Refusals.{Refusal, and_then}
 use Rattle.shim_scopes.specs.Statements.{Whole, Before, Meant}
-use Rattle.shim_scopes.specs.Meaning.{bind_stmt, bind_stmts, bind_branch, bind_branches}
+use Rattle.shim_scopes.specs.Bodies.{bind_stmt, bind_stmts, bind_branch, bind_branches}
 use Rattle.shim_scopes.specs.State.{Kept, around_of, before_of, behind}
 use Rattle.shim_scopes.proofs.Nested.{around_kept}
 

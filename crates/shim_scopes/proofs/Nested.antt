@@ -18,7 +18,7 @@ use Rattle.shim_syntax.specs.Names.{Texts}
 use Rattle.shim_scopes.specs.Refusals.{Refusal, and_then}
 use Rattle.shim_scopes.specs.Binding.{placed_option}
 use Rattle.shim_scopes.specs.Statements.{Whole, Around, Before, BoundTo, Meant, Bind, visible, within, opened, closed, bind_block, bind_parts, bind_first_test, bind_for, bind_try, caught, tried}
-use Rattle.shim_scopes.specs.Meaning.{WhatMeans, StmtMeans, BranchMeans, BranchWhatMeans, branch_what_step, what_step, branch_step, stmt_step, bind_stmts, declared_first}
+use Rattle.shim_scopes.specs.Bodies.{WhatMeans, StmtMeans, BranchMeans, BranchWhatMeans, branch_what_step, what_step, branch_step, stmt_step, bind_stmts, declared_first}
 use Rattle.shim_scopes.specs.State.{Answers, Kept, around_of, before_of, IsTried}
 use Rattle.shim_scopes.proofs.Seams.{seam}
 

@@ -17,7 +17,7 @@ use Rattle.shim_scopes.specs.declared.tree.RBranch.{RBranch}
 use Rattle.shim_syntax.specs.Names.{Texts, number_of}
 use Rattle.shim_syntax.specs.Sizes.{what_size, stmt_size, stmts_size, branch_size, branches_size, function_size, functions_size}
 use Rattle.shim_scopes.specs.Statements.{Whole, Before, bind_block}
-use Rattle.shim_scopes.specs.Meaning.{bind_stmt, bind_stmts, bind_branch}
+use Rattle.shim_scopes.specs.Bodies.{bind_stmt, bind_stmts, bind_branch}
 use Rattle.shim_scopes.specs.Functions.{params_from, with_param, function_begin}
 use Rattle.shim_scopes.specs.State.{HasRoom, IsNumber, IsOpened, IsTried, Kept, around_of, before_of}
 use Rattle.shim_scopes.proofs.BindSizes.{given, block_adds, stmt_adds, branch_adds, body_adds}

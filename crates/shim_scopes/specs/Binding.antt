@@ -15,7 +15,7 @@ use Rattle.shim_scopes.specs.declared.scope.Handled.{Handled}
 abbrev pub binding_of : List ℕ → List Local → Option Bound
 binding_of x around = option_map (λ (l : Local). l.bound) (find (λ (l : Local). bytes_eq l.name x) (reverse around))
 
--- the same of the exceptions that are in force at a place
+-- the number of the innermost of the exceptions in force at a place, given in textual order: the last that has the name
 abbrev pub exception_of : List ℕ → List Handled → Option ℕ
 exception_of x around = option_map (λ (l : Handled). l.number) (find (λ (l : Handled). bytes_eq l.name x) (reverse around))
 

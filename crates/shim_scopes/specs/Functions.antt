@@ -17,7 +17,7 @@ use Rattle.shim_syntax.specs.Names.{Texts, number_of, param_names, with_function
 use Rattle.shim_scopes.specs.Refusals.{Refusal, and_then, refused_for}
 use Rattle.shim_scopes.specs.Statements.{Whole, Before, BoundTo, declared}
 use Rattle.shim_scopes.specs.Calls.{if_false}
-use Rattle.shim_scopes.specs.Meaning.{bind_stmts}
+use Rattle.shim_scopes.specs.Bodies.{bind_stmts}
 
 abbrev pub if_name : List ℕ → Option (List ℕ) → Option (List ℕ)
 if_name x None = None

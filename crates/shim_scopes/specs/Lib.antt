@@ -3,7 +3,7 @@ pub mod Binding
 pub mod Refusals
 pub mod Statements
 pub mod Calls
-pub mod Meaning
+pub mod Bodies
 pub mod Functions
 pub mod State
 pub mod Resolving

@@ -11,7 +11,8 @@ ghost use Rattle.shim_scopes.specs.State.{IsNumber, around_of, before_of, whole}
 use crate::check::{check, refuse};
 use crate::fault::{ScopeFault, ScopeKind};
 use crate::lookup::{
-    exception_at, find_bare, find_stream, find_unhandled, find_unknown_of_all, look_up, place_all,
+    exception_at, find_bare, find_stream, find_unhandled, find_unknown_of_all, look_up,
+    resolve_exprs,
 };
 use crate::scope::{Bound, Handled, Local, Scope};
 use crate::tree::RCall;
@@ -197,7 +198,7 @@ fn resolve_known(
         ),
     )?;
     let function = number(function_at(functions, &call.function));
-    let args = place_all(alloc, scope.visible.as_slice(), call.args.as_slice())?;
+    let args = resolve_exprs(alloc, scope.visible.as_slice(), call.args.as_slice())?;
     let throws = number_all(alloc, scope.handled.as_slice(), callee.throws.as_slice())?;
     Ok(RCall {
         function,

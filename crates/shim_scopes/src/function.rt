@@ -1,6 +1,6 @@
 // Functions.
 ghost use Rattle.std.specs.Prelude.{[], Ok, length};
-ghost use Rattle.shim_scopes.specs.Meaning.{bind_stmts};
+ghost use Rattle.shim_scopes.specs.Bodies.{bind_stmts};
 ghost use Rattle.shim_scopes.specs.Functions.{bind_function, bind_functions, function_begin, handled_from, made_function, params_from};
 ghost use Rattle.shim_scopes.specs.Refusals.{Gives, and_then};
 ghost use Rattle.shim_scopes.specs.State.{AreNumbers, IsNumber, whole};
@@ -9,7 +9,7 @@ ghost use Rattle.shim_syntax.specs.Sizes.{function_size, functions_size};
 use crate::check::check;
 use crate::fault::{ScopeFault, ScopeKind};
 use crate::header::{
-    copy_names, find_twice, find_wrong_main, number_names, open_function, place_params,
+    copy_names, find_twice, find_wrong_main, number_names, open_function, resolve_params,
 };
 use crate::stmt::resolve_body;
 use crate::tree::RFunction;
@@ -34,7 +34,7 @@ fn resolve_inside(
     let body = function.body.as_slice();
     let body = resolve_body(alloc, functions, names, &mut scope, 0, body)?;
     let name = names.number(&function.name);
-    let params = place_params(alloc, names, function.params.as_slice())?;
+    let params = resolve_params(alloc, names, function.params.as_slice())?;
     let throws = number_names(alloc, names, function.throws.as_slice())?;
     Ok(RFunction {
         line: function.line,

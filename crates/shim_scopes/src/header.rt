@@ -95,7 +95,7 @@ pub fn open_function(
     })
 }
 
-pub fn place_params(
+pub fn resolve_params(
     alloc: Global,
     names: &NameTable,
     params: &[Param],

@@ -155,19 +155,19 @@ pub fn slot_in(visible: &[Local], name: &Name) -> u32
 
 // The expression over slots.
 #[tactic(auto, unfolding(crate::specs::Binding::placed))]
-pub fn place(alloc: Global, visible: &[Local], expr: &Expr) -> Result<UExpr, NoMemory>
+pub fn resolve_expr(alloc: Global, visible: &[Local], expr: &Expr) -> Result<UExpr, NoMemory>
     ensures { IfOk result (λ made. made ≡ placed visible.now expr.now) }
 {
     match expr {
         Expr::Number(number) => Ok(UExpr::Number(*number)),
         Expr::Var(name) => Ok(UExpr::Var(slot_in(visible, name))),
         Expr::Unary(op, inner) => {
-            let inner = place(alloc, visible, inner)?;
+            let inner = resolve_expr(alloc, visible, inner)?;
             Ok(UExpr::Unary(*op, Boxed::new(alloc, inner)?))
         }
         Expr::Binary(op, left, right) => {
-            let left = place(alloc, visible, left)?;
-            let right = place(alloc, visible, right)?;
+            let left = resolve_expr(alloc, visible, left)?;
+            let right = resolve_expr(alloc, visible, right)?;
             Ok(UExpr::Binary(*op, Boxed::new(alloc, left)?, Boxed::new(alloc, right)?))
         }
     }
@@ -186,12 +186,16 @@ pub fn find_unknown_of_all<'a>(visible: &[Local], exprs: &'a [Expr]) -> Option<&
     None
 }
 
-pub fn place_all(alloc: Global, visible: &[Local], exprs: &[Expr]) -> Result<List<UExpr>, NoMemory>
+pub fn resolve_exprs(
+    alloc: Global,
+    visible: &[Local],
+    exprs: &[Expr],
+) -> Result<List<UExpr>, NoMemory>
     ensures { IfOk result (λ made. made ≡ placed_all visible.now exprs.now) }
 {
     let mut made = List::new(alloc);
     for expr in exprs {
-        made.push(place(alloc, visible, expr)?)?;
+        made.push(resolve_expr(alloc, visible, expr)?)?;
     }
     Ok(made)
 }
@@ -214,7 +218,7 @@ pub fn find_stream_in_option<'a>(visible: &[Local], expr: &'a Option<Expr>) -> O
     }
 }
 
-pub fn place_option(
+pub fn resolve_option(
     alloc: Global,
     visible: &[Local],
     expr: &Option<Expr>,
@@ -223,7 +227,7 @@ pub fn place_option(
 {
     match expr {
         Some(expr) => {
-            let expr = place(alloc, visible, expr)?;
+            let expr = resolve_expr(alloc, visible, expr)?;
             Ok(Some(expr))
         }
         None => Ok(None),

@@ -11,7 +11,7 @@ use crate::check::refuse;
 use crate::fault::{ScopeFault, ScopeKind};
 use crate::form::Form;
 use crate::function::resolve_functions;
-use crate::resolved::{Resolved, keep};
+use crate::resolved::{Resolved, from_form};
 use crate::word::number;
 use shim_base::Name;
 use shim_syntax::{Function, Program, names_of};
@@ -56,5 +56,5 @@ pub fn resolve(alloc: Global, program: &Program) -> Result<Resolved, ScopeFault>
     ensures { Gives result (bind_program program.now) }
 {
     let form = form_of(alloc, program)?;
-    Ok(keep(form))
+    Ok(from_form(form))
 }

@@ -4,7 +4,7 @@ ghost use Rattle.shim_scopes.specs.Resolving.{IsFormOfText};
 
 use crate::form::Form;
 use crate::tree::RFunction;
-use shim_base::Name;
+use shim_base::{List, Name};
 use std::marker::Model;
 
 /// A program whose names are bound. It has a text of at most 1,048,576 bytes, and only `resolve`
@@ -44,6 +44,13 @@ impl Resolved {
         self.form.names.as_slice()
     }
 
+    /// The names alone, in that order.
+    pub fn into_names(self) -> List<Name>
+        ensures { result ≡ self.names }
+    {
+        self.form.names
+    }
+
     /// Which of the functions is `main`.
     pub fn main(&self) -> u32
         ensures { result ≡ self.now.main }
@@ -52,8 +59,8 @@ impl Resolved {
     }
 }
 
-// The form, kept with what it is the form of.
-pub fn keep(form: Form) -> Resolved
+// The resolved program in this form. Its condition is all that the type keeps.
+pub fn from_form(form: Form) -> Resolved
     requires { ∥ IsFormOfText form ∥₁ }
     ensures { result ≡ form }
 {

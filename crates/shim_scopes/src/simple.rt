@@ -11,7 +11,7 @@ use crate::fault::{ScopeFault, ScopeKind};
 use crate::lookup::{
     exception_at, find_no_input, find_no_output, find_stream, find_stream_in_option,
     find_stream_name, find_unhandled, find_unknown, find_unknown_in_option, find_unknown_name,
-    first_of, place, place_option, slot_in,
+    first_of, resolve_expr, resolve_option, slot_in,
 };
 use crate::scope::{Bound, Handled, Local, Scope};
 use crate::tree::{RWhat, UExpr};
@@ -146,7 +146,7 @@ pub fn resolve_put(
     check(alloc, line, ScopeKind::UnknownName, unknown)?;
     let wrong = first_of(find_no_output(visible, output), find_stream(visible, expr));
     check(alloc, line, ScopeKind::WrongKind, wrong)?;
-    let expr = place(alloc, visible, expr)?;
+    let expr = resolve_expr(alloc, visible, expr)?;
     Ok(RWhat::Put(slot_in(visible, output), expr))
 }
 
@@ -169,7 +169,7 @@ pub fn resolve_assign(
     check(alloc, line, ScopeKind::UnknownName, unknown)?;
     let wrong = first_of(find_stream_name(visible, name), find_stream(visible, expr));
     check(alloc, line, ScopeKind::WrongKind, wrong)?;
-    let expr = place(alloc, visible, expr)?;
+    let expr = resolve_expr(alloc, visible, expr)?;
     Ok(RWhat::Assign(slot_in(visible, name), expr))
 }
 
@@ -192,7 +192,7 @@ pub fn resolve_next_assign(
     check(alloc, line, ScopeKind::UnknownName, unknown)?;
     let wrong = first_of(find_stream_name(visible, name), find_stream(visible, expr));
     check(alloc, line, ScopeKind::WrongKind, wrong)?;
-    let expr = place(alloc, visible, expr)?;
+    let expr = resolve_expr(alloc, visible, expr)?;
     Ok(RWhat::NextAssign(slot_in(visible, name), expr))
 }
 
@@ -248,7 +248,7 @@ pub fn resolve_declare(
     check(alloc, line, ScopeKind::Twice, twice)?;
     let stream = find_stream_in_option(visible, expr);
     check(alloc, line, ScopeKind::WrongKind, stream)?;
-    let expr = place_option(alloc, visible, expr)?;
+    let expr = resolve_option(alloc, visible, expr)?;
     let slot = declare(alloc, names, scope, start, Sort::Value(ty), name)?;
     Ok(RWhat::Declare(ty, slot, expr))
 }
@@ -275,7 +275,7 @@ pub fn resolve_test(
         ScopeKind::WrongKind,
         find_stream(scope.visible.as_slice(), test),
     )?;
-    Ok(place(alloc, scope.visible.as_slice(), test)?)
+    Ok(resolve_expr(alloc, scope.visible.as_slice(), test)?)
 }
 
 // The number of the next `try`.

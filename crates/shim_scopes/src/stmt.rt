@@ -3,14 +3,14 @@ ghost use Rattle.std.specs.Prelude.{◌≡◌, ◌≤◌, ◌++◌, length, OnOk
 ghost use Rattle.shim_syntax.specs.declared.tree.What.TheVariants.{If, For, Try};
 ghost use Rattle.shim_syntax.specs.Sizes.{stmt_size, stmts_size, branch_size, branches_size};
 ghost use Rattle.shim_scopes.specs.Statements.{bind_block, bind_first_test};
-ghost use Rattle.shim_scopes.specs.Meaning.{bind_stmt, bind_what, bind_branch, bind_stmts, bind_branches, declared_first};
+ghost use Rattle.shim_scopes.specs.Bodies.{bind_stmt, bind_what, bind_branch, bind_stmts, bind_branches, declared_first};
 ghost use Rattle.shim_scopes.specs.Refusals.{Gives};
 ghost use Rattle.shim_scopes.specs.State.{Answers, AreNumbers, HasRoom, Kept, around_of, before_of, whole};
 
 use crate::call::resolve_call;
 use crate::check::check;
 use crate::fault::{ScopeFault, ScopeKind};
-use crate::lookup::{find_stream_in_option, find_unknown_in_option, place_option};
+use crate::lookup::{find_stream_in_option, find_unknown_in_option, resolve_option};
 use crate::scope::{Bound, Local, Scope, cut};
 use crate::simple::{
     begin_try, resolve_assign, resolve_assign_next, resolve_declare, resolve_get, resolve_next,
@@ -192,7 +192,7 @@ fn resolve_for(
     )?;
     let inner = scope.visible.len();
     let first = resolve_body(alloc, functions, names, scope, inner, first.as_slice())?;
-    let test = place_option(alloc, scope.visible.as_slice(), test)?;
+    let test = resolve_option(alloc, scope.visible.as_slice(), test)?;
     let step = resolve_body(alloc, functions, names, scope, inner, step.as_slice())?;
     let body = resolve_block(alloc, functions, names, scope, inner, body.as_slice())?;
     cut(&mut scope.visible, inner);

@@ -7,18 +7,11 @@ use Rattle.shim_sharing.specs.Laws.{IsAlias, IsLeftmostAlias}
 use Rattle.shim_sharing.specs.Sharing.{again, given_again}
 use Rattle.shim_sharing.proofs.LeastClash.{some_or, true_of}
 use Rattle.shim_sharing.proofs.Rule.{not_again}
+use Rattle.shim_base.proofs.Facts.{or_left, or_right}
 
 either_true : (a b : Bool) → (a || b) ≡ true → (a ≡ true) ⊎ (b ≡ true)
 either_true true b e = inl refl
 either_true false b e = inr e
-
-left_or : (a b : Bool) → a ≡ true → (a || b) ≡ true
-left_or true b e = refl
-left_or false b e = cc
-
-right_or : (a b : Bool) → b ≡ true → (a || b) ≡ true
-right_or true b e = refl
-right_or false b e = e
 
 or_assoc : (a b c : Bool) → ((a || b) || c) ≡ (a || (b || c))
 or_assoc true b c = refl
@@ -51,8 +44,8 @@ stands : (x : ℕ) (gs : List Given) (k : ℕ) (h : Given) → slice_get gs k �
 stands x [] k h there is = cc
 stands x (g ∷ gs) zero h there is =
     let same : g ≡ h = cc in
-    left_or (is_bare x g.bare) (stands_in x gs) (is_bare_of x g.bare (ap (λ (i : Given). i.bare) same ∙ is))
-stands x (g ∷ gs) (suc k) h there is = right_or (is_bare x g.bare) (stands_in x gs) (stands x gs k h there is)
+    or_left (is_bare x g.bare) (stands_in x gs) (is_bare_of x g.bare (ap (λ (i : Given). i.bare) same ∙ is))
+stands x (g ∷ gs) (suc k) h there is = or_right (is_bare x g.bare) (stands_in x gs) (stands x gs k h there is)
 
 -- one of the arguments on either side of another is the variable
 record Apart (x : ℕ) (before : List Given) (g : Given) (gs : List Given) : Type 0 where
@@ -80,10 +73,10 @@ stands_apart x [] g gs zero h apart there is = absurd (apart refl)
 stands_apart x [] g gs (suc k) h apart there is = stands x gs k h there is
 stands_apart x (b ∷ bs) g gs zero h apart there is =
     let same : b ≡ h = cc in
-    left_or (is_bare x b.bare || stands_in x bs) (stands_in x gs) (left_or (is_bare x b.bare) (stands_in x bs) (is_bare_of x b.bare (ap (λ (i : Given). i.bare) same ∙ is)))
+    or_left (is_bare x b.bare || stands_in x bs) (stands_in x gs) (or_left (is_bare x b.bare) (stands_in x bs) (is_bare_of x b.bare (ap (λ (i : Given). i.bare) same ∙ is)))
 stands_apart x (b ∷ bs) g gs (suc k) h apart there is =
     or_assoc (is_bare x b.bare) (stands_in x bs) (stands_in x gs)
-    ∙ right_or (is_bare x b.bare) (stands_in x bs || stands_in x gs) (stands_apart x bs g gs k h (λ e. apart (ap suc e)) there is)
+    ∙ or_right (is_bare x b.bare) (stands_in x bs || stands_in x gs) (stands_apart x bs g gs k h (λ e. apart (ap suc e)) there is)
 
 at_length : (before : List Given) (g : Given) (gs : List Given) → slice_get (before ++ g ∷ gs) (length before) ≡ Some g
 at_length [] g gs = refl

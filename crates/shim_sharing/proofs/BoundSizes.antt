@@ -32,7 +32,7 @@ use Rattle.shim_syntax.specs.Names.{Texts, number_of, with_functions, param_name
 use Rattle.shim_scopes.specs.Refusals.{Refusal, and_then, refused_for}
 use Rattle.shim_scopes.specs.Statements.{Whole, Around, Before, BoundTo, Bind, declared, within, opened, closed, caught, tried, bind_declare, bind_store, bind_next, bind_assign_next, bind_get, bind_put, bind_throw, bind_block, on_tree, bind_test, bind_if, bind_while, bind_try, bind_parts, bind_first_test, bind_for, Meant, visible, declared_in, unknown_in_both, unknown_of_two}
 use Rattle.shim_scopes.specs.Calls.{bind_call, bind_called, bind_known, function_of, unhandled_of_all, wrong_in_all, if_false}
-use Rattle.shim_scopes.specs.Meaning.{WhatMeans, StmtMeans, BranchMeans, BranchWhatMeans, bind_all, bind_fork, first_declares, branch_what_step, what_step, branch_step, stmt_step, meaning, bind_stmts, bind_branch}
+use Rattle.shim_scopes.specs.Bodies.{WhatMeans, StmtMeans, BranchMeans, BranchWhatMeans, bind_all, bind_fork, first_declares, branch_what_step, what_step, branch_step, stmt_step, meaning, bind_stmts, bind_branch}
 use Rattle.shim_scopes.specs.Functions.{name_in, twice_after, wrong_main, placed_param, made_function, bind_function, bind_functions, main_of, bind_program}
 use Rattle.shim_syntax.specs.Sizes as text
 use Rattle.shim_syntax.specs.Sizes.{sum_of}
@@ -41,6 +41,7 @@ use Rattle.shim_units.specs.Sizes.{Extent, plain, expr_size, option_size, call_s
 use Rattle.shim_sharing.proofs.TextLocals as counted
 use Rattle.shim_sharing.proofs.TextLocals.{locals, stmt_locals, branch_locals, what_locals, branch_what_locals, IsNarrow, AreNarrow}
 use Rattle.shim_sharing.proofs.ExtentSteps.{number_size, variable_size, unary_size, binary_size, of_stmt, of_branch, at_declare, at_assign, at_next, at_next_assign, at_assign_next, at_get, at_put, at_if, at_while, at_for, at_block, at_call, at_try, at_throw, at_par, at_block_branch, at_call_branch}
+use Rattle.shim_scopes.proofs.Refusals.{passed, first_ok, bound, its_tree}
 
 -- an expression keeps its size
 
@@ -102,26 +103,11 @@ BoundWithin {T = T} x n d f = (a : Around) (b : Before) (r : BoundTo T) → f a 
 abbrev WhatWithin : ℕ → ℕ → (ℕ → Bind RWhat) → Type 0
 WhatWithin n d f = (line : ℕ) → BoundWithin what_extent n d (f line)
 
-passed : {A : Type 0} (line : ℕ) (kind : ScopeKind) (o : Option (List ℕ)) (rest : Result A Refusal) (x : A) → refused_for line kind o rest ≡ Ok x → rest ≡ Ok x
-passed line kind None rest x e = e
-passed line kind (Some n) rest x e = absurd (cc)
-
-first_ok : {A B : Type 0} (m : Result A Refusal) (f : A → Result B Refusal) (y : B) → and_then m f ≡ Ok y → (x : A) × (m ≡ Ok x) × (f x ≡ Ok y)
-first_ok (Ok x) f y e = (x, refl, e)
-first_ok (Err r) f y e = absurd (cc)
-
--- a tree, and what then stands before the next place
-abbrev bound : {T : Type 0} → T → Before → Meant T
-bound t b = Ok (record { tree = t; before = b })
-
 abbrev given : {A : Type 0} → A → Result A Refusal
 given x = Ok x
 
 the_same : {A : Type 0} (x y : A) → given x ≡ Ok y → x ≡ y
 the_same x y e = cc
-
-its_tree : {T : Type 0} (t : T) (b : Before) (r : BoundTo T) → bound t b ≡ Ok r → t ≡ r.tree
-its_tree {T = T} t b r e = let s : BoundTo T = record { tree = t; before = b } in let p : s ≡ r = cc in ap (λ (s : BoundTo T). s.tree) p
 
 -- the tree is within that
 made : {T : Type 0} (x : T → Extent) (n d : ℕ) (t : T) (b : Before) (r : BoundTo T) → bound t b ≡ Ok r → IsWithin n d (x t) → IsWithin n d (x r.tree)

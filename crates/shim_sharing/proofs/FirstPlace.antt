@@ -10,11 +10,11 @@ use Rattle.shim_sharing.specs.declared.found.Offence.TheVariants.{TwoWriters, Al
 use Rattle.shim_sharing.specs.Laws.{IsToldOf, IsFirstOffence, IsFirstRefusalIn, IsFirstRefusal}
 use Rattle.shim_sharing.specs.Refusals.{told, refused_for, function_refusal, refusal_in, refusal}
 use Rattle.shim_sharing.specs.Sharing.{clash_from, two_writers, given_again, alias, offence_at, first_offence}
-use Rattle.shim_units.specs.Meaning.{places_in}
+use Rattle.shim_units.specs.PartFold.{places_in}
 use Rattle.shim_units.specs.Parts.{Place}
 use Rattle.shim_units.specs.Parts.Place.{Fork, Called}
 use Rattle.shim_units.specs.Rule.{ObeysAt}
-use Rattle.shim_units.specs.Taking.{takes}
+use Rattle.shim_units.specs.Captures.{captures}
 use Rattle.shim_sharing.proofs.Aliases.{leftmost_alias}
 use Rattle.shim_sharing.proofs.LeastClash.{clash_is_least, some_or}
 use Rattle.shim_sharing.proofs.Rule.{obeys_at, none_at, all_obey, refused_none}
@@ -29,8 +29,8 @@ alias_of line (Some x) o e = (x, refl, cc)
 
 told_of : (sorts : List Sort) (p : Place) (o : Offence) → offence_at sorts p ≡ Some o → IsToldOf sorts p o
 told_of sorts (Fork line branches) o e =
-    let w = two_of line (clash_from (length sorts) 0 (map (takes sorts) branches)) o e in
-    let least = clash_is_least (length sorts) (map (takes sorts) branches) w.0 w.1 in
+    let w = two_of line (clash_from (length sorts) 0 (map (captures sorts) branches)) o e in
+    let least = clash_is_least (length sorts) (map (captures sorts) branches) w.0 w.1 in
     (w.0, w.2, least.0, least.1)
 told_of sorts (Called line gs) o e =
     let w = alias_of line (given_again [] gs) o e in

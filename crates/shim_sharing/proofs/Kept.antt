@@ -6,7 +6,7 @@ use Rattle.shim_sharing.specs.Laws.{IsAccepted}
 use Rattle.shim_sharing.specs.Refusals.{refusal}
 use Rattle.shim_sharing.specs.declared.fault.ShareFault.{ShareFault}
 use Rattle.shim_units.specs.declared.form.Form.{Form}
-use Rattle.shim_units.specs.OfText.{IsUnitsOfText, IsKept}
+use Rattle.shim_units.specs.OfText.{IsUnitsOfText, IsAcceptedForm}
 use Rattle.shim_units.specs.Units.{lifted}
 use Rattle.shim_sharing.proofs.Rule.{obeys_unless_refused, none_where_obeyed}
 use Rattle.shim_sharing.proofs.UnitSizes.{its_form, kept}
@@ -30,8 +30,8 @@ units_of form a = record {
   meant = its_form (refusal a.resolved) (lifted a.resolved) form a.is_answer;
 }
 
-pub kept_is_answered : (form : Form) → IsKept form → ∥ IsAccepted form ∥₁
+pub kept_is_answered : (form : Form) → IsAcceptedForm form → ∥ IsAccepted form ∥₁
 kept_is_answered form k = ∥∥₁_map k.of_text (answered form)
 
-pub answered_is_kept : (form : Form) → ∥ IsAccepted form ∥₁ → IsKept form
+pub answered_is_kept : (form : Form) → ∥ IsAccepted form ∥₁ → IsAcceptedForm form
 answered_is_kept form a = kept form (∥∥₁_map a (units_of form))

@@ -18,18 +18,19 @@ use Rattle.shim_units.specs.declared.unit.UStmt.{UStmt}
 use Rattle.shim_units.specs.declared.unit.UWhat.{UWhat}
 use Rattle.shim_units.specs.declared.unit.UWhat.TheVariants.{Declare, Assign, Next, NextAssign, AssignNext, Get, Put, If, While, For, Block, Call, Try, Throw, Par}
 use Rattle.shim_units.specs.declared.unit.UBranch.{UBranch}
-use Rattle.shim_units.specs.declared.within.Within.{Within}
+use Rattle.shim_units.specs.declared.slot_map.SlotMap.{SlotMap}
 use Rattle.shim_units.specs.Calls.{bare, lends_first, behind_first, params_at}
-use Rattle.shim_units.specs.Moving.{place_of, moved_step, moved, moved_option, by_mode, arg_of, args_of, moved_call}
-use Rattle.shim_units.specs.Parts.{Home, Part, Lifts, all_places, all_declares, all_tries}
-use Rattle.shim_units.specs.Taking.{Takes, is_reference, is_taken}
-use Rattle.shim_units.specs.Lifting.{lift_all, whole, on_tree, lift_two, lift_three, branch_arg, branch_param, branch_takes, branch_slots, branch_inner, lift_branch}
-use Rattle.shim_units.specs.Meaning.{branch_what_step, what_step, branch_step, stmt_step, in_line, part, parts, branch_part, branch_parts}
+use Rattle.shim_units.specs.Moving.{slot_index_of, moved_step, moved, moved_option, by_mode, arg_of, args_of, moved_call}
+use Rattle.shim_units.specs.Parts.{LiftContext, Part, Lifts, all_places, all_declares, all_tries}
+use Rattle.shim_units.specs.Captures.{Captures, is_reference, is_taken}
+use Rattle.shim_units.specs.Lifting.{lift_all, whole, on_tree, lift_two, lift_three, branch_arg, branch_param, branch_captures, branch_slots, branch_inner, lift_branch}
+use Rattle.shim_units.specs.PartFold.{branch_what_step, what_step, branch_step, stmt_step, in_line, part, parts, branch_part, branch_parts}
 use Rattle.shim_units.specs.Sizes.{Extent, plain, declaration, larger, both, apart, expr_size, option_size, call_size, branch_extents, what_extents, branch_what_extent, what_extent, branch_extent, stmt_extent, extent, fork_extent, arg_size, args_size, unit_call_size, units_size, units_points}
 use Rattle.shim_sharing.proofs.ForkSizes.{ForksWithin, forks_fewer, forks_of_both, uses_of_each}
 use Rattle.shim_sharing.proofs.ExtentSteps as steps
 use Rattle.shim_sharing.proofs.ExtentSteps.{number_size, variable_size, unary_size, binary_size}
 use Rattle.shim_sharing.proofs.UnitSteps.{Measure, measure_what, measure_stmt, measure, measure_call, measure_branch, measure_fork, of_line, at_declare, at_assign, at_next, at_next_assign, at_assign_next, at_get, at_put, at_if, at_while, at_for, at_block, at_call, at_try, at_throw, at_par}
+use Rattle.shim_units.proofs.PartSteps.{branch_what_part}
 
 -- an expression keeps its size
 
@@ -37,7 +38,7 @@ moved_number : (slots : List ℕ) (n : _) → moved slots (e.Number n) ≡ e.Num
 unfolding moved roll-UExpr denote.Hole.Carrier.roll
 moved_number slots n = fold-roll-UExpr UExpr (moved_step slots) (UExpr-F.Number n)
 
-moved_variable : (slots : List ℕ) (x : ℕ) → moved slots (e.Var x) ≡ e.Var (place_of slots x)
+moved_variable : (slots : List ℕ) (x : ℕ) → moved slots (e.Var x) ≡ e.Var (slot_index_of slots x)
 unfolding moved roll-UExpr denote.Hole.Carrier.roll
 moved_variable slots x = fold-roll-UExpr UExpr (moved_step slots) (UExpr-F.Var x)
 
@@ -59,7 +60,7 @@ KeptExpr = (a : UExpr) × KeepsSize a
 expr_layer : (y : UExpr-F KeptExpr) → KeepsSize (roll-UExpr (map-UExpr KeptExpr UExpr (λ e. e.0) y))
 unfolding roll-UExpr denote.Hole.Carrier.roll
 expr_layer (UExpr-F.Number n) = record { some = omega (arith, number_size n); same = λ slots. ap expr_size (moved_number slots n) }
-expr_layer (UExpr-F.Var x) = record { some = omega (arith, variable_size x); same = λ slots. ap expr_size (moved_variable slots x) ∙ variable_size (place_of slots x) ∙ sym (variable_size x) }
+expr_layer (UExpr-F.Var x) = record { some = omega (arith, variable_size x); same = λ slots. ap expr_size (moved_variable slots x) ∙ variable_size (slot_index_of slots x) ∙ sym (variable_size x) }
 expr_layer (UExpr-F.Unary op a) = record {
   some = omega (arith, unary_size op a.0);
   same = λ slots. ap expr_size (moved_unary slots op a.0) ∙ unary_size op (moved slots a.0) ∙ ap suc (a.1.same slots) ∙ sym (unary_size op a.0);
@@ -83,13 +84,13 @@ by_mode_size false x = refl
 
 arg_within : (slots : List ℕ) (lent : Bool) (o : Option ℕ) (a : UExpr) → arg_size (arg_of slots lent o a) ≤ expr_size a
 arg_within slots lent None a = omega (arith, (kept a).same slots)
-arg_within slots lent (Some x) a = omega (arith, (kept a).some, by_mode_size lent (place_of slots x))
+arg_within slots lent (Some x) a = omega (arith, (kept a).some, by_mode_size lent (slot_index_of slots x))
 
 args_within : (slots : List ℕ) (ps : List UParam) (es : List UExpr) → args_size (args_of slots ps es) ≤ sum_of (map expr_size es)
 args_within slots ps [] = omega arith
 args_within slots ps (a ∷ es) = omega (arith, arg_within slots (lends_first ps) (bare a) a, args_within slots (behind_first ps) es)
 
-call_within : (fs : List RFunction) (c : RCall) (w : Within) → unit_call_size (moved_call fs c w) ≤ call_size c
+call_within : (fs : List RFunction) (c : RCall) (w : SlotMap) → unit_call_size (moved_call fs c w) ≤ call_size c
 call_within fs c w = omega (arith, args_within w.slots (params_at fs c.function) c.args)
 
 -- the units that are lifted, one list behind another
@@ -104,8 +105,8 @@ joined_points (u ∷ us) vs = omega (arith, joined_points us vs)
 
 -- A part of that extent, lifted by any function into any unit: the tree that is left and the units are so large at the most. A call of a lifted branch has an argument for each variable that the branch takes, and so the unit has parameters.
 pub record LiftsWithin {T : Type 0} (m : T → Measure) (x : Extent) (f : Lifts T) : Type 0 where
-  pub points : (home : Home) (w : Within) (n : ℕ) → (m (f home w n).tree).points + units_points (f home w n).units + length (f home w n).units ≤ x.size
-  pub size : (home : Home) (w : Within) (n : ℕ) → length w.slots + x.forked ≤ 96 → (m (f home w n).tree).size + units_size (f home w n).units ≤ 194 * x.size
+  pub points : (context : LiftContext) (w : SlotMap) (n : ℕ) → (m (f context w n).tree).points + units_points (f context w n).units + length (f context w n).units ≤ x.size
+  pub size : (context : LiftContext) (w : SlotMap) (n : ℕ) → length w.slots + x.forked ≤ 96 → (m (f context w n).tree).size + units_size (f context w n).units ≤ 194 * x.size
 
 -- what the part declares and the exceptions of its `try` statements with its forks, the branches of these, and what is lifted out of it
 pub record PartWithin {T : Type 0} (m : T → Measure) (x : Extent) (p : Part T) : Type 0 where
@@ -125,71 +126,71 @@ is_small : (n : ℕ) (m k : Measure) → m ≡ k → k.size ≤ n → k.points �
 is_small n m k e s p = record { size = omega (arith, ap (λ (z : Measure). z.size) e, s); points = omega (arith, ap (λ (z : Measure). z.points) e, p) }
 
 -- a part that nothing is lifted out of
-alone : {T : Type 0} (m : T → Measure) (x : Extent) (f : Home → Within → T) → ((home : Home) (w : Within) → IsSmall x.size (m (f home w))) → LiftsWithin m x (λ home w n. whole (f home w))
+alone : {T : Type 0} (m : T → Measure) (x : Extent) (f : LiftContext → SlotMap → T) → ((context : LiftContext) (w : SlotMap) → IsSmall x.size (m (f context w))) → LiftsWithin m x (λ context w n. whole (f context w))
 alone m x f small = record {
-  points = λ home w n. omega (arith, (small home w).points);
-  size = λ home w n few. omega (arith, (small home w).size);
+  points = λ context w n. omega (arith, (small context w).points);
+  size = λ context w n few. omega (arith, (small context w).size);
 }
 
 -- what is within an extent is within a larger one
 as_large : {T : Type 0} (m : T → Measure) (x z : Extent) (f : Lifts T) → x.size ≤ z.size → x.forked ≤ z.forked → LiftsWithin m x f → LiftsWithin m z f
-as_large m x z f long forked l = record { points = λ home w n. omega (arith, long, l.points home w n); size = λ home w n few. omega (arith, long, l.size home w n (omega (arith, few, forked))) }
+as_large m x z f long forked l = record { points = λ context w n. omega (arith, long, l.points context w n); size = λ context w n few. omega (arith, long, l.size context w n (omega (arith, few, forked))) }
 
 -- with c around the tree, and at most d numbers
-around : {S T : Type 0} (m : S → Measure) (k : T → Measure) (x z : Extent) (c d : ℕ) (g : Within → S → T) (f : Lifts S)
-    → ((w : Within) (s : S) → (k (g w s)).points ≤ d + (m s).points) → ((w : Within) (s : S) → (k (g w s)).size ≤ c + (m s).size) → d ≤ c → c + x.size ≤ z.size → x.forked ≤ z.forked
-    → LiftsWithin m x f → LiftsWithin k z (λ home w n. on_tree (g w) (f home w n))
+around : {S T : Type 0} (m : S → Measure) (k : T → Measure) (x z : Extent) (c d : ℕ) (g : SlotMap → S → T) (f : Lifts S)
+    → ((w : SlotMap) (s : S) → (k (g w s)).points ≤ d + (m s).points) → ((w : SlotMap) (s : S) → (k (g w s)).size ≤ c + (m s).size) → d ≤ c → c + x.size ≤ z.size → x.forked ≤ z.forked
+    → LiftsWithin m x f → LiftsWithin k z (λ context w n. on_tree (g w) (f context w n))
 around m k x z c d g f points size h long forked l = record {
-  points = λ home w n. omega (arith, h, long, points w (f home w n).tree, l.points home w n);
-  size = λ home w n few. omega (arith, long, size w (f home w n).tree, l.size home w n (omega (arith, few, forked)));
+  points = λ context w n. omega (arith, h, long, points w (f context w n).tree, l.points context w n);
+  size = λ context w n few. omega (arith, long, size w (f context w n).tree, l.size context w n (omega (arith, few, forked)));
 }
 
 -- two, one after the other
-two : {R S T : Type 0} (m : R → Measure) (o : S → Measure) (k : T → Measure) (x y : Extent) (c : ℕ) (g : Within → R → S → T) (f : Lifts R) (h : Lifts S)
-    → ((w : Within) (r : R) (s : S) → (k (g w r s)).points ≤ c + ((m r).points + (o s).points)) → ((w : Within) (r : R) (s : S) → (k (g w r s)).size ≤ c + ((m r).size + (o s).size))
-    → LiftsWithin m x f → LiftsWithin o y h → LiftsWithin k (larger c (both x y)) (λ home w n. lift_two (g w) f h home w n)
+two : {R S T : Type 0} (m : R → Measure) (o : S → Measure) (k : T → Measure) (x y : Extent) (c : ℕ) (g : SlotMap → R → S → T) (f : Lifts R) (h : Lifts S)
+    → ((w : SlotMap) (r : R) (s : S) → (k (g w r s)).points ≤ c + ((m r).points + (o s).points)) → ((w : SlotMap) (r : R) (s : S) → (k (g w r s)).size ≤ c + ((m r).size + (o s).size))
+    → LiftsWithin m x f → LiftsWithin o y h → LiftsWithin k (larger c (both x y)) (λ context w n. lift_two (g w) f h context w n)
 two m o k x y c g f h points size a b = record {
-  points = λ home w n.
-      let r = f home w n in
-      let q = h home w (n + length r.units) in
-      omega (arith, points w r.tree q.tree, a.points home w n, b.points home w (n + length r.units), joined_points r.units q.units, length-append r.units q.units);
-  size = λ home w n few.
-      let r = f home w n in
-      let q = h home w (n + length r.units) in
-      omega (arith, size w r.tree q.tree, a.size home w n (omega (arith, few)), b.size home w (n + length r.units) (omega (arith, few)), joined_sizes r.units q.units);
+  points = λ context w n.
+      let r = f context w n in
+      let q = h context w (n + length r.units) in
+      omega (arith, points w r.tree q.tree, a.points context w n, b.points context w (n + length r.units), joined_points r.units q.units, length-append r.units q.units);
+  size = λ context w n few.
+      let r = f context w n in
+      let q = h context w (n + length r.units) in
+      omega (arith, size w r.tree q.tree, a.size context w n (omega (arith, few)), b.size context w (n + length r.units) (omega (arith, few)), joined_sizes r.units q.units);
 }
 
 -- three
-three : {Q R S T : Type 0} (l : Q → Measure) (m : R → Measure) (o : S → Measure) (k : T → Measure) (v x y : Extent) (c : ℕ) (g : Within → Q → R → S → T) (e : Lifts Q) (f : Lifts R) (h : Lifts S)
-    → ((w : Within) (q : Q) (r : R) (s : S) → (k (g w q r s)).points ≤ c + ((l q).points + ((m r).points + (o s).points)))
-    → ((w : Within) (q : Q) (r : R) (s : S) → (k (g w q r s)).size ≤ c + ((l q).size + ((m r).size + (o s).size)))
-    → LiftsWithin l v e → LiftsWithin m x f → LiftsWithin o y h → LiftsWithin k (larger c (both v (both x y))) (λ home w n. lift_three (g w) e f h home w n)
+three : {Q R S T : Type 0} (l : Q → Measure) (m : R → Measure) (o : S → Measure) (k : T → Measure) (v x y : Extent) (c : ℕ) (g : SlotMap → Q → R → S → T) (e : Lifts Q) (f : Lifts R) (h : Lifts S)
+    → ((w : SlotMap) (q : Q) (r : R) (s : S) → (k (g w q r s)).points ≤ c + ((l q).points + ((m r).points + (o s).points)))
+    → ((w : SlotMap) (q : Q) (r : R) (s : S) → (k (g w q r s)).size ≤ c + ((l q).size + ((m r).size + (o s).size)))
+    → LiftsWithin l v e → LiftsWithin m x f → LiftsWithin o y h → LiftsWithin k (larger c (both v (both x y))) (λ context w n. lift_three (g w) e f h context w n)
 three l m o k v x y c g e f h points size a b d = record {
-  points = λ home w n.
-      let p = e home w n in
-      let r = f home w (n + length p.units) in
-      let q = h home w (n + length p.units + length r.units) in
+  points = λ context w n.
+      let p = e context w n in
+      let r = f context w (n + length p.units) in
+      let q = h context w (n + length p.units + length r.units) in
       omega (
         arith,
         points w p.tree r.tree q.tree,
-        a.points home w n,
-        b.points home w (n + length p.units),
-        d.points home w (n + length p.units + length r.units),
+        a.points context w n,
+        b.points context w (n + length p.units),
+        d.points context w (n + length p.units + length r.units),
         joined_points p.units (r.units ++ q.units),
         joined_points r.units q.units,
         length-append p.units (r.units ++ q.units),
         length-append r.units q.units,
       );
-  size = λ home w n few.
-      let p = e home w n in
-      let r = f home w (n + length p.units) in
-      let q = h home w (n + length p.units + length r.units) in
+  size = λ context w n few.
+      let p = e context w n in
+      let r = f context w (n + length p.units) in
+      let q = h context w (n + length p.units + length r.units) in
       omega (
         arith,
         size w p.tree r.tree q.tree,
-        a.size home w n (omega (arith, few)),
-        b.size home w (n + length p.units) (omega (arith, few)),
-        d.size home w (n + length p.units + length r.units) (omega (arith, few)),
+        a.size context w n (omega (arith, few)),
+        b.size context w (n + length p.units) (omega (arith, few)),
+        d.size context w (n + length p.units + length r.units) (omega (arith, few)),
         joined_sizes p.units (r.units ++ q.units),
         joined_sizes r.units q.units,
       );
@@ -205,7 +206,7 @@ pub record PartsWithin {T : Type 0} (m : List T → Measure) (x : Extent) (ps : 
   pub lifts : LiftsWithin m x (lift_all ps)
 
 no_parts : {T : Type 0} (m : List T → Measure) → IsSmall 0 (m []) → PartsWithin m (plain 0) []
-no_parts m h = record { declares = omega arith; slots = omega arith; tries = omega arith; some = omega arith; forks = λ fs. tt; lifts = alone m (plain 0) (λ home w. []) (λ home w. h) }
+no_parts m h = record { declares = omega arith; slots = omega arith; tries = omega arith; some = omega arith; forks = λ fs. tt; lifts = alone m (plain 0) (λ context w. []) (λ context w. h) }
 
 more_parts : {T : Type 0} (m : T → Measure) (ms : List T → Measure) (x y : Extent) (p : Part T) (ps : List (Part T))
     → ((t : T) (ts : List T) → (ms (t ∷ ts)).points ≤ (m t).points + (ms ts).points) → ((t : T) (ts : List T) → (ms (t ∷ ts)).size ≤ (m t).size + (ms ts).size)
@@ -225,32 +226,29 @@ more_parts m ms x y p ps points size one rest = record {
 pub fewer_taken : (p : ℕ → Bool) (xs : List ℕ) → length (filter p xs) ≤ length xs
 fewer_taken p xs = omega (arith, length-filter_both p (λ x. not (p x)) (λ x. refl) xs)
 
-given_size : (around : List ℕ) (t : Takes) (slots : List ℕ) → args_size (map (branch_arg around t) slots) ≡ length slots
+given_size : (around : List ℕ) (t : Captures) (slots : List ℕ) → args_size (map (branch_arg around t) slots) ≡ length slots
 given_size around t [] = omega arith
-given_size around t (x ∷ slots) = omega (arith, by_mode_size (is_reference (t x)) (place_of around x), given_size around t slots)
+given_size around t (x ∷ slots) = omega (arith, by_mode_size (is_reference (t x)) (slot_index_of around x), given_size around t slots)
 
 block_branch : (x : Extent) (body : List (Part UStmt)) → PartsWithin measure x body → LiftsWithin measure_call (apart x) (lift_branch body)
 block_branch x body k = record {
-  points = λ home w n. omega (arith, k.lifts.points home (branch_inner home body w) (n + 1));
-  size = λ home w n few.
-      let slots = branch_slots home body w in
-      let t = branch_takes home body in
+  points = λ context w n. omega (arith, k.lifts.points context (branch_inner context body w) (n + 1));
+  size = λ context w n few.
+      let slots = branch_slots context body w in
+      let t = branch_captures context body in
       let taken : length slots ≤ length w.slots = fewer_taken (λ x. is_taken (t x)) w.slots in
-      let inner : length (branch_inner home body w).slots ≡ length slots + x.own = length-append slots (all_declares body) ∙ ap (λ n. length slots + n) k.declares in
+      let inner : length (branch_inner context body w).slots ≡ length slots + x.own = length-append slots (all_declares body) ∙ ap (λ n. length slots + n) k.declares in
       omega (
         arith,
         few,
         taken,
         given_size w.slots t slots,
-        length-map slots (branch_param home.function t),
-        k.lifts.size home (branch_inner home body w) (n + 1) (omega (arith, few, taken, inner)),
+        length-map slots (branch_param context.function t),
+        k.lifts.size context (branch_inner context body w) (n + 1) (omega (arith, few, taken, inner)),
       );
 }
 
 -- the kinds of statements and branches
-
-abbrev branch_what_part : RBranchWhat → ℕ → Part UCall
-branch_what_part = fold-RBranchWhat (ℕ → Part UCall) (ℕ → Part UWhat) (Part UBranch) (Part UStmt) branch_what_step what_step branch_step stmt_step
 
 abbrev what_part : RWhat → ℕ → Part UWhat
 what_part = fold-RWhat (ℕ → Part UCall) (ℕ → Part UWhat) (Part UBranch) (Part UStmt) branch_what_step what_step branch_step stmt_step
@@ -318,7 +316,7 @@ branch_what_layer (RBranchWhat-F.RBranchWhat::Call c) line = record {
   tries = omega arith;
   some = omega arith;
   forks = λ fs. tt;
-  lifts = alone measure_call (plain (call_size c)) (λ home w. moved_call home.functions c w) (λ home w. record { size = call_within home.functions c w; points = omega arith });
+  lifts = alone measure_call (plain (call_size c)) (λ context w. moved_call context.functions c w) (λ context w. record { size = call_within context.functions c w; points = omega arith });
 }
 
 what_layer : (y : RWhat-F SmallBranchWhat SmallWhat SmallBranch SmallStmt)
@@ -330,8 +328,8 @@ what_layer (RWhat-F.Declare ty x a) line = record {
   tries = omega arith;
   some = omega arith;
   forks = λ fs. tt;
-  lifts = alone measure_what (declaration (suc (option_size a))) (λ home w. Declare ty (place_of w.slots x) (moved_option w.slots a))
-      (λ home w. is_small _ _ _ (at_declare ty (place_of w.slots x) (moved_option w.slots a)) (omega (arith, moved_option_size w.slots a)) (omega arith));
+  lifts = alone measure_what (declaration (suc (option_size a))) (λ context w. Declare ty (slot_index_of w.slots x) (moved_option w.slots a))
+      (λ context w. is_small _ _ _ (at_declare ty (slot_index_of w.slots x) (moved_option w.slots a)) (omega (arith, moved_option_size w.slots a)) (omega arith));
 }
 what_layer (RWhat-F.Assign x a) line = record {
   declares = omega arith;
@@ -339,8 +337,8 @@ what_layer (RWhat-F.Assign x a) line = record {
   tries = omega arith;
   some = omega arith;
   forks = λ fs. tt;
-  lifts = alone measure_what (plain (suc (expr_size a))) (λ home w. Assign (place_of w.slots x) (moved w.slots a))
-      (λ home w. is_small _ _ _ (at_assign (place_of w.slots x) (moved w.slots a)) (omega (arith, (kept a).same w.slots)) (omega arith));
+  lifts = alone measure_what (plain (suc (expr_size a))) (λ context w. Assign (slot_index_of w.slots x) (moved w.slots a))
+      (λ context w. is_small _ _ _ (at_assign (slot_index_of w.slots x) (moved w.slots a)) (omega (arith, (kept a).same w.slots)) (omega arith));
 }
 what_layer (RWhat-F.Next x) line = record {
   declares = omega arith;
@@ -348,7 +346,7 @@ what_layer (RWhat-F.Next x) line = record {
   tries = omega arith;
   some = omega arith;
   forks = λ fs. tt;
-  lifts = alone measure_what (plain 1) (λ home w. Next (place_of w.slots x)) (λ home w. is_small _ _ _ (at_next (place_of w.slots x)) (omega arith) (omega arith));
+  lifts = alone measure_what (plain 1) (λ context w. Next (slot_index_of w.slots x)) (λ context w. is_small _ _ _ (at_next (slot_index_of w.slots x)) (omega arith) (omega arith));
 }
 what_layer (RWhat-F.NextAssign x a) line = record {
   declares = omega arith;
@@ -356,8 +354,8 @@ what_layer (RWhat-F.NextAssign x a) line = record {
   tries = omega arith;
   some = omega arith;
   forks = λ fs. tt;
-  lifts = alone measure_what (plain (suc (expr_size a))) (λ home w. NextAssign (place_of w.slots x) (moved w.slots a))
-      (λ home w. is_small _ _ _ (at_next_assign (place_of w.slots x) (moved w.slots a)) (omega (arith, (kept a).same w.slots)) (omega arith));
+  lifts = alone measure_what (plain (suc (expr_size a))) (λ context w. NextAssign (slot_index_of w.slots x) (moved w.slots a))
+      (λ context w. is_small _ _ _ (at_next_assign (slot_index_of w.slots x) (moved w.slots a)) (omega (arith, (kept a).same w.slots)) (omega arith));
 }
 what_layer (RWhat-F.AssignNext x y) line = record {
   declares = omega arith;
@@ -365,7 +363,7 @@ what_layer (RWhat-F.AssignNext x y) line = record {
   tries = omega arith;
   some = omega arith;
   forks = λ fs. tt;
-  lifts = alone measure_what (plain 2) (λ home w. AssignNext (place_of w.slots x) (place_of w.slots y)) (λ home w. is_small _ _ _ (at_assign_next (place_of w.slots x) (place_of w.slots y)) (omega arith) (omega arith));
+  lifts = alone measure_what (plain 2) (λ context w. AssignNext (slot_index_of w.slots x) (slot_index_of w.slots y)) (λ context w. is_small _ _ _ (at_assign_next (slot_index_of w.slots x) (slot_index_of w.slots y)) (omega arith) (omega arith));
 }
 what_layer (RWhat-F.Get x y) line = record {
   declares = omega arith;
@@ -373,7 +371,7 @@ what_layer (RWhat-F.Get x y) line = record {
   tries = omega arith;
   some = omega arith;
   forks = λ fs. tt;
-  lifts = alone measure_what (plain 2) (λ home w. Get (place_of w.slots x) (place_of w.slots y)) (λ home w. is_small _ _ _ (at_get (place_of w.slots x) (place_of w.slots y)) (omega arith) (omega arith));
+  lifts = alone measure_what (plain 2) (λ context w. Get (slot_index_of w.slots x) (slot_index_of w.slots y)) (λ context w. is_small _ _ _ (at_get (slot_index_of w.slots x) (slot_index_of w.slots y)) (omega arith) (omega arith));
 }
 what_layer (RWhat-F.Put x a) line = record {
   declares = omega arith;
@@ -381,8 +379,8 @@ what_layer (RWhat-F.Put x a) line = record {
   tries = omega arith;
   some = omega arith;
   forks = λ fs. tt;
-  lifts = alone measure_what (plain (suc (expr_size a))) (λ home w. Put (place_of w.slots x) (moved w.slots a))
-      (λ home w. is_small _ _ _ (at_put (place_of w.slots x) (moved w.slots a)) (omega (arith, (kept a).same w.slots)) (omega arith));
+  lifts = alone measure_what (plain (suc (expr_size a))) (λ context w. Put (slot_index_of w.slots x) (moved w.slots a))
+      (λ context w. is_small _ _ _ (at_put (slot_index_of w.slots x) (moved w.slots a)) (omega (arith, (kept a).same w.slots)) (omega arith));
 }
 what_layer (RWhat-F.If a first other) line =
     let one = stmts_within first in
@@ -460,8 +458,8 @@ what_layer (RWhat-F.RWhat::Call c) line = record {
   tries = omega arith;
   some = omega arith;
   forks = λ fs. tt;
-  lifts = alone measure_what (plain (call_size c)) (λ home w. Call (moved_call home.functions c w))
-      (λ home w. is_small _ _ _ (at_call (moved_call home.functions c w)) (omega (arith, call_within home.functions c w)) (omega arith));
+  lifts = alone measure_what (plain (call_size c)) (λ context w. Call (moved_call context.functions c w))
+      (λ context w. is_small _ _ _ (at_call (moved_call context.functions c w)) (omega (arith, call_within context.functions c w)) (omega arith));
 }
 what_layer (RWhat-F.Try body x handler) line =
     let one = stmts_within body in
@@ -472,9 +470,9 @@ what_layer (RWhat-F.Try body x handler) line =
       tries = omega (arith, one.tries, rest.tries, length-append (all_tries (parts (stmts body))) (all_tries (parts (stmts handler))));
       some = omega arith;
       forks = λ fs. forks_of_both (extent (stmts body)).size (extent (stmts handler)).size _ (all_places fs (parts (stmts body))) (all_places fs (parts (stmts handler))) (omega arith) (omega arith) (one.forks fs) (rest.forks fs);
-      lifts = two measure measure measure_what (extent (stmts body)) (extent (stmts handler)) 1 (λ w r s. Try r (place_of w.exceptions x) s) (lift_all (parts (stmts body))) (lift_all (parts (stmts handler)))
-          (λ w r s. omega (arith, ap (λ (z : Measure). z.points) (at_try r (place_of w.exceptions x) s)))
-          (λ w r s. omega (arith, ap (λ (z : Measure). z.size) (at_try r (place_of w.exceptions x) s)))
+      lifts = two measure measure measure_what (extent (stmts body)) (extent (stmts handler)) 1 (λ w r s. Try r (slot_index_of w.exceptions x) s) (lift_all (parts (stmts body))) (lift_all (parts (stmts handler)))
+          (λ w r s. omega (arith, ap (λ (z : Measure). z.points) (at_try r (slot_index_of w.exceptions x) s)))
+          (λ w r s. omega (arith, ap (λ (z : Measure). z.size) (at_try r (slot_index_of w.exceptions x) s)))
           one.lifts rest.lifts;
     }
 what_layer (RWhat-F.Throw x) line = record {
@@ -483,7 +481,7 @@ what_layer (RWhat-F.Throw x) line = record {
   tries = omega arith;
   some = omega arith;
   forks = λ fs. tt;
-  lifts = alone measure_what (plain 1) (λ home w. Throw (place_of w.exceptions x)) (λ home w. is_small _ _ _ (at_throw (place_of w.exceptions x)) (omega arith) (omega arith));
+  lifts = alone measure_what (plain 1) (λ context w. Throw (slot_index_of w.exceptions x)) (λ context w. is_small _ _ _ (at_throw (slot_index_of w.exceptions x)) (omega arith) (omega arith));
 }
 what_layer (RWhat-F.Par bs) line =
     let one = branches_within bs in
@@ -549,11 +547,11 @@ pub body_within : (body : List RStmt) → PartsWithin measure (extent body) (par
 body_within [] = no_parts measure (record { size = omega arith; points = omega arith })
 body_within (s ∷ body) = more_parts measure_stmt measure (stmt_extent s) (extent body) (part s) (parts body) (λ t ts. omega arith) (λ t ts. omega arith) (stmt_within s) (body_within body)
 
-pub branch_within : (b : RBranch) → PartWithin measure_branch (branch_extent b) (branch_part b)
-branch_within = ind-RBranch (λ x. BranchWhatFits (branch_what_extent x) (branch_what_part x)) (λ x. WhatFits (what_extent x) (what_part x))
+pub branch_slot_map : (b : RBranch) → PartWithin measure_branch (branch_extent b) (branch_part b)
+branch_slot_map = ind-RBranch (λ x. BranchWhatFits (branch_what_extent x) (branch_what_part x)) (λ x. WhatFits (what_extent x) (what_part x))
     (λ b. PartWithin measure_branch (branch_extent b) (branch_part b)) (λ s. PartWithin measure_stmt (stmt_extent s) (part s)) branch_what_case what_case branch_case stmt_case
 
 pub fork_within : (branches : List RBranch) → PartsWithin measure_fork (fork_extent branches) (branch_parts branches)
 fork_within [] = no_parts measure_fork (record { size = omega arith; points = omega arith })
 fork_within (b ∷ branches) =
-    more_parts measure_branch measure_fork (branch_extent b) (fork_extent branches) (branch_part b) (branch_parts branches) (λ t ts. omega arith) (λ t ts. omega arith) (branch_within b) (fork_within branches)
+    more_parts measure_branch measure_fork (branch_extent b) (fork_extent branches) (branch_part b) (branch_parts branches) (λ t ts. omega arith) (λ t ts. omega arith) (branch_slot_map b) (fork_within branches)

@@ -8,19 +8,19 @@ use Rattle.shim_scopes.specs.declared.tree.RFunction.{RFunction}
 use Rattle.shim_sharing.specs.declared.fork.Clash.{Clash}
 use Rattle.shim_sharing.specs.declared.found.Offence.{Offence}
 use Rattle.shim_sharing.specs.declared.found.Offence.TheVariants.{TwoWriters, Alias}
-use Rattle.shim_units.specs.Meaning.{places_in}
+use Rattle.shim_units.specs.PartFold.{places_in}
 use Rattle.shim_units.specs.Parts.{Place}
 use Rattle.shim_units.specs.Parts.Place.{Fork, Called}
 use Rattle.shim_sharing.specs.Numbers.{HasNumbers}
 use Rattle.shim_sharing.specs.Room.{FunctionHasRoom}
 use Rattle.shim_sharing.specs.Sharing.{clash_from, two_writers, alias, given_again, offence_at, first_offence}
 use Rattle.shim_units.specs.Sizes.{extent}
-use Rattle.shim_units.specs.Taking.{Takes, takes}
+use Rattle.shim_units.specs.Captures.{Captures, captures}
 use Rattle.shim_sharing.proofs.ForkSizes.{ForksWithin}
 use Rattle.shim_sharing.proofs.LeastClash.{clash_is_least}
 use Rattle.shim_sharing.proofs.LiftedSizes.{body_within}
 
-clash_numbers : (n line k : ℕ) (ts : List Takes) (o : Option Clash) (found : Offence) → clash_from n 0 ts ≡ o → length ts ≤ k → k < 2 ^ 32 → two_writers line o ≡ Some found → HasNumbers found
+clash_numbers : (n line k : ℕ) (ts : List Captures) (o : Option Clash) (found : Offence) → clash_from n 0 ts ≡ o → length ts ≤ k → k < 2 ^ 32 → two_writers line o ≡ Some found → HasNumbers found
 clash_numbers n line k ts None found is few fits e = absurd (cc)
 clash_numbers n line k ts (Some c) found is few fits e =
     let clash = (clash_is_least n ts c is).0 in
@@ -39,7 +39,7 @@ numbers_among : (k : ℕ) (sorts : List Sort) (ps : List Place) (found : Offence
 numbers_among k sorts [] found fits h e = absurd (cc)
 numbers_among k sorts (Fork line branches ∷ ps) found fits h e =
     elim (some_or (offence_at sorts (Fork line branches)) (first_offence sorts ps) found e) [
-      | inl here ↦ clash_numbers (length sorts) line k (map (takes sorts) branches) _ found refl (omega (arith, h.0, length-map branches (takes sorts))) fits here
+      | inl here ↦ clash_numbers (length sorts) line k (map (captures sorts) branches) _ found refl (omega (arith, h.0, length-map branches (captures sorts))) fits here
       | inr further ↦ numbers_among k sorts ps found fits h.1 further
     ]
 numbers_among k sorts (Called line gs ∷ ps) found fits h e =

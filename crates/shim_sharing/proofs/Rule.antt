@@ -12,12 +12,13 @@ use Rattle.shim_sharing.specs.declared.found.Offence.{Offence}
 use Rattle.shim_units.specs.declared.found.Use.{Use}
 use Rattle.shim_units.specs.Parts.{Place}
 use Rattle.shim_units.specs.Parts.Place.{Fork, Called}
-use Rattle.shim_units.specs.Taking.{Takes, takes, taken_of, declares, writes, names, is_reference}
+use Rattle.shim_units.specs.Captures.{Captures, captures, taken_of, declares, writes, names, is_reference}
 use Rattle.shim_units.specs.Rule.{AreDisjoint, IsDisjointFromAll, ArePairwiseDisjoint, GivesOnce, ObeysAt, Obey, stands_in}
 use Rattle.shim_sharing.specs.Sharing.{if_true, least, common, clash_at, clash_with, clash_from, two_writers, again, given_again, alias, offence_at, first_offence}
-use Rattle.shim_units.specs.Meaning.{places_in}
+use Rattle.shim_units.specs.PartFold.{places_in}
 use Rattle.shim_units.specs.Rule.{ObeyAll, Obeys}
 use Rattle.shim_sharing.specs.Refusals.{refused_for, function_refusal, refusal_in, refusal}
+use Rattle.shim_base.proofs.Facts.{both_hold}
 
 -- neither of two
 pub first_none : {A : Type 0} (a b : Option A) → option_or a b ≡ None → a ≡ None
@@ -38,10 +39,6 @@ not_if_true a false e t = cc
 pub if_not_true : {A : Type 0} (a : A) (b : Bool) → (b ≡ true → ⊥) → if_true a b ≡ None
 if_not_true a true f = absurd (f refl)
 if_not_true a false f = refl
-
-pub both_true : (a b : Bool) → a ≡ true → b ≡ true → (a && b) ≡ true
-both_true true b p q = q
-both_true false b p q = cc
 
 pub left_true : (a b : Bool) → (a && b) ≡ true → a ≡ true
 left_true true b e = refl
@@ -68,21 +65,21 @@ no_least (suc n) p f = both_none (least n p) (if_true n (p n)) (no_least n p f) 
 -- forks
 
 -- nothing is taken past the slots
-inside : (sorts : List Sort) (us : List Use) (x : ℕ) → is_reference (takes sorts us x) ≡ true → x < length sorts
+inside : (sorts : List Sort) (us : List Use) (x : ℕ) → is_reference (captures sorts us x) ≡ true → x < length sorts
 inside sorts us x is =
     elim (cases_lt x (length sorts)) [
       | inl less ↦ less
       | inr past ↦
-          let e : takes sorts us x ≡ taken_of None (declares us x) (writes us x) (names us x) = ap (λ o. taken_of o (declares us x) (writes us x) (names us x)) (slice_get_past sorts x past) in
-          let f : is_reference (takes sorts us x) ≡ false = ap is_reference e in
+          let e : captures sorts us x ≡ taken_of None (declares us x) (writes us x) (names us x) = ap (λ o. taken_of o (declares us x) (writes us x) (names us x)) (slice_get_past sorts x past) in
+          let f : is_reference (captures sorts us x) ≡ false = ap is_reference e in
           cc
     ]
 
-apart : (sorts : List Sort) (us vs : List Use) → common (length sorts) (takes sorts us) (takes sorts vs) ≡ None → AreDisjoint (takes sorts us) (takes sorts vs)
+apart : (sorts : List Sort) (us vs : List Use) → common (length sorts) (captures sorts us) (captures sorts vs) ≡ None → AreDisjoint (captures sorts us) (captures sorts vs)
 apart sorts us vs none x p q =
-    none_below (length sorts) (λ y. is_reference (takes sorts us y) && is_reference (takes sorts vs y)) none x (inside sorts us x p) (both_true (is_reference (takes sorts us x)) (is_reference (takes sorts vs x)) p q)
+    none_below (length sorts) (λ y. is_reference (captures sorts us y) && is_reference (captures sorts vs y)) none x (inside sorts us x p) (both_hold (is_reference (captures sorts us x)) (is_reference (captures sorts vs x)) p q)
 
-none_common : (n : ℕ) (s t : Takes) → AreDisjoint s t → common n s t ≡ None
+none_common : (n : ℕ) (s t : Captures) → AreDisjoint s t → common n s t ≡ None
 none_common n s t d = no_least n (λ x. is_reference (s x) && is_reference (t x)) (λ x e. d x (left_true (is_reference (s x)) (is_reference (t x)) e) (right_true (is_reference (s x)) (is_reference (t x)) e))
 
 pub clash_none : (i j : ℕ) (o : Option ℕ) → clash_at i j o ≡ None → o ≡ None
@@ -94,25 +91,25 @@ none_clash i j None e = refl
 none_clash i j (Some x) e = cc
 
 apart_from_all : (sorts : List Sort) (i j : ℕ) (us : List Use) (vs : List (List Use))
-    → clash_with (length sorts) i (takes sorts us) j (map (takes sorts) vs) ≡ None → IsDisjointFromAll (takes sorts us) (map (takes sorts) vs)
+    → clash_with (length sorts) i (captures sorts us) j (map (captures sorts) vs) ≡ None → IsDisjointFromAll (captures sorts us) (map (captures sorts) vs)
 apart_from_all sorts i j us [] e = tt
 apart_from_all sorts i j us (v ∷ vs) e = (
-  apart sorts us v (clash_none i j (common (length sorts) (takes sorts us) (takes sorts v)) (first_none (clash_at i j (common (length sorts) (takes sorts us) (takes sorts v))) (clash_with (length sorts) i (takes sorts us) (j + 1) (map (takes sorts) vs)) e)),
-  apart_from_all sorts i (j + 1) us vs (second_none (clash_at i j (common (length sorts) (takes sorts us) (takes sorts v))) (clash_with (length sorts) i (takes sorts us) (j + 1) (map (takes sorts) vs)) e),
+  apart sorts us v (clash_none i j (common (length sorts) (captures sorts us) (captures sorts v)) (first_none (clash_at i j (common (length sorts) (captures sorts us) (captures sorts v))) (clash_with (length sorts) i (captures sorts us) (j + 1) (map (captures sorts) vs)) e)),
+  apart_from_all sorts i (j + 1) us vs (second_none (clash_at i j (common (length sorts) (captures sorts us) (captures sorts v))) (clash_with (length sorts) i (captures sorts us) (j + 1) (map (captures sorts) vs)) e),
 )
 
-no_clash_with : (n i j : ℕ) (s : Takes) (ts : List Takes) → IsDisjointFromAll s ts → clash_with n i s j ts ≡ None
+no_clash_with : (n i j : ℕ) (s : Captures) (ts : List Captures) → IsDisjointFromAll s ts → clash_with n i s j ts ≡ None
 no_clash_with n i j s [] d = refl
 no_clash_with n i j s (t ∷ ts) d = both_none (clash_at i j (common n s t)) (clash_with n i s (j + 1) ts) (none_clash i j (common n s t) (none_common n s t d.0)) (no_clash_with n i (j + 1) s ts d.1)
 
-all_apart : (sorts : List Sort) (i : ℕ) (us : List (List Use)) → clash_from (length sorts) i (map (takes sorts) us) ≡ None → ArePairwiseDisjoint (map (takes sorts) us)
+all_apart : (sorts : List Sort) (i : ℕ) (us : List (List Use)) → clash_from (length sorts) i (map (captures sorts) us) ≡ None → ArePairwiseDisjoint (map (captures sorts) us)
 all_apart sorts i [] e = tt
 all_apart sorts i (u ∷ us) e = (
-  apart_from_all sorts i (i + 1) u us (first_none (clash_with (length sorts) i (takes sorts u) (i + 1) (map (takes sorts) us)) (clash_from (length sorts) (i + 1) (map (takes sorts) us)) e),
-  all_apart sorts (i + 1) us (second_none (clash_with (length sorts) i (takes sorts u) (i + 1) (map (takes sorts) us)) (clash_from (length sorts) (i + 1) (map (takes sorts) us)) e),
+  apart_from_all sorts i (i + 1) u us (first_none (clash_with (length sorts) i (captures sorts u) (i + 1) (map (captures sorts) us)) (clash_from (length sorts) (i + 1) (map (captures sorts) us)) e),
+  all_apart sorts (i + 1) us (second_none (clash_with (length sorts) i (captures sorts u) (i + 1) (map (captures sorts) us)) (clash_from (length sorts) (i + 1) (map (captures sorts) us)) e),
 )
 
-no_clash : (n i : ℕ) (ts : List Takes) → ArePairwiseDisjoint ts → clash_from n i ts ≡ None
+no_clash : (n i : ℕ) (ts : List Captures) → ArePairwiseDisjoint ts → clash_from n i ts ≡ None
 no_clash n i [] d = refl
 no_clash n i (t ∷ ts) d = both_none (clash_with n i t (i + 1) ts) (clash_from n (i + 1) ts) (no_clash_with n i (i + 1) t ts d.0) (no_clash n (i + 1) ts d.1)
 
@@ -192,11 +189,11 @@ none_alias line None e = refl
 none_alias line (Some c) e = cc
 
 pub obeys_at : (sorts : List Sort) (p : Place) → offence_at sorts p ≡ None → ObeysAt sorts p
-obeys_at sorts (Fork line branches) e = all_apart sorts 0 branches (two_none line (clash_from (length sorts) 0 (map (takes sorts) branches)) e)
+obeys_at sorts (Fork line branches) e = all_apart sorts 0 branches (two_none line (clash_from (length sorts) 0 (map (captures sorts) branches)) e)
 obeys_at sorts (Called line gs) e = gives_once gs (alias_none line (given_again [] gs) e)
 
 pub none_at : (sorts : List Sort) (p : Place) → ObeysAt sorts p → offence_at sorts p ≡ None
-none_at sorts (Fork line branches) o = none_two line (clash_from (length sorts) 0 (map (takes sorts) branches)) (no_clash (length sorts) 0 (map (takes sorts) branches) o)
+none_at sorts (Fork line branches) o = none_two line (clash_from (length sorts) 0 (map (captures sorts) branches)) (no_clash (length sorts) 0 (map (captures sorts) branches) o)
 none_at sorts (Called line gs) o = none_alias line (given_again [] gs) (given_once gs o)
 
 pub all_obey : (sorts : List Sort) (ps : List Place) → first_offence sorts ps ≡ None → Obey sorts ps

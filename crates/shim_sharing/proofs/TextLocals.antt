@@ -161,8 +161,8 @@ counts m n v w e a = record { counted = omega (arith, e, a.counted); most = a.mo
 begins : (n v u w : ℕ) → u ≡ v → Read n u w → Read n v w
 begins n v u w e a = record { counted = omega (arith, e, a.counted); most = λ h. a.most (omega (arith, e, h)) }
 
-within : (m n : ℕ) → nat_le m n ≡ true → m ≤ n
-within m n h = grind (arith, h)
+slot_map : (m n : ℕ) → nat_le m n ≡ true → m ≤ n
+slot_map m n h = grind (arith, h)
 
 mutual
   expr_locals : {n l : ℕ} {v w : Counts} {s r : List Terminal} {x : Expr} → IsExpr limits n l v w s r x → w.locals ≡ v.locals
@@ -187,7 +187,7 @@ arguments_locals is.no_arguments = refl
 arguments_locals (is.arguments h d t) = more_arguments_locals t ∙ expr_locals d
 
 next_local : (v w : ℕ) → nat_le (suc v) 64 ≡ true → w ≡ suc v → Read 1 v w
-next_local v w h e = record { counted = omega (arith, e); most = λ k. omega (arith, e, within (suc v) 64 h) }
+next_local v w h e = record { counted = omega (arith, e); most = λ k. omega (arith, e, slot_map (suc v) 64 h) }
 
 declared_locals : {l : ℕ} {v w : Counts} {s r : List Terminal} {x : List ℕ} {value : Option Expr} → IsDeclared limits l v w s r x value → Read 1 v.locals w.locals
 declared_locals (is.without_value h) = next_local _ _ h refl
@@ -264,12 +264,12 @@ mutual
 
 more_params_read : {n : ℕ} {s r : List Terminal} {ps : List Param} → IsMoreParams limits n s r ps → n ≤ 32 → n + length ps ≤ 32
 more_params_read is.params_end h = omega (arith, h)
-more_params_read (is.another_param h d t) low = omega (arith, more_params_read t (within _ 32 h))
+more_params_read (is.another_param h d t) low = omega (arith, more_params_read t (slot_map _ 32 h))
 
 params_read : {s r : List Terminal} {ps : List Param} → IsParams limits s r ps → length ps ≤ 32
 params_read is.no_params = omega arith
 params_read is.void_params = omega arith
-params_read (is.params h d t) = omega (arith, more_params_read t (within 1 32 h))
+params_read (is.params h d t) = omega (arith, more_params_read t (slot_map 1 32 h))
 
 -- the parameters and declarations of a function are 96 at the most
 abbrev pub IsNarrow : Function → Type 0

@@ -9,30 +9,31 @@ use Rattle.shim_syntax.proofs.ByteSizes.{size_is_bounded}
 use Rattle.shim_sharing.specs.declared.fault.ShareFault.{ShareFault}
 use Rattle.shim_units.specs.declared.form.Form.{Form}
 use Rattle.shim_units.specs.declared.unit.Unit.{Unit as UnitOf}
-use Rattle.shim_units.specs.OfText.{IsUnitsOfText, IsKept}
+use Rattle.shim_units.specs.OfText.{IsUnitsOfText, IsAcceptedForm}
 use Rattle.shim_sharing.specs.Accepting.{unless_refused, accepted}
-use Rattle.shim_units.specs.Meaning.{declares_in}
-use Rattle.shim_units.specs.Parts.{Home}
+use Rattle.shim_units.specs.PartFold.{declares_in}
+use Rattle.shim_units.specs.Parts.{LiftContext}
 use Rattle.shim_units.specs.Sizes.{extent, function_size, functions_size, unit_size, units_size, units_points, AreSmall, AreFit}
 use Rattle.shim_sharing.specs.Refusals.{refusal}
-use Rattle.shim_units.specs.Units.{upto, text_of, throws_of, function_within, lift_function, lift_functions, lifted}
+use Rattle.shim_units.specs.Units.{upto, text_of, throws_of, function_slot_map, lift_function, lift_functions, lifted}
 use Rattle.shim_sharing.proofs.TextLocals.{program_read}
 use Rattle.shim_sharing.proofs.BoundSizes.{HasFewSlots, HaveFewSlots, program_within}
 use Rattle.shim_sharing.specs.Room.{FunctionsHaveRoom}
-use Rattle.shim_sharing.proofs.FunctionSizes.{upto_length, function_points}
+use Rattle.shim_sharing.proofs.FunctionSizes.{function_points}
 use Rattle.shim_sharing.proofs.LiftedSizes.{body_within, joined_sizes, joined_points}
+use Rattle.shim_units.proofs.Counting.{upto_length}
 
 module _ (names : List (List ℕ)) (all : List RFunction) where
-  abbrev home_of : ℕ → ℕ → RFunction → Home
-  home_of number next f = record { functions = all; function = f; number = number; name = text_of names f.name; first = next }
+  abbrev context_of : ℕ → ℕ → RFunction → LiftContext
+  context_of number next f = record { functions = all; function = f; number = number; name = text_of names f.name; first = next }
 
-  slots_within : (f : RFunction) → HasFewSlots f → length (function_within f).slots + (extent f.body).forked ≤ 96
+  slots_within : (f : RFunction) → HasFewSlots f → length (function_slot_map f).slots + (extent f.body).forked ≤ 96
   slots_within f few = omega (arith, few, upto_length (length f.params), length-append (upto (length f.params)) (declares_in f.body), (body_within f.body).declares)
 
   function_sizes : (number next : ℕ) (f : RFunction) → HasFewSlots f
       → unit_size (lift_function names all number next f).own + units_size (lift_function names all number next f).lifted ≤ 194 * function_size f
   function_sizes number next f few =
-      omega (arith, (body_within f.body).lifts.size (home_of number next f) (function_within f) next (slots_within f few))
+      omega (arith, (body_within f.body).lifts.size (context_of number next f) (function_slot_map f) next (slots_within f few))
 
   functions_points : (number next : ℕ) (fs : List RFunction)
       → units_points (lift_functions names all number next fs).own + units_points (lift_functions names all number next fs).lifted
@@ -108,7 +109,7 @@ lifted_throws p h = omega (arith, throws_within p.functions p.main, functions_wi
 kept_throws : (form : Form) → ∥ IsUnitsOfText form ∥₁ → length form.main_throws < 2 ^ 21
 kept_throws form h = below _ _ h (λ (k : IsUnitsOfText form). below _ _ k.of_text (λ t. subst (λ (f : Form). length f.main_throws < 2 ^ 21) k.meant (lifted_throws k.resolved t)))
 
-pub kept : (form : Form) → ∥ IsUnitsOfText form ∥₁ → IsKept form
+pub kept : (form : Form) → ∥ IsUnitsOfText form ∥₁ → IsAcceptedForm form
 kept form h = record { of_text = h; fit = kept_fit form h; few = kept_throws form h }
 
 -- the numbers that lifting takes

@@ -13,12 +13,12 @@ use Rattle.shim_sharing.specs.Refusals.{told}
 use Rattle.shim_units.specs.declared.form.Form.{Form}
 use Rattle.shim_units.specs.declared.found.Given.{Given}
 use Rattle.shim_units.specs.declared.found.Use.{Use}
-use Rattle.shim_units.specs.declared.found.Taking.TheVariants.{Reference}
+use Rattle.shim_units.specs.declared.found.Capture.TheVariants.{Reference}
 use Rattle.shim_units.specs.Parts.{Place}
 use Rattle.shim_units.specs.Parts.Place.{Fork, Called}
 use Rattle.shim_units.specs.Rule.{ObeysAt, Obey, ObeyAll}
-use Rattle.shim_units.specs.Taking.{Takes, takes}
-use Rattle.shim_units.specs.Meaning.{places_in}
+use Rattle.shim_units.specs.Captures.{Captures, captures}
+use Rattle.shim_units.specs.PartFold.{places_in}
 
 -- a fork in the text of a function of the program, two of its branches, and a variable that both take by reference
 pub record HasTwoWriters (p : Resolved) : Type 0 where
@@ -37,14 +37,14 @@ pub record HasTwoWriters (p : Resolved) : Type 0 where
   pub is_first : slice_get branches first ≡ Some one
   pub is_second : slice_get branches second ≡ Some other
   pub slot : ℕ
-  pub by_one : takes function.slots one slot ≡ Reference
-  pub by_other : takes function.slots other slot ≡ Reference
+  pub by_one : captures function.slots one slot ≡ Reference
+  pub by_other : captures function.slots other slot ≡ Reference
 
 -- two of the branches, in their order, and a variable of n that both take by reference
-pub record IsClash (n : ℕ) (branches : List Takes) (c : Clash) : Type 0 where
+pub record IsClash (n : ℕ) (branches : List Captures) (c : Clash) : Type 0 where
   pub ordered : c.first < c.second
-  pub one : Takes
-  pub other : Takes
+  pub one : Captures
+  pub other : Captures
   pub is_first : slice_get branches c.first ≡ Some one
   pub is_second : slice_get branches c.second ≡ Some other
   pub below : c.slot < n
@@ -52,7 +52,7 @@ pub record IsClash (n : ℕ) (branches : List Takes) (c : Clash) : Type 0 where
   pub by_other : other c.slot ≡ Reference
 
 -- no other clash has a lesser first branch, with the same one a lesser second, or with the same two a lesser slot
-pub record IsLeast (n : ℕ) (branches : List Takes) (c : Clash) : Type 0 where
+pub record IsLeast (n : ℕ) (branches : List Captures) (c : Clash) : Type 0 where
   pub first : (d : Clash) → IsClash n branches d → d.first < c.first → ⊥
   pub second : (d : Clash) → IsClash n branches d → d.first ≡ c.first → d.second < c.second → ⊥
   pub slot : (d : Clash) → IsClash n branches d → d.first ≡ c.first → d.second ≡ c.second → d.slot < c.slot → ⊥
@@ -78,7 +78,7 @@ pub record IsLeftmostAlias (gs : List Given) (x : ℕ) : Type 0 where
 -- what is told of a fork is its line with the least clash of its branches, and of a call its line with the variable of its leftmost alias
 abbrev pub IsToldOf : List Sort → Place → Offence → Type 0
 IsToldOf sorts (Fork line branches) o =
-    (c : Clash) × (o ≡ TwoWriters line c.first c.second c.slot) × IsClash (length sorts) (map (takes sorts) branches) c × IsLeast (length sorts) (map (takes sorts) branches) c
+    (c : Clash) × (o ≡ TwoWriters line c.first c.second c.slot) × IsClash (length sorts) (map (captures sorts) branches) c × IsLeast (length sorts) (map (captures sorts) branches) c
 IsToldOf sorts (Called line gs) o = (x : ℕ) × (o ≡ Alias line x) × IsLeftmostAlias gs x
 
 -- all places before one of these obey the rule, that one does not, and this is what is told of it

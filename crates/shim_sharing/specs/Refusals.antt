@@ -9,7 +9,7 @@ use Rattle.shim_sharing.specs.declared.found.Offence.{Offence}
 use Rattle.shim_sharing.specs.declared.found.Offence.TheVariants.{TwoWriters, Alias}
 use Rattle.shim_sharing.specs.Sharing.{first_offence}
 use Rattle.shim_units.specs.Lifting.{name_of}
-use Rattle.shim_units.specs.Meaning.{places_in}
+use Rattle.shim_units.specs.PartFold.{places_in}
 use Rattle.shim_units.specs.Units.{text_of}
 
 abbrev pub told : List (List ℕ) → RFunction → Offence → ShareFault

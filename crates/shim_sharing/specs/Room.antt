@@ -1,11 +1,11 @@
 -- The numbers of a unit's variables and exceptions fit, and so do those of the units, with all that is still to be lifted.
 use Rattle.std.specs.Prelude.{ℕ, ◌+◌, ◌<◌, ◌^◌, List, length}
 use Rattle.shim_scopes.specs.declared.tree.RFunction.{RFunction}
-use Rattle.shim_units.specs.declared.within.Within.{Within}
+use Rattle.shim_units.specs.declared.slot_map.SlotMap.{SlotMap}
 use Rattle.shim_units.specs.Sizes.{Extent, function_size, functions_size}
 
 -- what is lifted out of a part of that extent, which stands in a unit that has these, gets the numbers from `next` on
-pub record HasRoom (w : Within) (next : ℕ) (e : Extent) : Type 0 where
+pub record HasRoom (w : SlotMap) (next : ℕ) (e : Extent) : Type 0 where
   pub slots : length w.slots + e.inside < 2 ^ 32
   pub exceptions : length w.exceptions + e.inside < 2 ^ 32
   pub units : next + e.size < 2 ^ 32

@@ -9,7 +9,7 @@ use Rattle.shim_sharing.specs.declared.fork.Clash.{Clash}
 use Rattle.shim_units.specs.Parts.{Place}
 use Rattle.shim_units.specs.Parts.Place.{Fork, Called}
 use Rattle.shim_units.specs.Rule.{stands_in}
-use Rattle.shim_units.specs.Taking.{Takes, takes, is_reference}
+use Rattle.shim_units.specs.Captures.{Captures, captures, is_reference}
 
 abbrev pub if_true : {A : Type 0} → A → Bool → Option A
 if_true a true = Some a
@@ -21,7 +21,7 @@ least zero p = None
 least (suc n) p = option_or (least n p) (if_true n (p n))
 
 -- the variable declared first, of n, that both take by reference
-abbrev pub common : ℕ → Takes → Takes → Option ℕ
+abbrev pub common : ℕ → Captures → Captures → Option ℕ
 common n s t = least n (λ x. is_reference (s x) && is_reference (t x))
 
 abbrev pub clash_at : ℕ → ℕ → Option ℕ → Option Clash
@@ -29,12 +29,12 @@ clash_at i j None = None
 clash_at i j (Some x) = Some (record { first = i; second = j; slot = x })
 
 -- of branch i with those behind it, the first of which is j
-abbrev pub clash_with : ℕ → ℕ → Takes → ℕ → List Takes → Option Clash
+abbrev pub clash_with : ℕ → ℕ → Captures → ℕ → List Captures → Option Clash
 clash_with n i s j [] = None
 clash_with n i s j (t ∷ ts) = option_or (clash_at i j (common n s t)) (clash_with n i s (j + 1) ts)
 
 -- the least pair of branches, the first of which is i, that share a variable
-abbrev pub clash_from : ℕ → ℕ → List Takes → Option Clash
+abbrev pub clash_from : ℕ → ℕ → List Captures → Option Clash
 clash_from n i [] = None
 clash_from n i (t ∷ ts) = option_or (clash_with n i t (i + 1) ts) (clash_from n (i + 1) ts)
 
@@ -57,7 +57,7 @@ alias line None = None
 alias line (Some x) = Some (Alias line x)
 
 abbrev pub offence_at : List Sort → Place → Option Offence
-offence_at sorts (Fork line branches) = two_writers line (clash_from (length sorts) 0 (map (takes sorts) branches))
+offence_at sorts (Fork line branches) = two_writers line (clash_from (length sorts) 0 (map (captures sorts) branches))
 offence_at sorts (Called line gs) = alias line (given_again [] gs)
 
 -- the first in textual order

@@ -1,16 +1,16 @@
 // Two branches of a fork that take one variable by reference.
 ghost use Rattle.std.specs.Prelude.{◌≡◌, ◌+◌, ◌<◌, ◌^◌, ◌&&◌, IfOk, length, map, Option, false};
 ghost use Rattle.shim_sharing.specs.Sharing.{least, common, clash_with, clash_from, two_writers};
-ghost use Rattle.shim_units.specs.Taking.{is_reference, takes};
-ghost use Rattle.shim_units.specs.Marks.{takes_of, shared};
+ghost use Rattle.shim_units.specs.Captures.{is_reference, captures};
+ghost use Rattle.shim_units.specs.Usages.{captures_of, shared};
 ghost use Rattle.shim_units.specs.Parts.{each_uses};
-ghost use Rattle.shim_units.specs.Meaning.{branch_parts};
+ghost use Rattle.shim_units.specs.PartFold.{branch_parts};
 
 use crate::found::Offence;
 use shim_base::{List, NoMemory};
 use shim_scopes::{RBranch, RFunction};
 use shim_syntax::Sort;
-use shim_units::{Taking, is_reference, take_all, taking_at, uses_in_branch};
+use shim_units::{Capture, capture_at, is_reference, take_all, uses_in_branch};
 use std::alloc::Global;
 
 // Two branches, and the variable that both take.
@@ -21,16 +21,16 @@ pub struct Clash {
     pub slot: usize,
 }
 
-fn is_common(one: &[Taking], other: &[Taking], slot: usize) -> bool
-    ensures { result ≡ (is_reference (takes_of one.now slot) && is_reference (takes_of other.now slot)) }
+fn is_common(one: &[Capture], other: &[Capture], slot: usize) -> bool
+    ensures { result ≡ (is_reference (captures_of one.now slot) && is_reference (captures_of other.now slot)) }
 {
-    is_reference(taking_at(one, slot)) && is_reference(taking_at(other, slot))
+    is_reference(capture_at(one, slot)) && is_reference(capture_at(other, slot))
 }
 
 // The variable declared first that both take by reference.
 #[tactic(auto, using(crate::proofs::Least::least_found))]
-fn find_common(count: usize, one: &[Taking], other: &[Taking]) -> Option<usize>
-    ensures { result ≡ common count (takes_of one.now) (takes_of other.now) }
+fn find_common(count: usize, one: &[Capture], other: &[Capture]) -> Option<usize>
+    ensures { result ≡ common count (captures_of one.now) (captures_of other.now) }
 {
     for slot in 0..count {
         if is_common(one, other, slot) {
@@ -43,12 +43,12 @@ fn find_common(count: usize, one: &[Taking], other: &[Taking]) -> Option<usize>
 fn find_clash_with(
     count: usize,
     first: usize,
-    one: &[Taking],
+    one: &[Capture],
     second: usize,
-    behind: &[List<Taking>],
+    behind: &[List<Capture>],
 ) -> Option<Clash>
     requires { second + length behind.now < 2 ^ 64 }
-    ensures { result ≡ clash_with count first (takes_of one.now) second (map takes_of behind.now) }
+    ensures { result ≡ clash_with count first (captures_of one.now) second (map captures_of behind.now) }
 {
     match behind {
         [] => None,
@@ -64,9 +64,9 @@ fn find_clash_with(
 }
 
 // The least pair of branches that share a variable.
-fn find_clash(count: usize, first: usize, branches: &[List<Taking>]) -> Option<Clash>
+fn find_clash(count: usize, first: usize, branches: &[List<Capture>]) -> Option<Clash>
     requires { first + length branches.now < 2 ^ 64 }
-    ensures { result ≡ clash_from count first (map takes_of branches.now) }
+    ensures { result ≡ clash_from count first (map captures_of branches.now) }
 {
     match branches {
         [] => None,
@@ -84,12 +84,12 @@ fn find_clash(count: usize, first: usize, branches: &[List<Taking>]) -> Option<C
 }
 
 // Whether two of the branches take the variable of a slot by reference.
-fn is_shared(branches: &[List<Taking>], slot: usize) -> bool
-    ensures { result ≡ shared slot false (map takes_of branches.now) }
+fn is_shared(branches: &[List<Capture>], slot: usize) -> bool
+    ensures { result ≡ shared slot false (map captures_of branches.now) }
 {
     let mut taken = false;
     for one in branches {
-        let by_ref = is_reference(taking_at(one.as_slice(), slot));
+        let by_ref = is_reference(capture_at(one.as_slice(), slot));
         if by_ref && taken {
             return true;
         }
@@ -99,8 +99,8 @@ fn is_shared(branches: &[List<Taking>], slot: usize) -> bool
 }
 
 // The variable declared first that two of the branches take by reference.
-fn find_shared(count: usize, branches: &[List<Taking>]) -> Option<usize>
-    ensures { result ≡ least count (λ x. shared x false (map takes_of branches.now)) }
+fn find_shared(count: usize, branches: &[List<Capture>]) -> Option<usize>
+    ensures { result ≡ least count (λ x. shared x false (map captures_of branches.now)) }
 {
     for slot in 0..count {
         if is_shared(branches, slot) {
@@ -113,8 +113,8 @@ fn find_shared(count: usize, branches: &[List<Taking>]) -> Option<usize>
 // The least pair of all branches that share a variable. Pairs are compared only where there is one, since
 // that takes the square of the branches.
 #[tactic(auto, using(crate::proofs::Shared::none_shared))]
-fn find_first_clash(count: usize, branches: &[List<Taking>]) -> Option<Clash>
-    ensures { result ≡ clash_from count 0 (map takes_of branches.now) }
+fn find_first_clash(count: usize, branches: &[List<Capture>]) -> Option<Clash>
+    ensures { result ≡ clash_from count 0 (map captures_of branches.now) }
 {
     match find_shared(count, branches) {
         Some(_) => find_clash(count, 0, branches),
@@ -128,8 +128,8 @@ fn take_each(
     functions: &[RFunction],
     sorts: &[Sort],
     branches: &[RBranch],
-) -> Result<List<List<Taking>>, NoMemory>
-    ensures { IfOk result (λ made. map takes_of made ≡ map (takes sorts.now) (each_uses functions.now (branch_parts branches.now))) }
+) -> Result<List<List<Capture>>, NoMemory>
+    ensures { IfOk result (λ made. map captures_of made ≡ map (captures sorts.now) (each_uses functions.now (branch_parts branches.now))) }
 {
     let mut made = List::new(alloc);
     for branch in branches {
@@ -147,7 +147,7 @@ pub fn find_two_writers(
     line: u32,
     branches: &[RBranch],
 ) -> Result<Option<Offence>, NoMemory>
-    ensures { IfOk result (λ found. found ≡ two_writers line (clash_from (length sorts.now) 0 (map (takes sorts.now) (each_uses functions.now (branch_parts branches.now))))) }
+    ensures { IfOk result (λ found. found ≡ two_writers line (clash_from (length sorts.now) 0 (map (captures sorts.now) (each_uses functions.now (branch_parts branches.now))))) }
 {
     let taken = take_each(alloc, functions, sorts, branches)?;
     match find_first_clash(sorts.len(), taken.as_slice()) {

@@ -12,8 +12,8 @@ ghost use Rattle.shim_sharing.specs.Accepting.{accepted};
 ghost use Rattle.shim_sharing.specs.Laws.{HasTwoWriters, IsClash, IsLeast, IsLeftmostAlias, IsFirstOffence, IsFirstRefusal, IsAccepted};
 ghost use Rattle.shim_sharing.specs.Sharing.{clash_from, given_again, first_offence};
 ghost use Rattle.shim_units.specs.Sizes.{AreSmall};
-ghost use Rattle.shim_units.specs.Taking.{Takes};
-ghost use Rattle.shim_units.specs.OfText.{IsKept};
+ghost use Rattle.shim_units.specs.Captures.{Captures};
+ghost use Rattle.shim_units.specs.OfText.{IsAcceptedForm};
 ghost use Rattle.shim_units.specs.Parts.{Place};
 ghost use Rattle.shim_units.specs.Rule.{Obeys};
 ghost use Rattle.shim_sharing.specs.Refusals.{refusal};
@@ -31,7 +31,7 @@ pub fn accepted_has_no_two_writers()
 /// The two branches that a refusal of a fork tells do share the variable that it tells; no lesser pair of
 /// them shares any, and this pair none that is declared before it.
 pub fn least_clash_is_told()
-    ensures { (n : ℕ) (branches : List Takes) (c : Clash) → clash_from n 0 branches ≡ Some c → IsClash n branches c × IsLeast n branches c }
+    ensures { (n : ℕ) (branches : List Captures) (c : Clash) → clash_from n 0 branches ≡ Some c → IsClash n branches c × IsLeast n branches c }
 {}
 
 /// The variable that a refusal of a call tells is given by reference at one of its arguments and is
@@ -53,10 +53,10 @@ pub fn first_refusal_is_told()
     ensures { (p : Resolved) (fault : ShareFault) → refusal p ≡ Some fault → IsFirstRefusal p fault }
 {}
 
-/// What `keep` asks for is had by exactly the units that are answered to some program, so no others are
-/// kept.
+/// What `from_form` of `shim_units` asks for is had by exactly the units that `accept` answers to some
+/// program, so no others are kept.
 pub fn kept_is_accepted()
-    ensures { (form : Form) → IsKept form ↔ ∥ IsAccepted form ∥₁ }
+    ensures { (form : Form) → IsAcceptedForm form ↔ ∥ IsAccepted form ∥₁ }
 {}
 
 /// Of a program that has a text of at most 1,048,576 bytes, the units are fewer than 2 ^ 21, and so are

@@ -1,16 +1,16 @@
 // The statements of a unit, and the units that are lifted out of them.
 ghost use Rattle.std.specs.Prelude.{◌≡◌, ◌+◌, ◌++◌, length, IfOk, OnOk};
-ghost use Rattle.shim_units.specs.HomeView.{home_view};
+ghost use Rattle.shim_units.specs.LiftContextView.{context_view};
 ghost use Rattle.shim_units.specs.Lifting.{lift_all, lift_branch};
 ghost use Rattle.shim_sharing.specs.Room.{HasRoom};
 ghost use Rattle.shim_units.specs.Sizes.{apart, stmt_extent, branch_extent, extent, fork_extent};
-ghost use Rattle.shim_units.specs.Meaning.{part, parts, branch_part, branch_parts, lift_in};
+ghost use Rattle.shim_units.specs.PartFold.{part, parts, branch_part, branch_parts, lift_in};
 
 use shim_base::{List, NoMemory};
 use shim_scopes::{RBranch, RBranchWhat, RStmt, RWhat};
 use shim_units::{
-    Home, UBranch, UCall, UStmt, UWhat, Unit, Within, call_branch, close_branch, move_call,
-    move_expr, move_option, number_after, open_branch, place,
+    LiftContext, SlotMap, UBranch, UCall, UStmt, UWhat, Unit, call_branch, close_branch, move_call,
+    move_expr, move_option, number_after, open_branch, slot_index,
 };
 use std::alloc::Global;
 
@@ -19,19 +19,19 @@ use std::alloc::Global;
 #[cycle(lift)]
 pub fn lift_body(
     alloc: Global,
-    home: &Home,
-    within: &Within,
+    context: &LiftContext,
+    slot_map: &SlotMap,
     next: u32,
     units: &mut List<Unit>,
     body: &[RStmt],
 ) -> Result<List<UStmt>, NoMemory>
-    requires { HasRoom within.now (next + length units.now) (extent body.now) }
-    ensures tree { IfOk result (λ made. made ≡ (lift_in body.now (home_view home.now) within.now (next + length units.old)).tree) }
-    ensures units { OnOk result (units.new ≡ units.old ++ (lift_in body.now (home_view home.now) within.now (next + length units.old)).units) }
+    requires { HasRoom slot_map.now (next + length units.now) (extent body.now) }
+    ensures tree { IfOk result (λ made. made ≡ (lift_in body.now (context_view context.now) slot_map.now (next + length units.old)).tree) }
+    ensures units { OnOk result (units.new ≡ units.old ++ (lift_in body.now (context_view context.now) slot_map.now (next + length units.old)).units) }
 {
     let mut made = List::new(alloc);
     for stmt in body {
-        made.push(lift_stmt(alloc, home, within, next, units, stmt)?)?;
+        made.push(lift_stmt(alloc, context, slot_map, next, units, stmt)?)?;
     }
     Ok(made)
 }
@@ -39,17 +39,17 @@ pub fn lift_body(
 #[cycle(lift)]
 fn lift_stmt(
     alloc: Global,
-    home: &Home,
-    within: &Within,
+    context: &LiftContext,
+    slot_map: &SlotMap,
     next: u32,
     units: &mut List<Unit>,
     stmt: &RStmt,
 ) -> Result<UStmt, NoMemory>
-    requires { HasRoom within.now (next + length units.now) (stmt_extent stmt.now) }
-    ensures tree { IfOk result (λ made. made ≡ ((part stmt.now).lift (home_view home.now) within.now (next + length units.old)).tree) }
-    ensures units { OnOk result (units.new ≡ units.old ++ ((part stmt.now).lift (home_view home.now) within.now (next + length units.old)).units) }
+    requires { HasRoom slot_map.now (next + length units.now) (stmt_extent stmt.now) }
+    ensures tree { IfOk result (λ made. made ≡ ((part stmt.now).lift (context_view context.now) slot_map.now (next + length units.old)).tree) }
+    ensures units { OnOk result (units.new ≡ units.old ++ ((part stmt.now).lift (context_view context.now) slot_map.now (next + length units.old)).units) }
 {
-    let what = lift_what(alloc, home, within, next, units, stmt)?;
+    let what = lift_what(alloc, context, slot_map, next, units, stmt)?;
     Ok(UStmt {
         line: stmt.line,
         what,
@@ -59,90 +59,97 @@ fn lift_stmt(
 #[cycle(lift)]
 fn lift_what(
     alloc: Global,
-    home: &Home,
-    within: &Within,
+    context: &LiftContext,
+    slot_map: &SlotMap,
     next: u32,
     units: &mut List<Unit>,
     stmt: &RStmt,
 ) -> Result<UWhat, NoMemory>
-    requires { HasRoom within.now (next + length units.now) (stmt_extent stmt.now) }
-    ensures tree { IfOk result (λ made. made ≡ ((part stmt.now).lift (home_view home.now) within.now (next + length units.old)).tree.what) }
-    ensures units { OnOk result (units.new ≡ units.old ++ ((part stmt.now).lift (home_view home.now) within.now (next + length units.old)).units) }
+    requires { HasRoom slot_map.now (next + length units.now) (stmt_extent stmt.now) }
+    ensures tree { IfOk result (λ made. made ≡ ((part stmt.now).lift (context_view context.now) slot_map.now (next + length units.old)).tree.what) }
+    ensures units { OnOk result (units.new ≡ units.old ++ ((part stmt.now).lift (context_view context.now) slot_map.now (next + length units.old)).units) }
 {
-    let slots = within.slots.as_slice();
+    let slots = slot_map.slots.as_slice();
     match &stmt.what {
         RWhat::Declare(ty, slot, expr) => {
-            let slot = place(slots, *slot);
+            let slot = slot_index(slots, *slot);
             let expr = move_option(alloc, slots, expr)?;
             Ok(UWhat::Declare(*ty, slot, expr))
         }
         RWhat::Assign(slot, expr) => {
-            let slot = place(slots, *slot);
+            let slot = slot_index(slots, *slot);
             let expr = move_expr(alloc, slots, expr)?;
             Ok(UWhat::Assign(slot, expr))
         }
         RWhat::Next(slot) => {
-            let slot = place(slots, *slot);
+            let slot = slot_index(slots, *slot);
             Ok(UWhat::Next(slot))
         }
         RWhat::NextAssign(slot, expr) => {
-            let slot = place(slots, *slot);
+            let slot = slot_index(slots, *slot);
             let expr = move_expr(alloc, slots, expr)?;
             Ok(UWhat::NextAssign(slot, expr))
         }
         RWhat::AssignNext(slot, source) => {
-            let slot = place(slots, *slot);
-            let source = place(slots, *source);
+            let slot = slot_index(slots, *slot);
+            let source = slot_index(slots, *source);
             Ok(UWhat::AssignNext(slot, source))
         }
         RWhat::Get(slot, input) => {
-            let slot = place(slots, *slot);
-            let input = place(slots, *input);
+            let slot = slot_index(slots, *slot);
+            let input = slot_index(slots, *input);
             Ok(UWhat::Get(slot, input))
         }
         RWhat::Put(output, expr) => {
-            let output = place(slots, *output);
+            let output = slot_index(slots, *output);
             let expr = move_expr(alloc, slots, expr)?;
             Ok(UWhat::Put(output, expr))
         }
         RWhat::If(test, first, other) => {
             let test = move_expr(alloc, slots, test)?;
-            let first = lift_body(alloc, home, within, next, units, first.as_slice())?;
-            let other = lift_body(alloc, home, within, next, units, other.as_slice())?;
+            let first = lift_body(alloc, context, slot_map, next, units, first.as_slice())?;
+            let other = lift_body(alloc, context, slot_map, next, units, other.as_slice())?;
             Ok(UWhat::If(test, first, other))
         }
         RWhat::While(test, body) => {
             let test = move_expr(alloc, slots, test)?;
-            let body = lift_body(alloc, home, within, next, units, body.as_slice())?;
+            let body = lift_body(alloc, context, slot_map, next, units, body.as_slice())?;
             Ok(UWhat::While(test, body))
         }
         RWhat::For(first, test, step, body) => {
-            let first = lift_body(alloc, home, within, next, units, first.as_slice())?;
+            let first = lift_body(alloc, context, slot_map, next, units, first.as_slice())?;
             let test = move_option(alloc, slots, test)?;
-            let step = lift_body(alloc, home, within, next, units, step.as_slice())?;
-            let body = lift_body(alloc, home, within, next, units, body.as_slice())?;
+            let step = lift_body(alloc, context, slot_map, next, units, step.as_slice())?;
+            let body = lift_body(alloc, context, slot_map, next, units, body.as_slice())?;
             Ok(UWhat::For(first, test, step, body))
         }
         RWhat::Block(body) => {
-            let body = lift_body(alloc, home, within, next, units, body.as_slice())?;
+            let body = lift_body(alloc, context, slot_map, next, units, body.as_slice())?;
             Ok(UWhat::Block(body))
         }
         RWhat::Call(call) => {
-            let call = move_call(alloc, home.functions, call, within)?;
+            let call = move_call(alloc, context.functions, call, slot_map)?;
             Ok(UWhat::Call(call))
         }
         RWhat::Try(body, exception, handler) => {
-            let body = lift_body(alloc, home, within, next, units, body.as_slice())?;
-            let exception = place(within.exceptions.as_slice(), *exception);
-            let handler = lift_body(alloc, home, within, next, units, handler.as_slice())?;
+            let body = lift_body(alloc, context, slot_map, next, units, body.as_slice())?;
+            let exception = slot_index(slot_map.exceptions.as_slice(), *exception);
+            let handler = lift_body(alloc, context, slot_map, next, units, handler.as_slice())?;
             Ok(UWhat::Try(body, exception, handler))
         }
         RWhat::Throw(exception) => {
-            let exception = place(within.exceptions.as_slice(), *exception);
+            let exception = slot_index(slot_map.exceptions.as_slice(), *exception);
             Ok(UWhat::Throw(exception))
         }
         RWhat::Par(branches) => {
-            let branches = lift_branches(alloc, home, within, next, units, branches.as_slice())?;
+            let branches = lift_branches(
+                alloc,
+                context,
+                slot_map,
+                next,
+                units,
+                branches.as_slice(),
+            )?;
             Ok(UWhat::Par(branches))
         }
     }
@@ -151,19 +158,19 @@ fn lift_what(
 #[cycle(lift)]
 fn lift_branches(
     alloc: Global,
-    home: &Home,
-    within: &Within,
+    context: &LiftContext,
+    slot_map: &SlotMap,
     next: u32,
     units: &mut List<Unit>,
     branches: &[RBranch],
 ) -> Result<List<UBranch>, NoMemory>
-    requires { HasRoom within.now (next + length units.now) (fork_extent branches.now) }
-    ensures tree { IfOk result (λ made. made ≡ (lift_all (branch_parts branches.now) (home_view home.now) within.now (next + length units.old)).tree) }
-    ensures units { OnOk result (units.new ≡ units.old ++ (lift_all (branch_parts branches.now) (home_view home.now) within.now (next + length units.old)).units) }
+    requires { HasRoom slot_map.now (next + length units.now) (fork_extent branches.now) }
+    ensures tree { IfOk result (λ made. made ≡ (lift_all (branch_parts branches.now) (context_view context.now) slot_map.now (next + length units.old)).tree) }
+    ensures units { OnOk result (units.new ≡ units.old ++ (lift_all (branch_parts branches.now) (context_view context.now) slot_map.now (next + length units.old)).units) }
 {
     let mut made = List::new(alloc);
     for branch in branches {
-        made.push(lift_branch(alloc, home, within, next, units, branch)?)?;
+        made.push(lift_branch(alloc, context, slot_map, next, units, branch)?)?;
     }
     Ok(made)
 }
@@ -171,26 +178,26 @@ fn lift_branches(
 #[cycle(lift)]
 fn lift_branch(
     alloc: Global,
-    home: &Home,
-    within: &Within,
+    context: &LiftContext,
+    slot_map: &SlotMap,
     next: u32,
     units: &mut List<Unit>,
     branch: &RBranch,
 ) -> Result<UBranch, NoMemory>
-    requires { HasRoom within.now (next + length units.now) (branch_extent branch.now) }
-    ensures tree { IfOk result (λ made. made ≡ ((branch_part branch.now).lift (home_view home.now) within.now (next + length units.old)).tree) }
-    ensures units { OnOk result (units.new ≡ units.old ++ ((branch_part branch.now).lift (home_view home.now) within.now (next + length units.old)).units) }
+    requires { HasRoom slot_map.now (next + length units.now) (branch_extent branch.now) }
+    ensures tree { IfOk result (λ made. made ≡ ((branch_part branch.now).lift (context_view context.now) slot_map.now (next + length units.old)).tree) }
+    ensures units { OnOk result (units.new ≡ units.old ++ ((branch_part branch.now).lift (context_view context.now) slot_map.now (next + length units.old)).units) }
 {
     match &branch.what {
         RBranchWhat::Block(body) => {
-            let call = lift_block(alloc, home, within, next, units, body.as_slice())?;
+            let call = lift_block(alloc, context, slot_map, next, units, body.as_slice())?;
             Ok(UBranch {
                 line: branch.line,
                 call,
             })
         }
         RBranchWhat::Call(call) => {
-            let call = move_call(alloc, home.functions, call, within)?;
+            let call = move_call(alloc, context.functions, call, slot_map)?;
             Ok(UBranch {
                 line: branch.line,
                 call,
@@ -203,23 +210,23 @@ fn lift_branch(
 #[cycle(lift)]
 fn lift_block(
     alloc: Global,
-    home: &Home,
-    within: &Within,
+    context: &LiftContext,
+    slot_map: &SlotMap,
     next: u32,
     units: &mut List<Unit>,
     body: &[RStmt],
 ) -> Result<UCall, NoMemory>
-    requires { HasRoom within.now (next + length units.now) (apart (extent body.now)) }
-    ensures tree { IfOk result (λ made. made ≡ (lift_branch (parts body.now) (home_view home.now) within.now (next + length units.old)).tree) }
-    ensures units { OnOk result (units.new ≡ units.old ++ (lift_branch (parts body.now) (home_view home.now) within.now (next + length units.old)).units) }
+    requires { HasRoom slot_map.now (next + length units.now) (apart (extent body.now)) }
+    ensures tree { IfOk result (λ made. made ≡ (lift_branch (parts body.now) (context_view context.now) slot_map.now (next + length units.old)).tree) }
+    ensures units { OnOk result (units.new ≡ units.old ++ (lift_branch (parts body.now) (context_view context.now) slot_map.now (next + length units.old)).units) }
 {
     let unit = number_after(next, units.len());
     let after = unit + 1;
-    let opened = open_branch(alloc, home, within, body)?;
+    let captured = open_branch(alloc, context, slot_map, body)?;
     let mut nested = List::new(alloc);
-    let body = lift_body(alloc, home, &opened.inner, after, &mut nested, body)?;
-    let call = call_branch(alloc, within, unit, &opened)?;
-    let lifted = close_branch(alloc, home, unit, &opened, body)?;
+    let body = lift_body(alloc, context, &captured.inner, after, &mut nested, body)?;
+    let call = call_branch(alloc, slot_map, unit, &captured)?;
+    let lifted = close_branch(alloc, context, unit, &captured, body)?;
     units.push(lifted)?;
     units.append(nested)?;
     Ok(call)

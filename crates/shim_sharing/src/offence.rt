@@ -2,7 +2,7 @@
 ghost use Rattle.std.specs.Prelude.{◌≡◌, IfOk, Option};
 ghost use Rattle.shim_sharing.specs.Sharing.{first_offence};
 ghost use Rattle.shim_units.specs.Parts.{all_places};
-ghost use Rattle.shim_units.specs.Meaning.{part, places_in, branch_part, branch_parts};
+ghost use Rattle.shim_units.specs.PartFold.{part, places_in, branch_part, branch_parts};
 
 use crate::alias::find_alias;
 use crate::fork::find_two_writers;

@@ -9,7 +9,7 @@ use crate::fault::ShareFault;
 use crate::refusal::check;
 use crate::units::lift_program;
 use shim_scopes::Resolved;
-use shim_units::{Accepted, keep};
+use shim_units::{Accepted, from_form};
 use std::alloc::Global;
 
 /// The program with its block branches as units, or the first fork or call that the sharing rule
@@ -22,9 +22,7 @@ pub fn accept(alloc: Global, resolved: Resolved) -> Result<Accepted, ShareFault>
     ensures refused { IfRefused result (λ fault. Obeys resolved → ⊥) }
     ensures first { IfRefused result (IsFirstRefusal resolved) }
 {
-    let names = resolved.names();
-    let functions = resolved.functions();
-    check(alloc, names, functions)?;
-    let form = lift_program(alloc, names, functions, resolved.main())?;
-    Ok(keep(form))
+    check(alloc, resolved.names(), resolved.functions())?;
+    let form = lift_program(alloc, resolved)?;
+    Ok(from_form(form))
 }

@@ -1,23 +1,23 @@
 // A whole program as units.
 ghost use Rattle.std.specs.Prelude.{◌≡◌, ◌+◌, ◌++◌, ◌<◌, ◌^◌, length, IfOk, OnOk, slice_get};
 ghost use Rattle.shim_sharing.specs.Room.{FunctionHasRoom, FunctionsHaveRoom};
-ghost use Rattle.shim_units.specs.HomeView.{home_view};
+ghost use Rattle.shim_units.specs.LiftContextView.{context_view};
 ghost use Rattle.shim_units.specs.Lifting.{made_unit};
-ghost use Rattle.shim_units.specs.Meaning.{tries_in};
-ghost use Rattle.shim_units.specs.Units.{upto, function_within, lift_function, lift_functions, throws_of, lifted};
+ghost use Rattle.shim_units.specs.PartFold.{tries_in};
+ghost use Rattle.shim_units.specs.Units.{upto, function_slot_map, lift_function, lift_functions, throws_of, lifted};
 
 use crate::lift::lift_body;
 use shim_base::{List, Name, NoMemory};
-use shim_scopes::{RFunction, UParam};
+use shim_scopes::{RFunction, Resolved, UParam};
 use shim_units::{
-    Form, Home, UStmt, Unit, Within, copy_text, declares_in, make_unit, number, number_after,
-    open_unit, tries_in,
+    Form, LiftContext, SlotMap, UStmt, Unit, copy_text, declares_in, make_unit, number,
+    number_after, open_unit, tries_in,
 };
 use std::alloc::Global;
 
 // The functions' own units, and those that are lifted out of them.
 #[derive(Drop)]
-pub struct Made {
+pub struct LiftedUnits {
     pub own: List<Unit>,
     pub lifted: List<Unit>,
 }
@@ -47,63 +47,53 @@ fn copy_params(alloc: Global, params: &[UParam]) -> Result<List<UParam>, NoMemor
     Ok(made)
 }
 
-fn copy_names(alloc: Global, names: &[Name]) -> Result<List<Name>, NoMemory>
-    ensures { IfOk result (λ made. made ≡ names.now) }
-{
-    let mut made = List::new(alloc);
-    for name in names {
-        made.push(Name::new(alloc, name.as_bytes())?)?;
-    }
-    Ok(made)
-}
-
 // What a function's own unit has, and the `try` statements of its text.
 #[derive(Drop)]
-struct Held {
-    within: Within,
+struct FunctionSlots {
+    slot_map: SlotMap,
     tries: List<u32>,
 }
 
-fn open_function(alloc: Global, function: &RFunction) -> Result<Held, NoMemory>
+fn open_function(alloc: Global, function: &RFunction) -> Result<FunctionSlots, NoMemory>
     requires params { length function.now.params < 2 ^ 32 }
     requires throws { length function.now.throws < 2 ^ 32 }
-    ensures within { IfOk result (λ held. held.within ≡ function_within function.now) }
+    ensures slot_map { IfOk result (λ held. held.slot_map ≡ function_slot_map function.now) }
     ensures tries { IfOk result (λ held. held.tries ≡ tries_in function.now.body) }
 {
     let slots = upto(alloc, function.params.len())?;
     let exceptions = upto(alloc, function.throws.len())?;
     let declares = declares_in(alloc, function.body.as_slice())?;
     let tries = tries_in(alloc, function.body.as_slice())?;
-    let within = open_unit(
+    let slot_map = open_unit(
         alloc,
         slots.as_slice(),
         declares.as_slice(),
         exceptions.as_slice(),
         tries.as_slice(),
     )?;
-    Ok(Held { within, tries })
+    Ok(FunctionSlots { slot_map, tries })
 }
 
 fn close_function(
     alloc: Global,
-    home: &Home,
-    held: &Held,
+    context: &LiftContext,
+    held: &FunctionSlots,
     body: List<UStmt>,
 ) -> Result<Unit, NoMemory>
-    requires { length (home_view home.now).function.throws < 2 ^ 32 }
-    ensures { IfOk result (λ made. made ≡ made_unit (home_view home.now) (home_view home.now).name (home_view home.now).function.params (length (home_view home.now).function.throws) held.now.within held.now.tries body) }
+    requires { length (context_view context.now).function.throws < 2 ^ 32 }
+    ensures { IfOk result (λ made. made ≡ made_unit (context_view context.now) (context_view context.now).name (context_view context.now).function.params (length (context_view context.now).function.throws) held.now.slot_map held.now.tries body) }
 {
-    let function = home.function;
-    let title = List::from_slice(alloc, home.name.as_bytes())?;
+    let function = context.function;
+    let title = List::from_slice(alloc, context.name.as_bytes())?;
     let params = copy_params(alloc, function.params.as_slice())?;
     let throws = function.throws.len();
     make_unit(
         alloc,
-        home,
+        context,
         title,
         params,
         throws,
-        &held.within,
+        &held.slot_map,
         held.tries.as_slice(),
         body,
     )
@@ -125,7 +115,7 @@ fn lift_function(
     ensures lifted { OnOk result (lifted.new ≡ lifted.old ++ (lift_function names.now functions.now number (base + length lifted.old) function.now).lifted) }
 {
     let name = copy_text(alloc, names, function.name)?;
-    let home = Home {
+    let context = LiftContext {
         functions,
         function,
         number,
@@ -135,16 +125,20 @@ fn lift_function(
     let held = open_function(alloc, function)?;
     let body = lift_body(
         alloc,
-        &home,
-        &held.within,
+        &context,
+        &held.slot_map,
         base,
         lifted,
         function.body.as_slice(),
     )?;
-    close_function(alloc, &home, &held, body)
+    close_function(alloc, &context, &held, body)
 }
 
-fn lift_functions(alloc: Global, names: &[Name], functions: &[RFunction]) -> Result<Made, NoMemory>
+fn lift_functions(
+    alloc: Global,
+    names: &[Name],
+    functions: &[RFunction],
+) -> Result<LiftedUnits, NoMemory>
     requires { FunctionsHaveRoom (length functions.now) functions.now }
     ensures own { IfOk result (λ made. made.own ≡ (lift_functions names.now functions.now 0 (length functions.now) functions.now).own) }
     ensures lifted { IfOk result (λ made. made.lifted ≡ (lift_functions names.now functions.now 0 (length functions.now) functions.now).lifted) }
@@ -156,7 +150,7 @@ fn lift_functions(alloc: Global, names: &[Name], functions: &[RFunction]) -> Res
         let at = number(at);
         own.push(lift_function(alloc, names, functions, at, base, &mut lifted, function)?)?;
     }
-    Ok(Made { own, lifted })
+    Ok(LiftedUnits { own, lifted })
 }
 
 // The names of what a function throws.
@@ -172,26 +166,22 @@ fn throws_of(alloc: Global, functions: &[RFunction], number: u32) -> Result<List
     }
 }
 
-// The units of a program, be it one that obeys the sharing rule or not.
-pub fn lift_program(
-    alloc: Global,
-    names: &[Name],
-    functions: &[RFunction],
-    main: u32,
-) -> Result<Form, NoMemory>
-    requires { FunctionsHaveRoom (length functions.now) functions.now }
-    ensures { IfOk result (λ form. form ≡ lifted (record { functions = functions.now; names = names.now; main = main })) }
+// The units of a program, be it one that obeys the sharing rule or not. Its names go over into them.
+pub fn lift_program(alloc: Global, resolved: Resolved) -> Result<Form, NoMemory>
+    requires { FunctionsHaveRoom (length resolved.functions) resolved.functions }
+    ensures { IfOk result (λ form. form ≡ lifted resolved) }
 {
-    let Made {
+    let functions = resolved.functions();
+    let LiftedUnits {
         own: mut units,
         lifted,
-    } = lift_functions(alloc, names, functions)?;
+    } = lift_functions(alloc, resolved.names(), functions)?;
     units.append(lifted)?;
-    let names = copy_names(alloc, names)?;
+    let main = resolved.main();
     let main_throws = throws_of(alloc, functions, main)?;
     Ok(Form {
         units,
-        names,
+        names: resolved.into_names(),
         main,
         main_throws,
     })

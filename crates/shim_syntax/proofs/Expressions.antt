@@ -39,7 +39,7 @@ abbrev pub IsBare : ℕ → Counts → Counts → Expr → Type 0
 IsBare l v w x = IsReadFrom (expr_shown x) l v w x
 
 -- What is known of an expression of the row n that was read. Where its own row is looser, it stood in parentheses, and so one level deeper.
-pub record IsKept (n l : ℕ) (v w : Counts) (s r : List Terminal) (x : Expr) : Type 0 where
+pub record IsReadBack (n l : ℕ) (v w : Counts) (s r : List Terminal) (x : Expr) : Type 0 where
   pub deeper : v.deepest ≤ w.deepest
   pub within : v.deepest ≤ 64 → w.deepest ≤ 64
   pub spelled : AreGood s → AreTokens (expr_pieces x) × AreGood r
@@ -107,7 +107,7 @@ in_parens n l v w x k a _ r row_most bare deep room alike (piece p h) = by_end (
       }
 
 -- as an operand in the row n
-pub operand : (n l : ℕ) (v w : Counts) (t q : List Terminal) (x : Expr) → IsKept n l v w t q x → (k : ℕ) (a : Counts) (s r : List Terminal) → k + w.deepest ≤ l + 64 → IsAlike v a →
+pub operand : (n l : ℕ) (v w : Counts) (t q : List Terminal) (x : Expr) → IsReadBack n l v w t q x → (k : ℕ) (a : Counts) (s r : List Terminal) → k + w.deepest ≤ l + 64 → IsAlike v a →
     Stand (wrapped (nat_lt n (expr_row x)) (expr_pieces x)) s r → IsRead n k w a s r x
 operand n l v w t q x kept k a s r room alike stand = by_row (nat_lt n (expr_row x)) refl stand where
   by_row : (b : Bool) → nat_lt n (expr_row x) ≡ b → Stand (wrapped b (expr_pieces x)) s r → IsRead n k w a s r x
@@ -121,7 +121,7 @@ pub wrapped_tokens : (b : Bool) (ps : List Piece) → AreTokens ps → AreTokens
 wrapped_tokens true ps h = (sign_spells g.LeftParen, tt, tokens_of_both ps (sign g.RightParen ∷ []) h (sign_spells g.RightParen, tt, tt))
 wrapped_tokens false ps h = h
 
-number_kept : (l : ℕ) (v : Counts) (n : ℤ) (p : Place) (r : List Terminal) → IsKept 0 l v v (Number n p ∷ r) r (e.Number n)
+number_kept : (l : ℕ) (v : Counts) (n : ℤ) (p : Place) (r : List Terminal) → IsReadBack 0 l v v (Number n p ∷ r) r (e.Number n)
 number_kept l v n p r = record {
   deeper = omega arith;
   within = λ h. h;
@@ -136,7 +136,7 @@ number_kept l v n p r = record {
   read : IsReadFrom (record { row = 0; pieces = pr.number n ∷ [] }) l v v (e.Number n)
   read k a _ r room alike (piece q nothing) = record { behind = a; alike = alike; is = gr.number }
 
-variable_kept : (l : ℕ) (v : Counts) (x : List ℕ) (p : Place) (r : List Terminal) → IsKept 0 l v v (Name x p ∷ r) r (e.Var x)
+variable_kept : (l : ℕ) (v : Counts) (x : List ℕ) (p : Place) (r : List Terminal) → IsReadBack 0 l v v (Name x p ∷ r) r (e.Var x)
 variable_kept l v x p r = record {
   deeper = omega arith;
   within = λ h. h;
@@ -151,8 +151,8 @@ variable_kept l v x p r = record {
   read : IsReadFrom (record { row = 0; pieces = pr.name x ∷ [] }) l v v (e.Var x)
   read k a _ r room alike (piece q nothing) = record { behind = a; alike = alike; is = gr.variable }
 
-parens_kept : (l : ℕ) (v w : Counts) (p q : Place) (s r : List Terminal) (x : Expr) → is_within Nesting (suc l) ≡ true → IsKept 10 (suc l) (at_level (suc l) v) w s (Sign g.RightParen q ∷ r) x →
-    IsKept 0 l v w (Sign g.LeftParen p ∷ s) r x
+parens_kept : (l : ℕ) (v w : Counts) (p q : Place) (s r : List Terminal) (x : Expr) → is_within Nesting (suc l) ≡ true → IsReadBack 10 (suc l) (at_level (suc l) v) w s (Sign g.RightParen q ∷ r) x →
+    IsReadBack 0 l v w (Sign g.LeftParen p ∷ s) r x
 parens_kept l v w p q s r x fits kept =
     let deeper = kept.deeper in
     let level = level_of (suc l) fits in
@@ -176,7 +176,7 @@ pub count_is : (v a : ℕ) → a ≡ v → is_within (Count Operators) (suc v) �
 count_is v a same fits = ap (λ (n : ℕ). is_within (Count Operators) (suc n)) same ∙ fits
 
 unary_kept : (o : UnOp) (l : ℕ) (v w : Counts) (p : Place) (s r : List Terminal) (x : Expr) → Makes o x → is_within (Count Operators) (suc v.operators) ≡ true → is_within Nesting (suc l) ≡ true →
-    IsKept 0 (suc l) (at_level (suc l) (with_operator v)) w s r x → IsKept 0 l v w (Sign (sign_of_unary o) p ∷ s) r (e.Unary o x)
+    IsReadBack 0 (suc l) (at_level (suc l) (with_operator v)) w s r x → IsReadBack 0 l v w (Sign (sign_of_unary o) p ∷ s) r (e.Unary o x)
 unary_kept o l v w p s r x makes count fits kept = record {
   deeper = omega (arith, kept.deeper);
   within = λ h. kept.within (omega (arith, level_of (suc l) fits, h));
@@ -205,7 +205,7 @@ unary_kept o l v w p s r x makes count fits kept = record {
       }
 
 -- an expression of a row is known as one of the next row
-row_kept : (n l : ℕ) (v w : Counts) (s r : List Terminal) (x : Expr) → IsKept n l v w s r x → IsKept (suc n) l v w s r x
+row_kept : (n l : ℕ) (v w : Counts) (s r : List Terminal) (x : Expr) → IsReadBack n l v w s r x → IsReadBack (suc n) l v w s r x
 row_kept n l v w s r x kept = record {
   deeper = kept.deeper;
   within = kept.within;
@@ -217,7 +217,7 @@ row_kept n l v w s r x kept = record {
 
 -- two operands, the first of which was read before the operator, and both behind t
 binary_kept : (n l : ℕ) (b v u : Counts) (o : SignOf) (p : Place) (t s m : List Terminal) (x z : Expr) → row_of_sign o ≡ suc n → is_within (Count Operators) (suc v.operators) ≡ true →
-    IsKept (suc n) l b v t (Sign o p ∷ s) x → IsKept n l (with_operator v) u s m z → IsKept (suc n) l b u t m (e.Binary (operator_of_sign o) x z)
+    IsReadBack (suc n) l b v t (Sign o p ∷ s) x → IsReadBack n l (with_operator v) u s m z → IsReadBack (suc n) l b u t m (e.Binary (operator_of_sign o) x z)
 binary_kept n l b v u o p t s m x z is count left right = record {
   deeper = omega (arith, left.deeper, right.deeper);
   within = λ h. right.within (left.within h);
@@ -255,7 +255,7 @@ binary_kept n l b v u o p t s m x z is count left right = record {
       behind_left k a s2 r2 room alike (split (wrapped (nat_lt (suc n) (expr_row x)) (expr_pieces x)) (sign o ∷ wrapped (nat_lt n (expr_row z)) (expr_pieces z)) s2 r2 stand)
 
 mutual
-  pub expr_kept : (n l : ℕ) (v w : Counts) (s r : List Terminal) (x : Expr) → IsExpr limits n l v w s r x → IsKept n l v w s r x
+  pub expr_kept : (n l : ℕ) (v w : Counts) (s r : List Terminal) (x : Expr) → IsExpr limits n l v w s r x → IsReadBack n l v w s r x
   expr_kept _ l v _ _ r _ (gr.number {n = n} {p = p}) = number_kept l v n p r
   expr_kept _ l v _ _ r _ (gr.variable {x = x} {p = p}) = variable_kept l v x p r
   expr_kept _ l v w _ r x (gr.parens {p = p} {q = q} {s = s} fits h) = parens_kept l v w p q s r x fits (expr_kept 10 (suc l) (at_level (suc l) v) w s (Sign g.RightParen q ∷ r) x h)
@@ -268,7 +268,7 @@ mutual
   expr_kept _ l v w s r y (gr.row {n = n} {u = u} {m = m} {x = x} h chain) = chain_kept n l v u w s m r x y chain (row_kept n l v u s m x (expr_kept n l v u s m x h))
 
   -- an expression with what it is joined to
-  chain_kept : (n l : ℕ) (b v w : Counts) (t s r : List Terminal) (x y : Expr) → IsChain limits n l v w s r x y → IsKept (suc n) l b v t s x → IsKept (suc n) l b w t r y
+  chain_kept : (n l : ℕ) (b v w : Counts) (t s r : List Terminal) (x y : Expr) → IsChain limits n l v w s r x y → IsReadBack (suc n) l b v t s x → IsReadBack (suc n) l b w t r y
   chain_kept n l b v _ t _ r x _ gr.stop kept = kept
   chain_kept n l b v w t _ r x y (gr.join {u = u} {o = o} {p = p} {s = s} {m = m} {y = z} is count h chain) kept =
       chain_kept n l b u w t m r (e.Binary (operator_of_sign o) x z) y chain (binary_kept n l b v u o p t s m x z is count kept (expr_kept n l (with_operator v) u s m z h))

@@ -117,7 +117,7 @@ abbrev pub is_par : Terminal → Bool
 is_par (Key k.Par p) = true
 is_par _ = false
 
--- a stream is by reference with or without `&`
+-- a stream, which needs no `&` to be by reference
 abbrev pub is_stream : SortOf → Bool
 is_stream (Value ty) = false
 is_stream _ = true

@@ -59,6 +59,6 @@ abbrev pub nesting_and : Many → Limits
 nesting_and what s Nesting n = is_within Nesting n
 nesting_and what s (Count other) n = not (is_same what other) || is_within (Count other) n
 
--- the same, but no limit holds for what begins in the tokens `more` that are still to come
+-- these limits, but none of them holds for what begins in the tokens `more` that are still to come
 abbrev pub until : List Terminal → Limits → Limits
 until more c s limit n = c s limit n || nat_le (length s) (length more)

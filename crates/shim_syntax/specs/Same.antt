@@ -21,10 +21,10 @@ function_without_lines f = record { line = 0; name = f.name; params = f.params; 
 abbrev pub without_lines : Program → Program
 without_lines p = record { functions = map function_without_lines p.functions }
 
--- the same program but for lines
+-- two programs that differ in lines alone
 abbrev pub Same : Program → Program → Type 0
 Same p q = without_lines p ≡ without_lines q
 
--- a text of the same program but for lines
+-- a text of a program that differs from this one in lines alone
 abbrev pub IsTextOfSame : Program → List ℕ → Type 0
 IsTextOfSame program text = (q : Program) × IsText text q × Same program q

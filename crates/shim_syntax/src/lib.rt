@@ -15,6 +15,3 @@ pub use names::names_of;
 pub use printing::print;
 pub use table::NameTable;
 pub use tree::{Branch, BranchWhat, Call, Expr, Function, Param, Program, Sort, Stmt, What};
-
-#[cfg(test)]
-mod tests;

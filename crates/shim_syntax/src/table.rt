@@ -91,7 +91,7 @@ impl NameTable {
         self.names.as_slice()
     }
 
-    // The same, with the map let go.
+    // The names in the order of their numbers, as a list. The map is let go.
     pub fn into_list(self) -> List<Name>
         ensures { result ≡ self }
     {

@@ -6,15 +6,15 @@ use Rattle.shim_local.specs.Process.{Ops}
 use Rattle.shim_local.specs.declared.Outcome.{Outcome}
 use Rattle.shim_local.specs.declared.Outcome.TheVariants.{Done, Uncaught, Trapped, Blocked, Spent}
 use Rattle.shim_process.specs.Ops.{process_ops}
-use Rattle.shim_units.specs.LocalState.{LocalState}
-use Rattle.shim_meaning.specs.Nodes.{Node, Live, Forked, Ended, Dead, has_ended, is_dead, goes}
-use Rattle.shim_meaning.specs.Trees.{Tree, Event, steps, sum, IsQuiescent}
-use Rattle.shim_meaning.specs.Walks.{walk, first, head}
-use Rattle.shim_meaning.specs.Endings.{ended, own_steps, is_empty, outcome, outcome_of_root}
+use Rattle.shim_process.specs.LocalState.{LocalState}
+use Rattle.shim_semantics.specs.Nodes.{Node, Live, Forked, Ended, Dead, has_ended, is_dead, goes}
+use Rattle.shim_semantics.specs.Trees.{Tree, Event, steps, sum, IsQuiescent}
+use Rattle.shim_semantics.specs.Walks.{walk, first, head}
+use Rattle.shim_semantics.specs.Endings.{ended, own_steps, is_empty, outcome, outcome_of_root}
 use Rattle.shim_reference.specs.Naming.{named, named_outcome}
 use Rattle.shim_reference.specs.Reference.{reference_of}
-use Rattle.shim_tool.specs.Source.{Source}
-use Rattle.shim_tool.specs.Meaning.{budget, tree_of, end_of, status_of, status_of_outcome, printed_steps, IsDone, IsFailed, IsBlocked, IsSpent, WasRun}
+use Rattle.shim_front_end.specs.Source.{Source}
+use Rattle.shim_tool.specs.RunEnds.{budget, tree_of, end_of, status_of, status_of_outcome, printed_steps, IsDone, IsFailed, IsBlocked, IsSpent, WasRun}
 
 -- a name in a label's place changes no status
 status_named : (throws : List ℕ) (e : Outcome) → status_of_outcome (named_outcome throws e) ≡ status_of_outcome e

@@ -1,15 +1,19 @@
--- From the program of a text to what is answered.
-use Rattle.std.proofs.Common.{◌≡◌, ℕ, List, [], Result, Ok, Err, IfOk, OnOk, inl, ap, ◌∙◌, subst}
+-- From what the front end answers, and from the end of a run, to what the tool answers.
+use Rattle.std.proofs.Common.{◌≡◌, ℕ, List, [], Result, Ok, Err, IfOk, OnOk, inl, inr, refl, ap, ◌∙◌, subst}
 use Rattle.shim_local.specs.declared.Ended.{Ended}
-use Rattle.shim_syntax.specs.declared.Program.{Program}
-use Rattle.shim_parser.specs.Parsing.{Answers, IsOnly}
+use Rattle.shim_parser.specs.declared.ParseFault.TheVariants as parse
+use Rattle.shim_scopes.specs.declared.ScopeFault.TheVariants as scope
+use Rattle.shim_sharing.specs.declared.ShareFault.TheVariants as share
+use Rattle.shim_front_end.specs.declared.SourceFault.{SourceFault}
+use Rattle.shim_front_end.specs.declared.SourceFault.TheVariants.{Parse, Scope, Share}
+use Rattle.shim_front_end.specs.FrontEnd.{IsAnswerTo}
 use Rattle.shim_tool.specs.declared.mode.Mode.{Mode}
-use Rattle.shim_tool.specs.Source.{Source}
+use Rattle.shim_front_end.specs.Source.{Source}
 use Rattle.shim_process.specs.Ops.{process_ops}
 use Rattle.shim_reference.specs.Reference.{meaning_of, reference_of}
 use Rattle.shim_reference.specs.Runs.{IsEndOfRun}
-use Rattle.shim_tool.specs.Meaning.{budget, tree_of, end_of, status_of_outcome, WasRun}
-use Rattle.shim_tool.specs.Answer.{Answer, AnswersUnits, AnswersProgram, AnswersSource, text_of}
+use Rattle.shim_tool.specs.RunEnds.{budget, tree_of, end_of, status_of_outcome, WasRun}
+use Rattle.shim_tool.specs.Answer.{Answer, AnswersUnits, AnswersSource, refused, text_of}
 
 -- what follows from a fact of the value follows from it where there is a value
 pub if_ok_weaker : {T E : Type 0} (r : Result T E) (P Q : T → Type 0) → ((x : T) → P x → Q x) → IfOk r P → IfOk r Q
@@ -35,10 +39,21 @@ answers_units mode s t e status text same ran is told written =
     subst (λ (b : Source). AnswersUnits mode b (record { status = status; text = text })) same
     (ran, (λ i. record { status = (told ∙ ap (λ (x : Ended). status_of_outcome x.outcome) is) i; text = written i }))
 
--- what is answered to the program of a text is answered to the text
-pub as_source : (mode : Mode) (bytes : List ℕ) (p : Program) (answer : Answer) → Answers bytes (Ok p) → IsOnly bytes (Ok p) → AnswersProgram mode p answer → AnswersSource mode bytes answer
-as_source mode bytes p answer text only is = inl (
-  p,
-  record { text = text; only = only.0; faultless = λ fault h. only.1 h.0 h.1 h.2 },
-  is,
-)
+-- an accepted program is answered with the end of its run
+pub of_accepted : (mode : Mode) (bytes : List ℕ) (source : Source) (answer : Answer) → IsAnswerTo bytes (Ok source) → AnswersUnits mode source answer → AnswersSource mode bytes answer
+of_accepted mode bytes source answer (p, text, is) units = inl (p, text, inl (source, is, units))
+
+-- a source that is refused is answered with the line of its fault
+pub of_refused : (mode : Mode) (bytes : List ℕ) (fault : SourceFault) (answer : Answer)
+    → (fault ≡ Parse parse.NoMemory → ⊥) → (fault ≡ Scope scope.NoMemory → ⊥) → (fault ≡ Share share.NoMemory → ⊥)
+    → IsAnswerTo bytes (Err fault) → answer ≡ refused fault → AnswersSource mode bytes answer
+of_refused mode bytes (Parse (parse.Lex x)) answer a b c is told = inr (parse.Lex x, is, told)
+of_refused mode bytes (Parse (parse.Unexpected at line)) answer a b c is told = inr (parse.Unexpected at line, is, told)
+of_refused mode bytes (Parse (parse.TooDeep line)) answer a b c is told = inr (parse.TooDeep line, is, told)
+of_refused mode bytes (Parse (parse.TooMany what line)) answer a b c is told = inr (parse.TooMany what line, is, told)
+of_refused mode bytes (Parse parse.NoMemory) answer a b c is told = absurd (a refl)
+of_refused mode bytes (Scope (scope.Refused line kind name)) answer a b c (p, text, is) told = inl (p, text, inr (Scope (scope.Refused line kind name), is, told))
+of_refused mode bytes (Scope scope.NoMemory) answer a b c is told = absurd (b refl)
+of_refused mode bytes (Share (share.TwoWriters line name first second)) answer a b c (p, text, is) told = inl (p, text, inr (Share (share.TwoWriters line name first second), is, told))
+of_refused mode bytes (Share (share.Alias line name)) answer a b c (p, text, is) told = inl (p, text, inr (Share (share.Alias line name), is, told))
+of_refused mode bytes (Share share.NoMemory) answer a b c is told = absurd (c refl)

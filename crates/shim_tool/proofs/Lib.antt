@@ -1,6 +1,5 @@
 -- The lemmas of this crate, one module for each subject.
 pub mod ExecuteLemmas
-pub mod Faults
 pub mod Causes
 pub mod Outcomes
 pub mod Reached

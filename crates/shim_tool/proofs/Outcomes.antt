@@ -2,13 +2,14 @@
 use Rattle.std.proofs.Common.{◌≡◌, ℕ, List, Ok, Err, inl, inr, refl, ap, ◌∙◌, subst}
 use Rattle.shim_syntax.specs.declared.Program.{Program}
 use Rattle.shim_parser.specs.declared.ParseFault.{ParseFault}
-use Rattle.shim_report.specs.declared.SourceFault.{SourceFault}
-use Rattle.shim_report.specs.declared.SourceFault.TheVariants.{Parse}
+use Rattle.shim_front_end.specs.declared.SourceFault.{SourceFault}
+use Rattle.shim_front_end.specs.declared.SourceFault.TheVariants.{Parse}
 use Rattle.shim_report.specs.Refusal.{refusal}
 use Rattle.shim_tool.specs.declared.mode.Mode.{Mode}
-use Rattle.shim_tool.specs.Source.{Source, IsSource, checked}
-use Rattle.shim_tool.specs.Meaning.{WasRun}
-use Rattle.shim_tool.specs.Answer.{Answer, AnswersSource, IsNoSource, IsOnlyText, IsOnlyFault, end_answer}
+use Rattle.shim_front_end.specs.Source.{Source, IsSource, checked}
+use Rattle.shim_tool.specs.RunEnds.{WasRun}
+use Rattle.shim_front_end.specs.FrontEnd.{IsOnlyText, IsOnlyFault}
+use Rattle.shim_tool.specs.Answer.{Answer, AnswersSource, IsNoSource, end_answer}
 use Rattle.shim_tool.specs.Rows.{IsRefusal}
 
 pub data Outcome (mode : Mode) (bytes : List ℕ) (answer : Answer) : Type 0 where

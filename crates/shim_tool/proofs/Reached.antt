@@ -1,15 +1,15 @@
 -- A run that always does the first event is a run: each event that it does is enabled in its turn.
 use Rattle.std.proofs.Common.{◌≡◌, ℕ, zero, suc, ◌+◌, ◌≤◌, Option, Some, None, List, [], ◌∷◌, length, refl, ap, ◌∙◌, arith}
 use Rattle.shim_local.specs.Process.{Ops}
-use Rattle.shim_units.specs.Forks.{root}
+use Rattle.shim_process.specs.Forks.{root}
 use Rattle.shim_process.specs.Ops.{process_ops}
-use Rattle.shim_meaning.specs.Systems.{run, go_on}
-use Rattle.shim_meaning.specs.Trees.{Tree, Event, after, start, steps}
-use Rattle.shim_meaning.specs.Walks.{first, after_first, or_stay, meaning}
-use Rattle.shim_meaning.proofs.Counting.{event_counts, none_counted}
+use Rattle.shim_semantics.specs.Systems.{run, go_on}
+use Rattle.shim_semantics.specs.Trees.{Tree, Event, after, start, steps}
+use Rattle.shim_semantics.specs.Walks.{first, after_first, or_stay, meaning}
+use Rattle.shim_semantics.proofs.Counting.{event_counts, none_counted}
 use Rattle.shim_reference.specs.Reference.{meaning_of}
-use Rattle.shim_tool.specs.Source.{Source}
-use Rattle.shim_tool.specs.Meaning.{budget, tree_of, status_of, IsReachedIn, WasRun}
+use Rattle.shim_front_end.specs.Source.{Source}
+use Rattle.shim_tool.specs.RunEnds.{budget, tree_of, status_of, IsReachedIn, WasRun}
 use Rattle.shim_tool.proofs.Causes.{spent_steps}
 
 -- a run of at most so many events leads from the first tree to the second, and counts them

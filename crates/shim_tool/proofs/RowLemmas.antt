@@ -8,8 +8,8 @@ use Rattle.shim_tool.specs.Asked.{Asked, nothing, job}
 use Rattle.shim_tool.specs.Moments.{FilesAt, SinkAt}
 use Rattle.shim_local.specs.declared.Outcome.{Outcome as End}
 use Rattle.shim_local.specs.declared.Outcome.TheVariants.{Done, Uncaught, Trapped, Blocked, Spent}
-use Rattle.shim_tool.specs.Source.{Source, IsSource}
-use Rattle.shim_tool.specs.Meaning.{status_of, status_of_outcome, end_of, budget, printed_steps, IsReachedIn, WasRun}
+use Rattle.shim_front_end.specs.Source.{Source, IsSource}
+use Rattle.shim_tool.specs.RunEnds.{status_of, status_of_outcome, end_of, budget, printed_steps, IsReachedIn, WasRun}
 use Rattle.shim_tool.specs.Answer.{Answer, Answers, AnswersSource, AnswersSeen, MayAnswer, ReadFailed, IsTooLong, IsContent, IsNoSource, Seen, unread, longer, whole, Sees, source_limit, text_of, memory_line}
 use Rattle.shim_tool.specs.Call.{Ran, Writes}
 use Rattle.shim_tool.specs.Rows.{Came, Comes, Holds, WasRead, IsRefusal, EndRow, CountRow, RefusedRow, IsComplete}

@@ -2,18 +2,17 @@
 use Rattle.std.specs.Prelude.{ℕ, ◌≡◌, ◌<◌, ◌≤◌, ◌⊎◌, IsTrue, List, [], ◌∷◌, ◌++◌, length, Some, Ok, Err, IfSome, IsSomeAnd, codes, decimal}
 use Rattle.shim_edge.specs.Files.{file_of, IsHeld}
 use Rattle.shim_syntax.specs.declared.Program.{Program}
-use Rattle.shim_syntax.specs.Text.{IsText}
 use Rattle.shim_parser.specs.declared.ParseFault.{ParseFault}
-use Rattle.shim_parser.specs.Parsing.{IsFaultOf}
-use Rattle.shim_report.specs.declared.SourceFault.{SourceFault}
-use Rattle.shim_report.specs.declared.SourceFault.TheVariants.{Parse}
+use Rattle.shim_front_end.specs.declared.SourceFault.{SourceFault}
+use Rattle.shim_front_end.specs.declared.SourceFault.TheVariants.{Parse}
 use Rattle.shim_report.specs.Refusal.{refusal}
 use Rattle.shim_tool.specs.declared.mode.Mode.{Mode}
 use Rattle.shim_tool.specs.declared.mode.Mode.TheVariants.{Run, Reference}
 use Rattle.shim_tool.specs.Asked.{Asked, nothing, job}
 use Rattle.shim_tool.specs.Moments.{FilesAt}
-use Rattle.shim_tool.specs.Source.{Source, IsSource, checked}
-use Rattle.shim_tool.specs.Meaning.{report_of, status_of, WasRun}
+use Rattle.shim_front_end.specs.FrontEnd.{IsOnlyText, IsOnlyFault}
+use Rattle.shim_front_end.specs.Source.{Source, IsSource, checked}
+use Rattle.shim_tool.specs.RunEnds.{report_of, status_of, WasRun}
 
 -- a status and the text that goes with it
 pub record Answer : Type 0 where
@@ -53,18 +52,6 @@ refused fault = record { status = 5; text = refusal fault }
 
 abbrev pub no_memory : Answer
 no_memory = record { status = 8; text = memory_line }
-
--- the bytes are the text of this program and of no other, and have no fault
-pub record IsOnlyText (bytes : List ℕ) (program : Program) : Type 0 where
-  pub text : IsText bytes program
-  pub only : (other : Program) → IsText bytes other → other ≡ program
-  pub faultless : (fault : ParseFault) → IsFaultOf bytes fault → ⊥
-
--- the bytes have this fault and no other, and are the text of no program
-pub record IsOnlyFault (bytes : List ℕ) (fault : ParseFault) : Type 0 where
-  pub faulty : IsFaultOf bytes fault
-  pub only : (other : ParseFault) → IsFaultOf bytes other → other ≡ fault
-  pub textless : (program : Program) → IsText bytes program → ⊥
 
 -- the bytes are the text of no program that is accepted
 abbrev pub IsNoSource : List ℕ → Type 0

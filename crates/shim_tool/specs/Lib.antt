@@ -1,6 +1,5 @@
 -- The definitions of this crate, one module for each subject.
-pub mod Source
-pub mod Meaning
+pub mod RunEnds
 pub mod Asked
 pub mod Moments
 pub mod Answer

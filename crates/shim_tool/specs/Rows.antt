@@ -7,14 +7,14 @@ use Rattle.shim_syntax.specs.declared.Program.{Program}
 use Rattle.shim_syntax.specs.Text.{IsText}
 use Rattle.shim_parser.specs.declared.ParseFault.{ParseFault}
 use Rattle.shim_parser.specs.Parsing.{IsFaultOf}
-use Rattle.shim_report.specs.declared.SourceFault.{SourceFault}
-use Rattle.shim_report.specs.declared.SourceFault.TheVariants.{Parse}
+use Rattle.shim_front_end.specs.declared.SourceFault.{SourceFault}
+use Rattle.shim_front_end.specs.declared.SourceFault.TheVariants.{Parse}
 use Rattle.shim_report.specs.Refusal.{refusal}
 use Rattle.shim_tool.specs.declared.mode.Mode.{Mode}
 use Rattle.shim_tool.specs.Asked.{Asked, nothing, job}
 use Rattle.shim_tool.specs.Moments.{FilesAt, SinkAt}
-use Rattle.shim_tool.specs.Source.{Source, IsSource, checked}
-use Rattle.shim_tool.specs.Meaning.{end_of, status_of, budget, printed_steps, IsReachedIn}
+use Rattle.shim_front_end.specs.Source.{Source, IsSource, checked}
+use Rattle.shim_tool.specs.RunEnds.{end_of, status_of, budget, printed_steps, IsReachedIn}
 use Rattle.shim_tool.specs.Answer.{Answer, MayAnswer, FailedGrew, ReadFailed, IsTooLong, IsContent, IsNoSource, source_limit, text_of, usage_line, failed_line, longer_line, memory_line}
 
 -- this status came with this text, whole

@@ -3,7 +3,7 @@ ghost use Rattle.std.specs.Prelude.{◌≡◌, ◌≢◌, IfOk};
 ghost use Rattle.shim_scopes.specs.declared.ScopeFault.TheVariants as scope_faults;
 ghost use Rattle.shim_parser.specs.declared.ParseFault.TheVariants as parse_faults;
 ghost use Rattle.shim_sharing.specs.declared.ShareFault.TheVariants as share_faults;
-ghost use Rattle.shim_report.specs.declared.SourceFault.TheVariants as faults;
+ghost use Rattle.shim_front_end.specs.declared.SourceFault.TheVariants as faults;
 ghost use Rattle.shim_tool.specs.Answer as answers;
 ghost use Rattle.shim_tool.specs.Views.{answer_view};
 

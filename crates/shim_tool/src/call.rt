@@ -4,7 +4,7 @@ ghost use Rattle.shim_tool.specs.Asked.{asked, texts_of_words};
 ghost use Rattle.shim_tool.specs.Moments.{files_at, sink_at};
 ghost use Rattle.shim_tool.specs.Answer as answers;
 ghost use Rattle.shim_tool.specs.Call.{Ran, Writes, KeepsFiles};
-ghost use Rattle.shim_tool.specs.Meaning.{IsDone, IsFailed, IsBlocked, IsSpent};
+ghost use Rattle.shim_tool.specs.RunEnds.{IsDone, IsFailed, IsBlocked, IsSpent};
 ghost use Rattle.shim_tool.specs.Rows.{EndRow, CountRow, WordsRow, RefusedRow, FileRow, SinkRow, MemoryRow, FilesRow, IsComplete};
 ghost use Rattle.shim_tool.specs.AnswerView.{code_of};
 ghost use Rattle.shim_tool.specs.Views.{answer_view, found_view, seen_of};
@@ -96,7 +96,7 @@ fn written<K: Sink>(out: &mut K, status: Status, text: &[u8]) -> u8
 /// Writes the answer for want of memory, for a program that found none to read its words. Status 7
 /// comes only where the sink failed in this call, with a part of the line taken.
 #[tactic(auto, unfolding(crate::specs::Answer::memory_line))]
-pub fn lacks_memory<K: Sink>(out: &mut K) -> u8
+pub fn write_no_memory<K: Sink>(out: &mut K) -> u8
     ensures { Writes (sink_at K.taken K.faults out.old) (sink_at K.taken K.faults out.new) answers.no_memory result }
 {
     written(out, Status::NoMemory, b"no memory\n")
@@ -109,12 +109,12 @@ fn run_tool<F: Files, K: Sink>(alloc: Global, words: &[String], files: &mut F, o
 {
     match answer(alloc, words, files) {
         Ok(answer) => written(out, answer.status, answer.text.as_slice()),
-        Err(NoMemory) => lacks_memory(out),
+        Err(NoMemory) => write_no_memory(out),
     }
 }
 
 /// Does all that the program does: reads the words, of which the first is the program's own name,
-/// then the file, runs it, and writes the answer. The text is made whole and then written.
+/// then the file, runs it, and writes the answer. No byte is written before the whole text is there.
 ///
 /// Answers the status that the program ends with. Want of memory may come in place of any status but
 /// 7, and a failed write, which is 7, in place of any.

@@ -1,29 +1,24 @@
 // From the bytes of a source to the answer.
 ghost use Rattle.std.specs.Prelude.{◌≡◌, ◌≤◌, length, IfOk, OnOk};
-ghost use Rattle.shim_syntax.specs.ShortText.{HasText};
-ghost use Rattle.shim_sharing.specs.Accepting.{accepted};
-ghost use Rattle.shim_tool.specs.Answer.{AnswersUnits, AnswersProgram, AnswersSource, text_of};
-ghost use Rattle.shim_tool.specs.Meaning as meanings;
-ghost use Rattle.shim_tool.specs.Source.{IsMeant, checked, shared};
+ghost use Rattle.shim_tool.specs.Answer.{AnswersUnits, AnswersSource, text_of};
+ghost use Rattle.shim_tool.specs.RunEnds as meanings;
 ghost use Rattle.shim_tool.specs.Views.{answer_view};
 
 use crate::answer::{Answer, refused};
 use crate::mode::Mode;
 use crate::status::Status;
 use shim_base::{List, NoMemory, Shared};
-use shim_parser::parse;
+use shim_front_end::read_source;
 use shim_reference::reference;
-use shim_report::{Ended, SourceFault, text};
-use shim_scopes::{Resolved, resolve};
-use shim_sharing::{Accepted, accept};
-use shim_syntax::Program;
+use shim_report::{Ended, text};
+use shim_sharing::Accepted;
 use std::alloc::Global;
 
 /// The most events of a run: the budget where none is asked for.
 const BUDGET: u64 = 1000000;
 
 // What a source's run comes to. It has no input.
-#[tactic(auto, unfolding(crate::specs::Meaning::end_of))]
+#[tactic(auto, unfolding(crate::specs::RunEnds::end_of))]
 fn end_of(alloc: Global, source: &Shared<Accepted>) -> Result<Ended, NoMemory>
     ensures end { IfOk result (λ end. end ≡ meanings.end_of source.now) }
     ensures ran { OnOk result (meanings.WasRun source.now) }
@@ -54,44 +49,13 @@ fn answer_units(alloc: Global, mode: Mode, source: Accepted) -> Result<Answer, N
     })
 }
 
-// The units of a resolved program, or its first fault.
-fn share(alloc: Global, resolved: Resolved) -> Result<Accepted, SourceFault>
-    ensures { IsMeant result (shared (accepted resolved)) }
-{
-    match accept(alloc, resolved) {
-        Ok(accepted) => Ok(accepted),
-        Err(fault) => Err(SourceFault::Share(fault)),
-    }
-}
-
-// The units of a program, or its first fault.
-fn check(alloc: Global, program: &Program) -> Result<Accepted, SourceFault>
-    requires { HasText program.now }
-    ensures { IsMeant result (checked program.now) }
-{
-    match resolve(alloc, program) {
-        Ok(resolved) => share(alloc, resolved),
-        Err(fault) => Err(SourceFault::Scope(fault)),
-    }
-}
-
-fn answer_program(alloc: Global, mode: Mode, program: &Program) -> Result<Answer, NoMemory>
-    requires { HasText program.now }
-    ensures { IfOk result (λ a. AnswersProgram mode program.now (answer_view a)) }
-{
-    match check(alloc, program) {
-        Ok(units) => answer_units(alloc, mode, units),
-        Err(fault) => refused(alloc, fault),
-    }
-}
-
 /// Answers to a source of at most 1,048,576 bytes.
 pub(crate) fn answer_source(alloc: Global, mode: Mode, bytes: &[u8]) -> Result<Answer, NoMemory>
     requires { length bytes.now ≤ 1048576 }
     ensures { IfOk result (λ a. AnswersSource mode bytes.now (answer_view a)) }
 {
-    match parse(alloc, bytes) {
-        Ok(program) => answer_program(alloc, mode, &program),
-        Err(fault) => refused(alloc, SourceFault::Parse(fault)),
+    match read_source(alloc, bytes) {
+        Ok(source) => answer_units(alloc, mode, source),
+        Err(fault) => refused(alloc, fault),
     }
 }

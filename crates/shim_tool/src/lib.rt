@@ -8,5 +8,5 @@ mod mode;
 mod status;
 mod words;
 
-pub use call::{lacks_memory, shim};
+pub use call::{shim, write_no_memory};
 pub use mode::Mode;

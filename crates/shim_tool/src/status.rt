@@ -1,7 +1,7 @@
 // The statuses that the program ends with.
 ghost use Rattle.std.specs.Prelude.{◌≡◌};
 ghost use Rattle.shim_tool.specs.AnswerView.{code_of};
-ghost use Rattle.shim_tool.specs.Meaning.{status_of_outcome};
+ghost use Rattle.shim_tool.specs.RunEnds.{status_of_outcome};
 
 use shim_local::Outcome;
 

@@ -6,15 +6,15 @@ use Rattle.std.specs.FinMap.{FinMap}
 use Rattle.shim_base.specs.Paths.{Path, path_order, same_path}
 use Rattle.shim_local.specs.Process.{Ops, AtQuiet}
 use Rattle.shim_local.specs.Laws.{LocalLaws, QuietSteps, none_taken, one_more, by_quiet}
-use Rattle.shim_meaning.specs.Nodes.{Node, Nodes, Live, Forked, Ended, Dead, no_node, node_and, state}
-use Rattle.shim_meaning.specs.Acts.{Acted, nothing, act, act_child, act_live, within, in_front, behind}
-use Rattle.shim_meaning.specs.Places.{at, child_at, route, at_route, SoundBelow, SoundChildren}
-use Rattle.shim_meaning.specs.Trees.{Tree, Own, Steps, after, acts, own, is_its, act_route, same_kind, kind_of_stop}
-use Rattle.shim_meaning.specs.Systems.{run, go_on}
-use Rattle.shim_meaning.specs.Quiets.{ComesBy, Advances}
+use Rattle.shim_semantics.specs.Nodes.{Node, Nodes, Live, Forked, Ended, Dead, no_node, node_and, state}
+use Rattle.shim_semantics.specs.Acts.{Acted, nothing, act, act_child, act_live, within, in_front, behind}
+use Rattle.shim_semantics.specs.Places.{at, child_at, route, at_route, SoundBelow, SoundChildren}
+use Rattle.shim_semantics.specs.Trees.{Tree, Own, Steps, after, acts, count_own, is_its, act_route, same_kind, kind_of_stop}
+use Rattle.shim_semantics.specs.Systems.{run, go_on}
+use Rattle.shim_semantics.specs.Quiets.{ComesBy, Advances}
 use Rattle.shim_tree.specs.Advancing.{with_state, with_state_at, with_state_in, steps_taken}
-use Rattle.shim_meaning.proofs.Options.{some_same, none_some}
-use Rattle.shim_meaning.proofs.Sameness.{same_path_refl}
+use Rattle.shim_base.proofs.Facts.{some_same, none_some}
+use Rattle.shim_base.proofs.SamePaths.{same_path_refl}
 
 -- the tree with this node as its root and these counts, in which all else is as in t
 abbrev pub moved_on : {S : Type 0} → Tree S → Node S → FinMap path_order ℕ → Tree S
@@ -76,10 +76,10 @@ module _ {S : Type 0} (o : Ops S) where
 
   mutual
     -- a quiet step of the process at the branches
-    steps_there : (l : S) (q : List ℕ) (n : Node S) → at q n ≡ Some (Live l) → o.stop l ≡ AtQuiet → act o q n ≡ Some (record { node = with_state_at (o.quiet l) q n; said = nothing })
+    steps_there : (l : S) (q : List ℕ) (n : Node S) → at q n ≡ Some (Live l) → o.stop l ≡ AtQuiet → act o q n ≡ Some (record { node = with_state_at (o.quiet l) q n; effects = nothing })
     steps_there l [] n e stop =
         let w = some_same n (Live l) e in
-        ap (act o []) w ∙ (ap (act_live o l) stop ∙ ap (λ z. let r : Acted S = record { node = with_state (o.quiet l) z; said = nothing } in Some r) (sym w))
+        ap (act o []) w ∙ (ap (act_live o l) stop ∙ ap (λ z. let r : Acted S = record { node = with_state (o.quiet l) z; effects = nothing } in Some r) (sym w))
     steps_there l (i ∷ q) (Live k) e stop = none_some (Live l) e
     steps_there l (i ∷ q) (Ended k) e stop = none_some (Live l) e
     steps_there l (i ∷ q) (Dead k x) e stop = none_some (Live l) e
@@ -116,13 +116,13 @@ module _ {S : Type 0} (o : Ops S) where
   one_step : (t : Tree S) (p : Path) (q : List ℕ) (l : S) → route (o.path (state t.root)) p ≡ Some q → at q t.root ≡ Some (Live l) → o.path l ≡ p → o.stop l ≡ AtQuiet
       → after o (Own p) t ≡ Some (moved_on t (with_state_at (o.quiet l) q t.root) (steps_taken t.counts p 1))
   one_step t p q l r there is stop =
-      let a : Acted S = record { node = with_state_at (o.quiet l) q t.root; said = nothing } in
+      let a : Acted S = record { node = with_state_at (o.quiet l) q t.root; effects = nothing } in
       let acted : acts o Steps p t.root ≡ Some a =
       (λ i. cond (is_its o Steps p (at_route t.root (r i))) (act_route o t.root (r i)) None)
       ∙ ((λ i. cond (is_its o Steps p (there i)) (act o q t.root) None)
       ∙ ((λ i. cond (same_path (is i) p && same_kind Steps (kind_of_stop (stop i))) (steps_there l q t.root there stop i) None)
       ∙ ap (λ b. cond (b && true) (Some a) None) (same_path_refl p))) in
-      ap (own p t) acted
+      ap (count_own p t) acted
       ∙ ap (λ z. let u : Tree S = record { root = a.node; output = z; histories = t.histories; logs = t.logs; counts = steps_taken t.counts p 1; events = t.events } in Some u) (append-nil t.output)
 
   module _ (laws : LocalLaws o) where

@@ -5,21 +5,21 @@ use Rattle.std.specs.FinMap.{FinMap, values}
 use Rattle.shim_base.specs.Paths.{Path, path_order}
 use Rattle.shim_local.specs.Process.{Ops}
 use Rattle.shim_local.specs.Laws.{LocalLaws}
-use Rattle.shim_meaning.specs.Nodes.{Node, state}
-use Rattle.shim_meaning.specs.Places.{route}
-use Rattle.shim_meaning.specs.Trees.{Tree, Own, steps, sum, count_of}
-use Rattle.shim_meaning.specs.Quiets.{ComesBy, Advances}
-use Rattle.shim_meaning.specs.Laws.{RunsStaySound}
-use Rattle.shim_meaning.specs.Sound.{IsSound}
-use Rattle.shim_tree.specs.Advancing.{stepped, HasPlace, AllHavePlaces, more_steps, steps_taken, with_state_at}
+use Rattle.shim_semantics.specs.Nodes.{Node, state}
+use Rattle.shim_semantics.specs.Places.{route}
+use Rattle.shim_semantics.specs.Trees.{Tree, Own, steps, sum, count_of}
+use Rattle.shim_semantics.specs.Quiets.{ComesBy, Advances}
+use Rattle.shim_semantics.specs.Laws.{RunsStaySound}
+use Rattle.shim_semantics.specs.Sound.{IsSound}
+use Rattle.shim_tree.specs.Advancing.{stepped, HasCount, AllHaveCounts, more_steps, steps_taken, with_state_at}
 use Rattle.shim_tree.proofs.Counted.{few_steps, more_stay, steps_more}
 use Rattle.shim_tree.proofs.Placed.{comes_placed, advanced_placed}
 use Rattle.shim_tree.proofs.Advances.{moved_on, advanced}
 
 -- t is the tree that the code's parts mean, where m are the counts with their places
 module _ {S : Type 0} (o : Ops S) (t : Tree S) (m : FinMap path_order ℕ) (counts : t.counts ≡ stepped m) (n : ℕ) (last : S) where
-  pub at_its_place : (u : Tree S) → t ≡ u → ComesBy o u n last → AllHavePlaces o m t.root → (p : Path) → p ≡ o.path last → HasPlace m p
-  at_its_place u e comes h p is = subst (HasPlace m) (sym is) (comes_placed o m t n last (subst (λ z. ComesBy o z n last) (sym e) comes) h)
+  pub at_its_place : (u : Tree S) → t ≡ u → ComesBy o u n last → AllHaveCounts o m t.root → (p : Path) → p ≡ o.path last → HasCount m p
+  at_its_place u e comes h p is = subst (HasCount m) (sym is) (comes_placed o m t n last (subst (λ z. ComesBy o z n last) (sym e) comes) h)
 
   pub within_bounds : (u : Tree S) → t ≡ u → steps u + n ≤ 4000000 → (p : Path) → count_of m p + n < 2 ^ 64
   within_bounds u e few p =
@@ -46,9 +46,9 @@ module _ {S : Type 0} (o : Ops S) (t : Tree S) (m : FinMap path_order ℕ) (coun
           (advances (subst (λ z. ComesBy o z n last) (sym e) comes))
 
       -- the new tree is sound, and each of its processes has its place
-      pub stays_whole : RunsStaySound o → (u : Tree S) → t ≡ u → ComesBy o u n last → AllHavePlaces o m t.root → IsSound o new × AllHavePlaces o more new
+      pub stays_whole : RunsStaySound o → (u : Tree S) → t ≡ u → ComesBy o u n last → AllHaveCounts o m t.root → IsSound o new × AllHaveCounts o more new
       stays_whole stays u e comes h =
           let here = subst (λ z. ComesBy o z n last) (sym e) comes in (
             stays t (moved_on t new (stepped more)) (replicate n (Own (o.path last))) sound (advances here),
-            advanced_placed o m more t n last new here (subst (λ z. (q : Path) → HasPlace m q → HasPlace z q) (sym grown_at) (more_stay m (o.path last) n)) is h,
+            advanced_placed o m more t n last new here (subst (λ z. (q : Path) → HasCount m q → HasCount z q) (sym grown_at) (more_stay m (o.path last) n)) is h,
           )

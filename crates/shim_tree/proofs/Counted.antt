@@ -1,4 +1,4 @@
--- Counts in which each process has its place before its first step.
+-- Counts in which each process has its count before its first step.
 use Rattle.std.specs.Prelude.{◌≡◌, ◌≤◌, ◌+◌, ℕ, zero, suc, Bool, true, false, not, eqb, Option, Some, None, List, [], ◌∷◌, ◌++◌, map, filter, cond, is_some}
 use Rattle.std.proofs.Common.{refl, sym, ap, ◌∙◌, arith, T, eq-eqb}
 use lib.Dec.{eqb-suc-zero}
@@ -10,11 +10,11 @@ use Rattle.std.specs.FinMap.Entries.{below_all}
 use Rattle.std.proofs.lemmas.Bool.{true≢false}
 use Rattle.shim_base.specs.Paths.{Path, path_order}
 use Rattle.shim_base.specs.PathLaws.{path_order_total, exact_path}
-use Rattle.shim_meaning.specs.Trees.{sum, count_of, one_more}
+use Rattle.shim_semantics.specs.Trees.{sum, count_of, one_more}
 use Rattle.shim_tree.specs.Maps.{has_stepped}
-use Rattle.shim_meaning.specs.Endings.{own_steps}
-use Rattle.shim_tree.specs.Advancing.{stepped, HasPlace, KeepsPlaces, with_place, more_steps, steps_taken}
-use Rattle.shim_meaning.proofs.InOrder.{first_holds, second_holds, no_entries, none_below, entries_from, sorted_filtered}
+use Rattle.shim_semantics.specs.Endings.{own_steps}
+use Rattle.shim_tree.specs.Advancing.{stepped, HasCount, KeepsCounts, with_count, more_steps, steps_taken}
+use Rattle.shim_semantics.proofs.InOrder.{first_holds, second_holds, no_entries, none_below, entries_from, sorted_filtered}
 use Rattle.shim_tree.proofs.Mapped.{tied, count_below}
 
 -- a count of 0 is left out, and each other one stays
@@ -37,10 +37,10 @@ nonzero None = None
 nonzero (Some zero) = None
 nonzero (Some (suc n)) = Some (suc n)
 
-module _ (e : Path × ℕ) (es : List (Path × ℕ)) (q : Path) (below : T (below_all path_order e.0 es)) (go : find path_order q (filter has_stepped es) ≡ nonzero (find path_order q es)) where
+module _ (e : Path × ℕ) (es : List (Path × ℕ)) (q : Path) (status : T (below_all path_order e.0 es)) (go : find path_order q (filter has_stepped es) ≡ nonzero (find path_order q es)) where
   not_found : eq_by_cmp path_order q e.0 ≡ true → find path_order q (filter has_stepped es) ≡ None
   not_found t =
-      go ∙ ap nonzero (ap (λ k. find path_order k es) (exact_path q e.0 (tied (path_order q e.0) t)) ∙ none_below path_order e.0 es below)
+      go ∙ ap nonzero (ap (λ k. find path_order k es) (exact_path q e.0 (tied (path_order q e.0) t)) ∙ none_below path_order e.0 es status)
 
   at_none : (b : Bool) → eq_by_cmp path_order q e.0 ≡ b → find path_order q (filter has_stepped es) ≡ nonzero (cond b (Some 0) (find path_order q es))
   at_none true t = not_found t
@@ -103,31 +103,31 @@ few_steps m p = at (get m p) refl
 itself : (p : Path) → eq_by_cmp path_order p p ≡ true
 itself p = (eq_by_cmp_equiv path_order_total).refl p
 
-found_put : (m : FinMap path_order ℕ) (p : Path) (n : ℕ) → HasPlace (insert m p n) p
+found_put : (m : FinMap path_order ℕ) (p : Path) (n : ℕ) → HasCount (insert m p n) p
 found_put m p n = ap is_some (get-insert path_order_total m p n p ∙ ap (λ b. cond b (Some n) (get m p)) (itself p))
 
-still_put : (m : FinMap path_order ℕ) (p : Path) (n : ℕ) → KeepsPlaces m (insert m p n)
+still_put : (m : FinMap path_order ℕ) (p : Path) (n : ℕ) → KeepsCounts m (insert m p n)
 still_put m p n q h = ap is_some (get-insert path_order_total m p n q) ∙ at (eq_by_cmp path_order q p)
   where
     at : (b : Bool) → is_some (cond b (Some n) (get m q)) ≡ true
     at true = refl
     at false = h
 
-pub placed : (m : FinMap path_order ℕ) (p : Path) → HasPlace (with_place m p) p
+pub placed : (m : FinMap path_order ℕ) (p : Path) → HasCount (with_count m p) p
 placed m p = at (contains_key m p) refl
   where
-    at : (b : Bool) → contains_key m p ≡ b → HasPlace (cond b m (insert m p 0)) p
+    at : (b : Bool) → contains_key m p ≡ b → HasCount (cond b m (insert m p 0)) p
     at true h = h
     at false h = found_put m p 0
 
-pub places_stay : (m : FinMap path_order ℕ) (p : Path) → KeepsPlaces m (with_place m p)
+pub places_stay : (m : FinMap path_order ℕ) (p : Path) → KeepsCounts m (with_count m p)
 places_stay m p q h = at (contains_key m p)
   where
-    at : (b : Bool) → HasPlace (cond b m (insert m p 0)) q
+    at : (b : Bool) → HasCount (cond b m (insert m p 0)) q
     at true = h
     at false = still_put m p 0 q h
 
-pub more_stay : (m : FinMap path_order ℕ) (p : Path) (n : ℕ) → KeepsPlaces m (more_steps m p n)
+pub more_stay : (m : FinMap path_order ℕ) (p : Path) (n : ℕ) → KeepsCounts m (more_steps m p n)
 more_stay m p n = still_put m p (count_of m p + n)
 
 nothing_there : (x : Option ℕ) → is_some x ≡ false → None ≡ nonzero x
@@ -135,7 +135,7 @@ nothing_there None e = refl
 nothing_there (Some n) e = absurd (true≢false e)
 
 -- a place is no step
-pub steps_placed : (m : FinMap path_order ℕ) (p : Path) → stepped (with_place m p) ≡ stepped m
+pub steps_placed : (m : FinMap path_order ℕ) (p : Path) → stepped (with_count m p) ≡ stepped m
 steps_placed m p = at (contains_key m p) refl
   where
     new : contains_key m p ≡ false → (q : Path) (b : Bool) → eq_by_cmp path_order q p ≡ b → nonzero (cond b (Some 0) (get m q)) ≡ nonzero (get m q)

@@ -4,12 +4,12 @@ use Rattle.std.specs.declared.vec.Vec.{Vec}
 use Rattle.std.specs.declared.alloc.Global.{Global}
 use Rattle.shim_base.specs.Paths.{Channel}
 use Rattle.shim_local.specs.Process.{Ops}
-use Rattle.shim_meaning.specs.Nodes.{Nodes, no_node, node_and}
-use Rattle.shim_meaning.specs.Poison.{dooms, any_dooms, is_doomed}
-use Rattle.shim_tree.specs.Below.{node, nodes}
+use Rattle.shim_semantics.specs.Nodes.{Nodes, no_node, node_and}
+use Rattle.shim_semantics.specs.Poison.{dooms, any_dooms, is_doomed}
+use Rattle.shim_tree.specs.NodeStatus.{node, nodes}
 use Rattle.shim_tree.specs.Beside.{place}
-use Rattle.shim_tree.specs.declared.below.Below.{Below}
-use Rattle.shim_tree.specs.declared.below.Below.TheVariants as code
+use Rattle.shim_tree.specs.declared.node_status.NodeStatus.{NodeStatus}
+use Rattle.shim_tree.specs.declared.node_status.NodeStatus.TheVariants as code
 use Rattle.shim_tree.proofs.Beside.{is_forked, from, from_next, from_end}
 
 -- of two tests joined by "or", the first one decides where it holds, and else the second
@@ -24,7 +24,7 @@ any_there false r x e h = absurd cc
 -- ---- whether one of them dooms
 
 module _ {S : Type 0} (o : Ops S) (h : ℕ) (c : Channel) where
-  module _ (i : ℕ) (ls : List S) (bs : List (Below S)) (l : S) (in_list : i < length ls) (there : l ≡ get_or ls i l) (x : Bool) (inv : any_dooms o h c (from i ls bs) ≡ x) where
+  module _ (i : ℕ) (ls : List S) (bs : List (NodeStatus S)) (l : S) (in_list : i < length ls) (there : l ≡ get_or ls i l) (x : Bool) (inv : any_dooms o h c (from i ls bs) ≡ x) where
     dooms_from : (dooms o h c (place l (nodes bs) i) || any_dooms o h c (from (i + 1) ls bs)) ≡ x
     dooms_from = sym (ap (any_dooms o h c) (from_next i ls bs l in_list there)) ∙ inv
 
@@ -36,10 +36,10 @@ module _ {S : Type 0} (o : Ops S) (h : ℕ) (c : Channel) where
     dooms_later d = any_more (dooms o h c (place l (nodes bs) i)) (any_dooms o h c (from (i + 1) ls bs)) x dooms_from d
 
   -- all children, and so the fork
-  pub any_is : (l : S) (b : Below S) (ls : Vec S Global) (bs : Vec (Below S) Global) → b ≡ code.Forked ls bs → any_dooms o h c (from 0 ls.items bs.items) ≡ dooms o h c (node l b)
+  pub any_is : (l : S) (b : NodeStatus S) (ls : Vec S Global) (bs : Vec (NodeStatus S) Global) → b ≡ code.Forked ls bs → any_dooms o h c (from 0 ls.items bs.items) ≡ dooms o h c (node l b)
   any_is l b ls bs is = sym (ap (dooms o h c) (is_forked l b ls bs is))
 
-  pub none_dooms : (l : S) (b : Below S) (ls : Vec S Global) (bs : Vec (Below S) Global) (i : ℕ) → b ≡ code.Forked ls bs → length ls.items ≤ i → any_dooms o h c (from i ls.items bs.items) ≡ any_dooms o h c (from 0 ls.items bs.items) → false ≡ dooms o h c (node l b)
+  pub none_dooms : (l : S) (b : NodeStatus S) (ls : Vec S Global) (bs : Vec (NodeStatus S) Global) (i : ℕ) → b ≡ code.Forked ls bs → length ls.items ≤ i → any_dooms o h c (from i ls.items bs.items) ≡ any_dooms o h c (from 0 ls.items bs.items) → false ≡ dooms o h c (node l b)
   none_dooms l b ls bs i is past inv = sym (ap (any_dooms o h c) (from_end i ls.items bs.items past)) ∙ (inv ∙ any_is l b ls bs is)
 
 -- whether one of them but that in place a dooms, the first of them being in place j
@@ -85,7 +85,7 @@ other_dooms i a r d n e = e ∙ sym (ap (λ b. not b && d) (not_eqb i a n))
 pub same_dooms : (i a : ℕ) (d : Bool) → i ≡ a → not (eqb i a) ≡ (not (eqb i a) && d)
 same_dooms i a d e = ap not (eq-eqb i a e) ∙ sym (ap (λ b. not b && d) (eq-eqb i a e))
 
-module _ {S : Type 0} (o : Ops S) (h : ℕ) (c : Channel) (i a : ℕ) (ls : List S) (bs : List (Below S)) (inv : doomed_from o h c i a (from i ls bs) ≡ doomed_from o h c 0 a (from 0 ls bs)) where
+module _ {S : Type 0} (o : Ops S) (h : ℕ) (c : Channel) (i a : ℕ) (ls : List S) (bs : List (NodeStatus S)) (inv : doomed_from o h c i a (from i ls bs) ≡ doomed_from o h c 0 a (from 0 ls bs)) where
   module _ (l : S) (in_list : i < length ls) (there : l ≡ get_or ls i l) (r : Bool) (is : r ≡ (not (eqb i a) && dooms o h c (place l (nodes bs) i))) where
     spoils_from : (r || doomed_from o h c (i + 1) a (from (i + 1) ls bs)) ≡ doomed_from o h c 0 a (from 0 ls bs)
     spoils_from = ap (λ z. z || doomed_from o h c (i + 1) a (from (i + 1) ls bs)) is ∙ (sym (ap (doomed_from o h c i a) (from_next i ls bs l in_list there)) ∙ inv)

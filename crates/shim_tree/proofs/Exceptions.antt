@@ -3,42 +3,42 @@ use Rattle.std.proofs.Common.{◌≡◌, ℕ, ◌<◌, Bool, true, false, not, O
 use Rattle.shim_base.specs.declared.operators.Trap.{Trap}
 use Rattle.shim_local.specs.Process.{Ops, AtThrow, AtTrap, AtPut}
 use Rattle.shim_local.specs.Laws.{LocalLaws}
-use Rattle.shim_meaning.specs.Nodes as model
-use Rattle.shim_meaning.specs.Nodes.{states, least_label}
-use Rattle.shim_meaning.specs.Acts.{Said, Acted, nothing, putting, trapping, thrown, closed, act_here, act_live}
-use Rattle.shim_meaning.specs.Places.{SoundBelow}
-use Rattle.shim_tree.specs.declared.below.Below.{Below}
-use Rattle.shim_tree.specs.declared.below.Below.TheVariants as code
-use Rattle.shim_tree.specs.declared.below.Below.TheOpen as open_below
-use Rattle.shim_tree.specs.declared.below.Below.TheFolds.{fold-roll-Below}
-use Rattle.shim_tree.specs.Below.{node, nodes, node_step, together}
+use Rattle.shim_semantics.specs.Nodes as model
+use Rattle.shim_semantics.specs.Nodes.{states, least_label}
+use Rattle.shim_semantics.specs.Acts.{Effects, Acted, nothing, putting, trapping, thrown, closed, act_here, act_live}
+use Rattle.shim_semantics.specs.Places.{SoundBelow}
+use Rattle.shim_tree.specs.declared.node_status.NodeStatus.{NodeStatus}
+use Rattle.shim_tree.specs.declared.node_status.NodeStatus.TheVariants as code
+use Rattle.shim_tree.specs.declared.node_status.NodeStatus.TheOpen as open_below
+use Rattle.shim_tree.specs.declared.node_status.NodeStatus.TheFolds.{fold-roll-NodeStatus}
+use Rattle.shim_tree.specs.NodeStatus.{node, nodes, node_step, together}
 use Rattle.shim_tree.specs.Labels.{ThrowLeaves}
 use Rattle.shim_tree.specs.Acting.{ActsHere}
 use Rattle.shim_tree.proofs.Children.{node_live, at_forked, states_together, close_acts}
 use Rattle.shim_tree.proofs.Labels.{each_sound, label_in_force}
 
 pub node_dead : {S : Type 0} (l : S) (x : ℕ) → node l (code.Dead x) ≡ model.Dead l x
-node_dead {S} l x = ap (node l) (sym (code.rolls-Dead x)) ∙ ap (λ f. f l) (fold-roll-Below S (S → model.Node S) node_step (open_below.Dead x))
+node_dead {S} l x = ap (node l) (sym (code.rolls-Dead x)) ∙ ap (λ f. f l) (fold-roll-NodeStatus S (S → model.Node S) node_step (open_below.Dead x))
 
 -- a live process throws
-pub throw_acts : {S : Type 0} (o : Ops S) (l : S) (b : Below S) (x : ℕ) (said : Said) (after : model.Node S) → b ≡ code.Live → o.stop l ≡ AtThrow x → ThrowLeaves o l x said after → ActsHere o (node l b) said after
-throw_acts o l b x said after e s leaves = ap (act_here o) (ap (node l) e ∙ node_live l) ∙ (ap (act_live o l) s ∙ ap Some leaves)
+pub throw_acts : {S : Type 0} (o : Ops S) (l : S) (b : NodeStatus S) (x : ℕ) (effects : Effects) (after : model.Node S) → b ≡ code.Live → o.stop l ≡ AtThrow x → ThrowLeaves o l x effects after → ActsHere o (node l b) effects after
+throw_acts o l b x effects after e s leaves = ap (act_here o) (ap (node l) e ∙ node_live l) ∙ (ap (act_live o l) s ∙ ap Some leaves)
 
 -- or stands trapped
-pub trap_acts : {S : Type 0} (o : Ops S) (l : S) (b : Below S) (kind : Trap) (line : ℕ) → b ≡ code.Live → o.stop l ≡ AtTrap kind line → ActsHere o (node l b) (trapping kind line) (node l (code.Dead 0))
+pub trap_acts : {S : Type 0} (o : Ops S) (l : S) (b : NodeStatus S) (kind : Trap) (line : ℕ) → b ≡ code.Live → o.stop l ≡ AtTrap kind line → ActsHere o (node l b) (trapping kind line) (node l (code.Dead 0))
 trap_acts {S} o l b kind line e s =
     ap (act_here o) (ap (node l) e ∙ node_live l) ∙ (ap (act_live o l) s
-    ∙ ap (λ z. let r : Acted S = record { node = z; said = trapping kind line } in Some r) (sym (node_dead l 0)))
+    ∙ ap (λ z. let r : Acted S = record { node = z; effects = trapping kind line } in Some r) (sym (node_dead l 0)))
 
 -- or puts
-pub put_acts : {S : Type 0} (o : Ops S) (l m : S) (b : Below S) (said : Said) → b ≡ code.Live → o.stop l ≡ AtPut → said ≡ putting (o.byte l) → m ≡ o.put l → ActsHere o (node l b) said (node m b)
-put_acts {S} o l m b said e s told there =
+pub put_acts : {S : Type 0} (o : Ops S) (l m : S) (b : NodeStatus S) (effects : Effects) → b ≡ code.Live → o.stop l ≡ AtPut → effects ≡ putting (o.byte l) → m ≡ o.put l → ActsHere o (node l b) effects (node m b)
+put_acts {S} o l m b effects e s told there =
     ap (act_here o) (ap (node l) e ∙ node_live l) ∙ (ap (act_live o l) s
-    ∙ sym ((λ t. let r : Acted S = record { node = (ap (node m) e ∙ node_live m) t; said = told t } in Some r)
-    ∙ ap (λ z. let r : Acted S = record { node = model.Live z; said = putting (o.byte l) } in Some r) there))
+    ∙ sym ((λ t. let r : Acted S = record { node = (ap (node m) e ∙ node_live m) t; effects = told t } in Some r)
+    ∙ ap (λ z. let r : Acted S = record { node = model.Live z; effects = putting (o.byte l) } in Some r) there))
 
 -- a label that a live process throws is in force
-pub throw_in_force : {S : Type 0} (o : Ops S) → LocalLaws o → (l : S) (b : Below S) (x : ℕ) → b ≡ code.Live → SoundBelow o (node l b) → o.stop l ≡ AtThrow x → x < o.handlers l
+pub throw_in_force : {S : Type 0} (o : Ops S) → LocalLaws o → (l : S) (b : NodeStatus S) (x : ℕ) → b ≡ code.Live → SoundBelow o (node l b) → o.stop l ≡ AtThrow x → x < o.handlers l
 throw_in_force o laws l b x e sound s = laws.throw_below l x (subst (SoundBelow o) (ap (node l) e ∙ node_live l) sound) s
 
 -- the children's values, taken back as the code asks: they go on behind the fork where no label is found
@@ -47,7 +47,7 @@ not_back true s e = ap not (sym e)
 not_back false s e = ap not (sym e)
 
 -- A fork of these children closes, which the code has as two lists; this label was found, and the second state is that after their values came back.
-module _ {S : Type 0} (o : Ops S) (l m : S) (b : Below S) (ls : _) (bs : _) (cs : List S) (es : List (Below S)) (label : Option ℕ)
+module _ {S : Type 0} (o : Ops S) (l m : S) (b : NodeStatus S) (ls : _) (bs : _) (cs : List S) (es : List (NodeStatus S)) (label : Option ℕ)
     (is : b ≡ code.Forked ls bs) (states_are : cs ≡ ls.items) (belows_are : es ≡ bs.items)
     (found : label ≡ least_label (together cs (nodes es))) (joined : m ≡ o.join l cs (is_none label)) where
   least_found : label ≡ least_label (together ls.items (nodes bs.items))
@@ -59,10 +59,10 @@ module _ {S : Type 0} (o : Ops S) (l m : S) (b : Below S) (ls : _) (bs : _) (cs 
   pub close_goes_on : (act_here o (node l b) ≡ None → ⊥) → label ≡ None → ActsHere o (node l b) nothing (node m code.Live)
   close_goes_on acts none =
       close_acts o l b ls bs is acts ∙ (ap (λ z. Some (closed o l ls.items z)) (sym least_found ∙ none)
-      ∙ ap (λ z. let r : Acted S = record { node = z; said = nothing } in Some r) (sym (node_live m ∙ ap model.Live (after_join None none))))
+      ∙ ap (λ z. let r : Acted S = record { node = z; effects = nothing } in Some r) (sym (node_live m ∙ ap model.Live (after_join None none))))
 
-  pub close_throws : (x : ℕ) (said : Said) (after : model.Node S) → (act_here o (node l b) ≡ None → ⊥) → label ≡ Some x → ThrowLeaves o m x said after → ActsHere o (node l b) said after
-  close_throws x said after acts some leaves =
+  pub close_throws : (x : ℕ) (effects : Effects) (after : model.Node S) → (act_here o (node l b) ≡ None → ⊥) → label ≡ Some x → ThrowLeaves o m x effects after → ActsHere o (node l b) effects after
+  close_throws x effects after acts some leaves =
       close_acts o l b ls bs is acts ∙ (ap (λ z. Some (closed o l ls.items z)) (sym least_found ∙ some)
       ∙ (ap (λ z. Some (thrown o z x)) (sym (after_join (Some x) some)) ∙ ap Some leaves))
 
@@ -70,7 +70,7 @@ module _ {S : Type 0} (o : Ops S) (l m : S) (b : Below S) (ls : _) (bs : _) (cs 
   pub close_in_force : LocalLaws o → SoundBelow o (node l b) → (x : ℕ) → label ≡ Some x → x < o.handlers m
   close_in_force laws sound x some =
       let s = subst (SoundBelow o) (at_forked l b ls bs is) sound in
-      let kept = laws.join_handlers l (states (together ls.items (nodes bs.items))) s.alone (each_sound o l s.number 0 _ s.children) s.born in
+      let kept = laws.join_handlers l (states (together ls.items (nodes bs.items))) s.sound (each_sound o l s.number 0 _ s.children) s.born in
       let same : o.handlers m ≡ o.handlers l =
       ap o.handlers (after_join (Some x) some) ∙ (ap (λ z. o.handlers (o.join l z false)) (sym (states_together ls.items bs.items)) ∙ kept) in
       subst (λ z. x < z) (sym same) (label_in_force o l s.number 0 _ x s.children (sym least_found ∙ some))

@@ -5,9 +5,9 @@ use Rattle.std.specs.declared.cmp.Ordering.{Ordering}
 use Rattle.std.specs.declared.cmp.Ordering.TheVariants.{Less, Equal, Greater}
 use Rattle.shim_base.specs.Paths.{Path, Channel, channel_order}
 use Rattle.shim_local.specs.Process.{Ops}
-use Rattle.shim_meaning.specs.Nodes.{Node, Nodes, Forked, node_and, state, all_done, or_else}
-use Rattle.shim_meaning.specs.Trees.{Event, Meet, Poison, Close}
-use Rattle.shim_meaning.specs.Walks.{put_before, inserted, all_inserted, in_order, waited, all_waited, meets_here, poisons_here, poisons_of, here, walk, walk_all, head}
+use Rattle.shim_semantics.specs.Nodes.{Node, Nodes, Forked, node_and, state, all_done, or_else}
+use Rattle.shim_semantics.specs.Trees.{Event, Meet, Poison, Close}
+use Rattle.shim_semantics.specs.Walks.{put_before, inserted, all_inserted, in_order, waited, all_waited, meets_here, poisons_here, poisons_of, here, walk, walk_all, head}
 use Rattle.shim_tree.specs.Finding.{sooner, or_sooner, least}
 
 -- what stands first after a channel is put in is the sooner of two

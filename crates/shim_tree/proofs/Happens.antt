@@ -8,21 +8,20 @@ use Rattle.shim_local.specs.Process.{Ops}
 use Rattle.shim_local.specs.Laws.{LocalLaws}
 use Rattle.shim_local.specs.declared.Log.{Log}
 use Rattle.shim_local.specs.declared.LogWhat.{LogWhat}
-use Rattle.shim_meaning.specs.Nodes.{Node, Live, state}
-use Rattle.shim_meaning.specs.Acts.{nothing}
-use Rattle.shim_meaning.specs.Places.{route, led_to, has_path}
-use Rattle.shim_meaning.specs.Trees.{Tree, start, with_logs, own, acts, Kind, is_its, act_route, count_of, sum}
-use Rattle.shim_tree.specs.Acting.{said_of, acted_on, ActsOn}
-use Rattle.shim_tree.specs.Advancing.{stepped, HasPlace, AllHavePlaces, KeepsPlaces, with_place, more_steps}
-use Rattle.shim_meaning.specs.Sound.{IsSound}
+use Rattle.shim_semantics.specs.Nodes.{Node, Live, state}
+use Rattle.shim_semantics.specs.Acts.{nothing}
+use Rattle.shim_semantics.specs.Places.{route, led_to, has_path}
+use Rattle.shim_semantics.specs.Trees.{Tree, start, with_logs, count_own, acts, Kind, is_its, act_route, count_of, sum}
+use Rattle.shim_tree.specs.Acting.{effects_of, acted_on, ActsOn}
+use Rattle.shim_tree.specs.Advancing.{stepped, HasCount, AllHaveCounts, KeepsCounts, with_count, more_steps}
+use Rattle.shim_semantics.specs.Sound.{IsSound}
 use Rattle.shim_tree.specs.Telling.{with_each, logged, Tells}
-use Rattle.shim_tree.specs.declared.told.Told.{Told}
-use Rattle.shim_tree.specs.declared.told.Told.TheVariants as told
-use Rattle.shim_meaning.proofs.Choices.{first_holds}
-use Rattle.shim_meaning.proofs.Options.{cond_there}
+use Rattle.shim_tree.specs.declared.effects.Effects.{Effects}
+use Rattle.shim_tree.specs.declared.effects.Effects.TheVariants as told
 use Rattle.shim_tree.proofs.Counted.{few_steps, placed, steps_placed, none_stepped, more_stay, steps_more}
 use Rattle.shim_tree.proofs.Placed.{still_placed}
-use Rattle.shim_meaning.proofs.SoundEvents.{route_sound}
+use Rattle.shim_semantics.proofs.SoundEvents.{route_sound}
+use Rattle.shim_base.proofs.Facts.{first_holds, cond_there}
 
 -- nothing is left behind the end
 drop_past : {A : Type 0} (xs : List A) (i : ℕ) → length xs ≤ i → drop i xs ≡ []
@@ -37,27 +36,27 @@ with_one_more m [] e = refl
 with_one_more m (f ∷ es) e = with_one_more (with_logs m f.path (f.what ∷ [])) es e
 
 -- what the code was told of an event, put or logged
-module _ {S : Type 0} (o : Ops S) (p : Path) (before after : Node S) (put put' : List ℕ) (logs logs' : List Log) (t : Told) (acts_so : ActsOn o p before (said_of t) after) where
+module _ {S : Type 0} (o : Ops S) (p : Path) (before after : Node S) (put put' : List ℕ) (logs logs' : List Log) (t : Effects) (acts_so : ActsOn o p before (effects_of t) after) where
   pub nothing_told : t ≡ told.Nothing → put' ≡ put → logs' ≡ logs → Tells o p before after put put' (logged logs) (logged logs')
   nothing_told is puts same = record {
-    said = nothing;
-    acts = subst (λ z. ActsOn o p before (said_of z) after) is acts_so;
+    effects = nothing;
+    acts = subst (λ z. ActsOn o p before (effects_of z) after) is acts_so;
     puts = puts ∙ sym (append-nil put);
     logs_more = ap logged same;
   }
 
   pub byte_told : (b : ℕ) → t ≡ told.Byte b → put' ≡ put ++ b ∷ [] → logs' ≡ logs → Tells o p before after put put' (logged logs) (logged logs')
   byte_told b is puts same = record {
-    said = said_of (told.Byte b);
-    acts = subst (λ z. ActsOn o p before (said_of z) after) is acts_so;
+    effects = effects_of (told.Byte b);
+    acts = subst (λ z. ActsOn o p before (effects_of z) after) is acts_so;
     puts = puts;
     logs_more = ap logged same;
   }
 
   pub log_told : (w : LogWhat) (e : Log) → t ≡ told.Log w → put' ≡ put → e.path ≡ p → e.what ≡ w → logs' ≡ logs ++ e ∷ [] → Tells o p before after put put' (logged logs) (logged logs')
   log_told w e is puts path what more = record {
-    said = said_of (told.Log w);
-    acts = subst (λ z. ActsOn o p before (said_of z) after) is acts_so;
+    effects = effects_of (told.Log w);
+    acts = subst (λ z. ActsOn o p before (effects_of z) after) is acts_so;
     puts = puts ∙ sym (append-nil put);
     logs_more = ap logged more ∙ (with_one_more finite.empty logs e ∙ (λ i. with_logs (logged logs) (path i) (what i ∷ [])));
   }
@@ -65,19 +64,19 @@ module _ {S : Type 0} (o : Ops S) (p : Path) (before after : Node S) (put put' :
 -- t is the tree that the code's parts mean, and u the one that they mean afterwards
 module _ {S : Type 0} (o : Ops S) (p : Path) (t u v : Tree S) (is : t ≡ v) (tells : Tells o p t.root u.root t.output u.output t.logs u.logs) (histories : u.histories ≡ t.histories) where
   -- a step of its own, with one count more
-  pub own_done : (m m' : finite.FinMap path_order ℕ) → t.counts ≡ stepped m → u.counts ≡ stepped m' → m' ≡ more_steps m p 1 → u.events ≡ t.events → own p v (acted_on o p v.root) ≡ Some u
+  pub own_done : (m m' : finite.FinMap path_order ℕ) → t.counts ≡ stepped m → u.counts ≡ stepped m' → m' ≡ more_steps m p 1 → u.events ≡ t.events → count_own p v (acted_on o p v.root) ≡ Some u
   own_done m m' counts counts' more events =
       let grown = counts' ∙ (ap stepped more ∙ (steps_more m p 1 ∙ ap (λ z. finite.insert z p (count_of z p + 1)) (sym counts))) in
-      subst (λ z. own p z (acted_on o p z.root) ≡ Some u) is
-      (ap (own p t) tells.acts ∙ (λ i. Some (record { root = u.root; output = sym tells.puts i; histories = sym histories i; logs = sym tells.logs_more i; counts = sym grown i; events = sym events i })))
+      subst (λ z. count_own p z (acted_on o p z.root) ≡ Some u) is
+      (ap (count_own p t) tells.acts ∙ (λ i. Some (record { root = u.root; output = sym tells.puts i; histories = sym histories i; logs = sym tells.logs_more i; counts = sym grown i; events = sym events i })))
 
 -- what a process does by itself leaves a sound tree
 pub told_sound : {S : Type 0} (o : Ops S) → LocalLaws o → (p : Path) (n n' : Node S) (put put' : List ℕ) (logs logs' : finite.FinMap path_order (List LogWhat)) → IsSound o n → Tells o p n n' put put' logs logs' → IsSound o n'
-told_sound o law p n n' put put' logs logs' s tells = route_sound o law (route (o.path (state n)) p) n (record { node = n'; said = tells.said }) s tells.acts
+told_sound o law p n n' put put' logs logs' s tells = route_sound o law (route (o.path (state n)) p) n (record { node = n'; effects = tells.effects }) s tells.acts
 
 -- one step more takes no place away
-pub more_placed : {S : Type 0} (o : Ops S) (m m' : finite.FinMap path_order ℕ) (p : Path) (n : Node S) → m' ≡ more_steps m p 1 → AllHavePlaces o m n → AllHavePlaces o m' n
-more_placed o m m' p n e h = still_placed o m m' n (subst (KeepsPlaces m) (sym e) (more_stay m p 1)) h
+pub more_placed : {S : Type 0} (o : Ops S) (m m' : finite.FinMap path_order ℕ) (p : Path) (n : Node S) → m' ≡ more_steps m p 1 → AllHaveCounts o m n → AllHaveCounts o m' n
+more_placed o m m' p n e h = still_placed o m m' n (subst (KeepsCounts m) (sym e) (more_stay m p 1)) h
 
 -- a count has room for one step more
 pub few_counted : (m : finite.FinMap path_order ℕ) (p : Path) (counts : finite.FinMap path_order ℕ) → stepped m ≡ counts → sum (finite.values counts) < 4000000 → count_of m p + 1 < 18446744073709551616
@@ -94,11 +93,11 @@ its_path {S} o k p root h = its (led_to o root p) (cond_there (is_its o k p (led
     its (Some n) e = first_holds _ _ e
 
 -- the process of a tree in which nothing has happened has its place
-pub first_placed : {S : Type 0} (o : Ops S) (l : S) (m m' : finite.FinMap path_order ℕ) (p : Path) → p ≡ o.path l → m' ≡ with_place m p → AllHavePlaces o m' (Live l)
-first_placed o l m m' p its e = (subst (HasPlace m') its (subst (λ z. HasPlace z p) (sym e) (placed m p)), tt)
+pub first_placed : {S : Type 0} (o : Ops S) (l : S) (m m' : finite.FinMap path_order ℕ) (p : Path) → p ≡ o.path l → m' ≡ with_count m p → AllHaveCounts o m' (Live l)
+first_placed o l m m' p its e = (subst (HasCount m') its (subst (λ z. HasCount z p) (sym e) (placed m p)), tt)
 
 -- and this is what its parts mean
-pub started : {S : Type 0} (l : S) (t : Tree S) → t.root ≡ Live l → t.output ≡ [] → t.histories ≡ finite.empty → (logs : List Log) → logs ≡ [] → (m m' : finite.FinMap path_order ℕ) (p : Path) → m ≡ finite.empty → m' ≡ with_place m p
+pub started : {S : Type 0} (l : S) (t : Tree S) → t.root ≡ Live l → t.output ≡ [] → t.histories ≡ finite.empty → (logs : List Log) → logs ≡ [] → (m m' : finite.FinMap path_order ℕ) (p : Path) → m ≡ finite.empty → m' ≡ with_count m p
     → t.logs ≡ logged logs → t.counts ≡ stepped m' → t.events ≡ 0 → t ≡ start l
 started l t root output histories logs none m m' p fresh e logs_are counts events =
     let no_logs = logs_are ∙ ap logged none in

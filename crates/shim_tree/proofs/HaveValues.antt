@@ -6,8 +6,8 @@ use Rattle.std.specs.Map.{lookup, set_value}
 use Rattle.std.proofs.lemmas.Option.{none-some, same_Some}
 use Rattle.shim_base.specs.Paths.{Channel, NamedChannel, channel_order}
 use Rattle.shim_base.specs.PathLaws.{channel_order_total}
-use Rattle.shim_meaning.specs.Trees.{Met, with_value, recorded}
-use Rattle.shim_meaning.specs.Endings.{values_in}
+use Rattle.shim_semantics.specs.Trees.{Met, with_value, recorded}
+use Rattle.shim_semantics.specs.Endings.{values_in}
 use Rattle.shim_tree.specs.Maps.{AllHaveValues}
 use Rattle.shim_tree.proofs.Recorded.{is_of, mets, same, written}
 

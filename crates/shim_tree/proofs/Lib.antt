@@ -2,7 +2,7 @@
 pub mod Advances
 pub mod AtOnce
 pub mod Beside
-pub mod BirthPlaces
+pub mod ReservedCounts
 pub mod Children
 pub mod Counted
 pub mod Dooms
@@ -13,7 +13,7 @@ pub mod Gathered
 pub mod Happens
 pub mod HaveValues
 pub mod Labels
-pub mod LiveSpots
+pub mod LiveNodes
 pub mod Mapped
 pub mod Meetings
 pub mod Placed

@@ -12,8 +12,8 @@ use Rattle.std.specs.Map.{lookup, keys_of}
 use Rattle.std.specs.BTreeMap.{is_at}
 use Rattle.std.proofs.lemmas.Map.Keys.{sorted_head, sorted_tail}
 use Rattle.std.proofs.lemmas.Option.{none-some, same_Some}
-use Rattle.shim_meaning.specs.Trees.{sum}
-use Rattle.shim_meaning.proofs.InOrder.{no_entries}
+use Rattle.shim_semantics.specs.Trees.{sum}
+use Rattle.shim_semantics.proofs.InOrder.{no_entries}
 
 find_lookup : {K X : Type 0} (R : K → K → Ordering) (es : List (K × X)) (q : K) → find R q es ≡ lookup (is_at (R q)) es
 find_lookup R [] q = refl

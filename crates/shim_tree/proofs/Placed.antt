@@ -1,17 +1,17 @@
--- The places of the processes of a tree.
+-- The counts of the processes of a tree.
 use Rattle.std.proofs.Common.{◌≡◌, ℕ, zero, suc, ◌+◌, ◌≤◌, Some, List, [], ◌∷◌, ◌++◌, length, drop, refl, sym, ap, subst, ◌∙◌, arith}
 use Rattle.std.specs.FinMap.{FinMap}
 use Rattle.shim_base.specs.Paths.{Path, path_order}
 use Rattle.shim_local.specs.Process.{Ops}
 use Rattle.shim_local.specs.Laws.{AllOf}
-use Rattle.shim_meaning.specs.Nodes.{Node, Nodes, Live, Forked, Ended, Dead, no_node, node_and, everyone, everyone_of, state}
-use Rattle.shim_meaning.specs.Places.{at, child_at, route}
-use Rattle.shim_meaning.specs.Trees.{Tree}
-use Rattle.shim_meaning.specs.Quiets.{ComesBy}
-use Rattle.shim_tree.specs.Advancing.{HasPlace, AllHavePlaces, KeepsPlaces, with_place, stepped, with_state, with_state_at, with_state_in}
-use Rattle.shim_meaning.proofs.Options.{some_same, none_some}
+use Rattle.shim_semantics.specs.Nodes.{Node, Nodes, Live, Forked, Ended, Dead, no_node, node_and, everyone, everyone_of, state}
+use Rattle.shim_semantics.specs.Places.{at, child_at, route}
+use Rattle.shim_semantics.specs.Trees.{Tree}
+use Rattle.shim_semantics.specs.Quiets.{ComesBy}
+use Rattle.shim_tree.specs.Advancing.{HasCount, AllHaveCounts, KeepsCounts, with_count, stepped, with_state, with_state_at, with_state_in}
 use Rattle.shim_tree.proofs.Advances.{stands_by}
 use Rattle.shim_tree.proofs.Counted.{placed, places_stay, steps_placed}
+use Rattle.shim_base.proofs.Facts.{some_same, none_some}
 
 pub all_left : {A : Type 0} (P : A → Type 0) (xs ys : List A) → AllOf P (xs ++ ys) → AllOf P xs
 all_left P [] ys h = tt
@@ -37,25 +37,25 @@ none_from P (x ∷ xs) (suc i) h = none_from P xs i (omega (arith, h))
 
 module _ {S : Type 0} (o : Ops S) where
   abbrev pub Placed : FinMap path_order ℕ → S → Type 0
-  Placed m l = HasPlace m (o.path l)
+  Placed m l = HasCount m (o.path l)
 
-  pub still_placed : (m m' : FinMap path_order ℕ) (n : Node S) → KeepsPlaces m m' → AllHavePlaces o m n → AllHavePlaces o m' n
+  pub still_placed : (m m' : FinMap path_order ℕ) (n : Node S) → KeepsCounts m m' → AllHaveCounts o m n → AllHaveCounts o m' n
   still_placed m m' n keeps h = all_weaker (Placed m) (Placed m') (everyone n) (λ l. keeps (o.path l)) h
 
   -- of all processes of a list: what is placed so far, and what is left
   pub record PlacedSoFar (all : List S) (first now : FinMap path_order ℕ) (i : ℕ) : Type 0 where
-    pub rest : (m : FinMap path_order ℕ) → KeepsPlaces now m → AllOf (Placed m) (drop i all) → AllOf (Placed m) all
-    pub keeps : KeepsPlaces first now
+    pub rest : (m : FinMap path_order ℕ) → KeepsCounts now m → AllOf (Placed m) (drop i all) → AllOf (Placed m) all
+    pub keeps : KeepsCounts first now
     pub same : stepped now ≡ stepped first
 
   pub none_placed : (all : List S) (m : FinMap path_order ℕ) → PlacedSoFar all m m 0
   none_placed all m = record { rest = λ n keeps h. h; keeps = λ p h. h; same = refl }
 
-  pub one_placed : (all : List S) (first now next : FinMap path_order ℕ) (i : ℕ) (l : S) (p : Path) → drop i all ≡ l ∷ drop (i + 1) all → p ≡ o.path l → next ≡ with_place now p → PlacedSoFar all first now i → PlacedSoFar all first next (i + 1)
+  pub one_placed : (all : List S) (first now next : FinMap path_order ℕ) (i : ℕ) (l : S) (p : Path) → drop i all ≡ l ∷ drop (i + 1) all → p ≡ o.path l → next ≡ with_count now p → PlacedSoFar all first now i → PlacedSoFar all first next (i + 1)
   one_placed all first now next i l p d its is so_far =
-      let is_next = is ∙ ap (with_place now) its in
-      let keeps : KeepsPlaces now next = subst (KeepsPlaces now) (sym is_next) (places_stay now (o.path l)) in
-      let there : HasPlace next (o.path l) = subst (λ m. HasPlace m (o.path l)) (sym is_next) (placed now (o.path l)) in
+      let is_next = is ∙ ap (with_count now) its in
+      let keeps : KeepsCounts now next = subst (KeepsCounts now) (sym is_next) (places_stay now (o.path l)) in
+      let there : HasCount next (o.path l) = subst (λ m. HasCount m (o.path l)) (sym is_next) (placed now (o.path l)) in
       record {
         rest = λ m more left. so_far.rest m (λ q g. more q (keeps q g)) (subst (AllOf (Placed m)) (sym d) (more (o.path l) there, left));
         keeps = λ q g. keeps q (so_far.keeps q g);
@@ -67,14 +67,14 @@ module _ {S : Type 0} (o : Ops S) where
 
   mutual
     -- where a live process stands it has its place
-    place_there : (m : FinMap path_order ℕ) (l : S) (q : List ℕ) (n : Node S) → at q n ≡ Some (Live l) → AllHavePlaces o m n → HasPlace m (o.path l)
-    place_there m l [] n e h = (subst (AllHavePlaces o m) (some_same n (Live l) e) h).0
+    place_there : (m : FinMap path_order ℕ) (l : S) (q : List ℕ) (n : Node S) → at q n ≡ Some (Live l) → AllHaveCounts o m n → HasCount m (o.path l)
+    place_there m l [] n e h = (subst (AllHaveCounts o m) (some_same n (Live l) e) h).0
     place_there m l (i ∷ q) (Live k) e h = none_some (Live l) e
     place_there m l (i ∷ q) (Ended k) e h = none_some (Live l) e
     place_there m l (i ∷ q) (Dead k x) e h = none_some (Live l) e
     place_there m l (i ∷ q) (Forked k ks) e h = place_there_in m l i q ks e h.1
 
-    place_there_in : (m : FinMap path_order ℕ) (l : S) (i : ℕ) (q : List ℕ) (ks : Nodes S) → child_at i q ks ≡ Some (Live l) → AllOf (Placed m) (everyone_of ks) → HasPlace m (o.path l)
+    place_there_in : (m : FinMap path_order ℕ) (l : S) (i : ℕ) (q : List ℕ) (ks : Nodes S) → child_at i q ks ≡ Some (Live l) → AllOf (Placed m) (everyone_of ks) → HasCount m (o.path l)
     place_there_in m l i q no_node e h = none_some (Live l) e
     place_there_in m l zero q (node_and k ks) e h = place_there m l q k e (all_left (Placed m) (everyone k) (everyone_of ks) h)
     place_there_in m l (suc i) q (node_and k ks) e h = place_there_in m l i q ks e (all_right (Placed m) (everyone k) (everyone_of ks) h)
@@ -82,10 +82,10 @@ module _ {S : Type 0} (o : Ops S) where
   module _ (m : FinMap path_order ℕ) (last l : S) (same : o.path last ≡ o.path l) where
     mutual
       -- another state of the same path needs no other place
-      placed_with : (q : List ℕ) (n : Node S) → at q n ≡ Some (Live l) → AllHavePlaces o m n → AllHavePlaces o m (with_state_at last q n)
+      placed_with : (q : List ℕ) (n : Node S) → at q n ≡ Some (Live l) → AllHaveCounts o m n → AllHaveCounts o m (with_state_at last q n)
       placed_with [] n e h =
           let w = some_same n (Live l) e in
-          subst (λ z. AllHavePlaces o m (with_state last z)) (sym w) (subst (HasPlace m) (sym same) (subst (AllHavePlaces o m) w h).0, tt)
+          subst (λ z. AllHaveCounts o m (with_state last z)) (sym w) (subst (HasCount m) (sym same) (subst (AllHaveCounts o m) w h).0, tt)
       placed_with (i ∷ q) (Live k) e h = h
       placed_with (i ∷ q) (Ended k) e h = h
       placed_with (i ∷ q) (Dead k x) e h = h
@@ -98,15 +98,15 @@ module _ {S : Type 0} (o : Ops S) where
       placed_with_in (suc i) q (node_and k ks) e h =
           all_both (Placed m) (everyone k) (everyone_of (with_state_in last i q ks)) (all_left (Placed m) (everyone k) (everyone_of ks) h) (placed_with_in i q ks e (all_right (Placed m) (everyone k) (everyone_of ks) h))
 
-  pub comes_placed : (m : FinMap path_order ℕ) (t : Tree S) (n : ℕ) (last : S) → ComesBy o t n last → AllHavePlaces o m t.root → HasPlace m (o.path last)
+  pub comes_placed : (m : FinMap path_order ℕ) (t : Tree S) (n : ℕ) (last : S) → ComesBy o t n last → AllHaveCounts o m t.root → HasCount m (o.path last)
   comes_placed m t n last comes h =
       let w = stands_by t.root _ comes.start comes.stands in
-      subst (HasPlace m) comes.is_its (place_there m comes.start w.branches t.root w.there h)
+      subst (HasCount m) comes.is_its (place_there m comes.start w.branches t.root w.there h)
 
-  pub advanced_placed : (m m' : FinMap path_order ℕ) (t : Tree S) (n : ℕ) (last : S) (new : Node S) → ComesBy o t n last → KeepsPlaces m m'
+  pub advanced_placed : (m m' : FinMap path_order ℕ) (t : Tree S) (n : ℕ) (last : S) (new : Node S) → ComesBy o t n last → KeepsCounts m m'
       → ((q : List ℕ) → route (o.path (state t.root)) (o.path last) ≡ Some q → new ≡ with_state_at last q t.root)
-      → AllHavePlaces o m t.root → AllHavePlaces o m' new
+      → AllHaveCounts o m t.root → AllHaveCounts o m' new
   advanced_placed m m' t n last new comes keeps is h =
       let w = stands_by t.root _ comes.start comes.stands in
-      subst (AllHavePlaces o m') (sym (is w.branches w.is))
+      subst (AllHaveCounts o m') (sym (is w.branches w.is))
       (still_placed m m' _ keeps (placed_with m last comes.start (sym comes.is_its) w.branches t.root w.there h))

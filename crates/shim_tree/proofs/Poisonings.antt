@@ -4,18 +4,17 @@ use Rattle.std.specs.declared.vec.Vec.{Vec}
 use Rattle.std.specs.declared.alloc.Global.{Global}
 use Rattle.shim_base.specs.Paths.{Path, Channel, same_pair}
 use Rattle.shim_local.specs.Process.{Ops}
-use Rattle.shim_meaning.specs.Nodes as model
-use Rattle.shim_meaning.specs.Nodes.{state}
-use Rattle.shim_meaning.specs.Poison.{dooms, any_dooms, is_doomed, is_ready_child, poisoned, all_poisoned, one_poisoned, can_poison, poison_here, above, before_rest, after_one, poison_route}
+use Rattle.shim_semantics.specs.Nodes as model
+use Rattle.shim_semantics.specs.Nodes.{state}
+use Rattle.shim_semantics.specs.Poison.{dooms, any_dooms, is_doomed, is_ready_child, poisoned, all_poisoned, one_poisoned, can_poison, poison_here, above, before_rest, after_one, poison_route}
 use Rattle.shim_tree.specs.Poisoning.{poison_by, poison_among}
-use Rattle.shim_meaning.specs.Places.{behind_front, branches, branches_of, route, led_to, has_path}
-use Rattle.shim_meaning.specs.Trees.{poisons}
-use Rattle.shim_tree.specs.Below.{node, nodes, together}
-use Rattle.shim_tree.specs.declared.below.Below.{Below}
-use Rattle.shim_tree.specs.declared.below.Below.TheVariants as code
+use Rattle.shim_semantics.specs.Places.{behind_front, branches, branches_of, route, led_to, has_path}
+use Rattle.shim_semantics.specs.Trees.{poisons}
+use Rattle.shim_tree.specs.NodeStatus.{node, nodes, together}
+use Rattle.shim_tree.specs.declared.node_status.NodeStatus.{NodeStatus}
+use Rattle.shim_tree.specs.declared.node_status.NodeStatus.TheVariants as code
 use Rattle.shim_tree.proofs.Children.{node_forked, at_forked}
-use Rattle.shim_meaning.proofs.Choices.{first_holds, second_holds, either_holds}
-use Rattle.shim_meaning.proofs.Options.{some_same, cond_there}
+use Rattle.shim_base.proofs.Facts.{some_same, first_holds, second_holds, either_holds, cond_there}
 
 -- the children from a place on are poisoned
 abbrev pub poisoned_from : {S : Type 0} → Ops S → Channel → ℕ → ℕ → model.Nodes S → model.Nodes S
@@ -24,7 +23,7 @@ poisoned_from o c x (suc i) model.no_node = model.no_node
 poisoned_from o c x (suc i) (model.node_and k ks) = model.node_and k (poisoned_from o c x i ks)
 
 module _ {S : Type 0} (o : Ops S) (c : Channel) where
-  poisoned_one : (x i : ℕ) (ls : List S) (bs : List (Below S)) (l : S) (b b' : Below S) → i < length ls → i < length bs → l ≡ get_or ls i l → b ≡ get_or bs i b → node l b' ≡ poisoned o c x (node l b)
+  poisoned_one : (x i : ℕ) (ls : List S) (bs : List (NodeStatus S)) (l : S) (b b' : NodeStatus S) → i < length ls → i < length bs → l ≡ get_or ls i l → b ≡ get_or bs i b → node l b' ≡ poisoned o c x (node l b)
       → poisoned_from o c x (suc i) (together ls (nodes (slice_set bs i b'))) ≡ poisoned_from o c x i (together ls (nodes bs))
   poisoned_one x i [] bs l b b' h k e f n = absurd (omega (arith, h))
   poisoned_one x i (m ∷ ls) [] l b b' h k e f n = absurd (omega (arith, k))
@@ -32,26 +31,26 @@ module _ {S : Type 0} (o : Ops S) (c : Channel) where
       ap (λ z. model.node_and z (all_poisoned o c x (together ls (nodes bs)))) ((λ t. node (sym e t) b') ∙ (n ∙ λ t. poisoned o c x (node (e t) (f t))))
   poisoned_one x (suc i) (m ∷ ls) (d ∷ bs) l b b' h k e f n = ap (model.node_and (node m d)) (poisoned_one x i ls bs l b b' (omega (arith, h)) (omega (arith, k)) e f n)
 
-  pub poisoned_next : (x i : ℕ) (ls : List S) (bs : List (Below S)) (l : S) (b b' : Below S) → i < length ls → i < length bs → l ≡ get_or ls i l → b ≡ get_or bs i b → node l b' ≡ poisoned o c x (node l b)
+  pub poisoned_next : (x i : ℕ) (ls : List S) (bs : List (NodeStatus S)) (l : S) (b b' : NodeStatus S) → i < length ls → i < length bs → l ≡ get_or ls i l → b ≡ get_or bs i b → node l b' ≡ poisoned o c x (node l b)
       → poisoned_from o c x (i + 1) (together ls (nodes (slice_set bs i b'))) ≡ poisoned_from o c x i (together ls (nodes bs))
   poisoned_next x i ls bs l b b' h k e f n =
       let w : i + 1 ≡ suc i = omega arith in
       ap (λ z. poisoned_from o c x z (together ls (nodes (slice_set bs i b')))) w ∙ poisoned_one x i ls bs l b b' h k e f n
 
-  poisoned_end : (x i : ℕ) (ls : List S) (bs : List (Below S)) → length ls ≤ i → poisoned_from o c x i (together ls (nodes bs)) ≡ together ls (nodes bs)
+  poisoned_end : (x i : ℕ) (ls : List S) (bs : List (NodeStatus S)) → length ls ≤ i → poisoned_from o c x i (together ls (nodes bs)) ≡ together ls (nodes bs)
   poisoned_end x zero [] bs h = refl
   poisoned_end x (suc i) [] bs h = refl
   poisoned_end x zero (l ∷ ls) bs h = absurd (omega (arith, h))
   poisoned_end x (suc i) (l ∷ ls) [] h = ap (model.node_and (model.Live l)) (poisoned_end x i ls [] (omega (arith, h)))
   poisoned_end x (suc i) (l ∷ ls) (b ∷ bs) h = ap (model.node_and (node l b)) (poisoned_end x i ls bs (omega (arith, h)))
 
-  pub poisoned_fork : (x i : ℕ) (l : S) (b : Below S) (ls ls' : Vec S Global) (bs bs' : Vec (Below S) Global) → b ≡ code.Forked ls bs → length ls'.items ≤ i
+  pub poisoned_fork : (x i : ℕ) (l : S) (b : NodeStatus S) (ls ls' : Vec S Global) (bs bs' : Vec (NodeStatus S) Global) → b ≡ code.Forked ls bs → length ls'.items ≤ i
       → poisoned_from o c x i (together ls'.items (nodes bs'.items)) ≡ all_poisoned o c x (together ls.items (nodes bs.items)) → node l (code.Forked ls' bs') ≡ poisoned o c x (node l b)
   poisoned_fork x i l b ls ls' bs bs' e h n =
       node_forked l ls' bs' ∙ (ap (model.Forked l) (sym (poisoned_end x i ls'.items bs'.items h) ∙ n) ∙ sym (ap (poisoned o c x) (at_forked l b ls bs e)))
 
   -- one child is
-  pub one_there : (x i : ℕ) (ls : List S) (bs : List (Below S)) (l : S) (b b' : Below S) → i < length ls → i < length bs → l ≡ get_or ls i l → b ≡ get_or bs i b → node l b' ≡ poisoned o c x (node l b)
+  pub one_there : (x i : ℕ) (ls : List S) (bs : List (NodeStatus S)) (l : S) (b b' : NodeStatus S) → i < length ls → i < length bs → l ≡ get_or ls i l → b ≡ get_or bs i b → node l b' ≡ poisoned o c x (node l b)
       → together ls (nodes (slice_set bs i b')) ≡ one_poisoned o c x i (together ls (nodes bs))
   one_there x i [] bs l b b' h k e f n = absurd (omega (arith, h))
   one_there x i (m ∷ ls) [] l b b' h k e f n = absurd (omega (arith, k))
@@ -89,12 +88,12 @@ module _ {S : Type 0} (o : Ops S) (c : Channel) where
   ready_there (suc i) (l ∷ ls) (f ∷ fs) e = let w = ready_there i ls fs e in omega (arith, w)
 
   -- what is known where the child in a place of the fork is poisoned
-  pub record PoisonsHere (l : S) (b : Below S) (i : ℕ) (ls : List S) (bs : List (Below S)) : Type 0 where
+  pub record PoisonsHere (l : S) (b : NodeStatus S) (i : ℕ) (ls : List S) (bs : List (NodeStatus S)) : Type 0 where
     pub there : i < length ls
     pub some : 1 ≤ o.handlers l
     pub is : poison_here o c i (node l b) ≡ Some (model.Forked l (one_poisoned o c (o.handlers l - 1) i (together ls (nodes bs))))
 
-  pub poisons_here : (l : S) (b : Below S) (i : ℕ) (ls : Vec S Global) (bs : Vec (Below S) Global) → b ≡ code.Forked ls bs → (poison_here o c i (node l b) ≡ None → ⊥) → PoisonsHere l b i ls.items bs.items
+  pub poisons_here : (l : S) (b : NodeStatus S) (i : ℕ) (ls : Vec S Global) (bs : Vec (NodeStatus S) Global) → b ≡ code.Forked ls bs → (poison_here o c i (node l b) ≡ None → ⊥) → PoisonsHere l b i ls.items bs.items
   poisons_here l b i ls bs e h =
       let n = at_forked l b ls bs e in
       let ks = together ls.items (nodes bs.items) in
@@ -105,7 +104,7 @@ module _ {S : Type 0} (o : Ops S) (c : Channel) where
         is = ap (poison_here o c i) n ∙ w.1;
       }
 
-  pub poison_done : (l : S) (b : Below S) (i x : ℕ) (ls ls' : Vec S Global) (bs bs' : Vec (Below S) Global) → PoisonsHere l b i ls.items bs.items → x ≡ o.handlers l - 1
+  pub poison_done : (l : S) (b : NodeStatus S) (i x : ℕ) (ls ls' : Vec S Global) (bs bs' : Vec (NodeStatus S) Global) → PoisonsHere l b i ls.items bs.items → x ≡ o.handlers l - 1
       → together ls'.items (nodes bs'.items) ≡ one_poisoned o c x i (together ls.items (nodes bs.items)) → poison_here o c i (node l b) ≡ Some (node l (code.Forked ls' bs'))
   poison_done l b i x ls ls' bs bs' p e n =
       p.is ∙ ap Some (ap (model.Forked l) (ap (λ z. one_poisoned o c z i (together ls.items (nodes bs.items))) (sym e) ∙ sym n) ∙ sym (node_forked l ls' bs'))
@@ -117,14 +116,14 @@ module _ {S : Type 0} (o : Ops S) (c : Channel) where
   descent_there (suc b) i p (l ∷ ls) [] h = let w = descent_there b i p ls [] (λ e. h (ap (after_one (model.Live l)) e)) in omega (arith, w)
   descent_there (suc b) i p (l ∷ ls) (f ∷ fs) h = let w = descent_there b i p ls fs (λ e. h (ap (after_one (f l)) e)) in omega (arith, w)
 
-  pub descent_none : (n i : ℕ) (p : Path) (ls : List S) (bs : List (Below S)) (l : S) (b : Below S) → n < length ls → n < length bs → l ≡ get_or ls n l → b ≡ get_or bs n b
+  pub descent_none : (n i : ℕ) (p : Path) (ls : List S) (bs : List (NodeStatus S)) (l : S) (b : NodeStatus S) → n < length ls → n < length bs → l ≡ get_or ls n l → b ≡ get_or bs n b
       → poison_by o c i p (node l b) ≡ None → poison_among o c n i p (together ls (nodes bs)) ≡ None
   descent_none n i p [] bs l b h k e f w = refl
   descent_none n i p (m ∷ ls) [] l b h k e f w = absurd (omega (arith, k))
   descent_none zero i p (m ∷ ls) (d ∷ bs) l b h k e f w = ap (before_rest (together ls (nodes bs))) (ap (poison_by o c i p) (λ t. node (sym e t) (sym f t)) ∙ w)
   descent_none (suc n) i p (m ∷ ls) (d ∷ bs) l b h k e f w = ap (after_one (node m d)) (descent_none n i p ls bs l b (omega (arith, h)) (omega (arith, k)) e f w)
 
-  pub descent_some : (n i : ℕ) (p : Path) (ls : List S) (bs : List (Below S)) (l : S) (b b' : Below S) → n < length ls → n < length bs → l ≡ get_or ls n l → b ≡ get_or bs n b
+  pub descent_some : (n i : ℕ) (p : Path) (ls : List S) (bs : List (NodeStatus S)) (l : S) (b b' : NodeStatus S) → n < length ls → n < length bs → l ≡ get_or ls n l → b ≡ get_or bs n b
       → poison_by o c i p (node l b) ≡ Some (node l b') → poison_among o c n i p (together ls (nodes bs)) ≡ Some (together ls (nodes (slice_set bs n b')))
   descent_some n i p [] bs l b b' h k e f w = absurd (omega (arith, h))
   descent_some n i p (m ∷ ls) [] l b b' h k e f w = absurd (omega (arith, k))
@@ -133,11 +132,11 @@ module _ {S : Type 0} (o : Ops S) (c : Channel) where
   descent_some (suc n) i p (m ∷ ls) (d ∷ bs) l b b' h k e f w = ap (after_one (node m d)) (descent_some n i p ls bs l b b' (omega (arith, h)) (omega (arith, k)) e f w)
 
   -- from a fork to its children, and back
-  pub fork_leads : (l : S) (b : Below S) (ls : Vec S Global) (bs : Vec (Below S) Global) (i : ℕ) (x : ℕ × ℕ) (p q : Path) → b ≡ code.Forked ls bs → q ≡ x ∷ p
+  pub fork_leads : (l : S) (b : NodeStatus S) (ls : Vec S Global) (bs : Vec (NodeStatus S) Global) (i : ℕ) (x : ℕ × ℕ) (p q : Path) → b ≡ code.Forked ls bs → q ≡ x ∷ p
       → poison_by o c i q (node l b) ≡ above l (poison_among o c i x.1 p (together ls.items (nodes bs.items)))
   fork_leads l b ls bs i x p q e f = λ t. poison_by o c i (f t) (at_forked l b ls bs e t)
 
-  pub fork_poisoned : (l : S) (b : Below S) (ls ls' : Vec S Global) (bs bs' : Vec (Below S) Global) (i : ℕ) (x : ℕ × ℕ) (p q : Path) → b ≡ code.Forked ls bs → q ≡ x ∷ p
+  pub fork_poisoned : (l : S) (b : NodeStatus S) (ls ls' : Vec S Global) (bs bs' : Vec (NodeStatus S) Global) (i : ℕ) (x : ℕ × ℕ) (p q : Path) → b ≡ code.Forked ls bs → q ≡ x ∷ p
       → poison_among o c i x.1 p (together ls.items (nodes bs.items)) ≡ Some (together ls'.items (nodes bs'.items)) → poison_by o c i q (node l b) ≡ Some (node l (code.Forked ls' bs'))
   fork_poisoned l b ls ls' bs bs' i x p q e f h = fork_leads l b ls bs i x p q e f ∙ (ap (above l) h ∙ ap Some (sym (node_forked l ls' bs')))
 

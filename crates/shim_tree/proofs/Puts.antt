@@ -5,12 +5,12 @@ use Rattle.std.specs.declared.vec.Vec.{Vec}
 use Rattle.std.specs.declared.alloc.Global.{Global}
 use Rattle.shim_base.specs.Paths.{Channel, NamedChannel, channel_order}
 use Rattle.shim_local.specs.Process.{Ops}
-use Rattle.shim_tree.specs.Below.{node, nodes}
+use Rattle.shim_tree.specs.NodeStatus.{node, nodes}
 use Rattle.shim_tree.specs.Beside.{place}
-use Rattle.shim_meaning.specs.Walks.{put_before, inserted, all_inserted, waited, all_waited}
+use Rattle.shim_semantics.specs.Walks.{put_before, inserted, all_inserted, waited, all_waited}
 use Rattle.shim_tree.specs.Searching.{channels}
-use Rattle.shim_tree.specs.declared.below.Below.{Below}
-use Rattle.shim_tree.specs.declared.below.Below.TheVariants as code
+use Rattle.shim_tree.specs.declared.node_status.NodeStatus.{NodeStatus}
+use Rattle.shim_tree.specs.declared.node_status.NodeStatus.TheVariants as code
 use Rattle.shim_tree.proofs.Beside.{is_forked, from, from_next, from_end}
 
 -- where the channel stands in a place already, putting it in before what is from there on changes nothing
@@ -45,7 +45,7 @@ passing_more f done xs ys = ap (all_inserted done) (filter_append f xs ys) ∙ a
 
 module _ {S : Type 0} (o : Ops S) (f : Channel → Bool) where
   -- those of one child more
-  pub put_more : (i : ℕ) (ls : List S) (bs : List (Below S)) (l : S) (was now all : List Channel) → i < length ls → l ≡ get_or ls i l
+  pub put_more : (i : ℕ) (ls : List S) (bs : List (NodeStatus S)) (l : S) (was now all : List Channel) → i < length ls → l ≡ get_or ls i l
       → now ≡ all_inserted was (filter f (waited o (place l (nodes bs) i))) → all_inserted was (filter f (all_waited o (from i ls bs))) ≡ all → all_inserted now (filter f (all_waited o (from (i + 1) ls bs))) ≡ all
   put_more i ls bs l was now all h e g inv =
       let k = place l (nodes bs) i in
@@ -54,7 +54,7 @@ module _ {S : Type 0} (o : Ops S) (f : Channel → Bool) where
       ∙ (ap (λ z. all_inserted was (filter f (all_waited o z))) (sym (from_next i ls bs l h e)) ∙ inv))
 
   -- all children, and so the fork
-  pub put_all : (l : S) (b : Below S) (ls : Vec S Global) (bs : Vec (Below S) Global) (i : ℕ) (was start : List Channel) → b ≡ code.Forked ls bs → length ls.items ≤ i
+  pub put_all : (l : S) (b : NodeStatus S) (ls : Vec S Global) (bs : Vec (NodeStatus S) Global) (i : ℕ) (was start : List Channel) → b ≡ code.Forked ls bs → length ls.items ≤ i
       → all_inserted was (filter f (all_waited o (from i ls.items bs.items))) ≡ all_inserted start (filter f (all_waited o (from 0 ls.items bs.items))) → was ≡ all_inserted start (filter f (waited o (node l b)))
   put_all l b ls bs i was start is h inv =
       ap (λ z. all_inserted was (filter f (all_waited o z))) (sym (from_end i ls.items bs.items h))

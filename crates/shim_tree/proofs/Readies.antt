@@ -4,11 +4,11 @@ use Rattle.std.specs.declared.vec.Vec.{Vec}
 use Rattle.std.specs.declared.alloc.Global.{Global}
 use Rattle.shim_base.specs.Paths.{Channel}
 use Rattle.shim_local.specs.Process.{Ops}
-use Rattle.shim_meaning.specs.Nodes.{Node, Live, Forked, Ended, Dead, goes, is_dead, has_ended, ready, any_sharer, all_ready}
-use Rattle.shim_tree.specs.Below.{node, nodes}
+use Rattle.shim_semantics.specs.Nodes.{Node, Live, Forked, Ended, Dead, goes, is_dead, has_ended, ready, any_sharer, all_ready}
+use Rattle.shim_tree.specs.NodeStatus.{node, nodes}
 use Rattle.shim_tree.specs.Beside.{place}
-use Rattle.shim_tree.specs.declared.below.Below.{Below}
-use Rattle.shim_tree.specs.declared.below.Below.TheVariants as code
+use Rattle.shim_tree.specs.declared.node_status.NodeStatus.{NodeStatus}
+use Rattle.shim_tree.specs.declared.node_status.NodeStatus.TheVariants as code
 use Rattle.shim_tree.proofs.Beside.{is_forked, state_place, from, from_next, from_end}
 
 -- what is ready goes
@@ -54,7 +54,7 @@ or_true : (b : Bool) → (b || true) ≡ true
 or_true true = refl
 or_true false = refl
 
-module _ {S : Type 0} (o : Ops S) (c : Channel) (i : ℕ) (ls : List S) (bs : List (Below S)) (l : S) (h : i < length ls) (e : l ≡ get_or ls i l) where
+module _ {S : Type 0} (o : Ops S) (c : Channel) (i : ℕ) (ls : List S) (bs : List (NodeStatus S)) (l : S) (h : i < length ls) (e : l ≡ get_or ls i l) where
   -- the two questions about the children from a place on, as one about the first and the rest
   any_here : any_sharer o c (from i ls bs) ≡ ((goes (place l (nodes bs) i) && o.shares l c) || any_sharer o c (from (i + 1) ls bs))
   any_here =
@@ -87,7 +87,7 @@ and_false : (x : Bool) → false ≡ (x && false)
 and_false true = refl
 and_false false = refl
 
-module _ {S : Type 0} (o : Ops S) (c : Channel) (l : S) (b : Below S) (ls : Vec S Global) (bs : Vec (Below S) Global) (is : b ≡ code.Forked ls bs) where
+module _ {S : Type 0} (o : Ops S) (c : Channel) (l : S) (b : NodeStatus S) (ls : Vec S Global) (bs : Vec (NodeStatus S) Global) (is : b ≡ code.Forked ls bs) where
   -- the answer for the fork, as soon as one holds the others up, and after all
   pub not_ready : false ≡ all_ready o c (from 0 ls.items bs.items) → false ≡ ready o c (node l b)
   not_ready h =

@@ -13,7 +13,7 @@ use Rattle.std.proofs.lemmas.Option.{none-some, same_Some}
 use Rattle.std.proofs.lemmas.Bool.{true≢false}
 use Rattle.shim_base.specs.Paths.{Channel, NamedChannel, channel_order}
 use Rattle.shim_base.specs.PathLaws.{channel_order_total, exact_channel}
-use Rattle.shim_meaning.specs.Trees.{Met, with_value, recorded}
+use Rattle.shim_semantics.specs.Trees.{Met, with_value, recorded}
 use Rattle.shim_tree.specs.Maps.{met_of}
 use Rattle.shim_tree.proofs.Mapped.{tied, put_found, entries_of}
 

@@ -5,14 +5,14 @@ use Rattle.std.specs.declared.vec.Vec.{Vec}
 use Rattle.std.specs.declared.alloc.Global.{Global}
 use Rattle.shim_base.specs.Paths.{Channel}
 use Rattle.shim_local.specs.Process.{Ops}
-use Rattle.shim_meaning.specs.Nodes.{goes, all_done}
-use Rattle.shim_tree.specs.Below.{node, nodes}
+use Rattle.shim_semantics.specs.Nodes.{goes, all_done}
+use Rattle.shim_tree.specs.NodeStatus.{node, nodes}
 use Rattle.shim_tree.specs.Beside.{place}
-use Rattle.shim_meaning.specs.Trees.{Event}
-use Rattle.shim_meaning.specs.Walks.{waited, all_waited, poisons_of, here, walk, walk_all, head}
+use Rattle.shim_semantics.specs.Trees.{Event}
+use Rattle.shim_semantics.specs.Walks.{waited, all_waited, poisons_of, here, walk, walk_all, head}
 use Rattle.shim_tree.specs.Finding.{least}
-use Rattle.shim_tree.specs.declared.below.Below.{Below}
-use Rattle.shim_tree.specs.declared.below.Below.TheVariants as code
+use Rattle.shim_tree.specs.declared.node_status.NodeStatus.{NodeStatus}
+use Rattle.shim_tree.specs.declared.node_status.NodeStatus.TheVariants as code
 use Rattle.shim_tree.proofs.Beside.{is_forked, from, from_next, from_end}
 use Rattle.shim_tree.proofs.Firsts.{least_append, here_first, here_next, poison_first, child_first, child_next}
 
@@ -25,22 +25,22 @@ item_there (suc i) (x ∷ xs) h = item_there i xs (omega (arith, h))
 -- ---- whether all are done
 
 -- a child that is done leaves it to the others, and one that goes decides
-done_from : {S : Type 0} (i : ℕ) (ls : List S) (bs : List (Below S)) (r : Bool) → i < length ls → ((l : S) → r ≡ goes (place l (nodes bs) i)) → all_done (from i ls bs) ≡ (not r && all_done (from (i + 1) ls bs))
+done_from : {S : Type 0} (i : ℕ) (ls : List S) (bs : List (NodeStatus S)) (r : Bool) → i < length ls → ((l : S) → r ≡ goes (place l (nodes bs) i)) → all_done (from i ls bs) ≡ (not r && all_done (from (i + 1) ls bs))
 done_from i ls bs r h f =
     let x = item_there i ls h in
     ap all_done (from_next i ls bs x.0 h x.1) ∙ ap (λ z. not z && all_done (from (i + 1) ls bs)) (sym (f x.0))
 
-pub one_done : {S : Type 0} (i : ℕ) (ls : List S) (bs : List (Below S)) (r all : Bool) → i < length ls → ((l : S) → r ≡ goes (place l (nodes bs) i)) → all_done (from i ls bs) ≡ all → r ≡ false → all_done (from (i + 1) ls bs) ≡ all
+pub one_done : {S : Type 0} (i : ℕ) (ls : List S) (bs : List (NodeStatus S)) (r all : Bool) → i < length ls → ((l : S) → r ≡ goes (place l (nodes bs) i)) → all_done (from i ls bs) ≡ all → r ≡ false → all_done (from (i + 1) ls bs) ≡ all
 one_done i ls bs r all h f each e = ap (λ z. not z && all_done (from (i + 1) ls bs)) (sym e) ∙ (sym (done_from i ls bs r h f) ∙ each)
 
-pub one_goes : {S : Type 0} (i : ℕ) (ls : List S) (bs : List (Below S)) (r all : Bool) → i < length ls → ((l : S) → r ≡ goes (place l (nodes bs) i)) → all_done (from i ls bs) ≡ all → r ≡ true → false ≡ all
+pub one_goes : {S : Type 0} (i : ℕ) (ls : List S) (bs : List (NodeStatus S)) (r all : Bool) → i < length ls → ((l : S) → r ≡ goes (place l (nodes bs) i)) → all_done (from i ls bs) ≡ all → r ≡ true → false ≡ all
 one_goes i ls bs r all h f each e = ap (λ z. not z && all_done (from (i + 1) ls bs)) (sym e) ∙ (sym (done_from i ls bs r h f) ∙ each)
 
 -- ---- the least channel
 
 module _ {S : Type 0} (o : Ops S) (passes : Channel → Bool) where
   -- of one child more, and of all
-  pub least_more : (i : ℕ) (ls : List S) (bs : List (Below S)) (l : S) (was now best : Option Channel) → i < length ls → l ≡ get_or ls i l
+  pub least_more : (i : ℕ) (ls : List S) (bs : List (NodeStatus S)) (l : S) (was now best : Option Channel) → i < length ls → l ≡ get_or ls i l
       → now ≡ least passes was (waited o (place l (nodes bs) i)) → least passes was (all_waited o (from i ls bs)) ≡ best → least passes now (all_waited o (from (i + 1) ls bs)) ≡ best
   least_more i ls bs l was now best h e f inv =
       let k = place l (nodes bs) i in
@@ -48,7 +48,7 @@ module _ {S : Type 0} (o : Ops S) (passes : Channel → Bool) where
       ∙ (sym (least_append passes was (waited o k) (all_waited o (from (i + 1) ls bs)))
       ∙ (ap (λ z. least passes was (all_waited o z)) (sym (from_next i ls bs l h e)) ∙ inv))
 
-  pub least_all : (l : S) (b : Below S) (ls : Vec S Global) (bs : Vec (Below S) Global) (i : ℕ) (was best : Option Channel) → b ≡ code.Forked ls bs → length ls.items ≤ i
+  pub least_all : (l : S) (b : NodeStatus S) (ls : Vec S Global) (bs : Vec (NodeStatus S) Global) (i : ℕ) (was best : Option Channel) → b ≡ code.Forked ls bs → length ls.items ≤ i
       → least passes was (all_waited o (from i ls.items bs.items)) ≡ least passes best (all_waited o (from 0 ls.items bs.items)) → was ≡ least passes best (waited o (node l b))
   least_all l b ls bs i was best is h inv =
       ap (λ z. least passes was (all_waited o z)) (sym (from_end i ls.items bs.items h))
@@ -62,7 +62,7 @@ some_map f (Some x) = refl
 some_map f None = refl
 
 -- what a search for the first event found: what the fork itself can do, or nothing
-module _ {S A : Type 0} (o : Ops S) (f : A → Event) (l : S) (b : Below S) (ls : Vec S Global) (bs : Vec (Below S) Global) (is : b ≡ code.Forked ls bs)
+module _ {S A : Type 0} (o : Ops S) (f : A → Event) (l : S) (b : NodeStatus S) (ls : Vec S Global) (bs : Vec (NodeStatus S) Global) (is : b ≡ code.Forked ls bs)
     (own : Option A) (of_fork : option_map f own ≡ head (here o (node l b))) where
   pub found_here : is_some own ≡ true → option_map f own ≡ head (walk o (node l b))
   found_here s = here_first o (node l b) l (from 0 ls.items bs.items) (option_map f own) (is_forked l b ls bs is) of_fork (some_map f own ∙ s)

@@ -4,13 +4,13 @@ use Rattle.std.specs.Prelude.{slice_get}
 use Rattle.std.specs.declared.vec.Vec.{Vec}
 use Rattle.std.specs.declared.alloc.Global.{Global}
 use Rattle.shim_local.specs.Process.{Ops}
-use Rattle.shim_meaning.specs.Nodes.{Node}
-use Rattle.shim_meaning.specs.Quiets.{quiets, all_quiets}
-use Rattle.shim_tree.specs.Below.{node, nodes}
+use Rattle.shim_semantics.specs.Nodes.{Node}
+use Rattle.shim_semantics.specs.Quiets.{quiets, all_quiets}
+use Rattle.shim_tree.specs.NodeStatus.{node, nodes}
 use Rattle.shim_tree.specs.Beside.{place}
 use Rattle.shim_tree.specs.Sought.{seek}
-use Rattle.shim_tree.specs.declared.below.Below.{Below}
-use Rattle.shim_tree.specs.declared.below.Below.TheVariants as code
+use Rattle.shim_tree.specs.declared.node_status.NodeStatus.{NodeStatus}
+use Rattle.shim_tree.specs.declared.node_status.NodeStatus.TheVariants as code
 use Rattle.shim_tree.proofs.Beside.{is_forked, from, from_next, from_end}
 
 -- the search in the list of a node, as a function of the node
@@ -49,7 +49,7 @@ got_none (y ∷ xs) zero m e = not_both m y e
 got_none (y ∷ xs) (suc n) m e = got_none xs n m e
 
 module _ {S : Type 0} (o : Ops S) where
-  module _ (i : ℕ) (ls : List S) (bs : List (Below S)) (l : S) (h : i < length ls) (e : l ≡ get_or ls i l) (left : ℕ) (s : S ⊎ ℕ) (is : s ≡ seek (quiets o (place l (nodes bs) i)) left) where
+  module _ (i : ℕ) (ls : List S) (bs : List (NodeStatus S)) (l : S) (h : i < length ls) (e : l ≡ get_or ls i l) (left : ℕ) (s : S ⊎ ℕ) (is : s ≡ seek (quiets o (place l (nodes bs) i)) left) where
     all_here : all_quiets o (from i ls bs) ≡ quiets o (place l (nodes bs) i) ++ all_quiets o (from (i + 1) ls bs)
     all_here = ap (all_quiets o) (from_next i ls bs l h e)
 
@@ -63,7 +63,7 @@ module _ {S : Type 0} (o : Ops S) where
         sym (seek_behind (quiets o (place l (nodes bs) i)) (all_quiets o (from (i + 1) ls bs)) left m (sym is ∙ f))
         ∙ (ap (λ z. seek z left) (sym all_here) ∙ so_far)
 
-  module _ (l : S) (b : Below S) (ls : Vec S Global) (bs : Vec (Below S) Global) (is : b ≡ code.Forked ls bs) where
+  module _ (l : S) (b : NodeStatus S) (ls : Vec S Global) (bs : Vec (NodeStatus S) Global) (is : b ≡ code.Forked ls bs) where
     pub from_first : (left : ℕ) → seek (all_quiets o (from 0 ls.items bs.items)) left ≡ seek (quiets o (node l b)) left
     from_first left = sym (ap (λ z. seek (quiets o z) left) (is_forked l b ls bs is))
 

@@ -5,8 +5,8 @@ use Rattle.std.specs.FinMap.{find, get, from_entries, get-from_entries}
 use Rattle.std.specs.Map.{lookup}
 use Rattle.shim_base.specs.Paths.{Channel, NamedChannel, channel_order}
 use Rattle.shim_base.specs.PathLaws.{channel_order_total}
-use Rattle.shim_meaning.specs.Trees.{Met}
-use Rattle.shim_meaning.specs.Endings.{values_in}
+use Rattle.shim_semantics.specs.Trees.{Met}
+use Rattle.shim_semantics.specs.Endings.{values_in}
 use Rattle.shim_tree.proofs.Recorded.{is_of, mets, same}
 
 values_at : (b : Bool) (h : Met) (x : Option Met) (y : Option (List ℤ)) → values_in x ≡ y → values_in (cond b (Some h) x) ≡ cond b (Some h.values) y

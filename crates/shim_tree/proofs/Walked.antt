@@ -6,16 +6,16 @@ use Rattle.std.specs.declared.vec.Vec.{Vec}
 use Rattle.std.specs.declared.alloc.Global.{Global}
 use Rattle.shim_base.specs.Paths.{Path, same_path}
 use Rattle.shim_local.specs.Process.{Ops, StopView, AtQuiet, AtNext, AtPut, AtFork, AtFinish, AtThrow, AtTrap}
-use Rattle.shim_meaning.specs.Nodes.{Node, Nodes, Forked, all_done}
-use Rattle.shim_tree.specs.Below.{node, nodes}
+use Rattle.shim_semantics.specs.Nodes.{Node, Nodes, Forked, all_done}
+use Rattle.shim_tree.specs.NodeStatus.{node, nodes}
 use Rattle.shim_tree.specs.Beside.{place}
-use Rattle.shim_meaning.specs.Trees as trees
-use Rattle.shim_meaning.specs.Walks.{own_events, here, in_order, all_waited, waited, meets_here, poisons_of, walk, walk_all, head}
+use Rattle.shim_semantics.specs.Trees as trees
+use Rattle.shim_semantics.specs.Walks.{own_events, here, in_order, all_waited, waited, meets_here, poisons_of, walk, walk_all, head}
 use Rattle.shim_tree.specs.Finding.{found_event}
 use Rattle.shim_tree.specs.Searching.{found_list}
 use Rattle.shim_tree.specs.declared.seek.Found.{Found}
-use Rattle.shim_tree.specs.declared.below.Below.{Below}
-use Rattle.shim_tree.specs.declared.below.Below.TheVariants as code
+use Rattle.shim_tree.specs.declared.node_status.NodeStatus.{NodeStatus}
+use Rattle.shim_tree.specs.declared.node_status.NodeStatus.TheVariants as code
 use Rattle.shim_tree.proofs.Beside.{is_forked, from, from_next, from_end}
 
 -- ---- what a live process can do
@@ -65,7 +65,7 @@ fork_listed o n l ks es before now e f g =
 walk_more : (es a b p w r : List trees.Event) → a ≡ es ++ p → b ≡ a ++ w → b ++ r ≡ es ++ (p ++ (w ++ r))
 walk_more es a b p w r h g = ap (λ z. z ++ r) (g ∙ ap (λ z. z ++ w) h) ∙ (append_assoc (es ++ p) w r ∙ append_assoc es p (w ++ r))
 
-module _ {S : Type 0} (o : Ops S) (l : S) (ls : List S) (bs : List (Below S)) where
+module _ {S : Type 0} (o : Ops S) (l : S) (ls : List S) (bs : List (NodeStatus S)) where
   -- one child more: its poisons, and its walk
   pub walked_child : (i : ℕ) (m : S) (was a b all : List trees.Event) → i < length ls → m ≡ get_or ls i m
       → a ≡ was ++ poisons_of o l (from 0 ls bs) i (place m (nodes bs) i) → b ≡ a ++ walk o (place m (nodes bs) i)
@@ -76,7 +76,7 @@ module _ {S : Type 0} (o : Ops S) (l : S) (ls : List S) (bs : List (Below S)) wh
       ∙ (ap (λ z. was ++ walk_all o l (from 0 ls bs) i z) (sym (from_next i ls bs m h there)) ∙ inv)
 
 -- all children, and so the fork with what it can do itself
-pub walked_all : {S : Type 0} (o : Ops S) (l : S) (b : Below S) (ls : Vec S Global) (bs : Vec (Below S) Global) (i : ℕ) (es own now : List trees.Event) → b ≡ code.Forked ls bs → length ls.items ≤ i
+pub walked_all : {S : Type 0} (o : Ops S) (l : S) (b : NodeStatus S) (ls : Vec S Global) (bs : Vec (NodeStatus S) Global) (i : ℕ) (es own now : List trees.Event) → b ≡ code.Forked ls bs → length ls.items ≤ i
     → own ≡ es ++ here o (node l b)
     → now ++ walk_all o l (from 0 ls.items bs.items) i (from i ls.items bs.items) ≡ own ++ walk_all o l (from 0 ls.items bs.items) 0 (from 0 ls.items bs.items)
     → now ≡ es ++ walk o (node l b)

@@ -4,19 +4,19 @@ use Rattle.std.specs.FinMap as finite
 use Rattle.shim_base.specs.Paths.{Path, path_order}
 use Rattle.shim_local.specs.Process.{Ops}
 use Rattle.shim_local.specs.Laws.{AllOf}
-use Rattle.shim_meaning.specs.Nodes.{Node, Nodes, Live, Forked, Ended, Dead, no_node, node_and, everyone}
-use Rattle.shim_meaning.specs.Places.{branches}
-use Rattle.shim_meaning.specs.Trees.{count_of, one_more}
+use Rattle.shim_semantics.specs.Nodes.{Node, Nodes, Live, Forked, Ended, Dead, no_node, node_and, everyone}
+use Rattle.shim_semantics.specs.Places.{branches}
+use Rattle.shim_semantics.specs.Trees.{count_of, one_more}
 use Rattle.shim_tree.specs.Maps.{has_stepped}
 
--- the same came of it, and this is its state
+-- the node with this state in place of its own; what came of it stays
 abbrev pub with_state : {S : Type 0} → S → Node S → Node S
 with_state m (Live l) = Live m
 with_state m (Forked l ks) = Forked m ks
 with_state m (Ended l) = Ended m
 with_state m (Dead l x) = Dead m x
 
--- the same of the node to which these branches lead, if there is one
+-- the node to which these branches lead, if there is one, has this state in place of its own
 abbrev mutual
   pub with_state_at : {S : Type 0} → S → List ℕ → Node S → Node S
   with_state_at m [] n = with_state m n
@@ -35,31 +35,31 @@ abbrev pub led_on : Path → Option (ℕ × ℕ) → List ℕ
 led_on p None = []
 led_on p (Some s) = s.0 ∷ branches (drop s.1 p)
 
--- of a map in which a process has its place before its first step: the counts of those that did one
+-- of a map in which a process has its count before its first step: the counts of those that did one
 abbrev pub stepped : finite.FinMap path_order ℕ → finite.FinMap path_order ℕ
 stepped m = finite.from_entries (filter has_stepped (finite.entries m))
 
--- the process of the path has its place
-abbrev pub HasPlace : finite.FinMap path_order ℕ → Path → Type 0
-HasPlace m p = finite.contains_key m p ≡ true
+-- the process of the path has its count
+abbrev pub HasCount : finite.FinMap path_order ℕ → Path → Type 0
+HasCount m p = finite.contains_key m p ≡ true
 
--- each process of the tree has
-abbrev pub AllHavePlaces : {S : Type 0} → Ops S → finite.FinMap path_order ℕ → Node S → Type 0
-AllHavePlaces o m n = AllOf (λ s. HasPlace m (o.path s)) (everyone n)
+-- each process of the tree has its count
+abbrev pub AllHaveCounts : {S : Type 0} → Ops S → finite.FinMap path_order ℕ → Node S → Type 0
+AllHaveCounts o m n = AllOf (λ s. HasCount m (o.path s)) (everyone n)
 
--- what had a place still has it
-abbrev pub KeepsPlaces : finite.FinMap path_order ℕ → finite.FinMap path_order ℕ → Type 0
-KeepsPlaces m n = (p : Path) → HasPlace m p → HasPlace n p
+-- what had a count still has one
+abbrev pub KeepsCounts : finite.FinMap path_order ℕ → finite.FinMap path_order ℕ → Type 0
+KeepsCounts m n = (p : Path) → HasCount m p → HasCount n p
 
--- the same with a place for the process of this path
-abbrev pub with_place : finite.FinMap path_order ℕ → Path → finite.FinMap path_order ℕ
-with_place m p = cond (finite.contains_key m p) m (finite.insert m p 0)
+-- the map with a count for the process of this path
+abbrev pub with_count : finite.FinMap path_order ℕ → Path → finite.FinMap path_order ℕ
+with_count m p = cond (finite.contains_key m p) m (finite.insert m p 0)
 
 -- the process of the path did so many steps more
 abbrev pub more_steps : finite.FinMap path_order ℕ → Path → ℕ → finite.FinMap path_order ℕ
 more_steps m p n = finite.insert m p (count_of m p + n)
 
--- the same, one after another
+-- the process of the path did so many steps more, counted one after another
 abbrev pub steps_taken : finite.FinMap path_order ℕ → Path → ℕ → finite.FinMap path_order ℕ
 steps_taken m p zero = m
 steps_taken m p (suc n) = steps_taken (one_more m p) p n

@@ -3,7 +3,7 @@ use Rattle.std.specs.Prelude.{Bool, Option, Some, None, List, [], ◌∷◌, con
 use Rattle.std.specs.declared.cmp.Ordering.{Ordering}
 use Rattle.std.specs.declared.cmp.Ordering.TheVariants.{Less, Equal, Greater}
 use Rattle.shim_base.specs.Paths.{Channel, NamedChannel, channel_order}
-use Rattle.shim_meaning.specs.Trees.{Event, Own, Meet, Poison, Close, End}
+use Rattle.shim_semantics.specs.Trees.{Event, Own, Meet, Poison, Close, End}
 use Rattle.shim_tree.specs.declared.seek.Found.{Found}
 use Rattle.shim_tree.specs.declared.seek.Found.TheVariants as found
 

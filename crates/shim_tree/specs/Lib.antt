@@ -1,5 +1,5 @@
 -- The definitions of this crate, one module for each subject.
-pub mod Below
+pub mod NodeStatus
 pub mod Maps
 pub mod Beside
 pub mod Finding
@@ -11,6 +11,6 @@ pub mod Meeting
 pub mod Readings
 pub mod Sought
 pub mod Advancing
-pub mod Births
+pub mod ChildCounts
 pub mod Filled
 pub mod Poisoning

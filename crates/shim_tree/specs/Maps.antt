@@ -5,8 +5,8 @@ use Rattle.std.specs.FinMap as finite
 use Rattle.std.specs.BTreeMap.{BTreeMap}
 use Rattle.shim_base.specs.Paths.{Path, Channel, NamedChannel, path_order, channel_order}
 use Rattle.shim_local.specs.declared.LogWhat.{LogWhat}
-use Rattle.shim_meaning.specs.Trees.{Met}
-use Rattle.shim_meaning.specs.Codes.{path_code, channel_code}
+use Rattle.shim_semantics.specs.Trees.{Met}
+use Rattle.shim_semantics.specs.Codes.{path_code, channel_code}
 
 abbrev pub counts_of : BTreeMap Path ℕ → finite.FinMap path_order ℕ
 counts_of m = finite.from_entries m.entries

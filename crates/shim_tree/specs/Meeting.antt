@@ -2,7 +2,7 @@
 use Rattle.std.specs.Prelude.{ℕ, ℤ, zero, suc, Option, Some, None, cond}
 use Rattle.shim_base.specs.Paths.{Channel}
 use Rattle.shim_local.specs.Process.{Ops}
-use Rattle.shim_meaning.specs.Nodes as model
+use Rattle.shim_semantics.specs.Nodes as model
 
 -- the value of the channel at this process, if there is one
 abbrev pub valued : {S : Type 0} → Ops S → Channel → Option S → Option ℤ

@@ -3,10 +3,10 @@ use Rattle.std.specs.Prelude.{Bool, Option, Some, None, List, [], ◌∷◌, map
 use Rattle.std.specs.Borrow.{Bor}
 use Rattle.shim_base.specs.Paths.{Channel, NamedChannel}
 use Rattle.shim_local.specs.Process.{Ops}
-use Rattle.shim_tree.specs.Below.{node, nodes, together}
+use Rattle.shim_tree.specs.NodeStatus.{node, nodes, together}
 use Rattle.shim_tree.specs.Beside.{place}
-use Rattle.shim_meaning.specs.Trees.{Event}
-use Rattle.shim_meaning.specs.Walks.{meets_here, poisons_here}
+use Rattle.shim_semantics.specs.Trees.{Event}
+use Rattle.shim_semantics.specs.Walks.{meets_here, poisons_here}
 use Rattle.shim_tree.specs.Finding.{found_event}
 use Rattle.shim_tree.specs.declared.seek.Found.{Found}
 use Rattle.shim_tree.specs.declared.seek.Test.{Test}

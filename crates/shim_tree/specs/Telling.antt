@@ -5,9 +5,9 @@ use Rattle.shim_base.specs.Paths.{Path, path_order}
 use Rattle.shim_local.specs.Process.{Ops}
 use Rattle.shim_local.specs.declared.Log.{Log}
 use Rattle.shim_local.specs.declared.LogWhat.{LogWhat}
-use Rattle.shim_meaning.specs.Nodes.{Node}
-use Rattle.shim_meaning.specs.Acts.{Said}
-use Rattle.shim_meaning.specs.Trees.{with_logs}
+use Rattle.shim_semantics.specs.Nodes.{Node}
+use Rattle.shim_semantics.specs.Acts.{Effects}
+use Rattle.shim_semantics.specs.Trees.{with_logs}
 use Rattle.shim_tree.specs.Acting.{ActsOn}
 
 -- these are logged, one after another
@@ -21,10 +21,10 @@ logged es = with_each finite.empty es
 
 -- the process of the path does its one thing, and what that tells comes behind what was put and logged
 pub record Tells {S : Type 0} (o : Ops S) (p : Path) (before after : Node S) (put put' : List ℕ) (logs logs' : finite.FinMap path_order (List LogWhat)) : Type 0 where
-  pub said : Said
-  pub acts : ActsOn o p before said after
-  pub puts : put' ≡ put ++ said.bytes
-  pub logs_more : logs' ≡ with_logs logs p said.logs
+  pub effects : Effects
+  pub acts : ActsOn o p before effects after
+  pub puts : put' ≡ put ++ effects.bytes
+  pub logs_more : logs' ≡ with_logs logs p effects.logs
 
 -- nothing of that has changed
 pub record TellsNothing {S : Type 0} (before after : Node S) (put put' : List ℕ) (logs logs' : finite.FinMap path_order (List LogWhat)) : Type 0 where

@@ -1,11 +1,11 @@
 // The state of one process put in place of another in a tree.
 ghost use Rattle.std.specs.Prelude.{◌≡◌, ℕ, List, Some, drop};
-ghost use Rattle.shim_meaning.specs.Nodes.{Live};
-ghost use Rattle.shim_meaning.specs.Places.{branches, route};
-ghost use Rattle.shim_tree.specs.Below.{node};
+ghost use Rattle.shim_semantics.specs.Nodes.{Live};
+ghost use Rattle.shim_semantics.specs.Places.{branches, route};
+ghost use Rattle.shim_tree.specs.NodeStatus.{node};
 ghost use Rattle.shim_tree.specs.Advancing.{with_state_at, led_on};
 
-use crate::below::Below;
+use crate::node_status::NodeStatus;
 use shim_local::Local;
 use std::mem::swap;
 
@@ -22,7 +22,8 @@ fn next_branch<L: Local>(process: &L, at: usize) -> Option<(usize, usize)>
     }
 }
 
-// The same as `swap_at`, of a process that lives.
+// What `swap_at` does below a live process: where the path of the state has no pair from this place on,
+// the state goes to its place, and what stood there comes out. Else nothing changes.
 fn swap_live<L: Local>(process: &mut L, at: usize, last: &mut L)
     ensures { Live process.new ≡ with_state_at last.old (branches (drop at (L.ops.path last.old))) (Live process.old) }
 {
@@ -33,19 +34,19 @@ fn swap_live<L: Local>(process: &mut L, at: usize, last: &mut L)
 
 // The state goes to where its path leads from here by the pairs from this place on, and what stood
 // there comes out.
-fn swap_at<L: Local>(process: &mut L, below: &mut Below<L>, at: usize, last: &mut L)
-    ensures { node process.new below.new ≡ with_state_at last.old (branches (drop at (L.ops.path last.old))) (node process.old below.old) }
+fn swap_at<L: Local>(process: &mut L, status: &mut NodeStatus<L>, at: usize, last: &mut L)
+    ensures { node process.new status.new ≡ with_state_at last.old (branches (drop at (L.ops.path last.old))) (node process.old status.old) }
 {
     let Some((branch, rest)) = next_branch(last, at) else {
         swap(process, last);
         return;
     };
-    match below {
-        Below::Live | Below::Ended | Below::Dead(_) => {}
-        Below::Forked(processes, belows) => {
+    match status {
+        NodeStatus::Live | NodeStatus::Ended | NodeStatus::Dead(_) => {}
+        NodeStatus::Forked(processes, statuses) => {
             if branch < processes.len() {
-                if branch < belows.len() {
-                    swap_at(&mut processes[branch], &mut belows[branch], rest, last);
+                if branch < statuses.len() {
+                    swap_at(&mut processes[branch], &mut statuses[branch], rest, last);
                 } else {
                     swap_live(&mut processes[branch], rest, last);
                 }
@@ -55,9 +56,9 @@ fn swap_at<L: Local>(process: &mut L, below: &mut Below<L>, at: usize, last: &mu
 }
 
 /// The state takes the place of that of the process of its path, which comes out.
-pub(crate) fn swap_on<L: Local>(root: &mut L, below: &mut Below<L>, last: &mut L)
-    ensures { (q : List ℕ) → route (L.ops.path root.old) (L.ops.path last.old) ≡ Some q → node root.new below.new ≡ with_state_at last.old q (node root.old below.old) }
+pub(crate) fn swap_on<L: Local>(root: &mut L, status: &mut NodeStatus<L>, last: &mut L)
+    ensures { (q : List ℕ) → route (L.ops.path root.old) (L.ops.path last.old) ≡ Some q → node root.new status.new ≡ with_state_at last.old q (node root.old status.old) }
 {
     let front = root.path().pairs().len();
-    swap_at(root, below, front, last);
+    swap_at(root, status, front, last);
 }

@@ -2,10 +2,10 @@
 ghost use Rattle.std.specs.Prelude.{◌≡◌, ◌<◌, ◌^◌, ◌+◌, [], ◌∷◌, ◌++◌, OnOk, OnErr, IfOk, map, filter};
 ghost use Rattle.std.specs.FinMap as finite;
 ghost use Rattle.shim_local.specs.Laws.{AllOf};
-ghost use Rattle.shim_meaning.specs.Trees.{count_of, sum};
+ghost use Rattle.shim_semantics.specs.Trees.{count_of, sum};
 ghost use Rattle.shim_tree.specs.Maps.{has_stepped};
-ghost use Rattle.shim_tree.specs.Advancing.{stepped, HasPlace, KeepsPlaces, with_place, more_steps};
-ghost use Rattle.shim_meaning.specs.Endings.{own_steps};
+ghost use Rattle.shim_tree.specs.Advancing.{stepped, HasCount, KeepsCounts, with_count, more_steps};
+ghost use Rattle.shim_semantics.specs.Endings.{own_steps};
 
 use shim_base::{List, NoMemory, Path};
 use shim_local::{Local, OwnSteps};
@@ -13,7 +13,7 @@ use std::alloc::Global;
 use std::collections::BTreeMap;
 use std::marker::Model;
 
-/// For each process that has a place, how many steps of its own it did. A process has its place before
+/// For each process that has a count, how many steps of its own it did. A process has its count before
 /// its first step, so that no step takes memory.
 #[derive(Drop)]
 pub(crate) struct Counts {
@@ -24,7 +24,7 @@ impl Model for Counts {
     ghost use Rattle.std.specs.FinMap as finite;
     ghost use Rattle.std.specs.Prelude.{ℕ};
     ghost use Rattle.shim_base.specs.Paths.{path_order};
-    ghost use Rattle.shim_meaning.specs.Codes.{counts_code};
+    ghost use Rattle.shim_semantics.specs.Codes.{counts_code};
     ghost use Rattle.shim_tree.specs.Maps.{counts_of};
 
     ghost Value = { finite.FinMap path_order ℕ };
@@ -44,9 +44,9 @@ impl Counts {
         }
     }
 
-    /// Gives the process of this path its place.
-    pub(crate) fn place(&mut self, path: &Path) -> Result<(), NoMemory>
-        ensures ok { OnOk result (self.new ≡ with_place self.old path.now) }
+    /// Gives the process of this path its count.
+    pub(crate) fn reserve(&mut self, path: &Path) -> Result<(), NoMemory>
+        ensures ok { OnOk result (self.new ≡ with_count self.old path.now) }
         ensures err { OnErr result (self.new ≡ self.old) }
     {
         if self.kept.contains_key(path) {
@@ -56,21 +56,21 @@ impl Counts {
         Ok(())
     }
 
-    /// Gives each of these processes its place. Want of memory may leave some of them without.
-    pub(crate) fn place_all<L: Local>(&mut self, processes: &[L]) -> Result<(), NoMemory>
-        ensures ok { OnOk result (AllOf (λ (l : L). HasPlace self.new (L.ops.path l)) processes.now) }
-        ensures keeps { KeepsPlaces self.old self.new }
+    /// Gives each of these processes its count. Want of memory may leave some of them without.
+    pub(crate) fn reserve_all<L: Local>(&mut self, processes: &[L]) -> Result<(), NoMemory>
+        ensures ok { OnOk result (AllOf (λ (l : L). HasCount self.new (L.ops.path l)) processes.now) }
+        ensures keeps { KeepsCounts self.old self.new }
         ensures same { stepped self.new ≡ stepped self.old }
     {
         for process in processes.iter() {
-            self.place(process.path())?;
+            self.reserve(process.path())?;
         }
         Ok(())
     }
 
-    /// The process of this path, which has its place, did so many steps more.
+    /// The process of this path, which has its count, did so many steps more.
     pub(crate) fn add(&mut self, path: &Path, steps: u64)
-        requires place { HasPlace self.old path.now }
+        requires place { HasCount self.old path.now }
         requires few { count_of self.old path.now + steps < 2 ^ 64 }
         ensures { self.new ≡ more_steps self.old path.now steps }
     {

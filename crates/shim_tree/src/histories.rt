@@ -2,8 +2,8 @@
 ghost use Rattle.std.specs.Prelude.{◌≡◌, OnOk, OnErr, IfOk, map};
 ghost use Rattle.std.specs.Option.{option_copied};
 ghost use Rattle.std.specs.FinMap as finite;
-ghost use Rattle.shim_meaning.specs.Trees.{recorded};
-ghost use Rattle.shim_meaning.specs.Endings.{history_of, values_in};
+ghost use Rattle.shim_semantics.specs.Trees.{recorded};
+ghost use Rattle.shim_semantics.specs.Endings.{history_of, values_in};
 ghost use Rattle.shim_tree.specs.Maps.{AllHaveValues};
 
 use shim_base::{Chan, List, NoMemory};
@@ -23,8 +23,8 @@ pub(crate) struct Histories {
 impl Model for Histories {
     ghost use Rattle.std.specs.FinMap as finite;
     ghost use Rattle.shim_base.specs.Paths.{channel_order};
-    ghost use Rattle.shim_meaning.specs.Trees.{Met};
-    ghost use Rattle.shim_meaning.specs.Codes.{histories_code};
+    ghost use Rattle.shim_semantics.specs.Trees.{Met};
+    ghost use Rattle.shim_semantics.specs.Codes.{histories_code};
     ghost use Rattle.shim_tree.specs.Maps.{histories_of, AllHaveValues};
 
     ghost Value = { finite.FinMap channel_order Met };

@@ -3,26 +3,26 @@
 
 mod act;
 mod advance;
-mod below;
-mod births;
+mod child_counts;
 mod counts;
-mod doing;
 mod doom;
+mod effects;
 mod event;
 mod fill;
 mod histories;
 mod listing;
 mod logs;
+mod node_status;
+mod own_step;
 mod poison;
 mod quiet;
 mod reading;
 mod ready;
 mod receive;
 mod seek;
-mod told;
 mod tree;
 mod waits;
 
 pub use event::Event;
-pub use shim_meaning::laws;
+pub use shim_semantics::laws;
 pub use tree::Tree;

@@ -1,15 +1,15 @@
 // All events of the walk from a process, in its order.
 ghost use Rattle.std.specs.Prelude.{◌≡◌, ◌++◌, ◌∷◌, [], IfOk, OnOk, cond, map, filter};
 ghost use Rattle.std.specs.Option.{option_copied};
-ghost use Rattle.shim_meaning.specs.Nodes.{Forked, all_done};
-ghost use Rattle.shim_tree.specs.Below.{node, nodes, together, event_of};
+ghost use Rattle.shim_semantics.specs.Nodes.{Forked, all_done};
+ghost use Rattle.shim_tree.specs.NodeStatus.{node, nodes, together, event_of};
 ghost use Rattle.shim_tree.specs.Beside.{place};
-ghost use Rattle.shim_meaning.specs.Trees as trees;
-ghost use Rattle.shim_meaning.specs.Walks.{as_list, own_events, here, waited, poisons_of, walk, inserted, all_inserted};
+ghost use Rattle.shim_semantics.specs.Trees as trees;
+ghost use Rattle.shim_semantics.specs.Walks.{as_list, own_events, here, waited, poisons_of, walk, inserted, all_inserted};
 ghost use Rattle.shim_tree.specs.Searching.{passes, channels, found_list};
 
-use crate::below::Below;
 use crate::event::Event;
+use crate::node_status::NodeStatus;
 use crate::ready::stands_at;
 use crate::seek::{Found, Test, are_done, is_passing, own_event};
 use shim_base::{Chan, List, NoMemory, Path};
@@ -37,7 +37,8 @@ fn put_in_order<'a>(chans: &mut Vec<&'a Chan>, c: &'a Chan) -> Result<(), NoMemo
     Ok(())
 }
 
-// The same of a channel at which some process stands, if that passes.
+// Puts the channel at which some process stands into its place among others, if there is one and it
+// passes.
 fn put_one<'a, L: Local>(
     test: &Test<'_, L>,
     c: Option<&'a Chan>,
@@ -53,23 +54,23 @@ fn put_one<'a, L: Local>(
     Ok(())
 }
 
-// The same of all channels at which live processes stand at and below `l`.
+// Puts each passing channel at which a live process stands at or below `l` into its place among others.
 fn put_below<'a, L: Local>(
     l: &'a L,
-    below: &'a Below<L>,
+    status: &'a NodeStatus<L>,
     test: &Test<'_, L>,
     chans: &mut Vec<&'a Chan>,
 ) -> Result<(), NoMemory>
-    ensures { OnOk result (channels chans.new.items ≡ all_inserted (channels chans.old.items) (filter (passes L.ops test.now) (waited L.ops (node l.now below.now)))) }
+    ensures { OnOk result (channels chans.new.items ≡ all_inserted (channels chans.old.items) (filter (passes L.ops test.now) (waited L.ops (node l.now status.now)))) }
 {
-    match below {
-        Below::Live => put_one(test, stands_at(l), chans),
-        Below::Ended => Ok(()),
-        Below::Dead(_) => Ok(()),
-        Below::Forked(children, belows) => {
+    match status {
+        NodeStatus::Live => put_one(test, stands_at(l), chans),
+        NodeStatus::Ended => Ok(()),
+        NodeStatus::Dead(_) => Ok(()),
+        NodeStatus::Forked(children, statuses) => {
             for i in 0..children.len() {
-                if i < belows.len() {
-                    put_below(&children[i], &belows[i], test, chans)?;
+                if i < statuses.len() {
+                    put_below(&children[i], &statuses[i], test, chans)?;
                 } else {
                     put_one(test, stands_at(&children[i]), chans)?;
                 }
@@ -79,18 +80,19 @@ fn put_below<'a, L: Local>(
     }
 }
 
-// The same at the child in this place and below it.
+// Puts each passing channel at which a live process stands at the child in this place or below it into
+// its place among others.
 fn put_at<'a, L: Local>(
     child: &'a L,
-    belows: &'a [Below<L>],
+    statuses: &'a [NodeStatus<L>],
     i: usize,
     test: &Test<'_, L>,
     chans: &mut Vec<&'a Chan>,
 ) -> Result<(), NoMemory>
-    ensures { OnOk result (channels chans.new.items ≡ all_inserted (channels chans.old.items) (filter (passes L.ops test.now) (waited L.ops (place child.now (nodes belows.now) i)))) }
+    ensures { OnOk result (channels chans.new.items ≡ all_inserted (channels chans.old.items) (filter (passes L.ops test.now) (waited L.ops (place child.now (nodes statuses.now) i)))) }
 {
-    if i < belows.len() {
-        put_below(child, &belows[i], test, chans)
+    if i < statuses.len() {
+        put_below(child, &statuses[i], test, chans)
     } else {
         put_one(test, stands_at(child), chans)
     }
@@ -140,12 +142,12 @@ fn push_poisons(path: &Path, chans: &[&Chan], events: &mut List<Event>) -> Resul
 fn push_close<L: Local>(
     l: &L,
     children: &[L],
-    belows: &[Below<L>],
+    statuses: &[NodeStatus<L>],
     events: &mut List<Event>,
 ) -> Result<(), NoMemory>
-    ensures { OnOk result (map event_of events.new ≡ map event_of events.old ++ cond (all_done (together children.now (nodes belows.now))) (trees.Close (L.ops.path l.now) ∷ []) []) }
+    ensures { OnOk result (map event_of events.new ≡ map event_of events.old ++ cond (all_done (together children.now (nodes statuses.now))) (trees.Close (L.ops.path l.now) ∷ []) []) }
 {
-    if are_done(children, belows) {
+    if are_done(children, statuses) {
         push_found(Some(Found::Close(l.path())), events)
     } else {
         Ok(())
@@ -156,17 +158,17 @@ fn push_close<L: Local>(
 fn push_here<L: Local>(
     alloc: Global,
     l: &L,
-    below: &Below<L>,
+    status: &NodeStatus<L>,
     children: &[L],
-    belows: &[Below<L>],
+    statuses: &[NodeStatus<L>],
     events: &mut List<Event>,
 ) -> Result<(), NoMemory>
-    requires { node l.now below.now ≡ Forked l.now (together children.now (nodes belows.now)) }
-    ensures { OnOk result (map event_of events.new ≡ map event_of events.old ++ here L.ops (node l.now below.now)) }
+    requires { node l.now status.now ≡ Forked l.now (together children.now (nodes statuses.now)) }
+    ensures { OnOk result (map event_of events.new ≡ map event_of events.old ++ here L.ops (node l.now status.now)) }
 {
-    push_close(l, children, belows, events)?;
+    push_close(l, children, statuses, events)?;
     let mut chans = Vec::new(alloc);
-    put_below(l, below, &Test::Meets(l, below), &mut chans)?;
+    put_below(l, status, &Test::Meets(l, status), &mut chans)?;
     push_meets(chans.as_slice(), events)
 }
 
@@ -175,16 +177,16 @@ fn push_poisons_of<L: Local>(
     alloc: Global,
     l: &L,
     children: &[L],
-    belows: &[Below<L>],
+    statuses: &[NodeStatus<L>],
     i: usize,
     child: &L,
     events: &mut List<Event>,
 ) -> Result<(), NoMemory>
-    ensures { OnOk result (map event_of events.new ≡ map event_of events.old ++ poisons_of L.ops l.now (together children.now (nodes belows.now)) i (place child.now (nodes belows.now) i)) }
+    ensures { OnOk result (map event_of events.new ≡ map event_of events.old ++ poisons_of L.ops l.now (together children.now (nodes statuses.now)) i (place child.now (nodes statuses.now) i)) }
 {
-    let test = Test::Poisons(l, children, belows, i, child);
+    let test = Test::Poisons(l, children, statuses, i, child);
     let mut chans = Vec::new(alloc);
-    put_at(child, belows, i, &test, &mut chans)?;
+    put_at(child, statuses, i, &test, &mut chans)?;
     push_poisons(child.path(), chans.as_slice(), events)
 }
 
@@ -192,24 +194,24 @@ fn push_poisons_of<L: Local>(
 fn push_walk<L: Local>(
     alloc: Global,
     l: &L,
-    below: &Below<L>,
+    status: &NodeStatus<L>,
     events: &mut List<Event>,
 ) -> Result<(), NoMemory>
-    ensures { OnOk result (map event_of events.new ≡ map event_of events.old ++ walk L.ops (node l.now below.now)) }
+    ensures { OnOk result (map event_of events.new ≡ map event_of events.old ++ walk L.ops (node l.now status.now)) }
 {
-    match below {
-        Below::Live => push_own(l, events),
-        Below::Ended => Ok(()),
-        Below::Dead(_) => Ok(()),
-        Below::Forked(children, belows) => {
+    match status {
+        NodeStatus::Live => push_own(l, events),
+        NodeStatus::Ended => Ok(()),
+        NodeStatus::Dead(_) => Ok(()),
+        NodeStatus::Forked(children, statuses) => {
             let states = children.as_slice();
-            let came = belows.as_slice();
-            push_here(alloc, l, below, states, came, events)?;
+            let came = statuses.as_slice();
+            push_here(alloc, l, status, states, came, events)?;
             for i in 0..children.len() {
                 let child = &children[i];
                 push_poisons_of(alloc, l, states, came, i, child, events)?;
-                if i < belows.len() {
-                    push_walk(alloc, child, &belows[i], events)?;
+                if i < statuses.len() {
+                    push_walk(alloc, child, &statuses[i], events)?;
                 } else {
                     push_own(child, events)?;
                 }
@@ -223,11 +225,11 @@ fn push_walk<L: Local>(
 pub(crate) fn enabled<L: Local>(
     alloc: Global,
     l: &L,
-    below: &Below<L>,
+    status: &NodeStatus<L>,
 ) -> Result<List<Event>, NoMemory>
-    ensures { IfOk result (λ events. map event_of events ≡ walk L.ops (node l.now below.now)) }
+    ensures { IfOk result (λ events. map event_of events ≡ walk L.ops (node l.now status.now)) }
 {
     let mut events = List::new(alloc);
-    push_walk(alloc, l, below, &mut events)?;
+    push_walk(alloc, l, status, &mut events)?;
     Ok(events)
 }

@@ -1,8 +1,8 @@
 // What was logged of each process.
 ghost use Rattle.std.specs.Prelude.{◌≡◌, OnOk, OnErr, IfOk, [], ◌∷◌, ◌++◌, map};
 ghost use Rattle.std.specs.FinMap as finite;
-ghost use Rattle.shim_meaning.specs.Trees.{with_logs};
-ghost use Rattle.shim_meaning.specs.Endings.{all_logs, log_at};
+ghost use Rattle.shim_semantics.specs.Trees.{with_logs};
+ghost use Rattle.shim_semantics.specs.Endings.{all_logs, log_at};
 
 use shim_base::{List, NoMemory, Path};
 use shim_local::{Log, LogWhat};
@@ -22,7 +22,7 @@ impl Model for Logs {
     ghost use Rattle.std.specs.Prelude.{List};
     ghost use Rattle.shim_base.specs.Paths.{path_order};
     ghost use Rattle.shim_local.specs.declared.LogWhat.{LogWhat};
-    ghost use Rattle.shim_meaning.specs.Codes.{logs_code};
+    ghost use Rattle.shim_semantics.specs.Codes.{logs_code};
     ghost use Rattle.shim_tree.specs.Maps.{logs_in};
 
     ghost Value = { finite.FinMap path_order (List LogWhat) };

@@ -1,39 +1,39 @@
 // What is read off a tree in the end.
 ghost use Rattle.std.specs.Prelude.{◌≡◌, cond, OnOk, IfOk};
 ghost use Rattle.shim_local.specs.declared.Outcome.TheVariants.{Spent};
-ghost use Rattle.shim_tree.specs.Below.{node};
-ghost use Rattle.shim_meaning.specs.Nodes.{next_of};
-ghost use Rattle.shim_meaning.specs.Endings as endings;
+ghost use Rattle.shim_tree.specs.NodeStatus.{node};
+ghost use Rattle.shim_semantics.specs.Nodes.{next_of};
+ghost use Rattle.shim_semantics.specs.Endings as endings;
 ghost use Rattle.shim_tree.specs.Readings.{outcome_of_label, with_waits};
 ghost use Rattle.shim_tree.specs.Telling.{logged};
 ghost use Rattle.std.specs.FinMap as finite;
 
-use crate::below::Below;
 use crate::logs::Logs;
+use crate::node_status::NodeStatus;
 use crate::waits::Waits;
 use shim_base::{List, NoMemory};
 use shim_local::{Local, Log, Outcome, Stop, WaitAt};
 use std::alloc::Global;
 
 /// How a run has ended whose tree is quiescent or not.
-pub(crate) fn outcome_of<L>(below: &Below<L>, quiescent: bool) -> Outcome
-    ensures { (l : L) → result ≡ cond quiescent (endings.outcome_of_root (node l below.now)) Spent }
+pub(crate) fn outcome_of<L>(status: &NodeStatus<L>, quiescent: bool) -> Outcome
+    ensures { (l : L) → result ≡ cond quiescent (endings.outcome_of_root (node l status.now)) Spent }
 {
     if quiescent {
-        outcome_of_root(below)
+        outcome_of_root(status)
     } else {
         Outcome::Spent
     }
 }
 
 // What came of the root of a tree in which nothing can happen.
-fn outcome_of_root<L>(below: &Below<L>) -> Outcome
-    ensures { (l : L) → result ≡ endings.outcome_of_root (node l below.now) }
+fn outcome_of_root<L>(status: &NodeStatus<L>) -> Outcome
+    ensures { (l : L) → result ≡ endings.outcome_of_root (node l status.now) }
 {
-    match below {
-        Below::Live | Below::Forked(_, _) => Outcome::Blocked,
-        Below::Ended => Outcome::Done,
-        Below::Dead(label) => outcome_of_label(*label),
+    match status {
+        NodeStatus::Live | NodeStatus::Forked(_, _) => Outcome::Blocked,
+        NodeStatus::Ended => Outcome::Done,
+        NodeStatus::Dead(label) => outcome_of_label(*label),
     }
 }
 
@@ -52,15 +52,15 @@ fn outcome_of_label(label: u32) -> Outcome
 pub(crate) fn waits_of<L: Local>(
     alloc: Global,
     root: &L,
-    below: &Below<L>,
+    status: &NodeStatus<L>,
     outcome: Outcome,
 ) -> Result<List<WaitAt>, NoMemory>
-    ensures { IfOk result (λ waits. waits ≡ endings.waits_of L.ops (node root.now below.now) outcome) }
+    ensures { IfOk result (λ waits. waits ≡ endings.waits_of L.ops (node root.now status.now) outcome) }
 {
     match outcome {
         Outcome::Blocked => {
             let mut waits = Waits::new(alloc);
-            gather(root, below, &mut waits)?;
+            gather(root, status, &mut waits)?;
             waits.list(alloc)
         }
         Outcome::Done => Ok(List::new(alloc)),
@@ -71,14 +71,14 @@ pub(crate) fn waits_of<L: Local>(
 }
 
 // Adds each live process here and below that stands at a channel.
-fn gather<L: Local>(root: &L, below: &Below<L>, waits: &mut Waits) -> Result<(), NoMemory>
-    ensures { OnOk result (waits.new ≡ with_waits waits.old (endings.waiting L.ops (node root.now below.now))) }
+fn gather<L: Local>(root: &L, status: &NodeStatus<L>, waits: &mut Waits) -> Result<(), NoMemory>
+    ensures { OnOk result (waits.new ≡ with_waits waits.old (endings.waiting L.ops (node root.now status.now))) }
 {
-    match below {
-        Below::Live => gather_live(root, waits),
-        Below::Ended => Ok(()),
-        Below::Dead(_) => Ok(()),
-        Below::Forked(children, came) => {
+    match status {
+        NodeStatus::Live => gather_live(root, waits),
+        NodeStatus::Ended => Ok(()),
+        NodeStatus::Dead(_) => Ok(()),
+        NodeStatus::Forked(children, came) => {
             for i in 0..children.len() {
                 if i < came.len() {
                     gather(&children[i], &came[i], waits)?;

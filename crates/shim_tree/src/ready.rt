@@ -1,11 +1,11 @@
 // Whether all whom a channel concerns wait at it.
 ghost use Rattle.std.specs.Prelude.{◌≡◌, ◌&&◌, not, true, IsTrue};
 ghost use Rattle.std.specs.Option.{option_copied};
-ghost use Rattle.shim_meaning.specs.Nodes.{next_of, is_next, has_ended, ready};
-ghost use Rattle.shim_tree.specs.Below.{node, nodes};
+ghost use Rattle.shim_semantics.specs.Nodes.{next_of, is_next, has_ended, ready};
+ghost use Rattle.shim_tree.specs.NodeStatus.{node, nodes};
 ghost use Rattle.shim_tree.specs.Beside.{place};
 
-use crate::below::Below;
+use crate::node_status::NodeStatus;
 use shim_base::Chan;
 use shim_local::{Local, Stop};
 
@@ -35,48 +35,48 @@ pub(crate) fn waits_at<L: Local>(l: &L, c: &Chan) -> bool
 }
 
 // Whether a process of which this came has ended.
-fn is_ended<L>(below: &Below<L>) -> bool
-    ensures { (l : L) → result ≡ has_ended (node l below.now) }
+fn is_ended<L>(status: &NodeStatus<L>) -> bool
+    ensures { (l : L) → result ≡ has_ended (node l status.now) }
 {
-    match below {
-        Below::Ended => true,
-        Below::Live | Below::Dead(_) | Below::Forked(_, _) => false,
+    match status {
+        NodeStatus::Ended => true,
+        NodeStatus::Live | NodeStatus::Dead(_) | NodeStatus::Forked(_, _) => false,
     }
 }
 
 /// Whether the child in this place has ended, given what came of the children.
-pub(crate) fn is_ended_at<L>(belows: &[Below<L>], i: usize) -> bool
-    ensures { (l : L) → result ≡ has_ended (place l (nodes belows.now) i) }
+pub(crate) fn is_ended_at<L>(statuses: &[NodeStatus<L>], i: usize) -> bool
+    ensures { (l : L) → result ≡ has_ended (place l (nodes statuses.now) i) }
 {
-    if i < belows.len() {
-        is_ended(&belows[i])
+    if i < statuses.len() {
+        is_ended(&statuses[i])
     } else {
         false
     }
 }
 
 // Whether the child in this place shares the channel and hasn't ended.
-fn is_concerned<L: Local>(child: &L, belows: &[Below<L>], i: usize, c: &Chan) -> bool
-    ensures { result ≡ L.ops.shares child.now c.now.channel && not (has_ended (place child.now (nodes belows.now) i)) }
+fn is_concerned<L: Local>(child: &L, statuses: &[NodeStatus<L>], i: usize, c: &Chan) -> bool
+    ensures { result ≡ L.ops.shares child.now c.now.channel && not (has_ended (place child.now (nodes statuses.now) i)) }
 {
-    child.shares(c) && !is_ended_at(belows, i)
+    child.shares(c) && !is_ended_at(statuses, i)
 }
 
 /// Whether the process waits at the channel, or has forked and each of its children that shares the
 /// channel and hasn't ended is ready on it, and there is one.
-pub(crate) fn is_ready<L: Local>(l: &L, below: &Below<L>, c: &Chan) -> bool
-    ensures { result ≡ ready L.ops c.now.channel (node l.now below.now) }
+pub(crate) fn is_ready<L: Local>(l: &L, status: &NodeStatus<L>, c: &Chan) -> bool
+    ensures { result ≡ ready L.ops c.now.channel (node l.now status.now) }
 {
-    match below {
-        Below::Live => waits_at(l, c),
-        Below::Ended | Below::Dead(_) => false,
-        Below::Forked(children, belows) => {
+    match status {
+        NodeStatus::Live => waits_at(l, c),
+        NodeStatus::Ended | NodeStatus::Dead(_) => false,
+        NodeStatus::Forked(children, statuses) => {
             let mut any = false;
             for i in 0..children.len() {
                 let child = &children[i];
-                if is_concerned(child, belows.as_slice(), i, c) {
-                    let ready = if i < belows.len() {
-                        is_ready(child, &belows[i], c)
+                if is_concerned(child, statuses.as_slice(), i, c) {
+                    let ready = if i < statuses.len() {
+                        is_ready(child, &statuses[i], c)
                     } else {
                         waits_at(child, c)
                     };

@@ -1,10 +1,10 @@
 // What a meeting reads of a tree, and what it leaves.
 ghost use Rattle.std.specs.Prelude.{◌≡◌, cond, unwrap_or};
-ghost use Rattle.shim_meaning.specs.Nodes.{is_next, received, source, value_of, next_of, name_at, first_name};
-ghost use Rattle.shim_tree.specs.Below.{node};
+ghost use Rattle.shim_semantics.specs.Nodes.{is_next, received, source, value_of, next_of, name_at, first_name};
+ghost use Rattle.shim_tree.specs.NodeStatus.{node};
 ghost use Rattle.shim_tree.specs.Meeting.{valued, value_carried};
 
-use crate::below::Below;
+use crate::node_status::NodeStatus;
 use crate::ready::waits_at;
 use shim_base::Chan;
 use shim_local::{Local, Stop};
@@ -19,16 +19,21 @@ fn receive_here<L: Local>(process: &mut L, chan: &Chan, value: i64)
 }
 
 /// Each live process here and below that stands at the channel receives the value.
-pub(crate) fn receive_at<L: Local>(process: &mut L, below: &mut Below<L>, chan: &Chan, value: i64)
-    ensures { node process.new below.new ≡ received L.ops chan.now.channel value (node process.old below.old) }
+pub(crate) fn receive_at<L: Local>(
+    process: &mut L,
+    status: &mut NodeStatus<L>,
+    chan: &Chan,
+    value: i64,
+)
+    ensures { node process.new status.new ≡ received L.ops chan.now.channel value (node process.old status.old) }
 {
-    match below {
-        Below::Live => receive_here(process, chan, value),
-        Below::Ended | Below::Dead(_) => {}
-        Below::Forked(processes, belows) => {
+    match status {
+        NodeStatus::Live => receive_here(process, chan, value),
+        NodeStatus::Ended | NodeStatus::Dead(_) => {}
+        NodeStatus::Forked(processes, statuses) => {
             for i in 0..processes.len() {
-                if i < belows.len() {
-                    receive_at(&mut processes[i], &mut belows[i], chan, value);
+                if i < statuses.len() {
+                    receive_at(&mut processes[i], &mut statuses[i], chan, value);
                 } else {
                     receive_here(&mut processes[i], chan, value);
                 }
@@ -49,19 +54,19 @@ fn value_here<L: Local>(process: &L, chan: &Chan) -> Option<i64>
 }
 
 // The value of the channel at the first process here or below that carries it.
-fn value_at<L: Local>(process: &L, below: &Below<L>, chan: &Chan) -> Option<i64>
-    ensures { result ≡ valued L.ops chan.now.channel (source L.ops chan.now.channel (node process.now below.now)) }
+fn value_at<L: Local>(process: &L, status: &NodeStatus<L>, chan: &Chan) -> Option<i64>
+    ensures { result ≡ valued L.ops chan.now.channel (source L.ops chan.now.channel (node process.now status.now)) }
 {
     let here = value_here(process, chan);
     if here.is_some() {
         return here;
     }
-    match below {
-        Below::Live | Below::Ended | Below::Dead(_) => None,
-        Below::Forked(processes, belows) => {
+    match status {
+        NodeStatus::Live | NodeStatus::Ended | NodeStatus::Dead(_) => None,
+        NodeStatus::Forked(processes, statuses) => {
             for i in 0..processes.len() {
-                let found = if i < belows.len() {
-                    value_at(&processes[i], &belows[i], chan)
+                let found = if i < statuses.len() {
+                    value_at(&processes[i], &statuses[i], chan)
                 } else {
                     value_here(&processes[i], chan)
                 };
@@ -75,10 +80,10 @@ fn value_at<L: Local>(process: &L, below: &Below<L>, chan: &Chan) -> Option<i64>
 }
 
 /// The value that a meeting on the channel gives: that of its source, and 0 where there is none.
-pub(crate) fn value_met<L: Local>(process: &L, below: &Below<L>, chan: &Chan) -> i64
-    ensures { result ≡ value_of L.ops chan.now.channel (source L.ops chan.now.channel (node process.now below.now)) }
+pub(crate) fn value_met<L: Local>(process: &L, status: &NodeStatus<L>, chan: &Chan) -> i64
+    ensures { result ≡ value_of L.ops chan.now.channel (source L.ops chan.now.channel (node process.now status.now)) }
 {
-    value_at(process, below, chan).unwrap_or(0)
+    value_at(process, status, chan).unwrap_or(0)
 }
 
 // The name that the process has for the channel, where it stands there.
@@ -103,16 +108,16 @@ fn name_here<L: Local>(process: &L, chan: &Chan) -> Option<u32>
 }
 
 // The name that the first live process which stands at the channel has for it.
-fn name_at<L: Local>(process: &L, below: &Below<L>, chan: &Chan) -> Option<u32>
-    ensures { result ≡ first_name L.ops chan.now.channel (node process.now below.now) }
+fn name_at<L: Local>(process: &L, status: &NodeStatus<L>, chan: &Chan) -> Option<u32>
+    ensures { result ≡ first_name L.ops chan.now.channel (node process.now status.now) }
 {
-    match below {
-        Below::Live => name_here(process, chan),
-        Below::Ended | Below::Dead(_) => None,
-        Below::Forked(processes, belows) => {
+    match status {
+        NodeStatus::Live => name_here(process, chan),
+        NodeStatus::Ended | NodeStatus::Dead(_) => None,
+        NodeStatus::Forked(processes, statuses) => {
             for i in 0..processes.len() {
-                let found = if i < belows.len() {
-                    name_at(&processes[i], &belows[i], chan)
+                let found = if i < statuses.len() {
+                    name_at(&processes[i], &statuses[i], chan)
                 } else {
                     name_here(&processes[i], chan)
                 };
@@ -126,8 +131,8 @@ fn name_at<L: Local>(process: &L, below: &Below<L>, chan: &Chan) -> Option<u32>
 }
 
 /// The name by which a meeting on the channel is printed, and 0 where no process stands there.
-pub(crate) fn name_met<L: Local>(process: &L, below: &Below<L>, chan: &Chan) -> u32
-    ensures { result ≡ unwrap_or (first_name L.ops chan.now.channel (node process.now below.now)) 0 }
+pub(crate) fn name_met<L: Local>(process: &L, status: &NodeStatus<L>, chan: &Chan) -> u32
+    ensures { result ≡ unwrap_or (first_name L.ops chan.now.channel (node process.now status.now)) 0 }
 {
-    name_at(process, below, chan).unwrap_or(0)
+    name_at(process, status, chan).unwrap_or(0)
 }

@@ -1,17 +1,17 @@
 // The first event of the walk from a process, lent out of the states.
 ghost use Rattle.std.specs.Prelude.{◌≡◌, None, IfOk};
 ghost use Rattle.std.specs.Option.{option_copied, option_map};
-ghost use Rattle.shim_meaning.specs.Nodes.{Forked, goes, all_done, ready};
-ghost use Rattle.shim_tree.specs.Below.{node, nodes, together, event_of};
+ghost use Rattle.shim_semantics.specs.Nodes.{Forked, goes, all_done, ready};
+ghost use Rattle.shim_tree.specs.NodeStatus.{node, nodes, together, event_of};
 ghost use Rattle.shim_tree.specs.Beside.{place};
-ghost use Rattle.shim_meaning.specs.Walks.{as_list, head, own_events, here, waited, poisons_of, walk};
-ghost use Rattle.shim_meaning.specs.Endings.{is_empty};
+ghost use Rattle.shim_semantics.specs.Walks.{as_list, head, own_events, here, waited, poisons_of, walk};
+ghost use Rattle.shim_semantics.specs.Endings.{is_empty};
 ghost use Rattle.shim_tree.specs.Finding.{channel_in, or_sooner, least, found_event};
 ghost use Rattle.shim_tree.specs.Searching.{passes};
 
-use crate::below::Below;
 use crate::doom::is_doomed;
 use crate::event::Event;
+use crate::node_status::NodeStatus;
 use crate::ready::{is_ready, stands_at, waits_at};
 use shim_base::{Chan, NoMemory, Path};
 use shim_local::{Local, Stop};
@@ -45,10 +45,10 @@ impl Found<'_> {
 #[derive(Drop)]
 pub(crate) enum Test<'a, L> {
     /// This process, which has forked, declared the channel and is ready on it.
-    Meets(&'a L, &'a Below<L>),
+    Meets(&'a L, &'a NodeStatus<L>),
     /// Of these children of a process the one in this place, which is given, too, is ready on the
     /// channel and doomed on it.
-    Poisons(&'a L, &'a [L], &'a [Below<L>], usize, &'a L),
+    Poisons(&'a L, &'a [L], &'a [NodeStatus<L>], usize, &'a L),
 }
 
 /// What a live process can do: a step of its own, its end, or the meeting at which it stands, if it
@@ -72,32 +72,32 @@ pub(crate) fn own_event<L: Local>(l: &L) -> Option<Found<'_>>
 }
 
 // Whether a process of which this came has neither ended nor died.
-fn is_going<L>(below: &Below<L>) -> bool
-    ensures { (l : L) → result ≡ goes (node l below.now) }
+fn is_going<L>(status: &NodeStatus<L>) -> bool
+    ensures { (l : L) → result ≡ goes (node l status.now) }
 {
-    match below {
-        Below::Live | Below::Forked(_, _) => true,
-        Below::Ended | Below::Dead(_) => false,
+    match status {
+        NodeStatus::Live | NodeStatus::Forked(_, _) => true,
+        NodeStatus::Ended | NodeStatus::Dead(_) => false,
     }
 }
 
-// The same of the child in this place, given what came of the children.
-fn is_going_at<L>(belows: &[Below<L>], i: usize) -> bool
-    ensures { (l : L) → result ≡ goes (place l (nodes belows.now) i) }
+// Whether the child in this place has neither ended nor died, given what came of the children.
+fn is_going_at<L>(statuses: &[NodeStatus<L>], i: usize) -> bool
+    ensures { (l : L) → result ≡ goes (place l (nodes statuses.now) i) }
 {
-    if i < belows.len() {
-        is_going(&belows[i])
+    if i < statuses.len() {
+        is_going(&statuses[i])
     } else {
         true
     }
 }
 
 /// Whether each of these children has ended or died.
-pub(crate) fn are_done<L>(children: &[L], belows: &[Below<L>]) -> bool
-    ensures { result ≡ all_done (together children.now (nodes belows.now)) }
+pub(crate) fn are_done<L>(children: &[L], statuses: &[NodeStatus<L>]) -> bool
+    ensures { result ≡ all_done (together children.now (nodes statuses.now)) }
 {
     for i in 0..children.len() {
-        if is_going_at(belows, i) {
+        if is_going_at(statuses, i) {
             return false;
         }
     }
@@ -105,11 +105,11 @@ pub(crate) fn are_done<L>(children: &[L], belows: &[Below<L>]) -> bool
 }
 
 // Whether the child in this place is ready on the channel.
-fn is_ready_at<L: Local>(child: &L, belows: &[Below<L>], i: usize, c: &Chan) -> bool
-    ensures { result ≡ ready L.ops c.now.channel (place child.now (nodes belows.now) i) }
+fn is_ready_at<L: Local>(child: &L, statuses: &[NodeStatus<L>], i: usize, c: &Chan) -> bool
+    ensures { result ≡ ready L.ops c.now.channel (place child.now (nodes statuses.now) i) }
 {
-    if i < belows.len() {
-        is_ready(child, &belows[i], c)
+    if i < statuses.len() {
+        is_ready(child, &statuses[i], c)
     } else {
         waits_at(child, c)
     }
@@ -121,9 +121,9 @@ pub(crate) fn is_passing<L: Local>(test: &Test<'_, L>, c: &Chan) -> bool
 {
     match test {
         Test::Meets(home, fork) => c.home() == home.path() && is_ready(*home, *fork, c),
-        Test::Poisons(l, children, belows, i, child) => {
-            is_ready_at(*child, *belows, *i, c)
-                && is_doomed(*children, *belows, *i, c, l.handlers())
+        Test::Poisons(l, children, statuses, i, child) => {
+            is_ready_at(*child, *statuses, *i, c)
+                && is_doomed(*children, *statuses, *i, c, l.handlers())
         }
     }
 }
@@ -163,20 +163,20 @@ fn with_one<'a, L: Local>(
 // `l`, and the best until now. One look at each of them suffices.
 fn least_below<'a, L: Local>(
     l: &'a L,
-    below: &'a Below<L>,
+    status: &'a NodeStatus<L>,
     test: &Test<'_, L>,
     best: Option<&'a Chan>,
 ) -> Option<&'a Chan>
-    ensures { channel_in (option_copied result) ≡ least (passes L.ops test.now) (channel_in (option_copied best.entry)) (waited L.ops (node l.now below.now)) }
+    ensures { channel_in (option_copied result) ≡ least (passes L.ops test.now) (channel_in (option_copied best.entry)) (waited L.ops (node l.now status.now)) }
 {
-    match below {
-        Below::Live => with_one(test, stands_at(l), best),
-        Below::Ended | Below::Dead(_) => best,
-        Below::Forked(children, belows) => {
+    match status {
+        NodeStatus::Live => with_one(test, stands_at(l), best),
+        NodeStatus::Ended | NodeStatus::Dead(_) => best,
+        NodeStatus::Forked(children, statuses) => {
             let mut found = best;
             for i in 0..children.len() {
-                if i < belows.len() {
-                    found = least_below(&children[i], &belows[i], test, found);
+                if i < statuses.len() {
+                    found = least_below(&children[i], &statuses[i], test, found);
                 } else {
                     found = with_one(test, stands_at(&children[i]), found);
                 }
@@ -186,17 +186,18 @@ fn least_below<'a, L: Local>(
     }
 }
 
-// The same of the child in this place, with nothing until now.
+// The first in order of the channels that pass, of those at which live processes stand at and below the
+// child in this place.
 fn least_at<'a, L: Local>(
     child: &'a L,
-    belows: &'a [Below<L>],
+    statuses: &'a [NodeStatus<L>],
     i: usize,
     test: &Test<'_, L>,
 ) -> Option<&'a Chan>
-    ensures { channel_in (option_copied result) ≡ least (passes L.ops test.now) None (waited L.ops (place child.now (nodes belows.now) i)) }
+    ensures { channel_in (option_copied result) ≡ least (passes L.ops test.now) None (waited L.ops (place child.now (nodes statuses.now) i)) }
 {
-    if i < belows.len() {
-        least_below(child, &belows[i], test, None)
+    if i < statuses.len() {
+        least_below(child, &statuses[i], test, None)
     } else {
         with_one(test, stands_at(child), None)
     }
@@ -206,18 +207,18 @@ fn least_at<'a, L: Local>(
 // meeting of the first of the channels that it declared and on which it is ready.
 fn found_here<'a, L: Local>(
     l: &'a L,
-    below: &'a Below<L>,
+    status: &'a NodeStatus<L>,
     children: &'a [L],
-    belows: &'a [Below<L>],
+    statuses: &'a [NodeStatus<L>],
 ) -> Option<Found<'a>>
-    requires { node l.now below.now ≡ Forked l.now (together children.now (nodes belows.now)) }
-    ensures { option_map found_event result ≡ head (here L.ops (node l.now below.now)) }
+    requires { node l.now status.now ≡ Forked l.now (together children.now (nodes statuses.now)) }
+    ensures { option_map found_event result ≡ head (here L.ops (node l.now status.now)) }
 {
-    if are_done(children, belows) {
+    if are_done(children, statuses) {
         return Some(Found::Close(l.path()));
     }
-    let test = Test::Meets(l, below);
-    match least_below(l, below, &test, None) {
+    let test = Test::Meets(l, status);
+    match least_below(l, status, &test, None) {
         Some(c) => Some(Found::Meet(c)),
         None => None,
     }
@@ -228,14 +229,14 @@ fn found_here<'a, L: Local>(
 fn poison_of<'a, L: Local>(
     l: &'a L,
     children: &'a [L],
-    belows: &'a [Below<L>],
+    statuses: &'a [NodeStatus<L>],
     i: usize,
     child: &'a L,
 ) -> Option<Found<'a>>
-    ensures { option_map found_event result ≡ head (poisons_of L.ops l.now (together children.now (nodes belows.now)) i (place child.now (nodes belows.now) i)) }
+    ensures { option_map found_event result ≡ head (poisons_of L.ops l.now (together children.now (nodes statuses.now)) i (place child.now (nodes statuses.now) i)) }
 {
-    let test = Test::Poisons(l, children, belows, i, child);
-    match least_at(child, belows, i, &test) {
+    let test = Test::Poisons(l, children, statuses, i, child);
+    match least_at(child, statuses, i, &test) {
         Some(c) => Some(Found::Poison(child.path(), c)),
         None => None,
     }
@@ -245,16 +246,16 @@ fn poison_of<'a, L: Local>(
 ///
 /// At a fork that is what the process there can do first, and else the first event of a child: its
 /// poison, or the first event of the walk from it.
-pub(crate) fn found_first<'a, L: Local>(l: &'a L, below: &'a Below<L>) -> Option<Found<'a>>
-    ensures { option_map found_event result ≡ head (walk L.ops (node l.now below.now)) }
+pub(crate) fn found_first<'a, L: Local>(l: &'a L, status: &'a NodeStatus<L>) -> Option<Found<'a>>
+    ensures { option_map found_event result ≡ head (walk L.ops (node l.now status.now)) }
 {
-    match below {
-        Below::Live => own_event(l),
-        Below::Ended | Below::Dead(_) => None,
-        Below::Forked(children, belows) => {
+    match status {
+        NodeStatus::Live => own_event(l),
+        NodeStatus::Ended | NodeStatus::Dead(_) => None,
+        NodeStatus::Forked(children, statuses) => {
             let states = children.as_slice();
-            let came = belows.as_slice();
-            let at_fork = found_here(l, below, states, came);
+            let came = statuses.as_slice();
+            let at_fork = found_here(l, status, states, came);
             let acts = at_fork.is_some();
             if acts {
                 return at_fork;
@@ -266,8 +267,8 @@ pub(crate) fn found_first<'a, L: Local>(l: &'a L, below: &'a Below<L>) -> Option
                 if poisoned {
                     return poison;
                 }
-                let found = if i < belows.len() {
-                    found_first(child, &belows[i])
+                let found = if i < statuses.len() {
+                    found_first(child, &statuses[i])
                 } else {
                     own_event(child)
                 };
@@ -281,8 +282,8 @@ pub(crate) fn found_first<'a, L: Local>(l: &'a L, below: &'a Below<L>) -> Option
 }
 
 /// Whether nothing can happen at this process and below it. It takes no memory.
-pub(crate) fn is_quiescent<L: Local>(l: &L, below: &Below<L>) -> bool
-    ensures { result ≡ is_empty (walk L.ops (node l.now below.now)) }
+pub(crate) fn is_quiescent<L: Local>(l: &L, status: &NodeStatus<L>) -> bool
+    ensures { result ≡ is_empty (walk L.ops (node l.now status.now)) }
 {
-    found_first(l, below).is_none()
+    found_first(l, status).is_none()
 }

@@ -1,27 +1,27 @@
 // A tree of processes.
 ghost use Rattle.std.specs.Prelude.{◌≡◌, ◌≢◌, ◌<◌, ◌≤◌, ◌+◌, ◌^◌, ◌↔◌, ◌⊎◌, true, Some, None, IfOk, OnOk, OnErr, IfSome, IsTrue, map, []};
 ghost use Rattle.std.specs.Option.{option_map, option_copied};
-ghost use Rattle.shim_meaning.specs.Trees as trees;
-ghost use Rattle.shim_meaning.specs.Trees.{after, steps, IsQuiescent, sum, own, other, silently, poisons, met};
-ghost use Rattle.shim_meaning.specs.Walks as walks;
-ghost use Rattle.shim_meaning.specs.Endings as endings;
-ghost use Rattle.shim_meaning.specs.Sound.{SharesItsOwn, IsSound};
-ghost use Rattle.shim_meaning.specs.Listing.{AreEnabled};
-ghost use Rattle.shim_tree.specs.Below.{event_of};
-ghost use Rattle.shim_meaning.specs.Nodes.{source, value_of};
-ghost use Rattle.shim_meaning.specs.Places.{led_to, has_path};
+ghost use Rattle.shim_semantics.specs.Trees as trees;
+ghost use Rattle.shim_semantics.specs.Trees.{after, steps, IsQuiescent, sum, count_own, count_event, change_nodes, poisons, met};
+ghost use Rattle.shim_semantics.specs.Walks as walks;
+ghost use Rattle.shim_semantics.specs.Endings as endings;
+ghost use Rattle.shim_semantics.specs.Sound.{SharesItsOwn, IsSound};
+ghost use Rattle.shim_semantics.specs.Listing.{AreEnabled};
+ghost use Rattle.shim_tree.specs.NodeStatus.{event_of};
+ghost use Rattle.shim_semantics.specs.Nodes.{source, value_of};
+ghost use Rattle.shim_semantics.specs.Places.{led_to, has_path};
 ghost use Rattle.shim_tree.specs.Acting.{acted_on};
-ghost use Rattle.shim_meaning.specs.Quiets.{quiet_at, ComesBy, Advances};
+ghost use Rattle.shim_semantics.specs.Quiets.{quiet_at, ComesBy, Advances};
 ghost use Rattle.shim_local.specs.declared.Outcome.TheVariants.{Spent};
 ghost use Rattle.std.specs.FinMap as finite;
 
 use crate::advance::swap_on;
-use crate::below::Below;
 use crate::counts::Counts;
-use crate::doing::do_alone;
 use crate::event::Event;
 use crate::histories::Histories;
 use crate::listing;
+use crate::node_status::NodeStatus;
+use crate::own_step::own_step;
 use crate::poison::poison_on;
 use crate::quiet::quiet_from;
 use crate::reading::{logs_by_path, outcome_of, waits_of};
@@ -38,7 +38,7 @@ use std::marker::Model;
 #[derive(Drop)]
 pub struct Tree<L: Local> {
     pub(crate) root: L,
-    pub(crate) below: Below<L>,
+    pub(crate) status: NodeStatus<L>,
     pub(crate) output: Vec<u8>,
     pub(crate) histories: Histories,
     /// In the order of the events.
@@ -48,20 +48,20 @@ pub struct Tree<L: Local> {
 }
 
 impl<L: Local> Model for Tree<L> {
-    ghost use Rattle.shim_meaning.specs.Trees as trees;
-    ghost use Rattle.shim_meaning.specs.Codes.{tree_code};
-    ghost use Rattle.shim_tree.specs.Below.{node};
-    ghost use Rattle.shim_meaning.specs.Sound.{IsSound};
-    ghost use Rattle.shim_tree.specs.Advancing.{stepped, AllHavePlaces};
+    ghost use Rattle.shim_semantics.specs.Trees as trees;
+    ghost use Rattle.shim_semantics.specs.Codes.{tree_code};
+    ghost use Rattle.shim_tree.specs.NodeStatus.{node};
+    ghost use Rattle.shim_semantics.specs.Sound.{IsSound};
+    ghost use Rattle.shim_tree.specs.Advancing.{stepped, AllHaveCounts};
     ghost use Rattle.shim_tree.specs.Telling.{logged};
 
     ghost Value = { trees.Tree L };
 
     ghost coded = { tree_code L.code };
 
-    ghost view = { λ t. record { root = node t.root t.below; output = t.output.items; histories = t.histories; logs = logged t.logs.items; counts = stepped t.counts; events = t.events } };
+    ghost view = { λ t. record { root = node t.root t.status; output = t.output.items; histories = t.histories; logs = logged t.logs.items; counts = stepped t.counts; events = t.events } };
 
-    ghost invariant = { λ t. IsSound L.ops (node t.root t.below) × AllHavePlaces L.ops t.counts (node t.root t.below) };
+    ghost invariant = { λ t. IsSound L.ops (node t.root t.status) × AllHaveCounts L.ops t.counts (node t.root t.status) };
 }
 
 impl<L: Local> Tree<L> {
@@ -72,10 +72,10 @@ impl<L: Local> Tree<L> {
         ensures fresh { IfOk result (λ tree. steps tree ≡ 0) }
     {
         let mut counts = Counts::new(alloc);
-        counts.place(root.path())?;
+        counts.reserve(root.path())?;
         Ok(Tree {
             root,
-            below: Below::Live,
+            status: NodeStatus::Live,
             output: Vec::new(alloc),
             histories: Histories::new(alloc),
             logs: Vec::new(alloc),
@@ -89,7 +89,7 @@ impl<L: Local> Tree<L> {
         ensures walk { IfOk result (λ events. map event_of events ≡ walks.walk L.ops self.now.root) }
         ensures exactly { IfOk result (λ events. AreEnabled L.ops self.now (map event_of events)) }
     {
-        listing::enabled(*self.output.allocator(), &self.root, &self.below)
+        listing::enabled(*self.output.allocator(), &self.root, &self.status)
     }
 
     /// The first of them. `None` exactly where no event is enabled.
@@ -98,7 +98,7 @@ impl<L: Local> Tree<L> {
         ensures none { IfOk result (λ event. (event ≡ None) ↔ IsQuiescent L.ops self.now) }
         ensures enabled { IfOk result (λ event. IfSome event (λ e. after L.ops (event_of e) self.now ≢ None)) }
     {
-        match found_first(&self.root, &self.below) {
+        match found_first(&self.root, &self.status) {
             None => Ok(None),
             Some(found) => {
                 let event = found.to_event()?;
@@ -124,7 +124,7 @@ impl<L: Local> Tree<L> {
         ensures rests { IsTrue result ↔ IsQuiescent L.ops self.now }
         ensures sound { IsSound L.ops self.now.root }
     {
-        is_quiescent(&self.root, &self.below)
+        is_quiescent(&self.root, &self.status)
     }
 
     /// The live process that has this number, from 0, among those that stand before a quiet step, from
@@ -132,7 +132,7 @@ impl<L: Local> Tree<L> {
     pub fn at_quiet(&self, at: usize) -> Option<&L>
         ensures { option_copied result ≡ quiet_at L.ops at self.now }
     {
-        quiet_from(&self.root, &self.below, at)
+        quiet_from(&self.root, &self.status, at)
     }
 
     /// So many quiet steps of one process happen at once; this is its state after them. It takes no
@@ -144,7 +144,7 @@ impl<L: Local> Tree<L> {
     {
         let mut state = last;
         self.counts.add(state.path(), steps);
-        swap_on(&mut self.root, &mut self.below, &mut state);
+        swap_on(&mut self.root, &mut self.status, &mut state);
     }
 
     /// The values that the meetings on the channel gave, if it had one; it lends no empty list. It takes
@@ -163,7 +163,7 @@ impl<L: Local> Tree<L> {
         ensures ended { IfOk result (λ ended. ended ≡ endings.ended L.ops self.now) }
         ensures spent { IfOk result (λ ended. (ended.outcome ≡ Spent) ↔ (IsQuiescent L.ops self.now → ⊥)) }
     {
-        self.ended_of(is_quiescent(&self.root, &self.below))
+        self.ended_of(is_quiescent(&self.root, &self.status))
     }
 
     // What is read off a tree that is quiescent or not.
@@ -173,12 +173,12 @@ impl<L: Local> Tree<L> {
         ensures { IfOk result (λ ended. ended ≡ endings.ended L.ops self.now) }
     {
         let alloc = *self.output.allocator();
-        let outcome = outcome_of(&self.below, quiescent);
+        let outcome = outcome_of(&self.status, quiescent);
         Ok(Ended {
             output: List::from_slice(alloc, self.output.as_slice())?,
             histories: self.histories.list(alloc)?,
             logs: logs_by_path(alloc, self.logs.as_slice())?,
-            waits: waits_of(alloc, &self.root, &self.below, outcome)?,
+            waits: waits_of(alloc, &self.root, &self.status, outcome)?,
             own: self.counts.list(alloc)?,
             events: self.events,
             steps: self.counts.total() + self.events,
@@ -206,12 +206,12 @@ impl<L: Local> Tree<L> {
         requires acts { acted_on L.ops path.now self.old.root ≢ None }
         requires its { has_path L.ops path.now (led_to L.ops self.old.root path.now) ≡ true }
         requires few { sum (finite.values self.old.counts) < 4000000 }
-        ensures ok { OnOk result (own path.now self.old (acted_on L.ops path.now self.old.root) ≡ Some self.new) }
+        ensures ok { OnOk result (count_own path.now self.old (acted_on L.ops path.now self.old.root) ≡ Some self.new) }
         ensures err { OnErr result (self.new ≡ self.old) }
     {
-        do_alone(
+        own_step(
             &mut self.root,
-            &mut self.below,
+            &mut self.status,
             &mut self.output,
             &mut self.logs,
             &mut self.counts,
@@ -225,12 +225,12 @@ impl<L: Local> Tree<L> {
     fn change(&mut self, path: &Path) -> Result<(), NoMemory>
         requires acts { acted_on L.ops path.now self.old.root ≢ None }
         requires few { self.old.events < 4000000 }
-        ensures ok { OnOk result (other path.now self.old (acted_on L.ops path.now self.old.root) ≡ Some self.new) }
+        ensures ok { OnOk result (count_event path.now self.old (acted_on L.ops path.now self.old.root) ≡ Some self.new) }
         ensures err { OnErr result (self.new ≡ self.old) }
     {
-        do_alone(
+        own_step(
             &mut self.root,
-            &mut self.below,
+            &mut self.status,
             &mut self.output,
             &mut self.logs,
             &mut self.counts,
@@ -246,10 +246,10 @@ impl<L: Local> Tree<L> {
         ensures ok { OnOk result (self.new ≡ met L.ops chan.now.channel (value_of L.ops chan.now.channel (source L.ops chan.now.channel self.old.root)) self.old) }
         ensures err { OnErr result (self.new ≡ self.old) }
     {
-        let value = value_met(&self.root, &self.below, chan);
-        let name = name_met(&self.root, &self.below, chan);
+        let value = value_met(&self.root, &self.status, chan);
+        let name = name_met(&self.root, &self.status, chan);
         self.histories.record(chan, name, value)?;
-        receive_at(&mut self.root, &mut self.below, chan, value);
+        receive_at(&mut self.root, &mut self.status, chan, value);
         self.events += 1;
         Ok(())
     }
@@ -258,10 +258,10 @@ impl<L: Local> Tree<L> {
     fn poison(&mut self, path: &Path, chan: &Chan) -> Result<(), NoMemory>
         requires enabled { poisons L.ops path.now chan.now.channel self.old.root ≢ None }
         requires few { self.old.events < 4000000 }
-        ensures ok { OnOk result (silently self.old (poisons L.ops path.now chan.now.channel self.old.root) ≡ Some self.new) }
+        ensures ok { OnOk result (change_nodes self.old (poisons L.ops path.now chan.now.channel self.old.root) ≡ Some self.new) }
         ensures err { OnErr result (self.new ≡ self.old) }
     {
-        poison_on(&self.root, &mut self.below, path, chan)?;
+        poison_on(&self.root, &mut self.status, path, chan)?;
         self.events += 1;
         Ok(())
     }

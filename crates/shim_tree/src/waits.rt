@@ -1,7 +1,7 @@
 // The processes that wait, by path.
 ghost use Rattle.std.specs.Prelude.{◌≡◌, OnOk, IfOk, map};
 ghost use Rattle.std.specs.FinMap as finite;
-ghost use Rattle.shim_meaning.specs.Endings.{wait_at};
+ghost use Rattle.shim_semantics.specs.Endings.{wait_at};
 ghost use Rattle.shim_tree.specs.Readings.{with_wait};
 
 use shim_base::{Chan, List, NoMemory, Path};

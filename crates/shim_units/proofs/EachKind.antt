@@ -10,7 +10,7 @@ use Rattle.shim_units.specs.declared.unit.UStmt.{UStmt}
 use Rattle.shim_units.specs.declared.unit.UWhat.{UWhat}
 use Rattle.shim_units.specs.declared.unit.UBranch.{UBranch}
 use Rattle.shim_units.specs.Parts.{Part}
-use Rattle.shim_units.specs.Meaning.{branch_what_step, what_step, branch_step, stmt_step, in_line, part, parts, branch_parts}
+use Rattle.shim_units.specs.PartFold.{branch_what_step, what_step, branch_step, stmt_step, in_line, part, parts, branch_parts}
 
 -- what a statement of a line does, in its line
 abbrev pub at_line : ℕ → Part UWhat → Part UStmt

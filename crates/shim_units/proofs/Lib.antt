@@ -1,4 +1,6 @@
 -- The lemmas of this crate.
+pub mod Counting
+pub mod PartSteps
 pub mod EachKind
-pub mod Marks
+pub mod Usages
 pub mod Sends

@@ -9,22 +9,22 @@ use Rattle.shim_units.specs.declared.unit.Arg.{Arg}
 use Rattle.shim_units.specs.declared.unit.Arg.TheVariants.{Ref, Pass, Fresh}
 use Rattle.shim_units.specs.declared.unit.UCall.{UCall}
 use Rattle.shim_units.specs.Calls.{bare, lends_first, behind_first, params_at}
-use Rattle.shim_units.specs.declared.within.Within.{Within}
+use Rattle.shim_units.specs.declared.slot_map.SlotMap.{SlotMap}
 
 abbrev pub position_else : ℕ → Option ℕ → ℕ
 position_else n None = n
 position_else n (Some at) = at
 
 -- the number that one of the function's has among those that a unit has
-unfoldable pub place_of : List ℕ → ℕ → ℕ
-place_of all x = position_else (length all) (position (λ y. nat_eq y x) all)
+unfoldable pub slot_index_of : List ℕ → ℕ → ℕ
+slot_index_of all x = position_else (length all) (position (λ y. nat_eq y x) all)
 
-abbrev pub places_of : List ℕ → List ℕ → List ℕ
-places_of all xs = map (place_of all) xs
+abbrev pub slot_indices_of : List ℕ → List ℕ → List ℕ
+slot_indices_of all xs = map (slot_index_of all) xs
 
 abbrev pub moved_step : List ℕ → UExpr-F UExpr → UExpr
 moved_step slots (UExpr-F.Number n) = Number n
-moved_step slots (UExpr-F.Var x) = Var (place_of slots x)
+moved_step slots (UExpr-F.Var x) = Var (slot_index_of slots x)
 moved_step slots (UExpr-F.Unary op a) = Unary op a
 moved_step slots (UExpr-F.Binary op a b) = Binary op a b
 
@@ -42,7 +42,7 @@ by_mode false x = Pass x
 
 abbrev pub arg_of : List ℕ → Bool → Option ℕ → UExpr → Arg
 arg_of slots lent None e = Fresh (moved slots e)
-arg_of slots lent (Some x) e = by_mode lent (place_of slots x)
+arg_of slots lent (Some x) e = by_mode lent (slot_index_of slots x)
 
 -- a bare variable goes by reference or by value as its parameter has it, and anything else is computed
 abbrev pub args_of : List ℕ → List UParam → List UExpr → List Arg
@@ -50,9 +50,9 @@ args_of slots ps [] = []
 args_of slots ps (e ∷ es) = arg_of slots (lends_first ps) (bare e) e ∷ args_of slots (behind_first ps) es
 
 -- a call of a function in a unit
-abbrev pub moved_call : List RFunction → RCall → Within → UCall
+abbrev pub moved_call : List RFunction → RCall → SlotMap → UCall
 moved_call fs c w = record {
   unit = c.function;
   args = args_of w.slots (params_at fs c.function) c.args;
-  throws = places_of w.exceptions c.throws;
+  throws = slot_indices_of w.exceptions c.throws;
 }

@@ -15,7 +15,7 @@ pub record IsUnitsOfText (form : Form) : Type 0 where
   pub meant : lifted resolved ≡ form
 
 -- what is kept of them: that they are such units, that the numbers of their statements fit, and that `main` throws few exceptions
-pub record IsKept (form : Form) : Type 0 where
+pub record IsAcceptedForm (form : Form) : Type 0 where
   pub of_text : ∥ IsUnitsOfText form ∥₁
   pub fit : AreFit form.units
   pub few : length form.main_throws < 2 ^ 21

@@ -4,7 +4,7 @@ use Rattle.shim_scopes.specs.declared.tree.RFunction.{RFunction}
 use Rattle.shim_units.specs.declared.found.Use.{Use}
 use Rattle.shim_units.specs.declared.found.Given.{Given}
 use Rattle.shim_units.specs.declared.unit.Unit.{Unit as UnitOf}
-use Rattle.shim_units.specs.declared.within.Within.{Within}
+use Rattle.shim_units.specs.declared.slot_map.SlotMap.{SlotMap}
 
 -- a place that the sharing rule speaks of: a fork, with the uses of variables in each of its branches, or a call, with its arguments; each with its line
 pub data Place : Type 0 where
@@ -12,7 +12,7 @@ pub data Place : Type 0 where
   Called : ℕ → List Given → Place
 
 -- the function that a part stands in, with all functions of the program: its number, its name, and the number that the first unit lifted out of it has
-pub record Home : Type 0 where
+pub record LiftContext : Type 0 where
   pub functions : List RFunction
   pub function : RFunction
   pub number : ℕ
@@ -26,7 +26,7 @@ pub record Lifted (T : Type 0) : Type 0 where
 
 -- by the number of the next unit
 abbrev pub Lifts : Type 0 → Type 0
-Lifts T = Home → Within → ℕ → Lifted T
+Lifts T = LiftContext → SlotMap → ℕ → Lifted T
 
 -- What a part holds, in textual order: the uses of variables in it and the places that the sharing rule speaks of, by the functions that may be called; the exceptions that it throws or passes on; the variables that it declares and the exceptions of its `try` statements, without those in block branches; and its form in a unit.
 pub record Part (T : Type 0) : Type 0 where

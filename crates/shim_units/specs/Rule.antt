@@ -4,21 +4,21 @@ use Rattle.shim_syntax.specs.declared.tree.Sort.{Sort}
 use Rattle.shim_scopes.specs.declared.tree.RFunction.{RFunction}
 use Rattle.shim_scopes.specs.declared.form.Form.{Form as Resolved}
 use Rattle.shim_units.specs.declared.found.Given.{Given}
-use Rattle.shim_units.specs.Meaning.{places_in}
+use Rattle.shim_units.specs.PartFold.{places_in}
 use Rattle.shim_units.specs.Parts.{Place}
 use Rattle.shim_units.specs.Parts.Place.{Fork, Called}
-use Rattle.shim_units.specs.Taking.{Takes, takes, is_reference}
+use Rattle.shim_units.specs.Captures.{Captures, captures, is_reference}
 
 -- no variable is taken by reference by both
-abbrev pub AreDisjoint : Takes → Takes → Type 0
+abbrev pub AreDisjoint : Captures → Captures → Type 0
 AreDisjoint s t = (x : ℕ) → IsTrue (is_reference (s x)) → IsTrue (is_reference (t x)) → ⊥
 
-abbrev pub IsDisjointFromAll : Takes → List Takes → Type 0
+abbrev pub IsDisjointFromAll : Captures → List Captures → Type 0
 IsDisjointFromAll s [] = Unit {0}
 IsDisjointFromAll s (t ∷ ts) = AreDisjoint s t × IsDisjointFromAll s ts
 
 -- what the branches of a fork take by reference is pairwise disjoint
-abbrev pub ArePairwiseDisjoint : List Takes → Type 0
+abbrev pub ArePairwiseDisjoint : List Captures → Type 0
 ArePairwiseDisjoint [] = Unit {0}
 ArePairwiseDisjoint (t ∷ ts) = IsDisjointFromAll t ts × ArePairwiseDisjoint ts
 
@@ -36,7 +36,7 @@ abbrev pub GivesOnce : List Given → Type 0
 GivesOnce gs = (before : List Given) (g : Given) (after : List Given) (x : ℕ) → gs ≡ before ++ g ∷ after → IsTrue g.lent → g.bare ≡ Some x → IsTrue (stands_in x before || stands_in x after) → ⊥
 
 abbrev pub ObeysAt : List Sort → Place → Type 0
-ObeysAt sorts (Fork line branches) = ArePairwiseDisjoint (map (takes sorts) branches)
+ObeysAt sorts (Fork line branches) = ArePairwiseDisjoint (map (captures sorts) branches)
 ObeysAt sorts (Called line gs) = GivesOnce gs
 
 abbrev pub Obey : List Sort → List Place → Type 0

@@ -15,7 +15,7 @@ use Rattle.shim_units.specs.declared.unit.UStmt.{UStmt, fold-UStmt}
 use Rattle.shim_units.specs.declared.unit.UWhat.{UWhat, UWhat-F, fold-UWhat}
 use Rattle.shim_units.specs.declared.unit.UBranch.{UBranch}
 use Rattle.shim_units.specs.declared.unit.Unit.{Unit as UnitOf}
-use Rattle.shim_units.specs.Todo.{size_all}
+use Rattle.shim_units.specs.Numbering.{size_all}
 
 abbrev pub expr_counts : UExpr-F ℕ → ℕ
 expr_counts (UExpr-F.Number n) = 1

@@ -4,16 +4,16 @@ use Rattle.shim_scopes.specs.declared.tree.RFunction.{RFunction}
 use Rattle.shim_scopes.specs.declared.form.Form.{Form as Resolved}
 use Rattle.shim_units.specs.declared.form.Form.{Form}
 use Rattle.shim_units.specs.declared.unit.Unit.{Unit as UnitOf}
-use Rattle.shim_units.specs.declared.within.Within.{Within}
-use Rattle.shim_units.specs.Parts.{Home}
-use Rattle.shim_units.specs.Lifting.{branch_within, made_unit}
-use Rattle.shim_units.specs.Meaning.{declares_in, tries_in, lift_in}
+use Rattle.shim_units.specs.declared.slot_map.SlotMap.{SlotMap}
+use Rattle.shim_units.specs.Parts.{LiftContext}
+use Rattle.shim_units.specs.Lifting.{branch_slot_map, made_unit}
+use Rattle.shim_units.specs.PartFold.{declares_in, tries_in, lift_in}
 
 abbrev pub text_or_mark : Option (List ℕ) → List ℕ
 text_or_mark None = codes "?"
 text_or_mark (Some text) = text
 
--- the name of that number, and a mark where the list has none
+-- the name of that number, and a question mark where the list has none
 abbrev pub text_of : List (List ℕ) → ℕ → List ℕ
 text_of names n = text_or_mark (slice_get names n)
 
@@ -22,8 +22,8 @@ upto zero = []
 upto (suc n) = upto n ++ n ∷ []
 
 -- what a function's own unit has: its parameters and `throws`, and then what its text has of its own
-abbrev pub function_within : RFunction → Within
-function_within f = branch_within (upto (length f.params)) (declares_in f.body) (upto (length f.throws)) (tries_in f.body)
+abbrev pub function_slot_map : RFunction → SlotMap
+function_slot_map f = branch_slot_map (upto (length f.params)) (declares_in f.body) (upto (length f.throws)) (tries_in f.body)
 
 -- a function's own unit, and those that are lifted out of it
 pub record LiftedFunction : Type 0 where
@@ -32,10 +32,10 @@ pub record LiftedFunction : Type 0 where
 
 abbrev pub lift_function : List (List ℕ) → List RFunction → ℕ → ℕ → RFunction → LiftedFunction
 lift_function names all number next f =
-    let home : Home = record { functions = all; function = f; number = number; name = text_of names f.name; first = next } in
-    let w = function_within f in
-    let r = lift_in f.body home w next in
-    record { own = made_unit home home.name f.params (length f.throws) w (tries_in f.body) r.tree; lifted = r.units }
+    let context : LiftContext = record { functions = all; function = f; number = number; name = text_of names f.name; first = next } in
+    let w = function_slot_map f in
+    let r = lift_in f.body context w next in
+    record { own = made_unit context context.name f.params (length f.throws) w (tries_in f.body) r.tree; lifted = r.units }
 
 -- the functions' units, and behind them all that are lifted out of them
 pub record LiftedFunctions : Type 0 where

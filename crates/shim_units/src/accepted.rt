@@ -1,6 +1,6 @@
 // An accepted program.
 ghost use Rattle.std.specs.Prelude.{◌≡◌, ◌<◌, ◌^◌, length};
-ghost use Rattle.shim_units.specs.OfText.{IsUnitsOfText, IsKept};
+ghost use Rattle.shim_units.specs.OfText.{IsUnitsOfText, IsAcceptedForm};
 ghost use Rattle.shim_units.specs.Sizes.{AreFit};
 
 use crate::form::Form;
@@ -19,7 +19,7 @@ impl Model for Accepted {
     ghost use Rattle.std.specs.Coded.{codes};
     ghost use Rattle.shim_units.specs.contracts.unit.Unit as unit;
     ghost use Rattle.shim_units.specs.declared.form.Form.{Form};
-    ghost use Rattle.shim_units.specs.OfText.{IsKept};
+    ghost use Rattle.shim_units.specs.OfText.{IsAcceptedForm};
 
     ghost Value = { Form };
 
@@ -27,7 +27,7 @@ impl Model for Accepted {
 
     ghost view = { λ accepted. accepted.form };
 
-    ghost invariant = { λ accepted. IsKept accepted.form };
+    ghost invariant = { λ accepted. IsAcceptedForm accepted.form };
 }
 
 impl Accepted {
@@ -64,9 +64,9 @@ impl Accepted {
     }
 }
 
-/// The units, kept with what they are the units of.
-pub fn keep(form: Form) -> Accepted
-    requires { IsKept form }
+/// The accepted program in these units. Its condition is all that the type keeps.
+pub fn from_form(form: Form) -> Accepted
+    requires { IsAcceptedForm form }
     ensures { result ≡ form }
 {
     Accepted { form }

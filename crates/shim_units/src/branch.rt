@@ -1,20 +1,20 @@
 // The unit that a block branch becomes.
 ghost use Rattle.std.specs.Prelude.{◌≡◌, ◌+◌, ◌++◌, ◌<◌, ◌^◌, IfOk, length, map};
-ghost use Rattle.shim_units.specs.Marks.{takes_of};
-ghost use Rattle.shim_units.specs.HomeView.{home_view};
-ghost use Rattle.shim_units.specs.Meaning.{parts};
-ghost use Rattle.shim_units.specs.Opening.{IsOpened};
-ghost use Rattle.shim_units.specs.Lifting.{taken, is_among, given_exceptions, branch_param, branch_arg, branch_title, branch_within, made_unit, branch_call, branch_unit};
+ghost use Rattle.shim_units.specs.Usages.{captures_of};
+ghost use Rattle.shim_units.specs.LiftContextView.{context_view};
+ghost use Rattle.shim_units.specs.PartFold.{parts};
+ghost use Rattle.shim_units.specs.BranchCapturing.{IsBranchCaptures};
+ghost use Rattle.shim_units.specs.Lifting.{taken, is_among, given_exceptions, branch_param, branch_arg, branch_title, branch_slot_map, made_unit, branch_call, branch_unit};
 ghost use Rattle.shim_units.specs.Lifting.{sort_of, name_of, try_name};
 
-use crate::found::Taking;
-use crate::home::Home;
-use crate::moving::{pass, place, place_all};
+use crate::captures::{capture_at, is_reference, is_taken, take_all};
+use crate::found::Capture;
+use crate::lift_context::LiftContext;
+use crate::moving::{pass, slot_index, slot_indices};
 use crate::own::{declares_in, push_raises, tries_in};
-use crate::taking::{is_reference, is_taken, take_all, taking_at};
+use crate::slot_map::SlotMap;
 use crate::unit::{Arg, UCall, UStmt, Unit};
 use crate::uses::push_stmts;
-use crate::within::Within;
 use crate::word::{name_of, number, sort_of, try_name};
 use itoa::Buffer;
 use shim_base::{List, NoMemory};
@@ -24,23 +24,23 @@ use std::alloc::Global;
 
 /// What a block branch takes, throws and has.
 #[derive(Drop)]
-pub struct Opened {
-    pub takes: List<Taking>,
+pub struct BranchCaptures {
+    pub captures: List<Capture>,
     // The variables and exceptions of the unit around it that it takes, by the function's numbers.
     pub slots: List<u32>,
     pub exceptions: List<u32>,
     // Its own `try` statements.
     pub tries: List<u32>,
-    pub inner: Within,
+    pub inner: SlotMap,
 }
 
 // What a branch takes of some variables, in their order.
-fn take_some(alloc: Global, takes: &[Taking], slots: &[u32]) -> Result<List<u32>, NoMemory>
-    ensures { IfOk result (λ made. made ≡ taken (takes_of takes.now) slots.now) }
+fn take_some(alloc: Global, captures: &[Capture], slots: &[u32]) -> Result<List<u32>, NoMemory>
+    ensures { IfOk result (λ made. made ≡ taken (captures_of captures.now) slots.now) }
 {
     let mut made = List::new(alloc);
     for slot in slots {
-        if is_taken(taking_at(takes, *slot as usize)) {
+        if is_taken(capture_at(captures, *slot as usize)) {
             made.push(*slot)?;
         }
     }
@@ -86,27 +86,27 @@ pub fn open_unit(
     declares: &[u32],
     exceptions: &[u32],
     tries: &[u32],
-) -> Result<Within, NoMemory>
-    ensures { IfOk result (λ made. made ≡ branch_within slots.now declares.now exceptions.now tries.now) }
+) -> Result<SlotMap, NoMemory>
+    ensures { IfOk result (λ made. made ≡ branch_slot_map slots.now declares.now exceptions.now tries.now) }
 {
     let slots = join(alloc, slots, declares)?;
     let exceptions = join(alloc, exceptions, tries)?;
-    Ok(Within { slots, exceptions })
+    Ok(SlotMap { slots, exceptions })
 }
 
 fn make_params(
     alloc: Global,
     function: &RFunction,
-    takes: &[Taking],
+    captures: &[Capture],
     slots: &[u32],
 ) -> Result<List<UParam>, NoMemory>
-    ensures { IfOk result (λ made. made ≡ map (branch_param function.now (takes_of takes.now)) slots.now) }
+    ensures { IfOk result (λ made. made ≡ map (branch_param function.now (captures_of captures.now)) slots.now) }
 {
     let mut made = List::new(alloc);
     for slot in slots {
         made.push(UParam {
             sort: sort_of(function, *slot),
-            by_ref: is_reference(taking_at(takes, *slot as usize)),
+            by_ref: is_reference(capture_at(captures, *slot as usize)),
             name: name_of(function, *slot as usize),
         })?;
     }
@@ -116,28 +116,28 @@ fn make_params(
 fn make_args(
     alloc: Global,
     around: &[u32],
-    takes: &[Taking],
+    captures: &[Capture],
     slots: &[u32],
 ) -> Result<List<Arg>, NoMemory>
     requires { length around.now < 2 ^ 32 }
-    ensures { IfOk result (λ made. made ≡ map (branch_arg around.now (takes_of takes.now)) slots.now) }
+    ensures { IfOk result (λ made. made ≡ map (branch_arg around.now (captures_of captures.now)) slots.now) }
 {
     let mut made = List::new(alloc);
     for slot in slots {
-        let at = place(around, *slot);
-        made.push(pass(is_reference(taking_at(takes, *slot as usize)), at))?;
+        let at = slot_index(around, *slot);
+        made.push(pass(is_reference(capture_at(captures, *slot as usize)), at))?;
     }
     Ok(made)
 }
 
 // The name of the unit of that number that is lifted out of a function.
-fn make_title(alloc: Global, home: &Home, unit: u32) -> Result<List<u8>, NoMemory>
-    ensures { IfOk result (λ made. made ≡ branch_title (home_view home.now) unit) }
+fn make_title(alloc: Global, context: &LiftContext, unit: u32) -> Result<List<u8>, NoMemory>
+    ensures { IfOk result (λ made. made ≡ branch_title (context_view context.now) unit) }
 {
-    let mut title = List::from_slice(alloc, home.name.as_bytes())?;
+    let mut title = List::from_slice(alloc, context.name.as_bytes())?;
     title.extend_from_slice(b".".as_slice())?;
     let mut buffer = Buffer::new();
-    let text = buffer.format(unit.saturating_sub(home.first));
+    let text = buffer.format(unit.saturating_sub(context.first));
     title.extend_from_slice(text.as_bytes())?;
     Ok(title)
 }
@@ -175,25 +175,25 @@ fn name_tries(alloc: Global, function: &RFunction, tries: &[u32]) -> Result<List
 /// A unit, with its name, its parameters and how many exceptions it is given.
 pub fn make_unit(
     alloc: Global,
-    home: &Home,
+    context: &LiftContext,
     title: List<u8>,
     params: List<UParam>,
     throws: usize,
-    within: &Within,
+    slot_map: &SlotMap,
     tries: &[u32],
     body: List<UStmt>,
 ) -> Result<Unit, NoMemory>
     requires { throws < 2 ^ 32 }
-    ensures { IfOk result (λ made. made ≡ made_unit (home_view home.now) title params throws within.now tries.now body) }
+    ensures { IfOk result (λ made. made ≡ made_unit (context_view context.now) title params throws slot_map.now tries.now body) }
 {
-    let function = home.function;
-    let slots = sort_all(alloc, function, within.slots.as_slice())?;
-    let slot_names = name_all(alloc, function, within.slots.as_slice())?;
+    let function = context.function;
+    let slots = sort_all(alloc, function, slot_map.slots.as_slice())?;
+    let slot_names = name_all(alloc, function, slot_map.slots.as_slice())?;
     let throws = number(throws);
     let tries = name_tries(alloc, function, tries)?;
     Ok(Unit {
         title,
-        function: home.number,
+        function: context.number,
         params,
         slots,
         slot_names,
@@ -206,21 +206,21 @@ pub fn make_unit(
 /// What a block branch takes of the unit around it, by the uses in its whole text, and has of its own.
 pub fn open_branch(
     alloc: Global,
-    home: &Home,
-    within: &Within,
+    context: &LiftContext,
+    slot_map: &SlotMap,
     body: &[RStmt],
-) -> Result<Opened, NoMemory>
-    ensures { IfOk result (λ opened. IsOpened opened (home_view home.now) within.now (parts body.now)) }
+) -> Result<BranchCaptures, NoMemory>
+    ensures { IfOk result (λ captured. IsBranchCaptures captured (context_view context.now) slot_map.now (parts body.now)) }
 {
     let mut uses = List::new(alloc);
-    push_stmts(&mut uses, home.functions, body)?;
-    let takes = take_all(alloc, home.function.slots.as_slice(), uses.as_slice())?;
+    push_stmts(&mut uses, context.functions, body)?;
+    let captures = take_all(alloc, context.function.slots.as_slice(), uses.as_slice())?;
     let mut raises = List::new(alloc);
     push_raises(&mut raises, body)?;
     let declares = declares_in(alloc, body)?;
     let tries = tries_in(alloc, body)?;
-    let slots = take_some(alloc, takes.as_slice(), within.slots.as_slice())?;
-    let exceptions = give_exceptions(alloc, raises.as_slice(), within.exceptions.as_slice())?;
+    let slots = take_some(alloc, captures.as_slice(), slot_map.slots.as_slice())?;
+    let exceptions = give_exceptions(alloc, raises.as_slice(), slot_map.exceptions.as_slice())?;
     let inner = open_unit(
         alloc,
         slots.as_slice(),
@@ -228,8 +228,8 @@ pub fn open_branch(
         exceptions.as_slice(),
         tries.as_slice(),
     )?;
-    Ok(Opened {
-        takes,
+    Ok(BranchCaptures {
+        captures,
         slots,
         exceptions,
         tries,
@@ -240,24 +240,24 @@ pub fn open_branch(
 /// The call of the unit of that number that a branch becomes.
 pub fn call_branch(
     alloc: Global,
-    within: &Within,
+    slot_map: &SlotMap,
     unit: u32,
-    opened: &Opened,
+    captured: &BranchCaptures,
 ) -> Result<UCall, NoMemory>
-    requires slots { length within.now.slots < 2 ^ 32 }
-    requires exceptions { length within.now.exceptions < 2 ^ 32 }
-    ensures { IfOk result (λ made. made ≡ branch_call within.now unit (takes_of opened.now.takes) opened.now.slots opened.now.exceptions) }
+    requires slots { length slot_map.now.slots < 2 ^ 32 }
+    requires exceptions { length slot_map.now.exceptions < 2 ^ 32 }
+    ensures { IfOk result (λ made. made ≡ branch_call slot_map.now unit (captures_of captured.now.captures) captured.now.slots captured.now.exceptions) }
 {
     let args = make_args(
         alloc,
-        within.slots.as_slice(),
-        opened.takes.as_slice(),
-        opened.slots.as_slice(),
+        slot_map.slots.as_slice(),
+        captured.captures.as_slice(),
+        captured.slots.as_slice(),
     )?;
-    let throws = place_all(
+    let throws = slot_indices(
         alloc,
-        within.exceptions.as_slice(),
-        opened.exceptions.as_slice(),
+        slot_map.exceptions.as_slice(),
+        captured.exceptions.as_slice(),
     )?;
     Ok(UCall { unit, args, throws })
 }
@@ -265,29 +265,29 @@ pub fn call_branch(
 /// The unit of that number that a branch becomes, with its statements.
 pub fn close_branch(
     alloc: Global,
-    home: &Home,
+    context: &LiftContext,
     unit: u32,
-    opened: &Opened,
+    captured: &BranchCaptures,
     body: List<UStmt>,
 ) -> Result<Unit, NoMemory>
-    requires { length opened.now.exceptions < 2 ^ 32 }
-    ensures { IfOk result (λ made. made ≡ branch_unit (home_view home.now) unit (takes_of opened.now.takes) opened.now.slots opened.now.exceptions opened.now.inner opened.now.tries body) }
+    requires { length captured.now.exceptions < 2 ^ 32 }
+    ensures { IfOk result (λ made. made ≡ branch_unit (context_view context.now) unit (captures_of captured.now.captures) captured.now.slots captured.now.exceptions captured.now.inner captured.now.tries body) }
 {
-    let title = make_title(alloc, home, unit)?;
+    let title = make_title(alloc, context, unit)?;
     let params = make_params(
         alloc,
-        home.function,
-        opened.takes.as_slice(),
-        opened.slots.as_slice(),
+        context.function,
+        captured.captures.as_slice(),
+        captured.slots.as_slice(),
     )?;
     let made = make_unit(
         alloc,
-        home,
+        context,
         title,
         params,
-        opened.exceptions.len(),
-        &opened.inner,
-        opened.tries.as_slice(),
+        captured.exceptions.len(),
+        &captured.inner,
+        captured.tries.as_slice(),
         body,
     )?;
     Ok(made)

@@ -1,4 +1,4 @@
-// What is found in a function's text on the way: uses of variables, arguments, ways to take a variable.
+// What is found in a function's text on the way: uses of variables, arguments, captures.
 
 /// How a place uses a variable.
 #[derive(Clone, Copy, Debug, PartialEq, Eq)]
@@ -18,7 +18,7 @@ pub struct Use {
 
 /// How a branch takes a variable from around it.
 #[derive(Clone, Copy, Debug, PartialEq, Eq)]
-pub enum Taking {
+pub enum Capture {
     Nothing,
     Copy,
     Reference,

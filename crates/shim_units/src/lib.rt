@@ -1,32 +1,32 @@
-//! What a program's units are made of: what a text uses and takes, and block branches as units of their own; and the definition of one process over them.
+//! What a program's units are made of: what a text uses and takes, and block branches as units of their own; the sharing rule as a definition, and accepted programs.
 #![tactic(auto)]
 
 mod accepted;
 mod branch;
 mod calls;
+mod captures;
 mod form;
 mod found;
-mod home;
+mod lift_context;
 mod moving;
 mod naming;
 mod own;
-mod taking;
+mod slot_map;
 mod unit;
 mod uses;
-mod within;
 mod word;
 
-pub use accepted::{Accepted, keep};
-pub use branch::{Opened, call_branch, close_branch, make_unit, open_branch, open_unit};
+pub use accepted::{Accepted, from_form};
+pub use branch::{BranchCaptures, call_branch, close_branch, make_unit, open_branch, open_unit};
 pub use calls::{give, params_at};
+pub use captures::{capture_at, is_reference, take_all};
 pub use form::Form;
-pub use found::{Given, How, Taking, Use};
-pub use home::Home;
-pub use moving::{move_call, move_expr, move_option, place};
+pub use found::{Capture, Given, How, Use};
+pub use lift_context::LiftContext;
+pub use moving::{move_call, move_expr, move_option, slot_index};
 pub use naming::copy_text;
 pub use own::{declares_in, tries_in};
-pub use taking::{is_reference, take_all, taking_at};
+pub use slot_map::SlotMap;
 pub use unit::{Arg, UBranch, UCall, UStmt, UWhat, Unit};
 pub use uses::uses_in_branch;
-pub use within::Within;
 pub use word::{name_of, number, number_after};

@@ -1,48 +1,48 @@
 // Expressions and calls with a unit's own numbers of variables and exceptions.
 ghost use Rattle.std.specs.Prelude.{◌≡◌, ◌<◌, ◌≤◌, ◌^◌, IfOk, length, position, nat_eq, Option};
 ghost use Rattle.shim_units.specs.Calls.{bare, params_at};
-ghost use Rattle.shim_units.specs.Moving.{place_of, places_of, moved, moved_option, by_mode, arg_of, args_of, moved_call};
+ghost use Rattle.shim_units.specs.Moving.{slot_index_of, slot_indices_of, moved, moved_option, by_mode, arg_of, args_of, moved_call};
 
 use crate::calls::{behind_first, find_bare, lends_first, params_at};
+use crate::slot_map::SlotMap;
 use crate::unit::{Arg, UCall};
-use crate::within::Within;
 use crate::word::number;
 use shim_base::{Boxed, List, NoMemory};
 use shim_scopes::{RCall, RFunction, UExpr, UParam};
 use std::alloc::Global;
 
-fn find_place(all: &[u32], one: u32) -> Option<usize>
+fn find_index(all: &[u32], one: u32) -> Option<usize>
     ensures { result ≡ position (λ y. nat_eq y one) all.now }
 {
     all.iter().position(|other| *other == one)
 }
 
-#[tactic(auto, unfolding(crate::specs::Moving::place_of))]
-fn place_at(all: &[u32], one: u32) -> usize
-    ensures is { result ≡ place_of all.now one }
-    ensures within { result ≤ length all.now }
+#[tactic(auto, unfolding(crate::specs::Moving::slot_index_of))]
+fn index_in(all: &[u32], one: u32) -> usize
+    ensures is { result ≡ slot_index_of all.now one }
+    ensures slot_map { result ≤ length all.now }
 {
-    match find_place(all, one) {
+    match find_index(all, one) {
         Some(at) => at,
         None => all.len(),
     }
 }
 
 /// The number that one of the function's has among those that a unit has.
-pub fn place(all: &[u32], one: u32) -> u32
+pub fn slot_index(all: &[u32], one: u32) -> u32
     requires { length all.now < 2 ^ 32 }
-    ensures { result ≡ place_of all.now one }
+    ensures { result ≡ slot_index_of all.now one }
 {
-    number(place_at(all, one))
+    number(index_in(all, one))
 }
 
-pub fn place_all(alloc: Global, all: &[u32], some: &[u32]) -> Result<List<u32>, NoMemory>
+pub fn slot_indices(alloc: Global, all: &[u32], some: &[u32]) -> Result<List<u32>, NoMemory>
     requires { length all.now < 2 ^ 32 }
-    ensures { IfOk result (λ made. made ≡ places_of all.now some.now) }
+    ensures { IfOk result (λ made. made ≡ slot_indices_of all.now some.now) }
 {
     let mut made = List::new(alloc);
     for one in some {
-        made.push(place(all, *one))?;
+        made.push(slot_index(all, *one))?;
     }
     Ok(made)
 }
@@ -54,7 +54,7 @@ pub fn move_expr(alloc: Global, slots: &[u32], expr: &UExpr) -> Result<UExpr, No
 {
     match expr {
         UExpr::Number(number) => Ok(UExpr::Number(*number)),
-        UExpr::Var(slot) => Ok(UExpr::Var(place(slots, *slot))),
+        UExpr::Var(slot) => Ok(UExpr::Var(slot_index(slots, *slot))),
         UExpr::Unary(op, inner) => {
             let inner = move_expr(alloc, slots, inner)?;
             Ok(UExpr::Unary(*op, Boxed::new(alloc, inner)?))
@@ -101,7 +101,7 @@ fn move_arg(alloc: Global, slots: &[u32], lent: bool, arg: &UExpr) -> Result<Arg
 {
     match find_bare(arg) {
         Some(slot) => {
-            let slot = place(slots, slot);
+            let slot = slot_index(slots, slot);
             Ok(pass(lent, slot))
         }
         None => {
@@ -134,19 +134,23 @@ pub fn move_call(
     alloc: Global,
     functions: &[RFunction],
     call: &RCall,
-    within: &Within,
+    slot_map: &SlotMap,
 ) -> Result<UCall, NoMemory>
-    requires slots { length within.now.slots < 2 ^ 32 }
-    requires exceptions { length within.now.exceptions < 2 ^ 32 }
-    ensures { IfOk result (λ made. made ≡ moved_call functions.now call.now within.now) }
+    requires slots { length slot_map.now.slots < 2 ^ 32 }
+    requires exceptions { length slot_map.now.exceptions < 2 ^ 32 }
+    ensures { IfOk result (λ made. made ≡ moved_call functions.now call.now slot_map.now) }
 {
     let args = move_args(
         alloc,
-        within.slots.as_slice(),
+        slot_map.slots.as_slice(),
         params_at(functions, call.function),
         call.args.as_slice(),
     )?;
-    let throws = place_all(alloc, within.exceptions.as_slice(), call.throws.as_slice())?;
+    let throws = slot_indices(
+        alloc,
+        slot_map.exceptions.as_slice(),
+        call.throws.as_slice(),
+    )?;
     Ok(UCall {
         unit: call.function,
         args,

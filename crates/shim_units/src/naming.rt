@@ -5,7 +5,7 @@ ghost use Rattle.shim_units.specs.Units.{text_of};
 use shim_base::{Name, NoMemory};
 use std::alloc::Global;
 
-/// The name of that number, and a mark where there is none.
+/// The name of that number, and a question mark where there is none.
 pub fn copy_text(alloc: Global, names: &[Name], number: u32) -> Result<Name, NoMemory>
     ensures { IfOk result (λ name. name ≡ text_of names.now number) }
 {

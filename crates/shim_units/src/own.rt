@@ -1,7 +1,7 @@
 // The exceptions that a text throws or passes on, and what a unit has of its own.
 ghost use Rattle.std.specs.Prelude.{◌≡◌, ◌++◌, IfOk, OnOk};
 ghost use Rattle.shim_units.specs.Parts.{all_raises};
-ghost use Rattle.shim_units.specs.Meaning.{part, raises_in, declares_in, tries_in, branch_part, branch_parts};
+ghost use Rattle.shim_units.specs.PartFold.{part, raises_in, declares_in, tries_in, branch_part, branch_parts};
 
 use shim_base::{List, NoMemory};
 use shim_scopes::{RBranch, RBranchWhat, RStmt, RWhat};

@@ -3,7 +3,7 @@ ghost use Rattle.std.specs.Prelude.{◌≡◌, ◌∷◌, ◌++◌, [], IfOk, On
 ghost use Rattle.shim_units.specs.Parts.{all_uses};
 ghost use Rattle.shim_units.specs.Uses.{names_in, names_in_option, lent_uses, arg_uses, args_uses, call_uses};
 ghost use Rattle.shim_units.specs.Calls.{bare};
-ghost use Rattle.shim_units.specs.Meaning.{part, uses_in, branch_part, branch_parts};
+ghost use Rattle.shim_units.specs.PartFold.{part, uses_in, branch_part, branch_parts};
 
 use crate::calls::{behind_first, find_bare, lends_first, params_at};
 use crate::found::{How, Use};

@@ -5,56 +5,56 @@ use Rattle.shim_base.specs.declared.operators.Trap.TheVariants.{Depth}
 use Rattle.shim_scopes.specs.declared.tree.UParam.{UParam}
 use Rattle.shim_units.specs.declared.unit.UBranch.{UBranch}
 use Rattle.shim_units.specs.declared.unit.Arg.{Arg}
-use Rattle.shim_units.specs.Locations.{Locations}
-use Rattle.shim_units.specs.LocalState.{LocalState, unit_or, unit_at, is_full, trapped}
-use Rattle.shim_units.specs.Steps.{line_of}
-use Rattle.shim_units.specs.Forks.{Parted, Trapped as TrappedParting, fork, all_lending, lending, takes_input, takes_output, parent, is_far, item_branches, lent, joined, all_back, input_back, output_back}
-use Rattle.shim_walk.specs.declared.process.Offspring.TheVariants.{Children, Trapped}
-use Rattle.shim_cells.specs.declared.left.Left.{Left}
-use Rattle.shim_cells.specs.Lendings.{lent_at, left_of}
-use Rattle.shim_walk.specs.Bred.{bred, parted}
-use Rattle.shim_walk.specs.Partings.{Comes}
-use Rattle.shim_walk.proofs.Births.{parts}
+use Rattle.shim_process.specs.Locations.{Locations}
+use Rattle.shim_process.specs.LocalState.{LocalState, unit_or, unit_at, is_full, trapped}
+use Rattle.shim_process.specs.Steps.{line_of}
+use Rattle.shim_process.specs.Forks.{Parted, Trapped as TrappedFork, fork, all_lending, lending, takes_input, takes_output, parent, is_far, item_branches, lent, joined, all_back, input_back, output_back}
+use Rattle.shim_walk.specs.declared.process.ForkedProcess.TheVariants.{Children, Trapped}
+use Rattle.shim_locations.specs.declared.remainder.Remainder.{Remainder}
+use Rattle.shim_locations.specs.Lendings.{lent_at, remainder_of}
+use Rattle.shim_walk.specs.ChildrenMade.{children_made, parted}
+use Rattle.shim_walk.specs.ForkResults.{Comes}
+use Rattle.shim_walk.proofs.MadeChildren.{parts}
 
--- the children as bred of the process as it stood
-of_start : (l start : LocalState) (branches : List UBranch) (r : Result (List LocalState) Trap) → start ≡ l → branches ≡ item_branches l.frame.todo → bred l start 0 branches ≡ r → parted r l branches ≡ fork l
-of_start l start branches r es e b = sym (ap (λ x. parted x l branches) b) ∙ ap (λ m. parted (bred l m 0 branches) l branches) es ∙ parts l branches e
+-- the children as they are made of the process as it stood
+of_start : (l start : LocalState) (branches : List UBranch) (r : Result (List LocalState) Trap) → start ≡ l → branches ≡ item_branches l.frame.todo → children_made l start 0 branches ≡ r → parted r l branches ≡ fork l
+of_start l start branches r es e b = sym (ap (λ x. parted x l branches) b) ∙ ap (λ m. parted (children_made l m 0 branches) l branches) es ∙ parts l branches e
 
-pub traps : (l start : LocalState) (branches : List UBranch) (t : Trap) → start ≡ l → branches ≡ item_branches l.frame.todo → bred l start 0 branches ≡ Err t → Comes (Trapped t) l
+pub traps : (l start : LocalState) (branches : List UBranch) (t : Trap) → start ≡ l → branches ≡ item_branches l.frame.todo → children_made l start 0 branches ≡ Err t → Comes (Trapped t) l
 traps l start branches t es e b = sym (of_start l start branches (Err t) es e b)
 
-pub too_deep : (l start : LocalState) (branches : List UBranch) (children : List LocalState) → start ≡ l → branches ≡ item_branches l.frame.todo → bred l start 0 branches ≡ Ok children
+pub too_deep : (l start : LocalState) (branches : List UBranch) (children : List LocalState) → start ≡ l → branches ≡ item_branches l.frame.todo → children_made l start 0 branches ≡ Ok children
     → (is_far l || is_full l) ≡ true → Comes (Trapped Depth) l
 too_deep l start branches children es e b deep =
-    sym (sym (ap (λ x. if x then TrappedParting (trapped Depth (line_of l.frame.todo) l) else Parted (parent l branches) children) deep) ∙ of_start l start branches (Ok children) es e b)
+    sym (sym (ap (λ x. if x then TrappedFork (trapped Depth (line_of l.frame.todo) l) else Parted (parent l branches) children) deep) ∙ of_start l start branches (Ok children) es e b)
 
-pub forked : (l start : LocalState) (left : Left) (branches : List UBranch) (children : List LocalState) → start ≡ l → branches ≡ item_branches l.frame.todo → bred l start 0 branches ≡ Ok children
-    → (is_far l || is_full l) ≡ false → left_of l left ≡ all_lending start branches → Comes (Children children left) l
-forked l start left branches children es e b deep el =
+pub forked : (l start : LocalState) (remainder : Remainder) (branches : List UBranch) (children : List LocalState) → start ≡ l → branches ≡ item_branches l.frame.todo → children_made l start 0 branches ≡ Ok children
+    → (is_far l || is_full l) ≡ false → remainder_of l remainder ≡ all_lending start branches → Comes (Children children remainder) l
+forked l start remainder branches children es e b deep el =
     sym (of_start l start branches (Ok children) es e b)
-    ∙ ap (λ x. if x then TrappedParting (trapped Depth (line_of l.frame.todo) l) else Parted (parent l branches) children) deep
+    ∙ ap (λ x. if x then TrappedFork (trapped Depth (line_of l.frame.todo) l) else Parted (parent l branches) children) deep
     ∙ ap (λ (m : LocalState). Parted (record m { forks = l.forks + 1 }) children) (sym (el ∙ ap (λ m. all_lending m branches) es))
 
-pub joined_by : (l : LocalState) (children : List LocalState) (branches : List UBranch) (cells : Locations) (input_at : Option ℕ) (output : Bool)
-    → branches ≡ item_branches l.frame.todo → cells ≡ all_back l.frame.slots branches children l.locations → input_at ≡ input_back children l.input_at → output ≡ output_back children l.holds_output
-    → record l { locations = cells; input_at = input_at; holds_output = output } ≡ joined l children
-joined_by l children branches cells input_at output e ec ei eo =
+pub joined_by : (l : LocalState) (children : List LocalState) (branches : List UBranch) (locations : Locations) (input_at : Option ℕ) (output : Bool)
+    → branches ≡ item_branches l.frame.todo → locations ≡ all_back l.frame.slots branches children l.locations → input_at ≡ input_back children l.input_at → output ≡ output_back children l.holds_output
+    → record l { locations = locations; input_at = input_at; holds_output = output } ≡ joined l children
+joined_by l children branches locations input_at output e ec ei eo =
     ap (λ x. record l { locations = x; input_at = input_at; holds_output = output }) (ec ∙ ap (λ b. all_back l.frame.slots b children l.locations) e)
     ∙ ap (λ x. record (joined l children) { input_at = x; holds_output = output }) ei
     ∙ ap (λ x. record (joined l children) { holds_output = x }) eo
 
 -- what a branch takes, from the parts of it
-pub lending_by : (l : LocalState) (left after : Left) (b : UBranch) (slots : List ℕ) (args : List Arg) (params : List UParam)
+pub lending_by : (l : LocalState) (remainder after : Remainder) (b : UBranch) (slots : List ℕ) (args : List Arg) (params : List UParam)
     → slots ≡ l.frame.slots → args ≡ b.call.args → params ≡ (unit_or (slice_get l.program.units b.call.unit)).params
-    → ((cells : Locations) → lent_at after.taken cells ≡ lent slots params args (lent_at left.taken cells))
-    → after.input_at ≡ (if takes_input params then None else left.input_at) → after.holds_output ≡ (if takes_output params then false else left.holds_output)
-    → left_of l after ≡ lending (left_of l left) b
+    → ((locations : Locations) → lent_at after.taken locations ≡ lent slots params args (lent_at remainder.taken locations))
+    → after.input_at ≡ (if takes_input params then None else remainder.input_at) → after.holds_output ≡ (if takes_output params then false else remainder.holds_output)
+    → remainder_of l after ≡ lending (remainder_of l remainder) b
 unfolding unit_at
-lending_by l left after b slots args params es ea ep ec ei eo =
-    ap (λ x. record l { locations = x; input_at = after.input_at; holds_output = after.holds_output }) (ec l.locations ∙ ap (λ s. lent s params args (lent_at left.taken l.locations)) es ∙ ap (λ a. lent l.frame.slots params a (lent_at left.taken l.locations)) ea
-    ∙ ap (λ ps. lent l.frame.slots ps b.call.args (lent_at left.taken l.locations)) ep)
-    ∙ ap (λ x. record (lending (left_of l left) b) { input_at = x; holds_output = after.holds_output }) (ei ∙ ap (λ ps. if takes_input ps then None else left.input_at) ep)
-    ∙ ap (λ x. record (lending (left_of l left) b) { holds_output = x }) (eo ∙ ap (λ ps. if takes_output ps then false else left.holds_output) ep)
+lending_by l remainder after b slots args params es ea ep ec ei eo =
+    ap (λ x. record l { locations = x; input_at = after.input_at; holds_output = after.holds_output }) (ec l.locations ∙ ap (λ s. lent s params args (lent_at remainder.taken l.locations)) es ∙ ap (λ a. lent l.frame.slots params a (lent_at remainder.taken l.locations)) ea
+    ∙ ap (λ ps. lent l.frame.slots ps b.call.args (lent_at remainder.taken l.locations)) ep)
+    ∙ ap (λ x. record (lending (remainder_of l remainder) b) { input_at = x; holds_output = after.holds_output }) (ei ∙ ap (λ ps. if takes_input ps then None else remainder.input_at) ep)
+    ∙ ap (λ x. record (lending (remainder_of l remainder) b) { holds_output = x }) (eo ∙ ap (λ ps. if takes_output ps then false else remainder.holds_output) ep)
 
 -- three facts of one success
 pub on_three : {T E P Q R S : Type 0} (r : Result T E) → (P → Q → R → S) → OnOk r P → OnOk r Q → OnOk r R → OnOk r S

@@ -1,16 +1,16 @@
 -- The labels of exceptions are those of the definition.
 use Rattle.std.proofs.Common.{◌≡◌, ℕ, ◌+◌, List, [], ◌∷◌, map, refl, ap, ◌∙◌, if◌then◌else◌, nat_eq}
 use Rattle.shim_units.specs.declared.unit.UStmt.{UStmt}
-use Rattle.shim_units.specs.LocalState.{LocalState, ExceptionPlace, number_of, label_among, label_of}
-use Rattle.shim_units.specs.Arguments.{passed_labels}
-use Rattle.shim_frames.specs.declared.armed.Armed.{Armed}
-use Rattle.shim_frames.specs.Activations.{place_of}
-use Rattle.shim_walk.specs.Asks.{label_by, label_for, labels_for}
+use Rattle.shim_process.specs.LocalState.{LocalState, ExceptionPlace, number_of, label_among, label_of}
+use Rattle.shim_process.specs.Arguments.{passed_labels}
+use Rattle.shim_walk_frames.specs.declared.handler.Handler.{Handler}
+use Rattle.shim_walk_frames.specs.FrameViews.{place_of}
+use Rattle.shim_walk.specs.NextActions.{label_by, label_for, labels_for}
 use Rattle.shim_walk.specs.Haves.{have_of, exceptions_in}
-use Rattle.shim_walk.specs.Scenes.{exceptions_of}
+use Rattle.shim_walk.specs.StatementContexts.{exceptions_of}
 
 -- the exceptions are kept
-pub same_exceptions : (body : List UStmt) (places : List Armed) → exceptions_of places ≡ exceptions_in (map (place_of body) places)
+pub same_exceptions : (body : List UStmt) (places : List Handler) → exceptions_of places ≡ exceptions_in (map (place_of body) places)
 same_exceptions body [] = refl
 same_exceptions body (a ∷ places) = ap (λ es. a.exception ∷ es) (same_exceptions body places)
 

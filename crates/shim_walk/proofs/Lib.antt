@@ -1,8 +1,8 @@
 -- The lemmas of this crate.
 pub mod Labelling
-pub mod Asked
+pub mod ActionLemmas
 pub mod Entering
-pub mod Births
+pub mod MadeChildren
 pub mod Forking
 pub mod SamePlaces
 pub mod SameStates

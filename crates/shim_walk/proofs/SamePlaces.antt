@@ -4,9 +4,9 @@ use Rattle.std.proofs.lemmas.Grind.{common_steps}
 use Rattle.std.proofs.lemmas.List.{map-append, reverse-reverse}
 use Rattle.std.proofs.lemmas.Bool.{cases_lt}
 use Rattle.shim_units.specs.declared.unit.UStmt.{UStmt}
-use Rattle.shim_frames.specs.Ways.{size_all}
-use Rattle.shim_frames.specs.Pieces.{left_all}
-use Rattle.shim_frames.proofs.Goes.{ends, one_place}
+use Rattle.shim_walk_frames.specs.Successors.{size_all}
+use Rattle.shim_walk_frames.specs.Pieces.{left_all}
+use Rattle.shim_walk_frames.proofs.Goes.{ends, one_place}
 
 -- behind the last number of a text nothing is left, from whichever
 pub both_behind : (body : List UStmt) (p q : ℕ) → size_all body ≤ p → size_all body ≤ q → left_all body p ≡ left_all body q

@@ -1,6 +1,6 @@
 -- Two states with the same parts are the same.
 use Rattle.std.proofs.Common.{◌≡◌, ◌∙◌, ap}
-use Rattle.shim_units.specs.LocalState.{LocalState}
+use Rattle.shim_process.specs.LocalState.{LocalState}
 
 pub one_state : (a b : LocalState)
     → a.path ≡ b.path → a.base ≡ b.base → a.made ≡ b.made → a.forks ≡ b.forks → a.given ≡ b.given

@@ -11,9 +11,9 @@ use Rattle.shim_base.specs.contracts.path.Path as Path
 use Rattle.shim_base.specs.contracts.shared.Shared as Shared
 use Rattle.shim_units.proofs.Sends.{accepted_send, accepted_sync, list_send, list_sync}
 use Rattle.shim_units.specs.contracts.accepted.Accepted as Accepted
-use Rattle.shim_frames.proofs.activation.Activation.TheSendSync as activations
-use Rattle.shim_frames.proofs.callers.Callers.TheSendSync as callers
-use Rattle.shim_cells.proofs.cells.Cells.TheSendSync as cells
+use Rattle.shim_walk_frames.proofs.frame.Frame.TheSendSync as frames
+use Rattle.shim_walk_frames.proofs.call_stack.CallStack.TheSendSync as callers
+use Rattle.shim_locations.proofs.locations.Locations.TheSendSync as locations
 use Rattle.shim_walk.specs.contracts.process.Process as Process
 use Rattle.shim_walk.specs.contracts.process.Process.TheInside as inside
 use Rattle.shim_walk.specs.contracts.walk.Walk as Walk
@@ -54,11 +54,11 @@ fields_send = recorded_send (inside.the_field).row _ _ (inside.the_type).to_one 
         (
           channels_send,
           (
-            activations.the_send,
+            frames.the_send,
             (
               callers.the_send,
               (
-                cells.the_send,
+                locations.the_send,
                 (
                   search sendable depth 20,
                   (search sendable, (search sendable depth 20, (program_send, (input_send, tt)))),

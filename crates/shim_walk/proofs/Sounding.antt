@@ -5,17 +5,17 @@ use Rattle.shim_base.specs.Paths.{NamedChannel}
 use Rattle.shim_base.specs.declared.operators.Trap.{Trap}
 use Rattle.shim_local.specs.Laws.{AllOf, by_quiet, by_call, by_put, by_receive, by_unwind, by_fork, by_trap}
 use Rattle.shim_local.specs.Process as local
-use Rattle.shim_units.specs.LocalState.{LocalState, handlers, trapped}
-use Rattle.shim_units.specs.Steps.{line_of, quiet}
-use Rattle.shim_units.specs.Stops.{stop, put, receive}
-use Rattle.shim_units.specs.Unwinding.{unwind}
+use Rattle.shim_process.specs.LocalState.{LocalState, handlers, trapped}
+use Rattle.shim_process.specs.Steps.{line_of, quiet}
+use Rattle.shim_process.specs.Stops.{stop, put, receive}
+use Rattle.shim_process.specs.Unwinding.{unwind}
 use Rattle.shim_process.specs.Ops.{parts, stands}
 use Rattle.shim_process.specs.Sound.{Sound}
-use Rattle.shim_cells.specs.declared.left.Left.{Left}
-use Rattle.shim_walk.specs.declared.process.Offspring.{Offspring}
-use Rattle.shim_walk.specs.declared.process.Offspring.TheVariants.{Children, Trapped}
-use Rattle.shim_cells.specs.Lendings.{left_of}
-use Rattle.shim_walk.specs.Partings.{Comes}
+use Rattle.shim_locations.specs.declared.remainder.Remainder.{Remainder}
+use Rattle.shim_walk.specs.declared.process.ForkedProcess.{ForkedProcess}
+use Rattle.shim_walk.specs.declared.process.ForkedProcess.TheVariants.{Children, Trapped}
+use Rattle.shim_locations.specs.Lendings.{remainder_of}
+use Rattle.shim_walk.specs.ForkResults.{Comes}
 use Rattle.shim_walk.specs.WalkLaws.{walk_laws}
 
 stands_so : (l now : LocalState) (s : local.StopView) → l ≡ now → stands (stop now) ≡ s → stands (stop l) ≡ s
@@ -36,19 +36,19 @@ unwind_sound l now m label e s least most is =
     walk_laws.moved_sound l m s
     (by_call (by_unwind label (subst (λ k. k.base ≤ label) (sym e) least) (subst (λ k. label < handlers k) (sym e) most) is))
 
-pub trap_sound : (l now m : LocalState) (o : Offspring) (t : Trap) → l ≡ now → Sound l → stands (stop now) ≡ local.AtFork → o ≡ Trapped t → Comes o l → m ≡ trapped t (line_of l.frame.todo) l → Sound m
+pub trap_sound : (l now m : LocalState) (o : ForkedProcess) (t : Trap) → l ≡ now → Sound l → stands (stop now) ≡ local.AtFork → o ≡ Trapped t → Comes o l → m ≡ trapped t (line_of l.frame.todo) l → Sound m
 trap_sound l now m o t e s at is comes n =
-    walk_laws.moved_sound l m s (by_trap (stands_so l now local.AtFork e at) (ap parts (subst (λ o. Comes o l) is comes) ∙ ap local.Stuck (sym n)))
+    walk_laws.moved_sound l m s (by_trap (stands_so l now local.AtFork e at) (ap parts (subst (λ o. Comes o l) is comes) ∙ ap local.Trapped (sym n)))
 
-pub children_sound : (l now : LocalState) (o : Offspring) (ks : List LocalState) (left : Left) → l ≡ now → Sound l → stands (stop now) ≡ local.AtFork → o ≡ Children ks left → Comes o l → AllOf Sound ks
-children_sound l now o ks left e s at is comes =
-    walk_laws.fork_sound l (record (left_of l left) { forks = l.forks + 1 }) ks s (stands_so l now local.AtFork e at, ap parts (subst (λ o. Comes o l) is comes))
+pub children_sound : (l now : LocalState) (o : ForkedProcess) (ks : List LocalState) (remainder : Remainder) → l ≡ now → Sound l → stands (stop now) ≡ local.AtFork → o ≡ Children ks remainder → Comes o l → AllOf Sound ks
+children_sound l now o ks remainder e s at is comes =
+    walk_laws.fork_sound l (record (remainder_of l remainder) { forks = l.forks + 1 }) ks s (stands_so l now local.AtFork e at, ap parts (subst (λ o. Comes o l) is comes))
 
-pub lend_sound : (l now m : LocalState) (o : Offspring) (ks : List LocalState) (left : Left) (r : Result (Unit {0}) NoMemory) → l ≡ now → Sound l → stands (stop now) ≡ local.AtFork → o ≡ Children ks left → Comes o l
-    → OnOk r (m ≡ record (left_of l left) { forks = l.forks + 1 }) → OnErr r (m ≡ l) → Sound m
-lend_sound l now m o ks left (Ok x) e s at is comes ok err =
+pub lend_sound : (l now m : LocalState) (o : ForkedProcess) (ks : List LocalState) (remainder : Remainder) (r : Result (Unit {0}) NoMemory) → l ≡ now → Sound l → stands (stop now) ≡ local.AtFork → o ≡ Children ks remainder → Comes o l
+    → OnOk r (m ≡ record (remainder_of l remainder) { forks = l.forks + 1 }) → OnErr r (m ≡ l) → Sound m
+lend_sound l now m o ks remainder (Ok x) e s at is comes ok err =
     walk_laws.moved_sound l m s (by_fork ks (stands_so l now local.AtFork e at) (ap parts (subst (λ o. Comes o l) is comes) ∙ ap (λ p. local.Parted p ks) (sym ok)))
-lend_sound l now m o ks left (Err x) e s at is comes ok err = subst Sound (sym err) s
+lend_sound l now m o ks remainder (Err x) e s at is comes ok err = subst Sound (sym err) s
 
 -- one process more is a walk
 pub one_kept : (walks more rest after all : List LocalState) (p x : LocalState) → rest ≡ p ∷ after → x ≡ p → more ≡ walks ++ x ∷ [] → walks ++ rest ≡ all → more ++ after ≡ all

@@ -4,7 +4,7 @@ use Rattle.shim_local.specs.declared.local.Stop.{Stop}
 use Rattle.shim_local.specs.declared.local.Stop.TheVariants.{Quiet, Next, Put, Fork, Finish, Throw, Trapped}
 use Rattle.shim_local.specs.Process as local
 use Rattle.shim_local.specs.Views as views
-use Rattle.shim_units.specs.Stops as stops
+use Rattle.shim_process.specs.Stops as stops
 use Rattle.shim_process.specs.Ops.{stands}
 use Rattle.shim_walk.specs.StopViews.{stop_view}
 

@@ -1,8 +1,8 @@
 -- What a process has for its next statement.
 use Rattle.std.specs.Prelude.{ℕ, ◌+◌, List, map}
-use Rattle.shim_units.specs.LocalState.{LocalState, ExceptionPlace, is_full}
-use Rattle.shim_units.specs.Steps.{is_deep}
-use Rattle.shim_walk.specs.Asks.{Have}
+use Rattle.shim_process.specs.LocalState.{LocalState, ExceptionPlace, is_full}
+use Rattle.shim_process.specs.Steps.{is_deep}
+use Rattle.shim_walk.specs.NextActions.{Have}
 
 -- the exceptions of places in force
 abbrev pub exceptions_in : List ExceptionPlace → List ℕ
@@ -10,10 +10,10 @@ exceptions_in places = map (λ p. p.exception) places
 
 abbrev pub have_of : LocalState → Have
 have_of l = record {
-  cells = l.locations;
+  locations = l.locations;
   slots = l.frame.slots;
   labels = l.frame.labels;
-  armed = exceptions_in l.frame.places;
+  handlers = exceptions_in l.frame.places;
   first = l.base + l.frame.outer;
   units = l.program.units;
   unit = l.frame.unit;

@@ -2,10 +2,10 @@
 use Rattle.std.specs.Prelude.{ℤ, Option, Some, None}
 use Rattle.shim_units.specs.declared.unit.UStmt.{UStmt}
 use Rattle.shim_units.specs.declared.unit.UWhat.{UWhat, UWhat-F, out-UWhat}
-use Rattle.shim_units.specs.Todo.{On}
-use Rattle.shim_units.specs.LocalState.{LocalState}
-use Rattle.shim_units.specs.Ends.{gone}
-use Rattle.shim_units.specs.Steps.{half, stored_in}
+use Rattle.shim_process.specs.Todo.{On}
+use Rattle.shim_process.specs.LocalState.{LocalState}
+use Rattle.shim_process.specs.Ends.{gone}
+use Rattle.shim_process.specs.Steps.{half, stored_in}
 use Rattle.shim_walk.specs.declared.receiver.Receiver.{Receiver}
 use Rattle.shim_walk.specs.declared.receiver.Receiver.TheVariants.{Whole, First, Nothing}
 

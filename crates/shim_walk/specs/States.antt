@@ -2,19 +2,19 @@
 use Rattle.std.specs.Prelude.{ℕ, Bool, List, map, Option, Some, None}
 use Rattle.shim_base.specs.Paths.{Path, NamedChannel}
 use Rattle.shim_units.specs.declared.form.Form.{Form}
-use Rattle.shim_units.specs.Locations.{Locations}
-use Rattle.shim_units.specs.LocalState.{LocalState, Trapping}
-use Rattle.shim_walk.specs.declared.stuck.Stuck.{Stuck}
-use Rattle.shim_frames.specs.Activations.{Stand}
-use Rattle.shim_frames.specs.Depths.{shown}
+use Rattle.shim_process.specs.Locations.{Locations}
+use Rattle.shim_process.specs.LocalState.{LocalState, TrappedAt}
+use Rattle.shim_walk.specs.declared.trapped_at.TrappedAt.{TrappedAt as CodeTrappedAt}
+use Rattle.shim_walk_frames.specs.FrameViews.{FrameView}
+use Rattle.shim_walk_frames.specs.Depths.{shown}
 
-abbrev pub trapping_of : Option Stuck → Option Trapping
-trapping_of None = None
-trapping_of (Some s) = Some (record { kind = s.kind; line = s.line })
+abbrev pub trapped_at_of : Option CodeTrappedAt → Option TrappedAt
+trapped_at_of None = None
+trapped_at_of (Some s) = Some (record { kind = s.kind; line = s.line })
 
 -- of a process in units of this program
-abbrev pub state_of : Path → ℕ → ℕ → ℕ → List NamedChannel → Stand → List Stand → Locations → Option ℕ → Bool → Option Stuck → Form → List ℕ → LocalState
-state_of path base made forks given top callers cells input_at holds_output trap program input = record {
+abbrev pub state_of : Path → ℕ → ℕ → ℕ → List NamedChannel → FrameView → List FrameView → Locations → Option ℕ → Bool → Option CodeTrappedAt → Form → List ℕ → LocalState
+state_of path base made forks given top callers locations input_at holds_output trap program input = record {
   path = path;
   base = base;
   made = made;
@@ -22,10 +22,10 @@ state_of path base made forks given top callers cells input_at holds_output trap
   given = given;
   frame = shown program.units top;
   callers = map (shown program.units) callers;
-  locations = cells;
+  locations = locations;
   input_at = input_at;
   holds_output = holds_output;
-  trap = trapping_of trap;
+  trap = trapped_at_of trap;
   program = program;
   input = input;
 }

@@ -2,11 +2,11 @@
 use Rattle.std.specs.Prelude.{ℕ, Option, Some, None, if◌then◌else◌}
 use Rattle.shim_units.specs.declared.unit.UStmt.{UStmt}
 use Rattle.shim_units.specs.declared.unit.UWhat.{UWhat, UWhat-F, out-UWhat}
-use Rattle.shim_units.specs.LocalState.{location_of}
-use Rattle.shim_units.specs.Stops.{Stop as StopOf, AtQuiet, AtNext, AtPut, AtFork, AtFinish, AtThrow, AtTrap, at_next, at_put, at_fork}
+use Rattle.shim_process.specs.LocalState.{location_of}
+use Rattle.shim_process.specs.Stops.{Stop as StopOf, AtQuiet, AtNext, AtPut, AtFork, AtFinish, AtThrow, AtTrap, at_next, at_put, at_fork}
 use Rattle.shim_local.specs.declared.local.Stop.{Stop}
 use Rattle.shim_local.specs.declared.local.Stop.TheVariants.{Quiet, Next, Put, Fork, Finish, Throw, Trapped}
-use Rattle.shim_walk.specs.Asks.{Have, label_for}
+use Rattle.shim_walk.specs.NextActions.{Have, label_for}
 
 abbrev pub stop_view : Stop → StopOf
 stop_view Quiet = AtQuiet
@@ -18,7 +18,7 @@ stop_view (Throw x) = AtThrow x
 stop_view (Trapped t line) = AtTrap t line
 
 abbrev pub next_of : Have → ℕ → StopOf
-next_of h x = at_next (location_of h.cells h.slots x)
+next_of h x = at_next (location_of h.locations h.slots x)
 
 abbrev pub stands : UWhat-F UWhat UStmt → Have → StopOf
 stands (UWhat-F.Next x) h = next_of h x

@@ -1,6 +1,6 @@
 // The input of a program, byte by byte.
 ghost use Rattle.std.specs.Prelude.{◌≡◌, slice_get};
-ghost use Rattle.shim_units.specs.Steps as step;
+ghost use Rattle.shim_process.specs.Steps as step;
 
 /// The next byte, or -1 where the input is over or elsewhere.
 pub fn next_byte(at: Option<usize>, input: &[u8]) -> i64

@@ -1,22 +1,22 @@
 // The labels of exceptions.
 ghost use Rattle.std.specs.Prelude.{◌≡◌, ◌<◌, ◌+◌, ◌^◌, length, IfOk};
-ghost use Rattle.shim_walk.specs.Asks.{label_for, labels_for};
-ghost use Rattle.shim_walk.specs.Scenes.{have};
+ghost use Rattle.shim_walk.specs.NextActions.{label_for, labels_for};
+ghost use Rattle.shim_walk.specs.StatementContexts.{have};
 
-use crate::asks::Scene;
+use crate::next_action::StatementContext;
 use shim_base::{List, NoMemory};
-use shim_frames::text::label_of;
+use shim_walk_frames::text::label_of;
 use std::alloc::Global;
 
-/// That of an exception of the innermost unit: of its innermost place in force, or else the one that
+/// That of an exception of the innermost frame: of its innermost place in force, or else the one that
 /// was given.
-pub fn label_for(scene: &Scene<'_>, exception: u32) -> u32
-    requires { scene.now.first + length scene.now.places.now < 2 ^ 32 }
-    ensures { result ≡ label_for (have scene.now) exception }
+pub fn label_for(context: &StatementContext<'_>, exception: u32) -> u32
+    requires { context.now.first + length context.now.places.now < 2 ^ 32 }
+    ensures { result ≡ label_for (have context.now) exception }
 {
-    let mut label = label_of(scene.labels, exception);
-    let mut next = scene.first;
-    for place in scene.places {
+    let mut label = label_of(context.labels, exception);
+    let mut next = context.first;
+    for place in context.places {
         if place.exception == exception {
             label = next;
         }
@@ -26,13 +26,17 @@ pub fn label_for(scene: &Scene<'_>, exception: u32) -> u32
 }
 
 /// Those of the exceptions that a call or a branch passes on.
-pub fn labels_for(alloc: Global, scene: &Scene<'_>, throws: &[u32]) -> Result<List<u32>, NoMemory>
-    requires { scene.now.first + length scene.now.places.now < 2 ^ 32 }
-    ensures { IfOk result (λ passed. passed ≡ labels_for (have scene.now) throws.now) }
+pub fn labels_for(
+    alloc: Global,
+    context: &StatementContext<'_>,
+    throws: &[u32],
+) -> Result<List<u32>, NoMemory>
+    requires { context.now.first + length context.now.places.now < 2 ^ 32 }
+    ensures { IfOk result (λ passed. passed ≡ labels_for (have context.now) throws.now) }
 {
     let mut passed = List::new(alloc);
     for exception in throws {
-        passed.push(label_for(scene, *exception))?;
+        passed.push(label_for(context, *exception))?;
     }
     Ok(passed)
 }

@@ -2,62 +2,62 @@
 ghost use Rattle.std.specs.Prelude.{◌≡◌, ◌≢◌, ◌<◌, ◌≤◌, ◌↔◌, ◌+◌, ◌^◌, IsTrue, false, length, ℕ, ℤ, List as ListOf, IfOk, OnOk, OnErr};
 ghost use Rattle.std.specs.Option.{option_copied};
 ghost use Rattle.shim_units.specs.declared.unit.UStmt.{UStmt};
-ghost use Rattle.shim_units.specs.Ends.{gone, settled};
-ghost use Rattle.shim_units.specs.Forks.{all_back, all_lending, child, fork, input_back, is_far, item_branches, join, joined, lending, output_back, root, some_or};
-ghost use Rattle.shim_units.specs.Arguments.{arguments};
-ghost use Rattle.shim_units.specs.LocalState.{handlers, is_full, trapped, unit_at};
-ghost use Rattle.shim_units.specs.Steps.{armed, called, done, half, is_deep, line_of, made_in, next_deed, quiet, read_in, stored_in};
-ghost use Rattle.shim_units.specs.Stops.{AtQuiet, byte, put, put_value, receive, stop};
-ghost use Rattle.shim_units.specs.Sharers.{carries, given_at, handler, shares, value_of};
-ghost use Rattle.shim_units.specs.Unwinding.{unwind};
+ghost use Rattle.shim_process.specs.Ends.{gone, settled};
+ghost use Rattle.shim_process.specs.Forks.{all_back, all_lending, child, fork, input_back, is_far, item_branches, join, joined, lending, output_back, root, some_or};
+ghost use Rattle.shim_process.specs.Arguments.{arguments};
+ghost use Rattle.shim_process.specs.LocalState.{handlers, is_full, trapped, unit_at};
+ghost use Rattle.shim_process.specs.Steps.{installed, called, done, half, is_deep, line_of, made_in, next_action, quiet, read_in, stored_in};
+ghost use Rattle.shim_process.specs.Stops.{AtQuiet, byte, put, put_value, receive, stop};
+ghost use Rattle.shim_process.specs.Sharers.{carries, given_at, handler, shares, channel_value};
+ghost use Rattle.shim_process.specs.Unwinding.{unwind};
 ghost use Rattle.shim_walk.specs.Receivers.{received};
-ghost use Rattle.shim_walk.specs.Bred.{Breeds, bred};
-ghost use Rattle.shim_cells.specs.Given.{arguments_of};
-ghost use Rattle.shim_walk.specs.Deeds.{deed_of};
+ghost use Rattle.shim_walk.specs.ChildrenMade.{MakesChildren, children_made};
+ghost use Rattle.shim_locations.specs.Given.{arguments_of};
+ghost use Rattle.shim_walk.specs.Actions.{action_of};
 ghost use Rattle.shim_walk.specs.Entries.{inside_of};
-ghost use Rattle.shim_cells.specs.Halts.{Gives};
-ghost use Rattle.shim_cells.specs.Lendings.{left_of};
+ghost use Rattle.shim_locations.specs.ArgumentFaults.{Gives};
+ghost use Rattle.shim_locations.specs.Lendings.{remainder_of};
 ghost use Rattle.shim_walk.specs.Haves.{have_of};
-ghost use Rattle.shim_walk.specs.Partings.{Comes};
-ghost use Rattle.shim_frames.specs.Pieces.{at_all, left_all};
-ghost use Rattle.shim_walk.specs.Scenes.{have};
+ghost use Rattle.shim_walk.specs.ForkResults.{Comes};
+ghost use Rattle.shim_walk_frames.specs.Pieces.{at_all, left_all};
+ghost use Rattle.shim_walk.specs.StatementContexts.{have};
 ghost use Rattle.shim_walk.specs.StopViews.{stop_view};
-ghost use Rattle.shim_frames.specs.Turns.{way_of};
+ghost use Rattle.shim_walk_frames.specs.Turns.{successor_of};
 
-use crate::asks::{Scene, asks};
-use crate::birth::{branches_of, first_unit, labels_from};
+use crate::action::Action;
 use crate::count::one_more;
-use crate::deed::Deed;
 use crate::depth::{go_on, settle, unwind_to};
 use crate::entry::{Entry, make_entry};
+use crate::initial_frame::{branches_of, first_frame, labels_from};
 use crate::input::{next_byte, read_on};
 use crate::labels::labels_for;
+use crate::next_action::{StatementContext, next_action};
 use crate::put::{gives_at, low_bits};
 use crate::receiver::{Receiver, receiver_at};
-use crate::same_cells::same_cells;
-use crate::same_frames::{same_callers, same_frame};
+use crate::same_frames::{same_call_stack, same_frame};
+use crate::same_locations::same_locations;
 use crate::same_stands::{same_input, same_trap};
 use crate::stop::{stop_at, trapped};
-use crate::stuck::Stuck;
+use crate::trapped_at::TrappedAt;
 use crate::walk::Walk;
 use shim_base::{Chan, List, NoMemory, Path, Shared, Trap, Ty};
-use shim_cells::argument::Argument;
-use shim_cells::arguments::arguments;
-use shim_cells::cell::Cell;
-use shim_cells::cells::{Cells, number_of};
-use shim_cells::halt::Halt;
-use shim_cells::left::{Left, take};
-use shim_cells::passing::{branch_cells, channels_of, copy_channels, fresh, with_empties};
-use shim_cells::sharers::{declared, is_among, own_of};
-use shim_cells::streams::{input_for, output_for, takes_output};
-use shim_frames::activation::Activation;
-use shim_frames::armed::named;
-use shim_frames::callers::{Callers, armed_in};
-use shim_frames::text::{declared_of, line_of, params_of, slot_name, slots_of, stmt_in};
-use shim_frames::ways::Choice;
 use shim_local::Stop;
-use shim_same::{Same, same_all, same_program};
+use shim_locations::argument::Argument;
+use shim_locations::argument_fault::ArgumentFault;
+use shim_locations::arguments::arguments;
+use shim_locations::location::Location;
+use shim_locations::locations::{Locations, number_of};
+use shim_locations::passing::{branch_locations, channels_of, copy_channels, fresh, with_empties};
+use shim_locations::remainder::{Remainder, lend};
+use shim_locations::sharers::{declared, is_among, own_of};
+use shim_locations::streams::{input_for, output_for, takes_output};
 use shim_units::{Accepted, UBranch, UStmt};
+use shim_units_equality::{Same, same_all, same_program};
+use shim_walk_frames::call_stack::{CallStack, handler_in};
+use shim_walk_frames::frame::Frame;
+use shim_walk_frames::handler::name_and_line;
+use shim_walk_frames::successors::Successor;
+use shim_walk_frames::text::{declared_of, line_of, params_of, slot_name, slots_of, stmt_in};
 use std::alloc::Global;
 use std::marker::Model;
 use std::mem::replace;
@@ -65,9 +65,9 @@ use std::sync::Arc;
 
 /// What a fork comes to.
 #[derive(Drop)]
-pub enum Offspring {
+pub enum ForkedProcess {
     /// The children, in the order of the branches, and what they leave of the process.
-    Children(List<Process>, Left),
+    Children(List<Process>, Remainder),
     /// An argument traps, or a limit is passed.
     Trapped(Trap),
 }
@@ -75,17 +75,17 @@ pub enum Offspring {
 /// A process over the syntax of its units.
 #[derive(Drop)]
 pub struct Process {
-    home: Arc<Path>,
+    path: Arc<Path>,
     base: u32,
     made: u32,
     forks: u32,
     given: List<Chan>,
-    top: Activation,
-    callers: Callers,
-    cells: Cells,
+    top: Frame,
+    callers: CallStack,
+    locations: Locations,
     input_at: Option<usize>,
     holds_output: bool,
-    trap: Option<Stuck>,
+    trap: Option<TrappedAt>,
     program: Shared<Accepted>,
     input: Shared<List<u8>>,
 }
@@ -94,7 +94,7 @@ impl Model for Process {
     ghost use Rattle.std.specs.Prelude.{◌<◌, ◌^◌, ◌∷◌};
     ghost use Rattle.std.specs.Arc.{arc_value};
     ghost use Rattle.std.specs.Coded.{codes};
-    ghost use Rattle.shim_units.specs.LocalState.{LocalState};
+    ghost use Rattle.shim_process.specs.LocalState.{LocalState};
     ghost use Rattle.shim_units.specs.contracts.unit.Unit as unit;
     ghost use Rattle.shim_units.specs.contracts.unit.UWhat as what;
 
@@ -103,17 +103,17 @@ impl Model for Process {
     ghost coded = { Prim.hlevel (codes, unit.the_row.coded, what.the_row.coded) };
 
     ghost use Rattle.shim_walk.specs.States.{state_of};
-    ghost use Rattle.shim_frames.specs.Depths.{AllFit};
-    ghost use Rattle.shim_frames.specs.Fronts.{AllStand};
+    ghost use Rattle.shim_walk_frames.specs.Depths.{AllFit};
+    ghost use Rattle.shim_walk_frames.specs.Cursors.{AllStand};
 
-    ghost view = { λ p. state_of (arc_value p.home) p.base p.made p.forks p.given p.top p.callers p.cells p.input_at p.holds_output p.trap p.program p.input };
+    ghost view = { λ p. state_of (arc_value p.path) p.base p.made p.forks p.given p.top p.callers p.locations p.input_at p.holds_output p.trap p.program p.input };
 
     ghost invariant = { λ p. (p.base < 2 ^ 31) × AllFit p.program.units × AllStand p.program.units (p.top ∷ p.callers) };
 }
 
 impl Process {
     /// The process that runs `main`.
-    #[tactic(auto, using(shim_frames::proofs::Fitting::all_fit))]
+    #[tactic(auto, using(shim_walk_frames::proofs::Fitting::all_fit))]
     pub fn main(
         alloc: Global,
         program: Shared<Accepted>,
@@ -126,19 +126,19 @@ impl Process {
         let names = program.main_throws();
         let base = names.len() as u32 + 1;
         let labels = labels_from(alloc, 1, names)?;
-        let top = first_unit(alloc, units, unit, labels)?;
-        let cells = with_empties(List::new(alloc), slots_of(units, unit))?;
+        let top = first_frame(alloc, units, unit, labels)?;
+        let locations = with_empties(List::new(alloc), slots_of(units, unit))?;
         let input_at = input_for(params_of(units, unit), Some(0));
         let holds_output = takes_output(params_of(units, unit));
         Ok(Process {
-            home: Arc::new(alloc, Path::root(alloc))?,
+            path: Arc::new(alloc, Path::root(alloc))?,
             base,
             made: 0,
             forks: 0,
             given: List::new(alloc),
             top,
-            callers: Callers::new(alloc),
-            cells: Cells::from_list(cells),
+            callers: CallStack::new(alloc),
+            locations: Locations::from_list(locations),
             input_at,
             holds_output,
             trap: None,
@@ -151,7 +151,7 @@ impl Process {
     pub fn handlers(&self) -> u32
         ensures { result ≡ handlers self.now }
     {
-        self.base + self.top.armed()
+        self.base + self.top.handlers()
     }
 
     // It can make no more channels and do no more forks.
@@ -169,12 +169,12 @@ impl Process {
     }
 
     // What it has for a statement.
-    fn scene(&self) -> Scene<'_>
+    fn context(&self) -> StatementContext<'_>
         ensures value { have result ≡ have_of self.now }
         ensures bound { result.first + length result.places.now < 2 ^ 32 }
     {
-        Scene {
-            cells: self.cells.as_slice(),
+        StatementContext {
+            locations: self.locations.as_slice(),
             slots: self.top.slots(),
             labels: self.top.labels(),
             places: self.top.places(),
@@ -196,10 +196,10 @@ impl Process {
     }
 
     // What the statement at which it stands asks for.
-    fn deed(&self) -> Result<Deed, NoMemory>
-        ensures { IfOk result (λ d. deed_of d ≡ next_deed self.now) }
+    fn action(&self) -> Result<Action, NoMemory>
+        ensures { IfOk result (λ d. action_of d ≡ next_action self.now) }
     {
-        asks(self.given.allocator(), self.stmt(), &self.scene())
+        next_action(self.given.allocator(), self.stmt(), &self.context())
     }
 
     // The line of the statement at which it stands.
@@ -209,12 +209,12 @@ impl Process {
         line_of(self.stmt())
     }
 
-    // The value is stored in the slot's cell.
+    // The value is stored in the slot's location.
     fn store(&mut self, slot: u32, value: i64)
         ensures { self.new ≡ stored_in slot value self.old }
     {
         let number = number_of(self.top.slots(), slot);
-        self.cells.store(number, value);
+        self.locations.store(number, value);
     }
 
     // The second part of the statement comes next.
@@ -225,66 +225,70 @@ impl Process {
     }
 
     /// It stands trapped from now on.
-    pub fn stick(&mut self, kind: Trap)
+    pub fn trap(&mut self, kind: Trap)
         ensures { self.new ≡ trapped kind (line_of self.old.frame.todo) self.old }
     {
         let line = self.line();
-        self.trap = Some(Stuck { kind, line });
+        self.trap = Some(TrappedAt { kind, line });
     }
 
-    // The next byte of the input is stored in the slot's cell.
+    // The next byte of the input is stored in the slot's location.
     fn read(&mut self, slot: u32)
         ensures { self.new ≡ read_in slot self.old }
     {
         let value = next_byte(self.input_at, self.input.as_slice());
         let number = number_of(self.top.slots(), slot);
-        self.cells.store(number, value);
+        self.locations.store(number, value);
         self.input_at = read_on(self.input_at, self.input.as_slice());
     }
 
-    // The slot's cell is on a new channel. A refusal changes nothing.
-    #[tactic(auto, unfolding(shim_units::specs::LocalState::unit_at))]
+    // The slot's location is on a new channel. A refusal changes nothing.
+    #[tactic(auto, unfolding(shim_process::specs::LocalState::unit_at))]
     fn make(&mut self, ty: Ty, slot: u32, value: i64) -> Result<(), NoMemory>
         ensures ok { OnOk result (self.new ≡ made_in ty slot value self.old) }
         ensures err { OnErr result (self.new ≡ self.old) }
     {
         let name = slot_name(self.program.units(), self.top.unit(), slot);
-        let cell = fresh(&self.home, self.made, name, ty, value)?;
+        let location = fresh(&self.path, self.made, name, ty, value)?;
         let made = one_more(self.made)?;
         let number = number_of(self.top.slots(), slot);
-        self.cells.put(number, cell);
+        self.locations.put(number, location);
         self.made = made;
         Ok(())
     }
 
     // The exception comes into force, by this name. A refusal changes nothing.
-    fn arm(&mut self, exception: u32, name: u32) -> Result<(), NoMemory>
-        ensures ok { OnOk result (self.new ≡ record self.old { frame = armed exception name self.old.frame }) }
+    fn install(&mut self, exception: u32, name: u32) -> Result<(), NoMemory>
+        ensures ok { OnOk result (self.new ≡ record self.old { frame = installed exception name self.old.frame }) }
         ensures err { OnErr result (self.new ≡ self.old) }
     {
         let line = self.line();
-        self.top.arm(exception, name, line)
+        self.top.install(exception, name, line)
     }
 
-    // The unit is the innermost from now on. A refusal changes nothing.
+    // The frame of the unit is the innermost from now on. A refusal changes nothing.
     fn put_in(&mut self, unit: u32, given: &[Argument], labels: List<u32>) -> Result<(), NoMemory>
         ensures ok { OnOk result (self.new ≡ inside_of unit (arguments_of given.now) labels self.old) }
         ensures err { OnErr result (self.new ≡ self.old) }
     {
-        let first = self.cells.len();
+        let first = self.locations.len();
         let entered = make_entry(
             self.given.allocator(),
             self.program.units(),
             unit,
-            &self.home,
-            self.cells.as_slice(),
+            &self.path,
+            self.locations.as_slice(),
             self.made,
-            self.top.armed(),
+            self.top.handlers(),
             given,
             labels,
         )?;
-        let Entry { top, cells, made } = entered;
-        self.cells.append(cells)?;
+        let Entry {
+            top,
+            locations,
+            made,
+        } = entered;
+        self.locations.append(locations)?;
         let caller = replace(&mut self.top, top);
         match self.callers.push(caller) {
             Ok(()) => {
@@ -293,7 +297,7 @@ impl Process {
             }
             Err(failed) => {
                 self.top = failed.value;
-                self.cells.truncate(first);
+                self.locations.truncate(first);
                 Err(NoMemory)
             }
         }
@@ -307,7 +311,7 @@ impl Process {
             self.program.units(),
             &mut self.top,
             &mut self.callers,
-            &mut self.cells,
+            &mut self.locations,
         );
     }
 
@@ -323,47 +327,47 @@ impl Process {
     }
 
     // What the statement asked for is done. A refusal changes nothing.
-    fn act(&mut self, deed: Deed) -> Result<(), NoMemory>
-        ensures ok { OnOk result (self.new ≡ done (deed_of deed) self.old) }
+    fn act(&mut self, action: Action) -> Result<(), NoMemory>
+        ensures ok { OnOk result (self.new ≡ done (action_of action) self.old) }
         ensures err { OnErr result (self.new ≡ self.old) }
     {
-        match deed {
-            Deed::Go(choice) => self.go(choice),
-            Deed::Store(slot, value) => {
+        match action {
+            Action::Go(successor) => self.go(successor),
+            Action::Store(slot, value) => {
                 self.store(slot, value);
-                self.go(Choice::On);
+                self.go(Successor::On);
             }
-            Deed::StoreFirst(slot, value) => {
+            Action::StoreFirst(slot, value) => {
                 self.store(slot, value);
                 self.halve();
             }
-            Deed::Make(ty, slot, value) => {
+            Action::Make(ty, slot, value) => {
                 self.make(ty, slot, value)?;
-                self.go(Choice::On);
+                self.go(Successor::On);
             }
-            Deed::Read(slot) => {
+            Action::Read(slot) => {
                 self.read(slot);
-                self.go(Choice::On);
+                self.go(Successor::On);
             }
-            Deed::Enter(unit, given, labels) => self.enter(unit, given.as_slice(), labels)?,
-            Deed::Arm(exception, name) => {
-                self.arm(exception, name)?;
-                self.go(Choice::First);
+            Action::Enter(unit, given, labels) => self.enter(unit, given.as_slice(), labels)?,
+            Action::Install(exception, name) => {
+                self.install(exception, name)?;
+                self.go(Successor::First);
             }
-            Deed::Stick(trap) => self.stick(trap),
-            Deed::Wait => {}
+            Action::Trapped(trap) => self.trap(trap),
+            Action::Wait => {}
         }
         Ok(())
     }
 
     /// One quiet step. A refusal changes nothing.
-    #[tactic(auto, unfolding(shim_units::specs::Steps::quiet))]
+    #[tactic(auto, unfolding(shim_process::specs::Steps::quiet))]
     pub fn step(&mut self) -> Result<(), NoMemory>
         ensures ok { OnOk result (self.new ≡ quiet self.old) }
         ensures err { OnErr result (self.new ≡ self.old) }
     {
-        let deed = self.deed()?;
-        self.act(deed)
+        let action = self.action()?;
+        self.act(action)
     }
 
     /// At what it stands.
@@ -371,8 +375,8 @@ impl Process {
         ensures { stop_view result ≡ stop self.now }
     {
         match self.trap {
-            Some(stuck) => trapped(stuck),
-            None => stop_at(self.stmt(), &self.scene()),
+            Some(trap) => trapped(trap),
+            None => stop_at(self.stmt(), &self.context()),
         }
     }
 
@@ -380,23 +384,23 @@ impl Process {
     fn put_value(&self) -> Result<i64, Trap>
         ensures { result ≡ put_value self.now }
     {
-        gives_at(self.stmt(), &self.scene())
+        gives_at(self.stmt(), &self.context())
     }
 
-    /// The byte of the `put` at which it stands, which is then done. `None` exactly where the expression
-    /// traps, and then it stands trapped.
-    #[tactic(auto, unfolding(shim_units::specs::Stops::put, shim_units::specs::Stops::byte))]
+    /// The byte of the `put` at which it stands, which is then done. Where the expression traps, there is
+    /// none, and the process stands trapped.
+    #[tactic(auto, unfolding(shim_process::specs::Stops::put, shim_process::specs::Stops::byte))]
     pub fn put(&mut self) -> Option<u8>
         ensures byte { result ≡ byte self.old }
         ensures after { self.new ≡ put self.old }
     {
         match self.put_value() {
             Ok(value) => {
-                self.go(Choice::On);
+                self.go(Successor::On);
                 Some(low_bits(value))
             }
             Err(trap) => {
-                self.stick(trap);
+                self.trap(trap);
                 None
             }
         }
@@ -416,7 +420,7 @@ impl Process {
         match self.receiver() {
             Receiver::Whole(slot) => {
                 self.store(slot, v);
-                self.go(Choice::On);
+                self.go(Successor::On);
             }
             Receiver::First(slot) => {
                 self.store(slot, v);
@@ -444,7 +448,7 @@ impl Process {
     pub fn path(&self) -> &Path
         ensures { result.now ≡ self.now.path }
     {
-        &self.home
+        &self.path
     }
 
     /// How many exception places are in force around it.
@@ -455,29 +459,29 @@ impl Process {
     }
 
     /// Whether an argument gave it the channel, or it declared it.
-    #[tactic(auto, unfolding(shim_units::specs::Sharers::shares))]
+    #[tactic(auto, unfolding(shim_process::specs::Sharers::shares))]
     pub fn shares(&self, c: &Chan) -> bool
         ensures { result ≡ shares self.now c.now.channel }
     {
-        is_among(self.given.as_slice(), c) || declared(&self.home, self.made, c)
+        is_among(self.given.as_slice(), c) || declared(&self.path, self.made, c)
     }
 
     /// Whether the channel's own variable is one of its own.
-    #[tactic(auto, unfolding(shim_units::specs::Sharers::carries))]
+    #[tactic(auto, unfolding(shim_process::specs::Sharers::carries))]
     pub fn carries(&self, c: &Chan) -> bool
         ensures { result ≡ carries self.now c.now.channel }
     {
-        own_of(self.cells.as_slice(), c).is_some()
+        own_of(self.locations.as_slice(), c).is_some()
     }
 
     /// The value of the channel's own variable, where it carries that.
-    #[tactic(auto, unfolding(shim_units::specs::Sharers::value_of))]
+    #[tactic(auto, unfolding(shim_process::specs::Sharers::channel_value))]
     pub fn value(&self, c: &Chan) -> i64
-        ensures { result ≡ value_of self.now c.now.channel }
+        ensures { result ≡ channel_value self.now c.now.channel }
     {
-        match own_of(self.cells.as_slice(), c) {
+        match own_of(self.locations.as_slice(), c) {
             None => 0,
-            Some(cell) => cell.value(),
+            Some(location) => location.value(),
         }
     }
 
@@ -490,7 +494,7 @@ impl Process {
             self.program.units(),
             &mut self.top,
             &mut self.callers,
-            &mut self.cells,
+            &mut self.locations,
             place,
         );
     }
@@ -510,7 +514,7 @@ impl Process {
         ensures { result ≡ handler self.now label }
     {
         let place = label.saturating_sub(self.base);
-        named(armed_in(&self.top, self.callers.as_slice(), place))
+        name_and_line(handler_in(&self.top, self.callers.as_slice(), place))
     }
 
     // The branches of the fork at which it stands.
@@ -524,14 +528,14 @@ impl Process {
     fn is_far(&self) -> bool
         ensures { result ≡ is_far self.now }
     {
-        self.home.pairs().len() >= 64
+        self.path.pairs().len() >= 64
     }
 
-    // All of its cells and streams.
-    fn whole(&self) -> Left
-        ensures { left_of self.now result ≡ self.now }
+    // All of its locations and streams.
+    fn whole(&self) -> Remainder
+        ensures { remainder_of self.now result ≡ self.now }
     {
-        Left {
+        Remainder {
             taken: List::new(self.given.allocator()),
             input_at: self.input_at,
             holds_output: self.holds_output,
@@ -541,12 +545,12 @@ impl Process {
     // The child in this branch, with these arguments, where the branches before have left so much.
     fn child(
         &self,
-        left: &Left,
+        remainder: &Remainder,
         place: u32,
         branch: &UBranch,
         given: &[Argument],
     ) -> Result<Process, NoMemory>
-        ensures { IfOk result (λ process. process ≡ child (left_of self.now left.now) place branch.now (arguments_of given.now)) }
+        ensures { IfOk result (λ process. process ≡ child (remainder_of self.now remainder.now) place branch.now (arguments_of given.now)) }
     {
         let alloc = self.given.allocator();
         let units = self.program.units();
@@ -557,30 +561,30 @@ impl Process {
         }
         let program = self.program.share()?;
         let input = self.input.share()?;
-        let home = Arc::new(alloc, self.home.child(self.forks, place)?)?;
-        let passed = branch_cells(
+        let path = Arc::new(alloc, self.path.child(self.forks, place)?)?;
+        let passed = branch_locations(
             alloc,
-            &home,
-            self.cells.as_slice(),
-            left.taken.as_slice(),
+            &path,
+            self.locations.as_slice(),
+            remainder.taken.as_slice(),
             given,
         )?;
         let made = passed.made;
-        let given = channels_of(alloc, passed.cells.as_slice())?;
-        let cells = with_empties(passed.cells, declared_of(units, unit))?;
-        let labels = labels_for(alloc, &self.scene(), branch.call.throws.as_slice())?;
-        let top = first_unit(alloc, units, unit, labels)?;
+        let given = channels_of(alloc, passed.locations.as_slice())?;
+        let locations = with_empties(passed.locations, declared_of(units, unit))?;
+        let labels = labels_for(alloc, &self.context(), branch.call.throws.as_slice())?;
+        let top = first_frame(alloc, units, unit, labels)?;
         Ok(Process {
-            home,
+            path,
             base,
             made,
             forks: 0,
             given,
             top,
-            callers: Callers::new(alloc),
-            cells: Cells::from_list(cells),
-            input_at: input_for(params_of(units, unit), left.input_at),
-            holds_output: output_for(params_of(units, unit), left.holds_output),
+            callers: CallStack::new(alloc),
+            locations: Locations::from_list(locations),
+            input_at: input_for(params_of(units, unit), remainder.input_at),
+            holds_output: output_for(params_of(units, unit), remainder.holds_output),
             trap: None,
             program,
             input,
@@ -588,13 +592,13 @@ impl Process {
     }
 
     // The arguments of a branch.
-    fn branch_arguments(&self, branch: &UBranch) -> Result<List<Argument>, Halt>
+    fn branch_arguments(&self, branch: &UBranch) -> Result<List<Argument>, ArgumentFault>
         ensures { Gives result (arguments self.now.locations self.now.frame.slots (unit_at self.now.program branch.now.call.unit).params branch.now.call.args) }
     {
         let params = params_of(self.program.units(), branch.call.unit);
         arguments(
             self.given.allocator(),
-            self.cells.as_slice(),
+            self.locations.as_slice(),
             self.top.slots(),
             params,
             branch.call.args.as_slice(),
@@ -602,66 +606,75 @@ impl Process {
     }
 
     // A branch takes its arguments of what is left.
-    fn take(&self, left: &mut Left, branch: &UBranch) -> Result<(), NoMemory>
-        ensures { OnOk result (left_of self.now left.new ≡ lending (left_of self.now left.old) branch.now) }
+    fn lend_branch(&self, remainder: &mut Remainder, branch: &UBranch) -> Result<(), NoMemory>
+        ensures { OnOk result (remainder_of self.now remainder.new ≡ lending (remainder_of self.now remainder.old) branch.now) }
     {
         let params = params_of(self.program.units(), branch.call.unit);
-        take(left, self.top.slots(), params, branch.call.args.as_slice())
+        lend(
+            remainder,
+            self.top.slots(),
+            params,
+            branch.call.args.as_slice(),
+        )
     }
 
     // The children of these branches, from the left, each of what those before it have left; the first
     // trap of an argument stands.
-    fn children(&self, left: &mut Left, branches: &[UBranch]) -> Result<List<Process>, Halt>
-        ensures children { Breeds result (bred self.now (left_of self.now left.old) 0 branches.now) }
-        ensures left { OnOk result (left_of self.now left.new ≡ all_lending (left_of self.now left.old) branches.now) }
+    fn children(
+        &self,
+        remainder: &mut Remainder,
+        branches: &[UBranch],
+    ) -> Result<List<Process>, ArgumentFault>
+        ensures children { MakesChildren result (children_made self.now (remainder_of self.now remainder.old) 0 branches.now) }
+        ensures remainder { OnOk result (remainder_of self.now remainder.new ≡ all_lending (remainder_of self.now remainder.old) branches.now) }
     {
         let mut children = List::new(self.given.allocator());
         let mut place = 0;
         for branch in branches {
             let given = self.branch_arguments(branch)?;
-            let child = self.child(left, place, branch, given.as_slice())?;
+            let child = self.child(remainder, place, branch, given.as_slice())?;
             children.push(child)?;
-            self.take(left, branch)?;
+            self.lend_branch(remainder, branch)?;
             place = one_more(place)?;
         }
         Ok(children)
     }
 
     /// It has no more than this left, and one fork more is done. A refusal changes nothing.
-    pub fn lend(&mut self, left: &Left) -> Result<(), NoMemory>
-        ensures ok { OnOk result (self.new ≡ record (left_of self.old left.now) { forks = self.old.forks + 1 }) }
+    pub fn lend(&mut self, remainder: &Remainder) -> Result<(), NoMemory>
+        ensures ok { OnOk result (self.new ≡ record (remainder_of self.old remainder.now) { forks = self.old.forks + 1 }) }
         ensures err { OnErr result (self.new ≡ self.old) }
     {
         let forks = one_more(self.forks)?;
-        self.cells.lend_all(left.taken.as_slice());
-        self.input_at = left.input_at;
-        self.holds_output = left.holds_output;
+        self.locations.lend_all(remainder.taken.as_slice());
+        self.input_at = remainder.input_at;
+        self.holds_output = remainder.holds_output;
         self.forks = forks;
         Ok(())
     }
 
     /// What the fork at which it stands comes to. The process stays as it is.
     #[tactic(auto, using(crate::proofs::Forking::traps, crate::proofs::Forking::too_deep, crate::proofs::Forking::forked))]
-    pub fn offspring(&self) -> Result<Offspring, NoMemory>
-        ensures { IfOk result (λ offspring. Comes offspring self.now) }
+    pub fn forked(&self) -> Result<ForkedProcess, NoMemory>
+        ensures { IfOk result (λ forked. Comes forked self.now) }
     {
-        let mut left = self.whole();
-        let children = match self.children(&mut left, self.branches()) {
+        let mut remainder = self.whole();
+        let children = match self.children(&mut remainder, self.branches()) {
             Ok(children) => children,
-            Err(Halt::Trapped(trap)) => return Ok(Offspring::Trapped(trap)),
-            Err(Halt::NoMemory) => return Err(NoMemory),
+            Err(ArgumentFault::Trapped(trap)) => return Ok(ForkedProcess::Trapped(trap)),
+            Err(ArgumentFault::NoMemory) => return Err(NoMemory),
         };
         if self.is_far() || self.is_full() {
-            return Ok(Offspring::Trapped(Trap::Depth));
+            return Ok(ForkedProcess::Trapped(Trap::Depth));
         }
-        Ok(Offspring::Children(children, left))
+        Ok(ForkedProcess::Children(children, remainder))
     }
 
-    // Its cells.
-    fn cells(&self) -> &[Option<Cell>]
+    // Its locations.
+    fn locations(&self) -> &[Option<Location>]
         ensures { result.now ≡ self.now.locations }
     {
-        self.cells.as_slice()
+        self.locations.as_slice()
     }
 
     // How many bytes of the input were read, where it has that.
@@ -676,20 +689,20 @@ impl Process {
         ensures { self.new ≡ joined self.old children.now }
     {
         let branches = branches_of(stmt_in(self.program.units(), &self.top));
-        regain_all(&mut self.cells, self.top.slots(), branches, children);
+        regain_all(&mut self.locations, self.top.slots(), branches, children);
         self.input_at = input_back(children, self.input_at);
         self.holds_output = output_back(children, self.holds_output);
     }
 
     /// Takes back the values of the children of its last fork, given in order. It then stands behind
     /// the fork, where `goes_on`, and else still at it.
-    #[tactic(auto, unfolding(shim_units::specs::Forks::join))]
+    #[tactic(auto, unfolding(shim_process::specs::Forks::join))]
     pub fn join(&mut self, children: &[Walk], goes_on: bool)
         ensures { self.new ≡ join self.old children.now goes_on }
     {
         self.regain(children);
         if goes_on {
-            self.go(Choice::On);
+            self.go(Successor::On);
         }
     }
 
@@ -700,20 +713,20 @@ impl Process {
         let alloc = self.given.allocator();
         let program = self.program.share()?;
         let input = self.input.share()?;
-        let home = Arc::try_clone(&self.home)?;
+        let path = Arc::try_clone(&self.path)?;
         let given = copy_channels(alloc, self.given.as_slice())?;
-        let cells = self.cells.copy(alloc)?;
+        let locations = self.locations.copy(alloc)?;
         let callers = self.callers.copy(alloc)?;
         let top = self.top.copy()?;
         Ok(Process {
-            home,
+            path,
             base: self.base,
             made: self.made,
             forks: self.forks,
             given,
             top,
             callers,
-            cells,
+            locations,
             input_at: self.input_at,
             holds_output: self.holds_output,
             trap: self.trap,
@@ -734,20 +747,20 @@ impl Process {
             && same_all(self.given.as_slice(), other.given.as_slice())
     }
 
-    // Whether the other process stands at the same place, if it runs the same program.
+    // Whether the other process has the same frames, if it runs the same program.
     fn same_stand(&self, other: &Process) -> bool
         ensures { self.now.program ≡ other.now.program → (IsTrue result ↔ ((self.now.frame ≡ other.now.frame) × (self.now.callers ≡ other.now.callers))) }
     {
         let units = self.program.units();
         same_frame(units, &self.top, &other.top)
-            && same_callers(units, &self.callers, &other.callers)
+            && same_call_stack(units, &self.callers, &other.callers)
     }
 
     // Whether the other process has the same variables and streams, and is trapped alike.
     fn same_keeping(&self, other: &Process) -> bool
         ensures { IsTrue result ↔ ((self.now.locations ≡ other.now.locations) × (self.now.input_at ≡ other.now.input_at) × (self.now.holds_output ≡ other.now.holds_output) × (self.now.trap ≡ other.now.trap)) }
     {
-        same_cells(self.cells.as_slice(), other.cells.as_slice())
+        same_locations(self.locations.as_slice(), other.locations.as_slice())
             && same_input(self.input_at, other.input_at)
             && self.holds_output == other.holds_output
             && same_trap(self.trap, other.trap)
@@ -774,30 +787,34 @@ impl Process {
     }
 
     /// On from the statement at which it stands, with the ends that follow.
-    fn go(&mut self, choice: Choice)
-        ensures { self.new ≡ gone (way_of choice) self.old }
+    fn go(&mut self, successor: Successor)
+        ensures { self.new ≡ gone (successor_of successor) self.old }
     {
         go_on(
             self.program.units(),
             &mut self.top,
             &mut self.callers,
-            &mut self.cells,
-            choice,
+            &mut self.locations,
+            successor,
         );
     }
 }
 
-// The cells of each child give back what its branch took.
-fn regain_all(cells: &mut Cells, slots: &[usize], branches: &[UBranch], children: &[Walk])
-    ensures { cells.new ≡ all_back slots.now branches.now children.now cells.old }
+// The locations of each child give back what its branch took.
+fn regain_all(locations: &mut Locations, slots: &[usize], branches: &[UBranch], children: &[Walk])
+    ensures { locations.new ≡ all_back slots.now branches.now children.now locations.old }
 {
-    let mut left = children;
+    let mut remainder = children;
     for branch in branches {
-        let Some((child, rest)) = left.split_first() else {
+        let Some((child, rest)) = remainder.split_first() else {
             return;
         };
-        cells.regain_args(slots, branch.call.args.as_slice(), child.process().cells());
-        left = rest;
+        locations.regain_args(
+            slots,
+            branch.call.args.as_slice(),
+            child.process().locations(),
+        );
+        remainder = rest;
     }
 }
 

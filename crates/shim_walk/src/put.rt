@@ -2,31 +2,31 @@
 ghost use Rattle.std.specs.Prelude.{◌≡◌, Ok, Some};
 ghost use Rattle.std.specs.Option.{option_copied};
 ghost use Rattle.shim_units.specs.declared.unit.UWhat.{out-UWhat};
-ghost use Rattle.shim_units.specs.Stops.{low_bits};
+ghost use Rattle.shim_process.specs.Stops.{low_bits};
 ghost use Rattle.shim_walk.specs.Puts.{gives, gives_at};
-ghost use Rattle.shim_walk.specs.Scenes.{have};
+ghost use Rattle.shim_walk.specs.StatementContexts.{have};
 
-use crate::asks::Scene;
+use crate::next_action::StatementContext;
 use shim_base::Trap;
-use shim_cells::value::value_of;
+use shim_locations::value::value_of;
 use shim_units::{UStmt, UWhat};
 
-fn what_gives(stmt: &UStmt, scene: &Scene<'_>) -> Result<i64, Trap>
-    ensures { result ≡ gives (out-UWhat stmt.now.what) (have scene.now) }
+fn what_gives(stmt: &UStmt, context: &StatementContext<'_>) -> Result<i64, Trap>
+    ensures { result ≡ gives (out-UWhat stmt.now.what) (have context.now) }
 {
     match &stmt.what {
-        UWhat::Put(_, expr) => value_of(expr, scene.cells, scene.slots),
+        UWhat::Put(_, expr) => value_of(expr, context.locations, context.slots),
         _ => Ok(0),
     }
 }
 
 /// The number that is put, or the trap.
-pub fn gives_at(stmt: Option<&UStmt>, scene: &Scene<'_>) -> Result<i64, Trap>
-    ensures { result ≡ gives_at (option_copied stmt.entry) (have scene.now) }
+pub fn gives_at(stmt: Option<&UStmt>, context: &StatementContext<'_>) -> Result<i64, Trap>
+    ensures { result ≡ gives_at (option_copied stmt.entry) (have context.now) }
 {
     match stmt {
         None => Ok(0),
-        Some(stmt) => what_gives(stmt, scene),
+        Some(stmt) => what_gives(stmt, context),
     }
 }
 

@@ -1,17 +1,17 @@
-// When two units that processes are in are the same.
+// When two frames are the same.
 ghost use Rattle.std.specs.Prelude.{◌≡◌, ◌↔◌, ◌<◌, ◌^◌, map, IsTrue};
-ghost use Rattle.shim_frames.specs.Activations.{place_of};
-ghost use Rattle.shim_frames.specs.Depths.{AllFit, shown};
-ghost use Rattle.shim_frames.specs.Pieces.{left_all};
-ghost use Rattle.shim_frames.specs.Ways.{size_all};
+ghost use Rattle.shim_walk_frames.specs.FrameViews.{place_of};
+ghost use Rattle.shim_walk_frames.specs.Depths.{AllFit, shown};
+ghost use Rattle.shim_walk_frames.specs.Pieces.{left_all};
+ghost use Rattle.shim_walk_frames.specs.Successors.{size_all};
 
-use shim_frames::activation::Activation;
-use shim_frames::armed::Armed;
-use shim_frames::callers::Callers;
-use shim_frames::text::text_of;
-use shim_frames::ways::size_all;
-use shim_same::same_all;
 use shim_units::{UStmt, Unit};
+use shim_units_equality::same_all;
+use shim_walk_frames::call_stack::CallStack;
+use shim_walk_frames::frame::Frame;
+use shim_walk_frames::handler::Handler;
+use shim_walk_frames::successors::size_all;
+use shim_walk_frames::text::text_of;
 
 // Whether the same is left to do from two numbers of a text: nothing is from each behind its last.
 #[tactic(auto, using(crate::proofs::SamePlaces::both_behind, crate::proofs::SamePlaces::same_left))]
@@ -27,7 +27,7 @@ fn same_place(body: &[UStmt], one: u32, other: u32) -> bool
 }
 
 // Whether they are the same exception place of a text.
-fn same_armed(body: &[UStmt], one: Armed, other: Armed) -> bool
+fn same_handler(body: &[UStmt], one: Handler, other: Handler) -> bool
     requires { size_all body.now < 2 ^ 32 }
     ensures { IsTrue result ↔ (place_of body.now one ≡ place_of body.now other) }
 {
@@ -38,25 +38,25 @@ fn same_armed(body: &[UStmt], one: Armed, other: Armed) -> bool
 }
 
 // Whether the same exception places of a text are in force.
-fn same_places(body: &[UStmt], one: &[Armed], other: &[Armed]) -> bool
+fn same_places(body: &[UStmt], one: &[Handler], other: &[Handler]) -> bool
     requires { size_all body.now < 2 ^ 32 }
     ensures { IsTrue result ↔ (map (place_of body.now) one.now ≡ map (place_of body.now) other.now) }
 {
-    let mut left = other;
+    let mut remainder = other;
     for place in one {
-        let Some((first, rest)) = left.split_first() else {
+        let Some((first, rest)) = remainder.split_first() else {
             return false;
         };
-        if !same_armed(body, *place, *first) {
+        if !same_handler(body, *place, *first) {
             return false;
         }
-        left = rest;
+        remainder = rest;
     }
-    left.is_empty()
+    remainder.is_empty()
 }
 
-// Whether they have the same variables and labels, and were entered at the same place.
-fn same_holdings(one: &Activation, other: &Activation) -> bool
+// Whether they have the same slots and labels, and the same floor and outer places.
+fn same_holdings(one: &Frame, other: &Frame) -> bool
     ensures { IsTrue result ↔ ((one.now.slots ≡ other.now.slots) × (one.now.labels ≡ other.now.labels) × (one.now.floor ≡ other.now.floor) × (one.now.outer ≡ other.now.outer)) }
 {
     same_all(one.slots(), other.slots())
@@ -66,8 +66,8 @@ fn same_holdings(one: &Activation, other: &Activation) -> bool
 }
 
 /// Whether they are the same in a program of these units.
-#[tactic(auto, using(shim_frames::proofs::Returns::text_fits))]
-pub fn same_frame(units: &[Unit], one: &Activation, other: &Activation) -> bool
+#[tactic(auto, using(shim_walk_frames::proofs::Returns::text_fits))]
+pub fn same_frame(units: &[Unit], one: &Frame, other: &Frame) -> bool
     requires { AllFit units.now }
     ensures { IsTrue result ↔ (shown units.now one.now ≡ shown units.now other.now) }
 {
@@ -82,26 +82,26 @@ pub fn same_frame(units: &[Unit], one: &Activation, other: &Activation) -> bool
 }
 
 // Whether they are the same, one by one.
-fn same_frames(units: &[Unit], one: &[Activation], other: &[Activation]) -> bool
+fn same_frames(units: &[Unit], one: &[Frame], other: &[Frame]) -> bool
     requires { AllFit units.now }
     ensures { IsTrue result ↔ (map (shown units.now) one.now ≡ map (shown units.now) other.now) }
 {
-    let mut left = other;
+    let mut remainder = other;
     for frame in one {
-        let Some((first, rest)) = left.split_first() else {
+        let Some((first, rest)) = remainder.split_first() else {
             return false;
         };
         if !same_frame(units, frame, first) {
             return false;
         }
-        left = rest;
+        remainder = rest;
     }
-    left.is_empty()
+    remainder.is_empty()
 }
 
-/// Whether the same units wait, in a program of these units.
+/// Whether the same frames wait, in a program of these units.
 #[tactic(auto, using(crate::proofs::SamePlaces::turned))]
-pub fn same_callers(units: &[Unit], one: &Callers, other: &Callers) -> bool
+pub fn same_call_stack(units: &[Unit], one: &CallStack, other: &CallStack) -> bool
     requires { AllFit units.now }
     ensures { IsTrue result ↔ (map (shown units.now) one.now ≡ map (shown units.now) other.now) }
 {

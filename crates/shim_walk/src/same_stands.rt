@@ -1,8 +1,8 @@
 // When two processes are trapped alike, and have read as much.
 ghost use Rattle.std.specs.Prelude.{◌≡◌, ◌↔◌, IsTrue};
-ghost use Rattle.shim_walk.specs.States.{trapping_of};
+ghost use Rattle.shim_walk.specs.States.{trapped_at_of};
 
-use crate::stuck::Stuck;
+use crate::trapped_at::TrappedAt;
 
 /// Whether both have the input, and read as many bytes of it, or neither has it.
 pub fn same_input(one: Option<usize>, other: Option<usize>) -> bool
@@ -16,12 +16,12 @@ pub fn same_input(one: Option<usize>, other: Option<usize>) -> bool
 }
 
 /// Whether both stand trapped for the same reason in the same line, or neither stands trapped.
-pub fn same_trap(one: Option<Stuck>, other: Option<Stuck>) -> bool
-    ensures { IsTrue result ↔ (trapping_of one ≡ trapping_of other) }
+pub fn same_trap(one: Option<TrappedAt>, other: Option<TrappedAt>) -> bool
+    ensures { IsTrue result ↔ (trapped_at_of one ≡ trapped_at_of other) }
 {
     match (one, other) {
         (None, None) => true,
-        (Some(stuck), Some(other)) => stuck.kind == other.kind && stuck.line == other.line,
+        (Some(trap), Some(other)) => trap.kind == other.kind && trap.line == other.line,
         _ => false,
     }
 }

@@ -2,46 +2,46 @@
 ghost use Rattle.std.specs.Prelude.{◌≡◌, ◌<◌, ◌+◌, ◌^◌, length, if◌then◌else◌};
 ghost use Rattle.std.specs.Option.{option_copied};
 ghost use Rattle.shim_units.specs.declared.unit.UWhat.{out-UWhat};
-ghost use Rattle.shim_units.specs.Stops as stops;
-ghost use Rattle.shim_walk.specs.Scenes.{have};
+ghost use Rattle.shim_process.specs.Stops as stops;
+ghost use Rattle.shim_walk.specs.StatementContexts.{have};
 ghost use Rattle.shim_walk.specs.StopViews.{next_of, stands, stands_at, stop_view};
 
-use crate::asks::Scene;
 use crate::labels::label_for;
-use crate::stuck::Stuck;
-use shim_cells::cells::{cell_at, number_of};
+use crate::next_action::StatementContext;
+use crate::trapped_at::TrappedAt;
 use shim_local::Stop;
+use shim_locations::locations::{location_at, number_of};
 use shim_units::{UBranch, UStmt, UWhat};
 
 // At a `next` of a variable.
-fn next_of<'a>(scene: &Scene<'a>, slot: u32) -> Stop<'a>
-    ensures { stop_view result ≡ next_of (have scene.now) slot }
+fn next_of<'a>(context: &StatementContext<'a>, slot: u32) -> Stop<'a>
+    ensures { stop_view result ≡ next_of (have context.now) slot }
 {
-    match cell_at(scene.cells, number_of(scene.slots, slot)) {
+    match location_at(context.locations, number_of(context.slots, slot)) {
         None => Stop::Finish,
-        Some(cell) => Stop::Next(cell.chan()),
+        Some(location) => Stop::Next(location.chan()),
     }
 }
 
 // At the meeting behind an assignment, or at the assignment.
-fn meets_second<'a>(scene: &Scene<'a>, slot: u32) -> Stop<'a>
-    ensures { stop_view result ≡ if scene.now.halfway then next_of (have scene.now) slot else stops.AtQuiet }
+fn meets_second<'a>(context: &StatementContext<'a>, slot: u32) -> Stop<'a>
+    ensures { stop_view result ≡ if context.now.halfway then next_of (have context.now) slot else stops.AtQuiet }
 {
-    if scene.halfway {
-        next_of(scene, slot)
+    if context.halfway {
+        next_of(context, slot)
     } else {
         Stop::Quiet
     }
 }
 
 // At the meeting before an assignment, or at the assignment.
-fn meets_first<'a>(scene: &Scene<'a>, slot: u32) -> Stop<'a>
-    ensures { stop_view result ≡ if scene.now.halfway then stops.AtQuiet else next_of (have scene.now) slot }
+fn meets_first<'a>(context: &StatementContext<'a>, slot: u32) -> Stop<'a>
+    ensures { stop_view result ≡ if context.now.halfway then stops.AtQuiet else next_of (have context.now) slot }
 {
-    if scene.halfway {
+    if context.halfway {
         Stop::Quiet
     } else {
-        next_of(scene, slot)
+        next_of(context, slot)
     }
 }
 
@@ -67,35 +67,35 @@ fn at_fork<'a>(branches: &[UBranch]) -> Stop<'a>
     }
 }
 
-fn what_stop<'a>(stmt: &UStmt, scene: &Scene<'a>) -> Stop<'a>
-    requires { scene.now.first + length scene.now.places.now < 2 ^ 32 }
-    ensures { stop_view result ≡ stands (out-UWhat stmt.now.what) (have scene.now) }
+fn what_stop<'a>(stmt: &UStmt, context: &StatementContext<'a>) -> Stop<'a>
+    requires { context.now.first + length context.now.places.now < 2 ^ 32 }
+    ensures { stop_view result ≡ stands (out-UWhat stmt.now.what) (have context.now) }
 {
     match &stmt.what {
-        UWhat::Next(slot) => next_of(scene, *slot),
-        UWhat::NextAssign(slot, _) => meets_second(scene, *slot),
-        UWhat::AssignNext(_, slot) => meets_first(scene, *slot),
-        UWhat::Put(_, _) => at_put(scene.holds_output),
-        UWhat::Throw(exception) => Stop::Throw(label_for(scene, *exception)),
+        UWhat::Next(slot) => next_of(context, *slot),
+        UWhat::NextAssign(slot, _) => meets_second(context, *slot),
+        UWhat::AssignNext(_, slot) => meets_first(context, *slot),
+        UWhat::Put(_, _) => at_put(context.holds_output),
+        UWhat::Throw(exception) => Stop::Throw(label_for(context, *exception)),
         UWhat::Par(branches) => at_fork(branches.as_slice()),
         _ => Stop::Quiet,
     }
 }
 
 /// At the statement of a number, or at the end.
-pub fn stop_at<'a>(stmt: Option<&UStmt>, scene: &Scene<'a>) -> Stop<'a>
-    requires { scene.now.first + length scene.now.places.now < 2 ^ 32 }
-    ensures { stop_view result ≡ stands_at (option_copied stmt.entry) (have scene.now) }
+pub fn stop_at<'a>(stmt: Option<&UStmt>, context: &StatementContext<'a>) -> Stop<'a>
+    requires { context.now.first + length context.now.places.now < 2 ^ 32 }
+    ensures { stop_view result ≡ stands_at (option_copied stmt.entry) (have context.now) }
 {
     match stmt {
         None => Stop::Finish,
-        Some(stmt) => what_stop(stmt, scene),
+        Some(stmt) => what_stop(stmt, context),
     }
 }
 
 /// At a trap.
-pub fn trapped<'a>(stuck: Stuck) -> Stop<'a>
-    ensures { stop_view result ≡ stops.AtTrap stuck.kind stuck.line }
+pub fn trapped<'a>(trap: TrappedAt) -> Stop<'a>
+    ensures { stop_view result ≡ stops.AtTrap trap.kind trap.line }
 {
-    Stop::Trapped(stuck.kind, stuck.line)
+    Stop::Trapped(trap.kind, trap.line)
 }

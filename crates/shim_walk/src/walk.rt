@@ -1,12 +1,12 @@
 // One process as a value.
 ghost use Rattle.std.specs.Prelude.{◌≡◌, ◌≢◌, ◌≤◌, ◌<◌, ◌↔◌, IsTrue, IfOk, OnOk, OnErr, false};
-ghost use Rattle.shim_units.specs.Forks.{root};
+ghost use Rattle.shim_process.specs.Forks.{root};
 ghost use Rattle.shim_local.specs.Laws.{AllOf};
 ghost use Rattle.shim_local.specs.Process.{AtQuiet};
 ghost use Rattle.shim_process.specs.Ops.{process_ops};
 ghost use Rattle.shim_process.specs.Sound.{Sound};
 
-use crate::process::{Offspring, Process};
+use crate::process::{ForkedProcess, Process};
 use shim_base::{Chan, List, NoMemory, Path, Shared};
 use shim_local::{Forked, Local, Quiet, Stop};
 use shim_units::Accepted;
@@ -22,7 +22,7 @@ pub struct Walk {
 
 impl Model for Walk {
     ghost use Rattle.std.specs.Coded.{codes};
-    ghost use Rattle.shim_units.specs.LocalState.{LocalState};
+    ghost use Rattle.shim_process.specs.LocalState.{LocalState};
     ghost use Rattle.shim_units.specs.contracts.unit.Unit as unit;
     ghost use Rattle.shim_units.specs.contracts.unit.UWhat as what;
     ghost use Rattle.shim_process.specs.Sound.{Sound};
@@ -114,14 +114,14 @@ impl Local for Walk {
     }
 
     fn fork(&mut self) -> Result<Forked<Walk>, NoMemory> {
-        match self.process.offspring()? {
-            Offspring::Trapped(trap) => {
-                self.process.stick(trap);
+        match self.process.forked()? {
+            ForkedProcess::Trapped(trap) => {
+                self.process.trap(trap);
                 Ok(Forked::Trapped)
             }
-            Offspring::Children(children, left) => {
+            ForkedProcess::Children(children, remainder) => {
                 let children = walks(children)?;
-                self.process.lend(&left)?;
+                self.process.lend(&remainder)?;
                 Ok(Forked::Children(children))
             }
         }

@@ -1,6 +1,6 @@
 // The lines of a report.
 ghost use Rattle.std.specs.Prelude.{◌≡◌, ◌++◌, OnOk, flat_map};
-ghost use Rattle.shim_local.specs.declared.LogWhat.TheVariants.{Caught, Trap as Trapping};
+ghost use Rattle.shim_local.specs.declared.LogWhat.TheVariants.{Caught, Trap as LoggedTrap};
 ghost use Rattle.shim_report.specs.Report.{end_line, events_line, history_line, log_line, outcome_text, output_line, own_line, told_line, value_part, wait_line};
 
 use super::words::{push_channel, push_hex_part, push_name, push_path, push_signed, trap_word};
@@ -87,7 +87,7 @@ fn push_trapped(
     trap: Trap,
     line: u32,
 ) -> Result<(), NoMemory>
-    ensures { OnOk result (text.new ≡ text.old ++ told_line names.now path.now (Trapping trap line)) }
+    ensures { OnOk result (text.new ≡ text.old ++ told_line names.now path.now (LoggedTrap trap line)) }
 {
     text.extend_from_slice(b"trap ")?;
     push_path(text, path)?;

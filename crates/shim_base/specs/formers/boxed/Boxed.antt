@@ -30,7 +30,7 @@ the_former g = g
 abbrev pub the_weighed : {g : Former {0}} → Weighed g → Weighed (the_former g)
 the_weighed w = w
 
--- the same box, with another content
+-- the box with another content
 abbrev refilled : {X Y : Type 0} → Box X Global → Y → Box Y Global
 refilled b y = record { ptr = b.ptr; alloc = b.alloc; value = y }
 

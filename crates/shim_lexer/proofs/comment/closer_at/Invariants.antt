@@ -1,5 +1,5 @@
 use Rattle.std.proofs.Common.{ℕ, ◌<◌, ◌≤◌, ◌-◌, length}
-use Rattle.shim_lexer.specs.Front.{IsCloserAt}
+use Rattle.shim_lexer.specs.Scanned.{IsCloserAt}
 use Rattle.shim_lexer.proofs.comment.closer_at.Given as goal
 
 abbrev pub invariant-bytes : goal.invariant-bytes

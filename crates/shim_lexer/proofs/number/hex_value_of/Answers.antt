@@ -1,6 +1,6 @@
 use Rattle.std.proofs.Common.{ℤ, ◌+◌, ◌*◌, ◌≤◌, Option, sym, subst, arith}
 use Rattle.shim_base.specs.Tokens.{hex_value}
-use Rattle.shim_lexer.specs.Front.{Holds}
+use Rattle.shim_lexer.specs.Scanned.{Holds}
 use Rattle.shim_lexer.proofs.DigitLemmas.{next-le-hex_value, too_big}
 use Rattle.shim_lexer.proofs.number.hex_value_of.Goals as goal
 

@@ -3,7 +3,7 @@ use Rattle.shim_syntax.specs.Grammar.{row_of}
 use Rattle.shim_syntax.specs.declared.tree.Expr.TheVariants as tree
 use Rattle.shim_parser.specs.Reading.{Reading}
 use Rattle.shim_parser.proofs.Exits.{propagates}
-use Rattle.shim_parser.proofs.ExprExits.{unary_enter_fails, unary_operand_fails, unary_reads, number_reads, variable_reads, parens_enter_fails, parens_row_fails, parens_mark_fails, parens_reads, chain_starts, chain_ends, chain_ends_other, no_row, chain_goes, expr_shorter}
+use Rattle.shim_parser.proofs.ExprExits.{unary_enter_fails, unary_operand_fails, unary_reads, number_reads, variable_reads, parens_enter_fails, parens_row_fails, parens_punctuation_fails, parens_reads, chain_starts, chain_ends, chain_ends_other, no_row, chain_goes, expr_shorter}
 use Rattle.shim_parser.proofs.expr.+expr.Goals as goal
 
 pub operand-returns-in_err-enter_operand-in-Sign-LeftParen : goal.operand-returns-in_err-enter_operand-in-Sign-LeftParen
@@ -14,17 +14,17 @@ operand-returns-in_err-inside-in-Sign-LeftParen t c = propagates _ _ _ _ _ _ c.f
     (parens_row_fails c.args.level _ (add-one c.args.level) (record { at = c.peek.result.at; line = c.peek.result.line }) c.args.tokens.now c.advance-in-Sign-LeftParen.new.self (search rules) c.advance-in-Sign-LeftParen.ensures
     c.enter_operand.new.tokens c.row.new.tokens _ c.in_ok-enter_operand-in-Sign-LeftParen.ensures c.in_err-inside-in-Sign-LeftParen.ensures.reads)
 
-pub operand-returns-in_err-mark-in-Sign-LeftParen : goal.operand-returns-in_err-mark-in-Sign-LeftParen
-operand-returns-in_err-mark-in-Sign-LeftParen t c = propagates _ _ _ _ _ _ c.from_residual-in_err-mark-in-Sign-LeftParen.ensures
-    (parens_mark_fails c.args.level _ (add-one c.args.level) (record { at = c.peek.result.at; line = c.peek.result.line }) c.args.tokens.now c.advance-in-Sign-LeftParen.new.self (search rules) c.advance-in-Sign-LeftParen.ensures
-    c.enter_operand.new.tokens c.row.new.tokens c.mark.new.tokens c.in_ok-inside-in-Sign-LeftParen.inside _ c.in_ok-enter_operand-in-Sign-LeftParen.ensures
-    c.in_ok-inside-in-Sign-LeftParen.ensures.reads c.in_ok-inside-in-Sign-LeftParen.ensures.stops c.in_err-mark-in-Sign-LeftParen.ensures)
+pub operand-returns-in_err-punctuation-in-Sign-LeftParen : goal.operand-returns-in_err-punctuation-in-Sign-LeftParen
+operand-returns-in_err-punctuation-in-Sign-LeftParen t c = propagates _ _ _ _ _ _ c.from_residual-in_err-punctuation-in-Sign-LeftParen.ensures
+    (parens_punctuation_fails c.args.level _ (add-one c.args.level) (record { at = c.peek.result.at; line = c.peek.result.line }) c.args.tokens.now c.advance-in-Sign-LeftParen.new.self (search rules) c.advance-in-Sign-LeftParen.ensures
+    c.enter_operand.new.tokens c.row.new.tokens c.punctuation.new.tokens c.in_ok-inside-in-Sign-LeftParen.inside _ c.in_ok-enter_operand-in-Sign-LeftParen.ensures
+    c.in_ok-inside-in-Sign-LeftParen.ensures.reads c.in_ok-inside-in-Sign-LeftParen.ensures.stops c.in_err-punctuation-in-Sign-LeftParen.ensures)
 
-pub operand-returns-in_ok-mark-in-Sign-LeftParen : goal.operand-returns-in_ok-mark-in-Sign-LeftParen
-operand-returns-in_ok-mark-in-Sign-LeftParen t c =
+pub operand-returns-in_ok-punctuation-in-Sign-LeftParen : goal.operand-returns-in_ok-punctuation-in-Sign-LeftParen
+operand-returns-in_ok-punctuation-in-Sign-LeftParen t c =
     parens_reads c.args.level _ (add-one c.args.level) (record { at = c.peek.result.at; line = c.peek.result.line }) c.args.tokens.now c.advance-in-Sign-LeftParen.new.self (search rules) c.advance-in-Sign-LeftParen.ensures
-    c.enter_operand.new.tokens c.row.new.tokens c.mark.new.tokens c.in_ok-inside-in-Sign-LeftParen.inside c.in_ok-enter_operand-in-Sign-LeftParen.ensures
-    c.in_ok-inside-in-Sign-LeftParen.ensures.reads c.in_ok-mark-in-Sign-LeftParen.ensures
+    c.enter_operand.new.tokens c.row.new.tokens c.punctuation.new.tokens c.in_ok-inside-in-Sign-LeftParen.inside c.in_ok-enter_operand-in-Sign-LeftParen.ensures
+    c.in_ok-inside-in-Sign-LeftParen.ensures.reads c.in_ok-punctuation-in-Sign-LeftParen.ensures
 
 pub operand-returns-in-Number : goal.operand-returns-in-Number
 operand-returns-in-Number t c = search (rules, number_reads)

@@ -1,6 +1,6 @@
 use Rattle.std.proofs.Common.{suc, ◌∷◌, [], length, rules, arith, ap, sym, ◌∙◌, refl, subst, add-one}
 use Rattle.shim_base.specs.declared.token.Keyword.TheVariants as k
-use Rattle.shim_grammar.specs.declared.mark.Mark.TheVariants as mark
+use Rattle.shim_grammar.specs.declared.punctuation.Punctuation.TheVariants as punctuation
 use Rattle.shim_grammar.specs.Machine.{AfterEqual, AfterNext, Body, Expression, First, Fixed, Operators, Step, Test, Word}
 use Rattle.shim_syntax.specs.declared.tree.What.TheVariants as st
 use Rattle.shim_syntax.specs.declared.tree.BranchWhat.TheVariants as br
@@ -74,10 +74,10 @@ braced-returns t c = exits.braced_fork c.args.level c.args.line _ (add-one c.arg
 
 pub branch-returns-in_err-args : goal.branch-returns-in_err-args
 branch-returns-in_err-args t c = propagates _ _ _ _ _ _ c.from_residual-in_err-args.ensures
-    (exits.branch_args_fails c.args.n c.args.level c.in-Name.text.now (record { at = c.peek-token.result.at; line = c.peek-token.result.line }) c.args.tokens.now c.args.tokens.now c.advance.new.self (search rules) c.in_ok-number.ensures.0 c.advance.ensures c.mark.new.tokens c.call.new.tokens _ c.in_ok-mark.ensures c.in_err-args.ensures)
+    (exits.branch_args_fails c.args.n c.args.level c.in-Name.text.now (record { at = c.peek-token.result.at; line = c.peek-token.result.line }) c.args.tokens.now c.args.tokens.now c.advance.new.self (search rules) c.in_ok-number.ensures.0 c.advance.ensures c.punctuation.new.tokens c.call.new.tokens _ c.in_ok-punctuation.ensures c.in_err-args.ensures)
 
 pub branch-returns : goal.branch-returns
-branch-returns t c = exits.branch_call_reads c.args.n c.args.level c.in-Name.text.now (record { at = c.peek-token.result.at; line = c.peek-token.result.line }) c.args.tokens.now c.args.tokens.now c.advance.new.self (search rules) c.in_ok-number.ensures.0 c.advance.ensures c.mark.new.tokens c.call.new.tokens c.in_ok-new.field-0 c.in_ok-args.args _ c.in_ok-mark.ensures c.in_ok-args.ensures c.in_ok-new.ensures refl
+branch-returns t c = exits.branch_call_reads c.args.n c.args.level c.in-Name.text.now (record { at = c.peek-token.result.at; line = c.peek-token.result.line }) c.args.tokens.now c.args.tokens.now c.advance.new.self (search rules) c.in_ok-number.ensures.0 c.advance.ensures c.punctuation.new.tokens c.call.new.tokens c.in_ok-new.field-0 c.in_ok-args.args _ c.in_ok-punctuation.ensures c.in_ok-args.ensures c.in_ok-new.ensures refl
 
 pub branches-returns-then-not-is_key : goal.branches-returns-then-not-is_key
 branches-returns-then-not-is_key t c = exits.fork_end c.args.level c.branches.count c.args.first_branch c.args.tokens.now c.branches.tokens c.branches.all c.is_key.result c.branches.invariant c.is_key.ensures c.if-not-is_key.true
@@ -116,23 +116,23 @@ if_statement-returns t c = nested.if_alone_reads c.args.level _ (add-one c.args.
 pub named-returns-then-is_sign : goal.named-returns-then-is_sign
 named-returns-then-is_sign t c = exits.named_equal c.args.level c.args.line c.args.text.now c.args.tokens.now c.advance.new.self c.assignment.new.tokens c.is_sign.result c.assignment.result c.is_sign.ensures c.if-is_sign.true c.advance.ensures (subst (λ u. Reads (IsAssigned u c.args.level) (AfterEqual c.args.level ∷ []) c.assignment.result c.advance.new.self c.assignment.new.tokens) c.in_ok-name.ensures c.assignment.ensures)
 
-pub named-returns-in_err-mark : goal.named-returns-in_err-mark
-named-returns-in_err-mark t c = propagates _ _ _ _ _ _ c.from_residual-in_err-mark.ensures
-    (exits.named_mark_fails c.args.level c.args.line c.args.text.now c.args.tokens.now c.is_sign.result c.is_sign.ensures c.if-is_sign.false c.mark.new.tokens _ c.in_err-mark.ensures)
+pub named-returns-in_err-punctuation : goal.named-returns-in_err-punctuation
+named-returns-in_err-punctuation t c = propagates _ _ _ _ _ _ c.from_residual-in_err-punctuation.ensures
+    (exits.named_punctuation_fails c.args.level c.args.line c.args.text.now c.args.tokens.now c.is_sign.result c.is_sign.ensures c.if-is_sign.false c.punctuation.new.tokens _ c.in_err-punctuation.ensures)
 
 pub named-returns-in_err-args : goal.named-returns-in_err-args
 named-returns-in_err-args t c = propagates _ _ _ _ _ _ c.from_residual-in_err-args.ensures
-    (exits.named_args_fails c.args.level c.args.line c.args.text.now c.args.tokens.now c.is_sign.result c.is_sign.ensures c.if-is_sign.false c.mark.new.tokens c.in_ok-mark.ensures c.call.new.tokens _ c.in_err-args.ensures)
+    (exits.named_args_fails c.args.level c.args.line c.args.text.now c.args.tokens.now c.is_sign.result c.is_sign.ensures c.if-is_sign.false c.punctuation.new.tokens c.in_ok-punctuation.ensures c.call.new.tokens _ c.in_err-args.ensures)
 
 pub named-returns-then-not-is_key : goal.named-returns-then-not-is_key
-named-returns-then-not-is_key t c = subst (λ u. IsNamed c.args.text.now c.args.line c.args.level c.args.tokens.now.counts c.call.new.tokens.counts c.args.tokens.now.rest c.call.new.tokens.rest (st.Call (record { function = u; args = c.in_ok-args.args }))) (sym c.in_ok-name.ensures) (exits.named_call c.args.level c.args.line c.args.text.now c.args.tokens.now c.is_sign.result c.is_sign.ensures c.if-is_sign.false c.mark.new.tokens c.in_ok-mark.ensures c.call.new.tokens c.in_ok-args.args c.in_ok-args.ensures c.is_key.result c.is_key.ensures c.if-not-is_key.true)
+named-returns-then-not-is_key t c = subst (λ u. IsNamed c.args.text.now c.args.line c.args.level c.args.tokens.now.counts c.call.new.tokens.counts c.args.tokens.now.rest c.call.new.tokens.rest (st.Call (record { function = u; args = c.in_ok-args.args }))) (sym c.in_ok-name.ensures) (exits.named_call c.args.level c.args.line c.args.text.now c.args.tokens.now c.is_sign.result c.is_sign.ensures c.if-is_sign.false c.punctuation.new.tokens c.in_ok-punctuation.ensures c.call.new.tokens c.in_ok-args.args c.in_ok-args.ensures c.is_key.result c.is_key.ensures c.if-not-is_key.true)
 
 pub named-returns-in_err-branches : goal.named-returns-in_err-branches
 named-returns-in_err-branches t c = propagates _ _ _ _ _ _ c.from_residual-in_err-branches.ensures
-    (exits.named_branches_fails c.args.level c.args.line c.args.text.now c.args.tokens.now c.is_sign.result c.is_sign.ensures c.if-is_sign.false c.mark.new.tokens c.in_ok-mark.ensures c.call.new.tokens c.in_ok-args.args c.in_ok-args.ensures c.is_key.result c.is_key.ensures c.branches.new.tokens _ c.in_err-branches.ensures)
+    (exits.named_branches_fails c.args.level c.args.line c.args.text.now c.args.tokens.now c.is_sign.result c.is_sign.ensures c.if-is_sign.false c.punctuation.new.tokens c.in_ok-punctuation.ensures c.call.new.tokens c.in_ok-args.args c.in_ok-args.ensures c.is_key.result c.is_key.ensures c.branches.new.tokens _ c.in_err-branches.ensures)
 
 pub named-returns : goal.named-returns
-named-returns t c = exits.named_fork c.args.level c.args.line c.args.text.now c.args.tokens.now c.is_sign.result c.is_sign.ensures c.if-is_sign.false c.mark.new.tokens c.in_ok-mark.ensures c.call.new.tokens c.in_ok-args.args c.in_ok-args.ensures c.is_key.result c.is_key.ensures c.branches.new.tokens c.in_ok-branches.field-0
+named-returns t c = exits.named_fork c.args.level c.args.line c.args.text.now c.args.tokens.now c.is_sign.result c.is_sign.ensures c.if-is_sign.false c.punctuation.new.tokens c.in_ok-punctuation.ensures c.call.new.tokens c.in_ok-args.args c.in_ok-args.ensures c.is_key.result c.is_key.ensures c.branches.new.tokens c.in_ok-branches.field-0
     (subst (λ u. IsBehindPar (record { line = c.args.line; what = br.Call (record { function = u; args = c.in_ok-args.args }) }) c.args.level c.call.new.tokens.counts c.branches.new.tokens.counts c.call.new.tokens.rest c.branches.new.tokens.rest c.in_ok-branches.field-0) c.in_ok-name.ensures c.in_ok-branches.ensures)
 
 pub statement-returns-in-Empty : goal.statement-returns-in-Empty
@@ -149,7 +149,7 @@ statement-returns-in-Next t c = arm.keyed_arm c.args.level (record { at = c.peek
     c.next.new.tokens c.next.result c.one-in-Next.result c.next.ensures c.one-in-Next.ensures
 
 pub statement-returns-in-Put : goal.statement-returns-in-Put
-statement-returns-in-Put t c = arm.keyed_arm c.args.level (record { at = c.peek-token.result.at; line = c.peek-token.result.line }) c.args.tokens.now c.enter.new.self c.advance.new.self c.in_ok-enter.ensures.0 c.in_ok-enter.ensures.1 c.advance.ensures k.Put (sym c.peek-token.ensures.is ∙ c.in-Some.ensures (record { at = c.peek-token.result.at; line = c.peek-token.result.line }) ∙ ap (λ o. opening_view o (record { at = c.peek-token.result.at; line = c.peek-token.result.line })) c.in-Put.is) (Word ∷ Fixed mark.Comma ∷ Expression c.args.level ∷ Operators c.args.level ∷ Fixed mark.Semicolon ∷ []) (λ z s u. refl)
+statement-returns-in-Put t c = arm.keyed_arm c.args.level (record { at = c.peek-token.result.at; line = c.peek-token.result.line }) c.args.tokens.now c.enter.new.self c.advance.new.self c.in_ok-enter.ensures.0 c.in_ok-enter.ensures.1 c.advance.ensures k.Put (sym c.peek-token.ensures.is ∙ c.in-Some.ensures (record { at = c.peek-token.result.at; line = c.peek-token.result.line }) ∙ ap (λ o. opening_view o (record { at = c.peek-token.result.at; line = c.peek-token.result.line })) c.in-Put.is) (Word ∷ Fixed punctuation.Comma ∷ Expression c.args.level ∷ Operators c.args.level ∷ Fixed punctuation.Semicolon ∷ []) (λ z s u. refl)
     c.put.new.tokens c.put.result c.one-in-Put.result c.put.ensures c.one-in-Put.ensures
 
 pub statement-returns-in-If : goal.statement-returns-in-If
@@ -157,11 +157,11 @@ statement-returns-in-If t c = arm.keyed_arm c.args.level (record { at = c.peek-t
     c.if_statement.new.tokens c.if_statement.result c.one-in-If.result c.if_statement.ensures c.one-in-If.ensures
 
 pub statement-returns-in-While : goal.statement-returns-in-While
-statement-returns-in-While t c = arm.keyed_arm c.args.level (record { at = c.peek-token.result.at; line = c.peek-token.result.line }) c.args.tokens.now c.enter.new.self c.advance.new.self c.in_ok-enter.ensures.0 c.in_ok-enter.ensures.1 c.advance.ensures k.While (sym c.peek-token.ensures.is ∙ c.in-Some.ensures (record { at = c.peek-token.result.at; line = c.peek-token.result.line }) ∙ ap (λ o. opening_view o (record { at = c.peek-token.result.at; line = c.peek-token.result.line })) c.in-While.is) (Fixed mark.LeftParen ∷ Expression c.args.level ∷ Operators c.args.level ∷ Fixed mark.RightParen ∷ Body (suc c.args.level) ∷ []) (λ z s u. refl)
+statement-returns-in-While t c = arm.keyed_arm c.args.level (record { at = c.peek-token.result.at; line = c.peek-token.result.line }) c.args.tokens.now c.enter.new.self c.advance.new.self c.in_ok-enter.ensures.0 c.in_ok-enter.ensures.1 c.advance.ensures k.While (sym c.peek-token.ensures.is ∙ c.in-Some.ensures (record { at = c.peek-token.result.at; line = c.peek-token.result.line }) ∙ ap (λ o. opening_view o (record { at = c.peek-token.result.at; line = c.peek-token.result.line })) c.in-While.is) (Fixed punctuation.LeftParen ∷ Expression c.args.level ∷ Operators c.args.level ∷ Fixed punctuation.RightParen ∷ Body (suc c.args.level) ∷ []) (λ z s u. refl)
     c.while_loop.new.tokens c.while_loop.result c.one-in-While.result c.while_loop.ensures c.one-in-While.ensures
 
 pub statement-returns-in-For : goal.statement-returns-in-For
-statement-returns-in-For t c = arm.keyed_arm c.args.level (record { at = c.peek-token.result.at; line = c.peek-token.result.line }) c.args.tokens.now c.enter.new.self c.advance.new.self c.in_ok-enter.ensures.0 c.in_ok-enter.ensures.1 c.advance.ensures k.For (sym c.peek-token.ensures.is ∙ c.in-Some.ensures (record { at = c.peek-token.result.at; line = c.peek-token.result.line }) ∙ ap (λ o. opening_view o (record { at = c.peek-token.result.at; line = c.peek-token.result.line })) c.in-For.is) (Fixed mark.LeftParen ∷ First (suc c.args.level) ∷ Test c.args.level ∷ Step (suc c.args.level) ∷ Body (suc c.args.level) ∷ []) (λ z s u. refl)
+statement-returns-in-For t c = arm.keyed_arm c.args.level (record { at = c.peek-token.result.at; line = c.peek-token.result.line }) c.args.tokens.now c.enter.new.self c.advance.new.self c.in_ok-enter.ensures.0 c.in_ok-enter.ensures.1 c.advance.ensures k.For (sym c.peek-token.ensures.is ∙ c.in-Some.ensures (record { at = c.peek-token.result.at; line = c.peek-token.result.line }) ∙ ap (λ o. opening_view o (record { at = c.peek-token.result.at; line = c.peek-token.result.line })) c.in-For.is) (Fixed punctuation.LeftParen ∷ First (suc c.args.level) ∷ Test c.args.level ∷ Step (suc c.args.level) ∷ Body (suc c.args.level) ∷ []) (λ z s u. refl)
     c.for_loop.new.tokens c.for_loop.result c.one-in-For.result c.for_loop.ensures c.one-in-For.ensures
 
 pub statement-returns-in-Try : goal.statement-returns-in-Try
@@ -169,35 +169,35 @@ statement-returns-in-Try t c = arm.keyed_arm c.args.level (record { at = c.peek-
     c.try_statement.new.tokens c.try_statement.result c.one-in-Try.result c.try_statement.ensures c.one-in-Try.ensures
 
 pub statement-returns-in-Throw : goal.statement-returns-in-Throw
-statement-returns-in-Throw t c = arm.keyed_arm c.args.level (record { at = c.peek-token.result.at; line = c.peek-token.result.line }) c.args.tokens.now c.enter.new.self c.advance.new.self c.in_ok-enter.ensures.0 c.in_ok-enter.ensures.1 c.advance.ensures k.Throw (sym c.peek-token.ensures.is ∙ c.in-Some.ensures (record { at = c.peek-token.result.at; line = c.peek-token.result.line }) ∙ ap (λ o. opening_view o (record { at = c.peek-token.result.at; line = c.peek-token.result.line })) c.in-Throw.is) (Word ∷ Fixed mark.Semicolon ∷ []) (λ z s u. refl)
+statement-returns-in-Throw t c = arm.keyed_arm c.args.level (record { at = c.peek-token.result.at; line = c.peek-token.result.line }) c.args.tokens.now c.enter.new.self c.advance.new.self c.in_ok-enter.ensures.0 c.in_ok-enter.ensures.1 c.advance.ensures k.Throw (sym c.peek-token.ensures.is ∙ c.in-Some.ensures (record { at = c.peek-token.result.at; line = c.peek-token.result.line }) ∙ ap (λ o. opening_view o (record { at = c.peek-token.result.at; line = c.peek-token.result.line })) c.in-Throw.is) (Word ∷ Fixed punctuation.Semicolon ∷ []) (λ z s u. refl)
     c.throw.new.tokens c.throw.result c.one-in-Throw.result c.throw.ensures c.one-in-Throw.ensures
 
 pub try_statement-returns-in_err-tried : goal.try_statement-returns-in_err-tried
 try_statement-returns-in_err-tried t c = propagates _ _ _ _ _ _ c.from_residual-in_err-tried.ensures
-    (nested.tried_fails c.args.level _ (add-one c.args.level) c.args.tokens.now c.mark.new.tokens c.in_ok-mark.ensures c.block.new.tokens _ c.in_err-tried.ensures)
+    (nested.tried_fails c.args.level _ (add-one c.args.level) c.args.tokens.now c.punctuation.new.tokens c.in_ok-punctuation.ensures c.block.new.tokens _ c.in_err-tried.ensures)
 
-pub try_statement-returns-in_err-mark-2 : goal.try_statement-returns-in_err-mark-2
-try_statement-returns-in_err-mark-2 t c = propagates _ _ _ _ _ _ c.from_residual-in_err-mark-2.ensures
-    (nested.catch_fails c.args.level _ (add-one c.args.level) c.args.tokens.now c.mark.new.tokens c.in_ok-mark.ensures c.block.new.tokens c.in_ok-tried.tried c.in_ok-tried.ensures c.mark-2.new.tokens _ c.in_err-mark-2.ensures)
+pub try_statement-returns-in_err-punctuation-2 : goal.try_statement-returns-in_err-punctuation-2
+try_statement-returns-in_err-punctuation-2 t c = propagates _ _ _ _ _ _ c.from_residual-in_err-punctuation-2.ensures
+    (nested.catch_fails c.args.level _ (add-one c.args.level) c.args.tokens.now c.punctuation.new.tokens c.in_ok-punctuation.ensures c.block.new.tokens c.in_ok-tried.tried c.in_ok-tried.ensures c.punctuation-2.new.tokens _ c.in_err-punctuation-2.ensures)
 
-pub try_statement-returns-in_err-mark-3 : goal.try_statement-returns-in_err-mark-3
-try_statement-returns-in_err-mark-3 t c = propagates _ _ _ _ _ _ c.from_residual-in_err-mark-3.ensures
-    (nested.catch_paren_fails c.args.level _ (add-one c.args.level) c.args.tokens.now c.mark.new.tokens c.in_ok-mark.ensures c.block.new.tokens c.in_ok-tried.tried c.in_ok-tried.ensures c.mark-2.new.tokens c.in_ok-mark-2.ensures c.mark-3.new.tokens _ c.in_err-mark-3.ensures)
+pub try_statement-returns-in_err-punctuation-3 : goal.try_statement-returns-in_err-punctuation-3
+try_statement-returns-in_err-punctuation-3 t c = propagates _ _ _ _ _ _ c.from_residual-in_err-punctuation-3.ensures
+    (nested.catch_paren_fails c.args.level _ (add-one c.args.level) c.args.tokens.now c.punctuation.new.tokens c.in_ok-punctuation.ensures c.block.new.tokens c.in_ok-tried.tried c.in_ok-tried.ensures c.punctuation-2.new.tokens c.in_ok-punctuation-2.ensures c.punctuation-3.new.tokens _ c.in_err-punctuation-3.ensures)
 
 pub try_statement-returns-in_err-exception : goal.try_statement-returns-in_err-exception
 try_statement-returns-in_err-exception t c = propagates _ _ _ _ _ _ c.from_residual-in_err-exception.ensures
-    (nested.exception_fails c.args.level _ (add-one c.args.level) c.args.tokens.now c.mark.new.tokens c.in_ok-mark.ensures c.block.new.tokens c.in_ok-tried.tried c.in_ok-tried.ensures c.mark-2.new.tokens c.in_ok-mark-2.ensures c.mark-3.new.tokens c.in_ok-mark-3.ensures c.name_before.new.tokens _ c.in_err-exception.ensures)
+    (nested.exception_fails c.args.level _ (add-one c.args.level) c.args.tokens.now c.punctuation.new.tokens c.in_ok-punctuation.ensures c.block.new.tokens c.in_ok-tried.tried c.in_ok-tried.ensures c.punctuation-2.new.tokens c.in_ok-punctuation-2.ensures c.punctuation-3.new.tokens c.in_ok-punctuation-3.ensures c.name_before.new.tokens _ c.in_err-exception.ensures)
 
-pub try_statement-returns-in_err-mark-4 : goal.try_statement-returns-in_err-mark-4
-try_statement-returns-in_err-mark-4 t c = propagates _ _ _ _ _ _ c.from_residual-in_err-mark-4.ensures
-    (nested.handler_brace_fails c.args.level _ (add-one c.args.level) c.args.tokens.now c.mark.new.tokens c.in_ok-mark.ensures c.block.new.tokens c.in_ok-tried.tried c.in_ok-tried.ensures c.mark-2.new.tokens c.in_ok-mark-2.ensures c.mark-3.new.tokens c.in_ok-mark-3.ensures c.name_before.new.tokens c.in_ok-exception.exception c.in_ok-exception.ensures c.mark-4.new.tokens _ c.in_err-mark-4.ensures)
+pub try_statement-returns-in_err-punctuation-4 : goal.try_statement-returns-in_err-punctuation-4
+try_statement-returns-in_err-punctuation-4 t c = propagates _ _ _ _ _ _ c.from_residual-in_err-punctuation-4.ensures
+    (nested.handler_brace_fails c.args.level _ (add-one c.args.level) c.args.tokens.now c.punctuation.new.tokens c.in_ok-punctuation.ensures c.block.new.tokens c.in_ok-tried.tried c.in_ok-tried.ensures c.punctuation-2.new.tokens c.in_ok-punctuation-2.ensures c.punctuation-3.new.tokens c.in_ok-punctuation-3.ensures c.name_before.new.tokens c.in_ok-exception.exception c.in_ok-exception.ensures c.punctuation-4.new.tokens _ c.in_err-punctuation-4.ensures)
 
 pub try_statement-returns-in_err-handler : goal.try_statement-returns-in_err-handler
 try_statement-returns-in_err-handler t c = propagates _ _ _ _ _ _ c.from_residual-in_err-handler.ensures
-    (nested.handler_fails c.args.level _ (add-one c.args.level) c.args.tokens.now c.mark.new.tokens c.in_ok-mark.ensures c.block.new.tokens c.in_ok-tried.tried c.in_ok-tried.ensures c.mark-2.new.tokens c.in_ok-mark-2.ensures c.mark-3.new.tokens c.in_ok-mark-3.ensures c.name_before.new.tokens c.in_ok-exception.exception c.in_ok-exception.ensures c.mark-4.new.tokens c.in_ok-mark-4.ensures c.block-2.new.tokens _ c.in_err-handler.ensures)
+    (nested.handler_fails c.args.level _ (add-one c.args.level) c.args.tokens.now c.punctuation.new.tokens c.in_ok-punctuation.ensures c.block.new.tokens c.in_ok-tried.tried c.in_ok-tried.ensures c.punctuation-2.new.tokens c.in_ok-punctuation-2.ensures c.punctuation-3.new.tokens c.in_ok-punctuation-3.ensures c.name_before.new.tokens c.in_ok-exception.exception c.in_ok-exception.ensures c.punctuation-4.new.tokens c.in_ok-punctuation-4.ensures c.block-2.new.tokens _ c.in_err-handler.ensures)
 
 pub try_statement-returns : goal.try_statement-returns
-try_statement-returns t c = nested.try_reads c.args.level _ (add-one c.args.level) c.args.tokens.now c.mark.new.tokens c.in_ok-mark.ensures c.block.new.tokens c.in_ok-tried.tried c.in_ok-tried.ensures c.mark-2.new.tokens c.in_ok-mark-2.ensures c.mark-3.new.tokens c.in_ok-mark-3.ensures c.name_before.new.tokens c.in_ok-exception.exception c.in_ok-exception.ensures c.mark-4.new.tokens c.in_ok-mark-4.ensures c.block-2.new.tokens c.in_ok-handler.handler c.in_ok-handler.ensures
+try_statement-returns t c = nested.try_reads c.args.level _ (add-one c.args.level) c.args.tokens.now c.punctuation.new.tokens c.in_ok-punctuation.ensures c.block.new.tokens c.in_ok-tried.tried c.in_ok-tried.ensures c.punctuation-2.new.tokens c.in_ok-punctuation-2.ensures c.punctuation-3.new.tokens c.in_ok-punctuation-3.ensures c.name_before.new.tokens c.in_ok-exception.exception c.in_ok-exception.ensures c.punctuation-4.new.tokens c.in_ok-punctuation-4.ensures c.block-2.new.tokens c.in_ok-handler.handler c.in_ok-handler.ensures
 
 pub while_loop-returns-in_err-repeated : goal.while_loop-returns-in_err-repeated
 while_loop-returns-in_err-repeated t c = propagates _ _ _ _ _ _ c.from_residual-in_err-repeated.ensures

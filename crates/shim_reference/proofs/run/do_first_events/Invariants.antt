@@ -1,6 +1,6 @@
 use Rattle.std.proofs.Common.{◌≡◌, ◌-◌}
-use Rattle.shim_meaning.specs.Trees.{steps}
-use Rattle.shim_meaning.specs.Walks.{meaning}
+use Rattle.shim_semantics.specs.Trees.{steps}
+use Rattle.shim_semantics.specs.Walks.{meaning}
 use Rattle.shim_reference.proofs.run.do_first_events.Given as goal
 
 -- what is left to do leads to the same end, and each event counted one step

@@ -1,7 +1,7 @@
 use Rattle.std.proofs.Common.{◌≡◌, ap, ◌∙◌}
-use Rattle.shim_tree.specs.Below.{event_of}
-use Rattle.shim_meaning.specs.Trees.{start}
-use Rattle.shim_meaning.specs.Walks.{meaning}
+use Rattle.shim_tree.specs.NodeStatus.{event_of}
+use Rattle.shim_semantics.specs.Trees.{start}
+use Rattle.shim_semantics.specs.Walks.{meaning}
 use Rattle.shim_reference.proofs.Outcomes.{on_ok_anyhow}
 use Rattle.shim_reference.proofs.FirstEvents.{run_ended}
 use Rattle.shim_reference.proofs.run.run.Goals as goal

@@ -1,6 +1,6 @@
 use Rattle.std.proofs.Common.{◌≡◌, drop}
 use Rattle.shim_syntax.specs.Sizes.{stmts_size, branches_size}
-use Rattle.shim_scopes.specs.Meaning.{bind_stmts, bind_branches}
+use Rattle.shim_scopes.specs.Bodies.{bind_stmts, bind_branches}
 use Rattle.shim_scopes.specs.State.{behind, around_of, before_of, whole, HasRoom, Kept}
 use Rattle.shim_scopes.proofs.stmt.+resolve.Given as goal
 

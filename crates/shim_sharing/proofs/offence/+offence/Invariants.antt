@@ -1,7 +1,7 @@
 use Rattle.std.proofs.Common.{◌≡◌, drop}
 use Rattle.shim_sharing.specs.Sharing.{first_offence}
 use Rattle.shim_units.specs.Parts.{all_places}
-use Rattle.shim_units.specs.Meaning.{places_in, branch_parts}
+use Rattle.shim_units.specs.PartFold.{places_in, branch_parts}
 use Rattle.shim_sharing.proofs.offence.+offence.Given as goal
 
 abbrev pub invariant-find_offence-loop-stmt : goal.invariant-find_offence-loop-stmt

@@ -6,26 +6,26 @@ use Rattle.shim_sharing.proofs.Rule.{obeys_unless_refused}
 use Rattle.shim_sharing.proofs.Accepting as exits
 use Rattle.shim_sharing.proofs.program.accept.Goals as goal
 
-pub keep-requires : goal.keep-requires
-keep-requires c = kept _ (merely (record {
+pub from_form-requires : goal.from_form-requires
+from_form-requires c = kept _ (merely (record {
   resolved = c.args.resolved;
   of_text = subst (λ f. ∥ IsFormOfText f ∥₁) c.resolved.view_is c.resolved.invariant;
-  obeys = obeys_unless_refused c.args.resolved (rw (c.functions-functions.ensures, c.names-names.ensures) at c.in_ok-check.ensures);
-  meant = sym (rw (c.functions-functions.ensures, c.names-names.ensures, c.main.ensures) at c.in_ok-form.ensures);
+  obeys = obeys_unless_refused c.args.resolved (rw (c.functions.ensures, c.names.ensures) at c.in_ok-check.ensures);
+  meant = sym c.in_ok-form.ensures;
 }))
 
 pub check-requires : goal.check-requires
 check-requires c =
-    rw (c.functions-functions.ensures) (functions_have_room _ c.args.resolved.functions (program_has_room c.args.resolved (subst (λ f. ∥ IsFormOfText f ∥₁) c.resolved.view_is c.resolved.invariant)))
+    rw (c.functions.ensures) (functions_have_room _ c.args.resolved.functions (program_has_room c.args.resolved (subst (λ f. ∥ IsFormOfText f ∥₁) c.resolved.view_is c.resolved.invariant)))
 
 pub lift_program-requires : goal.lift_program-requires
-lift_program-requires c = rw (c.functions-functions.ensures) (program_has_room c.args.resolved (subst (λ f. ∥ IsFormOfText f ∥₁) c.resolved.view_is c.resolved.invariant))
+lift_program-requires c = program_has_room c.args.resolved (subst (λ f. ∥ IsFormOfText f ∥₁) c.resolved.view_is c.resolved.invariant)
 
 pub returns-clause-obeys : goal.returns-clause-obeys
-returns-clause-obeys c = obeys_unless_refused c.args.resolved (rw (c.functions-functions.ensures, c.names-names.ensures) at c.in_ok-check.ensures)
+returns-clause-obeys c = obeys_unless_refused c.args.resolved (rw (c.functions.ensures, c.names.ensures) at c.in_ok-check.ensures)
 
 pub returns-in_err-check-clause-refused : goal.returns-in_err-check-clause-refused
-returns-in_err-check-clause-refused c = exits.refused c.args.resolved _ _ c.from_residual.ensures (rw (c.functions-functions.ensures, c.names-names.ensures) at c.in_err-check.ensures)
+returns-in_err-check-clause-refused c = exits.refused c.args.resolved _ _ c.from_residual.ensures (rw (c.functions.ensures, c.names.ensures) at c.in_err-check.ensures)
 
 pub returns-in_err-check-clause-first : goal.returns-in_err-check-clause-first
-returns-in_err-check-clause-first c = exits.first c.args.resolved _ _ c.from_residual.ensures (rw (c.functions-functions.ensures, c.names-names.ensures) at c.in_err-check.ensures)
+returns-in_err-check-clause-first c = exits.first c.args.resolved _ _ c.from_residual.ensures (rw (c.functions.ensures, c.names.ensures) at c.in_err-check.ensures)

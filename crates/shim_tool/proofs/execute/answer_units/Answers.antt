@@ -1,6 +1,6 @@
 use Rattle.std.proofs.Common.{ap, ◌∙◌}
 use Rattle.shim_tool.specs.Answer.{text_of}
-use Rattle.shim_tool.specs.Source.{Source}
+use Rattle.shim_front_end.specs.Source.{Source}
 use Rattle.shim_tool.proofs.ExecuteLemmas.{answers_units}
 use Rattle.shim_tool.proofs.execute.answer_units.Goals as goal
 

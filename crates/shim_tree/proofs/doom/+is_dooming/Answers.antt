@@ -1,5 +1,5 @@
 use Rattle.std.proofs.Common.{◌∙◌, sym, ap}
-use Rattle.shim_meaning.specs.Poison.{dooms}
+use Rattle.shim_semantics.specs.Poison.{dooms}
 use Rattle.shim_tree.proofs.Beside.{inside, outside, asked_in, place_past}
 use Rattle.shim_tree.proofs.Seeks.{item_there}
 use Rattle.shim_tree.proofs.Dooms.{dooms_there, dooms_later, any_is, none_dooms}
@@ -13,11 +13,11 @@ returns-then-is_dooming g t c =
     let ch = c.args.c.now.channel in
     let i = c.loop-i.i in
     let ls = c.in-Forked.children in
-    let bs = c.in-Forked.belows in
+    let bs = c.in-Forked.statuses in
     let there = inside ls c.len-i-end.result i c.len-i-end.ensures c.loop-i-test.true in
     dooms_there o h ch i ls.items bs.items c.index.result.now there c.index.ensures _ c.loop-i.invariant
     (sym (asked_in (dooms o h ch) c.index.result.now bs c.len.result i c.index-then-i-len.result.now c.is_dooming.result c.len.ensures c.if-i-len.true c.index-then-i-len.ensures c.is_dooming.ensures) ∙ c.if-is_dooming.true)
-    ∙ any_is o h ch c.args.l.now c.args.below.now ls bs c.in-Forked.is
+    ∙ any_is o h ch c.args.l.now c.args.status.now ls bs c.in-Forked.is
 
 pub loop-i-preserved : goal.loop-i-preserved
 loop-i-preserved g t c =
@@ -26,7 +26,7 @@ loop-i-preserved g t c =
     let ch = c.args.c.now.channel in
     let i = c.loop-i.i in
     let ls = c.in-Forked.children in
-    let bs = c.in-Forked.belows in
+    let bs = c.in-Forked.statuses in
     let there = inside ls c.len-i-end.result i c.len-i-end.ensures c.loop-i-test.true in
     elim c.if-i-len.branch [
       | then-i-len+else-is_dooming w ↦
@@ -39,5 +39,5 @@ loop-i-preserved g t c =
 
 pub returns-after-loop-i : goal.returns-after-loop-i
 returns-after-loop-i g t c =
-    none_dooms g.L.Local.ops c.args.label c.args.c.now.channel c.args.l.now c.args.below.now c.in-Forked.children c.in-Forked.belows c.loop-i.i c.in-Forked.is
+    none_dooms g.L.Local.ops c.args.label c.args.c.now.channel c.args.l.now c.args.status.now c.in-Forked.children c.in-Forked.statuses c.loop-i.i c.in-Forked.is
     (outside c.in-Forked.children c.len-i-end.result c.loop-i.i c.len-i-end.ensures c.loop-i-test.false) c.loop-i.invariant

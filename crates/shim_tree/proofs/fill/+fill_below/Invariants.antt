@@ -1,5 +1,5 @@
 use Rattle.std.proofs.Common.{◌≡◌, true}
-use Rattle.shim_tree.specs.Below.{nodes}
+use Rattle.shim_tree.specs.NodeStatus.{nodes}
 use Rattle.shim_tree.proofs.Fills.{filled_before}
 use Rattle.shim_tree.proofs.fill.+fill_below.Given as goal
 
@@ -9,6 +9,6 @@ decreases-fill_below g l = goal.size-fill_below g l
 abbrev pub invariant-loop-i : goal.invariant-loop-i
 invariant-loop-i g l =
     goal.unvisited-loop-i g l
-    × (l.belows.len ≡ l.i-end)
-    × (nodes l.belows.items ≡ nodes l.initial.belows.items)
-    × (filled_before l.i l.belows.items ≡ true)
+    × (l.statuses.len ≡ l.i-end)
+    × (nodes l.statuses.items ≡ nodes l.initial.statuses.items)
+    × (filled_before l.i l.statuses.items ≡ true)

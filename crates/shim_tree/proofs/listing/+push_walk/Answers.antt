@@ -1,8 +1,8 @@
 use Rattle.std.proofs.Common.{◌≡◌, ◌∙◌, ◌++◌, sym, ap, map}
-use Rattle.shim_meaning.specs.Nodes.{Forked}
-use Rattle.shim_tree.specs.Below.{nodes, together, event_of}
+use Rattle.shim_semantics.specs.Nodes.{Forked}
+use Rattle.shim_tree.specs.NodeStatus.{nodes, together, event_of}
 use Rattle.shim_tree.specs.Beside.{place}
-use Rattle.shim_meaning.specs.Walks.{walk, poisons_of}
+use Rattle.shim_semantics.specs.Walks.{walk, poisons_of}
 use Rattle.shim_tree.proofs.Beside.{is_forked, inside, outside, asked_in, asked_past}
 use Rattle.shim_tree.proofs.Walked.{walked_child, walked_all}
 use Rattle.shim_tree.proofs.listing.+push_walk.Goals as goal
@@ -10,7 +10,7 @@ use Rattle.shim_tree.proofs.listing.+push_walk.Goals.{then-i-len+in_ok-push_walk
 
 pub push_here-requires-after_bounds : goal.push_here-requires-after_bounds
 push_here-requires-after_bounds g t c κs within =
-    is_forked c.args.l.now c.args.below.now c.in-Forked.children c.in-Forked.belows c.in-Forked.is
+    is_forked c.args.l.now c.args.status.now c.in-Forked.children c.in-Forked.statuses c.in-Forked.is
     ∙ λ u. Forked c.args.l.now (together (sym c.as_slice-states.ensures.value u) (nodes (sym c.as_slice-came.ensures.value u)))
 
 pub loop-i-preserved : goal.loop-i-preserved
@@ -18,7 +18,7 @@ loop-i-preserved g t c =
     let o = g.L.Local.ops in
     let l = c.args.l.now in
     let ls = c.in-Forked.children in
-    let bs = c.in-Forked.belows in
+    let bs = c.in-Forked.statuses in
     let i = c.loop-i.i in
     let m = c.index-child.result.now in
     let there = inside ls c.len-i-end.result i c.len-i-end.ensures c.loop-i-test.true in
@@ -39,5 +39,5 @@ loop-i-preserved g t c =
 
 pub returns-after-loop-i : goal.returns-after-loop-i
 returns-after-loop-i g t c =
-    walked_all g.L.Local.ops c.args.l.now c.args.below.now c.in-Forked.children c.in-Forked.belows c.loop-i.i (map event_of c.args.events.now) (map event_of c.push_here.new.events) (map event_of c.loop-i.events) c.in-Forked.is
+    walked_all g.L.Local.ops c.args.l.now c.args.status.now c.in-Forked.children c.in-Forked.statuses c.loop-i.i (map event_of c.args.events.now) (map event_of c.push_here.new.events) (map event_of c.loop-i.events) c.in-Forked.is
     (outside c.in-Forked.children c.len-i-end.result c.loop-i.i c.len-i-end.ensures c.loop-i-test.false) c.in_ok-push_here-in-Forked.ensures c.loop-i.invariant

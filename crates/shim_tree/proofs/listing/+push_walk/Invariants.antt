@@ -1,6 +1,6 @@
 use Rattle.std.proofs.Common.{◌≡◌, ◌++◌, map}
-use Rattle.shim_tree.specs.Below.{event_of}
-use Rattle.shim_meaning.specs.Walks.{walk_all}
+use Rattle.shim_tree.specs.NodeStatus.{event_of}
+use Rattle.shim_semantics.specs.Walks.{walk_all}
 use Rattle.shim_tree.proofs.Beside.{from}
 use Rattle.shim_tree.proofs.listing.+push_walk.Given as goal
 
@@ -9,5 +9,5 @@ decreases-push_walk g l = goal.size-push_walk g l
 
 abbrev pub invariant-loop-i : goal.invariant-loop-i
 invariant-loop-i g l =
-    map event_of l.events ++ walk_all g.L.Local.ops l.l (from 0 l.children.items l.belows.items) l.i (from l.i l.children.items l.belows.items)
-    ≡ map event_of l.initial.events ++ walk_all g.L.Local.ops l.l (from 0 l.children.items l.belows.items) 0 (from 0 l.children.items l.belows.items)
+    map event_of l.events ++ walk_all g.L.Local.ops l.l (from 0 l.children.items l.statuses.items) l.i (from l.i l.children.items l.statuses.items)
+    ≡ map event_of l.initial.events ++ walk_all g.L.Local.ops l.l (from 0 l.children.items l.statuses.items) 0 (from 0 l.children.items l.statuses.items)

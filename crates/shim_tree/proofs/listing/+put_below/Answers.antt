@@ -1,5 +1,5 @@
 use Rattle.std.proofs.Common.{◌∙◌, ap, filter}
-use Rattle.shim_meaning.specs.Walks.{as_list, all_inserted, waited}
+use Rattle.shim_semantics.specs.Walks.{as_list, all_inserted, waited}
 use Rattle.shim_tree.specs.Searching.{passes, channels}
 use Rattle.shim_tree.proofs.Beside.{inside, outside, asked_in, asked_past}
 use Rattle.shim_tree.proofs.Puts.{put_more, put_all}
@@ -12,7 +12,7 @@ loop-i-preserved g t c =
     let p = passes o c.args.test.now in
     let i = c.loop-i.i in
     let ls = c.in-Forked.children in
-    let bs = c.in-Forked.belows in
+    let bs = c.in-Forked.statuses in
     let there = inside ls c.len-i-end.result i c.len-i-end.ensures c.loop-i-test.true in
     let was = channels c.loop-i.chans.items in
     let now = channels c.if-i-len.chans.items in
@@ -29,5 +29,5 @@ loop-i-preserved g t c =
 
 pub returns-after-loop-i : goal.returns-after-loop-i
 returns-after-loop-i g t c =
-    put_all g.L.Local.ops (passes g.L.Local.ops c.args.test.now) c.args.l.now c.args.below.now c.in-Forked.children c.in-Forked.belows c.loop-i.i
+    put_all g.L.Local.ops (passes g.L.Local.ops c.args.test.now) c.args.l.now c.args.status.now c.in-Forked.children c.in-Forked.statuses c.loop-i.i
     (channels c.loop-i.chans.items) (channels c.args.chans.now.items) c.in-Forked.is (outside c.in-Forked.children c.len-i-end.result c.loop-i.i c.len-i-end.ensures c.loop-i-test.false) c.loop-i.invariant

@@ -1,6 +1,6 @@
 use Rattle.std.proofs.Common.{◌≡◌, ◌++◌, drop, map}
-use Rattle.shim_tree.specs.Below.{event_of}
-use Rattle.shim_meaning.specs.Trees.{Meet}
+use Rattle.shim_tree.specs.NodeStatus.{event_of}
+use Rattle.shim_semantics.specs.Trees.{Meet}
 use Rattle.shim_tree.specs.Searching.{channels}
 use Rattle.shim_tree.proofs.listing.push_meets.Given as goal
 

@@ -1,5 +1,5 @@
 use Rattle.std.proofs.Common.{◌≡◌, ◌++◌, map, drop}
-use Rattle.shim_meaning.specs.Endings.{log_at}
+use Rattle.shim_semantics.specs.Endings.{log_at}
 use Rattle.shim_tree.proofs.logs.add_logs.Lts.Given as given
 
 -- what is listed, and then what is left, is the whole

@@ -1,5 +1,5 @@
 use Rattle.std.proofs.Common.{◌∙◌, ap}
-use Rattle.shim_meaning.specs.Poison.{poisoned}
+use Rattle.shim_semantics.specs.Poison.{poisoned}
 use Rattle.shim_tree.proofs.Fills.{at_fault}
 use Rattle.shim_tree.proofs.poison.poison_below.Goals as goal
 

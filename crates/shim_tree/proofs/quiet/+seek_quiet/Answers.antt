@@ -10,11 +10,11 @@ returns-in-Here g t c =
     let o = g.L.Local.ops in
     let i = c.loop-i.i in
     let ls = c.in-Forked.children in
-    let bs = c.in-Forked.belows in
+    let bs = c.in-Forked.statuses in
     let there = inside ls c.len-i-end.result i c.len-i-end.ensures c.loop-i-test.true in
     let sought = sought_of c.if-i-len.sought in
     let from_here = sought_from o c.loop-i.more in
-    let whole = c.loop-i.invariant ∙ from_first o c.args.l.now c.args.below.now ls bs c.in-Forked.is c.args.left in
+    let whole = c.loop-i.invariant ∙ from_first o c.args.l.now c.args.status.now ls bs c.in-Forked.is c.args.left in
     elim c.if-i-len.branch [
       | then-i-len w ↦
           found_there o i ls.items bs.items w.index.result.now there w.index.ensures c.loop-i.more sought
@@ -31,7 +31,7 @@ loop-i-preserved g t c =
     let o = g.L.Local.ops in
     let i = c.loop-i.i in
     let ls = c.in-Forked.children in
-    let bs = c.in-Forked.belows in
+    let bs = c.in-Forked.statuses in
     let there = inside ls c.len-i-end.result i c.len-i-end.ensures c.loop-i-test.true in
     let sought = sought_of c.if-i-len.sought in
     let from_here = sought_from o c.loop-i.more in
@@ -48,5 +48,5 @@ loop-i-preserved g t c =
 
 pub returns-after-loop-i : goal.returns-after-loop-i
 returns-after-loop-i g t c =
-    past_last g.L.Local.ops c.args.l.now c.args.below.now c.in-Forked.children c.in-Forked.belows c.in-Forked.is c.loop-i.i c.args.left c.loop-i.more
+    past_last g.L.Local.ops c.args.l.now c.args.status.now c.in-Forked.children c.in-Forked.statuses c.in-Forked.is c.loop-i.i c.args.left c.loop-i.more
     (outside c.in-Forked.children c.len-i-end.result c.loop-i.i c.len-i-end.ensures c.loop-i-test.false) c.loop-i.invariant

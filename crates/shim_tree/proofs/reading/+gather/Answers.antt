@@ -1,6 +1,6 @@
 use Rattle.std.proofs.Common.{◌<◌, ◌≤◌, length, arith}
-use Rattle.shim_tree.specs.Below.{together, nodes}
-use Rattle.shim_meaning.specs.Endings.{all_waiting}
+use Rattle.shim_tree.specs.NodeStatus.{together, nodes}
+use Rattle.shim_semantics.specs.Endings.{all_waiting}
 use Rattle.shim_tree.specs.Readings.{with_waits}
 use Rattle.shim_tree.proofs.Gathered.{gathered_child, gathered_live, gathered_all}
 use Rattle.shim_tree.proofs.reading.+gather.Goals as goal
@@ -27,4 +27,4 @@ pub returns-after-loop-i : goal.returns-after-loop-i
 returns-after-loop-i g t c =
     let ls = c.in-Forked.children in
     let k : length ls.items ≤ c.loop-i.i = let a = ls.ok.0 in let d = c.loop-i-test.false in let e = c.len-i-end.ensures in omega arith in
-    gathered_all g.L.Local.ops c.args.waits.now c.loop-i.waits c.loop-i.i c.args.root.now c.args.below.now ls c.in-Forked.came c.in-Forked.is k c.loop-i.invariant
+    gathered_all g.L.Local.ops c.args.waits.now c.loop-i.waits c.loop-i.i c.args.root.now c.args.status.now ls c.in-Forked.came c.in-Forked.is k c.loop-i.invariant

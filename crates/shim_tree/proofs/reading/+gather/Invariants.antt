@@ -1,6 +1,6 @@
 use Rattle.std.proofs.Common.{◌≡◌, drop}
-use Rattle.shim_tree.specs.Below.{together, nodes}
-use Rattle.shim_meaning.specs.Endings.{all_waiting}
+use Rattle.shim_tree.specs.NodeStatus.{together, nodes}
+use Rattle.shim_semantics.specs.Endings.{all_waiting}
 use Rattle.shim_tree.specs.Readings.{with_waits}
 use Rattle.shim_tree.proofs.reading.+gather.Given as goal
 

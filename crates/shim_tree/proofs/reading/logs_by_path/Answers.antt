@@ -2,7 +2,7 @@ use Rattle.std.proofs.Common.{◌≡◌, ◌≤◌, ◌+◌, ◌∷◌, ◌∙�
 use Rattle.std.proofs.lemmas.Grind.{common_steps}
 use Rattle.std.proofs.lemmas.Result.{IfOk-weaker}
 use Rattle.std.specs.FinMap as finite
-use Rattle.shim_meaning.specs.Endings.{all_logs}
+use Rattle.shim_semantics.specs.Endings.{all_logs}
 use Rattle.shim_tree.specs.Telling.{with_each, logged}
 use Rattle.shim_tree.proofs.Happens.{gathered_one, gathered_all}
 use Rattle.shim_tree.proofs.reading.logs_by_path.Goals as goal

@@ -1,9 +1,9 @@
 use Rattle.std.proofs.Common.{◌≡◌, ◌∙◌, sym, ap}
 use Rattle.std.specs.Option.{option_map}
-use Rattle.shim_meaning.specs.Nodes.{Forked}
-use Rattle.shim_tree.specs.Below.{nodes, together}
+use Rattle.shim_semantics.specs.Nodes.{Forked}
+use Rattle.shim_tree.specs.NodeStatus.{nodes, together}
 use Rattle.shim_tree.specs.Beside.{place}
-use Rattle.shim_meaning.specs.Walks.{head, walk, poisons_of}
+use Rattle.shim_semantics.specs.Walks.{head, walk, poisons_of}
 use Rattle.shim_tree.specs.Finding.{found_event}
 use Rattle.shim_tree.proofs.Beside.{is_forked, inside, outside, asked_in, asked_past}
 use Rattle.shim_tree.proofs.Seeks.{found_here, found_poison, found_there, found_later, found_none}
@@ -12,25 +12,25 @@ use Rattle.shim_tree.proofs.seek.+found_first.Goals.{then-i-len, else-i-len}
 
 pub found_here-at_fork-requires-after_bounds : goal.found_here-at_fork-requires-after_bounds
 found_here-at_fork-requires-after_bounds g t c κs within =
-    is_forked c.args.l.now c.args.below.now c.in-Forked.children c.in-Forked.belows c.in-Forked.is
+    is_forked c.args.l.now c.args.status.now c.in-Forked.children c.in-Forked.statuses c.in-Forked.is
     ∙ λ u. Forked c.args.l.now (together (sym c.as_slice-states.ensures.value u) (nodes (sym c.as_slice-came.ensures.value u)))
 
 pub returns-then-acts : goal.returns-then-acts
 returns-then-acts g t c =
     let o = g.L.Local.ops in
     let l = c.args.l.now in
-    let b = c.args.below.now in
+    let b = c.args.status.now in
     let ls = c.in-Forked.children in
-    let bs = c.in-Forked.belows in
+    let bs = c.in-Forked.statuses in
     found_here o found_event l b ls bs c.in-Forked.is c.found_here-at_fork.result c.found_here-at_fork.ensures (sym c.is_some-acts.ensures ∙ c.if-acts.true)
 
 pub returns-then-poisoned : goal.returns-then-poisoned
 returns-then-poisoned g t c =
     let o = g.L.Local.ops in
     let l = c.args.l.now in
-    let b = c.args.below.now in
+    let b = c.args.status.now in
     let ls = c.in-Forked.children in
-    let bs = c.in-Forked.belows in
+    let bs = c.in-Forked.statuses in
     let i = c.loop-i.i in
     let m = c.index-child.result.now in
     let there = inside ls c.len-i-end.result i c.len-i-end.ensures c.loop-i-test.true in
@@ -44,9 +44,9 @@ pub returns-then-is_some : goal.returns-then-is_some
 returns-then-is_some g t c =
     let o = g.L.Local.ops in
     let l = c.args.l.now in
-    let b = c.args.below.now in
+    let b = c.args.status.now in
     let ls = c.in-Forked.children in
-    let bs = c.in-Forked.belows in
+    let bs = c.in-Forked.statuses in
     let i = c.loop-i.i in
     let m = c.index-child.result.now in
     let there = inside ls c.len-i-end.result i c.len-i-end.ensures c.loop-i-test.true in
@@ -67,9 +67,9 @@ pub loop-i-preserved : goal.loop-i-preserved
 loop-i-preserved g t c =
     let o = g.L.Local.ops in
     let l = c.args.l.now in
-    let b = c.args.below.now in
+    let b = c.args.status.now in
     let ls = c.in-Forked.children in
-    let bs = c.in-Forked.belows in
+    let bs = c.in-Forked.statuses in
     let i = c.loop-i.i in
     let m = c.index-child.result.now in
     let there = inside ls c.len-i-end.result i c.len-i-end.ensures c.loop-i-test.true in
@@ -90,8 +90,8 @@ pub returns-after-loop-i : goal.returns-after-loop-i
 returns-after-loop-i g t c =
     let o = g.L.Local.ops in
     let l = c.args.l.now in
-    let b = c.args.below.now in
+    let b = c.args.status.now in
     let ls = c.in-Forked.children in
-    let bs = c.in-Forked.belows in
+    let bs = c.in-Forked.statuses in
     found_none o found_event l b ls bs c.in-Forked.is c.found_here-at_fork.result c.found_here-at_fork.ensures c.loop-i.i (outside ls c.len-i-end.result c.loop-i.i c.len-i-end.ensures c.loop-i-test.false)
     (sym c.is_some-acts.ensures ∙ c.if-acts.false) c.loop-i.invariant

@@ -1,6 +1,6 @@
 use Rattle.std.proofs.Common.{◌∙◌, ap}
 use Rattle.std.specs.Option.{option_copied}
-use Rattle.shim_meaning.specs.Walks.{as_list, waited}
+use Rattle.shim_semantics.specs.Walks.{as_list, waited}
 use Rattle.shim_tree.specs.Finding.{channel_in, least}
 use Rattle.shim_tree.specs.Searching.{passes}
 use Rattle.shim_tree.proofs.Beside.{inside, outside, asked_in, asked_past}
@@ -14,7 +14,7 @@ loop-i-preserved g t c =
     let p = passes o c.args.test.now in
     let i = c.loop-i.i in
     let ls = c.in-Forked.children in
-    let bs = c.in-Forked.belows in
+    let bs = c.in-Forked.statuses in
     let there = inside ls c.len-i-end.result i c.len-i-end.ensures c.loop-i-test.true in
     let was = channel_in (option_copied c.loop-i.found) in
     let now = channel_in (option_copied c.if-i-len.found) in
@@ -31,5 +31,5 @@ loop-i-preserved g t c =
 
 pub returns-after-loop-i : goal.returns-after-loop-i
 returns-after-loop-i g t c =
-    least_all g.L.Local.ops (passes g.L.Local.ops c.args.test.now) c.args.l.now c.args.below.now c.in-Forked.children c.in-Forked.belows c.loop-i.i
+    least_all g.L.Local.ops (passes g.L.Local.ops c.args.test.now) c.args.l.now c.args.status.now c.in-Forked.children c.in-Forked.statuses c.loop-i.i
     (channel_in (option_copied c.loop-i.found)) (channel_in (option_copied c.args.best)) c.in-Forked.is (outside c.in-Forked.children c.len-i-end.result c.loop-i.i c.len-i-end.ensures c.loop-i-test.false) c.loop-i.invariant

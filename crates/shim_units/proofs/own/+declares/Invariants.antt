@@ -1,5 +1,5 @@
 use Rattle.std.proofs.Common.{◌≡◌, ◌++◌, drop}
-use Rattle.shim_units.specs.Meaning.{declares_in}
+use Rattle.shim_units.specs.PartFold.{declares_in}
 use Rattle.shim_units.proofs.own.+declares.Given as goal
 
 abbrev pub invariant-push_declares-loop-stmt : goal.invariant-push_declares-loop-stmt

@@ -1,6 +1,6 @@
 use Rattle.std.proofs.Common.{◌≡◌, ◌++◌, drop}
 use Rattle.shim_units.specs.Parts.{all_raises}
-use Rattle.shim_units.specs.Meaning.{raises_in, branch_parts}
+use Rattle.shim_units.specs.PartFold.{raises_in, branch_parts}
 use Rattle.shim_units.proofs.own.+raises.Given as goal
 
 abbrev pub invariant-push_raises-loop-stmt : goal.invariant-push_raises-loop-stmt

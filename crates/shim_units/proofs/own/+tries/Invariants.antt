@@ -1,5 +1,5 @@
 use Rattle.std.proofs.Common.{◌≡◌, ◌++◌, drop}
-use Rattle.shim_units.specs.Meaning.{tries_in}
+use Rattle.shim_units.specs.PartFold.{tries_in}
 use Rattle.shim_units.proofs.own.+tries.Given as goal
 
 abbrev pub invariant-push_tries-loop-stmt : goal.invariant-push_tries-loop-stmt

@@ -1,6 +1,6 @@
 use Rattle.std.proofs.Common.{◌≡◌, ◌++◌, drop}
 use Rattle.shim_units.specs.Parts.{all_uses}
-use Rattle.shim_units.specs.Meaning.{uses_in, branch_parts}
+use Rattle.shim_units.specs.PartFold.{uses_in, branch_parts}
 use Rattle.shim_units.proofs.uses.+uses.Given as goal
 
 abbrev pub invariant-push_stmts-loop-stmt : goal.invariant-push_stmts-loop-stmt

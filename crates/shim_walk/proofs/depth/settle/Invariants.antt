@@ -1,12 +1,12 @@
 use Rattle.std.proofs.Common.{◌≡◌, ◌∷◌, length, map}
-use Rattle.shim_frames.specs.Depths.{returned, shown}
-use Rattle.shim_frames.specs.Fronts.{AllStand}
+use Rattle.shim_walk_frames.specs.Depths.{returned, shown}
+use Rattle.shim_walk_frames.specs.Cursors.{AllStand}
 use Rattle.shim_walk.proofs.depth.settle.Given as goal
 
 abbrev pub invariant-loop-callers : goal.invariant-loop-callers
 invariant-loop-callers l = record {
-  value : returned (map (shown l.units) l.callers) (shown l.units l.top) l.cells ≡ returned (map (shown l.units) l.initial.callers) (shown l.units l.initial.top) l.initial.cells;
-  fronts : AllStand l.units (l.top ∷ l.callers);
+  value : returned (map (shown l.units) l.callers) (shown l.units l.top) l.locations ≡ returned (map (shown l.units) l.initial.callers) (shown l.units l.initial.top) l.initial.locations;
+  cursors : AllStand l.units (l.top ∷ l.callers);
 }
 
 abbrev pub decreases-loop-callers : goal.decreases-loop-callers

@@ -1,5 +1,5 @@
 use Rattle.std.proofs.Common.{◌≡◌, drop}
-use Rattle.shim_units.specs.Forks.{output_back}
+use Rattle.shim_process.specs.Forks.{output_back}
 use Rattle.shim_walk.proofs.process.output_back.Given as goal
 
 abbrev pub invariant-loop-child : goal.invariant-loop-child

@@ -3,7 +3,7 @@ use Rattle.std.specs.Prelude.{filter}
 use Rattle.std.proofs.lemmas.List.{append_assoc, append-nil}
 use Rattle.std.specs.FinMap as finite
 use Rattle.shim_base.specs.PathLaws.{path_order_total}
-use Rattle.shim_meaning.specs.Endings.{own_steps}
+use Rattle.shim_semantics.specs.Endings.{own_steps}
 use Rattle.shim_tree.specs.Maps.{has_stepped}
 use Rattle.shim_tree.proofs.Mapped.{entries_of}
 use Rattle.shim_tree.proofs.Counted.{entries_stepped, one_and_rest}

@@ -1,7 +1,7 @@
 use Rattle.std.proofs.Common.{◌≡◌, ◌++◌, map}
 use Rattle.std.specs.Prelude.{filter}
 use Rattle.std.specs.FinMap as finite
-use Rattle.shim_meaning.specs.Endings.{own_steps}
+use Rattle.shim_semantics.specs.Endings.{own_steps}
 use Rattle.shim_tree.specs.Maps.{has_stepped}
 use Rattle.shim_tree.specs.Advancing.{stepped}
 use Rattle.shim_tree.proofs.counts.Counts.list.Lts.Given as given

@@ -1,7 +1,7 @@
 use Rattle.std.proofs.Common.{ap, sym, map, ◌≡◌, ◌∙◌, arith}
 use Rattle.std.specs.FinMap as finite
 use Rattle.shim_base.specs.PathLaws.{path_order_total}
-use Rattle.shim_meaning.specs.Trees.{sum}
+use Rattle.shim_semantics.specs.Trees.{sum}
 use Rattle.shim_tree.specs.Advancing.{stepped}
 use Rattle.shim_tree.proofs.Mapped.{entries_of}
 use Rattle.shim_tree.proofs.Counted.{sum_stepped}

@@ -1,6 +1,6 @@
 use Rattle.std.proofs.Common.{◌≡◌, ◌+◌}
 use Rattle.std.specs.FinMap as finite
-use Rattle.shim_meaning.specs.Trees.{sum}
+use Rattle.shim_semantics.specs.Trees.{sum}
 use Rattle.shim_tree.specs.Advancing.{stepped}
 use Rattle.shim_tree.proofs.counts.Counts.total.Lts.Given as given
 

@@ -1,6 +1,6 @@
 use Rattle.std.proofs.Common.{ap, sym, ◌∙◌, Some}
 use Rattle.std.specs.FinMap as finite
-use Rattle.shim_meaning.specs.Endings.{values_in}
+use Rattle.shim_semantics.specs.Endings.{values_in}
 use Rattle.shim_tree.proofs.Values.{values_of}
 use Rattle.shim_tree.proofs.histories.Histories.get.Goals as goal
 

@@ -1,7 +1,7 @@
 use Rattle.std.proofs.Common.{ap, sym, ◌∙◌, ◌++◌, ◌∷◌, map}
 use Rattle.std.proofs.lemmas.List.{append_assoc, append-nil}
 use Rattle.std.specs.FinMap as finite
-use Rattle.shim_meaning.specs.Endings.{history_of}
+use Rattle.shim_semantics.specs.Endings.{history_of}
 use Rattle.shim_tree.specs.Maps.{met_of}
 use Rattle.shim_tree.proofs.Recorded.{mets_of}
 use Rattle.shim_tree.proofs.histories.Histories.list.Goals as goal

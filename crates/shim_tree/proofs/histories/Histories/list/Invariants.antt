@@ -1,6 +1,6 @@
 use Rattle.std.proofs.Common.{◌≡◌, ◌++◌, map}
 use Rattle.std.specs.FinMap as finite
-use Rattle.shim_meaning.specs.Endings.{history_of}
+use Rattle.shim_semantics.specs.Endings.{history_of}
 use Rattle.shim_tree.specs.Maps.{met_of}
 use Rattle.shim_tree.proofs.histories.Histories.list.Lts.Given as given
 

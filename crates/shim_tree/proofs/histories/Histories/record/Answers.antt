@@ -5,7 +5,7 @@ use Rattle.std.specs.Map.{set_value, lookup}
 use Rattle.std.proofs.lemmas.Int.{to_z-of_z}
 use Rattle.std.proofs.lemmas.Result.{on_ok_weaker, on_err_weaker}
 use Rattle.std.proofs.lemmas.Map.Steps.{set_value_same}
-use Rattle.shim_meaning.specs.Trees.{recorded}
+use Rattle.shim_semantics.specs.Trees.{recorded}
 use Rattle.shim_tree.specs.Maps.{AllHaveValues}
 use Rattle.shim_tree.proofs.Recorded.{is_of, mets, more_values, first_recorded}
 use Rattle.shim_tree.proofs.HaveValues.{more_have, first_have}

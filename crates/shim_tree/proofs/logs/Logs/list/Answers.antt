@@ -2,7 +2,7 @@ use Rattle.std.proofs.Common.{ap, sym, ◌∙◌, ◌++◌, map}
 use Rattle.std.proofs.lemmas.List.{append_assoc, append-nil}
 use Rattle.std.specs.FinMap as finite
 use Rattle.shim_base.specs.PathLaws.{path_order_total}
-use Rattle.shim_meaning.specs.Endings.{log_at, all_logs}
+use Rattle.shim_semantics.specs.Endings.{log_at, all_logs}
 use Rattle.shim_tree.proofs.Mapped.{entries_of}
 use Rattle.shim_tree.proofs.logs.Logs.list.Goals as goal
 

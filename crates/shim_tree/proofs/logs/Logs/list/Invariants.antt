@@ -1,6 +1,6 @@
 use Rattle.std.proofs.Common.{◌≡◌, ◌++◌}
 use Rattle.std.specs.FinMap as finite
-use Rattle.shim_meaning.specs.Endings.{all_logs}
+use Rattle.shim_semantics.specs.Endings.{all_logs}
 use Rattle.shim_tree.proofs.logs.Logs.list.Lts.Given as given
 
 -- what is listed, and then what is left, is the whole

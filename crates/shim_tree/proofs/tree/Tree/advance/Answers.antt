@@ -1,9 +1,9 @@
 use Rattle.std.proofs.Common.{refl, sym, ap, ◌∙◌}
-use Rattle.shim_meaning.specs.Places.{route}
-use Rattle.shim_tree.specs.Below.{node}
+use Rattle.shim_semantics.specs.Places.{route}
+use Rattle.shim_tree.specs.NodeStatus.{node}
 use Rattle.shim_tree.proofs.Children.{state_node}
 use Rattle.shim_tree.proofs.AtOnce.{at_its_place, within_bounds, advances_from, stays_whole}
-use Rattle.shim_meaning.proofs.SoundEvents.{runs_stay_sound}
+use Rattle.shim_semantics.proofs.SoundEvents.{runs_stay_sound}
 use Rattle.shim_tree.proofs.tree.Tree.advance.Goals as goal
 
 pub add-requires-clause-place : goal.add-requires-clause-place
@@ -19,8 +19,8 @@ invariant_of-self g c =
     let o = g.L.Local.ops in
     let laws = (g.met.L.Local g.world.𝓛 g.world.𝓜 g.world.𝓡 ((λ s x. x), (λ x. x), (λ x. x), λ x. x)).laws in
     let l = c.self.inside.root in
-    let b = c.self.inside.below in
-    stays_whole o _ c.self.inside.counts refl c.args.steps c.args.last (node c.swap_on.new.root c.swap_on.new.below)
+    let b = c.self.inside.status in
+    stays_whole o _ c.self.inside.counts refl c.args.steps c.args.last (node c.swap_on.new.root c.swap_on.new.status)
     (λ q r. c.swap_on.ensures q (ap (λ z. route (o.path z) (o.path c.args.last)) (sym (state_node l b)) ∙ r))
     c.path.result.now c.path.ensures.path c.add.new.self c.add.ensures laws c.self.invariant.0 (runs_stay_sound o laws) c.args.self.now c.self.view_is c.requires.comes c.self.invariant.1
 
@@ -29,7 +29,7 @@ returns g c =
     let o = g.L.Local.ops in
     let laws = (g.met.L.Local g.world.𝓛 g.world.𝓜 g.world.𝓡 ((λ s x. x), (λ x. x), (λ x. x), λ x. x)).laws in
     let l = c.self.inside.root in
-    let b = c.self.inside.below in
-    advances_from o _ c.self.inside.counts refl c.args.steps c.args.last (node c.swap_on.new.root c.swap_on.new.below)
+    let b = c.self.inside.status in
+    advances_from o _ c.self.inside.counts refl c.args.steps c.args.last (node c.swap_on.new.root c.swap_on.new.status)
     (λ q r. c.swap_on.ensures q (ap (λ z. route (o.path z) (o.path c.args.last)) (sym (state_node l b)) ∙ r))
     c.path.result.now c.path.ensures.path c.add.new.self c.add.ensures laws c.self.invariant.0 c.args.self.now c.self.view_is c.requires.comes

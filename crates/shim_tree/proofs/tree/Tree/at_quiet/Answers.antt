@@ -1,5 +1,5 @@
 use Rattle.std.proofs.Common.{◌∙◌, ap}
-use Rattle.shim_meaning.specs.Quiets.{quiet_at}
+use Rattle.shim_semantics.specs.Quiets.{quiet_at}
 use Rattle.shim_tree.proofs.tree.Tree.at_quiet.Goals as goal
 
 pub returns : goal.returns

@@ -1,6 +1,6 @@
 use Rattle.std.proofs.lemmas.Result.{on_ok_weaker}
-use Rattle.shim_tree.specs.Below.{event_of}
-use Rattle.shim_meaning.proofs.Counting.{event_counts}
+use Rattle.shim_tree.specs.NodeStatus.{event_of}
+use Rattle.shim_semantics.proofs.Counting.{event_counts}
 use Rattle.shim_tree.proofs.tree.Tree.do_event.Goals as goal
 
 pub returns-clause-counted : goal.returns-clause-counted

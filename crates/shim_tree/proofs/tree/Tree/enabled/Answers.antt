@@ -1,9 +1,9 @@
 use Rattle.std.proofs.Common.{◌∙◌, ap, map, subst}
 use Rattle.std.proofs.lemmas.Result.{IfOk-weaker}
-use Rattle.shim_tree.specs.Below.{event_of}
-use Rattle.shim_meaning.specs.Places.{SoundBelow}
-use Rattle.shim_meaning.specs.Walks.{walk}
-use Rattle.shim_meaning.proofs.Listed.{are_enabled}
+use Rattle.shim_tree.specs.NodeStatus.{event_of}
+use Rattle.shim_semantics.specs.Places.{SoundBelow}
+use Rattle.shim_semantics.specs.Walks.{walk}
+use Rattle.shim_semantics.proofs.Listed.{are_enabled}
 use Rattle.shim_tree.proofs.tree.Tree.enabled.Goals as goal
 
 pub returns-clause-walk : goal.returns-clause-walk

@@ -1,7 +1,7 @@
 use Rattle.std.proofs.Common.{ap, subst}
 use Rattle.std.proofs.lemmas.Result.{IfOk-weaker}
-use Rattle.shim_meaning.specs.Places.{SoundBelow}
-use Rattle.shim_meaning.proofs.Listed.{ended_spent}
+use Rattle.shim_semantics.specs.Places.{SoundBelow}
+use Rattle.shim_semantics.proofs.Listed.{ended_spent}
 use Rattle.shim_tree.proofs.tree.Tree.ended.Goals as goal
 
 pub returns-clause-spent : goal.returns-clause-spent

@@ -1,5 +1,5 @@
 use Rattle.std.proofs.Common.{◌∙◌, ap, subst}
-use Rattle.shim_meaning.specs.Endings.{history_at}
+use Rattle.shim_semantics.specs.Endings.{history_at}
 use Rattle.shim_tree.specs.Maps.{AllHaveValues}
 use Rattle.shim_tree.proofs.HaveValues.{some_has, none_where_empty}
 use Rattle.shim_tree.proofs.tree.Tree.history.Goals as goal

@@ -1,9 +1,9 @@
 use Rattle.std.proofs.Common.{◌∙◌, ap, subst}
-use Rattle.shim_meaning.specs.Places.{SoundBelow}
-use Rattle.shim_meaning.specs.Sound.{IsSound}
-use Rattle.shim_meaning.specs.Walks.{walk}
-use Rattle.shim_meaning.specs.Endings.{is_empty}
-use Rattle.shim_meaning.proofs.Enabled.{empty_is_quiescent}
+use Rattle.shim_semantics.specs.Places.{SoundBelow}
+use Rattle.shim_semantics.specs.Sound.{IsSound}
+use Rattle.shim_semantics.specs.Walks.{walk}
+use Rattle.shim_semantics.specs.Endings.{is_empty}
+use Rattle.shim_semantics.proofs.Enabled.{empty_is_quiescent}
 use Rattle.shim_tree.proofs.Happens.{told_quiescent}
 use Rattle.shim_tree.proofs.tree.Tree.quiescent.Goals as goal
 

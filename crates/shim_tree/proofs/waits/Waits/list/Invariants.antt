@@ -1,6 +1,6 @@
 use Rattle.std.proofs.Common.{◌≡◌, ◌++◌, map}
 use Rattle.std.specs.FinMap as finite
-use Rattle.shim_meaning.specs.Endings.{wait_at}
+use Rattle.shim_semantics.specs.Endings.{wait_at}
 use Rattle.shim_tree.proofs.waits.Waits.list.Lts.Given as given
 
 -- what is listed, and then what is left, is the whole

@@ -1,7 +1,7 @@
 use Rattle.std.proofs.Common.{ap, ◌∙◌, sym}
-use Rattle.shim_units.specs.Forks.{item_branches}
-use Rattle.shim_walk.specs.Bred.{branches_of}
-use Rattle.shim_walk.proofs.Births.{branches_next}
+use Rattle.shim_process.specs.Forks.{item_branches}
+use Rattle.shim_walk.specs.ChildrenMade.{branches_of}
+use Rattle.shim_walk.proofs.MadeChildren.{branches_next}
 use Rattle.shim_walk.proofs.process.Process.branches.Goals as goal
 
 pub returns : goal.returns

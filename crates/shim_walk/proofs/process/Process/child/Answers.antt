@@ -2,17 +2,17 @@ use Rattle.std.proofs.Common.{◌≡◌, ap, ◌∙◌, sym, subst, slice_get, �
 use Rattle.std.specs.Arc.{arc_value}
 use Rattle.shim_units.specs.declared.form.Form.{Form}
 use Rattle.shim_units.specs.declared.unit.Unit.{Unit as UnitOf}
-use Rattle.shim_units.specs.LocalState.{LocalState, unit_or, handlers}
-use Rattle.shim_units.specs.Arguments.{branch_locations, channels_of, declared_slots, empties, numbers_from}
-use Rattle.shim_units.specs.Forks.{child, takes_input, takes_output}
-use Rattle.shim_walk.specs.Asks.{labels_for}
-use Rattle.shim_cells.specs.Given.{arguments_of}
-use Rattle.shim_frames.specs.Depths.{shown}
+use Rattle.shim_process.specs.LocalState.{LocalState, unit_or, handlers}
+use Rattle.shim_process.specs.Arguments.{branch_locations, channels_of, declared_slots, empties, numbers_from}
+use Rattle.shim_process.specs.Forks.{child, takes_input, takes_output}
+use Rattle.shim_walk.specs.NextActions.{labels_for}
+use Rattle.shim_locations.specs.Given.{arguments_of}
+use Rattle.shim_walk_frames.specs.Depths.{shown}
 use Rattle.shim_walk.specs.Entries.{enter_of}
-use Rattle.shim_cells.specs.Lendings.{left_of, lent_at}
+use Rattle.shim_locations.specs.Lendings.{remainder_of, lent_at}
 use Rattle.shim_walk.specs.Haves.{have_of}
 use Rattle.shim_walk.specs.contracts.process.Process.{the_view}
-use Rattle.shim_walk.proofs.Births.{child_by, labels_left}
+use Rattle.shim_walk.proofs.MadeChildren.{child_by, labels_left}
 use Rattle.shim_walk.proofs.Labelling.{labels_are}
 use Rattle.shim_walk.proofs.process.Process.child.Goals as goal
 
@@ -20,33 +20,33 @@ pub returns : goal.returns
 returns c =
     let i = c.self.inside in
     let l = the_view i in
-    let left = c.args.left.now in
+    let remainder = c.args.remainder.now in
     let b = c.args.branch.now in
     let n = b.call.unit in
     let args = arguments_of c.args.given.now in
-    let home = arc_value c.in_ok-home.home in
+    let path = arc_value c.in_ok-path.path in
     let u = c.units-units.ensures.value ∙ ap (λ (p : Form). p.units) c.deref.ensures in
-    let e_home = c.in_ok-home.ensures.ok ∙ c.in_ok-child.ensures ∙ ap (λ p. p ++ (i.forks, c.args.place) ∷ []) c.deref-2.ensures in
+    let e_path = c.in_ok-path.ensures.ok ∙ c.in_ok-child.ensures ∙ ap (λ p. p ++ (i.forks, c.args.place) ∷ []) c.deref-2.ensures in
     let e_base = c.handlers-base.ensures ∙ ap handlers (sym c.self.view_is) in
-    let e_passed = c.in_ok-passed.ensures.0 ∙ ap (λ x. branch_locations home (lent_at c.as_slice-2.result.now x) 0 args) c.as_slice.ensures ∙ ap (λ t. branch_locations home (lent_at t i.cells) 0 args) c.as_slice-2.ensures in
-    let e_labels = c.in_ok-labels.ensures ∙ ap (λ h. labels_for h c.as_slice-4.result.now) (c.scene.ensures.value ∙ ap have_of (sym c.self.view_is)) ∙ ap (labels_for (have_of l)) c.as_slice-4.ensures ∙ labels_are l b.call.throws ∙ sym (labels_left l left b.call.throws) in
+    let e_passed = c.in_ok-passed.ensures.0 ∙ ap (λ x. branch_locations path (lent_at c.as_slice-2.result.now x) 0 args) c.as_slice.ensures ∙ ap (λ t. branch_locations path (lent_at t i.locations) 0 args) c.as_slice-2.ensures in
+    let e_labels = c.in_ok-labels.ensures ∙ ap (λ h. labels_for h c.as_slice-4.result.now) (c.context.ensures.value ∙ ap have_of (sym c.self.view_is)) ∙ ap (labels_for (have_of l)) c.as_slice-4.ensures ∙ labels_are l b.call.throws ∙ sym (labels_left l remainder b.call.throws) in
     let e_top =
     subst (λ (us : List UnitOf). shown us c.in_ok-top.top ≡ enter_of us n (numbers_from 0 (unit_or (slice_get us n)).slots) c.in_ok-labels.labels 0 0) u c.in_ok-top.ensures.value
     ∙ ap (λ x. enter_of i.program.units n (numbers_from 0 (unit_or (slice_get i.program.units n)).slots) x 0 0) e_labels in
     let e_declared = c.declared_of.ensures ∙ ap (λ us. declared_slots (unit_or (slice_get us n))) u in
     let e_params = c.params_of.ensures ∙ ap (λ us. (unit_or (slice_get us n)).params) u in
     let e_params2 = c.params_of-2.ensures ∙ ap (λ us. (unit_or (slice_get us n)).params) u in
-    child_by (left_of l left) c.args.place b args home c.handlers-base.result c.in_ok-passed.passed.made c.in_ok-given.given c.in_ok-top.top c.new-2.result c.in_ok-passed.passed.cells c.from_list.result c.input_for.result c.output_for.result c.in_ok-program.program c.in_ok-input.input
+    child_by (remainder_of l remainder) c.args.place b args path c.handlers-base.result c.in_ok-passed.passed.made c.in_ok-given.given c.in_ok-top.top c.new-2.result c.in_ok-passed.passed.locations c.from_list.result c.input_for.result c.output_for.result c.in_ok-program.program c.in_ok-input.input
     c.in_ok-program.ensures
     c.in_ok-input.ensures
-    e_home
+    e_path
     e_base
     c.in_ok-passed.ensures.1
     e_passed
     (c.in_ok-given.ensures ∙ ap channels_of c.as_slice-3.ensures)
     e_top
     c.new-2.ensures
-    (c.from_list.ensures ∙ c.in_ok-cells.ensures ∙ ap (λ x. c.in_ok-passed.passed.cells ++ empties x) e_declared)
-    (c.input_for.ensures ∙ ap (λ ps. if takes_input ps then left.input_at else None) e_params)
-    (c.output_for.ensures ∙ ap (λ ps. if takes_output ps then left.holds_output else false) e_params2)
-    ∙ ap (λ (m : LocalState). child (left_of m left) c.args.place b args) c.self.view_is
+    (c.from_list.ensures ∙ c.in_ok-locations.ensures ∙ ap (λ x. c.in_ok-passed.passed.locations ++ empties x) e_declared)
+    (c.input_for.ensures ∙ ap (λ ps. if takes_input ps then remainder.input_at else None) e_params)
+    (c.output_for.ensures ∙ ap (λ ps. if takes_output ps then remainder.holds_output else false) e_params2)
+    ∙ ap (λ (m : LocalState). child (remainder_of m remainder) c.args.place b args) c.self.view_is

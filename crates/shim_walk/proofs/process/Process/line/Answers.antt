@@ -1,7 +1,7 @@
 use Rattle.std.proofs.Common.{ap, ◌∙◌, sym}
-use Rattle.shim_units.specs.Steps.{line_of}
-use Rattle.shim_frames.specs.Lines.{line_at}
-use Rattle.shim_walk.proofs.Asked.{line_next}
+use Rattle.shim_process.specs.Steps.{line_of}
+use Rattle.shim_walk_frames.specs.Lines.{line_at}
+use Rattle.shim_walk.proofs.ActionLemmas.{line_next}
 use Rattle.shim_walk.proofs.process.Process.line.Goals as goal
 
 pub returns : goal.returns

@@ -2,12 +2,12 @@ use Rattle.std.proofs.Common.{◌≡◌, ap, ◌∙◌, subst, slice_get, length
 use Rattle.shim_units.specs.declared.unit.Unit.{Unit as UnitOf}
 use Rattle.std.specs.Arc.{arc_value}
 use Rattle.shim_units.specs.declared.form.Form.{Form}
-use Rattle.shim_units.specs.LocalState.{unit_or}
-use Rattle.shim_units.specs.Arguments.{empties, numbers_from}
-use Rattle.shim_units.specs.Forks.{takes_input, takes_output, labels_from}
-use Rattle.shim_frames.specs.Depths.{shown}
+use Rattle.shim_process.specs.LocalState.{unit_or}
+use Rattle.shim_process.specs.Arguments.{empties, numbers_from}
+use Rattle.shim_process.specs.Forks.{takes_input, takes_output, labels_from}
+use Rattle.shim_walk_frames.specs.Depths.{shown}
 use Rattle.shim_walk.specs.Entries.{enter_of}
-use Rattle.shim_walk.proofs.Births.{root_by}
+use Rattle.shim_walk.proofs.MadeChildren.{root_by}
 use Rattle.shim_walk.proofs.process.Process.main.Goals as goal
 
 pub returns : goal.returns
@@ -33,6 +33,6 @@ returns c =
     c.new-3.ensures
     e_top
     c.new-4.ensures
-    (c.from_list.ensures ∙ c.in_ok-cells.ensures ∙ ap (λ x. x ++ empties c.slots_of.result.now) c.new.ensures ∙ ap empties e_slots)
+    (c.from_list.ensures ∙ c.in_ok-locations.ensures ∙ ap (λ x. x ++ empties c.slots_of.result.now) c.new.ensures ∙ ap empties e_slots)
     (c.input_for-input_at.ensures ∙ ap (λ ps. if takes_input ps then Some 0 else None) e_params)
     (c.takes_output-holds_output.ensures ∙ ap takes_output e_params2)

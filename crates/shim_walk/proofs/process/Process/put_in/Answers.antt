@@ -1,7 +1,7 @@
 use Rattle.std.proofs.Common.{refl, ap, ◌∙◌}
 use Rattle.std.specs.Arc.{arc_value}
 use Rattle.shim_units.specs.declared.form.Form.{Form}
-use Rattle.shim_cells.specs.Given.{arguments_of}
+use Rattle.shim_locations.specs.Given.{arguments_of}
 use Rattle.shim_walk.specs.Entries.{inside_of}
 use Rattle.shim_walk.proofs.Entering.{put_by}
 use Rattle.shim_walk.proofs.process.Process.put_in.Goals as goal
@@ -11,6 +11,6 @@ returns-in-Ok-clause-ok c =
     let i = c.self.inside in
     let u = c.units.ensures.value ∙ ap (λ (p : Form). p.units) c.deref.ensures in
     let args = arguments_of c.args.given.now in
-    put_by (arc_value i.home) i.base i.made i.forks i.given i.top i.callers i.cells i.input_at i.holds_output i.trap i.program i.input c.args.unit _ args c.args.labels _ _ _ _ _ _ _ _
-    c.in_ok-entered.ensures u c.as_slice.ensures c.armed.ensures.value c.replace-caller.ensures.after c.replace-caller.ensures.value c.in-Ok.ensures.ok c.in_ok-append.ensures.ok refl
+    put_by (arc_value i.path) i.base i.made i.forks i.given i.top i.callers i.locations i.input_at i.holds_output i.trap i.program i.input c.args.unit _ args c.args.labels _ _ _ _ _ _ _ _
+    c.in_ok-entered.ensures u c.as_slice.ensures c.handlers.ensures.value c.replace-caller.ensures.after c.replace-caller.ensures.value c.in-Ok.ensures.ok c.in_ok-append.ensures.ok refl
     ∙ ap (inside_of c.args.unit args c.args.labels) c.self.view_is

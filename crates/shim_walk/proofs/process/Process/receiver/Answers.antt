@@ -1,6 +1,6 @@
 use Rattle.std.proofs.Common.{ap, ◌∙◌}
 use Rattle.shim_walk.specs.Receivers.{received, receives_at}
-use Rattle.shim_walk.proofs.Asked.{receives_next}
+use Rattle.shim_walk.proofs.ActionLemmas.{receives_next}
 use Rattle.shim_walk.proofs.process.Process.receiver.Goals as goal
 
 pub returns : goal.returns

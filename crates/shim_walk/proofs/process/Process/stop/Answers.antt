@@ -1,19 +1,19 @@
 use Rattle.std.proofs.Common.{ap, ◌∙◌, sym}
-use Rattle.shim_units.specs.LocalState.{LocalState}
-use Rattle.shim_walk.specs.States.{trapping_of}
-use Rattle.shim_walk.specs.Scenes.{have}
+use Rattle.shim_process.specs.LocalState.{LocalState}
+use Rattle.shim_walk.specs.States.{trapped_at_of}
+use Rattle.shim_walk.specs.StatementContexts.{have}
 use Rattle.shim_walk.specs.StopViews.{stands_at, stop_view}
-use Rattle.shim_walk.proofs.Asked.{stands_next, stops_at, stops_trapped}
+use Rattle.shim_walk.proofs.ActionLemmas.{stands_next, stops_at, stops_trapped}
 use Rattle.shim_walk.proofs.process.Process.stop.Goals as goal
 
 pub returns-in-Some : goal.returns-in-Some
 returns-in-Some c =
-    let e = sym (ap (λ (l : LocalState). l.trap) c.self.view_is) ∙ ap trapping_of c.in-Some.is in
+    let e = sym (ap (λ (l : LocalState). l.trap) c.self.view_is) ∙ ap trapped_at_of c.in-Some.is in
     c.trapped.ensures ∙ stops_trapped c.args.self.now _ e
 
 pub returns-in-None : goal.returns-in-None
 returns-in-None c =
-    let e = sym (ap (λ (l : LocalState). l.trap) c.self.view_is) ∙ ap trapping_of c.in-None.is in
+    let e = sym (ap (λ (l : LocalState). l.trap) c.self.view_is) ∙ ap trapped_at_of c.in-None.is in
     let s = c.stmt.ensures in
-    let f = c.stop_at.ensures ∙ ap (λ o. stands_at o (have c.scene.result)) s.2 ∙ ap (stands_at _) c.scene.ensures.value ∙ stands_next s.0 s.1 c.args.self.now s.3 in
+    let f = c.stop_at.ensures ∙ ap (λ o. stands_at o (have c.context.result)) s.2 ∙ ap (stands_at _) c.context.ensures.value ∙ stands_next s.0 s.1 c.args.self.now s.3 in
     stops_at c.args.self.now (stop_view c.stop_at.result) e f

@@ -1,6 +1,0 @@
-use Rattle.std.proofs.Common.{◌≡◌, drop}
-use Rattle.shim_units.specs.Forks.{taken_back}
-use Rattle.shim_cells.proofs.cells.Cells.regain_args.Given as goal
-
-abbrev pub invariant-loop-i : goal.invariant-loop-i
-invariant-loop-i l = taken_back l.slots l.i (drop l.i l.args) l.back l.self ≡ taken_back l.slots 0 l.args l.back l.initial.self

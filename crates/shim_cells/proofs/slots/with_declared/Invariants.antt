@@ -1,6 +1,0 @@
-use Rattle.std.proofs.Common.{◌≡◌, ◌++◌, drop}
-use Rattle.shim_units.specs.Arguments.{numbers_from}
-use Rattle.shim_cells.proofs.slots.with_declared.Given as goal
-
-abbrev pub invariant-loop-sort : goal.invariant-loop-sort
-invariant-loop-sort l = l.all ++ numbers_from l.next (drop l._sort-index l.declared) ≡ l.initial.all ++ numbers_from l.initial.next l.declared

@@ -1,6 +1,0 @@
-use Rattle.std.proofs.Common.{◌≡◌, drop}
-use Rattle.shim_units.specs.Forks.{takes_input}
-use Rattle.shim_cells.proofs.streams.takes_input.Given as goal
-
-abbrev pub invariant-loop-param : goal.invariant-loop-param
-invariant-loop-param l = takes_input (drop l.param-index l.params) ≡ takes_input l.params

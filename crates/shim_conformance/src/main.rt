@@ -1,0 +1,52 @@
+//! Runs the cases of the files in this folder, or of those that the words name, through the tool over
+//! files and a sink in memory. Prints a line for each case, what differs in full, and the counts.
+#![tactic(auto)]
+
+mod call;
+mod case;
+mod draft;
+mod fault;
+mod heading;
+mod reader;
+mod report;
+mod words;
+
+use report::Report;
+use std::process::ExitCode;
+use std::{env, fs, io};
+
+// The names of what lies in this folder, in their order, which isn't that of the system.
+fn names_here(rt: &HostRuntime) -> io::Result<Vec<String>> {
+    let mut names = Vec::new(rt.alloc());
+    for entry in fs::read_dir(rt, ".")? {
+        names.push(String::from_str(rt.alloc(), entry?.file_name())?)?;
+    }
+    names.sort()?;
+    Ok(names)
+}
+
+fn names(rt: &HostRuntime) -> io::Result<Vec<String>> {
+    let words: Vec<String> = env::args(rt)?.skip(1).collect(rt.alloc())?;
+    if words.is_empty() {
+        names_here(rt)
+    } else {
+        Ok(words)
+    }
+}
+
+fn report_all(rt: &HostRuntime) -> io::Result<bool> {
+    let names = names(rt)?;
+    let mut report = Report::new(rt.alloc());
+    for name in names.iter() {
+        let text = fs::read_to_string(rt, name.as_str());
+        report.add_file(rt, name.as_str(), text)?;
+    }
+    report.end(rt)
+}
+
+fn main(rt: HostRuntime) -> ExitCode {
+    match report_all(&rt) {
+        Ok(true) => ExitCode::SUCCESS,
+        _ => ExitCode::FAILURE,
+    }
+}

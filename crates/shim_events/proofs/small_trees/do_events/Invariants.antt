@@ -1,7 +1,0 @@
-use Rattle.std.proofs.Common.{◌≡◌}
-use Rattle.shim_meaning.specs.Trees.{steps}
-use Rattle.shim_events.proofs.small_trees.do_events.Given as goal
-
--- each event counted one step
-abbrev pub invariant-loop : goal.invariant-loop
-invariant-loop g l = record { steps : steps l.tree ≡ l.counter }

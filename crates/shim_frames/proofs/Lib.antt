@@ -1,9 +1,0 @@
--- The lemmas of this crate.
-pub mod Rolls
-pub mod Sound
-pub mod Goes
-pub mod Fronts
-pub mod Went
-pub mod Returns
-pub mod Leaves
-pub mod Fitting

@@ -1,7 +1,0 @@
-use Rattle.std.proofs.Common.{sym}
-use Rattle.shim_frames.proofs.Leaves.{handles_some}
-use Rattle.shim_frames.proofs.activation.Activation.handle.Goals as goal
-
-pub returns-in-Some-clause-value : goal.returns-in-Some-clause-value
-returns-in-Some-clause-value c =
-    handles_some c.args.body.now c.args.self.now c.resume.new.self c.go.new.self c.front_of.result c.args.index c.in-Some.place (sym c.in-Some.ensures) c.resume.ensures c.go.ensures.value

@@ -1,0 +1,39 @@
+-- What the front end answers to a source.
+use Rattle.std.specs.Prelude.{ℕ, ◌≡◌, List, Result, Ok, Err}
+use Rattle.shim_syntax.specs.declared.Program.{Program}
+use Rattle.shim_syntax.specs.Text.{IsText}
+use Rattle.shim_parser.specs.declared.ParseFault.{ParseFault}
+use Rattle.shim_parser.specs.declared.ParseFault.TheVariants as parse
+use Rattle.shim_parser.specs.Parsing.{IsFaultOf}
+use Rattle.shim_scopes.specs.declared.ScopeFault.TheVariants as scope
+use Rattle.shim_sharing.specs.declared.ShareFault.TheVariants as share
+use Rattle.shim_units.specs.declared.form.Form.{Form}
+use Rattle.shim_front_end.specs.declared.fault.SourceFault.{SourceFault}
+use Rattle.shim_front_end.specs.declared.fault.SourceFault.TheVariants.{Parse, Scope, Share}
+use Rattle.shim_front_end.specs.Source.{checked}
+
+-- the bytes are the text of this program and of no other, and have no fault
+pub record IsOnlyText (bytes : List ℕ) (program : Program) : Type 0 where
+  pub text : IsText bytes program
+  pub only : (other : Program) → IsText bytes other → other ≡ program
+  pub faultless : (fault : ParseFault) → IsFaultOf bytes fault → ⊥
+
+-- the bytes have this fault and no other, and are the text of no program
+pub record IsOnlyFault (bytes : List ℕ) (fault : ParseFault) : Type 0 where
+  pub faulty : IsFaultOf bytes fault
+  pub only : (other : ParseFault) → IsFaultOf bytes other → other ≡ fault
+  pub textless : (program : Program) → IsText bytes program → ⊥
+
+-- the bytes are the text of one program alone, and checking it comes to this
+abbrev pub ComesTo : List ℕ → Result Form SourceFault → Type 0
+ComesTo bytes meant = (program : Program) × IsOnlyText bytes program × (checked program ≡ meant)
+
+-- Its accepted program, or its one fault: that of a text which is no program's, or the first that is refused in the program of the text. Want of memory says nothing.
+abbrev pub IsAnswerTo : List ℕ → Result Form SourceFault → Type 0
+IsAnswerTo bytes (Ok source) = ComesTo bytes (Ok source)
+IsAnswerTo bytes (Err (Parse parse.NoMemory)) = Unit {0}
+IsAnswerTo bytes (Err (Parse fault)) = IsOnlyFault bytes fault
+IsAnswerTo bytes (Err (Scope scope.NoMemory)) = Unit {0}
+IsAnswerTo bytes (Err (Scope fault)) = ComesTo bytes (Err (Scope fault))
+IsAnswerTo bytes (Err (Share share.NoMemory)) = Unit {0}
+IsAnswerTo bytes (Err (Share fault)) = ComesTo bytes (Err (Share fault))

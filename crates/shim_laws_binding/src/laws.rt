@@ -1,0 +1,52 @@
+// Laws of what binding comes to.
+ghost use Rattle.std.specs.Prelude.{ℕ, List, Ok, Some, None, ◌≡◌};
+ghost use Rattle.shim_scopes.specs.declared.form.Form.{Form};
+ghost use Rattle.shim_scopes.specs.declared.scope.Handled.{Handled};
+ghost use Rattle.shim_scopes.specs.Binding.{exception_of};
+ghost use Rattle.shim_scopes.specs.Functions.{bind_program};
+ghost use Rattle.shim_syntax.specs.Occurrences.{identifiers};
+ghost use Rattle.shim_syntax.specs.Text.{IsText};
+ghost use Rattle.shim_syntax.specs.declared.tree.Program.{Program};
+ghost use Rattle.shim_laws_binding.specs.TextNames.{names_among};
+ghost use Rattle.shim_laws_binding.specs.HandedOn.{AllHandOn};
+ghost use Rattle.shim_laws_binding.specs.Innermost.{HasNone, IsNumberOfInnermost, exception_name};
+ghost use Rattle.shim_laws_binding.specs.Naming.{functions_named};
+ghost use Rattle.shim_laws_binding.specs.TextOrder.{AreInTextOrder};
+
+/// The names put back to the numbers of a form give the program that it is the form of, lines and all.
+/// So nothing of the program is lost, and no two of its names are mixed up.
+pub fn names_put_back_give_the_program()
+    ensures { (p : Program) (form : Form) → bind_program p ≡ Ok form → functions_named form ≡ p.functions }
+{}
+
+/// Each call has the number of a function, gives as many arguments as that function takes, and hands
+/// each exception on to the caller's one of the same name.
+pub fn calls_hand_on_what_is_thrown()
+    ensures { (p : Program) (form : Form) → bind_program p ≡ Ok form → AllHandOn form }
+{}
+
+/// The slots of a function are its parameters and then its declarations in the order of the text,
+/// and its exceptions those of its `throws` and then those of its `try` statements, in that order too.
+pub fn slots_are_in_text_order()
+    ensures { (p : Program) (form : Form) → bind_program p ≡ Ok form → AreInTextOrder form.names p.functions form.functions }
+{}
+
+/// The identifiers of a program, one after another, are the names of its text in their order.
+pub fn identifiers_are_the_names_of_the_text()
+    ensures { (bytes : List ℕ) (p : Program) (text : IsText bytes p) → identifiers p.functions ≡ names_among text.terminals }
+{}
+
+/// The number of an exception is that of the innermost one in force that has the name.
+pub fn exception_is_the_innermost()
+    ensures { (x : List ℕ) (around : List Handled) (number : ℕ) → exception_of x around ≡ Some number → IsNumberOfInnermost x around number }
+{}
+
+/// The innermost exception in force that has a name is the one that the name means.
+pub fn innermost_exception_is_meant()
+    ensures { (x : List ℕ) (around : List Handled) (number : ℕ) → IsNumberOfInnermost x around number → exception_of x around ≡ Some number }
+{}
+
+/// A name that means no exception is that of none in force.
+pub fn exception_without_number_is_nowhere()
+    ensures { (x : List ℕ) (around : List Handled) → exception_of x around ≡ None → HasNone exception_name x around }
+{}

@@ -1,0 +1,130 @@
+-- Who is dead of which label once a process did something by itself.
+use Rattle.std.proofs.Common.{◌≡◌, ◌≤◌, ℕ, zero, suc, true, false, Option, Some, None, List, [], ◌∷◌, cond, ltb, refl, sym, ap, subst, ◌∙◌, inl, inr, le-ltb, ltb-false}
+use Rattle.shim_local.specs.Process.{Ops, ForkedView, Parted, Trapped, StopView, AtQuiet, AtNext, AtPut, AtFork, AtFinish, AtThrow, AtTrap}
+use Rattle.shim_local.specs.Laws.{LocalLaws, Moved, by_join}
+use Rattle.shim_semantics.specs.Nodes.{Node, Nodes, Live, Forked, Ended, Dead, state, states, all_live, all_done, least_label}
+use Rattle.shim_semantics.specs.Acts.{Acted, nothing, catching, thrown, closed, parted, act_live, act_here}
+use Rattle.shim_semantics.specs.Places.{at, child_at, SoundBelow}
+use Rattle.shim_semantics.proofs.HowMany.{no_less_than}
+use Rattle.shim_semantics.proofs.Replaced.{states_sound}
+use Rattle.shim_laws_schedules.proofs.Elsewhere.{closing}
+use Rattle.shim_laws_schedules.proofs.Dooms.{same_bound}
+use Rattle.shim_laws_schedules.proofs.DeadBelow.{dead_below, any_dead_below, none_dead, done_none, done_some}
+use Rattle.shim_base.proofs.Facts.{some_same, none_some, true_or_false}
+
+-- The node is replaced by another. As to labels below the base of its process there is no other death, or the process threw a label, or was trapped.
+pub data Leaves {S : Type 0} (o : Ops S) (m a : Node S) : Type 0 where
+  no_other : ((t : ℕ) → t ≤ o.base (state m) → dead_below t a ≡ dead_below t m) → Leaves o m a
+  by_throw : (k : S) (y : ℕ) → m ≡ Live k → o.stop k ≡ AtThrow y → ((t : ℕ) → t ≤ o.base k → dead_below t a ≡ ltb y t) → Leaves o m a
+  by_trap : ((t : ℕ) → dead_below t a ≡ ltb 0 t) → Leaves o m a
+
+module _ {S : Type 0} (o : Ops S) where
+  -- a throw leaves a death where the label is below the base, and no fork
+  thrown_dead : (l : S) (x t : ℕ) → t ≤ o.base l → dead_below t (thrown o l x).node ≡ ltb x t
+  thrown_dead l x t h =
+      let dies : Acted S = record { node = Dead l x; effects = nothing } in
+      let goes_on : Acted S = record { node = Live (o.unwind l x); effects = catching (o.handler l x) } in
+      elim (true_or_false (ltb x (o.base l))) [
+        | inl y ↦ ap (λ b. dead_below t (cond b dies goes_on).node) y
+        | inr n ↦ ap (λ b. dead_below t (cond b dies goes_on).node) n ∙ sym (le-ltb x t (no_less_than x (o.base l) t h (ltb-false x (o.base l) n)))
+      ]
+
+  parted_dead : (r : ForkedView S) (t : ℕ) → dead_below t (parted r) ≡ false
+  parted_dead (Parted l ks) t = none_dead t ks
+  parted_dead (Trapped l) t = refl
+
+  live_leaves : (l : S) (v : StopView) (a : Acted S) → o.stop l ≡ v → act_live o l v ≡ Some a → Leaves o (Live l) a.node
+  live_leaves l AtQuiet a at e = subst (λ z. Leaves o (Live l) z.node) (some_same _ a e) (no_other (λ t h. refl))
+  live_leaves l AtPut a at e = subst (λ z. Leaves o (Live l) z.node) (some_same _ a e) (no_other (λ t h. refl))
+  live_leaves l AtFork a at e = subst (λ z. Leaves o (Live l) z.node) (some_same _ a e) (no_other (λ t h. parted_dead (o.fork l) t))
+  live_leaves l AtFinish a at e = subst (λ z. Leaves o (Live l) z.node) (some_same _ a e) (no_other (λ t h. refl))
+  live_leaves l (AtNext c) a at e = none_some a e
+  live_leaves l (AtThrow x) a at e = subst (λ z. Leaves o (Live l) z.node) (some_same _ a e) (by_throw l x refl at (λ t h. thrown_dead l x t h))
+  live_leaves l (AtTrap kind line) a at e = subst (λ z. Leaves o (Live l) z.node) (some_same _ a e) (by_trap (λ t. refl))
+
+  -- at the close of a fork the least label stays, unless it is caught
+  pub joined_base : LocalLaws o → (l : S) (ks : Nodes S) → SoundBelow o (Forked l ks) → o.base (o.join l (states ks) false) ≡ o.base l
+  joined_base law l ks s =
+      let moved : Moved o l (o.join l (states ks) false) = by_join (states ks) false (states_sound o l s.number 0 ks s.children) s.born refl in
+      law.moved_base l (o.join l (states ks) false) s.sound moved
+
+  closed_dead : LocalLaws o → (l : S) (ks : Nodes S) (r : Option ℕ) (t : ℕ) → SoundBelow o (Forked l ks) → all_done ks ≡ true → least_label ks ≡ r → t ≤ o.base l
+      → dead_below t (closed o l (states ks) r).node ≡ any_dead_below t ks
+  closed_dead law l ks None t s d e h = sym (done_none t ks d e)
+  closed_dead law l ks (Some x) t s d e h =
+      thrown_dead (o.join l (states ks) false) x t (same_bound t (o.base l) (o.base (o.join l (states ks) false)) h (joined_base law l ks s)) ∙ sym (done_some t x ks d e)
+
+  pub leaves : LocalLaws o → (m : Node S) (a : Acted S) → SoundBelow o m → act_here o m ≡ Some a → Leaves o m a.node
+  leaves law (Live l) a s e = live_leaves l (o.stop l) a refl e
+  leaves law (Ended l) a s e = none_some a e
+  leaves law (Dead l x) a s e = none_some a e
+  leaves law (Forked l ks) a s e =
+      let w = closing o l ks a e in
+      subst (λ z. Leaves o (Forked l ks) z.node) w.1 (no_other (λ t h. closed_dead law l ks (least_label ks) t s w.0 refl h))
+
+  -- a fork in what it leaves has children of which none is dead
+  none_in_live : (i : ℕ) (r : List ℕ) (ls : List S) (l : S) (ks : Nodes S) → child_at i r (all_live ls) ≡ Some (Forked l ks) → ⊥
+  none_in_live i r [] l ks e = none_some (Forked l ks) e
+  none_in_live zero [] (k ∷ ls) l ks e = absurd cc
+  none_in_live zero (j ∷ r) (k ∷ ls) l ks e = none_some (Forked l ks) e
+  none_in_live (suc i) r (k ∷ ls) l ks e = none_in_live i r ls l ks e
+
+  -- only a step at which it forks leaves one
+  abbrev pub NoFork : Node S → Type 0
+  NoFork n = (r : List ℕ) (l : S) (ks : Nodes S) → at r n ≡ Some (Forked l ks) → ⊥
+
+  pub live_no_fork : (k : S) → NoFork (Live k)
+  live_no_fork k [] l ks e = absurd cc
+  live_no_fork k (i ∷ r) l ks e = none_some (Forked l ks) e
+
+  ended_no_fork : (k : S) → NoFork (Ended k)
+  ended_no_fork k [] l ks e = absurd cc
+  ended_no_fork k (i ∷ r) l ks e = none_some (Forked l ks) e
+
+  dead_no_fork : (k : S) (x : ℕ) → NoFork (Dead k x)
+  dead_no_fork k x [] l ks e = absurd cc
+  dead_no_fork k x (i ∷ r) l ks e = none_some (Forked l ks) e
+
+  thrown_no_fork : (k : S) (x : ℕ) → NoFork (thrown o k x).node
+  thrown_no_fork k x =
+      let dies : Acted S = record { node = Dead k x; effects = nothing } in
+      let goes_on : Acted S = record { node = Live (o.unwind k x); effects = catching (o.handler k x) } in
+      elim (ltb x (o.base k)) as (λ b. NoFork (cond b dies goes_on).node) [ true ↦ dead_no_fork k x | false ↦ live_no_fork (o.unwind k x) ]
+
+  pub closed_no_fork : (k : S) (js : List S) (r : Option ℕ) → NoFork (closed o k js r).node
+  closed_no_fork k js None = live_no_fork (o.join k js true)
+  closed_no_fork k js (Some x) = thrown_no_fork (o.join k js false) x
+
+  abbrev NoneDead : Node S → Type 0
+  NoneDead n = (r : List ℕ) (l : S) (ks : Nodes S) → at r n ≡ Some (Forked l ks) → (t : ℕ) → any_dead_below t ks ≡ false
+
+  no_fork_none : (n : Node S) → NoFork n → NoneDead n
+  no_fork_none n h r l ks e t = absurd (h r l ks e)
+
+  forked_none : (m : S) (ls : List S) → NoneDead (Forked m (all_live ls))
+  forked_none m ls [] l ks e t =
+      let w = some_same (Forked m (all_live ls)) (Forked l ks) e in
+      let same : all_live ls ≡ ks = cc in
+      ap (any_dead_below t) (sym same) ∙ none_dead t ls
+  forked_none m ls (i ∷ r) l ks e t = absurd (none_in_live i r ls l ks e)
+
+  parted_none : (r : ForkedView S) → NoneDead (parted r)
+  parted_none (Parted m ls) = forked_none m ls
+  parted_none (Trapped m) = no_fork_none (Live m) (live_no_fork m)
+
+  live_new : (l : S) (v : StopView) (a : Acted S) → act_live o l v ≡ Some a → NoneDead a.node
+  live_new l AtQuiet a e = subst (λ z. NoneDead z.node) (some_same _ a e) (no_fork_none _ (live_no_fork (o.quiet l)))
+  live_new l AtPut a e = subst (λ z. NoneDead z.node) (some_same _ a e) (no_fork_none _ (live_no_fork (o.put l)))
+  live_new l AtFork a e = subst (λ z. NoneDead z.node) (some_same _ a e) (parted_none (o.fork l))
+  live_new l AtFinish a e = subst (λ z. NoneDead z.node) (some_same _ a e) (no_fork_none _ (ended_no_fork l))
+  live_new l (AtNext c) a e = none_some a e
+  live_new l (AtThrow x) a e = subst (λ z. NoneDead z.node) (some_same _ a e) (no_fork_none _ (thrown_no_fork l x))
+  live_new l (AtTrap kind line) a e = subst (λ z. NoneDead z.node) (some_same _ a e) (no_fork_none _ (dead_no_fork l 0))
+
+  pub new_none : (m : Node S) (a : Acted S) → act_here o m ≡ Some a → NoneDead a.node
+  new_none (Live l) a e = live_new l (o.stop l) a e
+  new_none (Ended l) a e = none_some a e
+  new_none (Dead l x) a e = none_some a e
+  new_none (Forked l ks) a e =
+      let w = closing o l ks a e in
+      subst (λ z. NoneDead z.node) w.1 (no_fork_none _ (closed_no_fork l (states ks) (least_label ks)))

@@ -1,0 +1,66 @@
+-- Who puts bytes holds the output, so of two processes that act one puts none.
+use Rattle.std.proofs.Common.{◌≡◌, ◌≤◌, ◌⊎◌, ℕ, Bool, true, false, Option, Some, None, List, [], ◌++◌, inl, inr, cond, refl, sym, ap, ◌∙◌, arith}
+use Rattle.std.specs.Prelude.{ltb}
+use Rattle.std.proofs.lemmas.List.{append-nil}
+use Rattle.shim_local.specs.Process.{Ops, StopView, AtQuiet, AtNext, AtPut, AtFork, AtFinish, AtThrow, AtTrap}
+use Rattle.shim_local.specs.Laws.{LocalLaws}
+use Rattle.shim_semantics.specs.Nodes.{Node, Live, Forked, Ended, Dead, state, states, least_label}
+use Rattle.shim_semantics.specs.Acts.{Acted, nothing, catching, thrown, closed, act_here, act_live}
+use Rattle.shim_semantics.specs.Places.{at, SoundBelow}
+use Rattle.shim_semantics.specs.Sound.{IsSound, holders}
+use Rattle.shim_semantics.proofs.Replaced.{sound_at}
+use Rattle.shim_laws_schedules.proofs.Elsewhere.{closing}
+use Rattle.shim_laws_schedules.proofs.Two.{two_count}
+use Rattle.shim_base.proofs.Facts.{some_same, none_some}
+
+module _ {S : Type 0} (o : Ops S) where
+  thrown_silent : (l : S) (x : ℕ) → (thrown o l x).effects.bytes ≡ []
+  thrown_silent l x = by_test (ltb x (o.base l))
+    where
+      by_test : (b : Bool) → (cond {A = Acted S} b (record { node = Dead l x; effects = nothing }) (record { node = Live (o.unwind l x); effects = catching (o.handler l x) })).effects.bytes ≡ []
+      by_test true = refl
+      by_test false = refl
+
+  closed_silent : (l : S) (ks : List S) (x : Option ℕ) → (closed o l ks x).effects.bytes ≡ []
+  closed_silent l ks None = refl
+  closed_silent l ks (Some x) = thrown_silent (o.join l ks false) x
+
+  -- what tells the same puts the same
+  told : (x a : Acted S) → x.effects.bytes ≡ [] → x ≡ a → a.effects.bytes ≡ []
+  told x a e f = ap (λ z. z.effects.bytes) (sym f) ∙ e
+
+  puts_live : LocalLaws o → (l : S) (v : StopView) (a : Acted S) → o.sound l → o.stop l ≡ v → act_live o l v ≡ Some a → (a.effects.bytes ≡ []) ⊎ (o.holds_output l ≡ true)
+  puts_live law l AtQuiet a s at e = inl (told _ a refl (some_same _ a e))
+  puts_live law l AtPut a s at e = inr (law.put_holds l s at)
+  puts_live law l AtFork a s at e = inl (told _ a refl (some_same _ a e))
+  puts_live law l AtFinish a s at e = inl (told _ a refl (some_same _ a e))
+  puts_live law l (AtNext c) a s at e = none_some a e
+  puts_live law l (AtThrow x) a s at e = inl (told (thrown o l x) a (thrown_silent l x) (some_same (thrown o l x) a e))
+  puts_live law l (AtTrap kind line) a s at e = inl (told _ a refl (some_same _ a e))
+
+  pub puts : LocalLaws o → (m : Node S) (a : Acted S) → SoundBelow o m → act_here o m ≡ Some a → (a.effects.bytes ≡ []) ⊎ (o.holds_output (state m) ≡ true)
+  puts law (Live l) a s e = puts_live law l (o.stop l) a s refl e
+  puts law (Forked l ks) a s e =
+      inl (told (closed o l (states ks) (least_label ks)) a (closed_silent l (states ks) (least_label ks)) (closing o l ks a e).1)
+  puts law (Ended l) a s e = none_some a e
+  puts law (Dead l x) a s e = none_some a e
+
+no_two : {A : Type 0} (n : ℕ) → n ≤ 1 → 2 ≤ n → A
+no_two n e f = absurd (omega arith)
+
+-- where one of two puts nothing, it is one which puts first
+pub none_first : (out xs ys : List ℕ) → xs ≡ [] → (out ++ xs) ++ ys ≡ (out ++ ys) ++ xs
+none_first out xs ys e =
+    ap (λ z. (out ++ z) ++ ys) e ∙ (ap (λ z. z ++ ys) (append-nil out) ∙ (sym (append-nil (out ++ ys)) ∙ sym (ap (λ z. (out ++ ys) ++ z) e)))
+
+module _ {S : Type 0} (o : Ops S) where
+  -- of two at different places it is one which puts first
+  pub bytes_swap : LocalLaws o → (p q : List ℕ) (n m k : Node S) (a b : Acted S) (out : List ℕ) → IsSound o n → (p ≡ q → ⊥) → at p n ≡ Some m → at q n ≡ Some k → act_here o m ≡ Some a → act_here o k ≡ Some b
+      → (out ++ a.effects.bytes) ++ b.effects.bytes ≡ (out ++ b.effects.bytes) ++ a.effects.bytes
+  bytes_swap law p q n m k a b out s d e f g h = elim (puts o law m a (sound_at o p n m s.below e) g) [
+    | inl x ↦ none_first out a.effects.bytes b.effects.bytes x
+    | inr x ↦ elim (puts o law k b (sound_at o q n k s.below f) h) [
+      | inl y ↦ sym (none_first out b.effects.bytes a.effects.bytes y)
+      | inr y ↦ no_two (holders o n) s.holding (two_count o.holds_output p q n m k d e f x y)
+    ]
+  ]

@@ -1,0 +1,85 @@
+-- In a run a process below another one threw a label: at the last event, or before it and the fork hasn't closed.
+use Rattle.std.proofs.Common.{◌≡◌, ◌≢◌, ℕ, true, Some, List, [], ◌∷◌, ◌++◌, inl, inr, refl, sym, ap, ◌∙◌}
+use Rattle.std.proofs.lemmas.List.{append_assoc}
+use Rattle.shim_base.specs.Paths.{Path}
+use Rattle.shim_local.specs.Process.{Ops}
+use Rattle.shim_semantics.specs.Nodes.{Node, Live, Forked, state}
+use Rattle.shim_semantics.specs.Places.{at, at_route, branches, route, SoundBelow}
+use Rattle.shim_semantics.specs.Trees.{Tree, Event, Own, Meet, Poison, Close, End, Steps, kind_of, kind_of_stop, same_kind, after}
+use Rattle.shim_semantics.specs.Systems.{run}
+use Rattle.shim_semantics.proofs.Members.{among_either}
+use Rattle.shim_semantics.proofs.Alone.{does, doer}
+use Rattle.shim_semantics.proofs.Replaced.{sound_at}
+use Rattle.shim_semantics.proofs.Routes.{at_path, route_of}
+use Rattle.shim_laws_schedules.specs.Throws.{StandsAt, ThrewBelow}
+use Rattle.shim_laws_schedules.proofs.Opened.{Opened, its_path, its_kind}
+use Rattle.shim_laws_schedules.proofs.Stood.{ThrowsBelow}
+
+pub does_steps : (e : Event) → same_kind (does e) Steps ≡ true → e ≡ Own (doer e)
+does_steps (Own p) h = refl
+does_steps (Meet c) h = absurd cc
+does_steps (Poison p c) h = absurd cc
+does_steps (Close p) h = absurd cc
+does_steps (End p) h = absurd cc
+
+goes_on : (r : Path) (i : ℕ) (q : List ℕ) → branches r ≡ i ∷ q → r ≢ []
+goes_on [] i q e = λ z. absurd cc
+goes_on (x ∷ r) i q e = λ z. absurd cc
+
+module _ {S : Type 0} (o : Ops S) where
+  -- another event since, which doesn't close the fork
+  pub threw_before : (from : Tree S) (es : List Event) (e : Event) (p : Path) (l : S) (x : ℕ) → ThrewBelow o from es p l x → (e ≡ Close p → ⊥) → ThrewBelow o from (es ++ e ∷ []) p l x
+  threw_before from es e p l x h n = record {
+    before = h.before;
+    event = h.event;
+    since = h.since ++ e ∷ [];
+    splits = ap (λ z. z ++ e ∷ []) h.splits ∙ append_assoc h.before (h.event ∷ h.since) (e ∷ []);
+    tree = h.tree;
+    leads = h.leads;
+    more = h.more;
+    below = h.below;
+    throws = h.throws;
+    children = h.children;
+    forked = h.forked;
+    unclosed = λ a. elim (among_either (Close p) h.since (e ∷ []) a) [ inl z ↦ h.unclosed z | inr z ↦ elim z [ inl w ↦ n (sym w) | inr w ↦ w ] ];
+  }
+
+  -- the process of a fork is where its path leads
+  stands : (t : Tree S) (q : List ℕ) (n : Node S) → SoundBelow o t.root → at q t.root ≡ Some n → StandsAt o t (o.path (state n)) n
+  stands t q n s e = record { there = ap (at_route t.root) (route_of o t.root n q (o.path (state n)) s e refl) ∙ e; is_its = refl }
+
+  -- and that of an event where its path leads
+  pub opened_stands : (e : Event) (t u : Tree S) → (w : Opened o e t u) → (p : Path) (n : Node S) → p ≡ doer e → w.old ≡ n → StandsAt o t p n
+  opened_stands e t u w p n at is = record {
+    there = ap (λ z. at_route t.root (route (o.path (state t.root)) z)) at ∙ (ap (at_route t.root) w.route_is ∙ (w.there ∙ ap Some is));
+    is_its = ap (λ z. o.path (state z)) (sym is) ∙ (its_path o e t u w ∙ sym at);
+  }
+
+  -- the last event is the throw
+  pub threw_now : (from t u : Tree S) (es : List Event) (e : Event) (q : List ℕ) (l : S) (x : ℕ) → SoundBelow o t.root → run (after o) es from ≡ Some t → (w : Opened o e t u) → ThrowsBelow o t.root w.old q l x
+      → ThrewBelow o from (es ++ e ∷ []) (o.path l) l x
+  threw_now from t u es e q l x s r w h =
+      let fork = Forked l h.children in
+      let path = at_path o fork w.old (h.branch ∷ h.rest) (sound_at o q t.root fork s h.there) h.leads in
+      let steps : kind_of o w.old ≡ Steps = ap (kind_of o) h.live ∙ ap kind_of_stop h.throws in
+      let is : e ≡ Own (doer e) = does_steps e (ap (same_kind (does e)) (sym steps) ∙ its_kind o e t u w) in
+      let to : doer e ≡ o.path l ++ path.0 = sym (its_path o e t u w) ∙ path.1 in
+      record {
+        before = es;
+        event = e;
+        since = [];
+        splits = refl;
+        tree = t;
+        leads = r;
+        more = path.0;
+        below = goes_on path.0 h.branch h.rest path.2;
+        throws = record {
+          is = is ∙ ap Own to;
+          thrower = h.thrower;
+          stands = opened_stands e t u w (o.path l ++ path.0) (Live h.thrower) (sym to) h.live;
+          throws = h.throws;
+        };
+        children = h.children;
+        forked = stands t q fork s h.there;
+        unclosed = λ a. a;
+      }

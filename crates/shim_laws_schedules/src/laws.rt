@@ -1,0 +1,49 @@
+// Laws of meetings and of poisons, and of every order of events.
+ghost use Rattle.shim_laws_schedules.specs.ChangingPlaces.{MeetsWhereAllWait, MeetingsChangePlaces, PoisonsChangePlaces};
+ghost use Rattle.shim_laws_schedules.specs.Laws.{EventsCommute, RunsAgree, RoundsLead};
+ghost use Rattle.shim_laws_schedules.specs.Throws.{CatchesAreLogged, ThrownWhereCaught};
+
+use shim_local::Local;
+
+/// In a sound tree a channel's meeting is enabled exactly where each live process that shares the
+/// channel stands at it, each forked one that shares it has a live or forked child that shares it, no
+/// dead one shares it, and some live or forked one does. It may change places with each own step, end or
+/// close and with each other meeting that is enabled beside it, as in `diamond`.
+pub fn meetings<L: Local>()
+    ensures exactly { MeetsWhereAllWait L.ops }
+    ensures change_places { MeetingsChangePlaces L.ops }
+{}
+
+/// In a sound tree the poison of a child may change places with each other event.
+pub fn poisons<L: Local>()
+    ensures { PoisonsChangePlaces L.ops }
+{}
+
+/// Two different events of a sound tree that can both happen may change places: neither hinders the
+/// other, and it doesn't show in the tree behind both which of them came first.
+pub fn diamond<L: Local>()
+    ensures { EventsCommute L.ops }
+{}
+
+/// If one run from a sound tree comes to an end in which nothing can happen, no other run from that tree
+/// is longer, and those that come to such an end are just as long and leave the same tree.
+pub fn length<L: Local>()
+    ensures { RunsAgree L.ops }
+{}
+
+/// No run is ahead of the rounds: as many rounds as it had events, from the sound tree in which it began,
+/// put what it put and perhaps more, and give each channel the values that it gave it, by the same name,
+/// and perhaps more. A round does what can happen at its beginning, in the order of the walk, and leaves
+/// out what can't any more in its turn.
+pub fn rounds<L: Local>()
+    ensures { RoundsLead L.ops }
+{}
+
+/// What is caught in a run from a sound tree of one live process was thrown: by the process that catches
+/// it, as its step, or by a process below its fork while that was open, and it is caught as the fork
+/// closes. A trap isn't caught by anyone. The log tells just the catches, each by its process, with the
+/// name and the line of the handler.
+pub fn thrown<L: Local>()
+    ensures caught { ThrownWhereCaught L.ops }
+    ensures logged { CatchesAreLogged L.ops }
+{}

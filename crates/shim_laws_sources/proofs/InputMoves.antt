@@ -1,0 +1,113 @@
+-- Whether a process has the input, before and after each of its calls.
+use Rattle.std.proofs.Common.{◌≡◌, ◌∙◌, ℕ, ◌+◌, ◌-◌, ℤ, Bool, true, ◌⊎◌, inl, inr, List, [], ◌∷◌, ◌++◌, length, take, Option, Some, None, Ok, Err, nat_lt, refl, sym, ap}
+use Rattle.std.specs.Prelude.{slice_get}
+use Rattle.shim_local.specs.Process as local
+use Rattle.shim_local.specs.Laws.{AnyOf}
+use Rattle.shim_units.specs.declared.unit.UStmt.{UStmt}
+use Rattle.shim_units.specs.declared.unit.UWhat.{UWhat, UWhat-F, out-UWhat}
+use Rattle.shim_process.specs.Values.{Value}
+use Rattle.shim_process.specs.Todo.{Item, Do, Leave, Successor, On, First}
+use Rattle.shim_process.specs.LocalState.{LocalState, Frame, unit_at}
+use Rattle.shim_process.specs.Arguments.{Argument, new_channels, call_locations, call_slots, declared_slots, empties, entered}
+use Rattle.shim_process.specs.Ends.{went, is_over, settled, gone}
+use Rattle.shim_process.specs.Forks.{fork, some_or, input_back, joined, join}
+use Rattle.shim_process.specs.Steps.{Action, Go, Store, StoreFirst, Make, Read, Enter, Install, Trapped, Wait, next_action, stored_in, made_in, read_on, read_in, installed, called, done, quiet}
+use Rattle.shim_process.specs.Stops.{put_value, after_put, put, what_receive, item_receive, receive}
+use Rattle.shim_process.specs.Unwinding.{handling, unwound, unwind}
+use Rattle.shim_process.specs.Ops.{parts}
+use Rattle.shim_process.proofs.CallKeeps.{fork_trapped}
+use Rattle.shim_laws_sources.specs.Sources.{is_place, has_input}
+use Rattle.shim_base.proofs.Facts.{choose}
+
+settled_input : (cs : List Frame) (f : Frame) (l : LocalState) → (settled cs f l).input_at ≡ l.input_at
+settled_input [] f l = refl
+settled_input (c ∷ cs) f l =
+    let out : LocalState = record l { locations = take f.floor l.locations } in
+    choose (λ (z : LocalState). z.input_at ≡ l.input_at) (is_over f.todo) (settled cs (went On c) out) (record l { frame = f; callers = c ∷ cs }) (settled_input cs (went On c) out) refl
+
+gone_input : (successor : Successor) (l : LocalState) → (gone successor l).input_at ≡ l.input_at
+unfolding gone
+gone_input successor l = settled_input l.callers (went successor l.frame) l
+
+unwound_input : (cs : List Frame) (f : Frame) (n : ℕ) (l : LocalState) → (unwound cs f n l).input_at ≡ l.input_at
+unwound_input [] f n l = refl
+unwound_input (c ∷ cs) f n l =
+    let g : Frame = handling (slice_get f.places (n - f.outer)) (n - f.outer) f in
+    let out : LocalState = record l { locations = take f.floor l.locations } in
+    choose (λ (z : LocalState). z.input_at ≡ l.input_at) (nat_lt n f.outer) (unwound cs c n out) (settled (c ∷ cs) g l) (unwound_input cs c n out) (settled_input (c ∷ cs) g l)
+
+-- to read on doesn't lose it
+read_place : (at : Option ℕ) (input : List ℕ) → is_place (read_on at input) ≡ is_place at
+read_place None input = refl
+read_place (Some n) input = refl
+
+called_input : (unit : ℕ) (given : List Argument) (labels : List ℕ) (l : LocalState) → (called unit given labels l).input_at ≡ l.input_at
+unfolding called
+called_input unit given labels l =
+    settled_input (l.frame ∷ l.callers) (entered l.program unit (call_slots (length l.locations) given (declared_slots (unit_at l.program unit))) labels (length l.locations) (l.frame.outer + length l.frame.places))
+    (record l { locations = l.locations ++ (call_locations l.path l.locations l.made given ++ empties (declared_slots (unit_at l.program unit))); made = l.made + new_channels given })
+
+done_input : (d : Action) (l : LocalState) → has_input (done d l) ≡ has_input l
+done_input (Go successor) l = ap is_place (gone_input successor l)
+done_input (Store x v) l = ap is_place (gone_input On (stored_in x v l))
+done_input (StoreFirst x v) l = refl
+done_input (Make t x v) l = ap is_place (gone_input On (made_in t x v l))
+done_input (Read x) l = ap is_place (gone_input On (read_in x l)) ∙ read_place l.input_at l.input
+done_input (Enter unit given labels) l = ap is_place (called_input unit given labels l)
+done_input (Install x name) l = ap is_place (gone_input First (record l { frame = installed x name l.frame }))
+done_input (Trapped t) l = refl
+done_input Wait l = refl
+
+pub quiet_input : (l : LocalState) → has_input (quiet l) ≡ has_input l
+unfolding quiet
+quiet_input l = done_input (next_action l) l
+
+after_put_input : (r : Value) (l : LocalState) → has_input (after_put r l) ≡ has_input l
+after_put_input (Ok v) l = ap is_place (gone_input On l)
+after_put_input (Err t) l = refl
+
+pub put_input : (l : LocalState) → has_input (put l) ≡ has_input l
+unfolding put
+put_input l = after_put_input (put_value l) l
+
+what_input : (w : UWhat-F UWhat UStmt) (v : ℤ) (l : LocalState) → has_input (what_receive w v l) ≡ has_input l
+what_input (UWhat-F.Next x) v l = ap is_place (gone_input On (stored_in x v l))
+what_input (UWhat-F.NextAssign x e) v l = ap is_place (gone_input On (stored_in x v l))
+what_input (UWhat-F.AssignNext x y) v l = refl
+what_input _ v l = refl
+
+item_input : (todo : List Item) (v : ℤ) (l : LocalState) → has_input (item_receive todo v l) ≡ has_input l
+item_input [] v l = refl
+item_input (Leave ∷ k) v l = refl
+item_input (Do n s ∷ k) v l = what_input (out-UWhat s.what) v l
+
+pub receive_input : (l : LocalState) (v : ℤ) → has_input (receive l v) ≡ has_input l
+unfolding receive
+receive_input l v = item_input l.frame.todo v l
+
+pub unwind_input : (l : LocalState) (label : ℕ) → has_input (unwind l label) ≡ has_input l
+unfolding unwind
+unwind_input l label = ap is_place (unwound_input l.callers l.frame (label - l.base) l)
+
+-- a fork that traps
+pub trapped_input : (l m : LocalState) → parts (fork l) ≡ local.Trapped m → has_input m ≡ has_input l
+trapped_input l m e = let w = fork_trapped l m e in ap (λ (z : LocalState). has_input z) w.2
+
+-- what comes back at a join was with the process or with a child
+one_back : (o at : Option ℕ) → is_place (some_or o at) ≡ true → (is_place at ≡ true) ⊎ (is_place o ≡ true)
+one_back None at e = inl e
+one_back (Some n) at e = inr refl
+
+all_back : (ks : List LocalState) (at : Option ℕ) → is_place (input_back ks at) ≡ true → (is_place at ≡ true) ⊎ AnyOf (λ (k : LocalState). has_input k ≡ true) ks
+all_back [] at e = inl e
+all_back (k ∷ ks) at e = elim (all_back ks (some_or k.input_at at) e) [
+  | inl h ↦ elim (one_back k.input_at at h) [ inl first ↦ inl first | inr second ↦ inr (inl second) ]
+  | inr h ↦ inr (inr h)
+]
+
+pub join_input : (l : LocalState) (ks : List LocalState) (goes_on : Bool) → has_input (join l ks goes_on) ≡ true → (has_input l ≡ true) ⊎ AnyOf (λ (k : LocalState). has_input k ≡ true) ks
+unfolding join
+join_input l ks goes_on e =
+    let same : (join l ks goes_on).input_at ≡ input_back ks l.input_at =
+    choose (λ (z : LocalState). z.input_at ≡ input_back ks l.input_at) goes_on (gone On (joined l ks)) (joined l ks) (gone_input On (joined l ks)) refl in
+    all_back ks l.input_at (ap is_place (sym same) ∙ e)

@@ -1,0 +1,5 @@
+-- The definitions of this crate, one module for each subject.
+pub mod OwnSlots
+pub mod Sources
+pub mod Anchored
+pub mod Homes

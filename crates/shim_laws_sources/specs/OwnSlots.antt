@@ -1,0 +1,48 @@
+-- What binding gives the units of a program: their declarations are of slots of their own, and their calls and branches have an argument for each parameter.
+use Rattle.std.specs.Prelude.{◌≡◌, ℕ, nat_eq, nat_le, nat_lt, Bool, true, ◌&&◌, List, [], ◌∷◌, length, map}
+use Rattle.shim_units.specs.declared.form.Form.{Form}
+use Rattle.shim_units.specs.declared.unit.Unit.{Unit as UnitOf}
+use Rattle.shim_units.specs.declared.unit.UBranch.{UBranch}
+use Rattle.shim_units.specs.declared.unit.UCall.{UCall}
+use Rattle.shim_units.specs.declared.unit.UStmt.{UStmt, fold-UStmt}
+use Rattle.shim_units.specs.declared.unit.UWhat.{UWhat-F}
+use Rattle.shim_process.specs.LocalState.{unit_at}
+
+-- the call has an argument for each parameter of its unit
+abbrev pub suits : Form → UCall → Bool
+suits program c = nat_eq (length c.args) (length (unit_at program c.unit).params)
+
+abbrev pub all_suit : Form → List UBranch → Bool
+all_suit program [] = true
+all_suit program (b ∷ branches) = suits program b.call && all_suit program branches
+
+-- the slot is one of the unit's own, which stand behind those of its parameters
+abbrev pub is_own_slot : UnitOf → ℕ → Bool
+is_own_slot u x = nat_le (length u.params) x && nat_lt x (length u.slots)
+
+abbrev pub all_true : List Bool → Bool
+all_true [] = true
+all_true (b ∷ bs) = b && all_true bs
+
+-- where this holds of the statements in it
+abbrev pub what_fits : Form → UnitOf → UWhat-F Bool Bool → Bool
+what_fits program u (UWhat-F.Declare t x e) = is_own_slot u x
+what_fits program u (UWhat-F.If e first second) = all_true first && all_true second
+what_fits program u (UWhat-F.While e body) = all_true body
+what_fits program u (UWhat-F.For first test step body) = all_true first && (all_true step && all_true body)
+what_fits program u (UWhat-F.Block body) = all_true body
+what_fits program u (UWhat-F.Call c) = suits program c
+what_fits program u (UWhat-F.Try body x handler) = all_true body && all_true handler
+what_fits program u (UWhat-F.Par branches) = all_suit program branches
+what_fits _ _ _ = true
+
+-- a statement of the unit declares slots of the unit's own, and its calls suit
+abbrev pub fits : Form → UnitOf → UStmt → Bool
+fits program u = fold-UStmt Bool Bool (what_fits program u) (λ s. s.what)
+
+abbrev pub all_fit : Form → UnitOf → List UStmt → Bool
+all_fit program u ss = all_true (map (fits program u) ss)
+
+-- So do all statements of all units. A unit that declared the slot of a parameter by reference would put another channel in the place of its caller's variable, of which a copy may stand beside it.
+abbrev pub UsesOwnSlots : Form → Type 0
+UsesOwnSlots program = (n : ℕ) → all_fit program (unit_at program n) (unit_at program n).body ≡ true

@@ -1,0 +1,22 @@
+// Laws of the units of an accepted program, and of the trees that runs of a program reach.
+ghost use Rattle.std.specs.Prelude.{ℕ, List};
+ghost use Rattle.shim_semantics.specs.Trees.{Tree};
+ghost use Rattle.shim_units.specs.declared.form.Form.{Form};
+ghost use Rattle.shim_process.specs.LocalState.{LocalState};
+ghost use Rattle.shim_units.specs.OfText.{IsAcceptedForm};
+ghost use Rattle.shim_laws_sources.specs.OwnSlots.{UsesOwnSlots};
+ghost use Rattle.shim_laws_sources.specs.Sources.{IsReached, HasOneInput, HasSources};
+
+/// The units of an accepted program declare slots of their own, which stand behind those of their
+/// parameters, and each call and each branch has one argument for each parameter.
+pub fn units_use_slots_of_their_own()
+    ensures { (form : Form) → IsAcceptedForm form → UsesOwnSlots form }
+{}
+
+/// In each tree that a run of a program reaches at most one process has the input. Where the program is
+/// an accepted one, and a live process stands at a `next`, some process of the tree has the own variable
+/// of that channel.
+pub fn sources()
+    ensures input { (program : Form) (input : List ℕ) (t : Tree LocalState) → IsReached program input t → HasOneInput t }
+    ensures carried { (program : Form) (input : List ℕ) (t : Tree LocalState) → IsAcceptedForm program → IsReached program input t → HasSources t }
+{}

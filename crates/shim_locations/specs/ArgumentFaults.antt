@@ -1,0 +1,22 @@
+-- What arguments come to, where memory may be wanting.
+use Rattle.std.specs.Prelude.{◌≡◌, List, ◌++◌, Result, Ok, Err}
+use Rattle.shim_base.specs.declared.operators.Trap.{Trap}
+use Rattle.shim_process.specs.Arguments.{Argument as ArgumentOf, on_value}
+use Rattle.shim_locations.specs.declared.argument.Argument.{Argument}
+use Rattle.shim_locations.specs.declared.argument_fault.ArgumentFault.{ArgumentFault}
+use Rattle.shim_locations.specs.declared.argument_fault.ArgumentFault.TheVariants.{Trapped, NoMemory}
+use Rattle.shim_locations.specs.Given.{argument_of, arguments_of}
+
+-- want of memory says nothing
+abbrev pub Gives : Result (List Argument) ArgumentFault → Result (List ArgumentOf) Trap → Type 0
+Gives (Ok given) meant = meant ≡ Ok (arguments_of given)
+Gives (Err (Trapped t)) meant = meant ≡ Err t
+Gives (Err NoMemory) meant = Unit {0}
+
+abbrev pub one_of : Result Argument Trap → Result ArgumentOf Trap
+one_of (Ok a) = Ok (argument_of a)
+one_of (Err t) = Err t
+
+-- these, and then others
+abbrev pub behind : List Argument → Result (List ArgumentOf) Trap → Result (List ArgumentOf) Trap
+behind given rest = on_value (λ others. Ok (arguments_of given ++ others)) rest

@@ -1,5 +1,0 @@
-use Rattle.shim_meaning.proofs.Enabled.{lists_enabled}
-use Rattle.shim_meaning.proofs.laws.walk_lists_enabled.Goals as goal
-
-pub returns : goal.returns
-returns g c = lists_enabled g.L.Local.ops

@@ -1,8 +1,0 @@
-use Rattle.shim_orders.proofs.EveryPair.{events_commute}
-use Rattle.shim_orders.proofs.Orders.{rounds_lead}
-use Rattle.shim_orders.proofs.laws.rounds.Goals as goal
-
-pub returns : goal.returns
-returns g c =
-    let laws = (g.met.L.Local g.world.𝓛 g.world.𝓜 g.world.𝓡 ((λ s x. x), (λ x. x), (λ x. x), λ x. x)).laws in
-    rounds_lead g.L.Local.ops laws (events_commute g.L.Local.ops laws)

@@ -1,5 +1,0 @@
--- The definitions of this crate, one module for each subject.
-pub mod Orders
-pub mod Rounds
-pub mod Laws
-pub mod Throws

@@ -1,0 +1,33 @@
+-- The ends that belong to the step before them: of `try` blocks, whose exception places go out of force, and of called units.
+use Rattle.std.specs.Prelude.{◌-◌, Bool, true, false, List, [], ◌∷◌, length, take, if◌then◌else◌}
+use Rattle.shim_process.specs.Todo.{Item, Do, Leave, Successor, On, followed}
+use Rattle.shim_process.specs.LocalState.{LocalState, Frame, ExceptionPlace}
+
+-- without the place that came into force last
+abbrev pub without_last : List ExceptionPlace → List ExceptionPlace
+without_last places = take (length places - 1) places
+
+-- past the ends of `try` blocks that come next
+abbrev pub past_ends : List Item → List ExceptionPlace → Frame → Frame
+past_ends [] places f = record f { todo = []; places = places }
+past_ends (Leave ∷ k) places f = past_ends k (without_last places) f
+past_ends (Do n s ∷ k) places f = record f { todo = Do n s ∷ k; places = places }
+
+-- on from the statement at which the unit stands, with the ends of `try` blocks that follow
+unfoldable pub went : Successor → Frame → Frame
+went successor f = past_ends (followed successor f.todo) f.places (record f { halfway = false })
+
+abbrev pub is_over : List Item → Bool
+is_over [] = true
+is_over (i ∷ k) = false
+
+-- The process in this frame, with these callers. Where nothing is left in it, it returns: its locations go, and its caller goes on behind the call.
+abbrev pub settled : List Frame → Frame → LocalState → LocalState
+settled [] f l = record l { frame = f; callers = [] }
+settled (caller ∷ callers) f l =
+    if is_over f.todo then settled callers (went On caller) (record l { locations = take f.floor l.locations })
+    else record l { frame = f; callers = caller ∷ callers }
+
+-- on from the statement at which the process stands, with the ends that follow
+unfoldable pub gone : Successor → LocalState → LocalState
+gone successor l = settled l.callers (went successor l.frame) l

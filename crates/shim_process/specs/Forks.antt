@@ -1,0 +1,186 @@
+-- Where a process comes from and what comes back: the root, the children of a fork, and the close.
+use Rattle.std.specs.Prelude.{ℕ, ◌+◌, nat_le, Bool, true, false, ◌&&◌, ◌||◌, List, [], ◌∷◌, ◌++◌, length, Option, Some, None, Result, Ok, Err, if◌then◌else◌, slice_set}
+use Rattle.shim_base.specs.declared.operators.Trap.{Trap}
+use Rattle.shim_base.specs.declared.operators.Trap.TheVariants.{Depth}
+use Rattle.shim_syntax.specs.declared.tree.Sort.{Sort}
+use Rattle.shim_syntax.specs.declared.tree.Sort.TheVariants as sort
+use Rattle.shim_scopes.specs.declared.tree.UParam.{UParam}
+use Rattle.shim_units.specs.declared.form.Form.{Form}
+use Rattle.shim_units.specs.declared.unit.UBranch.{UBranch}
+use Rattle.shim_units.specs.declared.unit.Arg.{Arg}
+use Rattle.shim_units.specs.declared.unit.Arg.TheVariants.{Ref, Pass, Fresh}
+use Rattle.shim_units.specs.declared.unit.UStmt.{UStmt}
+use Rattle.shim_units.specs.declared.unit.UWhat.{UWhat, UWhat-F, out-UWhat}
+use Rattle.shim_process.specs.Locations.{Locations, at_number, lend_at, with_back}
+use Rattle.shim_process.specs.Todo.{Item, Do, On}
+use Rattle.shim_process.specs.LocalState.{LocalState, unit_at, number_of, handlers, is_full, trapped}
+use Rattle.shim_process.specs.Arguments.{Argument, on_value, arguments, new_channels, branch_locations, channels_of, declared_slots, empties, numbers_from, passed_labels, entered}
+use Rattle.shim_process.specs.Ends.{gone}
+use Rattle.shim_process.specs.Steps.{line_of}
+
+abbrev pub is_input : Sort → Bool
+is_input sort.Input = true
+is_input _ = false
+
+abbrev pub is_output : Sort → Bool
+is_output sort.Output = true
+is_output _ = false
+
+-- the unit takes the input; a stream goes by reference always
+abbrev pub takes_input : List UParam → Bool
+takes_input [] = false
+takes_input (p ∷ ps) = is_input p.sort || takes_input ps
+
+abbrev pub takes_output : List UParam → Bool
+takes_output [] = false
+takes_output (p ∷ ps) = is_output p.sort || takes_output ps
+
+-- the labels of so many exceptions, from this one on
+abbrev pub labels_from : ℕ → List ℕ → List ℕ
+labels_from label [] = []
+labels_from label (name ∷ names) = label ∷ labels_from (label + 1) names
+
+-- The process that runs `main`. Label 0 is the program's end, and those from 1 on are the names that `main` throws.
+unfoldable pub root : Form → List ℕ → LocalState
+root program input =
+    let u = unit_at program program.main in
+    record {
+      path = [];
+      base = 1 + length program.main_throws;
+      made = 0;
+      forks = 0;
+      given = [];
+      frame = entered program program.main (numbers_from 0 u.slots) (labels_from 1 program.main_throws) 0 0;
+      callers = [];
+      locations = empties u.slots;
+      input_at = if takes_input u.params then Some 0 else None;
+      holds_output = takes_output u.params;
+      trap = None;
+      program = program;
+      input = input;
+    }
+
+-- the branches of the fork at which a process stands
+abbrev pub what_branches : UWhat-F UWhat UStmt → List UBranch
+what_branches (UWhat-F.Par branches) = branches
+what_branches _ = []
+
+abbrev pub item_branches : List Item → List UBranch
+item_branches (Do n s ∷ k) = what_branches (out-UWhat s.what)
+item_branches _ = []
+
+-- the arguments of all branches, computed from the left; the first trap stands
+abbrev pub all_arguments : LocalState → List UBranch → Result (List (List Argument)) Trap
+all_arguments l [] = Ok []
+all_arguments l (b ∷ branches) =
+    on_value (λ one. on_value (λ others. Ok (one ∷ others)) (all_arguments l branches))
+    (arguments l.locations l.frame.slots (unit_at l.program b.call.unit).params b.call.args)
+
+-- the child in this branch, at the first statement of the branch's unit
+abbrev pub child : LocalState → ℕ → UBranch → List Argument → LocalState
+child l i b given =
+    let u = unit_at l.program b.call.unit in
+    let path = l.path ++ (l.forks, i) ∷ [] in
+    let passed = branch_locations path l.locations 0 given in
+    record {
+      path = path;
+      base = handlers l;
+      made = new_channels given;
+      forks = 0;
+      given = channels_of passed;
+      frame = entered l.program b.call.unit (numbers_from 0 u.slots) (passed_labels l b.call.throws) 0 0;
+      callers = [];
+      locations = passed ++ empties (declared_slots u);
+      input_at = if takes_input u.params then l.input_at else None;
+      holds_output = takes_output u.params && l.holds_output;
+      trap = None;
+      program = l.program;
+      input = l.input;
+    }
+
+-- what is kept of the variables that arguments give by reference; like the arguments, they go with the parameters
+abbrev pub lent : List ℕ → List UParam → List Arg → Locations → Locations
+lent slots [] args locations = locations
+lent slots (p ∷ ps) [] locations = locations
+lent slots (p ∷ ps) (Ref x ∷ rest) locations = lent slots ps rest (lend_at locations (number_of slots x))
+lent slots (p ∷ ps) (Pass x ∷ rest) locations = lent slots ps rest locations
+lent slots (p ∷ ps) (Fresh e ∷ rest) locations = lent slots ps rest locations
+
+-- what a process keeps of what a branch takes: the variables by reference and the streams are with the child
+abbrev pub lending : LocalState → UBranch → LocalState
+lending l b =
+    let u = unit_at l.program b.call.unit in
+    record l {
+      locations = lent l.frame.slots u.params b.call.args l.locations;
+      input_at = if takes_input u.params then None else l.input_at;
+      holds_output = if takes_output u.params then false else l.holds_output;
+    }
+
+-- The children, from the left, where the first has this place. Each takes of what those before it left.
+abbrev pub children_from : LocalState → ℕ → List UBranch → List (List Argument) → List LocalState
+children_from l i [] given = []
+children_from l i (b ∷ branches) [] = []
+children_from l i (b ∷ branches) (given ∷ rest) = child l i b given ∷ children_from (lending l b) (i + 1) branches rest
+
+-- what is left after all of the branches
+abbrev pub all_lending : LocalState → List UBranch → LocalState
+all_lending l [] = l
+all_lending l (b ∷ branches) = all_lending (lending l b) branches
+
+-- the parent, which still stands at the fork; what it gave by reference is with the children
+abbrev pub parent : LocalState → List UBranch → LocalState
+parent l branches = record (all_lending l branches) { forks = l.forks + 1 }
+
+-- what a fork gives: the parent after it and the children, or the parent trapped
+pub data Forked : Type 0 where
+  Parted : LocalState → List LocalState → Forked
+  Trapped : LocalState → Forked
+
+-- 64 forks are on the way from the root
+abbrev pub is_far : LocalState → Bool
+is_far l = nat_le 64 (length l.path)
+
+abbrev pub fork_result : Result (List (List Argument)) Trap → LocalState → List UBranch → Forked
+fork_result (Ok given) l branches = if is_far l || is_full l then Trapped (trapped Depth (line_of l.frame.todo) l) else Parted (parent l branches) (children_from l 0 branches given)
+fork_result (Err t) l branches = Trapped (trapped t (line_of l.frame.todo) l)
+
+-- after the fork at which the process stands
+unfoldable pub fork : LocalState → Forked
+fork l = fork_result (all_arguments l (item_branches l.frame.todo)) l (item_branches l.frame.todo)
+
+-- What a branch took by reference comes back from the child's locations, of which the first are those of its parameters, in order; the first argument's has this number.
+abbrev pub taken_back : List ℕ → ℕ → List Arg → Locations → Locations → Locations
+taken_back slots n [] back locations = locations
+taken_back slots n (Ref x ∷ rest) back locations = taken_back slots (n + 1) rest back (slice_set locations (number_of slots x) (with_back (at_number back n) (at_number locations (number_of slots x))))
+taken_back slots n (Pass x ∷ rest) back locations = taken_back slots (n + 1) rest back locations
+taken_back slots n (Fresh e ∷ rest) back locations = taken_back slots (n + 1) rest back locations
+
+abbrev pub all_back : List ℕ → List UBranch → List LocalState → Locations → Locations
+all_back slots [] children locations = locations
+all_back slots (b ∷ branches) [] locations = locations
+all_back slots (b ∷ branches) (c ∷ children) locations = all_back slots branches children (taken_back slots 0 b.call.args c.locations locations)
+
+abbrev pub some_or : Option ℕ → Option ℕ → Option ℕ
+some_or None at = at
+some_or (Some n) at = Some n
+
+-- the input comes back as far as it was read
+abbrev pub input_back : List LocalState → Option ℕ → Option ℕ
+input_back [] at = at
+input_back (c ∷ children) at = input_back children (some_or c.input_at at)
+
+abbrev pub output_back : List LocalState → Bool → Bool
+output_back [] holds = holds
+output_back (c ∷ children) holds = output_back children (c.holds_output || holds)
+
+-- the values of the children are back
+abbrev pub joined : LocalState → List LocalState → LocalState
+joined l children = record l {
+  locations = all_back l.frame.slots (item_branches l.frame.todo) children l.locations;
+  input_at = input_back children l.input_at;
+  holds_output = output_back children l.holds_output;
+}
+
+-- the values of the children come back; behind the fork, or still at it
+unfoldable pub join : LocalState → List LocalState → Bool → LocalState
+join l children goes_on = if goes_on then gone On (joined l children) else joined l children

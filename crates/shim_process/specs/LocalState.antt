@@ -1,0 +1,117 @@
+-- The state of one process of an accepted program.
+use Rattle.std.specs.Prelude.{ℕ, ◌+◌, nat_eq, nat_le, Bool, ◌||◌, List, [], ◌∷◌, length, Option, Some, None, if◌then◌else◌, slice_get}
+use Rattle.shim_base.specs.declared.types.Ty.{Ty}
+use Rattle.shim_base.specs.declared.types.Ty.TheVariants as ty
+use Rattle.shim_base.specs.declared.operators.Trap.{Trap}
+use Rattle.shim_base.specs.Paths.{Path, NamedChannel}
+use Rattle.shim_syntax.specs.declared.tree.Sort.{Sort}
+use Rattle.shim_syntax.specs.declared.tree.Sort.TheVariants as sort
+use Rattle.shim_units.specs.declared.form.Form.{Form}
+use Rattle.shim_units.specs.declared.unit.Unit.{Unit as UnitOf}
+use Rattle.shim_process.specs.Values.{Env}
+use Rattle.shim_process.specs.Locations.{Location, Locations, at_number, number_in}
+use Rattle.shim_process.specs.Todo.{Item}
+
+-- an exception place in force: the number in its unit, the name and the line of its `try`, and what there was to do in the unit, the `try` first
+pub record ExceptionPlace : Type 0 where
+  pub exception : ℕ
+  pub name : ℕ
+  pub line : ℕ
+  pub todo : List Item
+
+-- the frame of a unit that the process is in
+pub record Frame : Type 0 where
+  pub unit : ℕ
+  -- what is still to do in it; a caller still stands at its call
+  pub todo : List Item
+  -- of the statement at which it stands the first part is done: of `next x = e` the assignment, of `x = next y` the meeting
+  pub halfway : Bool
+  -- the numbers of its slots' locations
+  pub slots : List ℕ
+  -- the labels of the exceptions that the unit was given, which are its first
+  pub labels : List ℕ
+  -- how many locations and how many exception places the process had when the unit was entered; the locations behind are its own
+  pub floor : ℕ
+  pub outer : ℕ
+  -- its exception places in force, the outermost first
+  pub places : List ExceptionPlace
+
+-- why the process stands trapped, and the line of the statement
+pub record TrappedAt : Type 0 where
+  pub kind : Trap
+  pub line : ℕ
+
+pub record LocalState : Type 0 where
+  pub path : Path
+  -- how many exception places are in force around the process, and so the label of its own first one
+  pub base : ℕ
+  -- how many channels it made, and how many forks it did
+  pub made : ℕ
+  pub forks : ℕ
+  -- the channels that the arguments of its first unit gave it, in the order of the parameters
+  pub given : List NamedChannel
+  -- the innermost frame, and those that wait for it, each called by the next; of these there are as many as calls in force
+  pub frame : Frame
+  pub callers : List Frame
+  pub locations : Locations
+  -- how many bytes of the input were read, where it has the input
+  pub input_at : Option ℕ
+  -- it has the output
+  pub holds_output : Bool
+  pub trap : Option TrappedAt
+  -- the program, and the bytes of the input
+  pub program : Form
+  pub input : List ℕ
+
+-- A number that an accepted program has no use for; what is looked up is always there.
+abbrev pub number : Option ℕ → ℕ
+number None = 0
+number (Some n) = n
+
+abbrev pub no_unit : UnitOf
+no_unit = record { title = []; function = 0; params = []; slots = []; slot_names = []; throws = 0; tries = []; body = [] }
+
+abbrev pub unit_or : Option UnitOf → UnitOf
+unit_or None = no_unit
+unit_or (Some u) = u
+
+unfoldable pub unit_at : Form → ℕ → UnitOf
+unit_at program n = unit_or (slice_get program.units n)
+
+unfoldable pub number_of : List ℕ → ℕ → ℕ
+number_of numbers n = number (slice_get numbers n)
+
+-- the location of a slot
+abbrev pub location_of : Locations → List ℕ → ℕ → Option Location
+location_of locations slots x = at_number locations (number_of slots x)
+
+-- what the variables of a frame hold
+abbrev pub env_of : Locations → List ℕ → Env
+env_of locations slots x = number_in (location_of locations slots x)
+
+-- the type of a variable; that of a stream is never asked for
+abbrev pub type_of : Sort → Ty
+type_of (sort.Value t) = t
+type_of sort.Input = ty.Int32
+type_of sort.Output = ty.Int32
+
+-- how many exception places are in force, with those around the process
+abbrev pub handlers : LocalState → ℕ
+handlers l = l.base + (l.frame.outer + length l.frame.places)
+
+-- the label of an exception, where these places are in force, of which the first has this label: that of the innermost one, or else the one that is given
+abbrev pub label_among : ℕ → ℕ → List ExceptionPlace → ℕ → ℕ
+label_among x first [] given = given
+label_among x first (p ∷ places) given = label_among x (first + 1) places (if nat_eq p.exception x then first else given)
+
+-- the label of an exception of the unit that a process is in
+unfoldable pub label_of : LocalState → ℕ → ℕ
+label_of l x = label_among x (l.base + l.frame.outer) l.frame.places (number_of l.frame.labels x)
+
+-- it can make no more channels and do no more forks
+abbrev pub is_full : LocalState → Bool
+is_full l = nat_le 4000000000 l.made || nat_le 4000000000 l.forks
+
+-- it stands trapped; nothing else changes
+abbrev pub trapped : Trap → ℕ → LocalState → LocalState
+trapped kind line l = record l { trap = Some (record { kind = kind; line = line }) }

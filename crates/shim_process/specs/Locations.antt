@@ -1,0 +1,97 @@
+-- What a process keeps its variables in.
+use Rattle.std.specs.Prelude.{ℕ, ℤ, pos, Bool, true, false, ◌&&◌, List, [], ◌∷◌, Option, Some, None, if◌then◌else◌, slice_get, slice_set}
+use Rattle.shim_base.specs.declared.types.Ty.{Ty}
+use Rattle.shim_base.specs.Value.{stored}
+use Rattle.shim_base.specs.Paths.{Channel, NamedChannel, same_channel}
+
+-- what a location is to its channel
+pub data Ownership : Type 0 where
+  -- the channel's own variable, whose value a meeting gives to all others
+  Own : Ownership
+  -- the channel's own variable, but it is with a child of the fork at which the process stands
+  Lent : Ownership
+  Copy : Ownership
+
+-- what a variable is kept in, with the channel by which processes share it
+pub record Location : Type 0 where
+  pub channel : NamedChannel
+  pub ty : Ty
+  pub value : ℤ
+  pub ownership : Ownership
+
+-- All locations of a process, by their numbers. That of a variable is empty until its declaration is executed, that of a stream always.
+abbrev pub Locations : Type 0
+Locations = List (Option Location)
+
+abbrev pub flattened : Option (Option Location) → Option Location
+flattened None = None
+flattened (Some l) = l
+
+unfoldable pub at_number : Locations → ℕ → Option Location
+at_number locations n = flattened (slice_get locations n)
+
+-- what it holds; a variable in scope has a location, so that the 0 is never asked for
+abbrev pub number_in : Option Location → ℤ
+number_in None = pos 0
+number_in (Some l) = l.value
+
+-- the value is stored by the location's type
+abbrev pub with_value : ℤ → Option Location → Option Location
+with_value v None = None
+with_value v (Some l) = Some (record l { value = stored l.ty v })
+
+unfoldable pub store_at : Locations → ℕ → ℤ → Locations
+store_at locations n v = slice_set locations n (with_value v (at_number locations n))
+
+abbrev pub is_own : Ownership → Bool
+is_own Own = true
+is_own Lent = false
+is_own Copy = false
+
+-- the ownership that the process keeps of what a branch takes by reference
+abbrev pub kept : Ownership → Ownership
+kept Own = Lent
+kept Lent = Lent
+kept Copy = Copy
+
+-- the ownership that the branch has of it
+abbrev pub moved : Ownership → Ownership
+moved Own = Own
+moved Lent = Copy
+moved Copy = Copy
+
+-- the ownership afterwards of what a branch took by reference, from that which the child's location has then, and that which was kept
+abbrev pub regained : Ownership → Ownership → Ownership
+regained Own Own = Own
+regained Own Lent = Own
+regained Own Copy = Copy
+regained Lent ownership = ownership
+regained Copy ownership = ownership
+
+-- what the process keeps of a location that a branch takes by reference
+abbrev pub with_kept : Option Location → Option Location
+with_kept None = None
+with_kept (Some l) = Some (record l { ownership = kept l.ownership })
+
+-- what the branch has of it: the value, and the ownership with it
+abbrev pub with_moved : Option Location → Option Location
+with_moved None = None
+with_moved (Some l) = Some (record l { ownership = moved l.ownership })
+
+unfoldable pub lend_at : Locations → ℕ → Locations
+lend_at locations n = slice_set locations n (with_kept (at_number locations n))
+
+-- the location is on the channel
+abbrev pub is_on : Channel → Location → Bool
+is_on c l = same_channel l.channel.channel c
+
+-- The value comes back from the child's location, where that is still on the same channel, and the ownership if it was lent.
+abbrev pub with_back : Option Location → Option Location → Option Location
+with_back (Some back) (Some l) = if is_on l.channel.channel back then Some (record l { value = back.value; ownership = regained back.ownership l.ownership }) else Some l
+with_back _ l = l
+
+-- the first location that is the channel's own variable
+abbrev pub own_of : Channel → Locations → Option Location
+own_of c [] = None
+own_of c (None ∷ locations) = own_of c locations
+own_of c (Some l ∷ locations) = if is_own l.ownership && is_on c l then Some l else own_of c locations

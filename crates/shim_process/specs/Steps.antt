@@ -1,0 +1,147 @@
+-- The quiet steps of a process: what a statement asks for, and the state after it.
+use Rattle.std.specs.Prelude.{ℕ, ◌+◌, ◌-◌, nat_le, ℤ, pos, negsuc, Bool, true, ◌||◌, List, [], ◌∷◌, ◌++◌, length, Option, Some, None, Result, Ok, Err, if◌then◌else◌, slice_get, slice_set}
+use Rattle.shim_base.specs.declared.types.Ty.{Ty}
+use Rattle.shim_base.specs.declared.operators.Trap.{Trap}
+use Rattle.shim_base.specs.declared.operators.Trap.TheVariants.{Depth}
+use Rattle.shim_base.specs.Operators.{is_zero}
+use Rattle.shim_scopes.specs.declared.tree.UExpr.{UExpr}
+use Rattle.shim_units.specs.declared.unit.Unit.{Unit as UnitOf}
+use Rattle.shim_units.specs.declared.unit.UStmt.{UStmt}
+use Rattle.shim_units.specs.declared.unit.UWhat.{UWhat, UWhat-F, out-UWhat}
+use Rattle.shim_process.specs.Values.{Env, Value, value}
+use Rattle.shim_process.specs.Locations.{store_at}
+use Rattle.shim_process.specs.Todo.{Item, Do, Successor, On, First, Second}
+use Rattle.shim_process.specs.LocalState.{LocalState, Frame, unit_at, number_of, env_of, is_full, trapped}
+use Rattle.shim_process.specs.Arguments.{Argument, arguments, new_location, new_channels, call_locations, call_slots, declared_slots, empties, passed_labels, entered}
+use Rattle.shim_process.specs.Ends.{settled, gone}
+
+-- what a statement asks for, its expressions computed
+pub data Action : Type 0 where
+  Go : Successor → Action
+  -- the value is stored in the slot's location
+  Store : ℕ → ℤ → Action
+  -- the value is stored in the slot's location, and the second part of the statement comes next
+  StoreFirst : ℕ → ℤ → Action
+  -- the slot gets a new location, on a new channel
+  Make : Ty → ℕ → ℤ → Action
+  -- the next byte of the input is stored in the slot's location
+  Read : ℕ → Action
+  -- the unit is called with these arguments, and its exceptions stand for these labels
+  Enter : ℕ → List Argument → List ℕ → Action
+  -- the exception of this number comes into force, by this name
+  Install : ℕ → ℕ → Action
+  Trapped : Trap → Action
+  -- it isn't quiet
+  Wait : Action
+
+-- of a number, or of why there is none
+abbrev pub action : {A : Type 0} → (A → Action) → Result A Trap → Action
+action f (Ok v) = f v
+action f (Err t) = Trapped t
+
+-- where a limit is passed the process is trapped, after the expressions were computed
+abbrev pub limited : Bool → Action → Action
+limited over d = if over then Trapped Depth else d
+
+-- 200 calls are in force
+abbrev pub is_deep : LocalState → Bool
+is_deep l = nat_le 200 (length l.callers)
+
+-- an absent test holds, and an absent start is 0
+abbrev pub value_or : ℤ → Option UExpr → Env → Value
+value_or n None env = Ok n
+value_or n (Some e) env = value e env
+
+-- the name of the `try` of this exception
+abbrev pub try_name : UnitOf → ℕ → ℕ
+try_name u x = number_of u.tries (x - u.throws)
+
+abbrev pub what_action : UWhat-F UWhat UStmt → Frame → LocalState → Action
+what_action (UWhat-F.Declare t x e) f l = action (λ v. limited (is_full l) (Make t x v)) (value_or (pos 0) e (env_of l.locations f.slots))
+what_action (UWhat-F.Assign x e) f l = action (Store x) (value e (env_of l.locations f.slots))
+what_action (UWhat-F.NextAssign x e) f l = if f.halfway then Wait else action (StoreFirst x) (value e (env_of l.locations f.slots))
+what_action (UWhat-F.AssignNext x y) f l = if f.halfway then Store x (env_of l.locations f.slots y) else Wait
+what_action (UWhat-F.Get x i) f l = Read x
+what_action (UWhat-F.If e first second) f l = action (λ v. Go (if is_zero v then Second else First)) (value e (env_of l.locations f.slots))
+what_action (UWhat-F.While e body) f l = action (λ v. Go (if is_zero v then On else First)) (value e (env_of l.locations f.slots))
+what_action (UWhat-F.For first e step body) f l = action (λ v. Go (if is_zero v then On else First)) (value_or (pos 1) e (env_of l.locations f.slots))
+what_action (UWhat-F.Call c) f l =
+    action (λ given. limited (is_deep l || is_full l) (Enter c.unit given (passed_labels l c.throws)))
+    (arguments l.locations f.slots (unit_at l.program c.unit).params c.args)
+what_action (UWhat-F.Try body x handler) f l = limited (is_full l) (Install x (try_name (unit_at l.program f.unit) x))
+what_action _ f l = Wait
+
+abbrev pub item_action : List Item → Frame → LocalState → Action
+item_action (Do n s ∷ k) f l = what_action (out-UWhat s.what) f l
+item_action _ f l = Wait
+
+-- what the statement at which the process stands asks for
+unfoldable pub next_action : LocalState → Action
+next_action l = item_action l.frame.todo l.frame l
+
+-- the line of the statement that is next
+abbrev pub line_of : List Item → ℕ
+line_of (Do n s ∷ k) = s.line
+line_of _ = 0
+
+-- the value is stored in the slot's location
+abbrev pub stored_in : ℕ → ℤ → LocalState → LocalState
+stored_in x v l = record l { locations = store_at l.locations (number_of l.frame.slots x) v }
+
+-- the slot's location is on a new channel, which it is the own variable of; an earlier one is forgotten
+abbrev pub made_in : Ty → ℕ → ℤ → LocalState → LocalState
+made_in t x v l = record l {
+  locations = slice_set l.locations (number_of l.frame.slots x) (Some (new_location l.path l.made (number_of (unit_at l.program l.frame.unit).slot_names x) t v));
+  made = l.made + 1;
+}
+
+-- the next byte of the input, or -1 where it is over
+abbrev pub byte_or_end : Option ℕ → ℤ
+byte_or_end None = negsuc 0
+byte_or_end (Some b) = pos b
+
+abbrev pub next_byte : Option ℕ → List ℕ → ℤ
+next_byte None input = negsuc 0
+next_byte (Some at) input = byte_or_end (slice_get input at)
+
+-- how far the input is read after it
+abbrev pub read_on : Option ℕ → List ℕ → Option ℕ
+read_on None input = None
+read_on (Some at) input = Some (if nat_le (length input) at then at else at + 1)
+
+abbrev pub read_in : ℕ → LocalState → LocalState
+read_in x l = record (stored_in x (next_byte l.input_at l.input) l) { input_at = read_on l.input_at l.input }
+
+-- the second part of the statement comes next
+abbrev pub half : Frame → Frame
+half f = record f { halfway = true }
+
+-- the exception's place comes into force, as the innermost
+abbrev pub installed : ℕ → ℕ → Frame → Frame
+installed x name f = record f { places = f.places ++ record { exception = x; name = name; line = line_of f.todo; todo = f.todo } ∷ [] }
+
+-- the unit is called: its frame is the innermost from now on, with its own locations behind the others
+unfoldable pub called : ℕ → List Argument → List ℕ → LocalState → LocalState
+called unit given labels l =
+    let u = unit_at l.program unit in
+    let first = length l.locations in
+    let passed = call_locations l.path l.locations l.made given in
+    settled (l.frame ∷ l.callers)
+    (entered l.program unit (call_slots first given (declared_slots u)) labels first (l.frame.outer + length l.frame.places))
+    (record l { locations = l.locations ++ (passed ++ empties (declared_slots u)); made = l.made + new_channels given })
+
+-- the state after the statement, with the ends that follow
+abbrev pub done : Action → LocalState → LocalState
+done (Go successor) l = gone successor l
+done (Store x v) l = gone On (stored_in x v l)
+done (StoreFirst x v) l = record (stored_in x v l) { frame = half l.frame }
+done (Make t x v) l = gone On (made_in t x v l)
+done (Read x) l = gone On (read_in x l)
+done (Enter unit given labels) l = called unit given labels l
+done (Install x name) l = gone First (record l { frame = installed x name l.frame })
+done (Trapped t) l = trapped t (line_of l.frame.todo) l
+done Wait l = l
+
+-- after one quiet statement
+unfoldable pub quiet : LocalState → LocalState
+quiet l = done (next_action l) l

@@ -1,6 +1,0 @@
-use Rattle.std.proofs.Common.{◌≡◌, take}
-use Rattle.shim_scopes.specs.Binding.{placed_all}
-use Rattle.shim_scopes.proofs.lookup.place_all.Given as goal
-
-abbrev pub invariant-loop-expr : goal.invariant-loop-expr
-invariant-loop-expr l = l.made ≡ placed_all l.visible (take l.expr-index l.exprs)

@@ -1,0 +1,89 @@
+-- What a process does by itself: a step of its own, its end, or the close of its fork.
+use Rattle.std.specs.Prelude.{ℕ, zero, suc, Option, Some, None, List, [], ◌∷◌, cond, true, false, ltb}
+use Rattle.shim_base.specs.declared.operators.Trap.{Trap}
+use Rattle.shim_local.specs.Process.{Ops, StopView, ForkedView, AtQuiet, AtNext, AtPut, AtFork, AtFinish, AtThrow, AtTrap, Parted, Trapped}
+use Rattle.shim_local.specs.declared.LogWhat.{LogWhat}
+use Rattle.shim_local.specs.declared.LogWhat.TheVariants.{Caught, Trap as LoggedTrap}
+use Rattle.shim_semantics.specs.Nodes.{Node, Nodes, Live, Forked, Ended, Dead, no_node, node_and, states, all_live, all_done, least_label}
+
+-- what an event tells: the bytes that it puts, and what it logs of its process
+pub record Effects : Type 0 where
+  pub bytes : List ℕ
+  pub logs : List LogWhat
+
+-- what stands in place of a node afterwards, and what was told
+pub record Acted (S : Type 0) : Type 0 where
+  pub node : Node S
+  pub effects : Effects
+
+abbrev pub nothing : Effects
+nothing = record { bytes = []; logs = [] }
+
+-- a put that traps puts no byte
+abbrev pub putting : Option ℕ → Effects
+putting None = nothing
+putting (Some b) = record { bytes = b ∷ []; logs = [] }
+
+-- the exception was caught by a handler with this name and line
+abbrev pub catching : ℕ × ℕ → Effects
+catching h = record { bytes = []; logs = Caught h.0 h.1 ∷ [] }
+
+abbrev pub trapping : Trap → ℕ → Effects
+trapping kind line = record { bytes = []; logs = LoggedTrap kind line ∷ [] }
+
+-- what a fork leaves: the parent above its children, or the process that trapped, which lives on
+abbrev pub parted : {S : Type 0} → ForkedView S → Node S
+parted (Parted l ks) = Forked l (all_live ks)
+parted (Trapped l) = Live l
+
+-- The exception of this label is thrown in a process. Below its base the process dies of it; else its handler goes on, and the catch is logged.
+abbrev pub thrown : {S : Type 0} → Ops S → S → ℕ → Acted S
+thrown o l x = cond (ltb x (o.base l)) (record { node = Dead l x; effects = nothing }) (record { node = Live (o.unwind l x); effects = catching (o.handler l x) })
+
+-- A fork whose children are done closes: the process has their values again, and stands behind the fork where all have ended. Where some died it still stands at the fork, and the least of their labels is thrown in it.
+abbrev pub closed : {S : Type 0} → Ops S → S → List S → Option ℕ → Acted S
+closed o l ks None = record { node = Live (o.join l ks true); effects = nothing }
+closed o l ks (Some x) = thrown o (o.join l ks false) x
+
+-- A process that stands trapped dies of label 0, and the trap is logged.
+abbrev pub act_live : {S : Type 0} → Ops S → S → StopView → Option (Acted S)
+act_live o l AtQuiet = Some (record { node = Live (o.quiet l); effects = nothing })
+act_live o l AtPut = Some (record { node = Live (o.put l); effects = putting (o.byte l) })
+act_live o l AtFork = Some (record { node = parted (o.fork l); effects = nothing })
+act_live o l AtFinish = Some (record { node = Ended l; effects = nothing })
+act_live o l (AtNext c) = None
+act_live o l (AtThrow label) = Some (thrown o l label)
+act_live o l (AtTrap kind line) = Some (record { node = Dead l 0; effects = trapping kind line })
+
+-- the one thing that the process of a node can do by itself; that of a fork is its close, which waits until no child is live or forked
+abbrev pub act_here : {S : Type 0} → Ops S → Node S → Option (Acted S)
+act_here o (Live l) = act_live o l (o.stop l)
+act_here o (Forked l ks) = cond (all_done ks) (Some (closed o l (states ks) (least_label ks))) None
+act_here o (Ended l) = None
+act_here o (Dead l x) = None
+
+abbrev pub within : {S : Type 0} → S → Option (Nodes S × Effects) → Option (Acted S)
+within l None = None
+within l (Some r) = Some (record { node = Forked l r.0; effects = r.1 })
+
+abbrev pub in_front : {S : Type 0} → Nodes S → Option (Acted S) → Option (Nodes S × Effects)
+in_front ks None = None
+in_front ks (Some a) = Some (node_and a.node ks, a.effects)
+
+abbrev pub behind : {S : Type 0} → Node S → Option (Nodes S × Effects) → Option (Nodes S × Effects)
+behind k None = None
+behind k (Some r) = Some (node_and k r.0, r.1)
+
+-- what the process of the node to which these branches lead leaves and tells by the one thing that it can do by itself
+abbrev mutual
+  pub act : {S : Type 0} → Ops S → List ℕ → Node S → Option (Acted S)
+  act o [] n = act_here o n
+  act o (b ∷ p) (Forked l ks) = within l (act_child o b p ks)
+  act o (b ∷ p) (Live l) = None
+  act o (b ∷ p) (Ended l) = None
+  act o (b ∷ p) (Dead l x) = None
+
+  pub act_child : {S : Type 0} → Ops S → ℕ → List ℕ → Nodes S → Option (Nodes S × Effects)
+  act_child o b p no_node = None
+  act_child o zero p (node_and k ks) = in_front ks (act o p k)
+  act_child o (suc b) p (node_and k ks) = behind k (act_child o b p ks)

@@ -1,0 +1,18 @@
+-- What holds of the events of sound trees.
+use Rattle.std.specs.Prelude.{◌≡◌, Some, List}
+use Rattle.shim_local.specs.Process.{Ops}
+use Rattle.shim_semantics.specs.Trees.{Tree, Event, after, start}
+use Rattle.shim_semantics.specs.Sound.{IsSound, SharesItsOwn}
+use Rattle.shim_semantics.specs.Systems.{run, IsInvariant}
+
+abbrev pub IsSoundTree : {S : Type 0} → Ops S → Tree S → Type 0
+IsSoundTree o t = IsSound o t.root
+
+-- soundness holds at the start, of one live process all of whose channels are its own, and no event loses it
+pub record KeepsSound {S : Type 0} (o : Ops S) : Type 0 where
+  pub starts : (l : S) → o.sound l → SharesItsOwn o l → IsSoundTree o (start l)
+  pub kept : IsInvariant (after o) (IsSoundTree o)
+
+-- so does each run
+abbrev pub RunsStaySound : {S : Type 0} → Ops S → Type 0
+RunsStaySound {S} o = (t u : Tree S) (es : List Event) → IsSoundTree o t → run (after o) es t ≡ Some u → IsSoundTree o u

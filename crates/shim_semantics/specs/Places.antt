@@ -1,0 +1,94 @@
+-- Where the process of a path stands in a tree, and that the paths are as forks make them.
+use Rattle.std.specs.Prelude.{◌≡◌, ◌≢◌, ◌<◌, ◌⊎◌, ℕ, zero, suc, ◌+◌, Bool, true, false, Option, Some, None, List, [], ◌∷◌, ◌++◌, ◌&&◌, cond}
+use Rattle.shim_base.specs.Paths.{Path, Channel, same_pair, same_path}
+use Rattle.shim_local.specs.Process.{Ops}
+use Rattle.shim_semantics.specs.Nodes.{Node, Nodes, Live, Forked, Ended, Dead, no_node, node_and, state, states, ready}
+
+-- the node to which these branches lead
+abbrev mutual
+  pub at : {S : Type 0} → List ℕ → Node S → Option (Node S)
+  at [] n = Some n
+  at (b ∷ p) (Forked l ks) = child_at b p ks
+  at (b ∷ p) (Live l) = None
+  at (b ∷ p) (Ended l) = None
+  at (b ∷ p) (Dead l x) = None
+
+  pub child_at : {S : Type 0} → ℕ → List ℕ → Nodes S → Option (Node S)
+  child_at b p no_node = None
+  child_at zero p (node_and k ks) = at p k
+  child_at (suc b) p (node_and k ks) = child_at b p ks
+
+abbrev pub branches : Path → List ℕ
+branches [] = []
+branches (x ∷ p) = x.1 ∷ branches p
+
+-- what is left of the second path behind the first, where that is a prefix of it
+abbrev pub behind_front : Path → Path → Option Path
+behind_front [] q = Some q
+behind_front (x ∷ p) [] = None
+behind_front (x ∷ p) (y ∷ q) = cond (same_pair x y) (behind_front p q) None
+
+abbrev pub branches_of : Option Path → Option (List ℕ)
+branches_of None = None
+branches_of (Some p) = Some (branches p)
+
+-- the branches that lead from the process of the first path to that of the second
+abbrev pub route : Path → Path → Option (List ℕ)
+route root p = branches_of (behind_front root p)
+
+abbrev pub at_route : {S : Type 0} → Node S → Option (List ℕ) → Option (Node S)
+at_route n None = None
+at_route n (Some p) = at p n
+
+-- the branches of a path lead to this node, which may be that of the path, or of another fork
+abbrev pub led_to : {S : Type 0} → Ops S → Node S → Path → Option (Node S)
+led_to o root p = at_route root (route (o.path (state root)) p)
+
+abbrev pub is_ready_at : {S : Type 0} → Ops S → Channel → Option (Node S) → Bool
+is_ready_at o c None = false
+is_ready_at o c (Some n) = same_path (o.path (state n)) c.home && ready o c n
+
+-- the node of the process that declared the channel is ready on it
+abbrev pub meets : {S : Type 0} → Ops S → Channel → Node S → Bool
+meets o c root = is_ready_at o c (led_to o root c.home)
+
+-- this node is that of the path
+abbrev pub has_path : {S : Type 0} → Ops S → Path → Option (Node S) → Bool
+has_path o p None = false
+has_path o p (Some n) = same_path (o.path (state n)) p
+
+-- k is the child in place i of the fork of number f of l, after any calls
+pub record IsChild {S : Type 0} (o : Ops S) (l : S) (f i : ℕ) (k : S) : Type 0 where
+  pub path : o.path k ≡ o.path l ++ (f, i) ∷ []
+  -- as many exception places are in force around it as with those of its parent
+  pub base : o.base k ≡ o.handlers l
+  -- it shares only what its parent shares, and channels of its own
+  pub shares : (c : Channel) → o.shares k c ≡ true → (o.shares l c ≡ true) ⊎ (c.home ≡ o.path k)
+
+-- what holds of a process that forked, where something holds of its children for the number of the fork
+pub record IsFork {S : Type 0} (o : Ops S) (l : S) (ks : Nodes S) (Children : ℕ → Type 0) : Type 0 where
+  pub number : ℕ
+  pub children : Children number
+  -- there is a child
+  pub some : ks ≢ no_node
+  -- they are born of it
+  pub born : o.born l (states ks)
+  pub sound : o.sound l
+
+-- a process that died of a label for which it has no handler
+pub record IsDeath {S : Type 0} (o : Ops S) (l : S) (x : ℕ) : Type 0 where
+  pub below_base : x < o.base l
+  pub sound : o.sound l
+
+-- Each state is one that a process comes to; each forked process has the children of a fork, and each dead one a death of its own.
+abbrev mutual
+  pub SoundBelow : {S : Type 0} → Ops S → Node S → Type 0
+  SoundBelow o (Live l) = o.sound l
+  SoundBelow o (Ended l) = o.sound l
+  SoundBelow o (Dead l x) = IsDeath o l x
+  SoundBelow o (Forked l ks) = IsFork o l ks (λ f. SoundChildren o l f 0 ks)
+
+  -- the children of l from the place i on
+  pub SoundChildren : {S : Type 0} → Ops S → S → ℕ → ℕ → Nodes S → Type 0
+  SoundChildren o l f i no_node = Unit {0}
+  SoundChildren o l f i (node_and k ks) = IsChild o l f i (state k) × SoundBelow o k × SoundChildren o l f (i + 1) ks

@@ -1,0 +1,15 @@
+-- Runs of any system of events, and what its events keep.
+use Rattle.std.specs.Prelude.{◌≡◌, Option, Some, None, List, [], ◌∷◌}
+
+abbrev pub go_on : {T : Type 0} → (T → Option T) → Option T → Option T
+go_on f None = None
+go_on f (Some t) = f t
+
+-- the events happen one after another, each where it is enabled in its turn
+abbrev pub run : {E T : Type 0} → (E → T → Option T) → List E → T → Option T
+run step [] t = Some t
+run step (e ∷ es) t = go_on (run step es) (step e t)
+
+-- an event keeps what is said of the states
+abbrev pub IsInvariant : {E T : Type 0} → (E → T → Option T) → (T → Type 0) → Type 0
+IsInvariant {E} {T} step sound = (t : T) → sound t → (e : E) (a : T) → step e t ≡ Some a → sound a

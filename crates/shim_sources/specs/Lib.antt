@@ -1,4 +1,0 @@
--- The definitions of this crate, one module for each subject.
-pub mod Sources
-pub mod Anchored
-pub mod Homes

@@ -1,0 +1,6 @@
+use denote.Param.Send.{sendable}
+use Rattle.shim_walk.proofs.Sends.{walk_send}
+use Rattle.shim_tests_forks.proofs.same_tests.expect_row.Goals as goal
+
+pub expect_of-requires-send-L : goal.expect_of-requires-send-L
+expect_of-requires-send-L g c κs = search (walk_send, sendable)

@@ -1,0 +1,15 @@
+//! Tests of the ground: values, paths and channels, operators, files and sinks, and one small process.
+#![tactic(auto)]
+
+#[cfg(test)]
+mod channels;
+#[cfg(test)]
+mod files_and_sinks;
+/// Paths and channels from what a test writes of them.
+pub mod made;
+#[cfg(test)]
+mod operators;
+#[cfg(test)]
+mod small_process;
+#[cfg(test)]
+mod values;

@@ -1,0 +1,355 @@
+// A small process, taken through each of its stops by the calls of the trait.
+ghost use Rattle.std.specs.Prelude.{◌≡◌};
+ghost use Rattle.shim_local.specs.Process.{AtFork};
+
+use crate::made::chan;
+use shim_base::{Chan, List, NoMemory, Path, push_decimal};
+use shim_local::{Forked, Local, Small, Step, Stop};
+use std::alloc::Global;
+use std::process::Abort;
+use std::test::Fail;
+
+fn tell(told: &mut List<u8>, what: &[u8], number: u32) -> Result<(), NoMemory> {
+    told.extend_from_slice(what)?;
+    push_decimal(told, number as u64)
+}
+
+// Tells at what the process stands, and goes on behind it. A meeting gives 5.
+fn go_on<L: Local>(process: &mut L, told: &mut List<u8>) -> Result<(), NoMemory> {
+    match process.stop() {
+        Stop::Quiet => {
+            let quiet = process.quiet(2);
+            tell(told, b" quiet ", quiet.taken as u32)
+        }
+        Stop::Next(chan) => {
+            tell(told, b" next ", chan.serial())?;
+            process.receive(5);
+            Ok(())
+        }
+        Stop::Put => match process.put() {
+            Some(byte) => tell(told, b" put ", byte as u32),
+            None => told.extend_from_slice(b" put"),
+        },
+        Stop::Fork => {
+            told.extend_from_slice(b" fork")?;
+            fork_and_join(process, told)
+        }
+        Stop::Finish => told.extend_from_slice(b" finish"),
+        Stop::Throw(label) => {
+            tell(told, b" throw ", label)?;
+            unwind(process, label, told)
+        }
+        Stop::Trapped(_, line) => tell(told, b" trapped ", line),
+    }
+}
+
+// Goes to the handler of the label, where that is the process's own, and tells it.
+fn unwind<L: Local>(process: &mut L, label: u32, told: &mut List<u8>) -> Result<(), NoMemory> {
+    if process.base() <= label && label < process.handlers() {
+        let handler = process.handler(label);
+        tell(told, b" of ", handler.0)?;
+        tell(told, b".", handler.1)?;
+        process.unwind(label);
+    }
+    Ok(())
+}
+
+fn tell_path(path: &Path, told: &mut List<u8>) -> Result<(), NoMemory> {
+    for pair in path.pairs() {
+        tell(told, b" ", pair.0)?;
+        tell(told, b".", pair.1)?;
+    }
+    Ok(())
+}
+
+// Tells the pairs of the path and of each child's path, and of each child how many exception places are
+// around it and the channels that it was given. It gives the first child 0 where that stands at a
+// meeting, and goes on behind the fork.
+fn fork_and_join<L: Local>(process: &mut L, told: &mut List<u8>) -> Result<(), NoMemory>
+    requires { L.ops.stop process.old ≡ AtFork }
+{
+    tell_path(process.path(), told)?;
+    if let Forked::Children(children) = process.fork()? {
+        let mut children = children.into_vec();
+        for child in children.as_slice() {
+            tell_path(child.path(), told)?;
+            tell(told, b" in ", child.base())?;
+            tell_given(child, told)?;
+        }
+        meet_first(&mut children);
+        process.join(children.as_slice(), true);
+    }
+    Ok(())
+}
+
+// Tells the first three of the channels that the process was given, as many as there are.
+fn tell_given<L: Local>(process: &L, told: &mut List<u8>) -> Result<(), NoMemory> {
+    for at in 0..3 {
+        if let Some(chan) = process.given(at) {
+            tell(told, b" with ", chan.serial())?;
+        }
+    }
+    Ok(())
+}
+
+// The children stay those of their parent.
+fn meet_first<L: Local>(children: &mut Vec<L>)
+    ensures { (parent : L) → L.ops.born parent children.old.items → L.ops.born parent children.new.items }
+{
+    if let Some(first) = children.first_mut() {
+        let _path = first.path(); // its state is sound
+        if let Stop::Next(_) = first.stop() {
+            first.receive(0);
+        }
+    }
+}
+
+// A process of this path with these steps to do, on a channel of the root.
+fn small(
+    path: Path,
+    left: &[Step],
+    serial: u32,
+    name: u32,
+    alloc: Global,
+) -> Result<Small, NoMemory> {
+    let chan = chan(alloc, &[], serial, name)?;
+    Ok(Small::new(path, Vec::from_slice(alloc, left)?, chan))
+}
+
+// Whether this is told of a root with these steps to do that goes on so often.
+fn is_told(alloc: Global, left: &[Step], times: u32, text: &[u8]) -> Result<bool, NoMemory> {
+    let mut process = small(Path::root(alloc), left, 3, 0, alloc)?;
+    let mut told = List::new(alloc);
+    for _ in 0..times {
+        go_on(&mut process, &mut told)?;
+    }
+    Ok(told.as_slice() == text)
+}
+
+// What is told of a root, by the steps that it has to do and how often it goes on.
+type Told<'a> = &'a [(&'a [Step], u32, &'a [u8])];
+
+fn expect_told(rt: &impl Abort, alloc: Global, rows: Told) -> Result<(), Fail> {
+    for row in rows {
+        assert!(rt; is_told(alloc, row.0, row.1, row.2)?);
+    }
+    Ok(())
+}
+
+#[test]
+fn each_stop_is_gone_through(rt: HostRuntime) -> Result<(), Fail> {
+    expect_told(
+        &rt,
+        rt.alloc(),
+        &[
+            (
+                &[
+                    Step::Put,
+                    Step::Quiet,
+                    Step::Quiet,
+                    Step::Quiet,
+                    Step::Next,
+                    Step::Put,
+                ],
+                6,
+                b" put 0 quiet 2 quiet 1 next 3 put 1 finish",
+            ),
+            // Children are told their places and channels.
+            (
+                &[Step::Fork, Step::Try(6, 30), Step::Fork, Step::Put],
+                4,
+                b" fork 0.0 in 1 with 3 0.1 in 1 with 3 quiet 1 fork 1.0 in 2 with 3 1.1 in 2 with 3 put 0",
+            ),
+        ],
+    )
+}
+
+#[test]
+fn an_exception_goes_to_its_handler(rt: HostRuntime) -> Result<(), Fail> {
+    expect_told(
+        &rt,
+        rt.alloc(),
+        &[
+            (
+                &[
+                    Step::Try(3, 20),
+                    Step::Try(4, 21),
+                    Step::Throw(2),
+                    Step::Put,
+                ],
+                4,
+                b" quiet 2 throw 2 of 4.21 put 0 finish",
+            ),
+            // An inner place goes with the outer one.
+            (
+                &[
+                    Step::Try(3, 20),
+                    Step::Try(4, 21),
+                    Step::Throw(1),
+                    Step::Throw(2),
+                ],
+                3,
+                b" quiet 2 throw 1 of 3.20 trapped 1",
+            ),
+            (&[Step::Throw(0)], 1, b" throw 0"),
+        ],
+    )
+}
+
+#[test]
+fn traps_are_stood_at_and_nothing_is_put_before_one(rt: HostRuntime) -> Result<(), Fail> {
+    expect_told(
+        &rt,
+        rt.alloc(),
+        &[
+            (&[Step::Put, Step::Trap], 2, b" put trapped 1"),
+            (&[Step::Fork, Step::Trap], 2, b" fork trapped 1"),
+            (&[Step::Put, Step::Throw(1)], 2, b" put trapped 1"),
+            (&[Step::Put, Step::Throw(0)], 2, b" put 0 throw 0"),
+            (&[Step::Fork, Step::Throw(1)], 2, b" fork trapped 1"),
+        ],
+    )
+}
+
+// The second branch of a root's first fork, with a put to do.
+fn child(alloc: Global) -> Result<Small, NoMemory> {
+    let path = Path::root(alloc).child(0, 1)?;
+    small(path, &[Step::Put], 3, 0, alloc)
+}
+
+// Whether the process stands trapped.
+fn is_trapped<L: Local>(process: &L) -> bool {
+    match process.stop() {
+        Stop::Trapped(_, _) => true,
+        _ => false,
+    }
+}
+
+#[test]
+fn a_child_holds_no_output(rt: HostRuntime) -> Result<(), Fail> {
+    let child = child(rt.alloc())?;
+    assert!(rt; is_trapped(&child));
+    assert!(rt; !child.holds_output());
+    Ok(())
+}
+
+// The value of the channel that the process carries; nothing where it doesn't. It shares just what it
+// carries.
+fn value<L: Local>(rt: &impl Abort, process: &L, chan: &Chan) -> Option<i64> {
+    assert!(rt; process.carries(chan) == process.shares(chan));
+    if process.carries(chan) {
+        Some(process.value(chan))
+    } else {
+        None
+    }
+}
+
+// Expects this value of the root's channel of that serial.
+fn expect_value<L: Local>(
+    rt: &impl Abort,
+    alloc: Global,
+    process: &L,
+    serial: u32,
+    wanted: Option<i64>,
+) -> Result<(), Fail> {
+    let chan = chan(alloc, &[], serial, 0)?;
+    assert!(rt; value(rt, process, &chan) == wanted);
+    Ok(())
+}
+
+#[test]
+fn a_root_carries_its_channel(rt: HostRuntime) -> Result<(), Fail> {
+    let alloc = rt.alloc();
+    let process = behind(alloc, &[Step::Next])?;
+    expect_value(&rt, alloc, &process, 3, Some(5))?;
+    expect_value(&rt, alloc, &process, 4, None)?;
+    assert!(rt; process.holds_output());
+    assert!(rt; process.given(0).is_none());
+    Ok(())
+}
+
+// A root that had these steps to do, and went on once.
+fn behind(alloc: Global, left: &[Step]) -> Result<Small, NoMemory> {
+    let mut process = small(Path::root(alloc), left, 3, 0, alloc)?;
+    let mut told = List::new(alloc);
+    go_on(&mut process, &mut told)?;
+    Ok(process)
+}
+
+// Whether the two are told apart, and each is the same as its copy.
+fn are_apart<L: Local>(a: &L, b: &L) -> Result<bool, NoMemory> {
+    let copy_of_a = a.copy()?;
+    let copy_of_b = b.copy()?;
+    Ok(!a.same(b) && !b.same(a) && a.same(&copy_of_a) && copy_of_b.same(b))
+}
+
+// Whether a root with a put to do is told apart from one with these steps, on this channel.
+fn differs(alloc: Global, left: &[Step], serial: u32, name: u32) -> Result<bool, NoMemory> {
+    let root = small(Path::root(alloc), &[Step::Put], 3, 0, alloc)?;
+    let other = small(Path::root(alloc), left, serial, name, alloc)?;
+    are_apart(&root, &other)
+}
+
+// Whether a root is told apart from a child.
+fn child_differs(alloc: Global) -> Result<bool, NoMemory> {
+    let root = small(Path::root(alloc), &[Step::Put], 3, 0, alloc)?;
+    let child = child(alloc)?;
+    are_apart(&root, &child)
+}
+
+// Whether two roots are told apart that had these steps to do, and went on once.
+fn differ_behind(alloc: Global, a: &[Step], b: &[Step]) -> Result<bool, NoMemory> {
+    let a = behind(alloc, a)?;
+    let b = behind(alloc, b)?;
+    are_apart(&a, &b)
+}
+
+// Expects of roots with these steps to do, on these channels, that each differs from one with a put.
+fn expect_differ(rt: &impl Abort, alloc: Global, rows: &[(&[Step], u32, u32)]) -> Result<(), Fail> {
+    for row in rows {
+        assert!(rt; differs(alloc, row.0, row.1, row.2)?);
+    }
+    Ok(())
+}
+
+// Expects of roots that had these steps to do, and went on once, that the two differ.
+fn expect_differ_behind(
+    rt: &impl Abort,
+    alloc: Global,
+    rows: &[(&[Step], &[Step])],
+) -> Result<(), Fail> {
+    for row in rows {
+        assert!(rt; differ_behind(alloc, row.0, row.1)?);
+    }
+    Ok(())
+}
+
+#[test]
+fn states_that_differ_are_told_apart(rt: HostRuntime) -> Result<(), Fail> {
+    let alloc = rt.alloc();
+    expect_differ(
+        &rt,
+        alloc,
+        &[
+            (&[Step::Quiet], 3, 0),
+            (&[Step::Put], 4, 0),
+            (&[Step::Put], 3, 1),
+        ],
+    )?;
+    assert!(rt; child_differs(alloc)?);
+    Ok(())
+}
+
+#[test]
+fn what_was_done_tells_states_apart(rt: HostRuntime) -> Result<(), Fail> {
+    expect_differ_behind(
+        &rt,
+        rt.alloc(),
+        &[
+            (&[Step::Quiet], &[Step::Next]),
+            (&[Step::Quiet], &[Step::Fork]),
+            (&[Step::Try(3, 20)], &[Step::Try(3, 21)]),
+            (&[Step::Try(3, 20)], &[Step::Try(4, 20)]),
+        ],
+    )
+}

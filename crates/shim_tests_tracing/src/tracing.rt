@@ -1,0 +1,303 @@
+// What a process does from where it stands to its end, written down.
+ghost use Rattle.std.specs.Prelude.{◌≡◌, IfOk, OnOk};
+ghost use Rattle.shim_base.specs.Paths.{NamedChannel};
+ghost use Rattle.shim_local.specs.Process.{AtNext, AtPut, AtFork};
+ghost use Rattle.shim_local.specs.Laws.{AllOf};
+ghost use Rattle.shim_tests_tracing.specs.Kept.{StaysChild, StayChildren};
+
+use crate::tell::{at_line, channel, count, trap, value, word};
+use shim_base::{Chan, List, Name, NoMemory};
+use shim_local::{Forked, Local, Stop};
+use std::mem;
+use std::sync::Arc;
+
+// The value that a meeting gives to a process which doesn't carry the channel's own variable.
+const MET: i64 = 7;
+
+/// What has become of a process.
+#[derive(Clone, Copy, Debug, PartialEq, Eq)]
+pub enum Fate {
+    Live,
+    Ended,
+    /// It is dead, with this label.
+    Dead(u32),
+}
+
+/// Takes the process from where it stands to its end, and tells what it does on the way. Of a process
+/// that forks more levels of children than these, or doesn't come to its end in 300 stops, it tells `..`.
+///
+/// At each stop a copy has to be the same state, and it goes on in place of the process every other
+/// time. Since the process ends, it never comes to one state twice.
+#[cycle(trace)]
+pub fn trace<L: Local>(
+    process: &mut L,
+    names: &[Name],
+    levels: u32,
+    told: &mut List<u8>,
+) -> Result<Fate, NoMemory>
+    ensures { OnOk result (StaysChild L.ops process.old process.new) }
+{
+    for stop in 0..300 {
+        let mut before = another(process, told)?;
+        if stop % 2 == 1 {
+            mem::swap(process, &mut before);
+        }
+        let fate = go_on(process, names, levels, told)?;
+        if fate != Fate::Live {
+            tell_own(process, told)?;
+            return Ok(fate);
+        }
+        if process.same(&before) {
+            word(told, b"same")?;
+        }
+    }
+    word(told, b"..")?;
+    Ok(Fate::Ended)
+}
+
+// Another value of the same state, and a word where the two are told apart.
+fn another<L: Local>(process: &L, told: &mut List<u8>) -> Result<L, NoMemory>
+    ensures { IfOk result (λ other. other ≡ process.now) }
+{
+    let other = process.copy()?;
+    if !other.same(process) || !process.same(&other) {
+        word(told, b"other")?;
+    }
+    Ok(other)
+}
+
+// Does that at which the process stands, and tells it.
+#[cycle(trace)]
+fn go_on<L: Local>(
+    process: &mut L,
+    names: &[Name],
+    levels: u32,
+    told: &mut List<u8>,
+) -> Result<Fate, NoMemory>
+    ensures { OnOk result (StaysChild L.ops process.old process.new) }
+{
+    match process.stop() {
+        Stop::Quiet => go_quietly(process, told),
+        Stop::Next(chan) => {
+            let chan = chan.copy()?;
+            meet(process, &chan, names, told)
+        }
+        Stop::Put => put(process, told),
+        Stop::Fork => fork(process, names, levels, told),
+        Stop::Finish => {
+            word(told, b"end")?;
+            Ok(Fate::Ended)
+        }
+        Stop::Throw(label) => unwind(process, label, names, told),
+        Stop::Trapped(kind, line) => {
+            trap(told, kind, line)?;
+            Ok(Fate::Dead(0))
+        }
+    }
+}
+
+fn go_quietly<L: Local>(process: &mut L, told: &mut List<u8>) -> Result<Fate, NoMemory>
+    ensures { OnOk result (StaysChild L.ops process.old process.new) }
+{
+    let _path = process.path(); // its state is sound
+    let quiet = process.quiet(1000);
+    count(told, b"q", quiet.taken)?;
+    Ok(Fate::Live)
+}
+
+fn meet<L: Local>(
+    process: &mut L,
+    chan: &Chan,
+    names: &[Name],
+    told: &mut List<u8>,
+) -> Result<Fate, NoMemory>
+    requires { (c : NamedChannel) × (L.ops.stop process.old ≡ AtNext c) }
+    ensures { OnOk result (StaysChild L.ops process.old process.new) }
+{
+    let _path = process.path(); // its state is sound
+    word(told, b"next ")?;
+    channel(told, names, chan)?;
+    let met = met(process, chan, told)?;
+    process.receive(met);
+    Ok(Fate::Live)
+}
+
+// What the meeting on the channel gives the process: the value of its own variable, where the process
+// carries that, which is told then.
+fn met<L: Local>(process: &L, chan: &Chan, told: &mut List<u8>) -> Result<i64, NoMemory> {
+    if process.carries(chan) {
+        let own = process.value(chan);
+        value(told, b"=", own)?;
+        Ok(own)
+    } else {
+        Ok(MET)
+    }
+}
+
+fn put<L: Local>(process: &mut L, told: &mut List<u8>) -> Result<Fate, NoMemory>
+    requires { L.ops.stop process.old ≡ AtPut }
+    ensures { OnOk result (StaysChild L.ops process.old process.new) }
+{
+    let _path = process.path(); // its state is sound
+    match process.put() {
+        Some(byte) => count(told, b"put=", byte as u64)?,
+        None => word(told, b"put=none")?,
+    }
+    Ok(Fate::Live)
+}
+
+// Goes to the handler of the label, where that is the process's own. Else it is dead.
+fn unwind<L: Local>(
+    process: &mut L,
+    label: u32,
+    names: &[Name],
+    told: &mut List<u8>,
+) -> Result<Fate, NoMemory>
+    ensures { OnOk result (StaysChild L.ops process.old process.new) }
+{
+    let _path = process.path(); // its state is sound
+    if process.base() <= label && label < process.handlers() {
+        let handler = process.handler(label);
+        process.unwind(label);
+        word(told, b"catch ")?;
+        at_line(told, names, handler.0, handler.1)?;
+        Ok(Fate::Live)
+    } else {
+        count(told, b"throw ", label as u64)?;
+        Ok(Fate::Dead(label))
+    }
+}
+
+// Goes on behind a fork, or at the handler of this label of its dead children.
+fn come_back<L: Local>(
+    process: &mut L,
+    least: Option<u32>,
+    names: &[Name],
+    told: &mut List<u8>,
+) -> Result<Fate, NoMemory>
+    ensures { OnOk result (StaysChild L.ops process.old process.new) }
+{
+    match least {
+        None => Ok(Fate::Live),
+        Some(label) => unwind(process, label, names, told),
+    }
+}
+
+// Takes each child to its end, and what they have is the process's again.
+#[cycle(trace)]
+fn fork<L: Local>(
+    process: &mut L,
+    names: &[Name],
+    levels: u32,
+    told: &mut List<u8>,
+) -> Result<Fate, NoMemory>
+    requires { L.ops.stop process.old ≡ AtFork }
+    ensures { OnOk result (StaysChild L.ops process.old process.new) }
+{
+    if levels == 0 {
+        word(told, b"..")?;
+        return Ok(Fate::Ended);
+    }
+    let _path = process.path(); // its state is sound
+    match process.fork()? {
+        Forked::Trapped => {
+            word(told, b"fork=none")?;
+            Ok(Fate::Live)
+        }
+        Forked::Children(children) => {
+            let mut children = children.into_vec();
+            word(told, b"fork(")?;
+            let least = trace_all(&mut children, names, levels - 1, told)?;
+            told.extend_from_slice(b")")?;
+            are_sound(children.as_slice());
+            process.join(children.as_slice(), least.is_none());
+            come_back(process, least, names, told)
+        }
+    }
+}
+
+// Takes each child to its end, and answers the least label of those that are dead. The children stay
+// those of their parent.
+#[cycle(trace)]
+fn trace_all<L: Local>(
+    children: &mut Vec<L>,
+    names: &[Name],
+    levels: u32,
+    told: &mut List<u8>,
+) -> Result<Option<u32>, NoMemory>
+    ensures { OnOk result (StayChildren L.ops children.old.items children.new.items) }
+{
+    let mut least = None;
+    for at in 0..children.len() {
+        separate(told, at)?;
+        let Some(child) = children.get_mut(at) else {
+            return Ok(least);
+        };
+        tell_given(child, names, told)?;
+        let fate = trace(child, names, levels, told)?;
+        least = lesser(least, fate);
+    }
+    Ok(least)
+}
+
+// A bar stands between two children.
+fn separate(told: &mut List<u8>, at: usize) -> Result<(), NoMemory> {
+    if at == 0 {
+        Ok(())
+    } else {
+        told.extend_from_slice(b"|")
+    }
+}
+
+// The lesser of a label and that of a process that is dead.
+fn lesser(least: Option<u32>, fate: Fate) -> Option<u32> {
+    match fate {
+        Fate::Dead(label) => match least {
+            Some(other) if other <= label => Some(other),
+            _ => Some(label),
+        },
+        _ => least,
+    }
+}
+
+// Each state is one that a process comes to.
+fn are_sound<L: Local>(children: &[L])
+    ensures { AllOf L.ops.sound children.now }
+{
+    for child in children {
+        let _path = child.path();
+    }
+}
+
+// Tells the channels that a fork gave the process, and whether it has the output, as in `<a#0 b#1 o>`.
+fn tell_given<L: Local>(process: &L, names: &[Name], told: &mut List<u8>) -> Result<(), NoMemory> {
+    told.extend_from_slice(b"<")?;
+    let mut between = b"".as_slice();
+    for at in 0..32 {
+        if let Some(chan) = process.given(at) {
+            told.extend_from_slice(between)?;
+            channel(told, names, chan)?;
+            between = b" ".as_slice();
+        }
+    }
+    if process.holds_output() {
+        told.extend_from_slice(between)?;
+        told.extend_from_slice(b"o")?;
+    }
+    told.extend_from_slice(b">")
+}
+
+// Tells the own variables that the process carries of the first ten channels that it declared, each by
+// its channel's serial.
+fn tell_own<L: Local>(process: &L, told: &mut List<u8>) -> Result<(), NoMemory> {
+    let alloc = told.allocator();
+    let home = Arc::new(alloc, process.path().copy()?)?;
+    for serial in 0..10 {
+        let chan = Chan::new(Arc::try_clone(&home)?, serial, 0);
+        if process.carries(&chan) {
+            count(told, b"#", serial as u64)?;
+            value(told, b"=", process.value(&chan))?;
+        }
+    }
+    Ok(())
+}

@@ -1,0 +1,35 @@
+-- What a process of the code means with its status beside it.
+use Rattle.std.specs.Prelude.{List, [], ◌∷◌, map}
+use Rattle.shim_semantics.specs.Nodes as model
+use Rattle.shim_semantics.specs.Trees as trees
+use Rattle.shim_tree.specs.declared.node_status.NodeStatus.{NodeStatus}
+use Rattle.shim_tree.specs.declared.node_status.NodeStatus.TheOpen.{NodeStatus-F, Live, Forked, Ended, Dead}
+use Rattle.shim_tree.specs.declared.node_status.NodeStatus.TheFolds.{fold-NodeStatus}
+use Rattle.shim_tree.specs.declared.event.Event.{Event}
+use Rattle.shim_tree.specs.declared.event.Event.TheVariants as code
+
+-- each process with its status; one without lives
+abbrev pub together : {S : Type 0} → List S → List (S → model.Node S) → model.Nodes S
+together [] fs = model.no_node
+together (l ∷ ls) [] = model.node_and (model.Live l) (together ls [])
+together (l ∷ ls) (f ∷ fs) = model.node_and (f l) (together ls fs)
+
+abbrev pub node_step : {S : Type 0} → NodeStatus-F S (S → model.Node S) → S → model.Node S
+node_step Live l = model.Live l
+node_step (Forked ls bs) l = model.Forked l (together ls.items bs.items)
+node_step Ended l = model.Ended l
+node_step (Dead x) l = model.Dead l x
+
+abbrev pub node : {S : Type 0} → S → NodeStatus S → model.Node S
+node {S} l b = fold-NodeStatus S (S → model.Node S) node_step b l
+
+abbrev pub nodes : {S : Type 0} → List (NodeStatus S) → List (S → model.Node S)
+nodes {S} bs = map (fold-NodeStatus S (S → model.Node S) node_step) bs
+
+-- an event of the code
+abbrev pub event_of : Event → trees.Event
+event_of (code.Own p) = trees.Own p
+event_of (code.Meet c) = trees.Meet c.channel
+event_of (code.Poison p c) = trees.Poison p c.channel
+event_of (code.Close p) = trees.Close p
+event_of (code.End p) = trees.End p

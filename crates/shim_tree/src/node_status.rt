@@ -1,0 +1,13 @@
+// What came of a process.
+
+/// What came of a process. The states of the children lie together, so that a join can be lent them,
+/// with their statuses in a list beside; a child that has none in it lives. So a fork, which can't be
+/// undone, makes no list that could be refused.
+#[derive(Drop)]
+pub(crate) enum NodeStatus<L> {
+    Live,
+    Ended,
+    /// It died of an exception with this label.
+    Dead(u32),
+    Forked(Vec<L>, Vec<NodeStatus<L>>),
+}

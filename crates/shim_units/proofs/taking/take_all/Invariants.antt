@@ -1,5 +1,0 @@
-use Rattle.shim_units.specs.Marks.{TakesBelow}
-use Rattle.shim_units.proofs.taking.take_all.Given as goal
-
-abbrev pub invariant-loop-at : goal.invariant-loop-at
-invariant-loop-at l = TakesBelow l.made l.at l.sorts l.uses

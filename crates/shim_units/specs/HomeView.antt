@@ -1,6 +1,0 @@
--- The function whose branches are lifted, in the code, as the definitions name it.
-use Rattle.shim_units.specs.Parts as parts
-use Rattle.shim_units.specs.declared.home.Home.{Home}
-
-abbrev pub home_view : Home → parts.Home
-home_view h = record { functions = h.functions.now; function = h.function.now; number = h.number; name = h.name.now; first = h.first }

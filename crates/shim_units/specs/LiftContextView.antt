@@ -1,0 +1,6 @@
+-- The function whose branches are lifted, in the code, as the definitions name it.
+use Rattle.shim_units.specs.Parts as parts
+use Rattle.shim_units.specs.declared.lift_context.LiftContext.{LiftContext}
+
+abbrev pub context_view : LiftContext → parts.LiftContext
+context_view h = record { functions = h.functions.now; function = h.function.now; number = h.number; name = h.name.now; first = h.first }

@@ -1,9 +1,0 @@
-// What a unit has of a function.
-use shim_base::List;
-
-/// The function's variables and exceptions that a unit has, each in the order of the unit's own numbers.
-#[derive(Drop)]
-pub struct Within {
-    pub slots: List<u32>,
-    pub exceptions: List<u32>,
-}

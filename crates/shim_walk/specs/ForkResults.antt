@@ -1,0 +1,13 @@
+-- What a fork comes to.
+use Rattle.std.specs.Prelude.{◌≡◌, ◌+◌}
+use Rattle.shim_process.specs.LocalState.{LocalState, trapped}
+use Rattle.shim_process.specs.Forks.{Parted, Trapped as StandsTrapped, fork}
+use Rattle.shim_process.specs.Steps.{line_of}
+use Rattle.shim_locations.specs.Lendings.{remainder_of}
+use Rattle.shim_walk.specs.declared.process.ForkedProcess.{ForkedProcess}
+use Rattle.shim_walk.specs.declared.process.ForkedProcess.TheVariants.{Children, Trapped}
+
+-- the children with what they leave of the process, or the trap at which it will stand
+abbrev pub Comes : ForkedProcess → LocalState → Type 0
+Comes (Children ks remainder) l = fork l ≡ Parted (record (remainder_of l remainder) { forks = l.forks + 1 }) ks
+Comes (Trapped t) l = fork l ≡ StandsTrapped (trapped t (line_of l.frame.todo) l)

@@ -1,9 +1,0 @@
-// Why a process stands trapped.
-use shim_base::Trap;
-
-/// The kind of a trap, and the line of its statement.
-#[derive(Clone, Copy, Debug, PartialEq, Eq)]
-pub struct Stuck {
-    pub kind: Trap,
-    pub line: u32,
-}

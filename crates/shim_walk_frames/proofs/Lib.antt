@@ -1,0 +1,9 @@
+-- The lemmas of this crate.
+pub mod Rolls
+pub mod Sound
+pub mod Goes
+pub mod Cursors
+pub mod Went
+pub mod Returns
+pub mod Leaves
+pub mod Fitting

@@ -1,0 +1,37 @@
+-- What returns change of a process: its frames and its locations.
+use Rattle.std.specs.Prelude.{◌<◌, ◌^◌, ℕ, List, [], ◌∷◌, map, take, slice_get, if◌then◌else◌}
+use Rattle.shim_units.specs.declared.unit.Unit.{Unit as UnitOf}
+use Rattle.shim_units.specs.declared.unit.UStmt.{UStmt}
+use Rattle.shim_process.specs.Locations.{Locations}
+use Rattle.shim_process.specs.Todo.{On}
+use Rattle.shim_process.specs.LocalState.{Frame, unit_or}
+use Rattle.shim_process.specs.Ends.{went, is_over}
+use Rattle.shim_walk_frames.specs.FrameViews.{FrameView, frame_of}
+use Rattle.shim_walk_frames.specs.Successors.{size_all}
+
+-- the text of a unit
+abbrev pub text : List UnitOf → ℕ → List UStmt
+text units n = (unit_or (slice_get units n)).body
+
+-- a frame, in a program of these units
+abbrev pub shown : List UnitOf → FrameView → Frame
+shown units s = frame_of (text units s.unit) s
+
+pub record Depth : Type 0 where
+  pub frame : Frame
+  pub callers : List Frame
+  pub locations : Locations
+
+abbrev pub returned : List Frame → Frame → Locations → Depth
+returned [] f locations = record { frame = f; callers = []; locations = locations }
+returned (caller ∷ callers) f locations =
+    if is_over f.todo then returned callers (went On caller) (take f.floor locations)
+    else record { frame = f; callers = caller ∷ callers; locations = locations }
+
+abbrev pub depth_of : List UnitOf → FrameView → List FrameView → Locations → Depth
+depth_of units top callers locations = record { frame = shown units top; callers = map (shown units) callers; locations = locations }
+
+-- the numbers of each text fit 32 bits
+abbrev pub AllFit : List UnitOf → Type 0
+AllFit [] = Unit {0}
+AllFit (u ∷ us) = (size_all u.body < 2 ^ 32) × AllFit us

@@ -1,0 +1,245 @@
+// The frame of a unit that a process is in.
+ghost use Rattle.std.specs.Prelude.{◌≡◌, ◌<◌, ◌≤◌, ◌↔◌, ◌+◌, ◌^◌, [], ◌∷◌, ◌++◌, length, take, true, false, slice_get, IsTrue, IfOk, OnOk, OnErr};
+ghost use Rattle.shim_process.specs.Ends.{went};
+ghost use Rattle.shim_process.specs.Unwinding.{handling};
+ghost use Rattle.shim_walk_frames.specs.FrameViews.{frame_of};
+ghost use Rattle.shim_walk_frames.specs.Cursors.{IsCursor};
+ghost use Rattle.shim_walk_frames.specs.Turns.{successor_of};
+ghost use Rattle.shim_walk_frames.specs.Successors.{size_all};
+
+use crate::cursor::{Cursor, advance, cursor_of, go_at};
+use crate::handler::Handler;
+use crate::successors::Successor;
+use shim_base::NoMemory;
+use shim_units::UStmt;
+use std::alloc::Global;
+use std::marker::Model;
+
+/// One unit that the process is in, at a statement of it.
+#[derive(Drop)]
+pub struct Frame {
+    unit: u32,
+    at: u32,
+    cursor: Cursor,
+    halfway: bool,
+    slots: Vec<usize>,
+    labels: Vec<u32>,
+    floor: usize,
+    outer: u32,
+    places: Vec<Handler>,
+}
+
+impl Model for Frame {
+    ghost use Rattle.std.specs.Prelude.{◌<◌, ◌+◌, ◌^◌, length};
+    ghost use Rattle.shim_walk_frames.specs.FrameViews.{FrameView};
+
+    ghost Value = { FrameView };
+
+    ghost view = { λ a. record { unit = a.unit; at = a.at; cursor = a.cursor; halfway = a.halfway; slots = a.slots.items; labels = a.labels.items; floor = a.floor; outer = a.outer; places = a.places.items } };
+
+    ghost invariant = { λ a. a.outer + length a.places.items < 2 ^ 31 };
+}
+
+impl Frame {
+    /// At the first statement of a unit, of which this is the cursor.
+    pub fn enter(
+        alloc: Global,
+        unit: u32,
+        cursor: Cursor,
+        slots: Vec<usize>,
+        labels: Vec<u32>,
+        floor: usize,
+        outer: u32,
+    ) -> Frame
+        requires { outer < 2 ^ 31 }
+        ensures { result ≡ record { unit = unit; at = 0; cursor = cursor; halfway = false; slots = slots.items; labels = labels.items; floor = floor; outer = outer; places = [] } }
+    {
+        Frame {
+            unit,
+            at: 0,
+            cursor,
+            halfway: false,
+            slots,
+            labels,
+            floor,
+            outer,
+            places: Vec::new(alloc),
+        }
+    }
+
+    /// The number of its unit.
+    pub fn unit(&self) -> u32
+        ensures { result ≡ self.now.unit }
+    {
+        self.unit
+    }
+
+    /// The number of the statement at which it stands.
+    pub fn at(&self) -> u32
+        ensures { result ≡ self.now.at }
+    {
+        self.at
+    }
+
+    /// In which statement of the unit's own list that one is.
+    pub fn cursor(&self) -> Cursor
+        ensures { result ≡ self.now.cursor }
+    {
+        self.cursor
+    }
+
+    /// Whether the unit with this text is over.
+    pub fn is_over(&self, body: &[UStmt]) -> bool
+        requires { IsCursor body.now self.now.cursor self.now.at }
+        ensures { IsTrue result ↔ (size_all body.now ≤ self.now.at) }
+    {
+        self.cursor.index >= body.len()
+    }
+
+    /// Whether the first part of that statement is done.
+    pub fn halfway(&self) -> bool
+        ensures { result ≡ self.now.halfway }
+    {
+        self.halfway
+    }
+
+    /// The numbers of its variables' locations.
+    pub fn slots(&self) -> &[usize]
+        ensures { result.now ≡ self.now.slots }
+    {
+        self.slots.as_slice()
+    }
+
+    /// The labels of the exceptions that it was given.
+    pub fn labels(&self) -> &[u32]
+        ensures { result.now ≡ self.now.labels }
+    {
+        self.labels.as_slice()
+    }
+
+    /// How many locations there were when it was entered.
+    pub fn floor(&self) -> usize
+        ensures { result ≡ self.now.floor }
+    {
+        self.floor
+    }
+
+    /// How many exception places of the process were in force when it was entered.
+    pub fn outer(&self) -> u32
+        ensures { result ≡ self.now.outer }
+    {
+        self.outer
+    }
+
+    /// Its exception places in force, the outermost first.
+    pub fn places(&self) -> &[Handler]
+        ensures value { result.now ≡ self.now.places }
+        ensures bound { self.now.outer + length self.now.places < 2 ^ 31 }
+    {
+        self.places.as_slice()
+    }
+
+    /// How many exception places of the process are in force.
+    pub fn handlers(&self) -> u32
+        ensures value { result ≡ self.now.outer + length self.now.places }
+        ensures bound { result < 2 ^ 31 }
+    {
+        self.outer + self.places.len() as u32
+    }
+
+    /// The first part of the statement is done.
+    pub fn halve(&mut self)
+        ensures { self.new ≡ record self.old { halfway = true } }
+    {
+        self.halfway = true;
+    }
+
+    /// The place of the exception's `try`, at which the unit stands, comes into force. A refusal
+    /// changes nothing.
+    pub fn install(&mut self, exception: u32, name: u32, line: u32) -> Result<(), NoMemory>
+        ensures ok { OnOk result (self.new ≡ record self.old { places = self.old.places ++ record { exception = exception; name = name; line = line; at = self.old.at } ∷ [] }) }
+        ensures err { OnErr result (self.new ≡ self.old) }
+    {
+        if self.outer as usize + self.places.len() >= 2_147_483_647 {
+            return Err(NoMemory);
+        }
+        let at = self.at;
+        self.places.push(Handler {
+            exception,
+            name,
+            line,
+            at,
+        })?;
+        Ok(())
+    }
+
+    /// Another one of the same meaning.
+    pub fn copy(&self) -> Result<Frame, NoMemory>
+        ensures { IfOk result (λ copy. copy ≡ self.now) }
+    {
+        let alloc = *self.slots.allocator();
+        Ok(Frame {
+            unit: self.unit,
+            at: self.at,
+            cursor: self.cursor,
+            halfway: self.halfway,
+            slots: Vec::from_slice(alloc, self.slots.as_slice())?,
+            labels: Vec::from_slice(alloc, self.labels.as_slice())?,
+            floor: self.floor,
+            outer: self.outer,
+            places: Vec::from_slice(alloc, self.places.as_slice())?,
+        })
+    }
+
+    /// One of its exception places in force, counted from the outermost.
+    pub fn place(&self, index: usize) -> Option<Handler>
+        ensures { result ≡ slice_get self.now.places index }
+    {
+        self.places.get(index).copied()
+    }
+
+    // At another statement, with this cursor, and with the outermost places alone.
+    fn resume(&mut self, at: u32, cursor: Cursor, kept: usize)
+        ensures { self.new ≡ record self.old { at = at; cursor = cursor; places = take kept self.old.places } }
+    {
+        self.at = at;
+        self.cursor = cursor;
+        self.places.truncate(kept);
+    }
+
+    /// At the handler of the `try` of this place, which goes out of force.
+    #[tactic(auto, using(crate::proofs::Leaves::handles_none))]
+    pub fn handle(&mut self, body: &[UStmt], index: usize)
+        requires bound { size_all body.now < 2 ^ 32 }
+        requires cursor { IsCursor body.now self.old.cursor self.old.at }
+        ensures value { frame_of body.now self.new ≡ handling (slice_get (frame_of body.now self.old).places index) index (frame_of body.now self.old) }
+        ensures unit { self.new.unit ≡ self.old.unit }
+        ensures cursor { IsCursor body.now self.new.cursor self.new.at }
+    {
+        match self.place(index) {
+            None => {}
+            Some(place) => {
+                self.resume(place.at, cursor_of(body, place.at), index);
+                self.go(body, Successor::Second);
+            }
+        }
+    }
+
+    /// On from the statement at which it stands.
+    pub fn go(&mut self, body: &[UStmt], successor: Successor)
+        requires bound { size_all body.now < 2 ^ 32 }
+        requires cursor { IsCursor body.now self.old.cursor self.old.at }
+        ensures value { frame_of body.now self.new ≡ went (successor_of successor) (frame_of body.now self.old) }
+        ensures unit { self.new.unit ≡ self.old.unit }
+        ensures cursor { IsCursor body.now self.new.cursor self.new.at }
+    {
+        self.halfway = false;
+        let Some(position) = go_at(body, self.cursor, successor, self.at) else {
+            return;
+        };
+        self.at = position.at;
+        self.cursor = advance(body, self.cursor, position.at);
+        let kept = self.places.len().saturating_sub(position.left as usize);
+        self.places.truncate(kept);
+    }
+}
