@@ -1,12 +1,21 @@
 # Use: `make shim` proves what the program stands on and leaves ./shim, a binary of its own;
-# `make check` is the merge gate; `make install PREFIX=/usr/local` puts shim into PREFIX/bin.
+# `make try FILE=PATH` runs a file without any proof, by the kit's trial run, and `MODE=ref` takes the
+# other command; `make check` is the merge gate; `make install PREFIX=/usr/local` puts shim into PREFIX/bin.
 PREFIX ?= /usr/local
+MODE = run
 
-.PHONY: shim check install
+.PHONY: shim try check install
 
 shim:
 	cd crates/shim_main && rt run -- run data/puts_a.shim
 	cp crates/shim_main/out/shim_main shim.new && mv shim.new shim
+
+# The file goes to the trial run as a copy called source.shim, so any path will do.
+try: export TRIED := $(value FILE)
+try:
+	@test -f "$$TRIED" && test -r "$$TRIED" || { echo 'Use: make try FILE=PATH, the path of a file that can be read' >&2; exit 2; }
+	@echo 'UNPROVED: a trial run of the code as it stands, in which nothing is proved. It takes a minute or two of processor time.' >&2
+	@file=$$(realpath -- "$$TRIED") && cd crates/shim_main && rt try --data "source.shim=$$file" -- $(MODE) source.shim
 
 check:
 	.ci/run
