@@ -14,7 +14,7 @@ look() {
   ticks=$(getconf CLK_TCK)
   while sleep 0.5; do
     for process in /proc/[0-9]*; do
-      words=$(tr '\0' ' ' <"$process/cmdline" 2>/dev/null) || continue
+      words=$({ tr '\0' ' ' <"$process/cmdline"; } 2>/dev/null) || continue
       case $words in *rattle\ *--crate-name*) ;; *) continue ;; esac
       crate=${words#*--crate-name }
       crate=${crate%% *}
@@ -22,7 +22,7 @@ look() {
       case $words in *--test\ *) kind=tests ;; esac
       case $(readlink "$process/cwd" 2>/dev/null) in */rt-edit*) kind=edits ;; esac
       # the time of a process is that of all its threads
-      read -r _ _ _ _ _ _ _ _ _ _ _ _ _ user system _ <"$process/stat" 2>/dev/null || continue
+      { read -r _ _ _ _ _ _ _ _ _ _ _ _ _ user system _ <"$process/stat"; } 2>/dev/null || continue
       echo "${process#/proc/} $crate $kind $(((user + system) * 1000 / ticks))"
     done
   done >>"$room/seen"
