@@ -9,7 +9,7 @@ use crate::argument::Argument;
 use crate::argument_fault::ArgumentFault;
 use crate::location::Location;
 use crate::locations::number_of;
-use crate::value::value_of;
+use crate::value::evaluate;
 use shim_base::{List, NoMemory, Trap, Ty};
 use shim_scopes::UParam;
 use shim_syntax::Sort;
@@ -39,7 +39,7 @@ fn argument(
             let number = number_of(slots, *slot);
             Ok(Argument::ByCopy(type_of(&param.sort), number))
         }
-        Arg::Fresh(expr) => match value_of(expr, locations, slots) {
+        Arg::Fresh(expr) => match evaluate(expr, locations, slots) {
             Ok(value) => Ok(Argument::ByValue(type_of(&param.sort), param.name, value)),
             Err(trap) => Err(trap),
         },

@@ -1,5 +1,5 @@
 // The locations and the slots that a call or a branch makes for its arguments.
-ghost use Rattle.std.specs.Prelude.{◌≡◌, ◌∷◌, ◌++◌, ◌+◌, [], List as ListOf, if◌then◌else◌, IfOk, OnOk};
+ghost use Rattle.std.specs.Prelude.{◌≡◌, ◌∷◌, ◌++◌, ◌+◌, [], List as ListOf, Some, if◌then◌else◌, IfOk, OnOk};
 ghost use Rattle.std.specs.Arc.{arc_value};
 ghost use Rattle.shim_process.specs.Arguments.{Argument as ArgumentOf, copied, new_location, branch_locations, call_locations, channels_of, empties, new_channels};
 ghost use Rattle.shim_process.specs.Locations.{Copy, at_number, moved, with_moved};
@@ -52,6 +52,23 @@ pub fn fresh(
     Ok(Location::new(chan, ty, value))
 }
 
+// Puts a new channel's own variable behind these; the answer is how many channels the process has made with it.
+fn push_fresh(
+    passed: &mut List<Option<Location>>,
+    home: &Arc<Path>,
+    made: u32,
+    name: u32,
+    ty: Ty,
+    value: i64,
+) -> Result<u32, NoMemory>
+    ensures locations { OnOk result (passed.new ≡ passed.old ++ Some (new_location (arc_value home.now) made name ty value) ∷ []) }
+    ensures made { IfOk result (λ more. more ≡ made + 1) }
+{
+    passed.push(Some(fresh(home, made, name, ty, value)?))?;
+    let more = made.checked_add(1).ok_or(NoMemory)?;
+    Ok(more)
+}
+
 // One argument of a call; the answer is how many channels the process has made with it.
 fn call_location(
     passed: &mut List<Option<Location>>,
@@ -69,11 +86,7 @@ fn call_location(
             passed.push(copied(locations, *number, *ty)?)?;
             Ok(made)
         }
-        Argument::ByValue(ty, name, value) => {
-            passed.push(Some(fresh(home, made, *name, *ty, *value)?))?;
-            let more = made.checked_add(1).ok_or(NoMemory)?;
-            Ok(more)
-        }
+        Argument::ByValue(ty, name, value) => push_fresh(passed, home, made, *name, *ty, *value),
     }
 }
 
@@ -152,11 +165,7 @@ fn branch_location(
             passed.push(copied(locations, *number, *ty)?)?;
             Ok(made)
         }
-        Argument::ByValue(ty, name, value) => {
-            passed.push(Some(fresh(home, made, *name, *ty, *value)?))?;
-            let more = made.checked_add(1).ok_or(NoMemory)?;
-            Ok(more)
-        }
+        Argument::ByValue(ty, name, value) => push_fresh(passed, home, made, *name, *ty, *value),
     }
 }
 

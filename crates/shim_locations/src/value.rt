@@ -9,30 +9,30 @@ use shim_base::{BinOp, Trap, apply, apply1};
 use shim_scopes::UExpr;
 
 /// The value where the slots have the locations of these numbers, or the trap that comes first.
-pub fn value_of(expr: &UExpr, locations: &[Option<Location>], slots: &[usize]) -> Result<i64, Trap>
+pub fn evaluate(expr: &UExpr, locations: &[Option<Location>], slots: &[usize]) -> Result<i64, Trap>
     ensures { result ≡ value expr.now (env_of locations.now slots.now) }
 {
     match expr {
         UExpr::Number(number) => Ok(*number),
         UExpr::Var(slot) => Ok(value_in(locations, slots, *slot)),
-        UExpr::Unary(op, operand) => apply1(*op, value_of(operand, locations, slots)?),
+        UExpr::Unary(op, operand) => apply1(*op, evaluate(operand, locations, slots)?),
         UExpr::Binary(BinOp::And, left, right) => {
-            if value_of(left, locations, slots)? == 0 {
+            if evaluate(left, locations, slots)? == 0 {
                 return Ok(0);
             }
-            let other = value_of(right, locations, slots)?;
+            let other = evaluate(right, locations, slots)?;
             Ok(i64::from(other != 0))
         }
         UExpr::Binary(BinOp::Or, left, right) => {
-            if value_of(left, locations, slots)? != 0 {
+            if evaluate(left, locations, slots)? != 0 {
                 return Ok(1);
             }
-            let other = value_of(right, locations, slots)?;
+            let other = evaluate(right, locations, slots)?;
             Ok(i64::from(other != 0))
         }
         UExpr::Binary(op, left, right) => {
-            let first = value_of(left, locations, slots)?;
-            let second = value_of(right, locations, slots)?;
+            let first = evaluate(left, locations, slots)?;
+            let second = evaluate(right, locations, slots)?;
             apply(*op, first, second)
         }
     }

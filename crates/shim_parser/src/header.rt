@@ -1,5 +1,6 @@
 // The parentheses of a `for`.
-ghost use Rattle.std.specs.Prelude.{◌≤◌, [], ◌∷◌, suc, ◌+◌};
+ghost use Rattle.std.specs.Prelude.{◌≡◌, ◌≤◌, [], ◌∷◌, suc, ◌+◌, IfOk};
+ghost use Rattle.shim_syntax.specs.declared.tree.What.TheVariants.{Assign};
 ghost use Rattle.shim_syntax.specs.Limits.{limits};
 ghost use Rattle.shim_syntax.specs.Grammar.{IsFirst, IsTest, IsStep};
 ghost use Rattle.shim_grammar.specs.Machine.{Fixed, Expression, Operators, First, Test, Step};
@@ -15,7 +16,7 @@ use crate::name_value::Declared;
 use crate::parts::{alone, punctuation};
 use crate::reader::Reader;
 use crate::terminal::Terminal;
-use shim_base::{List, Name, Sign};
+use shim_base::{List, Name, NoMemory, Sign};
 use shim_grammar::Punctuation;
 use shim_syntax::{Expr, Sort, Stmt, What};
 use std::alloc::Global;
@@ -32,6 +33,14 @@ fn value_behind_equal(
 {
     punctuation(tokens, Punctuation::Equal)?;
     expression_before(alloc, tokens, level, behind)
+}
+
+/// An assignment on this line, alone.
+fn assignment(alloc: Global, line: u32, name: Name, value: Expr) -> Result<List<Stmt>, NoMemory>
+    ensures { IfOk result (λ list. list ≡ record { line = line; what = Assign name value } ∷ []) }
+{
+    let what = What::Assign(name, value);
+    alone(alloc, Stmt { line, what })
 }
 
 /// The first statement of a `for`, which has this level, with its semicolon.
@@ -62,14 +71,8 @@ fn first_statement(alloc: Global, tokens: &mut Reader, level: u16) -> Result<Lis
             tokens.enter(level)?;
             tokens.advance();
             let value = value_behind_equal(alloc, tokens, level, Punctuation::Semicolon)?;
-            let what = What::Assign(Name::new(alloc, text)?, value);
-            Ok(alone(
-                alloc,
-                Stmt {
-                    line: token.line,
-                    what,
-                },
-            )?)
+            let name = Name::new(alloc, text)?;
+            Ok(assignment(alloc, token.line, name, value)?)
         }
         _ => Err(tokens.unexpected()),
     }
@@ -102,14 +105,8 @@ fn step(alloc: Global, tokens: &mut Reader, level: u16) -> Result<List<Stmt>, Pa
             tokens.enter(level)?;
             tokens.advance();
             let value = value_behind_equal(alloc, tokens, level, Punctuation::RightParen)?;
-            let what = What::Assign(Name::new(alloc, text)?, value);
-            Ok(alone(
-                alloc,
-                Stmt {
-                    line: token.line,
-                    what,
-                },
-            )?)
+            let name = Name::new(alloc, text)?;
+            Ok(assignment(alloc, token.line, name, value)?)
         }
         _ => Err(tokens.unexpected()),
     }

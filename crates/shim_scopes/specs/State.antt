@@ -6,6 +6,11 @@ use Rattle.shim_scopes.specs.declared.fault.ScopeKind.{ScopeKind}
 use Rattle.shim_scopes.specs.declared.fault.ScopeFault.{ScopeFault}
 use Rattle.shim_scopes.specs.declared.fault.ScopeFault.TheVariants.{Refused, NoMemory}
 use Rattle.shim_scopes.specs.declared.scope.Scope.{Scope}
+use Rattle.shim_scopes.specs.declared.simple.Store.{Store}
+use Rattle.shim_scopes.specs.declared.simple.Store.TheVariants as store
+use Rattle.shim_scopes.specs.declared.tree.UExpr.{UExpr}
+use Rattle.shim_scopes.specs.declared.tree.RWhat.{RWhat}
+use Rattle.shim_scopes.specs.declared.tree.RWhat.TheVariants.{Assign, NextAssign}
 use Rattle.shim_syntax.specs.Names.{Texts, number_of}
 use Rattle.shim_scopes.specs.Refusals.{Refusal}
 use Rattle.shim_scopes.specs.Statements.{Whole, Around, Before, Meant, declared}
@@ -46,6 +51,11 @@ pub record Kept (start : ℕ) (old now : Scope) : Type 0 where
   pub long : start ≤ length now.visible
   pub handled : now.handled ≡ old.handled
   pub throws : now.throws ≡ old.throws
+
+-- the statement that gives a variable a value, of its slot and the expression
+abbrev pub stored : Store → ℕ → UExpr → RWhat
+stored store.Assign = Assign
+stored store.NextAssign = NextAssign
 
 -- some results before those that are meant
 abbrev pub behind : {T : Type 0} → List T → Meant (List T) → Meant (List T)

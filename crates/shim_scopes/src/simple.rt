@@ -2,9 +2,9 @@
 ghost use Rattle.std.specs.Prelude.{◌≡◌, ◌+◌, ◌≤◌, length, IfOk, OnOk};
 ghost use Rattle.std.specs.Option.{option_copied};
 ghost use Rattle.shim_syntax.specs.declared.tree.Sort.TheVariants.{Value};
-ghost use Rattle.shim_scopes.specs.Statements.{bind_declare, bind_assign, bind_next_assign, bind_next, bind_assign_next, bind_get, bind_put, bind_throw, bind_test, declared_in};
+ghost use Rattle.shim_scopes.specs.Statements.{bind_declare, bind_store, bind_next, bind_assign_next, bind_get, bind_put, bind_throw, bind_test, declared_in};
 ghost use Rattle.shim_scopes.specs.Refusals.{Gives};
-ghost use Rattle.shim_scopes.specs.State.{Answers, HasRoom, IsDeclared, IsNumber, IsTried, Kept, around_of, before_of, whole};
+ghost use Rattle.shim_scopes.specs.State.{Answers, HasRoom, IsDeclared, IsNumber, IsTried, Kept, around_of, before_of, stored, whole};
 
 use crate::check::check;
 use crate::fault::{ScopeFault, ScopeKind};
@@ -150,39 +150,34 @@ pub fn resolve_put(
     Ok(RWhat::Put(slot_in(visible, output), expr))
 }
 
-#[tactic(auto, using(crate::proofs::Seams::seam))]
-pub fn resolve_assign(
-    alloc: Global,
-    scope: &Scope,
-    start: usize,
-    line: u32,
-    name: &Name,
-    expr: &Expr,
-) -> Result<RWhat, ScopeFault>
-    ensures { Answers result (before_of start scope.now) (bind_assign name.now expr.now line (around_of start scope.now) (before_of start scope.now)) }
+/// The two statements that give a variable the value of an expression.
+#[derive(Clone, Copy, Debug, PartialEq, Eq)]
+pub enum Store {
+    Assign,
+    NextAssign,
+}
+
+// The statement, of a slot and an expression.
+fn stored(store: Store, slot: u32, expr: UExpr) -> RWhat
+    ensures { result ≡ stored store slot expr }
 {
-    let visible = scope.visible.as_slice();
-    let unknown = first_of(
-        find_unknown_name(visible, name),
-        find_unknown(visible, expr),
-    );
-    check(alloc, line, ScopeKind::UnknownName, unknown)?;
-    let wrong = first_of(find_stream_name(visible, name), find_stream(visible, expr));
-    check(alloc, line, ScopeKind::WrongKind, wrong)?;
-    let expr = resolve_expr(alloc, visible, expr)?;
-    Ok(RWhat::Assign(slot_in(visible, name), expr))
+    match store {
+        Store::Assign => RWhat::Assign(slot, expr),
+        Store::NextAssign => RWhat::NextAssign(slot, expr),
+    }
 }
 
 #[tactic(auto, using(crate::proofs::Seams::seam))]
-pub fn resolve_next_assign(
+pub fn resolve_store(
     alloc: Global,
     scope: &Scope,
     start: usize,
     line: u32,
+    store: Store,
     name: &Name,
     expr: &Expr,
 ) -> Result<RWhat, ScopeFault>
-    ensures { Answers result (before_of start scope.now) (bind_next_assign name.now expr.now line (around_of start scope.now) (before_of start scope.now)) }
+    ensures { Answers result (before_of start scope.now) (bind_store (stored store) name.now expr.now line (around_of start scope.now) (before_of start scope.now)) }
 {
     let visible = scope.visible.as_slice();
     let unknown = first_of(
@@ -193,7 +188,7 @@ pub fn resolve_next_assign(
     let wrong = first_of(find_stream_name(visible, name), find_stream(visible, expr));
     check(alloc, line, ScopeKind::WrongKind, wrong)?;
     let expr = resolve_expr(alloc, visible, expr)?;
-    Ok(RWhat::NextAssign(slot_in(visible, name), expr))
+    Ok(stored(store, slot_in(visible, name), expr))
 }
 
 // Puts a declaration into the block.

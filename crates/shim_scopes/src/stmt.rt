@@ -13,8 +13,8 @@ use crate::fault::{ScopeFault, ScopeKind};
 use crate::lookup::{find_stream_in_option, find_unknown_in_option, resolve_option};
 use crate::scope::{Bound, Local, Scope, cut};
 use crate::simple::{
-    begin_try, resolve_assign, resolve_assign_next, resolve_declare, resolve_get, resolve_next,
-    resolve_next_assign, resolve_put, resolve_test, resolve_throw,
+    Store, begin_try, resolve_assign_next, resolve_declare, resolve_get, resolve_next, resolve_put,
+    resolve_store, resolve_test, resolve_throw,
 };
 use crate::tree::{RBranch, RBranchWhat, RStmt, RWhat};
 use crate::word::number;
@@ -247,9 +247,25 @@ fn resolve_what(
         What::Declare(ty, name, expr) => resolve_declare(
             alloc, functions, names, scope, start, line, *ty, name, expr,
         ),
-        What::Assign(name, expr) => resolve_assign(alloc, scope, start, line, name, expr),
+        What::Assign(name, expr) => resolve_store(
+            alloc,
+            scope,
+            start,
+            line,
+            Store::Assign,
+            name,
+            expr,
+        ),
         What::Next(name) => resolve_next(alloc, scope, start, line, name),
-        What::NextAssign(name, expr) => resolve_next_assign(alloc, scope, start, line, name, expr),
+        What::NextAssign(name, expr) => resolve_store(
+            alloc,
+            scope,
+            start,
+            line,
+            Store::NextAssign,
+            name,
+            expr,
+        ),
         What::AssignNext(name, source) => resolve_assign_next(
             alloc, scope, start, line, name, source,
         ),

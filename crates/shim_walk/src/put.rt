@@ -8,14 +8,14 @@ ghost use Rattle.shim_walk.specs.StatementContexts.{have};
 
 use crate::next_action::StatementContext;
 use shim_base::Trap;
-use shim_locations::value::value_of;
+use shim_locations::value::evaluate;
 use shim_units::{UStmt, UWhat};
 
 fn what_gives(stmt: &UStmt, context: &StatementContext<'_>) -> Result<i64, Trap>
     ensures { result ≡ gives (out-UWhat stmt.now.what) (have context.now) }
 {
     match &stmt.what {
-        UWhat::Put(_, expr) => value_of(expr, context.locations, context.slots),
+        UWhat::Put(_, expr) => evaluate(expr, context.locations, context.slots),
         _ => Ok(0),
     }
 }

@@ -11,7 +11,7 @@ ghost use Rattle.shim_walk_frames.specs.Turns.{successor_of};
 use crate::action::Action;
 use shim_base::{Trap, Ty};
 use shim_locations::location::Location;
-use shim_locations::value::value_of;
+use shim_locations::value::evaluate;
 use shim_scopes::UExpr;
 use shim_walk_frames::successors::Successor;
 
@@ -43,7 +43,7 @@ fn value_or(
 {
     match expr {
         None => Ok(absent),
-        Some(expr) => value_of(expr, locations, slots),
+        Some(expr) => evaluate(expr, locations, slots),
     }
 }
 
@@ -51,7 +51,7 @@ fn value_or(
 pub fn assign(slot: u32, expr: &UExpr, locations: &[Option<Location>], slots: &[usize]) -> Action
     ensures { action_of result ≡ step.action (step.Store slot) (value expr.now (env_of locations.now slots.now)) }
 {
-    match value_of(expr, locations, slots) {
+    match evaluate(expr, locations, slots) {
         Ok(value) => Action::Store(slot, value),
         Err(trap) => Action::Trapped(trap),
     }
@@ -66,7 +66,7 @@ pub fn assign_first(
 ) -> Action
     ensures { action_of result ≡ step.action (step.StoreFirst slot) (value expr.now (env_of locations.now slots.now)) }
 {
-    match value_of(expr, locations, slots) {
+    match evaluate(expr, locations, slots) {
         Ok(value) => Action::StoreFirst(slot, value),
         Err(trap) => Action::Trapped(trap),
     }
@@ -91,7 +91,7 @@ pub fn test(
 ) -> Action
     ensures { action_of result ≡ step.action (λ v. step.Go (if is_zero v then successor_of other else todo.First)) (value expr.now (env_of locations.now slots.now)) }
 {
-    tested(value_of(expr, locations, slots), other)
+    tested(evaluate(expr, locations, slots), other)
 }
 
 /// The test of a `for`; an absent one holds.
