@@ -1,12 +1,13 @@
 -- Each identifier of a program stands in the list of its names, at its number.
-use Rattle.std.proofs.Common.{ℕ, ◌≡◌, ◌∙◌, ◌<◌, ◌⊎◌, inl, inr, List, [], ◌∷◌, ◌++◌, Option, Some, None, Bool, true, false, cond, length, position, map, refl, sym, ap, subst}
+use Rattle.std.proofs.Common.{ℕ, ◌≡◌, ◌∙◌, ◌<◌, ◌≤◌, ◌⊎◌, inl, inr, List, [], ◌∷◌, ◌++◌, Option, Some, None, Bool, true, false, cond, length, position, map, refl, sym, ap, subst}
+use Rattle.std.specs.Prelude.{get_or}
 use Rattle.std.specs.List.{find, position_or_len, slice_get}
 use Rattle.std.specs.Option.{option_or}
 use Rattle.std.specs.Str.{bytes_eq}
-use Rattle.std.proofs.lemmas.Bool.{cases_Bool, lt-ltb}
+use Rattle.std.proofs.lemmas.Bool.{cases_Bool, le-ltb, lt-ltb}
 use Rattle.std.proofs.lemmas.List.{get_or-map}
 use Rattle.std.proofs.lemmas.List.Folds.{find-append, find_at}
-use Rattle.std.proofs.lemmas.Option.{slice_get_within, get_or_from_slice_get}
+use Rattle.std.proofs.lemmas.Option.{slice_get_cases, slice_get_within, get_or_from_slice_get}
 use Rattle.std.proofs.lemmas.Slice.Eq.{bytes_eq-Decides}
 use Rattle.shim_syntax.specs.declared.tree.Function.{Function}
 use Rattle.shim_syntax.specs.Names.{Texts, unless_there, with_name, with_texts, with_functions, position_else, number_of}
@@ -36,6 +37,21 @@ stands_at p xs y h =
     let within = slice_get_within xs (position_or_len p xs) y at in
     record { within = within; place = ap (λ (b : Bool). position_else (length xs) (cond b (Some (position_or_len p xs)) None)) (lt-ltb (position_or_len p xs) (length xs) within); at = at }
 
+position_by : {X : Type 0} (p : X → Bool) (xs : List X) (n : ℕ)
+    → ((x : X) × (position_or_len p xs < length xs) × (slice_get xs (position_or_len p xs) ≡ Some x) × (get_or xs (position_or_len p xs) x ≡ x)) ⊎ ((length xs ≤ position_or_len p xs) × (slice_get xs (position_or_len p xs) ≡ None))
+    → position p xs ≡ Some n → (y : X) × (slice_get xs n ≡ Some y) × (p y ≡ true)
+position_by p xs n (inl i) h =
+    let there : Some (position_or_len p xs) ≡ Some n = sym (ap (λ (b : Bool). cond b (Some (position_or_len p xs)) None) (lt-ltb (position_or_len p xs) (length xs) i.1)) ∙ h in
+    let same : position_or_len p xs ≡ n = cc there in
+    (i.0, ap (slice_get xs) (sym same) ∙ i.2, found_passes p xs i.0 (find_at p xs ∙ i.2))
+position_by p xs n (inr i) h =
+    let none : None ≡ Some n = sym (ap (λ (b : Bool). cond b (Some (position_or_len p xs)) None) (le-ltb (position_or_len p xs) (length xs) i.0)) ∙ h in
+    absurd (cc none)
+
+-- where the first that passes is told to stand, one that passes stands
+pub position_stands : {X : Type 0} (p : X → Bool) (xs : List X) (n : ℕ) → position p xs ≡ Some n → (y : X) × (slice_get xs n ≡ Some y) × (p y ≡ true)
+position_stands p xs n h = position_by p xs n (slice_get_cases xs (position_or_len p xs)).1 h
+
 -- one of the names is this one
 abbrev IsThere : Texts → List ℕ → Type 0
 IsThere names x = (y : List ℕ) × (find (λ n. bytes_eq n x) names ≡ Some y)
@@ -50,6 +66,10 @@ is_known names x t =
     let there : name_at names (position_or_len (λ n. bytes_eq n x) names) ≡ t.0 = get_or_from_slice_get names (position_or_len (λ n. bytes_eq n x) names) t.0 [] s.at in
     ap (name_at names) s.place ∙ there ∙ (bytes_eq-Decides t.0 x).0 (found_passes (λ n. bytes_eq n x) names t.0 t.1)
 
+-- the function that is found has the name
+pub function_named : (fs : List Function) (x : List ℕ) (f : Function) → function_of fs x ≡ Some f → f.name ≡ x
+function_named fs x f h = (bytes_eq-Decides f.name x).0 (found_passes (λ (f : Function). bytes_eq f.name x) fs f h)
+
 -- a function stands at its number, too
 pub function_at : (fs : List Function) (x : List ℕ) (f : Function) → function_of fs x ≡ Some f → name_at (map (λ (f : Function). f.name) fs) (function_number fs x) ≡ x
 function_at fs x f h =
@@ -57,7 +77,7 @@ function_at fs x f h =
     let s = stands_at p fs f h in
     let there : name_at (map (λ (f : Function). f.name) fs) (position_or_len p fs) ≡ f.name =
     get_or-map (λ (f : Function). f.name) fs (position_or_len p fs) f [] s.within ∙ ap (λ (f : Function). f.name) (get_or_from_slice_get fs (position_or_len p fs) f f s.at) in
-    ap (name_at (map (λ (f : Function). f.name) fs)) s.place ∙ there ∙ (bytes_eq-Decides f.name x).0 (found_passes p fs f h)
+    ap (name_at (map (λ (f : Function). f.name) fs)) s.place ∙ there ∙ function_named fs x f h
 
 there_still_by : (x y : List ℕ) (known : Texts) (o : Option (List ℕ)) → IsThere known x → IsThere (unless_there o (known ++ y ∷ []) known) x
 there_still_by x y known None t = (t.0, find-append (λ n. bytes_eq n x) known (y ∷ []) ∙ ap (λ o. option_or o (find (λ n. bytes_eq n x) (y ∷ []))) t.1)

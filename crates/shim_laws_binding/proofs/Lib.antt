@@ -14,3 +14,9 @@ pub mod Known
 pub mod NamedFunctions
 pub mod OccurrenceSteps
 pub mod NamesRead
+pub mod ScopeExprs
+pub mod ScopeParts
+pub mod ScopeStmts
+pub mod ScopeFunctions
+pub mod Determined
+pub mod OnlyForm

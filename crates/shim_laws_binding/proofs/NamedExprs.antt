@@ -10,14 +10,11 @@ use Rattle.shim_scopes.specs.declared.scope.Handled.{Handled}
 use Rattle.shim_scopes.specs.declared.tree.UExpr.{UExpr}
 use Rattle.shim_scopes.specs.declared.tree.UExpr.TheVariants as u
 use Rattle.shim_scopes.specs.Binding.{unless_bound, unknown, unknown_step, unknown_in, slot_at, slot_of, placed_step, placed, unknown_in_all, placed_all, unknown_in_option, placed_option, number_at, exception_number, unless_handled, unhandled}
-use Rattle.shim_laws_binding.specs.Innermost.{HasNone, exception_name}
+use Rattle.shim_laws_binding.specs.Innermost.{HasNone, exception_name, local_name}
 use Rattle.shim_laws_binding.specs.Naming.{expr_named, option_named}
 use Rattle.shim_laws_binding.proofs.InnermostLemmas.{found, Found, is_found}
 use Rattle.shim_laws_binding.proofs.Lists.{Each, at_place, neither}
 use Rattle.shim_laws_binding.proofs.NamedSteps.{named_number, named_variable, named_unary, named_binary}
-
-abbrev local_name : Local → List ℕ
-local_name l = l.name
 
 -- the slot of a declaration has its name
 abbrev pub VariableNamed : (ℕ → List ℕ) → Local → Type 0
@@ -60,31 +57,31 @@ known_by x ls more (Some l) None f g e = absurd (none_at x f.outer l f.inner (su
 pub known_behind : (ls more : List Local) (x : List ℕ) → unknown ls x ≡ None → unknown (ls ++ more) x ≡ None
 known_behind ls more x e = known_by x ls more (found local_name x ls) (found local_name x (ls ++ more)) (is_found local_name x ls) (is_found local_name x (ls ++ more)) e
 
-unknown_variable : (around : List Local) (x : List ℕ) → unknown_in around (e.Var x) ≡ unknown around x
+pub unknown_variable : (around : List Local) (x : List ℕ) → unknown_in around (e.Var x) ≡ unknown around x
 unfolding unknown_in roll-Expr denote.Hole.Carrier.roll
 unknown_variable around x = fold-roll-Expr (Option (List ℕ)) (unknown_step around) (Expr-F.Var x)
 
-unknown_unary : (around : List Local) (op : UnOp) (a : Expr) → unknown_in around (e.Unary op a) ≡ unknown_in around a
+pub unknown_unary : (around : List Local) (op : UnOp) (a : Expr) → unknown_in around (e.Unary op a) ≡ unknown_in around a
 unfolding unknown_in roll-Expr denote.Hole.Carrier.roll
 unknown_unary around op a = fold-roll-Expr (Option (List ℕ)) (unknown_step around) (Expr-F.Unary op a)
 
-unknown_binary : (around : List Local) (op : BinOp) (a b : Expr) → unknown_in around (e.Binary op a b) ≡ option_or (unknown_in around a) (unknown_in around b)
+pub unknown_binary : (around : List Local) (op : BinOp) (a b : Expr) → unknown_in around (e.Binary op a b) ≡ option_or (unknown_in around a) (unknown_in around b)
 unfolding unknown_in roll-Expr denote.Hole.Carrier.roll
 unknown_binary around op a b = fold-roll-Expr (Option (List ℕ)) (unknown_step around) (Expr-F.Binary op a b)
 
-placed_number : (around : List Local) (n : ℤ) → placed around (e.Number n) ≡ u.Number n
+pub placed_number : (around : List Local) (n : ℤ) → placed around (e.Number n) ≡ u.Number n
 unfolding placed roll-Expr denote.Hole.Carrier.roll
 placed_number around n = fold-roll-Expr UExpr (placed_step around) (Expr-F.Number n)
 
-placed_variable : (around : List Local) (x : List ℕ) → placed around (e.Var x) ≡ u.Var (slot_of around x)
+pub placed_variable : (around : List Local) (x : List ℕ) → placed around (e.Var x) ≡ u.Var (slot_of around x)
 unfolding placed roll-Expr denote.Hole.Carrier.roll
 placed_variable around x = fold-roll-Expr UExpr (placed_step around) (Expr-F.Var x)
 
-placed_unary : (around : List Local) (op : UnOp) (a : Expr) → placed around (e.Unary op a) ≡ u.Unary op (placed around a)
+pub placed_unary : (around : List Local) (op : UnOp) (a : Expr) → placed around (e.Unary op a) ≡ u.Unary op (placed around a)
 unfolding placed roll-Expr denote.Hole.Carrier.roll
 placed_unary around op a = fold-roll-Expr UExpr (placed_step around) (Expr-F.Unary op a)
 
-placed_binary : (around : List Local) (op : BinOp) (a b : Expr) → placed around (e.Binary op a b) ≡ u.Binary op (placed around a) (placed around b)
+pub placed_binary : (around : List Local) (op : BinOp) (a b : Expr) → placed around (e.Binary op a b) ≡ u.Binary op (placed around a) (placed around b)
 unfolding placed roll-Expr denote.Hole.Carrier.roll
 placed_binary around op a b = fold-roll-Expr UExpr (placed_step around) (Expr-F.Binary op a b)
 

@@ -107,7 +107,13 @@ tree_back n H back s over u g ds ts f up same k a b r h named t =
 pub behind_named : (n : Naming) (a : Around) (b c : Before) → IsNamed n a b → Each (VariableNamed n.variable) c.own → IsNamed n a c
 behind_named n a b c named own = record { outer = named.outer; own = own; handled = named.handled }
 
-same_known : (around : List Local) (x : List ℕ) → unknown around x ≡ None → unknown around x ≡ None
+-- what is known with what is sure to be declared is so behind all that was
+pub known_grown : (names : Texts) (ls : List Local) (ds : Declarations) (ts : Texts) (a : Around) (b c : Before) → IsGrown names ls ds ts b c → b.own ≡ [] → (x : List ℕ) → unknown (a.outer ++ ls) x ≡ None → unknown (visible a c) x ≡ None
+known_grown names ls ds ts a b c g none x e =
+    let whole : visible a c ≡ (a.outer ++ ls) ++ g.own.more = ap (λ l. a.outer ++ l) g.own.whole ∙ ap (λ l. a.outer ++ (l ++ (ls ++ g.own.more))) none ∙ sym (append_assoc a.outer ls g.own.more) in
+    subst (λ (v : List Local). unknown v x ≡ None) (sym whole) (known_behind (a.outer ++ ls) g.own.more x e)
+
+pub same_known : (around : List Local) (x : List ℕ) → unknown around x ≡ None → unknown around x ≡ None
 same_known around x e = e
 
 module _ (n : Naming) (H : RCall → Type 0) (w : Whole) where
@@ -332,11 +338,9 @@ module _ (n : Naming) (H : RCall → Type 0) (w : Whole) where
       let named_q = behind_named n a b q.0.before named qb.own in
       let t_q = next_to_come n w.names (ks (length p.0.before.slots)) a p.0.before q.0.before es fs us vs (gg a p.0.before q.0 q.1) t_p in
       let ob = block_back n H (bodies n) z fs vs h m a q.0.before o.0 o.1 named_q t_q in
-      let whole : visible a p.0.before ≡ (a.outer ++ declares (length b.slots)) ++ grown.own.more =
-      ap (λ l. a.outer ++ l) grown.own.whole ∙ ap (λ l. a.outer ++ (l ++ (declares (length b.slots) ++ grown.own.more))) none ∙ sym (append_assoc a.outer (declares (length b.slots)) grown.own.more) in
       let test_is : option_named n.variable (placed_option (visible a p.0.before) test) ≡ test =
       option_back n.variable (a.outer ++ declares (length b.slots)) (visible a p.0.before)
-      (λ x e. subst (λ (v : List Local). unknown v x ≡ None) (sym whole) (known_behind (a.outer ++ declares (length b.slots)) grown.own.more x e)) (all_named n a p.0.before named_p) test known in
+      (known_grown w.names (declares (length b.slots)) ds ts a b p.0.before grown none) (all_named n a p.0.before named_p) test known in
       answered n H (whats n) (st.For s test u z) (bt.For p.0.tree (placed_option (visible a p.0.before) test) q.0.tree o.0.tree) o.0.before r o.2
       (named_for n p.0.tree (placed_option (visible a p.0.before) test) q.0.tree o.0.tree
       ∙ ap (λ y. st.For y (option_named n.variable (placed_option (visible a p.0.before) test)) (stmts_named n q.0.tree) (stmts_named n o.0.tree)) pb.tree

@@ -55,7 +55,7 @@ pub function_in_order : (w : Whole) (f : Function) (r : RFunction) → IsMade w 
 function_in_order w f r m =
     let g = all_grown w f m.body m.bound in
     subst (λ (x : RFunction). IsInTextOrder w.names f x) m.made
-    (record { slots = g.slots; slot_names = g.slot_names; throws = refl; tries = g.tries; params = refl })
+    (record { line = refl; name = refl; slots = g.slots; slot_names = g.slot_names; throws = refl; tries = g.tries; params = refl })
 
 functions_in_order : (w : Whole) (earlier : Texts) (fs : List Function) (rs : List RFunction) → bind_functions w earlier fs ≡ Ok rs → AreInTextOrder w.names fs rs
 functions_in_order w earlier [] rs e = let none : [] ≡ rs = cc in subst (λ (l : List RFunction). AreInTextOrder w.names [] l) none tt
@@ -71,6 +71,7 @@ whole_of p = record { functions = p.functions; names = with_functions p.function
 
 -- the functions of a program that is bound
 pub record IsForm (p : Program) (form : Form) : Type 0 where
+  pub main : main_of p.functions ≡ Ok form.main
   pub bound : bind_functions (whole_of p) [] p.functions ≡ Ok form.functions
   pub names : with_functions p.functions [] ≡ form.names
 
@@ -80,7 +81,7 @@ is_form p form e =
     let main = first_ok (main_of p.functions) _ form fs.2 in
     let f : Form = record { functions = fs.0; names = with_functions p.functions []; main = main.0 } in
     let same : f ≡ form = cc in
-    subst (λ (g : Form). IsForm p g) same (record { bound = fs.1; names = refl })
+    subst (λ (g : Form). IsForm p g) same (record { main = main.1; bound = fs.1; names = refl })
 
 pub slots_are_in_text_order : (p : Program) (form : Form) → bind_program p ≡ Ok form → AreInTextOrder form.names p.functions form.functions
 slots_are_in_text_order p form e =

@@ -4,3 +4,4 @@ pub mod Naming
 pub mod Innermost
 pub mod TextNames
 pub mod HandedOn
+pub mod LexicalScope

@@ -78,8 +78,10 @@ sorts_of ds = map (λ (d : Declaration). d.sort) ds
 abbrev pub numbers_of_declared : Texts → Declarations → List ℕ
 numbers_of_declared names ds = map (λ (d : Declaration). number_of names d.name) ds
 
--- what a function has for its slots, its exceptions and its parameters
+-- what a function has for its line, its name, its slots, its exceptions and its parameters
 pub record IsInTextOrder (names : Texts) (f : Function) (r : RFunction) : Type 0 where
+  pub line : r.line ≡ f.line
+  pub name : r.name ≡ number_of names f.name
   pub slots : r.slots ≡ sorts_of (all_declarations f)
   pub slot_names : r.slot_names ≡ numbers_of_declared names (all_declarations f)
   pub throws : r.throws ≡ map (number_of names) f.throws

@@ -10,8 +10,26 @@ ghost use Rattle.shim_syntax.specs.declared.tree.Program.{Program};
 ghost use Rattle.shim_laws_binding.specs.TextNames.{names_among};
 ghost use Rattle.shim_laws_binding.specs.HandedOn.{AllHandOn};
 ghost use Rattle.shim_laws_binding.specs.Innermost.{HasNone, IsNumberOfInnermost, exception_name};
+ghost use Rattle.shim_laws_binding.specs.LexicalScope.{BindsProgram};
 ghost use Rattle.shim_laws_binding.specs.Naming.{functions_named};
 ghost use Rattle.shim_laws_binding.specs.TextOrder.{AreInTextOrder};
+
+/// Each name of a variable or an exception means the innermost of that name around the point of the text
+/// where it stands. In the form each use of a variable has the slot of the innermost declaration of its
+/// name, and each `throw` the number of the innermost exception of its name that is in force. Each call has the number of a function
+/// of its name and, for each exception of that function's `throws`, the number of the innermost one of
+/// that name that is in force at the call. A declaration is around what follows it in its block, and not
+/// around its own first value; the exception of a `try` is in force in the body, and not in the handler.
+/// Slots and exceptions are numbered as they come in the text.
+pub fn names_mean_the_innermost()
+    ensures { (p : Program) (form : Form) → bind_program p ≡ Ok form → BindsProgram p form }
+{}
+
+/// The rules of scope and the order of the text leave no choice: of a program that has a form, no other
+/// form with its list of names obeys them.
+pub fn no_other_form_is_bound()
+    ensures { (p : Program) (form other : Form) → bind_program p ≡ Ok form → BindsProgram p other → AreInTextOrder form.names p.functions other.functions → other.names ≡ form.names → other ≡ form }
+{}
 
 /// The names put back to the numbers of a form give the program that it is the form of, lines and all.
 /// So nothing of the program is lost, and no two of its names are mixed up.

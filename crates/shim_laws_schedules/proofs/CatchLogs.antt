@@ -1,5 +1,5 @@
 -- What an event logs tells whether it has a process catch a label.
-use Rattle.std.proofs.Common.{◌≡◌, ◌≤◌, ℕ, true, false, Option, Some, None, List, [], ◌∷◌, ◌++◌, inl, inr, cond, ltb, refl, sym, ap, ◌∙◌, ltb-false, le-ltb}
+use Rattle.std.proofs.Common.{◌≡◌, ◌≤◌, ℕ, true, false, Option, Some, None, List, [], ◌∷◌, ◌++◌, inl, inr, cond, ltb, refl, sym, ap, subst, ◌∙◌, ltb-false, le-ltb}
 use Rattle.std.proofs.lemmas.List.{append-nil, append_cancel_left}
 use Rattle.std.specs.Prelude.{unwrap_or}
 use Rattle.std.specs.FinMap as map
@@ -10,16 +10,16 @@ use Rattle.shim_base.specs.PathLaws.{path_order_total, exact_path}
 use Rattle.shim_local.specs.Process.{Ops, StopView, AtQuiet, AtNext, AtPut, AtFork, AtFinish, AtThrow, AtTrap}
 use Rattle.shim_local.specs.declared.LogWhat.{LogWhat}
 use Rattle.shim_local.specs.declared.LogWhat.TheVariants.{Caught, Trap as LoggedTrap}
-use Rattle.shim_semantics.specs.Nodes.{Node, Nodes, Live, Forked, Ended, Dead, state, states, all_done, least_label, source, value_of}
+use Rattle.shim_semantics.specs.Nodes.{Node, Nodes, Live, Forked, Ended, Dead, death, Death, state, states, all_done, prevailing_death, source, value_of}
 use Rattle.shim_semantics.specs.Acts.{Acted, nothing, putting, catching, thrown, closed, act_live, act_here}
-use Rattle.shim_semantics.specs.Places.{at, at_route, route, meets}
+use Rattle.shim_semantics.specs.Places.{at, at_route, route, meets, StandsAt}
 use Rattle.shim_semantics.specs.Trees.{Tree, Event, Own, Meet, Poison, Close, End, kind_of, kind_of_stop, same_kind, logs_at, with_logs, change_nodes, poisons, met, after}
 use Rattle.shim_semantics.proofs.Alone.{does, doer, does_close}
 use Rattle.shim_laws_schedules.proofs.Entries.{get_other}
 use Rattle.shim_laws_schedules.proofs.Elsewhere.{closing}
 use Rattle.shim_laws_schedules.proofs.Opened.{Opened, opened, its_kind}
 use Rattle.shim_laws_schedules.proofs.PoisonDiamond.{nodes_changed_some}
-use Rattle.shim_laws_schedules.specs.Throws.{StandsAt, Throws, ClosesWith, Catches, by_throw, by_close, catcher, CatchesAreLogged}
+use Rattle.shim_laws_schedules.specs.Throws.{Throws, ClosesWith, Catches, by_throw, by_close, catcher, CatchesAreLogged}
 use Rattle.shim_laws_schedules.proofs.Events.{paths_same}
 use Rattle.shim_laws_schedules.proofs.Threw.{does_steps, opened_stands}
 use Rattle.shim_base.proofs.Facts.{some_same, none_some, cond_some, true_or_false}
@@ -46,31 +46,31 @@ nodes_changed_logs t u r e = ap (λ z. z.logs) (sym (nodes_changed_some t u r e)
 module _ {S : Type 0} (o : Ops S) where
   -- ---- what a throw logs
 
-  caught_logs : (l : S) (x : ℕ) → o.base l ≤ x → (thrown o l x).effects ≡ catching (o.handler l x)
+  caught_logs : (l : S) (x : Death) → o.base l ≤ x.label → (thrown o l x).effects ≡ catching (o.handler l x.label)
   caught_logs l x h =
       let dies : Acted S = record { node = Dead l x; effects = nothing } in
-      let goes_on : Acted S = record { node = Live (o.unwind l x); effects = catching (o.handler l x) } in
-      ap (λ b. (cond b dies goes_on).effects) (le-ltb x (o.base l) h)
+      let goes_on : Acted S = record { node = Live (o.unwind l x.label); effects = catching (o.handler l x.label) } in
+      ap (λ b. (cond b dies goes_on).effects) (le-ltb x.label (o.base l) h)
 
-  logs_caught : (l : S) (x name line : ℕ) (more : List LogWhat) → (thrown o l x).effects.logs ≡ Caught name line ∷ more → (o.base l ≤ x) × (o.handler l x ≡ (name, line))
+  logs_caught : (l : S) (x : Death) (name line : ℕ) (more : List LogWhat) → (thrown o l x).effects.logs ≡ Caught name line ∷ more → (o.base l ≤ x.label) × (o.handler l x.label ≡ (name, line))
   logs_caught l x name line more e =
       let dies : Acted S = record { node = Dead l x; effects = nothing } in
-      let goes_on : Acted S = record { node = Live (o.unwind l x); effects = catching (o.handler l x) } in
-      elim (true_or_false (ltb x (o.base l))) [
+      let goes_on : Acted S = record { node = Live (o.unwind l x.label); effects = catching (o.handler l x.label) } in
+      elim (true_or_false (ltb x.label (o.base l))) [
         | inl y ↦ let none : [] ≡ Caught name line ∷ more = sym (ap (λ b. (cond b dies goes_on).effects.logs) y) ∙ e in absurd (cc none)
         | inr n ↦
-            let one : Caught (o.handler l x).0 (o.handler l x).1 ∷ [] ≡ Caught name line ∷ more = sym (ap (λ b. (cond b dies goes_on).effects.logs) n) ∙ e in
-            let name_is : (o.handler l x).0 ≡ name = cc one in
-            let line_is : (o.handler l x).1 ≡ line = cc one in
-            (ltb-false x (o.base l) n, λ i. (name_is i, line_is i))
+            let one : Caught (o.handler l x.label).0 (o.handler l x.label).1 ∷ [] ≡ Caught name line ∷ more = sym (ap (λ b. (cond b dies goes_on).effects.logs) n) ∙ e in
+            let name_is : (o.handler l x.label).0 ≡ name = cc one in
+            let line_is : (o.handler l x.label).1 ≡ line = cc one in
+            (ltb-false x.label (o.base l) n, λ i. (name_is i, line_is i))
       ]
 
   -- ---- and what a node does
 
-  -- its process throws a label and catches it, or closes its fork and catches the least label there
+  -- its process throws a label and catches it, or closes its fork and catches the prevailing one there
   data NodeCatches (m : Node S) (name line : ℕ) : Type 0 where
     at_throw : (k : S) (x : ℕ) → m ≡ Live k → o.stop k ≡ AtThrow x → o.base k ≤ x → o.handler k x ≡ (name, line) → NodeCatches m name line
-    at_close : (k : S) (ks : Nodes S) (x : ℕ) → m ≡ Forked k ks → all_done ks ≡ true → least_label ks ≡ Some x → o.base (o.join k (states ks) false) ≤ x → o.handler (o.join k (states ks) false) x ≡ (name, line) → NodeCatches m name line
+    at_close : (k : S) (ks : Nodes S) (x : Death) → m ≡ Forked k ks → all_done ks ≡ true → prevailing_death ks ≡ Some x → o.base (o.join k (states ks) false) ≤ x.label → o.handler (o.join k (states ks) false) x.label ≡ (name, line) → NodeCatches m name line
 
   putting_logs : (b : Option ℕ) → (putting b).logs ≡ []
   putting_logs None = refl
@@ -83,11 +83,11 @@ module _ {S : Type 0} (o : Ops S) where
   live_catches l AtFinish a name line more at e f = let none : [] ≡ Caught name line ∷ more = ap (λ z. z.effects.logs) (some_same _ a e) ∙ f in absurd (cc none)
   live_catches l (AtNext c) a name line more at e f = none_some a e
   live_catches l (AtThrow x) a name line more at e f =
-      let w = logs_caught l x name line more (ap (λ z. z.effects.logs) (some_same (thrown o l x) a e) ∙ f) in
+      let w = logs_caught l (death x) name line more (ap (λ z. z.effects.logs) (some_same (thrown o l (death x)) a e) ∙ f) in
       at_throw l x refl at w.0 w.1
   live_catches l (AtTrap kind number) a name line more at e f = let count_event : LoggedTrap kind number ∷ [] ≡ Caught name line ∷ more = ap (λ z. z.effects.logs) (some_same _ a e) ∙ f in absurd (cc count_event)
 
-  closed_catches : (l : S) (ks : Nodes S) (r : Option ℕ) (name line : ℕ) (more : List LogWhat) → all_done ks ≡ true → least_label ks ≡ r → (closed o l (states ks) r).effects.logs ≡ Caught name line ∷ more → NodeCatches (Forked l ks) name line
+  closed_catches : (l : S) (ks : Nodes S) (r : Option Death) (name line : ℕ) (more : List LogWhat) → all_done ks ≡ true → prevailing_death ks ≡ r → (closed o l (states ks) r).effects.logs ≡ Caught name line ∷ more → NodeCatches (Forked l ks) name line
   closed_catches l ks None name line more d g f = let none : [] ≡ Caught name line ∷ more = f in absurd (cc none)
   closed_catches l ks (Some x) name line more d g f = let w = logs_caught (o.join l (states ks) false) x name line more f in at_close l ks x refl d g w.0 w.1
 
@@ -97,12 +97,12 @@ module _ {S : Type 0} (o : Ops S) where
   node_catches (Dead l x) a name line more e f = none_some a e
   node_catches (Forked l ks) a name line more e f =
       let w = closing o l ks a e in
-      closed_catches l ks (least_label ks) name line more w.0 refl (ap (λ z. z.effects.logs) w.1 ∙ f)
+      closed_catches l ks (prevailing_death ks) name line more w.0 refl (ap (λ z. z.effects.logs) w.1 ∙ f)
 
   -- ---- the node of an event
 
   module _ (t u : Tree S) (e : Event) (w : Opened o e t u) where
-    old_is : (p : Path) (n : Node S) → p ≡ doer e → StandsAt o t p n → w.old ≡ n
+    old_is : (p : Path) (n : Node S) → p ≡ doer e → StandsAt o t.root p n → w.old ≡ n
     old_is p n at s = some_same w.old n (sym w.there ∙ (ap (at_route t.root) (sym w.route_is) ∙ (ap (λ z. at_route t.root (route (o.path (state t.root)) z)) (sym at) ∙ s.there)))
 
     alone_logs : (p : Path) → p ≡ doer e → logs_at u.logs p ≡ logs_at t.logs p ++ w.new.effects.logs
@@ -119,8 +119,8 @@ module _ {S : Type 0} (o : Ops S) where
         (x, by_throw c low, handler)
     tells p name line at (at_close k ks x forked done least low handler) =
         let is : e ≡ Close (doer e) = does_close e (ap (same_kind (does e)) (sym (ap (kind_of o) forked)) ∙ its_kind o e t u w) in
-        let c : ClosesWith o t e p x = record { is = is ∙ ap Close (sym at); parent = k; children = ks; stands = opened_stands o e t u w p (Forked k ks) at forked; done = done; least = least } in
-        (x, by_close c low, handler)
+        let c : ClosesWith o t e p x.label = record { is = is ∙ ap Close (sym at); parent = k; children = ks; stands = opened_stands o e t u w p (Forked k ks) at forked; done = done; death = x; prevails = least; labelled = refl } in
+        (x.label, by_close c low, handler)
 
     alone_tells : (p : Path) (name line : ℕ) (more : List LogWhat) → logs_at u.logs p ≡ logs_at t.logs p ++ Caught name line ∷ more → (x : ℕ) × (c : Catches o t e p x) × (o.handler (catcher c) x ≡ (name, line))
     alone_tells p name line more f = elim (paths_same p (doer e)) [
@@ -135,8 +135,8 @@ module _ {S : Type 0} (o : Ops S) where
     throw_logs p x c low =
         let at : p ≡ doer e = sym (ap doer c.is) in
         let old = old_is p (Live c.thrower) at c.stands in
-        let new : thrown o c.thrower x ≡ w.new = some_same (thrown o c.thrower x) w.new (sym (ap (act_live o c.thrower) c.throws) ∙ (ap (act_here o) (sym old) ∙ w.here)) in
-        alone_logs p at ∙ ap (λ z. logs_at t.logs p ++ z.logs) (sym (ap (λ z. z.effects) new) ∙ caught_logs c.thrower x low)
+        let new : thrown o c.thrower (death x) ≡ w.new = some_same (thrown o c.thrower (death x)) w.new (sym (ap (act_live o c.thrower) c.throws) ∙ (ap (act_here o) (sym old) ∙ w.here)) in
+        alone_logs p at ∙ ap (λ z. logs_at t.logs p ++ z.logs) (sym (ap (λ z. z.effects) new) ∙ caught_logs c.thrower (death x) low)
 
     close_logs : (p : Path) (x : ℕ) (c : ClosesWith o t e p x) → o.base (o.join c.parent (states c.children) false) ≤ x
         → logs_at u.logs p ≡ logs_at t.logs p ++ Caught (o.handler (o.join c.parent (states c.children) false) x).0 (o.handler (o.join c.parent (states c.children) false) x).1 ∷ []
@@ -145,8 +145,10 @@ module _ {S : Type 0} (o : Ops S) where
         let old = old_is p (Forked c.parent c.children) at c.stands in
         let joined = o.join c.parent (states c.children) false in
         let left = closing o c.parent c.children w.new (ap (act_here o) (sym old) ∙ w.here) in
-        let new : thrown o joined x ≡ w.new = sym (ap (closed o c.parent (states c.children)) c.least) ∙ left.1 in
-        alone_logs p at ∙ ap (λ z. logs_at t.logs p ++ z.logs) (sym (ap (λ z. z.effects) new) ∙ caught_logs joined x low)
+        let new : thrown o joined c.death ≡ w.new = sym (ap (closed o c.parent (states c.children)) c.prevails) ∙ left.1 in
+        let caught : (thrown o joined c.death).effects ≡ catching (o.handler joined x) =
+        caught_logs joined c.death (subst (λ z. o.base joined ≤ z) (sym c.labelled) low) ∙ ap (λ z. catching (o.handler joined z)) c.labelled in
+        alone_logs p at ∙ ap (λ z. logs_at t.logs p ++ z.logs) (sym (ap (λ z. z.effects) new) ∙ caught)
 
   -- ---- every event
 

@@ -1,6 +1,6 @@
 -- Whether here or below a process died of a label below a bound, and where a node is replaced.
 use Rattle.std.proofs.Common.{◌≡◌, ℕ, zero, suc, Bool, true, false, Option, Some, None, List, [], ◌∷◌, ◌||◌, ◌⊎◌, inl, inr, min, ltb, refl, sym, ap, ◌∙◌, arith, ltb-true, ltb-false, lt-ltb, le-ltb}
-use Rattle.shim_semantics.specs.Nodes.{Node, Nodes, Live, Forked, Ended, Dead, no_node, node_and, all_done, lesser, least_label, all_live}
+use Rattle.shim_semantics.specs.Nodes.{Node, Nodes, Live, Forked, Ended, Dead, death, Death, no_node, node_and, all_done, prevailing, prevailing_death, all_live}
 use Rattle.shim_semantics.specs.Places.{at, child_at}
 use Rattle.shim_semantics.proofs.ReplacedNodes.{put, put_child}
 use Rattle.shim_base.proofs.Facts.{some_same, none_some, either_holds, true_or_false, or_left, or_right}
@@ -11,7 +11,7 @@ abbrev mutual
   dead_below h (Live l) = false
   dead_below h (Forked l ks) = any_dead_below h ks
   dead_below h (Ended l) = false
-  dead_below h (Dead l x) = ltb x h
+  dead_below h (Dead l x) = ltb x.label h
 
   pub any_dead_below : {S : Type 0} → ℕ → Nodes S → Bool
   any_dead_below h no_node = false
@@ -22,22 +22,22 @@ pub record IsLeast {S : Type 0} (x : ℕ) (ks : Nodes S) : Type 0 where
   pub some : any_dead_below (suc x) ks ≡ true
   pub none : any_dead_below x ks ≡ false
 
--- a label is below a bound or not
-under : Option ℕ → ℕ → Bool
+-- the label of a death is below a bound or not
+under : Option Death → ℕ → Bool
 under None h = false
-under (Some x) h = ltb x h
+under (Some x) h = ltb x.label h
 
--- the lesser of two labels is below a bound where one of them is
-lesser_under : (x h : ℕ) (r : Option ℕ) → (ltb x h || under r h) ≡ under (lesser x r) h
+-- the label of the prevailing of two deaths is below a bound where that of one of them is
+prevailing_under : (x : Death) (h : ℕ) (r : Option Death) → (ltb x.label h || under r h) ≡ under (prevailing x r) h
 unfolding under
-lesser_under x h None = elim (true_or_false (ltb x h)) [ inl y ↦ ap (λ b. b || false) y ∙ sym y | inr n ↦ ap (λ b. b || false) n ∙ sym n ]
-lesser_under x h (Some y) = elim (true_or_false (ltb x h)) [
-  | inl a ↦ let p = ltb-true x h a in ap (λ b. b || ltb y h) a ∙ sym (lt-ltb (min x y) h (omega arith))
+prevailing_under x h None = elim (true_or_false (ltb x.label h)) [ inl y ↦ ap (λ b. b || false) y ∙ sym y | inr n ↦ ap (λ b. b || false) n ∙ sym n ]
+prevailing_under x h (Some y) = elim (true_or_false (ltb x.label h)) [
+  | inl a ↦ let p = ltb-true x.label h a in ap (λ b. b || ltb y.label h) a ∙ sym (lt-ltb (min x.label y.label) h (omega arith))
   | inr a ↦
-      let p = ltb-false x h a in
-      elim (true_or_false (ltb y h)) [
-        | inl b ↦ let q = ltb-true y h b in or_right (ltb x h) (ltb y h) b ∙ sym (lt-ltb (min x y) h (omega arith))
-        | inr b ↦ let q = ltb-false y h b in ap (λ z. z || ltb y h) a ∙ (b ∙ sym (le-ltb (min x y) h (omega arith)))
+      let p = ltb-false x.label h a in
+      elim (true_or_false (ltb y.label h)) [
+        | inl b ↦ let q = ltb-true y.label h b in or_right (ltb x.label h) (ltb y.label h) b ∙ sym (lt-ltb (min x.label y.label) h (omega arith))
+        | inr b ↦ let q = ltb-false y.label h b in ap (λ z. z || ltb y.label h) a ∙ (b ∙ sym (le-ltb (min x.label y.label) h (omega arith)))
       ]
 ]
 
@@ -115,22 +115,22 @@ module _ {S : Type 0} where
   none_dead h [] = refl
   none_dead h (l ∷ ls) = none_dead h ls
 
-  -- of children that are done the least label tells
-  done_dead : (h : ℕ) (ks : Nodes S) → all_done ks ≡ true → any_dead_below h ks ≡ under (least_label ks) h
+  -- of children that are done the prevailing death tells
+  done_dead : (h : ℕ) (ks : Nodes S) → all_done ks ≡ true → any_dead_below h ks ≡ under (prevailing_death ks) h
   unfolding under
   done_dead h no_node d = refl
   done_dead h (node_and (Live l) ks) d = absurd cc
   done_dead h (node_and (Forked l js) ks) d = absurd cc
   done_dead h (node_and (Ended l) ks) d = done_dead h ks d
-  done_dead h (node_and (Dead l x) ks) d = ap (λ b. ltb x h || b) (done_dead h ks d) ∙ lesser_under x h (least_label ks)
+  done_dead h (node_and (Dead l x) ks) d = ap (λ b. ltb x.label h || b) (done_dead h ks d) ∙ prevailing_under x h (prevailing_death ks)
 
-  pub done_none : (h : ℕ) (ks : Nodes S) → all_done ks ≡ true → least_label ks ≡ None → any_dead_below h ks ≡ false
+  pub done_none : (h : ℕ) (ks : Nodes S) → all_done ks ≡ true → prevailing_death ks ≡ None → any_dead_below h ks ≡ false
   unfolding under
   done_none h ks d e = done_dead h ks d ∙ ap (λ z. under z h) e
 
-  pub done_some : (h x : ℕ) (ks : Nodes S) → all_done ks ≡ true → least_label ks ≡ Some x → any_dead_below h ks ≡ ltb x h
+  pub done_some : (h : ℕ) (x : Death) (ks : Nodes S) → all_done ks ≡ true → prevailing_death ks ≡ Some x → any_dead_below h ks ≡ ltb x.label h
   unfolding under
   done_some h x ks d e = done_dead h ks d ∙ ap (λ z. under z h) e
 
-  pub done_least : (x : ℕ) (ks : Nodes S) → all_done ks ≡ true → least_label ks ≡ Some x → IsLeast x ks
-  done_least x ks d e = record { some = done_some (suc x) x ks d e ∙ lt-ltb x (suc x) (omega arith); none = done_some x x ks d e ∙ le-ltb x x (omega arith) }
+  pub done_least : (x : Death) (ks : Nodes S) → all_done ks ≡ true → prevailing_death ks ≡ Some x → IsLeast x.label ks
+  done_least x ks d e = record { some = done_some (suc x.label) x ks d e ∙ lt-ltb x.label (suc x.label) (omega arith); none = done_some x.label x ks d e ∙ le-ltb x.label x.label (omega arith) }

@@ -5,7 +5,7 @@ use Rattle.std.proofs.lemmas.List.{append-nil}
 use Rattle.shim_base.specs.Paths.{Path, Channel}
 use Rattle.shim_local.specs.Process.{Ops}
 use Rattle.shim_local.specs.Laws.{LocalLaws, AllOf, Moved, by_join}
-use Rattle.shim_semantics.specs.Nodes.{Node, Nodes, Live, Forked, Ended, Dead, no_node, node_and, state, states, all_done, least_label, lesser, ready}
+use Rattle.shim_semantics.specs.Nodes.{Node, Nodes, Live, Forked, Ended, Dead, death, Death, no_node, node_and, state, states, all_done, prevailing_death, prevailing, ready}
 use Rattle.shim_semantics.specs.Acts.{Acted, act_here, thrown, closed, nothing, catching}
 use Rattle.shim_semantics.specs.Poison.{dooms, any_dooms, is_doomed, is_ready_child}
 use Rattle.shim_semantics.specs.Places.{at, child_at, SoundBelow, SoundChildren}
@@ -49,7 +49,7 @@ module _ {S : Type 0} (o : Ops S) where
     is_unshared_undoomed : (h : ℕ) (c : Channel) (n : Node S) → is_unshared o c n ≡ true → dooms o h c n ≡ false
     is_unshared_undoomed h c (Live l) e = refl
     is_unshared_undoomed h c (Ended l) e = refl
-    is_unshared_undoomed h c (Dead l x) e = ap (λ b. b && ltb x h) (not_false (o.shares l c) e)
+    is_unshared_undoomed h c (Dead l x) e = ap (λ b. b && ltb x.label h) (not_false (o.shares l c) e)
     is_unshared_undoomed h c (Forked l ks) e = all_unshared_undoomed h c ks (second_holds (not (o.shares l c)) (all_unshared o c ks) e)
 
     all_unshared_undoomed : (h : ℕ) (c : Channel) (ks : Nodes S) → all_unshared o c ks ≡ true → any_dooms o h c ks ≡ false
@@ -134,31 +134,31 @@ module _ {S : Type 0} (o : Ops S) where
 
   -- ---- a death that dooms goes on dooming
 
-  -- the least label of children that are done dooms as they did
-  least_dooms : (h : ℕ) (c : Channel) (l : S) (f j : ℕ) (ks : Nodes S) → SoundChildren o l f j ks → NotBelow c (o.path l) → all_done ks ≡ true → any_dooms o h c ks ≡ true → (y : ℕ) × (least_label ks ≡ Some y) × (y < h) × (o.shares l c ≡ true)
+  -- the prevailing death of children that are done dooms as they did
+  least_dooms : (h : ℕ) (c : Channel) (l : S) (f j : ℕ) (ks : Nodes S) → SoundChildren o l f j ks → NotBelow c (o.path l) → all_done ks ≡ true → any_dooms o h c ks ≡ true → (y : Death) × (prevailing_death ks ≡ Some y) × (y.label < h) × (o.shares l c ≡ true)
   least_dooms h c l f j no_node s n d e = absurd cc
   least_dooms h c l f j (node_and (Live k) ks) s n d e = absurd cc
   least_dooms h c l f j (node_and (Forked k js) ks) s n d e = absurd cc
   least_dooms h c l f j (node_and (Ended k) ks) s n d e = least_dooms h c l f (j + 1) ks s.2 n d e
-  least_dooms h c l f j (node_and (Dead k x) ks) s n d e = elim (either_holds (o.shares k c && ltb x h) (any_dooms o h c ks) e) [
+  least_dooms h c l f j (node_and (Dead k x) ks) s n d e = elim (either_holds (o.shares k c && ltb x.label h) (any_dooms o h c ks) e) [
     | inl y ↦
-        let shared : o.shares l c ≡ true = elim (s.0.shares c (first_holds (o.shares k c) (ltb x h) y)) [ inl z ↦ z | inr z ↦ absurd (child_outside o l k f j c s.0 n [] (z ∙ sym (append-nil (o.path k)))) ] in
-        here (least_label ks) (ltb-true x h (second_holds (o.shares k c) (ltb x h) y)) shared
+        let shared : o.shares l c ≡ true = elim (s.0.shares c (first_holds (o.shares k c) (ltb x.label h) y)) [ inl z ↦ z | inr z ↦ absurd (child_outside o l k f j c s.0 n [] (z ∙ sym (append-nil (o.path k)))) ] in
+        here (prevailing_death ks) (ltb-true x.label h (second_holds (o.shares k c) (ltb x.label h) y)) shared
     | inr y ↦
         let w = least_dooms h c l f (j + 1) ks s.2 n d y in
-        (min x w.0, ap (lesser x) w.1, min_below x w.0 h w.2, w.3)
+        (death (min x.label w.0.label), ap (prevailing x) w.1, min_below x.label w.0.label h w.2, w.3)
   ]
     where
-      here : (m : Option ℕ) → x < h → o.shares l c ≡ true → (y : ℕ) × (lesser x m ≡ Some y) × (y < h) × (o.shares l c ≡ true)
+      here : (m : Option Death) → x.label < h → o.shares l c ≡ true → (y : Death) × (prevailing x m ≡ Some y) × (y.label < h) × (o.shares l c ≡ true)
       here None z w = (x, refl, z, w)
-      here (Some y) z w = (min x y, refl, min_below_first x y h z, w)
+      here (Some y) z w = (death (min x.label y.label), refl, min_below_first x.label y.label h z, w)
 
   -- who dies of a throw dooms
-  thrown_dooms : (h : ℕ) (c : Channel) (y : ℕ) (m : S) → y < h → h ≤ o.base m → o.shares m c ≡ true → dooms o h c (thrown o m y).node ≡ true
+  thrown_dooms : (h : ℕ) (c : Channel) (y : Death) (m : S) → y.label < h → h ≤ o.base m → o.shares m c ≡ true → dooms o h c (thrown o m y).node ≡ true
   thrown_dooms h c y m a b e =
       let dies : Acted S = record { node = Dead m y; effects = nothing } in
-      let goes_on : Acted S = record { node = Live (o.unwind m y); effects = catching (o.handler m y) } in
-      ap (λ z. dooms o h c (cond z dies goes_on).node) (lt-ltb y (o.base m) (label_below_base y h (o.base m) a b)) ∙ both_hold (o.shares m c) (ltb y h) e (lt-ltb y h a)
+      let goes_on : Acted S = record { node = Live (o.unwind m y.label); effects = catching (o.handler m y.label) } in
+      ap (λ z. dooms o h c (cond z dies goes_on).node) (lt-ltb y.label (o.base m) (label_below_base y.label h (o.base m) a b)) ∙ both_hold (o.shares m c) (ltb y.label h) e (lt-ltb y.label h a)
 
   close_dooms : LocalLaws o → (h : ℕ) (c : Channel) (l : S) (ks : Nodes S) (a : Acted S) → SoundBelow o (Forked l ks) → NotBelow c (o.path l) → h ≤ o.base l → any_dooms o h c ks ≡ true → act_here o (Forked l ks) ≡ Some a → dooms o h c a.node ≡ true
   close_dooms law h c l ks a s n b d e =

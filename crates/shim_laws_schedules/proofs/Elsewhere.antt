@@ -4,7 +4,7 @@ use Rattle.std.proofs.lemmas.List.{append_assoc, append_cancel_left, append-nil}
 use Rattle.shim_base.specs.Paths.{Path, Channel}
 use Rattle.shim_local.specs.Process.{Ops, StopView, AtQuiet, AtNext, AtPut, AtFork, AtFinish, AtThrow, AtTrap}
 use Rattle.shim_local.specs.Laws.{LocalLaws}
-use Rattle.shim_semantics.specs.Nodes.{Node, Nodes, Live, Forked, Ended, Dead, no_node, node_and, state, states, goes, all_done, least_label, any_sharer, is_next}
+use Rattle.shim_semantics.specs.Nodes.{Node, Nodes, Live, Forked, Ended, Dead, no_node, node_and, state, states, goes, all_done, prevailing_death, any_sharer, is_next}
 use Rattle.shim_semantics.specs.Acts.{Acted, act_here, act_live, closed}
 use Rattle.shim_semantics.specs.Places.{at, child_at, branches, SoundBelow}
 use Rattle.shim_semantics.proofs.HowMany.{clash}
@@ -53,8 +53,8 @@ mutual
 
 module _ {S : Type 0} (o : Ops S) where
   -- what a close asks, and leaves
-  pub closing : (l : S) (ks : Nodes S) (a : Acted S) → act_here o (Forked l ks) ≡ Some a → (all_done ks ≡ true) × (closed o l (states ks) (least_label ks) ≡ a)
-  closing l ks a e = cond_some (all_done ks) (closed o l (states ks) (least_label ks)) a e
+  pub closing : (l : S) (ks : Nodes S) (a : Acted S) → act_here o (Forked l ks) ≡ Some a → (all_done ks ≡ true) × (closed o l (states ks) (prevailing_death ks) ≡ a)
+  closing l ks a e = cond_some (all_done ks) (closed o l (states ks) (prevailing_death ks)) a e
 
   pub none_goes_below : (i : ℕ) (x : List ℕ) (m n : Node S) (a : Acted S) → act_here o m ≡ Some a → at (i ∷ x) m ≡ Some n → goes n ≡ true → ⊥
   none_goes_below i x (Live l) n a h e g = none_some n e

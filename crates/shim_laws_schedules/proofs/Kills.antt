@@ -4,7 +4,7 @@ use Rattle.std.proofs.lemmas.List.{append_assoc, append-nil}
 use Rattle.shim_base.specs.Paths.{Channel}
 use Rattle.shim_local.specs.Process.{Ops}
 use Rattle.shim_local.specs.Laws.{LocalLaws}
-use Rattle.shim_semantics.specs.Nodes.{Node, Nodes, Live, Forked, Ended, Dead, no_node, node_and, state, goes, all_done, any_sharer, ready, all_ready}
+use Rattle.shim_semantics.specs.Nodes.{Node, Nodes, Live, Forked, Ended, Dead, Death, death, no_node, node_and, state, goes, all_done, any_sharer, ready, all_ready}
 use Rattle.shim_semantics.specs.Acts.{Acted, act_here}
 use Rattle.shim_semantics.specs.Poison.{poisoned, is_doomed, is_ready_child, one_poisoned, can_poison, poison_here, above, before_rest, after_one, poison, poison_child}
 use Rattle.shim_semantics.specs.Places.{at, child_at, SoundBelow, SoundChildren, IsChild}
@@ -55,12 +55,12 @@ module _ {S : Type 0} (o : Ops S) where
   -- ---- a process that acts in a child that is ready
 
   -- before a poison and behind it
-  record InsidePoisoned (c : Channel) (x : ℕ) (q : List ℕ) (n m a : Node S) : Type 0 where
+  record InsidePoisoned (c : Channel) (x : Death) (q : List ℕ) (n m a : Node S) : Type 0 where
     pub is_ready : ready o c (put q a n) ≡ true
     pub there : at q (poisoned o c x n) ≡ Some m
     pub swap : put q a (poisoned o c x n) ≡ poisoned o c x (put q a n)
 
-  inside_poisoned : LocalLaws o → (c : Channel) (x : ℕ) (q : List ℕ) (n m : Node S) (a : Acted S) → SoundBelow o n → Outside c (o.path (state n)) → ready o c n ≡ true → at q n ≡ Some m → act_here o m ≡ Some a → InsidePoisoned c x q n m a.node
+  inside_poisoned : LocalLaws o → (c : Channel) (x : Death) (q : List ℕ) (n m : Node S) (a : Acted S) → SoundBelow o n → Outside c (o.path (state n)) → ready o c n ≡ true → at q n ≡ Some m → act_here o m ≡ Some a → InsidePoisoned c x q n m a.node
   inside_poisoned law c x q n m a s out r e f =
       let none_below : NotBelow c (o.path (state n)) = λ z t. out (z ∷ t) in
       let below = sound_at o q n m s e in
@@ -77,12 +77,12 @@ module _ {S : Type 0} (o : Ops S) where
       }
 
   -- the same at the fork one of whose children is poisoned
-  record BesidePoisoned (c : Channel) (x i b : ℕ) (q : List ℕ) (ks : Nodes S) (m a : Node S) : Type 0 where
+  record BesidePoisoned (c : Channel) (x : Death) (i b : ℕ) (q : List ℕ) (ks : Nodes S) (m a : Node S) : Type 0 where
     pub is_ready : is_ready_child o c i (put_child b q a ks) ≡ true
     pub there : child_at b q (one_poisoned o c x i ks) ≡ Some m
     pub swap : put_child b q a (one_poisoned o c x i ks) ≡ one_poisoned o c x i (put_child b q a ks)
 
-  beside_poisoned : LocalLaws o → (c : Channel) (x : ℕ) (l : S) (f j : ℕ) (i b : ℕ) (q : List ℕ) (ks : Nodes S) (m : Node S) (a : Acted S) → SoundChildren o l f j ks → NotBelow c (o.path l) → is_ready_child o c i ks ≡ true → child_at b q ks ≡ Some m → act_here o m ≡ Some a → BesidePoisoned c x i b q ks m a.node
+  beside_poisoned : LocalLaws o → (c : Channel) (x : Death) (l : S) (f j : ℕ) (i b : ℕ) (q : List ℕ) (ks : Nodes S) (m : Node S) (a : Acted S) → SoundChildren o l f j ks → NotBelow c (o.path l) → is_ready_child o c i ks ≡ true → child_at b q ks ≡ Some m → act_here o m ≡ Some a → BesidePoisoned c x i b q ks m a.node
   beside_poisoned law c x l f j i b q no_node m a s n y e g = none_some m e
   beside_poisoned law c x l f j zero zero q (node_and k ks) m a s n y e g =
       let w = inside_poisoned law c x q k m a s.1 (child_outside o l (state k) f j c s.0 n) y e g in
@@ -114,17 +114,17 @@ module _ {S : Type 0} (o : Ops S) where
     pub waits : is_ready_child o c i ks ≡ true
     pub doomed : is_doomed o (o.handlers l) c i ks ≡ true
     pub none_below : NotBelow c (o.path l)
-    pub is : Forked l (one_poisoned o c (o.handlers l - 1) i ks) ≡ m
+    pub is : Forked l (one_poisoned o c (death (o.handlers l - 1)) i ks) ≡ m
 
   pub here_can : LocalLaws o → (c : Channel) (i : ℕ) (l : S) (ks : Nodes S) (m : Node S) → SoundBelow o (Forked l ks) → FromAbove c l → poison_here o c i (Forked l ks) ≡ Some m → CanPoison c i l ks m
   here_can law c i l ks m s from e =
-      let w = cond_some (can_poison o l c i ks) (Forked l (one_poisoned o c (o.handlers l - 1) i ks)) m e in
+      let w = cond_some (can_poison o l c i ks) (Forked l (one_poisoned o c (death (o.handlers l - 1)) i ks)) m e in
       let r = first_holds (is_ready_child o c i ks) (is_doomed o (o.handlers l) c i ks) w.0 in
       let d = second_holds (is_ready_child o c i ks) (is_doomed o (o.handlers l) c i ks) w.0 in
       record { waits = r; doomed = d; none_below = from (poisoned_shares o law (o.handlers l) c i l ks s r d); is = w.1 }
 
-  pub here_poisons : (c : Channel) (i : ℕ) (l : S) (ks : Nodes S) → is_ready_child o c i ks ≡ true → is_doomed o (o.handlers l) c i ks ≡ true → poison_here o c i (Forked l ks) ≡ Some (Forked l (one_poisoned o c (o.handlers l - 1) i ks))
-  here_poisons c i l ks r d = ap (λ b. cond b (Some (Forked l (one_poisoned o c (o.handlers l - 1) i ks))) None) (both_hold (is_ready_child o c i ks) (is_doomed o (o.handlers l) c i ks) r d)
+  pub here_poisons : (c : Channel) (i : ℕ) (l : S) (ks : Nodes S) → is_ready_child o c i ks ≡ true → is_doomed o (o.handlers l) c i ks ≡ true → poison_here o c i (Forked l ks) ≡ Some (Forked l (one_poisoned o c (death (o.handlers l - 1)) i ks))
+  here_poisons c i l ks r d = ap (λ b. cond b (Some (Forked l (one_poisoned o c (death (o.handlers l - 1)) i ks))) None) (both_hold (is_ready_child o c i ks) (is_doomed o (o.handlers l) c i ks) r d)
 
   -- ---- no poison at or below a fork whose children are done
 
@@ -151,7 +151,7 @@ module _ {S : Type 0} (o : Ops S) where
 
   no_poison : (c : Channel) (i : ℕ) (p : List ℕ) (l : S) (ks : Nodes S) (m : Node S) → all_done ks ≡ true → poison o c i p (Forked l ks) ≡ Some m → ⊥
   no_poison c i [] l ks m d e =
-      clash (is_ready_child o c i ks) (first_holds (is_ready_child o c i ks) (is_doomed o (o.handlers l) c i ks) (cond_some (can_poison o l c i ks) (Forked l (one_poisoned o c (o.handlers l - 1) i ks)) m e).0) (done_unready c i ks d)
+      clash (is_ready_child o c i ks) (first_holds (is_ready_child o c i ks) (is_doomed o (o.handlers l) c i ks) (cond_some (can_poison o l c i ks) (Forked l (one_poisoned o c (death (o.handlers l - 1)) i ks)) m e).0) (done_unready c i ks d)
   no_poison c i (b ∷ p) l ks m d e = none_some m (sym (ap (above l) (done_poison_in c i b p ks d)) ∙ e)
 
   -- ---- a poison anywhere and an act anywhere
@@ -177,7 +177,7 @@ module _ {S : Type 0} (o : Ops S) where
     act_poison law c i p [] (Forked l ks) k m a s from e f g = absurd (no_poison c i p l ks k (closing o l ks a (ap (act_here o) (some_same (Forked l ks) m f) ∙ g)).0 e)
     act_poison law c i [] (d ∷ q) (Forked l ks) k m a s from e f g =
         let w = here_can law c i l ks k s from e in
-        let r = beside_poisoned law c (o.handlers l - 1) l s.number 0 i d q ks m a s.children w.none_below w.waits f g in
+        let r = beside_poisoned law c (death (o.handlers l - 1)) l s.number 0 i d q ks m a s.children w.none_below w.waits f g in
         let z = act_doomed o law (o.handlers l) c l s.number 0 i d q ks m a s.children w.none_below (no_less (o.handlers l)) w.doomed f g in
         subst (λ y. ActPoison c i [] (d ∷ q) (Forked l ks) y m a.node) w.is
         (record { there = r.there; poisons = here_poisons c i l (put_child d q a.node ks) r.is_ready z ∙ ap (λ y. Some (Forked l y)) (sym r.swap) })

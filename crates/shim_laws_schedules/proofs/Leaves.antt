@@ -2,7 +2,7 @@
 use Rattle.std.proofs.Common.{◌≡◌, ◌≤◌, ℕ, zero, suc, true, false, Option, Some, None, List, [], ◌∷◌, cond, ltb, refl, sym, ap, subst, ◌∙◌, inl, inr, le-ltb, ltb-false}
 use Rattle.shim_local.specs.Process.{Ops, ForkedView, Parted, Trapped, StopView, AtQuiet, AtNext, AtPut, AtFork, AtFinish, AtThrow, AtTrap}
 use Rattle.shim_local.specs.Laws.{LocalLaws, Moved, by_join}
-use Rattle.shim_semantics.specs.Nodes.{Node, Nodes, Live, Forked, Ended, Dead, state, states, all_live, all_done, least_label}
+use Rattle.shim_semantics.specs.Nodes.{Node, Nodes, Live, Forked, Ended, Dead, death, Death, state, states, all_live, all_done, prevailing_death}
 use Rattle.shim_semantics.specs.Acts.{Acted, nothing, catching, thrown, closed, parted, act_live, act_here}
 use Rattle.shim_semantics.specs.Places.{at, child_at, SoundBelow}
 use Rattle.shim_semantics.proofs.HowMany.{no_less_than}
@@ -20,13 +20,13 @@ pub data Leaves {S : Type 0} (o : Ops S) (m a : Node S) : Type 0 where
 
 module _ {S : Type 0} (o : Ops S) where
   -- a throw leaves a death where the label is below the base, and no fork
-  thrown_dead : (l : S) (x t : ℕ) → t ≤ o.base l → dead_below t (thrown o l x).node ≡ ltb x t
+  thrown_dead : (l : S) (x : Death) (t : ℕ) → t ≤ o.base l → dead_below t (thrown o l x).node ≡ ltb x.label t
   thrown_dead l x t h =
       let dies : Acted S = record { node = Dead l x; effects = nothing } in
-      let goes_on : Acted S = record { node = Live (o.unwind l x); effects = catching (o.handler l x) } in
-      elim (true_or_false (ltb x (o.base l))) [
+      let goes_on : Acted S = record { node = Live (o.unwind l x.label); effects = catching (o.handler l x.label) } in
+      elim (true_or_false (ltb x.label (o.base l))) [
         | inl y ↦ ap (λ b. dead_below t (cond b dies goes_on).node) y
-        | inr n ↦ ap (λ b. dead_below t (cond b dies goes_on).node) n ∙ sym (le-ltb x t (no_less_than x (o.base l) t h (ltb-false x (o.base l) n)))
+        | inr n ↦ ap (λ b. dead_below t (cond b dies goes_on).node) n ∙ sym (le-ltb x.label t (no_less_than x.label (o.base l) t h (ltb-false x.label (o.base l) n)))
       ]
 
   parted_dead : (r : ForkedView S) (t : ℕ) → dead_below t (parted r) ≡ false
@@ -39,16 +39,16 @@ module _ {S : Type 0} (o : Ops S) where
   live_leaves l AtFork a at e = subst (λ z. Leaves o (Live l) z.node) (some_same _ a e) (no_other (λ t h. parted_dead (o.fork l) t))
   live_leaves l AtFinish a at e = subst (λ z. Leaves o (Live l) z.node) (some_same _ a e) (no_other (λ t h. refl))
   live_leaves l (AtNext c) a at e = none_some a e
-  live_leaves l (AtThrow x) a at e = subst (λ z. Leaves o (Live l) z.node) (some_same _ a e) (by_throw l x refl at (λ t h. thrown_dead l x t h))
+  live_leaves l (AtThrow x) a at e = subst (λ z. Leaves o (Live l) z.node) (some_same _ a e) (by_throw l x refl at (λ t h. thrown_dead l (death x) t h))
   live_leaves l (AtTrap kind line) a at e = subst (λ z. Leaves o (Live l) z.node) (some_same _ a e) (by_trap (λ t. refl))
 
-  -- at the close of a fork the least label stays, unless it is caught
+  -- at the close of a fork the prevailing death stays, unless it is caught
   pub joined_base : LocalLaws o → (l : S) (ks : Nodes S) → SoundBelow o (Forked l ks) → o.base (o.join l (states ks) false) ≡ o.base l
   joined_base law l ks s =
       let moved : Moved o l (o.join l (states ks) false) = by_join (states ks) false (states_sound o l s.number 0 ks s.children) s.born refl in
       law.moved_base l (o.join l (states ks) false) s.sound moved
 
-  closed_dead : LocalLaws o → (l : S) (ks : Nodes S) (r : Option ℕ) (t : ℕ) → SoundBelow o (Forked l ks) → all_done ks ≡ true → least_label ks ≡ r → t ≤ o.base l
+  closed_dead : LocalLaws o → (l : S) (ks : Nodes S) (r : Option Death) (t : ℕ) → SoundBelow o (Forked l ks) → all_done ks ≡ true → prevailing_death ks ≡ r → t ≤ o.base l
       → dead_below t (closed o l (states ks) r).node ≡ any_dead_below t ks
   closed_dead law l ks None t s d e h = sym (done_none t ks d e)
   closed_dead law l ks (Some x) t s d e h =
@@ -60,7 +60,7 @@ module _ {S : Type 0} (o : Ops S) where
   leaves law (Dead l x) a s e = none_some a e
   leaves law (Forked l ks) a s e =
       let w = closing o l ks a e in
-      subst (λ z. Leaves o (Forked l ks) z.node) w.1 (no_other (λ t h. closed_dead law l ks (least_label ks) t s w.0 refl h))
+      subst (λ z. Leaves o (Forked l ks) z.node) w.1 (no_other (λ t h. closed_dead law l ks (prevailing_death ks) t s w.0 refl h))
 
   -- a fork in what it leaves has children of which none is dead
   none_in_live : (i : ℕ) (r : List ℕ) (ls : List S) (l : S) (ks : Nodes S) → child_at i r (all_live ls) ≡ Some (Forked l ks) → ⊥
@@ -81,17 +81,17 @@ module _ {S : Type 0} (o : Ops S) where
   ended_no_fork k [] l ks e = absurd cc
   ended_no_fork k (i ∷ r) l ks e = none_some (Forked l ks) e
 
-  dead_no_fork : (k : S) (x : ℕ) → NoFork (Dead k x)
+  dead_no_fork : (k : S) (x : Death) → NoFork (Dead k x)
   dead_no_fork k x [] l ks e = absurd cc
   dead_no_fork k x (i ∷ r) l ks e = none_some (Forked l ks) e
 
-  thrown_no_fork : (k : S) (x : ℕ) → NoFork (thrown o k x).node
+  thrown_no_fork : (k : S) (x : Death) → NoFork (thrown o k x).node
   thrown_no_fork k x =
       let dies : Acted S = record { node = Dead k x; effects = nothing } in
-      let goes_on : Acted S = record { node = Live (o.unwind k x); effects = catching (o.handler k x) } in
-      elim (ltb x (o.base k)) as (λ b. NoFork (cond b dies goes_on).node) [ true ↦ dead_no_fork k x | false ↦ live_no_fork (o.unwind k x) ]
+      let goes_on : Acted S = record { node = Live (o.unwind k x.label); effects = catching (o.handler k x.label) } in
+      elim (ltb x.label (o.base k)) as (λ b. NoFork (cond b dies goes_on).node) [ true ↦ dead_no_fork k x | false ↦ live_no_fork (o.unwind k x.label) ]
 
-  pub closed_no_fork : (k : S) (js : List S) (r : Option ℕ) → NoFork (closed o k js r).node
+  pub closed_no_fork : (k : S) (js : List S) (r : Option Death) → NoFork (closed o k js r).node
   closed_no_fork k js None = live_no_fork (o.join k js true)
   closed_no_fork k js (Some x) = thrown_no_fork (o.join k js false) x
 
@@ -118,8 +118,8 @@ module _ {S : Type 0} (o : Ops S) where
   live_new l AtFork a e = subst (λ z. NoneDead z.node) (some_same _ a e) (parted_none (o.fork l))
   live_new l AtFinish a e = subst (λ z. NoneDead z.node) (some_same _ a e) (no_fork_none _ (ended_no_fork l))
   live_new l (AtNext c) a e = none_some a e
-  live_new l (AtThrow x) a e = subst (λ z. NoneDead z.node) (some_same _ a e) (no_fork_none _ (thrown_no_fork l x))
-  live_new l (AtTrap kind line) a e = subst (λ z. NoneDead z.node) (some_same _ a e) (no_fork_none _ (dead_no_fork l 0))
+  live_new l (AtThrow x) a e = subst (λ z. NoneDead z.node) (some_same _ a e) (no_fork_none _ (thrown_no_fork l (death x)))
+  live_new l (AtTrap kind line) a e = subst (λ z. NoneDead z.node) (some_same _ a e) (no_fork_none _ (dead_no_fork l (death 0)))
 
   pub new_none : (m : Node S) (a : Acted S) → act_here o m ≡ Some a → NoneDead a.node
   new_none (Live l) a e = live_new l (o.stop l) a e
@@ -127,4 +127,4 @@ module _ {S : Type 0} (o : Ops S) where
   new_none (Dead l x) a e = none_some a e
   new_none (Forked l ks) a e =
       let w = closing o l ks a e in
-      subst (λ z. NoneDead z.node) w.1 (no_fork_none _ (closed_no_fork l (states ks) (least_label ks)))
+      subst (λ z. NoneDead z.node) w.1 (no_fork_none _ (closed_no_fork l (states ks) (prevailing_death ks)))

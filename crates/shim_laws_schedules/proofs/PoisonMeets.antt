@@ -3,7 +3,7 @@ use Rattle.std.proofs.Common.{◌≡◌, ℕ, zero, suc, ℤ, ◌+◌, ◌-◌, 
 use Rattle.shim_base.specs.Paths.{Channel}
 use Rattle.shim_local.specs.Process.{Ops}
 use Rattle.shim_local.specs.Laws.{LocalLaws}
-use Rattle.shim_semantics.specs.Nodes.{Node, Nodes, Live, Forked, Ended, Dead, no_node, node_and, state, any_sharer, received, all_received}
+use Rattle.shim_semantics.specs.Nodes.{Node, Nodes, Live, Forked, Ended, Dead, Death, death, no_node, node_and, state, any_sharer, received, all_received}
 use Rattle.shim_semantics.specs.Poison.{poisoned, dooms, any_dooms, is_doomed, is_ready_child, one_poisoned, can_poison, above, before_rest, after_one, poison, poison_child}
 use Rattle.shim_semantics.specs.Places.{SoundBelow, SoundChildren, IsChild}
 use Rattle.shim_semantics.proofs.HowMany.{clash}
@@ -34,7 +34,7 @@ module _ {S : Type 0} (o : Ops S) where
     all_wait_unpoisoned c i (b ∷ p) (Ended l) m g e = none_some m e
     all_wait_unpoisoned c i (b ∷ p) (Dead l x) m g e = none_some m e
     all_wait_unpoisoned c i [] (Forked l ks) m g e =
-        let w = cond_some (can_poison o l c i ks) (Forked l (one_poisoned o c (o.handlers l - 1) i ks)) m e in
+        let w = cond_some (can_poison o l c i ks) (Forked l (one_poisoned o c (death (o.handlers l - 1)) i ks)) m e in
         clash (is_doomed o (o.handlers l) c i ks) (second_holds (is_ready_child o c i ks) (is_doomed o (o.handlers l) c i ks) w.0)
         (others_all_wait (o.handlers l) c i ks (second_holds (not (o.shares l c) || any_sharer o c ks) (all_wait_below o c ks) g))
     all_wait_unpoisoned c i (b ∷ p) (Forked l ks) m g e =
@@ -69,12 +69,12 @@ module _ {S : Type 0} (o : Ops S) where
   -- ---- a meeting beside the poison of a child
 
   -- at the fork: the child is ready still, and the order of both is nothing
-  record HeardHere (c d : Channel) (x : ℕ) (v : ℤ) (i : ℕ) (ks : Nodes S) : Type 0 where
+  record HeardHere (c d : Channel) (x : Death) (v : ℤ) (i : ℕ) (ks : Nodes S) : Type 0 where
     is_ready : is_ready_child o c i (all_received o d v ks) ≡ true
     swap : all_received o d v (one_poisoned o c x i ks) ≡ one_poisoned o c x i (all_received o d v ks)
     alike : AreAlike o d ks (one_poisoned o c x i ks)
 
-  heard_here : LocalLaws o → (c d : Channel) (x : ℕ) (v : ℤ) (l : S) (f j i : ℕ) (ks : Nodes S) → SoundChildren o l f j ks → NotBelow c (o.path l) → (d ≡ c → ⊥) → all_wait_below o d ks ≡ true → is_ready_child o c i ks ≡ true → HeardHere c d x v i ks
+  heard_here : LocalLaws o → (c d : Channel) (x : Death) (v : ℤ) (l : S) (f j i : ℕ) (ks : Nodes S) → SoundChildren o l f j ks → NotBelow c (o.path l) → (d ≡ c → ⊥) → all_wait_below o d ks ≡ true → is_ready_child o c i ks ≡ true → HeardHere c d x v i ks
   heard_here law c d x v l f j i no_node s n a g e = absurd cc
   heard_here law c d x v l f j zero (node_and k ks) s n a g e =
       let below = not_below_child l (state k) f j c s.0 n in
@@ -109,10 +109,10 @@ module _ {S : Type 0} (o : Ops S) where
     meet_poison law c d v i (b ∷ p) (Dead l x) m s from a g e = none_some m e
     meet_poison law c d v i [] (Forked l ks) m s from a g e =
         let w = here_can o law c i l ks m s from e in
-        let k = heard_here law c d (o.handlers l - 1) v l s.number 0 i ks s.children w.none_below a (second_holds (not (o.shares l d) || any_sharer o d ks) (all_wait_below o d ks) g) w.waits in
+        let k = heard_here law c d (death (o.handlers l - 1)) v l s.number 0 i ks s.children w.none_below a (second_holds (not (o.shares l d) || any_sharer o d ks) (all_wait_below o d ks) g) w.waits in
         let there = here_poisons o c i l (all_received o d v ks) k.is_ready (others_heard (o.handlers l) c d v i ks ∙ w.doomed) in
         subst (MeetPoison c d v i [] (Forked l ks)) w.is
-        (record { alike = alike_forked o d l ks (one_poisoned o c (o.handlers l - 1) i ks) k.alike; poisons = there ∙ ap (λ z. Some (Forked l z)) (sym k.swap) })
+        (record { alike = alike_forked o d l ks (one_poisoned o c (death (o.handlers l - 1)) i ks) k.alike; poisons = there ∙ ap (λ z. Some (Forked l z)) (sym k.swap) })
     meet_poison law c d v i (b ∷ p) (Forked l ks) m s from a g e =
         let w = above_some l (poison_child o c i b p ks) m e in
         let k = meet_poison_in law c d v i l s.number 0 b p ks w.0 s.children from a (second_holds (not (o.shares l d) || any_sharer o d ks) (all_wait_below o d ks) g) w.1 in

@@ -3,7 +3,7 @@ use Rattle.std.proofs.Common.{◌≡◌, ◌≤◌, ◌<◌, ◌+◌, ◌-◌, �
 use Rattle.shim_base.specs.Paths.{Channel}
 use Rattle.shim_local.specs.Process.{Ops}
 use Rattle.shim_local.specs.Laws.{LocalLaws}
-use Rattle.shim_semantics.specs.Nodes.{Node, Nodes, Live, Forked, Ended, Dead, no_node, node_and, state}
+use Rattle.shim_semantics.specs.Nodes.{Node, Nodes, Live, Forked, Ended, Dead, Death, death, no_node, node_and, state}
 use Rattle.shim_semantics.specs.Poison.{dooms, any_dooms, is_doomed, is_ready_child, can_poison, poisoned, all_poisoned, one_poisoned, poison, poison_child, poison_route, to_fork, last_branch}
 use Rattle.shim_semantics.specs.Places.{at, child_at, SoundBelow, SoundChildren}
 use Rattle.shim_semantics.proofs.HowMany.{clash, no_less_than}
@@ -30,7 +30,7 @@ module _ {S : Type 0} (o : Ops S) where
     doomed_dead : (h : ℕ) (c : Channel) (n : Node S) → dooms o h c n ≡ true → dead_below h n ≡ true
     doomed_dead h c (Live l) d = d
     doomed_dead h c (Ended l) d = d
-    doomed_dead h c (Dead l x) d = second_holds (o.shares l c) (ltb x h) d
+    doomed_dead h c (Dead l x) d = second_holds (o.shares l c) (ltb x.label h) d
     doomed_dead h c (Forked l ks) d = any_doomed_dead h c ks d
 
     any_doomed_dead : (h : ℕ) (c : Channel) (ks : Nodes S) → any_dooms o h c ks ≡ true → any_dead_below h ks ≡ true
@@ -49,33 +49,33 @@ module _ {S : Type 0} (o : Ops S) where
   ]
 
   -- who was dead is still
-  live_poisoned : (c : Channel) (x t : ℕ) (l : S) → dead_below t (poisoned o c x (Live l)) ≡ true → x < t
+  live_poisoned : (c : Channel) (x : Death) (t : ℕ) (l : S) → dead_below t (poisoned o c x (Live l)) ≡ true → x.label < t
   live_poisoned c x t l d = elim (true_or_false (o.shares l c)) [
-    | inl y ↦ ltb-true x t (sym (ap (λ b. dead_below t (cond b (Dead l x) (Live l))) y) ∙ d)
+    | inl y ↦ ltb-true x.label t (sym (ap (λ b. dead_below t (cond b (Dead l x) (Live l))) y) ∙ d)
     | inr n ↦ clash (dead_below t (poisoned o c x (Live l))) d (ap (λ b. dead_below t (cond b (Dead l x) (Live l))) n)
   ]
 
-  live_dies : (c : Channel) (x t u : ℕ) (l : S) → dead_below t (poisoned o c x (Live l)) ≡ true → x < u → dead_below u (poisoned o c x (Live l)) ≡ true
+  live_dies : (c : Channel) (x : Death) (t u : ℕ) (l : S) → dead_below t (poisoned o c x (Live l)) ≡ true → x.label < u → dead_below u (poisoned o c x (Live l)) ≡ true
   live_dies c x t u l d h = elim (true_or_false (o.shares l c)) [
-    | inl y ↦ ap (λ b. dead_below u (cond b (Dead l x) (Live l))) y ∙ lt-ltb x u h
+    | inl y ↦ ap (λ b. dead_below u (cond b (Dead l x) (Live l))) y ∙ lt-ltb x.label u h
     | inr n ↦ clash (dead_below t (poisoned o c x (Live l))) d (ap (λ b. dead_below t (cond b (Dead l x) (Live l))) n)
   ]
 
   mutual
-    dead_poisoned : (c : Channel) (x t : ℕ) (n : Node S) → dead_below t n ≡ true → dead_below t (poisoned o c x n) ≡ true
+    dead_poisoned : (c : Channel) (x : Death) (t : ℕ) (n : Node S) → dead_below t n ≡ true → dead_below t (poisoned o c x n) ≡ true
     dead_poisoned c x t (Live l) d = absurd cc
     dead_poisoned c x t (Ended l) d = d
     dead_poisoned c x t (Dead l y) d = d
     dead_poisoned c x t (Forked l ks) d = all_dead_poisoned c x t ks d
 
-    all_dead_poisoned : (c : Channel) (x t : ℕ) (ks : Nodes S) → any_dead_below t ks ≡ true → any_dead_below t (all_poisoned o c x ks) ≡ true
+    all_dead_poisoned : (c : Channel) (x : Death) (t : ℕ) (ks : Nodes S) → any_dead_below t ks ≡ true → any_dead_below t (all_poisoned o c x ks) ≡ true
     all_dead_poisoned c x t no_node d = d
     all_dead_poisoned c x t (node_and k ks) d = elim (either_holds (dead_below t k) (any_dead_below t ks) d) [
       | inl y ↦ or_left (dead_below t (poisoned o c x k)) (any_dead_below t (all_poisoned o c x ks)) (dead_poisoned c x t k y)
       | inr y ↦ or_right (dead_below t (poisoned o c x k)) (any_dead_below t (all_poisoned o c x ks)) (all_dead_poisoned c x t ks y)
     ]
 
-  one_dead_poisoned : (c : Channel) (x t i : ℕ) (ks : Nodes S) → any_dead_below t ks ≡ true → any_dead_below t (one_poisoned o c x i ks) ≡ true
+  one_dead_poisoned : (c : Channel) (x : Death) (t i : ℕ) (ks : Nodes S) → any_dead_below t ks ≡ true → any_dead_below t (one_poisoned o c x i ks) ≡ true
   one_dead_poisoned c x t i no_node d = d
   one_dead_poisoned c x t zero (node_and k ks) d = elim (either_holds (dead_below t k) (any_dead_below t ks) d) [
     | inl y ↦ or_left (dead_below t (poisoned o c x k)) (any_dead_below t ks) (dead_poisoned c x t k y)
@@ -93,13 +93,13 @@ module _ {S : Type 0} (o : Ops S) where
 
   mutual
     -- who is dead then was dead, or died of the poison
-    poisoned_dead : (c : Channel) (x t : ℕ) (n : Node S) → dead_below t (poisoned o c x n) ≡ true → (dead_below t n ≡ true) ⊎ Dies x t (λ u. dead_below u (poisoned o c x n))
+    poisoned_dead : (c : Channel) (x : Death) (t : ℕ) (n : Node S) → dead_below t (poisoned o c x n) ≡ true → (dead_below t n ≡ true) ⊎ Dies x.label t (λ u. dead_below u (poisoned o c x n))
     poisoned_dead c x t (Live l) d = inr (record { lower = live_poisoned c x t l d; every = λ u h. live_dies c x t u l d h })
     poisoned_dead c x t (Ended l) d = inl d
     poisoned_dead c x t (Dead l y) d = inl d
     poisoned_dead c x t (Forked l ks) d = all_poisoned_dead c x t ks d
 
-    all_poisoned_dead : (c : Channel) (x t : ℕ) (ks : Nodes S) → any_dead_below t (all_poisoned o c x ks) ≡ true → (any_dead_below t ks ≡ true) ⊎ Dies x t (λ u. any_dead_below u (all_poisoned o c x ks))
+    all_poisoned_dead : (c : Channel) (x : Death) (t : ℕ) (ks : Nodes S) → any_dead_below t (all_poisoned o c x ks) ≡ true → (any_dead_below t ks ≡ true) ⊎ Dies x.label t (λ u. any_dead_below u (all_poisoned o c x ks))
     all_poisoned_dead c x t no_node d = inl d
     all_poisoned_dead c x t (node_and k ks) d = elim (either_holds (dead_below t (poisoned o c x k)) (any_dead_below t (all_poisoned o c x ks)) d) [
       | inl y ↦ elim (poisoned_dead c x t k y) [
@@ -112,7 +112,7 @@ module _ {S : Type 0} (o : Ops S) where
       ]
     ]
 
-  one_poisoned_dead : (c : Channel) (x t i : ℕ) (ks : Nodes S) → any_dead_below t (one_poisoned o c x i ks) ≡ true → (any_dead_below t ks ≡ true) ⊎ (x < t)
+  one_poisoned_dead : (c : Channel) (x : Death) (t i : ℕ) (ks : Nodes S) → any_dead_below t (one_poisoned o c x i ks) ≡ true → (any_dead_below t ks ≡ true) ⊎ (x.label < t)
   one_poisoned_dead c x t i no_node d = inl d
   one_poisoned_dead c x t zero (node_and k ks) d = elim (either_holds (dead_below t (poisoned o c x k)) (any_dead_below t ks) d) [
     | inl y ↦ elim (poisoned_dead c x t k y) [ inl z ↦ inl (or_left (dead_below t k) (any_dead_below t ks) z) | inr z ↦ inr z.lower ]
@@ -124,8 +124,8 @@ module _ {S : Type 0} (o : Ops S) where
   ]
 
   -- at the fork of the poison someone was dead of a label in force there
-  here_dead : (c : Channel) (i t : ℕ) (l : S) (ks : Nodes S) → can_poison o l c i ks ≡ true → 1 ≤ o.handlers l → t ≤ o.handlers l → any_dead_below t (one_poisoned o c (o.handlers l - 1) i ks) ≡ true → any_dead_below t ks ≡ true
-  here_dead c i t l ks can some h d = elim (one_poisoned_dead c (o.handlers l - 1) t i ks d) [
+  here_dead : (c : Channel) (i t : ℕ) (l : S) (ks : Nodes S) → can_poison o l c i ks ≡ true → 1 ≤ o.handlers l → t ≤ o.handlers l → any_dead_below t (one_poisoned o c (death (o.handlers l - 1)) i ks) ≡ true → any_dead_below t ks ≡ true
+  here_dead c i t l ks can some h d = elim (one_poisoned_dead c (death (o.handlers l - 1)) t i ks d) [
     | inl y ↦ y
     | inr y ↦ subst (λ z. any_dead_below z ks ≡ true) (the_handlers t (o.handlers l) y h some)
         (is_doomed_dead (o.handlers l) c i ks (second_holds (is_ready_child o c i ks) (is_doomed o (o.handlers l) c i ks) can))
@@ -138,7 +138,7 @@ module _ {S : Type 0} (o : Ops S) where
     poison_dead law c i t [] (Ended l) m s h e d = none_some m e
     poison_dead law c i t [] (Dead l x) m s h e d = none_some m e
     poison_dead law c i t [] (Forked l ks) m s h e d =
-        let w = cond_some (can_poison o l c i ks) (Forked l (one_poisoned o c (o.handlers l - 1) i ks)) m e in
+        let w = cond_some (can_poison o l c i ks) (Forked l (one_poisoned o c (death (o.handlers l - 1)) i ks)) m e in
         let some = no_less_than (o.handlers l) (o.base l) 1 (law.base_least l s.sound) (law.base_most l s.sound) in
         here_dead c i t l ks w.0 some (no_less_than (o.handlers l) (o.base l) t h (law.base_most l s.sound)) (ap (dead_below t) w.1 ∙ d)
     poison_dead law c i t (b ∷ q) (Live l) m s h e d = none_some m e
@@ -169,8 +169,8 @@ module _ {S : Type 0} (o : Ops S) where
     still_dead c i t [] (Ended l) m e d = none_some m e
     still_dead c i t [] (Dead l x) m e d = none_some m e
     still_dead c i t [] (Forked l ks) m e d =
-        let w = cond_some (can_poison o l c i ks) (Forked l (one_poisoned o c (o.handlers l - 1) i ks)) m e in
-        ap (dead_below t) (sym w.1) ∙ one_dead_poisoned c (o.handlers l - 1) t i ks d
+        let w = cond_some (can_poison o l c i ks) (Forked l (one_poisoned o c (death (o.handlers l - 1)) i ks)) m e in
+        ap (dead_below t) (sym w.1) ∙ one_dead_poisoned c (death (o.handlers l - 1)) t i ks d
     still_dead c i t (b ∷ q) (Live l) m e d = none_some m e
     still_dead c i t (b ∷ q) (Ended l) m e d = none_some m e
     still_dead c i t (b ∷ q) (Dead l x) m e d = none_some m e
@@ -194,19 +194,19 @@ module _ {S : Type 0} (o : Ops S) where
         ]
 
   -- a fork in a child that was poisoned
-  record Poisoned (c : Channel) (x : ℕ) (r : Option (Node S)) (l : S) (ks : Nodes S) : Type 0 where
+  record Poisoned (c : Channel) (x : Death) (r : Option (Node S)) (l : S) (ks : Nodes S) : Type 0 where
     pub children : Nodes S
     pub there : r ≡ Some (Forked l children)
     pub is : all_poisoned o c x children ≡ ks
 
-  live_no_fork : {A : Type 0} (c : Channel) (x : ℕ) (k l : S) (ks : Nodes S) → Some (poisoned o c x (Live k)) ≡ Some (Forked l ks) → A
+  live_no_fork : {A : Type 0} (c : Channel) (x : Death) (k l : S) (ks : Nodes S) → Some (poisoned o c x (Live k)) ≡ Some (Forked l ks) → A
   live_no_fork {A} c x k l ks e = elim (o.shares k c) as (λ b. Some (cond b (Dead k x) (Live k)) ≡ Some (Forked l ks) → A) [ true ↦ λ z. absurd cc | false ↦ λ z. absurd cc ] e
 
-  live_no_child : {A : Type 0} (c : Channel) (x i : ℕ) (q : List ℕ) (k l : S) (ks : Nodes S) → at (i ∷ q) (poisoned o c x (Live k)) ≡ Some (Forked l ks) → A
+  live_no_child : {A : Type 0} (c : Channel) (x : Death) (i : ℕ) (q : List ℕ) (k l : S) (ks : Nodes S) → at (i ∷ q) (poisoned o c x (Live k)) ≡ Some (Forked l ks) → A
   live_no_child {A} c x i q k l ks e = elim (o.shares k c) as (λ b. at (i ∷ q) (cond b (Dead k x) (Live k)) ≡ Some (Forked l ks) → A) [ true ↦ λ z. none_some (Forked l ks) z | false ↦ λ z. none_some (Forked l ks) z ] e
 
   mutual
-    poisoned_fork : (c : Channel) (x : ℕ) (q : List ℕ) (n : Node S) (l : S) (ks : Nodes S) → at q (poisoned o c x n) ≡ Some (Forked l ks) → Poisoned c x (at q n) l ks
+    poisoned_fork : (c : Channel) (x : Death) (q : List ℕ) (n : Node S) (l : S) (ks : Nodes S) → at q (poisoned o c x n) ≡ Some (Forked l ks) → Poisoned c x (at q n) l ks
     poisoned_fork c x [] (Live k) l ks e = live_no_fork c x k l ks e
     poisoned_fork c x [] (Ended k) l ks e = absurd cc
     poisoned_fork c x [] (Dead k y) l ks e = absurd cc
@@ -218,7 +218,7 @@ module _ {S : Type 0} (o : Ops S) where
     poisoned_fork c x (i ∷ q) (Dead k y) l ks e = none_some (Forked l ks) e
     poisoned_fork c x (i ∷ q) (Forked k js) l ks e = all_poisoned_fork c x i q js l ks e
 
-    all_poisoned_fork : (c : Channel) (x i : ℕ) (q : List ℕ) (js : Nodes S) (l : S) (ks : Nodes S) → child_at i q (all_poisoned o c x js) ≡ Some (Forked l ks) → Poisoned c x (child_at i q js) l ks
+    all_poisoned_fork : (c : Channel) (x : Death) (i : ℕ) (q : List ℕ) (js : Nodes S) (l : S) (ks : Nodes S) → child_at i q (all_poisoned o c x js) ≡ Some (Forked l ks) → Poisoned c x (child_at i q js) l ks
     all_poisoned_fork c x i q no_node l ks e = none_some (Forked l ks) e
     all_poisoned_fork c x zero q (node_and k js) l ks e = poisoned_fork c x q k l ks e
     all_poisoned_fork c x (suc i) q (node_and k js) l ks e = all_poisoned_fork c x i q js l ks e
@@ -230,10 +230,10 @@ module _ {S : Type 0} (o : Ops S) where
     pub least : IsLeast x children
 
   -- there the label that could be caught is above that of the poison
-  stood_poisoned : (c : Channel) (y : ℕ) (q : List ℕ) (n : Node S) (l : S) (ks : Nodes S) (x : ℕ) → at q (poisoned o c y n) ≡ Some (Forked l ks) → ((js : Nodes S) → at q n ≡ Some (Forked l js) → y < x) → IsLeast x ks → Stood n q l x
+  stood_poisoned : (c : Channel) (y : Death) (q : List ℕ) (n : Node S) (l : S) (ks : Nodes S) (x : ℕ) → at q (poisoned o c y n) ≡ Some (Forked l ks) → ((js : Nodes S) → at q n ≡ Some (Forked l js) → y.label < x) → IsLeast x ks → Stood n q l x
   stood_poisoned c y q n l ks x e higher least =
       let w = poisoned_fork c y q n l ks e in
-      let h : y < x = higher w.children w.there in
+      let h : y.label < x = higher w.children w.there in
       let some : any_dead_below (suc x) w.children ≡ true = elim (all_poisoned_dead c y (suc x) w.children (ap (any_dead_below (suc x)) w.is ∙ least.some)) [
         | inl z ↦ z
         | inr z ↦ clash (any_dead_below x ks) (ap (any_dead_below x) (sym w.is) ∙ z.every x h) least.none
@@ -242,8 +242,8 @@ module _ {S : Type 0} (o : Ops S) where
       false_unless (any_dead_below x w.children) (λ z. clash (any_dead_below x ks) (ap (any_dead_below x) (sym w.is) ∙ all_dead_poisoned c y x w.children z) least.none) in
       record { children = w.children; there = w.there; least = record { some = some; none = none } }
 
-  stood_one_poisoned : (c : Channel) (y i j : ℕ) (q : List ℕ) (ns : Nodes S) (l : S) (ks : Nodes S) (x : ℕ) → child_at j q (one_poisoned o c y i ns) ≡ Some (Forked l ks)
-      → ((js : Nodes S) → child_at j q ns ≡ Some (Forked l js) → y < x) → IsLeast x ks → StoodIn ns j q l x
+  stood_one_poisoned : (c : Channel) (y : Death) (i j : ℕ) (q : List ℕ) (ns : Nodes S) (l : S) (ks : Nodes S) (x : ℕ) → child_at j q (one_poisoned o c y i ns) ≡ Some (Forked l ks)
+      → ((js : Nodes S) → child_at j q ns ≡ Some (Forked l js) → y.label < x) → IsLeast x ks → StoodIn ns j q l x
   stood_one_poisoned c y i j q no_node l ks x e h least = none_some (Forked l ks) e
   stood_one_poisoned c y zero zero q (node_and k ns) l ks x e h least = let w = stood_poisoned c y q k l ks x e h least in record { children = w.children; there = w.there; least = w.least }
   stood_one_poisoned c y zero (suc j) q (node_and k ns) l ks x e h least = record { children = ks; there = e; least = least }
@@ -252,21 +252,21 @@ module _ {S : Type 0} (o : Ops S) where
 
   -- at the fork of the poison and below
   stood_here : LocalLaws o → (c : Channel) (i : ℕ) (q : List ℕ) (k : S) (ns : Nodes S) (l : S) (ks : Nodes S) (x : ℕ) → SoundBelow o (Forked k ns) → can_poison o k c i ns ≡ true
-      → at q (Forked k (one_poisoned o c (o.handlers k - 1) i ns)) ≡ Some (Forked l ks) → o.base l ≤ x → x < o.handlers l → IsLeast x ks → Stood (Forked k ns) q l x
+      → at q (Forked k (one_poisoned o c (death (o.handlers k - 1)) i ns)) ≡ Some (Forked l ks) → o.base l ≤ x → x < o.handlers l → IsLeast x ks → Stood (Forked k ns) q l x
   stood_here law c i [] k ns l ks x s can e low high least =
-      let js = one_poisoned o c (o.handlers k - 1) i ns in
+      let js = one_poisoned o c (death (o.handlers k - 1)) i ns in
       let w = same_fork k l js ks e in
       let some = no_less_than (o.handlers k) (o.base k) 1 (law.base_least k s.sound) (law.base_most k s.sound) in
       let within : suc x ≤ o.handlers k = subst (λ z. suc x ≤ o.handlers z) (sym w.0) (next_up_to x (o.handlers l) high) in
       let was : any_dead_below (suc x) ns ≡ true = here_dead c i (suc x) k ns can some within (ap (any_dead_below (suc x)) w.1 ∙ least.some) in
       let not_less : any_dead_below x ns ≡ false =
-      false_unless (any_dead_below x ns) (λ z. clash (any_dead_below x ks) (ap (any_dead_below x) (sym w.1) ∙ one_dead_poisoned c (o.handlers k - 1) x i ns z) least.none) in
+      false_unless (any_dead_below x ns) (λ z. clash (any_dead_below x ks) (ap (any_dead_below x) (sym w.1) ∙ one_dead_poisoned c (death (o.handlers k - 1)) x i ns z) least.none) in
       record { children = ns; there = ap (λ z. Some (Forked z ns)) w.0; least = record { some = was; none = not_less } }
   stood_here law c i (j ∷ q) k ns l ks x s can e low high least =
       let some = no_less_than (o.handlers k) (o.base k) 1 (law.base_least k s.sound) (law.base_most k s.sound) in
       let higher : (js : Nodes S) → child_at j q ns ≡ Some (Forked l js) → o.handlers k - 1 < x =
       λ js f. innermost_under (o.handlers k) (o.base l) x some (base_below o law k s.number 0 ns j q (Forked l js) s.children f) low in
-      let w = stood_one_poisoned c (o.handlers k - 1) i j q ns l ks x e higher least in
+      let w = stood_one_poisoned c (death (o.handlers k - 1)) i j q ns l ks x e higher least in
       record { children = w.children; there = w.there; least = w.least }
 
   -- at a fork above it
@@ -287,7 +287,7 @@ module _ {S : Type 0} (o : Ops S) where
     stood_poison law c i [] q (Ended k) m l ks x s h e low high least = none_some m h
     stood_poison law c i [] q (Dead k y) m l ks x s h e low high least = none_some m h
     stood_poison law c i [] q (Forked k ns) m l ks x s h e low high least =
-        let w = cond_some (can_poison o k c i ns) (Forked k (one_poisoned o c (o.handlers k - 1) i ns)) m h in
+        let w = cond_some (can_poison o k c i ns) (Forked k (one_poisoned o c (death (o.handlers k - 1)) i ns)) m h in
         stood_here law c i q k ns l ks x s w.0 (ap (at q) w.1 ∙ e) low high least
     stood_poison law c i (b ∷ p) q (Live k) m l ks x s h e low high least = none_some m h
     stood_poison law c i (b ∷ p) q (Ended k) m l ks x s h e low high least = none_some m h

@@ -3,7 +3,7 @@ use Rattle.std.proofs.Common.{◌≡◌, ℕ, zero, suc, ◌+◌, ◌-◌, true,
 use Rattle.shim_base.specs.Paths.{Channel}
 use Rattle.shim_local.specs.Process.{Ops}
 use Rattle.shim_local.specs.Laws.{LocalLaws}
-use Rattle.shim_semantics.specs.Nodes.{Node, Nodes, Live, Forked, Ended, Dead, no_node, node_and, state, any_sharer}
+use Rattle.shim_semantics.specs.Nodes.{Node, Nodes, Live, Forked, Ended, Dead, Death, death, no_node, node_and, state, any_sharer}
 use Rattle.shim_semantics.specs.Poison.{poisoned, all_poisoned, dooms, any_dooms, is_doomed, is_ready_child, one_poisoned, can_poison, above, before_rest, after_one, poison, poison_child}
 use Rattle.shim_semantics.specs.Places.{SoundBelow, SoundChildren}
 use Rattle.shim_laws_schedules.specs.Waiting.{all_wait, all_wait_below}
@@ -18,7 +18,7 @@ use Rattle.shim_semantics.proofs.PoisonStays.{before_some}
 module _ {S : Type 0} (o : Ops S) where
   -- ---- who dooms goes on where a child is poisoned
 
-  one_any_dooms : (c d : Channel) (x h i : ℕ) (ks : Nodes S) → any_dooms o h d ks ≡ true → any_dooms o h d (one_poisoned o c x i ks) ≡ true
+  one_any_dooms : (c d : Channel) (x : Death) (h i : ℕ) (ks : Nodes S) → any_dooms o h d ks ≡ true → any_dooms o h d (one_poisoned o c x i ks) ≡ true
   one_any_dooms c d x h i no_node e = e
   one_any_dooms c d x h zero (node_and k ks) e = elim (either_holds (dooms o h d k) (any_dooms o h d ks) e) [
     | inl y ↦ or_left (dooms o h d (poisoned o c x k)) (any_dooms o h d ks) (poisoned_dooms o c d x h k y)
@@ -30,7 +30,7 @@ module _ {S : Type 0} (o : Ops S) where
   ]
 
   -- and so a child that is doomed stays so, where one is poisoned
-  one_doomed : (c d : Channel) (x h i e : ℕ) (ks : Nodes S) → is_doomed o h d e ks ≡ true → is_doomed o h d e (one_poisoned o c x i ks) ≡ true
+  one_doomed : (c d : Channel) (x : Death) (h i e : ℕ) (ks : Nodes S) → is_doomed o h d e ks ≡ true → is_doomed o h d e (one_poisoned o c x i ks) ≡ true
   one_doomed c d x h i e no_node y = y
   one_doomed c d x h zero zero (node_and k ks) y = y
   one_doomed c d x h (suc i) zero (node_and k ks) y = one_any_dooms c d x h i ks y
@@ -44,7 +44,7 @@ module _ {S : Type 0} (o : Ops S) where
   ]
 
   -- or all are
-  all_doomed : (c d : Channel) (x h i : ℕ) (ks : Nodes S) → is_doomed o h d i ks ≡ true → is_doomed o h d i (all_poisoned o c x ks) ≡ true
+  all_doomed : (c d : Channel) (x : Death) (h i : ℕ) (ks : Nodes S) → is_doomed o h d i ks ≡ true → is_doomed o h d i (all_poisoned o c x ks) ≡ true
   all_doomed c d x h i no_node e = e
   all_doomed c d x h zero (node_and k ks) e = all_poisoned_dooms o c d x h ks e
   all_doomed c d x h (suc i) (node_and k ks) e = elim (either_holds (dooms o h d k) (is_doomed o h d i ks) e) [
@@ -60,8 +60,8 @@ module _ {S : Type 0} (o : Ops S) where
     poison_dooms c d h e [] (Dead l x) m y f = none_some m f
     poison_dooms c d h e (b ∷ q) (Dead l x) m y f = none_some m f
     poison_dooms c d h e [] (Forked l ks) m y f =
-        let w = cond_some (can_poison o l d e ks) (Forked l (one_poisoned o d (o.handlers l - 1) e ks)) m f in
-        ap (dooms o h c) (sym w.1) ∙ one_any_dooms d c (o.handlers l - 1) h e ks y
+        let w = cond_some (can_poison o l d e ks) (Forked l (one_poisoned o d (death (o.handlers l - 1)) e ks)) m f in
+        ap (dooms o h c) (sym w.1) ∙ one_any_dooms d c (death (o.handlers l - 1)) h e ks y
     poison_dooms c d h e (b ∷ q) (Forked l ks) m y f =
         let w = above_some l (poison_child o d e b q ks) m f in ap (dooms o h c) (sym w.2) ∙ poison_dooms_in c d h e b q ks w.0 y w.1
 
@@ -100,11 +100,11 @@ module _ {S : Type 0} (o : Ops S) where
   -- ---- two at one fork: of two children, or of one on two channels
 
   -- the second child is ready still, and the order of both is nothing
-  record BothHere (c d : Channel) (x y i e : ℕ) (ks : Nodes S) : Type 0 where
+  record BothHere (c d : Channel) (x y : Death) (i e : ℕ) (ks : Nodes S) : Type 0 where
     is_ready : is_ready_child o d e (one_poisoned o c x i ks) ≡ true
     swap : one_poisoned o d y e (one_poisoned o c x i ks) ≡ one_poisoned o c x i (one_poisoned o d y e ks)
 
-  both_here : LocalLaws o → (c d : Channel) (x y : ℕ) (l : S) (f j i e : ℕ) (ks : Nodes S) → SoundChildren o l f j ks → NotBelow c (o.path l) → NotBelow d (o.path l) → (c ≡ d → i ≡ e → ⊥) → is_ready_child o c i ks ≡ true → is_ready_child o d e ks ≡ true → BothHere c d x y i e ks
+  both_here : LocalLaws o → (c d : Channel) (x y : Death) (l : S) (f j i e : ℕ) (ks : Nodes S) → SoundChildren o l f j ks → NotBelow c (o.path l) → NotBelow d (o.path l) → (c ≡ d → i ≡ e → ⊥) → is_ready_child o c i ks ≡ true → is_ready_child o d e ks ≡ true → BothHere c d x y i e ks
   both_here law c d x y l f j i e no_node s n m a r q = absurd cc
   both_here law c d x y l f j zero zero (node_and k ks) s n m a r q =
       let other : d ≡ c → ⊥ = λ z. a (sym z) refl in
@@ -122,22 +122,22 @@ module _ {S : Type 0} (o : Ops S) where
   -- ---- one below the other
 
   -- a poison on d below is nothing to another channel, and is the same behind one on c above
-  record Struck (c d : Channel) (x e : ℕ) (q : List ℕ) (n m : Node S) : Type 0 where
+  record Struck (c d : Channel) (x : Death) (e : ℕ) (q : List ℕ) (n m : Node S) : Type 0 where
     alike : Alike o c n m
     poisons : poison o d e q (poisoned o c x n) ≡ Some (poisoned o c x m)
 
   -- the same among the children of a fork
-  record StruckIn (c d : Channel) (x e b : ℕ) (q : List ℕ) (ks ms : Nodes S) : Type 0 where
+  record StruckIn (c d : Channel) (x : Death) (e b : ℕ) (q : List ℕ) (ks ms : Nodes S) : Type 0 where
     alike : AreAlike o c ks ms
     poisons : poison_child o d e b q (all_poisoned o c x ks) ≡ Some (all_poisoned o c x ms)
 
   -- at the fork: the child is ready still, and the order of both is nothing
-  record StruckHere (c d : Channel) (x y e : ℕ) (ks : Nodes S) : Type 0 where
+  record StruckHere (c d : Channel) (x y : Death) (e : ℕ) (ks : Nodes S) : Type 0 where
     is_ready : is_ready_child o d e (all_poisoned o c x ks) ≡ true
     swap : one_poisoned o d y e (all_poisoned o c x ks) ≡ all_poisoned o c x (one_poisoned o d y e ks)
     alike : AreAlike o c ks (one_poisoned o d y e ks)
 
-  struck_here : LocalLaws o → (c d : Channel) (x y : ℕ) (l : S) (f j e : ℕ) (ks : Nodes S) → SoundChildren o l f j ks → NotBelow d (o.path l) → (c ≡ d → ⊥) → all_wait_below o c ks ≡ true → is_ready_child o d e ks ≡ true → StruckHere c d x y e ks
+  struck_here : LocalLaws o → (c d : Channel) (x y : Death) (l : S) (f j e : ℕ) (ks : Nodes S) → SoundChildren o l f j ks → NotBelow d (o.path l) → (c ≡ d → ⊥) → all_wait_below o c ks ≡ true → is_ready_child o d e ks ≡ true → StruckHere c d x y e ks
   struck_here law c d x y l f j e no_node s n a g r = absurd cc
   struck_here law c d x y l f j zero (node_and k ks) s n a g r =
       let other : d ≡ c → ⊥ = λ z. a (sym z) in
@@ -154,7 +154,7 @@ module _ {S : Type 0} (o : Ops S) where
       record { is_ready = w.is_ready; swap = ap (node_and (poisoned o c x k)) w.swap; alike = alike_first o c k k ks (one_poisoned o d y e ks) (alike_same o c k) w.alike }
 
   mutual
-    struck : LocalLaws o → (c d : Channel) (x e : ℕ) (q : List ℕ) (n m : Node S) → SoundBelow o n → FromAbove o d (state n) → (c ≡ d → ⊥) → all_wait o c n ≡ true → poison o d e q n ≡ Some m → Struck c d x e q n m
+    struck : LocalLaws o → (c d : Channel) (x : Death) (e : ℕ) (q : List ℕ) (n m : Node S) → SoundBelow o n → FromAbove o d (state n) → (c ≡ d → ⊥) → all_wait o c n ≡ true → poison o d e q n ≡ Some m → Struck c d x e q n m
     struck law c d x e [] (Live l) m s from a g f = none_some m f
     struck law c d x e [] (Ended l) m s from a g f = none_some m f
     struck law c d x e [] (Dead l y) m s from a g f = none_some m f
@@ -163,16 +163,16 @@ module _ {S : Type 0} (o : Ops S) where
     struck law c d x e (b ∷ q) (Dead l y) m s from a g f = none_some m f
     struck law c d x e [] (Forked l ks) m s from a g f =
         let w = here_can o law d e l ks m s from f in
-        let k = struck_here law c d x (o.handlers l - 1) l s.number 0 e ks s.children w.none_below a (second_holds (not (o.shares l c) || any_sharer o c ks) (all_wait_below o c ks) g) w.waits in
+        let k = struck_here law c d x (death (o.handlers l - 1)) l s.number 0 e ks s.children w.none_below a (second_holds (not (o.shares l c) || any_sharer o c ks) (all_wait_below o c ks) g) w.waits in
         let there = here_poisons o d e l (all_poisoned o c x ks) k.is_ready (all_doomed c d x (o.handlers l) e ks w.doomed) in
         subst (Struck c d x e [] (Forked l ks)) w.is
-        (record { alike = alike_forked o c l ks (one_poisoned o d (o.handlers l - 1) e ks) k.alike; poisons = there ∙ ap (λ z. Some (Forked l z)) k.swap })
+        (record { alike = alike_forked o c l ks (one_poisoned o d (death (o.handlers l - 1)) e ks) k.alike; poisons = there ∙ ap (λ z. Some (Forked l z)) k.swap })
     struck law c d x e (b ∷ q) (Forked l ks) m s from a g f =
         let w = above_some l (poison_child o d e b q ks) m f in
         let k = struck_in law c d x e l s.number 0 b q ks w.0 s.children from a (second_holds (not (o.shares l c) || any_sharer o c ks) (all_wait_below o c ks) g) w.1 in
         subst (Struck c d x e (b ∷ q) (Forked l ks)) w.2 (record { alike = alike_forked o c l ks w.0 k.alike; poisons = ap (above l) k.poisons })
 
-    struck_in : LocalLaws o → (c d : Channel) (x e : ℕ) (l : S) (g j b : ℕ) (q : List ℕ) (ks ms : Nodes S) → SoundChildren o l g j ks → FromAbove o d l → (c ≡ d → ⊥) → all_wait_below o c ks ≡ true → poison_child o d e b q ks ≡ Some ms → StruckIn c d x e b q ks ms
+    struck_in : LocalLaws o → (c d : Channel) (x : Death) (e : ℕ) (l : S) (g j b : ℕ) (q : List ℕ) (ks ms : Nodes S) → SoundChildren o l g j ks → FromAbove o d l → (c ≡ d → ⊥) → all_wait_below o c ks ≡ true → poison_child o d e b q ks ≡ Some ms → StruckIn c d x e b q ks ms
     struck_in law c d x e l g j b q no_node ms s from a h f = none_some ms f
     struck_in law c d x e l g j zero q (node_and k ks) ms s from a h f =
         let w = before_some ks (poison o d e q k) ms f in
@@ -184,12 +184,12 @@ module _ {S : Type 0} (o : Ops S) where
         subst (StruckIn c d x e (suc b) q (node_and k ks)) w.2 (record { alike = alike_first o c k k ks w.0 (alike_same o c k) y.alike; poisons = ap (after_one (poisoned o c x k)) y.poisons })
 
   -- the child above is ready still, and the poison below is the same behind the one above
-  record Upper (c d : Channel) (x i e b : ℕ) (q : List ℕ) (ks ms : Nodes S) : Type 0 where
+  record Upper (c d : Channel) (x : Death) (i e b : ℕ) (q : List ℕ) (ks ms : Nodes S) : Type 0 where
     is_ready : is_ready_child o c i ms ≡ true
     poisons : poison_child o d e b q (one_poisoned o c x i ks) ≡ Some (one_poisoned o c x i ms)
 
   -- one of a child, and one inside that child or another
-  upper : LocalLaws o → (c d : Channel) (x : ℕ) (l : S) (f j i e b : ℕ) (q : List ℕ) (ks ms : Nodes S) → SoundChildren o l f j ks → NotBelow c (o.path l) → FromAbove o d l → is_ready_child o c i ks ≡ true → poison_child o d e b q ks ≡ Some ms → Upper c d x i e b q ks ms
+  upper : LocalLaws o → (c d : Channel) (x : Death) (l : S) (f j i e b : ℕ) (q : List ℕ) (ks ms : Nodes S) → SoundChildren o l f j ks → NotBelow c (o.path l) → FromAbove o d l → is_ready_child o c i ks ≡ true → poison_child o d e b q ks ≡ Some ms → Upper c d x i e b q ks ms
   upper law c d x l f j i e b q no_node ms s n from r g = none_some ms g
   upper law c d x l f j zero e zero q (node_and k ks) ms s n from r g =
       let w = before_some ks (poison o d e q k) ms g in
@@ -227,9 +227,9 @@ module _ {S : Type 0} (o : Ops S) where
   one_above law c d i e b q l ks m k s fc fd f g =
       let w = here_can o law c i l ks m s fc f in
       let y = above_some l (poison_child o d e b q ks) k g in
-      let u = upper law c d (o.handlers l - 1) l s.number 0 i e b q ks y.0 s.children w.none_below fd w.waits y.1 in
-      let t : Twice c i [] d e (b ∷ q) (Forked l (one_poisoned o c (o.handlers l - 1) i ks)) (Forked l y.0) =
-      record { node = Forked l (one_poisoned o c (o.handlers l - 1) i y.0); first = ap (above l) u.poisons; second = here_poisons o c i l y.0 u.is_ready (poison_doomed c d (o.handlers l) i e b q ks y.0 w.doomed y.1) } in
+      let u = upper law c d (death (o.handlers l - 1)) l s.number 0 i e b q ks y.0 s.children w.none_below fd w.waits y.1 in
+      let t : Twice c i [] d e (b ∷ q) (Forked l (one_poisoned o c (death (o.handlers l - 1)) i ks)) (Forked l y.0) =
+      record { node = Forked l (one_poisoned o c (death (o.handlers l - 1)) i y.0); first = ap (above l) u.poisons; second = here_poisons o c i l y.0 u.is_ready (poison_doomed c d (o.handlers l) i e b q ks y.0 w.doomed y.1) } in
       subst (Twice c i [] d e (b ∷ q) m) y.2 (subst (λ z. Twice c i [] d e (b ∷ q) z (Forked l y.0)) w.is t)
 
   mutual
@@ -243,15 +243,15 @@ module _ {S : Type 0} (o : Ops S) where
     poison_poison law c i [] d e [] (Forked l ks) m k s fc fd a f g =
         let w = here_can o law c i l ks m s fc f in
         let y = here_can o law d e l ks k s fd g in
-        let u = both_here law c d (o.handlers l - 1) (o.handlers l - 1) l s.number 0 i e ks s.children w.none_below y.none_below (λ z t. a z t refl) w.waits y.waits in
-        let v = both_here law d c (o.handlers l - 1) (o.handlers l - 1) l s.number 0 e i ks s.children y.none_below w.none_below (λ z t. a (sym z) (sym t) refl) y.waits w.waits in
-        let t : Twice c i [] d e [] (Forked l (one_poisoned o c (o.handlers l - 1) i ks)) (Forked l (one_poisoned o d (o.handlers l - 1) e ks)) =
+        let u = both_here law c d (death (o.handlers l - 1)) (death (o.handlers l - 1)) l s.number 0 i e ks s.children w.none_below y.none_below (λ z t. a z t refl) w.waits y.waits in
+        let v = both_here law d c (death (o.handlers l - 1)) (death (o.handlers l - 1)) l s.number 0 e i ks s.children y.none_below w.none_below (λ z t. a (sym z) (sym t) refl) y.waits w.waits in
+        let t : Twice c i [] d e [] (Forked l (one_poisoned o c (death (o.handlers l - 1)) i ks)) (Forked l (one_poisoned o d (death (o.handlers l - 1)) e ks)) =
         record {
-          node = Forked l (one_poisoned o d (o.handlers l - 1) e (one_poisoned o c (o.handlers l - 1) i ks));
-          first = here_poisons o d e l (one_poisoned o c (o.handlers l - 1) i ks) u.is_ready (one_doomed c d (o.handlers l - 1) (o.handlers l) i e ks y.doomed);
-          second = here_poisons o c i l (one_poisoned o d (o.handlers l - 1) e ks) v.is_ready (one_doomed d c (o.handlers l - 1) (o.handlers l) e i ks w.doomed) ∙ ap (λ z. Some (Forked l z)) (sym u.swap);
+          node = Forked l (one_poisoned o d (death (o.handlers l - 1)) e (one_poisoned o c (death (o.handlers l - 1)) i ks));
+          first = here_poisons o d e l (one_poisoned o c (death (o.handlers l - 1)) i ks) u.is_ready (one_doomed c d (death (o.handlers l - 1)) (o.handlers l) i e ks y.doomed);
+          second = here_poisons o c i l (one_poisoned o d (death (o.handlers l - 1)) e ks) v.is_ready (one_doomed d c (death (o.handlers l - 1)) (o.handlers l) e i ks w.doomed) ∙ ap (λ z. Some (Forked l z)) (sym u.swap);
         } in
-        subst (Twice c i [] d e [] m) y.is (subst (λ z. Twice c i [] d e [] z (Forked l (one_poisoned o d (o.handlers l - 1) e ks))) w.is t)
+        subst (Twice c i [] d e [] m) y.is (subst (λ z. Twice c i [] d e [] z (Forked l (one_poisoned o d (death (o.handlers l - 1)) e ks))) w.is t)
     poison_poison law c i [] d e (b ∷ q) (Forked l ks) m k s fc fd a f g = one_above law c d i e b q l ks m k s fc fd f g
     poison_poison law c i (b ∷ p) d e [] (Forked l ks) m k s fc fd a f g =
         let w = one_above law d c e i b p l ks k m s fd fc g f in record { node = w.node; first = w.second; second = w.first }

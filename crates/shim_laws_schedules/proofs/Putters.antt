@@ -4,7 +4,7 @@ use Rattle.std.specs.Prelude.{ltb}
 use Rattle.std.proofs.lemmas.List.{append-nil}
 use Rattle.shim_local.specs.Process.{Ops, StopView, AtQuiet, AtNext, AtPut, AtFork, AtFinish, AtThrow, AtTrap}
 use Rattle.shim_local.specs.Laws.{LocalLaws}
-use Rattle.shim_semantics.specs.Nodes.{Node, Live, Forked, Ended, Dead, state, states, least_label}
+use Rattle.shim_semantics.specs.Nodes.{Node, Live, Forked, Ended, Dead, death, Death, state, states, prevailing_death}
 use Rattle.shim_semantics.specs.Acts.{Acted, nothing, catching, thrown, closed, act_here, act_live}
 use Rattle.shim_semantics.specs.Places.{at, SoundBelow}
 use Rattle.shim_semantics.specs.Sound.{IsSound, holders}
@@ -14,14 +14,14 @@ use Rattle.shim_laws_schedules.proofs.Two.{two_count}
 use Rattle.shim_base.proofs.Facts.{some_same, none_some}
 
 module _ {S : Type 0} (o : Ops S) where
-  thrown_silent : (l : S) (x : ℕ) → (thrown o l x).effects.bytes ≡ []
-  thrown_silent l x = by_test (ltb x (o.base l))
+  thrown_silent : (l : S) (x : Death) → (thrown o l x).effects.bytes ≡ []
+  thrown_silent l x = by_test (ltb x.label (o.base l))
     where
-      by_test : (b : Bool) → (cond {A = Acted S} b (record { node = Dead l x; effects = nothing }) (record { node = Live (o.unwind l x); effects = catching (o.handler l x) })).effects.bytes ≡ []
+      by_test : (b : Bool) → (cond {A = Acted S} b (record { node = Dead l x; effects = nothing }) (record { node = Live (o.unwind l x.label); effects = catching (o.handler l x.label) })).effects.bytes ≡ []
       by_test true = refl
       by_test false = refl
 
-  closed_silent : (l : S) (ks : List S) (x : Option ℕ) → (closed o l ks x).effects.bytes ≡ []
+  closed_silent : (l : S) (ks : List S) (x : Option Death) → (closed o l ks x).effects.bytes ≡ []
   closed_silent l ks None = refl
   closed_silent l ks (Some x) = thrown_silent (o.join l ks false) x
 
@@ -35,13 +35,13 @@ module _ {S : Type 0} (o : Ops S) where
   puts_live law l AtFork a s at e = inl (told _ a refl (some_same _ a e))
   puts_live law l AtFinish a s at e = inl (told _ a refl (some_same _ a e))
   puts_live law l (AtNext c) a s at e = none_some a e
-  puts_live law l (AtThrow x) a s at e = inl (told (thrown o l x) a (thrown_silent l x) (some_same (thrown o l x) a e))
+  puts_live law l (AtThrow x) a s at e = inl (told (thrown o l (death x)) a (thrown_silent l (death x)) (some_same (thrown o l (death x)) a e))
   puts_live law l (AtTrap kind line) a s at e = inl (told _ a refl (some_same _ a e))
 
   pub puts : LocalLaws o → (m : Node S) (a : Acted S) → SoundBelow o m → act_here o m ≡ Some a → (a.effects.bytes ≡ []) ⊎ (o.holds_output (state m) ≡ true)
   puts law (Live l) a s e = puts_live law l (o.stop l) a s refl e
   puts law (Forked l ks) a s e =
-      inl (told (closed o l (states ks) (least_label ks)) a (closed_silent l (states ks) (least_label ks)) (closing o l ks a e).1)
+      inl (told (closed o l (states ks) (prevailing_death ks)) a (closed_silent l (states ks) (prevailing_death ks)) (closing o l ks a e).1)
   puts law (Ended l) a s e = none_some a e
   puts law (Dead l x) a s e = none_some a e
 

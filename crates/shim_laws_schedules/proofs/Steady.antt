@@ -2,7 +2,7 @@
 use Rattle.std.proofs.Common.{◌≡◌, ℕ, zero, suc, ◌-◌, true, false, Option, Some, None, List, [], ◌∷◌, cond, refl, sym, ap, ◌∙◌, ltb}
 use Rattle.shim_base.specs.Paths.{Channel}
 use Rattle.shim_local.specs.Process.{Ops}
-use Rattle.shim_semantics.specs.Nodes.{Node, Nodes, Live, Forked, Ended, Dead, no_node, node_and, state, states, least_label}
+use Rattle.shim_semantics.specs.Nodes.{Node, Nodes, Live, Forked, Ended, Dead, Death, death, no_node, node_and, state, states, prevailing_death}
 use Rattle.shim_semantics.specs.Acts.{Acted, act_here, thrown, closed, nothing, catching}
 use Rattle.shim_semantics.specs.Poison.{poisoned, one_poisoned, can_poison, poison, poison_child}
 use Rattle.shim_semantics.specs.Places.{at, child_at}
@@ -17,13 +17,13 @@ module _ {S : Type 0} (o : Ops S) where
   -- ---- an act
 
   -- below a process whose fork closed there is nobody
-  thrown_alone : (l : S) (x b : ℕ) (w : List ℕ) → at (b ∷ w) (thrown o l x).node ≡ None
+  thrown_alone : (l : S) (x : Death) (b : ℕ) (w : List ℕ) → at (b ∷ w) (thrown o l x).node ≡ None
   thrown_alone l x b w =
       let dies : Acted S = record { node = Dead l x; effects = nothing } in
-      let goes_on : Acted S = record { node = Live (o.unwind l x); effects = catching (o.handler l x) } in
-      elim (ltb x (o.base l)) as (λ z. at (b ∷ w) (cond z dies goes_on).node ≡ None) [ true ↦ refl | false ↦ refl ]
+      let goes_on : Acted S = record { node = Live (o.unwind l x.label); effects = catching (o.handler l x.label) } in
+      elim (ltb x.label (o.base l)) as (λ z. at (b ∷ w) (cond z dies goes_on).node ≡ None) [ true ↦ refl | false ↦ refl ]
 
-  closed_alone : (l : S) (ks : List S) (r : Option ℕ) (b : ℕ) (w : List ℕ) → at (b ∷ w) (closed o l ks r).node ≡ None
+  closed_alone : (l : S) (ks : List S) (r : Option Death) (b : ℕ) (w : List ℕ) → at (b ∷ w) (closed o l ks r).node ≡ None
   closed_alone l ks None b w = refl
   closed_alone l ks (Some x) b w = thrown_alone (o.join l ks false) x b w
 
@@ -32,7 +32,7 @@ module _ {S : Type 0} (o : Ops S) where
   none_left (Live l) k j a b w h e f = none_some k e
   none_left (Ended l) k j a b w h e f = none_some k e
   none_left (Dead l x) k j a b w h e f = none_some k e
-  none_left (Forked l ks) k j a b w h e f = none_some j (sym (closed_alone l (states ks) (least_label ks) b w) ∙ (ap (λ z. at (b ∷ w) z.node) (closing o l ks a h).1 ∙ f))
+  none_left (Forked l ks) k j a b w h e f = none_some j (sym (closed_alone l (states ks) (prevailing_death ks) b w) ∙ (ap (λ z. at (b ∷ w) z.node) (closing o l ks a h).1 ∙ f))
 
   mutual
     pub act_path : (q w : List ℕ) (n m k j : Node S) (a : Acted S) → at q n ≡ Some m → act_here o m ≡ Some a → o.path (state a.node) ≡ o.path (state m) → at w n ≡ Some k → at w (put q a.node n) ≡ Some j → o.path (state j) ≡ o.path (state k)
@@ -53,13 +53,13 @@ module _ {S : Type 0} (o : Ops S) where
 
   -- ---- a poison
 
-  poisoned_state : (c : Channel) (x : ℕ) (k : Node S) → state (poisoned o c x k) ≡ state k
+  poisoned_state : (c : Channel) (x : Death) (k : Node S) → state (poisoned o c x k) ≡ state k
   poisoned_state c x (Live l) = elim (o.shares l c) as (λ b. state (cond b (Dead l x) (Live l)) ≡ l) [ true ↦ refl | false ↦ refl ]
   poisoned_state c x (Forked l ks) = refl
   poisoned_state c x (Ended l) = refl
   poisoned_state c x (Dead l y) = refl
 
-  one_state : (c : Channel) (x i b : ℕ) (w : List ℕ) (ks : Nodes S) (k : Node S) → child_at b w ks ≡ Some k → (j : Node S) × (child_at b w (one_poisoned o c x i ks) ≡ Some j) × (state j ≡ state k)
+  one_state : (c : Channel) (x : Death) (i b : ℕ) (w : List ℕ) (ks : Nodes S) (k : Node S) → child_at b w ks ≡ Some k → (j : Node S) × (child_at b w (one_poisoned o c x i ks) ≡ Some j) × (state j ≡ state k)
   one_state c x i b w no_node k e = none_some k e
   one_state c x zero zero w (node_and n ns) k e = (poisoned o c x k, poisoned_at o c x w n k e, poisoned_state c x k)
   one_state c x zero (suc b) w (node_and n ns) k e = (k, e, refl)
@@ -75,11 +75,11 @@ module _ {S : Type 0} (o : Ops S) where
     poison_state c i (d ∷ q) w (Ended l) m k e f = none_some m e
     poison_state c i (d ∷ q) w (Dead l x) m k e f = none_some m e
     poison_state c i [] [] (Forked l ks) m k e f =
-        let y = cond_some (can_poison o l c i ks) (Forked l (one_poisoned o c (o.handlers l - 1) i ks)) m e in
+        let y = cond_some (can_poison o l c i ks) (Forked l (one_poisoned o c (death (o.handlers l - 1)) i ks)) m e in
         (m, refl, ap state (sym y.1) ∙ ap state (some_same (Forked l ks) k f))
     poison_state c i [] (b ∷ w) (Forked l ks) m k e f =
-        let y = cond_some (can_poison o l c i ks) (Forked l (one_poisoned o c (o.handlers l - 1) i ks)) m e in
-        let z = one_state c (o.handlers l - 1) i b w ks k f in
+        let y = cond_some (can_poison o l c i ks) (Forked l (one_poisoned o c (death (o.handlers l - 1)) i ks)) m e in
+        let z = one_state c (death (o.handlers l - 1)) i b w ks k f in
         (z.0, ap (at (b ∷ w)) (sym y.1) ∙ z.1, z.2)
     poison_state c i (d ∷ q) [] (Forked l ks) m k e f =
         let y = above_some l (poison_child o c i d q ks) m e in

@@ -4,14 +4,14 @@ use Rattle.std.proofs.lemmas.List.{append_assoc}
 use Rattle.shim_base.specs.Paths.{Path}
 use Rattle.shim_local.specs.Process.{Ops}
 use Rattle.shim_semantics.specs.Nodes.{Node, Live, Forked, state}
-use Rattle.shim_semantics.specs.Places.{at, at_route, branches, route, SoundBelow}
+use Rattle.shim_semantics.specs.Places.{at, at_route, branches, route, SoundBelow, StandsAt}
 use Rattle.shim_semantics.specs.Trees.{Tree, Event, Own, Meet, Poison, Close, End, Steps, kind_of, kind_of_stop, same_kind, after}
 use Rattle.shim_semantics.specs.Systems.{run}
 use Rattle.shim_semantics.proofs.Members.{among_either}
 use Rattle.shim_semantics.proofs.Alone.{does, doer}
 use Rattle.shim_semantics.proofs.Replaced.{sound_at}
 use Rattle.shim_semantics.proofs.Routes.{at_path, route_of}
-use Rattle.shim_laws_schedules.specs.Throws.{StandsAt, ThrewBelow}
+use Rattle.shim_laws_schedules.specs.Throws.{ThrewBelow}
 use Rattle.shim_laws_schedules.proofs.Opened.{Opened, its_path, its_kind}
 use Rattle.shim_laws_schedules.proofs.Stood.{ThrowsBelow}
 
@@ -45,11 +45,11 @@ module _ {S : Type 0} (o : Ops S) where
   }
 
   -- the process of a fork is where its path leads
-  stands : (t : Tree S) (q : List ℕ) (n : Node S) → SoundBelow o t.root → at q t.root ≡ Some n → StandsAt o t (o.path (state n)) n
+  stands : (t : Tree S) (q : List ℕ) (n : Node S) → SoundBelow o t.root → at q t.root ≡ Some n → StandsAt o t.root (o.path (state n)) n
   stands t q n s e = record { there = ap (at_route t.root) (route_of o t.root n q (o.path (state n)) s e refl) ∙ e; is_its = refl }
 
   -- and that of an event where its path leads
-  pub opened_stands : (e : Event) (t u : Tree S) → (w : Opened o e t u) → (p : Path) (n : Node S) → p ≡ doer e → w.old ≡ n → StandsAt o t p n
+  pub opened_stands : (e : Event) (t u : Tree S) → (w : Opened o e t u) → (p : Path) (n : Node S) → p ≡ doer e → w.old ≡ n → StandsAt o t.root p n
   opened_stands e t u w p n at is = record {
     there = ap (λ z. at_route t.root (route (o.path (state t.root)) z)) at ∙ (ap (at_route t.root) w.route_is ∙ (w.there ∙ ap Some is));
     is_its = ap (λ z. o.path (state z)) (sym is) ∙ (its_path o e t u w ∙ sym at);

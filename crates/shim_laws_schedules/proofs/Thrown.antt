@@ -4,7 +4,7 @@ use Rattle.std.proofs.lemmas.List.{append_assoc, append-nil}
 use Rattle.shim_base.specs.Paths.{Path}
 use Rattle.shim_local.specs.Process.{Ops}
 use Rattle.shim_local.specs.Laws.{LocalLaws}
-use Rattle.shim_semantics.specs.Nodes.{Node, Nodes, Live, Forked, Ended, Dead, no_node, node_and, state, states, least_label, source, value_of}
+use Rattle.shim_semantics.specs.Nodes.{Node, Nodes, Live, Forked, Ended, Dead, Death, no_node, node_and, state, states, prevailing_death, source, value_of}
 use Rattle.shim_semantics.specs.Acts.{act_here}
 use Rattle.shim_semantics.specs.Poison.{poison_route}
 use Rattle.shim_semantics.specs.Places.{at, at_route, led_to, route, has_path, meets, SoundBelow, SoundChildren}
@@ -50,7 +50,7 @@ module _ {S : Type 0} (o : Ops S) where
       let old : w.old ≡ Forked l js = some_same w.old (Forked l js) (sym w.there ∙ (ap (λ z. at z t.root) to ∙ f)) in
       let left : at q u.root ≡ Some w.new.node = ap (λ z. at q z.root) (sym w.is) ∙ (ap (λ z. at z (put w.place w.new.node t.root)) (sym to) ∙ at_put w.place t.root w.old w.new.node w.there) in
       let acted = closing o l js w.new (ap (act_here o) (sym old) ∙ w.here) in
-      closed_no_fork o l (states js) (least_label js) [] l ks (ap (λ z. Some z.node) acted.1 ∙ (sym left ∙ g))
+      closed_no_fork o l (states js) (prevailing_death js) [] l ks (ap (λ z. Some z.node) acted.1 ∙ (sym left ∙ g))
 
   -- where the least label of the dead below a fork could be caught there, one below it threw it since it forked
   abbrev AllThrown : Tree S → List Event → Tree S → Type 0
@@ -93,14 +93,14 @@ module _ {S : Type 0} (o : Ops S) where
       subst (λ z. AllThrown from z u) (append_assoc before (e ∷ []) es)
       (run_thrown law from w.0 u (before ++ e ∷ []) es ((events_keep_sound o law).kept t s e w.0 w.1) now (event_thrown law from t w.0 before e s r known w.1) w.2)
 
-  -- the least label of a child's death is in force at the fork
-  some_in_force : (l : S) (f j : ℕ) (ks : Nodes S) (x : ℕ) → SoundChildren o l f j ks → least_label ks ≡ Some x → any_dead_below (o.handlers l) ks ≡ true
+  -- the label of the prevailing death of children is in force at the fork
+  some_in_force : (l : S) (f j : ℕ) (ks : Nodes S) (x : Death) → SoundChildren o l f j ks → prevailing_death ks ≡ Some x → any_dead_below (o.handlers l) ks ≡ true
   some_in_force l f j no_node x s e = none_some x e
   some_in_force l f j (node_and (Live k) ks) x s e = some_in_force l f (j + 1) ks x s.2 e
   some_in_force l f j (node_and (Forked k js) ks) x s e = or_right (any_dead_below (o.handlers l) js) (any_dead_below (o.handlers l) ks) (some_in_force l f (j + 1) ks x s.2 e)
   some_in_force l f j (node_and (Ended k) ks) x s e = some_in_force l f (j + 1) ks x s.2 e
   some_in_force l f j (node_and (Dead k y) ks) x s e =
-      or_left (ltb y (o.handlers l)) (any_dead_below (o.handlers l) ks) (lt-ltb y (o.handlers l) (below_same y (o.base k) (o.handlers l) s.1.below_base s.0.base))
+      or_left (ltb y.label (o.handlers l)) (any_dead_below (o.handlers l) ks) (lt-ltb y.label (o.handlers l) (below_same y.label (o.base k) (o.handlers l) s.1.below_base s.0.base))
 
   close_caught : LocalLaws o → (from t : Tree S) (es : List Event) (e : Event) (p : Path) (x : ℕ) → IsSoundTree o t → AllThrown from es t → (w : ClosesWith o t e p x) → o.base (o.join w.parent (states w.children) false) ≤ x
       → (1 ≤ x) × ThrewBelow o from es p w.parent x
@@ -110,9 +110,10 @@ module _ {S : Type 0} (o : Ops S) where
       let place = led_at t.root (Forked l ks) (route (o.path (state t.root)) p) w.stands.there in
       let sound = sound_at o place.0 t.root (Forked l ks) s.below place.1 in
       let own : o.base l ≤ x = same_base (o.base l) (o.base (o.join l (states ks) false)) x (joined_base o law l ks sound) low in
-      let high : x < o.handlers l = ltb-true x (o.handlers l) (sym (done_some (o.handlers l) x ks w.done w.least) ∙ some_in_force l sound.number 0 ks x sound.children w.least) in (
+      let high : x < o.handlers l = subst (λ z. z < o.handlers l) w.labelled
+      (ltb-true w.death.label (o.handlers l) (sym (done_some (o.handlers l) w.death ks w.done w.prevails) ∙ some_in_force l sound.number 0 ks w.death sound.children w.prevails)) in (
         no_less_than x (o.base l) 1 (law.base_least l sound.sound) own,
-        subst (λ z. ThrewBelow o from es z l x) w.stands.is_its (known place.0 l ks x place.1 own high (done_least x ks w.done w.least)),
+        subst (λ z. ThrewBelow o from es z l x) w.stands.is_its (known place.0 l ks x place.1 own high (subst (λ z. IsLeast z ks) w.labelled (done_least w.death ks w.done w.prevails))),
       )
 
   throw_caught : LocalLaws o → (t : Tree S) (e : Event) (p : Path) (x : ℕ) → IsSoundTree o t → (w : Throws o t e p x) → o.base w.thrower ≤ x → 1 ≤ x

@@ -4,33 +4,30 @@ use Rattle.shim_base.specs.Paths.{Path}
 use Rattle.shim_local.specs.Process.{Ops, AtThrow}
 use Rattle.shim_local.specs.declared.LogWhat.{LogWhat}
 use Rattle.shim_local.specs.declared.LogWhat.TheVariants.{Caught}
-use Rattle.shim_semantics.specs.Nodes.{Node, Nodes, Live, Forked, state, states, all_done, least_label}
-use Rattle.shim_semantics.specs.Places.{led_to}
+use Rattle.shim_semantics.specs.Nodes.{Nodes, Death, Live, Forked, states, all_done, prevailing_death}
+use Rattle.shim_semantics.specs.Places.{StandsAt}
 use Rattle.shim_semantics.specs.Trees.{Tree, Event, Own, Close, logs_at, after}
 use Rattle.shim_semantics.specs.Listing.{IsAmong}
 use Rattle.shim_semantics.specs.Laws.{IsSoundTree}
 use Rattle.shim_semantics.specs.Systems.{run}
 
--- this node is that of the path
-pub record StandsAt {S : Type 0} (o : Ops S) (t : Tree S) (p : Path) (n : Node S) : Type 0 where
-  pub there : led_to o t.root p ≡ Some n
-  pub is_its : o.path (state n) ≡ p
-
 -- the event is a step of the live process of this path, which stands at a throw of this label
 pub record Throws {S : Type 0} (o : Ops S) (t : Tree S) (e : Event) (p : Path) (x : ℕ) : Type 0 where
   pub is : e ≡ Own p
   pub thrower : S
-  pub stands : StandsAt o t p (Live thrower)
+  pub stands : StandsAt o t.root p (Live thrower)
   pub throws : o.stop thrower ≡ AtThrow x
 
--- the event is the close of the fork of this path's process, of whose children some died, and this is the least of their labels
+-- the event is the close of the fork of this path's process, of whose children some died, and this is the label of their prevailing death
 pub record ClosesWith {S : Type 0} (o : Ops S) (t : Tree S) (e : Event) (p : Path) (x : ℕ) : Type 0 where
   pub is : e ≡ Close p
   pub parent : S
   pub children : Nodes S
-  pub stands : StandsAt o t p (Forked parent children)
+  pub stands : StandsAt o t.root p (Forked parent children)
   pub done : all_done children ≡ true
-  pub least : least_label children ≡ Some x
+  pub death : Death
+  pub prevails : prevailing_death children ≡ Some death
+  pub labelled : death.label ≡ x
 
 -- The event has the process of this path catch the label: the process throws it, or its fork closes with it, and the label isn't below the base of the process. At a close that is the process to which its children's values came back.
 pub data Catches {S : Type 0} (o : Ops S) (t : Tree S) (e : Event) (p : Path) (x : ℕ) : Type 0 where
@@ -64,7 +61,7 @@ pub record ThrewBelow {S : Type 0} (o : Ops S) (from : Tree S) (es : List Event)
   pub below : more ≢ []
   pub throws : Throws o tree event (p ++ more) x
   pub children : Nodes S
-  pub forked : StandsAt o tree p (Forked parent children)
+  pub forked : StandsAt o tree.root p (Forked parent children)
   pub unclosed : IsAmong (Close p) since → ⊥
 
 -- in a run from a sound tree of one live process; label 0, of which a trapped process dies, is never caught

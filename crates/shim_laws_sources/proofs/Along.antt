@@ -2,7 +2,7 @@
 use Rattle.std.proofs.Common.{◌≡◌, ℕ, zero, suc, ℤ, Bool, true, Some, List, [], ◌∷◌, ◌++◌, refl, sym, subst, ltb}
 use Rattle.shim_local.specs.Process.{Ops, Trapped, AtQuiet, AtPut, AtFork}
 use Rattle.shim_local.specs.Laws.{AllOf, Forks}
-use Rattle.shim_semantics.specs.Nodes.{Node, Nodes, Live, Forked, Ended, Dead, no_node, node_and, states, all_live, all_done}
+use Rattle.shim_semantics.specs.Nodes.{Node, Nodes, Live, Forked, Ended, Dead, Death, no_node, node_and, states, all_live, all_done}
 use Rattle.shim_semantics.specs.Acts.{Acted, thrown, catching, nothing}
 use Rattle.shim_semantics.specs.Places.{at, child_at}
 use Rattle.shim_semantics.proofs.ReplacedNodes.{put, put_child}
@@ -25,7 +25,7 @@ pub record Relates {S : Type 0} (o : Ops S) (R : Node S → Node S → Type 0) :
   pub forks : (l p : S) (ks : List S) → o.sound l → Forks o l p ks → R (Live l) (Forked p (all_live ks))
   pub traps : (l m : S) → o.sound l → o.stop l ≡ AtFork → o.fork l ≡ Trapped m → R (Live l) (Live m)
   pub ends : (l : S) → R (Live l) (Ended l)
-  pub dies : (l : S) (x : ℕ) → R (Live l) (Dead l x)
+  pub dies : (l : S) (x : Death) → R (Live l) (Dead l x)
   pub joins : (l : S) (ks : Nodes S) (goes_on : Bool) → o.sound l → AllOf o.sound (states ks) → o.born l (states ks) → all_done ks ≡ true → R (Forked l ks) (Live (o.join l (states ks) goes_on))
 
 pub behind_more : {S : Type 0} (ns : List (Node S)) (k : Node S) (ks : Nodes S) → behind (ns ++ k ∷ []) ks ≡ behind ns (node_and k ks)
@@ -52,8 +52,8 @@ module _ {S : Type 0} (o : Ops S) (R : Node S → Node S → Type 0) where
     put_in_related r l ns (node_and k ks) (suc i) q m a e h = one_further l ns k ks (put_child i q a ks) (put_in_related r l (ns ++ k ∷ []) ks i q m a e h)
 
   -- a throw
-  pub thrown_related : Relates o R → (l : S) (x : ℕ) → o.sound l → R (Live l) (thrown o l x).node
+  pub thrown_related : Relates o R → (l : S) (x : Death) → o.sound l → R (Live l) (thrown o l x).node
   thrown_related r l x s =
       let dies : Acted S = record { node = Dead l x; effects = nothing } in
-      let goes_on : Acted S = record { node = Live (o.unwind l x); effects = catching (o.handler l x) } in
-      choose (λ (z : Acted S). R (Live l) z.node) (ltb x (o.base l)) dies goes_on (r.dies l x) (r.unwinds l x s)
+      let goes_on : Acted S = record { node = Live (o.unwind l x.label); effects = catching (o.handler l x.label) } in
+      choose (λ (z : Acted S). R (Live l) z.node) (ltb x.label (o.base l)) dies goes_on (r.dies l x) (r.unwinds l x.label s)

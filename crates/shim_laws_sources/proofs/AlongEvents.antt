@@ -3,7 +3,7 @@ use Rattle.std.proofs.Common.{◌≡◌, ℕ, zero, suc, ◌+◌, ◌-◌, ℤ, 
 use Rattle.shim_base.specs.Paths.{Path, Channel}
 use Rattle.shim_local.specs.Process.{Ops, StopView, ForkedView, Parted, Trapped, AtQuiet, AtNext, AtPut, AtFork, AtFinish, AtThrow, AtTrap}
 use Rattle.shim_local.specs.Laws.{LocalLaws, AllOf, by_join}
-use Rattle.shim_semantics.specs.Nodes.{Node, Nodes, Live, Forked, Ended, Dead, no_node, node_and, state, states, all_done, least_label, source, value_of, is_next, received, all_received}
+use Rattle.shim_semantics.specs.Nodes.{Node, Nodes, Live, Forked, Ended, Dead, death, Death, no_node, node_and, state, states, all_done, prevailing_death, source, value_of, is_next, received, all_received}
 use Rattle.shim_semantics.specs.Acts.{Acted, act, act_here, act_live, closed, parted}
 use Rattle.shim_semantics.specs.Poison.{poisoned, all_poisoned, one_poisoned, can_poison, poison_here, poison, poison_child, poison_route, to_fork, last_branch}
 use Rattle.shim_semantics.specs.Places.{led_to, route, has_path, meets, SoundBelow, SoundChildren}
@@ -30,10 +30,10 @@ module _ {S : Type 0} (o : Ops S) (R : Node S → Node S → Type 0) where
   live_related g l AtFork a s at e = subst (λ z. R (Live l) z.node) (some_same _ a e) (forked_related g l (o.fork l) s at refl)
   live_related g l AtFinish a s at e = subst (λ z. R (Live l) z.node) (some_same _ a e) (g.ends l)
   live_related g l (AtNext c) a s at e = none_some a e
-  live_related g l (AtThrow label) a s at e = subst (λ z. R (Live l) z.node) (some_same _ a e) (thrown_related o R g l label s)
-  live_related g l (AtTrap kind line) a s at e = subst (λ z. R (Live l) z.node) (some_same _ a e) (g.dies l 0)
+  live_related g l (AtThrow label) a s at e = subst (λ z. R (Live l) z.node) (some_same _ a e) (thrown_related o R g l (death label) s)
+  live_related g l (AtTrap kind line) a s at e = subst (λ z. R (Live l) z.node) (some_same _ a e) (g.dies l (death 0))
 
-  closed_related : LocalLaws o → Relates o R → (l : S) (ks : Nodes S) (r : Option ℕ) → SoundBelow o (Forked l ks) → all_done ks ≡ true → R (Forked l ks) (closed o l (states ks) r).node
+  closed_related : LocalLaws o → Relates o R → (l : S) (ks : Nodes S) (r : Option Death) → SoundBelow o (Forked l ks) → all_done ks ≡ true → R (Forked l ks) (closed o l (states ks) r).node
   closed_related law g l ks None s done = g.joins l ks true s.sound (states_sound o l s.number 0 ks s.children) s.born done
   closed_related law g l ks (Some x) s done =
       let all : AllOf o.sound (states ks) = states_sound o l s.number 0 ks s.children in
@@ -44,8 +44,8 @@ module _ {S : Type 0} (o : Ops S) (R : Node S → Node S → Type 0) where
   here_related : LocalLaws o → Relates o R → (m : Node S) (a : Acted S) → SoundBelow o m → act_here o m ≡ Some a → R m a.node
   here_related law g (Live l) a s e = live_related g l (o.stop l) a s refl e
   here_related law g (Forked l ks) a s e =
-      let w = cond_some (all_done ks) (closed o l (states ks) (least_label ks)) a e in
-      subst (λ z. R (Forked l ks) z.node) w.1 (closed_related law g l ks (least_label ks) s w.0)
+      let w = cond_some (all_done ks) (closed o l (states ks) (prevailing_death ks)) a e in
+      subst (λ z. R (Forked l ks) z.node) w.1 (closed_related law g l ks (prevailing_death ks) s w.0)
   here_related law g (Ended l) a s e = none_some a e
   here_related law g (Dead l x) a s e = none_some a e
 
@@ -65,13 +65,13 @@ module _ {S : Type 0} (o : Ops S) (R : Node S → Node S → Type 0) where
   -- a poison
 
   mutual
-    poisoned_related : Relates o R → (c : Channel) (x : ℕ) (n : Node S) → R n (poisoned o c x n)
+    poisoned_related : Relates o R → (c : Channel) (x : Death) (n : Node S) → R n (poisoned o c x n)
     poisoned_related g c x (Live l) = choose (λ (z : Node S). R (Live l) z) (o.shares l c) (Dead l x) (Live l) (g.dies l x) (g.same (Live l))
     poisoned_related g c x (Ended l) = g.same (Ended l)
     poisoned_related g c x (Dead l y) = g.same (Dead l y)
     poisoned_related g c x (Forked l ks) = all_poisoned_related g c x l [] ks
 
-    all_poisoned_related : Relates o R → (c : Channel) (x : ℕ) (l : S) (ns : List (Node S)) (ks : Nodes S) → R (Forked l (behind ns ks)) (Forked l (behind ns (all_poisoned o c x ks)))
+    all_poisoned_related : Relates o R → (c : Channel) (x : Death) (l : S) (ns : List (Node S)) (ks : Nodes S) → R (Forked l (behind ns ks)) (Forked l (behind ns (all_poisoned o c x ks)))
     all_poisoned_related g c x l ns no_node = g.same (Forked l (behind ns no_node))
     all_poisoned_related g c x l ns (node_and k ks) =
         let m : Node S = poisoned o c x k in
@@ -79,7 +79,7 @@ module _ {S : Type 0} (o : Ops S) (R : Node S → Node S → Type 0) where
         (g.within l ns k m ks (poisoned_related g c x k))
         (one_further o R l ns m ks (all_poisoned o c x ks) (all_poisoned_related g c x l (ns ++ m ∷ []) ks))
 
-  one_poisoned_related : Relates o R → (c : Channel) (x i : ℕ) (l : S) (ns : List (Node S)) (ks : Nodes S) → R (Forked l (behind ns ks)) (Forked l (behind ns (one_poisoned o c x i ks)))
+  one_poisoned_related : Relates o R → (c : Channel) (x : Death) (i : ℕ) (l : S) (ns : List (Node S)) (ks : Nodes S) → R (Forked l (behind ns ks)) (Forked l (behind ns (one_poisoned o c x i ks)))
   one_poisoned_related g c x i l ns no_node = g.same (Forked l (behind ns no_node))
   one_poisoned_related g c x zero l ns (node_and k ks) = g.within l ns k (poisoned o c x k) ks (poisoned_related g c x k)
   one_poisoned_related g c x (suc i) l ns (node_and k ks) = one_further o R l ns k ks (one_poisoned o c x i ks) (one_poisoned_related g c x i l (ns ++ k ∷ []) ks)
@@ -89,7 +89,7 @@ module _ {S : Type 0} (o : Ops S) (R : Node S → Node S → Type 0) where
   poison_here_related g c i (Ended l) m e = none_some m e
   poison_here_related g c i (Dead l x) m e = none_some m e
   poison_here_related g c i (Forked l ks) m e =
-      subst (λ z. R (Forked l ks) z) (cond_some (can_poison o l c i ks) (Forked l (one_poisoned o c (o.handlers l - 1) i ks)) m e).1 (one_poisoned_related g c (o.handlers l - 1) i l [] ks)
+      subst (λ z. R (Forked l ks) z) (cond_some (can_poison o l c i ks) (Forked l (one_poisoned o c (death (o.handlers l - 1)) i ks)) m e).1 (one_poisoned_related g c (death (o.handlers l - 1)) i l [] ks)
 
   mutual
     poison_related : Relates o R → (c : Channel) (i : ℕ) (q : List ℕ) (n m : Node S) → poison o c i q n ≡ Some m → R n m

@@ -3,12 +3,11 @@ use Rattle.std.proofs.Common.{◌≡◌, ◌∙◌, ℕ, zero, suc, ◌+◌, ◌
 use Rattle.std.proofs.lemmas.Bool.{and_parts, or_cases, cases_Bool, true≢false}
 use Rattle.std.specs.Prelude.{slice_get}
 use Rattle.shim_base.specs.Paths.{Path, Channel, NamedChannel, same_path}
-use Rattle.shim_local.specs.Process as local
-use Rattle.shim_local.specs.Process.{StopView}
+use Rattle.shim_local.specs.Process.{StopView, AtQuiet, AtNext}
 use Rattle.shim_local.specs.Laws.{AllOf}
 use Rattle.shim_semantics.specs.Nodes.{Node, Nodes, Live, Forked, Ended, Dead, no_node, node_and, state, states, everyone, everyone_of}
 use Rattle.shim_semantics.specs.Places.{at, child_at, SoundBelow, SoundChildren}
-use Rattle.shim_process.specs.Ops.{stands, process_ops}
+use Rattle.shim_process.specs.Ops.{process_ops}
 use Rattle.shim_process.specs.Sound.{Sound, IsOwned}
 use Rattle.shim_process.proofs.CarryChannels.{among_at, carries_at}
 use Rattle.shim_units.specs.declared.unit.Arg.{Arg}
@@ -20,8 +19,9 @@ use Rattle.shim_process.specs.Forks.{item_branches}
 use Rattle.shim_process.specs.Locations.{Location, Ownership, Lent, Copy, at_number}
 use Rattle.shim_process.specs.LocalState.{LocalState, TrappedAt, location_of, number_of}
 use Rattle.shim_process.specs.Sharers.{is_among, declared, shares, carries}
-use Rattle.shim_process.specs.Stops.{Stop, AtQuiet, at_next, at_put, at_fork, what_stop, item_stop, stop_or, stop}
-use Rattle.shim_process.specs.Todo.{Item, Do, Leave}
+use Rattle.shim_process.specs.StatementViews.{statement_view}
+use Rattle.shim_process.specs.Stops.{at_next, at_put, at_fork, what_stop, stmt_stop, stop_or, stop}
+use Rattle.shim_process.specs.Todo.{next_stmt}
 use Rattle.shim_laws_sources.proofs.Ownerships.{own_or_lent, by_ownership}
 use Rattle.shim_laws_sources.specs.Anchored.{OwnedOn, IsAnchored, IsWhole}
 use Rattle.shim_laws_sources.specs.Homes.{GivesBack, OneGivesBack, HasOn, IsGivenBy, Waits, IsHome, AreHome}
@@ -174,44 +174,43 @@ all_carried q n l c h s none e w = elim (answered q n l c h s e w) [ inl here �
 -- what a process stands at is one of its locations' channels
 
 abbrev StandsOn : LocalState → StopView → Type 0
-StandsOn l (local.AtNext c) = HasOn l.locations c.channel
+StandsOn l (AtNext c) = HasOn l.locations c.channel
 StandsOn l _ = Unit {0}
 
-on_next : (l : LocalState) (n : ℕ) (o : Option Location) → at_number l.locations n ≡ o → StandsOn l (stands (at_next o))
+on_next : (l : LocalState) (n : ℕ) (o : Option Location) → at_number l.locations n ≡ o → StandsOn l (at_next o)
 on_next l n None e = tt
 on_next l n (Some x) e = record { number = n; place = x; at = e; on = refl }
 
-on_put : (l : LocalState) (b : Bool) → StandsOn l (stands (at_put b))
+on_put : (l : LocalState) (b : Bool) → StandsOn l (at_put b)
 on_put l true = tt
 on_put l false = tt
 
-on_fork : (l : LocalState) (bs : List UBranch) → StandsOn l (stands (at_fork bs))
+on_fork : (l : LocalState) (bs : List UBranch) → StandsOn l (at_fork bs)
 on_fork l [] = tt
 on_fork l (b ∷ bs) = tt
 
-on_what : (w : UWhat-F UWhat UStmt) (l : LocalState) → StandsOn l (stands (what_stop w l.frame l))
+on_what : (w : UWhat-F UWhat UStmt) (l : LocalState) → StandsOn l (what_stop w (statement_view l))
 on_what (UWhat-F.Next x) l = on_next l (number_of l.frame.slots x) (location_of l.locations l.frame.slots x) refl
 on_what (UWhat-F.NextAssign x e) l =
-    choose (λ (t : Stop). StandsOn l (stands t)) l.frame.halfway (at_next (location_of l.locations l.frame.slots x)) AtQuiet (on_next l (number_of l.frame.slots x) (location_of l.locations l.frame.slots x) refl) tt
+    choose (StandsOn l) l.frame.halfway (at_next (location_of l.locations l.frame.slots x)) AtQuiet (on_next l (number_of l.frame.slots x) (location_of l.locations l.frame.slots x) refl) tt
 on_what (UWhat-F.AssignNext x y) l =
-    choose (λ (t : Stop). StandsOn l (stands t)) l.frame.halfway AtQuiet (at_next (location_of l.locations l.frame.slots y)) tt (on_next l (number_of l.frame.slots y) (location_of l.locations l.frame.slots y) refl)
+    choose (StandsOn l) l.frame.halfway AtQuiet (at_next (location_of l.locations l.frame.slots y)) tt (on_next l (number_of l.frame.slots y) (location_of l.locations l.frame.slots y) refl)
 on_what (UWhat-F.Put o e) l = on_put l l.holds_output
 on_what (UWhat-F.Throw x) l = tt
 on_what (UWhat-F.Par bs) l = on_fork l bs
 on_what _ l = tt
 
-on_item : (todo : List Item) (l : LocalState) → StandsOn l (stands (item_stop todo l.frame l))
-on_item [] l = tt
-on_item (Leave ∷ k) l = tt
-on_item (Do n s ∷ k) l = on_what (out-UWhat s.what) l
+on_stmt : (o : Option UStmt) (l : LocalState) → StandsOn l (stmt_stop o (statement_view l))
+on_stmt None l = tt
+on_stmt (Some stmt) l = on_what (out-UWhat stmt.what) l
 
-on_or : (l : LocalState) (t : Option TrappedAt) (s : Stop) → StandsOn l (stands s) → StandsOn l (stands (stop_or t s))
+on_or : (l : LocalState) (t : Option TrappedAt) (s : StopView) → StandsOn l s → StandsOn l (stop_or t s)
 on_or l None s h = h
 on_or l (Some t) s h = tt
 
-on_stop : (l : LocalState) → StandsOn l (stands (stop l))
+on_stop : (l : LocalState) → StandsOn l (stop l)
 unfolding stop
-on_stop l = on_or l l.trap (item_stop l.frame.todo l.frame l) (on_item l.frame.todo l)
+on_stop l = on_or l l.trap (stmt_stop (next_stmt l.frame.todo) (statement_view l)) (on_stmt (next_stmt l.frame.todo) l)
 
-pub stands_on : (l : LocalState) (c : NamedChannel) → stands (stop l) ≡ local.AtNext c → HasOn l.locations c.channel
+pub stands_on : (l : LocalState) (c : NamedChannel) → stop l ≡ AtNext c → HasOn l.locations c.channel
 stands_on l c e = subst (StandsOn l) e (on_stop l)

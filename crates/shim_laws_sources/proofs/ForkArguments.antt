@@ -11,7 +11,8 @@ use Rattle.shim_process.specs.Todo.{Item, Do, Leave}
 use Rattle.shim_process.specs.LocalState.{LocalState, unit_at, is_full, trapped}
 use Rattle.shim_process.specs.Arguments.{Argument, on_value, arguments}
 use Rattle.shim_process.specs.Steps.{line_of}
-use Rattle.shim_process.specs.Forks.{Parted, what_branches, item_branches, all_arguments, children_from, parent, is_far, fork_result, fork}
+use Rattle.shim_local.specs.Process.{Parted}
+use Rattle.shim_process.specs.Forks.{what_branches, item_branches, all_arguments, children_from, parent, is_far, fork_result, fork}
 use Rattle.shim_process.proofs.ForkLending.{from_value, ok_same}
 use Rattle.shim_laws_sources.specs.OwnSlots.{suits, all_true}
 use Rattle.shim_laws_sources.specs.OwnSlots as own

@@ -10,7 +10,7 @@ use Rattle.shim_units.specs.declared.unit.UBranch.{UBranch}
 use Rattle.shim_process.specs.Locations.{Location, Locations, Lent, at_number}
 use Rattle.shim_process.specs.LocalState.{LocalState, Frame, unit_at}
 use Rattle.shim_process.specs.Arguments.{Argument, branch_locations, declared_slots, empties}
-use Rattle.shim_process.specs.Forks.{lent, item_branches, all_arguments, child, children_from, lending, all_lending, parent, fork}
+use Rattle.shim_process.specs.Forks.{lent, item_branches, all_arguments, child, children_from, lending, all_lending, parent}
 use Rattle.shim_process.specs.Sound.{Sound}
 use Rattle.shim_process.specs.Ops.{process_ops}
 use Rattle.shim_process.proofs.ChildGiven.{Given, before_empties, given_where}
@@ -30,7 +30,6 @@ use Rattle.shim_laws_sources.proofs.WholeEnds.{stays_same, stays_both}
 use Rattle.shim_laws_sources.proofs.WholeStores.{onward_anchored, onward_stays}
 use Rattle.shim_laws_sources.proofs.ForkArguments.{IsParted, branches, fork_parted, branches_suit, AllMatch, all_match}
 use Rattle.shim_process.proofs.ForkLaws.{lends_keeps}
-use Rattle.shim_process.proofs.ForkParts.{parted_parts}
 
 -- what is left after branches
 
@@ -208,7 +207,7 @@ one_more_fork l m n s = record { path = s.path; given = s.given; many = s.many; 
 
 pub fork_home : (l p : LocalState) (ks : List LocalState) → Sound l → IsWhole l → Forks process_ops l p ks → IsHome (Forked p (all_live ks)) × Stays l p
 fork_home l p ks s h at =
-    let w : IsParted l p ks (branches l) (all_arguments l (branches l)) = fork_parted l p ks (parted_parts (fork l) p ks at.1) in
+    let w : IsParted l p ks (branches l) (all_arguments l (branches l)) = fork_parted l p ks at.1 in
     let stays : Stays l (parent l (branches l)) = one_more_fork l (all_lending l (branches l)) (l.forks + 1) (all_stays l (branches l)) in (
       subst (λ (q : LocalState). IsHome (Forked q (all_live ks))) (sym w.parent_is)
           (subst (λ (js : List LocalState). IsHome (Forked (parent l (branches l)) (all_live js))) (sym w.children_are) (parted_waits l w.given s h w.computed)),

@@ -1,20 +1,19 @@
 -- Whether a process has the input, before and after each of its calls.
-use Rattle.std.proofs.Common.{◌≡◌, ◌∙◌, ℕ, ◌+◌, ◌-◌, ℤ, Bool, true, ◌⊎◌, inl, inr, List, [], ◌∷◌, ◌++◌, length, take, Option, Some, None, Ok, Err, nat_lt, refl, sym, ap}
+use Rattle.std.proofs.Common.{◌≡◌, ◌∙◌, ℕ, ◌-◌, ℤ, Bool, true, ◌⊎◌, inl, inr, List, [], ◌∷◌, take, Option, Some, None, Ok, Err, nat_lt, refl, sym, ap}
 use Rattle.std.specs.Prelude.{slice_get}
-use Rattle.shim_local.specs.Process as local
+use Rattle.shim_local.specs.Process.{Trapped as TrappedFork}
 use Rattle.shim_local.specs.Laws.{AnyOf}
 use Rattle.shim_units.specs.declared.unit.UStmt.{UStmt}
 use Rattle.shim_units.specs.declared.unit.UWhat.{UWhat, UWhat-F, out-UWhat}
 use Rattle.shim_process.specs.Values.{Value}
-use Rattle.shim_process.specs.Todo.{Item, Do, Leave, Successor, On, First}
-use Rattle.shim_process.specs.LocalState.{LocalState, Frame, unit_at}
-use Rattle.shim_process.specs.Arguments.{Argument, new_channels, call_locations, call_slots, declared_slots, empties, entered}
+use Rattle.shim_process.specs.Todo.{Successor, On, First, next_stmt}
+use Rattle.shim_process.specs.LocalState.{LocalState, Frame}
+use Rattle.shim_process.specs.Arguments.{Argument}
 use Rattle.shim_process.specs.Ends.{went, is_over, settled, gone}
 use Rattle.shim_process.specs.Forks.{fork, some_or, input_back, joined, join}
-use Rattle.shim_process.specs.Steps.{Action, Go, Store, StoreFirst, Make, Read, Enter, Install, Trapped, Wait, next_action, stored_in, made_in, read_on, read_in, installed, called, done, quiet}
-use Rattle.shim_process.specs.Stops.{put_value, after_put, put, what_receive, item_receive, receive}
+use Rattle.shim_process.specs.Steps.{Action, Go, Store, StoreFirst, Make, Read, Enter, Install, Trapped, Wait, next_action, stored_in, made_in, read_on, read_in, installed, pushed, called, done, quiet}
+use Rattle.shim_process.specs.Stops.{put_value, after_put, put, what_receive, stmt_receive, receive}
 use Rattle.shim_process.specs.Unwinding.{handling, unwound, unwind}
-use Rattle.shim_process.specs.Ops.{parts}
 use Rattle.shim_process.proofs.CallKeeps.{fork_trapped}
 use Rattle.shim_laws_sources.specs.Sources.{is_place, has_input}
 use Rattle.shim_base.proofs.Facts.{choose}
@@ -42,10 +41,8 @@ read_place None input = refl
 read_place (Some n) input = refl
 
 called_input : (unit : ℕ) (given : List Argument) (labels : List ℕ) (l : LocalState) → (called unit given labels l).input_at ≡ l.input_at
-unfolding called
-called_input unit given labels l =
-    settled_input (l.frame ∷ l.callers) (entered l.program unit (call_slots (length l.locations) given (declared_slots (unit_at l.program unit))) labels (length l.locations) (l.frame.outer + length l.frame.places))
-    (record l { locations = l.locations ++ (call_locations l.path l.locations l.made given ++ empties (declared_slots (unit_at l.program unit))); made = l.made + new_channels given })
+unfolding called pushed
+called_input unit given labels l = let m : LocalState = pushed unit given labels l in settled_input m.callers m.frame m
 
 done_input : (d : Action) (l : LocalState) → has_input (done d l) ≡ has_input l
 done_input (Go successor) l = ap is_place (gone_input successor l)
@@ -76,21 +73,20 @@ what_input (UWhat-F.NextAssign x e) v l = ap is_place (gone_input On (stored_in 
 what_input (UWhat-F.AssignNext x y) v l = refl
 what_input _ v l = refl
 
-item_input : (todo : List Item) (v : ℤ) (l : LocalState) → has_input (item_receive todo v l) ≡ has_input l
-item_input [] v l = refl
-item_input (Leave ∷ k) v l = refl
-item_input (Do n s ∷ k) v l = what_input (out-UWhat s.what) v l
+stmt_input : (o : Option UStmt) (v : ℤ) (l : LocalState) → has_input (stmt_receive o v l) ≡ has_input l
+stmt_input None v l = refl
+stmt_input (Some stmt) v l = what_input (out-UWhat stmt.what) v l
 
 pub receive_input : (l : LocalState) (v : ℤ) → has_input (receive l v) ≡ has_input l
 unfolding receive
-receive_input l v = item_input l.frame.todo v l
+receive_input l v = stmt_input (next_stmt l.frame.todo) v l
 
 pub unwind_input : (l : LocalState) (label : ℕ) → has_input (unwind l label) ≡ has_input l
 unfolding unwind
 unwind_input l label = ap is_place (unwound_input l.callers l.frame (label - l.base) l)
 
 -- a fork that traps
-pub trapped_input : (l m : LocalState) → parts (fork l) ≡ local.Trapped m → has_input m ≡ has_input l
+pub trapped_input : (l m : LocalState) → fork l ≡ TrappedFork m → has_input m ≡ has_input l
 trapped_input l m e = let w = fork_trapped l m e in ap (λ (z : LocalState). has_input z) w.2
 
 -- what comes back at a join was with the process or with a child

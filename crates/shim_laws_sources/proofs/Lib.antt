@@ -8,6 +8,11 @@ pub mod OwnSteps
 pub mod Binding
 pub mod BoundSlots
 pub mod Units
+pub mod SortedStmts
+pub mod SortedParts
+pub mod SortedBinding
+pub mod SortedBodies
+pub mod SortedUnits
 pub mod Along
 pub mod AlongEvents
 pub mod InputMoves

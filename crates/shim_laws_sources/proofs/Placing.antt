@@ -19,7 +19,7 @@ use Rattle.shim_base.proofs.Facts.{both_hold}
 
 -- what is among the slots
 
-among_more : (b c : Bool) → c ≡ true → (b || c) ≡ true
+pub among_more : (b c : Bool) → c ≡ true → (b || c) ≡ true
 among_more true c h = refl
 among_more false c h = h
 
@@ -88,14 +88,14 @@ some_second p (u ∷ us) vs h = among_more (p u) (some p (us ++ vs)) (some_secon
 -- the place of a number that is among the second list, and not among the first
 
 -- the first place of y in a list
-abbrev index_of : List ℕ → ℕ → ℕ
+abbrev pub index_of : List ℕ → ℕ → ℕ
 index_of all y = position_or_len (λ z. nat_eq z y) all
 
 found_by : (b c : Bool) (n m : ℕ) → (c ≡ true → n < m) → (b || c) ≡ true → cond (not b) (1 + n) 0 < suc m
 found_by true c n m f h = omega arith
 found_by false c n m f h = let k = f h in omega (arith, k)
 
-found : (ds : List ℕ) (y : ℕ) → is_among ds y ≡ true → index_of ds y < length ds
+pub found : (ds : List ℕ) (y : ℕ) → is_among ds y ≡ true → index_of ds y < length ds
 found [] y h = absurd (cc h)
 found (d ∷ ds) y h = found_by (nat_eq d y) (is_among ds y) (index_of ds y) (length ds) (found ds y) h
 
@@ -112,7 +112,7 @@ index_behind : (xs ds : List ℕ) (y : ℕ) → is_among xs y ≡ false → is_a
 index_behind [] ds y h k = record { from = omega arith; under = found ds y k }
 index_behind (x ∷ xs) ds y h k = behind_by (nat_eq x y) (is_among xs y) (length xs) (length (xs ++ ds)) (index_of (xs ++ ds) y) (λ l. index_behind xs ds y l k) h
 
-place_is : (all : List ℕ) (y : ℕ) → index_of all y < length all → slot_index_of all y ≡ index_of all y
+pub place_is : (all : List ℕ) (y : ℕ) → index_of all y < length all → slot_index_of all y ≡ index_of all y
 unfolding slot_index_of
 place_is all y less = ap (λ (b : Bool). position_else (length all) (cond b (Some (index_of all y)) None)) (lt-ltb (index_of all y) (length all) less)
 

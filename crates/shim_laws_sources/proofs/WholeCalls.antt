@@ -6,7 +6,7 @@ use Rattle.shim_process.specs.Locations.{Location, Locations, Lent, Copy, at_num
 use Rattle.shim_process.specs.LocalState.{LocalState, Frame, unit_at}
 use Rattle.shim_process.specs.Arguments.{Argument, new_channels, call_locations, call_slots, declared_slots, empties, entered}
 use Rattle.shim_process.specs.Ends.{settled}
-use Rattle.shim_process.specs.Steps.{called}
+use Rattle.shim_process.specs.Steps.{pushed, called}
 use Rattle.shim_process.specs.Sound.{IsOwned}
 use Rattle.shim_process.proofs.CallLocations.{Passed, by_copy, by_value, at_passed}
 use Rattle.shim_process.proofs.PlaceLocations.{at_append, at_empty}
@@ -80,13 +80,13 @@ itself : (n : ℕ) → n ≤ n
 itself n = omega arith
 
 pub called_whole : (unit : ℕ) (given : List Argument) (labels : List ℕ) (l : LocalState) → IsWhole l → length given ≡ length (unit_at l.program unit).params → Moves l (called unit given labels l)
-unfolding called
+unfolding called pushed
 called_whole unit given labels l h many =
     let u : UnitOf = unit_at l.program unit in
     let xs : Locations = l.locations in
     let passed : Locations = call_locations l.path xs l.made given in
     let ys : Locations = passed ++ empties (declared_slots u) in
-    let f : Frame = entered l.program unit (call_slots (length xs) given (declared_slots u)) labels (length xs) (l.frame.outer + length l.frame.places) in
+    let f : Frame = entered u unit (call_slots (length xs) given (declared_slots u)) labels (length xs) (l.frame.outer + length l.frame.places) in
     let long : length (xs ++ ys) ≡ length xs + length ys = length-append xs ys in
     let all : parameters_of l ≤ length xs = h.0.long in
     let anchored : Anchored l.path l.program f (l.frame ∷ l.callers) (xs ++ ys) = record {
@@ -118,8 +118,8 @@ called_whole unit given labels l h many =
         | inr v ↦ at_empty (declared_slots u) v.0 x v.2
       ]
     ] in
-    let k : LocalState = behind l u given in
-    moves_on l (record k { frame = f; callers = l.frame ∷ l.callers }) (settled (l.frame ∷ l.callers) f k)
+    let k : LocalState = record (behind l u given) { frame = f; callers = l.frame ∷ l.callers } in
+    moves_on l k (settled (l.frame ∷ l.callers) f k)
     (record {
       path = refl;
       given = refl;

@@ -1,22 +1,23 @@
 -- A process that is whole is that after each of its steps that isn't a fork.
-use Rattle.std.proofs.Common.{◌≡◌, ◌∙◌, ℕ, ℤ, pos, Bool, true, ◌||◌, List, [], ◌∷◌, length, Result, Ok, Err, cond, refl, sym, subst}
+use Rattle.std.proofs.Common.{◌≡◌, ◌∙◌, ℕ, ℤ, pos, Bool, true, ◌||◌, List, [], ◌∷◌, length, Option, Some, None, Result, Ok, Err, cond, refl, sym, subst}
 use Rattle.shim_base.specs.declared.operators.Trap.{Trap}
 use Rattle.shim_base.specs.declared.operators.Trap.TheVariants.{Depth}
 use Rattle.shim_base.specs.Operators.{is_zero}
-use Rattle.shim_local.specs.Process as local
+use Rattle.shim_local.specs.Process.{Trapped as TrappedFork}
+use Rattle.shim_units.specs.declared.unit.UCall.{UCall}
 use Rattle.shim_units.specs.declared.unit.UStmt.{UStmt}
 use Rattle.shim_units.specs.declared.unit.UWhat.{UWhat, UWhat-F, out-UWhat}
 use Rattle.shim_process.specs.Values.{Value, value}
-use Rattle.shim_process.specs.Todo.{Item, Do, Leave, On, First, Second}
-use Rattle.shim_process.specs.LocalState.{LocalState, unit_at, env_of, is_full, trapped}
-use Rattle.shim_process.specs.Arguments.{arguments, passed_labels}
+use Rattle.shim_process.specs.Todo.{Item, Do, Leave, On, First, Second, next_stmt}
+use Rattle.shim_process.specs.LocalState.{LocalState, unit_at, env_of, is_full, is_deep, trapped}
+use Rattle.shim_process.specs.StatementViews.{statement_view, unit_in, passed_labels}
+use Rattle.shim_process.specs.Arguments.{Argument, arguments}
 use Rattle.shim_process.specs.Ends.{gone}
 use Rattle.shim_process.specs.Forks.{fork}
-use Rattle.shim_process.specs.Steps.{Action, Go, Store, StoreFirst, Make, Read, Enter, Install, Trapped, Wait, action, limited, is_deep, value_or, try_name, what_action, item_action, next_action, line_of, stored_in, made_in, read_in, half, installed, done, quiet}
-use Rattle.shim_process.specs.Stops.{put_value, after_put, put, what_receive, item_receive, receive}
-use Rattle.shim_process.specs.Ops.{parts}
+use Rattle.shim_process.specs.Steps.{Action, Go, Store, StoreFirst, Make, Read, Enter, Install, Trapped, Wait, action, limited, value_or, try_name, what_action, stmt_action, next_action, line_of, stored_in, made_in, read_in, half, installed, done, quiet}
+use Rattle.shim_process.specs.Stops.{put_value, after_put, put, what_receive, stmt_receive, receive}
 use Rattle.shim_process.proofs.CallKeeps.{fork_trapped}
-use Rattle.shim_laws_sources.specs.OwnSlots.{is_own_slot}
+use Rattle.shim_laws_sources.specs.OwnSlots.{is_own_slot, suits}
 use Rattle.shim_laws_sources.specs.Anchored.{ItemsFit, FrameFits, parameters_of, IsAnchored, IsWhole}
 use Rattle.shim_laws_sources.proofs.CallSlots.{given_many}
 use Rattle.shim_laws_sources.proofs.FittingItems.{fits_layer, fits_out}
@@ -40,7 +41,13 @@ action_fits l f (Err t) h = tt
 limited_fits : (l : LocalState) (over : Bool) (d : Action) → ActionFits l d → ActionFits l (limited over d)
 limited_fits l over d h = choose (ActionFits l) over (Trapped Depth) d tt h
 
-what_fits : (w : UWhat-F UWhat UStmt) (l : LocalState) → fits_layer l.program (unit_at l.program l.frame.unit) w ≡ true → ActionFits l (what_action w l.frame l)
+-- the arguments of a call that fits are as many as its unit's parameters
+call_given : (c : UCall) (given : List Argument) (l : LocalState) → suits l.program c ≡ true → arguments l.locations l.frame.slots (unit_in (statement_view l) c.unit).params c.args ≡ Ok given
+    → length given ≡ length (unit_at l.program c.unit).params
+unfolding unit_at
+call_given c given l suit e = given_many l.program l.locations l.frame.slots c given suit e
+
+what_fits : (w : UWhat-F UWhat UStmt) (l : LocalState) → fits_layer l.program (unit_at l.program l.frame.unit) w ≡ true → ActionFits l (what_action w (statement_view l))
 what_fits (UWhat-F.Declare t x e) l h = action_fits l (λ v. limited (is_full l) (Make t x v)) (value_or (pos 0) e (env_of l.locations l.frame.slots)) (λ v is. limited_fits l (is_full l) (Make t x v) h)
 what_fits (UWhat-F.Assign x e) l h = action_fits l (Store x) (value e (env_of l.locations l.frame.slots)) (λ v is. tt)
 what_fits (UWhat-F.NextAssign x e) l h =
@@ -50,13 +57,13 @@ what_fits (UWhat-F.If e first second) l h = action_fits l (λ v. Go (cond (is_ze
 what_fits (UWhat-F.While e body) l h = action_fits l (λ v. Go (cond (is_zero v) On First)) (value e (env_of l.locations l.frame.slots)) (λ v is. tt)
 what_fits (UWhat-F.For first e step body) l h = action_fits l (λ v. Go (cond (is_zero v) On First)) (value_or (pos 1) e (env_of l.locations l.frame.slots)) (λ v is. tt)
 what_fits (UWhat-F.Call c) l h =
-    action_fits l (λ given. limited (is_deep l || is_full l) (Enter c.unit given (passed_labels l c.throws)))
-    (arguments l.locations l.frame.slots (unit_at l.program c.unit).params c.args)
-    (λ given is. limited_fits l (is_deep l || is_full l) (Enter c.unit given (passed_labels l c.throws)) (given_many l.program l.locations l.frame.slots c given h is))
-what_fits (UWhat-F.Try body x handler) l h = limited_fits l (is_full l) (Install x (try_name (unit_at l.program l.frame.unit) x)) tt
+    action_fits l (λ given. limited (is_deep l || is_full l) (Enter c.unit given (passed_labels (statement_view l) c.throws)))
+    (arguments l.locations l.frame.slots (unit_in (statement_view l) c.unit).params c.args)
+    (λ given is. limited_fits l (is_deep l || is_full l) (Enter c.unit given (passed_labels (statement_view l) c.throws)) (call_given c given l h is))
+what_fits (UWhat-F.Try body x handler) l h = limited_fits l (is_full l) (Install x (try_name (unit_in (statement_view l) l.frame.unit) x)) tt
 what_fits _ l h = tt
 
-item_fits : (todo : List Item) (l : LocalState) → ItemsFit l.program (unit_at l.program l.frame.unit) todo → ActionFits l (item_action todo l.frame l)
+item_fits : (todo : List Item) (l : LocalState) → ItemsFit l.program (unit_at l.program l.frame.unit) todo → ActionFits l (stmt_action (next_stmt todo) (statement_view l))
 item_fits [] l h = tt
 item_fits (Leave ∷ k) l h = tt
 item_fits (Do n st ∷ k) l h = what_fits (out-UWhat st.what) l (sym (fits_out l.program (unit_at l.program l.frame.unit) st) ∙ h.0)
@@ -118,14 +125,13 @@ what_whole (UWhat-F.NextAssign x e) v l h = and_then l (stored_in x v l) (gone O
 what_whole (UWhat-F.AssignNext x y) v l h = and_then l (stored_in y v l) (record (stored_in y v l) { frame = half l.frame }) (stored_whole y v l h) (λ w. half_whole (stored_in y v l) w)
 what_whole _ v l h = (h, stays_same l)
 
-item_whole : (todo : List Item) (v : ℤ) (l : LocalState) → IsWhole l → Moves l (item_receive todo v l)
-item_whole [] v l h = (h, stays_same l)
-item_whole (Leave ∷ k) v l h = (h, stays_same l)
-item_whole (Do n s ∷ k) v l h = what_whole (out-UWhat s.what) v l h
+stmt_whole : (o : Option UStmt) (v : ℤ) (l : LocalState) → IsWhole l → Moves l (stmt_receive o v l)
+stmt_whole None v l h = (h, stays_same l)
+stmt_whole (Some stmt) v l h = what_whole (out-UWhat stmt.what) v l h
 
 pub receive_whole : (l : LocalState) (v : ℤ) → IsWhole l → Moves l (receive l v)
 unfolding receive
-receive_whole l v h = item_whole l.frame.todo v l h
+receive_whole l v h = stmt_whole (next_stmt l.frame.todo) v l h
 
-pub fork_trapped_whole : (l m : LocalState) → parts (fork l) ≡ local.Trapped m → IsWhole l → Moves l m
+pub fork_trapped_whole : (l m : LocalState) → fork l ≡ TrappedFork m → IsWhole l → Moves l m
 fork_trapped_whole l m e h = let w = fork_trapped l m e in subst (λ (z : LocalState). Moves l z) (sym w.2) (trapped_whole w.0 w.1 l h)

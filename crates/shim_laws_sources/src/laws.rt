@@ -5,12 +5,19 @@ ghost use Rattle.shim_units.specs.declared.form.Form.{Form};
 ghost use Rattle.shim_process.specs.LocalState.{LocalState};
 ghost use Rattle.shim_units.specs.OfText.{IsAcceptedForm};
 ghost use Rattle.shim_laws_sources.specs.OwnSlots.{UsesOwnSlots};
+ghost use Rattle.shim_laws_sources.specs.DeclaredSorts.{HasDeclaredSorts};
 ghost use Rattle.shim_laws_sources.specs.Sources.{IsReached, HasOneInput, HasSources};
 
 /// The units of an accepted program declare slots of their own, which stand behind those of their
 /// parameters, and each call and each branch has one argument for each parameter.
 pub fn units_use_slots_of_their_own()
     ensures { (form : Form) → IsAcceptedForm form → UsesOwnSlots form }
+{}
+
+/// In each unit of an accepted program the slot of a declaration, in a block of any depth too, has the
+/// sort of the declaration.
+pub fn declared_slots_have_their_sorts()
+    ensures { (form : Form) → IsAcceptedForm form → HasDeclaredSorts form }
 {}
 
 /// In each tree that a run of a program reaches at most one process has the input. Where the program is

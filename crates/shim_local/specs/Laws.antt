@@ -1,5 +1,5 @@
 -- What holds of every kind of process.
-use Rattle.std.specs.Prelude.{◌≡◌, ◌≢◌, ◌<◌, ◌≤◌, ◌⊎◌, ◌↔◌, ℕ, zero, suc, ℤ, ◌+◌, Bool, true, false, List, [], ◌∷◌, ◌++◌, Some, None, if◌then◌else◌, slice_get}
+use Rattle.std.specs.Prelude.{◌≡◌, ◌≢◌, ◌<◌, ◌≤◌, ◌⊎◌, ◌↔◌, ℕ, suc, ℤ, ◌+◌, Bool, true, false, List, [], ◌∷◌, ◌++◌, Some, None, if◌then◌else◌, slice_get}
 use Rattle.shim_base.specs.declared.operators.Trap.{Trap}
 use Rattle.shim_base.specs.Paths.{Path, Channel, NamedChannel}
 use Rattle.shim_local.specs.Process.{Ops, Parted, Trapped, AtQuiet, AtNext, AtPut, AtFork, AtThrow, AtTrap}
@@ -19,24 +19,23 @@ abbrev pub how_many : {S : Type 0} → (S → Bool) → List S → ℕ
 how_many f [] = 0
 how_many f (k ∷ ks) = if f k then suc (how_many f ks) else how_many f ks
 
--- one call other than a quiet step, a fork and a join made the second state of the first
+-- a put or a meeting made the second state of the first
 pub data Called {S : Type 0} (o : Ops S) (l m : S) : Type 0 where
   by_put : o.stop l ≡ AtPut → m ≡ o.put l → Called o l m
   by_receive : (c : NamedChannel) (v : ℤ) → o.stop l ≡ AtNext c → m ≡ o.receive l v → Called o l m
-  by_unwind : (label : ℕ) → o.base l ≤ label → label < o.handlers l → m ≡ o.unwind l label → Called o l m
+
+-- an exception of this label was caught, which made the second state of the first
+pub data Unwound {S : Type 0} (o : Ops S) (l m : S) : Type 0 where
+  by_label : (label : ℕ) → o.base l ≤ label → label < o.handlers l → m ≡ o.unwind l label → Unwound o l m
 
 -- one call made the second state of the first
 pub data Moved {S : Type 0} (o : Ops S) (l m : S) : Type 0 where
   by_quiet : o.stop l ≡ AtQuiet → m ≡ o.quiet l → Moved o l m
   by_call : Called o l m → Moved o l m
+  by_unwind : Unwound o l m → Moved o l m
   by_fork : (children : List S) → o.stop l ≡ AtFork → o.fork l ≡ Parted m children → Moved o l m
   by_trap : o.stop l ≡ AtFork → o.fork l ≡ Trapped m → Moved o l m
   by_join : (children : List S) (goes_on : Bool) → AllOf o.sound children → o.born l children → m ≡ o.join l children goes_on → Moved o l m
-
--- so many quiet steps lead from the first state to the second
-pub data QuietSteps {S : Type 0} (o : Ops S) : ℕ → S → S → Type 0 where
-  none_taken : (l : S) → QuietSteps o zero l l
-  one_more : {n : ℕ} {l m : S} → o.stop l ≡ AtQuiet → QuietSteps o n (o.quiet l) m → QuietSteps o (suc n) l m
 
 -- the process forked, and stands so with these children
 abbrev pub Forks : {S : Type 0} → Ops S → S → S → List S → Type 0
@@ -66,8 +65,9 @@ pub record LocalLaws {S : Type 0} (o : Ops S) : Type 0 where
   pub moved_path : (l m : S) → o.sound l → Moved o l m → o.path m ≡ o.path l
   pub moved_base : (l m : S) → o.sound l → Moved o l m → o.base m ≡ o.base l
   pub moved_given : (l m : S) → o.sound l → Moved o l m → o.given m ≡ o.given l
-  -- a root was given no channels
+  -- A root was given no channels. Any other process shares a channel of another process exactly where it was given that.
   pub root_given : (l : S) → o.sound l → o.path l ≡ [] → o.given l ≡ []
+  pub given_shared : (l : S) (c : Channel) → o.sound l → o.path l ≢ [] → c.home ≢ o.path l → (o.shares l c ≡ true) ↔ IsGiven o l c
   -- the exception places in force
   pub base_least : (l : S) → o.sound l → 1 ≤ o.base l
   pub base_most : (l : S) → o.sound l → o.base l ≤ o.handlers l
@@ -87,6 +87,7 @@ pub record LocalLaws {S : Type 0} (o : Ops S) : Type 0 where
   pub quiet_shares : (l : S) (c : Channel) → o.sound l → o.stop l ≡ AtQuiet → o.shares l c ≡ true → o.shares (o.quiet l) c ≡ true
   pub quiet_adds : (l : S) (c : Channel) → o.sound l → o.stop l ≡ AtQuiet → o.shares l c ≡ false → o.shares (o.quiet l) c ≡ true → c.home ≡ o.path l
   pub call_shares : (l m : S) (c : Channel) → o.sound l → Called o l m → o.shares m c ≡ o.shares l c
+  pub unwind_shares : (l m : S) (c : Channel) → o.sound l → Unwound o l m → o.shares m c ≡ o.shares l c
   pub fork_shares : (l p : S) (ks : List S) (c : Channel) → o.sound l → Forks o l p ks → o.shares p c ≡ o.shares l c
   pub fork_trap_shares : (l m : S) (c : Channel) → o.sound l → o.stop l ≡ AtFork → o.fork l ≡ Trapped m → o.shares m c ≡ o.shares l c
   pub join_shares : (l : S) (ks : List S) (goes_on : Bool) (c : Channel) → o.sound l → AllOf o.sound ks → o.born l ks → o.shares (o.join l ks goes_on) c ≡ o.shares l c
@@ -116,5 +117,7 @@ pub record LocalLaws {S : Type 0} (o : Ops S) : Type 0 where
   -- no other call gives it more
   pub quiet_carries : (l : S) (c : Channel) → o.sound l → o.stop l ≡ AtQuiet → CarriesNoMore o l (o.quiet l) c
   pub call_carries : (l m : S) (c : Channel) → o.sound l → Called o l m → CarriesNoMore o l m c
+  pub unwind_carries : (l m : S) (c : Channel) → o.sound l → Unwound o l m → CarriesNoMore o l m c
   pub quiet_holds : (l : S) → o.sound l → o.stop l ≡ AtQuiet → o.holds_output (o.quiet l) ≡ true → o.holds_output l ≡ true
   pub call_holds : (l m : S) → o.sound l → Called o l m → o.holds_output m ≡ true → o.holds_output l ≡ true
+  pub unwind_holds : (l m : S) → o.sound l → Unwound o l m → o.holds_output m ≡ true → o.holds_output l ≡ true

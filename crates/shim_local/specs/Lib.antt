@@ -1,8 +1,6 @@
 -- The definitions of this crate, one module for each subject.
 pub mod Process
+pub mod Quiets
 pub mod Laws
 pub mod Views
 pub mod Sameness
-pub mod Small
-pub mod SmallForks
-pub mod SmallLaws

@@ -3,8 +3,6 @@
 
 mod ended;
 mod local;
-mod small;
 
 pub use ended::{Ended, History, Log, LogWhat, Outcome, OwnSteps, WaitAt};
 pub use local::{Forked, Local, Quiet, Stop};
-pub use small::{Small, Step};

@@ -3,7 +3,8 @@ ghost use Rattle.std.specs.Prelude.{◌≡◌, ◌≢◌, ◌<◌, ◌≤◌, �
 ghost use Rattle.std.specs.Option.{option_copied};
 ghost use Rattle.shim_base.specs.Paths.{NamedChannel};
 ghost use Rattle.shim_local.specs.Process.{Ops, AtQuiet, AtNext, AtPut, AtFork};
-ghost use Rattle.shim_local.specs.Laws.{LocalLaws, QuietSteps};
+ghost use Rattle.shim_local.specs.Laws.{LocalLaws};
+ghost use Rattle.shim_local.specs.Quiets.{QuietSteps};
 ghost use Rattle.shim_local.specs.Views.{stop_view, ForkGives};
 
 use shim_base::{Chan, List, NoMemory, Path, Trap};

@@ -1,4 +1,4 @@
--- What arguments come to, where memory may be wanting.
+-- What the code's arguments say of those of the definition, where memory may be wanting.
 use Rattle.std.specs.Prelude.{◌≡◌, List, ◌++◌, Result, Ok, Err}
 use Rattle.shim_base.specs.declared.operators.Trap.{Trap}
 use Rattle.shim_process.specs.Arguments.{Argument as ArgumentOf, on_value}

@@ -1,4 +1,4 @@
--- What is done to one location.
+-- What a store, a loan and a return change of one location.
 use Rattle.std.specs.Prelude.{ℤ, if◌then◌else◌}
 use Rattle.shim_base.specs.Value.{stored}
 use Rattle.shim_process.specs.Locations.{Location, kept, is_on, regained}

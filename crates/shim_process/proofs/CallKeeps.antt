@@ -1,24 +1,23 @@
 -- A put, a meeting, a throw that is caught and a trap at a fork keep what a call keeps, and make no channel.
-use Rattle.std.proofs.Common.{◌≡◌, ℕ, ℤ, ◌||◌, List, [], ◌∷◌, Result, Ok, Err, sym, ap, subst}
+use Rattle.std.proofs.Common.{◌≡◌, ℕ, ℤ, ◌||◌, List, Option, Some, None, Result, Ok, Err, sym, ap, subst}
 use Rattle.shim_base.specs.declared.operators.Trap.{Trap}
 use Rattle.shim_base.specs.declared.operators.Trap.TheVariants.{Depth}
-use Rattle.shim_local.specs.Process as local
-use Rattle.shim_local.specs.Laws.{Called, by_put, by_receive, by_unwind}
+use Rattle.shim_local.specs.Process.{ForkedView, Parted, Trapped}
+use Rattle.shim_local.specs.Laws.{Called, by_put, by_receive, Unwound, by_label}
 use Rattle.shim_units.specs.declared.unit.UBranch.{UBranch}
 use Rattle.shim_units.specs.declared.unit.UStmt.{UStmt}
 use Rattle.shim_units.specs.declared.unit.UWhat.{UWhat, UWhat-F, out-UWhat}
 use Rattle.shim_process.specs.Values.{Value}
-use Rattle.shim_process.specs.Todo.{Item, Do, Leave, On}
+use Rattle.shim_process.specs.Todo.{On, next_stmt}
 use Rattle.shim_process.specs.LocalState.{LocalState, is_full, trapped}
 use Rattle.shim_process.specs.Arguments.{Argument}
 use Rattle.shim_process.specs.Ends.{gone}
 use Rattle.shim_process.specs.Forks.{fork, fork_result, parent, children_from, is_far, item_branches, all_arguments}
-use Rattle.shim_process.specs.Forks as forks
 use Rattle.shim_process.specs.Steps.{line_of, stored_in, half}
-use Rattle.shim_process.specs.Stops.{put_value, after_put, put, what_receive, item_receive, receive}
+use Rattle.shim_process.specs.Stops.{put_value, after_put, put, what_receive, stmt_receive, receive}
 use Rattle.shim_process.specs.Unwinding.{unwind}
 use Rattle.shim_process.specs.Sound.{Sound}
-use Rattle.shim_process.specs.Ops.{parts, process_ops}
+use Rattle.shim_process.specs.Ops.{process_ops}
 use Rattle.shim_process.proofs.LabelFrames.{HasLeft, gone_left, unwind_left, half_left, trapped_left, none_left}
 use Rattle.shim_process.proofs.QuietKeeps.{Keeps, keeps}
 use Rattle.shim_process.proofs.QuietActions.{unchanged, store_changed}
@@ -52,14 +51,13 @@ what_makes_none (UWhat-F.NextAssign x e) v l s = stored_makes_none l (gone On (s
 what_makes_none (UWhat-F.AssignNext x y) v l s = stored_makes_none l (record (stored_in y v l) { frame = half l.frame }) y v (half_left l.base (stored_in y v l) s.labels)
 what_makes_none _ v l s = left_makes_none l l (none_left l.base l s.labels)
 
-item_makes_none : (todo : List Item) (v : ℤ) (l : LocalState) → Sound l → MakesNone l (item_receive todo v l)
-item_makes_none [] v l s = left_makes_none l l (none_left l.base l s.labels)
-item_makes_none (Leave ∷ k) v l s = left_makes_none l l (none_left l.base l s.labels)
-item_makes_none (Do n st ∷ k) v l s = what_makes_none (out-UWhat st.what) v l s
+stmt_makes_none : (o : Option UStmt) (v : ℤ) (l : LocalState) → Sound l → MakesNone l (stmt_receive o v l)
+stmt_makes_none None v l s = left_makes_none l l (none_left l.base l s.labels)
+stmt_makes_none (Some stmt) v l s = what_makes_none (out-UWhat stmt.what) v l s
 
 receive_makes_none : (l : LocalState) (v : ℤ) → Sound l → MakesNone l (receive l v)
 unfolding receive
-receive_makes_none l v s = item_makes_none l.frame.todo v l s
+receive_makes_none l v s = stmt_makes_none (next_stmt l.frame.todo) v l s
 
 unwind_makes_none : (l : LocalState) (label : ℕ) → Sound l → MakesNone l (unwind l label)
 unwind_makes_none l label s = left_makes_none l (unwind l label) (unwind_left l.base l label s.labels)
@@ -67,31 +65,33 @@ unwind_makes_none l label s = left_makes_none l (unwind l label) (unwind_left l.
 pub called_makes_none : (l m : LocalState) → Sound l → Called process_ops l m → MakesNone l m
 called_makes_none l m s (by_put at e) = subst (MakesNone l) (sym e) (put_makes_none l s)
 called_makes_none l m s (by_receive c v at e) = subst (MakesNone l) (sym e) (receive_makes_none l v s)
-called_makes_none l m s (by_unwind label least below e) = subst (MakesNone l) (sym e) (unwind_makes_none l label s)
+
+pub unwound_makes_none : (l m : LocalState) → Sound l → Unwound process_ops l m → MakesNone l m
+unwound_makes_none l m s (by_label label least below e) = subst (MakesNone l) (sym e) (unwind_makes_none l label s)
 
 -- the process is trapped where it stood
 abbrev pub StandsTrapped : LocalState → LocalState → Type 0
 StandsTrapped l m = (kind : Trap) × (line : ℕ) × (m ≡ trapped kind line l)
 
-abbrev trapped_or : LocalState → local.ForkedView LocalState → LocalState
-trapped_or d (local.Parted l ks) = d
-trapped_or d (local.Trapped l) = l
+abbrev trapped_or : LocalState → ForkedView LocalState → LocalState
+trapped_or d (Parted l ks) = d
+trapped_or d (Trapped l) = l
 
-trapped_is : (l m : LocalState) (kind : Trap) (line : ℕ) → local.Trapped (trapped kind line l) ≡ local.Trapped m → StandsTrapped l m
+trapped_is : (l m : LocalState) (kind : Trap) (line : ℕ) → Trapped (trapped kind line l) ≡ Trapped m → StandsTrapped l m
 trapped_is l m kind line e = (kind, line, sym (ap (trapped_or l) e))
 
-parted_trapped : {A : Type 0} (l m : LocalState) (ks : List LocalState) → local.Parted l ks ≡ local.Trapped m → A
+parted_trapped : {A : Type 0} (l m : LocalState) (ks : List LocalState) → Parted l ks ≡ Trapped m → A
 parted_trapped l m ks e = absurd (cc)
 
-fork_result_trapped : (r : Result (List (List Argument)) Trap) (l m : LocalState) (branches : List UBranch) → parts (fork_result r l branches) ≡ local.Trapped m → StandsTrapped l m
+fork_result_trapped : (r : Result (List (List Argument)) Trap) (l m : LocalState) (branches : List UBranch) → fork_result r l branches ≡ Trapped m → StandsTrapped l m
 fork_result_trapped (Ok given) l m branches =
-    choose (λ p. parts p ≡ local.Trapped m → StandsTrapped l m) (is_far l || is_full l) (forks.Trapped (trapped Depth (line_of l.frame.todo) l)) (forks.Parted (parent l branches) (children_from l 0 branches given))
+    choose (λ p. p ≡ Trapped m → StandsTrapped l m) (is_far l || is_full l) (Trapped (trapped Depth (line_of l.frame.todo) l)) (Parted (parent l branches) (children_from l 0 branches given))
     (λ e. trapped_is l m Depth (line_of l.frame.todo) e) (λ e. parted_trapped (parent l branches) m (children_from l 0 branches given) e)
 fork_result_trapped (Err t) l m branches = λ e. trapped_is l m t (line_of l.frame.todo) e
 
-pub fork_trapped : (l m : LocalState) → parts (fork l) ≡ local.Trapped m → StandsTrapped l m
+pub fork_trapped : (l m : LocalState) → fork l ≡ Trapped m → StandsTrapped l m
 unfolding fork
 fork_trapped l m e = fork_result_trapped (all_arguments l (item_branches l.frame.todo)) l m (item_branches l.frame.todo) e
 
-pub fork_trapped_makes_none : (l m : LocalState) → Sound l → parts (fork l) ≡ local.Trapped m → MakesNone l m
+pub fork_trapped_makes_none : (l m : LocalState) → Sound l → fork l ≡ Trapped m → MakesNone l m
 fork_trapped_makes_none l m s e = let w = fork_trapped l m e in subst (MakesNone l) (sym w.2) (trapped_makes_none w.0 w.1 l s)

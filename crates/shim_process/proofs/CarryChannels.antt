@@ -1,5 +1,5 @@
 -- Tests of channels, what a process shares, and what it carries.
-use Rattle.std.proofs.Common.{◌≡◌, ◌∙◌, ℕ, zero, suc, ◌<◌, ◌≤◌, ◌⊎◌, inl, inr, Bool, true, false, ◌&&◌, ◌||◌, List, [], ◌∷◌, Some, None, cond, refl, sym, ap, arith}
+use Rattle.std.proofs.Common.{◌≡◌, ◌≢◌, ◌∙◌, ℕ, zero, suc, ◌<◌, ◌≤◌, ◌⊎◌, inl, inr, Bool, true, false, ◌&&◌, ◌||◌, List, [], ◌∷◌, Some, None, cond, refl, sym, ap, arith}
 use Rattle.std.proofs.lemmas.Bool.{ltb-true, lt-ltb}
 use Rattle.std.specs.Prelude.{slice_get, nat_lt}
 use Rattle.shim_base.specs.Paths.{Channel, NamedChannel, same_path, same_channel}
@@ -17,6 +17,12 @@ among_at c (d ∷ ds) e = elim (either_holds (same_channel d.channel c) (is_amon
   | inl h ↦ (0, d, refl, same_channel_is d.channel c h)
   | inr h ↦ let w = among_at c ds h in (suc w.0, w.1, w.2, w.3)
 ]
+
+-- and one at a place is among these
+pub place_among : (ds : List NamedChannel) (at : ℕ) (d : NamedChannel) (c : Channel) → slice_get ds at ≡ Some d → d.channel ≡ c → is_among c ds ≡ true
+place_among [] at d c e f = absurd cc
+place_among (x ∷ ds) zero d c e f = or_left (same_channel x.channel c) (is_among c ds) (ap (λ (z : NamedChannel). same_channel z.channel c) (some_same x d e) ∙ ap (λ z. same_channel z c) f ∙ same_channel_refl c)
+place_among (x ∷ ds) (suc at) d c e f = or_right (same_channel x.channel c) (is_among c ds) (place_among ds at d c e f)
 
 -- what is shared goes by the path, the given channels and the count of those made
 pub shares_same : (l m : LocalState) (c : Channel) → m.path ≡ l.path → m.given ≡ l.given → m.made ≡ l.made → shares m c ≡ shares l c
@@ -56,6 +62,19 @@ shares_how l c e = elim (either_holds (is_among c l.given) (declared l c) e) [
   | inl h ↦ inl (among_at c l.given h)
   | inr h ↦ inr (ltb-true c.serial l.made (second_holds (same_path c.home l.path) (nat_lt c.serial l.made) h))
 ]
+
+-- a channel of another home that it shares was given
+pub shares_given : (l : LocalState) (c : Channel) → c.home ≢ l.path → shares l c ≡ true → (at : ℕ) × (d : NamedChannel) × (slice_get l.given at ≡ Some d) × (d.channel ≡ c)
+unfolding shares
+shares_given l c other e = elim (either_holds (is_among c l.given) (declared l c) e) [
+  | inl h ↦ among_at c l.given h
+  | inr h ↦ absurd (other (same_path_is c.home l.path (first_holds (same_path c.home l.path) (nat_lt c.serial l.made) h)))
+]
+
+-- one that was given it shares
+pub given_shares : (l : LocalState) (at : ℕ) (d : NamedChannel) (c : Channel) → slice_get l.given at ≡ Some d → d.channel ≡ c → shares l c ≡ true
+unfolding shares
+given_shares l at d c e f = or_left (is_among c l.given) (declared l c) (place_among l.given at d c e f)
 
 own_is : (m : Ownership) → is_own m ≡ true → m ≡ Own
 own_is Own e = refl

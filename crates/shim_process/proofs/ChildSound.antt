@@ -6,13 +6,14 @@ use Rattle.shim_base.specs.Paths.{Path, Channel, NamedChannel, same_path}
 use Rattle.shim_units.specs.declared.unit.UBranch.{UBranch}
 use Rattle.shim_process.specs.Locations.{Location, Locations, at_number}
 use Rattle.shim_process.specs.LocalState.{LocalState, unit_at, handlers}
-use Rattle.shim_process.specs.Arguments.{Argument, new_channels, branch_locations, channels_of, declared_slots, passed_labels}
+use Rattle.shim_process.specs.StatementViews.{statement_view, passed_labels}
+use Rattle.shim_process.specs.Arguments.{Argument, new_channels, branch_locations, channels_of, declared_slots}
 use Rattle.shim_process.specs.Forks.{child}
 use Rattle.shim_process.specs.Sharers.{is_among, declared, shares}
 use Rattle.shim_process.specs.Sound.{Sound, LeadsTo, LabelsBelow}
 use Rattle.shim_process.proofs.CarryChannels.{among_at}
 use Rattle.shim_process.proofs.LabelFrames.{passed_below}
-use Rattle.shim_process.proofs.ForkNames.{place_among, leads_here, leads_on, leads_no_child}
+use Rattle.shim_process.proofs.ForkNames.{leads_here, leads_on, leads_no_child}
 use Rattle.shim_process.proofs.ChildPlaces.{Taken, origin, once_child}
 use Rattle.shim_process.proofs.ChildGiven.{Given, before_empties, among_given, given_where, among_made}
 use Rattle.shim_base.proofs.SamePaths.{same_path_is}
@@ -68,7 +69,7 @@ child_sound l i b given s =
     let outer : handlers l ≡ handlers l + 0 = omega arith in
     record {
       base = omega (arith, base);
-      labels = (subst (λ (n : ℕ). LabelsBelow n (passed_labels l b.call.throws)) outer (passed_below l b.call.throws s), tt);
+      labels = (subst (λ (n : ℕ). LabelsBelow n (passed_labels (statement_view l) b.call.throws)) outer (passed_below l b.call.throws s), tt);
       channels = λ n x e. or_left _ _ (among_given passed n x (before_empties passed (declared_slots (unit_at l.program b.call.unit)) n x e));
       once = λ n m x y ex ey ox oy same.
           once_child (below l i) l.locations 0 given s.once (all_apart l i s) n m x y
@@ -117,7 +118,3 @@ child_given l i b given c e =
           let number : c.serial < new_channels given = ltb-true c.serial (new_channels given) ((and_parts (same_path c.home (below l i)) _ made).1) in
           among_at c (channels_of passed) (among_made (below l i) l.locations given c home number)
     ]
-
-pub given_shared : (l : LocalState) (at : ℕ) (d : NamedChannel) (c : Channel) → slice_get l.given at ≡ Some d → d.channel ≡ c → shares l c ≡ true
-unfolding shares
-given_shared l at d c e f = or_left _ _ (place_among l.given at d c e f)

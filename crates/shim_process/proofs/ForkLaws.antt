@@ -2,7 +2,7 @@
 use Rattle.std.proofs.Common.{◌≡◌, ◌≢◌, ◌↔◌, ◌⊎◌, ℕ, suc, ◌+◌, Bool, true, cond, List, [], ◌∷◌, length, inl, inr, refl, sym, ap, ◌∙◌, subst}
 use Rattle.std.proofs.lemmas.Bool.{and_parts}
 use Rattle.shim_base.specs.Paths.{Path, Channel}
-use Rattle.shim_local.specs.Process as local
+use Rattle.shim_local.specs.Process.{AtFork, Parted}
 use Rattle.shim_local.specs.Laws.{AllOf, Forks, AreChildren, IsGiven, how_many}
 use Rattle.shim_units.specs.declared.unit.UBranch.{UBranch}
 use Rattle.shim_process.specs.LocalState.{LocalState, Frame, unit_at, handlers}
@@ -12,10 +12,10 @@ use Rattle.shim_process.specs.Forks.{item_branches, takes_output, child, childre
 use Rattle.shim_process.specs.Stops.{stop}
 use Rattle.shim_process.specs.Sound.{Sound, FramesBelow}
 use Rattle.shim_process.specs.Born.{Born, InBranches}
-use Rattle.shim_process.specs.Ops.{stands, parts, process_ops}
+use Rattle.shim_process.specs.Ops.{process_ops}
 use Rattle.shim_process.proofs.BornChildren.{born_children}
 use Rattle.shim_process.proofs.CallLaws.{carries_shares}
-use Rattle.shim_process.proofs.CarryChannels.{Carried, carried_at}
+use Rattle.shim_process.proofs.CarryChannels.{given_shares, Carried, carried_at}
 use Rattle.shim_process.proofs.ForkPlaces.{carried_within}
 use Rattle.shim_process.proofs.ForkKeeps.{Keeps, shares_kept, kept_sound}
 use Rattle.shim_process.proofs.ForkLending.{as_many, Lends, lends_one, lends_all}
@@ -23,7 +23,7 @@ use Rattle.shim_process.proofs.ForkParts.{Parts, parts_of, parent_stands, branch
 use Rattle.shim_process.proofs.ForkBorn.{born_in_branches}
 use Rattle.shim_process.proofs.ForkCounts.{bit, state_carries, child_carried, count_children, carries_balanced, output_balanced}
 use Rattle.shim_process.proofs.ChildCarried.{child_carries}
-use Rattle.shim_process.proofs.ChildSound.{below, child_sound, child_shares, child_given, given_shared}
+use Rattle.shim_process.proofs.ChildSound.{below, child_sound, child_shares, child_given}
 use Rattle.shim_base.proofs.Facts.{no_items}
 
 -- the branches of the fork at which the process stands
@@ -53,16 +53,16 @@ fork_keeps l p ks h =
     let w : Parts l p ks = parts_of l p ks h in
     subst (Keeps l) (sym w.parent_is) (one_fork_more l (all_lending l (branches l)) (l.forks + 1) (lends_keeps l (all_lending l (branches l)) (lends_all l (branches l))))
 
-pub parent_sound : (l p : LocalState) (ks : List LocalState) → Sound l → stands (stop l) ≡ local.AtFork → parts (fork l) ≡ local.Parted p ks → Sound p
+pub parent_sound : (l p : LocalState) (ks : List LocalState) → Sound l → stop l ≡ AtFork → fork l ≡ Parted p ks → Sound p
 parent_sound l p ks s at e = kept_sound l p (fork_keeps l p ks (at, e)) s
 
-pub parent_path : (l p : LocalState) (ks : List LocalState) → Sound l → stands (stop l) ≡ local.AtFork → parts (fork l) ≡ local.Parted p ks → p.path ≡ l.path
+pub parent_path : (l p : LocalState) (ks : List LocalState) → Sound l → stop l ≡ AtFork → fork l ≡ Parted p ks → p.path ≡ l.path
 parent_path l p ks s at e = (fork_keeps l p ks (at, e)).path
 
-pub parent_base : (l p : LocalState) (ks : List LocalState) → Sound l → stands (stop l) ≡ local.AtFork → parts (fork l) ≡ local.Parted p ks → p.base ≡ l.base
+pub parent_base : (l p : LocalState) (ks : List LocalState) → Sound l → stop l ≡ AtFork → fork l ≡ Parted p ks → p.base ≡ l.base
 parent_base l p ks s at e = (fork_keeps l p ks (at, e)).base
 
-pub parent_given : (l p : LocalState) (ks : List LocalState) → Sound l → stands (stop l) ≡ local.AtFork → parts (fork l) ≡ local.Parted p ks → p.given ≡ l.given
+pub parent_given : (l p : LocalState) (ks : List LocalState) → Sound l → stop l ≡ AtFork → fork l ≡ Parted p ks → p.given ≡ l.given
 parent_given l p ks s at e = (fork_keeps l p ks (at, e)).given
 
 pub fork_shares : (l p : LocalState) (ks : List LocalState) (c : Channel) → Sound l → Forks process_ops l p ks → shares p c ≡ shares l c
@@ -141,7 +141,7 @@ children_given l p ks c s h =
     let P : LocalState → Type 0 = λ k. (shares k c ≡ true) ↔ IsGiven process_ops k c in
     let I : LocalState → Type 0 = λ m. Unit {0} in
     subst (AllOf P) (sym w.children_are)
-    (each_child P I (λ m b k. tt) (λ m i b g k. (λ e. child_given m i b g c e, λ v. given_shared (child m i b g) v.0 v.1 c v.2 v.3)) l 0 (branches l) w.given tt)
+    (each_child P I (λ m b k. tt) (λ m i b g k. (λ e. child_given m i b g c e, λ v. given_shares (child m i b g) v.0 v.1 c v.2 v.3)) l 0 (branches l) w.given tt)
 
 -- who carries a channel, and who holds the output
 

@@ -1,21 +1,11 @@
 -- Where paths lead, and the channels of a list.
-use Rattle.std.proofs.Common.{◌≡◌, ℕ, zero, suc, ◌+◌, true, List, [], ◌∷◌, ◌++◌, length, Some, sym, ap, ◌∙◌, subst, arith, append_assoc, append-nil, length-append}
-use Rattle.std.proofs.lemmas.Bool.{or_left, or_right}
-use Rattle.std.specs.Prelude.{slice_get}
-use Rattle.shim_base.specs.Paths.{Path, Channel, NamedChannel, same_channel}
-use Rattle.shim_process.specs.Sharers.{is_among}
+use Rattle.std.proofs.Common.{◌≡◌, ℕ, ◌+◌, true, [], ◌∷◌, ◌++◌, length, sym, ap, ◌∙◌, subst, arith, append_assoc, append-nil, length-append}
+use Rattle.shim_base.specs.Paths.{Path, Channel, same_channel}
 use Rattle.shim_process.specs.Sound.{LeadsTo}
-use Rattle.shim_base.proofs.Facts.{some_same}
 use Rattle.shim_base.proofs.SamePaths.{same_channel_refl}
 
 pub same_channel_of : (c d : Channel) → c ≡ d → same_channel c d ≡ true
 same_channel_of c d e = subst (λ (z : Channel). same_channel c z ≡ true) e (same_channel_refl c)
-
--- a channel at some place of a list is among those of it
-pub place_among : (ds : List NamedChannel) (at : ℕ) (d : NamedChannel) (c : Channel) → slice_get ds at ≡ Some d → d.channel ≡ c → is_among c ds ≡ true
-place_among [] at d c e f = absurd cc
-place_among (x ∷ ds) zero d c e f = or_left _ _ (same_channel_of x.channel c (ap (λ (z : NamedChannel). z.channel) (some_same x d e) ∙ f))
-place_among (x ∷ ds) (suc at) d c e f = or_right (same_channel x.channel c) _ (place_among ds at d c e f)
 
 pub leads_here : (p q : Path) → p ≡ q → LeadsTo p q
 leads_here p q e = ([], append-nil p ∙ e)

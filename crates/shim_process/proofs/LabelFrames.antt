@@ -1,11 +1,12 @@
 -- The labels that units were given, and what the ends of units leave.
 use Rattle.std.proofs.Common.{◌≡◌, ℕ, zero, suc, ◌+◌, ◌-◌, ◌<◌, ◌≤◌, false, List, [], ◌∷◌, length, take, Option, Some, None, nat_eq, nat_lt, cond, refl, sym, subst, arith}
+use Rattle.std.proofs.lemmas.List.{length-map}
 use Rattle.std.specs.Prelude.{slice_get}
 use Rattle.shim_base.specs.declared.operators.Trap.{Trap}
 use Rattle.shim_process.specs.Locations.{Location, at_number}
 use Rattle.shim_process.specs.Todo.{Item, Do, Leave, Successor, On, Second, followed}
-use Rattle.shim_process.specs.LocalState.{LocalState, Frame, ExceptionPlace, number, number_of, handlers, label_among, label_of, trapped}
-use Rattle.shim_process.specs.Arguments.{passed_labels}
+use Rattle.shim_process.specs.LocalState.{LocalState, Frame, ExceptionPlace, number, number_of, handlers, trapped}
+use Rattle.shim_process.specs.StatementViews.{statement_view, exceptions_of, label_among, label_of, passed_labels}
 use Rattle.shim_process.specs.Ends.{without_last, past_ends, went, is_over, settled, gone}
 use Rattle.shim_process.specs.Steps.{half}
 use Rattle.shim_process.specs.Unwinding.{handling, unwound, unwind}
@@ -96,11 +97,11 @@ trapped_left b kind line l h = record { path = refl; base = refl; made = refl; g
 pub none_left : (b : ℕ) (l : LocalState) → FramesBelow b (l.frame ∷ l.callers) → HasLeft b l l
 none_left b l h = record { path = refl; base = refl; made = refl; given = refl; output = refl; at = λ n x e. e; labels = h }
 
-among_below : (bound x first : ℕ) (places : List ExceptionPlace) (given : ℕ) → first + length places ≤ bound → given < bound → label_among x first places given < bound
+among_below : (bound x first : ℕ) (exceptions : List ℕ) (given : ℕ) → first + length exceptions ≤ bound → given < bound → label_among x first exceptions given < bound
 among_below bound x first [] given most below = below
-among_below bound x first (p ∷ places) given most below =
-    among_below bound x (first + 1) places (cond (nat_eq p.exception x) first given) (omega (arith, most))
-    (choose (λ g. g < bound) (nat_eq p.exception x) first given (omega (arith, most)) below)
+among_below bound x first (e ∷ es) given most below =
+    among_below bound x (first + 1) es (cond (nat_eq e x) first given) (omega (arith, most))
+    (choose (λ g. g < bound) (nat_eq e x) first given (omega (arith, most)) below)
 
 number_below : (bound : ℕ) (labels : List ℕ) (x : ℕ) → 0 < bound → LabelsBelow bound labels → number (slice_get labels x) < bound
 number_below bound [] x some h = some
@@ -112,13 +113,13 @@ unfolding number_of
 given_below bound labels x some h = number_below bound labels x some h
 
 -- the label of an exception is that of a place in force, or of one around the process
-pub label_below : (l : LocalState) (x : ℕ) → Sound l → label_of l x < handlers l
-unfolding label_of
+pub label_below : (l : LocalState) (x : ℕ) → Sound l → label_of (statement_view l) x < handlers l
 label_below l x s =
     let least = s.base in
     let given = given_below (l.base + l.frame.outer) l.frame.labels x (omega (arith, least)) s.labels.0 in
-    among_below (handlers l) x (l.base + l.frame.outer) l.frame.places (number_of l.frame.labels x) (omega arith) (omega (arith, given))
+    let many : length (exceptions_of l.frame.places) ≡ length l.frame.places = length-map l.frame.places (λ (p : ExceptionPlace). p.exception) in
+    among_below (handlers l) x (l.base + l.frame.outer) (exceptions_of l.frame.places) (number_of l.frame.labels x) (omega (arith, many)) (omega (arith, given))
 
-pub passed_below : (l : LocalState) (xs : List ℕ) → Sound l → LabelsBelow (handlers l) (passed_labels l xs)
+pub passed_below : (l : LocalState) (xs : List ℕ) → Sound l → LabelsBelow (handlers l) (passed_labels (statement_view l) xs)
 passed_below l [] s = tt
 passed_below l (x ∷ xs) s = (label_below l x s, passed_below l xs s)

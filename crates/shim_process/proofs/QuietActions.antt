@@ -1,5 +1,5 @@
 -- Each quiet step keeps what a call keeps, by what its statement asks for.
-use Rattle.std.proofs.Common.{◌≡◌, ◌∙◌, ℕ, ℤ, pos, ◌+◌, inl, inr, Bool, true, ◌||◌, List, [], ◌∷◌, ◌++◌, length, Some, Result, Ok, Err, cond, refl, sym, ap, subst, arith}
+use Rattle.std.proofs.Common.{◌≡◌, ◌∙◌, ℕ, ℤ, pos, ◌+◌, inl, inr, Bool, true, ◌||◌, List, ◌∷◌, ◌++◌, length, Option, Some, None, Result, Ok, Err, cond, refl, sym, ap, subst, arith}
 use Rattle.shim_base.specs.declared.types.Ty.{Ty}
 use Rattle.shim_base.specs.declared.operators.Trap.{Trap}
 use Rattle.shim_base.specs.declared.operators.Trap.TheVariants.{Depth}
@@ -10,12 +10,13 @@ use Rattle.shim_units.specs.declared.unit.UStmt.{UStmt}
 use Rattle.shim_units.specs.declared.unit.UWhat.{UWhat, UWhat-F, out-UWhat}
 use Rattle.shim_process.specs.Values.{value}
 use Rattle.shim_process.specs.Locations.{Location, Locations, at_number}
-use Rattle.shim_process.specs.Todo.{Item, Do, Leave, On, First, Second}
-use Rattle.shim_process.specs.LocalState.{LocalState, Frame, unit_at, number_of, env_of, handlers, is_full, trapped}
-use Rattle.shim_process.specs.Arguments.{Argument, arguments, new_location, new_channels, call_locations, call_slots, declared_slots, empties, passed_labels, entered}
+use Rattle.shim_process.specs.Todo.{On, First, Second, next_stmt}
+use Rattle.shim_process.specs.LocalState.{LocalState, Frame, unit_at, number_of, env_of, handlers, is_full, is_deep, trapped}
+use Rattle.shim_process.specs.StatementViews.{statement_view, unit_in, passed_labels}
+use Rattle.shim_process.specs.Arguments.{Argument, arguments, new_location, new_channels, call_locations, call_slots, declared_slots, empties, entered}
 use Rattle.shim_process.specs.Ends.{settled, gone}
 use Rattle.shim_process.specs.Sharers.{shares}
-use Rattle.shim_process.specs.Steps.{Action, Go, Store, StoreFirst, Make, Read, Enter, Install, Trapped, Wait, action, limited, is_deep, value_or, try_name, what_action, item_action, next_action, line_of, stored_in, made_in, next_byte, read_in, half, installed, called, done, quiet}
+use Rattle.shim_process.specs.Steps.{Action, Go, Store, StoreFirst, Make, Read, Enter, Install, Trapped, Wait, action, limited, value_or, try_name, what_action, stmt_action, next_action, line_of, stored_in, made_in, next_byte, read_in, half, installed, pushed, called, done, quiet}
 use Rattle.shim_process.specs.Sound.{LabelsBelow, Sound}
 use Rattle.shim_process.proofs.PlaceLocations.{was_there, at_store, at_set, at_append, at_empty}
 use Rattle.shim_process.proofs.CallLocations.{place_of, Passed, by_copy, by_value, at_passed}
@@ -74,16 +75,16 @@ make_changed l t x v =
       ];
     }
 
--- the state in which a called unit starts, but for the units
-abbrev behind : LocalState → UnitOf → List Argument → LocalState
-behind l u given = record l { locations = l.locations ++ (call_locations l.path l.locations l.made given ++ empties (declared_slots u)); made = l.made + new_channels given }
+-- the process with the locations of a call of this unit, and with any frames
+abbrev behind : LocalState → UnitOf → List Argument → Frame → List Frame → LocalState
+behind l u given f fs = record l { frame = f; callers = fs; locations = l.locations ++ (call_locations l.path l.locations l.made given ++ empties (declared_slots u)); made = l.made + new_channels given }
 
 from_passed : (l : LocalState) (given : List Argument) (n j : ℕ) (x : Location) → Sound l → n ≡ length l.locations + j → Passed l.path l.locations given l.made (length l.locations) j x
     → From l (l.made + new_channels given) (place_of given l.made (length l.locations)) n x
 from_passed l given n j x s e (by_copy m y there channel ownership) = as_copy ownership (subst (λ (d : NamedChannel). shares l d.channel ≡ true) channel (s.channels m y there))
 from_passed l given n j x s e (by_value ownership home least below is) = as_new ownership home least below (e ∙ is)
 
-from_behind : (l : LocalState) (u : UnitOf) (given : List Argument) (n : ℕ) (x : Location) → Sound l → at_number (behind l u given).locations n ≡ Some x
+from_behind : (l : LocalState) (u : UnitOf) (given : List Argument) (n : ℕ) (x : Location) → Sound l → at_number (l.locations ++ (call_locations l.path l.locations l.made given ++ empties (declared_slots u))) n ≡ Some x
     → From l (l.made + new_channels given) (place_of given l.made (length l.locations)) n x
 from_behind l u given n x s e =
     let passed : Locations = call_locations l.path l.locations l.made given in
@@ -95,8 +96,8 @@ from_behind l u given n x s e =
       ]
     ]
 
-behind_changed : (l : LocalState) (u : UnitOf) (given : List Argument) → Sound l → Changed l (behind l u given)
-behind_changed l u given s = record {
+behind_changed : (l : LocalState) (u : UnitOf) (given : List Argument) (f : Frame) (fs : List Frame) → Sound l → Changed l (behind l u given f fs)
+behind_changed l u given f fs s = record {
   path = refl;
   base = refl;
   given = refl;
@@ -107,11 +108,12 @@ behind_changed l u given s = record {
 }
 
 call_keeps : (unit : ℕ) (given : List Argument) (labels : List ℕ) (l : LocalState) → Sound l → LabelsBelow (handlers l) labels → Keeps l (called unit given labels l)
-unfolding called
+unfolding called pushed
 call_keeps unit given labels l s h =
     let u : UnitOf = unit_at l.program unit in
-    let f : Frame = entered l.program unit (call_slots (length l.locations) given (declared_slots u)) labels (length l.locations) (l.frame.outer + length l.frame.places) in
-    keeps l (behind l u given) (settled (l.frame ∷ l.callers) f (behind l u given)) (behind_changed l u given s) (settled_left l.base (l.frame ∷ l.callers) f (behind l u given) (h, s.labels))
+    let f : Frame = entered u unit (call_slots (length l.locations) given (declared_slots u)) labels (length l.locations) (l.frame.outer + length l.frame.places) in
+    let m : LocalState = behind l u given f (l.frame ∷ l.callers) in
+    keeps l m (settled (l.frame ∷ l.callers) f m) (behind_changed l u given f (l.frame ∷ l.callers) s) (settled_left l.base (l.frame ∷ l.callers) f m (h, s.labels))
 
 -- a called unit is given labels of places in force
 abbrev Fits : LocalState → Action → Type 0
@@ -125,7 +127,7 @@ action_fits l f (Err t) h = tt
 limited_fits : (l : LocalState) (over : Bool) (d : Action) → Fits l d → Fits l (limited over d)
 limited_fits l over d h = choose (Fits l) over (Trapped Depth) d tt h
 
-what_fits : (w : UWhat-F UWhat UStmt) (l : LocalState) → Sound l → Fits l (what_action w l.frame l)
+what_fits : (w : UWhat-F UWhat UStmt) (l : LocalState) → Sound l → Fits l (what_action w (statement_view l))
 what_fits (UWhat-F.Declare t x e) l s = action_fits l (λ v. limited (is_full l) (Make t x v)) (value_or (pos 0) e (env_of l.locations l.frame.slots)) (λ v. limited_fits l (is_full l) (Make t x v) tt)
 what_fits (UWhat-F.Assign x e) l s = action_fits l (Store x) (value e (env_of l.locations l.frame.slots)) (λ v. tt)
 what_fits (UWhat-F.NextAssign x e) l s =
@@ -135,20 +137,19 @@ what_fits (UWhat-F.If e first second) l s = action_fits l (λ v. Go (cond (is_ze
 what_fits (UWhat-F.While e body) l s = action_fits l (λ v. Go (cond (is_zero v) On First)) (value e (env_of l.locations l.frame.slots)) (λ v. tt)
 what_fits (UWhat-F.For first e step body) l s = action_fits l (λ v. Go (cond (is_zero v) On First)) (value_or (pos 1) e (env_of l.locations l.frame.slots)) (λ v. tt)
 what_fits (UWhat-F.Call c) l s =
-    action_fits l (λ given. limited (is_deep l || is_full l) (Enter c.unit given (passed_labels l c.throws)))
-    (arguments l.locations l.frame.slots (unit_at l.program c.unit).params c.args)
-    (λ given. limited_fits l (is_deep l || is_full l) (Enter c.unit given (passed_labels l c.throws)) (passed_below l c.throws s))
-what_fits (UWhat-F.Try body x handler) l s = limited_fits l (is_full l) (Install x (try_name (unit_at l.program l.frame.unit) x)) tt
+    action_fits l (λ given. limited (is_deep l || is_full l) (Enter c.unit given (passed_labels (statement_view l) c.throws)))
+    (arguments l.locations l.frame.slots (unit_in (statement_view l) c.unit).params c.args)
+    (λ given. limited_fits l (is_deep l || is_full l) (Enter c.unit given (passed_labels (statement_view l) c.throws)) (passed_below l c.throws s))
+what_fits (UWhat-F.Try body x handler) l s = limited_fits l (is_full l) (Install x (try_name (unit_in (statement_view l) l.frame.unit) x)) tt
 what_fits _ l s = tt
 
-item_fits : (todo : List Item) (l : LocalState) → Sound l → Fits l (item_action todo l.frame l)
-item_fits [] l s = tt
-item_fits (Leave ∷ k) l s = tt
-item_fits (Do n st ∷ k) l s = what_fits (out-UWhat st.what) l s
+stmt_fits : (o : Option UStmt) (l : LocalState) → Sound l → Fits l (stmt_action o (statement_view l))
+stmt_fits None l s = tt
+stmt_fits (Some stmt) l s = what_fits (out-UWhat stmt.what) l s
 
 next_fits : (l : LocalState) → Sound l → Fits l (next_action l)
 unfolding next_action
-next_fits l s = item_fits l.frame.todo l s
+next_fits l s = stmt_fits (next_stmt l.frame.todo) l s
 
 done_keeps : (d : Action) (l : LocalState) → Sound l → Fits l d → Keeps l (done d l)
 done_keeps (Go successor) l s h = keeps l l (gone successor l) (unchanged l) (gone_left l.base successor l s.labels)

@@ -6,14 +6,13 @@ use Rattle.shim_base.specs.Value.{stored}
 use Rattle.shim_base.specs.Paths.{Path, NamedChannel}
 use Rattle.shim_syntax.specs.declared.tree.Sort.{Sort}
 use Rattle.shim_scopes.specs.declared.tree.UParam.{UParam}
-use Rattle.shim_units.specs.declared.form.Form.{Form}
 use Rattle.shim_units.specs.declared.unit.Unit.{Unit as UnitOf}
 use Rattle.shim_units.specs.declared.unit.Arg.{Arg}
 use Rattle.shim_units.specs.declared.unit.Arg.TheVariants.{Ref, Pass, Fresh}
 use Rattle.shim_process.specs.Values.{value}
 use Rattle.shim_process.specs.Locations.{Location, Locations, Own, Copy, at_number, lend_at, with_moved}
 use Rattle.shim_process.specs.Todo.{items_all}
-use Rattle.shim_process.specs.LocalState.{LocalState, Frame, unit_at, number_of, env_of, type_of, label_of}
+use Rattle.shim_process.specs.LocalState.{Frame, number_of, env_of, type_of}
 
 -- an argument whose expression is computed, with what its parameter says
 pub data Argument : Type 0 where
@@ -96,16 +95,11 @@ call_slots first (ByReference n ∷ rest) declared = n ∷ call_slots first rest
 call_slots first (ByCopy t n ∷ rest) declared = first ∷ call_slots (first + 1) rest declared
 call_slots first (ByValue t name v ∷ rest) declared = first ∷ call_slots (first + 1) rest declared
 
--- the labels of the exceptions that a call or a branch passes on
-abbrev pub passed_labels : LocalState → List ℕ → List ℕ
-passed_labels l [] = []
-passed_labels l (x ∷ xs) = label_of l x ∷ passed_labels l xs
-
--- a unit at its first statement, with the locations of its slots and the labels of the exceptions that it was given
-abbrev pub entered : Form → ℕ → List ℕ → List ℕ → ℕ → ℕ → Frame
-entered program unit slots labels floor outer = record {
+-- a unit, of this number, at its first statement, with the locations of its slots and the labels of the exceptions that it was given
+abbrev pub entered : UnitOf → ℕ → List ℕ → List ℕ → ℕ → ℕ → Frame
+entered u unit slots labels floor outer = record {
   unit = unit;
-  todo = items_all (unit_at program unit).body 0;
+  todo = items_all u.body 0;
   halfway = false;
   slots = slots;
   labels = labels;

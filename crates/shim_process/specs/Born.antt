@@ -1,9 +1,10 @@
 -- Processes in the places of the children of a process's last fork.
 use Rattle.std.specs.Prelude.{◌≡◌, ℕ, ◌+◌, List, [], ◌∷◌, ◌++◌, length}
 use Rattle.shim_base.specs.Paths.{Path}
+use Rattle.shim_local.specs.Process.{AtFork}
 use Rattle.shim_process.specs.LocalState.{LocalState, handlers}
 use Rattle.shim_process.specs.Forks.{item_branches}
-use Rattle.shim_process.specs.Stops.{stop, AtFork}
+use Rattle.shim_process.specs.Stops.{stop}
 
 -- these are in the branches from place i on of the fork of number f of the process with this path, which has so many exception places in force
 abbrev pub InBranches : Path → ℕ → ℕ → ℕ → List LocalState → Type 0

@@ -1,4 +1,4 @@
--- The ends that belong to the step before them: of `try` blocks, whose exception places go out of force, and of called units.
+-- How a process goes on from a statement: past the ends of `try` blocks, whose exception places go out of force, and of called units, in the same step.
 use Rattle.std.specs.Prelude.{◌-◌, Bool, true, false, List, [], ◌∷◌, length, take, if◌then◌else◌}
 use Rattle.shim_process.specs.Todo.{Item, Do, Leave, Successor, On, followed}
 use Rattle.shim_process.specs.LocalState.{LocalState, Frame, ExceptionPlace}

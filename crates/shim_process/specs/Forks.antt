@@ -1,7 +1,8 @@
--- Where a process comes from and what comes back: the root, the children of a fork, and the close.
+-- Where processes come from and what they bring back: the process that runs `main`, the children of a fork with what their parent keeps, and a join.
 use Rattle.std.specs.Prelude.{ℕ, ◌+◌, nat_le, Bool, true, false, ◌&&◌, ◌||◌, List, [], ◌∷◌, ◌++◌, length, Option, Some, None, Result, Ok, Err, if◌then◌else◌, slice_set}
 use Rattle.shim_base.specs.declared.operators.Trap.{Trap}
 use Rattle.shim_base.specs.declared.operators.Trap.TheVariants.{Depth}
+use Rattle.shim_local.specs.Process.{ForkedView, Parted, Trapped}
 use Rattle.shim_syntax.specs.declared.tree.Sort.{Sort}
 use Rattle.shim_syntax.specs.declared.tree.Sort.TheVariants as sort
 use Rattle.shim_scopes.specs.declared.tree.UParam.{UParam}
@@ -12,9 +13,10 @@ use Rattle.shim_units.specs.declared.unit.Arg.TheVariants.{Ref, Pass, Fresh}
 use Rattle.shim_units.specs.declared.unit.UStmt.{UStmt}
 use Rattle.shim_units.specs.declared.unit.UWhat.{UWhat, UWhat-F, out-UWhat}
 use Rattle.shim_process.specs.Locations.{Locations, at_number, lend_at, with_back}
-use Rattle.shim_process.specs.Todo.{Item, Do, On}
+use Rattle.shim_process.specs.Todo.{Item, On, next_stmt}
 use Rattle.shim_process.specs.LocalState.{LocalState, unit_at, number_of, handlers, is_full, trapped}
-use Rattle.shim_process.specs.Arguments.{Argument, on_value, arguments, new_channels, branch_locations, channels_of, declared_slots, empties, numbers_from, passed_labels, entered}
+use Rattle.shim_process.specs.StatementViews.{statement_view, passed_labels}
+use Rattle.shim_process.specs.Arguments.{Argument, on_value, arguments, new_channels, branch_locations, channels_of, declared_slots, empties, numbers_from, entered}
 use Rattle.shim_process.specs.Ends.{gone}
 use Rattle.shim_process.specs.Steps.{line_of}
 
@@ -50,7 +52,7 @@ root program input =
       made = 0;
       forks = 0;
       given = [];
-      frame = entered program program.main (numbers_from 0 u.slots) (labels_from 1 program.main_throws) 0 0;
+      frame = entered u program.main (numbers_from 0 u.slots) (labels_from 1 program.main_throws) 0 0;
       callers = [];
       locations = empties u.slots;
       input_at = if takes_input u.params then Some 0 else None;
@@ -65,9 +67,12 @@ abbrev pub what_branches : UWhat-F UWhat UStmt → List UBranch
 what_branches (UWhat-F.Par branches) = branches
 what_branches _ = []
 
+abbrev pub stmt_branches : Option UStmt → List UBranch
+stmt_branches None = []
+stmt_branches (Some stmt) = what_branches (out-UWhat stmt.what)
+
 abbrev pub item_branches : List Item → List UBranch
-item_branches (Do n s ∷ k) = what_branches (out-UWhat s.what)
-item_branches _ = []
+item_branches todo = stmt_branches (next_stmt todo)
 
 -- the arguments of all branches, computed from the left; the first trap stands
 abbrev pub all_arguments : LocalState → List UBranch → Result (List (List Argument)) Trap
@@ -88,7 +93,7 @@ child l i b given =
       made = new_channels given;
       forks = 0;
       given = channels_of passed;
-      frame = entered l.program b.call.unit (numbers_from 0 u.slots) (passed_labels l b.call.throws) 0 0;
+      frame = entered u b.call.unit (numbers_from 0 u.slots) (passed_labels (statement_view l) b.call.throws) 0 0;
       callers = [];
       locations = passed ++ empties (declared_slots u);
       input_at = if takes_input u.params then l.input_at else None;
@@ -131,21 +136,20 @@ all_lending l (b ∷ branches) = all_lending (lending l b) branches
 abbrev pub parent : LocalState → List UBranch → LocalState
 parent l branches = record (all_lending l branches) { forks = l.forks + 1 }
 
--- what a fork gives: the parent after it and the children, or the parent trapped
-pub data Forked : Type 0 where
-  Parted : LocalState → List LocalState → Forked
-  Trapped : LocalState → Forked
-
 -- 64 forks are on the way from the root
 abbrev pub is_far : LocalState → Bool
 is_far l = nat_le 64 (length l.path)
 
-abbrev pub fork_result : Result (List (List Argument)) Trap → LocalState → List UBranch → Forked
-fork_result (Ok given) l branches = if is_far l || is_full l then Trapped (trapped Depth (line_of l.frame.todo) l) else Parted (parent l branches) (children_from l 0 branches given)
-fork_result (Err t) l branches = Trapped (trapped t (line_of l.frame.todo) l)
+-- what a fork gives with these children, or the first trap of their arguments; a limit that is passed traps after the arguments were computed
+abbrev pub parted : Result (List LocalState) Trap → LocalState → List UBranch → ForkedView LocalState
+parted (Ok children) l branches = if is_far l || is_full l then Trapped (trapped Depth (line_of l.frame.todo) l) else Parted (parent l branches) children
+parted (Err t) l branches = Trapped (trapped t (line_of l.frame.todo) l)
+
+abbrev pub fork_result : Result (List (List Argument)) Trap → LocalState → List UBranch → ForkedView LocalState
+fork_result given l branches = parted (on_value (λ gs. Ok (children_from l 0 branches gs)) given) l branches
 
 -- after the fork at which the process stands
-unfoldable pub fork : LocalState → Forked
+unfoldable pub fork : LocalState → ForkedView LocalState
 fork l = fork_result (all_arguments l (item_branches l.frame.todo)) l (item_branches l.frame.todo)
 
 -- What a branch took by reference comes back from the child's locations, of which the first are those of its parameters, in order; the first argument's has this number.

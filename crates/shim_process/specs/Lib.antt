@@ -3,6 +3,7 @@ pub mod Values
 pub mod Locations
 pub mod Todo
 pub mod LocalState
+pub mod StatementViews
 pub mod Arguments
 pub mod Ends
 pub mod Steps

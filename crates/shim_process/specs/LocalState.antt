@@ -1,5 +1,5 @@
 -- The state of one process of an accepted program.
-use Rattle.std.specs.Prelude.{ℕ, ◌+◌, nat_eq, nat_le, Bool, ◌||◌, List, [], ◌∷◌, length, Option, Some, None, if◌then◌else◌, slice_get}
+use Rattle.std.specs.Prelude.{ℕ, ◌+◌, nat_le, Bool, ◌||◌, List, [], length, Option, Some, None, slice_get}
 use Rattle.shim_base.specs.declared.types.Ty.{Ty}
 use Rattle.shim_base.specs.declared.types.Ty.TheVariants as ty
 use Rattle.shim_base.specs.declared.operators.Trap.{Trap}
@@ -99,18 +99,13 @@ type_of sort.Output = ty.Int32
 abbrev pub handlers : LocalState → ℕ
 handlers l = l.base + (l.frame.outer + length l.frame.places)
 
--- the label of an exception, where these places are in force, of which the first has this label: that of the innermost one, or else the one that is given
-abbrev pub label_among : ℕ → ℕ → List ExceptionPlace → ℕ → ℕ
-label_among x first [] given = given
-label_among x first (p ∷ places) given = label_among x (first + 1) places (if nat_eq p.exception x then first else given)
-
--- the label of an exception of the unit that a process is in
-unfoldable pub label_of : LocalState → ℕ → ℕ
-label_of l x = label_among x (l.base + l.frame.outer) l.frame.places (number_of l.frame.labels x)
-
 -- it can make no more channels and do no more forks
 abbrev pub is_full : LocalState → Bool
 is_full l = nat_le 4000000000 l.made || nat_le 4000000000 l.forks
+
+-- 200 calls are in force
+abbrev pub is_deep : LocalState → Bool
+is_deep l = nat_le 200 (length l.callers)
 
 -- it stands trapped; nothing else changes
 abbrev pub trapped : Trap → ℕ → LocalState → LocalState

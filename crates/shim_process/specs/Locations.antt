@@ -1,4 +1,4 @@
--- What a process keeps its variables in.
+-- What a process keeps its variables in: locations, each on a channel, and what a loan and its return change of one.
 use Rattle.std.specs.Prelude.{ℕ, ℤ, pos, Bool, true, false, ◌&&◌, List, [], ◌∷◌, Option, Some, None, if◌then◌else◌, slice_get, slice_set}
 use Rattle.shim_base.specs.declared.types.Ty.{Ty}
 use Rattle.shim_base.specs.Value.{stored}

@@ -1,8 +1,8 @@
--- What a process has to do with a channel, and its exception places.
-use Rattle.std.specs.Prelude.{ℕ, ℤ, ◌-◌, nat_lt, Bool, true, false, ◌&&◌, ◌||◌, List, [], ◌∷◌, Option, Some, None, slice_get, if◌then◌else◌}
+-- What a process has to do with a channel: whether it shares or carries it, its value, and which it was given.
+use Rattle.std.specs.Prelude.{ℕ, ℤ, nat_lt, Bool, true, false, ◌&&◌, ◌||◌, List, [], ◌∷◌, Option, Some, None, slice_get}
 use Rattle.shim_base.specs.Paths.{Channel, NamedChannel, same_channel, same_path}
 use Rattle.shim_process.specs.Locations.{Location, own_of, number_in}
-use Rattle.shim_process.specs.LocalState.{LocalState, Frame, ExceptionPlace}
+use Rattle.shim_process.specs.LocalState.{LocalState}
 
 abbrev pub is_among : Channel → List NamedChannel → Bool
 is_among c [] = false
@@ -31,17 +31,3 @@ channel_value l c = number_in (own_of c l.locations)
 -- the channel given at this place
 abbrev pub given_at : LocalState → ℕ → Option NamedChannel
 given_at l at = slice_get l.given at
-
--- exception place n of those of the process, which are counted from the outermost
-abbrev pub place_in : Frame → ℕ → List Frame → Option ExceptionPlace
-place_in f n [] = slice_get f.places (n - f.outer)
-place_in f n (caller ∷ callers) = if nat_lt n f.outer then place_in caller n callers else slice_get f.places (n - f.outer)
-
--- the name and the line of a `try`
-abbrev pub name_and_line : Option ExceptionPlace → ℕ × ℕ
-name_and_line None = (0, 0)
-name_and_line (Some p) = (p.name, p.line)
-
--- those of the exception place of this label
-unfoldable pub handler : LocalState → ℕ → ℕ × ℕ
-handler l label = name_and_line (place_in l.frame (label - l.base) l.callers)

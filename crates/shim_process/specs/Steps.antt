@@ -6,13 +6,15 @@ use Rattle.shim_base.specs.declared.operators.Trap.TheVariants.{Depth}
 use Rattle.shim_base.specs.Operators.{is_zero}
 use Rattle.shim_scopes.specs.declared.tree.UExpr.{UExpr}
 use Rattle.shim_units.specs.declared.unit.Unit.{Unit as UnitOf}
+use Rattle.shim_units.specs.declared.unit.UCall.{UCall}
 use Rattle.shim_units.specs.declared.unit.UStmt.{UStmt}
 use Rattle.shim_units.specs.declared.unit.UWhat.{UWhat, UWhat-F, out-UWhat}
 use Rattle.shim_process.specs.Values.{Env, Value, value}
 use Rattle.shim_process.specs.Locations.{store_at}
-use Rattle.shim_process.specs.Todo.{Item, Do, Successor, On, First, Second}
-use Rattle.shim_process.specs.LocalState.{LocalState, Frame, unit_at, number_of, env_of, is_full, trapped}
-use Rattle.shim_process.specs.Arguments.{Argument, arguments, new_location, new_channels, call_locations, call_slots, declared_slots, empties, passed_labels, entered}
+use Rattle.shim_process.specs.Todo.{Item, Successor, On, First, Second, next_stmt}
+use Rattle.shim_process.specs.LocalState.{LocalState, Frame, unit_at, number_of, env_of, trapped}
+use Rattle.shim_process.specs.StatementViews.{StatementView, statement_view, unit_in, passed_labels}
+use Rattle.shim_process.specs.Arguments.{Argument, arguments, new_location, new_channels, call_locations, call_slots, declared_slots, empties, entered}
 use Rattle.shim_process.specs.Ends.{settled, gone}
 
 -- what a statement asks for, its expressions computed
@@ -43,10 +45,6 @@ action f (Err t) = Trapped t
 abbrev pub limited : Bool → Action → Action
 limited over d = if over then Trapped Depth else d
 
--- 200 calls are in force
-abbrev pub is_deep : LocalState → Bool
-is_deep l = nat_le 200 (length l.callers)
-
 -- an absent test holds, and an absent start is 0
 abbrev pub value_or : ℤ → Option UExpr → Env → Value
 value_or n None env = Ok n
@@ -56,33 +54,40 @@ value_or n (Some e) env = value e env
 abbrev pub try_name : UnitOf → ℕ → ℕ
 try_name u x = number_of u.tries (x - u.throws)
 
-abbrev pub what_action : UWhat-F UWhat UStmt → Frame → LocalState → Action
-what_action (UWhat-F.Declare t x e) f l = action (λ v. limited (is_full l) (Make t x v)) (value_or (pos 0) e (env_of l.locations f.slots))
-what_action (UWhat-F.Assign x e) f l = action (Store x) (value e (env_of l.locations f.slots))
-what_action (UWhat-F.NextAssign x e) f l = if f.halfway then Wait else action (StoreFirst x) (value e (env_of l.locations f.slots))
-what_action (UWhat-F.AssignNext x y) f l = if f.halfway then Store x (env_of l.locations f.slots y) else Wait
-what_action (UWhat-F.Get x i) f l = Read x
-what_action (UWhat-F.If e first second) f l = action (λ v. Go (if is_zero v then Second else First)) (value e (env_of l.locations f.slots))
-what_action (UWhat-F.While e body) f l = action (λ v. Go (if is_zero v then On else First)) (value e (env_of l.locations f.slots))
-what_action (UWhat-F.For first e step body) f l = action (λ v. Go (if is_zero v then On else First)) (value_or (pos 1) e (env_of l.locations f.slots))
-what_action (UWhat-F.Call c) f l =
-    action (λ given. limited (is_deep l || is_full l) (Enter c.unit given (passed_labels l c.throws)))
-    (arguments l.locations f.slots (unit_at l.program c.unit).params c.args)
-what_action (UWhat-F.Try body x handler) f l = limited (is_full l) (Install x (try_name (unit_at l.program f.unit) x))
-what_action _ f l = Wait
+-- what a call asks for
+abbrev pub call_action : UCall → StatementView → Action
+call_action c s = action (λ given. limited (s.deep || s.full) (Enter c.unit given (passed_labels s c.throws))) (arguments s.locations s.slots (unit_in s c.unit).params c.args)
 
-abbrev pub item_action : List Item → Frame → LocalState → Action
-item_action (Do n s ∷ k) f l = what_action (out-UWhat s.what) f l
-item_action _ f l = Wait
+-- what a statement asks for, by what it sees
+abbrev pub what_action : UWhat-F UWhat UStmt → StatementView → Action
+what_action (UWhat-F.Declare t x e) s = action (λ v. limited s.full (Make t x v)) (value_or (pos 0) e (env_of s.locations s.slots))
+what_action (UWhat-F.Assign x e) s = action (Store x) (value e (env_of s.locations s.slots))
+what_action (UWhat-F.NextAssign x e) s = if s.halfway then Wait else action (StoreFirst x) (value e (env_of s.locations s.slots))
+what_action (UWhat-F.AssignNext x y) s = if s.halfway then Store x (env_of s.locations s.slots y) else Wait
+what_action (UWhat-F.Get x i) s = Read x
+what_action (UWhat-F.If e first second) s = action (λ v. Go (if is_zero v then Second else First)) (value e (env_of s.locations s.slots))
+what_action (UWhat-F.While e body) s = action (λ v. Go (if is_zero v then On else First)) (value e (env_of s.locations s.slots))
+what_action (UWhat-F.For first e step body) s = action (λ v. Go (if is_zero v then On else First)) (value_or (pos 1) e (env_of s.locations s.slots))
+what_action (UWhat-F.Call c) s = call_action c s
+what_action (UWhat-F.Try body x handler) s = limited s.full (Install x (try_name (unit_in s s.unit) x))
+what_action _ s = Wait
+
+abbrev pub stmt_action : Option UStmt → StatementView → Action
+stmt_action None s = Wait
+stmt_action (Some stmt) s = what_action (out-UWhat stmt.what) s
 
 -- what the statement at which the process stands asks for
 unfoldable pub next_action : LocalState → Action
-next_action l = item_action l.frame.todo l.frame l
+next_action l = stmt_action (next_stmt l.frame.todo) (statement_view l)
+
+-- the line of a statement
+abbrev pub stmt_line : Option UStmt → ℕ
+stmt_line None = 0
+stmt_line (Some stmt) = stmt.line
 
 -- the line of the statement that is next
 abbrev pub line_of : List Item → ℕ
-line_of (Do n s ∷ k) = s.line
-line_of _ = 0
+line_of todo = stmt_line (next_stmt todo)
 
 -- the value is stored in the slot's location
 abbrev pub stored_in : ℕ → ℤ → LocalState → LocalState
@@ -120,15 +125,22 @@ half f = record f { halfway = true }
 abbrev pub installed : ℕ → ℕ → Frame → Frame
 installed x name f = record f { places = f.places ++ record { exception = x; name = name; line = line_of f.todo; todo = f.todo } ∷ [] }
 
--- the unit is called: its frame is the innermost from now on, with its own locations behind the others
-unfoldable pub called : ℕ → List Argument → List ℕ → LocalState → LocalState
-called unit given labels l =
+-- the frame of the called unit is the innermost from now on, with its own locations behind the others
+unfoldable pub pushed : ℕ → List Argument → List ℕ → LocalState → LocalState
+pushed unit given labels l =
     let u = unit_at l.program unit in
     let first = length l.locations in
     let passed = call_locations l.path l.locations l.made given in
-    settled (l.frame ∷ l.callers)
-    (entered l.program unit (call_slots first given (declared_slots u)) labels first (l.frame.outer + length l.frame.places))
-    (record l { locations = l.locations ++ (passed ++ empties (declared_slots u)); made = l.made + new_channels given })
+    record l {
+      frame = entered u unit (call_slots first given (declared_slots u)) labels first (l.frame.outer + length l.frame.places);
+      callers = l.frame ∷ l.callers;
+      locations = l.locations ++ (passed ++ empties (declared_slots u));
+      made = l.made + new_channels given;
+    }
+
+-- the unit is called; where nothing is to be done in it, it returns at once
+unfoldable pub called : ℕ → List Argument → List ℕ → LocalState → LocalState
+called unit given labels l = let m = pushed unit given labels l in settled m.callers m.frame m
 
 -- the state after the statement, with the ends that follow
 abbrev pub done : Action → LocalState → LocalState

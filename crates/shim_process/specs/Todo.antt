@@ -1,5 +1,5 @@
 -- What a process has still to do in a unit: statements one after another, and the ends of `try` blocks between them.
-use Rattle.std.specs.Prelude.{ℕ, ◌+◌, List, [], ◌∷◌, ◌++◌, map}
+use Rattle.std.specs.Prelude.{ℕ, ◌+◌, List, [], ◌∷◌, ◌++◌, map, Option, Some, None}
 use Rattle.shim_units.specs.declared.unit.UStmt.{UStmt, para-UStmt}
 use Rattle.shim_units.specs.declared.unit.UWhat.{UWhat, UWhat-F, out-UWhat}
 use Rattle.shim_units.specs.Numbering.{size_of, size_all}
@@ -31,6 +31,11 @@ items = para-UStmt (UStmt → ItemsFrom) ItemsFrom what_items (λ s. s.what.1 (r
 
 abbrev pub items_all : List UStmt → ItemsFrom
 items_all ss = items_of (map (λ s. (s, items s)) ss)
+
+-- the statement that is next
+abbrev pub next_stmt : List Item → Option UStmt
+next_stmt (Do n s ∷ k) = Some s
+next_stmt _ = None
 
 -- where a process goes from a statement: behind it, or into its first or its second block
 pub data Successor : Type 0 where

@@ -1,4 +1,4 @@
--- What a throw that is caught leaves of a process.
+-- How a throw that is caught goes to its handler, what it leaves of the frames, the exception places and the locations, and which `try` that is.
 use Rattle.std.specs.Prelude.{ℕ, ◌-◌, nat_lt, List, [], ◌∷◌, take, Option, Some, None, slice_get, if◌then◌else◌}
 use Rattle.shim_process.specs.Todo.{Second}
 use Rattle.shim_process.specs.LocalState.{LocalState, Frame, ExceptionPlace}
@@ -19,3 +19,17 @@ unwound (caller ∷ callers) f n l =
 -- at the handler of the exception of this label
 unfoldable pub unwind : LocalState → ℕ → LocalState
 unwind l label = unwound l.callers l.frame (label - l.base) l
+
+-- exception place n of those of the process, which are counted from the outermost
+abbrev pub place_in : Frame → ℕ → List Frame → Option ExceptionPlace
+place_in f n [] = slice_get f.places (n - f.outer)
+place_in f n (caller ∷ callers) = if nat_lt n f.outer then place_in caller n callers else slice_get f.places (n - f.outer)
+
+-- the name and the line of a `try`
+abbrev pub name_and_line : Option ExceptionPlace → ℕ × ℕ
+name_and_line None = (0, 0)
+name_and_line (Some p) = (p.name, p.line)
+
+-- those of the exception place of this label
+unfoldable pub handler : LocalState → ℕ → ℕ × ℕ
+handler l label = name_and_line (place_in l.frame (label - l.base) l.callers)

@@ -2,7 +2,7 @@
 use Rattle.std.proofs.Common.{◌≡◌, Bool, true, false, Some, None, [], ◌∷◌, inl, inr, cond, map, filter, refl, sym, ap, subst, ◌∙◌}
 use Rattle.shim_base.specs.Paths.{Path, same_path}
 use Rattle.shim_local.specs.Process.{Ops, StopView, AtQuiet, AtNext, AtPut, AtFork, AtFinish, AtThrow, AtTrap}
-use Rattle.shim_semantics.specs.Nodes.{Node, Nodes, Live, Forked, Ended, Dead, states, all_done, least_label}
+use Rattle.shim_semantics.specs.Nodes.{Node, Nodes, Live, Forked, Ended, Dead, states, all_done, prevailing_death}
 use Rattle.shim_semantics.specs.Acts.{Acted, closed, act_here, act_live}
 use Rattle.shim_semantics.specs.Listing.{IsAmong}
 use Rattle.shim_semantics.specs.Trees.{Event, Own, Meet, Poison, Close, End, Kind, Steps, Ends, Closes, Nothing, kind_of_stop, same_kind, is_its}
@@ -118,7 +118,7 @@ module _ {S : Type 0} (o : Ops S) where
 
   fork_acts : (l : S) (ks : Nodes S) → all_done ks ≡ true → (a : Acted S) × (act_here o (Forked l ks) ≡ Some a)
   fork_acts l ks e =
-      let a : Acted S = closed o l (states ks) (least_label ks) in
+      let a : Acted S = closed o l (states ks) (prevailing_death ks) in
       (a, ap (λ b. cond b (Some a) None) e)
 
   -- what the node lists is its own, and it acts

@@ -1,8 +1,8 @@
 -- The close of a fork keeps a tree sound, be it that it throws.
-use Rattle.std.proofs.Common.{◌≡◌, ◌<◌, ◌≤◌, ℕ, ◌+◌, Bool, true, false, Option, Some, None, ◌∷◌, inl, inr, refl, sym, ◌∙◌, arith, min}
+use Rattle.std.proofs.Common.{◌≡◌, ◌<◌, ◌≤◌, ℕ, ◌+◌, Bool, true, false, Option, Some, None, ◌∷◌, inl, inr, ap, refl, sym, ◌∙◌, arith, min}
 use Rattle.shim_local.specs.Process.{Ops}
 use Rattle.shim_local.specs.Laws.{LocalLaws, AllOf, AnyOf, Moved, by_join, how_many}
-use Rattle.shim_semantics.specs.Nodes.{Nodes, Live, Forked, Ended, Dead, no_node, node_and, states, everyone_of, least_label, lesser}
+use Rattle.shim_semantics.specs.Nodes.{Nodes, Live, Forked, Ended, Dead, no_node, node_and, states, everyone_of, prevailing_death, prevailing, Death, death}
 use Rattle.shim_semantics.specs.Acts.{closed}
 use Rattle.shim_semantics.specs.Places.{SoundBelow, SoundChildren}
 use Rattle.shim_semantics.specs.Sound.{carriers, holders}
@@ -22,17 +22,17 @@ same_bound : (x h k : ℕ) → x < h → k ≡ h → x < k
 same_bound x h k e f = omega arith
 
 module _ {S : Type 0} (o : Ops S) where
-  -- the least label of dead children has its place at their parent
-  label_below : (l : S) (f j : ℕ) (ks : Nodes S) (x : ℕ) → SoundChildren o l f j ks → least_label ks ≡ Some x → x < o.handlers l
+  -- the label of the prevailing death of children has its place at their parent
+  label_below : (l : S) (f j : ℕ) (ks : Nodes S) (x : Death) → SoundChildren o l f j ks → prevailing_death ks ≡ Some x → x.label < o.handlers l
   label_below l f j no_node x s e = none_some x e
   label_below l f j (node_and (Live k) ks) x s e = label_below l f (j + 1) ks x s.2 e
   label_below l f j (node_and (Forked k js) ks) x s e = label_below l f (j + 1) ks x s.2 e
   label_below l f j (node_and (Ended k) ks) x s e = label_below l f (j + 1) ks x s.2 e
-  label_below l f j (node_and (Dead k y) ks) x s e = with_rest (least_label ks) (λ z h. label_below l f (j + 1) ks z s.2 h) e
+  label_below l f j (node_and (Dead k y) ks) x s e = with_rest (prevailing_death ks) (λ z h. label_below l f (j + 1) ks z s.2 h) e
     where
-      with_rest : (r : Option ℕ) → ((z : ℕ) → r ≡ Some z → z < o.handlers l) → lesser y r ≡ Some x → x < o.handlers l
-      with_rest None h e = is_below x y (o.handlers l) (o.base k) (some_same y x e) s.1.below_base s.0.base
-      with_rest (Some z) h e = least_below x y z (o.handlers l) (some_same (min y z) x e) (h z refl)
+      with_rest : (r : Option Death) → ((z : Death) → r ≡ Some z → z.label < o.handlers l) → prevailing y r ≡ Some x → x.label < o.handlers l
+      with_rest None h e = is_below x.label y.label (o.handlers l) (o.base k) (ap (λ d. d.label) (some_same y x e)) s.1.below_base s.0.base
+      with_rest (Some z) h e = least_below x.label y.label z.label (o.handlers l) (ap (λ d. d.label) (some_same (death (min y.label z.label)) x e)) (h z refl)
 
   some_below : (f : S → Bool) (l : S) (ks : Nodes S) → AnyOf (λ k. f k ≡ true) (states ks) → 1 ≤ how_many f (l ∷ everyone_of ks)
   some_below f l ks h =
@@ -57,11 +57,11 @@ module _ {S : Type 0} (o : Ops S) where
         ]);
       }
 
-  pub closed_stays : LocalLaws o → (l : S) (ks : Nodes S) (r : Option ℕ) → least_label ks ≡ r → SoundBelow o (Forked l ks) → Stays o (Forked l ks) (closed o l (states ks) r).node
+  pub closed_stays : LocalLaws o → (l : S) (ks : Nodes S) (r : Option Death) → prevailing_death ks ≡ r → SoundBelow o (Forked l ks) → Stays o (Forked l ks) (closed o l (states ks) r).node
   closed_stays law l ks None e s = join_stays law l ks true s
   closed_stays law l ks (Some x) e s =
       let j : S = o.join l (states ks) false in
       let all : AllOf o.sound (states ks) = states_sound o l s.number 0 ks s.children in
       let joined = join_stays law l ks false s in
-      let below : x < o.handlers (o.join l (states ks) false) = same_bound x (o.handlers l) (o.handlers j) (label_below l s.number 0 ks x s.children e) (law.join_handlers l (states ks) s.sound all s.born) in
+      let below : x.label < o.handlers (o.join l (states ks) false) = same_bound x.label (o.handlers l) (o.handlers j) (label_below l s.number 0 ks x s.children e) (law.join_handlers l (states ks) s.sound all s.born) in
       stays_after o (Forked l ks) (Live j) (closed o l (states ks) (Some x)).node joined (thrown_stays o law j x joined.below below)

@@ -2,11 +2,12 @@
 pub mod Alone
 pub mod CallStays
 pub mod CloseStays
+pub mod Codes
 pub mod Counting
 pub mod Enabled
-pub mod Examples
 pub mod Follows
 pub mod ForkKeeps
+pub mod GivenChannels
 pub mod HowMany
 pub mod InOrder
 pub mod Leading

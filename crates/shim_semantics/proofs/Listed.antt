@@ -1,5 +1,5 @@
 -- What the walk and its emptiness come to in a sound tree.
-use Rattle.std.proofs.Common.{◌≡◌, ◌≢◌, ◌↔◌, zero, suc, Option, Some, None, List, Bool, true, false, ◌∙◌, sym, ap, subst, refl, cond}
+use Rattle.std.proofs.Common.{◌≡◌, ◌≢◌, ◌↔◌, ℕ, zero, suc, Option, Some, None, List, Bool, true, false, ◌∙◌, sym, ap, subst, refl, cond}
 use Rattle.shim_local.specs.Process.{Ops}
 use Rattle.shim_local.specs.declared.Ended.{Ended as Read}
 use Rattle.shim_local.specs.declared.Outcome.{Outcome}
@@ -8,7 +8,7 @@ use Rattle.shim_semantics.specs.Nodes.{Node, Live, Forked, Ended, Dead}
 use Rattle.shim_semantics.specs.Places.{SoundBelow}
 use Rattle.shim_semantics.specs.Trees.{Tree, Event, after, IsQuiescent}
 use Rattle.shim_semantics.specs.Walks.{walk}
-use Rattle.shim_semantics.specs.Endings.{is_empty, outcome_of_root, outcome, ended}
+use Rattle.shim_semantics.specs.Endings.{is_empty, outcome_of_label, outcome_of_root, outcome, ended}
 use Rattle.shim_semantics.specs.Listing.{IsAmong, AreEnabled}
 use Rattle.shim_semantics.proofs.Enabled.{listed_enabled, enabled_listed, empty_is_quiescent}
 use Rattle.shim_base.proofs.Facts.{none_some}
@@ -26,8 +26,11 @@ not_spent : {S : Type 0} (n : Node S) → outcome_of_root n ≡ Spent → ⊥
 not_spent (Live l) e = cc
 not_spent (Forked l ks) e = cc
 not_spent (Ended l) e = cc
-not_spent (Dead l zero) e = cc
-not_spent (Dead l (suc i)) e = cc
+not_spent (Dead l d) e = no_label d.label e
+  where
+    no_label : (x : ℕ) → outcome_of_label x ≡ Spent → ⊥
+    no_label zero e = cc
+    no_label (suc i) e = cc
 
 -- A run is spent exactly where something can still happen.
 pub spent_exactly : {S : Type 0} (o : Ops S) (t : Tree S) → SoundBelow o t.root → (x : Outcome) → x ≡ outcome o t.root → (x ≡ Spent) ↔ (IsQuiescent o t → ⊥)

@@ -3,9 +3,15 @@ use Rattle.std.proofs.Common.{◌≡◌, Bool, true, false, List, [], ◌∷◌,
 use Rattle.std.specs.declared.cmp.Ordering.{Ordering}
 use Rattle.std.specs.declared.cmp.Ordering.TheVariants.{Less, Equal, Greater}
 use Rattle.shim_base.specs.Paths.{Channel, channel_order}
-use Rattle.shim_base.specs.PathLaws.{exact_channel}
+use Rattle.shim_base.specs.PathLaws.{exact_channel, channel_order_total}
+use Rattle.shim_base.proofs.Facts.{no_items}
+use Rattle.std.specs.FinMap.{put, entries, empty, from_entries, entries-insert, len-entries, len-empty}
+use Rattle.std.specs.FinMap.Entries.{by_order}
 use Rattle.shim_semantics.specs.Listing.{IsAmong}
-use Rattle.shim_semantics.specs.Walks.{put_before, inserted, all_inserted, in_order}
+use Rattle.shim_semantics.specs.Walks.{as_key, in_order}
+
+abbrev firsts : {A B : Type 0} → List (A × B) → List A
+firsts es = map (λ e. e.0) es
 
 pub among_left : {E : Type 0} (e : E) (xs ys : List E) → IsAmong e xs → IsAmong e (xs ++ ys)
 among_left e [] ys h = absurd h
@@ -57,51 +63,53 @@ among_filtered f x (y ∷ ys) h = elim (among_cond (f y) x y (filter f ys) h) [
 ]
 
 -- a list that is put in order has the same members
-inserted_new : (r : Ordering) (c d : Channel) (cs more : List Channel) → (r ≡ Equal → c ≡ d) → IsAmong c more → IsAmong c (put_before r c d cs more)
-inserted_new Less c d cs more e h = inl refl
-inserted_new Equal c d cs more e h = inl (e refl)
-inserted_new Greater c d cs more e h = inr h
+module _ {X : Type 0} where
+  put_new : (r : Ordering) (c : Channel) (v : X) (e : Channel × X) (es more : List (Channel × X)) → (r ≡ Equal → c ≡ e.0) → IsAmong c (firsts more) → IsAmong c (firsts (by_order r ((c, v) ∷ e ∷ es) ((e.0, v) ∷ es) (e ∷ more)))
+  put_new Less c v e es more is h = inl refl
+  put_new Equal c v e es more is h = inl (is refl)
+  put_new Greater c v e es more is h = inr h
 
-inserted_old : (r : Ordering) (x c d : Channel) (cs more : List Channel) → (IsAmong x cs → IsAmong x more) → IsAmong x (d ∷ cs) → IsAmong x (put_before r c d cs more)
-inserted_old Less x c d cs more e h = inr h
-inserted_old Equal x c d cs more e h = h
-inserted_old Greater x c d cs more e (inl h) = inl h
-inserted_old Greater x c d cs more e (inr h) = inr (e h)
+  put_old : (r : Ordering) (x c : Channel) (v : X) (e : Channel × X) (es more : List (Channel × X)) → (IsAmong x (firsts es) → IsAmong x (firsts more)) → IsAmong x (firsts (e ∷ es))
+      → IsAmong x (firsts (by_order r ((c, v) ∷ e ∷ es) ((e.0, v) ∷ es) (e ∷ more)))
+  put_old Less x c v e es more f h = inr h
+  put_old Equal x c v e es more f h = h
+  put_old Greater x c v e es more f (inl h) = inl h
+  put_old Greater x c v e es more f (inr h) = inr (f h)
 
-inserted_from : (r : Ordering) (x c d : Channel) (cs more : List Channel) → (IsAmong x more → (x ≡ c) ⊎ IsAmong x cs) → IsAmong x (put_before r c d cs more) → (x ≡ c) ⊎ IsAmong x (d ∷ cs)
-inserted_from Less x c d cs more e h = h
-inserted_from Equal x c d cs more e h = inr h
-inserted_from Greater x c d cs more e (inl h) = inr (inl h)
-inserted_from Greater x c d cs more e (inr h) = elim (e h) [ inl z ↦ inl z | inr z ↦ inr (inr z) ]
+  put_from : (r : Ordering) (x c : Channel) (v : X) (e : Channel × X) (es more : List (Channel × X)) → (IsAmong x (firsts more) → (x ≡ c) ⊎ IsAmong x (firsts es))
+      → IsAmong x (firsts (by_order r ((c, v) ∷ e ∷ es) ((e.0, v) ∷ es) (e ∷ more))) → (x ≡ c) ⊎ IsAmong x (firsts (e ∷ es))
+  put_from Less x c v e es more f h = h
+  put_from Equal x c v e es more f h = inr h
+  put_from Greater x c v e es more f (inl h) = inr (inl h)
+  put_from Greater x c v e es more f (inr h) = elim (f h) [ inl z ↦ inl z | inr z ↦ inr (inr z) ]
 
-among_inserted : (c : Channel) (cs : List Channel) → IsAmong c (inserted c cs)
-among_inserted c [] = inl refl
-among_inserted c (d ∷ cs) = inserted_new (channel_order c d) c d cs (inserted c cs) (λ e. exact_channel c d e) (among_inserted c cs)
+  among_put : (c : Channel) (v : X) (es : List (Channel × X)) → IsAmong c (firsts (put channel_order c v es))
+  among_put c v [] = inl refl
+  among_put c v (e ∷ es) = put_new (channel_order c e.0) c v e es (put channel_order c v es) (λ z. exact_channel c e.0 z) (among_put c v es)
 
-among_others : (x c : Channel) (cs : List Channel) → IsAmong x cs → IsAmong x (inserted c cs)
-among_others x c [] h = absurd h
-among_others x c (d ∷ cs) h = inserted_old (channel_order c d) x c d cs (inserted c cs) (λ z. among_others x c cs z) h
+  among_others : (x c : Channel) (v : X) (es : List (Channel × X)) → IsAmong x (firsts es) → IsAmong x (firsts (put channel_order c v es))
+  among_others x c v [] h = absurd h
+  among_others x c v (e ∷ es) h = put_old (channel_order c e.0) x c v e es (put channel_order c v es) (λ z. among_others x c v es z) h
 
-among_before : (x c : Channel) (cs : List Channel) → IsAmong x (inserted c cs) → (x ≡ c) ⊎ IsAmong x cs
-among_before x c [] h = h
-among_before x c (d ∷ cs) h = inserted_from (channel_order c d) x c d cs (inserted c cs) (λ z. among_before x c cs z) h
+  among_before : (x c : Channel) (v : X) (es : List (Channel × X)) → IsAmong x (firsts (put channel_order c v es)) → (x ≡ c) ⊎ IsAmong x (firsts es)
+  among_before x c v [] h = h
+  among_before x c v (e ∷ es) h = put_from (channel_order c e.0) x c v e es (put channel_order c v es) (λ z. among_before x c v es z) h
 
-among_all : (x : Channel) (done cs : List Channel) → IsAmong x done ⊎ IsAmong x cs → IsAmong x (all_inserted done cs)
-among_all x done [] (inl h) = h
-among_all x done [] (inr h) = absurd h
-among_all x done (c ∷ cs) (inl h) = among_all x (inserted c done) cs (inl (among_others x c done h))
-among_all x done (c ∷ cs) (inr (inl h)) = among_all x (inserted c done) cs (inl (subst (λ z. IsAmong x (inserted z done)) h (among_inserted x done)))
-among_all x done (c ∷ cs) (inr (inr h)) = among_all x (inserted c done) cs (inr h)
-
-from_all : (x : Channel) (done cs : List Channel) → IsAmong x (all_inserted done cs) → IsAmong x done ⊎ IsAmong x cs
-from_all x done [] h = inl h
-from_all x done (c ∷ cs) h = elim (from_all x (inserted c done) cs h) [
-  | inl z ↦ elim (among_before x c done z) [ inl y ↦ inr (inl y) | inr y ↦ inl y ]
-  | inr z ↦ inr (inr z)
-]
+-- one more that is put in order
+ordered_more : (c : Channel) (cs : List Channel) → in_order (c ∷ cs) ≡ firsts (put channel_order c tt (entries (from_entries {R = channel_order} (map as_key cs))))
+ordered_more c cs = ap firsts (entries-insert channel_order_total (from_entries (map as_key cs)) c tt)
 
 pub among_order : (x : Channel) (cs : List Channel) → IsAmong x cs → IsAmong x (in_order cs)
-among_order x cs h = among_all x [] cs (inr h)
+among_order x [] h = absurd h
+among_order x (c ∷ cs) (inl h) =
+    let es = entries (from_entries {R = channel_order} (map as_key cs)) in
+    subst (IsAmong x) (sym (ordered_more c cs)) (subst (λ z. IsAmong z (firsts (put channel_order c tt es))) (sym h) (among_put c tt es))
+among_order x (c ∷ cs) (inr h) = subst (IsAmong x) (sym (ordered_more c cs)) (among_others x c tt _ (among_order x cs h))
+
+-- the map of no entries has no keys
+pub none_ordered : in_order [] ≡ []
+none_ordered = ap firsts (no_items _ (sym (len-entries (empty {X = Unit {0}} {R = channel_order})) ∙ len-empty channel_order (Unit {0})))
 
 pub among_ordered : (x : Channel) (cs : List Channel) → IsAmong x (in_order cs) → IsAmong x cs
-among_ordered x cs h = elim (from_all x [] cs h) [ inl z ↦ absurd z | inr z ↦ z ]
+among_ordered x [] h = subst (IsAmong x) none_ordered h
+among_ordered x (c ∷ cs) h = elim (among_before x c tt _ (subst (IsAmong x) (ordered_more c cs) h)) [ inl z ↦ inl z | inr z ↦ inr (among_ordered x cs z) ]

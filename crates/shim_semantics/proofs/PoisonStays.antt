@@ -3,7 +3,7 @@ use Rattle.std.proofs.Common.{◌≡◌, ◌≢◌, ◌<◌, ◌≤◌, ℕ, zer
 use Rattle.shim_base.specs.Paths.{Channel}
 use Rattle.shim_local.specs.Process.{Ops}
 use Rattle.shim_local.specs.Laws.{LocalLaws}
-use Rattle.shim_semantics.specs.Nodes.{Node, Nodes, Live, Forked, Ended, Dead, no_node, node_and, state, states, everyone, everyone_of}
+use Rattle.shim_semantics.specs.Nodes.{Node, Nodes, Live, Forked, Ended, Dead, Death, death, no_node, node_and, state, states, everyone, everyone_of}
 use Rattle.shim_semantics.specs.Poison.{poisoned, all_poisoned, one_poisoned, can_poison, poison_here, above, before_rest, after_one, poison, poison_child, poison_route, to_fork, last_branch}
 use Rattle.shim_semantics.specs.Places.{IsChild, SoundBelow, SoundChildren}
 use Rattle.shim_semantics.proofs.Follows.{Stays, same_stays}
@@ -47,7 +47,7 @@ module _ {S : Type 0} (o : Ops S) where
     pub states_are : states js ≡ states ks
     pub all : everyone_of js ≡ everyone_of ks
 
-  live_alike : (c : Channel) (x : ℕ) (l : S) → x < o.base l → o.sound l → IsAlike (Live l) (poisoned o c x (Live l))
+  live_alike : (c : Channel) (x : Death) (l : S) → x.label < o.base l → o.sound l → IsAlike (Live l) (poisoned o c x (Live l))
   live_alike c x l h s = elim (o.shares l c) as (λ b. IsAlike (Live l) (cond b (Dead l x) (Live l))) [
     | true ↦ record { below = record { below_base = h; sound = s }; state_is = refl; all = refl }
     | false ↦ record { below = s; state_is = refl; all = refl }
@@ -81,25 +81,25 @@ module _ {S : Type 0} (o : Ops S) where
   nodes_same l f j ks s = record { children = s; states_are = refl; all = refl }
 
   mutual
-    poisoned_alike : LocalLaws o → (c : Channel) (x : ℕ) (n : Node S) → x < o.base (state n) → SoundBelow o n → IsAlike n (poisoned o c x n)
+    poisoned_alike : LocalLaws o → (c : Channel) (x : Death) (n : Node S) → x.label < o.base (state n) → SoundBelow o n → IsAlike n (poisoned o c x n)
     poisoned_alike law c x (Live l) h s = live_alike c x l h s
     poisoned_alike law c x (Ended l) h s = node_same (Ended l) s
     poisoned_alike law c x (Dead l y) h s = node_same (Dead l y) s
     poisoned_alike law c x (Forked l ks) h s =
-        forked_alike l ks (all_poisoned o c x ks) s (all_poisoned_alike law c x l s.number 0 ks (base_to_handlers x (o.base l) (o.handlers l) h (law.base_most l s.sound)) s.children)
+        forked_alike l ks (all_poisoned o c x ks) s (all_poisoned_alike law c x l s.number 0 ks (base_to_handlers x.label (o.base l) (o.handlers l) h (law.base_most l s.sound)) s.children)
 
-    all_poisoned_alike : LocalLaws o → (c : Channel) (x : ℕ) (l : S) (f j : ℕ) (ks : Nodes S) → x < o.handlers l → SoundChildren o l f j ks → AreAlike l f j ks (all_poisoned o c x ks)
+    all_poisoned_alike : LocalLaws o → (c : Channel) (x : Death) (l : S) (f j : ℕ) (ks : Nodes S) → x.label < o.handlers l → SoundChildren o l f j ks → AreAlike l f j ks (all_poisoned o c x ks)
     all_poisoned_alike law c x l f j no_node h s = nodes_same l f j no_node tt
     all_poisoned_alike law c x l f j (node_and k ks) h s =
         first_alike l f j k (poisoned o c x k) ks (all_poisoned o c x ks) s.0
-        (poisoned_alike law c x k (handlers_to_base x (o.handlers l) (o.base (state k)) h s.0.base) s.1)
+        (poisoned_alike law c x k (handlers_to_base x.label (o.handlers l) (o.base (state k)) h s.0.base) s.1)
         (all_poisoned_alike law c x l f (j + 1) ks h s.2)
 
-  one_poisoned_alike : LocalLaws o → (c : Channel) (x i : ℕ) (l : S) (f j : ℕ) (ks : Nodes S) → x < o.handlers l → SoundChildren o l f j ks → AreAlike l f j ks (one_poisoned o c x i ks)
+  one_poisoned_alike : LocalLaws o → (c : Channel) (x : Death) (i : ℕ) (l : S) (f j : ℕ) (ks : Nodes S) → x.label < o.handlers l → SoundChildren o l f j ks → AreAlike l f j ks (one_poisoned o c x i ks)
   one_poisoned_alike law c x i l f j no_node h s = nodes_same l f j no_node tt
   one_poisoned_alike law c x zero l f j (node_and k ks) h s =
       first_alike l f j k (poisoned o c x k) ks ks s.0
-      (poisoned_alike law c x k (handlers_to_base x (o.handlers l) (o.base (state k)) h s.0.base) s.1)
+      (poisoned_alike law c x k (handlers_to_base x.label (o.handlers l) (o.base (state k)) h s.0.base) s.1)
       (nodes_same l f (j + 1) ks s.2)
   one_poisoned_alike law c x (suc i) l f j (node_and k ks) h s =
       first_alike l f j k k ks (one_poisoned o c x i ks) s.0 (node_same k s.1) (one_poisoned_alike law c x i l f (j + 1) ks h s.2)
@@ -110,8 +110,8 @@ module _ {S : Type 0} (o : Ops S) where
   here_alike law c i (Dead l x) m s e = none_some m e
   here_alike law c i (Forked l ks) m s e =
       let below : o.handlers l - 1 < o.handlers l = innermost_below (o.base l) (o.handlers l) (law.base_least l s.sound) (law.base_most l s.sound) in
-      subst (IsAlike (Forked l ks)) (cond_some (can_poison o l c i ks) (Forked l (one_poisoned o c (o.handlers l - 1) i ks)) m e).1
-      (forked_alike l ks (one_poisoned o c (o.handlers l - 1) i ks) s (one_poisoned_alike law c (o.handlers l - 1) i l s.number 0 ks below s.children))
+      subst (IsAlike (Forked l ks)) (cond_some (can_poison o l c i ks) (Forked l (one_poisoned o c (death (o.handlers l - 1)) i ks)) m e).1
+      (forked_alike l ks (one_poisoned o c (death (o.handlers l - 1)) i ks) s (one_poisoned_alike law c (death (o.handlers l - 1)) i l s.number 0 ks below s.children))
 
   mutual
     poison_alike : LocalLaws o → (c : Channel) (i : ℕ) (q : List ℕ) (n m : Node S) → SoundBelow o n → poison o c i q n ≡ Some m → IsAlike n m

@@ -109,7 +109,7 @@ module _ {S : Type 0} (o : Ops S) where
     sound_at_in l f j (node_and k ks) (suc i) q m s e = sound_at_in l f (j + 1) ks i q m s.2 e
 
   -- the states of sound nodes
-  state_sound : (n : Node S) → SoundBelow o n → o.sound (state n)
+  pub state_sound : (n : Node S) → SoundBelow o n → o.sound (state n)
   state_sound (Live l) s = s
   state_sound (Forked l ks) s = s.sound
   state_sound (Ended l) s = s

@@ -1,10 +1,11 @@
 -- What a process does by itself: a step of its own, its end, or the close of its fork.
-use Rattle.std.specs.Prelude.{ℕ, zero, suc, Option, Some, None, List, [], ◌∷◌, cond, true, false, ltb}
+use Rattle.std.specs.Prelude.{ℕ, Option, Some, None, List, [], ◌∷◌, cond, true, false, ltb}
 use Rattle.shim_base.specs.declared.operators.Trap.{Trap}
 use Rattle.shim_local.specs.Process.{Ops, StopView, ForkedView, AtQuiet, AtNext, AtPut, AtFork, AtFinish, AtThrow, AtTrap, Parted, Trapped}
 use Rattle.shim_local.specs.declared.LogWhat.{LogWhat}
 use Rattle.shim_local.specs.declared.LogWhat.TheVariants.{Caught, Trap as LoggedTrap}
-use Rattle.shim_semantics.specs.Nodes.{Node, Nodes, Live, Forked, Ended, Dead, no_node, node_and, states, all_live, all_done, least_label}
+use Rattle.shim_semantics.specs.Nodes.{Node, Nodes, Live, Forked, Ended, Dead, Death, death, node_and, states, all_live, all_done, prevailing_death}
+use Rattle.shim_semantics.specs.Descents.{Ascent, apply_at, apply_among}
 
 -- what an event tells: the bytes that it puts, and what it logs of its process
 pub record Effects : Type 0 where
@@ -36,14 +37,14 @@ abbrev pub parted : {S : Type 0} → ForkedView S → Node S
 parted (Parted l ks) = Forked l (all_live ks)
 parted (Trapped l) = Live l
 
--- The exception of this label is thrown in a process. Below its base the process dies of it; else its handler goes on, and the catch is logged.
-abbrev pub thrown : {S : Type 0} → Ops S → S → ℕ → Acted S
-thrown o l x = cond (ltb x (o.base l)) (record { node = Dead l x; effects = nothing }) (record { node = Live (o.unwind l x); effects = catching (o.handler l x) })
+-- The exception of this death is thrown in a process. Where its label is below the base the process dies so; else its handler goes on, and the catch is logged.
+abbrev pub thrown : {S : Type 0} → Ops S → S → Death → Acted S
+thrown o l d = cond (ltb d.label (o.base l)) (record { node = Dead l d; effects = nothing }) (record { node = Live (o.unwind l d.label); effects = catching (o.handler l d.label) })
 
--- A fork whose children are done closes: the process has their values again, and stands behind the fork where all have ended. Where some died it still stands at the fork, and the least of their labels is thrown in it.
-abbrev pub closed : {S : Type 0} → Ops S → S → List S → Option ℕ → Acted S
+-- A fork whose children are done closes: the process has their values again, and stands behind the fork where all have ended. Where some died it still stands at the fork, and the exception of the prevailing death is thrown in it.
+abbrev pub closed : {S : Type 0} → Ops S → S → List S → Option Death → Acted S
 closed o l ks None = record { node = Live (o.join l ks true); effects = nothing }
-closed o l ks (Some x) = thrown o (o.join l ks false) x
+closed o l ks (Some d) = thrown o (o.join l ks false) d
 
 -- A process that stands trapped dies of label 0, and the trap is logged.
 abbrev pub act_live : {S : Type 0} → Ops S → S → StopView → Option (Acted S)
@@ -52,13 +53,13 @@ act_live o l AtPut = Some (record { node = Live (o.put l); effects = putting (o.
 act_live o l AtFork = Some (record { node = parted (o.fork l); effects = nothing })
 act_live o l AtFinish = Some (record { node = Ended l; effects = nothing })
 act_live o l (AtNext c) = None
-act_live o l (AtThrow label) = Some (thrown o l label)
-act_live o l (AtTrap kind line) = Some (record { node = Dead l 0; effects = trapping kind line })
+act_live o l (AtThrow label) = Some (thrown o l (death label))
+act_live o l (AtTrap kind line) = Some (record { node = Dead l (death 0); effects = trapping kind line })
 
 -- the one thing that the process of a node can do by itself; that of a fork is its close, which waits until no child is live or forked
 abbrev pub act_here : {S : Type 0} → Ops S → Node S → Option (Acted S)
 act_here o (Live l) = act_live o l (o.stop l)
-act_here o (Forked l ks) = cond (all_done ks) (Some (closed o l (states ks) (least_label ks))) None
+act_here o (Forked l ks) = cond (all_done ks) (Some (closed o l (states ks) (prevailing_death ks))) None
 act_here o (Ended l) = None
 act_here o (Dead l x) = None
 
@@ -74,16 +75,14 @@ abbrev pub behind : {S : Type 0} → Node S → Option (Nodes S × Effects) → 
 behind k None = None
 behind k (Some r) = Some (node_and k r.0, r.1)
 
--- what the process of the node to which these branches lead leaves and tells by the one thing that it can do by itself
-abbrev mutual
-  pub act : {S : Type 0} → Ops S → List ℕ → Node S → Option (Acted S)
-  act o [] n = act_here o n
-  act o (b ∷ p) (Forked l ks) = within l (act_child o b p ks)
-  act o (b ∷ p) (Live l) = None
-  act o (b ∷ p) (Ended l) = None
-  act o (b ∷ p) (Dead l x) = None
+-- what is done at a node shows at the nodes above it in what stands there, and in what was told
+abbrev pub done_above : {S : Type 0} → Ascent S (Option (Acted S)) (Option (Nodes S × Effects))
+done_above = record { above = within; first = in_front; later = behind; nowhere = λ n. None; no_child = None }
 
-  pub act_child : {S : Type 0} → Ops S → ℕ → List ℕ → Nodes S → Option (Nodes S × Effects)
-  act_child o b p no_node = None
-  act_child o zero p (node_and k ks) = in_front ks (act o p k)
-  act_child o (suc b) p (node_and k ks) = behind k (act_child o b p ks)
+-- what the process of the node to which these branches lead leaves and tells by the one thing that it can do by itself
+abbrev pub act : {S : Type 0} → Ops S → List ℕ → Node S → Option (Acted S)
+act o = apply_at done_above (act_here o)
+
+-- the same from some children, by the branch to one of them and those behind it
+abbrev pub act_child : {S : Type 0} → Ops S → ℕ → List ℕ → Nodes S → Option (Nodes S × Effects)
+act_child o = apply_among done_above (act_here o)

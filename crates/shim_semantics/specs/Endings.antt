@@ -19,13 +19,17 @@ abbrev pub is_empty : {A : Type 0} → List A → Bool
 is_empty [] = true
 is_empty (x ∷ xs) = false
 
+-- what an exception with this label comes to that nobody caught; that of a trap is 0
+abbrev pub outcome_of_label : ℕ → Outcome
+outcome_of_label zero = Trapped
+outcome_of_label (suc i) = Uncaught (suc i)
+
 -- what came of the root of a tree in which nothing can happen
 abbrev pub outcome_of_root : {S : Type 0} → Node S → Outcome
 outcome_of_root (Live l) = Blocked
 outcome_of_root (Forked l ks) = Blocked
 outcome_of_root (Ended l) = Done
-outcome_of_root (Dead l zero) = Trapped
-outcome_of_root (Dead l (suc i)) = Uncaught (suc i)
+outcome_of_root (Dead l d) = outcome_of_label d.label
 
 abbrev pub outcome : {S : Type 0} → Ops S → Node S → Outcome
 outcome o root = cond (is_empty (walk o root)) (outcome_of_root root) Spent

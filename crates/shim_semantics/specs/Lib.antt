@@ -1,5 +1,6 @@
 -- The definitions of this crate, one module for each subject.
 pub mod Nodes
+pub mod Descents
 pub mod Acts
 pub mod Poison
 pub mod Places
@@ -10,5 +11,4 @@ pub mod Sound
 pub mod Quiets
 pub mod Laws
 pub mod Endings
-pub mod Codes
 pub mod Listing

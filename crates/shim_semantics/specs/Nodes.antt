@@ -3,13 +3,21 @@ use Rattle.std.specs.Prelude.{ℕ, ℤ, pos, Bool, true, false, Option, Some, No
 use Rattle.shim_base.specs.Paths.{Channel, NamedChannel, same_channel}
 use Rattle.shim_local.specs.Process.{Ops, StopView, AtQuiet, AtNext, AtPut, AtFork, AtFinish, AtThrow, AtTrap}
 
--- A process lives, has forked, has ended, or has died of an exception with this label. A process that has forked has its children below it, in order.
+-- how a process died: the label of the exception that it died of
+pub record Death : Type 0 where
+  pub label : ℕ
+
+-- the death of an exception with this label
+abbrev pub death : ℕ → Death
+death x = record { label = x }
+
+-- A process lives, has forked, has ended, or has died. A process that has forked has its children below it, in order.
 mutual
   pub data Node (S : Type 0) : Type 0 where
     Live : S → Node S
     Forked : S → Nodes S → Node S
     Ended : S → Node S
-    Dead : S → ℕ → Node S
+    Dead : S → Death → Node S
 
   pub data Nodes (S : Type 0) : Type 0 where
     no_node : Nodes S
@@ -45,17 +53,18 @@ abbrev pub all_done : {S : Type 0} → Nodes S → Bool
 all_done no_node = true
 all_done (node_and k ks) = not (goes k) && all_done ks
 
-abbrev pub lesser : ℕ → Option ℕ → Option ℕ
-lesser x None = Some x
-lesser x (Some y) = Some (min x y)
+-- of two deaths the label of the outermost exception prevails, which is the lesser one
+abbrev pub prevailing : Death → Option Death → Option Death
+prevailing d None = Some d
+prevailing d (Some e) = Some (death (min d.label e.label))
 
--- the least label of those that died, which is that of the outermost exception
-abbrev pub least_label : {S : Type 0} → Nodes S → Option ℕ
-least_label no_node = None
-least_label (node_and (Live l) ks) = least_label ks
-least_label (node_and (Forked l js) ks) = least_label ks
-least_label (node_and (Ended l) ks) = least_label ks
-least_label (node_and (Dead l x) ks) = lesser x (least_label ks)
+-- the prevailing death among these, if one of them died
+abbrev pub prevailing_death : {S : Type 0} → Nodes S → Option Death
+prevailing_death no_node = None
+prevailing_death (node_and (Live l) ks) = prevailing_death ks
+prevailing_death (node_and (Forked l js) ks) = prevailing_death ks
+prevailing_death (node_and (Ended l) ks) = prevailing_death ks
+prevailing_death (node_and (Dead l d) ks) = prevailing d (prevailing_death ks)
 
 abbrev pub states : {S : Type 0} → Nodes S → List S
 states no_node = []

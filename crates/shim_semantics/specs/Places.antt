@@ -1,22 +1,21 @@
 -- Where the process of a path stands in a tree, and that the paths are as forks make them.
-use Rattle.std.specs.Prelude.{◌≡◌, ◌≢◌, ◌<◌, ◌⊎◌, ℕ, zero, suc, ◌+◌, Bool, true, false, Option, Some, None, List, [], ◌∷◌, ◌++◌, ◌&&◌, cond}
+use Rattle.std.specs.Prelude.{◌≡◌, ◌≢◌, ◌<◌, ◌⊎◌, ℕ, ◌+◌, Bool, true, false, Option, Some, None, List, [], ◌∷◌, ◌++◌, ◌&&◌, cond}
 use Rattle.shim_base.specs.Paths.{Path, Channel, same_pair, same_path}
 use Rattle.shim_local.specs.Process.{Ops}
-use Rattle.shim_semantics.specs.Nodes.{Node, Nodes, Live, Forked, Ended, Dead, no_node, node_and, state, states, ready}
+use Rattle.shim_semantics.specs.Nodes.{Node, Nodes, Live, Forked, Ended, Dead, Death, no_node, node_and, state, states, ready}
+use Rattle.shim_semantics.specs.Descents.{Ascent, apply_at, apply_among}
+
+-- a node that is found is the same from wherever the branches begin
+abbrev pub found_above : {S : Type 0} → Ascent S (Option (Node S)) (Option (Node S))
+found_above = record { above = λ l n. n; first = λ ks n. n; later = λ k n. n; nowhere = λ n. None; no_child = None }
 
 -- the node to which these branches lead
-abbrev mutual
-  pub at : {S : Type 0} → List ℕ → Node S → Option (Node S)
-  at [] n = Some n
-  at (b ∷ p) (Forked l ks) = child_at b p ks
-  at (b ∷ p) (Live l) = None
-  at (b ∷ p) (Ended l) = None
-  at (b ∷ p) (Dead l x) = None
+abbrev pub at : {S : Type 0} → List ℕ → Node S → Option (Node S)
+at = apply_at found_above Some
 
-  pub child_at : {S : Type 0} → ℕ → List ℕ → Nodes S → Option (Node S)
-  child_at b p no_node = None
-  child_at zero p (node_and k ks) = at p k
-  child_at (suc b) p (node_and k ks) = child_at b p ks
+-- the same from some children, by the branch to one of them and those behind it
+abbrev pub child_at : {S : Type 0} → ℕ → List ℕ → Nodes S → Option (Node S)
+child_at = apply_among found_above Some
 
 abbrev pub branches : Path → List ℕ
 branches [] = []
@@ -52,10 +51,15 @@ is_ready_at o c (Some n) = same_path (o.path (state n)) c.home && ready o c n
 abbrev pub meets : {S : Type 0} → Ops S → Channel → Node S → Bool
 meets o c root = is_ready_at o c (led_to o root c.home)
 
--- this node is that of the path
+-- the node is that of the path
 abbrev pub has_path : {S : Type 0} → Ops S → Path → Option (Node S) → Bool
 has_path o p None = false
 has_path o p (Some n) = same_path (o.path (state n)) p
+
+-- in the tree of this root the process of the path stands so: this node is its
+pub record StandsAt {S : Type 0} (o : Ops S) (root : Node S) (p : Path) (n : Node S) : Type 0 where
+  pub there : led_to o root p ≡ Some n
+  pub is_its : o.path (state n) ≡ p
 
 -- k is the child in place i of the fork of number f of l, after any calls
 pub record IsChild {S : Type 0} (o : Ops S) (l : S) (f i : ℕ) (k : S) : Type 0 where
@@ -75,9 +79,9 @@ pub record IsFork {S : Type 0} (o : Ops S) (l : S) (ks : Nodes S) (Children : �
   pub born : o.born l (states ks)
   pub sound : o.sound l
 
--- a process that died of a label for which it has no handler
-pub record IsDeath {S : Type 0} (o : Ops S) (l : S) (x : ℕ) : Type 0 where
-  pub below_base : x < o.base l
+-- a process that died of an exception for which it has no handler
+pub record IsDeath {S : Type 0} (o : Ops S) (l : S) (d : Death) : Type 0 where
+  pub below_base : d.label < o.base l
   pub sound : o.sound l
 
 -- Each state is one that a process comes to; each forked process has the children of a fork, and each dead one a death of its own.
@@ -85,7 +89,7 @@ abbrev mutual
   pub SoundBelow : {S : Type 0} → Ops S → Node S → Type 0
   SoundBelow o (Live l) = o.sound l
   SoundBelow o (Ended l) = o.sound l
-  SoundBelow o (Dead l x) = IsDeath o l x
+  SoundBelow o (Dead l d) = IsDeath o l d
   SoundBelow o (Forked l ks) = IsFork o l ks (λ f. SoundChildren o l f 0 ks)
 
   -- the children of l from the place i on

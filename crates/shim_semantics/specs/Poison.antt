@@ -2,7 +2,8 @@
 use Rattle.std.specs.Prelude.{ℕ, zero, suc, ◌-◌, Bool, false, Option, Some, None, List, [], ◌∷◌, ◌&&◌, ◌||◌, cond, ltb}
 use Rattle.shim_base.specs.Paths.{Channel}
 use Rattle.shim_local.specs.Process.{Ops}
-use Rattle.shim_semantics.specs.Nodes.{Node, Nodes, Live, Forked, Ended, Dead, no_node, node_and, ready}
+use Rattle.shim_semantics.specs.Nodes.{Node, Nodes, Live, Forked, Ended, Dead, Death, death, no_node, node_and, ready}
+use Rattle.shim_semantics.specs.Descents.{Ascent, apply_at, apply_among}
 
 -- here or below a dead process shares the channel, and its label is below h
 abbrev mutual
@@ -10,7 +11,7 @@ abbrev mutual
   dooms o h c (Live l) = false
   dooms o h c (Forked l ks) = any_dooms o h c ks
   dooms o h c (Ended l) = false
-  dooms o h c (Dead l x) = o.shares l c && ltb x h
+  dooms o h c (Dead l d) = o.shares l c && ltb d.label h
 
   pub any_dooms : {S : Type 0} → Ops S → ℕ → Channel → Nodes S → Bool
   any_dooms o h c no_node = false
@@ -28,23 +29,23 @@ is_ready_child o c i no_node = false
 is_ready_child o c zero (node_and k ks) = ready o c k
 is_ready_child o c (suc i) (node_and k ks) = is_ready_child o c i ks
 
--- each live process here and below that shares the channel dies of this label
+-- each live process here and below that shares the channel dies this death
 abbrev mutual
-  pub poisoned : {S : Type 0} → Ops S → Channel → ℕ → Node S → Node S
-  poisoned o c label (Live l) = cond (o.shares l c) (Dead l label) (Live l)
-  poisoned o c label (Forked l ks) = Forked l (all_poisoned o c label ks)
-  poisoned o c label (Ended l) = Ended l
-  poisoned o c label (Dead l x) = Dead l x
+  pub poisoned : {S : Type 0} → Ops S → Channel → Death → Node S → Node S
+  poisoned o c d (Live l) = cond (o.shares l c) (Dead l d) (Live l)
+  poisoned o c d (Forked l ks) = Forked l (all_poisoned o c d ks)
+  poisoned o c d (Ended l) = Ended l
+  poisoned o c d (Dead l e) = Dead l e
 
-  pub all_poisoned : {S : Type 0} → Ops S → Channel → ℕ → Nodes S → Nodes S
-  all_poisoned o c label no_node = no_node
-  all_poisoned o c label (node_and k ks) = node_and (poisoned o c label k) (all_poisoned o c label ks)
+  pub all_poisoned : {S : Type 0} → Ops S → Channel → Death → Nodes S → Nodes S
+  all_poisoned o c d no_node = no_node
+  all_poisoned o c d (node_and k ks) = node_and (poisoned o c d k) (all_poisoned o c d ks)
 
--- each live process at and below the child in this place that shares the channel dies of this label, and no other
-abbrev pub one_poisoned : {S : Type 0} → Ops S → Channel → ℕ → ℕ → Nodes S → Nodes S
-one_poisoned o c label i no_node = no_node
-one_poisoned o c label zero (node_and k ks) = node_and (poisoned o c label k) ks
-one_poisoned o c label (suc i) (node_and k ks) = node_and k (one_poisoned o c label i ks)
+-- each live process at and below the child in this place that shares the channel dies this death, and no other
+abbrev pub one_poisoned : {S : Type 0} → Ops S → Channel → Death → ℕ → Nodes S → Nodes S
+one_poisoned o c d i no_node = no_node
+one_poisoned o c d zero (node_and k ks) = node_and (poisoned o c d k) ks
+one_poisoned o c d (suc i) (node_and k ks) = node_and k (one_poisoned o c d i ks)
 
 -- of the fork of l: the child in this place is ready on the channel and doomed on it
 abbrev pub can_poison : {S : Type 0} → Ops S → S → Channel → ℕ → Nodes S → Bool
@@ -52,7 +53,7 @@ can_poison o l c i ks = is_ready_child o c i ks && is_doomed o (o.handlers l) c 
 
 -- the child in this place of the fork is poisoned, where it can be, with the innermost label in force at the fork
 abbrev pub poison_here : {S : Type 0} → Ops S → Channel → ℕ → Node S → Option (Node S)
-poison_here o c i (Forked l ks) = cond (can_poison o l c i ks) (Some (Forked l (one_poisoned o c (o.handlers l - 1) i ks))) None
+poison_here o c i (Forked l ks) = cond (can_poison o l c i ks) (Some (Forked l (one_poisoned o c (death (o.handlers l - 1)) i ks))) None
 poison_here o c i (Live l) = None
 poison_here o c i (Ended l) = None
 poison_here o c i (Dead l x) = None
@@ -69,19 +70,17 @@ abbrev pub after_one : {S : Type 0} → Node S → Option (Nodes S) → Option (
 after_one k None = None
 after_one k (Some ks) = Some (node_and k ks)
 
--- the child in place i of the fork to which these branches lead is poisoned, where it can be
-abbrev mutual
-  pub poison : {S : Type 0} → Ops S → Channel → ℕ → List ℕ → Node S → Option (Node S)
-  poison o c i [] n = poison_here o c i n
-  poison o c i (b ∷ p) (Forked l ks) = above l (poison_child o c i b p ks)
-  poison o c i (b ∷ p) (Live l) = None
-  poison o c i (b ∷ p) (Ended l) = None
-  poison o c i (b ∷ p) (Dead l x) = None
+-- a node that is changed shows at the nodes above it
+abbrev pub changed_above : {S : Type 0} → Ascent S (Option (Node S)) (Option (Nodes S))
+changed_above = record { above = above; first = before_rest; later = after_one; nowhere = λ n. None; no_child = None }
 
-  pub poison_child : {S : Type 0} → Ops S → Channel → ℕ → ℕ → List ℕ → Nodes S → Option (Nodes S)
-  poison_child o c i b p no_node = None
-  poison_child o c i zero p (node_and k ks) = before_rest ks (poison o c i p k)
-  poison_child o c i (suc b) p (node_and k ks) = after_one k (poison_child o c i b p ks)
+-- the child in place i of the fork to which these branches lead is poisoned, where it can be
+abbrev pub poison : {S : Type 0} → Ops S → Channel → ℕ → List ℕ → Node S → Option (Node S)
+poison o c i = apply_at changed_above (poison_here o c i)
+
+-- the same from some children, by the branch to one of them and those behind it
+abbrev pub poison_child : {S : Type 0} → Ops S → Channel → ℕ → ℕ → List ℕ → Nodes S → Option (Nodes S)
+poison_child o c i = apply_among changed_above (poison_here o c i)
 
 -- the branches that lead to a child, of which there is a first one, as those that lead to its fork and the child's place there
 abbrev pub to_fork : ℕ → List ℕ → List ℕ

@@ -1,7 +1,6 @@
 -- The enabled events in the order of a walk from the root, and the run that always takes the first.
 use Rattle.std.specs.Prelude.{ℕ, zero, suc, ◌+◌, Bool, Option, Some, None, List, [], ◌∷◌, ◌++◌, ◌&&◌, cond, map, filter}
-use Rattle.std.specs.declared.cmp.Ordering.{Ordering}
-use Rattle.std.specs.declared.cmp.Ordering.TheVariants.{Less, Equal, Greater}
+use Rattle.std.specs.FinMap as finite
 use Rattle.shim_base.specs.Paths.{Path, Channel, NamedChannel, same_path, channel_order}
 use Rattle.shim_local.specs.Process.{Ops, StopView, AtQuiet, AtNext, AtPut, AtFork, AtFinish, AtThrow, AtTrap}
 use Rattle.shim_semantics.specs.Nodes.{Node, Nodes, Live, Forked, Ended, Dead, no_node, node_and, state, all_done, ready, next_of}
@@ -24,22 +23,12 @@ abbrev mutual
   all_waited o no_node = []
   all_waited o (node_and k ks) = waited o k ++ all_waited o ks
 
-abbrev pub put_before : Ordering → Channel → Channel → List Channel → List Channel → List Channel
-put_before Less c d cs more = c ∷ d ∷ cs
-put_before Equal c d cs more = d ∷ cs
-put_before Greater c d cs more = d ∷ more
+abbrev pub as_key : Channel → Channel × Unit {0}
+as_key c = (c, tt)
 
-abbrev pub inserted : Channel → List Channel → List Channel
-inserted c [] = c ∷ []
-inserted c (d ∷ cs) = put_before (channel_order c d) c d cs (inserted c cs)
-
-abbrev pub all_inserted : List Channel → List Channel → List Channel
-all_inserted done [] = done
-all_inserted done (c ∷ cs) = all_inserted (inserted c done) cs
-
--- each once, by home and then by serial
+-- each once, by home and then by serial, as the keys of a finite map are
 abbrev pub in_order : List Channel → List Channel
-in_order = all_inserted []
+in_order cs = finite.keys (finite.from_entries {R = channel_order} (map as_key cs))
 
 -- what a live process can do: its own step or its end, or the meeting of the channel at which it stands, if it declared that
 abbrev pub own_events : Path → StopView → List Event

@@ -1,6 +1,6 @@
 // Laws of the events of a tree.
 ghost use Rattle.shim_semantics.specs.Listing.{ListsEnabled};
-ghost use Rattle.shim_semantics.specs.Laws.{KeepsSound, RunsStaySound};
+ghost use Rattle.shim_semantics.specs.Laws.{KeepsSound, RunsStaySound, ChildrenShareGiven};
 
 use shim_local::Local;
 
@@ -10,9 +10,15 @@ pub fn walk_lists_enabled<L: Local>()
     ensures { ListsEnabled L.ops }
 {}
 
-/// A tree of one process whose channels are all its own is sound, and events leave sound trees sound,
-/// as do runs. So a channel, and the output too, is with one process at most throughout a run.
+/// A tree of one process whose state is sound and whose channels are all its own is sound, and events
+/// leave sound trees sound, as do runs. So a channel, and the output too, is with one process at most throughout a run.
 pub fn holders<L: Local>()
     ensures kept { KeepsSound L.ops }
     ensures runs { RunsStaySound L.ops }
+{}
+
+/// In a sound tree a process below the root shares a channel of another process exactly where the fork
+/// that made it gave it that channel.
+pub fn given<L: Local>()
+    ensures { ChildrenShareGiven L.ops }
 {}

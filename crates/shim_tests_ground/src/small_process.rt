@@ -4,7 +4,8 @@ ghost use Rattle.shim_local.specs.Process.{AtFork};
 
 use crate::made::chan;
 use shim_base::{Chan, List, NoMemory, Path, push_decimal};
-use shim_local::{Forked, Local, Small, Step, Stop};
+use shim_local::{Forked, Local, Stop};
+use shim_tests_small::{Small, Step};
 use std::alloc::Global;
 use std::process::Abort;
 use std::test::Fail;

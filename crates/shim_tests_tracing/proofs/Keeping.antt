@@ -3,7 +3,10 @@ use Rattle.std.specs.Prelude.{◌≡◌, ◌<◌, ℕ, zero, suc, List, [], ◌�
 use Rattle.std.proofs.Common.{subst, sym, arith}
 use Rattle.std.proofs.lemmas.List.{append_assoc}
 use Rattle.shim_local.specs.Process.{Ops, Parted, AtFork}
-use Rattle.shim_local.specs.Laws.{LocalLaws, Moved, QuietSteps, none_taken, one_more, by_quiet, by_fork, by_join, AllOf}
+use Rattle.shim_local.specs.Laws.{LocalLaws, Moved, by_quiet, by_fork, by_join, AllOf}
+use Rattle.shim_local.specs.Quiets.{QuietSteps}
+use Rattle.shim_local.proofs.Quiets.{first_quiet}
+use Rattle.shim_base.proofs.Facts.{some_same}
 use Rattle.shim_tests_tracing.specs.Kept.{StaysChild, StayChildren}
 
 pub stays_then : {S : Type 0} (o : Ops S) {k m n : S} → StaysChild o k m → StaysChild o m n → StaysChild o k n
@@ -13,11 +16,12 @@ stays_then o first second = λ parent before after born. second parent before af
 pub one_call : {S : Type 0} (o : Ops S) → LocalLaws o → {k m : S} → o.sound k → Moved o k m → StaysChild o k m
 one_call o laws {k} {m} sound moved = λ parent before after born. laws.born_moved parent k m before after sound born moved
 
-pub quiet_steps : {S : Type 0} (o : Ops S) → LocalLaws o → {n : ℕ} {l m : S} → QuietSteps o n l m → o.sound l → StaysChild o l m
-quiet_steps o laws (none_taken l) sound = λ parent before after born. born
-quiet_steps o laws (one_more {n} {l} {m} at steps) sound =
-    let moved : Moved o l (o.quiet l) = by_quiet at refl in
-    stays_then o (one_call o laws sound moved) (quiet_steps o laws steps (laws.moved_sound l (o.quiet l) sound moved))
+pub quiet_steps : {S : Type 0} (o : Ops S) → LocalLaws o → (n : ℕ) (l m : S) → QuietSteps o n l m → o.sound l → StaysChild o l m
+quiet_steps o laws zero l m taken sound = λ parent before after born. subst (λ k. o.born parent (before ++ k ∷ after)) (some_same l m taken) born
+quiet_steps o laws (suc n) l m taken sound =
+    let first = first_quiet o n l m taken in
+    let moved : Moved o l (o.quiet l) = by_quiet first.0 refl in
+    stays_then o (one_call o laws sound moved) (quiet_steps o laws n (o.quiet l) m first.1 (laws.moved_sound l (o.quiet l) sound moved))
 
 -- by a fork and the close behind it, where the children stayed its own
 pub fork_and_join : {S : Type 0} (o : Ops S) → LocalLaws o → (l p m : S) (ks ms : List S) (goes_on : Bool) → o.sound l → o.stop l ≡ AtFork → o.fork l ≡ Parted p ks

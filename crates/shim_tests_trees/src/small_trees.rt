@@ -1,12 +1,13 @@
 // Trees of small processes: their events one after another, what is seen of a tree behind them, and what
 // is read off it in the end.
 ghost use Rattle.std.specs.Prelude.{◌≡◌, ◌≤◌, ◌⊎◌, IfOk, OnOk};
-ghost use Rattle.shim_local.specs.Small.{small_ops};
+ghost use Rattle.shim_tests_small.specs.Small.{small_ops};
 ghost use Rattle.shim_semantics.specs.Sound.{SharesItsOwn};
 ghost use Rattle.shim_semantics.specs.Trees.{steps, IsQuiescent};
 
 use shim_base::{Chan, List, NoMemory, Path, Trap, push_decimal};
-use shim_local::{Ended, History, Local, Log, LogWhat, Outcome, OwnSteps, Small, Step, WaitAt};
+use shim_local::{Ended, History, Local, Log, LogWhat, Outcome, OwnSteps, WaitAt};
+use shim_tests_small::{Small, Step};
 use shim_tree::{Event, Tree};
 use std::alloc::Global;
 use std::process::Abort;
@@ -470,6 +471,60 @@ fn quiet_steps_at_once_are_as_one_after_another(rt: HostRuntime) -> Result<(), F
                 " going: own root; quiet none none; met none; met none; \
                  put; stepped root 3; others 0; steps 3; spent",
             ),
+        ],
+    )
+}
+
+// Whether the process of the path of these pairs stands before a quiet step, in the tree of a root with
+// these steps to do, whose first events happen, so many at most.
+fn is_before_quiet(
+    alloc: Global,
+    left: &[Step],
+    most: u8,
+    pairs: &[(u32, u32)],
+) -> Result<bool, NoMemory> {
+    let mut tree = Tree::start(alloc, root(alloc, left)?)?;
+    let mut told = List::new(alloc);
+    do_events(&mut told, &mut tree, most as u64)?;
+    let mut path = Path::root(alloc);
+    for pair in pairs {
+        path = path.child(pair.0, pair.1)?;
+    }
+    Ok(tree.is_before_quiet(&path))
+}
+
+// How many events happen at most, the pairs of a path, and whether its process stands before a quiet step
+// then.
+type BeforeQuiet<'a> = (u8, &'a [(u32, u32)], bool);
+
+fn expect_before_quiet(
+    rt: &impl Abort,
+    alloc: Global,
+    left: &[Step],
+    rows: &[BeforeQuiet<'_>],
+) -> Result<(), Fail> {
+    for row in rows {
+        assert!(rt; is_before_quiet(alloc, left, row.0, row.1)? == row.2);
+    }
+    Ok(())
+}
+
+#[test]
+fn path_tells_whether_its_process_stands_before_a_quiet_step(rt: HostRuntime) -> Result<(), Fail> {
+    let steps = [Step::Quiet, Step::Fork, Step::Quiet];
+    expect_before_quiet(
+        &rt,
+        rt.alloc(),
+        &steps,
+        &[
+            (0, &[], true),
+            (0, &[(0, 0)], false), // there is no such process
+            (1, &[], false), // it stands at the fork
+            (2, &[], false), // it has forked
+            (2, &[(0, 0)], false), // it waits
+            (6, &[], true), // the fork has closed
+            (6, &[(0, 0)], false),
+            (7, &[], false), // nothing is left to do
         ],
     )
 }

@@ -10,7 +10,7 @@ use Rattle.shim_process.specs.LocalState.{LocalState}
 use Rattle.shim_semantics.specs.Nodes.{Node, Live, Forked, Ended, Dead, has_ended, is_dead, goes}
 use Rattle.shim_semantics.specs.Trees.{Tree, Event, steps, sum, IsQuiescent}
 use Rattle.shim_semantics.specs.Walks.{walk, first, head}
-use Rattle.shim_semantics.specs.Endings.{ended, own_steps, is_empty, outcome, outcome_of_root}
+use Rattle.shim_semantics.specs.Endings.{ended, own_steps, is_empty, outcome, outcome_of_label, outcome_of_root}
 use Rattle.shim_reference.specs.Naming.{named, named_outcome}
 use Rattle.shim_reference.specs.Reference.{reference_of}
 use Rattle.shim_front_end.specs.Source.{Source}
@@ -56,35 +56,36 @@ status_stopped source some =
     let t = tree_of source in
     status_told source ∙ ap status_of_outcome (still_going t.root (walk process_ops t.root) some)
 
+-- a root that died has the status 1, whatever its label
+dead_status : (x : ℕ) → status_of_outcome (outcome_of_label x) ≡ 1
+dead_status zero = refl
+dead_status (suc x) = refl
+
 -- what the status of a root at rest tells of it
 root_ended : {S : Type 0} (n : Node S) → IsTrue (has_ended n) ↔ (status_of_outcome (outcome_of_root n) ≡ 0)
 root_ended (Live l) = (λ h. absurd (cc), λ e. absurd (omega (arith, e)))
 root_ended (Forked l ks) = (λ h. absurd (cc), λ e. absurd (omega (arith, e)))
 root_ended (Ended l) = (λ h. refl, λ e. refl)
-root_ended (Dead l zero) = (λ h. absurd (cc), λ e. absurd (omega (arith, e)))
-root_ended (Dead l (suc x)) = (λ h. absurd (cc), λ e. absurd (omega (arith, e)))
+root_ended (Dead l d) = (λ h. absurd (cc), λ e. let one = dead_status d.label in absurd (omega (arith, e, one)))
 
 root_died : {S : Type 0} (n : Node S) → IsTrue (is_dead n) ↔ (status_of_outcome (outcome_of_root n) ≡ 1)
 root_died (Live l) = (λ h. absurd (cc), λ e. absurd (omega (arith, e)))
 root_died (Forked l ks) = (λ h. absurd (cc), λ e. absurd (omega (arith, e)))
 root_died (Ended l) = (λ h. absurd (cc), λ e. absurd (omega (arith, e)))
-root_died (Dead l zero) = (λ h. refl, λ e. refl)
-root_died (Dead l (suc x)) = (λ h. refl, λ e. refl)
+root_died (Dead l d) = (λ h. dead_status d.label, λ e. refl)
 
 root_goes : {S : Type 0} (n : Node S) → IsTrue (goes n) ↔ (status_of_outcome (outcome_of_root n) ≡ 3)
 root_goes (Live l) = (λ h. refl, λ e. refl)
 root_goes (Forked l ks) = (λ h. refl, λ e. refl)
 root_goes (Ended l) = (λ h. absurd (cc), λ e. absurd (omega (arith, e)))
-root_goes (Dead l zero) = (λ h. absurd (cc), λ e. absurd (omega (arith, e)))
-root_goes (Dead l (suc x)) = (λ h. absurd (cc), λ e. absurd (omega (arith, e)))
+root_goes (Dead l d) = (λ h. absurd (cc), λ e. let one = dead_status d.label in absurd (omega (arith, e, one)))
 
 -- no root at rest has the status of a run that was stopped
 never_spent : {S : Type 0} (n : Node S) → status_of_outcome (outcome_of_root n) ≡ 4 → ⊥
 never_spent (Live l) e = omega (arith, e)
 never_spent (Forked l ks) e = omega (arith, e)
 never_spent (Ended l) e = omega (arith, e)
-never_spent (Dead l zero) e = omega (arith, e)
-never_spent (Dead l (suc x)) e = omega (arith, e)
+never_spent (Dead l d) e = let one = dead_status d.label in omega (arith, e, one)
 
 -- of a source that was run the status comes exactly where this is so
 pub record Tells (status : ℕ) (Cause : Source → Type 0) : Type 0 where

@@ -37,7 +37,7 @@ pub record WasRead (ask : Asked) (mode : Mode) (before : FilesAt) (bytes : List 
   pub asked : ask ≡ job mode name
   pub content : IsContent name before bytes
 
--- 0, 1, 3, 4: exactly where the file is a source whose run ends for this cause, with the text of its mode, which for `run` is the report of its meaning. A run within the budget leads to the tree that is told.
+-- 0, 1, 3, 4: where what was read is a source whose run ends for this cause alone, and wherever told files hold such a source of at most the limit's bytes, with the text of its mode, which for `run` is the report of its meaning. A run within the budget leads to the tree that is told.
 pub record EndRow (status : ℕ) (Cause : Source → Type 0) (ask : Asked) (before now : FilesAt) (out_before out_now : SinkAt) (result : ℕ) : Type 0 where
   pub only : result ≡ status → (now.failed ≡ before.failed) × (mode : Mode) × (bytes : List ℕ) × (source : Source) × WasRead ask mode before bytes × IsSource bytes source
       × Cause source × ((n : ℕ) × (n ≤ budget) × IsReachedIn n source) × (status_of source ≡ status) × (out_now.taken ≡ then_bytes out_before.taken (text_of mode source))
@@ -60,7 +60,7 @@ IsRefusal bytes line =
     ((program : Program) × IsText bytes program × (fault : SourceFault) × (checked program ≡ Err fault) × (line ≡ refusal fault))
     ⊎ ((fault : ParseFault) × IsFaultOf bytes fault × (line ≡ refusal (Parse fault)))
 
--- 5: exactly where the file is no source, with the line of the cause; and no other text comes of such a file
+-- 5: where what was read is no source alone, and wherever told files hold such bytes of at most the limit's number, with the line of the cause; and no other text comes of such a file
 pub record RefusedRow (ask : Asked) (before now : FilesAt) (out_before out_now : SinkAt) (result : ℕ) : Type 0 where
   pub only : result ≡ 5 → (now.failed ≡ before.failed) × (mode : Mode) × (bytes : List ℕ) × (line : List ℕ) × WasRead ask mode before bytes × IsNoSource bytes
       × IsRefusal bytes line × (out_now.taken ≡ then_bytes out_before.taken line)

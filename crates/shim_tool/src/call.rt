@@ -123,6 +123,8 @@ pub fn shim<F: Files, K: Sink>(alloc: Global, words: &[String], files: &mut F, o
     ensures ran { Ran (asked (texts_of_words words.now)) (files_at F.held F.sound F.failed files.old)
         (files_at F.held F.sound F.failed files.new) (sink_at K.taken K.faults out.old)
         (sink_at K.taken K.faults out.new) result }
+    // What follows says "exactly where" of told files, and of a source of at most the limit's bytes. Of other
+    // files each clause says that there is some source, fault or cause that fits.
     // 0: exactly where the file is a source whose root ends, with the report of its meaning.
     ensures done { EndRow 0 IsDone (asked (texts_of_words words.now)) (files_at F.held F.sound F.failed files.old)
         (files_at F.held F.sound F.failed files.new) (sink_at K.taken K.faults out.old)

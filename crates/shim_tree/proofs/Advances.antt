@@ -5,7 +5,9 @@ use Rattle.std.proofs.lemmas.List.{append-nil}
 use Rattle.std.specs.FinMap.{FinMap}
 use Rattle.shim_base.specs.Paths.{Path, path_order, same_path}
 use Rattle.shim_local.specs.Process.{Ops, AtQuiet}
-use Rattle.shim_local.specs.Laws.{LocalLaws, QuietSteps, none_taken, one_more, by_quiet}
+use Rattle.shim_local.specs.Laws.{LocalLaws, by_quiet}
+use Rattle.shim_local.specs.Quiets.{QuietSteps}
+use Rattle.shim_local.proofs.Quiets.{first_quiet}
 use Rattle.shim_semantics.specs.Nodes.{Node, Nodes, Live, Forked, Ended, Dead, no_node, node_and, state}
 use Rattle.shim_semantics.specs.Acts.{Acted, nothing, act, act_child, act_live, within, in_front, behind}
 use Rattle.shim_semantics.specs.Places.{at, child_at, route, at_route, SoundBelow, SoundChildren}
@@ -126,16 +128,20 @@ module _ {S : Type 0} (o : Ops S) where
       ∙ ap (λ z. let u : Tree S = record { root = a.node; output = z; histories = t.histories; logs = t.logs; counts = steps_taken t.counts p 1; events = t.events } in Some u) (append-nil t.output)
 
   module _ (laws : LocalLaws o) where
-    steps_run : {n : ℕ} {l last : S} (t : Tree S) (p : Path) (q : List ℕ) → QuietSteps o n l last → route (o.path (state t.root)) p ≡ Some q → at q t.root ≡ Some (Live l) → o.path l ≡ p → o.sound l
+    steps_run : (n : ℕ) (l last : S) (t : Tree S) (p : Path) (q : List ℕ) → QuietSteps o n l last → route (o.path (state t.root)) p ≡ Some q → at q t.root ≡ Some (Live l) → o.path l ≡ p → o.sound l
         → run (after o) (replicate n (Own p)) t ≡ Some (moved_on t (with_state_at last q t.root) (steps_taken t.counts p n))
-    steps_run t p q (none_taken l) r there is sound = ap (λ z. Some (moved_on t z t.counts)) (sym (with_its_own l q t.root there))
-    steps_run {n = suc n} {l = l} {last = last} t p q (one_more at_quiet steps) r there is sound =
+    steps_run zero l last t p q steps r there is sound =
+        let same : l ≡ last = some_same l last steps in
+        ap (λ z. Some (moved_on t z t.counts)) (sym (with_its_own l q t.root there) ∙ ap (λ z. with_state_at z q t.root) same)
+    steps_run (suc n) l last t p q taken r there is sound =
+        let first = first_quiet o n l last taken in
+        let at_quiet = first.0 in
         let m = o.quiet l in
         let moved = by_quiet at_quiet refl in
         let same = laws.moved_path l m sound moved in
         let u = moved_on t (with_state_at m q t.root) (steps_taken t.counts p 1) in
         ap (go_on (run (after o) (replicate n (Own p)))) (one_step t p q l r there is at_quiet)
-        ∙ (steps_run u p q steps (ap (λ z. route z p) (path_with m l q t.root there same) ∙ r) (there_with m l q t.root there) (same ∙ is) (laws.moved_sound l m sound moved)
+        ∙ (steps_run n m last u p q first.1 (ap (λ z. route z p) (path_with m l q t.root there same) ∙ r) (there_with m l q t.root there) (same ∙ is) (laws.moved_sound l m sound moved)
         ∙ ap (λ z. Some (moved_on t z (steps_taken t.counts p (suc n)))) (with_twice last m q t.root))
 
     -- the state that so many quiet steps lead to, in its place, with as many steps counted
@@ -143,6 +149,6 @@ module _ {S : Type 0} (o : Ops S) where
         → ((q : List ℕ) → route (o.path (state t.root)) (o.path last) ≡ Some q → u ≡ moved_on t (with_state_at last q t.root) (steps_taken t.counts (o.path last) n))
         → Advances o (o.path last) n t u
     advanced t u n last sound comes is =
-        let s = stands_by t.root _ comes.start comes.stands in
-        steps_run t (o.path last) s.branches comes.steps s.is s.there comes.is_its (sound_there comes.start s.branches t.root sound s.there)
+        let s = stands_by t.root _ comes.start comes.stands.there in
+        steps_run n comes.start last t (o.path last) s.branches comes.steps s.is s.there comes.stands.is_its (sound_there comes.start s.branches t.root sound s.there)
         ∙ ap Some (sym (is s.branches s.is))

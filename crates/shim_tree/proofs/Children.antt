@@ -4,7 +4,7 @@ use Rattle.std.specs.declared.vec.Vec.{Vec}
 use Rattle.std.specs.declared.alloc.Global.{Global}
 use Rattle.shim_local.specs.Process.{Ops, AtFork, Parted}
 use Rattle.shim_semantics.specs.Nodes as model
-use Rattle.shim_semantics.specs.Nodes.{state, states, all_done, least_label}
+use Rattle.shim_semantics.specs.Nodes.{state, states, all_done, prevailing_death}
 use Rattle.shim_semantics.specs.Acts.{Effects, Acted, nothing, act, act_child, act_here, act_live, parted, closed, within, in_front, behind}
 use Rattle.shim_semantics.specs.Places.{SoundBelow, SoundChildren}
 use Rattle.shim_tree.specs.declared.node_status.NodeStatus.{NodeStatus}
@@ -70,12 +70,12 @@ forked_born o l b ls bs e s =
 
 -- a fork's close
 pub close_acts : {S : Type 0} (o : Ops S) (l : S) (b : NodeStatus S) (ls : _) (bs : _) → b ≡ code.Forked ls bs → (act_here o (node l b) ≡ None → ⊥)
-    → act_here o (node l b) ≡ Some (closed o l ls.items (least_label (together ls.items (nodes bs.items))))
+    → act_here o (node l b) ≡ Some (closed o l ls.items (prevailing_death (together ls.items (nodes bs.items))))
 close_acts {S} o l b ls bs e h =
     let n = at_forked l b ls bs e in
     let ks = together ls.items (nodes bs.items) in
-    let w = cond_there (all_done ks) (Some (closed o l (states ks) (least_label ks))) (λ z. h (ap (act_here o) n ∙ z)) in
-    ap (act_here o) n ∙ (w.1 ∙ ap (λ z. Some (closed o l z (least_label ks))) (states_together ls.items bs.items))
+    let w = cond_there (all_done ks) (Some (closed o l (states ks) (prevailing_death ks))) (λ z. h (ap (act_here o) n ∙ z)) in
+    ap (act_here o) n ∙ (w.1 ∙ ap (λ z. Some (closed o l z (prevailing_death ks))) (states_together ls.items bs.items))
 
 pub forked_among : {S : Type 0} (o : Ops S) (l : S) (b : NodeStatus S) (ls : _) (bs : _) → b ≡ code.Forked ls bs → SoundBelow o (node l b) → SoundAmong o (together ls.items (nodes bs.items))
 forked_among o l b ls bs e s =

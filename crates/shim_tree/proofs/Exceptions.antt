@@ -4,7 +4,7 @@ use Rattle.shim_base.specs.declared.operators.Trap.{Trap}
 use Rattle.shim_local.specs.Process.{Ops, AtThrow, AtTrap, AtPut}
 use Rattle.shim_local.specs.Laws.{LocalLaws}
 use Rattle.shim_semantics.specs.Nodes as model
-use Rattle.shim_semantics.specs.Nodes.{states, least_label}
+use Rattle.shim_semantics.specs.Nodes.{death, states, prevailing_death}
 use Rattle.shim_semantics.specs.Acts.{Effects, Acted, nothing, putting, trapping, thrown, closed, act_here, act_live}
 use Rattle.shim_semantics.specs.Places.{SoundBelow}
 use Rattle.shim_tree.specs.declared.node_status.NodeStatus.{NodeStatus}
@@ -12,12 +12,12 @@ use Rattle.shim_tree.specs.declared.node_status.NodeStatus.TheVariants as code
 use Rattle.shim_tree.specs.declared.node_status.NodeStatus.TheOpen as open_below
 use Rattle.shim_tree.specs.declared.node_status.NodeStatus.TheFolds.{fold-roll-NodeStatus}
 use Rattle.shim_tree.specs.NodeStatus.{node, nodes, node_step, together}
-use Rattle.shim_tree.specs.Labels.{ThrowLeaves}
+use Rattle.shim_tree.specs.Labels.{death_by, ThrowLeaves}
 use Rattle.shim_tree.specs.Acting.{ActsHere}
 use Rattle.shim_tree.proofs.Children.{node_live, at_forked, states_together, close_acts}
 use Rattle.shim_tree.proofs.Labels.{each_sound, label_in_force}
 
-pub node_dead : {S : Type 0} (l : S) (x : ℕ) → node l (code.Dead x) ≡ model.Dead l x
+pub node_dead : {S : Type 0} (l : S) (x : ℕ) → node l (code.Dead x) ≡ model.Dead l (death x)
 node_dead {S} l x = ap (node l) (sym (code.rolls-Dead x)) ∙ ap (λ f. f l) (fold-roll-NodeStatus S (S → model.Node S) node_step (open_below.Dead x))
 
 -- a live process throws
@@ -49,22 +49,22 @@ not_back false s e = ap not (sym e)
 -- A fork of these children closes, which the code has as two lists; this label was found, and the second state is that after their values came back.
 module _ {S : Type 0} (o : Ops S) (l m : S) (b : NodeStatus S) (ls : _) (bs : _) (cs : List S) (es : List (NodeStatus S)) (label : Option ℕ)
     (is : b ≡ code.Forked ls bs) (states_are : cs ≡ ls.items) (belows_are : es ≡ bs.items)
-    (found : label ≡ least_label (together cs (nodes es))) (joined : m ≡ o.join l cs (is_none label)) where
-  least_found : label ≡ least_label (together ls.items (nodes bs.items))
-  least_found = found ∙ λ t. least_label (together (states_are t) (nodes (belows_are t)))
+    (found : death_by label ≡ prevailing_death (together cs (nodes es))) (joined : m ≡ o.join l cs (is_none label)) where
+  death_found : death_by label ≡ prevailing_death (together ls.items (nodes bs.items))
+  death_found = found ∙ λ t. prevailing_death (together (states_are t) (nodes (belows_are t)))
 
   after_join : (label' : Option ℕ) → label ≡ label' → m ≡ o.join l ls.items (is_none label')
   after_join label' e = joined ∙ λ t. o.join l (states_are t) (is_none (e t))
 
   pub close_goes_on : (act_here o (node l b) ≡ None → ⊥) → label ≡ None → ActsHere o (node l b) nothing (node m code.Live)
   close_goes_on acts none =
-      close_acts o l b ls bs is acts ∙ (ap (λ z. Some (closed o l ls.items z)) (sym least_found ∙ none)
+      close_acts o l b ls bs is acts ∙ (ap (λ z. Some (closed o l ls.items z)) (sym death_found ∙ ap death_by none)
       ∙ ap (λ z. let r : Acted S = record { node = z; effects = nothing } in Some r) (sym (node_live m ∙ ap model.Live (after_join None none))))
 
   pub close_throws : (x : ℕ) (effects : Effects) (after : model.Node S) → (act_here o (node l b) ≡ None → ⊥) → label ≡ Some x → ThrowLeaves o m x effects after → ActsHere o (node l b) effects after
   close_throws x effects after acts some leaves =
-      close_acts o l b ls bs is acts ∙ (ap (λ z. Some (closed o l ls.items z)) (sym least_found ∙ some)
-      ∙ (ap (λ z. Some (thrown o z x)) (sym (after_join (Some x) some)) ∙ ap Some leaves))
+      close_acts o l b ls bs is acts ∙ (ap (λ z. Some (closed o l ls.items z)) (sym death_found ∙ ap death_by some)
+      ∙ (ap (λ z. Some (thrown o z (death x))) (sym (after_join (Some x) some)) ∙ ap Some leaves))
 
   -- its process may be asked for the handler
   pub close_in_force : LocalLaws o → SoundBelow o (node l b) → (x : ℕ) → label ≡ Some x → x < o.handlers m
@@ -73,4 +73,4 @@ module _ {S : Type 0} (o : Ops S) (l m : S) (b : NodeStatus S) (ls : _) (bs : _)
       let kept = laws.join_handlers l (states (together ls.items (nodes bs.items))) s.sound (each_sound o l s.number 0 _ s.children) s.born in
       let same : o.handlers m ≡ o.handlers l =
       ap o.handlers (after_join (Some x) some) ∙ (ap (λ z. o.handlers (o.join l z false)) (sym (states_together ls.items bs.items)) ∙ kept) in
-      subst (λ z. x < z) (sym same) (label_in_force o l s.number 0 _ x s.children (sym least_found ∙ some))
+      subst (λ z. x < z) (sym same) (label_in_force o l s.number 0 _ (death x) s.children (sym death_found ∙ ap death_by some))

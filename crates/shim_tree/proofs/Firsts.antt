@@ -7,7 +7,9 @@ use Rattle.shim_base.specs.Paths.{Path, Channel, channel_order}
 use Rattle.shim_local.specs.Process.{Ops}
 use Rattle.shim_semantics.specs.Nodes.{Node, Nodes, Forked, node_and, state, all_done, or_else}
 use Rattle.shim_semantics.specs.Trees.{Event, Meet, Poison, Close}
-use Rattle.shim_semantics.specs.Walks.{put_before, inserted, all_inserted, in_order, waited, all_waited, meets_here, poisons_here, poisons_of, here, walk, walk_all, head}
+use Rattle.shim_semantics.specs.Walks.{in_order, waited, all_waited, meets_here, poisons_here, poisons_of, here, walk, walk_all, head}
+use Rattle.shim_tree.specs.Inserted.{put_before, inserted, all_inserted}
+use Rattle.shim_tree.proofs.InsertedKeys.{inserted_in_order}
 use Rattle.shim_tree.specs.Finding.{sooner, or_sooner, least}
 
 -- what stands first after a channel is put in is the sooner of two
@@ -28,6 +30,9 @@ head_all passes done (c ∷ cs) = one (λ d. head_all passes d cs) (passes c)
     one : ((d : List Channel) → head (all_inserted d (filter passes cs)) ≡ least passes (head d) cs) → (b : Bool) → head (all_inserted done (cond b (c ∷ filter passes cs) (filter passes cs))) ≡ least passes (cond b (Some (or_sooner c (head done))) (head done)) cs
     one rest true = rest (inserted c done) ∙ ap (λ z. least passes z cs) (head_inserted c done)
     one rest false = rest done
+
+head_ordered : (passes : Channel → Bool) (cs : List Channel) → head (in_order (filter passes cs)) ≡ least passes None cs
+head_ordered passes cs = ap head (sym (inserted_in_order (filter passes cs))) ∙ head_all passes [] cs
 
 -- a scan goes on in a second list with what it has from the first
 pub least_append : (passes : Channel → Bool) (best : Option Channel) (cs ds : List Channel) → least passes best (cs ++ ds) ≡ least passes (least passes best cs) ds
@@ -63,7 +68,7 @@ module _ {S : Type 0} (o : Ops S) where
       let passes = meets_here o (Forked l ks) in
       let cs = in_order (filter passes (all_waited o ks)) in
       head_close (o.path l) (all_done ks) (map Meet cs)
-      ∙ ap (cond (all_done ks) (Some (Close (o.path l)))) (head_map Meet cs ∙ ap (option_map Meet) (head_all passes [] (all_waited o ks)))
+      ∙ ap (cond (all_done ks) (Some (Close (o.path l)))) (head_map Meet cs ∙ ap (option_map Meet) (head_ordered passes (all_waited o ks)))
 
   -- the same, where it is known whether all children are done
   head_chosen : (n : Node S) (l : S) (ks : Nodes S) (b : Bool) → n ≡ Forked l ks → all_done ks ≡ b → head (here o n) ≡ cond b (Some (Close (o.path l))) (option_map Meet (least (meets_here o (Forked l ks)) None (all_waited o ks)))
@@ -86,7 +91,7 @@ module _ {S : Type 0} (o : Ops S) where
       let passes = poisons_here o l all i k in
       let event = Poison (o.path (state k)) in
       ap (option_map event) h
-      ∙ sym (head_map event (in_order (filter passes (waited o k))) ∙ ap (option_map event) (head_all passes [] (waited o k)))
+      ∙ sym (head_map event (in_order (filter passes (waited o k))) ∙ ap (option_map event) (head_ordered passes (waited o k)))
 
   -- first comes what a fork can do itself
   pub here_first : (n : Node S) (l : S) (ks : Nodes S) (x : Option Event) → n ≡ Forked l ks → x ≡ head (here o n) → is_some x ≡ true → x ≡ head (walk o n)

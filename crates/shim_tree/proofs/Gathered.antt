@@ -9,9 +9,9 @@ use Rattle.shim_local.specs.Process.{Ops}
 use Rattle.shim_local.specs.declared.Outcome.TheVariants.{Blocked}
 use Rattle.shim_semantics.specs.Nodes as model
 use Rattle.shim_semantics.specs.Nodes.{next_of}
-use Rattle.shim_semantics.specs.Endings.{wait_of, wait_at, waits_of, waiting, all_waiting, outcome_of_root}
+use Rattle.shim_semantics.specs.Endings.{wait_of, wait_at, waits_of, waiting, all_waiting, outcome_of_root, outcome_of_label}
 use Rattle.shim_tree.specs.NodeStatus.{together, node, nodes, node_step}
-use Rattle.shim_tree.specs.Readings.{with_wait, with_waits, outcome_of_label}
+use Rattle.shim_tree.specs.Readings.{with_wait, with_waits}
 use Rattle.shim_tree.specs.declared.node_status.NodeStatus.{NodeStatus}
 use Rattle.shim_tree.specs.declared.node_status.NodeStatus.TheVariants as code
 use Rattle.shim_tree.specs.declared.node_status.NodeStatus.TheOpen as open_below
@@ -25,7 +25,7 @@ node_live {S} l = ap (node l) (sym code.rolls-Live) ∙ ap (λ f. f l) (fold-rol
 node_ended : {S : Type 0} (l : S) → node l code.Ended ≡ model.Ended l
 node_ended {S} l = ap (node l) (sym code.rolls-Ended) ∙ ap (λ f. f l) (fold-roll-NodeStatus S (S → model.Node S) node_step open_below.Ended)
 
-node_dead : {S : Type 0} (l : S) (x : ℕ) → node l (code.Dead x) ≡ model.Dead l x
+node_dead : {S : Type 0} (l : S) (x : ℕ) → node l (code.Dead x) ≡ model.Dead l (model.death x)
 node_dead {S} l x = ap (node l) (sym (code.rolls-Dead x)) ∙ ap (λ f. f l) (fold-roll-NodeStatus S (S → model.Node S) node_step (open_below.Dead x))
 
 node_forked : {S : Type 0} (l : S) (ls : _) (bs : _) → node l (code.Forked ls bs) ≡ model.Forked l (together ls.items (nodes bs.items))
@@ -37,18 +37,14 @@ at_live l b e = ap (node l) e ∙ node_live l
 pub at_ended : {S : Type 0} (l : S) (b : NodeStatus S) → b ≡ code.Ended → node l b ≡ model.Ended l
 at_ended l b e = ap (node l) e ∙ node_ended l
 
-pub at_dead : {S : Type 0} (l : S) (b : NodeStatus S) (x : ℕ) → b ≡ code.Dead x → node l b ≡ model.Dead l x
+pub at_dead : {S : Type 0} (l : S) (b : NodeStatus S) (x : ℕ) → b ≡ code.Dead x → node l b ≡ model.Dead l (model.death x)
 at_dead l b x e = ap (node l) e ∙ node_dead l x
 
 pub at_forked : {S : Type 0} (l : S) (b : NodeStatus S) (ls : _) (bs : _) → b ≡ code.Forked ls bs → node l b ≡ model.Forked l (together ls.items (nodes bs.items))
 at_forked l b ls bs e = ap (node l) e ∙ node_forked l ls bs
 
-outcome_dead : {S : Type 0} (l : S) (x : ℕ) → outcome_of_label x ≡ outcome_of_root (model.Dead l x)
-outcome_dead l zero = refl
-outcome_dead l (suc i) = refl
-
 pub outcome_at_dead : {S : Type 0} (l : S) (b : NodeStatus S) (x : ℕ) → b ≡ code.Dead x → outcome_of_label x ≡ outcome_of_root (node l b)
-outcome_at_dead l b x e = outcome_dead l x ∙ sym (ap outcome_of_root (at_dead l b x e))
+outcome_at_dead l b x e = sym (ap outcome_of_root (at_dead l b x e))
 
 pub with_both : (m : FinMap path_order NamedChannel) (xs ys : List (Path × NamedChannel)) → with_waits m (xs ++ ys) ≡ with_waits (with_waits m xs) ys
 with_both m [] ys = refl

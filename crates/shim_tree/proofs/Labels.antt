@@ -1,58 +1,58 @@
--- The least label of which a child died, and that the fork's process has a handler of it or of an outer one.
+-- The prevailing death among children, and that the fork's process has a handler of its exception or of an outer one.
 use Rattle.std.proofs.Common.{◌≡◌, ℕ, zero, suc, ◌+◌, ◌<◌, ◌≤◌, min, Option, Some, None, List, [], ◌∷◌, length, get_or, refl, sym, ap, subst, ◌∙◌, arith}
 use Rattle.std.proofs.Math.Nat.{min-le_left}
 use Rattle.shim_local.specs.Process.{Ops}
 use Rattle.shim_local.specs.Laws.{AllOf}
-use Rattle.shim_semantics.specs.Nodes.{Node, Nodes, Live, Forked, Ended, Dead, no_node, node_and, state, states, lesser, least_label}
+use Rattle.shim_semantics.specs.Nodes.{Node, Nodes, Live, Forked, Ended, Dead, Death, death, no_node, node_and, state, states, prevailing, prevailing_death}
 use Rattle.shim_semantics.specs.Places.{SoundBelow, SoundChildren}
 use Rattle.shim_tree.specs.NodeStatus.{nodes}
 use Rattle.shim_tree.specs.Beside.{place}
-use Rattle.shim_tree.specs.Labels.{label_of, least_of}
+use Rattle.shim_tree.specs.Labels.{death_of, prevailing_of}
 use Rattle.shim_tree.specs.declared.node_status.NodeStatus.{NodeStatus}
 use Rattle.shim_tree.proofs.Beside.{from, from_next, from_end}
 use Rattle.shim_base.proofs.Facts.{some_same, none_some}
 
--- ---- the least of the labels
+-- ---- the prevailing one of deaths
 
 min_assoc : (x y z : ℕ) → min (min x y) z ≡ min x (min y z)
 min_assoc x y z = omega arith
 
-least_assoc : (x y z : Option ℕ) → least_of (least_of x y) z ≡ least_of x (least_of y z)
-least_assoc None y z = refl
-least_assoc (Some x) None z = refl
-least_assoc (Some x) (Some y) None = refl
-least_assoc (Some x) (Some y) (Some z) = ap Some (min_assoc x y z)
+prevailing_assoc : (x y z : Option Death) → prevailing_of (prevailing_of x y) z ≡ prevailing_of x (prevailing_of y z)
+prevailing_assoc None y z = refl
+prevailing_assoc (Some x) None z = refl
+prevailing_assoc (Some x) (Some y) None = refl
+prevailing_assoc (Some x) (Some y) (Some z) = ap (λ w. Some (death w)) (min_assoc x.label y.label z.label)
 
-least_alone : (x : Option ℕ) → least_of x None ≡ x
-least_alone None = refl
-least_alone (Some x) = refl
+prevailing_alone : (x : Option Death) → prevailing_of x None ≡ x
+prevailing_alone None = refl
+prevailing_alone (Some x) = refl
 
-label_first : {S : Type 0} (k : Node S) (ks : Nodes S) → least_label (node_and k ks) ≡ least_of (label_of k) (least_label ks)
-label_first (Live l) ks = refl
-label_first (Forked l js) ks = refl
-label_first (Ended l) ks = refl
-label_first (Dead l x) ks = refl
+death_first : {S : Type 0} (k : Node S) (ks : Nodes S) → prevailing_death (node_and k ks) ≡ prevailing_of (death_of k) (prevailing_death ks)
+death_first (Live l) ks = refl
+death_first (Forked l js) ks = refl
+death_first (Ended l) ks = refl
+death_first (Dead l x) ks = refl
 
 item_there : {A : Type 0} (i : ℕ) (xs : List A) → i < length xs → (x : A) × (x ≡ get_or xs i x)
 item_there i [] h = absurd (omega (arith, h))
 item_there zero (x ∷ xs) h = (x, refl)
 item_there (suc i) (x ∷ xs) h = item_there i xs (omega (arith, h))
 
-label_next : {S : Type 0} (i : ℕ) (ls : List S) (bs : List (NodeStatus S)) (r : Option ℕ) → i < length ls → ((l : S) → r ≡ label_of (place l (nodes bs) i))
-    → least_label (from i ls bs) ≡ least_of r (least_label (from (i + 1) ls bs))
-label_next i ls bs r h f =
+death_next : {S : Type 0} (i : ℕ) (ls : List S) (bs : List (NodeStatus S)) (r : Option Death) → i < length ls → ((l : S) → r ≡ death_of (place l (nodes bs) i))
+    → prevailing_death (from i ls bs) ≡ prevailing_of r (prevailing_death (from (i + 1) ls bs))
+death_next i ls bs r h f =
     let x = item_there i ls h in
-    ap least_label (from_next i ls bs x.0 h x.1)
-    ∙ (label_first (place x.0 (nodes bs) i) (from (i + 1) ls bs) ∙ ap (λ z. least_of z (least_label (from (i + 1) ls bs))) (sym (f x.0)))
+    ap prevailing_death (from_next i ls bs x.0 h x.1)
+    ∙ (death_first (place x.0 (nodes bs) i) (from (i + 1) ls bs) ∙ ap (λ z. prevailing_of z (prevailing_death (from (i + 1) ls bs))) (sym (f x.0)))
 
 -- one child more, and all of them
-pub one_label : {S : Type 0} (i : ℕ) (ls : List S) (bs : List (NodeStatus S)) (was r all : Option ℕ) → i < length ls → ((l : S) → r ≡ label_of (place l (nodes bs) i))
-    → least_of was (least_label (from i ls bs)) ≡ all → least_of (least_of was r) (least_label (from (i + 1) ls bs)) ≡ all
-one_label i ls bs was r all h f each =
-    least_assoc was r (least_label (from (i + 1) ls bs)) ∙ (ap (least_of was) (sym (label_next i ls bs r h f)) ∙ each)
+pub one_death : {S : Type 0} (i : ℕ) (ls : List S) (bs : List (NodeStatus S)) (was r all : Option Death) → i < length ls → ((l : S) → r ≡ death_of (place l (nodes bs) i))
+    → prevailing_of was (prevailing_death (from i ls bs)) ≡ all → prevailing_of (prevailing_of was r) (prevailing_death (from (i + 1) ls bs)) ≡ all
+one_death i ls bs was r all h f each =
+    prevailing_assoc was r (prevailing_death (from (i + 1) ls bs)) ∙ (ap (prevailing_of was) (sym (death_next i ls bs r h f)) ∙ each)
 
-pub every_label : {S : Type 0} (i : ℕ) (ls : List S) (bs : List (NodeStatus S)) (was all : Option ℕ) → length ls ≤ i → least_of was (least_label (from i ls bs)) ≡ all → was ≡ all
-every_label i ls bs was all h each = sym (least_alone was) ∙ (ap (λ z. least_of was (least_label z)) (sym (from_end i ls bs h)) ∙ each)
+pub every_death : {S : Type 0} (i : ℕ) (ls : List S) (bs : List (NodeStatus S)) (was all : Option Death) → length ls ≤ i → prevailing_of was (prevailing_death (from i ls bs)) ≡ all → was ≡ all
+every_death i ls bs was all h each = sym (prevailing_alone was) ∙ (ap (λ z. prevailing_of was (prevailing_death z)) (sym (from_end i ls bs h)) ∙ each)
 
 -- ---- what a sound fork says of it
 
@@ -67,20 +67,20 @@ each_sound o l f i no_node s = s
 each_sound o l f i (node_and k ks) s = (sound_state o k s.1, each_sound o l f (i + 1) ks s.2)
 
 -- a child dies of labels alone that are in force at the fork
-pub label_in_force : {S : Type 0} (o : Ops S) (l : S) (f i : ℕ) (ks : Nodes S) (x : ℕ) → SoundChildren o l f i ks → least_label ks ≡ Some x → x < o.handlers l
+pub label_in_force : {S : Type 0} (o : Ops S) (l : S) (f i : ℕ) (ks : Nodes S) (x : Death) → SoundChildren o l f i ks → prevailing_death ks ≡ Some x → x.label < o.handlers l
 label_in_force o l f i no_node x s e = none_some x e
 label_in_force o l f i (node_and (Live k) ks) x s e = label_in_force o l f (i + 1) ks x s.2 e
 label_in_force o l f i (node_and (Forked k js) ks) x s e = label_in_force o l f (i + 1) ks x s.2 e
 label_in_force o l f i (node_and (Ended k) ks) x s e = label_in_force o l f (i + 1) ks x s.2 e
-label_in_force o l f i (node_and (Dead k y) ks) x s e = of_lesser (least_label ks) e
+label_in_force o l f i (node_and (Dead k y) ks) x s e = of_prevailing (prevailing_death ks) e
   where
-    own : y < o.handlers l
-    own = subst (λ z. y < z) s.0.base s.1.below_base
+    own : y.label < o.handlers l
+    own = subst (λ z. y.label < z) s.0.base s.1.below_base
 
-    of_lesser : (m : Option ℕ) → lesser y m ≡ Some x → x < o.handlers l
-    of_lesser None g = subst (λ z. z < o.handlers l) (some_same y x g) own
-    of_lesser (Some z) g =
-        let least = min-le_left y z in
+    of_prevailing : (m : Option Death) → prevailing y m ≡ Some x → x.label < o.handlers l
+    of_prevailing None g = subst (λ z. z.label < o.handlers l) (some_same y x g) own
+    of_prevailing (Some z) g =
+        let least = min-le_left y.label z.label in
         let status = own in
-        let is = some_same (min y z) x g in
+        let is = ap (λ d. d.label) (some_same (death (min y.label z.label)) x g) in
         omega (arith, least, status, is)

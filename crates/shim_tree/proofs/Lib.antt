@@ -12,6 +12,7 @@ pub mod Firsts
 pub mod Gathered
 pub mod Happens
 pub mod HaveValues
+pub mod InsertedKeys
 pub mod Labels
 pub mod LiveNodes
 pub mod Mapped
@@ -23,6 +24,7 @@ pub mod Readies
 pub mod Recorded
 pub mod Seeks
 pub mod Sought
+pub mod PathProcesses
 pub mod Swaps
 pub mod Values
 pub mod Walked

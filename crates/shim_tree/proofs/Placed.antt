@@ -100,13 +100,13 @@ module _ {S : Type 0} (o : Ops S) where
 
   pub comes_placed : (m : FinMap path_order ℕ) (t : Tree S) (n : ℕ) (last : S) → ComesBy o t n last → AllHaveCounts o m t.root → HasCount m (o.path last)
   comes_placed m t n last comes h =
-      let w = stands_by t.root _ comes.start comes.stands in
-      subst (HasCount m) comes.is_its (place_there m comes.start w.branches t.root w.there h)
+      let w = stands_by t.root _ comes.start comes.stands.there in
+      subst (HasCount m) comes.stands.is_its (place_there m comes.start w.branches t.root w.there h)
 
   pub advanced_placed : (m m' : FinMap path_order ℕ) (t : Tree S) (n : ℕ) (last : S) (new : Node S) → ComesBy o t n last → KeepsCounts m m'
       → ((q : List ℕ) → route (o.path (state t.root)) (o.path last) ≡ Some q → new ≡ with_state_at last q t.root)
       → AllHaveCounts o m t.root → AllHaveCounts o m' new
   advanced_placed m m' t n last new comes keeps is h =
-      let w = stands_by t.root _ comes.start comes.stands in
+      let w = stands_by t.root _ comes.start comes.stands.there in
       subst (AllHaveCounts o m') (sym (is w.branches w.is))
-      (still_placed m m' _ keeps (placed_with m last comes.start (sym comes.is_its) w.branches t.root w.there h))
+      (still_placed m m' _ keeps (placed_with m last comes.start (sym comes.stands.is_its) w.branches t.root w.there h))

@@ -17,13 +17,13 @@ use Rattle.shim_tree.proofs.Children.{node_forked, at_forked}
 use Rattle.shim_base.proofs.Facts.{some_same, first_holds, second_holds, either_holds, cond_there}
 
 -- the children from a place on are poisoned
-abbrev pub poisoned_from : {S : Type 0} → Ops S → Channel → ℕ → ℕ → model.Nodes S → model.Nodes S
+abbrev pub poisoned_from : {S : Type 0} → Ops S → Channel → model.Death → ℕ → model.Nodes S → model.Nodes S
 poisoned_from o c x zero ks = all_poisoned o c x ks
 poisoned_from o c x (suc i) model.no_node = model.no_node
 poisoned_from o c x (suc i) (model.node_and k ks) = model.node_and k (poisoned_from o c x i ks)
 
 module _ {S : Type 0} (o : Ops S) (c : Channel) where
-  poisoned_one : (x i : ℕ) (ls : List S) (bs : List (NodeStatus S)) (l : S) (b b' : NodeStatus S) → i < length ls → i < length bs → l ≡ get_or ls i l → b ≡ get_or bs i b → node l b' ≡ poisoned o c x (node l b)
+  poisoned_one : (x : model.Death) (i : ℕ) (ls : List S) (bs : List (NodeStatus S)) (l : S) (b b' : NodeStatus S) → i < length ls → i < length bs → l ≡ get_or ls i l → b ≡ get_or bs i b → node l b' ≡ poisoned o c x (node l b)
       → poisoned_from o c x (suc i) (together ls (nodes (slice_set bs i b'))) ≡ poisoned_from o c x i (together ls (nodes bs))
   poisoned_one x i [] bs l b b' h k e f n = absurd (omega (arith, h))
   poisoned_one x i (m ∷ ls) [] l b b' h k e f n = absurd (omega (arith, k))
@@ -31,26 +31,26 @@ module _ {S : Type 0} (o : Ops S) (c : Channel) where
       ap (λ z. model.node_and z (all_poisoned o c x (together ls (nodes bs)))) ((λ t. node (sym e t) b') ∙ (n ∙ λ t. poisoned o c x (node (e t) (f t))))
   poisoned_one x (suc i) (m ∷ ls) (d ∷ bs) l b b' h k e f n = ap (model.node_and (node m d)) (poisoned_one x i ls bs l b b' (omega (arith, h)) (omega (arith, k)) e f n)
 
-  pub poisoned_next : (x i : ℕ) (ls : List S) (bs : List (NodeStatus S)) (l : S) (b b' : NodeStatus S) → i < length ls → i < length bs → l ≡ get_or ls i l → b ≡ get_or bs i b → node l b' ≡ poisoned o c x (node l b)
+  pub poisoned_next : (x : model.Death) (i : ℕ) (ls : List S) (bs : List (NodeStatus S)) (l : S) (b b' : NodeStatus S) → i < length ls → i < length bs → l ≡ get_or ls i l → b ≡ get_or bs i b → node l b' ≡ poisoned o c x (node l b)
       → poisoned_from o c x (i + 1) (together ls (nodes (slice_set bs i b'))) ≡ poisoned_from o c x i (together ls (nodes bs))
   poisoned_next x i ls bs l b b' h k e f n =
       let w : i + 1 ≡ suc i = omega arith in
       ap (λ z. poisoned_from o c x z (together ls (nodes (slice_set bs i b')))) w ∙ poisoned_one x i ls bs l b b' h k e f n
 
-  poisoned_end : (x i : ℕ) (ls : List S) (bs : List (NodeStatus S)) → length ls ≤ i → poisoned_from o c x i (together ls (nodes bs)) ≡ together ls (nodes bs)
+  poisoned_end : (x : model.Death) (i : ℕ) (ls : List S) (bs : List (NodeStatus S)) → length ls ≤ i → poisoned_from o c x i (together ls (nodes bs)) ≡ together ls (nodes bs)
   poisoned_end x zero [] bs h = refl
   poisoned_end x (suc i) [] bs h = refl
   poisoned_end x zero (l ∷ ls) bs h = absurd (omega (arith, h))
   poisoned_end x (suc i) (l ∷ ls) [] h = ap (model.node_and (model.Live l)) (poisoned_end x i ls [] (omega (arith, h)))
   poisoned_end x (suc i) (l ∷ ls) (b ∷ bs) h = ap (model.node_and (node l b)) (poisoned_end x i ls bs (omega (arith, h)))
 
-  pub poisoned_fork : (x i : ℕ) (l : S) (b : NodeStatus S) (ls ls' : Vec S Global) (bs bs' : Vec (NodeStatus S) Global) → b ≡ code.Forked ls bs → length ls'.items ≤ i
+  pub poisoned_fork : (x : model.Death) (i : ℕ) (l : S) (b : NodeStatus S) (ls ls' : Vec S Global) (bs bs' : Vec (NodeStatus S) Global) → b ≡ code.Forked ls bs → length ls'.items ≤ i
       → poisoned_from o c x i (together ls'.items (nodes bs'.items)) ≡ all_poisoned o c x (together ls.items (nodes bs.items)) → node l (code.Forked ls' bs') ≡ poisoned o c x (node l b)
   poisoned_fork x i l b ls ls' bs bs' e h n =
       node_forked l ls' bs' ∙ (ap (model.Forked l) (sym (poisoned_end x i ls'.items bs'.items h) ∙ n) ∙ sym (ap (poisoned o c x) (at_forked l b ls bs e)))
 
   -- one child is
-  pub one_there : (x i : ℕ) (ls : List S) (bs : List (NodeStatus S)) (l : S) (b b' : NodeStatus S) → i < length ls → i < length bs → l ≡ get_or ls i l → b ≡ get_or bs i b → node l b' ≡ poisoned o c x (node l b)
+  pub one_there : (x : model.Death) (i : ℕ) (ls : List S) (bs : List (NodeStatus S)) (l : S) (b b' : NodeStatus S) → i < length ls → i < length bs → l ≡ get_or ls i l → b ≡ get_or bs i b → node l b' ≡ poisoned o c x (node l b)
       → together ls (nodes (slice_set bs i b')) ≡ one_poisoned o c x i (together ls (nodes bs))
   one_there x i [] bs l b b' h k e f n = absurd (omega (arith, h))
   one_there x i (m ∷ ls) [] l b b' h k e f n = absurd (omega (arith, k))
@@ -64,7 +64,7 @@ module _ {S : Type 0} (o : Ops S) (c : Channel) where
     dooms_some h (model.Live l) e = absurd cc
     dooms_some h (model.Forked l ks) e = any_dooms_some h ks e
     dooms_some h (model.Ended l) e = absurd cc
-    dooms_some h (model.Dead l x) e = let w = ltb-true x h (second_holds (o.shares l c) (ltb x h) e) in omega (arith, w)
+    dooms_some h (model.Dead l x) e = let w = ltb-true x.label h (second_holds (o.shares l c) (ltb x.label h) e) in omega (arith, w)
 
     any_dooms_some : (h : ℕ) (ks : model.Nodes S) → any_dooms o h c ks ≡ true → 1 ≤ h
     any_dooms_some h model.no_node e = absurd cc
@@ -91,13 +91,13 @@ module _ {S : Type 0} (o : Ops S) (c : Channel) where
   pub record PoisonsHere (l : S) (b : NodeStatus S) (i : ℕ) (ls : List S) (bs : List (NodeStatus S)) : Type 0 where
     pub there : i < length ls
     pub some : 1 ≤ o.handlers l
-    pub is : poison_here o c i (node l b) ≡ Some (model.Forked l (one_poisoned o c (o.handlers l - 1) i (together ls (nodes bs))))
+    pub is : poison_here o c i (node l b) ≡ Some (model.Forked l (one_poisoned o c (model.death (o.handlers l - 1)) i (together ls (nodes bs))))
 
   pub poisons_here : (l : S) (b : NodeStatus S) (i : ℕ) (ls : Vec S Global) (bs : Vec (NodeStatus S) Global) → b ≡ code.Forked ls bs → (poison_here o c i (node l b) ≡ None → ⊥) → PoisonsHere l b i ls.items bs.items
   poisons_here l b i ls bs e h =
       let n = at_forked l b ls bs e in
       let ks = together ls.items (nodes bs.items) in
-      let w = cond_there (can_poison o l c i ks) (Some (model.Forked l (one_poisoned o c (o.handlers l - 1) i ks))) (λ z. h (ap (poison_here o c i) n ∙ z)) in
+      let w = cond_there (can_poison o l c i ks) (Some (model.Forked l (one_poisoned o c (model.death (o.handlers l - 1)) i ks))) (λ z. h (ap (poison_here o c i) n ∙ z)) in
       record {
         there = ready_there i ls.items (nodes bs.items) (first_holds (is_ready_child o c i ks) (is_doomed o (o.handlers l) c i ks) w.0);
         some = doomed_some (o.handlers l) i ks (second_holds (is_ready_child o c i ks) (is_doomed o (o.handlers l) c i ks) w.0);
@@ -105,9 +105,9 @@ module _ {S : Type 0} (o : Ops S) (c : Channel) where
       }
 
   pub poison_done : (l : S) (b : NodeStatus S) (i x : ℕ) (ls ls' : Vec S Global) (bs bs' : Vec (NodeStatus S) Global) → PoisonsHere l b i ls.items bs.items → x ≡ o.handlers l - 1
-      → together ls'.items (nodes bs'.items) ≡ one_poisoned o c x i (together ls.items (nodes bs.items)) → poison_here o c i (node l b) ≡ Some (node l (code.Forked ls' bs'))
+      → together ls'.items (nodes bs'.items) ≡ one_poisoned o c (model.death x) i (together ls.items (nodes bs.items)) → poison_here o c i (node l b) ≡ Some (node l (code.Forked ls' bs'))
   poison_done l b i x ls ls' bs bs' p e n =
-      p.is ∙ ap Some (ap (model.Forked l) (ap (λ z. one_poisoned o c z i (together ls.items (nodes bs.items))) (sym e) ∙ sym n) ∙ sym (node_forked l ls' bs'))
+      p.is ∙ ap Some (ap (model.Forked l) (ap (λ z. one_poisoned o c (model.death z) i (together ls.items (nodes bs.items))) (sym e) ∙ sym n) ∙ sym (node_forked l ls' bs'))
 
   -- the descent: a child that is poisoned is there, and what is poisoned at its place is poisoned from here
   pub descent_there : (b i : ℕ) (p : Path) (ls : List S) (fs : List (S → model.Node S)) → (poison_among o c b i p (together ls fs) ≡ None → ⊥) → b < length ls

@@ -7,7 +7,8 @@ use Rattle.shim_base.specs.Paths.{Channel, NamedChannel, channel_order}
 use Rattle.shim_local.specs.Process.{Ops}
 use Rattle.shim_tree.specs.NodeStatus.{node, nodes}
 use Rattle.shim_tree.specs.Beside.{place}
-use Rattle.shim_semantics.specs.Walks.{put_before, inserted, all_inserted, waited, all_waited}
+use Rattle.shim_semantics.specs.Walks.{waited, all_waited}
+use Rattle.shim_tree.specs.Inserted.{put_before, inserted, all_inserted}
 use Rattle.shim_tree.specs.Searching.{channels}
 use Rattle.shim_tree.specs.declared.node_status.NodeStatus.{NodeStatus}
 use Rattle.shim_tree.specs.declared.node_status.NodeStatus.TheVariants as code

@@ -5,7 +5,7 @@ use Rattle.std.specs.FinMap.{FinMap}
 use Rattle.shim_base.specs.Paths.{Path, Channel, path_order}
 use Rattle.shim_local.specs.Process.{Ops, StopView, ForkedView, AtQuiet, AtNext, AtPut, AtFork, AtFinish, AtThrow, AtTrap, Parted, Trapped}
 use Rattle.shim_local.specs.Laws.{LocalLaws, AllOf}
-use Rattle.shim_semantics.specs.Nodes.{Node, Nodes, Live, Forked, Ended, Dead, no_node, node_and, state, states, everyone, everyone_of, all_live, all_done, least_label, received, all_received}
+use Rattle.shim_semantics.specs.Nodes.{Node, Nodes, Live, Forked, Ended, Dead, Death, death, no_node, node_and, state, states, everyone, everyone_of, all_live, all_done, prevailing_death, received, all_received}
 use Rattle.shim_semantics.specs.Acts.{Acted, nothing, catching, act_here, act_live, parted, thrown, closed}
 use Rattle.shim_semantics.specs.Poison.{poison_route}
 use Rattle.shim_semantics.specs.Places.{at, child_at, route, at_route, led_to, has_path, SoundBelow, SoundChildren}
@@ -35,15 +35,15 @@ module _ {S : Type 0} (o : Ops S) where
   children_to_come (Ended l) = []
   children_to_come (Dead l x) = []
 
-  thrown_alone : (l : S) (x : ℕ) → everyone (thrown o l x).node ≡ state (thrown o l x).node ∷ []
-  thrown_alone l x = at_base (ltb x (o.base l))
+  thrown_alone : (l : S) (x : Death) → everyone (thrown o l x).node ≡ state (thrown o l x).node ∷ []
+  thrown_alone l x = at_base (ltb x.label (o.base l))
     where
-      at_base : (b : Bool) → everyone (cond {A = Acted S} b (record { node = Dead l x; effects = nothing }) (record { node = Live (o.unwind l x); effects = catching (o.handler l x) })).node
-          ≡ state (cond {A = Acted S} b (record { node = Dead l x; effects = nothing }) (record { node = Live (o.unwind l x); effects = catching (o.handler l x) })).node ∷ []
+      at_base : (b : Bool) → everyone (cond {A = Acted S} b (record { node = Dead l x; effects = nothing }) (record { node = Live (o.unwind l x.label); effects = catching (o.handler l x.label) })).node
+          ≡ state (cond {A = Acted S} b (record { node = Dead l x; effects = nothing }) (record { node = Live (o.unwind l x.label); effects = catching (o.handler l x.label) })).node ∷ []
       at_base true = refl
       at_base false = refl
 
-  closed_alone : (l : S) (ks : List S) (x : Option ℕ) → everyone (closed o l ks x).node ≡ state (closed o l ks x).node ∷ []
+  closed_alone : (l : S) (ks : List S) (x : Option Death) → everyone (closed o l ks x).node ≡ state (closed o l ks x).node ∷ []
   closed_alone l ks None = refl
   closed_alone l ks (Some x) = thrown_alone (o.join l ks false) x
 
@@ -57,13 +57,13 @@ module _ {S : Type 0} (o : Ops S) where
   live_all l AtFork a e = subst (λ z. everyone z.node ≡ state z.node ∷ children_of (o.fork l)) (some_same _ a e) (parted_all (o.fork l))
   live_all l AtFinish a e = subst (λ z. everyone z.node ≡ state z.node ∷ []) (some_same _ a e) refl
   live_all l (AtNext c) a e = none_some a e
-  live_all l (AtThrow label) a e = subst (λ z. everyone z.node ≡ state z.node ∷ []) (some_same _ a e) (thrown_alone l label)
+  live_all l (AtThrow label) a e = subst (λ z. everyone z.node ≡ state z.node ∷ []) (some_same _ a e) (thrown_alone l (death label))
   live_all l (AtTrap kind line) a e = subst (λ z. everyone z.node ≡ state z.node ∷ []) (some_same _ a e) refl
 
   -- the process itself, and the children that its step made
   acted_all : (n : Node S) (a : Acted S) → act_here o n ≡ Some a → everyone a.node ≡ state a.node ∷ children_to_come n
   acted_all (Live l) a e = live_all l (o.stop l) a e
-  acted_all (Forked l ks) a e = subst (λ z. everyone z.node ≡ state z.node ∷ []) (cond_some (all_done ks) (closed o l (states ks) (least_label ks)) a e).1 (closed_alone l (states ks) (least_label ks))
+  acted_all (Forked l ks) a e = subst (λ z. everyone z.node ≡ state z.node ∷ []) (cond_some (all_done ks) (closed o l (states ks) (prevailing_death ks)) a e).1 (closed_alone l (states ks) (prevailing_death ks))
   acted_all (Ended l) a e = none_some a e
   acted_all (Dead l x) a e = none_some a e
 

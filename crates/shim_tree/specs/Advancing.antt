@@ -5,6 +5,7 @@ use Rattle.shim_base.specs.Paths.{Path, path_order}
 use Rattle.shim_local.specs.Process.{Ops}
 use Rattle.shim_local.specs.Laws.{AllOf}
 use Rattle.shim_semantics.specs.Nodes.{Node, Nodes, Live, Forked, Ended, Dead, no_node, node_and, everyone}
+use Rattle.shim_semantics.specs.Descents.{Ascent, apply_at, apply_among}
 use Rattle.shim_semantics.specs.Places.{branches}
 use Rattle.shim_semantics.specs.Trees.{count_of, one_more}
 use Rattle.shim_tree.specs.Maps.{has_stepped}
@@ -16,19 +17,17 @@ with_state m (Forked l ks) = Forked m ks
 with_state m (Ended l) = Ended m
 with_state m (Dead l x) = Dead m x
 
--- the node to which these branches lead, if there is one, has this state in place of its own
-abbrev mutual
-  pub with_state_at : {S : Type 0} → S → List ℕ → Node S → Node S
-  with_state_at m [] n = with_state m n
-  with_state_at m (b ∷ p) (Forked l ks) = Forked l (with_state_in m b p ks)
-  with_state_at m (b ∷ p) (Live l) = Live l
-  with_state_at m (b ∷ p) (Ended l) = Ended l
-  with_state_at m (b ∷ p) (Dead l x) = Dead l x
+-- a node that is replaced shows at the nodes above it
+abbrev pub replaced_above : {S : Type 0} → Ascent S (Node S) (Nodes S)
+replaced_above = record { above = Forked; first = λ ks k. node_and k ks; later = node_and; nowhere = λ n. n; no_child = no_node }
 
-  pub with_state_in : {S : Type 0} → S → ℕ → List ℕ → Nodes S → Nodes S
-  with_state_in m b p no_node = no_node
-  with_state_in m zero p (node_and k ks) = node_and (with_state_at m p k) ks
-  with_state_in m (suc b) p (node_and k ks) = node_and k (with_state_in m b p ks)
+-- the node to which these branches lead, if there is one, has this state in place of its own
+abbrev pub with_state_at : {S : Type 0} → S → List ℕ → Node S → Node S
+with_state_at m = apply_at replaced_above (with_state m)
+
+-- the same from some children, by the branch to one of them and those behind it
+abbrev pub with_state_in : {S : Type 0} → S → ℕ → List ℕ → Nodes S → Nodes S
+with_state_in m = apply_among replaced_above (with_state m)
 
 -- What is left of a path, by its next step: a branch and the place of the pair behind it, or nothing.
 abbrev pub led_on : Path → Option (ℕ × ℕ) → List ℕ

@@ -6,6 +6,7 @@ pub mod Finding
 pub mod Searching
 pub mod Acting
 pub mod Telling
+pub mod Inserted
 pub mod Labels
 pub mod Meeting
 pub mod Readings

@@ -1,12 +1,10 @@
 -- The maps of the code, as the finite maps that they mean.
 use Rattle.std.specs.Prelude.{◌≡◌, ◌≢◌, ℕ, ℤ, Bool, Some, not, eqb, List, [], map, refl}
-use Rattle.std.specs.Coded.{Coded, coded×, coded_ℕ, code_by}
 use Rattle.std.specs.FinMap as finite
 use Rattle.std.specs.BTreeMap.{BTreeMap}
 use Rattle.shim_base.specs.Paths.{Path, Channel, NamedChannel, path_order, channel_order}
 use Rattle.shim_local.specs.declared.LogWhat.{LogWhat}
 use Rattle.shim_semantics.specs.Trees.{Met}
-use Rattle.shim_semantics.specs.Codes.{path_code, channel_code}
 
 abbrev pub counts_of : BTreeMap Path ℕ → finite.FinMap path_order ℕ
 counts_of m = finite.from_entries m.entries
@@ -30,9 +28,3 @@ AllHaveValues m = (c : Channel) (h : Met) → finite.get m c ≡ Some h → h.va
 
 abbrev pub waits_in : BTreeMap Path NamedChannel → finite.FinMap path_order NamedChannel
 waits_in m = finite.from_entries m.entries
-
-abbrev pub named_code : Coded NamedChannel
-named_code = code_by (Channel × ℕ) (coded× channel_code coded_ℕ) (λ c. (c.channel, c.name)) (λ p. record { channel = p.0; name = p.1 }) (λ _. refl)
-
-abbrev pub waits_code : Coded (finite.FinMap path_order NamedChannel)
-waits_code = finite.code path_code named_code

@@ -1,14 +1,7 @@
--- What the code reads off a tree part by part: an outcome, and the waits as they are found in the order of a walk.
-use Rattle.std.specs.Prelude.{ℕ, zero, suc, List, [], ◌∷◌, cond}
+-- The waits as the code finds them in the order of a walk.
+use Rattle.std.specs.Prelude.{List, [], ◌∷◌, cond}
 use Rattle.std.specs.FinMap as finite
 use Rattle.shim_base.specs.Paths.{Path, NamedChannel, path_order}
-use Rattle.shim_local.specs.declared.Outcome.{Outcome}
-use Rattle.shim_local.specs.declared.Outcome.TheVariants.{Uncaught, Trapped}
-
--- what came of a root that died of an exception with this label
-abbrev pub outcome_of_label : ℕ → Outcome
-outcome_of_label zero = Trapped
-outcome_of_label (suc i) = Uncaught (suc i)
 
 -- of one path the first wait stays
 abbrev pub with_wait : finite.FinMap path_order NamedChannel → Path → NamedChannel → finite.FinMap path_order NamedChannel

@@ -1,12 +1,12 @@
 // What a process does by itself: a step of its own, its end, or the close of its fork.
 ghost use Rattle.std.specs.Prelude.{◌≡◌, ◌≢◌, ◌<◌, ◌≤◌, None, is_none, IfOk, OnOk, OnErr, length, vec_len, drop};
 ghost use Rattle.shim_local.specs.Process.{AtQuiet, AtPut, AtFork};
-ghost use Rattle.shim_semantics.specs.Nodes.{least_label};
+ghost use Rattle.shim_semantics.specs.Nodes.{prevailing_death};
 ghost use Rattle.shim_semantics.specs.Acts.{nothing, putting, act_here, act, act_child};
 ghost use Rattle.shim_semantics.specs.Places.{SoundBelow, branches};
 ghost use Rattle.shim_tree.specs.NodeStatus.{node, nodes, together};
 ghost use Rattle.shim_tree.specs.Beside.{place};
-ghost use Rattle.shim_tree.specs.Labels.{label_of, least_of, ThrowLeaves};
+ghost use Rattle.shim_tree.specs.Labels.{death_by, death_of, prevailing_of, ThrowLeaves};
 ghost use Rattle.shim_tree.specs.Acting.{effects_of, ActsHere, ActsAt, ActsAmong, SoundAmong, acted_on, ActsOn};
 
 use crate::effects::Effects;
@@ -110,7 +110,7 @@ fn act_live<L: Local>(process: &mut L, status: &mut NodeStatus<L>) -> Result<Eff
 
 // The label of which a process died of which this came, if it did.
 fn label_of<L>(status: &NodeStatus<L>) -> Option<u32>
-    ensures { (l : L) → result ≡ label_of (node l status.now) }
+    ensures { (l : L) → death_by result ≡ death_of (node l status.now) }
 {
     match status {
         NodeStatus::Dead(label) => Some(*label),
@@ -120,7 +120,7 @@ fn label_of<L>(status: &NodeStatus<L>) -> Option<u32>
 
 // The label of which the child in this place died, given what came of the children.
 fn label_at<L>(statuses: &[NodeStatus<L>], i: usize) -> Option<u32>
-    ensures { (l : L) → result ≡ label_of (place l (nodes statuses.now) i) }
+    ensures { (l : L) → death_by result ≡ death_of (place l (nodes statuses.now) i) }
 {
     if i < statuses.len() {
         label_of(&statuses[i])
@@ -131,7 +131,7 @@ fn label_at<L>(statuses: &[NodeStatus<L>], i: usize) -> Option<u32>
 
 // The lesser of two labels, of which each may be missing.
 fn lesser(one: Option<u32>, other: Option<u32>) -> Option<u32>
-    ensures { result ≡ least_of one other }
+    ensures { death_by result ≡ prevailing_of (death_by one) (death_by other) }
 {
     match one {
         None => other,
@@ -142,9 +142,9 @@ fn lesser(one: Option<u32>, other: Option<u32>) -> Option<u32>
     }
 }
 
-// The least label of which one of these children died, if one did.
-fn least_label<L>(children: &[L], statuses: &[NodeStatus<L>]) -> Option<u32>
-    ensures { result ≡ least_label (together children.now (nodes statuses.now)) }
+// The label of the prevailing death among these children, if one died.
+fn prevailing_label<L>(children: &[L], statuses: &[NodeStatus<L>]) -> Option<u32>
+    ensures { death_by result ≡ prevailing_death (together children.now (nodes statuses.now)) }
 {
     let mut least = None;
     for i in 0..children.len() {
@@ -154,13 +154,13 @@ fn least_label<L>(children: &[L], statuses: &[NodeStatus<L>]) -> Option<u32>
 }
 
 // The process takes back the values of its children, each of which has ended or died. The answer is
-// the least label of which one died, which is then to be thrown where the process still stands.
+// the label of the prevailing death, which is then to be thrown where the process still stands.
 fn take_back<L: Local>(process: &mut L, children: &[L], statuses: &[NodeStatus<L>]) -> Option<u32>
     requires { L.ops.born process.old children.now }
-    ensures label { result ≡ least_label (together children.now (nodes statuses.now)) }
+    ensures label { death_by result ≡ prevailing_death (together children.now (nodes statuses.now)) }
     ensures joined { process.new ≡ L.ops.join process.old children.now (is_none result) }
 {
-    let label = least_label(children, statuses);
+    let label = prevailing_label(children, statuses);
     process.join(children, label.is_none());
     label
 }

@@ -3,7 +3,7 @@ ghost use Rattle.std.specs.Prelude.{◌≡◌, ◌≢◌, None, Some, OnOk};
 ghost use Rattle.std.specs.Option.{option_copied};
 ghost use Rattle.shim_local.specs.Process.{AtFork};
 ghost use Rattle.shim_local.specs.Laws.{AllOf};
-ghost use Rattle.shim_semantics.specs.Places.{at, branches, led_to};
+ghost use Rattle.shim_semantics.specs.Places.{led_to};
 ghost use Rattle.shim_tree.specs.NodeStatus.{node};
 ghost use Rattle.shim_tree.specs.Acting.{acted_on};
 ghost use Rattle.shim_tree.specs.Advancing.{stepped, HasCount, KeepsCounts};
@@ -12,50 +12,9 @@ ghost use Rattle.shim_tree.specs.ChildCounts.{live_in, children_of, ChildCountsR
 use crate::counts::Counts;
 use crate::fill::behind;
 use crate::node_status::NodeStatus;
+use crate::standing::live_at;
 use shim_base::{NoMemory, Path};
 use shim_local::{Forked, Local, Stop};
-
-// The process, if it lives.
-fn live_here<'a, L: Local>(process: &'a L, status: &NodeStatus<L>) -> Option<&'a L>
-    ensures { option_copied result ≡ live_in (Some (node process.now status.now)) }
-{
-    match status {
-        NodeStatus::Live => Some(process),
-        NodeStatus::Ended => None,
-        NodeStatus::Dead(_) => None,
-        NodeStatus::Forked(_, _) => None,
-    }
-}
-
-// The live process to which these pairs of a path lead from here, if there is one.
-fn live_at<'a, L: Local>(
-    process: &'a L,
-    status: &'a NodeStatus<L>,
-    pairs: &[(u32, u32)],
-) -> Option<&'a L>
-    ensures { option_copied result ≡ live_in (at (branches pairs.now) (node process.now status.now)) }
-{
-    let Some((first, rest)) = pairs.split_first() else {
-        return live_here(process, status);
-    };
-    match status {
-        NodeStatus::Live | NodeStatus::Ended | NodeStatus::Dead(_) => None,
-        NodeStatus::Forked(children, statuses) => {
-            let place = first.1 as usize;
-            if place >= children.len() {
-                return None;
-            }
-            let child = &children[place];
-            if place < statuses.len() {
-                live_at(child, &statuses[place], rest)
-            } else if rest.is_empty() {
-                Some(child)
-            } else {
-                None
-            }
-        }
-    }
-}
 
 // The process of this path, if it lives.
 fn live_on<'a, L: Local>(root: &'a L, status: &'a NodeStatus<L>, path: &Path) -> Option<&'a L>

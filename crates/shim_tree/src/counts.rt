@@ -24,7 +24,7 @@ impl Model for Counts {
     ghost use Rattle.std.specs.FinMap as finite;
     ghost use Rattle.std.specs.Prelude.{ℕ};
     ghost use Rattle.shim_base.specs.Paths.{path_order};
-    ghost use Rattle.shim_semantics.specs.Codes.{counts_code};
+    ghost use Rattle.shim_semantics.proofs.Codes.{counts_code};
     ghost use Rattle.shim_tree.specs.Maps.{counts_of};
 
     ghost Value = { finite.FinMap path_order ℕ };

@@ -24,7 +24,7 @@ impl Model for Histories {
     ghost use Rattle.std.specs.FinMap as finite;
     ghost use Rattle.shim_base.specs.Paths.{channel_order};
     ghost use Rattle.shim_semantics.specs.Trees.{Met};
-    ghost use Rattle.shim_semantics.specs.Codes.{histories_code};
+    ghost use Rattle.shim_semantics.proofs.Codes.{histories_code};
     ghost use Rattle.shim_tree.specs.Maps.{histories_of, AllHaveValues};
 
     ghost Value = { finite.FinMap channel_order Met };

@@ -20,9 +20,12 @@ mod reading;
 mod ready;
 mod receive;
 mod seek;
+mod standing;
 mod tree;
 mod waits;
 
 pub use event::Event;
-pub use shim_semantics::laws;
 pub use tree::Tree;
+
+/// What is proved of trees, their events, and every order of these, whatever the processes are.
+pub mod laws;

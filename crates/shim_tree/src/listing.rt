@@ -5,7 +5,8 @@ ghost use Rattle.shim_semantics.specs.Nodes.{Forked, all_done};
 ghost use Rattle.shim_tree.specs.NodeStatus.{node, nodes, together, event_of};
 ghost use Rattle.shim_tree.specs.Beside.{place};
 ghost use Rattle.shim_semantics.specs.Trees as trees;
-ghost use Rattle.shim_semantics.specs.Walks.{as_list, own_events, here, waited, poisons_of, walk, inserted, all_inserted};
+ghost use Rattle.shim_semantics.specs.Walks.{as_list, own_events, here, waited, poisons_of, walk};
+ghost use Rattle.shim_tree.specs.Inserted.{inserted, all_inserted};
 ghost use Rattle.shim_tree.specs.Searching.{passes, channels, found_list};
 
 use crate::event::Event;

@@ -22,7 +22,7 @@ impl Model for Logs {
     ghost use Rattle.std.specs.Prelude.{List};
     ghost use Rattle.shim_base.specs.Paths.{path_order};
     ghost use Rattle.shim_local.specs.declared.LogWhat.{LogWhat};
-    ghost use Rattle.shim_semantics.specs.Codes.{logs_code};
+    ghost use Rattle.shim_semantics.proofs.Codes.{logs_code};
     ghost use Rattle.shim_tree.specs.Maps.{logs_in};
 
     ghost Value = { finite.FinMap path_order (List LogWhat) };

@@ -3,6 +3,7 @@
 ghost use Rattle.std.specs.Prelude.{◌≡◌, ◌≢◌, ◌<◌, true, Some, None, OnOk, OnErr, length};
 ghost use Rattle.shim_tree.specs.NodeStatus.{node, nodes, together};
 ghost use Rattle.shim_tree.specs.Filled.{is_filled};
+ghost use Rattle.shim_semantics.specs.Nodes.{death};
 ghost use Rattle.shim_semantics.specs.Poison.{poisoned, one_poisoned, poison_here};
 ghost use Rattle.shim_tree.specs.Poisoning.{poison_by, poison_among};
 ghost use Rattle.shim_semantics.specs.Trees.{poisons};
@@ -16,7 +17,7 @@ use shim_local::Local;
 // a status, it takes no memory.
 fn poison_filled<L: Local>(process: &L, status: &mut NodeStatus<L>, chan: &Chan, label: u32)
     requires filled { is_filled status.old ≡ true }
-    ensures { node process.now status.new ≡ poisoned L.ops chan.now.channel label (node process.now status.old) }
+    ensures { node process.now status.new ≡ poisoned L.ops chan.now.channel (death label) (node process.now status.old) }
 {
     match status {
         NodeStatus::Live => {
@@ -41,7 +42,7 @@ fn poison_below<L: Local>(
     chan: &Chan,
     label: u32,
 ) -> Result<(), NoMemory>
-    ensures ok { OnOk result (node process.now status.new ≡ poisoned L.ops chan.now.channel label (node process.now status.old)) }
+    ensures ok { OnOk result (node process.now status.new ≡ poisoned L.ops chan.now.channel (death label) (node process.now status.old)) }
     ensures err { OnErr result (node process.now status.new ≡ node process.now status.old) }
 {
     fill_below(status)?;
@@ -59,7 +60,7 @@ fn poison_child<L: Local>(
     label: u32,
 ) -> Result<(), NoMemory>
     requires there { place < length processes.old.items }
-    ensures ok { OnOk result (together processes.new.items (nodes statuses.new.items) ≡ one_poisoned L.ops chan.now.channel label place (together processes.old.items (nodes statuses.old.items))) }
+    ensures ok { OnOk result (together processes.new.items (nodes statuses.new.items) ≡ one_poisoned L.ops chan.now.channel (death label) place (together processes.old.items (nodes statuses.old.items))) }
     ensures err { OnErr result (together processes.new.items (nodes statuses.new.items) ≡ together processes.old.items (nodes statuses.old.items)) }
 {
     // takes memory, so it comes before anything has changed

@@ -4,7 +4,7 @@ ghost use Rattle.shim_local.specs.declared.Outcome.TheVariants.{Spent};
 ghost use Rattle.shim_tree.specs.NodeStatus.{node};
 ghost use Rattle.shim_semantics.specs.Nodes.{next_of};
 ghost use Rattle.shim_semantics.specs.Endings as endings;
-ghost use Rattle.shim_tree.specs.Readings.{outcome_of_label, with_waits};
+ghost use Rattle.shim_tree.specs.Readings.{with_waits};
 ghost use Rattle.shim_tree.specs.Telling.{logged};
 ghost use Rattle.std.specs.FinMap as finite;
 
@@ -39,7 +39,7 @@ fn outcome_of_root<L>(status: &NodeStatus<L>) -> Outcome
 
 // What came of a process that died of an exception with this label; 0 is a trap's.
 fn outcome_of_label(label: u32) -> Outcome
-    ensures { result ≡ outcome_of_label label }
+    ensures { result ≡ endings.outcome_of_label label }
 {
     if label == 0 {
         Outcome::Trapped

@@ -11,7 +11,7 @@ ghost use Rattle.shim_tree.specs.NodeStatus.{event_of};
 ghost use Rattle.shim_semantics.specs.Nodes.{source, value_of};
 ghost use Rattle.shim_semantics.specs.Places.{led_to, has_path};
 ghost use Rattle.shim_tree.specs.Acting.{acted_on};
-ghost use Rattle.shim_semantics.specs.Quiets.{quiet_at, ComesBy, Advances};
+ghost use Rattle.shim_semantics.specs.Quiets.{quiet_at, StandsQuiet, ComesBy, Advances};
 ghost use Rattle.shim_local.specs.declared.Outcome.TheVariants.{Spent};
 ghost use Rattle.std.specs.FinMap as finite;
 
@@ -27,6 +27,7 @@ use crate::quiet::quiet_from;
 use crate::reading::{logs_by_path, outcome_of, waits_of};
 use crate::receive::{name_met, receive_at, value_met};
 use crate::seek::{found_first, is_quiescent};
+use crate::standing::{live_of, stands_quiet};
 use shim_base::{Chan, List, NoMemory, Path};
 use shim_local::{Ended, Local, Log};
 use std::alloc::Global;
@@ -49,7 +50,7 @@ pub struct Tree<L: Local> {
 
 impl<L: Local> Model for Tree<L> {
     ghost use Rattle.shim_semantics.specs.Trees as trees;
-    ghost use Rattle.shim_semantics.specs.Codes.{tree_code};
+    ghost use Rattle.shim_semantics.proofs.Codes.{tree_code};
     ghost use Rattle.shim_tree.specs.NodeStatus.{node};
     ghost use Rattle.shim_semantics.specs.Sound.{IsSound};
     ghost use Rattle.shim_tree.specs.Advancing.{stepped, AllHaveCounts};
@@ -135,8 +136,18 @@ impl<L: Local> Tree<L> {
         quiet_from(&self.root, &self.status, at)
     }
 
-    /// So many quiet steps of one process happen at once; this is its state after them. It takes no
-    /// memory.
+    /// Whether the process of this path lives and stands before a quiet step. It takes no memory.
+    pub fn is_before_quiet(&self, path: &Path) -> bool
+        ensures { IsTrue result ↔ StandsQuiet L.ops self.now path.now }
+    {
+        match live_of(&self.root, &self.status, path) {
+            Some(process) => stands_quiet(process),
+            None => false,
+        }
+    }
+
+    /// So many quiet steps of one process happen at once; this is its state after them. With the steps so
+    /// far they come to 4,000,000 at most. It takes no memory.
     pub fn advance(&mut self, last: L, steps: u64)
         requires comes { ComesBy L.ops self.old steps last }
         requires few { trees.steps self.old + steps ≤ 4000000 }

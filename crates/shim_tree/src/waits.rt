@@ -19,7 +19,8 @@ pub(crate) struct Waits {
 impl Model for Waits {
     ghost use Rattle.std.specs.FinMap as finite;
     ghost use Rattle.shim_base.specs.Paths.{NamedChannel, path_order};
-    ghost use Rattle.shim_tree.specs.Maps.{waits_code, waits_in};
+    ghost use Rattle.shim_tree.specs.Maps.{waits_in};
+    ghost use Rattle.shim_semantics.proofs.Codes.{waits_code};
 
     ghost Value = { finite.FinMap path_order NamedChannel };
 

@@ -1,5 +1,5 @@
 -- A call, step by step.
-use Rattle.std.proofs.Common.{◌≡◌, ℕ, ◌+◌, Bool, false, List, [], ◌∷◌, ◌++◌, map, length, Option, refl, sym, ap, subst, ◌∙◌, slice_get}
+use Rattle.std.proofs.Common.{◌≡◌, ℕ, ◌+◌, Bool, false, List, [], ◌∷◌, ◌++◌, map, length, Option, sym, ap, subst, ◌∙◌, slice_get}
 use Rattle.std.proofs.lemmas.List.{length-map}
 use Rattle.shim_base.specs.Paths.{Path, NamedChannel}
 use Rattle.shim_units.specs.declared.form.Form.{Form}
@@ -9,66 +9,49 @@ use Rattle.shim_walk.specs.declared.entry.Entry.{Entry}
 use Rattle.shim_walk_frames.specs.declared.cursor.Cursor.{Cursor}
 use Rattle.shim_walk.specs.States.{state_of}
 use Rattle.shim_units.specs.declared.unit.Unit.{Unit as UnitOf}
-use Rattle.shim_process.specs.LocalState.{LocalState, Frame, unit_or, unit_at}
-use Rattle.shim_process.specs.Arguments.{Argument, call_slots, declared_slots}
+use Rattle.shim_process.specs.LocalState.{LocalState, unit_or, unit_at}
+use Rattle.shim_process.specs.Arguments.{Argument, entered, call_slots, declared_slots}
 use Rattle.shim_process.specs.Ends.{settled}
-use Rattle.shim_process.specs.Steps.{called}
+use Rattle.shim_process.specs.Steps.{pushed, called}
 use Rattle.shim_walk_frames.specs.FrameViews.{FrameView, place_of}
-use Rattle.shim_walk_frames.specs.Depths.{shown, text, returned}
-use Rattle.shim_walk.specs.Entries.{enter_of, inside_of, IsEntry}
+use Rattle.shim_walk_frames.specs.Depths.{shown, text}
+use Rattle.shim_walk.specs.Entries.{IsEntry}
 use Rattle.shim_walk_frames.proofs.Goes.{left_first}
-use Rattle.shim_walk_frames.proofs.Returns.{settled_is, at_depth}
 
 pub entry_top : (units : List UnitOf) (unit floor outer : ℕ) (cursor : Cursor) (slots labels slots' labels' : List ℕ) (top : FrameView)
     → top ≡ record { unit = unit; at = 0; cursor = cursor; halfway = false; slots = slots'; labels = labels'; floor = floor; outer = outer; places = [] }
     → slots' ≡ slots → labels' ≡ labels
-    → shown units top ≡ enter_of units unit slots labels floor outer
+    → shown units top ≡ entered (unit_or (slice_get units unit)) unit slots labels floor outer
 entry_top units unit floor outer cursor slots labels slots' labels' top e f g =
     ap (shown units) e
     ∙ ap (λ k. record { unit = unit; todo = k; halfway = false; slots = slots'; labels = labels'; floor = floor; outer = outer; places = [] }) (left_first (text units unit))
-    ∙ ap (λ s. record { unit = unit; todo = (enter_of units unit slots labels floor outer).todo; halfway = false; slots = s; labels = labels'; floor = floor; outer = outer; places = [] }) f
-    ∙ ap (λ l. record { unit = unit; todo = (enter_of units unit slots labels floor outer).todo; halfway = false; slots = slots; labels = l; floor = floor; outer = outer; places = [] }) g
+    ∙ ap (λ s. record { unit = unit; todo = (entered (unit_or (slice_get units unit)) unit slots labels floor outer).todo; halfway = false; slots = s; labels = labels'; floor = floor; outer = outer; places = [] }) f
+    ∙ ap (λ l. record { unit = unit; todo = (entered (unit_or (slice_get units unit)) unit slots labels floor outer).todo; halfway = false; slots = slots; labels = l; floor = floor; outer = outer; places = [] }) g
 
--- what is settled says all of the units
-settled_again : (callers : List Frame) (f : Frame) (l m : LocalState) → at_depth (returned callers f l.locations) m ≡ at_depth (returned callers f l.locations) l → m.locations ≡ l.locations → settled callers f m ≡ settled callers f l
-settled_again callers f l m e h = settled_is callers f m ∙ ap (λ ls. at_depth (returned callers f ls) m) h ∙ e ∙ sym (settled_is callers f l)
-
-called_is : (unit : ℕ) (given : List Argument) (labels : List ℕ) (l : LocalState)
-    → settled (l.frame ∷ l.callers) (inside_of unit given labels l).frame (inside_of unit given labels l) ≡ called unit given labels l
-unfolding inside_of unit_at called
-called_is unit given labels l =
-    let m = inside_of unit given labels l in
-    settled_again (l.frame ∷ l.callers) m.frame (record l { locations = m.locations; made = m.made }) m refl refl
-
-callers_of : (unit : ℕ) (given : List Argument) (labels : List ℕ) (l : LocalState) → (inside_of unit given labels l).callers ≡ l.frame ∷ l.callers
-unfolding inside_of
-callers_of unit given labels l = refl
-
-pub called_by : (unit : ℕ) (given : List Argument) (labels : List ℕ) (l m : LocalState) → m ≡ inside_of unit given labels l → settled m.callers m.frame m ≡ called unit given labels l
-called_by unit given labels l m e =
-    let n = inside_of unit given labels l in
-    ap (λ (x : LocalState). settled x.callers x.frame x) e ∙ ap (λ cs. settled cs n.frame n) (callers_of unit given labels l) ∙ called_is unit given labels l
+pub called_by : (unit : ℕ) (given : List Argument) (labels : List ℕ) (l m : LocalState) → m ≡ pushed unit given labels l → settled m.callers m.frame m ≡ called unit given labels l
+unfolding called
+called_by unit given labels l m e = ap (λ (x : LocalState). settled x.callers x.frame x) e
 
 -- the unit stands there with what was made for it
-pub put_by : (path : Path) (base made forks : ℕ) (given : List NamedChannel) (top : FrameView) (callers : List FrameView) (locations : Locations) (input_at : Option ℕ) (holds_output : Bool) (trap : Option TrappedAt) (program : Form) (input : List ℕ)
+pub pushed_by : (path : Path) (base made forks : ℕ) (given : List NamedChannel) (top : FrameView) (callers : List FrameView) (locations : Locations) (input_at : Option ℕ) (holds_output : Bool) (trap : Option TrappedAt) (program : Form) (input : List ℕ)
     → (unit outer : ℕ) (args : List Argument) (labels : List ℕ) (units : List UnitOf) (known : Locations) (e : Entry) (made' : ℕ) (top' caller : FrameView) (callers' : List FrameView) (locations' : Locations)
     → IsEntry units unit path known made outer args labels e → units ≡ program.units → known ≡ locations → outer ≡ top.outer + length top.places
     → top' ≡ e.top → caller ≡ top → callers' ≡ caller ∷ callers → locations' ≡ locations ++ e.locations → made' ≡ e.made
-    → state_of path base made' forks given top' callers' locations' input_at holds_output trap program input ≡ inside_of unit args labels (state_of path base made forks given top callers locations input_at holds_output trap program input)
-unfolding inside_of
-put_by path base made forks given top callers locations input_at holds_output trap program input unit outer args labels units known e made' top' caller callers' locations' is eu ek eo et ec ecs ecl em =
+    → state_of path base made' forks given top' callers' locations' input_at holds_output trap program input ≡ pushed unit args labels (state_of path base made forks given top callers locations input_at holds_output trap program input)
+unfolding pushed unit_at
+pushed_by path base made forks given top callers locations input_at holds_output trap program input unit outer args labels units known e made' top' caller callers' locations' is eu ek eo et ec ecs ecl em =
     let l = state_of path base made forks given top callers locations input_at holds_output trap program input in
     let u = unit_or (slice_get program.units unit) in
     let places : length l.frame.places ≡ length top.places = length-map top.places (place_of (text program.units top.unit)) in
     let is' = subst (λ (us : List UnitOf). IsEntry us unit path known made outer args labels e) eu is in
     let is2 = subst (λ (ls : Locations). IsEntry program.units unit path ls made outer args labels e) ek is' in
-    let frame : shown program.units top' ≡ (inside_of unit args labels l).frame =
+    let frame : shown program.units top' ≡ (pushed unit args labels l).frame =
     ap (shown program.units) et ∙ is2.top
-    ∙ ap (λ n. enter_of program.units unit (call_slots (length locations) args (declared_slots u)) labels (length locations) n) (eo ∙ ap (λ n. top.outer + n) (sym places)) in
+    ∙ ap (λ n. entered (unit_or (slice_get program.units unit)) unit (call_slots (length locations) args (declared_slots u)) labels (length locations) n) (eo ∙ ap (λ n. top.outer + n) (sym places)) in
     let all : map (shown program.units) callers' ≡ l.frame ∷ l.callers = ap (map (shown program.units)) ecs ∙ ap (λ c. shown program.units c ∷ map (shown program.units) callers) ec in
-    let ls : locations' ≡ (inside_of unit args labels l).locations = ecl ∙ ap (λ x. locations ++ x) is2.locations_are in
-    let m : made' ≡ (inside_of unit args labels l).made = em ∙ is2.made_is in
+    let ls : locations' ≡ (pushed unit args labels l).locations = ecl ∙ ap (λ x. locations ++ x) is2.locations_are in
+    let m : made' ≡ (pushed unit args labels l).made = em ∙ is2.made_is in
     ap (λ x. record l { frame = x; callers = map (shown program.units) callers'; locations = locations'; made = made' }) frame
-    ∙ ap (λ x. record l { frame = (inside_of unit args labels l).frame; callers = x; locations = locations'; made = made' }) all
-    ∙ ap (λ x. record l { frame = (inside_of unit args labels l).frame; callers = l.frame ∷ l.callers; locations = x; made = made' }) ls
-    ∙ ap (λ x. record l { frame = (inside_of unit args labels l).frame; callers = l.frame ∷ l.callers; locations = (inside_of unit args labels l).locations; made = x }) m
+    ∙ ap (λ x. record l { frame = (pushed unit args labels l).frame; callers = x; locations = locations'; made = made' }) all
+    ∙ ap (λ x. record l { frame = (pushed unit args labels l).frame; callers = l.frame ∷ l.callers; locations = x; made = made' }) ls
+    ∙ ap (λ x. record l { frame = (pushed unit args labels l).frame; callers = l.frame ∷ l.callers; locations = (pushed unit args labels l).locations; made = x }) m

@@ -8,11 +8,12 @@ use Rattle.shim_units.specs.declared.unit.Arg.{Arg}
 use Rattle.shim_process.specs.Locations.{Locations}
 use Rattle.shim_process.specs.LocalState.{LocalState, unit_or, unit_at, is_full, trapped}
 use Rattle.shim_process.specs.Steps.{line_of}
-use Rattle.shim_process.specs.Forks.{Parted, Trapped as TrappedFork, fork, all_lending, lending, takes_input, takes_output, parent, is_far, item_branches, lent, joined, all_back, input_back, output_back}
+use Rattle.shim_local.specs.Process.{Parted, Trapped as TrappedFork}
+use Rattle.shim_process.specs.Forks.{fork, parted, all_lending, lending, takes_input, takes_output, parent, is_far, item_branches, lent, joined, all_back, input_back, output_back}
 use Rattle.shim_walk.specs.declared.process.ForkedProcess.TheVariants.{Children, Trapped}
 use Rattle.shim_locations.specs.declared.remainder.Remainder.{Remainder}
 use Rattle.shim_locations.specs.Lendings.{lent_at, remainder_of}
-use Rattle.shim_walk.specs.ChildrenMade.{children_made, parted}
+use Rattle.shim_walk.specs.ChildrenMade.{children_made}
 use Rattle.shim_walk.specs.ForkResults.{Comes}
 use Rattle.shim_walk.proofs.MadeChildren.{parts}
 

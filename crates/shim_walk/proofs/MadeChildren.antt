@@ -1,27 +1,21 @@
 -- New processes, and the children of a fork.
-use Rattle.std.proofs.Common.{◌≡◌, ℕ, suc, ◌+◌, ◌<◌, Bool, true, false, ◌&&◌, ◌≤◌, List, [], ◌∷◌, ◌++◌, map, length, drop, drop-cons, get_or, Option, Some, None, Result, Ok, Err, refl, sym, ap, ◌∙◌, append_assoc, append-nil, arith, if◌then◌else◌, slice_get, ⊎_elim}
-use Rattle.std.proofs.lemmas.Bool.{cases_lt}
+use Rattle.std.proofs.Common.{◌≡◌, ℕ, suc, ◌+◌, ◌<◌, Bool, true, false, ◌&&◌, ◌≤◌, List, [], ◌∷◌, ◌++◌, map, length, drop, drop-cons, get_or, Option, Some, None, Result, Ok, Err, refl, sym, ap, ◌∙◌, append_assoc, append-nil, arith, if◌then◌else◌, slice_get}
 use Rattle.std.proofs.lemmas.List.{drop_all}
 use Rattle.shim_base.specs.declared.operators.Trap.{Trap}
 use Rattle.shim_base.specs.Paths.{Path, NamedChannel}
 use Rattle.shim_units.specs.declared.form.Form.{Form}
 use Rattle.shim_units.specs.declared.unit.UBranch.{UBranch}
-use Rattle.shim_units.specs.declared.unit.UStmt.{UStmt}
 use Rattle.shim_process.specs.Locations.{Locations}
-use Rattle.shim_process.specs.LocalState.{LocalState, unit_or, unit_at, handlers, label_of}
-use Rattle.shim_process.specs.Arguments.{Argument, on_value, arguments, numbers_from, passed_labels, branch_locations, channels_of, new_channels, empties, declared_slots}
-use Rattle.shim_process.specs.Forks.{root, child, lending, all_lending, children_from, all_arguments, fork_result, fork, item_branches, takes_input, takes_output, labels_from}
-use Rattle.shim_walk_frames.specs.declared.successors.Successor.TheVariants.{On}
+use Rattle.shim_process.specs.LocalState.{LocalState, unit_or, unit_at, handlers}
+use Rattle.shim_process.specs.StatementViews.{statement_view, label_of, passed_labels}
+use Rattle.shim_process.specs.Arguments.{Argument, on_value, arguments, entered, numbers_from, branch_locations, channels_of, new_channels, empties, declared_slots}
+use Rattle.shim_process.specs.Forks.{root, child, lending, all_lending, children_from, all_arguments, parted, fork_result, fork, item_branches, takes_input, takes_output, labels_from}
 use Rattle.shim_walk_frames.specs.FrameViews.{FrameView}
 use Rattle.shim_locations.specs.declared.remainder.Remainder.{Remainder}
 use Rattle.shim_walk_frames.specs.Depths.{shown}
-use Rattle.shim_walk.specs.Entries.{enter_of}
 use Rattle.shim_walk.specs.States.{state_of}
-use Rattle.shim_walk_frames.specs.Successors.{size_all}
-use Rattle.shim_walk_frames.specs.Pieces.{left_all, at_all}
 use Rattle.shim_locations.specs.Lendings.{remainder_of}
-use Rattle.shim_walk.specs.ChildrenMade.{children_made, behind, parted, branches_of}
-use Rattle.shim_walk_frames.proofs.Goes.{goes_at, ends, none_at}
+use Rattle.shim_walk.specs.ChildrenMade.{children_made, behind}
 
 pub same_state : (l m : LocalState) → l.path ≡ m.path → l.base ≡ m.base → l.made ≡ m.made → l.forks ≡ m.forks → l.given ≡ m.given → l.frame ≡ m.frame → l.callers ≡ m.callers → l.locations ≡ m.locations
     → l.input_at ≡ m.input_at → l.holds_output ≡ m.holds_output → l.trap ≡ m.trap → l.program ≡ m.program → l.input ≡ m.input → l ≡ m
@@ -43,7 +37,7 @@ same_state l m e1 e2 e3 e4 e5 e6 e7 e8 e9 e10 e11 e12 e13 =
 -- what `main` begins with
 pub root_by : (program : Form) (input : List ℕ) (home : Path) (base : ℕ) (given : List NamedChannel) (top : FrameView) (callers : List FrameView) (locations : Locations) (input_at : Option ℕ) (output : Bool)
     → home ≡ [] → base ≡ 1 + length program.main_throws → given ≡ []
-    → shown program.units top ≡ enter_of program.units program.main (numbers_from 0 (unit_or (slice_get program.units program.main)).slots) (labels_from 1 program.main_throws) 0 0
+    → shown program.units top ≡ entered (unit_or (slice_get program.units program.main)) program.main (numbers_from 0 (unit_or (slice_get program.units program.main)).slots) (labels_from 1 program.main_throws) 0 0
     → callers ≡ [] → locations ≡ empties (unit_or (slice_get program.units program.main)).slots
     → input_at ≡ (if takes_input (unit_or (slice_get program.units program.main)).params then Some 0 else None)
     → output ≡ takes_output (unit_or (slice_get program.units program.main)).params
@@ -57,7 +51,7 @@ pub child_by : (l : LocalState) (i : ℕ) (b : UBranch) (args : List Argument) (
     → program ≡ l.program → input ≡ l.input
     → home ≡ l.path ++ (l.forks, i) ∷ [] → base ≡ handlers l → made ≡ new_channels args
     → passed ≡ branch_locations home l.locations 0 args → given ≡ channels_of passed
-    → shown l.program.units top ≡ enter_of l.program.units b.call.unit (numbers_from 0 (unit_or (slice_get l.program.units b.call.unit)).slots) (passed_labels l b.call.throws) 0 0
+    → shown l.program.units top ≡ entered (unit_or (slice_get l.program.units b.call.unit)) b.call.unit (numbers_from 0 (unit_or (slice_get l.program.units b.call.unit)).slots) (passed_labels (statement_view l) b.call.throws) 0 0
     → callers ≡ [] → locations ≡ passed ++ empties (declared_slots (unit_or (slice_get l.program.units b.call.unit)))
     → input_at ≡ (if takes_input (unit_or (slice_get l.program.units b.call.unit)).params then l.input_at else None)
     → output ≡ (if takes_output (unit_or (slice_get l.program.units b.call.unit)).params then l.holds_output else false)
@@ -73,11 +67,10 @@ child_by l i b args home base made given top callers passed locations input_at o
     both_is true y = refl
     both_is false y = refl
 
--- labels don't see what is left
-pub labels_left : (l : LocalState) (remainder : Remainder) (xs : List ℕ) → passed_labels (remainder_of l remainder) xs ≡ passed_labels l xs
-unfolding label_of
+-- what is left doesn't change the labels that are passed on
+pub labels_left : (l : LocalState) (remainder : Remainder) (xs : List ℕ) → passed_labels (statement_view (remainder_of l remainder)) xs ≡ passed_labels (statement_view l) xs
 labels_left l remainder [] = refl
-labels_left l remainder (x ∷ xs) = ap (λ ns. label_of l x ∷ ns) (labels_left l remainder xs)
+labels_left l remainder (x ∷ xs) = ap (λ ns. label_of (statement_view l) x ∷ ns) (labels_left l remainder xs)
 
 -- no branch is left
 pub all_children_made : (l remainder : LocalState) (i n : ℕ) (branches : List UBranch) (children : List LocalState) (whole : Result (List LocalState) Trap) → length branches ≤ n
@@ -143,18 +136,7 @@ children_made_is l remainder i (b ∷ bs) =
     step (Ok given) (Err t) = refl
     step (Ok given) (Ok others) = refl
 
-parted_is : (l : LocalState) (branches : List UBranch) (r : Result (List (List Argument)) Trap) → parted (on_value (λ given. Ok (children_from l 0 branches given)) r) l branches ≡ fork_result r l branches
-parted_is l branches (Ok given) = refl
-parted_is l branches (Err t) = refl
-
 pub parts : (l : LocalState) (branches : List UBranch) → branches ≡ item_branches l.frame.todo → parted (children_made l l 0 branches) l branches ≡ fork l
 unfolding fork
 parts l branches e =
-    ap (λ r. parted r l branches) (children_made_is l l 0 branches) ∙ parted_is l branches (all_arguments l branches) ∙ ap (λ bs. fork_result (all_arguments l bs) l bs) e
-
-pub branches_next : (body : List UStmt) (at : ℕ) → branches_of (at_all body at) ≡ item_branches (left_all body at)
-branches_next body at =
-    ⊎_elim
-    (λ lt. let g = goes_at body at On lt in ap branches_of g.found ∙ sym (ap item_branches g.here_is))
-    (λ le. ap branches_of (none_at body at le) ∙ sym (ap item_branches (ends body at le)))
-    (cases_lt at (size_all body))
+    ap (λ r. parted r l branches) (children_made_is l l 0 branches) ∙ ap (λ bs. fork_result (all_arguments l bs) l bs) e

@@ -3,13 +3,12 @@ use Rattle.std.proofs.Common.{◌≡◌, ◌≤◌, ◌<◌, ◌+◌, ℕ, ℤ, 
 use Rattle.shim_base.specs.declared.memory.NoMemory.{NoMemory}
 use Rattle.shim_base.specs.Paths.{NamedChannel}
 use Rattle.shim_base.specs.declared.operators.Trap.{Trap}
-use Rattle.shim_local.specs.Laws.{AllOf, by_quiet, by_call, by_put, by_receive, by_unwind, by_fork, by_trap}
-use Rattle.shim_local.specs.Process as local
+use Rattle.shim_local.specs.Laws.{AllOf, by_quiet, by_call, by_put, by_receive, by_unwind, by_label, by_fork, by_trap}
+use Rattle.shim_local.specs.Process.{StopView, AtQuiet, AtNext, AtPut, AtFork, Parted, Trapped as TrappedFork}
 use Rattle.shim_process.specs.LocalState.{LocalState, handlers, trapped}
 use Rattle.shim_process.specs.Steps.{line_of, quiet}
 use Rattle.shim_process.specs.Stops.{stop, put, receive}
 use Rattle.shim_process.specs.Unwinding.{unwind}
-use Rattle.shim_process.specs.Ops.{parts, stands}
 use Rattle.shim_process.specs.Sound.{Sound}
 use Rattle.shim_locations.specs.declared.remainder.Remainder.{Remainder}
 use Rattle.shim_walk.specs.declared.process.ForkedProcess.{ForkedProcess}
@@ -18,36 +17,36 @@ use Rattle.shim_locations.specs.Lendings.{remainder_of}
 use Rattle.shim_walk.specs.ForkResults.{Comes}
 use Rattle.shim_walk.specs.WalkLaws.{walk_laws}
 
-stands_so : (l now : LocalState) (s : local.StopView) → l ≡ now → stands (stop now) ≡ s → stands (stop l) ≡ s
-stands_so l now s e at = subst (λ k. stands (stop k) ≡ s) (sym e) at
+stands_so : (l now : LocalState) (s : StopView) → l ≡ now → stop now ≡ s → stop l ≡ s
+stands_so l now s e at = subst (λ k. stop k ≡ s) (sym e) at
 
-pub step_sound : (l now m : LocalState) (r : Result (Unit {0}) NoMemory) → l ≡ now → Sound l → stands (stop now) ≡ local.AtQuiet → OnOk r (m ≡ quiet l) → OnErr r (m ≡ l) → Sound m
-step_sound l now m (Ok x) e s at ok err = walk_laws.moved_sound l m s (by_quiet (stands_so l now local.AtQuiet e at) ok)
+pub step_sound : (l now m : LocalState) (r : Result (Unit {0}) NoMemory) → l ≡ now → Sound l → stop now ≡ AtQuiet → OnOk r (m ≡ quiet l) → OnErr r (m ≡ l) → Sound m
+step_sound l now m (Ok x) e s at ok err = walk_laws.moved_sound l m s (by_quiet (stands_so l now AtQuiet e at) ok)
 step_sound l now m (Err x) e s at ok err = subst Sound (sym err) s
 
-pub put_sound : (l now m : LocalState) → l ≡ now → Sound l → stands (stop now) ≡ local.AtPut → m ≡ put l → Sound m
-put_sound l now m e s at is = walk_laws.moved_sound l m s (by_call (by_put (stands_so l now local.AtPut e at) is))
+pub put_sound : (l now m : LocalState) → l ≡ now → Sound l → stop now ≡ AtPut → m ≡ put l → Sound m
+put_sound l now m e s at is = walk_laws.moved_sound l m s (by_call (by_put (stands_so l now AtPut e at) is))
 
-pub receive_sound : (l now m : LocalState) (c : NamedChannel) (v : ℤ) → l ≡ now → Sound l → stands (stop now) ≡ local.AtNext c → m ≡ receive l v → Sound m
-receive_sound l now m c v e s at is = walk_laws.moved_sound l m s (by_call (by_receive c v (stands_so l now (local.AtNext c) e at) is))
+pub receive_sound : (l now m : LocalState) (c : NamedChannel) (v : ℤ) → l ≡ now → Sound l → stop now ≡ AtNext c → m ≡ receive l v → Sound m
+receive_sound l now m c v e s at is = walk_laws.moved_sound l m s (by_call (by_receive c v (stands_so l now (AtNext c) e at) is))
 
 pub unwind_sound : (l now m : LocalState) (label : ℕ) → l ≡ now → Sound l → now.base ≤ label → label < handlers now → m ≡ unwind l label → Sound m
 unwind_sound l now m label e s least most is =
     walk_laws.moved_sound l m s
-    (by_call (by_unwind label (subst (λ k. k.base ≤ label) (sym e) least) (subst (λ k. label < handlers k) (sym e) most) is))
+    (by_unwind (by_label label (subst (λ k. k.base ≤ label) (sym e) least) (subst (λ k. label < handlers k) (sym e) most) is))
 
-pub trap_sound : (l now m : LocalState) (o : ForkedProcess) (t : Trap) → l ≡ now → Sound l → stands (stop now) ≡ local.AtFork → o ≡ Trapped t → Comes o l → m ≡ trapped t (line_of l.frame.todo) l → Sound m
+pub trap_sound : (l now m : LocalState) (o : ForkedProcess) (t : Trap) → l ≡ now → Sound l → stop now ≡ AtFork → o ≡ Trapped t → Comes o l → m ≡ trapped t (line_of l.frame.todo) l → Sound m
 trap_sound l now m o t e s at is comes n =
-    walk_laws.moved_sound l m s (by_trap (stands_so l now local.AtFork e at) (ap parts (subst (λ o. Comes o l) is comes) ∙ ap local.Trapped (sym n)))
+    walk_laws.moved_sound l m s (by_trap (stands_so l now AtFork e at) (subst (λ o. Comes o l) is comes ∙ ap TrappedFork (sym n)))
 
-pub children_sound : (l now : LocalState) (o : ForkedProcess) (ks : List LocalState) (remainder : Remainder) → l ≡ now → Sound l → stands (stop now) ≡ local.AtFork → o ≡ Children ks remainder → Comes o l → AllOf Sound ks
+pub children_sound : (l now : LocalState) (o : ForkedProcess) (ks : List LocalState) (remainder : Remainder) → l ≡ now → Sound l → stop now ≡ AtFork → o ≡ Children ks remainder → Comes o l → AllOf Sound ks
 children_sound l now o ks remainder e s at is comes =
-    walk_laws.fork_sound l (record (remainder_of l remainder) { forks = l.forks + 1 }) ks s (stands_so l now local.AtFork e at, ap parts (subst (λ o. Comes o l) is comes))
+    walk_laws.fork_sound l (record (remainder_of l remainder) { forks = l.forks + 1 }) ks s (stands_so l now AtFork e at, subst (λ o. Comes o l) is comes)
 
-pub lend_sound : (l now m : LocalState) (o : ForkedProcess) (ks : List LocalState) (remainder : Remainder) (r : Result (Unit {0}) NoMemory) → l ≡ now → Sound l → stands (stop now) ≡ local.AtFork → o ≡ Children ks remainder → Comes o l
+pub lend_sound : (l now m : LocalState) (o : ForkedProcess) (ks : List LocalState) (remainder : Remainder) (r : Result (Unit {0}) NoMemory) → l ≡ now → Sound l → stop now ≡ AtFork → o ≡ Children ks remainder → Comes o l
     → OnOk r (m ≡ record (remainder_of l remainder) { forks = l.forks + 1 }) → OnErr r (m ≡ l) → Sound m
 lend_sound l now m o ks remainder (Ok x) e s at is comes ok err =
-    walk_laws.moved_sound l m s (by_fork ks (stands_so l now local.AtFork e at) (ap parts (subst (λ o. Comes o l) is comes) ∙ ap (λ p. local.Parted p ks) (sym ok)))
+    walk_laws.moved_sound l m s (by_fork ks (stands_so l now AtFork e at) (subst (λ o. Comes o l) is comes ∙ ap (λ p. Parted p ks) (sym ok)))
 lend_sound l now m o ks remainder (Err x) e s at is comes ok err = subst Sound (sym err) s
 
 -- one process more is a walk

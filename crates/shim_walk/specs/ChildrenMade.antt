@@ -1,14 +1,10 @@
--- The children of a fork with their arguments, one after another.
-use Rattle.std.specs.Prelude.{◌≡◌, ℕ, ◌+◌, ◌||◌, List, [], ◌∷◌, ◌++◌, Option, Some, None, Result, Ok, Err, if◌then◌else◌}
+-- The children of a fork, made one after another, each with its arguments and of what the ones before it left.
+use Rattle.std.specs.Prelude.{◌≡◌, ℕ, ◌+◌, List, [], ◌∷◌, ◌++◌, Result, Ok, Err}
 use Rattle.shim_base.specs.declared.operators.Trap.{Trap}
-use Rattle.shim_base.specs.declared.operators.Trap.TheVariants.{Depth}
 use Rattle.shim_units.specs.declared.unit.UBranch.{UBranch}
-use Rattle.shim_units.specs.declared.unit.UStmt.{UStmt}
-use Rattle.shim_units.specs.declared.unit.UWhat.{out-UWhat}
-use Rattle.shim_process.specs.LocalState.{LocalState, unit_at, is_full, trapped}
+use Rattle.shim_process.specs.LocalState.{LocalState, unit_at}
 use Rattle.shim_process.specs.Arguments.{on_value, arguments}
-use Rattle.shim_process.specs.Steps.{line_of}
-use Rattle.shim_process.specs.Forks.{Forked, Parted, Trapped, child, lending, parent, is_far, what_branches}
+use Rattle.shim_process.specs.Forks.{child, lending}
 use Rattle.shim_locations.specs.declared.argument_fault.ArgumentFault.{ArgumentFault}
 use Rattle.shim_locations.specs.declared.argument_fault.ArgumentFault.TheVariants as fault
 
@@ -28,11 +24,3 @@ abbrev pub MakesChildren : Result (List LocalState) ArgumentFault → Result (Li
 MakesChildren (Ok children) meant = meant ≡ Ok children
 MakesChildren (Err (fault.Trapped t)) meant = meant ≡ Err t
 MakesChildren (Err fault.NoMemory) meant = Unit {0}
-
-abbrev pub parted : Result (List LocalState) Trap → LocalState → List UBranch → Forked
-parted (Ok children) l branches = if is_far l || is_full l then Trapped (trapped Depth (line_of l.frame.todo) l) else Parted (parent l branches) children
-parted (Err t) l branches = Trapped (trapped t (line_of l.frame.todo) l)
-
-abbrev pub branches_of : Option UStmt → List UBranch
-branches_of None = []
-branches_of (Some s) = what_branches (out-UWhat s.what)

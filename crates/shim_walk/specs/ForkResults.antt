@@ -1,7 +1,8 @@
--- What a fork comes to.
+-- What the answer to a fork says of it: the children with what is left, or the trap.
 use Rattle.std.specs.Prelude.{◌≡◌, ◌+◌}
 use Rattle.shim_process.specs.LocalState.{LocalState, trapped}
-use Rattle.shim_process.specs.Forks.{Parted, Trapped as StandsTrapped, fork}
+use Rattle.shim_local.specs.Process.{Parted, Trapped as StandsTrapped}
+use Rattle.shim_process.specs.Forks.{fork}
 use Rattle.shim_process.specs.Steps.{line_of}
 use Rattle.shim_locations.specs.Lendings.{remainder_of}
 use Rattle.shim_walk.specs.declared.process.ForkedProcess.{ForkedProcess}

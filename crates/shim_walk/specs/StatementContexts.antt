@@ -1,24 +1,24 @@
--- What a process has for a statement, as values.
+-- What a statement sees of its process, as the code hands it on.
 use Rattle.std.specs.Prelude.{ℕ, List, map}
+use Rattle.shim_process.specs.StatementViews.{StatementView}
 use Rattle.shim_walk_frames.specs.declared.handler.Handler.{Handler}
 use Rattle.shim_walk.specs.declared.next_action.StatementContext.{StatementContext}
-use Rattle.shim_walk.specs.NextActions.{Have}
 
--- the exceptions of places in force
+-- the exceptions of these places
 abbrev pub exceptions_of : List Handler → List ℕ
-exceptions_of places = map (λ a. a.exception) places
+exceptions_of places = map (λ p. p.exception) places
 
-abbrev pub have : StatementContext → Have
-have s = record {
-  locations = s.locations.now;
-  slots = s.slots.now;
-  labels = s.labels.now;
-  handlers = exceptions_of s.places.now;
-  first = s.first;
-  units = s.units.now;
-  unit = s.unit;
-  halfway = s.halfway;
-  full = s.full;
-  deep = s.deep;
-  holds_output = s.holds_output;
+abbrev pub context_view : StatementContext → StatementView
+context_view c = record {
+  locations = c.locations.now;
+  slots = c.slots.now;
+  labels = c.labels.now;
+  exceptions = exceptions_of c.places.now;
+  first = c.first;
+  units = c.units.now;
+  unit = c.unit;
+  halfway = c.halfway;
+  full = c.full;
+  deep = c.deep;
+  holds_output = c.holds_output;
 }

@@ -1,4 +1,4 @@
--- The state of a process, from what is kept of it.
+-- The state of a process, from the fields that the code keeps of it.
 use Rattle.std.specs.Prelude.{ℕ, Bool, List, map, Option, Some, None}
 use Rattle.shim_base.specs.Paths.{Path, NamedChannel}
 use Rattle.shim_units.specs.declared.form.Form.{Form}

@@ -1,13 +1,11 @@
 // What a new process begins with.
 ghost use Rattle.std.specs.Prelude.{◌≡◌, ◌+◌, slice_get, IfOk};
-ghost use Rattle.shim_process.specs.Arguments.{numbers_from};
-ghost use Rattle.shim_process.specs.Forks.{labels_from, what_branches};
+ghost use Rattle.shim_process.specs.Arguments.{entered, numbers_from};
+ghost use Rattle.shim_process.specs.Forks.{labels_from, stmt_branches, what_branches};
 ghost use Rattle.shim_process.specs.LocalState.{unit_or};
 ghost use Rattle.std.specs.Option.{option_copied};
 ghost use Rattle.shim_units.specs.declared.unit.UWhat.{out-UWhat};
-ghost use Rattle.shim_walk.specs.ChildrenMade.{branches_of};
 ghost use Rattle.shim_walk_frames.specs.Depths.{AllFit, shown};
-ghost use Rattle.shim_walk.specs.Entries.{enter_of};
 ghost use Rattle.shim_walk_frames.specs.Cursors.{Stands};
 
 use crate::count::one_more;
@@ -28,7 +26,7 @@ pub fn first_frame(
     labels: List<u32>,
 ) -> Result<Frame, NoMemory>
     requires { AllFit units.now }
-    ensures value { IfOk result (λ top. shown units.now top ≡ enter_of units.now unit (numbers_from 0 (unit_or (slice_get units.now unit)).slots) labels 0 0) }
+    ensures value { IfOk result (λ top. shown units.now top ≡ entered (unit_or (slice_get units.now unit)) unit (numbers_from 0 (unit_or (slice_get units.now unit)).slots) labels 0 0) }
     ensures cursor { IfOk result (λ top. Stands units.now top) }
 {
     let slots = with_declared(List::new(alloc), 0, slots_of(units, unit))?;
@@ -52,7 +50,7 @@ pub fn labels_from(alloc: Global, first: u32, names: &[u32]) -> Result<List<u32>
 
 /// The branches of the fork that a statement is.
 pub fn branches_of(stmt: Option<&UStmt>) -> &[UBranch]
-    ensures { result.now ≡ branches_of (option_copied stmt.entry) }
+    ensures { result.now ≡ stmt_branches (option_copied stmt.entry) }
 {
     match stmt {
         None => &[],

@@ -1,7 +1,7 @@
 // The labels of exceptions.
 ghost use Rattle.std.specs.Prelude.{◌≡◌, ◌<◌, ◌+◌, ◌^◌, length, IfOk};
-ghost use Rattle.shim_walk.specs.NextActions.{label_for, labels_for};
-ghost use Rattle.shim_walk.specs.StatementContexts.{have};
+ghost use Rattle.shim_process.specs.StatementViews.{label_of, passed_labels};
+ghost use Rattle.shim_walk.specs.StatementContexts.{context_view};
 
 use crate::next_action::StatementContext;
 use shim_base::{List, NoMemory};
@@ -12,7 +12,7 @@ use std::alloc::Global;
 /// was given.
 pub fn label_for(context: &StatementContext<'_>, exception: u32) -> u32
     requires { context.now.first + length context.now.places.now < 2 ^ 32 }
-    ensures { result ≡ label_for (have context.now) exception }
+    ensures { result ≡ label_of (context_view context.now) exception }
 {
     let mut label = label_of(context.labels, exception);
     let mut next = context.first;
@@ -32,7 +32,7 @@ pub fn labels_for(
     throws: &[u32],
 ) -> Result<List<u32>, NoMemory>
     requires { context.now.first + length context.now.places.now < 2 ^ 32 }
-    ensures { IfOk result (λ passed. passed ≡ labels_for (have context.now) throws.now) }
+    ensures { IfOk result (λ passed. passed ≡ passed_labels (context_view context.now) throws.now) }
 {
     let mut passed = List::new(alloc);
     for exception in throws {

@@ -4,9 +4,8 @@ ghost use Rattle.shim_units.specs.declared.unit.UWhat.{out-UWhat};
 ghost use Rattle.shim_process.specs.LocalState.{unit_or, env_of};
 ghost use Rattle.shim_process.specs.Values.{value};
 ghost use Rattle.std.specs.Option.{option_copied};
-ghost use Rattle.shim_walk.specs.StatementContexts.{have};
+ghost use Rattle.shim_walk.specs.StatementContexts.{context_view};
 ghost use Rattle.shim_process.specs.Steps as step;
-ghost use Rattle.shim_walk.specs.NextActions.{action_for, action_at, call_action};
 ghost use Rattle.shim_walk.specs.Actions.{action_of};
 
 use crate::action::Action;
@@ -24,7 +23,8 @@ use shim_walk_frames::successors::Successor;
 use shim_walk_frames::text::{label_of, params_of};
 use std::alloc::Global;
 
-/// What a process has for a statement: its locations, and the slots and labels of its innermost frame.
+/// What a statement sees of its process: the locations, the slots and labels of the innermost frame, the
+/// exceptions in force, and which limits are reached.
 #[derive(Drop)]
 pub struct StatementContext<'a> {
     pub locations: &'a [Option<Location>],
@@ -56,7 +56,7 @@ fn try_name(units: &[Unit], unit: u32, exception: u32) -> u32
 
 fn enter(alloc: Global, call: &UCall, context: &StatementContext<'_>) -> Result<Action, NoMemory>
     requires { context.now.first + length context.now.places.now < 2 ^ 32 }
-    ensures { IfOk result (λ d. action_of d ≡ call_action call.now (have context.now)) }
+    ensures { IfOk result (λ d. action_of d ≡ step.call_action call.now (context_view context.now)) }
 {
     let params = params_of(context.units, call.unit);
     let given = match arguments(
@@ -84,7 +84,7 @@ fn what_action(
     context: &StatementContext<'_>,
 ) -> Result<Action, NoMemory>
     requires { context.now.first + length context.now.places.now < 2 ^ 32 }
-    ensures { IfOk result (λ d. action_of d ≡ action_for (out-UWhat stmt.now.what) (have context.now)) }
+    ensures { IfOk result (λ d. action_of d ≡ step.what_action (out-UWhat stmt.now.what) (context_view context.now)) }
 {
     let locations = context.locations;
     let slots = context.slots;
@@ -150,7 +150,7 @@ pub fn next_action(
     context: &StatementContext<'_>,
 ) -> Result<Action, NoMemory>
     requires { context.now.first + length context.now.places.now < 2 ^ 32 }
-    ensures { IfOk result (λ d. action_of d ≡ action_at (option_copied stmt.entry) (have context.now)) }
+    ensures { IfOk result (λ d. action_of d ≡ step.stmt_action (option_copied stmt.entry) (context_view context.now)) }
 {
     match stmt {
         None => Ok(Action::Wait),

@@ -1,27 +1,26 @@
 // One process as a value.
-ghost use Rattle.std.specs.Prelude.{◌≡◌, ◌≢◌, ◌<◌, ◌≤◌, ◌↔◌, ◌+◌, ◌^◌, IsTrue, false, length, ℕ, ℤ, List as ListOf, IfOk, OnOk, OnErr};
+ghost use Rattle.std.specs.Prelude.{◌≡◌, ◌≢◌, ◌<◌, ◌≤◌, ◌↔◌, ◌+◌, ◌^◌, IsTrue, false, length, ℤ, IfOk, OnOk, OnErr};
 ghost use Rattle.std.specs.Option.{option_copied};
-ghost use Rattle.shim_units.specs.declared.unit.UStmt.{UStmt};
+ghost use Rattle.shim_local.specs.Process.{AtQuiet};
+ghost use Rattle.shim_local.specs.Views.{stop_view};
 ghost use Rattle.shim_process.specs.Ends.{gone, settled};
 ghost use Rattle.shim_process.specs.Forks.{all_back, all_lending, child, fork, input_back, is_far, item_branches, join, joined, lending, output_back, root, some_or};
 ghost use Rattle.shim_process.specs.Arguments.{arguments};
-ghost use Rattle.shim_process.specs.LocalState.{handlers, is_full, trapped, unit_at};
-ghost use Rattle.shim_process.specs.Steps.{installed, called, done, half, is_deep, line_of, made_in, next_action, quiet, read_in, stored_in};
-ghost use Rattle.shim_process.specs.Stops.{AtQuiet, byte, put, put_value, receive, stop};
-ghost use Rattle.shim_process.specs.Sharers.{carries, given_at, handler, shares, channel_value};
-ghost use Rattle.shim_process.specs.Unwinding.{unwind};
+ghost use Rattle.shim_process.specs.LocalState.{handlers, is_deep, is_full, trapped, unit_at};
+ghost use Rattle.shim_process.specs.StatementViews.{statement_view};
+ghost use Rattle.shim_process.specs.Steps.{installed, called, done, half, line_of, made_in, next_action, pushed, quiet, read_in, stored_in};
+ghost use Rattle.shim_process.specs.Stops.{byte, put, put_value, receive, stop};
+ghost use Rattle.shim_process.specs.Sharers.{carries, given_at, shares, channel_value};
+ghost use Rattle.shim_process.specs.Todo.{next_stmt};
+ghost use Rattle.shim_process.specs.Unwinding.{handler, unwind};
 ghost use Rattle.shim_walk.specs.Receivers.{received};
 ghost use Rattle.shim_walk.specs.ChildrenMade.{MakesChildren, children_made};
 ghost use Rattle.shim_locations.specs.Given.{arguments_of};
 ghost use Rattle.shim_walk.specs.Actions.{action_of};
-ghost use Rattle.shim_walk.specs.Entries.{inside_of};
 ghost use Rattle.shim_locations.specs.ArgumentFaults.{Gives};
 ghost use Rattle.shim_locations.specs.Lendings.{remainder_of};
-ghost use Rattle.shim_walk.specs.Haves.{have_of};
 ghost use Rattle.shim_walk.specs.ForkResults.{Comes};
-ghost use Rattle.shim_walk_frames.specs.Pieces.{at_all, left_all};
-ghost use Rattle.shim_walk.specs.StatementContexts.{have};
-ghost use Rattle.shim_walk.specs.StopViews.{stop_view};
+ghost use Rattle.shim_walk.specs.StatementContexts.{context_view};
 ghost use Rattle.shim_walk_frames.specs.Turns.{successor_of};
 
 use crate::action::Action;
@@ -32,7 +31,7 @@ use crate::initial_frame::{branches_of, first_frame, labels_from};
 use crate::input::{next_byte, read_on};
 use crate::labels::labels_for;
 use crate::next_action::{StatementContext, next_action};
-use crate::put::{gives_at, low_bits};
+use crate::put::{low_bits, stmt_put};
 use crate::receiver::{Receiver, receiver_at};
 use crate::same_frames::{same_call_stack, same_frame};
 use crate::same_locations::same_locations;
@@ -168,9 +167,9 @@ impl Process {
         self.callers.len() >= 200
     }
 
-    // What it has for a statement.
+    // What the statement at which it stands sees.
     fn context(&self) -> StatementContext<'_>
-        ensures value { have result ≡ have_of self.now }
+        ensures value { context_view result ≡ statement_view self.now }
         ensures bound { result.first + length result.places.now < 2 ^ 32 }
     {
         StatementContext {
@@ -190,7 +189,7 @@ impl Process {
 
     // The statement at which it stands.
     fn stmt(&self) -> Option<&UStmt>
-        ensures { (body : ListOf UStmt) × (at : ℕ) × (option_copied result ≡ at_all body at) × (self.now.frame.todo ≡ left_all body at) }
+        ensures { option_copied result ≡ next_stmt self.now.frame.todo }
     {
         stmt_in(self.program.units(), &self.top)
     }
@@ -267,8 +266,13 @@ impl Process {
     }
 
     // The frame of the unit is the innermost from now on. A refusal changes nothing.
-    fn put_in(&mut self, unit: u32, given: &[Argument], labels: List<u32>) -> Result<(), NoMemory>
-        ensures ok { OnOk result (self.new ≡ inside_of unit (arguments_of given.now) labels self.old) }
+    fn push_frame(
+        &mut self,
+        unit: u32,
+        given: &[Argument],
+        labels: List<u32>,
+    ) -> Result<(), NoMemory>
+        ensures ok { OnOk result (self.new ≡ pushed unit (arguments_of given.now) labels self.old) }
         ensures err { OnErr result (self.new ≡ self.old) }
     {
         let first = self.locations.len();
@@ -321,7 +325,7 @@ impl Process {
         ensures ok { OnOk result (self.new ≡ called unit (arguments_of given.now) labels self.old) }
         ensures err { OnErr result (self.new ≡ self.old) }
     {
-        self.put_in(unit, given, labels)?;
+        self.push_frame(unit, given, labels)?;
         self.settle();
         Ok(())
     }
@@ -380,11 +384,11 @@ impl Process {
         }
     }
 
-    // The number that the `put` at which it stands gives, or the trap.
+    // The number that the `put` at which it stands puts, or the trap.
     fn put_value(&self) -> Result<i64, Trap>
         ensures { result ≡ put_value self.now }
     {
-        gives_at(self.stmt(), &self.context())
+        stmt_put(self.stmt(), &self.context())
     }
 
     /// The byte of the `put` at which it stands, which is then done. Where the expression traps, there is

@@ -1,18 +1,17 @@
-// What a `put` gives.
+// The number that a `put` puts.
 ghost use Rattle.std.specs.Prelude.{◌≡◌, Ok, Some};
 ghost use Rattle.std.specs.Option.{option_copied};
 ghost use Rattle.shim_units.specs.declared.unit.UWhat.{out-UWhat};
-ghost use Rattle.shim_process.specs.Stops.{low_bits};
-ghost use Rattle.shim_walk.specs.Puts.{gives, gives_at};
-ghost use Rattle.shim_walk.specs.StatementContexts.{have};
+ghost use Rattle.shim_process.specs.Stops.{low_bits, stmt_put, what_put};
+ghost use Rattle.shim_walk.specs.StatementContexts.{context_view};
 
 use crate::next_action::StatementContext;
 use shim_base::Trap;
 use shim_locations::value::evaluate;
 use shim_units::{UStmt, UWhat};
 
-fn what_gives(stmt: &UStmt, context: &StatementContext<'_>) -> Result<i64, Trap>
-    ensures { result ≡ gives (out-UWhat stmt.now.what) (have context.now) }
+fn what_put(stmt: &UStmt, context: &StatementContext<'_>) -> Result<i64, Trap>
+    ensures { result ≡ what_put (out-UWhat stmt.now.what) (context_view context.now) }
 {
     match &stmt.what {
         UWhat::Put(_, expr) => evaluate(expr, context.locations, context.slots),
@@ -21,12 +20,12 @@ fn what_gives(stmt: &UStmt, context: &StatementContext<'_>) -> Result<i64, Trap>
 }
 
 /// The number that is put, or the trap.
-pub fn gives_at(stmt: Option<&UStmt>, context: &StatementContext<'_>) -> Result<i64, Trap>
-    ensures { result ≡ gives_at (option_copied stmt.entry) (have context.now) }
+pub fn stmt_put(stmt: Option<&UStmt>, context: &StatementContext<'_>) -> Result<i64, Trap>
+    ensures { result ≡ stmt_put (option_copied stmt.entry) (context_view context.now) }
 {
     match stmt {
         None => Ok(0),
-        Some(stmt) => what_gives(stmt, context),
+        Some(stmt) => what_put(stmt, context),
     }
 }
 

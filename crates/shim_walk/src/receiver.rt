@@ -1,8 +1,10 @@
 // Where the value of a meeting goes.
-ghost use Rattle.std.specs.Prelude.{◌≡◌};
+ghost use Rattle.std.specs.Prelude.{◌≡◌, ℤ};
 ghost use Rattle.std.specs.Option.{option_copied};
 ghost use Rattle.shim_units.specs.declared.unit.UWhat.{out-UWhat};
-ghost use Rattle.shim_walk.specs.Receivers.{receives, receives_at};
+ghost use Rattle.shim_process.specs.LocalState.{LocalState};
+ghost use Rattle.shim_process.specs.Stops.{stmt_receive, what_receive};
+ghost use Rattle.shim_walk.specs.Receivers.{received};
 
 use shim_units::{UStmt, UWhat};
 
@@ -17,8 +19,8 @@ pub enum Receiver {
     Nothing,
 }
 
-fn what_receives(stmt: &UStmt) -> Receiver
-    ensures { result ≡ receives (out-UWhat stmt.now.what) }
+fn what_receiver(stmt: &UStmt) -> Receiver
+    ensures { (v : ℤ) (l : LocalState) → received result v l ≡ what_receive (out-UWhat stmt.now.what) v l }
 {
     match &stmt.what {
         UWhat::Next(slot) => Receiver::Whole(*slot),
@@ -30,10 +32,10 @@ fn what_receives(stmt: &UStmt) -> Receiver
 
 /// The receiver of a statement, if there is one.
 pub fn receiver_at(stmt: Option<&UStmt>) -> Receiver
-    ensures { result ≡ receives_at (option_copied stmt.entry) }
+    ensures { (v : ℤ) (l : LocalState) → received result v l ≡ stmt_receive (option_copied stmt.entry) v l }
 {
     match stmt {
         None => Receiver::Nothing,
-        Some(stmt) => what_receives(stmt),
+        Some(stmt) => what_receiver(stmt),
     }
 }

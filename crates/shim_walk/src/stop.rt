@@ -2,9 +2,11 @@
 ghost use Rattle.std.specs.Prelude.{◌≡◌, ◌<◌, ◌+◌, ◌^◌, length, if◌then◌else◌};
 ghost use Rattle.std.specs.Option.{option_copied};
 ghost use Rattle.shim_units.specs.declared.unit.UWhat.{out-UWhat};
+ghost use Rattle.shim_local.specs.Process.{AtQuiet, AtTrap};
+ghost use Rattle.shim_local.specs.Views.{stop_view};
+ghost use Rattle.shim_process.specs.LocalState.{location_of};
 ghost use Rattle.shim_process.specs.Stops as stops;
-ghost use Rattle.shim_walk.specs.StatementContexts.{have};
-ghost use Rattle.shim_walk.specs.StopViews.{next_of, stands, stands_at, stop_view};
+ghost use Rattle.shim_walk.specs.StatementContexts.{context_view};
 
 use crate::labels::label_for;
 use crate::next_action::StatementContext;
@@ -15,7 +17,7 @@ use shim_units::{UBranch, UStmt, UWhat};
 
 // At a `next` of a variable.
 fn next_of<'a>(context: &StatementContext<'a>, slot: u32) -> Stop<'a>
-    ensures { stop_view result ≡ next_of (have context.now) slot }
+    ensures { stop_view result ≡ stops.at_next (location_of context.now.locations.now context.now.slots.now slot) }
 {
     match location_at(context.locations, number_of(context.slots, slot)) {
         None => Stop::Finish,
@@ -25,7 +27,7 @@ fn next_of<'a>(context: &StatementContext<'a>, slot: u32) -> Stop<'a>
 
 // At the meeting behind an assignment, or at the assignment.
 fn meets_second<'a>(context: &StatementContext<'a>, slot: u32) -> Stop<'a>
-    ensures { stop_view result ≡ if context.now.halfway then next_of (have context.now) slot else stops.AtQuiet }
+    ensures { stop_view result ≡ if context.now.halfway then stops.at_next (location_of context.now.locations.now context.now.slots.now slot) else AtQuiet }
 {
     if context.halfway {
         next_of(context, slot)
@@ -36,7 +38,7 @@ fn meets_second<'a>(context: &StatementContext<'a>, slot: u32) -> Stop<'a>
 
 // At the meeting before an assignment, or at the assignment.
 fn meets_first<'a>(context: &StatementContext<'a>, slot: u32) -> Stop<'a>
-    ensures { stop_view result ≡ if context.now.halfway then stops.AtQuiet else next_of (have context.now) slot }
+    ensures { stop_view result ≡ if context.now.halfway then AtQuiet else stops.at_next (location_of context.now.locations.now context.now.slots.now slot) }
 {
     if context.halfway {
         Stop::Quiet
@@ -69,7 +71,7 @@ fn at_fork<'a>(branches: &[UBranch]) -> Stop<'a>
 
 fn what_stop<'a>(stmt: &UStmt, context: &StatementContext<'a>) -> Stop<'a>
     requires { context.now.first + length context.now.places.now < 2 ^ 32 }
-    ensures { stop_view result ≡ stands (out-UWhat stmt.now.what) (have context.now) }
+    ensures { stop_view result ≡ stops.what_stop (out-UWhat stmt.now.what) (context_view context.now) }
 {
     match &stmt.what {
         UWhat::Next(slot) => next_of(context, *slot),
@@ -85,7 +87,7 @@ fn what_stop<'a>(stmt: &UStmt, context: &StatementContext<'a>) -> Stop<'a>
 /// At the statement of a number, or at the end.
 pub fn stop_at<'a>(stmt: Option<&UStmt>, context: &StatementContext<'a>) -> Stop<'a>
     requires { context.now.first + length context.now.places.now < 2 ^ 32 }
-    ensures { stop_view result ≡ stands_at (option_copied stmt.entry) (have context.now) }
+    ensures { stop_view result ≡ stops.stmt_stop (option_copied stmt.entry) (context_view context.now) }
 {
     match stmt {
         None => Stop::Finish,
@@ -95,7 +97,7 @@ pub fn stop_at<'a>(stmt: Option<&UStmt>, context: &StatementContext<'a>) -> Stop
 
 /// At a trap.
 pub fn trapped<'a>(trap: TrappedAt) -> Stop<'a>
-    ensures { stop_view result ≡ stops.AtTrap trap.kind trap.line }
+    ensures { stop_view result ≡ AtTrap trap.kind trap.line }
 {
     Stop::Trapped(trap.kind, trap.line)
 }

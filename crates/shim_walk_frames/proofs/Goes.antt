@@ -3,8 +3,7 @@ use Rattle.std.proofs.Common.{◌≡◌, ℕ, ◌+◌, ◌-◌, ◌<◌, ◌≤�
 use Rattle.std.proofs.lemmas.Bool.{cases_lt}
 use Rattle.shim_units.specs.declared.unit.UStmt.{UStmt, ind-UStmt, roll-UStmt}
 use Rattle.shim_units.specs.declared.unit.UWhat.{UWhat, UWhat-F, roll-UWhat, map-UWhat, out-roll-UWhat}
-use Rattle.shim_units.specs.Numbering.{total}
-use Rattle.shim_process.specs.Todo.{Item, Do, Leave, Successor as SuccessorOf, follow, follow_what, items, items_all, items_of, whole_size}
+use Rattle.shim_process.specs.Todo.{Item, Do, Successor as SuccessorOf, follow, follow_what, items, items_all, whole_size, next_stmt}
 use Rattle.shim_units.specs.Numbering as numbering
 use Rattle.shim_process.specs.Todo as todo
 use Rattle.shim_walk_frames.specs.declared.successors.Successor.{Successor}
@@ -297,6 +296,14 @@ none_at_all (s ∷ ss) n h =
 
 pub none_at : (ss : List UStmt) (n : ℕ) → size_all ss ≤ n → at_all ss n ≡ None
 none_at = none_at_all
+
+-- the statement of a number is the next one of what is left from there on
+pub next_at : (ss : List UStmt) (n : ℕ) → at_all ss n ≡ next_stmt (left_all ss n)
+next_at ss n =
+    ⊎_elim
+    (λ lt. let g = goes_at ss n On lt in g.found ∙ sym (ap next_stmt g.here_is))
+    (λ le. none_at ss n le ∙ sym (ap next_stmt (ends ss n le)))
+    (cases_lt n (size_all ss))
 
 -- two numbers of a unit where the same is left are one
 pub one_place : (ss : List UStmt) (p q : ℕ) → p ≤ size_all ss → q ≤ size_all ss → left_all ss p ≡ left_all ss q → p ≡ q

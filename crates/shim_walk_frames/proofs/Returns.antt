@@ -3,7 +3,6 @@ use Rattle.std.proofs.Common.{◌≡◌, ℕ, zero, suc, ◌+◌, ◌<◌, ◌�
 use Rattle.shim_units.specs.declared.unit.Unit.{Unit as UnitOf}
 use Rattle.shim_units.specs.declared.unit.UStmt.{UStmt}
 use Rattle.shim_process.specs.Locations.{Locations}
-use Rattle.shim_process.specs.Todo.{Item, Do}
 use Rattle.shim_process.specs.Todo as todo
 use Rattle.shim_process.specs.LocalState.{LocalState, Frame}
 use Rattle.shim_process.specs.Ends.{went, is_over, settled, gone}

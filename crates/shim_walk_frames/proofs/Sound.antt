@@ -3,7 +3,7 @@ use Rattle.std.proofs.Common.{◌≡◌, ℕ, zero, suc, ◌+◌, ◌-◌, ◌<�
 use Rattle.std.proofs.lemmas.Bool.Decides.{nat_tests}
 use Rattle.std.proofs.lemmas.Bool.{cases_lt}
 use Rattle.shim_units.specs.declared.unit.UStmt.{UStmt}
-use Rattle.shim_process.specs.Todo.{Item, Do, Leave, Successor as SuccessorOf, follow}
+use Rattle.shim_process.specs.Todo.{Item, Do, Leave, follow}
 use Rattle.shim_process.specs.Todo as todo
 use Rattle.shim_walk_frames.specs.declared.successors.Successor.{Successor}
 use Rattle.shim_walk_frames.specs.declared.successors.Successor.TheVariants.{On, First, Second}

@@ -1,4 +1,4 @@
--- What returns change of a process: its frames and its locations.
+-- The frames and the locations of a process, which are all that a return changes, and the text in which a frame stands.
 use Rattle.std.specs.Prelude.{◌<◌, ◌^◌, ℕ, List, [], ◌∷◌, map, take, slice_get, if◌then◌else◌}
 use Rattle.shim_units.specs.declared.unit.Unit.{Unit as UnitOf}
 use Rattle.shim_units.specs.declared.unit.UStmt.{UStmt}

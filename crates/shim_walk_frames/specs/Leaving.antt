@@ -1,4 +1,4 @@
--- Unwinding, and exception places, by frames and locations.
+-- Unwinding to a handler over frames and locations alone, and the handler of an exception place.
 use Rattle.std.specs.Prelude.{ℕ, ◌-◌, nat_lt, List, [], ◌∷◌, take, Option, Some, None, slice_get, if◌then◌else◌}
 use Rattle.shim_process.specs.Locations.{Locations}
 use Rattle.shim_process.specs.LocalState.{Frame}

@@ -6,4 +6,3 @@ pub mod FrameViews
 pub mod Depths
 pub mod Cursors
 pub mod Leaving
-pub mod Lines

@@ -1,4 +1,4 @@
--- What is left to do from a number of a unit's text on.
+-- The statement of a number of a unit's text, and what is left to do from there on.
 use Rattle.std.specs.Prelude.{ℕ, zero, suc, ◌+◌, ◌-◌, nat_lt, List, [], ◌∷◌, ◌++◌, map, if◌then◌else◌, Option, Some, None}
 use Rattle.shim_units.specs.declared.unit.UStmt.{UStmt, UStmt-F, para-UStmt}
 use Rattle.shim_units.specs.declared.unit.UWhat.{UWhat, UWhat-F}

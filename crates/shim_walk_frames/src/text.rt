@@ -3,9 +3,9 @@ ghost use Rattle.std.specs.Prelude.{◌≡◌, drop, slice_get};
 ghost use Rattle.std.specs.Option.{option_copied};
 ghost use Rattle.shim_process.specs.Arguments.{declared_slots};
 ghost use Rattle.shim_process.specs.LocalState.{unit_or, number_of};
+ghost use Rattle.shim_process.specs.Steps.{stmt_line};
 ghost use Rattle.shim_walk_frames.specs.Depths.{AllFit, text};
 ghost use Rattle.shim_walk_frames.specs.Cursors.{Stands};
-ghost use Rattle.shim_walk_frames.specs.Lines.{line_at};
 ghost use Rattle.shim_walk_frames.specs.Pieces.{at_all};
 
 use crate::cursor::find_at;
@@ -36,7 +36,7 @@ pub fn stmt_in<'a>(units: &'a [Unit], top: &Frame) -> Option<&'a UStmt>
 
 /// The line of a statement.
 pub fn line_of(stmt: Option<&UStmt>) -> u32
-    ensures { result ≡ line_at (option_copied stmt.entry) }
+    ensures { result ≡ stmt_line (option_copied stmt.entry) }
 {
     match stmt {
         None => 0,

@@ -2,11 +2,13 @@ use Rattle.std.proofs.Common.{◌≡◌, ◌+◌, ℕ, zero, suc, Bool, true, fa
 use Rattle.std.specs.Prelude.{slice_get, replicate}
 use Rattle.std.specs.Option.{option_copied}
 use Rattle.shim_local.specs.Process.{Ops}
-use Rattle.shim_local.specs.Laws.{LocalLaws, QuietSteps, none_taken, one_more, by_quiet}
+use Rattle.shim_local.specs.Laws.{LocalLaws, by_quiet}
+use Rattle.shim_local.specs.Quiets.{is_quiet, QuietSteps}
+use Rattle.shim_local.proofs.Quiets.{first_quiet}
 use Rattle.shim_semantics.specs.Listing.{IsAmong}
 use Rattle.shim_semantics.specs.Nodes.{Node, Nodes, Live, Forked, Ended, Dead, no_node, node_and}
 use Rattle.shim_semantics.specs.Places.{at, child_at, at_route, SoundBelow, SoundChildren}
-use Rattle.shim_semantics.specs.Quiets.{is_quiet, quiets, all_quiets, ComesBy}
+use Rattle.shim_semantics.specs.Quiets.{quiets, all_quiets, ComesBy}
 use Rattle.shim_semantics.specs.Systems.{run, go_on}
 use Rattle.shim_semantics.specs.Trees.{Tree, Event, Own, after, steps}
 use Rattle.shim_semantics.proofs.Counting.{event_counts}
@@ -47,20 +49,20 @@ module _ {S : Type 0} (o : Ops S) where
     ]
 
   -- quiet steps leave the path
-  quiet_path : LocalLaws o → {n : ℕ} {l m : S} → o.sound l → QuietSteps o n l m → o.path m ≡ o.path l
-  quiet_path laws sound (none_taken l) = refl
-  quiet_path laws {n = suc n} {l = l} {m = m} sound (one_more stop rest) =
-      let moved = by_quiet stop refl in
-      quiet_path laws (laws.moved_sound l (o.quiet l) sound moved) rest ∙ laws.moved_path l (o.quiet l) sound moved
+  quiet_path : LocalLaws o → (n : ℕ) (l m : S) → o.sound l → QuietSteps o n l m → o.path m ≡ o.path l
+  quiet_path laws zero l m sound taken = ap o.path (sym (some_same l m taken))
+  quiet_path laws (suc n) l m sound taken =
+      let first = first_quiet o n l m taken in
+      let moved = by_quiet first.0 refl in
+      quiet_path laws n (o.quiet l) m (laws.moved_sound l (o.quiet l) sound moved) first.1 ∙ laws.moved_path l (o.quiet l) sound moved
 
   -- the process that has a number among those before a quiet step comes to what quiet steps make of it
   comes_by : LocalLaws o → (t : Tree S) (i n : ℕ) (l last : S) → SoundBelow o t.root → slice_get (quiets o t.root) i ≡ Some l → QuietSteps o n l last → ComesBy o t n last
   comes_by laws t i n l last sound got quiet =
       let w = stands t.root l sound (got_among (quiets o t.root) i l got) in
-      let same : o.path l ≡ o.path last = sym (quiet_path laws w.2 quiet) in record {
+      let same : o.path l ≡ o.path last = sym (quiet_path laws n l last w.2 quiet) in record {
         start = l;
-        stands = ap (at_route t.root) (route_of o t.root (Live l) w.0 (o.path last) sound w.1 same) ∙ w.1;
-        is_its = same;
+        stands = record { there = ap (at_route t.root) (route_of o t.root (Live l) w.0 (o.path last) sound w.1 same) ∙ w.1; is_its = same };
         steps = quiet;
       }
 

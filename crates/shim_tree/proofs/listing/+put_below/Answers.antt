@@ -1,5 +1,6 @@
 use Rattle.std.proofs.Common.{◌∙◌, ap, filter}
-use Rattle.shim_semantics.specs.Walks.{as_list, all_inserted, waited}
+use Rattle.shim_semantics.specs.Walks.{as_list, waited}
+use Rattle.shim_tree.specs.Inserted.{all_inserted}
 use Rattle.shim_tree.specs.Searching.{passes, channels}
 use Rattle.shim_tree.proofs.Beside.{inside, outside, asked_in, asked_past}
 use Rattle.shim_tree.proofs.Puts.{put_more, put_all}

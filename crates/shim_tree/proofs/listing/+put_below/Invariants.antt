@@ -1,5 +1,6 @@
 use Rattle.std.proofs.Common.{◌≡◌, filter}
-use Rattle.shim_semantics.specs.Walks.{all_inserted, all_waited}
+use Rattle.shim_semantics.specs.Walks.{all_waited}
+use Rattle.shim_tree.specs.Inserted.{all_inserted}
 use Rattle.shim_tree.specs.Searching.{passes, channels}
 use Rattle.shim_tree.proofs.Beside.{from}
 use Rattle.shim_tree.proofs.listing.+put_below.Given as goal

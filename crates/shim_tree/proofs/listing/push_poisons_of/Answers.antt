@@ -4,8 +4,10 @@ use Rattle.shim_semantics.specs.Nodes.{state}
 use Rattle.shim_tree.specs.NodeStatus.{nodes, together, event_of}
 use Rattle.shim_tree.specs.Beside.{place}
 use Rattle.shim_semantics.specs.Trees.{Poison}
-use Rattle.shim_semantics.specs.Walks.{all_inserted, poisons_here, waited}
+use Rattle.shim_semantics.specs.Walks.{poisons_here, waited}
+use Rattle.shim_tree.specs.Inserted.{all_inserted}
 use Rattle.shim_tree.specs.Searching.{channels}
+use Rattle.shim_tree.proofs.InsertedKeys.{inserted_in_order}
 use Rattle.shim_tree.proofs.Beside.{state_place}
 use Rattle.shim_tree.proofs.listing.push_poisons_of.Goals as goal
 
@@ -18,5 +20,5 @@ returns g c =
     on_ok_weaker c.push_poisons.result
     (λ e. e ∙ (ap (λ z. es ++ map (Poison z) (channels c.as_slice.result.now)) (c.path.ensures.path ∙ ap o.path (sym (state_place c.args.child.now c.args.statuses.now c.args.i)))
     ∙ (ap (λ z. es ++ map (Poison (o.path (state k))) (channels z)) c.as_slice.ensures.value
-    ∙ ap (λ z. es ++ map (Poison (o.path (state k))) z) (c.in_ok-put_at.ensures ∙ ap (λ z. all_inserted (channels z) (filter passes (waited o k))) c.new-chans.ensures.items))))
+    ∙ ap (λ z. es ++ map (Poison (o.path (state k))) z) (c.in_ok-put_at.ensures ∙ ap (λ z. all_inserted (channels z) (filter passes (waited o k))) c.new-chans.ensures.items ∙ inserted_in_order (filter passes (waited o k))))))
     c.push_poisons.ensures

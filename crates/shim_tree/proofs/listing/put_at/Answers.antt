@@ -1,6 +1,7 @@
 use Rattle.std.proofs.Common.{◌∙◌, sym, ap, filter}
 use Rattle.std.proofs.lemmas.Result.{on_ok_weaker}
-use Rattle.shim_semantics.specs.Walks.{as_list, all_inserted, waited}
+use Rattle.shim_semantics.specs.Walks.{as_list, waited}
+use Rattle.shim_tree.specs.Inserted.{all_inserted}
 use Rattle.shim_tree.specs.Searching.{passes, channels}
 use Rattle.shim_tree.proofs.Beside.{place_in, place_past}
 use Rattle.shim_tree.proofs.listing.put_at.Goals as goal

@@ -1,5 +1,5 @@
 use Rattle.std.proofs.Common.{◌∙◌, sym, ap, ◌<◌, length, arith}
-use Rattle.shim_semantics.specs.Walks.{inserted}
+use Rattle.shim_tree.specs.Inserted.{inserted}
 use Rattle.shim_tree.specs.Searching.{channels}
 use Rattle.shim_tree.proofs.Puts.{place_there}
 use Rattle.shim_tree.proofs.listing.put_in_order.Goals as goal

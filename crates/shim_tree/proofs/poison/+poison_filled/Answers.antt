@@ -1,4 +1,5 @@
 use Rattle.std.proofs.Common.{rules, ◌∙◌, arith, refl}
+use Rattle.shim_semantics.specs.Nodes.{death}
 use Rattle.shim_semantics.specs.Poison.{all_poisoned}
 use Rattle.shim_tree.specs.NodeStatus.{together, nodes}
 use Rattle.shim_tree.proofs.Fills.{noted_from, noted_all, noted_enough, noted_there, noted_here, noted_next, place_inside, place_outside}
@@ -23,7 +24,7 @@ pub loop-i-preserved : goal.loop-i-preserved
 loop-i-preserved g t c =
     let o = g.L.Local.ops in
     let ch = c.args.chan.now.channel in
-    let x = c.args.label in
+    let x = death c.args.label in
     let i = c.loop-i.i in
     let bs = c.loop-i.statuses.items in
     let h = place_inside _ c.in-Forked.processes c.len-i-end.result i (λ u. c.in-Forked.processes-is u) c.len-i-end.ensures c.loop-i-test.true in
@@ -38,7 +39,7 @@ pub returns-after-loop-i : goal.returns-after-loop-i
 returns-after-loop-i g t c =
     let o = g.L.Local.ops in
     let ch = c.args.chan.now.channel in
-    let x = c.args.label in
+    let x = death c.args.label in
     let k = let d = c.loop-i-test.false in place_outside _ c.in-Forked.processes c.len-i-end.result c.loop-i.i (λ u. c.in-Forked.processes-is u) c.len-i-end.ensures (omega (arith, d)) in
     poisoned_fork o ch x c.loop-i.i c.args.process.now c.args.status.now c.in-Forked.processes _ c.in-Forked.statuses c.loop-i.statuses c.in-Forked.is k
     (c.loop-i.invariant.3 ∙ λ u. all_poisoned o ch x (together (c.in-Forked.processes-is u).items (nodes (c.in-Forked.statuses-is u).items)))

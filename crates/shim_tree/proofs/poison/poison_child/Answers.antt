@@ -1,5 +1,6 @@
 use Rattle.std.proofs.Common.{◌∙◌, ◌<◌, ap, arith, length}
 use Rattle.std.proofs.lemmas.Result.{on_ok_weaker, on_err_weaker}
+use Rattle.shim_semantics.specs.Nodes.{death}
 use Rattle.shim_semantics.specs.Poison.{one_poisoned}
 use Rattle.shim_tree.proofs.Fills.{same_place}
 use Rattle.shim_tree.proofs.Poisonings.{one_there}
@@ -26,8 +27,8 @@ returns-clause-ok g c =
     let there = c.requires.there in
     let effects : i < length bs.items = let long = c.in_ok-fill_to.ensures.ok in let e = c.len.ensures in let j = ls.ok.0 in let k = bs.ok.0 in omega (arith, there, long, e, j, k) in
     on_ok_weaker c.poison_below.result
-    (λ n. one_there o ch c.args.label i ls.items bs.items c.index.result.now c.index_mut.result.now c.poison_below.new.status there effects c.index.ensures c.index_mut.ensures.value n
-    ∙ ap (one_poisoned o ch c.args.label i) (c.in_ok-fill_to.ensures.same ls.items))
+    (λ n. one_there o ch (death c.args.label) i ls.items bs.items c.index.result.now c.index_mut.result.now c.poison_below.new.status there effects c.index.ensures c.index_mut.ensures.value n
+    ∙ ap (one_poisoned o ch (death c.args.label) i) (c.in_ok-fill_to.ensures.same ls.items))
     c.poison_below.ensures.ok
 
 pub returns-clause-err : goal.returns-clause-err

@@ -1,6 +1,7 @@
 use Rattle.std.proofs.Common.{◌-◌, ◌∙◌, ap, arith}
 use Rattle.std.proofs.lemmas.Result.{on_ok_weaker, on_err_weaker}
 use Rattle.shim_tree.specs.NodeStatus.{together, nodes}
+use Rattle.shim_semantics.specs.Nodes.{death}
 use Rattle.shim_semantics.specs.Poison.{one_poisoned}
 use Rattle.shim_tree.proofs.Fills.{same_fork, place_same}
 use Rattle.shim_tree.proofs.Poisonings.{poisons_here, poison_done}
@@ -29,7 +30,7 @@ returns-in-Forked-clause-ok g c =
     let p = poisons_here o ch l b i c.in-Forked.processes c.in-Forked.statuses c.in-Forked.is c.requires.enabled in
     on_ok_weaker c.poison_child.result
     (λ h. poison_done o ch l b i x c.in-Forked.processes _ c.in-Forked.statuses _ p (ap (λ z. z - 1) c.handlers-label.ensures)
-    (h ∙ λ u. one_poisoned o ch x i (together (c.in-Forked.processes-is u).items (nodes (c.in-Forked.statuses-is u).items))))
+    (h ∙ λ u. one_poisoned o ch (death x) i (together (c.in-Forked.processes-is u).items (nodes (c.in-Forked.statuses-is u).items))))
     c.poison_child.ensures.ok
 
 pub returns-in-Forked-clause-err : goal.returns-in-Forked-clause-err

@@ -3,17 +3,14 @@ use Rattle.std.specs.Arc.{arc_value}
 use Rattle.shim_units.specs.declared.form.Form.{Form}
 use Rattle.shim_units.specs.declared.unit.Unit.{Unit as UnitOf}
 use Rattle.shim_process.specs.LocalState.{LocalState, unit_or, handlers}
-use Rattle.shim_process.specs.Arguments.{branch_locations, channels_of, declared_slots, empties, numbers_from}
+use Rattle.shim_process.specs.StatementViews.{statement_view, passed_labels}
+use Rattle.shim_process.specs.Arguments.{branch_locations, channels_of, declared_slots, empties, entered, numbers_from}
 use Rattle.shim_process.specs.Forks.{child, takes_input, takes_output}
-use Rattle.shim_walk.specs.NextActions.{labels_for}
 use Rattle.shim_locations.specs.Given.{arguments_of}
 use Rattle.shim_walk_frames.specs.Depths.{shown}
-use Rattle.shim_walk.specs.Entries.{enter_of}
 use Rattle.shim_locations.specs.Lendings.{remainder_of, lent_at}
-use Rattle.shim_walk.specs.Haves.{have_of}
 use Rattle.shim_walk.specs.contracts.process.Process.{the_view}
 use Rattle.shim_walk.proofs.MadeChildren.{child_by, labels_left}
-use Rattle.shim_walk.proofs.Labelling.{labels_are}
 use Rattle.shim_walk.proofs.process.Process.child.Goals as goal
 
 pub returns : goal.returns
@@ -29,10 +26,10 @@ returns c =
     let e_path = c.in_ok-path.ensures.ok ∙ c.in_ok-child.ensures ∙ ap (λ p. p ++ (i.forks, c.args.place) ∷ []) c.deref-2.ensures in
     let e_base = c.handlers-base.ensures ∙ ap handlers (sym c.self.view_is) in
     let e_passed = c.in_ok-passed.ensures.0 ∙ ap (λ x. branch_locations path (lent_at c.as_slice-2.result.now x) 0 args) c.as_slice.ensures ∙ ap (λ t. branch_locations path (lent_at t i.locations) 0 args) c.as_slice-2.ensures in
-    let e_labels = c.in_ok-labels.ensures ∙ ap (λ h. labels_for h c.as_slice-4.result.now) (c.context.ensures.value ∙ ap have_of (sym c.self.view_is)) ∙ ap (labels_for (have_of l)) c.as_slice-4.ensures ∙ labels_are l b.call.throws ∙ sym (labels_left l remainder b.call.throws) in
+    let e_labels = c.in_ok-labels.ensures ∙ ap (λ s. passed_labels s c.as_slice-4.result.now) (c.context.ensures.value ∙ ap statement_view (sym c.self.view_is)) ∙ ap (passed_labels (statement_view l)) c.as_slice-4.ensures ∙ sym (labels_left l remainder b.call.throws) in
     let e_top =
-    subst (λ (us : List UnitOf). shown us c.in_ok-top.top ≡ enter_of us n (numbers_from 0 (unit_or (slice_get us n)).slots) c.in_ok-labels.labels 0 0) u c.in_ok-top.ensures.value
-    ∙ ap (λ x. enter_of i.program.units n (numbers_from 0 (unit_or (slice_get i.program.units n)).slots) x 0 0) e_labels in
+    subst (λ (us : List UnitOf). shown us c.in_ok-top.top ≡ entered (unit_or (slice_get us n)) n (numbers_from 0 (unit_or (slice_get us n)).slots) c.in_ok-labels.labels 0 0) u c.in_ok-top.ensures.value
+    ∙ ap (λ x. entered (unit_or (slice_get i.program.units n)) n (numbers_from 0 (unit_or (slice_get i.program.units n)).slots) x 0 0) e_labels in
     let e_declared = c.declared_of.ensures ∙ ap (λ us. declared_slots (unit_or (slice_get us n))) u in
     let e_params = c.params_of.ensures ∙ ap (λ us. (unit_or (slice_get us n)).params) u in
     let e_params2 = c.params_of-2.ensures ∙ ap (λ us. (unit_or (slice_get us n)).params) u in

@@ -3,10 +3,9 @@ use Rattle.shim_units.specs.declared.unit.Unit.{Unit as UnitOf}
 use Rattle.std.specs.Arc.{arc_value}
 use Rattle.shim_units.specs.declared.form.Form.{Form}
 use Rattle.shim_process.specs.LocalState.{unit_or}
-use Rattle.shim_process.specs.Arguments.{empties, numbers_from}
+use Rattle.shim_process.specs.Arguments.{empties, entered, numbers_from}
 use Rattle.shim_process.specs.Forks.{takes_input, takes_output, labels_from}
 use Rattle.shim_walk_frames.specs.Depths.{shown}
-use Rattle.shim_walk.specs.Entries.{enter_of}
 use Rattle.shim_walk.proofs.MadeChildren.{root_by}
 use Rattle.shim_walk.proofs.process.Process.main.Goals as goal
 
@@ -19,9 +18,9 @@ returns c =
     let names = c.main_throws-names.result.now in
     let n = c.main-unit.result in
     let e_top =
-    subst (λ (us : List UnitOf). shown us c.in_ok-top.top ≡ enter_of us n (numbers_from 0 (unit_or (slice_get us n)).slots) c.in_ok-labels.labels 0 0) u c.in_ok-top.ensures.value
-    ∙ ap (λ k. enter_of program.units k (numbers_from 0 (unit_or (slice_get program.units k)).slots) c.in_ok-labels.labels 0 0) m
-    ∙ ap (λ x. enter_of program.units program.main (numbers_from 0 (unit_or (slice_get program.units program.main)).slots) x 0 0) (c.in_ok-labels.ensures ∙ ap (labels_from 1) t) in
+    subst (λ (us : List UnitOf). shown us c.in_ok-top.top ≡ entered (unit_or (slice_get us n)) n (numbers_from 0 (unit_or (slice_get us n)).slots) c.in_ok-labels.labels 0 0) u c.in_ok-top.ensures.value
+    ∙ ap (λ k. entered (unit_or (slice_get program.units k)) k (numbers_from 0 (unit_or (slice_get program.units k)).slots) c.in_ok-labels.labels 0 0) m
+    ∙ ap (λ x. entered (unit_or (slice_get program.units program.main)) program.main (numbers_from 0 (unit_or (slice_get program.units program.main)).slots) x 0 0) (c.in_ok-labels.ensures ∙ ap (labels_from 1) t) in
     let e_slots = c.slots_of.ensures ∙ ap (λ us. (unit_or (slice_get us n)).slots) u ∙ ap (λ k. (unit_or (slice_get program.units k)).slots) m in
     let e_params = c.params_of.ensures ∙ ap (λ us. (unit_or (slice_get us n)).params) u ∙ ap (λ k. (unit_or (slice_get program.units k)).params) m in
     let e_params2 = c.params_of-2.ensures ∙ ap (λ us. (unit_or (slice_get us n)).params) u ∙ ap (λ k. (unit_or (slice_get program.units k)).params) m in

@@ -1,12 +1,11 @@
 use Rattle.std.proofs.Common.{ap, ◌∙◌}
 use Rattle.shim_units.specs.declared.form.Form.{Form}
 use Rattle.shim_process.specs.LocalState.{LocalState}
-use Rattle.shim_process.specs.Forks.{joined, all_back}
-use Rattle.shim_walk.specs.ChildrenMade.{branches_of}
+use Rattle.shim_process.specs.Forks.{joined, all_back, stmt_branches}
 use Rattle.shim_walk_frames.specs.Depths.{text}
 use Rattle.shim_walk_frames.specs.Pieces.{at_all}
 use Rattle.shim_walk.specs.contracts.process.Process.{the_view}
-use Rattle.shim_walk.proofs.MadeChildren.{branches_next}
+use Rattle.shim_walk_frames.proofs.Goes.{next_at}
 use Rattle.shim_walk.proofs.Forking.{joined_by}
 use Rattle.shim_walk.proofs.process.Process.regain.Goals as goal
 
@@ -18,9 +17,9 @@ returns c =
     let bs = c.branches_of-branches.result.now in
     let e =
     c.branches_of-branches.ensures
-    ∙ ap branches_of c.stmt_in.ensures
-    ∙ ap (λ us. branches_of (at_all (text us i.top.unit) i.top.at)) u
-    ∙ branches_next (text i.program.units i.top.unit) i.top.at in
+    ∙ ap stmt_branches c.stmt_in.ensures
+    ∙ ap (λ us. stmt_branches (at_all (text us i.top.unit) i.top.at)) u
+    ∙ ap stmt_branches (next_at (text i.program.units i.top.unit) i.top.at) in
     joined_by l c.args.children.now bs c.regain_all.new.locations c.input_back-self-inside.result c.output_back-self-inside.result e
     (c.regain_all.ensures ∙ ap (λ s. all_back s bs c.args.children.now i.locations) c.slots.ensures)
     c.input_back-self-inside.ensures

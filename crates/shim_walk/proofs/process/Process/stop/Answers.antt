@@ -1,9 +1,10 @@
 use Rattle.std.proofs.Common.{ap, ◌∙◌, sym}
+use Rattle.shim_local.specs.Views.{stop_view}
 use Rattle.shim_process.specs.LocalState.{LocalState}
+use Rattle.shim_process.specs.Stops.{stmt_stop}
 use Rattle.shim_walk.specs.States.{trapped_at_of}
-use Rattle.shim_walk.specs.StatementContexts.{have}
-use Rattle.shim_walk.specs.StopViews.{stands_at, stop_view}
-use Rattle.shim_walk.proofs.ActionLemmas.{stands_next, stops_at, stops_trapped}
+use Rattle.shim_walk.specs.StatementContexts.{context_view}
+use Rattle.shim_walk.proofs.Standing.{stops_at, stops_trapped}
 use Rattle.shim_walk.proofs.process.Process.stop.Goals as goal
 
 pub returns-in-Some : goal.returns-in-Some
@@ -14,6 +15,5 @@ returns-in-Some c =
 pub returns-in-None : goal.returns-in-None
 returns-in-None c =
     let e = sym (ap (λ (l : LocalState). l.trap) c.self.view_is) ∙ ap trapped_at_of c.in-None.is in
-    let s = c.stmt.ensures in
-    let f = c.stop_at.ensures ∙ ap (λ o. stands_at o (have c.context.result)) s.2 ∙ ap (stands_at _) c.context.ensures.value ∙ stands_next s.0 s.1 c.args.self.now s.3 in
+    let f = c.stop_at.ensures ∙ ap (λ o. stmt_stop o (context_view c.context.result)) c.stmt.ensures ∙ ap (stmt_stop _) c.context.ensures.value in
     stops_at c.args.self.now (stop_view c.stop_at.result) e f

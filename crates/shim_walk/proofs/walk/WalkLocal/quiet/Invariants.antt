@@ -1,5 +1,5 @@
 use Rattle.std.proofs.Common.{◌-◌, ◌≤◌}
-use Rattle.shim_local.specs.Laws.{QuietSteps}
+use Rattle.shim_local.specs.Quiets.{QuietSteps}
 use Rattle.shim_process.specs.Ops.{process_ops}
 use Rattle.shim_walk.proofs.walk.WalkLocal.quiet.Given as goal
 

@@ -1,0 +1,33 @@
+-- The test of two steps tells whether they are the same.
+use Rattle.std.proofs.Common.{◌≡◌, Bool, true, Decides, refl, ap, subst, eqb-true, eq-eqb}
+use Rattle.std.proofs.lemmas.Bool.{and_parts, and_from}
+use Rattle.shim_tests_small.specs.declared.small.Step.{Step}
+use Rattle.shim_tests_small.specs.declared.small.Step.TheVariants as step
+use Rattle.shim_tests_small.specs.contracts.small.StepPartialEq.TheImpl as test
+
+abbrev same_step : Step → Step → Bool
+same_step = test.ghosts.eq
+
+step_refl : (a : Step) → same_step a a ≡ true
+step_refl step.Quiet = refl
+step_refl (step.Try name line) = and_from _ _ (eq-eqb name name refl) (eq-eqb line line refl)
+step_refl step.Next = refl
+step_refl step.Put = refl
+step_refl step.Fork = refl
+step_refl (step.Throw label) = eq-eqb label label refl
+step_refl step.Trap = refl
+
+step_is : (a b : Step) → same_step a b ≡ true → a ≡ b
+step_is step.Quiet step.Quiet e = refl
+step_is (step.Try name line) (step.Try name1 line1) e =
+    let both = and_parts _ _ e in
+    λ i. step.Try (eqb-true name name1 both.0 i) (eqb-true line line1 both.1 i)
+step_is step.Next step.Next e = refl
+step_is step.Put step.Put e = refl
+step_is step.Fork step.Fork e = refl
+step_is (step.Throw label) (step.Throw label1) e = ap step.Throw (eqb-true label label1 e)
+step_is step.Trap step.Trap e = refl
+step_is _ _ e = absurd cc
+
+pub step_decides : (a b : Step) → Decides (same_step a b) (a ≡ b)
+step_decides a b = (step_is a b, λ e. subst (λ x. same_step a x ≡ true) e (step_refl a))

@@ -1,0 +1,11 @@
+use Rattle.std.proofs.Common.{arith, refl, rules}
+use Rattle.shim_tests_small.specs.Small.{small_ops}
+use Rattle.shim_local.proofs.Quiets.{one_after}
+use Rattle.shim_tests_small.proofs.small.SmallLocal.quiet.Goals as goal
+
+pub loop-taken-init : goal.loop-taken-init
+loop-taken-init c = (refl, omega arith)
+
+pub loop-taken-preserved : goal.loop-taken-preserved
+loop-taken-preserved c =
+    (one_after small_ops c.loop-taken.taken c.args.self.now c.loop-taken.self _ c.loop-taken.invariant.0 (c.is_quiet.ensures.0 c.if-is_quiet.true) (search rules), omega (arith, c.loop-taken-test.true))

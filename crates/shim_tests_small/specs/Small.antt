@@ -1,0 +1,167 @@
+-- A small process: a list of the steps that are left, one value, one channel, and the exception places in force.
+use Rattle.std.specs.Prelude.{◌≡◌, ◌≤◌, ℕ, zero, ◌+◌, ◌-◌, Bool, true, false, ◌&&◌, ltb, Option, Some, None, List, [], ◌∷◌, ◌++◌, length, map, take, drop, slice_index_or, ℤ, pos, if◌then◌else◌}
+use Rattle.shim_base.specs.Paths.{Path, NamedChannel, same_channel}
+use Rattle.shim_base.specs.declared.operators.Trap.TheVariants as trap
+use Rattle.shim_local.specs.Process.{Ops, StopView, ForkedView, AtQuiet, AtNext, AtPut, AtFork, AtFinish, AtThrow, AtTrap, Parted, Trapped}
+use Rattle.shim_tests_small.specs.declared.small.Step.{Step}
+use Rattle.shim_tests_small.specs.declared.small.Step.TheVariants as step
+
+pub record SmallView : Type 0 where
+  pub path : Path
+  pub left : List Step
+  pub value : ℤ
+  pub chan : NamedChannel
+  -- how many forks it did
+  pub forks : ℕ
+  -- how many exception places are in force around it
+  pub base : ℕ
+  -- the number of the name and the line of each of its own, outermost first
+  pub places : List (ℕ × ℕ)
+
+-- the place of a trap is around every process
+abbrev pub IsSoundSmall : SmallView → Type 0
+IsSoundSmall s = 1 ≤ s.base
+
+-- how many exception places are in force
+abbrev pub in_force : SmallView → ℕ
+in_force s = s.base + length s.places
+
+abbrev pub is_root : Path → Bool
+is_root [] = true
+is_root (pair ∷ path) = false
+
+-- every trap of a small process
+abbrev pub at_trap : StopView
+at_trap = AtTrap trap.Zero 1
+
+-- a put of the process that holds the output, or of another one
+abbrev pub put_stop : Bool → StopView
+put_stop true = AtPut
+put_stop false = at_trap
+
+-- a throw of an exception that is in force, or of another one
+abbrev pub throw_stop : ℕ → Bool → StopView
+throw_stop label true = AtThrow label
+throw_stop label false = at_trap
+
+-- where the process stands with these steps left
+abbrev pub stop_at : SmallView → List Step → StopView
+stop_at s [] = AtFinish
+stop_at s (step.Quiet ∷ left) = AtQuiet
+stop_at s (step.Try name line ∷ left) = AtQuiet
+stop_at s (step.Next ∷ left) = AtNext s.chan
+stop_at s (step.Put ∷ left) = put_stop (is_root s.path)
+stop_at s (step.Fork ∷ left) = AtFork
+stop_at s (step.Throw label ∷ left) = throw_stop label (ltb label (in_force s))
+stop_at s (step.Trap ∷ left) = at_trap
+
+abbrev pub stop_of : SmallView → StopView
+stop_of s = stop_at s s.left
+
+-- the next step is done
+abbrev pub passed : SmallView → SmallView
+passed s = record s { left = drop 1 s.left }
+
+-- the places after the next step, which may be a `try`
+abbrev pub opened : List Step → List (ℕ × ℕ) → List (ℕ × ℕ)
+opened (step.Try name line ∷ left) places = places ++ (name, line) ∷ []
+opened _ places = places
+
+abbrev pub quieted : SmallView → SmallView
+quieted s = record s { left = drop 1 s.left; places = opened s.left s.places }
+
+abbrev pub is_trap : StopView → Bool
+is_trap (AtTrap kind line) = true
+is_trap _ = false
+
+-- behind the next step the process would stand trapped: if that is a put or a fork, it traps
+abbrev pub trap_behind : SmallView → List Step → Bool
+trap_behind s [] = false
+trap_behind s (x ∷ left) = is_trap (stop_at s left)
+
+-- 1 for every value but 0
+abbrev pub byte_of : ℤ → ℕ
+byte_of (pos zero) = 0
+byte_of v = 1
+
+-- the byte of a put that traps, or not
+abbrev pub byte_put : Bool → ℤ → Option ℕ
+byte_put true v = None
+byte_put false v = Some (byte_of v)
+
+-- the child in this branch of the fork at which it stands
+abbrev pub child_of : SmallView → ℕ → SmallView
+child_of s branch = record {
+  path = s.path ++ (s.forks, branch) ∷ [];
+  left = step.Next ∷ [];
+  value = s.value;
+  chan = s.chan;
+  forks = 0;
+  base = in_force s;
+  places = [];
+}
+
+abbrev pub children_of : SmallView → List SmallView
+children_of s = child_of s 0 ∷ child_of s 1 ∷ []
+
+-- it did one fork more
+abbrev pub forked : SmallView → SmallView
+forked s = record s { forks = s.forks + 1 }
+
+-- a fork that traps, or not
+abbrev pub fork_result : Bool → SmallView → ForkedView SmallView
+fork_result true s = Trapped (passed s)
+fork_result false s = Parted (forked s) (children_of s)
+
+-- its path, and how many places are in force around it
+abbrev pub identity_of : SmallView → Path × ℕ
+identity_of s = (s.path, s.base)
+
+-- those of the child in this branch
+abbrev pub identity : Path → ℕ → ℕ → ℕ → Path × ℕ
+identity path base fork branch = (path ++ (fork, branch) ∷ [], base)
+
+-- the children are those of the last fork
+abbrev pub AreOfLastFork : SmallView → List SmallView → Type 0
+AreOfLastFork s children = (fork : ℕ) × (s.forks ≡ fork + 1)
+    × (map identity_of children ≡ identity s.path (in_force s) fork 0 ∷ identity s.path (in_force s) fork 1 ∷ [])
+
+-- the value of the first child
+abbrev pub value_given : ℤ → List SmallView → ℤ
+value_given v [] = v
+value_given v (k ∷ children) = k.value
+
+abbrev pub joined : SmallView → List SmallView → Bool → SmallView
+joined s children goes_on = record s { value = value_given s.value children; left = if goes_on then drop 1 s.left else s.left }
+
+-- behind the step at which it stands, with the places outside of that of the label alone
+abbrev pub unwound : SmallView → ℕ → SmallView
+unwound s label = record s { left = drop 1 s.left; places = take (label - s.base) s.places }
+
+-- the channels that a fork gave a process that is the root, or isn't
+abbrev pub given_to : Bool → NamedChannel → List NamedChannel
+given_to true c = []
+given_to false c = c ∷ []
+
+abbrev pub small_ops : Ops SmallView
+small_ops = record {
+  sound = IsSoundSmall;
+  stop = stop_of;
+  quiet = quieted;
+  byte = λ s. byte_put (trap_behind s s.left) s.value;
+  put = passed;
+  receive = λ s v. record s { value = v; left = drop 1 s.left };
+  fork = λ s. fork_result (trap_behind s s.left) s;
+  join = joined;
+  born = AreOfLastFork;
+  unwind = unwound;
+  value = λ s c. s.value;
+  shares = λ s c. same_channel c s.chan.channel;
+  carries = λ s c. is_root s.path && same_channel c s.chan.channel;
+  given = λ s. given_to (is_root s.path) s.chan;
+  holds_output = λ s. is_root s.path;
+  path = λ s. s.path;
+  base = λ s. s.base;
+  handlers = in_force;
+  handler = λ s label. slice_index_or s.places (label - s.base) (0, 0);
+}

@@ -1,0 +1,322 @@
+// A small process, by which what runs processes is tested; it shows that what `Local` asks can be met.
+ghost use Rattle.std.specs.Prelude.{◌≡◌, ◌↔◌, [], pos, IfOk, OnOk, OnErr, IsTrue};
+ghost use Rattle.shim_local.specs.Process.{AtQuiet};
+ghost use Rattle.shim_tests_small.specs.Small.{child_of, in_force, is_root, passed, quieted, stop_of, trap_behind};
+
+use shim_base::{Chan, List, NoMemory, Path, Trap};
+use shim_local::{Forked, Local, Quiet, Stop};
+use std::marker::Model;
+
+/// A step that a small process has to do.
+#[derive(Clone, Copy, Debug, PartialEq, Eq)]
+pub enum Step {
+    Quiet,
+    /// A quiet step, behind which one exception place more is in force: the number of the name, and the
+    /// line.
+    Try(u32, u32),
+    Next,
+    Put,
+    Fork,
+    /// Throws the exception of this label.
+    Throw(u32),
+    Trap,
+}
+
+/// A process that does the steps it was given, for tests of what runs processes. Each `next` of it is
+/// of one channel, and its value is what the last meeting gave, or 0. It puts 1 for each value but 0. A
+/// fork gives two children that stand at a `next` of the same channel; the value of the first comes
+/// back. The root carries the channel and holds the output.
+///
+/// It stands trapped at a `Trap`, at a put of a process that isn't the root, and at a throw of an
+/// exception that isn't in force. A put or a fork behind which it would stand so traps. Each of these
+/// is a division by zero in line 1.
+#[derive(Drop)]
+pub struct Small {
+    path: Path,
+    left: Vec<Step>,
+    value: i64,
+    chan: Chan,
+    forks: u32,
+    base: u32,
+    places: Vec<(u32, u32)>,
+}
+
+impl Model for Small {
+    ghost use Rattle.std.specs.Prelude.{◌<◌, ◌≤◌, ◌+◌, ◌^◌, length};
+    ghost use Rattle.shim_tests_small.specs.Small.{SmallView};
+
+    ghost Value = { SmallView };
+
+    ghost view = { λ s. record { path = s.path; left = s.left.items; value = s.value; chan = s.chan; forks = s.forks; base = s.base; places = s.places.items } };
+
+    ghost invariant = { λ s. (1 ≤ s.base) × (s.base + length s.places.items < 2 ^ 32) };
+}
+
+impl Small {
+    /// A process of this path with these steps to do, first to last, the value 0, and around it the
+    /// place of a trap alone.
+    pub fn new(path: Path, left: Vec<Step>, chan: Chan) -> Small
+        ensures { result ≡ record { path = path; left = left.items; value = pos 0; chan = chan; forks = 0; base = 1; places = [] } }
+    {
+        let places = Vec::new(*left.allocator());
+        Small {
+            path,
+            left,
+            value: 0,
+            chan,
+            forks: 0,
+            base: 1,
+            places,
+        }
+    }
+
+    // The child in this branch of the fork at which it stands.
+    fn child(&self, branch: u32) -> Result<Small, NoMemory>
+        ensures { IfOk result (λ child. child ≡ child_of self.now branch) }
+    {
+        let alloc = *self.left.allocator();
+        let mut left = Vec::new(alloc);
+        left.push(Step::Next)?;
+        Ok(Small {
+            path: self.path.child(self.forks, branch)?,
+            left,
+            value: self.value,
+            chan: self.chan.copy()?,
+            forks: 0,
+            base: self.in_force(),
+            places: Vec::new(alloc),
+        })
+    }
+
+    // How many exception places are in force.
+    fn in_force(&self) -> u32
+        ensures { result ≡ in_force self.now }
+    {
+        self.base + self.places.len() as u32
+    }
+
+    fn is_root(&self) -> bool
+        ensures { result ≡ is_root self.now.path }
+    {
+        self.path.pairs().is_empty()
+    }
+
+    fn is_quiet(&self) -> bool
+        ensures { IsTrue result ↔ (stop_of self.now ≡ AtQuiet) }
+    {
+        match self.left.first() {
+            Some(Step::Quiet | Step::Try(_, _)) => true,
+            _ => false,
+        }
+    }
+
+    // Whether it would stand trapped behind the next step.
+    fn is_trap_behind(&self) -> bool
+        ensures { result ≡ trap_behind self.now self.now.left }
+    {
+        match self.left.get(1) {
+            Some(Step::Trap) => true,
+            Some(Step::Put) => !self.is_root(),
+            Some(Step::Throw(label)) => *label >= self.in_force(),
+            _ => false,
+        }
+    }
+
+    // Goes on behind the next step, if there is one.
+    fn pass(&mut self)
+        ensures { self.new ≡ passed self.old }
+    {
+        if !self.left.is_empty() {
+            self.left.remove(0);
+        }
+    }
+
+    // Does the next step, where that is a quiet one. A refusal changes nothing.
+    fn step_quietly(&mut self) -> Result<(), NoMemory>
+        ensures ok { OnOk result (self.new ≡ quieted self.old) }
+        ensures err { OnErr result (self.new ≡ self.old) }
+    {
+        if let Some(Step::Try(name, line)) = self.left.first().copied() {
+            if self.in_force() == u32::MAX {
+                return Err(NoMemory);
+            }
+            self.places.push((name, line))?;
+        }
+        self.pass();
+        Ok(())
+    }
+}
+
+fn same_path(a: &Path, b: &Path) -> bool
+    ensures { IsTrue result ↔ (a.now ≡ b.now) }
+{
+    a == b
+}
+
+// Whether all that is a number is the same.
+fn same_numbers(a: &Small, b: &Small) -> bool
+    ensures { IsTrue result ↔ ((a.now.value ≡ b.now.value) × (a.now.forks ≡ b.now.forks) × (a.now.base ≡ b.now.base)) }
+{
+    (a.value, a.forks, a.base) == (b.value, b.forks, b.base)
+}
+
+// Whether these are the same steps.
+fn same_steps(a: &[Step], b: &[Step]) -> bool
+    ensures { IsTrue result ↔ (a.now ≡ b.now) }
+{
+    a == b
+}
+
+// Whether both are the same channel by the same name.
+fn same_chan(a: &Chan, b: &Chan) -> bool
+    ensures { IsTrue result ↔ (a.now ≡ b.now) }
+{
+    a == b && a.name() == b.name()
+}
+
+// Whether these are the same exception places.
+fn same_places(a: &[(u32, u32)], b: &[(u32, u32)]) -> bool
+    ensures { IsTrue result ↔ (a.now ≡ b.now) }
+{
+    a == b
+}
+
+impl Local for Small {
+    ghost use Rattle.shim_tests_small.specs.Small.{small_ops};
+    ghost use Rattle.shim_tests_small.specs.SmallLaws.{small_laws};
+
+    const COMPILED: bool = false;
+
+    ghost ops = { small_ops };
+
+    fn stop(&self) -> Stop<'_> {
+        match self.left.first() {
+            None => Stop::Finish,
+            Some(Step::Quiet) => Stop::Quiet,
+            Some(Step::Try(_, _)) => Stop::Quiet,
+            Some(Step::Next) => Stop::Next(&self.chan),
+            Some(Step::Put) if self.is_root() => Stop::Put,
+            Some(Step::Fork) => Stop::Fork,
+            Some(Step::Throw(label)) if *label < self.in_force() => Stop::Throw(*label),
+            _ => Stop::Trapped(Trap::Zero, 1),
+        }
+    }
+
+    fn quiet(&mut self, most: u64) -> Quiet {
+        let mut taken = 0;
+        while taken < most && self.is_quiet() {
+            if self.step_quietly().is_err() {
+                return Quiet { taken, short: true };
+            }
+            taken += 1;
+        }
+        Quiet {
+            taken,
+            short: false,
+        }
+    }
+
+    fn put(&mut self) -> Option<u8> {
+        let traps = self.is_trap_behind();
+        self.pass();
+        if traps {
+            return None;
+        }
+        Some(u8::from(self.value != 0))
+    }
+
+    fn receive(&mut self, v: i64) {
+        self.value = v;
+        self.pass();
+    }
+
+    fn fork(&mut self) -> Result<Forked<Self>, NoMemory> {
+        if self.is_trap_behind() {
+            self.pass();
+            return Ok(Forked::Trapped);
+        }
+        let forks = self.forks.checked_add(1).ok_or(NoMemory)?;
+        let mut children = List::new(*self.left.allocator());
+        children.push(self.child(0)?)?;
+        children.push(self.child(1)?)?;
+        self.forks = forks;
+        Ok(Forked::Children(children))
+    }
+
+    fn join(&mut self, children: &[Self], goes_on: bool) {
+        if let Some(first) = children.first() {
+            self.value = first.value;
+        }
+        if goes_on {
+            self.pass();
+        }
+    }
+
+    fn unwind(&mut self, label: u32) {
+        self.places.truncate((label - self.base) as usize);
+        self.pass();
+    }
+
+    fn value(&self, _c: &Chan) -> i64 {
+        self.value
+    }
+
+    fn shares(&self, c: &Chan) -> bool {
+        *c == self.chan
+    }
+
+    fn given(&self, at: usize) -> Option<&Chan> {
+        if at == 0 && !self.is_root() {
+            Some(&self.chan)
+        } else {
+            None
+        }
+    }
+
+    fn carries(&self, c: &Chan) -> bool {
+        self.is_root() && *c == self.chan
+    }
+
+    fn holds_output(&self) -> bool {
+        self.is_root()
+    }
+
+    fn path(&self) -> &Path {
+        &self.path
+    }
+
+    fn base(&self) -> u32 {
+        self.base
+    }
+
+    fn handlers(&self) -> u32 {
+        self.in_force()
+    }
+
+    fn handler(&self, label: u32) -> (u32, u32) {
+        self.places[(label - self.base) as usize]
+    }
+
+    fn same(&self, other: &Self) -> bool {
+        same_path(&self.path, &other.path)
+            && same_steps(self.left.as_slice(), other.left.as_slice())
+            && same_numbers(self, other)
+            && same_chan(&self.chan, &other.chan)
+            && same_places(self.places.as_slice(), other.places.as_slice())
+    }
+
+    fn copy(&self) -> Result<Self, NoMemory> {
+        let alloc = *self.left.allocator();
+        Ok(Small {
+            path: self.path.copy()?,
+            left: Vec::from_slice(alloc, self.left.as_slice())?,
+            value: self.value,
+            chan: self.chan.copy()?,
+            forks: self.forks,
+            base: self.base,
+            places: Vec::from_slice(alloc, self.places.as_slice())?,
+        })
+    }
+
+    ghost laws = { small_laws };
+}
