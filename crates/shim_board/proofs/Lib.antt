@@ -1,0 +1,12 @@
+pub mod Totals
+pub mod Keeps
+pub mod Homes
+pub mod Allowed
+pub mod Opening
+pub mod Seats
+pub mod Standing
+pub mod Fixed
+pub mod Ends
+pub mod RuleHolds
+pub mod Logged
+pub mod Runs

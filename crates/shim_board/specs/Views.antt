@@ -1,0 +1,105 @@
+-- What each step does to the view of the chair that does it.
+use Rattle.std.specs.Prelude.{◌≡◌, ◌==◌, ◌&&◌, cond, ℕ, ◌+◌, ◌*◌, ◌/◌, ◌%◌, ◌<◌, zero, suc, List, [], ◌∷◌, ◌++◌, Option, Some, None}
+use Rattle.shim_board.specs.declared.view.View.{View}
+use Rattle.shim_board.specs.declared.content.Content.{Content}
+use Rattle.shim_board.specs.declared.content.Content.TheVariants.{Nothing}
+use Rattle.shim_board.specs.Counting.{without}
+
+-- with the turn, a slot that is seen EMPTY is noted
+abbrev pub noted_with : ℕ → ℕ → ℕ → List (ℕ × ℕ) → List (ℕ × ℕ)
+noted_with turn k x noted = cond ((x % 4 == 0) && (turn == 1)) ((k, x / 4) ∷ noted) noted
+
+-- these words of the slot k
+abbrev pub at_slot : ℕ → List ℕ → List (ℕ × ℕ)
+at_slot k [] = []
+at_slot k (x ∷ xs) = (k, x) ∷ at_slot k xs
+
+-- the first of these words, or x where there is none
+abbrev pub first_of : List ℕ → ℕ → ℕ
+first_of [] x = x
+first_of (y ∷ ys) x = y
+
+-- FULL words, each of them less than the next one, and the last one less than x
+abbrev pub Ascends : List ℕ → ℕ → Type 0
+Ascends [] x = Unit {0}
+Ascends (y ∷ ys) x = (y % 4 ≡ 1) × (y < first_of ys x) × Ascends ys x
+
+module _ {M : Type 0} where
+  -- a chair of this number, which has done nothing yet
+  abbrev pub fresh : Option M → ℕ → ℕ → View M
+  fresh name number count = record { puts = []; claims = []; collections = []; claimed = None; noted = []; hand = None; seen = []; turns_seen = []; turn = 0; numbers = number ∷ []; count = count; name = name }
+
+  abbrev pub first_chair : M → View M
+  first_chair name = fresh (Some name) 0 1
+
+  -- a chair that has joined chair 0
+  abbrev pub spent : View M
+  spent = record { puts = []; claims = []; collections = []; claimed = None; noted = []; hand = None; seen = []; turns_seen = []; turn = 0; numbers = []; count = 0; name = None }
+
+  module _ (v : View M) where
+    -- the word x was seen in the slot k
+    abbrev pub after_look : ℕ → ℕ → View M
+    after_look k x = record v { seen = v.seen ++ (k, x) ∷ []; noted = noted_with v.turn k x v.noted }
+
+    -- the word x of the turn was seen
+    abbrev pub after_turn_seen : ℕ → View M
+    after_turn_seen x = record v { turns_seen = v.turns_seen ++ x ∷ [] }
+
+    -- the slot k is in hand, with the word x
+    abbrev pub after_hold : ℕ → ℕ → View M
+    after_hold k x = record v { hand = Some (k, x) }
+
+    abbrev pub after_put : ℕ → ℕ → View M
+    after_put k r = record v { puts = v.puts ++ (k, r) ∷ []; hand = None; noted = without k v.noted }
+
+    abbrev pub after_claim : ℕ → ℕ → View M
+    after_claim k r = record v { claims = v.claims ++ (k, r) ∷ []; claimed = Some (k, r) }
+
+    abbrev pub after_give : View M
+    after_give = record v { claimed = None }
+
+    abbrev pub after_collect : ℕ → ℕ → View M
+    after_collect k r = record v { collections = v.collections ++ (k, r) ∷ []; hand = None }
+
+    abbrev pub after_take : View M
+    after_take = record v { turn = 1 }
+
+    abbrev pub after_leave : View M
+    after_leave = record v { turn = 0; noted = [] }
+
+    -- chair 0, beside one chair more
+    abbrev pub after_split : View M
+    after_split = record v { count = v.count + 1 }
+
+    -- that chair
+    abbrev pub split_off : View M
+    split_off = fresh v.name v.count 0
+
+    -- chair 0, which has taken in the chair of the view w
+    abbrev pub after_join : View M → View M
+    after_join w = record v { puts = v.puts ++ w.puts; claims = v.claims ++ w.claims; collections = v.collections ++ w.collections; numbers = v.numbers ++ w.numbers }
+
+  -- the same chair, which has seen these words, too, in the slot k
+  abbrev pub seeing : View M → ℕ → List ℕ → View M
+  seeing v k words = record v { seen = v.seen ++ at_slot k words }
+
+  -- w is v after looks at the slot k, the last of which found x, and those before it FULL words that grew
+  abbrev pub HasLooked : View M → View M → ℕ → ℕ → Type 0
+  HasLooked v w k x = (before : List ℕ) × Ascends before x × (w ≡ after_look (seeing v k before) k x)
+
+  -- w is v after such looks at the slot k, the last of which found FULL of the round r, and then its claim
+  abbrev pub HasClaimed : View M → View M → ℕ → ℕ → Type 0
+  HasClaimed v w k r = (before : List ℕ) × Ascends before (4 * r + 1) × (w ≡ after_claim (seeing v k (before ++ (4 * r + 1) ∷ [])) k r)
+
+module _ {T N : Type 0} where
+  abbrev pub out_turn : ℕ → List (ℕ × Content T N)
+  out_turn zero = []
+  out_turn (suc n) = (0, Nothing) ∷ []
+
+  abbrev pub out_claimed : Option (ℕ × ℕ) → List (ℕ × Content T N) → List (ℕ × Content T N)
+  out_claimed (Some p) rest = (p.0 + 1, Nothing) ∷ rest
+  out_claimed None rest = rest
+
+  -- what is out with a chair between two calls: its claimed slot, and with the turn the net's place
+  abbrev pub carried : {M : Type 0} → View M → List (ℕ × Content T N)
+  carried v = out_claimed v.claimed (out_turn v.turn)

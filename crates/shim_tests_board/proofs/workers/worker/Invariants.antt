@@ -1,0 +1,6 @@
+use Rattle.shim_board.specs.Chairs.{StandsAs}
+use Rattle.shim_tests_board.specs.Turns.{HasTurn}
+use Rattle.shim_tests_board.proofs.workers.worker.Given as goal
+
+abbrev pub invariant-loop : goal.invariant-loop
+invariant-loop l = HasTurn 0 l.board l.chair × StandsAs l.fn.chair l.chair
