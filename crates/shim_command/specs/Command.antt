@@ -1,0 +1,37 @@
+-- The command line, as `clap` reads it. What words a command takes, and what is found in them, is `clap`'s own definition.
+use Rattle.std.specs.Prelude.{ℕ, true, List, [], ◌∷◌, Some, codes}
+use Rattle.clap.specs.Words.{App, Rule, Text, new_rule}
+use Rattle.clap.specs.Simple.{new_shape}
+use Rattle.clap.specs.declared.builder.action.ArgAction.TheVariants.{Set}
+use Rattle.clap.specs.declared.builder.value_parser.ValueParser.TheVariants.{Unsigned}
+
+-- a word that has to be there, by its place
+abbrev pub given : Text → Rule
+given name = record (new_rule name) { required = true; action = Some Set }
+
+-- `--name TEXT` or `--name=TEXT`, at most once
+abbrev pub option : Text → Rule
+option name = record (new_rule name) { long = Some name }
+
+-- the same with a number from `least` to `most`
+abbrev pub number : Text → ℕ → ℕ → Rule
+number name least most = record (new_rule name) { long = Some name; parser = Some (Unsigned least most) }
+
+-- the arguments of `shim`
+unfoldable pub arguments : List Rule
+arguments =
+    given (codes "MODE")
+    ∷ given (codes "FILE")
+    ∷ option (codes "input")
+    ∷ number (codes "workers") 1 16
+    ∷ number (codes "budget") 1 4000000
+    ∷ number (codes "quantum") 1 10000
+    ∷ number (codes "size") 1 100000
+    ∷ []
+
+-- the command: its arguments, no subcommand, and no flag for help
+unfoldable pub shim_app : App
+shim_app = record {
+  top = record (new_shape (codes "shim")) { disable_help_flag = true; rules = arguments };
+  subs = [];
+}

@@ -1,0 +1,110 @@
+-- What words ask for.
+use Rattle.std.specs.Prelude.{ℕ, ◌≡◌, ◌≢◌, ◌≤◌, Bool, true, List, [], ◌∷◌, map, Option, Some, None, Result, Ok, Err, is_some, if◌then◌else◌, unwrap_or, bytes_eq, codes, string_bytes, String}
+use Rattle.std.specs.Option.{option_map_or}
+use Rattle.std.specs.Str.Parse.{digits_value, without_leading_plus}
+use Rattle.std.specs.declared.alloc.Global.{Global}
+use Rattle.clap.specs.Words.{Kinds, Row, Text, fault_of, first_of, matches_of, one_of}
+use Rattle.clap.specs.Values.{IsUnsignedIn}
+use Rattle.clap.specs.declared.error.kind.ErrorKind.{ErrorKind}
+use Rattle.clap.specs.declared.error.kind.ErrorKind.TheVariants.{OutOfMemory}
+use Rattle.shim_generator.specs.Kinds.{kind_named}
+use Rattle.shim_command.specs.declared.job.Mode.{Mode}
+use Rattle.shim_command.specs.declared.job.Mode.TheVariants.{Run, Reference, Check, Code, Gen}
+use Rattle.shim_command.specs.declared.job.Job.{Job}
+use Rattle.shim_command.specs.declared.job.WordsFault.{WordsFault}
+use Rattle.shim_command.specs.declared.job.WordsFault.TheVariants.{Refused, NoMemory}
+use Rattle.shim_command.specs.Command.{shim_app}
+
+-- the bytes of each word
+abbrev pub texts_of : List (String Global) → List Text
+texts_of words = map string_bytes words
+
+-- the mode that a word names
+unfoldable pub mode_named : Text → Option Mode
+mode_named word =
+    if bytes_eq word (codes "run") then Some Run
+    else (if bytes_eq word (codes "ref") then Some Reference
+    else (if bytes_eq word (codes "check") then Some Check
+    else (if bytes_eq word (codes "code") then Some Code
+    else (if bytes_eq word (codes "gen") then Some Gen else None))))
+
+-- the word that was found for an argument that has to be there
+abbrev pub word_in : List Row → Text → Text
+word_in rows name = unwrap_or (first_of name rows) []
+
+-- the number of a text, in decimal and perhaps with a plus before it; the default, where there is no text
+abbrev pub numbered : Option Text → ℕ → ℕ
+numbered given default = option_map_or (λ text. digits_value 10 (without_leading_plus text)) given default
+
+-- the number that an option was given, or its default
+abbrev pub number_in : List Row → Text → ℕ → ℕ
+number_in rows name default = numbered (one_of name rows) default
+
+-- the job of a mode, with what was found for each argument
+abbrev pub job_with : Mode → List Row → Job
+job_with mode rows = record {
+  mode = mode;
+  file = word_in rows (codes "FILE");
+  input = first_of (codes "input") rows;
+  workers = number_in rows (codes "workers") 4;
+  budget = number_in rows (codes "budget") 1000000;
+  quantum = number_in rows (codes "quantum") 64;
+  size = number_in rows (codes "size") 1000;
+}
+
+-- whether a mode takes what was found: to `gen` FILE names a kind
+abbrev pub suits : Mode → Job → Bool
+suits Run job = true
+suits Reference job = true
+suits Check job = true
+suits Code job = true
+suits Gen job = is_some (kind_named job.file)
+
+abbrev pub where_it_suits : Job → Option Job
+where_it_suits job = if suits job.mode job then Some job else None
+
+abbrev pub job_of : Option Mode → List Row → Option Job
+job_of (Some mode) rows = where_it_suits (job_with mode rows)
+job_of None rows = None
+
+-- the job of what `clap` found in the words: MODE names a mode, which takes what was found
+abbrev pub job_in : List Row → Option Job
+job_in rows = job_of (mode_named (word_in rows (codes "MODE"))) rows
+
+abbrev pub where_faultless : Kinds → Option Job → Option Job
+where_faultless [] found = found
+where_faultless (kind ∷ kinds) found = None
+
+-- the job of words, which have none where `clap` finds a fault in them
+unfoldable pub job : List Text → Option Job
+job words = where_faultless (fault_of shim_app words) (job_in (matches_of shim_app words))
+
+-- the answer is the job that is meant, or that there is none; want of memory may stand in place of both
+abbrev pub Gives : Option Job → Result Job WordsFault → Type 0
+Gives meant (Ok found) = meant ≡ Some found
+Gives meant (Err Refused) = meant ≡ None
+Gives meant (Err NoMemory) = Unit {0}
+
+-- the numbers of a job are in their ranges
+pub record IsWithin (job : Job) : Type 0 where
+  pub workers : (1 ≤ job.workers) × (job.workers ≤ 16)
+  pub budget : (1 ≤ job.budget) × (job.budget ≤ 4000000)
+  pub quantum : (1 ≤ job.quantum) × (job.quantum ≤ 10000)
+  pub size : (1 ≤ job.size) × (job.size ≤ 100000)
+
+-- a text, where there is one, is a number from `least` to `most`
+abbrev pub IsNumber : ℕ → ℕ → Option Text → Type 0
+IsNumber least most None = Unit {0}
+IsNumber least most (Some text) = IsUnsignedIn least most text
+
+-- each option of a number that was given has one in its range
+abbrev pub FitAll : List Row → Type 0
+FitAll rows = IsNumber 1 16 (one_of (codes "workers") rows)
+    × IsNumber 1 4000000 (one_of (codes "budget") rows)
+    × IsNumber 1 10000 (one_of (codes "quantum") rows)
+    × IsNumber 1 100000 (one_of (codes "size") rows)
+
+-- what is answered to an error of `clap` of this kind
+abbrev pub IsFaultOf : ErrorKind → WordsFault → Type 0
+IsFaultOf kind Refused = kind ≢ OutOfMemory
+IsFaultOf kind NoMemory = kind ≡ OutOfMemory

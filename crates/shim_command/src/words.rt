@@ -1,0 +1,130 @@
+// Reads the words: what `clap` finds in them, and the job that this is.
+ghost use Rattle.std.specs.Prelude.{◌≡◌, ℕ, IfOk, Some, codes, option_map};
+ghost use Rattle.clap.specs.Words.{first_of, found_of, kind_of, matches_of, one_of, rows_of};
+ghost use Rattle.shim_command.specs.Command.{shim_app};
+ghost use Rattle.shim_command.specs.Jobs.{FitAll, Gives, IsFaultOf, IsNumber, IsWithin, job, job_in, job_with, mode_named, number_in, suits, texts_of, word_in};
+
+use crate::command::command;
+use crate::job::{Job, Mode, WordsFault};
+use clap::error::ErrorKind;
+use clap::{ArgMatches, Error};
+use shim_base::{List, NoMemory};
+use shim_generator::Kind;
+use std::alloc::Global;
+
+// The mode that a word names.
+#[tactic(auto, unfolding(crate::specs::Jobs::mode_named))]
+fn mode_named(word: &str) -> Option<Mode>
+    ensures { result ≡ mode_named word.now }
+{
+    match word {
+        "run" => Some(Mode::Run),
+        "ref" => Some(Mode::Reference),
+        "check" => Some(Mode::Check),
+        "code" => Some(Mode::Code),
+        "gen" => Some(Mode::Gen),
+        _ => None,
+    }
+}
+
+// The word of an argument that has to be there. Where `clap` finds no fault it has one.
+fn word_in<'a>(matches: &ArgMatches<'a>, name: &str) -> &'a str
+    ensures { result.now ≡ word_in (rows_of (found_of matches.now)) name.now }
+{
+    matches.get_str(name).unwrap_or("")
+}
+
+// The text of an option, where it was given.
+fn text_in<'a>(matches: &ArgMatches<'a>, name: &str) -> Option<&'a str>
+    ensures { option_map (λ text. text.now) result ≡ first_of name.now (rows_of (found_of matches.now)) }
+{
+    let text = matches.get_str(name);
+    text
+}
+
+// The number that an option was given, or its default.
+fn number_in(matches: &ArgMatches<'_>, name: &str, default: u64) -> u64
+    requires { (least : ℕ) × (most : ℕ) × IsNumber least most (one_of name.now (rows_of (found_of matches.now))) }
+    ensures { result ≡ number_in (rows_of (found_of matches.now)) name.now default }
+{
+    matches.get_one::<u64>(name).unwrap_or(default)
+}
+
+// A copy of the bytes of a text.
+fn bytes_of(alloc: Global, text: Option<&str>) -> Result<Option<List<u8>>, NoMemory>
+    ensures { IfOk result (λ bytes. bytes ≡ option_map (λ text. text.now) text.entry) }
+{
+    match text {
+        Some(text) => Ok(Some(List::from_slice(alloc, text.as_bytes())?)),
+        None => Ok(None),
+    }
+}
+
+// The job of a mode, with what was found for each argument.
+fn job_with(alloc: Global, mode: Mode, matches: &ArgMatches<'_>) -> Result<Job, NoMemory>
+    requires { FitAll (rows_of (found_of matches.now)) }
+    ensures { IfOk result (λ job. job ≡ job_with mode (rows_of (found_of matches.now))) }
+{
+    Ok(Job {
+        mode,
+        file: List::from_slice(alloc, word_in(matches, "FILE").as_bytes())?,
+        input: bytes_of(alloc, text_in(matches, "input"))?,
+        workers: number_in(matches, "workers", 4),
+        budget: number_in(matches, "budget", 1000000),
+        quantum: number_in(matches, "quantum", 64),
+        size: number_in(matches, "size", 1000),
+    })
+}
+
+// Whether the mode takes what was found: to `gen` FILE names a kind.
+fn suits(job: &Job) -> bool
+    ensures { result ≡ suits job.now.mode job.now }
+{
+    match job.mode {
+        Mode::Run | Mode::Reference | Mode::Check | Mode::Code => true,
+        Mode::Gen => Kind::named(job.file.as_slice()).is_some(),
+    }
+}
+
+// The job of what `clap` found.
+fn job_in(alloc: Global, matches: &ArgMatches<'_>) -> Result<Job, WordsFault>
+    requires { FitAll (rows_of (found_of matches.now)) }
+    ensures { Gives (job_in (rows_of (found_of matches.now))) result }
+{
+    let mode = match mode_named(word_in(matches, "MODE")) {
+        Some(mode) => mode,
+        None => return Err(WordsFault::Refused),
+    };
+    let job = job_with(alloc, mode, matches)?;
+    if suits(&job) {
+        Ok(job)
+    } else {
+        Err(WordsFault::Refused)
+    }
+}
+
+// Why `clap` took no words: memory was wanted, or it refuses them.
+fn fault_of(error: &Error) -> WordsFault
+    ensures { IsFaultOf (kind_of error.now) result }
+{
+    match error.kind() == ErrorKind::OutOfMemory {
+        true => WordsFault::NoMemory,
+        false => WordsFault::Refused,
+    }
+}
+
+/// Reads the words, the first of which is the program's own name. `Refused` comes exactly where they
+/// have no job: `clap` finds a fault in them, or MODE names no mode, or it is `gen` and FILE names no
+/// kind. A job has what `clap` finds in the words for each argument, with a default for an option that is
+/// absent; its numbers are in their ranges, and FILE is one that was found. Want of memory may come in
+/// place of both.
+pub fn read_words(alloc: Global, words: &[String]) -> Result<Job, WordsFault>
+    ensures job { Gives (job (texts_of words.now)) result }
+    ensures within { IfOk result IsWithin }
+    ensures given { IfOk result (λ job. first_of (codes "FILE") (matches_of shim_app (texts_of words.now)) ≡ Some job.file) }
+{
+    match command(alloc)?.try_get_matches_from(words) {
+        Ok(matches) => job_in(alloc, &matches),
+        Err(error) => Err(fault_of(&error)),
+    }
+}

@@ -1,0 +1,290 @@
+// Words and the job that they ask for.
+use shim_command::{Job, WordsFault, read_words};
+use std::alloc::Global;
+use std::process::Abort;
+use std::str;
+use std::test::Fail;
+
+fn shown(alloc: Global, job: &Job) -> Result<String, Fail> {
+    let file = str::from_utf8(job.file.as_slice())?;
+    let mut text = format!(in alloc; "{:?} {:?}", job.mode, file)?;
+    if let Some(input) = &job.input {
+        let input = str::from_utf8(input.as_slice())?;
+        let more = format!(in alloc; " input {:?}", input)?;
+        text.push_str(more.as_str())?;
+    }
+    let numbers = format!(in alloc;
+        ": {} {} {} {}",
+        job.workers, job.budget, job.quantum, job.size
+    )?;
+    text.push_str(numbers.as_str())?;
+    Ok(text)
+}
+
+// What the words of a line come to, as text. Words have bars between them, and the program's name is before them.
+fn answered(alloc: Global, line: &str) -> Result<String, Fail> {
+    let mut words: Vec<String> = Vec::new(alloc);
+    words.push(String::from_str(alloc, "shim")?)?;
+    for word in line.split('|') {
+        words.push(String::from_str(alloc, word)?)?;
+    }
+    match read_words(alloc, words.as_slice()) {
+        Ok(job) => shown(alloc, &job),
+        Err(WordsFault::Refused) => Ok(String::from_str(alloc, "refused")?),
+        Err(WordsFault::NoMemory) => Ok(String::from_str(alloc, "no memory")?),
+    }
+}
+
+fn expect(rt: &impl Abort, alloc: Global, cases: &[(&str, &str)]) -> Result<(), Fail> {
+    for case in cases {
+        let line = case.0;
+        let text = answered(alloc, line)?;
+        assert_eq!(rt; text.as_str(), case.1, "not {line}");
+    }
+    Ok(())
+}
+
+fn expect_refused(rt: &impl Abort, alloc: Global, lines: &[&str]) -> Result<(), Fail> {
+    for line in lines {
+        let text = answered(alloc, line)?;
+        assert_eq!(rt; text.as_str(), "refused", "not {line}");
+    }
+    Ok(())
+}
+
+#[test]
+fn each_mode_has_its_word(rt: HostRuntime) -> Result<(), Fail> {
+    expect(
+        &rt,
+        rt.alloc(),
+        &[
+            ("run|f", "Run \"f\": 4 1000000 64 1000"),
+            ("ref|f", "Reference \"f\": 4 1000000 64 1000"),
+            ("check|f", "Check \"f\": 4 1000000 64 1000"),
+            ("code|f", "Code \"f\": 4 1000000 64 1000"),
+            ("gen|pipe", "Gen \"pipe\": 4 1000000 64 1000"),
+            ("gen|tree", "Gen \"tree\": 4 1000000 64 1000"),
+            ("gen|storm", "Gen \"storm\": 4 1000000 64 1000"),
+            ("run|gen", "Run \"gen\": 4 1000000 64 1000"),
+            ("run|help", "Run \"help\": 4 1000000 64 1000"),
+        ],
+    )
+}
+
+#[test]
+fn unknown_modes_and_kinds_are_refused(rt: HostRuntime) -> Result<(), Fail> {
+    expect_refused(
+        &rt,
+        rt.alloc(),
+        &[
+            "walk|f", "Run|f", "ru|f", "runs|f", "|f", "f|run", "gen|ring", "gen|f", "gen|Pipe",
+            "gen|", "help|f", "-|f",
+        ],
+    )
+}
+
+#[test]
+fn mode_and_file_are_wanted_and_no_third_word(rt: HostRuntime) -> Result<(), Fail> {
+    expect_refused(
+        &rt,
+        rt.alloc(),
+        &[
+            "",
+            "run",
+            "gen",
+            "help",
+            "run|f|g",
+            "gen|pipe|tree",
+            "run|f|",
+            "run|--size|1",
+            "--input|i",
+            "run|--input|f",
+        ],
+    )
+}
+
+#[test]
+fn no_words_at_all_are_refused(rt: HostRuntime) -> Result<(), Fail> {
+    let answer = read_words(rt.alloc(), &[]);
+    assert!(&rt; matches!(&answer, Err(WordsFault::Refused)));
+    Ok(())
+}
+
+#[test]
+fn options_stand_anywhere_and_with_either_sign(rt: HostRuntime) -> Result<(), Fail> {
+    expect(
+        &rt,
+        rt.alloc(),
+        &[
+            (
+                "run|f|--input|i",
+                "Run \"f\" input \"i\": 4 1000000 64 1000",
+            ),
+            (
+                "run|f|--input=i",
+                "Run \"f\" input \"i\": 4 1000000 64 1000",
+            ),
+            (
+                "--input|i|run|f",
+                "Run \"f\" input \"i\": 4 1000000 64 1000",
+            ),
+            (
+                "run|--input|i|f",
+                "Run \"f\" input \"i\": 4 1000000 64 1000",
+            ),
+            (
+                "run|f|--size|5|--quantum|4|--budget|3|--workers|2",
+                "Run \"f\": 2 3 4 5",
+            ),
+            (
+                "--workers=2|run|--budget=3|f|--quantum=4|--size=5",
+                "Run \"f\": 2 3 4 5",
+            ),
+            (
+                "check|f|--input|i|--size|5",
+                "Check \"f\" input \"i\": 4 1000000 64 5",
+            ),
+            ("run|f|--input=", "Run \"f\" input \"\": 4 1000000 64 1000"),
+            ("run|f|--input|", "Run \"f\" input \"\": 4 1000000 64 1000"),
+            (
+                "run|f|--input|-",
+                "Run \"f\" input \"-\": 4 1000000 64 1000",
+            ),
+            (
+                "run|f|--input=--help",
+                "Run \"f\" input \"--help\": 4 1000000 64 1000",
+            ),
+            (
+                "run|f|--input=a=b",
+                "Run \"f\" input \"a=b\": 4 1000000 64 1000",
+            ),
+            ("run|", "Run \"\": 4 1000000 64 1000"),
+            ("run|-", "Run \"-\": 4 1000000 64 1000"),
+        ],
+    )
+}
+
+#[test]
+fn behind_two_dashes_no_word_is_an_option(rt: HostRuntime) -> Result<(), Fail> {
+    expect(
+        &rt,
+        rt.alloc(),
+        &[
+            ("--|run|f", "Run \"f\": 4 1000000 64 1000"),
+            ("run|--|f", "Run \"f\": 4 1000000 64 1000"),
+            ("run|f|--", "Run \"f\": 4 1000000 64 1000"),
+            ("run|--|--help", "Run \"--help\": 4 1000000 64 1000"),
+            ("run|--|--size=1", "Run \"--size=1\": 4 1000000 64 1000"),
+            ("run|--|--", "Run \"--\": 4 1000000 64 1000"),
+            ("--size|2|run|--|f", "Run \"f\": 4 1000000 64 2"),
+        ],
+    )?;
+    expect_refused(
+        &rt,
+        rt.alloc(),
+        &["run|f|--|--size|1", "run|f|--|--size=1", "run|f|--|g"],
+    )
+}
+
+#[test]
+fn other_options_and_other_uses_are_refused(rt: HostRuntime) -> Result<(), Fail> {
+    expect_refused(
+        &rt,
+        rt.alloc(),
+        &[
+            "--help",
+            "-h",
+            "--version",
+            "-V",
+            "run|f|--help",
+            "run|f|-h",
+            "run|f|--verbose",
+            "run|f|-i|x",
+            "run|f|-7",
+            // No value.
+            "run|f|--input",
+            "run|f|--workers",
+            "run|f|--input|--size|1",
+            "run|f|--input|--help",
+            "run|f|--size|--",
+            "--size|run|f",
+            // Twice.
+            "run|f|--input|i|--input|i",
+            "run|f|--workers|2|--workers|2",
+            "run|f|--workers=2|--workers|3",
+            "check|f|--input|i|--input|j",
+            // Only a part of the name, or another case.
+            "run|f|--inp|i",
+            "run|f|--w|2",
+            "run|f|--quant=7",
+            "run|f|--Size|1",
+            "run|f|-size|1",
+            "run|f|--inputs|i",
+        ],
+    )
+}
+
+#[test]
+fn numbers_go_to_their_limits(rt: HostRuntime) -> Result<(), Fail> {
+    expect(
+        &rt,
+        rt.alloc(),
+        &[
+            ("run|f|--workers|1", "Run \"f\": 1 1000000 64 1000"),
+            ("run|f|--workers|16", "Run \"f\": 16 1000000 64 1000"),
+            ("run|f|--budget|1", "Run \"f\": 4 1 64 1000"),
+            ("run|f|--budget|4000000", "Run \"f\": 4 4000000 64 1000"),
+            ("run|f|--quantum|1", "Run \"f\": 4 1000000 1 1000"),
+            ("run|f|--quantum|10000", "Run \"f\": 4 1000000 10000 1000"),
+            ("gen|pipe|--size|1", "Gen \"pipe\": 4 1000000 64 1"),
+            (
+                "gen|pipe|--size|100000",
+                "Gen \"pipe\": 4 1000000 64 100000",
+            ),
+            // Leading zeros, and a plus.
+            ("run|f|--workers|007", "Run \"f\": 7 1000000 64 1000"),
+            ("run|f|--workers|+4", "Run \"f\": 4 1000000 64 1000"),
+            ("run|f|--workers=+016", "Run \"f\": 16 1000000 64 1000"),
+        ],
+    )
+}
+
+#[test]
+fn numbers_past_their_limits_or_out_of_form_are_refused(rt: HostRuntime) -> Result<(), Fail> {
+    expect_refused(
+        &rt,
+        rt.alloc(),
+        &[
+            "run|f|--workers|0",
+            "run|f|--workers|17",
+            "run|f|--budget|0",
+            "run|f|--budget|4000001",
+            "run|f|--quantum|0",
+            "run|f|--quantum|10001",
+            "gen|pipe|--size|0",
+            "gen|pipe|--size|100001",
+            // Refused also where the mode doesn't use it.
+            "check|f|--size|0",
+            "gen|pipe|--quantum|0",
+            "run|f|--budget|18446744073709551616",
+            "run|f|--budget|18446744073709551617",
+            "run|f|--budget|99999999999999999999999999",
+            "run|f|--workers|4x",
+            "run|f|--workers|x4",
+            "run|f|--workers|",
+            "run|f|--workers=",
+            "run|f|--workers| 4",
+            "run|f|--workers|4 ",
+            "run|f|--workers|++4",
+            "run|f|--workers|+",
+            "run|f|--workers|-4",
+            "run|f|--workers=-4",
+            "run|f|--workers|4.0",
+            "run|f|--workers|4,5",
+            "run|f|--workers|0x4",
+            "run|f|--workers|1_0",
+            "run|f|--workers|1e1",
+            "run|f|--workers|٤",
+        ],
+    )
+}
