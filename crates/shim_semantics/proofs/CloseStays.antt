@@ -23,7 +23,7 @@ same_bound x h k e f = omega arith
 
 module _ {S : Type 0} (o : Ops S) where
   -- the label of the prevailing death of children has its place at their parent
-  label_below : (l : S) (f j : ℕ) (ks : Nodes S) (x : Death) → SoundChildren o l f j ks → prevailing_death ks ≡ Some x → x.label < o.handlers l
+  pub label_below : (l : S) (f j : ℕ) (ks : Nodes S) (x : Death) → SoundChildren o l f j ks → prevailing_death ks ≡ Some x → x.label < o.handlers l
   label_below l f j no_node x s e = none_some x e
   label_below l f j (node_and (Live k) ks) x s e = label_below l f (j + 1) ks x s.2 e
   label_below l f j (node_and (Forked k js) ks) x s e = label_below l f (j + 1) ks x s.2 e

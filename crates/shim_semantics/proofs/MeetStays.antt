@@ -11,7 +11,8 @@ use Rattle.shim_semantics.proofs.Replaced.{born_shift, child_follows}
 use Rattle.shim_semantics.proofs.CallStays.{call_stays, call_carries_less}
 use Rattle.shim_base.proofs.Facts.{true_or_false}
 
-next_is : (s : StopView) (c : Channel) → is_next s c ≡ true → (d : NamedChannel) × (s ≡ AtNext d)
+-- a process that is at a channel stands at a `next`
+pub next_is : (s : StopView) (c : Channel) → is_next s c ≡ true → (d : NamedChannel) × (s ≡ AtNext d)
 next_is (AtNext d) c e = (d, refl)
 next_is AtQuiet c e = absurd cc
 next_is AtPut c e = absurd cc
