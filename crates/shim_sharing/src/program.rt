@@ -24,5 +24,5 @@ pub fn accept(alloc: Global, resolved: Resolved) -> Result<Accepted, ShareFault>
 {
     check(alloc, resolved.names(), resolved.functions())?;
     let form = lift_program(alloc, resolved)?;
-    Ok(from_form(form))
+    Ok(from_form(alloc, form)?)
 }

@@ -8,10 +8,10 @@ ghost use Rattle.shim_units.specs.Units.{upto, function_slot_map, lift_function,
 
 use crate::lift::lift_body;
 use shim_base::{List, Name, NoMemory};
-use shim_scopes::{RFunction, Resolved, UParam};
+use shim_scopes::{RFunction, Resolved};
 use shim_units::{
-    Form, LiftContext, SlotMap, UStmt, Unit, copy_text, declares_in, make_unit, number,
-    number_after, open_unit, tries_in,
+    Form, LiftContext, SlotMap, UStmt, Unit, copy_params, copy_text, declares_in, make_unit,
+    number, number_after, open_unit, tries_in,
 };
 use std::alloc::Global;
 
@@ -29,20 +29,6 @@ fn upto(alloc: Global, count: usize) -> Result<List<u32>, NoMemory>
     let mut made = List::new(alloc);
     for at in 0..count {
         made.push(number(at))?;
-    }
-    Ok(made)
-}
-
-fn copy_params(alloc: Global, params: &[UParam]) -> Result<List<UParam>, NoMemory>
-    ensures { IfOk result (λ made. made ≡ params.now) }
-{
-    let mut made = List::new(alloc);
-    for param in params {
-        made.push(UParam {
-            sort: param.sort,
-            by_ref: param.by_ref,
-            name: param.name,
-        })?;
     }
     Ok(made)
 }

@@ -1,4 +1,4 @@
--- Which of this crate's types may cross threads: all, since they hold numbers and lists alone. Those that hold statements
+-- Which of this crate's types may cross threads: all, since they hold numbers and lists, and share what says the same to every thread. Those that hold statements
 -- are shown part by part, since a `search` that goes down through all of them runs out of steps.
 use denote.RattleType.{RattleType}
 use denote.Param.Send.{IsSend, IsSync, sendable}
@@ -6,6 +6,7 @@ use Rattle.std.proofs.Crossing.{crosses}
 use Rattle.std.specs.contracts.option.Option as Option
 use Rattle.shim_base.specs.contracts.boxed.Boxed as Boxed
 use Rattle.shim_base.specs.contracts.list.List as List
+use Rattle.shim_base.specs.contracts.shared.Shared as Shared
 use Rattle.shim_scopes.proofs.tree.UExpr.TheLaws.TheKnot as expressions
 use Rattle.shim_scopes.specs.contracts.tree.UExpr as UExpr
 use Rattle.shim_scopes.specs.contracts.tree.UParam as UParam
@@ -35,6 +36,15 @@ boxed_send T s = search (sendable, crosses) depth 20
 
 boxed_sync : (T : RattleType) → IsSync T → IsSync (Boxed.the_row T)
 boxed_sync T y = search (sendable, crosses) depth 20
+
+pub shared_send : (T : RattleType) → IsSend T → IsSync T → IsSend (Shared.the_row T)
+shared_send T s y = search (sendable, crosses) depth 20
+
+shared_field_send : (T : RattleType) → IsSend T → IsSync T → IsSend (Shared.the_field T).row
+shared_field_send T s y = search (sendable, crosses) depth 20
+
+shared_field_sync : (T : RattleType) → IsSend T → IsSync T → IsSync (Shared.the_field T).row
+shared_field_sync T s y = search (sendable, crosses) depth 20
 
 expression_send : IsSend (UExpr.the_field).row
 expression_send = expressions.send-UExpr (search sendable) (search sendable) (search sendable depth 20) boxed_send (search sendable depth 20)
@@ -94,8 +104,14 @@ form_sync =
     let units = list_field_sync Unit'.the_row y in
     search (list_field_sync, sendable) depth 20
 
+form_row_send : IsSend Form.the_row
+form_row_send = let s = form_send in search sendable
+
+form_row_sync : IsSync Form.the_row
+form_row_sync = let y = form_sync in search sendable
+
 pub accepted_send : IsSend Accepted.the_row
-accepted_send = let s = form_send in search sendable depth 20
+accepted_send = let s = shared_field_send Form.the_row form_row_send form_row_sync in search sendable depth 20
 
 pub accepted_sync : IsSync Accepted.the_row
-accepted_sync = let y = form_sync in search sendable depth 20
+accepted_sync = let y = shared_field_sync Form.the_row form_row_send form_row_sync in search sendable depth 20

@@ -1,18 +1,19 @@
 // An accepted program.
-ghost use Rattle.std.specs.Prelude.{◌≡◌, ◌<◌, ◌^◌, length};
+ghost use Rattle.std.specs.Prelude.{◌≡◌, ◌<◌, ◌^◌, length, IfOk};
 ghost use Rattle.shim_units.specs.OfText.{IsUnitsOfText, IsAcceptedForm};
 ghost use Rattle.shim_units.specs.Sizes.{AreFit};
 
 use crate::form::Form;
 use crate::unit::Unit;
-use shim_base::Name;
+use shim_base::{Name, NoMemory, Shared};
+use std::alloc::Global;
 use std::marker::Model;
 
 /// The units of a program that has a text of at most 1 MiB, that is bound and that obeys the sharing
-/// rule.
-#[derive(Debug, Drop)]
+/// rule. It may have several owners.
+#[derive(Drop)]
 pub struct Accepted {
-    form: Form,
+    form: Shared<Form>,
 }
 
 impl Model for Accepted {
@@ -31,6 +32,15 @@ impl Model for Accepted {
 }
 
 impl Accepted {
+    /// One more owner of the same units.
+    pub fn share(&self) -> Result<Accepted, NoMemory>
+        ensures { IfOk result (λ accepted. accepted ≡ self.now) }
+    {
+        Ok(Accepted {
+            form: self.form.share()?,
+        })
+    }
+
     /// The units of the functions, as they come in the source. Behind them all stand those of the
     /// block branches, as these begin in it. The statements of each have less than 2 ^ 31 numbers.
     pub fn units(&self) -> &[Unit]
@@ -65,9 +75,11 @@ impl Accepted {
 }
 
 /// The accepted program in these units. Its condition is all that the type keeps.
-pub fn from_form(form: Form) -> Accepted
+pub fn from_form(alloc: Global, form: Form) -> Result<Accepted, NoMemory>
     requires { IsAcceptedForm form }
-    ensures { result ≡ form }
+    ensures { IfOk result (λ accepted. accepted ≡ form) }
 {
-    Accepted { form }
+    Ok(Accepted {
+        form: Shared::new(alloc, form)?,
+    })
 }

@@ -35,6 +35,7 @@ pub fn lends_first(params: &[UParam]) -> bool
     }
 }
 
+/// The parameters behind the first.
 pub fn behind_first(params: &[UParam]) -> &[UParam]
     ensures { result.now ≡ behind_first params.now }
 {
@@ -42,6 +43,21 @@ pub fn behind_first(params: &[UParam]) -> &[UParam]
         [] => params,
         [_, behind @ ..] => behind,
     }
+}
+
+/// A copy of some parameters.
+pub fn copy_params(alloc: Global, params: &[UParam]) -> Result<List<UParam>, NoMemory>
+    ensures { IfOk result (λ made. made ≡ params.now) }
+{
+    let mut made = List::new(alloc);
+    for param in params {
+        made.push(UParam {
+            sort: param.sort,
+            by_ref: param.by_ref,
+            name: param.name,
+        })?;
+    }
+    Ok(made)
 }
 
 /// The parameters of a function by its number.

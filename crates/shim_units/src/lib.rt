@@ -18,7 +18,7 @@ mod word;
 
 pub use accepted::{Accepted, from_form};
 pub use branch::{BranchCaptures, call_branch, close_branch, make_unit, open_branch, open_unit};
-pub use calls::{give, params_at};
+pub use calls::{behind_first, copy_params, give, params_at};
 pub use captures::{capture_at, is_reference, take_all};
 pub use form::Form;
 pub use found::{Capture, Given, How, Use};

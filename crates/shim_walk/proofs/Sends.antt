@@ -1,5 +1,4 @@
 -- A process may cross threads: what it owns are numbers and lists, and what it shares by `Arc` says the same to every thread.
-use denote.RattleType.{RattleType}
 use denote.Builtin.{u8}
 use denote.Param.Send.{IsSend, IsSync, recorded_send, sendable, struct_send}
 use denote.Struct.Declared.{shape}
@@ -9,7 +8,7 @@ use Rattle.shim_base.specs.contracts.chan.Chan as Chan
 use Rattle.shim_base.specs.contracts.list.List as List
 use Rattle.shim_base.specs.contracts.path.Path as Path
 use Rattle.shim_base.specs.contracts.shared.Shared as Shared
-use Rattle.shim_units.proofs.Sends.{accepted_send, accepted_sync, list_send, list_sync}
+use Rattle.shim_units.proofs.Sends.{accepted_send, accepted_sync, list_send, list_sync, shared_send}
 use Rattle.shim_units.specs.contracts.accepted.Accepted as Accepted
 use Rattle.shim_walk_frames.proofs.frame.Frame.TheSendSync as frames
 use Rattle.shim_walk_frames.proofs.call_stack.CallStack.TheSendSync as callers
@@ -17,9 +16,6 @@ use Rattle.shim_locations.proofs.locations.Locations.TheSendSync as locations
 use Rattle.shim_walk.specs.contracts.process.Process as Process
 use Rattle.shim_walk.specs.contracts.process.Process.TheInside as inside
 use Rattle.shim_walk.specs.contracts.walk.Walk as Walk
-
-shared_send : (T : RattleType) → IsSend T → IsSync T → IsSend (Shared.the_row T)
-shared_send T s y = search (sendable, crosses) depth 20
 
 path_send : IsSend Path.the_row
 path_send = search (list_send, sendable) depth 20

@@ -1,0 +1,17 @@
+-- Jumps of a draft whose places are written late.
+use Rattle.std.specs.Prelude.{ℕ, ◌+◌, List, [], ◌∷◌, ◌++◌, length, Option, Some, None, slice_set}
+use Rattle.shim_code.specs.declared.machine_instr.MachineInstr.{MachineInstr}
+use Rattle.shim_code.specs.declared.machine_instr.MachineInstr.TheVariants.{Jump, JumpZ, Try}
+
+-- what leads to the second of two pieces: a test, or the exception of a `try`
+abbrev pub head_of : Option ℕ → ℕ → MachineInstr
+head_of None t = JumpZ t
+head_of (Some x) t = Try t x
+
+-- the first jump leads behind the second, which leads to the end
+abbrev pub closed : Option ℕ → ℕ → ℕ → List MachineInstr → List MachineInstr
+closed x head jump l = slice_set (slice_set l head (head_of x (jump + 1))) jump (Jump (length l))
+
+-- a jump to the start of a loop stands at the end, and the jump out of the loop leads behind it
+abbrev pub closed_loop : ℕ → ℕ → List MachineInstr → List MachineInstr
+closed_loop start head l = let whole = l ++ Jump start ∷ [] in slice_set whole head (JumpZ (length whole))

@@ -1,0 +1,83 @@
+// The code of a program.
+ghost use Rattle.std.specs.Prelude.{◌≡◌, map};
+ghost use Rattle.shim_code.specs.Programs.{code_units, machine_units};
+ghost use Rattle.shim_code.specs.Published.{published_all};
+ghost use Rattle.shim_code.specs.declared.unit.CodeUnit.{CodeUnit};
+
+use crate::machine_instr::MachineInstr;
+use crate::unit::CodeUnit;
+use shim_base::List;
+use shim_units::Accepted;
+use std::marker::Model;
+
+/// The code of an accepted program, which contracts see as the program: of each unit the list that is
+/// shown and the one that the machine runs.
+#[derive(Drop)]
+pub struct Code {
+    program: Accepted,
+    units: List<CodeUnit>,
+    machine: List<List<MachineInstr>>,
+}
+
+impl Model for Code {
+    ghost use Rattle.std.specs.Prelude.{◌≡◌};
+    ghost use Rattle.std.specs.Coded.{codes};
+    ghost use Rattle.shim_units.specs.contracts.unit.Unit as unit;
+    ghost use Rattle.shim_units.specs.declared.form.Form.{Form};
+    ghost use Rattle.shim_code.specs.Programs.{code_units, machine_units};
+
+    ghost Value = { Form };
+
+    ghost coded = { Prim.hlevel (codes, unit.the_row.coded) };
+
+    ghost view = { λ code. code.program };
+
+    ghost invariant = { λ code. (code.units ≡ code_units code.program.units) × (code.machine ≡ machine_units code.program.units code.program.units) };
+}
+
+impl Code {
+    /// These lists as the code of the program that they are of.
+    pub(crate) fn new(
+        program: Accepted,
+        units: List<CodeUnit>,
+        machine: List<List<MachineInstr>>,
+    ) -> Code
+        requires { (units ≡ code_units program.units) × (machine ≡ machine_units program.units program.units) }
+        ensures { result ≡ program }
+    {
+        Code {
+            program,
+            units,
+            machine,
+        }
+    }
+
+    /// The program that it is the code of.
+    pub fn program(&self) -> &Accepted
+        ensures { result.now ≡ self.now }
+    {
+        &self.program
+    }
+
+    /// The units, in the order of the program's, each with its code.
+    pub fn units(&self) -> &[CodeUnit]
+        ensures { result.now ≡ code_units self.now.units }
+    {
+        self.units.as_slice()
+    }
+
+    /// What the machine runs for each unit. Without what only running it takes, this is the unit's code.
+    pub fn machine(&self) -> &[List<MachineInstr>]
+        ensures value { result.now ≡ machine_units self.now.units self.now.units }
+        ensures published { map published_all result.now ≡ map (λ (u : CodeUnit). u.code) (code_units self.now.units) }
+    {
+        self.machine.as_slice()
+    }
+
+    /// The number of the unit of the function `main`.
+    pub fn main(&self) -> u32
+        ensures { result ≡ self.now.main }
+    {
+        self.program.main()
+    }
+}

@@ -1,0 +1,144 @@
+// The code of a unit while it is written.
+ghost use Rattle.std.specs.Prelude.{◌≡◌, ◌+◌, ◌∷◌, ◌++◌, [], length, slice_set, IfOk, OnOk};
+ghost use Rattle.shim_code.specs.Drafts.{closed, closed_loop};
+ghost use Rattle.shim_code.specs.MachineCode.{begins, begun, numbered, with_number};
+ghost use Rattle.shim_code.specs.declared.machine_instr.MachineInstr.TheVariants.{Jump};
+
+use crate::instr::MarkKind;
+use crate::machine_instr::{MachineInstr, Mark};
+use shim_base::{List, NoMemory};
+use std::alloc::Global;
+use std::marker::Model;
+
+/// The instructions so far. A jump past what isn't there yet is pushed first and gets its place later.
+#[derive(Drop)]
+pub struct Draft {
+    items: Vec<MachineInstr>,
+}
+
+impl Model for Draft {
+    ghost use Rattle.std.specs.Prelude.{List};
+    ghost use Rattle.shim_code.specs.declared.machine_instr.MachineInstr.{MachineInstr};
+
+    ghost Value = { List MachineInstr };
+
+    ghost view = { λ draft. draft.items.items };
+}
+
+impl Draft {
+    pub fn new(alloc: Global) -> Draft
+        ensures { result ≡ [] }
+    {
+        Draft {
+            items: Vec::new(alloc),
+        }
+    }
+
+    pub fn push(&mut self, instr: MachineInstr) -> Result<(), NoMemory>
+        ensures { OnOk result (self.new ≡ self.old ++ instr ∷ []) }
+    {
+        self.items.push(instr)?;
+        Ok(())
+    }
+
+    /// A statement begins, or its second part.
+    pub fn begin(&mut self, kind: MarkKind, line: u32, halfway: bool) -> Result<(), NoMemory>
+        ensures { OnOk result (self.new ≡ self.old ++ begins kind line halfway ∷ []) }
+    {
+        self.push(MachineInstr::Mark(Mark {
+            kind,
+            line,
+            number: 0,
+            halfway,
+        }))
+    }
+
+    /// The place of the next instruction. A place that 32 bits do not hold is taken for want of memory.
+    pub fn here(&self) -> Result<u32, NoMemory>
+        ensures { IfOk result (λ at. at ≡ length self.now) }
+    {
+        u32::try_from(self.items.len()).map_err(|_| NoMemory)
+    }
+
+    /// Leaves room for a jump, and answers its place.
+    pub fn skip(&mut self) -> Result<u32, NoMemory>
+        ensures at { IfOk result (λ at. at ≡ length self.old) }
+        ensures after { OnOk result (self.new ≡ self.old ++ Jump 0 ∷ []) }
+    {
+        let at = self.here()?;
+        self.push(MachineInstr::Jump(0))?;
+        Ok(at)
+    }
+
+    // The instruction of a place is another one.
+    fn put(&mut self, at: u32, instr: MachineInstr)
+        ensures { self.new ≡ slice_set self.old at instr }
+    {
+        if (at as usize) < self.items.len() {
+            self.items[at as usize] = instr;
+        }
+    }
+
+    /// Two pieces are written: the first place leads to the second piece, by a test or, with an
+    /// exception, as its handler; the second place leads from the first piece here.
+    pub fn close(&mut self, head: u32, jump: u32, exception: Option<u32>) -> Result<(), NoMemory>
+        ensures { OnOk result (self.new ≡ closed exception head jump self.old) }
+    {
+        let end = self.here()?;
+        let second = jump.checked_add(1).ok_or(NoMemory)?;
+        let first = match exception {
+            None => MachineInstr::JumpZ(second),
+            Some(exception) => MachineInstr::Try(second, exception),
+        };
+        self.put(head, first);
+        self.put(jump, MachineInstr::Jump(end));
+        Ok(())
+    }
+
+    /// The test and the body of a loop are written: behind them comes a jump to the start, and the first
+    /// place leads past that.
+    pub fn close_loop(&mut self, start: u32, head: u32) -> Result<(), NoMemory>
+        ensures { OnOk result (self.new ≡ closed_loop start head self.old) }
+    {
+        self.push(MachineInstr::Jump(start))?;
+        let end = self.here()?;
+        self.put(head, MachineInstr::JumpZ(end));
+        Ok(())
+    }
+
+    /// The whole code, with the numbers of the statements at their marks. A number that 32 bits do not
+    /// hold is taken for want of memory.
+    pub fn finish(self) -> Result<List<MachineInstr>, NoMemory>
+        ensures { IfOk result (λ code. code ≡ numbered 0 self) }
+    {
+        let Draft { mut items } = self;
+        let mut next = 0;
+        for at in 0..items.len() {
+            next = write_number(&mut items[at], next)?;
+        }
+        Ok(List::from(items))
+    }
+}
+
+// Writes its number into an instruction behind the marks of so many statements, and counts on.
+fn write_number(instr: &mut MachineInstr, next: u32) -> Result<u32, NoMemory>
+    ensures written { OnOk result (instr.new ≡ with_number next instr.old) }
+    ensures next { IfOk result (λ after. after ≡ next + begun instr.old) }
+{
+    match instr {
+        MachineInstr::Mark(mark) => {
+            if mark.halfway {
+                mark.number = next.saturating_sub(1);
+                Ok(next)
+            } else {
+                mark.number = next;
+                next.checked_add(1).ok_or(NoMemory)
+            }
+        }
+        MachineInstr::End(count) => {
+            *count = next;
+            Ok(next)
+        }
+        _ => Ok(next),
+    }
+}

@@ -1,0 +1,11 @@
+//! Tests of code: sources with their listings.
+#![tactic(auto)]
+
+#[cfg(test)]
+mod expect;
+#[cfg(test)]
+mod expressions;
+#[cfg(test)]
+mod statements;
+#[cfg(test)]
+mod units;
