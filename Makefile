@@ -1,6 +1,6 @@
 # Use: `make shim` proves what the program stands on and leaves ./shim, a binary of its own;
-# `make try FILE=PATH` runs a file without any proof, by the kit's trial run, and `MODE=ref` takes the
-# other command; `make check` is the merge gate; `make install PREFIX=/usr/local` puts shim into PREFIX/bin.
+# `make try FILE=PATH` runs a file without any proof, by the kit's trial run, and `MODE=code` takes another
+# mode; `make check` is the merge gate; `make install PREFIX=/usr/local` puts shim into PREFIX/bin.
 PREFIX ?= /usr/local
 MODE = run
 

@@ -222,3 +222,12 @@ for kind in row tree storm; do
     }'
   done
 done
+
+# The largest source that the command makes itself, with a run of 1,100,017 steps.
+shim=$(least ./shim gen pipe --size 100000 --budget 4000000)
+[ "$(tail -n 1 "$room/out")" = "end done 1100017" ] || { tail -n 1 "$room/out" >&2; exit 1; }
+threads=$(least "$room/threads" row 100000)
+awk -v shim="$shim" -v threads="$threads" 'BEGIN {
+  printf "gen pipe 100000: 1100017 steps, shim %.4f s, %.2f million steps a second; threads %.4f s, ratio %.3f\n",
+    shim / 1e9, 1100017 * 1e3 / shim, threads / 1e9, shim / threads
+}'

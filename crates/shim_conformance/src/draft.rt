@@ -9,8 +9,8 @@ use shim_base::{List, Name};
 use std::alloc::Global;
 use std::mem;
 
-// More than a source may have, so that sources at their limit and past it can be written.
-const MOST_BYTES: usize = 1 << 21;
+// More than an input may have, so that files at their limit and past it can be written.
+const MOST_BYTES: usize = 1 << 25;
 
 // What the lines belong to.
 #[derive(Drop)]

@@ -47,7 +47,7 @@ impl CaseFault {
             CaseFault::BadHex => "the part above has more than pairs of hex digits",
             CaseFault::BadWords =>
                 "the words have two spaces, or a brace that is not at both ends of a word",
-            CaseFault::BadRepeat => "no 'repeat COUNT TEXT' of at most 2 MiB in a file or a text",
+            CaseFault::BadRepeat => "no 'repeat COUNT TEXT' of at most 32 MiB in a file or a text",
             CaseFault::ManyCalls => "the words give more than 1000 calls",
             CaseFault::NoWords => "the case has no '=== words'",
             CaseFault::NoStatus => "the case has no '=== status'",

@@ -1,4 +1,4 @@
-//! The examples, each run by the tool over real files; the gate compares what this prints.
+//! The examples, each run and checked by the tool over real files; the gate compares what this prints.
 #![tactic(auto)]
 
 use shim_base::NoMemory;
@@ -7,20 +7,22 @@ use shim_tool::shim;
 use std::alloc::Global;
 use std::{env, io};
 
-fn words(alloc: Global, example: String) -> Result<Vec<String>, NoMemory> {
+// The words of a line: a mode, an example and perhaps its input.
+fn words(alloc: Global, line: &str) -> Result<Vec<String>, NoMemory> {
     let mut words = Vec::new(alloc);
     words.push(String::from_str(alloc, "shim")?)?;
-    words.push(String::from_str(alloc, "run")?)?;
-    words.push(example)?;
+    for word in line.split(' ') {
+        words.push(String::from_str(alloc, word)?)?;
+    }
     Ok(words)
 }
 
-// Prints the name of an example, what its run writes, and the status.
-fn show(rt: &HostRuntime, example: String) -> io::Result<()> {
-    println!(rt; "{example}")?;
+// Prints a line, what the tool writes for its words, and the status.
+fn show(rt: &HostRuntime, line: &str) -> io::Result<()> {
+    println!(rt; "{line}")?;
     let mut files = HostFiles::new(rt.alloc(), rt);
     let mut out = HostSink::new(rt);
-    match words(rt.alloc(), example) {
+    match words(rt.alloc(), line) {
         Ok(words) => {
             let status = shim(rt.alloc(), &words, &mut files, &mut out);
             println!(rt; "status {status}")
@@ -30,8 +32,8 @@ fn show(rt: &HostRuntime, example: String) -> io::Result<()> {
 }
 
 fn main(rt: HostRuntime) -> io::Result<()> {
-    for example in env::args(&rt)?.skip(1) {
-        show(&rt, example)?;
+    for line in env::args(&rt)?.skip(1) {
+        show(&rt, line.as_str())?;
     }
     Ok(())
 }

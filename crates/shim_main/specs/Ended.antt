@@ -1,15 +1,18 @@
 -- How the program ends, with its words or without.
-use Rattle.std.specs.Prelude.{ℕ, ◌⊎◌, List, String}
+use Rattle.std.specs.Prelude.{ℕ, ◌≡◌, ◌≢◌, List, None, String}
 use Rattle.std.specs.declared.alloc.Global.{Global}
-use Rattle.shim_tool.specs.Asked.{asked, nothing, texts_of_words}
+use Rattle.std.specs.declared.io.ErrorKind.{ErrorKind}
+use Rattle.std.specs.declared.io.ErrorKind.TheVariants.{OutOfMemory}
+use Rattle.shim_command.specs.Jobs.{job, texts_of}
 use Rattle.shim_tool.specs.Moments.{FilesAt, SinkAt}
 use Rattle.shim_tool.specs.Answer.{no_memory}
 use Rattle.shim_tool.specs.Call.{Ran, Writes}
 
 -- the tool ran on the words
 abbrev pub EndsWithWords : List (String Global) → FilesAt → FilesAt → SinkAt → SinkAt → ℕ → Type 0
-EndsWithWords words before now out_before out_now result = Ran (asked (texts_of_words words)) before now out_before out_now result
+EndsWithWords words before now out_before out_now result = Ran (job (texts_of words)) before now out_before out_now result
 
--- the tool ran on words that ask for nothing, or the answer for want of memory was written
-abbrev pub EndsWithoutWords : FilesAt → FilesAt → SinkAt → SinkAt → ℕ → Type 0
-EndsWithoutWords before now out_before out_now result = Ran nothing before now out_before out_now result ⊎ Writes out_before out_now no_memory result
+-- There were no words, and the system told this kind of error: where that is want of memory, its answer was written, and else the tool ran on words that ask for nothing.
+pub record EndsWithoutWords (kind : ErrorKind) (before now : FilesAt) (out_before out_now : SinkAt) (result : ℕ) : Type 0 where
+  pub memory : kind ≡ OutOfMemory → Writes out_before out_now no_memory result
+  pub nothing : kind ≢ OutOfMemory → Ran None before now out_before out_now result

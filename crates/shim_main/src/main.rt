@@ -2,6 +2,7 @@
 #![tactic(auto)]
 
 ghost use Rattle.std.specs.Prelude.{MatchResult};
+ghost use Rattle.std.specs.IoError.{error_kind};
 ghost use Rattle.shim_main.specs.Ended.{EndsWithoutWords, EndsWithWords};
 ghost use Rattle.shim_tool.specs.Moments.{files_at, sink_at};
 
@@ -15,7 +16,24 @@ use std::process::ExitCode;
 #[cfg(test)]
 mod tests;
 
-// Ends with the status of the words, where they could be had. Words that are no text ask for nothing.
+// Ends where the system handed over no words, and told this kind of error. Words that are no text ask for
+// nothing.
+fn status_without_words<F: Files, K: Sink>(
+    alloc: Global,
+    kind: ErrorKind,
+    files: &mut F,
+    out: &mut K,
+) -> u8
+    ensures { EndsWithoutWords kind (files_at F.held F.sound F.failed files.old) (files_at F.held F.sound F.failed files.new)
+        (sink_at K.taken K.faults out.old) (sink_at K.taken K.faults out.new) result }
+{
+    match kind == ErrorKind::OutOfMemory {
+        true => write_no_memory(out),
+        false => shim(alloc, &[], files, out),
+    }
+}
+
+// Ends with the status of the words, where they could be had.
 fn status<F: Files, K: Sink>(
     alloc: Global,
     words: io::Result<Vec<String>>,
@@ -25,13 +43,12 @@ fn status<F: Files, K: Sink>(
     ensures { MatchResult words
         (λ found. EndsWithWords found.items (files_at F.held F.sound F.failed files.old) (files_at F.held F.sound F.failed files.new)
         (sink_at K.taken K.faults out.old) (sink_at K.taken K.faults out.new) result)
-        (λ _. EndsWithoutWords (files_at F.held F.sound F.failed files.old) (files_at F.held F.sound F.failed files.new)
+        (λ e. EndsWithoutWords (error_kind e) (files_at F.held F.sound F.failed files.old) (files_at F.held F.sound F.failed files.new)
         (sink_at K.taken K.faults out.old) (sink_at K.taken K.faults out.new) result) }
 {
     match words {
         Ok(words) => shim(alloc, &words, files, out),
-        Err(e) if e.kind() == ErrorKind::OutOfMemory => write_no_memory(out),
-        Err(_) => shim(alloc, &[], files, out),
+        Err(error) => status_without_words(alloc, error.kind(), files, out),
     }
 }
 

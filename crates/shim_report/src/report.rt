@@ -3,12 +3,14 @@ ghost use Rattle.std.specs.Prelude.{◌≡◌, ◌++◌, IfOk, OnOk, flat_map};
 ghost use Rattle.shim_report.specs.Report.{end_line, history_line, log_line, own_line, report, spent_part, wait_line};
 
 mod lines;
+mod sums;
 mod words;
 
 use lines::{push_end, push_events, push_history, push_log, push_output, push_own, push_wait};
 use shim_base::{List, Name, NoMemory};
 use shim_local::{Ended, History, Log, Outcome, OwnSteps, WaitAt};
 use std::alloc::Global;
+pub use sums::summary;
 
 /// The report of a run, whose names are numbered by their places in the list: what was put, what each
 /// channel's meetings gave, what was caught and what trapped, who waits, of a run that was stopped how

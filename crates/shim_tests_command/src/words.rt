@@ -77,8 +77,8 @@ fn unknown_modes_and_kinds_are_refused(rt: HostRuntime) -> Result<(), Fail> {
         &rt,
         rt.alloc(),
         &[
-            "walk|f", "Run|f", "ru|f", "runs|f", "|f", "f|run", "gen|ring", "gen|f", "gen|Pipe",
-            "gen|", "help|f", "-|f",
+            "walk|f", "Run|f", "ru|f", "runs|f", "|f", "f|run", "codes|f", "gen|ring", "gen|f",
+            "gen|Pipe", "gen|", "help|f", "-|f",
         ],
     )
 }

@@ -13,8 +13,7 @@ use Rattle.shim_semantics.specs.Walks.{walk, first, head}
 use Rattle.shim_semantics.specs.Endings.{ended, own_steps, is_empty, outcome, outcome_of_label, outcome_of_root}
 use Rattle.shim_reference.specs.Naming.{named, named_outcome}
 use Rattle.shim_reference.specs.Reference.{reference_of}
-use Rattle.shim_front_end.specs.Source.{Source}
-use Rattle.shim_tool.specs.RunEnds.{budget, tree_of, end_of, status_of, status_of_outcome, printed_steps, IsDone, IsFailed, IsBlocked, IsSpent, WasRun}
+use Rattle.shim_tool.specs.RunEnds.{Execution, tree_of, end_of, status_of, status_of_outcome, printed_steps, IsDone, IsFailed, IsBlocked, IsSpent, WasRun}
 
 -- a name in a label's place changes no status
 status_named : (throws : List ℕ) (e : Outcome) → status_of_outcome (named_outcome throws e) ≡ status_of_outcome e
@@ -34,27 +33,27 @@ still_going : {S : Type 0} (root : Node S) (es : List Event) → head es ≢ Non
 still_going root [] some = absurd (some refl)
 still_going root (e ∷ es) some = refl
 
--- the outcome that is told of a source is that of its tree, named
+-- the outcome that is told of a run is that of its tree, named
 told : {S : Type 0} (o : Ops S) (throws : List ℕ) (t : Tree S) → (named throws (ended o t)).outcome ≡ named_outcome throws (outcome o t.root)
 unfolding ended
 told o throws t = refl
 
--- the status of a source tells the outcome of its tree
-status_told : (source : Source) → status_of source ≡ status_of_outcome (outcome process_ops (tree_of source).root)
+-- the status of a run tells the outcome of its tree
+status_told : (x : Execution) → status_of x ≡ status_of_outcome (outcome process_ops (tree_of x).root)
 unfolding end_of reference_of tree_of
-status_told source =
-    let t = tree_of source in
-    ap status_of_outcome (told process_ops source.main_throws t) ∙ status_named source.main_throws (outcome process_ops t.root)
+status_told x =
+    let t = tree_of x in
+    ap status_of_outcome (told process_ops x.source.main_throws t) ∙ status_named x.source.main_throws (outcome process_ops t.root)
 
-status_at_rest : (source : Source) → first process_ops (tree_of source) ≡ None → status_of source ≡ status_of_outcome (outcome_of_root (tree_of source).root)
-status_at_rest source none =
-    let t = tree_of source in
-    status_told source ∙ ap status_of_outcome (at_rest t.root (walk process_ops t.root) none)
+status_at_rest : (x : Execution) → first process_ops (tree_of x) ≡ None → status_of x ≡ status_of_outcome (outcome_of_root (tree_of x).root)
+status_at_rest x none =
+    let t = tree_of x in
+    status_told x ∙ ap status_of_outcome (at_rest t.root (walk process_ops t.root) none)
 
-status_stopped : (source : Source) → first process_ops (tree_of source) ≢ None → status_of source ≡ 4
-status_stopped source some =
-    let t = tree_of source in
-    status_told source ∙ ap status_of_outcome (still_going t.root (walk process_ops t.root) some)
+status_stopped : (x : Execution) → first process_ops (tree_of x) ≢ None → status_of x ≡ 4
+status_stopped x some =
+    let t = tree_of x in
+    status_told x ∙ ap status_of_outcome (still_going t.root (walk process_ops t.root) some)
 
 -- a root that died has the status 1, whatever its label
 dead_status : (x : ℕ) → status_of_outcome (outcome_of_label x) ≡ 1
@@ -87,24 +86,24 @@ never_spent (Forked l ks) e = omega (arith, e)
 never_spent (Ended l) e = omega (arith, e)
 never_spent (Dead l d) e = let one = dead_status d.label in omega (arith, e, one)
 
--- of a source that was run the status comes exactly where this is so
-pub record Tells (status : ℕ) (Cause : Source → Type 0) : Type 0 where
-  pub only : (source : Source) → WasRun source → status_of source ≡ status → Cause source
-  pub when : (source : Source) → WasRun source → Cause source → status_of source ≡ status
+-- of a run that was done the status comes exactly where this is so
+pub record Tells (status : ℕ) (Cause : Execution → Type 0) : Type 0 where
+  pub only : (x : Execution) → WasRun x → status_of x ≡ status → Cause x
+  pub when : (x : Execution) → WasRun x → Cause x → status_of x ≡ status
 
 -- nothing can happen any more, and the root is of this kind
-abbrev RestsSo : (Node LocalState → Bool) → Source → Type 0
-RestsSo kind source = IsQuiescent process_ops (tree_of source) × IsTrue (kind (tree_of source).root)
+abbrev RestsSo : (Node LocalState → Bool) → Execution → Type 0
+RestsSo kind x = IsQuiescent process_ops (tree_of x) × IsTrue (kind (tree_of x).root)
 
 rest_tells : (status : ℕ) (kind : Node LocalState → Bool) → (status ≡ 4 → ⊥) → ((n : Node LocalState) → IsTrue (kind n) ↔ (status_of_outcome (outcome_of_root n) ≡ status)) → Tells status (RestsSo kind)
-rest_tells status kind apart tells = record { only = λ source ran is. only source ran is; when = λ source ran cause. when source ran cause } where
-  only : (source : Source) → WasRun source → status_of source ≡ status → RestsSo kind source
-  only source (inl (none, quiet)) is = (quiet, (tells (tree_of source).root).1 (sym (status_at_rest source none) ∙ is))
-  only source (inr (some, busy, full)) is = absurd (apart (sym is ∙ status_stopped source some))
+rest_tells status kind apart tells = record { only = λ x ran is. only x ran is; when = λ x ran cause. when x ran cause } where
+  only : (x : Execution) → WasRun x → status_of x ≡ status → RestsSo kind x
+  only x (inl (none, quiet)) is = (quiet, (tells (tree_of x).root).1 (sym (status_at_rest x none) ∙ is))
+  only x (inr (some, busy, full)) is = absurd (apart (sym is ∙ status_stopped x some))
 
-  when : (source : Source) → WasRun source → RestsSo kind source → status_of source ≡ status
-  when source (inl (none, quiet)) cause = status_at_rest source none ∙ (tells (tree_of source).root).0 cause.1
-  when source (inr (some, busy, full)) cause = absurd (busy cause.0)
+  when : (x : Execution) → WasRun x → RestsSo kind x → status_of x ≡ status
+  when x (inl (none, quiet)) cause = status_at_rest x none ∙ (tells (tree_of x).root).0 cause.1
+  when x (inr (some, busy, full)) cause = absurd (busy cause.0)
 
 pub tells_done : Tells 0 IsDone
 tells_done = rest_tells 0 has_ended (λ e. omega (arith, e)) root_ended
@@ -116,14 +115,14 @@ pub tells_blocked : Tells 3 IsBlocked
 tells_blocked = rest_tells 3 goes (λ e. omega (arith, e)) root_goes
 
 pub tells_spent : Tells 4 IsSpent
-tells_spent = record { only = λ source ran is. only source ran is; when = λ source ran cause. when source ran cause } where
-  only : (source : Source) → WasRun source → status_of source ≡ 4 → IsSpent source
-  only source (inl (none, quiet)) is = absurd (never_spent (tree_of source).root (sym (status_at_rest source none) ∙ is))
-  only source (inr (some, busy, full)) is = busy
+tells_spent = record { only = λ x ran is. only x ran is; when = λ x ran cause. when x ran cause } where
+  only : (x : Execution) → WasRun x → status_of x ≡ 4 → IsSpent x
+  only x (inl (none, quiet)) is = absurd (never_spent (tree_of x).root (sym (status_at_rest x none) ∙ is))
+  only x (inr (some, busy, full)) is = busy
 
-  when : (source : Source) → WasRun source → IsSpent source → status_of source ≡ 4
-  when source (inl (none, quiet)) cause = absurd (cause quiet)
-  when source (inr (some, busy, full)) cause = status_stopped source some
+  when : (x : Execution) → WasRun x → IsSpent x → status_of x ≡ 4
+  when x (inl (none, quiet)) cause = absurd (cause quiet)
+  when x (inr (some, busy, full)) cause = status_stopped x some
 
 -- the counts that are printed are those of the tree
 counts_of : (es : List (Path × ℕ)) → map (λ s. s.count) (map own_steps es) ≡ map (λ e. e.1) es
@@ -136,11 +135,11 @@ unfolding ended
 printed o throws t = ap (λ (ns : List ℕ). sum ns + t.events) (counts_of (finite.entries t.counts))
 
 -- a run that was stopped did as many events as the budget has
-pub spent_steps : (source : Source) → WasRun source → status_of source ≡ 4 → steps (tree_of source) ≡ budget
-spent_steps source (inl (none, quiet)) is = absurd (never_spent (tree_of source).root (sym (status_at_rest source none) ∙ is))
-spent_steps source (inr (some, busy, full)) is = full
+pub spent_steps : (x : Execution) → WasRun x → status_of x ≡ 4 → steps (tree_of x) ≡ x.budget
+spent_steps x (inl (none, quiet)) is = absurd (never_spent (tree_of x).root (sym (status_at_rest x none) ∙ is))
+spent_steps x (inr (some, busy, full)) is = full
 
 -- and those of a run that was stopped to the budget
-pub spent_counts : (source : Source) → WasRun source → status_of source ≡ 4 → printed_steps (end_of source) ≡ budget
+pub spent_counts : (x : Execution) → WasRun x → status_of x ≡ 4 → printed_steps (end_of x) ≡ x.budget
 unfolding end_of reference_of tree_of
-spent_counts source was_run is = printed process_ops source.main_throws (tree_of source) ∙ spent_steps source was_run is
+spent_counts x was_run is = printed process_ops x.source.main_throws (tree_of x) ∙ spent_steps x was_run is

@@ -4,3 +4,6 @@ pub mod Causes
 pub mod Outcomes
 pub mod Reached
 pub mod RowLemmas
+pub mod Joins
+pub mod Sights
+pub mod FunctionUnits

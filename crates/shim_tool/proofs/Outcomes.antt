@@ -1,22 +1,22 @@
--- What comes of the bytes of a file: they are a source and run, or they are refused with one line.
+-- What comes of the text of a source: it is a source and its deed is done, or it is refused with one line.
 use Rattle.std.proofs.Common.{◌≡◌, ℕ, List, Ok, Err, inl, inr, refl, ap, ◌∙◌, subst}
 use Rattle.shim_syntax.specs.declared.Program.{Program}
 use Rattle.shim_parser.specs.declared.ParseFault.{ParseFault}
 use Rattle.shim_front_end.specs.declared.SourceFault.{SourceFault}
 use Rattle.shim_front_end.specs.declared.SourceFault.TheVariants.{Parse}
-use Rattle.shim_report.specs.Refusal.{refusal}
-use Rattle.shim_tool.specs.declared.mode.Mode.{Mode}
-use Rattle.shim_front_end.specs.Source.{Source, IsSource, checked}
-use Rattle.shim_tool.specs.RunEnds.{WasRun}
 use Rattle.shim_front_end.specs.FrontEnd.{IsOnlyText, IsOnlyFault}
-use Rattle.shim_tool.specs.Answer.{Answer, AnswersSource, IsNoSource, end_answer}
+use Rattle.shim_front_end.specs.Source.{Source, IsSource, checked}
+use Rattle.shim_report.specs.Refusal.{refusal}
+use Rattle.shim_tool.specs.RunEnds.{Execution}
+use Rattle.shim_tool.specs.Modes.{Deed}
+use Rattle.shim_tool.specs.Answer.{Answer, AnswersSource, IsNoSource, WasDone, deed_answer}
 use Rattle.shim_tool.specs.Rows.{IsRefusal}
 
-pub data Outcome (mode : Mode) (bytes : List ℕ) (answer : Answer) : Type 0 where
-  runs : (source : Source) → IsSource bytes source → WasRun source → ((other : Source) → IsSource bytes other → other ≡ source) → ((line : List ℕ) → IsRefusal bytes line → ⊥)
-      → answer ≡ end_answer mode source → Outcome mode bytes answer
+pub data Outcome (deed : Deed) (as_run : Source → Execution) (bytes : List ℕ) (answer : Answer) : Type 0 where
+  does : (source : Source) → IsSource bytes source → WasDone deed (as_run source) → ((other : Source) → IsSource bytes other → other ≡ source) → ((line : List ℕ) → IsRefusal bytes line → ⊥)
+      → answer ≡ deed_answer deed (as_run source) → Outcome deed as_run bytes answer
   refuses : (line : List ℕ) → IsRefusal bytes line → ((other : List ℕ) → IsRefusal bytes other → other ≡ line) → IsNoSource bytes
-      → answer ≡ record { status = 5; text = line } → Outcome mode bytes answer
+      → answer ≡ record { status = 5; text = line } → Outcome deed as_run bytes answer
 
 -- the source of a text is one
 one_source : (bytes : List ℕ) (program : Program) (source : Source) → IsOnlyText bytes program → checked program ≡ Ok source → (other : Source) → IsSource bytes other → other ≡ source
@@ -58,10 +58,10 @@ line_of_fault : (bytes : List ℕ) (fault : ParseFault) → IsOnlyFault bytes fa
 line_of_fault bytes fault h line (inl (program, is, r, refused, same)) = absurd (h.textless program is)
 line_of_fault bytes fault h line (inr (other, is, same)) = same ∙ ap (λ (f : ParseFault). refusal (Parse f)) (h.only other is)
 
-pub outcome : (mode : Mode) (bytes : List ℕ) (answer : Answer) → AnswersSource mode bytes answer → Outcome mode bytes answer
-outcome mode bytes answer (inl (program, text, inl (source, units, (ran, is)))) =
-    runs source (record { program = program; text = text.text; units = units }) ran (one_source bytes program source text units) (never_refused bytes program source text units) is
-outcome mode bytes answer (inl (program, text, inr (r, refused, is))) =
+pub outcome : (deed : Deed) (as_run : Source → Execution) (bytes : List ℕ) (answer : Answer) → AnswersSource deed as_run bytes answer → Outcome deed as_run bytes answer
+outcome deed as_run bytes answer (inl (program, text, inl (source, units, (done, is)))) =
+    does source (record { program = program; text = text.text; units = units }) done (one_source bytes program source text units) (never_refused bytes program source text units) is
+outcome deed as_run bytes answer (inl (program, text, inr (r, refused, is))) =
     refuses (refusal r) (inl (program, text.text, r, refused, refl)) (line_of_refused bytes program r text refused) (no_acceptance bytes program r text refused) is
-outcome mode bytes answer (inr (fault, h, is)) =
+outcome deed as_run bytes answer (inr (fault, h, is)) =
     refuses (refusal (Parse fault)) (inr (fault, h.faulty, refl)) (line_of_fault bytes fault h) (λ source has. h.textless has.program has.text) is

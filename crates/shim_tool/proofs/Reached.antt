@@ -8,8 +8,7 @@ use Rattle.shim_semantics.specs.Trees.{Tree, Event, after, start, steps}
 use Rattle.shim_semantics.specs.Walks.{first, after_first, or_stay, meaning}
 use Rattle.shim_semantics.proofs.Counting.{event_counts, none_counted}
 use Rattle.shim_reference.specs.Reference.{meaning_of}
-use Rattle.shim_front_end.specs.Source.{Source}
-use Rattle.shim_tool.specs.RunEnds.{budget, tree_of, status_of, IsReachedIn, WasRun}
+use Rattle.shim_tool.specs.RunEnds.{Execution, tree_of, status_of, IsReachedIn, WasRun}
 use Rattle.shim_tool.proofs.Causes.{spent_steps}
 
 -- a run of at most so many events leads from the first tree to the second, and counts them
@@ -39,17 +38,17 @@ module _ {S : Type 0} (o : Ops S) where
   reached (suc b) t = by_first b (reached b) t (first o t)
 
 -- the run of a source
-tree_reached : (source : Source) → Reaches process_ops budget (start (root source [])) (tree_of source)
+tree_reached : (x : Execution) → Reaches process_ops x.budget (start (root x.source x.input)) (tree_of x)
 unfolding tree_of meaning_of
-tree_reached source = reached process_ops budget (start (root source []))
+tree_reached x = reached process_ops x.budget (start (root x.source x.input))
 
--- the tree to which a source's run comes is reached by a run within the budget
-pub is_reached : (source : Source) → (n : ℕ) × (n ≤ budget) × IsReachedIn n source
-is_reached source = let w = tree_reached source in (length w.0, w.3, (w.0, w.1, refl))
+-- the tree to which a run comes is reached within the budget
+pub is_reached : (x : Execution) → (n : ℕ) × (n ≤ x.budget) × IsReachedIn n x
+is_reached x = let w = tree_reached x in (length w.0, w.3, (w.0, w.1, refl))
 
--- and where it was stopped, as many events as the budget has
-pub is_reached_whole : (source : Source) → WasRun source → status_of source ≡ 4 → IsReachedIn budget source
-is_reached_whole source was_run is = whole (tree_reached source) (spent_steps source was_run is)
+-- and where it was stopped, by as many events as the budget has
+pub is_reached_whole : (x : Execution) → WasRun x → status_of x ≡ 4 → IsReachedIn x.budget x
+is_reached_whole x was_run is = whole (tree_reached x) (spent_steps x was_run is)
   where
-    whole : Reaches process_ops budget (start (root source [])) (tree_of source) → steps (tree_of source) ≡ budget → IsReachedIn budget source
-    whole (es, leads, counts, few) full = (es, leads, omega (arith, counts, full, none_counted (root source []) (start (root source [])) refl))
+    whole : Reaches process_ops x.budget (start (root x.source x.input)) (tree_of x) → steps (tree_of x) ≡ x.budget → IsReachedIn x.budget x
+    whole (es, leads, counts, few) full = (es, leads, omega (arith, counts, full, none_counted (root x.source x.input) (start (root x.source x.input)) refl))

@@ -1,29 +1,31 @@
--- The rows of the statuses, from what one call is.
-use Rattle.std.proofs.Common.{ℕ, ◌≡◌, ◌<◌, ◌≤◌, ◌⊎◌, List, length, Option, Some, None, IfSome, IsSomeAnd, IsSome, refl, inl, inr, sym, ◌∙◌, subst, ap, arith}
+-- The rows of the statuses, from what one call is. No lemma goes by cases on the mode.
+use Rattle.std.proofs.Common.{ℕ, ◌≡◌, ◌≢◌, ◌<◌, ◌≤◌, ◌⊎◌, List, length, Option, Some, None, refl, inl, inr, sym, ◌∙◌, subst, ap, arith}
 use Rattle.shim_edge.specs.Count.{HasRisen}
-use Rattle.shim_edge.specs.Files.{file_of, IsHeld}
 use Rattle.shim_edge.specs.Sink.{then_bytes, TakesPart}
-use Rattle.shim_tool.specs.declared.mode.Mode.{Mode}
-use Rattle.shim_tool.specs.Asked.{Asked, nothing, job}
-use Rattle.shim_tool.specs.Moments.{FilesAt, SinkAt}
 use Rattle.shim_local.specs.declared.Outcome.{Outcome as End}
 use Rattle.shim_local.specs.declared.Outcome.TheVariants.{Done, Uncaught, Trapped, Blocked, Spent}
 use Rattle.shim_front_end.specs.Source.{Source, IsSource}
-use Rattle.shim_tool.specs.RunEnds.{status_of, status_of_outcome, end_of, budget, printed_steps, IsReachedIn, WasRun}
-use Rattle.shim_tool.specs.Answer.{Answer, Answers, AnswersSource, AnswersSeen, MayAnswer, ReadFailed, IsTooLong, IsContent, IsNoSource, Seen, unread, longer, whole, Sees, source_limit, text_of, memory_line}
+use Rattle.shim_command.specs.declared.job.Job.{Job}
+use Rattle.shim_tool.specs.Moments.{FilesAt, SinkAt}
+use Rattle.shim_tool.specs.RunEnds.{Execution, status_of_outcome, end_of, printed_steps, IsReachedIn}
+use Rattle.shim_tool.specs.Modes.{Deed, Reading, runs, tells, deed_of, reads_of, source_text}
+use Rattle.shim_tool.specs.Reads.{AreContents, HoldsAll, HoldsUpTo, Holds, OneReadFailed, Saw, all, longer_file, unread_file}
+use Rattle.shim_tool.specs.Answer.{Answer, Answers, AnswersGathered, FailedGrew, MayAnswer, IsNoSource, WasDone, gathered, status_by, text_by, longer_line, memory_line, usage_line}
 use Rattle.shim_tool.specs.Call.{Ran, Writes}
-use Rattle.shim_tool.specs.Rows.{Came, Comes, Holds, WasRead, IsRefusal, EndRow, CountRow, RefusedRow, IsComplete}
+use Rattle.shim_tool.specs.Rows.{Came, Comes, ComesUnlessUnread, WasRead, EndsBy, IsReached, IsRefusal, execution, EndRow, CountRow, RefusedRow, FileCause, FileRow, SinkRow, MemoryRow, WordsRow, FilesRow, IsComplete}
 use Rattle.shim_tool.proofs.Causes.{Tells, spent_counts}
 use Rattle.shim_tool.proofs.Reached.{is_reached, is_reached_whole}
-use Rattle.shim_tool.proofs.Outcomes.{Outcome, runs, refuses, outcome}
+use Rattle.shim_tool.proofs.Outcomes.{Outcome, does, refuses, outcome}
+use Rattle.shim_tool.proofs.Joins.{looks_grew}
+use Rattle.shim_tool.proofs.Sights.{WasSeen, was_seen, same_contents, none_failed, none_too_long, not_all_read, one_too_long}
 
 -- What came of an answer: it was written, or memory was wanted, or the sink failed.
-pub data Wrote (ask : Asked) (before now : FilesAt) (ob on : SinkAt) (result : ℕ) : Type 0 where
+pub data Wrote (ask : Option Job) (before now : FilesAt) (ob on : SinkAt) (result : ℕ) : Type 0 where
   answered : (answer : Answer) → Answers ask before now answer → Came answer.status answer.text ob on result → Wrote ask before now ob on result
   lacked : Came 8 memory_line ob on result → Wrote ask before now ob on result
   failed : (answer : Answer) → MayAnswer ask before now answer → result ≡ 7 → HasRisen ob.faults on.faults → TakesPart ob.taken answer.text on.taken → Wrote ask before now ob on result
 
-wrote : (ask : Asked) (before now : FilesAt) (ob on : SinkAt) (result : ℕ) → Ran ask before now ob on result → Wrote ask before now ob on result
+wrote : (ask : Option Job) (before now : FilesAt) (ob on : SinkAt) (result : ℕ) → Ran ask before now ob on result → Wrote ask before now ob on result
 wrote ask before now ob on result r = by_write r.answer r.cause r.written where
   by_write : (answer : Answer) → MayAnswer ask before now answer → Writes ob on answer result → Wrote ask before now ob on result
   by_write answer cause (inr (is, part, rose, later)) = failed answer cause is rose part
@@ -31,53 +33,43 @@ wrote ask before now ob on result r = by_write r.answer r.cause r.written where
   by_write answer (inr (grew, lack)) (inl (is, taken, calm)) =
       lacked (is ∙ ap (λ (a : Answer). a.status) lack, taken ∙ ap (λ (a : Answer). then_bytes ob.taken a.text) lack)
 
--- the bytes that were read are those that the files hold
-held_bytes : (before : FilesAt) (name held bytes : List ℕ) → Holds before name held → IsContent name before bytes → bytes ≡ held
-held_bytes before name held bytes h content = agree before.held h.told content.1 where
-  agree : (o : Option (List (List ℕ × List ℕ))) → o ≡ Some h.files → IfSome o (λ files. file_of files name ≡ Some bytes) → bytes ≡ held
-  agree None e c = absurd (cc)
-  agree (Some files) e c = let f : file_of files name ≡ Some held = ap (λ (l : List (List ℕ × List ℕ)). file_of l name) (let g : files ≡ h.files = cc in g) ∙ h.found in cc
+-- what a call for a job did
+ran_job : (ask : Option Job) (job : Job) (before now : FilesAt) (ob on : SinkAt) (result : ℕ) → Ran ask before now ob on result → ask ≡ Some job → Wrote (Some job) before now ob on result
+ran_job ask job before now ob on result ran asks =
+    let P : Option Job → Type 0 = λ a. Ran a before now ob on result in
+    wrote (Some job) before now ob on result (subst P asks ran)
 
--- a file that is told and too long has more bytes than a source may have
-held_too_long : (before : FilesAt) (name held : List ℕ) → Holds before name held → IsTooLong name before → source_limit < length held
-held_too_long before name held h long = agree before.held h.told long where
-  agree : (o : Option (List (List ℕ × List ℕ))) → o ≡ Some h.files → IfSome o (λ files. IsSomeAnd (file_of files name) (λ bytes. source_limit < length bytes)) → source_limit < length held
-  agree None e c = absurd (cc)
-  agree (Some files) e c =
-      let f : file_of files name ≡ Some held = ap (λ (l : List (List ℕ × List ℕ)). file_of l name) (let g : files ≡ h.files = cc in g) ∙ h.found in
-      let P : Option (List ℕ) → Type 0 = λ o. IsSomeAnd o (λ bytes. source_limit < length bytes) in subst P f c
+-- What comes of the source of a job whose files have these contents.
+abbrev OutcomeOf : Job → List (List ℕ) → Answer → Type 0
+OutcomeOf job contents answer = Outcome (deed_of job) (execution job contents) (source_text job contents) answer
 
-is_held : (before : FilesAt) (name held : List ℕ) → Holds before name held → IsHeld before.held name
-is_held before name held h = agree before.held h.told where
-  agree : (o : Option (List (List ℕ × List ℕ))) → o ≡ Some h.files → IsHeld o name
-  agree None e = absurd (cc)
-  agree (Some files) e =
-      let f : file_of files name ≡ Some held = ap (λ (l : List (List ℕ × List ℕ)). file_of l name) (let g : files ≡ h.files = cc in g) ∙ h.found in
-      let P : Option (List ℕ) → Type 0 = λ o. IsSome o in subst P (sym f) refl
+answered_source : (job : Job) (contents : List (List ℕ)) (answer : Answer) → AnswersGathered job (gathered job (all contents)) answer → OutcomeOf job contents answer
+answered_source job contents answer is = outcome (deed_of job) (execution job contents) (source_text job contents) answer is
 
--- What came of a file that is told and no longer than a source: its source was answered, or the read failed, or memory was wanted, or the sink failed.
-pub data CameOf (mode : Mode) (name bytes : List ℕ) (before now : FilesAt) (ob on : SinkAt) (result : ℕ) : Type 0 where
-  of_source : (answer : Answer) → Outcome mode bytes answer → Came answer.status answer.text ob on result → CameOf mode name bytes before now ob on result
-  unreadable : result ≡ 6 → ReadFailed name before now → CameOf mode name bytes before now ob on result
-  wanting : result ≡ 8 → CameOf mode name bytes before now ob on result
-  unwritten : result ≡ 7 → HasRisen ob.faults on.faults → CameOf mode name bytes before now ob on result
+-- What came of a job whose files are told and short enough: its source was answered, or a read failed, or memory was wanted, or the sink failed.
+pub data CameOf (job : Job) (contents : List (List ℕ)) (before now : FilesAt) (ob on : SinkAt) (result : ℕ) : Type 0 where
+  of_source : (answer : Answer) → OutcomeOf job contents answer → Came answer.status answer.text ob on result → CameOf job contents before now ob on result
+  unreadable : result ≡ 6 → OneReadFailed (reads_of job) before now → CameOf job contents before now ob on result
+  wanting : result ≡ 8 → CameOf job contents before now ob on result
+  unwritten : result ≡ 7 → HasRisen ob.faults on.faults → CameOf job contents before now ob on result
 
-came_of : (ask : Asked) (mode : Mode) (name bytes : List ℕ) (before now : FilesAt) (ob on : SinkAt) (result : ℕ) → Ran ask before now ob on result →
-    ask ≡ job mode name → Holds before name bytes → length bytes ≤ source_limit → CameOf mode name bytes before now ob on result
-came_of ask mode name bytes before now ob on result ran asks h within = by_wrote (wrote (job mode name) before now ob on result (let P : Asked → Type 0 = λ a. Ran a before now ob on result in subst P asks ran)) where
-  by_seen : (answer : Answer) (seen : Seen) → Sees name before now seen → AnswersSeen mode name seen answer → Came answer.status answer.text ob on result → CameOf mode name bytes before now ob on result
-  by_seen answer unread sees is came = unreadable (came.0 ∙ ap (λ (a : Answer). a.status) is) sees
-  by_seen answer longer sees is came = absurd (let l : source_limit < length bytes = held_too_long before name bytes h sees.1 in omega arith)
-  by_seen answer (whole seen) sees is came =
-      let P : List ℕ → Type 0 = λ b. AnswersSource mode b answer in
-      of_source answer (outcome mode bytes answer (subst P (held_bytes before name bytes seen h sees.1) is)) came
+came_of : (ask : Option Job) (job : Job) (contents : List (List ℕ)) (before now : FilesAt) (ob on : SinkAt) (result : ℕ) → Ran ask before now ob on result →
+    ask ≡ Some job → HoldsAll before.held (reads_of job) contents → CameOf job contents before now ob on result
+came_of ask job contents before now ob on result ran asks h = by_wrote (ran_job ask job before now ob on result ran asks) where
+  by_saw : (answer : Answer) (saw : Saw) → WasSeen (reads_of job) before now saw → AnswersGathered job (gathered job saw) answer → Came answer.status answer.text ob on result
+      → CameOf job contents before now ob on result
+  by_saw answer (all read) (are, same) is came =
+      let P : List (List ℕ) → Type 0 = λ cs. AnswersGathered job (gathered job (all cs)) answer in
+      of_source answer (answered_source job contents answer (subst P (same_contents before.held (reads_of job) read contents are h) is)) came
+  by_saw answer (unread_file r) (comes, read) is came = unreadable (came.0 ∙ ap (λ (a : Answer). a.status) is) (r, comes, read)
+  by_saw answer (longer_file r) (comes, same, long) is came = absurd (none_too_long before.held (reads_of job) contents r h comes long)
 
-  by_wrote : Wrote (job mode name) before now ob on result → CameOf mode name bytes before now ob on result
-  by_wrote (answered answer (seen, sees, is) came) = by_seen answer seen sees is came
+  by_wrote : Wrote (Some job) before now ob on result → CameOf job contents before now ob on result
+  by_wrote (answered answer (saw, looks, is) came) = by_saw answer saw (was_seen (reads_of job) before now saw looks) is came
   by_wrote (lacked came) = wanting came.0
   by_wrote (failed answer may is rose part) = unwritten is rose
 
--- the end of a run is told by a status below 5 that isn't 2
+-- the end of a run is told by a status below 5
 end_below : (o : End) → status_of_outcome o < 5
 end_below Done = omega arith
 end_below (Uncaught i) = omega arith
@@ -85,136 +77,304 @@ end_below Trapped = omega arith
 end_below Blocked = omega arith
 end_below Spent = omega arith
 
--- a source was run, and its text answered with the status of its end
-ended_with : (mode : Mode) (bytes : List ℕ) (source : Source) (answer : Answer) (ob on : SinkAt) (result : ℕ) → IsSource bytes source → Outcome mode bytes answer →
-    Came answer.status answer.text ob on result → WasRun source × Came (status_of source) (text_of mode source) ob on result
-ended_with mode bytes source answer ob on result has (runs other is_other was_run only free is) came =
+deed_below : (deed : Deed) (x : Execution) → status_by deed x < 5
+deed_below (runs text) x = end_below (end_of x).outcome
+deed_below (tells text) x = omega arith
+
+-- a source's deed was done, and its text answered with its status
+ended_with : (job : Job) (contents : List (List ℕ)) (source : Source) (answer : Answer) (ob on : SinkAt) (result : ℕ) → IsSource (source_text job contents) source → OutcomeOf job contents answer →
+    Came answer.status answer.text ob on result
+    → WasDone (deed_of job) (execution job contents source) × Came (status_by (deed_of job) (execution job contents source)) (text_by (deed_of job) (execution job contents source)) ob on result
+ended_with job contents source answer ob on result has (does other is_other done only free is) came =
     let same : source ≡ other = only source has in
-    let text : answer.text ≡ text_of mode source = ap (λ (a : Answer). a.text) is ∙ sym (ap (λ (b : Source). text_of mode b) same) in
-    let status : answer.status ≡ status_of source = ap (λ (a : Answer). a.status) is ∙ sym (ap (λ (b : Source). status_of b) same) in
-    let P : Source → Type 0 = λ b. WasRun b in
-    (subst P (sym same) was_run, (came.0 ∙ status, came.1 ∙ ap (λ (t : List ℕ). then_bytes ob.taken t) text))
-ended_with mode bytes source answer ob on result has (refuses line why only none is) came = absurd (none source has)
+    let x = execution job contents in
+    let text : answer.text ≡ text_by (deed_of job) (x source) = ap (λ (a : Answer). a.text) is ∙ sym (ap (λ (b : Source). text_by (deed_of job) (x b)) same) in
+    let status : answer.status ≡ status_by (deed_of job) (x source) = ap (λ (a : Answer). a.status) is ∙ sym (ap (λ (b : Source). status_by (deed_of job) (x b)) same) in
+    let P : Source → Type 0 = λ b. WasDone (deed_of job) (x b) in
+    (subst P (sym same) done, (came.0 ∙ status, came.1 ∙ ap (λ (t : List ℕ). then_bytes ob.taken t) text))
+ended_with job contents source answer ob on result has (refuses line why only none is) came = absurd (none source has)
 
 -- a refusal's line was written with 5
-refused_with : (mode : Mode) (bytes line : List ℕ) (answer : Answer) (ob on : SinkAt) (result : ℕ) → IsRefusal bytes line → Outcome mode bytes answer →
+refused_with : (job : Job) (contents : List (List ℕ)) (line : List ℕ) (answer : Answer) (ob on : SinkAt) (result : ℕ) → IsRefusal (source_text job contents) line → OutcomeOf job contents answer →
     Came answer.status answer.text ob on result → Came 5 line ob on result
-refused_with mode bytes line answer ob on result why (runs source has was_run only free is) came = absurd (free line why)
-refused_with mode bytes line answer ob on result why (refuses other cause only none is) came =
+refused_with job contents line answer ob on result why (does source has done only free is) came = absurd (free line why)
+refused_with job contents line answer ob on result why (refuses other cause only none is) came =
     let text : answer.text ≡ line = ap (λ (a : Answer). a.text) is ∙ sym (only line why) in
     (came.0 ∙ ap (λ (a : Answer). a.status) is, came.1 ∙ ap (λ (t : List ℕ). then_bytes ob.taken t) text)
 
 -- bytes that are no source are refused with some line
-refused_somehow : (mode : Mode) (bytes : List ℕ) (answer : Answer) (ob on : SinkAt) (result : ℕ) → IsNoSource bytes → Outcome mode bytes answer →
-    Came answer.status answer.text ob on result → (line : List ℕ) × IsRefusal bytes line × Came 5 line ob on result
-refused_somehow mode bytes answer ob on result none (runs source has was_run only free is) came = absurd (none source has)
-refused_somehow mode bytes answer ob on result none (refuses line why only _ is) came =
+refused_somehow : (job : Job) (contents : List (List ℕ)) (answer : Answer) (ob on : SinkAt) (result : ℕ) → IsNoSource (source_text job contents) → OutcomeOf job contents answer →
+    Came answer.status answer.text ob on result → (line : List ℕ) × IsRefusal (source_text job contents) line × Came 5 line ob on result
+refused_somehow job contents answer ob on result none (does source has done only free is) came = absurd (none source has)
+refused_somehow job contents answer ob on result none (refuses line why only _ is) came =
     (line, why, (came.0 ∙ ap (λ (a : Answer). a.status) is, came.1 ∙ ap (λ (a : Answer). then_bytes ob.taken a.text) is))
 
--- what is told where the status of a run came
-abbrev EndedSo : ℕ → FilesAt → FilesAt → SinkAt → SinkAt → Asked → Type 0
-EndedSo status before now ob on a = (now.failed ≡ before.failed) × (mode : Mode) × (bytes : List ℕ) × (source : Source) × WasRead a mode before bytes × IsSource bytes source × WasRun source
-    × (status_of source ≡ status) × (on.taken ≡ then_bytes ob.taken (text_of mode source))
+-- what is told where the status of a deed came
+abbrev EndedSo : ℕ → FilesAt → FilesAt → SinkAt → SinkAt → Option Job → Type 0
+EndedSo status before now ob on a = (now.failed ≡ before.failed) × (job : Job) × (contents : List (List ℕ)) × (source : Source) × WasRead a job before contents × IsSource (source_text job contents) source
+    × WasDone (deed_of job) (execution job contents source) × (status_by (deed_of job) (execution job contents source) ≡ status)
+    × (on.taken ≡ then_bytes ob.taken (text_by (deed_of job) (execution job contents source)))
 
--- the status of a run comes of a run alone
-ended_so : (status : ℕ) → status < 5 → (status ≡ 2 → ⊥) → (ask : Asked) (before now : FilesAt) (ob on : SinkAt) (result : ℕ) → Ran ask before now ob on result → result ≡ status → EndedSo status before now ob on ask
+-- the status of a deed comes of a deed alone
+ended_so : (status : ℕ) → status < 5 → (status ≡ 2 → ⊥) → (ask : Option Job) (before now : FilesAt) (ob on : SinkAt) (result : ℕ) → Ran ask before now ob on result → result ≡ status → EndedSo status before now ob on ask
 ended_so status few apart ask before now ob on result ran came_so = by_wrote ask (wrote ask before now ob on result ran) came_so where
-  by_source : (mode : Mode) (name bytes : List ℕ) (answer : Answer) → now.failed ≡ before.failed → IsContent name before bytes → Outcome mode bytes answer → Came answer.status answer.text ob on result → result ≡ status → EndedSo status before now ob on (job mode name)
-  by_source mode name bytes answer same content (runs source has was_run only free is) came ends = (
+  by_source : (job : Job) (contents : List (List ℕ)) (answer : Answer) → now.failed ≡ before.failed → AreContents before.held (reads_of job) contents → OutcomeOf job contents answer
+      → Came answer.status answer.text ob on result → result ≡ status → EndedSo status before now ob on (Some job)
+  by_source job contents answer same are (does source has done only free is) came ends = (
     same,
-    mode,
-    bytes,
+    job,
+    contents,
     source,
-    record { name = name; asked = refl; content = content },
+    record { asked = refl; read = are },
     has,
-    was_run,
+    done,
     sym (ap (λ (a : Answer). a.status) is) ∙ (sym came.0 ∙ ends),
     came.1 ∙ ap (λ (a : Answer). then_bytes ob.taken a.text) is,
   )
-  by_source mode name bytes answer same content (refuses line why only none is) came ends = absurd (let e : answer.status ≡ 5 = ap (λ (a : Answer). a.status) is in omega (arith, e, came.0, ends, few))
+  by_source job contents answer same are (refuses line why only none is) came ends = absurd (let e : answer.status ≡ 5 = ap (λ (a : Answer). a.status) is in omega (arith, e, came.0, ends, few))
 
-  by_seen : (mode : Mode) (name : List ℕ) (answer : Answer) (seen : Seen) → Sees name before now seen → AnswersSeen mode name seen answer → Came answer.status answer.text ob on result → result ≡ status → EndedSo status before now ob on (job mode name)
-  by_seen mode name answer unread sees is came ends = absurd (let e : answer.status ≡ 6 = ap (λ (a : Answer). a.status) is in omega (arith, e, came.0, ends, few))
-  by_seen mode name answer longer sees is came ends = absurd (let e : answer.status ≡ 6 = ap (λ (a : Answer). a.status) is in omega (arith, e, came.0, ends, few))
-  by_seen mode name answer (whole bytes) sees is came ends = by_source mode name bytes answer sees.0 sees.1 (outcome mode bytes answer is) came ends
+  by_saw : (job : Job) (answer : Answer) (saw : Saw) → WasSeen (reads_of job) before now saw → AnswersGathered job (gathered job saw) answer → Came answer.status answer.text ob on result → result ≡ status
+      → EndedSo status before now ob on (Some job)
+  by_saw job answer (all contents) (are, same) is came ends = by_source job contents answer same are (answered_source job contents answer is) came ends
+  by_saw job answer (unread_file r) seen is came ends = absurd (let e : answer.status ≡ 6 = ap (λ (a : Answer). a.status) is in omega (arith, e, came.0, ends, few))
+  by_saw job answer (longer_file r) seen is came ends = absurd (let e : answer.status ≡ 6 = ap (λ (a : Answer). a.status) is in omega (arith, e, came.0, ends, few))
 
-  by_wrote : (a : Asked) → Wrote a before now ob on result → result ≡ status → EndedSo status before now ob on a
+  by_wrote : (a : Option Job) → Wrote a before now ob on result → result ≡ status → EndedSo status before now ob on a
   by_wrote a (lacked came) ends = absurd (omega (arith, came.0, ends, few))
   by_wrote a (failed answer may is rose part) ends = absurd (omega (arith, is, ends, few))
-  by_wrote nothing (answered answer (same, is) came) ends = absurd (apart (let e : answer.status ≡ 2 = ap (λ (a : Answer). a.status) is in omega (arith, e, came.0, ends)))
-  by_wrote (job mode name) (answered answer (seen, sees, is) came) ends = by_seen mode name answer seen sees is came ends
+  by_wrote None (answered answer (same, is) came) ends = absurd (apart (let e : answer.status ≡ 2 = ap (λ (a : Answer). a.status) is in omega (arith, e, came.0, ends)))
+  by_wrote (Some job) (answered answer (saw, looks, is) came) ends = by_saw job answer saw (was_seen (reads_of job) before now saw looks) is came ends
 
-pub end_row : (status : ℕ) (Cause : Source → Type 0) → Tells status Cause → status < 5 → (status ≡ 2 → ⊥) → (ask : Asked) (before now : FilesAt) (ob on : SinkAt) (result : ℕ) → Ran ask before now ob on result
+-- what a status tells of what was done
+ends_by : (status : ℕ) (Cause : Execution → Type 0) → Tells status Cause → (deed : Deed) (x : Execution) → WasDone deed x → status_by deed x ≡ status → EndsBy status Cause deed x
+ends_by status Cause tell (runs text) x done e = tell.only x done e
+ends_by status Cause tell (tells text) x done e = sym e
+
+status_is : (status : ℕ) (Cause : Execution → Type 0) → Tells status Cause → (deed : Deed) (x : Execution) → WasDone deed x → EndsBy status Cause deed x → status_by deed x ≡ status
+status_is status Cause tell (runs text) x done cause = tell.when x done cause
+status_is status Cause tell (tells text) x done cause = sym cause
+
+deed_reached : (deed : Deed) (x : Execution) → IsReached deed x
+deed_reached (runs text) x = is_reached x
+deed_reached (tells text) x = tt
+
+deed_spent : (deed : Deed) (x : Execution) → WasDone deed x → status_by deed x ≡ 4 → IsReachedIn x.budget x × (printed_steps (end_of x) ≡ x.budget)
+deed_spent (runs text) x done four = (is_reached_whole x done four, spent_counts x done four)
+deed_spent (tells text) x done four = absurd (omega (arith, four))
+
+pub end_row : (status : ℕ) (Cause : Execution → Type 0) → Tells status Cause → status < 5 → (status ≡ 2 → ⊥) → (ask : Option Job) (before now : FilesAt) (ob on : SinkAt) (result : ℕ) → Ran ask before now ob on result
     → EndRow status Cause ask before now ob on result
-end_row status Cause tells few apart ask before now ob on result ran = record {
+end_row status Cause tell few apart ask before now ob on result ran = record {
   only = λ is. only (ended_so status few apart ask before now ob on result ran is);
-  when = λ mode name bytes source asks h within has cause. when mode name bytes source has cause (came_of ask mode name bytes before now ob on result ran asks h within);
+  when = λ job contents source asks h has cause. when job contents source has cause (came_of ask job contents before now ob on result ran asks h);
 } where
   only : EndedSo status before now ob on ask
-      → (now.failed ≡ before.failed) × (mode : Mode) × (bytes : List ℕ) × (source : Source) × WasRead ask mode before bytes × IsSource bytes source × Cause source × ((n : ℕ) × (n ≤ budget) × IsReachedIn n source)
-      × (status_of source ≡ status) × (on.taken ≡ then_bytes ob.taken (text_of mode source))
-  only (same, mode, bytes, source, read, has, was_run, ends, taken) = (same, mode, bytes, source, read, has, tells.only source was_run ends, is_reached source, ends, taken)
+      → (now.failed ≡ before.failed) × (job : Job) × (contents : List (List ℕ)) × (source : Source) × WasRead ask job before contents × IsSource (source_text job contents) source
+      × EndsBy status Cause (deed_of job) (execution job contents source) × IsReached (deed_of job) (execution job contents source)
+      × (status_by (deed_of job) (execution job contents source) ≡ status) × (on.taken ≡ then_bytes ob.taken (text_by (deed_of job) (execution job contents source)))
+  only (same, job, contents, source, read, has, done, ends, taken) =
+      (same, job, contents, source, read, has, ends_by status Cause tell (deed_of job) (execution job contents source) done ends, deed_reached (deed_of job) (execution job contents source), ends, taken)
 
-  comes : (mode : Mode) (source : Source) → Cause source → WasRun source × Came (status_of source) (text_of mode source) ob on result → Came status (text_of mode source) ob on result
-  comes mode source cause (was_run, came) = (came.0 ∙ tells.when source was_run cause, came.1)
+  comes : (job : Job) (contents : List (List ℕ)) (source : Source) → EndsBy status Cause (deed_of job) (execution job contents source)
+      → WasDone (deed_of job) (execution job contents source) × Came (status_by (deed_of job) (execution job contents source)) (text_by (deed_of job) (execution job contents source)) ob on result
+      → Came status (text_by (deed_of job) (execution job contents source)) ob on result
+  comes job contents source cause (done, came) = (came.0 ∙ status_is status Cause tell (deed_of job) (execution job contents source) done cause, came.1)
 
-  when : (mode : Mode) (name bytes : List ℕ) (source : Source) → IsSource bytes source → Cause source → CameOf mode name bytes before now ob on result →
-      Comes status (text_of mode source) ob on result ⊎ ((result ≡ 6) × ReadFailed name before now)
-  when mode name bytes source has cause (of_source answer is came) = inl (inl (comes mode source cause (ended_with mode bytes source answer ob on result has is came)))
-  when mode name bytes source has cause (unreadable is read) = inr (is, read)
-  when mode name bytes source has cause (wanting is) = inl (inr (inr is))
-  when mode name bytes source has cause (unwritten is rose) = inl (inr (inl is))
+  when : (job : Job) (contents : List (List ℕ)) (source : Source) → IsSource (source_text job contents) source → EndsBy status Cause (deed_of job) (execution job contents source)
+      → CameOf job contents before now ob on result → ComesUnlessUnread status (text_by (deed_of job) (execution job contents source)) job before now ob on result
+  when job contents source has cause (of_source answer is came) = inl (inl (comes job contents source cause (ended_with job contents source answer ob on result has is came)))
+  when job contents source has cause (unreadable is read) = inr (is, read)
+  when job contents source has cause (wanting is) = inl (inr (inr is))
+  when job contents source has cause (unwritten is rose) = inl (inr (inl is))
 
-pub count_row : (ask : Asked) (before now : FilesAt) (ob on : SinkAt) (result : ℕ) → Ran ask before now ob on result → CountRow ask before ob on result
+pub count_row : (ask : Option Job) (before now : FilesAt) (ob on : SinkAt) (result : ℕ) → Ran ask before now ob on result → CountRow ask before ob on result
 count_row ask before now ob on result ran four = counts (ended_so 4 (omega arith) (λ e. omega (arith, e)) ask before now ob on result ran four) where
-  counts : EndedSo 4 before now ob on ask → (mode : Mode) × (bytes : List ℕ) × (source : Source) × WasRead ask mode before bytes × IsSource bytes source
-      × (on.taken ≡ then_bytes ob.taken (text_of mode source)) × IsReachedIn budget source × (printed_steps (end_of source) ≡ budget)
-  counts (same, mode, bytes, source, read, has, was_run, ends, taken) = (mode, bytes, source, read, has, taken, is_reached_whole source was_run ends, spent_counts source was_run ends)
+  counts : EndedSo 4 before now ob on ask → (job : Job) × (contents : List (List ℕ)) × (source : Source) × WasRead ask job before contents × IsSource (source_text job contents) source
+      × (on.taken ≡ then_bytes ob.taken (text_by (deed_of job) (execution job contents source))) × IsReachedIn job.budget (execution job contents source)
+      × (printed_steps (end_of (execution job contents source)) ≡ job.budget)
+  counts (same, job, contents, source, read, has, done, ends, taken) =
+      let spent = deed_spent (deed_of job) (execution job contents source) done ends in
+      (job, contents, source, read, has, taken, spent.0, spent.1)
 
-pub refused_row : (ask : Asked) (before now : FilesAt) (ob on : SinkAt) (result : ℕ) → Ran ask before now ob on result → RefusedRow ask before now ob on result
+-- what is told where a source was refused
+abbrev RefusedSo : FilesAt → FilesAt → SinkAt → SinkAt → Option Job → Type 0
+RefusedSo before now ob on a = (now.failed ≡ before.failed) × (job : Job) × (contents : List (List ℕ)) × (line : List ℕ) × WasRead a job before contents × IsNoSource (source_text job contents)
+    × IsRefusal (source_text job contents) line × (on.taken ≡ then_bytes ob.taken line)
+
+pub refused_row : (ask : Option Job) (before now : FilesAt) (ob on : SinkAt) (result : ℕ) → Ran ask before now ob on result → RefusedRow ask before now ob on result
 refused_row ask before now ob on result ran = record {
   only = λ five. by_wrote ask (wrote ask before now ob on result ran) five;
-  when = λ mode name bytes line asks h within why. when mode name bytes line why (came_of ask mode name bytes before now ob on result ran asks h within);
-  wherever = λ mode name bytes asks h within none. wherever mode name bytes none (came_of ask mode name bytes before now ob on result ran asks h within);
+  when = λ job contents line asks h why. when job contents line why (came_of ask job contents before now ob on result ran asks h);
+  wherever = λ job contents asks h none. wherever job contents none (came_of ask job contents before now ob on result ran asks h);
 } where
-  when : (mode : Mode) (name bytes line : List ℕ) → IsRefusal bytes line → CameOf mode name bytes before now ob on result →
-      Comes 5 line ob on result ⊎ ((result ≡ 6) × ReadFailed name before now)
-  when mode name bytes line why (of_source answer is came) = inl (inl (refused_with mode bytes line answer ob on result why is came))
-  when mode name bytes line why (unreadable is read) = inr (is, read)
-  when mode name bytes line why (wanting is) = inl (inr (inr is))
-  when mode name bytes line why (unwritten is rose) = inl (inr (inl is))
+  when : (job : Job) (contents : List (List ℕ)) (line : List ℕ) → IsRefusal (source_text job contents) line → CameOf job contents before now ob on result → ComesUnlessUnread 5 line job before now ob on result
+  when job contents line why (of_source answer is came) = inl (inl (refused_with job contents line answer ob on result why is came))
+  when job contents line why (unreadable is read) = inr (is, read)
+  when job contents line why (wanting is) = inl (inr (inr is))
+  when job contents line why (unwritten is rose) = inl (inr (inl is))
 
-  wherever : (mode : Mode) (name bytes : List ℕ) → IsNoSource bytes → CameOf mode name bytes before now ob on result →
-      ((line : List ℕ) × IsRefusal bytes line × Came 5 line ob on result) ⊎ (result ≡ 7) ⊎ (result ≡ 8) ⊎ ((result ≡ 6) × ReadFailed name before now)
-  wherever mode name bytes none (of_source answer is came) = inl (refused_somehow mode bytes answer ob on result none is came)
-  wherever mode name bytes none (unreadable is read) = inr (inr (inr (is, read)))
-  wherever mode name bytes none (wanting is) = inr (inr (inl is))
-  wherever mode name bytes none (unwritten is rose) = inr (inl is)
+  wherever : (job : Job) (contents : List (List ℕ)) → IsNoSource (source_text job contents) → CameOf job contents before now ob on result →
+      ((line : List ℕ) × IsRefusal (source_text job contents) line × Came 5 line ob on result) ⊎ (result ≡ 7) ⊎ (result ≡ 8) ⊎ ((result ≡ 6) × OneReadFailed (reads_of job) before now)
+  wherever job contents none (of_source answer is came) = inl (refused_somehow job contents answer ob on result none is came)
+  wherever job contents none (unreadable is read) = inr (inr (inr (is, read)))
+  wherever job contents none (wanting is) = inr (inr (inl is))
+  wherever job contents none (unwritten is rose) = inr (inl is)
 
-  by_source : (mode : Mode) (name bytes : List ℕ) (answer : Answer) → now.failed ≡ before.failed → IsContent name before bytes → Outcome mode bytes answer → Came answer.status answer.text ob on result → result ≡ 5 →
-      (now.failed ≡ before.failed) × (m : Mode) × (bs : List ℕ) × (line : List ℕ) × WasRead (job mode name) m before bs × IsNoSource bs × IsRefusal bs line × (on.taken ≡ then_bytes ob.taken line)
-  by_source mode name bytes answer same content (runs source has was_run only free is) came five =
-      absurd (let e : answer.status ≡ status_of source = ap (λ (a : Answer). a.status) is in omega (arith, e, came.0, five, end_below (end_of source).outcome))
-  by_source mode name bytes answer same content (refuses line why only none is) came five =
-      (same, mode, bytes, line, record { name = name; asked = refl; content = content }, none, why, came.1 ∙ ap (λ (a : Answer). then_bytes ob.taken a.text) is)
+  by_source : (job : Job) (contents : List (List ℕ)) (answer : Answer) → now.failed ≡ before.failed → AreContents before.held (reads_of job) contents → OutcomeOf job contents answer
+      → Came answer.status answer.text ob on result → result ≡ 5 → RefusedSo before now ob on (Some job)
+  by_source job contents answer same are (does source has done only free is) came five =
+      let x = execution job contents source in
+      absurd (let e : answer.status ≡ status_by (deed_of job) x = ap (λ (a : Answer). a.status) is in omega (arith, e, came.0, five, deed_below (deed_of job) x))
+  by_source job contents answer same are (refuses line why only none is) came five =
+      (same, job, contents, line, record { asked = refl; read = are }, none, why, came.1 ∙ ap (λ (a : Answer). then_bytes ob.taken a.text) is)
 
-  by_seen : (mode : Mode) (name : List ℕ) (answer : Answer) (seen : Seen) → Sees name before now seen → AnswersSeen mode name seen answer → Came answer.status answer.text ob on result → result ≡ 5 →
-      (now.failed ≡ before.failed) × (m : Mode) × (bs : List ℕ) × (line : List ℕ) × WasRead (job mode name) m before bs × IsNoSource bs × IsRefusal bs line × (on.taken ≡ then_bytes ob.taken line)
-  by_seen mode name answer unread sees is came five = absurd (let e : answer.status ≡ 6 = ap (λ (a : Answer). a.status) is in omega (arith, e, came.0))
-  by_seen mode name answer longer sees is came five = absurd (let e : answer.status ≡ 6 = ap (λ (a : Answer). a.status) is in omega (arith, e, came.0))
-  by_seen mode name answer (whole bytes) sees is came five = by_source mode name bytes answer sees.0 sees.1 (outcome mode bytes answer is) came five
+  by_saw : (job : Job) (answer : Answer) (saw : Saw) → WasSeen (reads_of job) before now saw → AnswersGathered job (gathered job saw) answer → Came answer.status answer.text ob on result → result ≡ 5
+      → RefusedSo before now ob on (Some job)
+  by_saw job answer (all contents) (are, same) is came five = by_source job contents answer same are (answered_source job contents answer is) came five
+  by_saw job answer (unread_file r) seen is came five = absurd (let e : answer.status ≡ 6 = ap (λ (a : Answer). a.status) is in omega (arith, e, came.0, five))
+  by_saw job answer (longer_file r) seen is came five = absurd (let e : answer.status ≡ 6 = ap (λ (a : Answer). a.status) is in omega (arith, e, came.0, five))
 
-  by_wrote : (a : Asked) → Wrote a before now ob on result → result ≡ 5 →
-      (now.failed ≡ before.failed) × (mode : Mode) × (bytes : List ℕ) × (line : List ℕ) × WasRead a mode before bytes × IsNoSource bytes × IsRefusal bytes line × (on.taken ≡ then_bytes ob.taken line)
-  by_wrote a (lacked came) five = absurd (omega (arith, came.0))
-  by_wrote a (failed answer may is rose part) five = absurd (omega arith)
-  by_wrote nothing (answered answer (same, is) came) five = absurd (let e : answer.status ≡ 2 = ap (λ (a : Answer). a.status) is in omega (arith, e, came.0))
-  by_wrote (job mode name) (answered answer (seen, sees, is) came) five = by_seen mode name answer seen sees is came five
+  by_wrote : (a : Option Job) → Wrote a before now ob on result → result ≡ 5 → RefusedSo before now ob on a
+  by_wrote a (lacked came) five = absurd (omega (arith, came.0, five))
+  by_wrote a (failed answer may is rose part) five = absurd (omega (arith, is, five))
+  by_wrote None (answered answer (same, is) came) five = absurd (let e : answer.status ≡ 2 = ap (λ (a : Answer). a.status) is in omega (arith, e, came.0, five))
+  by_wrote (Some job) (answered answer (saw, looks, is) came) five = by_saw job answer saw (was_seen (reads_of job) before now saw looks) is came five
 
-pub complete : (ask : Asked) (before now : FilesAt) (ob on : SinkAt) (result : ℕ) → Ran ask before now ob on result → IsComplete ask before ob on result
-complete ask before now ob on result ran mode name bytes source asks sound h within has calm = by_came (came_of ask mode name bytes before now ob on result ran asks h within) where
-  by_came : CameOf mode name bytes before now ob on result → Came (status_of source) (text_of mode source) ob on result ⊎ (result ≡ 8)
-  by_came (of_source answer is came) = inl ((ended_with mode bytes source answer ob on result has is came).1)
-  by_came (unreadable is read) = absurd (read.1 sound (is_held before name bytes h))
+-- an answer's status and text, where both are known
+came_as : (answer : Answer) (status : ℕ) (text : List ℕ) (ob on : SinkAt) (result : ℕ) → answer ≡ record { status = status; text = text } → Came answer.status answer.text ob on result → Came status text ob on result
+came_as answer status text ob on result is came = (came.0 ∙ ap (λ (a : Answer). a.status) is, came.1 ∙ ap (λ (a : Answer). then_bytes ob.taken a.text) is)
+
+pub file_row : (ask : Option Job) (before now : FilesAt) (ob on : SinkAt) (result : ℕ) → Ran ask before now ob on result → FileRow ask before now ob on result
+file_row ask before now ob on result ran = record {
+  only = λ six. by_wrote ask (wrote ask before now ob on result ran) six;
+  when = λ job r bytes asks up h over. when job r bytes up h over (ran_job ask job before now ob on result ran asks);
+} where
+  by_source : (job : Job) (contents : List (List ℕ)) (answer : Answer) → OutcomeOf job contents answer → Came answer.status answer.text ob on result → result ≡ 6 → FileCause (Some job) before now ob on
+  by_source job contents answer (does source has done only free is) came six =
+      let x = execution job contents source in
+      absurd (let e : answer.status ≡ status_by (deed_of job) x = ap (λ (a : Answer). a.status) is in omega (arith, e, came.0, six, deed_below (deed_of job) x))
+  by_source job contents answer (refuses line why only none is) came six = absurd (let e : answer.status ≡ 5 = ap (λ (a : Answer). a.status) is in omega (arith, e, came.0, six))
+
+  by_saw : (job : Job) (answer : Answer) (saw : Saw) → WasSeen (reads_of job) before now saw → AnswersGathered job (gathered job saw) answer → Came answer.status answer.text ob on result → result ≡ 6
+      → FileCause (Some job) before now ob on
+  by_saw job answer (all contents) (are, same) is came six = by_source job contents answer (answered_source job contents answer is) came six
+  by_saw job answer (unread_file r) (comes, read) is came six = (job, r, refl, comes, inl (read, came.1 ∙ ap (λ (a : Answer). then_bytes ob.taken a.text) is))
+  by_saw job answer (longer_file r) (comes, same, long) is came six = (job, r, refl, comes, inr (same, long, came.1 ∙ ap (λ (a : Answer). then_bytes ob.taken a.text) is))
+
+  by_wrote : (a : Option Job) → Wrote a before now ob on result → result ≡ 6 → FileCause a before now ob on
+  by_wrote a (lacked came) six = absurd (omega (arith, came.0, six))
+  by_wrote a (failed answer may is rose part) six = absurd (omega (arith, is, six))
+  by_wrote None (answered answer (same, is) came) six = absurd (let e : answer.status ≡ 2 = ap (λ (a : Answer). a.status) is in omega (arith, e, came.0, six))
+  by_wrote (Some job) (answered answer (saw, looks, is) came) six = by_saw job answer saw (was_seen (reads_of job) before now saw looks) is came six
+
+  when_saw : (job : Job) (r : Reading) (bytes : List ℕ) (answer : Answer) (saw : Saw) → HoldsUpTo before.held (reads_of job) r → Holds before.held r.name bytes → r.limit < length bytes
+      → WasSeen (reads_of job) before now saw → AnswersGathered job (gathered job saw) answer → Came answer.status answer.text ob on result
+      → ComesUnlessUnread 6 (longer_line r.name r.limit) job before now ob on result
+  when_saw job r bytes answer (all contents) up h over (are, same) is came = absurd (not_all_read before.held (reads_of job) contents r bytes up h over are)
+  when_saw job r bytes answer (unread_file q) up h over (comes, read) is came = inr (came.0 ∙ ap (λ (a : Answer). a.status) is, (q, comes, read))
+  when_saw job r bytes answer (longer_file q) up h over (comes, same, long) is came =
+      let P : Reading → Type 0 = λ (y : Reading). Came 6 (longer_line y.name y.limit) ob on result in
+      inl (inl (subst P (one_too_long before.held (reads_of job) q r bytes up h over comes long) (came_as answer 6 (longer_line q.name q.limit) ob on result is came)))
+
+  when : (job : Job) (r : Reading) (bytes : List ℕ) → HoldsUpTo before.held (reads_of job) r → Holds before.held r.name bytes → r.limit < length bytes
+      → Wrote (Some job) before now ob on result → ComesUnlessUnread 6 (longer_line r.name r.limit) job before now ob on result
+  when job r bytes up h over (answered answer (saw, looks, is) came) = when_saw job r bytes answer saw up h over (was_seen (reads_of job) before now saw looks) is came
+  when job r bytes up h over (lacked came) = inl (inr (inr came.0))
+  when job r bytes up h over (failed answer may is rose part) = inl (inr (inl is))
+
+-- an answer that is no want of memory has a status below 7
+status_below : (ask : Option Job) (before now : FilesAt) (answer : Answer) → Answers ask before now answer → answer.status < 7
+status_below None before now answer (same, is) = let e : answer.status ≡ 2 = ap (λ (a : Answer). a.status) is in omega (arith, e)
+status_below (Some job) before now answer (saw, looks, is) = by_saw saw is where
+  by_source : (contents : List (List ℕ)) → OutcomeOf job contents answer → answer.status < 7
+  by_source contents (does source has done only free same) =
+      let x = execution job contents source in
+      let e : answer.status ≡ status_by (deed_of job) x = ap (λ (a : Answer). a.status) same in
+      omega (arith, e, deed_below (deed_of job) x)
+  by_source contents (refuses line why only none same) = let e : answer.status ≡ 5 = ap (λ (a : Answer). a.status) same in omega (arith, e)
+
+  by_saw : (saw : Saw) → AnswersGathered job (gathered job saw) answer → answer.status < 7
+  by_saw (all contents) told = by_source contents (answered_source job contents answer told)
+  by_saw (unread_file r) told = let e : answer.status ≡ 6 = ap (λ (a : Answer). a.status) told in omega (arith, e)
+  by_saw (longer_file r) told = let e : answer.status ≡ 6 = ap (λ (a : Answer). a.status) told in omega (arith, e)
+
+pub sink_row : (ask : Option Job) (before now : FilesAt) (ob on : SinkAt) (result : ℕ) → Ran ask before now ob on result → SinkRow ask before now ob on result
+sink_row ask before now ob on result ran = record {
+  only = λ seven. only (wrote ask before now ob on result ran) seven;
+  when = λ moved. when ran.written moved;
+  never_falls = never ran.written;
+} where
+  only : Wrote ask before now ob on result → result ≡ 7 → HasRisen ob.faults on.faults × (answer : Answer) × MayAnswer ask before now answer × TakesPart ob.taken answer.text on.taken
+  only (answered answer told came) seven = absurd (omega (arith, came.0, seven, status_below ask before now answer told))
+  only (lacked came) seven = absurd (omega (arith, came.0, seven))
+  only (failed answer may is rose part) seven = (rose, answer, may, part)
+
+  when : Writes ob on ran.answer result → on.faults ≢ ob.faults → result ≡ 7
+  when (inl (is, taken, calm)) moved = absurd (moved calm)
+  when (inr (is, part, rose, later)) moved = is
+
+  never : Writes ob on ran.answer result → ob.faults ≤ on.faults
+  never (inl (is, taken, calm)) = omega (arith, calm)
+  never (inr (is, part, rose, later)) = later
+
+pub memory_row : (ask : Option Job) (before now : FilesAt) (ob on : SinkAt) (result : ℕ) → Ran ask before now ob on result → MemoryRow ob on result
+memory_row ask before now ob on result ran eight = by_wrote (wrote ask before now ob on result ran) where
+  by_wrote : Wrote ask before now ob on result → on.taken ≡ then_bytes ob.taken memory_line
+  by_wrote (answered answer told came) = absurd (omega (arith, came.0, eight, status_below ask before now answer told))
+  by_wrote (lacked came) = came.1
+  by_wrote (failed answer may is rose part) = absurd (omega (arith, is, eight))
+
+-- the status of a deed isn't that of words that ask for nothing
+end_not_two : (o : End) → status_of_outcome o ≡ 2 → ⊥
+end_not_two Done e = omega (arith, e)
+end_not_two (Uncaught i) e = omega (arith, e)
+end_not_two Trapped e = omega (arith, e)
+end_not_two Blocked e = omega (arith, e)
+end_not_two Spent e = omega (arith, e)
+
+deed_not_two : (deed : Deed) (x : Execution) → status_by deed x ≡ 2 → ⊥
+deed_not_two (runs text) x e = end_not_two (end_of x).outcome e
+deed_not_two (tells text) x e = omega (arith, e)
+
+pub words_row : (ask : Option Job) (before now : FilesAt) (ob on : SinkAt) (result : ℕ) → Ran ask before now ob on result → WordsRow ask ob on result
+words_row ask before now ob on result ran = record {
+  only = λ two. only ask (wrote ask before now ob on result ran) two;
+  when = λ asks. let P : Option Job → Type 0 = λ a. Ran a before now ob on result in when (wrote None before now ob on result (subst P asks ran));
+} where
+  by_source : (job : Job) (contents : List (List ℕ)) (answer : Answer) → OutcomeOf job contents answer → answer.status ≡ 2 → ⊥
+  by_source job contents answer (does source has done only free is) two = deed_not_two (deed_of job) (execution job contents source) (sym (ap (λ (a : Answer). a.status) is) ∙ two)
+  by_source job contents answer (refuses line why only none is) two = let e : answer.status ≡ 5 = ap (λ (a : Answer). a.status) is in omega (arith, e, two)
+
+  by_saw : (job : Job) (answer : Answer) (saw : Saw) → AnswersGathered job (gathered job saw) answer → answer.status ≡ 2 → ⊥
+  by_saw job answer (all contents) is two = by_source job contents answer (answered_source job contents answer is) two
+  by_saw job answer (unread_file r) is two = let e : answer.status ≡ 6 = ap (λ (a : Answer). a.status) is in omega (arith, e, two)
+  by_saw job answer (longer_file r) is two = let e : answer.status ≡ 6 = ap (λ (a : Answer). a.status) is in omega (arith, e, two)
+
+  only : (a : Option Job) → Wrote a before now ob on result → result ≡ 2 → (a ≡ None) × (on.taken ≡ then_bytes ob.taken usage_line)
+  only a (lacked came) two = absurd (omega (arith, came.0, two))
+  only a (failed answer may is rose part) two = absurd (omega (arith, is, two))
+  only None (answered answer (same, is) came) two = (refl, came.1 ∙ ap (λ (a : Answer). then_bytes ob.taken a.text) is)
+  only (Some job) (answered answer (saw, looks, is) came) two = absurd (by_saw job answer saw is (sym came.0 ∙ two))
+
+  when : Wrote None before now ob on result → Comes 2 usage_line ob on result
+  when (answered answer (same, is) came) = inl (came_as answer 2 usage_line ob on result is came)
+  when (lacked came) = inr (inr came.0)
+  when (failed answer may is rose part) = inr (inl is)
+
+-- whatever the answer, at most one name was added to the failed ones
+grew : (ask : Option Job) (before now : FilesAt) (answer : Answer) → MayAnswer ask before now answer → FailedGrew ask before now
+grew None before now answer (inl (same, is)) = same
+grew (Some job) before now answer (inl (saw, looks, is)) = looks_grew (reads_of job) before now saw looks
+grew ask before now answer (inr (added, is)) = added
+
+pub files_row : (ask : Option Job) (before now : FilesAt) (ob on : SinkAt) (result : ℕ) → Ran ask before now ob on result → FilesRow ask before now
+files_row ask before now ob on result ran = record { held = ran.files.held; sound = ran.files.sound; grew = grew ask before now ran.answer ran.cause }
+
+pub complete : (ask : Option Job) (before now : FilesAt) (ob on : SinkAt) (result : ℕ) → Ran ask before now ob on result → IsComplete ask before ob on result
+complete ask before now ob on result ran job contents source asks sound h has calm = by_came (came_of ask job contents before now ob on result ran asks h) where
+  by_came : CameOf job contents before now ob on result
+      → Came (status_by (deed_of job) (execution job contents source)) (text_by (deed_of job) (execution job contents source)) ob on result ⊎ (result ≡ 8)
+  by_came (of_source answer is came) = inl ((ended_with job contents source answer ob on result has is came).1)
+  by_came (unreadable is read) = absurd (none_failed (reads_of job) contents before now sound h read)
   by_came (wanting is) = inr is
   by_came (unwritten is rose) = absurd (calm rose)

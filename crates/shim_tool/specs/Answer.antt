@@ -1,27 +1,22 @@
 -- What the tool answers, from what it was asked and what it saw.
-use Rattle.std.specs.Prelude.{ℕ, ◌≡◌, ◌<◌, ◌≤◌, ◌⊎◌, IsTrue, List, [], ◌∷◌, ◌++◌, length, Some, Ok, Err, IfSome, IsSomeAnd, codes, decimal}
-use Rattle.shim_edge.specs.Files.{file_of, IsHeld}
+use Rattle.std.specs.Prelude.{ℕ, ◌≡◌, ◌≤◌, ◌⊎◌, List, ◌++◌, length, Option, Some, None, Ok, Err, codes, decimal}
 use Rattle.shim_syntax.specs.declared.Program.{Program}
 use Rattle.shim_parser.specs.declared.ParseFault.{ParseFault}
 use Rattle.shim_front_end.specs.declared.SourceFault.{SourceFault}
 use Rattle.shim_front_end.specs.declared.SourceFault.TheVariants.{Parse}
-use Rattle.shim_report.specs.Refusal.{refusal}
-use Rattle.shim_tool.specs.declared.mode.Mode.{Mode}
-use Rattle.shim_tool.specs.declared.mode.Mode.TheVariants.{Run, Reference}
-use Rattle.shim_tool.specs.Asked.{Asked, nothing, job}
-use Rattle.shim_tool.specs.Moments.{FilesAt}
 use Rattle.shim_front_end.specs.FrontEnd.{IsOnlyText, IsOnlyFault}
 use Rattle.shim_front_end.specs.Source.{Source, IsSource, checked}
-use Rattle.shim_tool.specs.RunEnds.{report_of, status_of, WasRun}
+use Rattle.shim_report.specs.Refusal.{refusal}
+use Rattle.shim_command.specs.declared.job.Job.{Job}
+use Rattle.shim_tool.specs.Moments.{FilesAt}
+use Rattle.shim_tool.specs.RunEnds.{Execution, status_of, WasRun}
+use Rattle.shim_tool.specs.Modes.{Deed, runs, tells, deed_of, executed, reads_of, second, source_limit, source_text}
+use Rattle.shim_tool.specs.Reads.{GrewByOneOf, Looks, Saw, all, longer_file, unread_file}
 
 -- a status and the text that goes with it
 pub record Answer : Type 0 where
   pub status : ℕ
   pub text : List ℕ
-
--- the most bytes that a source has
-abbrev pub source_limit : ℕ
-source_limit = 1048576
 
 unfoldable pub usage_line : List ℕ
 usage_line = codes "usage: shim MODE FILE [--input FILE] [--workers N] [--budget B] [--quantum Q] [--size N]\n"
@@ -32,23 +27,33 @@ memory_line = codes "no memory\n"
 unfoldable pub failed_line : List ℕ → List ℕ
 failed_line name = codes "file failed " ++ (name ++ codes "\n")
 
-unfoldable pub longer_line : List ℕ → List ℕ
-longer_line name = codes "file too long " ++ (name ++ (codes " " ++ (decimal source_limit ++ codes "\n")))
+unfoldable pub longer_line : List ℕ → ℕ → List ℕ
+longer_line name limit = codes "file too long " ++ (name ++ (codes " " ++ (decimal limit ++ codes "\n")))
 
--- what a mode writes of a source
-abbrev pub text_of : Mode → Source → List ℕ
-text_of Run source = report_of source
-text_of Reference source = report_of source
+-- what a mode writes of a source, and of its run
+abbrev pub text_by : Deed → Execution → List ℕ
+text_by (runs text) x = text x
+text_by (tells text) x = text x.source
 
--- the end of the source's run, told as the mode tells it
-abbrev pub end_answer : Mode → Source → Answer
-end_answer mode source = record { status = status_of source; text = text_of mode source }
+-- the status that tells how the run ended; a source of which something is told has 0
+abbrev pub status_by : Deed → Execution → ℕ
+status_by (runs text) x = status_of x
+status_by (tells text) x = 0
+
+abbrev pub deed_answer : Deed → Execution → Answer
+deed_answer deed x = record { status = status_by deed x; text = text_by deed x }
 
 abbrev pub usage : Answer
 usage = record { status = 2; text = usage_line }
 
 abbrev pub refused : SourceFault → Answer
 refused fault = record { status = 5; text = refusal fault }
+
+abbrev pub file_failed : List ℕ → Answer
+file_failed name = record { status = 6; text = failed_line name }
+
+abbrev pub file_too_long : List ℕ → ℕ → Answer
+file_too_long name limit = record { status = 6; text = longer_line name limit }
 
 abbrev pub no_memory : Answer
 no_memory = record { status = 8; text = memory_line }
@@ -57,72 +62,69 @@ no_memory = record { status = 8; text = memory_line }
 abbrev pub IsNoSource : List ℕ → Type 0
 IsNoSource bytes = (source : Source) → IsSource bytes source → ⊥
 
--- units are run, and answered with the end of their run
-abbrev pub AnswersUnits : Mode → Source → Answer → Type 0
-AnswersUnits mode source answer = WasRun source × (answer ≡ end_answer mode source)
+-- what is to be run was run
+abbrev pub WasDone : Deed → Execution → Type 0
+WasDone (runs text) x = WasRun x
+WasDone (tells text) x = Unit {0}
+
+-- units are answered with what is done with them
+abbrev pub AnswersUnits : Deed → Execution → Answer → Type 0
+AnswersUnits deed x answer = WasDone deed x × (answer ≡ deed_answer deed x)
 
 -- a program that is accepted is answered as its units, and another with the line of its first fault
-abbrev pub AnswersProgram : Mode → Program → Answer → Type 0
-AnswersProgram mode program answer =
-    ((source : Source) × (checked program ≡ Ok source) × AnswersUnits mode source answer)
+abbrev pub AnswersProgram : Deed → (Source → Execution) → Program → Answer → Type 0
+AnswersProgram deed as_run program answer =
+    ((source : Source) × (checked program ≡ Ok source) × AnswersUnits deed (as_run source) answer)
     ⊎ ((fault : SourceFault) × (checked program ≡ Err fault) × (answer ≡ refused fault))
 
 -- the text of a program is answered as the program, and other bytes with the line of their fault
-abbrev pub AnswersSource : Mode → List ℕ → Answer → Type 0
-AnswersSource mode bytes answer =
-    ((program : Program) × IsOnlyText bytes program × AnswersProgram mode program answer)
+abbrev pub AnswersSource : Deed → (Source → Execution) → List ℕ → Answer → Type 0
+AnswersSource deed as_run bytes answer =
+    ((program : Program) × IsOnlyText bytes program × AnswersProgram deed as_run program answer)
     ⊎ ((fault : ParseFault) × IsOnlyFault bytes fault × (answer ≡ refused (Parse fault)))
 
--- what was seen of a file
-pub data Seen : Type 0 where
-  unread : Seen
-  longer : Seen
-  whole : List ℕ → Seen
+-- what a job has to go on with: the text of its source, and an input; or the name of a file that couldn't be read, or is too long
+pub data Gathered : Type 0 where
+  texts : List ℕ → List ℕ → Gathered
+  unread_name : List ℕ → Gathered
+  longer_name : List ℕ → ℕ → Gathered
 
--- One read of this name failed: the name was added to the failed ones, and the files didn't hold it if they are sound.
-abbrev pub ReadFailed : List ℕ → FilesAt → FilesAt → Type 0
-ReadFailed name before now = (now.failed ≡ before.failed ++ name ∷ []) × (IsTrue before.sound → IsHeld before.held name → ⊥)
+-- what was seen of its files gives a job this
+abbrev pub gathered : Job → Saw → Gathered
+gathered job (all contents) = texts (source_text job contents) (second contents)
+gathered job (unread_file r) = unread_name r.name
+gathered job (longer_file r) = longer_name r.name r.limit
 
--- the file is told and has more bytes than a source may have, or isn't told
-abbrev pub IsTooLong : List ℕ → FilesAt → Type 0
-IsTooLong name before = IfSome before.held (λ files. IsSomeAnd (file_of files name) (λ content. source_limit < length content))
+-- the text of the source is no longer than a source may be
+abbrev pub IsShort : Gathered → Type 0
+IsShort (texts source input) = length source ≤ source_limit
+IsShort (unread_name name) = Unit {0}
+IsShort (longer_name name limit) = Unit {0}
 
--- the bytes are those of the file, where it is told, and no more than a source may have
-abbrev pub IsContent : List ℕ → FilesAt → List ℕ → Type 0
-IsContent name before bytes = (length bytes ≤ source_limit) × IfSome before.held (λ files. file_of files name ≡ Some bytes)
+-- the files of a job were read, and gave this
+abbrev pub Gathers : Job → FilesAt → FilesAt → Gathered → Type 0
+Gathers job before now found = (saw : Saw) × Looks (reads_of job) before now saw × (found ≡ gathered job saw)
 
--- whole bytes are no more than a source may have
-abbrev pub IsWithinLimit : Seen → Type 0
-IsWithinLimit unread = Unit {0}
-IsWithinLimit longer = Unit {0}
-IsWithinLimit (whole bytes) = length bytes ≤ source_limit
+-- the answer to what a job has to go on with
+abbrev pub AnswersGathered : Job → Gathered → Answer → Type 0
+AnswersGathered job (texts source input) answer = AnswersSource (deed_of job) (executed job input) source answer
+AnswersGathered job (unread_name name) answer = answer ≡ file_failed name
+AnswersGathered job (longer_name name limit) answer = answer ≡ file_too_long name limit
 
--- one read of this name saw this
-abbrev pub Sees : List ℕ → FilesAt → FilesAt → Seen → Type 0
-Sees name before now unread = ReadFailed name before now
-Sees name before now longer = (now.failed ≡ before.failed) × IsTooLong name before
-Sees name before now (whole bytes) = (now.failed ≡ before.failed) × IsContent name before bytes
-
--- the answer to what was seen of the source file
-abbrev pub AnswersSeen : Mode → List ℕ → Seen → Answer → Type 0
-AnswersSeen mode name unread answer = answer ≡ record { status = 6; text = failed_line name }
-AnswersSeen mode name longer answer = answer ≡ record { status = 6; text = longer_line name }
-AnswersSeen mode name (whole bytes) answer = AnswersSource mode bytes answer
+-- the files of a job are read, and what was seen of them is answered
+abbrev pub AnswersJob : Job → FilesAt → FilesAt → Answer → Type 0
+AnswersJob job before now answer = (saw : Saw) × Looks (reads_of job) before now saw × AnswersGathered job (gathered job saw) answer
 
 -- an answer that is no want of memory
-abbrev pub Answers : Asked → FilesAt → FilesAt → Answer → Type 0
-Answers nothing before now answer = (now.failed ≡ before.failed) × (answer ≡ usage)
-Answers (job mode name) before now answer = (seen : Seen) × Sees name before now seen × AnswersSeen mode name seen answer
-
--- the failed names are those that they were, or this one was added
-abbrev pub GrewBy : List ℕ → FilesAt → FilesAt → Type 0
-GrewBy name before now = (now.failed ≡ before.failed) ⊎ (now.failed ≡ before.failed ++ name ∷ [])
+abbrev pub Answers : Option Job → FilesAt → FilesAt → Answer → Type 0
+Answers None before now answer = (now.failed ≡ before.failed) × (answer ≡ usage)
+Answers (Some job) before now answer = AnswersJob job before now answer
 
 -- the failed names have grown by nothing but a name that the call was asked to read
-abbrev pub FailedGrew : Asked → FilesAt → FilesAt → Type 0
-FailedGrew nothing before now = now.failed ≡ before.failed
-FailedGrew (job mode name) before now = GrewBy name before now
+abbrev pub FailedGrew : Option Job → FilesAt → FilesAt → Type 0
+FailedGrew None before now = now.failed ≡ before.failed
+FailedGrew (Some job) before now = GrewByOneOf (reads_of job) before now
 
 -- an answer, or that for want of memory
-abbrev pub MayAnswer : Asked → FilesAt → FilesAt → Answer → Type 0
+abbrev pub MayAnswer : Option Job → FilesAt → FilesAt → Answer → Type 0
 MayAnswer ask before now answer = Answers ask before now answer ⊎ (FailedGrew ask before now × (answer ≡ no_memory))

@@ -1,9 +1,9 @@
 -- One call of the tool.
-use Rattle.std.specs.Prelude.{ℕ, ◌≡◌, ◌≤◌, ◌⊎◌}
+use Rattle.std.specs.Prelude.{ℕ, ◌≡◌, ◌≤◌, ◌⊎◌, Option}
 use Rattle.shim_edge.specs.Count.{HasRisen}
 use Rattle.shim_edge.specs.Sink.{then_bytes, TakesPart}
-use Rattle.shim_tool.specs.Asked.{Asked}
-use Rattle.shim_tool.specs.Moments.{FilesAt, SinkAt}
+use Rattle.shim_command.specs.declared.job.Job.{Job}
+use Rattle.shim_tool.specs.Moments.{FilesAt, KeepsFiles, SinkAt}
 use Rattle.shim_tool.specs.Answer.{Answer, MayAnswer}
 
 -- The text was written, without a fault of the sink, and its status answered; or the sink failed in the call, with a part of the text taken.
@@ -12,13 +12,8 @@ Writes before now answer result =
     ((result ≡ answer.status) × (now.taken ≡ then_bytes before.taken answer.text) × (now.faults ≡ before.faults))
     ⊎ ((result ≡ 7) × TakesPart before.taken answer.text now.taken × HasRisen before.faults now.faults × (before.faults ≤ now.faults))
 
--- the files are those that they were
-pub record KeepsFiles (before now : FilesAt) : Type 0 where
-  pub held : now.held ≡ before.held
-  pub sound : now.sound ≡ before.sound
-
 -- the call had an answer, and wrote it
-pub record Ran (ask : Asked) (before now : FilesAt) (out_before out_now : SinkAt) (result : ℕ) : Type 0 where
+pub record Ran (ask : Option Job) (before now : FilesAt) (out_before out_now : SinkAt) (result : ℕ) : Type 0 where
   pub answer : Answer
   pub cause : MayAnswer ask before now answer
   pub written : Writes out_before out_now answer result

@@ -1,10 +1,11 @@
 -- The definitions of this crate, one module for each subject.
 pub mod RunEnds
-pub mod Asked
+pub mod Modes
 pub mod Moments
+pub mod Reads
 pub mod Answer
+pub mod Gathering
 pub mod Call
 pub mod Rows
-pub mod JobView
 pub mod AnswerView
 pub mod Views

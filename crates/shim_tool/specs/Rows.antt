@@ -1,7 +1,6 @@
 -- When each status comes, and with which text: each row follows from what one call is.
-use Rattle.std.specs.Prelude.{ℕ, ◌≡◌, ◌≢◌, ◌<◌, ◌≤◌, ◌⊎◌, IsTrue, List, length, Some, Err}
+use Rattle.std.specs.Prelude.{ℕ, ◌≡◌, ◌≢◌, ◌<◌, ◌≤◌, ◌⊎◌, IsTrue, List, length, Option, Some, None, Err}
 use Rattle.shim_edge.specs.Count.{HasRisen}
-use Rattle.shim_edge.specs.Files.{file_of}
 use Rattle.shim_edge.specs.Sink.{then_bytes, TakesPart}
 use Rattle.shim_syntax.specs.declared.Program.{Program}
 use Rattle.shim_syntax.specs.Text.{IsText}
@@ -9,13 +8,14 @@ use Rattle.shim_parser.specs.declared.ParseFault.{ParseFault}
 use Rattle.shim_parser.specs.Parsing.{IsFaultOf}
 use Rattle.shim_front_end.specs.declared.SourceFault.{SourceFault}
 use Rattle.shim_front_end.specs.declared.SourceFault.TheVariants.{Parse}
-use Rattle.shim_report.specs.Refusal.{refusal}
-use Rattle.shim_tool.specs.declared.mode.Mode.{Mode}
-use Rattle.shim_tool.specs.Asked.{Asked, nothing, job}
-use Rattle.shim_tool.specs.Moments.{FilesAt, SinkAt}
 use Rattle.shim_front_end.specs.Source.{Source, IsSource, checked}
-use Rattle.shim_tool.specs.RunEnds.{end_of, status_of, budget, printed_steps, IsReachedIn}
-use Rattle.shim_tool.specs.Answer.{Answer, MayAnswer, FailedGrew, ReadFailed, IsTooLong, IsContent, IsNoSource, source_limit, text_of, usage_line, failed_line, longer_line, memory_line}
+use Rattle.shim_report.specs.Refusal.{refusal}
+use Rattle.shim_command.specs.declared.job.Job.{Job}
+use Rattle.shim_tool.specs.Moments.{FilesAt, SinkAt}
+use Rattle.shim_tool.specs.RunEnds.{Execution, end_of, printed_steps, IsReachedIn}
+use Rattle.shim_tool.specs.Modes.{Deed, Reading, runs, tells, deed_of, executed, reads_of, second, source_text}
+use Rattle.shim_tool.specs.Reads.{AreContents, ComesToRead, Holds, HoldsAll, HoldsUpTo, IsTooLong, OneReadFailed, ReadFailed}
+use Rattle.shim_tool.specs.Answer.{Answer, MayAnswer, FailedGrew, IsNoSource, status_by, text_by, usage_line, failed_line, longer_line, memory_line}
 
 -- this status came with this text, whole
 abbrev pub Came : ℕ → List ℕ → SinkAt → SinkAt → ℕ → Type 0
@@ -25,34 +25,52 @@ Came status text out_before out_now result = (result ≡ status) × (out_now.tak
 abbrev pub Comes : ℕ → List ℕ → SinkAt → SinkAt → ℕ → Type 0
 Comes status text out_before out_now result = Came status text out_before out_now result ⊎ (result ≡ 7) ⊎ (result ≡ 8)
 
--- the files are told, and hold these bytes under the name
-pub record Holds (before : FilesAt) (name bytes : List ℕ) : Type 0 where
-  pub files : List (List ℕ × List ℕ)
-  pub told : before.held ≡ Some files
-  pub found : file_of files name ≡ Some bytes
+-- the same, or a file that the job reads couldn't be read
+abbrev pub ComesUnlessUnread : ℕ → List ℕ → Job → FilesAt → FilesAt → SinkAt → SinkAt → ℕ → Type 0
+ComesUnlessUnread status text job before now out_before out_now result =
+    Comes status text out_before out_now result ⊎ ((result ≡ 6) × OneReadFailed (reads_of job) before now)
 
--- the bytes of the file that the call was asked to read were read
-pub record WasRead (ask : Asked) (mode : Mode) (before : FilesAt) (bytes : List ℕ) : Type 0 where
-  pub name : List ℕ
-  pub asked : ask ≡ job mode name
-  pub content : IsContent name before bytes
+-- the call was asked for this job, and read these contents of its files
+pub record WasRead (ask : Option Job) (job : Job) (before : FilesAt) (contents : List (List ℕ)) : Type 0 where
+  pub asked : ask ≡ Some job
+  pub read : AreContents before.held (reads_of job) contents
 
--- 0, 1, 3, 4: where what was read is a source whose run ends for this cause alone, and wherever told files hold such a source of at most the limit's bytes, with the text of its mode, which for `run` is the report of its meaning. A run within the budget leads to the tree that is told.
-pub record EndRow (status : ℕ) (Cause : Source → Type 0) (ask : Asked) (before now : FilesAt) (out_before out_now : SinkAt) (result : ℕ) : Type 0 where
-  pub only : result ≡ status → (now.failed ≡ before.failed) × (mode : Mode) × (bytes : List ℕ) × (source : Source) × WasRead ask mode before bytes × IsSource bytes source
-      × Cause source × ((n : ℕ) × (n ≤ budget) × IsReachedIn n source) × (status_of source ≡ status) × (out_now.taken ≡ then_bytes out_before.taken (text_of mode source))
-  pub when : (mode : Mode) (name bytes : List ℕ) (source : Source) → ask ≡ job mode name → Holds before name bytes → length bytes ≤ source_limit → IsSource bytes source → Cause source
-      → Comes status (text_of mode source) out_before out_now result ⊎ ((result ≡ 6) × ReadFailed name before now)
+-- what is run for a job whose files have these contents
+abbrev pub execution : Job → List (List ℕ) → Source → Execution
+execution job contents source = executed job (second contents) source
 
--- 4: a run of as many events as the budget has leads to the tree that is told, and the own steps and the events that are printed add up to the budget
-abbrev pub CountRow : Asked → FilesAt → SinkAt → SinkAt → ℕ → Type 0
-CountRow ask before out_before out_now result = result ≡ 4 → (mode : Mode) × (bytes : List ℕ) × (source : Source) × WasRead ask mode before bytes × IsSource bytes source
-    × (out_now.taken ≡ then_bytes out_before.taken (text_of mode source)) × IsReachedIn budget source × (printed_steps (end_of source) ≡ budget)
+-- the run ends for this cause; of a source of which something is told, that comes with 0
+abbrev pub EndsBy : ℕ → (Execution → Type 0) → Deed → Execution → Type 0
+EndsBy status Cause (runs text) x = Cause x
+EndsBy status Cause (tells text) x = status ≡ 0
+
+-- a run within the budget leads to the tree that is told
+abbrev pub IsReached : Deed → Execution → Type 0
+IsReached (runs text) x = (n : ℕ) × (n ≤ x.budget) × IsReachedIn n x
+IsReached (tells text) x = Unit {0}
+
+-- The rows below say "exactly where" of told files, within their limits. Of other files each says that there is some source, fault or cause that fits.
+
+-- 0, 1, 3, 4: exactly where the job has a source whose run ends for this cause, with the text of its mode, which for `run` is the report of its meaning; of a source that isn't run, 0 comes wherever it is accepted. A run within the budget leads to the tree that is told.
+pub record EndRow (status : ℕ) (Cause : Execution → Type 0) (ask : Option Job) (before now : FilesAt) (out_before out_now : SinkAt) (result : ℕ) : Type 0 where
+  pub only : result ≡ status → (now.failed ≡ before.failed) × (job : Job) × (contents : List (List ℕ)) × (source : Source) × WasRead ask job before contents
+      × IsSource (source_text job contents) source × EndsBy status Cause (deed_of job) (execution job contents source) × IsReached (deed_of job) (execution job contents source)
+      × (status_by (deed_of job) (execution job contents source) ≡ status)
+      × (out_now.taken ≡ then_bytes out_before.taken (text_by (deed_of job) (execution job contents source)))
+  pub when : (job : Job) (contents : List (List ℕ)) (source : Source) → ask ≡ Some job → HoldsAll before.held (reads_of job) contents
+      → IsSource (source_text job contents) source → EndsBy status Cause (deed_of job) (execution job contents source)
+      → ComesUnlessUnread status (text_by (deed_of job) (execution job contents source)) job before now out_before out_now result
+
+-- 4: a run of as many events as the budget has leads to the tree that is told, and the own steps and the events that are read off it, which `run` and `ref` print, add up to the budget
+abbrev pub CountRow : Option Job → FilesAt → SinkAt → SinkAt → ℕ → Type 0
+CountRow ask before out_before out_now result = result ≡ 4 → (job : Job) × (contents : List (List ℕ)) × (source : Source) × WasRead ask job before contents
+    × IsSource (source_text job contents) source × (out_now.taken ≡ then_bytes out_before.taken (text_by (deed_of job) (execution job contents source)))
+    × IsReachedIn job.budget (execution job contents source) × (printed_steps (end_of (execution job contents source)) ≡ job.budget)
 
 -- 2: exactly where the words ask for nothing
-pub record WordsRow (ask : Asked) (out_before out_now : SinkAt) (result : ℕ) : Type 0 where
-  pub only : result ≡ 2 → (ask ≡ nothing) × (out_now.taken ≡ then_bytes out_before.taken usage_line)
-  pub when : ask ≡ nothing → Comes 2 usage_line out_before out_now result
+pub record WordsRow (ask : Option Job) (out_before out_now : SinkAt) (result : ℕ) : Type 0 where
+  pub only : result ≡ 2 → (ask ≡ None) × (out_now.taken ≡ then_bytes out_before.taken usage_line)
+  pub when : ask ≡ None → Comes 2 usage_line out_before out_now result
 
 -- why bytes are refused with this line: they are the text of a program that isn't accepted, with this first fault, or they are the text of none, with this fault
 abbrev pub IsRefusal : List ℕ → List ℕ → Type 0
@@ -60,29 +78,30 @@ IsRefusal bytes line =
     ((program : Program) × IsText bytes program × (fault : SourceFault) × (checked program ≡ Err fault) × (line ≡ refusal fault))
     ⊎ ((fault : ParseFault) × IsFaultOf bytes fault × (line ≡ refusal (Parse fault)))
 
--- 5: where what was read is no source alone, and wherever told files hold such bytes of at most the limit's number, with the line of the cause; and no other text comes of such a file
-pub record RefusedRow (ask : Asked) (before now : FilesAt) (out_before out_now : SinkAt) (result : ℕ) : Type 0 where
-  pub only : result ≡ 5 → (now.failed ≡ before.failed) × (mode : Mode) × (bytes : List ℕ) × (line : List ℕ) × WasRead ask mode before bytes × IsNoSource bytes
-      × IsRefusal bytes line × (out_now.taken ≡ then_bytes out_before.taken line)
-  pub when : (mode : Mode) (name bytes line : List ℕ) → ask ≡ job mode name → Holds before name bytes → length bytes ≤ source_limit → IsRefusal bytes line
-      → Comes 5 line out_before out_now result ⊎ ((result ≡ 6) × ReadFailed name before now)
-  pub wherever : (mode : Mode) (name bytes : List ℕ) → ask ≡ job mode name → Holds before name bytes → length bytes ≤ source_limit → IsNoSource bytes
-      → ((line : List ℕ) × IsRefusal bytes line × Came 5 line out_before out_now result) ⊎ (result ≡ 7) ⊎ (result ≡ 8) ⊎ ((result ≡ 6) × ReadFailed name before now)
+-- 5: exactly where the job's text is no source, with the line of the cause; and no other text comes of such bytes
+pub record RefusedRow (ask : Option Job) (before now : FilesAt) (out_before out_now : SinkAt) (result : ℕ) : Type 0 where
+  pub only : result ≡ 5 → (now.failed ≡ before.failed) × (job : Job) × (contents : List (List ℕ)) × (line : List ℕ) × WasRead ask job before contents
+      × IsNoSource (source_text job contents) × IsRefusal (source_text job contents) line × (out_now.taken ≡ then_bytes out_before.taken line)
+  pub when : (job : Job) (contents : List (List ℕ)) (line : List ℕ) → ask ≡ Some job → HoldsAll before.held (reads_of job) contents
+      → IsRefusal (source_text job contents) line → ComesUnlessUnread 5 line job before now out_before out_now result
+  pub wherever : (job : Job) (contents : List (List ℕ)) → ask ≡ Some job → HoldsAll before.held (reads_of job) contents → IsNoSource (source_text job contents)
+      → ((line : List ℕ) × IsRefusal (source_text job contents) line × Came 5 line out_before out_now result) ⊎ (result ≡ 7) ⊎ (result ≡ 8)
+      ⊎ ((result ≡ 6) × OneReadFailed (reads_of job) before now)
 
--- why a file line is written: a read of the file failed in this call, or it is too long
-abbrev pub FileCause : Asked → FilesAt → FilesAt → SinkAt → SinkAt → Type 0
-FileCause ask before now out_before out_now = (mode : Mode) × (name : List ℕ) × (ask ≡ job mode name) ×
-    ((ReadFailed name before now × (out_now.taken ≡ then_bytes out_before.taken (failed_line name)))
-    ⊎ ((now.failed ≡ before.failed) × IsTooLong name before × (out_now.taken ≡ then_bytes out_before.taken (longer_line name))))
+-- why a file line is written: those before it were read, and a read of the file failed in this call, or it is too long
+abbrev pub FileCause : Option Job → FilesAt → FilesAt → SinkAt → SinkAt → Type 0
+FileCause ask before now out_before out_now = (job : Job) × (r : Reading) × (ask ≡ Some job) × ComesToRead before.held (reads_of job) r ×
+    ((ReadFailed r.name before now × (out_now.taken ≡ then_bytes out_before.taken (failed_line r.name)))
+    ⊎ ((now.failed ≡ before.failed) × IsTooLong r before.held × (out_now.taken ≡ then_bytes out_before.taken (longer_line r.name r.limit))))
 
--- 6: failed, only where a read of the file failed in this call; too long, exactly where it has more than a source may have
-pub record FileRow (ask : Asked) (before now : FilesAt) (out_before out_now : SinkAt) (result : ℕ) : Type 0 where
+-- 6: failed, only where a read of a file that the job reads failed in this call; too long, exactly where such a file, with those before it read, has more bytes than it may have
+pub record FileRow (ask : Option Job) (before now : FilesAt) (out_before out_now : SinkAt) (result : ℕ) : Type 0 where
   pub only : result ≡ 6 → FileCause ask before now out_before out_now
-  pub when : (mode : Mode) (name bytes : List ℕ) → ask ≡ job mode name → Holds before name bytes → source_limit < length bytes
-      → Comes 6 (longer_line name) out_before out_now result ⊎ ((result ≡ 6) × ReadFailed name before now)
+  pub when : (job : Job) (r : Reading) (bytes : List ℕ) → ask ≡ Some job → HoldsUpTo before.held (reads_of job) r → Holds before.held r.name bytes → r.limit < length bytes
+      → ComesUnlessUnread 6 (longer_line r.name r.limit) job before now out_before out_now result
 
 -- 7: only where the sink's count of faults rose in this call, with a part taken of the text that was to be written; and wherever the count moved
-pub record SinkRow (ask : Asked) (before now : FilesAt) (out_before out_now : SinkAt) (result : ℕ) : Type 0 where
+pub record SinkRow (ask : Option Job) (before now : FilesAt) (out_before out_now : SinkAt) (result : ℕ) : Type 0 where
   pub only : result ≡ 7 → HasRisen out_before.faults out_now.faults
       × (answer : Answer) × MayAnswer ask before now answer × TakesPart out_before.taken answer.text out_now.taken
   pub when : out_now.faults ≢ out_before.faults → result ≡ 7
@@ -93,13 +112,13 @@ abbrev pub MemoryRow : SinkAt → SinkAt → ℕ → Type 0
 MemoryRow out_before out_now result = result ≡ 8 → out_now.taken ≡ then_bytes out_before.taken memory_line
 
 -- Whatever the answer, the files stay as they were, and the failed names have grown by nothing but a name that was asked for.
-pub record FilesRow (ask : Asked) (before now : FilesAt) : Type 0 where
+pub record FilesRow (ask : Option Job) (before now : FilesAt) : Type 0 where
   pub held : now.held ≡ before.held
   pub sound : now.sound ≡ before.sound
   pub grew : FailedGrew ask before now
 
--- Over sound files that hold a source, and a sink that doesn't fail, its whole text is written with the status of its end, unless memory is wanted.
-abbrev pub IsComplete : Asked → FilesAt → SinkAt → SinkAt → ℕ → Type 0
-IsComplete ask before out_before out_now result = (mode : Mode) (name bytes : List ℕ) (source : Source) → ask ≡ job mode name → IsTrue before.sound → Holds before name bytes
-    → length bytes ≤ source_limit → IsSource bytes source → (HasRisen out_before.faults out_now.faults → ⊥)
-    → Came (status_of source) (text_of mode source) out_before out_now result ⊎ (result ≡ 8)
+-- Over sound files that hold what the job reads, with a source in it, and a sink that doesn't fail, the whole text of the mode is written with its status, unless memory is wanted.
+abbrev pub IsComplete : Option Job → FilesAt → SinkAt → SinkAt → ℕ → Type 0
+IsComplete ask before out_before out_now result = (job : Job) (contents : List (List ℕ)) (source : Source) → ask ≡ Some job → IsTrue before.sound
+    → HoldsAll before.held (reads_of job) contents → IsSource (source_text job contents) source → (HasRisen out_before.faults out_now.faults → ⊥)
+    → Came (status_by (deed_of job) (execution job contents source)) (text_by (deed_of job) (execution job contents source)) out_before out_now result ⊎ (result ≡ 8)

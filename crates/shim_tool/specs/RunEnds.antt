@@ -1,5 +1,5 @@
--- What a source means: the run from its root that always does the first event that is enabled.
-use Rattle.std.specs.Prelude.{◌≡◌, ℕ, ◌+◌, IsTrue, Some, List, [], length, map}
+-- What a run of a source means: the run from its root that always does the first event that is enabled.
+use Rattle.std.specs.Prelude.{◌≡◌, ℕ, ◌+◌, IsTrue, Some, List, length, map}
 use Rattle.shim_local.specs.declared.Ended.{Ended}
 use Rattle.shim_local.specs.declared.Outcome.{Outcome}
 use Rattle.shim_local.specs.declared.Outcome.TheVariants.{Done, Uncaught, Trapped, Blocked, Spent}
@@ -14,21 +14,23 @@ use Rattle.shim_reference.specs.Reference.{meaning_of, reference_of}
 use Rattle.shim_reference.specs.Runs.{IsEndOfRun}
 use Rattle.shim_front_end.specs.Source.{Source}
 
--- the most events of a run: the budget where none is asked for
-abbrev pub budget : ℕ
-budget = 1000000
+-- an accepted source with the bytes that it reads, and the most events of its run
+pub record Execution : Type 0 where
+  pub source : Source
+  pub input : List ℕ
+  pub budget : ℕ
 
--- the tree to which the run comes; no mode gives the program an input yet
-unfoldable pub tree_of : Source → Tree LocalState
-tree_of source = meaning_of source [] budget
+-- the tree to which the run comes
+unfoldable pub tree_of : Execution → Tree LocalState
+tree_of x = meaning_of x.source x.input x.budget
 
 -- what is read off it, with the name of an exception that nobody caught
-unfoldable pub end_of : Source → Ended
-end_of source = reference_of source [] budget
+unfoldable pub end_of : Execution → Ended
+end_of x = reference_of x.source x.input x.budget
 
 -- its report
-abbrev pub report_of : Source → List ℕ
-report_of source = report source.names (end_of source)
+abbrev pub report_of : Execution → List ℕ
+report_of x = report x.source.names (end_of x)
 
 abbrev pub status_of_outcome : Outcome → ℕ
 status_of_outcome Done = 0
@@ -38,33 +40,33 @@ status_of_outcome Blocked = 3
 status_of_outcome Spent = 4
 
 -- the status that tells how it ended
-abbrev pub status_of : Source → ℕ
-status_of source = status_of_outcome (end_of source).outcome
+abbrev pub status_of : Execution → ℕ
+status_of x = status_of_outcome (end_of x).outcome
 
 -- nothing can happen any more, and the root has ended
-abbrev pub IsDone : Source → Type 0
-IsDone source = IsQuiescent process_ops (tree_of source) × IsTrue (has_ended (tree_of source).root)
+abbrev pub IsDone : Execution → Type 0
+IsDone x = IsQuiescent process_ops (tree_of x) × IsTrue (has_ended (tree_of x).root)
 
 -- nothing can happen any more, and the root died: of an exception that nobody caught, or of a trap
-abbrev pub IsFailed : Source → Type 0
-IsFailed source = IsQuiescent process_ops (tree_of source) × IsTrue (is_dead (tree_of source).root)
+abbrev pub IsFailed : Execution → Type 0
+IsFailed x = IsQuiescent process_ops (tree_of x) × IsTrue (is_dead (tree_of x).root)
 
 -- nothing can happen any more, and the root has neither ended nor died
-abbrev pub IsBlocked : Source → Type 0
-IsBlocked source = IsQuiescent process_ops (tree_of source) × IsTrue (goes (tree_of source).root)
+abbrev pub IsBlocked : Execution → Type 0
+IsBlocked x = IsQuiescent process_ops (tree_of x) × IsTrue (goes (tree_of x).root)
 
 -- something can still happen after the budget's events
-abbrev pub IsSpent : Source → Type 0
-IsSpent source = IsQuiescent process_ops (tree_of source) → ⊥
+abbrev pub IsSpent : Execution → Type 0
+IsSpent x = IsQuiescent process_ops (tree_of x) → ⊥
 
--- a run of so many events, each enabled in its turn, leads from the start to the tree to which the source's run comes
-abbrev pub IsReachedIn : ℕ → Source → Type 0
-IsReachedIn n source = (es : List Event) × (run (after process_ops) es (start (root source [])) ≡ Some (tree_of source)) × (length es ≡ n)
+-- a run of so many events, each enabled in its turn, leads from the start to the tree to which this run comes
+abbrev pub IsReachedIn : ℕ → Execution → Type 0
+IsReachedIn n x = (es : List Event) × (run (after process_ops) es (start (root x.source x.input)) ≡ Some (tree_of x)) × (length es ≡ n)
 
 -- the own steps and the other events that the report of a run which was stopped prints, added up
 abbrev pub printed_steps : Ended → ℕ
 printed_steps e = sum (map (λ s. s.count) e.own) + e.events
 
--- the source was run
-abbrev pub WasRun : Source → Type 0
-WasRun source = IsEndOfRun process_ops budget (tree_of source)
+-- the run was done
+abbrev pub WasRun : Execution → Type 0
+WasRun x = IsEndOfRun process_ops x.budget (tree_of x)

@@ -12,9 +12,6 @@ use shim_base::{List, NoMemory, push_decimal};
 use shim_report::{SourceFault, fault_text};
 use std::alloc::Global;
 
-/// The most bytes that a source has.
-pub(crate) const SOURCE_LIMIT: usize = 1048576;
-
 /// A status, and the text that is written with it.
 #[derive(Drop)]
 pub(crate) struct Answer {
@@ -48,12 +45,12 @@ pub(crate) fn refused(alloc: Global, fault: SourceFault) -> Result<Answer, NoMem
 
 /// The answer to a file that could not be read.
 #[tactic(auto, unfolding(crate::specs::Answer::failed_line))]
-pub(crate) fn file_failed(alloc: Global, file: &str) -> Result<Answer, NoMemory>
-    ensures { IfOk result (λ a. answer_view a ≡ record { status = 6; text = answers.failed_line file.now }) }
+pub(crate) fn file_failed(alloc: Global, name: &[u8]) -> Result<Answer, NoMemory>
+    ensures { IfOk result (λ a. answer_view a ≡ answers.file_failed name.now) }
 {
     let mut text = List::new(alloc);
     text.extend_from_slice(b"file failed ")?;
-    text.extend_from_slice(file.as_bytes())?;
+    text.extend_from_slice(name)?;
     text.extend_from_slice(b"\n")?;
     Ok(Answer {
         status: Status::FileFault,
@@ -61,16 +58,16 @@ pub(crate) fn file_failed(alloc: Global, file: &str) -> Result<Answer, NoMemory>
     })
 }
 
-/// The answer to a file that is longer than a source may be.
+/// The answer to a file that has more bytes than these.
 #[tactic(auto, unfolding(crate::specs::Answer::longer_line))]
-pub(crate) fn file_too_long(alloc: Global, file: &str) -> Result<Answer, NoMemory>
-    ensures { IfOk result (λ a. answer_view a ≡ record { status = 6; text = answers.longer_line file.now }) }
+pub(crate) fn file_too_long(alloc: Global, name: &[u8], limit: usize) -> Result<Answer, NoMemory>
+    ensures { IfOk result (λ a. answer_view a ≡ answers.file_too_long name.now limit) }
 {
     let mut text = List::new(alloc);
     text.extend_from_slice(b"file too long ")?;
-    text.extend_from_slice(file.as_bytes())?;
+    text.extend_from_slice(name)?;
     text.extend_from_slice(b" ")?;
-    push_decimal(&mut text, SOURCE_LIMIT as u64)?;
+    push_decimal(&mut text, limit as u64)?;
     text.extend_from_slice(b"\n")?;
     Ok(Answer {
         status: Status::FileFault,

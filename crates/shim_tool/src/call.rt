@@ -1,84 +1,62 @@
 // The call that does all that the program does.
-ghost use Rattle.std.specs.Prelude.{◌≡◌, ℕ, List as ListOf, IfOk, MatchResult};
-ghost use Rattle.shim_tool.specs.Asked.{asked, texts_of_words};
-ghost use Rattle.shim_tool.specs.Moments.{files_at, sink_at};
+ghost use Rattle.std.specs.Prelude.{◌≡◌, ◌≤◌, IfOk};
+ghost use Rattle.shim_command.specs.Jobs.{job, texts_of};
+ghost use Rattle.shim_tool.specs.Moments.{files_at, sink_at, KeepsFiles};
+ghost use Rattle.shim_tool.specs.Modes.{reads_of};
+ghost use Rattle.shim_tool.specs.Reads.{GrewByOneOf};
 ghost use Rattle.shim_tool.specs.Answer as answers;
-ghost use Rattle.shim_tool.specs.Call.{Ran, Writes, KeepsFiles};
+ghost use Rattle.shim_tool.specs.Call.{Ran, Writes};
 ghost use Rattle.shim_tool.specs.RunEnds.{IsDone, IsFailed, IsBlocked, IsSpent};
 ghost use Rattle.shim_tool.specs.Rows.{EndRow, CountRow, WordsRow, RefusedRow, FileRow, SinkRow, MemoryRow, FilesRow, IsComplete};
 ghost use Rattle.shim_tool.specs.AnswerView.{code_of};
-ghost use Rattle.shim_tool.specs.Views.{answer_view, found_view, seen_of};
+ghost use Rattle.shim_tool.specs.Views.{answer_view, gathered_view};
 
-use crate::answer::{Answer, SOURCE_LIMIT, file_failed, file_too_long, usage};
+use crate::answer::{Answer, file_failed, file_too_long, usage};
 use crate::execute::answer_source;
-use crate::mode::Mode;
+use crate::reads::{Gathered, gather};
 use crate::status::Status;
-use crate::words::read_words;
-use shim_base::{List, NoMemory};
-use shim_edge::{FileFault, Files, Got, Sink, write_all};
+use shim_base::NoMemory;
+use shim_command::{Job, WordsFault, read_words};
+use shim_edge::{Files, Sink, write_all};
 use std::alloc::Global;
 
-// What was seen of a file.
-#[derive(Drop)]
-enum Found {
-    Unread,
-    Longer,
-    Whole(List<u8>),
-}
-
-impl From<Got> for Found {
-    ghost use Rattle.std.specs.Prelude.{◌≡◌};
-    ghost use Rattle.shim_tool.specs.Views.{found_view, seen_of};
-
-    ghost from_gives = { λ got found. found_view found ≡ seen_of got };
-
-    fn from(got: Got) -> Found {
-        match got {
-            Got::Whole(bytes) => Found::Whole(bytes),
-            Got::Longer => Found::Longer,
-        }
-    }
-}
-
-// Reads a source file, and says what was seen.
-fn look<F: Files>(alloc: Global, file: &str, files: &mut F) -> Result<Found, NoMemory>
-    ensures found { IfOk result (λ found. answers.Sees file.now (files_at F.held F.sound F.failed files.old)
-        (files_at F.held F.sound F.failed files.new) (found_view found)) }
-    ensures grew { answers.GrewBy file.now (files_at F.held F.sound F.failed files.old) (files_at F.held F.sound F.failed files.new) }
-    ensures kept { KeepsFiles (files_at F.held F.sound F.failed files.old) (files_at F.held F.sound F.failed files.new) }
+// Answers to what was gathered for a job.
+fn answer_gathered(alloc: Global, job: &Job, gathered: Gathered<'_>) -> Result<Answer, NoMemory>
+    requires short { answers.IsShort (gathered_view gathered) }
+    requires few { job.now.budget ≤ 4000000 }
+    ensures { IfOk result (λ a. answers.AnswersGathered job.now (gathered_view gathered.entry) (answer_view a)) }
 {
-    match files.read(alloc, file.as_bytes(), SOURCE_LIMIT) {
-        Ok(got) => Ok(Found::from(got)),
-        Err(FileFault::Failed) => Ok(Found::Unread),
-        Err(FileFault::NoMemory) => Err(NoMemory),
+    match gathered {
+        Gathered::Texts(source, input) => answer_source(alloc, job, source.as_slice(), input),
+        Gathered::Unread(name) => file_failed(alloc, name),
+        Gathered::Longer(name, limit) => file_too_long(alloc, name, limit),
     }
 }
 
-// Answers to what was seen of a file.
-fn answer_found(alloc: Global, mode: Mode, file: &str, found: Found) -> Result<Answer, NoMemory>
-    requires { answers.IsWithinLimit (found_view found) }
-    ensures { IfOk result (λ a. answers.AnswersSeen mode file.now (found_view found) (answer_view a)) }
-{
-    match found {
-        Found::Unread => file_failed(alloc, file),
-        Found::Longer => file_too_long(alloc, file),
-        Found::Whole(bytes) => answer_source(alloc, mode, bytes.as_slice()),
-    }
-}
-
-fn answer<F: Files>(alloc: Global, words: &[String], files: &mut F) -> Result<Answer, NoMemory>
-    ensures answers { IfOk result (λ a. answers.Answers (asked (texts_of_words words.now)) (files_at F.held F.sound F.failed files.old)
+// Reads the files of a job, and answers.
+fn answer_job<F: Files>(alloc: Global, job: &Job, files: &mut F) -> Result<Answer, NoMemory>
+    requires few { job.now.budget ≤ 4000000 }
+    ensures answers { IfOk result (λ a. answers.AnswersJob job.now (files_at F.held F.sound F.failed files.old)
         (files_at F.held F.sound F.failed files.new) (answer_view a)) }
-    ensures grew { answers.FailedGrew (asked (texts_of_words words.now)) (files_at F.held F.sound F.failed files.old)
+    ensures grew { GrewByOneOf (reads_of job.now) (files_at F.held F.sound F.failed files.old)
         (files_at F.held F.sound F.failed files.new) }
     ensures kept { KeepsFiles (files_at F.held F.sound F.failed files.old) (files_at F.held F.sound F.failed files.new) }
 {
-    match read_words(words) {
-        Some(job) => {
-            let found = look(alloc, job.file, files)?;
-            answer_found(alloc, job.mode, job.file, found)
-        }
-        None => usage(alloc),
+    let gathered = gather(alloc, job, files)?;
+    answer_gathered(alloc, job, gathered)
+}
+
+fn answer<F: Files>(alloc: Global, words: &[String], files: &mut F) -> Result<Answer, NoMemory>
+    ensures answers { IfOk result (λ a. answers.Answers (job (texts_of words.now)) (files_at F.held F.sound F.failed files.old)
+        (files_at F.held F.sound F.failed files.new) (answer_view a)) }
+    ensures grew { answers.FailedGrew (job (texts_of words.now)) (files_at F.held F.sound F.failed files.old)
+        (files_at F.held F.sound F.failed files.new) }
+    ensures kept { KeepsFiles (files_at F.held F.sound F.failed files.old) (files_at F.held F.sound F.failed files.new) }
+{
+    match read_words(alloc, words) {
+        Ok(job) => answer_job(alloc, &job, files),
+        Err(WordsFault::Refused) => usage(alloc),
+        Err(WordsFault::NoMemory) => Err(NoMemory),
     }
 }
 
@@ -103,7 +81,7 @@ pub fn write_no_memory<K: Sink>(out: &mut K) -> u8
 }
 
 fn run_tool<F: Files, K: Sink>(alloc: Global, words: &[String], files: &mut F, out: &mut K) -> u8
-    ensures { Ran (asked (texts_of_words words.now)) (files_at F.held F.sound F.failed files.old)
+    ensures { Ran (job (texts_of words.now)) (files_at F.held F.sound F.failed files.old)
         (files_at F.held F.sound F.failed files.new) (sink_at K.taken K.faults out.old)
         (sink_at K.taken K.faults out.new) result }
 {
@@ -114,59 +92,61 @@ fn run_tool<F: Files, K: Sink>(alloc: Global, words: &[String], files: &mut F, o
 }
 
 /// Does all that the program does: reads the words, of which the first is the program's own name,
-/// then the file, runs it, and writes the answer. No byte is written before the whole text is there.
+/// then the file and the input, as far as the mode has them, does what the mode says, and writes the
+/// answer. No byte is written before the whole text is there.
 ///
 /// Answers the status that the program ends with. Want of memory may come in place of any status but
 /// 7, and a failed write, which is 7, in place of any.
 pub fn shim<F: Files, K: Sink>(alloc: Global, words: &[String], files: &mut F, out: &mut K) -> u8
     // What the call comes to.
-    ensures ran { Ran (asked (texts_of_words words.now)) (files_at F.held F.sound F.failed files.old)
+    ensures ran { Ran (job (texts_of words.now)) (files_at F.held F.sound F.failed files.old)
         (files_at F.held F.sound F.failed files.new) (sink_at K.taken K.faults out.old)
         (sink_at K.taken K.faults out.new) result }
-    // What follows says "exactly where" of told files, and of a source of at most the limit's bytes. Of other
-    // files each clause says that there is some source, fault or cause that fits.
-    // 0: exactly where the file is a source whose root ends, with the report of its meaning.
-    ensures done { EndRow 0 IsDone (asked (texts_of_words words.now)) (files_at F.held F.sound F.failed files.old)
+    // What follows says "exactly where" of told files, within their limits. Of other files each clause says
+    // that there is some source, fault or cause that fits.
+    // 0: exactly where the root of the source ends, with the text of the mode, as the report of its
+    // meaning; of a source that is only checked, exactly where it is accepted.
+    ensures done { EndRow 0 IsDone (job (texts_of words.now)) (files_at F.held F.sound F.failed files.old)
         (files_at F.held F.sound F.failed files.new) (sink_at K.taken K.faults out.old)
         (sink_at K.taken K.faults out.new) result }
-    // 1: exactly where the root dies of an exception that nobody caught, or of a trap; with that report.
-    ensures failed { EndRow 1 IsFailed (asked (texts_of_words words.now)) (files_at F.held F.sound F.failed files.old)
+    // 1: exactly where the root dies of an exception that nobody caught, or of a trap; with that text.
+    ensures failed { EndRow 1 IsFailed (job (texts_of words.now)) (files_at F.held F.sound F.failed files.old)
         (files_at F.held F.sound F.failed files.new) (sink_at K.taken K.faults out.old)
         (sink_at K.taken K.faults out.new) result }
     // 2: exactly where the words ask for nothing.
-    ensures words { WordsRow (asked (texts_of_words words.now)) (sink_at K.taken K.faults out.old)
+    ensures words { WordsRow (job (texts_of words.now)) (sink_at K.taken K.faults out.old)
         (sink_at K.taken K.faults out.new) result }
     // 3: exactly where nothing can happen any more and the root has neither ended nor died; with that
-    // report.
-    ensures blocked { EndRow 3 IsBlocked (asked (texts_of_words words.now)) (files_at F.held F.sound F.failed files.old)
+    // text.
+    ensures blocked { EndRow 3 IsBlocked (job (texts_of words.now)) (files_at F.held F.sound F.failed files.old)
         (files_at F.held F.sound F.failed files.new) (sink_at K.taken K.faults out.old)
         (sink_at K.taken K.faults out.new) result }
-    // 4: exactly where something can still happen after the budget's events; with that report.
-    ensures spent { EndRow 4 IsSpent (asked (texts_of_words words.now)) (files_at F.held F.sound F.failed files.old)
+    // 4: exactly where something can still happen after the budget's events; with that text.
+    ensures spent { EndRow 4 IsSpent (job (texts_of words.now)) (files_at F.held F.sound F.failed files.old)
         (files_at F.held F.sound F.failed files.new) (sink_at K.taken K.faults out.old)
         (sink_at K.taken K.faults out.new) result }
-    // Then the own steps and the events that it prints add up to the budget.
-    ensures counts { CountRow (asked (texts_of_words words.now)) (files_at F.held F.sound F.failed files.old)
+    // Then the own steps and the events that a report prints add up to the budget.
+    ensures counts { CountRow (job (texts_of words.now)) (files_at F.held F.sound F.failed files.old)
         (sink_at K.taken K.faults out.old) (sink_at K.taken K.faults out.new) result }
     // 5: exactly where the file is no source, with the line of the cause.
-    ensures refused { RefusedRow (asked (texts_of_words words.now)) (files_at F.held F.sound F.failed files.old)
+    ensures refused { RefusedRow (job (texts_of words.now)) (files_at F.held F.sound F.failed files.old)
         (files_at F.held F.sound F.failed files.new) (sink_at K.taken K.faults out.old)
         (sink_at K.taken K.faults out.new) result }
-    // 6: a read of the file failed, or it is too long.
-    ensures file { FileRow (asked (texts_of_words words.now)) (files_at F.held F.sound F.failed files.old)
+    // 6: a read of the file or of the input failed, or one of them is too long.
+    ensures file { FileRow (job (texts_of words.now)) (files_at F.held F.sound F.failed files.old)
         (files_at F.held F.sound F.failed files.new) (sink_at K.taken K.faults out.old)
         (sink_at K.taken K.faults out.new) result }
     // 7: only where the sink failed in this call.
-    ensures sink { SinkRow (asked (texts_of_words words.now)) (files_at F.held F.sound F.failed files.old)
+    ensures sink { SinkRow (job (texts_of words.now)) (files_at F.held F.sound F.failed files.old)
         (files_at F.held F.sound F.failed files.new) (sink_at K.taken K.faults out.old)
         (sink_at K.taken K.faults out.new) result }
     // 8: want of memory.
     ensures memory { MemoryRow (sink_at K.taken K.faults out.old) (sink_at K.taken K.faults out.new) result }
     // The files stay, and no name but one that was asked for is added to the failed ones.
-    ensures files { FilesRow (asked (texts_of_words words.now)) (files_at F.held F.sound F.failed files.old)
+    ensures files { FilesRow (job (texts_of words.now)) (files_at F.held F.sound F.failed files.old)
         (files_at F.held F.sound F.failed files.new) }
     // Where nothing fails, the whole text of a source is written, unless memory is wanted.
-    ensures complete { IsComplete (asked (texts_of_words words.now)) (files_at F.held F.sound F.failed files.old)
+    ensures complete { IsComplete (job (texts_of words.now)) (files_at F.held F.sound F.failed files.old)
         (sink_at K.taken K.faults out.old) (sink_at K.taken K.faults out.new) result }
 {
     let status = run_tool(alloc, words, files, out);

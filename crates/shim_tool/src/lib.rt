@@ -1,12 +1,13 @@
-//! The command: its words, its source, the run and the report.
+//! The command: its words, its files, the run and what is told of it.
 #![tactic(auto)]
 
 mod answer;
 mod call;
 mod execute;
-mod mode;
+pub mod laws;
+mod reads;
 mod status;
-mod words;
 
 pub use call::{shim, write_no_memory};
-pub use mode::Mode;
+pub use shim_command::{Job, Kind, Mode, WordsFault, read_words};
+pub use shim_generator::generate;

@@ -1,6 +1,6 @@
 use Rattle.std.proofs.Common.{arith}
 use Rattle.shim_tool.proofs.Causes.{tells_done, tells_failed, tells_blocked, tells_spent}
-use Rattle.shim_tool.proofs.RowLemmas.{end_row, count_row, refused_row, complete}
+use Rattle.shim_tool.proofs.RowLemmas.{end_row, count_row, words_row, refused_row, file_row, sink_row, memory_row, files_row, complete}
 use Rattle.shim_tool.proofs.call.shim.Goals as goal
 
 pub returns-clause-done : goal.returns-clause-done
@@ -18,8 +18,23 @@ returns-clause-spent g c = end_row 4 _ tells_spent (omega arith) (λ e. omega (a
 pub returns-clause-counts : goal.returns-clause-counts
 returns-clause-counts g c = count_row _ _ _ _ _ _ c.run_tool-status.ensures
 
+pub returns-clause-words : goal.returns-clause-words
+returns-clause-words g c = words_row _ _ _ _ _ _ c.run_tool-status.ensures
+
 pub returns-clause-refused : goal.returns-clause-refused
 returns-clause-refused g c = refused_row _ _ _ _ _ _ c.run_tool-status.ensures
+
+pub returns-clause-file : goal.returns-clause-file
+returns-clause-file g c = file_row _ _ _ _ _ _ c.run_tool-status.ensures
+
+pub returns-clause-sink : goal.returns-clause-sink
+returns-clause-sink g c = sink_row _ _ _ _ _ _ c.run_tool-status.ensures
+
+pub returns-clause-memory : goal.returns-clause-memory
+returns-clause-memory g c = memory_row _ _ _ _ _ _ c.run_tool-status.ensures
+
+pub returns-clause-files : goal.returns-clause-files
+returns-clause-files g c = files_row _ _ _ _ _ _ c.run_tool-status.ensures
 
 pub returns-clause-complete : goal.returns-clause-complete
 returns-clause-complete g c = complete _ _ _ _ _ _ c.run_tool-status.ensures

@@ -1,0 +1,6 @@
+use Rattle.std.proofs.Common.{◌≡◌, ◌<◌, ◌+ℤ◌, pos, drop}
+use Rattle.shim_report.specs.Summary.{all_values, residue, total}
+use Rattle.shim_report.proofs.report.sums.value_sum.Given as goal
+
+abbrev pub invariant-loop-history : goal.invariant-loop-history
+invariant-loop-history l = (residue (pos l.sum +ℤ total (all_values (drop l.history-index l.histories))) ≡ residue (total (all_values l.histories))) × (l.sum < 1000000)
