@@ -6,6 +6,8 @@ mod expect;
 #[cfg(test)]
 mod expressions;
 #[cfg(test)]
+mod programs;
+#[cfg(test)]
 mod statements;
 #[cfg(test)]
 mod units;
