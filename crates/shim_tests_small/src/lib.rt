@@ -1,6 +1,8 @@
 //! A small process, for tests of what runs processes.
 #![tactic(auto)]
 
+#[cfg(test)]
+mod pieces;
 mod small;
 
 pub use small::{Small, Step};

@@ -22,6 +22,9 @@ pub enum Step {
     Trap,
 }
 
+// Where so many exception places are in force, memory is wanted for one more.
+const MOST_PLACES: u32 = 4;
+
 /// A process that does the steps it was given, for tests of what runs processes. Each `next` of it is
 /// of one channel, and its value is what the last meeting gave, or 0. It puts 1 for each value but 0. A
 /// fork gives two children that stand at a `next` of the same channel; the value of the first comes
@@ -29,7 +32,8 @@ pub enum Step {
 ///
 /// It stands trapped at a `Trap`, at a put of a process that isn't the root, and at a throw of an
 /// exception that isn't in force. A put or a fork behind which it would stand so traps. Each of these
-/// is a division by zero in line 1.
+/// is a division by zero in line 1. Where four exception places are in force, that of a trap among them, a
+/// `Try` wants memory that isn't there.
 #[derive(Drop)]
 pub struct Small {
     path: Path,
@@ -137,7 +141,7 @@ impl Small {
         ensures err { OnErr result (self.new ≡ self.old) }
     {
         if let Some(Step::Try(name, line)) = self.left.first().copied() {
-            if self.in_force() == u32::MAX {
+            if self.in_force() >= MOST_PLACES {
                 return Err(NoMemory);
             }
             self.places.push((name, line))?;

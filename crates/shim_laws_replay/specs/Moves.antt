@@ -1,0 +1,44 @@
+-- How a journal goes on: by an entry more, and by the entry of a piece of work.
+use Rattle.std.specs.Prelude.{◌≡◌, ◌≤◌, ℕ, ◌+◌, Bool, false, Some, List, [], ◌∷◌, ◌++◌}
+use Rattle.shim_base.specs.Paths.{Path}
+use Rattle.shim_local.specs.Process.{Ops, AtQuiet}
+use Rattle.shim_local.specs.Quiets.{QuietSteps}
+use Rattle.shim_local.specs.Pieces.{FewerWithCause}
+use Rattle.shim_semantics.specs.Nodes.{Live}
+use Rattle.shim_semantics.specs.Places.{StandsAt}
+use Rattle.shim_semantics.specs.Trees.{Tree, start, steps}
+use Rattle.shim_semantics.specs.Sound.{SharesItsOwn}
+use Rattle.shim_semantics.specs.Quiets.{ComesBy, Advances}
+use Rattle.shim_semantics.specs.Laws.{IsSoundTree}
+use Rattle.shim_semantics.specs.Systems.{run}
+use Rattle.shim_laws_replay.specs.Journals.{Entry, Quiet, entry_after, replay}
+use Rattle.shim_laws_replay.specs.Grants.{IsGrantable}
+
+pub record JournalsGoOn {S : Type 0} (o : Ops S) : Type 0 where
+  -- a journal without entries leads to the tree of the one process
+  pub empty : (root : S) → replay o root [] ≡ Some (start root)
+  -- with an entry more it leads to the tree after that
+  pub one_more : (root : S) (journal : List Entry) (j : Entry) (t u : Tree S) → replay o root journal ≡ Some t → entry_after o j t ≡ Some u → replay o root (journal ++ j ∷ []) ≡ Some u
+  -- each part of it from the start leads to a tree, from which the rest leads on
+  pub earlier : (root : S) (js ks : List Entry) (u : Tree S) → replay o root (js ++ ks) ≡ Some u → (t : Tree S) × (replay o root js ≡ Some t) × (run (entry_after o) ks t ≡ Some u)
+  -- and each tree to which it leads is sound
+  pub sound : (root : S) (journal : List Entry) (t : Tree S) → o.sound root → SharesItsOwn o root → replay o root journal ≡ Some t → IsSoundTree o t
+
+-- What a piece of so many quiet steps, which end in this state, makes of the first tree: the second is the tree after one entry, is sound and has as many steps more, and the process stands in it in its last state.
+pub record IsTakenIn {S : Type 0} (o : Ops S) (t u : Tree S) (n : ℕ) (last : S) : Type 0 where
+  pub entry : entry_after o (Quiet (o.path last) n) t ≡ Some u
+  pub sound : IsSoundTree o u
+  pub counted : steps u ≡ steps t + n
+  pub stands : StandsAt o u.root (o.path last) (Live last)
+
+pub record PiecesAreEntries {S : Type 0} (o : Ops S) : Type 0 where
+  -- A finished piece of a process that stands where it was granted may be taken in. The path is that of the start.
+  pub comes : (t : Tree S) (n : ℕ) (first last : S) → IsSoundTree o t → IsGrantable o t first → QuietSteps o n first last → ComesBy o t n last × (o.path last ≡ o.path first)
+  -- there is the tree after its steps
+  pub leads : (t : Tree S) (n : ℕ) (last : S) → IsSoundTree o t → ComesBy o t n last → (u : Tree S) × Advances o (o.path last) n t u
+  -- it is one entry
+  pub entry : (t u : Tree S) (n : ℕ) (last : S) → IsSoundTree o t → ComesBy o t n last → Advances o (o.path last) n t u → IsTakenIn o t u n last
+  -- and each entry of quiet steps is a piece of the process of its path
+  pub piece : (t u : Tree S) (p : Path) (n : ℕ) → IsSoundTree o t → 1 ≤ n → entry_after o (Quiet p n) t ≡ Some u → (first : S) × (last : S) × IsGrantable o t first × (o.path first ≡ p) × QuietSteps o n first last × IsTakenIn o t u n last
+  -- it tells of a step, where a step was granted to a process that stands before a quiet one, and no memory was wanted
+  pub some : (first last : S) (used grant : ℕ) (short : Bool) → o.stop first ≡ AtQuiet → 1 ≤ grant → QuietSteps o used first last → FewerWithCause o used grant short last → short ≡ false → 1 ≤ used
