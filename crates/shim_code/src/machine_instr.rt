@@ -25,8 +25,8 @@ pub struct Callee {
     pub throws: List<u32>,
 }
 
-/// One instruction with all that running it takes, so that none of it is looked up in the program. All
-/// are of one small size.
+/// One instruction with what running it takes of its statement: a type to store by, what a parameter holds, a
+/// number. Names, and the slots of the units that are entered, stay in the program.
 #[derive(Debug, Drop)]
 pub enum MachineInstr {
     Mark(Mark),

@@ -5,7 +5,7 @@ use Rattle.shim_process.specs.Locations.{Location, Locations}
 use Rattle.shim_process.specs.Arguments.{Argument as ArgumentOf, call_locations, new_channels, numbers_from, call_slots, empties, branch_locations, channels_of}
 use Rattle.shim_syntax.specs.declared.tree.Sort.{Sort}
 use Rattle.shim_syntax.specs.declared.tree.Sort.TheVariants as sort
-use Rattle.shim_process.specs.Forks.{labels_from}
+use Rattle.shim_process.specs.Forks.{labels_from, lent_by}
 use Rattle.shim_locations.specs.declared.argument.Argument.{Argument}
 use Rattle.shim_locations.specs.Given.{argument_of, arguments_of}
 
@@ -48,6 +48,11 @@ pub one_more_branch : (home : Path) (first locations after passed more : Locatio
     → more ++ branch_locations home after next (arguments_of (drop (i + 1) given)) ≡ branch_locations home first made (arguments_of given)
 one_more_branch home first locations after passed more made serial next given i d lt step so_far =
     step (arguments_of (drop (i + 1) given)) ∙ ap (λ g. passed ++ branch_locations home locations serial (arguments_of g)) (sym (next_is i given d lt)) ∙ so_far
+
+pub one_more_lent : (x y whole : Locations) (given : List Argument) (i : ℕ) (d : Argument) → i < length given
+    → ((rest : List ArgumentOf) → lent_by rest y ≡ lent_by (argument_of (get_or given i d) ∷ rest) x)
+    → lent_by (arguments_of (drop i given)) x ≡ whole → lent_by (arguments_of (drop (i + 1) given)) y ≡ whole
+one_more_lent x y whole given i d lt step so_far = step (arguments_of (drop (i + 1) given)) ∙ ap (λ g. lent_by (arguments_of g) x) (sym (next_is i given d lt)) ∙ so_far
 
 channels_after : (location : Option Location) (locations : Locations) → channels_of (location ∷ locations) ≡ channels_of (location ∷ []) ++ channels_of locations
 channels_after None locations = refl

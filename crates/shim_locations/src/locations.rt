@@ -142,9 +142,9 @@ impl Locations {
         }
     }
 
-    // The value and the ownership come back from a location of another process.
+    /// The value and the ownership come back from a location of another process.
     #[tactic(auto, unfolding(shim_process::specs::Locations::at_number))]
-    fn regain(&mut self, number: usize, back: Option<&Location>)
+    pub fn regain(&mut self, number: usize, back: Option<&Location>)
         ensures { self.new ≡ slice_set self.old number (with_back (option_copied back.entry) (at_number self.old number)) }
     {
         if number < self.items.len() {

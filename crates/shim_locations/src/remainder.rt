@@ -1,10 +1,13 @@
 // What a process has left while the children of a fork are made.
-ghost use Rattle.std.specs.Prelude.{◌≡◌, ◌∷◌, [], None, false, if◌then◌else◌, OnErr, OnOk};
-ghost use Rattle.shim_process.specs.Forks.{lent, takes_input, takes_output};
+ghost use Rattle.std.specs.Prelude.{◌≡◌, ◌∷◌, [], List as ListOf, None, false, if◌then◌else◌, OnErr, OnOk};
+ghost use Rattle.shim_process.specs.Arguments.{Argument as ArgumentOf};
+ghost use Rattle.shim_process.specs.Forks.{lent, lent_by, takes_input, takes_output};
 ghost use Rattle.shim_process.specs.Locations.{Locations};
 ghost use Rattle.shim_scopes.specs.declared.tree.UParam.{UParam};
+ghost use Rattle.shim_locations.specs.Given.{argument_of, arguments_of};
 ghost use Rattle.shim_locations.specs.Lendings.{is_taken, lent_at};
 
+use crate::argument::Argument;
 use crate::locations::number_of;
 use crate::streams::{takes_input, takes_output};
 use shim_base::{List, NoMemory};
@@ -68,6 +71,30 @@ fn lend_args(
     Ok(())
 }
 
+// The location that a computed argument gives by reference is taken.
+#[tactic(auto, using(crate::proofs::Lent::lent_more))]
+fn lend_argument(taken: &mut List<usize>, argument: &Argument) -> Result<(), NoMemory>
+    ensures { OnOk result ((locations : Locations) (rest : ListOf ArgumentOf) → lent_by rest (lent_at taken.new locations) ≡ lent_by (argument_of argument.now ∷ rest) (lent_at taken.old locations)) }
+{
+    match argument {
+        Argument::ByReference(number) => {
+            taken.push(*number)?;
+            Ok(())
+        }
+        _ => Ok(()),
+    }
+}
+
+#[tactic(auto, using(crate::proofs::OneMore::one_more_lent))]
+fn lend_arguments(taken: &mut List<usize>, given: &[Argument]) -> Result<(), NoMemory>
+    ensures { OnOk result ((locations : Locations) → lent_at taken.new locations ≡ lent_by (arguments_of given.now) (lent_at taken.old locations)) }
+{
+    for argument in given {
+        lend_argument(taken, argument)?;
+    }
+    Ok(())
+}
+
 // Where the input is read by what a branch with these parameters leaves.
 fn input_left(params: &[UParam], at: Option<usize>) -> Option<usize>
     ensures { result ≡ if takes_input params.now then None else at }
@@ -82,8 +109,22 @@ fn output_left(params: &[UParam], held: bool) -> bool
     if takes_output(params) { false } else { held }
 }
 
-/// A branch with these parameters takes its arguments. A refusal changes nothing.
+// These locations are taken as well, and the streams of a branch with these parameters. A refusal
+// changes nothing.
 #[tactic(auto, using(crate::proofs::Lent::lent_join))]
+fn take(remainder: &mut Remainder, more: List<usize>, params: &[UParam]) -> Result<(), NoMemory>
+    ensures locations { OnOk result ((locations : Locations) → lent_at remainder.new.taken locations ≡ lent_at more (lent_at remainder.old.taken locations)) }
+    ensures input { OnOk result (remainder.new.input_at ≡ if takes_input params.now then None else remainder.old.input_at) }
+    ensures output { OnOk result (remainder.new.holds_output ≡ if takes_output params.now then false else remainder.old.holds_output) }
+    ensures err { OnErr result (remainder.new ≡ remainder.old) }
+{
+    remainder.taken.append(more)?;
+    remainder.input_at = input_left(params, remainder.input_at);
+    remainder.holds_output = output_left(params, remainder.holds_output);
+    Ok(())
+}
+
+/// A branch with these parameters takes its arguments. A refusal changes nothing.
 pub fn lend(
     remainder: &mut Remainder,
     slots: &[usize],
@@ -97,8 +138,21 @@ pub fn lend(
 {
     let mut more = List::new(remainder.taken.allocator());
     lend_args(&mut more, slots, params, args)?;
-    remainder.taken.append(more)?;
-    remainder.input_at = input_left(params, remainder.input_at);
-    remainder.holds_output = output_left(params, remainder.holds_output);
-    Ok(())
+    take(remainder, more, params)
+}
+
+/// A branch with these parameters takes these arguments, which are computed. A refusal changes nothing.
+pub fn lend_given(
+    remainder: &mut Remainder,
+    params: &[UParam],
+    given: &[Argument],
+) -> Result<(), NoMemory>
+    ensures locations { OnOk result ((locations : Locations) → lent_at remainder.new.taken locations ≡ lent_by (arguments_of given.now) (lent_at remainder.old.taken locations)) }
+    ensures input { OnOk result (remainder.new.input_at ≡ if takes_input params.now then None else remainder.old.input_at) }
+    ensures output { OnOk result (remainder.new.holds_output ≡ if takes_output params.now then false else remainder.old.holds_output) }
+    ensures err { OnErr result (remainder.new ≡ remainder.old) }
+{
+    let mut more = List::new(remainder.taken.allocator());
+    lend_arguments(&mut more, given)?;
+    take(remainder, more, params)
 }

@@ -16,7 +16,7 @@ use Rattle.shim_process.specs.Locations.{Locations, at_number, lend_at, with_bac
 use Rattle.shim_process.specs.Todo.{Item, On, next_stmt}
 use Rattle.shim_process.specs.LocalState.{LocalState, unit_at, number_of, handlers, is_full, trapped}
 use Rattle.shim_process.specs.StatementViews.{statement_view, passed_labels}
-use Rattle.shim_process.specs.Arguments.{Argument, on_value, arguments, new_channels, branch_locations, channels_of, declared_slots, empties, numbers_from, entered}
+use Rattle.shim_process.specs.Arguments.{Argument, ByReference, ByCopy, ByValue, on_value, arguments, new_channels, branch_locations, channels_of, declared_slots, empties, numbers_from, entered}
 use Rattle.shim_process.specs.Ends.{gone}
 use Rattle.shim_process.specs.Steps.{line_of}
 
@@ -81,10 +81,10 @@ all_arguments l (b ∷ branches) =
     on_value (λ one. on_value (λ others. Ok (one ∷ others)) (all_arguments l branches))
     (arguments l.locations l.frame.slots (unit_at l.program b.call.unit).params b.call.args)
 
--- the child in this branch, at the first statement of the branch's unit
-abbrev pub child : LocalState → ℕ → UBranch → List Argument → LocalState
-child l i b given =
-    let u = unit_at l.program b.call.unit in
+-- the child of this place, at the first statement of this unit, with these labels of the unit's exceptions and these arguments
+abbrev pub child_in : LocalState → ℕ → ℕ → List ℕ → List Argument → LocalState
+child_in l i unit labels given =
+    let u = unit_at l.program unit in
     let path = l.path ++ (l.forks, i) ∷ [] in
     let passed = branch_locations path l.locations 0 given in
     record {
@@ -93,7 +93,7 @@ child l i b given =
       made = new_channels given;
       forks = 0;
       given = channels_of passed;
-      frame = entered u b.call.unit (numbers_from 0 u.slots) (passed_labels (statement_view l) b.call.throws) 0 0;
+      frame = entered u unit (numbers_from 0 u.slots) labels 0 0;
       callers = [];
       locations = passed ++ empties (declared_slots u);
       input_at = if takes_input u.params then l.input_at else None;
@@ -103,6 +103,10 @@ child l i b given =
       input = l.input;
     }
 
+-- the child in this branch
+abbrev pub child : LocalState → ℕ → UBranch → List Argument → LocalState
+child l i b given = child_in l i b.call.unit (passed_labels (statement_view l) b.call.throws) given
+
 -- what is kept of the variables that arguments give by reference; like the arguments, they go with the parameters
 abbrev pub lent : List ℕ → List UParam → List Arg → Locations → Locations
 lent slots [] args locations = locations
@@ -111,15 +115,30 @@ lent slots (p ∷ ps) (Ref x ∷ rest) locations = lent slots ps rest (lend_at l
 lent slots (p ∷ ps) (Pass x ∷ rest) locations = lent slots ps rest locations
 lent slots (p ∷ ps) (Fresh e ∷ rest) locations = lent slots ps rest locations
 
--- what a process keeps of what a branch takes: the variables by reference and the streams are with the child
-abbrev pub lending : LocalState → UBranch → LocalState
-lending l b =
-    let u = unit_at l.program b.call.unit in
+-- what is kept of the variables that these arguments give by reference, once they are computed
+abbrev pub lent_by : List Argument → Locations → Locations
+lent_by [] locations = locations
+lent_by (ByReference n ∷ given) locations = lent_by given (lend_at locations n)
+lent_by (ByCopy t n ∷ given) locations = lent_by given locations
+lent_by (ByValue t name v ∷ given) locations = lent_by given locations
+
+-- a process with what is kept of its locations; the streams that the branch's unit takes are with the child
+abbrev pub keeping : LocalState → ℕ → Locations → LocalState
+keeping l unit locations =
+    let u = unit_at l.program unit in
     record l {
-      locations = lent l.frame.slots u.params b.call.args l.locations;
+      locations = locations;
       input_at = if takes_input u.params then None else l.input_at;
       holds_output = if takes_output u.params then false else l.holds_output;
     }
+
+-- what a process keeps of what a branch takes: the variables by reference and the streams are with the child
+abbrev pub lending : LocalState → UBranch → LocalState
+lending l b = keeping l b.call.unit (lent l.frame.slots (unit_at l.program b.call.unit).params b.call.args l.locations)
+
+-- and of what a branch to this unit takes with these arguments
+abbrev pub lending_given : LocalState → ℕ → List Argument → LocalState
+lending_given l unit given = keeping l unit (lent_by given l.locations)
 
 -- The children, from the left, where the first has this place. Each takes of what those before it left.
 abbrev pub children_from : LocalState → ℕ → List UBranch → List (List Argument) → List LocalState

@@ -18,7 +18,7 @@ use Rattle.shim_walk_frames.specs.Depths.{shown, text}
 use Rattle.shim_walk.specs.Entries.{IsEntry}
 use Rattle.shim_walk_frames.proofs.Goes.{left_first}
 
-pub entry_top : (units : List UnitOf) (unit floor outer : ℕ) (cursor : Cursor) (slots labels slots' labels' : List ℕ) (top : FrameView)
+pub entry_top : (units : List UnitOf) (unit floor outer : ℕ) (cursor : Option Cursor) (slots labels slots' labels' : List ℕ) (top : FrameView)
     → top ≡ record { unit = unit; at = 0; cursor = cursor; halfway = false; slots = slots'; labels = labels'; floor = floor; outer = outer; places = [] }
     → slots' ≡ slots → labels' ≡ labels
     → shown units top ≡ entered (unit_or (slice_get units unit)) unit slots labels floor outer

@@ -5,11 +5,12 @@ use Rattle.shim_base.specs.declared.operators.Trap.TheVariants.{Depth}
 use Rattle.shim_scopes.specs.declared.tree.UParam.{UParam}
 use Rattle.shim_units.specs.declared.unit.UBranch.{UBranch}
 use Rattle.shim_units.specs.declared.unit.Arg.{Arg}
+use Rattle.shim_process.specs.Arguments.{Argument}
 use Rattle.shim_process.specs.Locations.{Locations}
 use Rattle.shim_process.specs.LocalState.{LocalState, unit_or, unit_at, is_full, trapped}
 use Rattle.shim_process.specs.Steps.{line_of}
 use Rattle.shim_local.specs.Process.{Parted, Trapped as TrappedFork}
-use Rattle.shim_process.specs.Forks.{fork, parted, all_lending, lending, takes_input, takes_output, parent, is_far, item_branches, lent, joined, all_back, input_back, output_back}
+use Rattle.shim_process.specs.Forks.{fork, parted, all_lending, keeping, lending, lending_given, takes_input, takes_output, parent, is_far, item_branches, lent, lent_by, joined, all_back, input_back, output_back}
 use Rattle.shim_walk.specs.declared.process.ForkedProcess.TheVariants.{Children, Trapped}
 use Rattle.shim_locations.specs.declared.remainder.Remainder.{Remainder}
 use Rattle.shim_locations.specs.Lendings.{lent_at, remainder_of}
@@ -44,7 +45,19 @@ joined_by l children branches locations input_at output e ec ei eo =
     ∙ ap (λ x. record (joined l children) { input_at = x; holds_output = output }) ei
     ∙ ap (λ x. record (joined l children) { holds_output = x }) eo
 
--- what a branch takes, from the parts of it
+-- what a branch leaves whose unit has these parameters
+kept_by : (l : LocalState) (remainder after : Remainder) (unit : ℕ) (params : List UParam) (locations : Locations)
+    → params ≡ (unit_or (slice_get l.program.units unit)).params → lent_at after.taken l.locations ≡ locations
+    → after.input_at ≡ (if takes_input params then None else remainder.input_at) → after.holds_output ≡ (if takes_output params then false else remainder.holds_output)
+    → remainder_of l after ≡ keeping (remainder_of l remainder) unit locations
+unfolding unit_at
+kept_by l remainder after unit params locations ep ec ei eo =
+    let left = keeping (remainder_of l remainder) unit locations in
+    ap (λ x. record l { locations = x; input_at = after.input_at; holds_output = after.holds_output }) ec
+    ∙ ap (λ x. record left { input_at = x; holds_output = after.holds_output }) (ei ∙ ap (λ ps. if takes_input ps then None else remainder.input_at) ep)
+    ∙ ap (λ x. record left { holds_output = x }) (eo ∙ ap (λ ps. if takes_output ps then false else remainder.holds_output) ep)
+
+-- what it takes, from the parts of it
 pub lending_by : (l : LocalState) (remainder after : Remainder) (b : UBranch) (slots : List ℕ) (args : List Arg) (params : List UParam)
     → slots ≡ l.frame.slots → args ≡ b.call.args → params ≡ (unit_or (slice_get l.program.units b.call.unit)).params
     → ((locations : Locations) → lent_at after.taken locations ≡ lent slots params args (lent_at remainder.taken locations))
@@ -52,10 +65,18 @@ pub lending_by : (l : LocalState) (remainder after : Remainder) (b : UBranch) (s
     → remainder_of l after ≡ lending (remainder_of l remainder) b
 unfolding unit_at
 lending_by l remainder after b slots args params es ea ep ec ei eo =
-    ap (λ x. record l { locations = x; input_at = after.input_at; holds_output = after.holds_output }) (ec l.locations ∙ ap (λ s. lent s params args (lent_at remainder.taken l.locations)) es ∙ ap (λ a. lent l.frame.slots params a (lent_at remainder.taken l.locations)) ea
-    ∙ ap (λ ps. lent l.frame.slots ps b.call.args (lent_at remainder.taken l.locations)) ep)
-    ∙ ap (λ x. record (lending (remainder_of l remainder) b) { input_at = x; holds_output = after.holds_output }) (ei ∙ ap (λ ps. if takes_input ps then None else remainder.input_at) ep)
-    ∙ ap (λ x. record (lending (remainder_of l remainder) b) { holds_output = x }) (eo ∙ ap (λ ps. if takes_output ps then false else remainder.holds_output) ep)
+    let left = lent_at remainder.taken l.locations in
+    kept_by l remainder after b.call.unit params (lent l.frame.slots (unit_or (slice_get l.program.units b.call.unit)).params b.call.args left) ep
+    (ec l.locations ∙ ap (λ s. lent s params args left) es ∙ ap (λ a. lent l.frame.slots params a left) ea ∙ ap (λ ps. lent l.frame.slots ps b.call.args left) ep)
+    ei eo
+
+-- and from its computed arguments
+pub given_by : (l : LocalState) (remainder after : Remainder) (unit : ℕ) (given : List Argument) (params : List UParam)
+    → params ≡ (unit_or (slice_get l.program.units unit)).params
+    → ((locations : Locations) → lent_at after.taken locations ≡ lent_by given (lent_at remainder.taken locations))
+    → after.input_at ≡ (if takes_input params then None else remainder.input_at) → after.holds_output ≡ (if takes_output params then false else remainder.holds_output)
+    → remainder_of l after ≡ lending_given (remainder_of l remainder) unit given
+given_by l remainder after unit given params ep ec ei eo = kept_by l remainder after unit params (lent_by given (lent_at remainder.taken l.locations)) ep (ec l.locations) ei eo
 
 -- three facts of one success
 pub on_three : {T E P Q R S : Type 0} (r : Result T E) → (P → Q → R → S) → OnOk r P → OnOk r Q → OnOk r R → OnOk r S

@@ -2,6 +2,7 @@
 pub mod Exceptions
 pub mod Standing
 pub mod Entering
+pub mod Resting
 pub mod MadeChildren
 pub mod Forking
 pub mod SamePlaces

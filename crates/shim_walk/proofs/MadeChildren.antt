@@ -9,7 +9,7 @@ use Rattle.shim_process.specs.Locations.{Locations}
 use Rattle.shim_process.specs.LocalState.{LocalState, unit_or, unit_at, handlers}
 use Rattle.shim_process.specs.StatementViews.{statement_view, label_of, passed_labels}
 use Rattle.shim_process.specs.Arguments.{Argument, on_value, arguments, entered, numbers_from, branch_locations, channels_of, new_channels, empties, declared_slots}
-use Rattle.shim_process.specs.Forks.{root, child, lending, all_lending, children_from, all_arguments, parted, fork_result, fork, item_branches, takes_input, takes_output, labels_from}
+use Rattle.shim_process.specs.Forks.{root, child, child_in, lending, all_lending, children_from, all_arguments, parted, fork_result, fork, item_branches, takes_input, takes_output, labels_from}
 use Rattle.shim_walk_frames.specs.FrameViews.{FrameView}
 use Rattle.shim_locations.specs.declared.remainder.Remainder.{Remainder}
 use Rattle.shim_walk_frames.specs.Depths.{shown}
@@ -47,21 +47,21 @@ root_by program input home base given top callers locations input_at output e1 e
     same_state (state_of home base 0 0 given top callers locations input_at output None program input) (root program input) e1 e2 refl refl e5 e6 (ap (map (shown program.units)) e7) e8 e9 e10 refl refl refl
 
 -- what a child begins with
-pub child_by : (l : LocalState) (i : ℕ) (b : UBranch) (args : List Argument) (home : Path) (base made : ℕ) (given : List NamedChannel) (top : FrameView) (callers : List FrameView) (passed locations : Locations) (input_at : Option ℕ) (output : Bool) (program : Form) (input : List ℕ)
+pub child_by : (l : LocalState) (i unit : ℕ) (labels : List ℕ) (args : List Argument) (home : Path) (base made : ℕ) (given : List NamedChannel) (top : FrameView) (callers : List FrameView) (passed locations : Locations) (input_at : Option ℕ) (output : Bool) (program : Form) (input : List ℕ)
     → program ≡ l.program → input ≡ l.input
     → home ≡ l.path ++ (l.forks, i) ∷ [] → base ≡ handlers l → made ≡ new_channels args
     → passed ≡ branch_locations home l.locations 0 args → given ≡ channels_of passed
-    → shown l.program.units top ≡ entered (unit_or (slice_get l.program.units b.call.unit)) b.call.unit (numbers_from 0 (unit_or (slice_get l.program.units b.call.unit)).slots) (passed_labels (statement_view l) b.call.throws) 0 0
-    → callers ≡ [] → locations ≡ passed ++ empties (declared_slots (unit_or (slice_get l.program.units b.call.unit)))
-    → input_at ≡ (if takes_input (unit_or (slice_get l.program.units b.call.unit)).params then l.input_at else None)
-    → output ≡ (if takes_output (unit_or (slice_get l.program.units b.call.unit)).params then l.holds_output else false)
-    → state_of home base made 0 given top callers locations input_at output None program input ≡ child l i b args
+    → shown l.program.units top ≡ entered (unit_or (slice_get l.program.units unit)) unit (numbers_from 0 (unit_or (slice_get l.program.units unit)).slots) labels 0 0
+    → callers ≡ [] → locations ≡ passed ++ empties (declared_slots (unit_or (slice_get l.program.units unit)))
+    → input_at ≡ (if takes_input (unit_or (slice_get l.program.units unit)).params then l.input_at else None)
+    → output ≡ (if takes_output (unit_or (slice_get l.program.units unit)).params then l.holds_output else false)
+    → state_of home base made 0 given top callers locations input_at output None program input ≡ child_in l i unit labels args
 unfolding unit_at
-child_by l i b args home base made given top callers passed locations input_at output program input ep ei e1 e2 e3 eq e5 e6 e7 e8 e9 e10 =
+child_by l i unit labels args home base made given top callers passed locations input_at output program input ep ei e1 e2 e3 eq e5 e6 e7 e8 e9 e10 =
     let p = eq ∙ ap (λ h. branch_locations h l.locations 0 args) e1 in
-    same_state (state_of home base made 0 given top callers locations input_at output None program input) (child l i b args) e1 e2 e3 refl (e5 ∙ ap channels_of p)
+    same_state (state_of home base made 0 given top callers locations input_at output None program input) (child_in l i unit labels args) e1 e2 e3 refl (e5 ∙ ap channels_of p)
     (ap (λ (q : Form). shown q.units top) ep ∙ e6) (ap (map (shown program.units)) e7)
-    (e8 ∙ ap (λ x. x ++ empties (declared_slots (unit_or (slice_get l.program.units b.call.unit)))) p) e9 (e10 ∙ both_is (takes_output (unit_or (slice_get l.program.units b.call.unit)).params) l.holds_output) refl ep ei
+    (e8 ∙ ap (λ x. x ++ empties (declared_slots (unit_or (slice_get l.program.units unit)))) p) e9 (e10 ∙ both_is (takes_output (unit_or (slice_get l.program.units unit)).params) l.holds_output) refl ep ei
   where
     both_is : (x y : Bool) → (if x then y else false) ≡ (x && y)
     both_is true y = refl

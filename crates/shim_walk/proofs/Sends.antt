@@ -2,7 +2,7 @@
 use denote.Builtin.{u8}
 use denote.Param.Send.{IsSend, IsSync, recorded_send, sendable, struct_send}
 use denote.Struct.Declared.{shape}
-use Rattle.std.proofs.Crossing.{Arc-send, crosses}
+use Rattle.std.proofs.Crossing.{Arc-send}
 use Rattle.shim_base.proofs.chan.Chan.TheSendSync as channels
 use Rattle.shim_base.specs.contracts.chan.Chan as Chan
 use Rattle.shim_base.specs.contracts.list.List as List
@@ -68,7 +68,7 @@ fields_send = recorded_send (inside.the_field).row _ _ (inside.the_type).to_one 
   ),
 ))
 
-process_send : IsSend Process.the_row
+pub process_send : IsSend Process.the_row
 process_send = let s = fields_send in search sendable
 
 pub walk_send : IsSend Walk.the_row

@@ -7,3 +7,4 @@ pub mod WalkLaws
 pub mod Receivers
 pub mod ChildrenMade
 pub mod ForkResults
+pub mod Returning

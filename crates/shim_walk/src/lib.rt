@@ -2,21 +2,22 @@
 #![tactic(auto)]
 
 mod action;
-mod count;
+pub mod count;
 mod depth;
 mod entry;
+pub mod has_process;
 mod initial_frame;
 mod input;
-mod labels;
-mod next_action;
-mod process;
-mod put;
+pub mod labels;
+pub mod next_action;
+pub mod process;
+pub mod put;
 mod receiver;
 mod same_frames;
 mod same_locations;
 mod same_stands;
-mod stop;
-mod trapped_at;
+pub mod stop;
+pub mod trapped_at;
 mod variable_actions;
 mod walk;
 

@@ -43,9 +43,9 @@ pub struct StatementContext<'a> {
     pub holds_output: bool,
 }
 
-// The name of the `try` of an exception.
+/// The name of the `try` of an exception.
 #[tactic(auto, unfolding(shim_process::specs::LocalState::number_of))]
-fn try_name(units: &[Unit], unit: u32, exception: u32) -> u32
+pub fn try_name(units: &[Unit], unit: u32, exception: u32) -> u32
     ensures { result ≡ step.try_name (unit_or (slice_get units.now unit)) exception }
 {
     match units.get(unit as usize) {

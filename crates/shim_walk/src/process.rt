@@ -1,19 +1,21 @@
 // One process as a value.
-ghost use Rattle.std.specs.Prelude.{◌≡◌, ◌≢◌, ◌<◌, ◌≤◌, ◌↔◌, ◌+◌, ◌^◌, IsTrue, false, length, ℤ, IfOk, OnOk, OnErr};
+ghost use Rattle.std.specs.Prelude.{◌≡◌, ◌≢◌, ◌<◌, ◌≤◌, ◌↔◌, ◌+◌, ◌^◌, IsTrue, true, false, [], length, map, ℤ, IfOk, OnOk, OnErr, slice_set};
 ghost use Rattle.std.specs.Option.{option_copied};
 ghost use Rattle.shim_local.specs.Process.{AtQuiet};
 ghost use Rattle.shim_local.specs.Views.{stop_view};
 ghost use Rattle.shim_process.specs.Ends.{gone, settled};
-ghost use Rattle.shim_process.specs.Forks.{all_back, all_lending, child, fork, input_back, is_far, item_branches, join, joined, lending, output_back, root, some_or};
+ghost use Rattle.shim_process.specs.Forks.{all_back, all_lending, child_in, fork, input_back, is_far, item_branches, join, joined, lending, lending_given, output_back, root, some_or};
 ghost use Rattle.shim_process.specs.Arguments.{arguments};
-ghost use Rattle.shim_process.specs.LocalState.{handlers, is_deep, is_full, trapped, unit_at};
-ghost use Rattle.shim_process.specs.StatementViews.{statement_view};
+ghost use Rattle.shim_process.specs.LocalState.{handlers, is_deep, is_full, number_of, trapped, unit_at};
+ghost use Rattle.shim_process.specs.Locations.{at_number, with_back};
+ghost use Rattle.shim_process.specs.StatementViews.{passed_labels, statement_view};
 ghost use Rattle.shim_process.specs.Steps.{installed, called, done, half, line_of, made_in, next_action, pushed, quiet, read_in, stored_in};
 ghost use Rattle.shim_process.specs.Stops.{byte, put, put_value, receive, stop};
 ghost use Rattle.shim_process.specs.Sharers.{carries, given_at, shares, channel_value};
 ghost use Rattle.shim_process.specs.Todo.{next_stmt};
 ghost use Rattle.shim_process.specs.Unwinding.{handler, unwind};
 ghost use Rattle.shim_walk.specs.Receivers.{received};
+ghost use Rattle.shim_walk.specs.States.{trapped_at_of};
 ghost use Rattle.shim_walk.specs.ChildrenMade.{MakesChildren, children_made};
 ghost use Rattle.shim_locations.specs.Given.{arguments_of};
 ghost use Rattle.shim_walk.specs.Actions.{action_of};
@@ -22,11 +24,13 @@ ghost use Rattle.shim_locations.specs.Lendings.{remainder_of};
 ghost use Rattle.shim_walk.specs.ForkResults.{Comes};
 ghost use Rattle.shim_walk.specs.StatementContexts.{context_view};
 ghost use Rattle.shim_walk_frames.specs.Turns.{successor_of};
+ghost use Rattle.shim_walk.specs.Returning.{IsLeft, resting};
 
 use crate::action::Action;
 use crate::count::one_more;
 use crate::depth::{go_on, settle, unwind_to};
 use crate::entry::{Entry, make_entry};
+use crate::has_process::HasProcess;
 use crate::initial_frame::{branches_of, first_frame, labels_from};
 use crate::input::{next_byte, read_on};
 use crate::labels::labels_for;
@@ -38,16 +42,15 @@ use crate::same_locations::same_locations;
 use crate::same_stands::{same_input, same_trap};
 use crate::stop::{stop_at, trapped};
 use crate::trapped_at::TrappedAt;
-use crate::walk::Walk;
 use shim_base::{Chan, List, NoMemory, Path, Shared, Trap, Ty};
 use shim_local::Stop;
 use shim_locations::argument::Argument;
 use shim_locations::argument_fault::ArgumentFault;
 use shim_locations::arguments::arguments;
 use shim_locations::location::Location;
-use shim_locations::locations::{Locations, number_of};
+use shim_locations::locations::{Locations, location_at, number_of};
 use shim_locations::passing::{branch_locations, channels_of, copy_channels, fresh, with_empties};
-use shim_locations::remainder::{Remainder, lend};
+use shim_locations::remainder::{Remainder, lend, lend_given};
 use shim_locations::sharers::{declared, is_among, own_of};
 use shim_locations::streams::{input_for, output_for, takes_output};
 use shim_units::{Accepted, UBranch, UStmt};
@@ -71,7 +74,8 @@ pub enum ForkedProcess {
     Trapped(Trap),
 }
 
-/// A process over the syntax of its units.
+/// A process in the units of a program. `Walk` steps it over their syntax, and so may another kind by other
+/// means.
 #[derive(Drop)]
 pub struct Process {
     path: Arc<Path>,
@@ -153,22 +157,22 @@ impl Process {
         self.base + self.top.handlers()
     }
 
-    // It can make no more channels and do no more forks.
-    fn is_full(&self) -> bool
+    /// It can make no more channels and do no more forks.
+    pub fn is_full(&self) -> bool
         ensures { result ≡ is_full self.now }
     {
         self.made >= 4_000_000_000 || self.forks >= 4_000_000_000
     }
 
-    // No more calls can be in force.
-    fn is_deep(&self) -> bool
+    /// No more calls can be in force.
+    pub fn is_deep(&self) -> bool
         ensures { result ≡ is_deep self.now }
     {
         self.callers.len() >= 200
     }
 
-    // What the statement at which it stands sees.
-    fn context(&self) -> StatementContext<'_>
+    /// What the statement at which it stands sees.
+    pub fn context(&self) -> StatementContext<'_>
         ensures value { context_view result ≡ statement_view self.now }
         ensures bound { result.first + length result.places.now < 2 ^ 32 }
     {
@@ -208,8 +212,58 @@ impl Process {
         line_of(self.stmt())
     }
 
-    // The value is stored in the slot's location.
-    fn store(&mut self, slot: u32, value: i64)
+    /// The unit that it is in.
+    pub fn unit(&self) -> u32
+        ensures { result ≡ self.now.frame.unit }
+    {
+        self.top.unit()
+    }
+
+    /// The numbers of the locations of the innermost unit's variables.
+    pub fn slots(&self) -> &[usize]
+        ensures { result.now ≡ self.now.frame.slots }
+    {
+        self.top.slots()
+    }
+
+    /// How many exception places of the process were in force when the innermost unit was entered.
+    pub fn outer(&self) -> u32
+        ensures { result ≡ self.now.frame.outer }
+    {
+        self.top.outer()
+    }
+
+    /// How many exception places of the innermost unit are in force.
+    pub fn places(&self) -> usize
+        ensures { result ≡ length self.now.frame.places }
+    {
+        self.top.places().len()
+    }
+
+    /// At the statement of this number, or at its second part, with so many of the unit's outermost
+    /// exception places.
+    pub fn rest(&mut self, number: u32, halfway: bool, kept: usize)
+        ensures { self.new ≡ resting number halfway kept self.old }
+    {
+        self.top.rest(number, halfway, kept);
+    }
+
+    /// The innermost unit is left, with its locations, and its caller stands at its call. False where
+    /// there is no caller; then nothing changes.
+    pub fn leave(&mut self) -> bool
+        ensures left { result ≡ true → IsLeft self.old self.new }
+        ensures last { result ≡ false → (self.old.callers ≡ []) × (self.new ≡ self.old) }
+    {
+        let Some(caller) = self.callers.pop() else {
+            return false;
+        };
+        self.locations.truncate(self.top.floor());
+        self.top = caller;
+        true
+    }
+
+    /// The value is stored in the slot's location.
+    pub fn store(&mut self, slot: u32, value: i64)
         ensures { self.new ≡ stored_in slot value self.old }
     {
         let number = number_of(self.top.slots(), slot);
@@ -223,16 +277,23 @@ impl Process {
         self.top.halve();
     }
 
-    /// It stands trapped from now on.
+    /// It stands trapped from now on, at the statement at which it stands.
     pub fn trap(&mut self, kind: Trap)
         ensures { self.new ≡ trapped kind (line_of self.old.frame.todo) self.old }
     {
         let line = self.line();
+        self.trap_at(kind, line);
+    }
+
+    /// It stands trapped from now on, at a statement of this line.
+    pub fn trap_at(&mut self, kind: Trap, line: u32)
+        ensures { self.new ≡ trapped kind line self.old }
+    {
         self.trap = Some(TrappedAt { kind, line });
     }
 
-    // The next byte of the input is stored in the slot's location.
-    fn read(&mut self, slot: u32)
+    /// The next byte of the input is stored in the slot's location.
+    pub fn read(&mut self, slot: u32)
         ensures { self.new ≡ read_in slot self.old }
     {
         let value = next_byte(self.input_at, self.input.as_slice());
@@ -241,9 +302,9 @@ impl Process {
         self.input_at = read_on(self.input_at, self.input.as_slice());
     }
 
-    // The slot's location is on a new channel. A refusal changes nothing.
+    /// The slot's location is on a new channel. A refusal changes nothing.
     #[tactic(auto, unfolding(shim_process::specs::LocalState::unit_at))]
-    fn make(&mut self, ty: Ty, slot: u32, value: i64) -> Result<(), NoMemory>
+    pub fn make(&mut self, ty: Ty, slot: u32, value: i64) -> Result<(), NoMemory>
         ensures ok { OnOk result (self.new ≡ made_in ty slot value self.old) }
         ensures err { OnErr result (self.new ≡ self.old) }
     {
@@ -256,17 +317,18 @@ impl Process {
         Ok(())
     }
 
-    // The exception comes into force, by this name. A refusal changes nothing.
-    fn install(&mut self, exception: u32, name: u32) -> Result<(), NoMemory>
+    /// The exception comes into force, by this name, at the line of the statement. A refusal changes
+    /// nothing.
+    pub fn install(&mut self, exception: u32, name: u32, line: u32) -> Result<(), NoMemory>
+        requires { line ≡ line_of self.old.frame.todo }
         ensures ok { OnOk result (self.new ≡ record self.old { frame = installed exception name self.old.frame }) }
         ensures err { OnErr result (self.new ≡ self.old) }
     {
-        let line = self.line();
         self.top.install(exception, name, line)
     }
 
-    // The frame of the unit is the innermost from now on. A refusal changes nothing.
-    fn push_frame(
+    /// The frame of the unit is the innermost from now on. A refusal changes nothing.
+    pub fn push_frame(
         &mut self,
         unit: u32,
         given: &[Argument],
@@ -355,7 +417,7 @@ impl Process {
             }
             Action::Enter(unit, given, labels) => self.enter(unit, given.as_slice(), labels)?,
             Action::Install(exception, name) => {
-                self.install(exception, name)?;
+                self.install(exception, name, self.line())?;
                 self.go(Successor::First);
             }
             Action::Trapped(trap) => self.trap(trap),
@@ -374,6 +436,13 @@ impl Process {
         self.act(action)
     }
 
+    /// Why it stands trapped, where it does.
+    pub fn trapped_at(&self) -> Option<TrappedAt>
+        ensures { trapped_at_of result ≡ self.now.trap }
+    {
+        self.trap
+    }
+
     /// At what it stands.
     pub fn stop(&self) -> Stop<'_>
         ensures { stop_view result ≡ stop self.now }
@@ -384,8 +453,8 @@ impl Process {
         }
     }
 
-    // The number that the `put` at which it stands puts, or the trap.
-    fn put_value(&self) -> Result<i64, Trap>
+    /// The number that the `put` at which it stands puts, or the trap.
+    pub fn put_value(&self) -> Result<i64, Trap>
         ensures { result ≡ put_value self.now }
     {
         stmt_put(self.stmt(), &self.context())
@@ -528,15 +597,15 @@ impl Process {
         branches_of(self.stmt())
     }
 
-    // 64 forks are on the way from the root.
-    fn is_far(&self) -> bool
+    /// 64 forks are on the way from the root.
+    pub fn is_far(&self) -> bool
         ensures { result ≡ is_far self.now }
     {
         self.path.pairs().len() >= 64
     }
 
-    // All of its locations and streams.
-    fn whole(&self) -> Remainder
+    /// All of its locations and streams.
+    pub fn whole(&self) -> Remainder
         ensures { remainder_of self.now result ≡ self.now }
     {
         Remainder {
@@ -546,19 +615,21 @@ impl Process {
         }
     }
 
-    // The child in this branch, with these arguments, where the branches before have left so much.
-    fn child(
+    /// The child of this place in a fork, at the first statement of the unit, with these arguments, where
+    /// the branches before have left so much. The unit's exceptions have the labels that these have in the
+    /// innermost unit.
+    pub fn child(
         &self,
         remainder: &Remainder,
         place: u32,
-        branch: &UBranch,
+        unit: u32,
+        throws: &[u32],
         given: &[Argument],
     ) -> Result<Process, NoMemory>
-        ensures { IfOk result (λ process. process ≡ child (remainder_of self.now remainder.now) place branch.now (arguments_of given.now)) }
+        ensures { IfOk result (λ process. process ≡ child_in (remainder_of self.now remainder.now) place unit (passed_labels (statement_view self.now) throws.now) (arguments_of given.now)) }
     {
         let alloc = self.given.allocator();
         let units = self.program.units();
-        let unit = branch.call.unit;
         let base = self.handlers();
         if base >= 2_147_483_648 {
             return Err(NoMemory);
@@ -576,7 +647,7 @@ impl Process {
         let made = passed.made;
         let given = channels_of(alloc, passed.locations.as_slice())?;
         let locations = with_empties(passed.locations, declared_of(units, unit))?;
-        let labels = labels_for(alloc, &self.context(), branch.call.throws.as_slice())?;
+        let labels = labels_for(alloc, &self.context(), throws)?;
         let top = first_frame(alloc, units, unit, labels)?;
         Ok(Process {
             path,
@@ -622,6 +693,21 @@ impl Process {
         )
     }
 
+    /// A branch to this unit takes these arguments of what is left, and the streams that the unit takes. A
+    /// refusal changes nothing.
+    pub fn lend_given(
+        &self,
+        remainder: &mut Remainder,
+        unit: u32,
+        given: &[Argument],
+    ) -> Result<(), NoMemory>
+        ensures ok { OnOk result (remainder_of self.now remainder.new ≡ lending_given (remainder_of self.now remainder.old) unit (arguments_of given.now)) }
+        ensures err { OnErr result (remainder.new ≡ remainder.old) }
+    {
+        let params = params_of(self.program.units(), unit);
+        lend_given(remainder, params, given)
+    }
+
     // The children of these branches, from the left, each of what those before it have left; the first
     // trap of an argument stands.
     fn children(
@@ -636,7 +722,9 @@ impl Process {
         let mut place = 0;
         for branch in branches {
             let given = self.branch_arguments(branch)?;
-            let child = self.child(remainder, place, branch, given.as_slice())?;
+            let call = &branch.call;
+            let throws = call.throws.as_slice();
+            let child = self.child(remainder, place, call.unit, throws, given.as_slice())?;
             children.push(child)?;
             self.lend_branch(remainder, branch)?;
             place = one_more(place)?;
@@ -674,8 +762,8 @@ impl Process {
         Ok(ForkedProcess::Children(children, remainder))
     }
 
-    // Its locations.
-    fn locations(&self) -> &[Option<Location>]
+    /// Its locations.
+    pub fn locations(&self) -> &[Option<Location>]
         ensures { result.now ≡ self.now.locations }
     {
         self.locations.as_slice()
@@ -688,9 +776,26 @@ impl Process {
         self.input_at
     }
 
-    // What the children of its last fork took by reference comes back.
-    fn regain(&mut self, children: &[Walk])
-        ensures { self.new ≡ joined self.old children.now }
+    /// The location of this number comes back from a child that took the location of the slot by reference.
+    pub fn take_back(&mut self, slot: u32, child: &Process, number: usize)
+        ensures { self.new ≡ record self.old { locations = slice_set self.old.locations (number_of self.old.frame.slots slot) (with_back (at_number child.now.locations number) (at_number self.old.locations (number_of self.old.frame.slots slot))) } }
+    {
+        let back = location_at(child.locations(), number);
+        let number = number_of(self.top.slots(), slot);
+        self.locations.regain(number, back);
+    }
+
+    /// The streams come back from the children that have them.
+    pub fn regain_streams<P: HasProcess>(&mut self, children: &[P])
+        ensures { self.new ≡ record self.old { input_at = input_back (map P.state children.now) self.old.input_at; holds_output = output_back (map P.state children.now) self.old.holds_output } }
+    {
+        self.input_at = input_back(children, self.input_at);
+        self.holds_output = output_back(children, self.holds_output);
+    }
+
+    // What the children of its last fork, given in order, took comes back.
+    fn regain<P: HasProcess>(&mut self, children: &[P])
+        ensures { self.new ≡ joined self.old (map P.state children.now) }
     {
         let branches = branches_of(stmt_in(self.program.units(), &self.top));
         regain_all(&mut self.locations, self.top.slots(), branches, children);
@@ -701,8 +806,8 @@ impl Process {
     /// Takes back the values of the children of its last fork, given in order. It then stands behind
     /// the fork, where `goes_on`, and else still at it.
     #[tactic(auto, unfolding(shim_process::specs::Forks::join))]
-    pub fn join(&mut self, children: &[Walk], goes_on: bool)
-        ensures { self.new ≡ join self.old children.now goes_on }
+    pub fn join<P: HasProcess>(&mut self, children: &[P], goes_on: bool)
+        ensures { self.new ≡ join self.old (map P.state children.now) goes_on }
     {
         self.regain(children);
         if goes_on {
@@ -805,8 +910,13 @@ impl Process {
 }
 
 // The locations of each child give back what its branch took.
-fn regain_all(locations: &mut Locations, slots: &[usize], branches: &[UBranch], children: &[Walk])
-    ensures { locations.new ≡ all_back slots.now branches.now children.now locations.old }
+fn regain_all<P: HasProcess>(
+    locations: &mut Locations,
+    slots: &[usize],
+    branches: &[UBranch],
+    children: &[P],
+)
+    ensures { locations.new ≡ all_back slots.now branches.now (map P.state children.now) locations.old }
 {
     let mut remainder = children;
     for branch in branches {
@@ -823,8 +933,8 @@ fn regain_all(locations: &mut Locations, slots: &[usize], branches: &[UBranch], 
 }
 
 // The input of the last child that has it, or what was there.
-fn input_back(children: &[Walk], at: Option<usize>) -> Option<usize>
-    ensures { result ≡ input_back children.now at }
+fn input_back<P: HasProcess>(children: &[P], at: Option<usize>) -> Option<usize>
+    ensures { result ≡ input_back (map P.state children.now) at }
 {
     let mut back = at;
     for child in children {
@@ -843,8 +953,8 @@ fn some_or(at: Option<usize>, other: Option<usize>) -> Option<usize>
 }
 
 // Whether a child has the output, or it was there.
-fn output_back(children: &[Walk], holds: bool) -> bool
-    ensures { result ≡ output_back children.now holds }
+fn output_back<P: HasProcess>(children: &[P], holds: bool) -> bool
+    ensures { result ≡ output_back (map P.state children.now) holds }
 {
     let mut back = holds;
     for child in children {

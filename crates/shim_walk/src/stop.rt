@@ -15,8 +15,8 @@ use shim_local::Stop;
 use shim_locations::locations::{location_at, number_of};
 use shim_units::{UBranch, UStmt, UWhat};
 
-// At a `next` of a variable.
-fn next_of<'a>(context: &StatementContext<'a>, slot: u32) -> Stop<'a>
+/// At a `next` of a variable.
+pub fn next_of<'a>(context: &StatementContext<'a>, slot: u32) -> Stop<'a>
     ensures { stop_view result ≡ stops.at_next (location_of context.now.locations.now context.now.slots.now slot) }
 {
     match location_at(context.locations, number_of(context.slots, slot)) {
@@ -47,8 +47,8 @@ fn meets_first<'a>(context: &StatementContext<'a>, slot: u32) -> Stop<'a>
     }
 }
 
-// At a `put`, if the process has the output.
-fn at_put<'a>(holds_output: bool) -> Stop<'a>
+/// At a `put`, if the process has the output.
+pub fn at_put<'a>(holds_output: bool) -> Stop<'a>
     ensures { stop_view result ≡ stops.at_put holds_output }
 {
     if holds_output {

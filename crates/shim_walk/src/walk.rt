@@ -6,6 +6,7 @@ ghost use Rattle.shim_local.specs.Process.{AtQuiet};
 ghost use Rattle.shim_process.specs.Ops.{process_ops};
 ghost use Rattle.shim_process.specs.Sound.{Sound};
 
+use crate::has_process::HasProcess;
 use crate::process::{ForkedProcess, Process};
 use shim_base::{Chan, List, NoMemory, Path, Shared};
 use shim_local::{Forked, Local, Quiet, Stop};
@@ -56,13 +57,6 @@ impl Walk {
         Walk { process }
     }
 
-    /// The process itself.
-    pub(crate) fn process(&self) -> &Process
-        ensures { result.now ≡ self.now }
-    {
-        &self.process
-    }
-
     fn is_quiet(&self) -> bool
         ensures { IsTrue result ↔ (process_ops.stop self.now ≡ AtQuiet) }
     {
@@ -76,6 +70,14 @@ impl Walk {
         ensures err { OnErr result (self.new ≡ self.old) }
     {
         self.process.step()
+    }
+}
+
+impl HasProcess for Walk {
+    ghost state = { λ l. l };
+
+    fn process(&self) -> &Process {
+        &self.process
     }
 }
 

@@ -1,5 +1,5 @@
 -- A unit at a number of its text goes on as the definition says.
-use Rattle.std.proofs.Common.{◌≡◌, ℕ, zero, suc, ◌-◌, ◌<◌, ◌≤◌, List, length, take, false, sym, ap, ◌∙◌, arith, ⊎_elim}
+use Rattle.std.proofs.Common.{◌≡◌, ℕ, zero, suc, ◌-◌, ◌<◌, ◌≤◌, List, length, take, Option, false, sym, ap, ◌∙◌, arith, ⊎_elim}
 use Rattle.std.proofs.lemmas.Bool.{cases_lt}
 use Rattle.std.proofs.lemmas.List.{take-take, take-map, length-take-le, length-map}
 use Rattle.std.proofs.Math.Seq.{take-length}
@@ -40,7 +40,7 @@ some_ends zero k places f =
 some_ends (suc u) k places f = some_ends u k (without_last places) f ∙ ap (λ p. past_ends k p f) (kept u places)
 
 -- on from one of its statements
-pub goes_on : (body : List UStmt) (s : FrameView) (cursor : Cursor) (c : Successor) (at left : ℕ) → s.at < size_all body → at ≡ (go_all body c s.at).at → left ≡ (go_all body c s.at).left
+pub goes_on : (body : List UStmt) (s : FrameView) (cursor : Option Cursor) (c : Successor) (at left : ℕ) → s.at < size_all body → at ≡ (go_all body c s.at).at → left ≡ (go_all body c s.at).left
     → frame_of body (record s { at = at; cursor = cursor; halfway = false; places = take (length s.places - left) s.places }) ≡ went (successor_of c) (frame_of body s)
 unfolding went
 goes_on body s cursor c at left lt e1 e2 =

@@ -1,5 +1,5 @@
 -- In which statement of its unit's own list a frame stands.
-use Rattle.std.specs.Prelude.{◌≡◌, ◌<◌, ◌≤◌, ℕ, suc, List, [], ◌∷◌, length, take}
+use Rattle.std.specs.Prelude.{◌≡◌, ◌<◌, ◌≤◌, ℕ, suc, List, [], ◌∷◌, length, take, Option, None, Some}
 use Rattle.shim_units.specs.declared.unit.Unit.{Unit as UnitOf}
 use Rattle.shim_units.specs.declared.unit.UStmt.{UStmt}
 use Rattle.shim_walk_frames.specs.declared.cursor.Cursor.{Cursor}
@@ -18,9 +18,14 @@ pub record IsCursor (body : List UStmt) (f : Cursor) (at : ℕ) : Type 0 where
   pub begins : Begins body f at
   pub not_passed : f.index < length body → at < size_all (take (suc f.index) body)
 
--- a frame has its cursor, in a program of these units
+-- where the cursor of a number is known, it is the right one
+abbrev pub IsRight : List UStmt → Option Cursor → ℕ → Type 0
+IsRight body None at = Unit {0}
+IsRight body (Some f) at = IsCursor body f at
+
+-- a frame has no cursor but its own, in a program of these units
 abbrev pub Stands : List UnitOf → FrameView → Type 0
-Stands units s = IsCursor (text units s.unit) s.cursor s.at
+Stands units s = IsRight (text units s.unit) s.cursor s.at
 
 abbrev pub AllStand : List UnitOf → List FrameView → Type 0
 AllStand units [] = Unit {0}

@@ -1,5 +1,5 @@
 -- A frame, with its position in the text as a number, and as the definition of a process has it.
-use Rattle.std.specs.Prelude.{ℕ, Bool, List, map}
+use Rattle.std.specs.Prelude.{ℕ, Bool, List, map, Option}
 use Rattle.shim_units.specs.declared.unit.UStmt.{UStmt}
 use Rattle.shim_process.specs.LocalState.{Frame, ExceptionPlace}
 use Rattle.shim_walk_frames.specs.declared.handler.Handler.{Handler}
@@ -10,8 +10,8 @@ pub record FrameView : Type 0 where
   pub unit : ℕ
   -- the number of the statement at which it stands
   pub at : ℕ
-  -- the statement of the unit's own list in which that one is
-  pub cursor : Cursor
+  -- the statement of the unit's own list in which that one is, where it is known
+  pub cursor : Option Cursor
   pub halfway : Bool
   pub slots : List ℕ
   pub labels : List ℕ

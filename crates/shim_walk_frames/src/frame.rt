@@ -1,9 +1,9 @@
 // The frame of a unit that a process is in.
-ghost use Rattle.std.specs.Prelude.{◌≡◌, ◌<◌, ◌≤◌, ◌↔◌, ◌+◌, ◌^◌, [], ◌∷◌, ◌++◌, length, take, true, false, slice_get, IsTrue, IfOk, OnOk, OnErr};
+ghost use Rattle.std.specs.Prelude.{◌≡◌, ◌<◌, ◌≤◌, ◌↔◌, ◌+◌, ◌^◌, [], ◌∷◌, ◌++◌, length, take, true, false, slice_get, None, Some, IsTrue, IfOk, OnOk, OnErr};
 ghost use Rattle.shim_process.specs.Ends.{went};
 ghost use Rattle.shim_process.specs.Unwinding.{handling};
 ghost use Rattle.shim_walk_frames.specs.FrameViews.{frame_of};
-ghost use Rattle.shim_walk_frames.specs.Cursors.{IsCursor};
+ghost use Rattle.shim_walk_frames.specs.Cursors.{IsCursor, IsRight};
 ghost use Rattle.shim_walk_frames.specs.Turns.{successor_of};
 ghost use Rattle.shim_walk_frames.specs.Successors.{size_all};
 
@@ -20,7 +20,8 @@ use std::marker::Model;
 pub struct Frame {
     unit: u32,
     at: u32,
-    cursor: Cursor,
+    // It isn't known of a frame that was put at a statement by its number.
+    cursor: Option<Cursor>,
     halfway: bool,
     slots: Vec<usize>,
     labels: Vec<u32>,
@@ -52,12 +53,12 @@ impl Frame {
         outer: u32,
     ) -> Frame
         requires { outer < 2 ^ 31 }
-        ensures { result ≡ record { unit = unit; at = 0; cursor = cursor; halfway = false; slots = slots.items; labels = labels.items; floor = floor; outer = outer; places = [] } }
+        ensures { result ≡ record { unit = unit; at = 0; cursor = Some cursor; halfway = false; slots = slots.items; labels = labels.items; floor = floor; outer = outer; places = [] } }
     {
         Frame {
             unit,
             at: 0,
-            cursor,
+            cursor: Some(cursor),
             halfway: false,
             slots,
             labels,
@@ -81,19 +82,25 @@ impl Frame {
         self.at
     }
 
-    /// In which statement of the unit's own list that one is.
-    pub fn cursor(&self) -> Cursor
-        ensures { result ≡ self.now.cursor }
+    /// In which statement of the unit's own list, which is this text, that one is.
+    pub fn cursor(&self, body: &[UStmt]) -> Cursor
+        requires bound { size_all body.now < 2 ^ 32 }
+        requires cursor { IsRight body.now self.now.cursor self.now.at }
+        ensures { IsCursor body.now result self.now.at }
     {
-        self.cursor
+        match self.cursor {
+            Some(cursor) => cursor,
+            None => cursor_of(body, self.at),
+        }
     }
 
     /// Whether the unit with this text is over.
     pub fn is_over(&self, body: &[UStmt]) -> bool
-        requires { IsCursor body.now self.now.cursor self.now.at }
+        requires bound { size_all body.now < 2 ^ 32 }
+        requires cursor { IsRight body.now self.now.cursor self.now.at }
         ensures { IsTrue result ↔ (size_all body.now ≤ self.now.at) }
     {
-        self.cursor.index >= body.len()
+        self.cursor(body).index >= body.len()
     }
 
     /// Whether the first part of that statement is done.
@@ -173,6 +180,17 @@ impl Frame {
         Ok(())
     }
 
+    /// At the statement of this number, or at its second part, with so many of the outermost exception
+    /// places. Where that statement stands in the text is looked for only if it is asked.
+    pub fn rest(&mut self, at: u32, halfway: bool, kept: usize)
+        ensures { self.new ≡ record self.old { at = at; cursor = None; halfway = halfway; places = take kept self.old.places } }
+    {
+        self.at = at;
+        self.cursor = None;
+        self.halfway = halfway;
+        self.places.truncate(kept);
+    }
+
     /// Another one of the same meaning.
     pub fn copy(&self) -> Result<Frame, NoMemory>
         ensures { IfOk result (λ copy. copy ≡ self.now) }
@@ -198,28 +216,19 @@ impl Frame {
         self.places.get(index).copied()
     }
 
-    // At another statement, with this cursor, and with the outermost places alone.
-    fn resume(&mut self, at: u32, cursor: Cursor, kept: usize)
-        ensures { self.new ≡ record self.old { at = at; cursor = cursor; places = take kept self.old.places } }
-    {
-        self.at = at;
-        self.cursor = cursor;
-        self.places.truncate(kept);
-    }
-
     /// At the handler of the `try` of this place, which goes out of force.
     #[tactic(auto, using(crate::proofs::Leaves::handles_none))]
     pub fn handle(&mut self, body: &[UStmt], index: usize)
         requires bound { size_all body.now < 2 ^ 32 }
-        requires cursor { IsCursor body.now self.old.cursor self.old.at }
+        requires cursor { IsRight body.now self.old.cursor self.old.at }
         ensures value { frame_of body.now self.new ≡ handling (slice_get (frame_of body.now self.old).places index) index (frame_of body.now self.old) }
         ensures unit { self.new.unit ≡ self.old.unit }
-        ensures cursor { IsCursor body.now self.new.cursor self.new.at }
+        ensures cursor { IsRight body.now self.new.cursor self.new.at }
     {
         match self.place(index) {
             None => {}
             Some(place) => {
-                self.resume(place.at, cursor_of(body, place.at), index);
+                self.rest(place.at, false, index);
                 self.go(body, Successor::Second);
             }
         }
@@ -228,17 +237,18 @@ impl Frame {
     /// On from the statement at which it stands.
     pub fn go(&mut self, body: &[UStmt], successor: Successor)
         requires bound { size_all body.now < 2 ^ 32 }
-        requires cursor { IsCursor body.now self.old.cursor self.old.at }
+        requires cursor { IsRight body.now self.old.cursor self.old.at }
         ensures value { frame_of body.now self.new ≡ went (successor_of successor) (frame_of body.now self.old) }
         ensures unit { self.new.unit ≡ self.old.unit }
-        ensures cursor { IsCursor body.now self.new.cursor self.new.at }
+        ensures cursor { IsRight body.now self.new.cursor self.new.at }
     {
+        let cursor = self.cursor(body);
         self.halfway = false;
-        let Some(position) = go_at(body, self.cursor, successor, self.at) else {
+        let Some(position) = go_at(body, cursor, successor, self.at) else {
             return;
         };
         self.at = position.at;
-        self.cursor = advance(body, self.cursor, position.at);
+        self.cursor = Some(advance(body, cursor, position.at));
         let kept = self.places.len().saturating_sub(position.left as usize);
         self.places.truncate(kept);
     }

@@ -31,7 +31,8 @@ pub fn stmt_in<'a>(units: &'a [Unit], top: &Frame) -> Option<&'a UStmt>
     requires cursor { Stands units.now top.now }
     ensures { option_copied result ≡ at_all (text units.now top.now.unit) top.now.at }
 {
-    find_at(text_of(units, top.unit()), top.cursor(), top.at())
+    let body = text_of(units, top.unit());
+    find_at(body, top.cursor(body), top.at())
 }
 
 /// The line of a statement.

@@ -1,4 +1,4 @@
-use Rattle.std.proofs.Common.{ap, ◌∙◌}
+use Rattle.std.proofs.Common.{ap, ◌∙◌, map}
 use Rattle.shim_units.specs.declared.form.Form.{Form}
 use Rattle.shim_process.specs.LocalState.{LocalState}
 use Rattle.shim_process.specs.Forks.{joined, all_back, stmt_branches}
@@ -10,18 +10,19 @@ use Rattle.shim_walk.proofs.Forking.{joined_by}
 use Rattle.shim_walk.proofs.process.Process.regain.Goals as goal
 
 pub returns : goal.returns
-returns c =
+returns g c =
     let i = c.self.inside in
     let l = the_view i in
     let u = c.units.ensures.value ∙ ap (λ (p : Form). p.units) c.deref.ensures in
+    let children = map g.P.HasProcess.state c.args.children.now in
     let bs = c.branches_of-branches.result.now in
     let e =
     c.branches_of-branches.ensures
     ∙ ap stmt_branches c.stmt_in.ensures
     ∙ ap (λ us. stmt_branches (at_all (text us i.top.unit) i.top.at)) u
     ∙ ap stmt_branches (next_at (text i.program.units i.top.unit) i.top.at) in
-    joined_by l c.args.children.now bs c.regain_all.new.locations c.input_back-self-inside.result c.output_back-self-inside.result e
-    (c.regain_all.ensures ∙ ap (λ s. all_back s bs c.args.children.now i.locations) c.slots.ensures)
+    joined_by l children bs c.regain_all.new.locations c.input_back-self-inside.result c.output_back-self-inside.result e
+    (c.regain_all.ensures ∙ ap (λ s. all_back s bs children i.locations) c.slots.ensures)
     c.input_back-self-inside.ensures
     c.output_back-self-inside.ensures
-    ∙ ap (λ (m : LocalState). joined m c.args.children.now) c.self.view_is
+    ∙ ap (λ (m : LocalState). joined m children) c.self.view_is

@@ -1,4 +1,4 @@
-use Rattle.std.proofs.Common.{◌≡◌, ◌≤◌, ◌-◌, ◌∙◌, ap, arith, length, take, false}
+use Rattle.std.proofs.Common.{◌≡◌, ◌≤◌, ◌-◌, ◌∙◌, ap, arith, length, take, false, Some}
 use Rattle.shim_process.specs.Ends.{went}
 use Rattle.shim_walk_frames.specs.FrameViews.{FrameView, frame_of}
 use Rattle.shim_walk_frames.specs.Turns.{successor_of}
@@ -23,7 +23,7 @@ returns-clause-value c =
     let i = c.self.inside in
     let position = c.in-Some.position in
     let h = c.in-Some.ensures in
-    let cursor = c.advance-self-inside.result in
+    let cursor = Some c.advance.result in
     let k : c.saturating_sub-kept.result ≡ length i.places.items - position.left = c.saturating_sub-kept.ensures ∙ ap (λ n. n - position.left) (c.len.ensures ∙ i.places.ok.0) in
     let ps : c.truncate.new.self.items ≡ take (length i.places.items - position.left) i.places.items = c.truncate.ensures.items ∙ ap (λ n. take n i.places.items) k in
     let t : FrameView = record { unit = i.unit; at = i.at; cursor = i.cursor; halfway = i.halfway; slots = i.slots.items; labels = i.labels.items; floor = i.floor; outer = i.outer; places = i.places.items } in

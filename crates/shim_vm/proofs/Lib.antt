@@ -1,0 +1,22 @@
+-- The lemmas of this crate.
+pub mod Progress
+pub mod Values
+pub mod UnitCodes
+pub mod Gathering
+pub mod Making
+pub mod Behind
+pub mod BehindPuts
+pub mod Asking
+pub mod Passing
+pub mod GoingOn
+pub mod Suiting
+pub mod Acting
+pub mod Quiets
+pub mod Waiting
+pub mod Beginning
+pub mod AtMarks
+pub mod BackByCode
+pub mod Leaving
+pub mod Entering
+pub mod Bodies
+pub mod Sends

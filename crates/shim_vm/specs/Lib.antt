@@ -1,0 +1,6 @@
+-- The definitions of this crate, one module for each subject.
+pub mod Computing
+pub mod Gathering
+pub mod Actions
+pub mod Places
+pub mod Landing

@@ -1,0 +1,77 @@
+// At what a process stands, by the mark at its place and the instruction behind it.
+ghost use Rattle.std.specs.Prelude.{◌≡◌, ◌<◌, ◌+◌, ◌^◌, length, slice_get};
+ghost use Rattle.std.specs.Option.{option_copied};
+ghost use Rattle.shim_local.specs.Process.{AtFinish};
+ghost use Rattle.shim_local.specs.Views.{stop_view};
+ghost use Rattle.shim_process.specs.LocalState.{location_of};
+ghost use Rattle.shim_process.specs.Stops.{at_next};
+ghost use Rattle.shim_process.specs.StatementViews.{label_of};
+ghost use Rattle.shim_walk.specs.StatementContexts.{context_view};
+ghost use Rattle.shim_machine.specs.MarkStops.{instr_stop, mark_stop};
+ghost use Rattle.shim_code.specs.declared.instr.MarkKind.TheVariants as kind;
+
+use crate::instrs::instr_at;
+use shim_code::{MachineInstr, Mark, MarkKind};
+use shim_local::Stop;
+use shim_walk::labels::label_for;
+use shim_walk::next_action::StatementContext;
+use shim_walk::stop::{at_put, next_of};
+
+// At a meeting, which names its slot.
+fn at_meeting<'a>(behind: Option<&MachineInstr>, context: &StatementContext<'a>) -> Stop<'a>
+    ensures { stop_view result ≡ mark_stop kind.Next (option_copied behind.entry) (context_view context.now) }
+{
+    match behind {
+        Some(MachineInstr::Next(slot)) => next_of(context, *slot),
+        _ => Stop::Finish,
+    }
+}
+
+// At a throw, which names its exception.
+fn at_throw<'a>(behind: Option<&MachineInstr>, context: &StatementContext<'a>) -> Stop<'a>
+    requires { context.now.first + length context.now.places.now < 2 ^ 32 }
+    ensures { stop_view result ≡ mark_stop kind.Throw (option_copied behind.entry) (context_view context.now) }
+{
+    match behind {
+        Some(MachineInstr::Throw(exception)) => Stop::Throw(label_for(context, *exception)),
+        _ => Stop::Finish,
+    }
+}
+
+// At a fork. One without branches has nothing before it.
+fn at_fork<'a>(behind: Option<&MachineInstr>, context: &StatementContext<'a>) -> Stop<'a>
+    ensures { stop_view result ≡ mark_stop kind.Fork (option_copied behind.entry) (context_view context.now) }
+{
+    match behind {
+        Some(MachineInstr::Fork(_)) => Stop::Finish,
+        _ => Stop::Fork,
+    }
+}
+
+fn mark_stop<'a>(
+    mark: &Mark,
+    behind: Option<&MachineInstr>,
+    context: &StatementContext<'a>,
+) -> Stop<'a>
+    requires { context.now.first + length context.now.places.now < 2 ^ 32 }
+    ensures { stop_view result ≡ mark_stop mark.now.kind (option_copied behind.entry) (context_view context.now) }
+{
+    match mark.kind {
+        MarkKind::Quiet => Stop::Quiet,
+        MarkKind::Next => at_meeting(behind, context),
+        MarkKind::Put => at_put(context.holds_output),
+        MarkKind::Throw => at_throw(behind, context),
+        MarkKind::Fork => at_fork(behind, context),
+    }
+}
+
+/// At a place of the code of a process that isn't trapped.
+pub fn stop_at<'a>(code: &[MachineInstr], place: usize, context: &StatementContext<'a>) -> Stop<'a>
+    requires { context.now.first + length context.now.places.now < 2 ^ 32 }
+    ensures { stop_view result ≡ instr_stop (slice_get code.now place) (slice_get code.now (place + 1)) (context_view context.now) }
+{
+    match instr_at(code, place) {
+        Some(MachineInstr::Mark(mark)) => mark_stop(mark, instr_at(code, place + 1), context),
+        _ => Stop::Finish,
+    }
+}
