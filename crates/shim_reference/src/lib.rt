@@ -7,4 +7,4 @@ mod meaning;
 mod naming;
 mod run;
 
-pub use meaning::reference;
+pub use meaning::{reference, reference_from};

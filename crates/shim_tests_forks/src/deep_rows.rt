@@ -2,8 +2,8 @@
 use crate::expect::expect;
 use shim_base::{List, NoMemory};
 use shim_local::{Forked, Local, Stop};
-use shim_tests_tracing::start;
 use shim_tests_tracing::tell::{count, trap, word};
+use shim_tests_tracing::{Both, start};
 use std::alloc::Global;
 use std::process::Abort;
 use std::str;
@@ -91,22 +91,21 @@ fn tell_end<L: Local>(process: &L, told: &mut List<u8>) -> Result<(), NoMemory> 
     }
 }
 
-// What is told of the forks of a text's process.
-fn told_of_forks(alloc: Global, text: &[u8]) -> Result<List<u8>, NoMemory> {
-    match start(alloc, text, b"")? {
-        None => List::from_slice(alloc, b"refused"),
-        Some(walk) => go_down(alloc, walk),
-    }
+// Expects this of the forks of a process, each in the first branch of the one before.
+fn expect_of<L: Local>(rt: &impl Abort, alloc: Global, root: L, wanted: &str) -> Result<(), Fail> {
+    let told = go_down(alloc, root)?;
+    assert_eq!(rt; str::from_utf8(told.as_slice())?, wanted);
+    Ok(())
 }
 
-// Expects this of forks, each in the first branch of the one before.
+// Expects this of the forks of a text's process, of each kind.
 fn expect_forks(rt: &impl Abort, alloc: Global, main: &str, wanted: &str) -> Result<(), Fail> {
     let text = format!(in alloc;
         "void f(int n) {{ if (n) {{ f(n - 1); }} par {{ }} }} void main() {{ {main} }}"
     )?;
-    let told = told_of_forks(alloc, text.as_bytes())?;
-    assert_eq!(rt; str::from_utf8(told.as_slice())?, wanted);
-    Ok(())
+    let Both { walk, body } = start(alloc, text.as_bytes(), b"")?.expect(rt, "accepted");
+    expect_of(rt, alloc, walk, wanted)?;
+    expect_of(rt, alloc, body, wanted)
 }
 
 #[test]

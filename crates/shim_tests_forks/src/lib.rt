@@ -1,4 +1,4 @@
-//! Tests of one process over syntax: its forks, how deep they go, which channels it shares, and when two states are the same.
+//! Tests of one process, over syntax and over compiled code: its forks, how deep they go, which channels it shares, and when two states are the same.
 #![tactic(auto)]
 
 #[cfg(test)]

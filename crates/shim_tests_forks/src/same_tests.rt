@@ -1,7 +1,6 @@
 // States that are told apart, and states that are the same.
 use shim_local::{Local, Stop};
-use shim_tests_tracing::start;
-use shim_walk::Walk;
+use shim_tests_tracing::{Both, start};
 use std::alloc::Global;
 use std::process::Abort;
 use std::test::Fail;
@@ -9,12 +8,13 @@ use std::test::Fail;
 // The body of a `main`, its input, and how many quiet steps were taken.
 type Behind<'a> = (&'a str, &'a str, u64);
 
-fn walk_of(rt: &impl Abort, alloc: Global, behind: Behind<'_>) -> Result<Walk, Fail> {
+fn start_of(rt: &impl Abort, alloc: Global, behind: Behind<'_>) -> Result<Both, Fail> {
     let body = behind.0;
     let text = format!(in alloc; "void main(istream i, ostream o) {{ {body} }}")?;
-    let mut walk = start(alloc, text.as_bytes(), behind.1.as_bytes())?.expect(rt, "accepted");
-    walk.quiet(behind.2);
-    Ok(walk)
+    let mut start = start(alloc, text.as_bytes(), behind.1.as_bytes())?.expect(rt, "accepted");
+    start.walk.quiet(behind.2);
+    start.body.quiet(behind.2);
+    Ok(start)
 }
 
 // Expects that both states tell whether they are the same.
@@ -31,9 +31,10 @@ fn expect_row(
     other: Behind<'_>,
     wanted: bool,
 ) -> Result<(), Fail> {
-    let one = walk_of(rt, alloc, one)?;
-    let other = walk_of(rt, alloc, other)?;
-    expect_of(rt, &one, &other, wanted)
+    let one = start_of(rt, alloc, one)?;
+    let other = start_of(rt, alloc, other)?;
+    expect_of(rt, &one.walk, &other.walk, wanted)?;
+    expect_of(rt, &one.body, &other.body, wanted)
 }
 
 // Expects of the states in each row that they are the same, or that they aren't.
@@ -133,7 +134,22 @@ fn meet<L: Local>(process: &mut L, value: i64) {
     }
 }
 
-// Expects the same of a state at a meeting and its copy, which get these values.
+// Expects the same of a state and its copy, which get these values at the meeting at which it stands.
+fn expect_met_of<L: Local>(
+    rt: &impl Abort,
+    process: L,
+    value: i64,
+    other: i64,
+    wanted: bool,
+) -> Result<(), Fail> {
+    let mut one = process;
+    let mut copy = one.copy()?;
+    meet(&mut one, value);
+    meet(&mut copy, other);
+    expect_of(rt, &one, &copy, wanted)
+}
+
+// Expects that of a process of each kind.
 fn expect_met(
     rt: &impl Abort,
     alloc: Global,
@@ -141,11 +157,9 @@ fn expect_met(
     other: i64,
     wanted: bool,
 ) -> Result<(), Fail> {
-    let mut one = walk_of(rt, alloc, ("int8 a; next a;", "", 1))?;
-    let mut copy = one.copy()?;
-    meet(&mut one, value);
-    meet(&mut copy, other);
-    expect_of(rt, &one, &copy, wanted)
+    let Both { walk, body } = start_of(rt, alloc, ("int8 a; next a;", "", 1))?;
+    expect_met_of(rt, walk, value, other, wanted)?;
+    expect_met_of(rt, body, value, other, wanted)
 }
 
 #[test]

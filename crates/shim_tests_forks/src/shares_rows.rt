@@ -1,8 +1,9 @@
 // Which channels of the root a process shares behind some quiet steps, and at a fork each of its children.
 use shim_base::{Chan, List, NoMemory, Path};
 use shim_local::{Forked, Local, Stop};
-use shim_tests_tracing::start;
 use shim_tests_tracing::tell::{count, word};
+use shim_tests_tracing::{Both, start};
+use shim_vm::Body;
 use shim_walk::Walk;
 use std::alloc::Global;
 use std::process::Abort;
@@ -36,6 +37,16 @@ fn tell_shared<L: Local>(process: &mut L, told: &mut List<u8>) -> Result<(), NoM
     Ok(())
 }
 
+// What is told of a process behind so many quiet steps.
+fn told_behind<L: Local>(alloc: Global, root: L, taken: u64) -> Result<List<u8>, NoMemory> {
+    let mut process = root;
+    process.quiet(taken);
+    let mut told = List::new(alloc);
+    tell_shared(&mut process, &mut told)?;
+    Ok(told)
+}
+
+// Expects this of the process of a source's `main`, of each kind.
 fn expect_row(
     rt: &impl Abort,
     alloc: Global,
@@ -43,12 +54,13 @@ fn expect_row(
     taken: u64,
     wanted: &str,
 ) -> Result<(), Fail> {
-    let mut walk = start(alloc, source.as_bytes(), b"")?.expect(rt, "accepted");
-    walk.quiet(taken);
-    let mut told = List::new(alloc);
-    tell_shared(&mut walk, &mut told)?;
-    let told = str::from_utf8(told.as_slice())?;
-    assert_eq!(rt; told, wanted, "behind {taken} of {source}");
+    let Both { walk, body } = start(alloc, source.as_bytes(), b"")?.expect(rt, "accepted");
+    let over_syntax = told_behind(alloc, walk, taken)?;
+    let over_code = told_behind(alloc, body, taken)?;
+    let over_syntax = str::from_utf8(over_syntax.as_slice())?;
+    let over_code = str::from_utf8(over_code.as_slice())?;
+    assert_eq!(rt; over_syntax, wanted, "behind {taken} of {source}");
+    assert_eq!(rt; over_code, wanted, "behind {taken} of the code of {source}");
     Ok(())
 }
 
@@ -102,6 +114,7 @@ fn what_was_declared_or_given_is_shared(rt: HostRuntime) -> Result<(), Fail> {
 }
 
 #[test]
-fn no_compiled_code_is_run(rt: HostRuntime) {
+fn one_kind_runs_compiled_code(rt: HostRuntime) {
     assert!(rt; !Walk::COMPILED);
+    assert!(rt; Body::COMPILED);
 }

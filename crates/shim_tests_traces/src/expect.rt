@@ -35,7 +35,7 @@ fn a_differing_trace_is_told(rt: HostRuntime) -> Result<(), Fail> {
     let told = differing_sources(alloc, &rows)?;
     assert_eq!(&rt;
         str::from_utf8(told.as_slice())?,
-        "void main(ostream o) { put o, 2; } : put=2 end\nvoid main(ostream o) { put 2; } : refused\n"
+        "void main(ostream o) { put o, 2; } : put=2 end\nvoid main(ostream o) { put o, 2; } as code : put=2 end\nvoid main(ostream o) { put 2; } : refused\n"
     );
     Ok(())
 }
@@ -47,7 +47,7 @@ fn differing_statements_are_told(rt: HostRuntime) -> Result<(), Fail> {
     let told = differing(alloc, "void f(ostream o) { put o, 2; }", &rows)?;
     assert_eq!(&rt;
         str::from_utf8(told.as_slice())?,
-        "void f(ostream o) { put o, 2; } void main(istream i, ostream o) { f(o); } : q1 put=2 end\n"
+        "void f(ostream o) { put o, 2; } void main(istream i, ostream o) { f(o); } : q1 put=2 end\nvoid f(ostream o) { put o, 2; } void main(istream i, ostream o) { f(o); } as code : q1 put=2 end\n"
     );
     Ok(())
 }

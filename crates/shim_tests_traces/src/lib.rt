@@ -1,4 +1,4 @@
-//! Tests of one process over syntax: what it puts, meets, throws and makes, step by step, for each statement and operator of the language.
+//! Tests of one process, over syntax and over compiled code: what it puts, meets, throws and makes, step by step, for each statement and operator of the language.
 #![tactic(auto)]
 
 #[cfg(test)]

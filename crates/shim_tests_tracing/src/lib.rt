@@ -1,4 +1,4 @@
-//! What one process over syntax does, step by step, written down for the tests of it.
+//! What one process does, over syntax or over compiled code, step by step, written down for the tests of it.
 #![tactic(auto)]
 
 mod source;
@@ -6,5 +6,5 @@ mod source;
 pub mod tell;
 mod tracing;
 
-pub use source::{differing, differing_sources, start};
+pub use source::{Both, differing, differing_sources, start};
 pub use tracing::{Fate, trace};

@@ -1,8 +1,11 @@
 // Whole sources, each with the trace of the process that runs its `main`.
 use crate::tracing::trace;
-use shim_base::{List, NoMemory, Shared};
+use shim_base::{List, Name, NoMemory, Shared};
+use shim_code::compile;
 use shim_front_end::read_source;
+use shim_local::Local;
 use shim_sharing::Accepted;
+use shim_vm::Body;
 use shim_walk::Walk;
 use std::alloc::Global;
 
@@ -20,54 +23,90 @@ fn units_of(alloc: Global, text: &[u8]) -> Option<Accepted> {
     }
 }
 
-fn walk_of(alloc: Global, program: Shared<Accepted>, input: &[u8]) -> Result<Walk, NoMemory> {
+/// The process that runs one `main`, as each kind of process.
+#[derive(Drop)]
+pub struct Both {
+    /// The one over the syntax.
+    pub walk: Walk,
+    /// The one over the compiled code.
+    pub body: Body,
+}
+
+fn start_of(alloc: Global, program: Shared<Accepted>, input: &[u8]) -> Result<Both, NoMemory> {
     let input = Shared::new(alloc, List::from_slice(alloc, input)?)?;
-    Walk::main(alloc, program, input)
+    let code = Shared::new(alloc, compile(alloc, &program)?)?;
+    Ok(Both {
+        walk: Walk::main(alloc, program, input.share()?)?,
+        body: Body::main(alloc, code, input)?,
+    })
 }
 
 /// The process that runs the `main` of a text on this input; nothing where the text is refused.
-pub fn start(alloc: Global, text: &[u8], input: &[u8]) -> Result<Option<Walk>, NoMemory> {
+pub fn start(alloc: Global, text: &[u8], input: &[u8]) -> Result<Option<Both>, NoMemory> {
     match units_of(alloc, text) {
         None => Ok(None),
-        Some(units) => Ok(Some(walk_of(alloc, Shared::new(alloc, units)?, input)?)),
+        Some(units) => Ok(Some(start_of(alloc, Shared::new(alloc, units)?, input)?)),
     }
 }
 
-// The trace of a program's `main`, whose input is `AB`.
-fn trace_of(alloc: Global, program: &Shared<Accepted>) -> Result<List<u8>, NoMemory> {
-    let mut walk = walk_of(alloc, program.share()?, b"AB")?;
+// The trace of a process, from where it stands.
+fn traced<L: Local>(alloc: Global, process: L, names: &[Name]) -> Result<List<u8>, NoMemory> {
+    let mut process = process;
     let mut told = List::new(alloc);
-    trace(&mut walk, program.names(), 8, &mut told)?;
+    trace(&mut process, names, 8, &mut told)?;
     Ok(told)
 }
 
-// That of a text's `main`.
-fn told_of(alloc: Global, text: &[u8]) -> Result<List<u8>, NoMemory> {
-    match units_of(alloc, text) {
-        None => List::from_slice(alloc, b"refused"),
-        Some(units) => trace_of(alloc, &Shared::new(alloc, units)?),
+// Tells a text with its trace, on a line of their own, where that isn't the one that is wanted. Between
+// the two stands how it was run.
+fn tell_unless(
+    text: &[u8],
+    how: &[u8],
+    trace: &[u8],
+    wanted: &str,
+    told: &mut List<u8>,
+) -> Result<(), NoMemory> {
+    if trace == wanted.as_bytes() {
+        return Ok(());
     }
+    told.extend_from_slice(text)?;
+    told.extend_from_slice(how)?;
+    told.extend_from_slice(trace)?;
+    told.extend_from_slice(b"\n")
 }
 
-// Tells a text with its trace, on a line of their own, where that isn't the one that is wanted.
+// The same of a program's `main`, whose input is `AB`, as each kind of process.
+fn tell_traces(
+    alloc: Global,
+    text: &[u8],
+    program: Shared<Accepted>,
+    wanted: &str,
+    told: &mut List<u8>,
+) -> Result<(), NoMemory> {
+    let kept = program.share()?;
+    let Both { walk, body } = start_of(alloc, program, b"AB")?;
+    let over_syntax = traced(alloc, walk, kept.names())?;
+    let over_code = traced(alloc, body, kept.names())?;
+    tell_unless(text, b" : ", over_syntax.as_slice(), wanted, told)?;
+    tell_unless(text, b" as code : ", over_code.as_slice(), wanted, told)
+}
+
+// That of a text's `main`.
 fn tell_differing(
     alloc: Global,
     text: &[u8],
     wanted: &str,
     told: &mut List<u8>,
 ) -> Result<(), NoMemory> {
-    let trace = told_of(alloc, text)?;
-    if trace.as_slice() == wanted.as_bytes() {
-        return Ok(());
+    match units_of(alloc, text) {
+        None => tell_unless(text, b" : ", b"refused", wanted, told),
+        Some(units) => tell_traces(alloc, text, Shared::new(alloc, units)?, wanted, told),
     }
-    told.extend_from_slice(text)?;
-    told.extend_from_slice(b" : ")?;
-    told.extend_from_slice(trace.as_slice())?;
-    told.extend_from_slice(b"\n")
 }
 
 /// Those of these whole sources whose `main`, with the input `AB`, hasn't the trace beside it, each
-/// with the trace that it has. So no text where all of them have theirs.
+/// with the trace that it has. So no text where all of them have theirs. Each is run over its syntax and
+/// over its compiled code, and told once for each of the two that has another trace.
 pub fn differing_sources(alloc: Global, rows: &[(&str, &str)]) -> Result<List<u8>, NoMemory> {
     let mut told = List::new(alloc);
     for row in rows {
@@ -86,7 +125,7 @@ fn source_of(alloc: Global, functions: &str, statements: &str) -> Result<List<u8
 }
 
 /// Those of these lists of statements that, as those of `main` behind these functions and with the input
-/// `AB`, haven't the trace beside them, each with the trace that it has.
+/// `AB`, haven't the trace beside them, each with the trace that it has, over syntax or over code.
 pub fn differing(
     alloc: Global,
     functions: &str,

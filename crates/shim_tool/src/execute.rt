@@ -1,5 +1,8 @@
 // From the text of a source to the answer.
 ghost use Rattle.std.specs.Prelude.{◌≡◌, ◌≤◌, length, IfOk, OnOk};
+ghost use Rattle.shim_process.specs.Ops.{process_ops};
+ghost use Rattle.shim_reference.specs.Reference.{meaning_of, reference_of};
+ghost use Rattle.shim_reference.specs.Runs.{IsEndOfRun};
 ghost use Rattle.shim_report.specs.Report.{report};
 ghost use Rattle.shim_report.specs.Summary.{summary};
 ghost use Rattle.shim_tool.specs.Answer.{AnswersUnits, AnswersSource};
@@ -13,16 +16,35 @@ use shim_base::{List, NoMemory, Shared, push_decimal};
 use shim_code::{compile, listing};
 use shim_command::{Job, Mode};
 use shim_front_end::read_source;
-use shim_reference::reference;
+use shim_reference::{reference, reference_from};
 use shim_report::{Ended, summary, text};
 use shim_sharing::Accepted;
 use shim_units::Unit;
+use shim_vm::Body;
 use std::alloc::Global;
 
-// What a source's run comes to, on this input and within this budget.
+// What a source's run comes to where its compiled code is run.
+fn end_of_code(
+    alloc: Global,
+    source: &Accepted,
+    input: Shared<List<u8>>,
+    budget: u64,
+) -> Result<Ended, NoMemory>
+    requires few { budget ≤ 4000000 }
+    ensures end { IfOk result (λ end. end ≡ reference_of source.now input budget) }
+    ensures ran { OnOk result (IsEndOfRun process_ops budget (meaning_of source.now input budget)) }
+{
+    let code = Shared::new(alloc, compile(alloc, source)?)?;
+    let main = Body::main(alloc, code, input)?;
+    reference_from(alloc, main, source.main_throws(), budget)
+}
+
+// What a source's run comes to, on this input and within this budget. It is the same in every mode; only
+// the reference runs the syntax of the source, and no code.
 #[tactic(auto, unfolding(crate::specs::RunEnds::end_of))]
 fn end_of(
     alloc: Global,
+    mode: Mode,
     source: &Shared<Accepted>,
     input: List<u8>,
     budget: u64,
@@ -32,7 +54,12 @@ fn end_of(
     ensures ran { OnOk result (meanings.WasRun (record { source = source.now; input = input; budget = budget })) }
 {
     let input = Shared::new(alloc, input)?;
-    reference(alloc, source.share()?, input, budget)
+    match mode {
+        Mode::Reference => reference(alloc, source.share()?, input, budget),
+        Mode::Run | Mode::Gen | Mode::Check | Mode::Code => {
+            end_of_code(alloc, source, input, budget)
+        }
+    }
 }
 
 // The report of a run of this source.
@@ -57,15 +84,15 @@ fn summary_of(
 // Runs a source, and reports the end.
 fn answer_run(
     alloc: Global,
+    job: &Job,
     source: Accepted,
     input: List<u8>,
-    budget: u64,
 ) -> Result<Answer, NoMemory>
-    requires few { budget ≤ 4000000 }
-    ensures { IfOk result (λ a. AnswersUnits (runs meanings.report_of) (record { source = source; input = input; budget = budget }) (answer_view a)) }
+    requires few { job.now.budget ≤ 4000000 }
+    ensures { IfOk result (λ a. AnswersUnits (runs meanings.report_of) (executed job.now input source) (answer_view a)) }
 {
     let source = Shared::new(alloc, source)?;
-    let end = end_of(alloc, &source, input, budget)?;
+    let end = end_of(alloc, job.mode, &source, input, job.budget)?;
     Ok(Answer {
         status: Status::of(end.outcome),
         text: report_of(alloc, &source, &end)?,
@@ -83,7 +110,7 @@ fn answer_made(
     ensures { IfOk result (λ a. AnswersUnits (runs (summary_of job.now)) (executed job.now input source) (answer_view a)) }
 {
     let source = Shared::new(alloc, source)?;
-    let end = end_of(alloc, &source, input, job.budget)?;
+    let end = end_of(alloc, job.mode, &source, input, job.budget)?;
     Ok(Answer {
         status: Status::of(end.outcome),
         text: summary_of(alloc, job, &source, &end)?,
@@ -139,7 +166,7 @@ fn answer_units(
     ensures { IfOk result (λ a. AnswersUnits (deed_of job.now) (executed job.now input source) (answer_view a)) }
 {
     match job.mode {
-        Mode::Run | Mode::Reference => answer_run(alloc, source, input, job.budget),
+        Mode::Run | Mode::Reference => answer_run(alloc, job, source, input),
         Mode::Check => answer_check(alloc, &source),
         Mode::Code => answer_code(alloc, &source),
         Mode::Gen => answer_made(alloc, job, source, input),

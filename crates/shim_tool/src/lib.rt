@@ -7,6 +7,8 @@ mod execute;
 pub mod laws;
 mod reads;
 mod status;
+/// The two kinds of process that are run, tied.
+pub mod tied;
 
 pub use call::{shim, write_no_memory};
 pub use shim_command::{Job, Kind, Mode, WordsFault, read_words};

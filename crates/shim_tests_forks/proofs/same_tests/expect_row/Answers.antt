@@ -1,6 +1,10 @@
 use denote.Param.Send.{sendable}
 use Rattle.shim_walk.proofs.Sends.{walk_send}
+use Rattle.shim_vm.proofs.Sends.{body_send}
 use Rattle.shim_tests_forks.proofs.same_tests.expect_row.Goals as goal
 
 pub expect_of-requires-send-L : goal.expect_of-requires-send-L
 expect_of-requires-send-L g c κs = search (walk_send, sendable)
+
+pub expect_of-requires-2-send-L : goal.expect_of-requires-2-send-L
+expect_of-requires-2-send-L g c κs = search (body_send, sendable)
