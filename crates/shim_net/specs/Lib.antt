@@ -1,0 +1,8 @@
+-- The definitions of this crate, one module for each subject.
+pub mod Entries
+pub mod Nets
+pub mod Codes
+pub mod Granting
+pub mod Taking
+pub mod Settling
+pub mod Standings

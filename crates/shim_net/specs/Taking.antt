@@ -1,0 +1,60 @@
+-- What is taken in.
+use Rattle.std.specs.Prelude.{◌≡◌, ◌≤◌, ◌<◌, ℕ, zero, suc, Bool, true, false, Some, List, [], ◌∷◌, ◌++◌, length, slice_index_or}
+use Rattle.std.specs.List.{remove}
+use Rattle.shim_base.specs.Paths.{Path}
+use Rattle.shim_local.specs.Process.{Ops}
+use Rattle.shim_local.specs.Quiets.{QuietSteps}
+use Rattle.shim_local.specs.Pieces.{FewerWithCause}
+use Rattle.shim_laws_replay.specs.Journals.{Entry, Quiet, quiet_steps}
+use Rattle.shim_net.specs.Nets.{OpenGrant, NetView}
+use Rattle.shim_net.specs.declared.absorb.Absorbed.{Absorbed}
+use Rattle.shim_net.specs.declared.absorb.Absorbed.TheVariants.{Taken, Short, Stranger}
+
+-- the grant has these numbers, so many steps at most, and this start
+pub record Matches {S : Type 0} (pid slot round most : ℕ) (start : S) (g : OpenGrant S) : Type 0 where
+  pub pid_is : g.pid ≡ pid
+  pub slot_is : g.slot ≡ slot
+  pub round_is : g.round ≡ round
+  pub most_is : g.most ≡ most
+  pub start_is : g.start ≡ start
+
+-- the journal with so many quiet steps of the process of the path behind it; no steps are no entry
+abbrev pub with_piece : Path → ℕ → List Entry → List Entry
+with_piece p zero js = js
+with_piece p (suc n) js = js ++ Quiet p (suc n) ∷ []
+
+-- the grant in this place has closed, and so many quiet steps of its process were done
+pub record Closes {S : Type 0} (o : Ops S) (before after : NetView S) (place used : ℕ) : Type 0 where
+  pub grant : OpenGrant S
+  pub its : grant ≡ slice_index_or before.grants place grant
+  pub tree : quiet_steps o (o.path grant.start) used before.tree ≡ Some after.tree
+  pub after_is : after ≡ record { root = before.root; budget = before.budget; tree = after.tree; journal = with_piece (o.path grant.start) used before.journal; grants = remove before.grants place }
+
+-- a piece of these numbers and this start was taken in, with so many steps
+pub record Takes {S : Type 0} (o : Ops S) (before after : NetView S) (pid slot round most : ℕ) (start : S) (used : ℕ) : Type 0 where
+  pub place : ℕ
+  pub there : place < length before.grants
+  pub closes : Closes o before after place used
+  pub matches : Matches pid slot round most start closes.grant
+
+-- what came of a piece is one of these
+abbrev pub Came : {F : Type 0} → Type 0 → Type 0 → (F → Type 0) → Absorbed F → Type 0
+Came taken short stranger Taken = taken
+Came taken short stranger Short = short
+Came taken short stranger (Stranger f) = stranger f
+
+-- an open grant was closed by a piece of a step or more, which has fewer steps than were granted only where its process came to another stop
+pub record Redoes {S : Type 0} (o : Ops S) (before after : NetView S) : Type 0 where
+  pub place : ℕ
+  pub there : place < length before.grants
+  pub used : ℕ
+  pub closes : Closes o before after place used
+  pub last : S
+  pub steps : QuietSteps o used closes.grant.start last
+  pub some : 1 ≤ used
+  pub most : used ≤ closes.grant.most
+  pub fewer : FewerWithCause o used closes.grant.most false last
+
+abbrev pub RedoesOne : {S : Type 0} → Ops S → NetView S → NetView S → Bool → Type 0
+RedoesOne o before after true = Redoes o before after
+RedoesOne o before after false = (after ≡ before) × (before.grants ≡ [])

@@ -1,0 +1,12 @@
+// What a journal has.
+use shim_base::Path;
+use shim_tree::Event;
+
+/// One entry of a journal.
+#[derive(Drop)]
+pub enum Entry {
+    /// The process of this path did so many quiet steps, one after another.
+    Quiet { path: Path, steps: u64 },
+    /// This event happened, which is no quiet step.
+    Did(Event),
+}

@@ -1,0 +1,20 @@
+//! A net: a tree of processes, the journal of what was done in it, and the grants of work that are open.
+#![tactic(auto)]
+
+mod absorb;
+mod entry;
+mod events;
+mod grant;
+mod home;
+mod named;
+mod net;
+mod open_grant;
+mod reading;
+mod redo;
+mod settle;
+mod standing;
+
+pub use absorb::Absorbed;
+pub use entry::Entry;
+pub use net::Net;
+pub use standing::Standing;

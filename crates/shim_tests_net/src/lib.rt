@@ -1,0 +1,5 @@
+//! Tests of nets over small processes.
+#![tactic(auto)]
+
+#[cfg(test)]
+mod nets;

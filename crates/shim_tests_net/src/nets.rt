@@ -1,0 +1,457 @@
+// Nets of small processes: what each call answers, one after another, and what is told in the end.
+ghost use Rattle.std.specs.Prelude.{◌≡◌, [], IfOk};
+ghost use Rattle.shim_tests_small.specs.Small.{small_ops};
+ghost use Rattle.shim_semantics.specs.Sound.{SharesItsOwn};
+
+use shim_base::{Chan, List, NoMemory, Path, push_decimal};
+use shim_local::{Ended, Finished, Local, Outcome, Parcel, work};
+use shim_net::{Absorbed, Entry, Net, Standing};
+use shim_tests_small::{Small, Step};
+use shim_tree::Event;
+use std::alloc::Global;
+use std::process::Abort;
+use std::str;
+use std::sync::Arc;
+use std::test::Fail;
+
+// What is changed in a parcel before it is done.
+#[derive(Clone, Copy, Debug, PartialEq, Eq)]
+enum Change {
+    Slot,
+    Round,
+    Pid,
+    Grant,
+    // Its process has done a step.
+    Start,
+}
+
+// What is done with a net and the parcels that it gave.
+#[derive(Clone, Copy, Debug, PartialEq, Eq)]
+enum Call {
+    // Asks for work of so many steps at most, with this slot.
+    Grant(u64, u64),
+    // The last parcel is done and taken in.
+    Absorb,
+    // So it is, but it was changed before.
+    AbsorbChanged(Change),
+    Redo,
+    Settle,
+}
+
+fn add_number(told: &mut List<u8>, before: &[u8], number: u64) -> Result<(), NoMemory> {
+    told.extend_from_slice(before)?;
+    push_decimal(told, number)
+}
+
+fn add_path(told: &mut List<u8>, before: &[u8], path: &Path) -> Result<(), NoMemory> {
+    told.extend_from_slice(before)?;
+    told.extend_from_slice(b" root")?;
+    for pair in path.pairs() {
+        add_number(told, b"/", pair.0 as u64)?;
+        add_number(told, b".", pair.1 as u64)?;
+    }
+    Ok(())
+}
+
+fn add_event(told: &mut List<u8>, event: &Event) -> Result<(), NoMemory> {
+    match event {
+        Event::Own(path) => add_path(told, b" own", path),
+        Event::Meet(chan) => add_number(told, b" meet ", chan.serial() as u64),
+        Event::Poison(path, _) => add_path(told, b" poison", path),
+        Event::Close(path) => add_path(told, b" close", path),
+        Event::End(path) => add_path(told, b" end", path),
+    }
+}
+
+fn add_entry(told: &mut List<u8>, entry: &Entry) -> Result<(), NoMemory> {
+    match entry {
+        Entry::Quiet { path, steps } => {
+            add_path(told, b" quiet", path)?;
+            add_number(told, b" ", *steps)?;
+        }
+        Entry::Did(event) => add_event(told, event)?,
+    }
+    told.extend_from_slice(b",")
+}
+
+fn add_values(told: &mut List<u8>, values: &[i64]) -> Result<(), NoMemory> {
+    for value in values {
+        add_number(told, b" ", value.unsigned_abs())?;
+    }
+    Ok(())
+}
+
+fn outcome_word(outcome: Outcome) -> &'static [u8] {
+    match outcome {
+        Outcome::Done => b" done",
+        Outcome::Uncaught(_) => b" uncaught",
+        Outcome::Trapped => b" trapped",
+        Outcome::Blocked => b" blocked",
+        Outcome::Spent => b" spent",
+    }
+}
+
+fn add_ended(told: &mut List<u8>, ended: &Ended) -> Result<(), NoMemory> {
+    told.extend_from_slice(outcome_word(ended.outcome))?;
+    add_number(told, b" after ", ended.steps)
+}
+
+// Tells how the net stands, and what is read off it where that isn't `Running`.
+fn add_standing<L: Local>(told: &mut List<u8>, net: &Net<L>) -> Result<(), NoMemory> {
+    match net.standing() {
+        Standing::Running => told.extend_from_slice(b" running")?,
+        Standing::Quiet => add_ended(told, &net.ended()?)?,
+        Standing::Spent => add_ended(told, &net.ended()?)?,
+    }
+    told.extend_from_slice(b";")
+}
+
+// Tells what can be seen of a net at any time: its standing, steps and journal, and what was met.
+fn add_net<L: Local>(alloc: Global, told: &mut List<u8>, net: &Net<L>) -> Result<(), NoMemory> {
+    add_standing(told, net)?;
+    add_number(told, b" steps ", net.steps())?;
+    told.extend_from_slice(b":")?;
+    for entry in net.journal() {
+        add_entry(told, entry)?;
+    }
+    let chan = Chan::new(Arc::new(alloc, Path::root(alloc))?, 2, 0);
+    match net.history(&chan) {
+        Some(values) => {
+            told.extend_from_slice(b" met")?;
+            add_values(told, values)
+        }
+        None => told.extend_from_slice(b" none met"),
+    }
+}
+
+// Asks for work, but not with a slot that is out.
+fn grant<L: Local>(
+    told: &mut List<u8>,
+    net: &mut Net<L>,
+    parcels: &mut Vec<Parcel<L>>,
+    most: u64,
+    slot: u64,
+) -> Result<(), NoMemory> {
+    if net.is_out(slot, 0) {
+        return told.extend_from_slice(b" slot is out;");
+    }
+    match net.grant(most.max(1), slot, 0)? {
+        None => told.extend_from_slice(b" gave none;"),
+        Some(parcel) => {
+            add_path(told, b" gave", parcel.start.path())?;
+            add_number(told, b" number ", parcel.pid)?;
+            add_number(told, b" steps ", parcel.grant)?;
+            parcels.push(parcel)?;
+            told.extend_from_slice(b";")
+        }
+    }
+}
+
+// The parcel with one thing changed.
+fn changed<L: Local>(parcel: Parcel<L>, change: Change) -> Result<Parcel<L>, NoMemory> {
+    let Parcel {
+        slot,
+        round,
+        pid,
+        start,
+        grant,
+        ..
+    } = parcel;
+    let mut work = start.copy()?;
+    if change == Change::Start {
+        let _quiet = work.quiet(1);
+    }
+    Ok(Parcel {
+        slot: slot.wrapping_add(u64::from(change == Change::Slot)),
+        round: round.wrapping_add(u64::from(change == Change::Round)),
+        pid: pid.wrapping_add(u64::from(change == Change::Pid)),
+        start: work.copy()?,
+        work,
+        grant: grant.wrapping_add(u64::from(change == Change::Grant)),
+    })
+}
+
+fn absorb<L: Local>(
+    told: &mut List<u8>,
+    net: &mut Net<L>,
+    finished: Finished<L>,
+) -> Result<(), NoMemory> {
+    match net.absorb(finished) {
+        Absorbed::Taken => told.extend_from_slice(b" taken;"),
+        Absorbed::Short => told.extend_from_slice(b" short;"),
+        Absorbed::Stranger(_) => told.extend_from_slice(b" stranger;"),
+    }
+}
+
+fn redo<L: Local>(told: &mut List<u8>, net: &mut Net<L>) -> Result<(), NoMemory> {
+    match net.redo() {
+        Ok(true) => told.extend_from_slice(b" redone;"),
+        Ok(false) => told.extend_from_slice(b" nothing to redo;"),
+        Err(_) => told.extend_from_slice(b" redo refused;"),
+    }
+}
+
+fn do_call<L: Local>(
+    told: &mut List<u8>,
+    net: &mut Net<L>,
+    parcels: &mut Vec<Parcel<L>>,
+    call: Call,
+) -> Result<(), NoMemory> {
+    match call {
+        Call::Grant(most, slot) => grant(told, net, parcels, most, slot),
+        Call::Absorb => match parcels.pop() {
+            Some(parcel) => absorb(told, net, work(parcel)),
+            None => told.extend_from_slice(b" no parcel;"),
+        },
+        Call::AbsorbChanged(change) => match parcels.pop() {
+            Some(parcel) => absorb(told, net, work(changed(parcel, change)?)),
+            None => told.extend_from_slice(b" no parcel;"),
+        },
+        Call::Redo => redo(told, net),
+        Call::Settle => {
+            add_number(told, b" settled ", net.settle()?)?;
+            told.extend_from_slice(b";")
+        }
+    }
+}
+
+// A root with these steps to do, on a channel of its own.
+fn root(alloc: Global, left: &[Step]) -> Result<Small, NoMemory>
+    ensures own { IfOk result (λ root. SharesItsOwn small_ops root) }
+    ensures path { IfOk result (λ root. root.path ≡ []) }
+{
+    let chan = Chan::new(Arc::new(alloc, Path::root(alloc))?, 2, 7);
+    Ok(Small::new(Path::root(alloc), Vec::from_slice(alloc, left)?, chan))
+}
+
+// All that is told of a net of a root with these steps to do and this budget, which is 1 at least.
+fn tell(alloc: Global, left: &[Step], budget: u8, calls: &[Call]) -> Result<List<u8>, NoMemory> {
+    let mut net = Net::start(alloc, root(alloc, left)?, budget.max(1) as u64)?;
+    let mut parcels = Vec::new(alloc);
+    let mut told = List::new(alloc);
+    for call in calls {
+        do_call(&mut told, &mut net, &mut parcels, *call)?;
+    }
+    add_net(alloc, &mut told, &net)?;
+    Ok(told)
+}
+
+// A budget, the calls, and what is told then.
+type Row<'a> = (u8, &'a [Call], &'a str);
+
+fn expect(rt: &impl Abort, alloc: Global, left: &[Step], rows: &[Row<'_>]) -> Result<(), Fail> {
+    for row in rows {
+        let told = tell(alloc, left, row.0, row.1)?;
+        assert_eq!(rt; str::from_utf8(told.as_slice())?, row.2);
+    }
+    Ok(())
+}
+
+#[test]
+fn work_and_events_go_on_by_turns_to_the_end(rt: HostRuntime) -> Result<(), Fail> {
+    expect(
+        &rt,
+        rt.alloc(),
+        &[Step::Quiet, Step::Quiet, Step::Fork, Step::Quiet, Step::Put],
+        &[
+            (255, &[], " running; steps 0: none met"),
+            (
+                255,
+                &[Call::Grant(9, 1), Call::Absorb, Call::Settle],
+                " gave root number 0 steps 9; taken; settled 5; running; \
+                 steps 7: quiet root 2, own root, meet 2, end root/0.1, end root/0.0, close root, met 0",
+            ),
+            (
+                255,
+                &[
+                    Call::Grant(1, 1),
+                    Call::Absorb,
+                    Call::Grant(9, 1),
+                    Call::Absorb,
+                    Call::Settle,
+                    Call::Grant(9, 1),
+                    Call::Absorb,
+                    Call::Settle,
+                ],
+                " gave root number 0 steps 1; taken; gave root number 0 steps 9; taken; settled 5; \
+                 gave root number 0 steps 9; taken; settled 2; done after 10; \
+                 steps 10: quiet root 1, quiet root 1, own root, meet 2, end root/0.1, end root/0.0, close root, \
+                 quiet root 1, own root, end root, met 0",
+            ),
+        ],
+    )
+}
+
+#[test]
+fn nothing_is_given_where_none_is_at_home_or_nothing_is_left(rt: HostRuntime) -> Result<(), Fail> {
+    expect(
+        &rt,
+        rt.alloc(),
+        &[Step::Quiet, Step::Quiet, Step::Quiet],
+        &[
+            (
+                255,
+                &[Call::Grant(2, 1), Call::Grant(2, 1), Call::Grant(2, 2)],
+                " gave root number 0 steps 2; slot is out; gave none; running; steps 0: none met",
+            ),
+            (
+                2,
+                &[
+                    Call::Grant(9, 1),
+                    Call::Grant(1, 2),
+                    Call::Absorb,
+                    Call::Grant(9, 1),
+                ],
+                " gave root number 0 steps 2; gave none; taken; gave none; \
+                 spent after 2; steps 2: quiet root 2, none met",
+            ),
+        ],
+    )
+}
+
+#[test]
+fn changed_piece_is_a_stranger(rt: HostRuntime) -> Result<(), Fail> {
+    let told = " gave root number 0 steps 2; stranger; running; steps 0: none met";
+    expect(
+        &rt,
+        rt.alloc(),
+        &[Step::Quiet, Step::Quiet, Step::Quiet],
+        &[
+            (
+                255,
+                &[Call::Grant(2, 1), Call::AbsorbChanged(Change::Slot)],
+                told,
+            ),
+            (
+                255,
+                &[Call::Grant(2, 1), Call::AbsorbChanged(Change::Round)],
+                told,
+            ),
+            (
+                255,
+                &[Call::Grant(2, 1), Call::AbsorbChanged(Change::Pid)],
+                told,
+            ),
+            (
+                255,
+                &[Call::Grant(2, 1), Call::AbsorbChanged(Change::Grant)],
+                told,
+            ),
+            (
+                255,
+                &[Call::Grant(2, 1), Call::AbsorbChanged(Change::Start)],
+                told,
+            ),
+        ],
+    )
+}
+
+#[test]
+fn redo_does_what_is_out(rt: HostRuntime) -> Result<(), Fail> {
+    expect(
+        &rt,
+        rt.alloc(),
+        &[Step::Quiet, Step::Quiet, Step::Quiet],
+        &[
+            (
+                255,
+                &[Call::Redo],
+                " nothing to redo; running; steps 0: none met",
+            ),
+            (
+                255,
+                &[Call::Grant(2, 1), Call::Redo, Call::Redo, Call::Absorb],
+                " gave root number 0 steps 2; redone; nothing to redo; stranger; running; \
+                 steps 2: quiet root 2, none met",
+            ),
+            (
+                255,
+                &[
+                    Call::Grant(2, 1),
+                    Call::AbsorbChanged(Change::Slot),
+                    Call::Redo,
+                ],
+                " gave root number 0 steps 2; stranger; redone; running; steps 2: quiet root 2, none met",
+            ),
+        ],
+    )
+}
+
+// The fourth exception place would be the fifth in force.
+#[test]
+fn piece_that_wants_memory_is_taken_with_what_was_done(rt: HostRuntime) -> Result<(), Fail> {
+    expect(
+        &rt,
+        rt.alloc(),
+        &[
+            Step::Try(3, 20),
+            Step::Try(4, 21),
+            Step::Try(5, 22),
+            Step::Try(6, 23),
+        ],
+        &[
+            (
+                255,
+                &[Call::Grant(9, 1), Call::Absorb],
+                " gave root number 0 steps 9; short; running; steps 3: quiet root 3, none met",
+            ),
+            (
+                255,
+                &[
+                    Call::Grant(9, 1),
+                    Call::Absorb,
+                    Call::Grant(9, 1),
+                    Call::Absorb,
+                ],
+                " gave root number 0 steps 9; short; gave root number 0 steps 9; short; running; \
+                 steps 3: quiet root 3, none met",
+            ),
+            (
+                255,
+                &[Call::Grant(9, 1), Call::Redo],
+                " gave root number 0 steps 9; redo refused; running; steps 0: none met",
+            ),
+            (
+                255,
+                &[Call::Grant(3, 1), Call::Redo],
+                " gave root number 0 steps 3; redone; running; steps 3: quiet root 3, none met",
+            ),
+        ],
+    )
+}
+
+#[test]
+fn settling_stops_at_quiet_steps_or_at_the_budget(rt: HostRuntime) -> Result<(), Fail> {
+    expect(
+        &rt,
+        rt.alloc(),
+        &[Step::Fork, Step::Put, Step::Quiet],
+        &[
+            (
+                3,
+                &[Call::Settle, Call::Settle],
+                " settled 3; settled 0; spent after 3; \
+                 steps 3: own root, meet 2, end root/0.1, met 0",
+            ),
+            (
+                255,
+                &[Call::Settle, Call::Settle],
+                " settled 6; settled 0; running; \
+                 steps 6: own root, meet 2, end root/0.1, end root/0.0, close root, own root, met 0",
+            ),
+        ],
+    )
+}
+
+fn handed_on<T: Send>(value: T) -> T {
+    value
+}
+
+// That a net may go to another thread is seen by the checker alone.
+#[test]
+fn net_may_go_to_another_thread(rt: HostRuntime) -> Result<(), Fail> {
+    let net = Net::start(rt.alloc(), root(rt.alloc(), &[Step::Quiet])?, 2)?;
+    let net = handed_on(net);
+    assert_eq!(&rt; net.steps(), 0);
+    Ok(())
+}
