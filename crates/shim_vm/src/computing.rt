@@ -43,7 +43,7 @@ impl Computation {
     {
         Computation {
             place: 0,
-            stack: Stack::new(),
+            stack: Stack::new(alloc),
             given: List::new(alloc),
         }
     }

@@ -2,33 +2,39 @@
 ghost use Rattle.std.specs.Prelude.{◌≡◌, ◌∷◌, [], MatchOption, OnOk, OnErr};
 
 use shim_base::NoMemory;
+use std::alloc::Global;
 use std::marker::Model;
 
-/// The numbers that the code of an expression has computed and not yet used. Contracts see the top first.
-/// It has room for 257, as many as an expression of 256 operators can have at once.
+// So many numbers have room without memory.
+const NEAR: usize = 16;
+
+/// The numbers that the code of an expression has computed and not yet used. Contracts see the top first. The
+/// first few of them take no memory.
 #[derive(Drop)]
 pub struct Stack {
-    items: [i64; 257],
+    near: [i64; 16],
     len: usize,
+    far: Vec<i64>,
 }
 
 impl Model for Stack {
-    ghost use Rattle.std.specs.Prelude.{◌≤◌, List, ℤ, reverse, take};
+    ghost use Rattle.std.specs.Prelude.{◌≡◌, ◌≤◌, ◌⊎◌, ◌++◌, [], List, ℤ, reverse, take};
 
     ghost Value = { List ℤ };
 
-    ghost view = { λ s. reverse (take s.len s.items) };
+    ghost view = { λ s. reverse (take s.len s.near ++ s.far.items) };
 
-    ghost invariant = { λ s. s.len ≤ 257 };
+    ghost invariant = { λ s. (s.len ≤ 16) × ((s.far.items ≡ []) ⊎ (s.len ≡ 16)) };
 }
 
 impl Stack {
-    pub fn new() -> Stack
+    pub fn new(alloc: Global) -> Stack
         ensures { result ≡ [] }
     {
         Stack {
-            items: [0; 257],
+            near: [0; 16],
             len: 0,
+            far: Vec::new(alloc),
         }
     }
 
@@ -36,19 +42,20 @@ impl Stack {
     pub fn clear(&mut self)
         ensures { self.new ≡ [] }
     {
+        self.far.truncate(0);
         self.len = 0;
     }
 
-    /// This number is on top. Where the stack is full, that is taken for want of memory: the code of no program
-    /// has one more.
+    /// This number is on top. A refusal changes nothing.
     pub fn push(&mut self, number: i64) -> Result<(), NoMemory>
         ensures ok { OnOk result (self.new ≡ number ∷ self.old) }
         ensures err { OnErr result (self.new ≡ self.old) }
     {
-        if self.len >= 257 {
-            return Err(NoMemory);
+        if self.len >= NEAR {
+            self.far.push(number)?;
+            return Ok(());
         }
-        self.items[self.len] = number;
+        self.near[self.len] = number;
         self.len += 1;
         Ok(())
     }
@@ -57,10 +64,13 @@ impl Stack {
     pub fn pop(&mut self) -> Option<i64>
         ensures { MatchOption result (self.old ≡ []) (λ number. self.old ≡ number ∷ self.new) }
     {
+        if let Some(number) = self.far.pop() {
+            return Some(number);
+        }
         if self.len == 0 {
             return None;
         }
         self.len -= 1;
-        Some(self.items[self.len])
+        Some(self.near[self.len])
     }
 }
