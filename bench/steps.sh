@@ -47,10 +47,10 @@ least() { # COMMAND..
 }
 
 none=$(least ./shim run "$room/none.shim")
-run=$(least ./shim run "$room/loop.shim")
+run=$(least ./shim run "$room/loop.shim" --budget 4000000)
 steps=$(tail -n 1 "$room/out" | awk '{print $NF}')
-nested=$(least ./shim run "$room/nested.shim")
-ref=$(least ./shim ref "$room/loop.shim")
+nested=$(least ./shim run "$room/nested.shim" --budget 4000000)
+ref=$(least ./shim ref "$room/loop.shim" --budget 4000000)
 say() { # NAME TIME STEPS
   awk -v name="$1" -v t="$2" -v none="$none" -v steps="$3" -v run="$run" 'BEGIN { printf "%-28s %.4f s, %.0f ns a step, %.2f times the compiled loop\n", name, t / 1e9, (t - none) / steps, t / run }'
 }
