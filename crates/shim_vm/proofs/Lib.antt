@@ -1,5 +1,6 @@
 -- The lemmas of this crate.
 pub mod Progress
+pub mod FewTaken
 pub mod Values
 pub mod UnitCodes
 pub mod Gathering
@@ -19,4 +20,5 @@ pub mod BackByCode
 pub mod Leaving
 pub mod Entering
 pub mod Bodies
+pub mod Stretches
 pub mod Sends

@@ -4,3 +4,4 @@ pub mod Gathering
 pub mod Actions
 pub mod Places
 pub mod Landing
+pub mod Stretching

@@ -48,6 +48,23 @@ impl Computation {
         }
     }
 
+    /// Nothing is computed yet, and many numbers go into this room.
+    pub fn with_room(alloc: Global, room: Vec<i64>) -> Computation
+        ensures { result ≡ record { place = 0; stack = []; given = [] } }
+    {
+        Computation {
+            place: 0,
+            stack: Stack::with_room(room),
+            given: List::new(alloc),
+        }
+    }
+
+    /// The room for many numbers.
+    pub fn into_room(self) -> Vec<i64> {
+        let Computation { stack, .. } = self;
+        stack.into_room()
+    }
+
     /// Nothing is computed yet, and this place is next.
     pub fn begin(&mut self, place: usize)
         ensures { self.new ≡ record { place = place; stack = []; given = [] } }

@@ -4,16 +4,20 @@
 mod action;
 mod body;
 mod branches;
+mod brief;
 mod computing;
+mod few_numbers;
 mod instrs;
 mod landing;
 pub mod laws;
 mod machine;
+mod need;
 mod putting;
 mod regaining;
 mod return_stack;
 mod stack;
 mod stops;
+mod stretch;
 mod unit_code;
 
 pub use body::Body;

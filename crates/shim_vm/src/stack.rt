@@ -5,8 +5,8 @@ use shim_base::NoMemory;
 use std::alloc::Global;
 use std::marker::Model;
 
-// So many numbers have room without memory.
-const NEAR: usize = 16;
+/// So many numbers have room without memory.
+pub const NEAR: usize = 16;
 
 /// The numbers that the code of an expression has computed and not yet used. Contracts see the top first. The
 /// first few of them take no memory.
@@ -36,6 +36,25 @@ impl Stack {
             len: 0,
             far: Vec::new(alloc),
         }
+    }
+
+    /// The numbers beyond the first few go into this room, and take memory only beyond that.
+    pub fn with_room(room: Vec<i64>) -> Stack
+        ensures { result ≡ [] }
+    {
+        let mut far = room;
+        far.truncate(0);
+        Stack {
+            near: [0; 16],
+            len: 0,
+            far,
+        }
+    }
+
+    /// The room for the numbers beyond the first few.
+    pub fn into_room(self) -> Vec<i64> {
+        let Stack { far, .. } = self;
+        far
     }
 
     /// Nothing is on it.

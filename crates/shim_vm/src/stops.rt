@@ -1,5 +1,5 @@
 // At what a process stands, by the mark at its place and the instruction behind it.
-ghost use Rattle.std.specs.Prelude.{◌≡◌, ◌<◌, ◌+◌, ◌^◌, length, slice_get};
+ghost use Rattle.std.specs.Prelude.{◌≡◌, ◌<◌, ◌+◌, ◌^◌, true, length, slice_get};
 ghost use Rattle.std.specs.Option.{option_copied};
 ghost use Rattle.shim_local.specs.Process.{AtFinish};
 ghost use Rattle.shim_local.specs.Views.{stop_view};
@@ -9,6 +9,7 @@ ghost use Rattle.shim_process.specs.StatementViews.{label_of};
 ghost use Rattle.shim_walk.specs.StatementContexts.{context_view};
 ghost use Rattle.shim_machine.specs.MarkStops.{instr_stop, mark_stop};
 ghost use Rattle.shim_code.specs.declared.instr.MarkKind.TheVariants as kind;
+ghost use Rattle.shim_vm.specs.Stretching.{is_quiet_kind, is_quiet_mark};
 
 use crate::instrs::instr_at;
 use shim_code::{MachineInstr, Mark, MarkKind};
@@ -73,5 +74,25 @@ pub fn stop_at<'a>(code: &[MachineInstr], place: usize, context: &StatementConte
     match instr_at(code, place) {
         Some(MachineInstr::Mark(mark)) => mark_stop(mark, instr_at(code, place + 1), context),
         _ => Stop::Finish,
+    }
+}
+
+fn is_quiet(kind: MarkKind) -> bool
+    ensures { result ≡ is_quiet_kind kind }
+{
+    match kind {
+        MarkKind::Quiet => true,
+        _ => false,
+    }
+}
+
+/// Whether the mark of a statement that concerns its process alone is at the place.
+pub fn is_quiet_at(code: &[MachineInstr], place: usize) -> bool
+    ensures is { result ≡ is_quiet_mark (slice_get code.now place) }
+    ensures within { result ≡ true → place < length code.now }
+{
+    match instr_at(code, place) {
+        Some(MachineInstr::Mark(mark)) => is_quiet(mark.kind),
+        _ => false,
     }
 }
