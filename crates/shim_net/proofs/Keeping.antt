@@ -18,7 +18,7 @@ use Rattle.shim_laws_replay.specs.Grants.{IsGrantable, IsNoQuietStep}
 use Rattle.shim_laws_replay.specs.Nets.{Grant, NetKeeps, IsOut, AreApart, reserved}
 use Rattle.shim_laws_replay.proofs.Keeping.{nets_keep}
 use Rattle.shim_laws_replay.proofs.Runs.{replay_sound}
-use Rattle.shim_net.specs.Nets.{OpenGrant, NetView, IsNet, IsOpen, HaveOtherNumbers, granted, reserved_in, started}
+use Rattle.shim_net.specs.Nets.{OpenGrant, NetView, IsNet, IsOpen, HaveOtherNumbers, HaveOtherPids, granted, reserved_in, started}
 
 pub map-remove : {X Y : Type 0} (f : X → Y) (xs : List X) (i : ℕ) → map f (remove xs i) ≡ remove (map f xs) i
 map-remove f xs i = map-append f (take i xs) (drop (suc i) xs) ∙ (λ j. sym (take-map f i xs) j ++ sym (drop-map f (suc i) xs) j)
@@ -35,6 +35,7 @@ module _ {S : Type 0} (o : Ops S) (law : LocalLaws o) where
     at_root = path;
     keeps = (nets_keep o law).begun root b sound own;
     numbers = λ i j d less few. absurd (omega (arith, few));
+    pids = λ i j d less few. absurd (omega (arith, few));
   }
 
   pub tree_sound : (n : NetView S) → IsNet o n → IsSoundTree o n.tree
@@ -48,11 +49,12 @@ module _ {S : Type 0} (o : Ops S) (law : LocalLaws o) where
     at_root = w.at_root;
     keeps = subst (λ z. NetKeeps o n.root n.budget z u (map granted n.grants)) (sym more) ((nets_keep o law).did n.root n.budget n.journal n.tree u (map granted n.grants) e w.keeps h other room);
     numbers = w.numbers;
+    pids = w.pids;
   }
 
-  pub given : (n : NetView S) (g : OpenGrant S) → IsNet o n → IsGrantable o n.tree g.start → 1 ≤ g.most → All (λ h. o.path h.start ≢ o.path g.start) n.grants → (IsOpen g.slot g.round n.grants → ⊥)
+  pub given : (n : NetView S) (g : OpenGrant S) → IsNet o n → IsGrantable o n.tree g.start → 1 ≤ g.most → All (λ h. o.path h.start ≢ o.path g.start) n.grants → (IsOpen g.slot g.round n.grants → ⊥) → All (λ h. h.pid ≢ g.pid) n.grants
       → steps n.tree + reserved_in n.grants + g.most ≤ n.budget → (gs : List (OpenGrant S)) → gs ≡ n.grants ++ g ∷ [] → IsNet o (record { root = n.root; budget = n.budget; tree = n.tree; journal = n.journal; grants = gs })
-  given n g w grantable some free fresh room gs more = record {
+  given n g w grantable some free fresh other room gs more = record {
     least = w.least;
     most = w.most;
     at_root = w.at_root;
@@ -60,6 +62,7 @@ module _ {S : Type 0} (o : Ops S) (law : LocalLaws o) where
         ((nets_keep o law).granted n.root n.budget n.journal n.tree (map granted n.grants) (granted g) w.keeps
         (record { grantable = grantable; some = some }) (All-map (λ h. AreApart o h (granted g)) granted n.grants free) room);
     numbers = subst (AllPairs HaveOtherNumbers) (sym more) (all_pairs_push HaveOtherNumbers n.grants g w.numbers (others_differ n.grants g fresh));
+    pids = subst (AllPairs HaveOtherPids) (sym more) (all_pairs_push HaveOtherPids n.grants g w.pids other);
   }
 
   -- one grant more reserves more
@@ -95,6 +98,9 @@ module _ {S : Type 0} (o : Ops S) (law : LocalLaws o) where
       numbers : AllPairs HaveOtherNumbers gs
       numbers = subst (AllPairs HaveOtherNumbers) (sym less) (all_pairs_remove HaveOtherNumbers n.grants i there w.numbers)
 
+      pids : AllPairs HaveOtherPids gs
+      pids = subst (AllPairs HaveOtherPids) (sym less) (all_pairs_remove HaveOtherPids n.grants i there w.pids)
+
       pub taken : (used : ℕ) (last : S) (u : Tree S) → QuietSteps o used g.start last → 1 ≤ used → used ≤ g.most → Advances o (o.path last) used n.tree u
           → (js : List Entry) → js ≡ n.journal ++ Quiet (o.path g.start) used ∷ [] → IsNet o (record { root = n.root; budget = n.budget; tree = u; journal = js; grants = gs })
       taken used last u ran some most advances js more = record {
@@ -104,6 +110,7 @@ module _ {S : Type 0} (o : Ops S) (law : LocalLaws o) where
         keeps = subst (λ z. NetKeeps o n.root n.budget z u (map granted gs)) (sym more) (subst (NetKeeps o n.root n.budget (n.journal ++ Quiet (o.path g.start) used ∷ []) u) left
             ((nets_keep o law).taken n.root n.budget n.journal n.tree u (map granted n.grants) i (granted g) used last w.keeps here seen ran some most advances));
         numbers = numbers;
+        pids = pids;
       }
 
       pub taken_back : IsNet o (record { root = n.root; budget = n.budget; tree = n.tree; journal = n.journal; grants = gs })
@@ -113,4 +120,5 @@ module _ {S : Type 0} (o : Ops S) (law : LocalLaws o) where
         at_root = w.at_root;
         keeps = subst (NetKeeps o n.root n.budget n.journal n.tree) left ((nets_keep o law).taken_back n.root n.budget n.journal n.tree (map granted n.grants) i (granted g) w.keeps here seen);
         numbers = numbers;
+        pids = pids;
       }

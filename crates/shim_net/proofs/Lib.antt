@@ -1,4 +1,5 @@
 -- The lemmas of this crate, one module for each subject.
+pub mod Numbering
 pub mod Keeping
 pub mod Granting
 pub mod Closing

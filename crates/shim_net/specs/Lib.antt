@@ -1,6 +1,7 @@
 -- The definitions of this crate, one module for each subject.
 pub mod Entries
 pub mod Nets
+pub mod Numbering
 pub mod Codes
 pub mod Granting
 pub mod Taking

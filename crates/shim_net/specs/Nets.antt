@@ -41,6 +41,10 @@ IsOpen slot round grants = Any (HasNumbers slot round) grants
 abbrev pub HaveOtherNumbers : {S : Type 0} → OpenGrant S → OpenGrant S → Type 0
 HaveOtherNumbers g h = g.slot ≡ h.slot → g.round ≢ h.round
 
+-- two grants are of processes with two numbers
+abbrev pub HaveOtherPids : {S : Type 0} → OpenGrant S → OpenGrant S → Type 0
+HaveOtherPids g h = g.pid ≢ h.pid
+
 pub record IsNet {S : Type 0} (o : Ops S) (n : NetView S) : Type 0 where
   pub least : 1 ≤ n.budget
   pub most : n.budget ≤ 4000000
@@ -49,6 +53,7 @@ pub record IsNet {S : Type 0} (o : Ops S) (n : NetView S) : Type 0 where
   -- the tree is the replay of the journal, the budget isn't passed, and what is out stands where it was given out
   pub keeps : NetKeeps o n.root n.budget n.journal n.tree (map granted n.grants)
   pub numbers : AllPairs HaveOtherNumbers n.grants
+  pub pids : AllPairs HaveOtherPids n.grants
 
 -- a net in which nothing has happened
 abbrev pub started : {S : Type 0} → S → ℕ → NetView S

@@ -13,6 +13,7 @@ use shim_local::{Finished, Local};
 /// What came of a finished piece that was brought back.
 #[derive(Drop)]
 pub enum Absorbed<F> {
+    /// It was taken: its grant is closed, and its steps stand in the tree and the journal.
     Taken,
     /// It was taken, and had wanted memory for a further step.
     Short,

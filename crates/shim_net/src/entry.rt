@@ -7,6 +7,6 @@ use shim_tree::Event;
 pub enum Entry {
     /// The process of this path did so many quiet steps, one after another.
     Quiet { path: Path, steps: u64 },
-    /// This event happened, which is no quiet step.
+    /// This event happened. It is one that `settle` did, whose clauses say that it is no quiet step.
     Did(Event),
 }

@@ -10,10 +10,12 @@ use shim_base::NoMemory;
 use shim_local::{Local, Parcel};
 
 impl<L: Local> Net<L> {
-    /// Gives out work of a process that stands before a quiet step and isn't out: as many steps as are
-    /// asked for, or what is left of the budget. `None` exactly where no process can be given out, or
-    /// nothing is left. The number of the process is 0 exactly for the root. Want of memory changes
-    /// nothing.
+    /// Gives out work of a process that stands before a quiet step and isn't out: `most` steps, which
+    /// are at least 1, or what is left of the budget where that is less. `slot` and `round` are the
+    /// caller's numbers for the piece: they come back with it and tell the open grants apart, so no open
+    /// grant may have both. `pid` is the number of the process in this net, 0 exactly for the root, and
+    /// the same in all its pieces. `None` exactly where no process can be given out, or nothing is left.
+    /// Want of memory changes nothing.
     pub fn grant(&mut self, most: u64, slot: u64, round: u64) -> Result<Option<Parcel<L>>, NoMemory>
         requires most { 1 ≤ most }
         requires numbers { IsOpen slot round self.old.grants → ⊥ }
@@ -28,10 +30,11 @@ impl<L: Local> Net<L> {
             return Ok(None);
         };
         let grant = most.min(left);
-        let given = OpenGrant::new(process, slot, round, grant)?;
-        let parcel = given.parcel()?;
         self.journal.reserve(self.grants.len() + 1)?;
         self.grants.reserve(1)?;
+        let pid = self.numbers.number(process.path())?;
+        let given = OpenGrant::new(process, pid, slot, round, grant)?;
+        let parcel = given.parcel()?;
         self.grants.push_reserved(given);
         self.reserved += grant;
         Ok(Some(parcel))

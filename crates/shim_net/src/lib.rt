@@ -8,6 +8,7 @@ mod grant;
 mod home;
 mod named;
 mod net;
+mod numbers;
 mod open_grant;
 mod reading;
 mod redo;

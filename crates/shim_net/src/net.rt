@@ -5,6 +5,7 @@ ghost use Rattle.shim_semantics.specs.Trees.{steps};
 ghost use Rattle.shim_net.specs.Nets.{started, reserved_in};
 
 use crate::entry::Entry;
+use crate::numbers::Numbers;
 use crate::open_grant::OpenGrant;
 use shim_base::NoMemory;
 use shim_local::Local;
@@ -15,8 +16,8 @@ use std::snapshot::Snapshot;
 
 /// A tree of processes that began with one process and a budget of steps, the journal of what was done
 /// in it since, and the grants that are open. Contracts see these, and its type keeps that the tree is
-/// the replay of the journal, that the budget isn't passed, and that each process of which a grant is
-/// open stands as it was given out.
+/// the replay of the journal, that the budget isn't passed, that each process of which a grant is open
+/// stands as it was given out, and that no two of these have one number.
 #[derive(Drop)]
 pub struct Net<L: Local> {
     pub(crate) root: Snapshot<L>,
@@ -25,6 +26,8 @@ pub struct Net<L: Local> {
     // with room for an entry of each open grant
     pub(crate) journal: Vec<Entry>,
     pub(crate) grants: Vec<OpenGrant<L>>,
+    // of the processes that were given out, those of all open grants among them
+    pub(crate) numbers: Numbers,
     // the steps of the tree
     pub(crate) taken: u64,
     // the steps of all open grants
@@ -36,6 +39,7 @@ impl<L: Local> Model for Net<L> {
     ghost use Rattle.shim_semantics.specs.Trees.{steps};
     ghost use Rattle.shim_net.specs.Entries.{entry_of};
     ghost use Rattle.shim_net.specs.Nets.{NetView, IsNet, reserved_in};
+    ghost use Rattle.shim_net.specs.Numbering.{AreNumbered};
     ghost use Rattle.shim_net.specs.Codes.{net_code};
 
     ghost Value = { NetView L };
@@ -45,12 +49,13 @@ impl<L: Local> Model for Net<L> {
     ghost view = { λ n. record { root = n.root.value; budget = n.budget; tree = n.tree; journal = map entry_of n.journal.items; grants = n.grants.items } };
 
     ghost invariant = { λ n. IsNet L.ops (record { root = n.root.value; budget = n.budget; tree = n.tree; journal = map entry_of n.journal.items; grants = n.grants.items })
-        × (n.taken ≡ steps n.tree) × (n.reserved ≡ reserved_in n.grants.items) × (vec_len n.journal + vec_len n.grants ≤ vec_capacity n.journal) };
+        × (n.taken ≡ steps n.tree) × (n.reserved ≡ reserved_in n.grants.items) × (vec_len n.journal + vec_len n.grants ≤ vec_capacity n.journal)
+        × AreNumbered L.ops n.numbers n.grants.items };
 }
 
 impl<L: Local> Net<L> {
-    /// A net in which nothing has happened. The root has the path of a root, and shares channels of its
-    /// own alone.
+    /// A net in which nothing has happened, with a budget in steps, 1 to 4,000,000. The root has the
+    /// path of a root, and shares channels of its own alone.
     pub fn start(alloc: Global, root: L, budget: u64) -> Result<Net<L>, NoMemory>
         requires path { L.ops.path root ≡ [] }
         requires own { SharesItsOwn L.ops root }
@@ -66,6 +71,7 @@ impl<L: Local> Net<L> {
             tree,
             journal: Vec::new(alloc),
             grants: Vec::new(alloc),
+            numbers: Numbers::new(alloc),
             taken: 0,
             reserved: 0,
         })

@@ -32,13 +32,18 @@ impl<L: Local> Model for OpenGrant<L> {
 }
 
 impl<L: Local> OpenGrant<L> {
-    /// A grant of so many steps to a process in this state. Its process is numbered by how many forks
-    /// lead to it, so that the root alone has 0.
-    pub(crate) fn new(process: &L, slot: u64, round: u64, most: u64) -> Result<Self, NoMemory>
-        ensures { IfOk result (λ g. g ≡ record { pid = length (L.ops.path process.now); slot = slot; round = round; most = most; start = process.now }) }
+    /// A grant of so many steps to the process of this number, in this state.
+    pub(crate) fn new(
+        process: &L,
+        pid: u64,
+        slot: u64,
+        round: u64,
+        most: u64,
+    ) -> Result<Self, NoMemory>
+        ensures { IfOk result (λ g. g ≡ record { pid = pid; slot = slot; round = round; most = most; start = process.now }) }
     {
         Ok(OpenGrant {
-            pid: process.path().pairs().len() as u64,
+            pid,
             slot,
             round,
             most,

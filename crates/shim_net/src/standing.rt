@@ -13,6 +13,7 @@ use shim_local::{Ended, Local};
 /// How a net stands.
 #[derive(Clone, Copy, Debug, PartialEq, Eq)]
 pub enum Standing {
+    /// A grant is open, or an event is enabled and a step of the budget is left.
     Running,
     /// No grant is open, and no event is enabled.
     Quiet,

@@ -1,6 +1,7 @@
 use Rattle.std.proofs.Common.{rules, ◌≤◌, ◌+◌, map, ap, ◌∙◌, arith}
 use Rattle.shim_net.specs.Entries.{entry_of}
 use Rattle.shim_net.proofs.Closing as closing
+use Rattle.shim_net.proofs.Numbering.{one_less_numbered}
 use Rattle.shim_net.proofs.net.Net.close.Goals as goal
 
 pub overflow_sub-self : goal.overflow_sub-self
@@ -22,6 +23,7 @@ invariant_of-self g c =
       c.self.invariant.1,
       closing.reserves_less o law _ a.self.now c.self.view_is c.self.invariant.0 a.at a.used a.last r.there r.steps r.most c.remove-grant.result c.remove-grant.ensures.value c.remove-grant.new.self.items c.remove-grant.ensures.items c.self.inside.reserved c.most.result c.self.invariant.2 c.most.ensures,
       search rules,
+      one_less_numbered o c.self.inside.numbers c.self.inside.grants.items c.remove-grant.new.self.items a.at c.remove-grant.ensures.items c.self.invariant.4,
     )
 
 pub returns-then-used-eq0 : goal.returns-then-used-eq0
@@ -70,6 +72,7 @@ invariant_of-self-2 g c =
       ap (λ z. z + a.used) c.self.invariant.1 ∙ closing.counts o law _ a.self.now c.self.view_is c.self.invariant.0 a.at a.used a.last r.there r.steps r.most c.remove-grant.result c.remove-grant.ensures.value c.remove-grant.new.self.items c.remove-grant.ensures.items some c.advance.new.self c.advance.ensures (map entry_of c.push_reserved.new.self.items) more,
       closing.reserves_less o law _ a.self.now c.self.view_is c.self.invariant.0 a.at a.used a.last r.there r.steps r.most c.remove-grant.result c.remove-grant.ensures.value c.remove-grant.new.self.items c.remove-grant.ensures.items c.self.inside.reserved c.most.result c.self.invariant.2 c.most.ensures,
       search rules,
+      one_less_numbered o c.self.inside.numbers c.self.inside.grants.items c.remove-grant.new.self.items a.at c.remove-grant.ensures.items c.self.invariant.4,
     )
 
 pub returns : goal.returns

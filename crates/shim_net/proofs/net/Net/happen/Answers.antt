@@ -25,4 +25,5 @@ invariant_of-self-2 g c =
       ap (λ z. z + 1) c.self.invariant.1 ∙ sym c.in_ok-do_event.ensures.counted,
       c.self.invariant.2,
       search rules,
+      c.self.invariant.4,
     )

@@ -3,6 +3,7 @@ use Rattle.std.specs.Prelude.{map}
 use Rattle.shim_net.specs.Entries.{entry_of}
 use Rattle.shim_net.specs.Nets.{IsNet, started, reserved_in}
 use Rattle.shim_net.proofs.Keeping.{begun}
+use Rattle.shim_net.proofs.Numbering.{none_out_numbered}
 use Rattle.shim_net.proofs.net.Net.start.Goals as goal
 
 pub invariant_of-result : goal.invariant_of-result
@@ -16,4 +17,5 @@ invariant_of-result g c =
       sym c.in_ok-tree.ensures.fresh,
       ap reserved_in (sym c.new-2.ensures.items),
       search rules,
+      none_out_numbered o c.new-3.result c.new-2.result.items c.new-2.ensures.items,
     )
