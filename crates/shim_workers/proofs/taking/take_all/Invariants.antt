@@ -1,0 +1,8 @@
+use Rattle.shim_workers.specs.Progress.{GoesOn, HaveSteps}
+use Rattle.shim_workers.proofs.taking.take_all.Given as goal
+
+abbrev pub invariant-loop-finished : goal.invariant-loop-finished
+invariant-loop-finished g l = record {
+  goes_on : GoesOn l.fn.net l.net;
+  steps : HaveSteps g.L.Local.ops l.net.grants;
+}

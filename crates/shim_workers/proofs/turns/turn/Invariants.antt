@@ -1,0 +1,11 @@
+use Rattle.std.proofs.Common.{◌<◌, ◌+◌, length}
+use Rattle.shim_semantics.specs.Trees.{steps}
+use Rattle.shim_workers.specs.Progress.{GoesOn, HaveSteps}
+use Rattle.shim_workers.proofs.turns.turn.Given as goal
+
+abbrev pub invariant-loop-one : goal.invariant-loop-one
+invariant-loop-one g l = record {
+  goes_on : GoesOn l.fn.net l.net;
+  have : HaveSteps g.L.Local.ops l.net.grants;
+  more : steps l.fn.net.tree + length l.fn.net.grants < steps l.net.tree + length l.net.grants;
+}

@@ -1,0 +1,119 @@
+// Turns: the work of all processes is given out, done side by side, and taken back.
+ghost use Rattle.std.specs.Prelude.{◌≡◌, ◌≤◌, ◌<◌, ◌*◌, ◌⊎◌, min, [], true, false, IsTrue, IsFalse, IfOk, OnOk};
+ghost use Rattle.shim_semantics.specs.Trees.{steps};
+ghost use Rattle.shim_net.specs.Nets.{IsNet};
+ghost use Rattle.shim_net.specs.Standings.{IsQuietNet, IsSpentNet};
+ghost use Rattle.shim_workers.specs.Progress.{GoesOn, HasSettled, CanGive};
+
+use crate::gate::Gate;
+use crate::giving::give_all;
+use crate::taking::{redo_all, take_all};
+use shim_base::NoMemory;
+use shim_local::Local;
+use shim_net::{Net, Standing};
+use std::alloc::Global;
+use std::thread::Threads;
+
+// Whether the net has not come to its end.
+fn is_running<L: Local>(net: &Net<L>) -> bool
+    ensures running { IsTrue result → (IsQuietNet L.ops net.now → ⊥) × (IsSpentNet L.ops net.now → ⊥) }
+    ensures ended { IsFalse result → IsQuietNet L.ops net.now ⊎ IsSpentNet L.ops net.now }
+    ensures keeps { IsNet L.ops net.now }
+{
+    match net.standing() {
+        Standing::Running => true,
+        Standing::Quiet => false,
+        Standing::Spent => false,
+    }
+}
+
+// Does all that is no process's work, and answers how many events that were.
+fn settle_all<L: Local>(net: &mut Net<L>) -> Result<u64, NoMemory>
+    requires home { net.old.grants ≡ [] }
+    ensures goes_on { OnOk result (GoesOn net.old net.new) }
+    ensures home { OnOk result (net.new.grants ≡ []) }
+    ensures settled { OnOk result (HasSettled L.ops net.new) }
+{
+    net.settle()
+}
+
+// Gives out a piece of each process that has quiet steps to do, has them done on at most as many threads
+// as there are workers, and takes them back.
+fn turn<L: Local, G: Gate, R: Threads + Sync>(
+    rt: &R,
+    alloc: Global,
+    net: &mut Net<L>,
+    workers: u32,
+    most: u64,
+    round: u64,
+    gate: &G,
+) -> Result<(), NoMemory>
+    requires workers { (1 ≤ workers) × (workers ≤ 16) }
+    requires most { 1 ≤ most }
+    requires home { net.old.grants ≡ [] }
+    requires can { CanGive L.ops net.old }
+    ensures goes_on { OnOk result (GoesOn net.old net.new) }
+    ensures home { OnOk result (net.new.grants ≡ []) }
+    ensures more { OnOk result (steps net.old.tree < steps net.new.tree) }
+{
+    let jobs = give_all(alloc, net, workers, most, round)?;
+    for one in jobs.do_all(rt, gate)? {
+        take_all(net, one)?;
+    }
+    redo_all(net)?;
+    Ok(())
+}
+
+// The most steps that a piece is ever given.
+const LONGEST: u64 = 10_000;
+
+// The most steps of the next round's pieces, where this round's had so many, and so many events were done
+// behind them. Behind an event they have as many as at first, since short pieces let processes meet soon.
+// Where none was done short pieces gain nothing, and they get up to twice as long: to give one out and
+// take it in costs the same, however long it is.
+fn next_most(first: u64, most: u64, events: u64) -> u64
+    requires first { (1 ≤ first) × (first ≤ 10000) }
+    requires most { (1 ≤ most) × (most ≤ 10000) }
+    ensures within { (1 ≤ result) × (result ≤ 10000) }
+    ensures again { 0 < events → result ≡ first }
+    ensures grown { events ≡ 0 → result ≡ min (most * 2) 10000 }
+{
+    if events > 0 {
+        first
+    } else {
+        (most * 2).min(LONGEST)
+    }
+}
+
+/// Runs a net in rounds until no event is enabled in it or its budget is spent. In each round a piece of
+/// work is given out of each process that has quiet steps to do, of at most `quantum` steps at first; at
+/// most as many threads as there are workers do the pieces, each behind the gate, and they are taken in
+/// one after another. Pieces grow while nothing but quiet steps happens.
+pub fn rounds<L: Local, G: Gate, R: Threads + Sync>(
+    rt: &R,
+    alloc: Global,
+    net: Net<L>,
+    workers: u32,
+    quantum: u64,
+    gate: &G,
+) -> Result<Net<L>, NoMemory>
+    requires workers { (1 ≤ workers) × (workers ≤ 16) }
+    requires quantum { (1 ≤ quantum) × (quantum ≤ 10000) }
+    ensures root { IfOk result (λ n. n.root ≡ net.root) }
+    ensures budget { IfOk result (λ n. n.budget ≡ net.budget) }
+    ensures stands { IfOk result (λ n. IsQuietNet L.ops n ⊎ IsSpentNet L.ops n) }
+    ensures keeps { IfOk result (λ n. IsNet L.ops n) }
+{
+    let mut net = net;
+    redo_all(&mut net)?;
+    settle_all(&mut net)?;
+    let mut most = quantum;
+    let mut round = 0u64;
+    while is_running(&net) {
+        turn(rt, alloc, &mut net, workers, most, round, gate)?;
+        let events = settle_all(&mut net)?;
+        most = next_most(quantum, most, events);
+        round = round.saturating_add(1);
+    }
+    Ok(net)
+}

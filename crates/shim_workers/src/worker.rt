@@ -1,0 +1,121 @@
+// A worker over a board.
+ghost use Rattle.std.specs.Prelude.{◌≡◌, ◌≤◌, ◌<◌};
+ghost use Rattle.shim_board.specs.Chairs.{HasSlot, StandsAs, slots_of};
+ghost use Rattle.shim_workers.specs.Workers.{HasTurn};
+
+use crate::gate::Gate;
+use crate::load::Load;
+use crate::pool::Pool;
+use crate::scheduling::{Found, NetBoard, NetChair, schedule};
+use shim_local::{Local, work};
+use std::sync::Wait;
+
+/// How many slots a board has for each worker: so many pieces can wait while it is at one.
+pub(crate) const SLOTS_EACH: u64 = 4;
+
+// Claims the piece of a slot, does it behind the gate, and gives it back. False where there is none.
+fn do_piece<L: Local, G: Gate>(
+    board: &NetBoard<L>,
+    chair: &mut NetChair<L>,
+    slot: u64,
+    gate: &G,
+) -> bool
+    requires chair { HasTurn 0 board.now chair.old }
+    requires slot { HasSlot board.now slot }
+    ensures turn { HasTurn 0 board.now chair.new }
+    ensures same { StandsAs chair.old chair.new }
+{
+    let Some(load) = board.claim(chair, slot) else {
+        return false;
+    };
+    let done = match load {
+        Load::Out(parcel) => {
+            gate.enter(parcel.pid, L::COMPILED);
+            Load::Back(work(parcel))
+        }
+        back => back,
+    };
+    board.give(chair, slot, done);
+    true
+}
+
+// Does a piece of any slot, and tries from this one on. False where there is none.
+fn do_any<L: Local, G: Gate>(
+    board: &NetBoard<L>,
+    chair: &mut NetChair<L>,
+    slots: u64,
+    first: u64,
+    gate: &G,
+) -> bool
+    requires chair { HasTurn 0 board.now chair.old }
+    requires slots { slots_of board.now ≡ slots }
+    ensures turn { HasTurn 0 board.now chair.new }
+    ensures same { StandsAs chair.old chair.new }
+{
+    for at in 0..slots {
+        if do_piece(board, chair, first.wrapping_add(at) % slots, gate) {
+            return true;
+        }
+    }
+    false
+}
+
+// Does a piece; where there is none, tries the turn.
+fn work_once<L: Local, G: Gate>(
+    board: &NetBoard<L>,
+    chair: &mut NetChair<L>,
+    slots: u64,
+    first: u64,
+    quantum: u64,
+    gate: &G,
+    pool: &Pool,
+) -> Found
+    requires chair { HasTurn 0 board.now chair.old }
+    requires slots { slots_of board.now ≡ slots }
+    requires quantum { 1 ≤ quantum }
+    ensures turn { HasTurn 0 board.now chair.new }
+    ensures same { StandsAs chair.old chair.new }
+{
+    if do_any(board, chair, slots, first, gate) {
+        return Found::Work;
+    }
+    match board.take_turn(chair) {
+        None => Found::Nothing,
+        Some(net) => schedule(board, chair, net, slots, quantum, pool),
+    }
+}
+
+/// Works until the run has come to its end or wants memory, and hands the chair back. Each worker begins
+/// its search for a piece at slots of its own.
+pub(crate) fn run_worker<L: Local, G: Gate, R: Wait>(
+    rt: &R,
+    board: &NetBoard<L>,
+    mut chair: NetChair<L>,
+    slots: u64,
+    quantum: u64,
+    gate: &G,
+    pool: &Pool,
+) -> NetChair<L>
+    requires chair { HasTurn 0 board.now chair }
+    requires slots { slots_of board.now ≡ slots }
+    requires quantum { 1 ≤ quantum }
+    ensures turn { HasTurn 0 board.now result }
+    ensures same { StandsAs chair result }
+{
+    let first = pool.begin().wrapping_mul(SLOTS_EACH);
+    let mut tries = 0u64;
+    for _ in rt.forever() {
+        if pool.wanted_memory() {
+            break;
+        }
+        match work_once(board, &mut chair, slots, first, quantum, gate, pool) {
+            Found::Work => tries = 0,
+            Found::Nothing => {
+                pool.back_off(rt, tries);
+                tries = tries.saturating_add(1);
+            }
+            Found::End => break,
+        }
+    }
+    chair
+}
