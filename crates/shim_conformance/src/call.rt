@@ -2,8 +2,10 @@
 use crate::case::Case;
 use shim_base::{List, Name, NoMemory};
 use shim_edge::{MemFiles, MemSink};
-use shim_tool::shim;
+use shim_tool::{NoOpGate, shim};
 use std::alloc::Global;
+use std::sync::Wait;
+use std::thread::Threads;
 
 // The most bytes that an answer has.
 const ROOM: usize = 1 << 20;
@@ -43,9 +45,15 @@ fn sink_of(alloc: Global, case: &Case) -> Result<MemSink, NoMemory> {
 }
 
 /// Calls the tool with these words, over the case's files.
-pub fn call(alloc: Global, case: &Case, words: &[String]) -> Result<Answer, NoMemory> {
+pub fn call<R: Threads + Wait + Sync>(
+    rt: &R,
+    alloc: Global,
+    case: &Case,
+    words: &[String],
+) -> Result<Answer, NoMemory> {
     let mut files = files_of(alloc, case)?;
     let mut sink = sink_of(alloc, case)?;
-    let status = shim(alloc, words, &mut files, &mut sink);
+    let gate = NoOpGate::new();
+    let status = shim(rt, alloc, words, &mut files, &mut sink, &gate);
     Ok(Answer { status, sink })
 }

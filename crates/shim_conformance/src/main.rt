@@ -13,6 +13,8 @@ mod words;
 
 use report::Report;
 use std::process::ExitCode;
+use std::sync::Wait;
+use std::thread::Threads;
 use std::{env, fs, io};
 
 // The names of what lies in this folder, in their order, which isn't that of the system.
@@ -34,18 +36,19 @@ fn names(rt: &HostRuntime) -> io::Result<Vec<String>> {
     }
 }
 
-fn report_all(rt: &HostRuntime) -> io::Result<bool> {
-    let names = names(rt)?;
-    let mut report = Report::new(rt.alloc());
+// Runs the cases of the files that the host has, on threads of the other runtime, which prints.
+fn report_all<R: Print + Threads + Wait + Sync>(host: &HostRuntime, rt: &R) -> io::Result<bool> {
+    let names = names(host)?;
+    let mut report = Report::new(host.alloc());
     for name in names.iter() {
-        let text = fs::read_to_string(rt, name.as_str());
+        let text = fs::read_to_string(host, name.as_str());
         report.add_file(rt, name.as_str(), text)?;
     }
     report.end(rt)
 }
 
 fn main(rt: HostRuntime) -> ExitCode {
-    match report_all(&rt) {
+    match report_all(&rt, &rt) {
         Ok(true) => ExitCode::SUCCESS,
         _ => ExitCode::FAILURE,
     }

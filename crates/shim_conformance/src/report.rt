@@ -7,6 +7,8 @@ use shim_base::NoMemory;
 use std::alloc::Global;
 use std::collections::BTreeSet;
 use std::io::{self, ErrorKind};
+use std::sync::Wait;
+use std::thread::Threads;
 
 /// The counts, and the titles of the cases that were read. The counts saturate.
 #[derive(Drop)]
@@ -69,14 +71,14 @@ fn no_memory(_error: NoMemory) -> io::Error {
 }
 
 // Makes one call. Where it differs it is shown, behind what is wanted if it is the first of its case.
-fn run_call(
-    rt: &impl Print,
+fn run_call<R: Print + Threads + Wait + Sync>(
+    rt: &R,
     alloc: Global,
     case: &Case,
     words: &[String],
     tally: Tally,
 ) -> io::Result<Tally> {
-    let answer = call(alloc, case, words).map_err(no_memory)?;
+    let answer = call(rt, alloc, case, words).map_err(no_memory)?;
     let is_right = answer.is_as_told(case);
     if !is_right {
         if tally.is_right() {
@@ -90,7 +92,7 @@ fn run_call(
 }
 
 // Makes the calls of a case.
-fn run_case(rt: &impl Print, alloc: Global, case: &Case) -> io::Result<Tally> {
+fn run_case<R: Print + Threads + Wait + Sync>(rt: &R, alloc: Global, case: &Case) -> io::Result<Tally> {
     let mut tally = Tally { made: 0, right: 0 };
     for line in case.lines.iter() {
         for number in 0..line.count() {
@@ -131,7 +133,12 @@ impl Report {
         println!(rt; "FAULT {}:{number}: {fault}", file.name)
     }
 
-    fn add_case(&mut self, rt: &impl Print, file: CaseFile, case: &Case) -> io::Result<()> {
+    fn add_case<R: Print + Threads + Wait + Sync>(
+        &mut self,
+        rt: &R,
+        file: CaseFile,
+        case: &Case,
+    ) -> io::Result<()> {
         let tally = run_case(rt, self.alloc, case)?;
         if tally.is_right() {
             self.passed = self.passed.saturating_add(1);
@@ -164,7 +171,12 @@ impl Report {
         Ok(case)
     }
 
-    fn add_lines(&mut self, rt: &impl Print, file: CaseFile, text: &str) -> io::Result<()> {
+    fn add_lines<R: Print + Threads + Wait + Sync>(
+        &mut self,
+        rt: &R,
+        file: CaseFile,
+        text: &str,
+    ) -> io::Result<()> {
         let mut reader = Reader::new(self.alloc);
         let mut number = 0usize;
         let mut is_empty = true;
@@ -187,9 +199,9 @@ impl Report {
     }
 
     /// Runs the cases of a file, or says why it has none.
-    pub fn add_file(
+    pub fn add_file<R: Print + Threads + Wait + Sync>(
         &mut self,
-        rt: &impl Print,
+        rt: &R,
         name: &str,
         text: io::Result<String>,
     ) -> io::Result<()> {

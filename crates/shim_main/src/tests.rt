@@ -4,13 +4,17 @@ ghost use Rattle.std.specs.Prelude.{◌<◌, ◌≤◌, length, ◌≡◌};
 use crate::status;
 use shim_base::{List, Name};
 use shim_edge::{HostFiles, MemFiles, MemSink};
-use shim_tool::shim;
+use shim_tool::{NoOpGate, shim};
 use std::alloc::{AllocError, Global};
-use std::fs;
 use std::io::{self, ErrorKind};
 use std::test::Fail;
+use std::{fs, str};
 
 const PUTS_A: &str = "void main(ostream &o) { int x; x = 65; put o, x; }";
+
+// A process that goes on for ever beside one that meets alone, three times.
+const GOES_ON: &str =
+    "void main() { int a; { while (1) { } } par { next a = 1; next a = 2; next a = 3; } }";
 
 const USAGE: &str =
     "usage: shim MODE FILE [--input FILE] [--workers N] [--budget B] [--quantum Q] [--size N]\n";
@@ -47,7 +51,10 @@ fn a_folder_is_no_source(rt: HostRuntime) -> Result<(), Fail> {
     let mut files = HostFiles::new(alloc, &rt);
     let mut out = sink(alloc, 1000, &[])?;
     let words = strings(alloc, &["shim", "run", "folder.shim"])?;
-    assert_eq!(rt; shim(alloc, &words, &mut files, &mut out), 6);
+    assert_eq!(rt;
+        shim(&rt, alloc, &words, &mut files, &mut out, &NoOpGate::new()),
+        6
+    );
     assert_eq!(rt; out.taken(), b"file failed folder.shim\n".as_slice());
     Ok(())
 }
@@ -61,9 +68,58 @@ fn words_that_could_not_be_had_ask_for_nothing(rt: HostRuntime) -> Result<(), Fa
     ] {
         let mut files = files(alloc, PUTS_A.as_bytes(), &[])?;
         let mut out = sink(alloc, 1000, &[])?;
-        let got = status(alloc, Err(io::Error::from(kind)), &mut files, &mut out);
+        let words = Err(io::Error::from(kind));
+        let got = status(&rt, alloc, words, &mut files, &mut out, &NoOpGate::new());
         assert_eq!(rt; got, wanted);
         assert_eq!(rt; out.taken(), text.as_bytes());
+    }
+    Ok(())
+}
+
+// The number behind the last space of a line; 0 where there is none.
+fn last_number(line: &str) -> u64 {
+    match line.rsplit_once(' ') {
+        Some((_, number)) => number.parse().unwrap_or(0),
+        None => 0,
+    }
+}
+
+// What the counts of steps and of other events in a report add up to.
+fn counted(report: &str) -> u64 {
+    let mut sum = 0u64;
+    for line in report.lines() {
+        if line.starts_with("steps ") || line.starts_with("events ") {
+            sum = sum.saturating_add(last_number(line));
+        }
+    }
+    sum
+}
+
+#[test]
+fn a_stopped_run_did_the_steps_of_its_budget(rt: HostRuntime) -> Result<(), Fail> {
+    let alloc = rt.alloc();
+    for (workers, quantum) in [("1", "1"), ("1", "10000"), ("3", "7"), ("16", "64")] {
+        let mut files = files(alloc, GOES_ON.as_bytes(), &[])?;
+        let mut out = sink(alloc, 1000, &[])?;
+        let words = strings(
+            alloc,
+            &[
+                "shim",
+                "run",
+                "p.shim",
+                "--budget",
+                "1000",
+                "--workers",
+                workers,
+                "--quantum",
+                quantum,
+            ],
+        )?;
+        let got = shim(&rt, alloc, &words, &mut files, &mut out, &NoOpGate::new());
+        assert_eq!(rt; got, 4);
+        let report = str::from_utf8(out.taken())?;
+        assert_eq!(rt; counted(report), 1000);
+        assert!(rt; report.ends_with("end spent 1000\n"));
     }
     Ok(())
 }

@@ -7,4 +7,5 @@ mod meaning;
 mod naming;
 mod run;
 
-pub use meaning::{reference, reference_from};
+pub use meaning::reference;
+pub use naming::named;

@@ -17,13 +17,13 @@ use shim_units::Accepted;
 use shim_walk::Walk;
 use std::alloc::Global;
 
-/// What is read off the tree of this root, of whatever kind it is, after at most `budget` events, each the
-/// first that is enabled. `throws` are the names behind the `throws` of `main`, in order: by one of them an
-/// exception that nobody caught is told. The root shares channels of its own alone.
-///
-/// It is told, too, that nothing can happen any more in that tree, or that just so many events led to it
-/// and one more can happen.
-pub fn reference_from<L: Local>(
+// What is read off the tree of this root, of whatever kind it is, after at most `budget` events, each the
+// first that is enabled. `throws` are the names behind the `throws` of `main`, in order: by one of them an
+// exception that nobody caught is told. The root shares channels of its own alone.
+//
+// It is told, too, that nothing can happen any more in that tree, or that just so many events led to it
+// and one more can happen.
+fn reference_from<L: Local>(
     alloc: Global,
     root: L,
     throws: &[u32],

@@ -1,4 +1,4 @@
--- What the status of a run tells of the tree to which it came.
+-- What the status of the meaning tells of the tree to which it came.
 use Rattle.std.proofs.Common.{◌≡◌, ◌≢◌, ◌↔◌, ℕ, zero, suc, ◌+◌, inl, inr, Bool, IsTrue, None, List, [], ◌∷◌, map, cond, refl, sym, ap, ◌∙◌, arith}
 use Rattle.std.specs.FinMap as finite
 use Rattle.shim_base.specs.Paths.{Path}
@@ -13,10 +13,12 @@ use Rattle.shim_semantics.specs.Walks.{walk, first, head}
 use Rattle.shim_semantics.specs.Endings.{ended, own_steps, is_empty, outcome, outcome_of_label, outcome_of_root}
 use Rattle.shim_reference.specs.Naming.{named, named_outcome}
 use Rattle.shim_reference.specs.Reference.{reference_of}
-use Rattle.shim_tool.specs.RunEnds.{Execution, tree_of, end_of, status_of, status_of_outcome, printed_steps, IsDone, IsFailed, IsBlocked, IsSpent, WasRun}
+use Rattle.shim_reference.specs.Runs.{IsEndOfRun}
+use Rattle.shim_tool.specs.RunEnds.{Execution, tree_of, end_of, status_of, status_of_outcome, printed_steps, IsDone, IsFailed, IsBlocked, IsSpent}
+use Rattle.shim_tool.proofs.MeaningEnds.{was_run}
 
 -- a name in a label's place changes no status
-status_named : (throws : List ℕ) (e : Outcome) → status_of_outcome (named_outcome throws e) ≡ status_of_outcome e
+pub status_named : (throws : List ℕ) (e : Outcome) → status_of_outcome (named_outcome throws e) ≡ status_of_outcome e
 status_named throws Done = refl
 status_named throws (Uncaught label) = refl
 status_named throws Trapped = refl
@@ -38,7 +40,7 @@ told : {S : Type 0} (o : Ops S) (throws : List ℕ) (t : Tree S) → (named thro
 unfolding ended
 told o throws t = refl
 
--- the status of a run tells the outcome of its tree
+-- the status of the meaning tells the outcome of its tree
 status_told : (x : Execution) → status_of x ≡ status_of_outcome (outcome process_ops (tree_of x).root)
 unfolding end_of reference_of tree_of
 status_told x =
@@ -86,22 +88,22 @@ never_spent (Forked l ks) e = omega (arith, e)
 never_spent (Ended l) e = omega (arith, e)
 never_spent (Dead l d) e = let one = dead_status d.label in omega (arith, e, one)
 
--- of a run that was done the status comes exactly where this is so
+-- the status comes exactly where this is so
 pub record Tells (status : ℕ) (Cause : Execution → Type 0) : Type 0 where
-  pub only : (x : Execution) → WasRun x → status_of x ≡ status → Cause x
-  pub when : (x : Execution) → WasRun x → Cause x → status_of x ≡ status
+  pub only : (x : Execution) → status_of x ≡ status → Cause x
+  pub when : (x : Execution) → Cause x → status_of x ≡ status
 
 -- nothing can happen any more, and the root is of this kind
 abbrev RestsSo : (Node LocalState → Bool) → Execution → Type 0
 RestsSo kind x = IsQuiescent process_ops (tree_of x) × IsTrue (kind (tree_of x).root)
 
 rest_tells : (status : ℕ) (kind : Node LocalState → Bool) → (status ≡ 4 → ⊥) → ((n : Node LocalState) → IsTrue (kind n) ↔ (status_of_outcome (outcome_of_root n) ≡ status)) → Tells status (RestsSo kind)
-rest_tells status kind apart tells = record { only = λ x ran is. only x ran is; when = λ x ran cause. when x ran cause } where
-  only : (x : Execution) → WasRun x → status_of x ≡ status → RestsSo kind x
+rest_tells status kind apart tells = record { only = λ x is. only x (was_run x) is; when = λ x cause. when x (was_run x) cause } where
+  only : (x : Execution) → IsEndOfRun process_ops x.budget (tree_of x) → status_of x ≡ status → RestsSo kind x
   only x (inl (none, quiet)) is = (quiet, (tells (tree_of x).root).1 (sym (status_at_rest x none) ∙ is))
   only x (inr (some, busy, full)) is = absurd (apart (sym is ∙ status_stopped x some))
 
-  when : (x : Execution) → WasRun x → RestsSo kind x → status_of x ≡ status
+  when : (x : Execution) → IsEndOfRun process_ops x.budget (tree_of x) → RestsSo kind x → status_of x ≡ status
   when x (inl (none, quiet)) cause = status_at_rest x none ∙ (tells (tree_of x).root).0 cause.1
   when x (inr (some, busy, full)) cause = absurd (busy cause.0)
 
@@ -115,12 +117,12 @@ pub tells_blocked : Tells 3 IsBlocked
 tells_blocked = rest_tells 3 goes (λ e. omega (arith, e)) root_goes
 
 pub tells_spent : Tells 4 IsSpent
-tells_spent = record { only = λ x ran is. only x ran is; when = λ x ran cause. when x ran cause } where
-  only : (x : Execution) → WasRun x → status_of x ≡ 4 → IsSpent x
+tells_spent = record { only = λ x is. only x (was_run x) is; when = λ x cause. when x (was_run x) cause } where
+  only : (x : Execution) → IsEndOfRun process_ops x.budget (tree_of x) → status_of x ≡ 4 → IsSpent x
   only x (inl (none, quiet)) is = absurd (never_spent (tree_of x).root (sym (status_at_rest x none) ∙ is))
   only x (inr (some, busy, full)) is = busy
 
-  when : (x : Execution) → WasRun x → IsSpent x → status_of x ≡ 4
+  when : (x : Execution) → IsEndOfRun process_ops x.budget (tree_of x) → IsSpent x → status_of x ≡ 4
   when x (inl (none, quiet)) cause = absurd (cause quiet)
   when x (inr (some, busy, full)) cause = status_stopped x some
 
@@ -130,16 +132,19 @@ counts_of [] = refl
 counts_of (e ∷ es) = ap (λ (ns : List ℕ). e.1 ∷ ns) (counts_of es)
 
 -- so they add up to its steps
-printed : {S : Type 0} (o : Ops S) (throws : List ℕ) (t : Tree S) → printed_steps (named throws (ended o t)) ≡ steps t
+pub printed : {S : Type 0} (o : Ops S) (throws : List ℕ) (t : Tree S) → printed_steps (named throws (ended o t)) ≡ steps t
 unfolding ended
 printed o throws t = ap (λ (ns : List ℕ). sum ns + t.events) (counts_of (finite.entries t.counts))
 
--- a run that was stopped did as many events as the budget has
-pub spent_steps : (x : Execution) → WasRun x → status_of x ≡ 4 → steps (tree_of x) ≡ x.budget
-spent_steps x (inl (none, quiet)) is = absurd (never_spent (tree_of x).root (sym (status_at_rest x none) ∙ is))
-spent_steps x (inr (some, busy, full)) is = full
+-- where the meaning is stopped, it did as many events as the budget has
+pub spent_steps : (x : Execution) → status_of x ≡ 4 → steps (tree_of x) ≡ x.budget
+spent_steps x is = full (was_run x)
+  where
+    full : IsEndOfRun process_ops x.budget (tree_of x) → steps (tree_of x) ≡ x.budget
+    full (inl (none, quiet)) = absurd (never_spent (tree_of x).root (sym (status_at_rest x none) ∙ is))
+    full (inr (some, busy, n)) = n
 
--- and those of a run that was stopped to the budget
-pub spent_counts : (x : Execution) → WasRun x → status_of x ≡ 4 → printed_steps (end_of x) ≡ x.budget
+-- and those of a meaning that is stopped to the budget
+pub spent_counts : (x : Execution) → status_of x ≡ 4 → printed_steps (end_of x) ≡ x.budget
 unfolding end_of reference_of tree_of
-spent_counts x was_run is = printed process_ops x.source.main_throws (tree_of x) ∙ spent_steps x was_run is
+spent_counts x is = printed process_ops x.source.main_throws (tree_of x) ∙ spent_steps x is

@@ -1,6 +1,8 @@
 -- The lemmas of this crate, one module for each subject.
 pub mod ExecuteLemmas
+pub mod MeaningEnds
 pub mod Causes
+pub mod NetEnds
 pub mod Outcomes
 pub mod Reached
 pub mod RowLemmas

@@ -8,7 +8,7 @@ use Rattle.shim_semantics.specs.Trees.{Tree, Event, after, start, steps}
 use Rattle.shim_semantics.specs.Walks.{first, after_first, or_stay, meaning}
 use Rattle.shim_semantics.proofs.Counting.{event_counts, none_counted}
 use Rattle.shim_reference.specs.Reference.{meaning_of}
-use Rattle.shim_tool.specs.RunEnds.{Execution, tree_of, status_of, IsReachedIn, WasRun}
+use Rattle.shim_tool.specs.RunEnds.{Execution, tree_of, status_of, IsReachedIn}
 use Rattle.shim_tool.proofs.Causes.{spent_steps}
 
 -- a run of at most so many events leads from the first tree to the second, and counts them
@@ -47,8 +47,8 @@ pub is_reached : (x : Execution) → (n : ℕ) × (n ≤ x.budget) × IsReachedI
 is_reached x = let w = tree_reached x in (length w.0, w.3, (w.0, w.1, refl))
 
 -- and where it was stopped, by as many events as the budget has
-pub is_reached_whole : (x : Execution) → WasRun x → status_of x ≡ 4 → IsReachedIn x.budget x
-is_reached_whole x was_run is = whole (tree_reached x) (spent_steps x was_run is)
+pub is_reached_whole : (x : Execution) → status_of x ≡ 4 → IsReachedIn x.budget x
+is_reached_whole x is = whole (tree_reached x) (spent_steps x is)
   where
     whole : Reaches process_ops x.budget (start (root x.source x.input)) (tree_of x) → steps (tree_of x) ≡ x.budget → IsReachedIn x.budget x
     whole (es, leads, counts, few) full = (es, leads, omega (arith, counts, full, none_counted (root x.source x.input) (start (root x.source x.input)) refl))

@@ -7,13 +7,15 @@ use Rattle.shim_local.specs.declared.Outcome.TheVariants.{Done, Uncaught, Trappe
 use Rattle.shim_front_end.specs.Source.{Source, IsSource}
 use Rattle.shim_command.specs.declared.job.Job.{Job}
 use Rattle.shim_tool.specs.Moments.{FilesAt, SinkAt}
-use Rattle.shim_tool.specs.RunEnds.{Execution, status_of_outcome, end_of, printed_steps, IsReachedIn}
+use Rattle.shim_local.specs.declared.Ended.{Ended}
+use Rattle.shim_tool.specs.RunEnds.{Execution, Course, by_first_events, in_some_order, status_of, status_of_outcome, end_of, printed_steps, IsReachedIn, IsSpent, IsStoppedEnd, as_meant, stopped}
 use Rattle.shim_tool.specs.Modes.{Deed, Reading, runs, tells, deed_of, reads_of, source_text}
 use Rattle.shim_tool.specs.Reads.{AreContents, HoldsAll, HoldsUpTo, Holds, OneReadFailed, Saw, all, longer_file, unread_file}
-use Rattle.shim_tool.specs.Answer.{Answer, Answers, AnswersGathered, FailedGrew, MayAnswer, IsNoSource, WasDone, gathered, status_by, text_by, longer_line, memory_line, usage_line}
+use Rattle.shim_tool.specs.Answer.{Answer, Answers, AnswersGathered, AnswersUnits, FailedGrew, MayAnswer, IsNoSource, IsStoppedBy, gathered, status_by, text_by, text_with, longer_line, memory_line, usage_line}
 use Rattle.shim_tool.specs.Call.{Ran, Writes}
-use Rattle.shim_tool.specs.Rows.{Came, Comes, ComesUnlessUnread, WasRead, EndsBy, IsReached, IsRefusal, execution, EndRow, CountRow, RefusedRow, FileCause, FileRow, SinkRow, MemoryRow, WordsRow, FilesRow, IsComplete}
-use Rattle.shim_tool.proofs.Causes.{Tells, spent_counts}
+use Rattle.shim_tool.specs.Rows.{Came, Comes, ComesUnlessUnread, WasRead, EndsBy, IsReached, IsRefusal, execution, CameStopped, EndRow, SpentRow, CountRow, RefusedRow, FileCause, FileRow, SinkRow, MemoryRow, WordsRow, FilesRow, IsComplete}
+use Rattle.shim_process.specs.Ops.{process_ops}
+use Rattle.shim_tool.proofs.Causes.{Tells, tells_spent, printed, spent_counts}
 use Rattle.shim_tool.proofs.Reached.{is_reached, is_reached_whole}
 use Rattle.shim_tool.proofs.Outcomes.{Outcome, does, refuses, outcome}
 use Rattle.shim_tool.proofs.Joins.{looks_grew}
@@ -78,26 +80,48 @@ end_below Blocked = omega arith
 end_below Spent = omega arith
 
 deed_below : (deed : Deed) (x : Execution) → status_by deed x < 5
-deed_below (runs text) x = end_below (end_of x).outcome
+deed_below (runs course text) x = end_below (end_of x).outcome
 deed_below (tells text) x = omega arith
 
--- a source's deed was done, and its text answered with its status
-ended_with : (job : Job) (contents : List (List ℕ)) (source : Source) (answer : Answer) (ob on : SinkAt) (result : ℕ) → IsSource (source_text job contents) source → OutcomeOf job contents answer →
-    Came answer.status answer.text ob on result
-    → WasDone (deed_of job) (execution job contents source) × Came (status_by (deed_of job) (execution job contents source)) (text_by (deed_of job) (execution job contents source)) ob on result
-ended_with job contents source answer ob on result has (does other is_other done only free is) came =
-    let same : source ≡ other = only source has in
-    let x = execution job contents in
-    let text : answer.text ≡ text_by (deed_of job) (x source) = ap (λ (a : Answer). a.text) is ∙ sym (ap (λ (b : Source). text_by (deed_of job) (x b)) same) in
-    let status : answer.status ≡ status_by (deed_of job) (x source) = ap (λ (a : Answer). a.status) is ∙ sym (ap (λ (b : Source). status_by (deed_of job) (x b)) same) in
-    let P : Source → Type 0 = λ b. WasDone (deed_of job) (x b) in
-    (subst P (sym same) done, (came.0 ∙ status, came.1 ∙ ap (λ (t : List ℕ). then_bytes ob.taken t) text))
-ended_with job contents source answer ob on result has (refuses line why only none is) came = absurd (none source has)
+-- the source is one, so what is answered to it is answered to this one
+units_of : (job : Job) (contents : List (List ℕ)) (source : Source) (answer : Answer) → IsSource (source_text job contents) source → OutcomeOf job contents answer
+    → AnswersUnits (deed_of job) (execution job contents source) answer
+units_of job contents source answer has (does other is_other told only free) =
+    let P : Source → Type 0 = λ b. AnswersUnits (deed_of job) (execution job contents b) answer in
+    subst P (sym (only source has)) told
+units_of job contents source answer has (refuses line why only none is) = absurd (none source has)
+
+-- the status that is answered tells how the meaning ended
+status_answered : (deed : Deed) (x : Execution) (answer : Answer) → AnswersUnits deed x answer → answer.status ≡ status_by deed x
+status_answered (runs course text) x answer (e, as_meant apart same, is) = ap (λ (a : Answer). a.status) is ∙ ap (λ (y : Ended). status_of_outcome y.outcome) same
+status_answered (runs course text) x answer (e, stopped four may told, is) = ap (λ (a : Answer). a.status) is ∙ (told ∙ sym four)
+status_answered (tells text) x answer is = ap (λ (a : Answer). a.status) is
+
+-- and the text is that of the meaning, unless this is stopped
+text_answered : (deed : Deed) (x : Execution) (answer : Answer) → AnswersUnits deed x answer → (status_by deed x ≡ 4 → ⊥) → answer.text ≡ text_by deed x
+text_answered (runs course text) x answer (e, as_meant apart same, is) whole = ap (λ (a : Answer). a.text) is ∙ ap (λ (y : Ended). text x.source y) same
+text_answered (runs course text) x answer (e, stopped four may told, is) whole = absurd (whole four)
+text_answered (tells text) x answer is whole = ap (λ (a : Answer). a.text) is
+
+-- where it is, some stopped run is told
+stopped_answered : (deed : Deed) (x : Execution) (answer : Answer) → AnswersUnits deed x answer → status_by deed x ≡ 4 → (e : Ended) × IsStoppedBy deed x e × (answer.text ≡ text_with deed x e)
+stopped_answered (runs course text) x answer (e, as_meant apart same, is) four = absurd (apart four)
+stopped_answered (runs course text) x answer (e, stopped _ may told, is) four = (e, may, ap (λ (a : Answer). a.text) is)
+stopped_answered (tells text) x answer is four = absurd (omega (arith, four))
+
+-- the counts of a stopped run add up to the budget
+stopped_counts : (course : Course) (x : Execution) (e : Ended) → status_of x ≡ 4 → IsStoppedEnd course x e → printed_steps e ≡ x.budget
+stopped_counts by_first_events x e four same = ap printed_steps same ∙ spent_counts x four
+stopped_counts in_some_order x e four (t, at, same) = ap printed_steps same ∙ (printed process_ops x.source.main_throws t ∙ at.counted)
+
+deed_counts : (deed : Deed) (x : Execution) (e : Ended) → status_by deed x ≡ 4 → IsStoppedBy deed x e → printed_steps e ≡ x.budget
+deed_counts (runs course text) x e four may = stopped_counts course x e four may
+deed_counts (tells text) x e four may = absurd may
 
 -- a refusal's line was written with 5
 refused_with : (job : Job) (contents : List (List ℕ)) (line : List ℕ) (answer : Answer) (ob on : SinkAt) (result : ℕ) → IsRefusal (source_text job contents) line → OutcomeOf job contents answer →
     Came answer.status answer.text ob on result → Came 5 line ob on result
-refused_with job contents line answer ob on result why (does source has done only free is) came = absurd (free line why)
+refused_with job contents line answer ob on result why (does source has told only free) came = absurd (free line why)
 refused_with job contents line answer ob on result why (refuses other cause only none is) came =
     let text : answer.text ≡ line = ap (λ (a : Answer). a.text) is ∙ sym (only line why) in
     (came.0 ∙ ap (λ (a : Answer). a.status) is, came.1 ∙ ap (λ (t : List ℕ). then_bytes ob.taken t) text)
@@ -105,32 +129,22 @@ refused_with job contents line answer ob on result why (refuses other cause only
 -- bytes that are no source are refused with some line
 refused_somehow : (job : Job) (contents : List (List ℕ)) (answer : Answer) (ob on : SinkAt) (result : ℕ) → IsNoSource (source_text job contents) → OutcomeOf job contents answer →
     Came answer.status answer.text ob on result → (line : List ℕ) × IsRefusal (source_text job contents) line × Came 5 line ob on result
-refused_somehow job contents answer ob on result none (does source has done only free is) came = absurd (none source has)
+refused_somehow job contents answer ob on result none (does source has told only free) came = absurd (none source has)
 refused_somehow job contents answer ob on result none (refuses line why only _ is) came =
     (line, why, (came.0 ∙ ap (λ (a : Answer). a.status) is, came.1 ∙ ap (λ (a : Answer). then_bytes ob.taken a.text) is))
 
 -- what is told where the status of a deed came
 abbrev EndedSo : ℕ → FilesAt → FilesAt → SinkAt → SinkAt → Option Job → Type 0
-EndedSo status before now ob on a = (now.failed ≡ before.failed) × (job : Job) × (contents : List (List ℕ)) × (source : Source) × WasRead a job before contents × IsSource (source_text job contents) source
-    × WasDone (deed_of job) (execution job contents source) × (status_by (deed_of job) (execution job contents source) ≡ status)
-    × (on.taken ≡ then_bytes ob.taken (text_by (deed_of job) (execution job contents source)))
+EndedSo status before now ob on a = (now.failed ≡ before.failed) × (job : Job) × (contents : List (List ℕ)) × (source : Source) × (answer : Answer) × WasRead a job before contents
+    × IsSource (source_text job contents) source × AnswersUnits (deed_of job) (execution job contents source) answer × (answer.status ≡ status) × (on.taken ≡ then_bytes ob.taken answer.text)
 
 -- the status of a deed comes of a deed alone
 ended_so : (status : ℕ) → status < 5 → (status ≡ 2 → ⊥) → (ask : Option Job) (before now : FilesAt) (ob on : SinkAt) (result : ℕ) → Ran ask before now ob on result → result ≡ status → EndedSo status before now ob on ask
 ended_so status few apart ask before now ob on result ran came_so = by_wrote ask (wrote ask before now ob on result ran) came_so where
   by_source : (job : Job) (contents : List (List ℕ)) (answer : Answer) → now.failed ≡ before.failed → AreContents before.held (reads_of job) contents → OutcomeOf job contents answer
       → Came answer.status answer.text ob on result → result ≡ status → EndedSo status before now ob on (Some job)
-  by_source job contents answer same are (does source has done only free is) came ends = (
-    same,
-    job,
-    contents,
-    source,
-    record { asked = refl; read = are },
-    has,
-    done,
-    sym (ap (λ (a : Answer). a.status) is) ∙ (sym came.0 ∙ ends),
-    came.1 ∙ ap (λ (a : Answer). then_bytes ob.taken a.text) is,
-  )
+  by_source job contents answer same are (does source has told only free) came ends =
+      (same, job, contents, source, answer, record { asked = refl; read = are }, has, told, sym came.0 ∙ ends, came.1)
   by_source job contents answer same are (refuses line why only none is) came ends = absurd (let e : answer.status ≡ 5 = ap (λ (a : Answer). a.status) is in omega (arith, e, came.0, ends, few))
 
   by_saw : (job : Job) (answer : Answer) (saw : Saw) → WasSeen (reads_of job) before now saw → AnswersGathered job (gathered job saw) answer → Came answer.status answer.text ob on result → result ≡ status
@@ -145,26 +159,26 @@ ended_so status few apart ask before now ob on result ran came_so = by_wrote ask
   by_wrote None (answered answer (same, is) came) ends = absurd (apart (let e : answer.status ≡ 2 = ap (λ (a : Answer). a.status) is in omega (arith, e, came.0, ends)))
   by_wrote (Some job) (answered answer (saw, looks, is) came) ends = by_saw job answer saw (was_seen (reads_of job) before now saw looks) is came ends
 
--- what a status tells of what was done
-ends_by : (status : ℕ) (Cause : Execution → Type 0) → Tells status Cause → (deed : Deed) (x : Execution) → WasDone deed x → status_by deed x ≡ status → EndsBy status Cause deed x
-ends_by status Cause tell (runs text) x done e = tell.only x done e
-ends_by status Cause tell (tells text) x done e = sym e
+-- what a status tells of the meaning
+ends_by : (status : ℕ) (Cause : Execution → Type 0) → Tells status Cause → (deed : Deed) (x : Execution) → status_by deed x ≡ status → EndsBy status Cause deed x
+ends_by status Cause tell (runs course text) x e = tell.only x e
+ends_by status Cause tell (tells text) x e = sym e
 
-status_is : (status : ℕ) (Cause : Execution → Type 0) → Tells status Cause → (deed : Deed) (x : Execution) → WasDone deed x → EndsBy status Cause deed x → status_by deed x ≡ status
-status_is status Cause tell (runs text) x done cause = tell.when x done cause
-status_is status Cause tell (tells text) x done cause = sym cause
+status_is : (status : ℕ) (Cause : Execution → Type 0) → Tells status Cause → (deed : Deed) (x : Execution) → EndsBy status Cause deed x → status_by deed x ≡ status
+status_is status Cause tell (runs course text) x cause = tell.when x cause
+status_is status Cause tell (tells text) x cause = sym cause
 
 deed_reached : (deed : Deed) (x : Execution) → IsReached deed x
-deed_reached (runs text) x = is_reached x
+deed_reached (runs course text) x = is_reached x
 deed_reached (tells text) x = tt
 
-deed_spent : (deed : Deed) (x : Execution) → WasDone deed x → status_by deed x ≡ 4 → IsReachedIn x.budget x × (printed_steps (end_of x) ≡ x.budget)
-deed_spent (runs text) x done four = (is_reached_whole x done four, spent_counts x done four)
-deed_spent (tells text) x done four = absurd (omega (arith, four))
+deed_spent : (deed : Deed) (x : Execution) → status_by deed x ≡ 4 → IsReachedIn x.budget x
+deed_spent (runs course text) x four = is_reached_whole x four
+deed_spent (tells text) x four = absurd (omega (arith, four))
 
-pub end_row : (status : ℕ) (Cause : Execution → Type 0) → Tells status Cause → status < 5 → (status ≡ 2 → ⊥) → (ask : Option Job) (before now : FilesAt) (ob on : SinkAt) (result : ℕ) → Ran ask before now ob on result
-    → EndRow status Cause ask before now ob on result
-end_row status Cause tell few apart ask before now ob on result ran = record {
+pub end_row : (status : ℕ) (Cause : Execution → Type 0) → Tells status Cause → status < 5 → (status ≡ 2 → ⊥) → (status ≡ 4 → ⊥) → (ask : Option Job) (before now : FilesAt) (ob on : SinkAt) (result : ℕ)
+    → Ran ask before now ob on result → EndRow status Cause ask before now ob on result
+end_row status Cause tell few apart whole ask before now ob on result ran = record {
   only = λ is. only (ended_so status few apart ask before now ob on result ran is);
   when = λ job contents source asks h has cause. when job contents source has cause (came_of ask job contents before now ob on result ran asks h);
 } where
@@ -172,29 +186,70 @@ end_row status Cause tell few apart ask before now ob on result ran = record {
       → (now.failed ≡ before.failed) × (job : Job) × (contents : List (List ℕ)) × (source : Source) × WasRead ask job before contents × IsSource (source_text job contents) source
       × EndsBy status Cause (deed_of job) (execution job contents source) × IsReached (deed_of job) (execution job contents source)
       × (status_by (deed_of job) (execution job contents source) ≡ status) × (on.taken ≡ then_bytes ob.taken (text_by (deed_of job) (execution job contents source)))
-  only (same, job, contents, source, read, has, done, ends, taken) =
-      (same, job, contents, source, read, has, ends_by status Cause tell (deed_of job) (execution job contents source) done ends, deed_reached (deed_of job) (execution job contents source), ends, taken)
+  only (same, job, contents, source, answer, read, has, told, ends, taken) =
+      let deed = deed_of job in
+      let x = execution job contents source in
+      let is : status_by deed x ≡ status = sym (status_answered deed x answer told) ∙ ends in
+      let text : answer.text ≡ text_by deed x = text_answered deed x answer told (λ four. whole (sym is ∙ four)) in
+      (same, job, contents, source, read, has, ends_by status Cause tell deed x is, deed_reached deed x, is, taken ∙ ap (λ (t : List ℕ). then_bytes ob.taken t) text)
 
-  comes : (job : Job) (contents : List (List ℕ)) (source : Source) → EndsBy status Cause (deed_of job) (execution job contents source)
-      → WasDone (deed_of job) (execution job contents source) × Came (status_by (deed_of job) (execution job contents source)) (text_by (deed_of job) (execution job contents source)) ob on result
-      → Came status (text_by (deed_of job) (execution job contents source)) ob on result
-  comes job contents source cause (done, came) = (came.0 ∙ status_is status Cause tell (deed_of job) (execution job contents source) done cause, came.1)
+  comes : (deed : Deed) (x : Execution) (answer : Answer) → EndsBy status Cause deed x → AnswersUnits deed x answer → Came answer.status answer.text ob on result → Came status (text_by deed x) ob on result
+  comes deed x answer cause told came =
+      let is : status_by deed x ≡ status = status_is status Cause tell deed x cause in
+      let text : answer.text ≡ text_by deed x = text_answered deed x answer told (λ four. whole (sym is ∙ four)) in
+      (came.0 ∙ (status_answered deed x answer told ∙ is), came.1 ∙ ap (λ (t : List ℕ). then_bytes ob.taken t) text)
 
   when : (job : Job) (contents : List (List ℕ)) (source : Source) → IsSource (source_text job contents) source → EndsBy status Cause (deed_of job) (execution job contents source)
       → CameOf job contents before now ob on result → ComesUnlessUnread status (text_by (deed_of job) (execution job contents source)) job before now ob on result
-  when job contents source has cause (of_source answer is came) = inl (inl (comes job contents source cause (ended_with job contents source answer ob on result has is came)))
+  when job contents source has cause (of_source answer is came) = inl (inl (comes (deed_of job) (execution job contents source) answer cause (units_of job contents source answer has is) came))
   when job contents source has cause (unreadable is read) = inr (is, read)
   when job contents source has cause (wanting is) = inl (inr (inr is))
   when job contents source has cause (unwritten is rose) = inl (inr (inl is))
 
+pub spent_row : (ask : Option Job) (before now : FilesAt) (ob on : SinkAt) (result : ℕ) → Ran ask before now ob on result → SpentRow ask before now ob on result
+spent_row ask before now ob on result ran = record {
+  only = λ is. only (ended_so 4 (omega arith) (λ e. omega (arith, e)) ask before now ob on result ran is) is;
+  when = λ job contents source asks h has cause. when job contents source has cause (came_of ask job contents before now ob on result ran asks h);
+} where
+  came_stopped : (deed : Deed) (x : Execution) (answer : Answer) → AnswersUnits deed x answer → status_by deed x ≡ 4 → result ≡ 4 → on.taken ≡ then_bytes ob.taken answer.text → CameStopped deed x ob on result
+  came_stopped deed x answer told four is taken =
+      let s = stopped_answered deed x answer told four in
+      (s.0, s.1, (is, taken ∙ ap (λ (t : List ℕ). then_bytes ob.taken t) s.2))
+
+  only : EndedSo 4 before now ob on ask → result ≡ 4
+      → (now.failed ≡ before.failed) × (job : Job) × (contents : List (List ℕ)) × (source : Source) × WasRead ask job before contents × IsSource (source_text job contents) source
+      × EndsBy 4 IsSpent (deed_of job) (execution job contents source) × IsReached (deed_of job) (execution job contents source)
+      × (status_by (deed_of job) (execution job contents source) ≡ 4) × CameStopped (deed_of job) (execution job contents source) ob on result
+  only (same, job, contents, source, answer, read, has, told, ends, taken) is =
+      let deed = deed_of job in
+      let x = execution job contents source in
+      let four : status_by deed x ≡ 4 = sym (status_answered deed x answer told) ∙ ends in
+      (same, job, contents, source, read, has, ends_by 4 IsSpent tells_spent deed x four, deed_reached deed x, four, came_stopped deed x answer told four is taken)
+
+  comes : (deed : Deed) (x : Execution) (answer : Answer) → EndsBy 4 IsSpent deed x → AnswersUnits deed x answer → Came answer.status answer.text ob on result → CameStopped deed x ob on result
+  comes deed x answer cause told came =
+      let four : status_by deed x ≡ 4 = status_is 4 IsSpent tells_spent deed x cause in
+      came_stopped deed x answer told four (came.0 ∙ (status_answered deed x answer told ∙ four)) came.1
+
+  when : (job : Job) (contents : List (List ℕ)) (source : Source) → IsSource (source_text job contents) source → EndsBy 4 IsSpent (deed_of job) (execution job contents source)
+      → CameOf job contents before now ob on result
+      → CameStopped (deed_of job) (execution job contents source) ob on result ⊎ (result ≡ 7) ⊎ (result ≡ 8) ⊎ ((result ≡ 6) × OneReadFailed (reads_of job) before now)
+  when job contents source has cause (of_source answer is came) = inl (comes (deed_of job) (execution job contents source) answer cause (units_of job contents source answer has is) came)
+  when job contents source has cause (unreadable is read) = inr (inr (inr (is, read)))
+  when job contents source has cause (wanting is) = inr (inr (inl is))
+  when job contents source has cause (unwritten is rose) = inr (inl is)
+
 pub count_row : (ask : Option Job) (before now : FilesAt) (ob on : SinkAt) (result : ℕ) → Ran ask before now ob on result → CountRow ask before ob on result
-count_row ask before now ob on result ran four = counts (ended_so 4 (omega arith) (λ e. omega (arith, e)) ask before now ob on result ran four) where
+count_row ask before now ob on result ran is = counts (ended_so 4 (omega arith) (λ e. omega (arith, e)) ask before now ob on result ran is) where
   counts : EndedSo 4 before now ob on ask → (job : Job) × (contents : List (List ℕ)) × (source : Source) × WasRead ask job before contents × IsSource (source_text job contents) source
-      × (on.taken ≡ then_bytes ob.taken (text_by (deed_of job) (execution job contents source))) × IsReachedIn job.budget (execution job contents source)
-      × (printed_steps (end_of (execution job contents source)) ≡ job.budget)
-  counts (same, job, contents, source, read, has, done, ends, taken) =
-      let spent = deed_spent (deed_of job) (execution job contents source) done ends in
-      (job, contents, source, read, has, taken, spent.0, spent.1)
+      × IsReachedIn job.budget (execution job contents source) × (e : Ended) × IsStoppedBy (deed_of job) (execution job contents source) e × (printed_steps e ≡ job.budget)
+      × (on.taken ≡ then_bytes ob.taken (text_with (deed_of job) (execution job contents source) e))
+  counts (same, job, contents, source, answer, read, has, told, ends, taken) =
+      let deed = deed_of job in
+      let x = execution job contents source in
+      let four : status_by deed x ≡ 4 = sym (status_answered deed x answer told) ∙ ends in
+      let s = stopped_answered deed x answer told four in
+      (job, contents, source, read, has, deed_spent deed x four, s.0, s.1, deed_counts deed x s.0 four s.1, taken ∙ ap (λ (t : List ℕ). then_bytes ob.taken t) s.2)
 
 -- what is told where a source was refused
 abbrev RefusedSo : FilesAt → FilesAt → SinkAt → SinkAt → Option Job → Type 0
@@ -222,9 +277,9 @@ refused_row ask before now ob on result ran = record {
 
   by_source : (job : Job) (contents : List (List ℕ)) (answer : Answer) → now.failed ≡ before.failed → AreContents before.held (reads_of job) contents → OutcomeOf job contents answer
       → Came answer.status answer.text ob on result → result ≡ 5 → RefusedSo before now ob on (Some job)
-  by_source job contents answer same are (does source has done only free is) came five =
+  by_source job contents answer same are (does source has told only free) came five =
       let x = execution job contents source in
-      absurd (let e : answer.status ≡ status_by (deed_of job) x = ap (λ (a : Answer). a.status) is in omega (arith, e, came.0, five, deed_below (deed_of job) x))
+      absurd (let e : answer.status ≡ status_by (deed_of job) x = status_answered (deed_of job) x answer told in omega (arith, e, came.0, five, deed_below (deed_of job) x))
   by_source job contents answer same are (refuses line why only none is) came five =
       (same, job, contents, line, record { asked = refl; read = are }, none, why, came.1 ∙ ap (λ (a : Answer). then_bytes ob.taken a.text) is)
 
@@ -250,9 +305,9 @@ file_row ask before now ob on result ran = record {
   when = λ job r bytes asks up h over. when job r bytes up h over (ran_job ask job before now ob on result ran asks);
 } where
   by_source : (job : Job) (contents : List (List ℕ)) (answer : Answer) → OutcomeOf job contents answer → Came answer.status answer.text ob on result → result ≡ 6 → FileCause (Some job) before now ob on
-  by_source job contents answer (does source has done only free is) came six =
+  by_source job contents answer (does source has told only free) came six =
       let x = execution job contents source in
-      absurd (let e : answer.status ≡ status_by (deed_of job) x = ap (λ (a : Answer). a.status) is in omega (arith, e, came.0, six, deed_below (deed_of job) x))
+      absurd (let e : answer.status ≡ status_by (deed_of job) x = status_answered (deed_of job) x answer told in omega (arith, e, came.0, six, deed_below (deed_of job) x))
   by_source job contents answer (refuses line why only none is) came six = absurd (let e : answer.status ≡ 5 = ap (λ (a : Answer). a.status) is in omega (arith, e, came.0, six))
 
   by_saw : (job : Job) (answer : Answer) (saw : Saw) → WasSeen (reads_of job) before now saw → AnswersGathered job (gathered job saw) answer → Came answer.status answer.text ob on result → result ≡ 6
@@ -287,9 +342,9 @@ status_below : (ask : Option Job) (before now : FilesAt) (answer : Answer) → A
 status_below None before now answer (same, is) = let e : answer.status ≡ 2 = ap (λ (a : Answer). a.status) is in omega (arith, e)
 status_below (Some job) before now answer (saw, looks, is) = by_saw saw is where
   by_source : (contents : List (List ℕ)) → OutcomeOf job contents answer → answer.status < 7
-  by_source contents (does source has done only free same) =
+  by_source contents (does source has told only free) =
       let x = execution job contents source in
-      let e : answer.status ≡ status_by (deed_of job) x = ap (λ (a : Answer). a.status) same in
+      let e : answer.status ≡ status_by (deed_of job) x = status_answered (deed_of job) x answer told in
       omega (arith, e, deed_below (deed_of job) x)
   by_source contents (refuses line why only none same) = let e : answer.status ≡ 5 = ap (λ (a : Answer). a.status) same in omega (arith, e)
 
@@ -333,7 +388,7 @@ end_not_two Blocked e = omega (arith, e)
 end_not_two Spent e = omega (arith, e)
 
 deed_not_two : (deed : Deed) (x : Execution) → status_by deed x ≡ 2 → ⊥
-deed_not_two (runs text) x e = end_not_two (end_of x).outcome e
+deed_not_two (runs course text) x e = end_not_two (end_of x).outcome e
 deed_not_two (tells text) x e = omega (arith, e)
 
 pub words_row : (ask : Option Job) (before now : FilesAt) (ob on : SinkAt) (result : ℕ) → Ran ask before now ob on result → WordsRow ask ob on result
@@ -342,7 +397,7 @@ words_row ask before now ob on result ran = record {
   when = λ asks. let P : Option Job → Type 0 = λ a. Ran a before now ob on result in when (wrote None before now ob on result (subst P asks ran));
 } where
   by_source : (job : Job) (contents : List (List ℕ)) (answer : Answer) → OutcomeOf job contents answer → answer.status ≡ 2 → ⊥
-  by_source job contents answer (does source has done only free is) two = deed_not_two (deed_of job) (execution job contents source) (sym (ap (λ (a : Answer). a.status) is) ∙ two)
+  by_source job contents answer (does source has told only free) two = deed_not_two (deed_of job) (execution job contents source) (sym (status_answered (deed_of job) (execution job contents source) answer told) ∙ two)
   by_source job contents answer (refuses line why only none is) two = let e : answer.status ≡ 5 = ap (λ (a : Answer). a.status) is in omega (arith, e, two)
 
   by_saw : (job : Job) (answer : Answer) (saw : Saw) → AnswersGathered job (gathered job saw) answer → answer.status ≡ 2 → ⊥
@@ -373,8 +428,8 @@ files_row ask before now ob on result ran = record { held = ran.files.held; soun
 pub complete : (ask : Option Job) (before now : FilesAt) (ob on : SinkAt) (result : ℕ) → Ran ask before now ob on result → IsComplete ask before ob on result
 complete ask before now ob on result ran job contents source asks sound h has calm = by_came (came_of ask job contents before now ob on result ran asks h) where
   by_came : CameOf job contents before now ob on result
-      → Came (status_by (deed_of job) (execution job contents source)) (text_by (deed_of job) (execution job contents source)) ob on result ⊎ (result ≡ 8)
-  by_came (of_source answer is came) = inl ((ended_with job contents source answer ob on result has is came).1)
+      → ((answer : Answer) × AnswersUnits (deed_of job) (execution job contents source) answer × Came answer.status answer.text ob on result) ⊎ (result ≡ 8)
+  by_came (of_source answer is came) = inl (answer, units_of job contents source answer has is, came)
   by_came (unreadable is read) = absurd (none_failed (reads_of job) contents before now sound h read)
   by_came (wanting is) = inr is
   by_came (unwritten is rose) = absurd (calm rose)

@@ -9,7 +9,8 @@ use Rattle.shim_front_end.specs.Source.{Source, IsSource, checked}
 use Rattle.shim_report.specs.Refusal.{refusal}
 use Rattle.shim_command.specs.declared.job.Job.{Job}
 use Rattle.shim_tool.specs.Moments.{FilesAt}
-use Rattle.shim_tool.specs.RunEnds.{Execution, status_of, WasRun}
+use Rattle.shim_local.specs.declared.Ended.{Ended}
+use Rattle.shim_tool.specs.RunEnds.{Execution, end_of, status_of, status_of_outcome, IsEnd, IsStoppedEnd}
 use Rattle.shim_tool.specs.Modes.{Deed, runs, tells, deed_of, executed, reads_of, second, source_limit, source_text}
 use Rattle.shim_tool.specs.Reads.{GrewByOneOf, Looks, Saw, all, longer_file, unread_file}
 
@@ -30,18 +31,19 @@ failed_line name = codes "file failed " ++ (name ++ codes "\n")
 unfoldable pub longer_line : List ℕ → ℕ → List ℕ
 longer_line name limit = codes "file too long " ++ (name ++ (codes " " ++ (decimal limit ++ codes "\n")))
 
--- what a mode writes of a source, and of its run
+-- what a mode writes of a source, and of what was read off its run
+abbrev pub text_with : Deed → Execution → Ended → List ℕ
+text_with (runs course text) x e = text x.source e
+text_with (tells text) x e = text x.source
+
+-- and that of its meaning
 abbrev pub text_by : Deed → Execution → List ℕ
-text_by (runs text) x = text x
-text_by (tells text) x = text x.source
+text_by deed x = text_with deed x (end_of x)
 
--- the status that tells how the run ended; a source of which something is told has 0
+-- the status that tells how the meaning ended; a source of which something is told has 0
 abbrev pub status_by : Deed → Execution → ℕ
-status_by (runs text) x = status_of x
+status_by (runs course text) x = status_of x
 status_by (tells text) x = 0
-
-abbrev pub deed_answer : Deed → Execution → Answer
-deed_answer deed x = record { status = status_by deed x; text = text_by deed x }
 
 abbrev pub usage : Answer
 usage = record { status = 2; text = usage_line }
@@ -62,14 +64,15 @@ no_memory = record { status = 8; text = memory_line }
 abbrev pub IsNoSource : List ℕ → Type 0
 IsNoSource bytes = (source : Source) → IsSource bytes source → ⊥
 
--- what is to be run was run
-abbrev pub WasDone : Deed → Execution → Type 0
-WasDone (runs text) x = WasRun x
-WasDone (tells text) x = Unit {0}
+-- this may be read off a run that is stopped; nothing that is only told of a source is
+abbrev pub IsStoppedBy : Deed → Execution → Ended → Type 0
+IsStoppedBy (runs course text) x e = IsStoppedEnd course x e
+IsStoppedBy (tells text) x e = ⊥
 
--- units are answered with what is done with them
+-- units are answered with what is done with them: with what is read off their run, or with what is told of them
 abbrev pub AnswersUnits : Deed → Execution → Answer → Type 0
-AnswersUnits deed x answer = WasDone deed x × (answer ≡ deed_answer deed x)
+AnswersUnits (runs course text) x answer = (e : Ended) × IsEnd course x e × (answer ≡ record { status = status_of_outcome e.outcome; text = text x.source e })
+AnswersUnits (tells text) x answer = answer ≡ record { status = 0; text = text x.source }
 
 -- a program that is accepted is answered as its units, and another with the line of its first fault
 abbrev pub AnswersProgram : Deed → (Source → Execution) → Program → Answer → Type 0

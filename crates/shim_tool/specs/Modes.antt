@@ -11,7 +11,8 @@ use Rattle.shim_front_end.specs.Source.{Source}
 use Rattle.shim_code.specs.Listing.{listing}
 use Rattle.shim_code.specs.Programs.{code_units}
 use Rattle.shim_report.specs.Summary.{summary}
-use Rattle.shim_tool.specs.RunEnds.{Execution, end_of, report_of}
+use Rattle.shim_local.specs.declared.Ended.{Ended}
+use Rattle.shim_tool.specs.RunEnds.{Execution, Course, by_first_events, in_some_order, report_of}
 
 -- a file that is read, and the most bytes that it may have
 pub record Reading : Type 0 where
@@ -95,21 +96,21 @@ accepted_line source = codes "accepted " ++ (decimal (functions_from 0 source.un
 abbrev pub code_text : Source → List ℕ
 code_text source = listing (code_units source.units)
 
--- the summary of the run of a source that was made for this job
-abbrev pub summary_of : Job → Execution → List ℕ
-summary_of job x = summary job.file job.size x.source.names (end_of x)
+-- the summary of what was read off a run of a source that was made for this job
+abbrev pub summary_of : Job → Source → Ended → List ℕ
+summary_of job source e = summary job.file job.size source.names e
 
--- what is done with a source that is accepted: it is run, and this text tells how that ended; or this is told of the source, and nothing is run
+-- what is done with a source that is accepted: it is run so, and this text tells how that ended; or this is told of the source, and nothing is run
 pub data Deed : Type 0 where
-  runs : (Execution → List ℕ) → Deed
+  runs : Course → (Source → Ended → List ℕ) → Deed
   tells : (Source → List ℕ) → Deed
 
 abbrev pub deed_by : Mode → Job → Deed
-deed_by Run job = runs report_of
-deed_by Reference job = runs report_of
+deed_by Run job = runs in_some_order report_of
+deed_by Reference job = runs by_first_events report_of
 deed_by Check job = tells accepted_line
 deed_by Code job = tells code_text
-deed_by Gen job = runs (summary_of job)
+deed_by Gen job = runs in_some_order (summary_of job)
 
 abbrev pub deed_of : Job → Deed
 deed_of job = deed_by job.mode job

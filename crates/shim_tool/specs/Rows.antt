@@ -12,10 +12,11 @@ use Rattle.shim_front_end.specs.Source.{Source, IsSource, checked}
 use Rattle.shim_report.specs.Refusal.{refusal}
 use Rattle.shim_command.specs.declared.job.Job.{Job}
 use Rattle.shim_tool.specs.Moments.{FilesAt, SinkAt}
-use Rattle.shim_tool.specs.RunEnds.{Execution, end_of, printed_steps, IsReachedIn}
+use Rattle.shim_local.specs.declared.Ended.{Ended}
+use Rattle.shim_tool.specs.RunEnds.{Execution, printed_steps, IsReachedIn, IsSpent}
 use Rattle.shim_tool.specs.Modes.{Deed, Reading, runs, tells, deed_of, executed, reads_of, second, source_text}
 use Rattle.shim_tool.specs.Reads.{AreContents, ComesToRead, Holds, HoldsAll, HoldsUpTo, IsTooLong, OneReadFailed, ReadFailed}
-use Rattle.shim_tool.specs.Answer.{Answer, MayAnswer, FailedGrew, IsNoSource, status_by, text_by, usage_line, failed_line, longer_line, memory_line}
+use Rattle.shim_tool.specs.Answer.{Answer, AnswersUnits, MayAnswer, FailedGrew, IsNoSource, IsStoppedBy, status_by, text_by, text_with, usage_line, failed_line, longer_line, memory_line}
 
 -- this status came with this text, whole
 abbrev pub Came : ℕ → List ℕ → SinkAt → SinkAt → ℕ → Type 0
@@ -39,19 +40,19 @@ pub record WasRead (ask : Option Job) (job : Job) (before : FilesAt) (contents :
 abbrev pub execution : Job → List (List ℕ) → Source → Execution
 execution job contents source = executed job (second contents) source
 
--- the run ends for this cause; of a source of which something is told, that comes with 0
+-- the meaning ends for this cause; of a source of which something is told, that comes with 0
 abbrev pub EndsBy : ℕ → (Execution → Type 0) → Deed → Execution → Type 0
-EndsBy status Cause (runs text) x = Cause x
+EndsBy status Cause (runs course text) x = Cause x
 EndsBy status Cause (tells text) x = status ≡ 0
 
--- a run within the budget leads to the tree that is told
+-- a run within the budget leads to the tree to which the meaning comes
 abbrev pub IsReached : Deed → Execution → Type 0
-IsReached (runs text) x = (n : ℕ) × (n ≤ x.budget) × IsReachedIn n x
+IsReached (runs course text) x = (n : ℕ) × (n ≤ x.budget) × IsReachedIn n x
 IsReached (tells text) x = Unit {0}
 
 -- The rows below say "exactly where" of told files, within their limits. Of other files each says that there is some source, fault or cause that fits.
 
--- 0, 1, 3, 4: exactly where the job has a source whose run ends for this cause, with the text of its mode, which for `run` is the report of its meaning; of a source that isn't run, 0 comes wherever it is accepted. A run within the budget leads to the tree that is told.
+-- 0, 1, 3: exactly where the job has a source whose meaning ends for this cause within the budget, with the text of its mode, which for `run` and `ref` is the report of that meaning, whatever the order of events in the run; of a source that isn't run, 0 comes wherever it is accepted. A run within the budget leads to the tree that is told.
 pub record EndRow (status : ℕ) (Cause : Execution → Type 0) (ask : Option Job) (before now : FilesAt) (out_before out_now : SinkAt) (result : ℕ) : Type 0 where
   pub only : result ≡ status → (now.failed ≡ before.failed) × (job : Job) × (contents : List (List ℕ)) × (source : Source) × WasRead ask job before contents
       × IsSource (source_text job contents) source × EndsBy status Cause (deed_of job) (execution job contents source) × IsReached (deed_of job) (execution job contents source)
@@ -61,11 +62,24 @@ pub record EndRow (status : ℕ) (Cause : Execution → Type 0) (ask : Option Jo
       → IsSource (source_text job contents) source → EndsBy status Cause (deed_of job) (execution job contents source)
       → ComesUnlessUnread status (text_by (deed_of job) (execution job contents source)) job before now out_before out_now result
 
--- 4: a run of as many events as the budget has leads to the tree that is told, and the own steps and the events that are read off it, which `run` and `ref` print, add up to the budget
+-- the status of a run that was stopped came, with the text of what may be read off such a run
+abbrev pub CameStopped : Deed → Execution → SinkAt → SinkAt → ℕ → Type 0
+CameStopped deed x out_before out_now result = (e : Ended) × IsStoppedBy deed x e × Came 4 (text_with deed x e) out_before out_now result
+
+-- 4: exactly where the job has a source in whose meaning something can still happen after the budget's events. For `ref` the text is that of the meaning; for `run` and `gen` it is read off a tree to which a run of just the budget's events leads, and in which something can still happen.
+pub record SpentRow (ask : Option Job) (before now : FilesAt) (out_before out_now : SinkAt) (result : ℕ) : Type 0 where
+  pub only : result ≡ 4 → (now.failed ≡ before.failed) × (job : Job) × (contents : List (List ℕ)) × (source : Source) × WasRead ask job before contents
+      × IsSource (source_text job contents) source × EndsBy 4 IsSpent (deed_of job) (execution job contents source) × IsReached (deed_of job) (execution job contents source)
+      × (status_by (deed_of job) (execution job contents source) ≡ 4) × CameStopped (deed_of job) (execution job contents source) out_before out_now result
+  pub when : (job : Job) (contents : List (List ℕ)) (source : Source) → ask ≡ Some job → HoldsAll before.held (reads_of job) contents
+      → IsSource (source_text job contents) source → EndsBy 4 IsSpent (deed_of job) (execution job contents source)
+      → CameStopped (deed_of job) (execution job contents source) out_before out_now result ⊎ (result ≡ 7) ⊎ (result ≡ 8) ⊎ ((result ≡ 6) × OneReadFailed (reads_of job) before now)
+
+-- 4: a run of as many events as the budget has leads to the tree of the meaning, too, and the own steps and the events that are read off the tree that is told, which `run` and `ref` print, add up to the budget
 abbrev pub CountRow : Option Job → FilesAt → SinkAt → SinkAt → ℕ → Type 0
 CountRow ask before out_before out_now result = result ≡ 4 → (job : Job) × (contents : List (List ℕ)) × (source : Source) × WasRead ask job before contents
-    × IsSource (source_text job contents) source × (out_now.taken ≡ then_bytes out_before.taken (text_by (deed_of job) (execution job contents source)))
-    × IsReachedIn job.budget (execution job contents source) × (printed_steps (end_of (execution job contents source)) ≡ job.budget)
+    × IsSource (source_text job contents) source × IsReachedIn job.budget (execution job contents source) × (e : Ended) × IsStoppedBy (deed_of job) (execution job contents source) e
+    × (printed_steps e ≡ job.budget) × (out_now.taken ≡ then_bytes out_before.taken (text_with (deed_of job) (execution job contents source) e))
 
 -- 2: exactly where the words ask for nothing
 pub record WordsRow (ask : Option Job) (out_before out_now : SinkAt) (result : ℕ) : Type 0 where
@@ -121,4 +135,4 @@ pub record FilesRow (ask : Option Job) (before now : FilesAt) : Type 0 where
 abbrev pub IsComplete : Option Job → FilesAt → SinkAt → SinkAt → ℕ → Type 0
 IsComplete ask before out_before out_now result = (job : Job) (contents : List (List ℕ)) (source : Source) → ask ≡ Some job → IsTrue before.sound
     → HoldsAll before.held (reads_of job) contents → IsSource (source_text job contents) source → (HasRisen out_before.faults out_now.faults → ⊥)
-    → Came (status_by (deed_of job) (execution job contents source)) (text_by (deed_of job) (execution job contents source)) out_before out_now result ⊎ (result ≡ 8)
+    → ((answer : Answer) × AnswersUnits (deed_of job) (execution job contents source) answer × Came answer.status answer.text out_before out_now result) ⊎ (result ≡ 8)

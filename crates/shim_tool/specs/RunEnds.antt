@@ -1,5 +1,5 @@
--- What a run of a source means: the run from its root that always does the first event that is enabled.
-use Rattle.std.specs.Prelude.{◌≡◌, ℕ, ◌+◌, IsTrue, Some, List, length, map}
+-- What a run of a source comes to. Its meaning is the run from its root that always does the first event that is enabled.
+use Rattle.std.specs.Prelude.{◌≡◌, ◌≢◌, ℕ, ◌+◌, IsTrue, Some, List, length, map}
 use Rattle.shim_local.specs.declared.Ended.{Ended}
 use Rattle.shim_local.specs.declared.Outcome.{Outcome}
 use Rattle.shim_local.specs.declared.Outcome.TheVariants.{Done, Uncaught, Trapped, Blocked, Spent}
@@ -9,9 +9,10 @@ use Rattle.shim_process.specs.Ops.{process_ops}
 use Rattle.shim_report.specs.Report.{report}
 use Rattle.shim_semantics.specs.Nodes.{has_ended, is_dead, goes}
 use Rattle.shim_semantics.specs.Systems.{run}
-use Rattle.shim_semantics.specs.Trees.{Tree, Event, after, start, sum, IsQuiescent}
+use Rattle.shim_semantics.specs.Trees.{Tree, Event, after, start, steps, sum, IsQuiescent}
+use Rattle.shim_semantics.specs.Endings.{ended}
+use Rattle.shim_reference.specs.Naming.{named}
 use Rattle.shim_reference.specs.Reference.{meaning_of, reference_of}
-use Rattle.shim_reference.specs.Runs.{IsEndOfRun}
 use Rattle.shim_front_end.specs.Source.{Source}
 
 -- an accepted source with the bytes that it reads, and the most events of its run
@@ -20,7 +21,7 @@ pub record Execution : Type 0 where
   pub input : List ℕ
   pub budget : ℕ
 
--- the tree to which the run comes
+-- the tree to which the meaning comes
 unfoldable pub tree_of : Execution → Tree LocalState
 tree_of x = meaning_of x.source x.input x.budget
 
@@ -28,9 +29,13 @@ tree_of x = meaning_of x.source x.input x.budget
 unfoldable pub end_of : Execution → Ended
 end_of x = reference_of x.source x.input x.budget
 
--- its report
-abbrev pub report_of : Execution → List ℕ
-report_of x = report x.source.names (end_of x)
+-- the same of any tree
+abbrev pub read_off : Execution → Tree LocalState → Ended
+read_off x t = named x.source.main_throws (ended process_ops t)
+
+-- the report of what was read off a run of this source
+abbrev pub report_of : Source → Ended → List ℕ
+report_of source e = report source.names e
 
 abbrev pub status_of_outcome : Outcome → ℕ
 status_of_outcome Done = 0
@@ -39,7 +44,7 @@ status_of_outcome Trapped = 1
 status_of_outcome Blocked = 3
 status_of_outcome Spent = 4
 
--- the status that tells how it ended
+-- the status that tells how the meaning ended
 abbrev pub status_of : Execution → ℕ
 status_of x = status_of_outcome (end_of x).outcome
 
@@ -59,14 +64,37 @@ IsBlocked x = IsQuiescent process_ops (tree_of x) × IsTrue (goes (tree_of x).ro
 abbrev pub IsSpent : Execution → Type 0
 IsSpent x = IsQuiescent process_ops (tree_of x) → ⊥
 
--- a run of so many events, each enabled in its turn, leads from the start to the tree to which this run comes
+-- a run of so many events, each enabled in its turn, leads from the start to this tree
+abbrev pub LeadsTo : ℕ → Execution → Tree LocalState → Type 0
+LeadsTo n x t = (es : List Event) × (run (after process_ops) es (start (root x.source x.input)) ≡ Some t) × (length es ≡ n)
+
+-- such a run leads to the tree to which the meaning comes
 abbrev pub IsReachedIn : ℕ → Execution → Type 0
-IsReachedIn n x = (es : List Event) × (run (after process_ops) es (start (root x.source x.input)) ≡ Some (tree_of x)) × (length es ≡ n)
+IsReachedIn n x = LeadsTo n x (tree_of x)
 
 -- the own steps and the other events that the report of a run which was stopped prints, added up
 abbrev pub printed_steps : Ended → ℕ
 printed_steps e = sum (map (λ s. s.count) e.own) + e.events
 
--- the run was done
-abbrev pub WasRun : Execution → Type 0
-WasRun x = IsEndOfRun process_ops x.budget (tree_of x)
+-- which run of a source is done
+pub data Course : Type 0 where
+  -- the meaning itself: each time the first event that is enabled
+  by_first_events : Course
+  -- some run, whichever events the workers do first
+  in_some_order : Course
+
+-- a run is stopped at this tree: just as many events as the budget has lead to it, and something can still happen in it
+pub record IsStoppedAt (x : Execution) (t : Tree LocalState) : Type 0 where
+  pub reached : LeadsTo x.budget x t
+  pub counted : steps t ≡ x.budget
+  pub goes_on : IsQuiescent process_ops t → ⊥
+
+-- this may be read off a run that is stopped: of the meaning its own tree, and of another run a tree at which that is stopped
+abbrev pub IsStoppedEnd : Course → Execution → Ended → Type 0
+IsStoppedEnd by_first_events x e = e ≡ end_of x
+IsStoppedEnd in_some_order x e = (t : Tree LocalState) × IsStoppedAt x t × (e ≡ read_off x t)
+
+-- What a run comes to: what the meaning comes to, whatever the order of its events, unless the meaning is stopped by the budget. Then this run is stopped, too, and told so.
+pub data IsEnd (course : Course) (x : Execution) (e : Ended) : Type 0 where
+  as_meant : status_of x ≢ 4 → e ≡ end_of x → IsEnd course x e
+  stopped : status_of x ≡ 4 → IsStoppedEnd course x e → status_of_outcome e.outcome ≡ 4 → IsEnd course x e

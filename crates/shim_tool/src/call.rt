@@ -1,13 +1,13 @@
 // The call that does all that the program does.
-ghost use Rattle.std.specs.Prelude.{◌≡◌, ◌≤◌, IfOk};
-ghost use Rattle.shim_command.specs.Jobs.{job, texts_of};
+ghost use Rattle.std.specs.Prelude.{◌≡◌, IfOk};
+ghost use Rattle.shim_command.specs.Jobs.{job, texts_of, IsWithin};
 ghost use Rattle.shim_tool.specs.Moments.{files_at, sink_at, KeepsFiles};
 ghost use Rattle.shim_tool.specs.Modes.{reads_of};
 ghost use Rattle.shim_tool.specs.Reads.{GrewByOneOf};
 ghost use Rattle.shim_tool.specs.Answer as answers;
 ghost use Rattle.shim_tool.specs.Call.{Ran, Writes};
-ghost use Rattle.shim_tool.specs.RunEnds.{IsDone, IsFailed, IsBlocked, IsSpent};
-ghost use Rattle.shim_tool.specs.Rows.{EndRow, CountRow, WordsRow, RefusedRow, FileRow, SinkRow, MemoryRow, FilesRow, IsComplete};
+ghost use Rattle.shim_tool.specs.RunEnds.{IsDone, IsFailed, IsBlocked};
+ghost use Rattle.shim_tool.specs.Rows.{EndRow, SpentRow, CountRow, WordsRow, RefusedRow, FileRow, SinkRow, MemoryRow, FilesRow, IsComplete};
 ghost use Rattle.shim_tool.specs.AnswerView.{code_of};
 ghost use Rattle.shim_tool.specs.Views.{answer_view, gathered_view};
 
@@ -18,24 +18,46 @@ use crate::status::Status;
 use shim_base::NoMemory;
 use shim_command::{Job, WordsFault, read_words};
 use shim_edge::{Files, Sink, write_all};
+use shim_workers::Gate;
 use std::alloc::Global;
+use std::sync::Wait;
+use std::thread::Threads;
 
 // Answers to what was gathered for a job.
-fn answer_gathered(alloc: Global, job: &Job, gathered: Gathered<'_>) -> Result<Answer, NoMemory>
+fn answer_gathered<G: Gate, R: Threads + Wait + Sync>(
+    rt: &R,
+    alloc: Global,
+    job: &Job,
+    gathered: Gathered<'_>,
+    gate: &G,
+) -> Result<Answer, NoMemory>
     requires short { answers.IsShort (gathered_view gathered) }
-    requires few { job.now.budget ≤ 4000000 }
+    requires within { IsWithin job.now }
     ensures { IfOk result (λ a. answers.AnswersGathered job.now (gathered_view gathered.entry) (answer_view a)) }
 {
     match gathered {
-        Gathered::Texts(source, input) => answer_source(alloc, job, source.as_slice(), input),
+        Gathered::Texts(source, input) => answer_source(
+            rt,
+            alloc,
+            job,
+            source.as_slice(),
+            input,
+            gate,
+        ),
         Gathered::Unread(name) => file_failed(alloc, name),
         Gathered::Longer(name, limit) => file_too_long(alloc, name, limit),
     }
 }
 
 // Reads the files of a job, and answers.
-fn answer_job<F: Files>(alloc: Global, job: &Job, files: &mut F) -> Result<Answer, NoMemory>
-    requires few { job.now.budget ≤ 4000000 }
+fn answer_job<F: Files, G: Gate, R: Threads + Wait + Sync>(
+    rt: &R,
+    alloc: Global,
+    job: &Job,
+    files: &mut F,
+    gate: &G,
+) -> Result<Answer, NoMemory>
+    requires within { IsWithin job.now }
     ensures answers { IfOk result (λ a. answers.AnswersJob job.now (files_at F.held F.sound F.failed files.old)
         (files_at F.held F.sound F.failed files.new) (answer_view a)) }
     ensures grew { GrewByOneOf (reads_of job.now) (files_at F.held F.sound F.failed files.old)
@@ -43,10 +65,16 @@ fn answer_job<F: Files>(alloc: Global, job: &Job, files: &mut F) -> Result<Answe
     ensures kept { KeepsFiles (files_at F.held F.sound F.failed files.old) (files_at F.held F.sound F.failed files.new) }
 {
     let gathered = gather(alloc, job, files)?;
-    answer_gathered(alloc, job, gathered)
+    answer_gathered(rt, alloc, job, gathered, gate)
 }
 
-fn answer<F: Files>(alloc: Global, words: &[String], files: &mut F) -> Result<Answer, NoMemory>
+fn answer<F: Files, G: Gate, R: Threads + Wait + Sync>(
+    rt: &R,
+    alloc: Global,
+    words: &[String],
+    files: &mut F,
+    gate: &G,
+) -> Result<Answer, NoMemory>
     ensures answers { IfOk result (λ a. answers.Answers (job (texts_of words.now)) (files_at F.held F.sound F.failed files.old)
         (files_at F.held F.sound F.failed files.new) (answer_view a)) }
     ensures grew { answers.FailedGrew (job (texts_of words.now)) (files_at F.held F.sound F.failed files.old)
@@ -54,7 +82,7 @@ fn answer<F: Files>(alloc: Global, words: &[String], files: &mut F) -> Result<An
     ensures kept { KeepsFiles (files_at F.held F.sound F.failed files.old) (files_at F.held F.sound F.failed files.new) }
 {
     match read_words(alloc, words) {
-        Ok(job) => answer_job(alloc, &job, files),
+        Ok(job) => answer_job(rt, alloc, &job, files, gate),
         Err(WordsFault::Refused) => usage(alloc),
         Err(WordsFault::NoMemory) => Err(NoMemory),
     }
@@ -80,12 +108,19 @@ pub fn write_no_memory<K: Sink>(out: &mut K) -> u8
     written(out, Status::NoMemory, b"no memory\n")
 }
 
-fn run_tool<F: Files, K: Sink>(alloc: Global, words: &[String], files: &mut F, out: &mut K) -> u8
+fn run_tool<F: Files, K: Sink, G: Gate, R: Threads + Wait + Sync>(
+    rt: &R,
+    alloc: Global,
+    words: &[String],
+    files: &mut F,
+    out: &mut K,
+    gate: &G,
+) -> u8
     ensures { Ran (job (texts_of words.now)) (files_at F.held F.sound F.failed files.old)
         (files_at F.held F.sound F.failed files.new) (sink_at K.taken K.faults out.old)
         (sink_at K.taken K.faults out.new) result }
 {
-    match answer(alloc, words, files) {
+    match answer(rt, alloc, words, files, gate) {
         Ok(answer) => written(out, answer.status, answer.text.as_slice()),
         Err(NoMemory) => write_no_memory(out),
     }
@@ -95,17 +130,29 @@ fn run_tool<F: Files, K: Sink>(alloc: Global, words: &[String], files: &mut F, o
 /// then the file and the input, as far as the mode has them, does what the mode says, and writes the
 /// answer. No byte is written before the whole text is there.
 ///
+/// The processes of a run do their work piece by piece, each piece behind the gate, on at most as many
+/// threads as the words ask for. Whatever their number and the order of events, the run ends as its meaning
+/// does, with the text of that, where the meaning ends within the budget. Else it is stopped at a tree to
+/// which some run of just the budget's events leads, and that is told.
+///
 /// Answers the status that the program ends with. Want of memory may come in place of any status but
 /// 7, and a failed write, which is 7, in place of any.
-pub fn shim<F: Files, K: Sink>(alloc: Global, words: &[String], files: &mut F, out: &mut K) -> u8
+pub fn shim<F: Files, K: Sink, G: Gate, R: Threads + Wait + Sync>(
+    rt: &R,
+    alloc: Global,
+    words: &[String],
+    files: &mut F,
+    out: &mut K,
+    gate: &G,
+) -> u8
     // What the call comes to.
     ensures ran { Ran (job (texts_of words.now)) (files_at F.held F.sound F.failed files.old)
         (files_at F.held F.sound F.failed files.new) (sink_at K.taken K.faults out.old)
         (sink_at K.taken K.faults out.new) result }
     // What follows says "exactly where" of told files, within their limits. Of other files each clause says
     // that there is some source, fault or cause that fits.
-    // 0: exactly where the root of the source ends, with the text of the mode, as the report of its
-    // meaning; of a source that is only checked, exactly where it is accepted.
+    // 0: exactly where the root of the source ends in its meaning, with the text of the mode, as the report
+    // of that meaning; of a source that is only checked, exactly where it is accepted.
     ensures done { EndRow 0 IsDone (job (texts_of words.now)) (files_at F.held F.sound F.failed files.old)
         (files_at F.held F.sound F.failed files.new) (sink_at K.taken K.faults out.old)
         (sink_at K.taken K.faults out.new) result }
@@ -121,8 +168,9 @@ pub fn shim<F: Files, K: Sink>(alloc: Global, words: &[String], files: &mut F, o
     ensures blocked { EndRow 3 IsBlocked (job (texts_of words.now)) (files_at F.held F.sound F.failed files.old)
         (files_at F.held F.sound F.failed files.new) (sink_at K.taken K.faults out.old)
         (sink_at K.taken K.faults out.new) result }
-    // 4: exactly where something can still happen after the budget's events; with that text.
-    ensures spent { EndRow 4 IsSpent (job (texts_of words.now)) (files_at F.held F.sound F.failed files.old)
+    // 4: exactly where something can still happen in the meaning after the budget's events. `ref` tells the
+    // meaning itself, and `run` and `gen` a tree that some run of just the budget's events reaches.
+    ensures spent { SpentRow (job (texts_of words.now)) (files_at F.held F.sound F.failed files.old)
         (files_at F.held F.sound F.failed files.new) (sink_at K.taken K.faults out.old)
         (sink_at K.taken K.faults out.new) result }
     // Then the own steps and the events that a report prints add up to the budget.
@@ -149,6 +197,6 @@ pub fn shim<F: Files, K: Sink>(alloc: Global, words: &[String], files: &mut F, o
     ensures complete { IsComplete (job (texts_of words.now)) (files_at F.held F.sound F.failed files.old)
         (sink_at K.taken K.faults out.old) (sink_at K.taken K.faults out.new) result }
 {
-    let status = run_tool(alloc, words, files, out);
+    let status = run_tool(rt, alloc, words, files, out, gate);
     status
 }

@@ -1,13 +1,12 @@
 // From the text of a source to the answer.
-ghost use Rattle.std.specs.Prelude.{◌≡◌, ◌≤◌, length, IfOk, OnOk};
-ghost use Rattle.shim_process.specs.Ops.{process_ops};
-ghost use Rattle.shim_reference.specs.Reference.{meaning_of, reference_of};
-ghost use Rattle.shim_reference.specs.Runs.{IsEndOfRun};
+ghost use Rattle.std.specs.Prelude.{◌≡◌, ◌≤◌, length, IfOk};
+ghost use Rattle.shim_command.specs.Jobs.{IsWithin};
 ghost use Rattle.shim_report.specs.Report.{report};
 ghost use Rattle.shim_report.specs.Summary.{summary};
 ghost use Rattle.shim_tool.specs.Answer.{AnswersUnits, AnswersSource};
 ghost use Rattle.shim_tool.specs.Modes.{accepted_line, code_text, deed_of, executed, functions_from, runs, summary_of};
-ghost use Rattle.shim_tool.specs.RunEnds as meanings;
+ghost use Rattle.shim_tool.specs.RunEnds as run_ends;
+ghost use Rattle.shim_tool.specs.RunEnds.{IsEnd, by_first_events, in_some_order};
 ghost use Rattle.shim_tool.specs.Views.{answer_view};
 
 use crate::answer::{Answer, refused};
@@ -16,50 +15,50 @@ use shim_base::{List, NoMemory, Shared, push_decimal};
 use shim_code::{compile, listing};
 use shim_command::{Job, Mode};
 use shim_front_end::read_source;
-use shim_reference::{reference, reference_from};
+use shim_net::Net;
+use shim_reference::{named, reference};
 use shim_report::{Ended, summary, text};
 use shim_sharing::Accepted;
 use shim_units::Unit;
 use shim_vm::Body;
+use shim_workers::{Gate, drive};
 use std::alloc::Global;
+use std::sync::Wait;
+use std::thread::Threads;
 
-// What a source's run comes to where its compiled code is run.
-fn end_of_code(
+// What a run of a source's compiled code comes to, whose processes do their work on at most as many threads
+// as the job has workers.
+fn end_of_code<G: Gate, R: Threads + Wait + Sync>(
+    rt: &R,
     alloc: Global,
+    job: &Job,
     source: &Accepted,
-    input: Shared<List<u8>>,
-    budget: u64,
-) -> Result<Ended, NoMemory>
-    requires few { budget ≤ 4000000 }
-    ensures end { IfOk result (λ end. end ≡ reference_of source.now input budget) }
-    ensures ran { OnOk result (IsEndOfRun process_ops budget (meaning_of source.now input budget)) }
-{
-    let code = Shared::new(alloc, compile(alloc, source)?)?;
-    let main = Body::main(alloc, code, input)?;
-    reference_from(alloc, main, source.main_throws(), budget)
-}
-
-// What a source's run comes to, on this input and within this budget. It is the same in every mode; only
-// the reference runs the syntax of the source, and no code.
-#[tactic(auto, unfolding(crate::specs::RunEnds::end_of))]
-fn end_of(
-    alloc: Global,
-    mode: Mode,
-    source: &Shared<Accepted>,
     input: List<u8>,
-    budget: u64,
+    gate: &G,
 ) -> Result<Ended, NoMemory>
-    requires few { budget ≤ 4000000 }
-    ensures end { IfOk result (λ end. end ≡ meanings.end_of (record { source = source.now; input = input; budget = budget })) }
-    ensures ran { OnOk result (meanings.WasRun (record { source = source.now; input = input; budget = budget })) }
+    requires within { IsWithin job.now }
+    ensures { IfOk result (IsEnd in_some_order (executed job.now input source.now)) }
 {
     let input = Shared::new(alloc, input)?;
-    match mode {
-        Mode::Reference => reference(alloc, source.share()?, input, budget),
-        Mode::Run | Mode::Gen | Mode::Check | Mode::Code => {
-            end_of_code(alloc, source, input, budget)
-        }
-    }
+    let code = Shared::new(alloc, compile(alloc, source)?)?;
+    let main = Body::main(alloc, code, input)?;
+    let begun = Net::start(alloc, main, job.budget)?;
+    let net = drive(rt, alloc, begun, job.workers as u32, job.quantum, gate)?;
+    Ok(named(net.ended()?, source.main_throws()))
+}
+
+// What the syntax of a source comes to, run by first events.
+fn end_of_syntax(
+    alloc: Global,
+    job: &Job,
+    source: &Shared<Accepted>,
+    input: List<u8>,
+) -> Result<Ended, NoMemory>
+    requires within { IsWithin job.now }
+    ensures { IfOk result (IsEnd by_first_events (executed job.now input source.now)) }
+{
+    let input = Shared::new(alloc, input)?;
+    reference(alloc, source.share()?, input, job.budget)
 }
 
 // The report of a run of this source.
@@ -82,17 +81,36 @@ fn summary_of(
 }
 
 // Runs a source, and reports the end.
-fn answer_run(
+fn answer_run<G: Gate, R: Threads + Wait + Sync>(
+    rt: &R,
+    alloc: Global,
+    job: &Job,
+    source: &Accepted,
+    input: List<u8>,
+    gate: &G,
+) -> Result<Answer, NoMemory>
+    requires within { IsWithin job.now }
+    ensures { IfOk result (λ a. AnswersUnits (runs in_some_order run_ends.report_of) (executed job.now input source.now) (answer_view a)) }
+{
+    let end = end_of_code(rt, alloc, job, source, input, gate)?;
+    Ok(Answer {
+        status: Status::of(end.outcome),
+        text: report_of(alloc, source, &end)?,
+    })
+}
+
+// Reports what a source means.
+fn answer_reference(
     alloc: Global,
     job: &Job,
     source: Accepted,
     input: List<u8>,
 ) -> Result<Answer, NoMemory>
-    requires few { job.now.budget ≤ 4000000 }
-    ensures { IfOk result (λ a. AnswersUnits (runs meanings.report_of) (executed job.now input source) (answer_view a)) }
+    requires within { IsWithin job.now }
+    ensures { IfOk result (λ a. AnswersUnits (runs by_first_events run_ends.report_of) (executed job.now input source) (answer_view a)) }
 {
     let source = Shared::new(alloc, source)?;
-    let end = end_of(alloc, job.mode, &source, input, job.budget)?;
+    let end = end_of_syntax(alloc, job, &source, input)?;
     Ok(Answer {
         status: Status::of(end.outcome),
         text: report_of(alloc, &source, &end)?,
@@ -100,20 +118,21 @@ fn answer_run(
 }
 
 // Runs a source that was made for this job, and sums the end up.
-fn answer_made(
+fn answer_made<G: Gate, R: Threads + Wait + Sync>(
+    rt: &R,
     alloc: Global,
     job: &Job,
-    source: Accepted,
+    source: &Accepted,
     input: List<u8>,
+    gate: &G,
 ) -> Result<Answer, NoMemory>
-    requires few { job.now.budget ≤ 4000000 }
-    ensures { IfOk result (λ a. AnswersUnits (runs (summary_of job.now)) (executed job.now input source) (answer_view a)) }
+    requires within { IsWithin job.now }
+    ensures { IfOk result (λ a. AnswersUnits (runs in_some_order (summary_of job.now)) (executed job.now input source.now) (answer_view a)) }
 {
-    let source = Shared::new(alloc, source)?;
-    let end = end_of(alloc, job.mode, &source, input, job.budget)?;
+    let end = end_of_code(rt, alloc, job, source, input, gate)?;
     Ok(Answer {
         status: Status::of(end.outcome),
-        text: summary_of(alloc, job, &source, &end)?,
+        text: summary_of(alloc, job, source, &end)?,
     })
 }
 
@@ -156,36 +175,41 @@ fn answer_code(alloc: Global, source: &Accepted) -> Result<Answer, NoMemory>
 }
 
 // Does with a source what the mode says.
-fn answer_units(
+fn answer_units<G: Gate, R: Threads + Wait + Sync>(
+    rt: &R,
     alloc: Global,
     job: &Job,
     source: Accepted,
     input: List<u8>,
+    gate: &G,
 ) -> Result<Answer, NoMemory>
-    requires few { job.now.budget ≤ 4000000 }
+    requires within { IsWithin job.now }
     ensures { IfOk result (λ a. AnswersUnits (deed_of job.now) (executed job.now input source) (answer_view a)) }
 {
     match job.mode {
-        Mode::Run | Mode::Reference => answer_run(alloc, job, source, input),
+        Mode::Run => answer_run(rt, alloc, job, &source, input, gate),
+        Mode::Reference => answer_reference(alloc, job, source, input),
         Mode::Check => answer_check(alloc, &source),
         Mode::Code => answer_code(alloc, &source),
-        Mode::Gen => answer_made(alloc, job, source, input),
+        Mode::Gen => answer_made(rt, alloc, job, &source, input, gate),
     }
 }
 
 /// Answers to the text of a job's source, which has at most 1,048,576 bytes.
-pub(crate) fn answer_source(
+pub(crate) fn answer_source<G: Gate, R: Threads + Wait + Sync>(
+    rt: &R,
     alloc: Global,
     job: &Job,
     bytes: &[u8],
     input: List<u8>,
+    gate: &G,
 ) -> Result<Answer, NoMemory>
     requires short { length bytes.now ≤ 1048576 }
-    requires few { job.now.budget ≤ 4000000 }
+    requires within { IsWithin job.now }
     ensures { IfOk result (λ a. AnswersSource (deed_of job.now) (executed job.now input) bytes.now (answer_view a)) }
 {
     match read_source(alloc, bytes) {
-        Ok(source) => answer_units(alloc, job, source, input),
+        Ok(source) => answer_units(rt, alloc, job, source, input, gate),
         Err(fault) => refused(alloc, fault),
     }
 }

@@ -13,3 +13,4 @@ pub mod tied;
 pub use call::{shim, write_no_memory};
 pub use shim_command::{Job, Kind, Mode, WordsFault, read_words};
 pub use shim_generator::generate;
+pub use shim_workers::{Gate, NoOpGate};

@@ -1,11 +1,7 @@
-use Rattle.std.proofs.Common.{ap, ◌∙◌}
-use Rattle.shim_local.specs.declared.Ended.{Ended}
-use Rattle.shim_front_end.specs.Source.{Source}
-use Rattle.shim_report.specs.Report.{report}
-use Rattle.shim_tool.specs.RunEnds.{report_of}
+use Rattle.std.proofs.Common.{refl}
+use Rattle.shim_tool.specs.RunEnds.{report_of, in_some_order}
 use Rattle.shim_tool.proofs.ExecuteLemmas.{answers_run}
 use Rattle.shim_tool.proofs.execute.answer_run.Goals as goal
 
 pub returns : goal.returns
-returns c = answers_run report_of _ _ _ _ c.in_ok-end.end _ _ c.in_ok-source.ensures c.in_ok-end.ensures.ran c.in_ok-end.ensures.end c.of.ensures
-    (c.in_ok-report_of.ensures ∙ ap (λ (s : Source). report s.names c.in_ok-end.end) c.deref.ensures ∙ ap (λ (e : Ended). report c.in_ok-source.source.names e) c.in_ok-end.ensures.end)
+returns g c = answers_run in_some_order report_of _ _ _ _ c.in_ok-end.end _ _ refl c.in_ok-end.ensures c.of.ensures c.in_ok-report_of.ensures

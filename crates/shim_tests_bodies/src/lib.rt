@@ -1,0 +1,11 @@
+//! Tests of nets of whole programs, whose processes run compiled code.
+#![tactic(auto)]
+
+#[cfg(test)]
+mod nets;
+#[cfg(test)]
+mod order_rows;
+#[cfg(test)]
+mod piece_rows;
+#[cfg(test)]
+mod worker_rows;
