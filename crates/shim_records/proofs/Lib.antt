@@ -1,0 +1,15 @@
+-- The lemmas of this crate, one module for each subject.
+pub mod Acting
+pub mod Gathering
+pub mod Gone
+pub mod Lowering
+pub mod ManyWays
+pub mod Pairing
+pub mod ReadOff
+pub mod Receives
+pub mod Searching
+pub mod Showing
+pub mod Stepping
+pub mod Together
+pub mod Waits
+pub mod WholeWay

@@ -1,0 +1,135 @@
+-- One step up through the records, by each way out of it.
+use Rattle.std.proofs.Common.{◌≡◌, ◌≢◌, ◌≤◌, ℕ, zero, suc, ◌<◌, Bool, true, false, Option, Some, None, List, [], ◌∷◌, map, length, get_or, slice_set, inl, inr, refl, sym, ap, subst, ◌∙◌, arith}
+use Rattle.std.specs.Prelude.{slice_get}
+use Rattle.std.specs.Option.{option_map}
+use Rattle.std.specs.Vec.{with_item}
+use mathlib.Core.Bool.{beq}
+use Rattle.std.proofs.lemmas.Option.{slice_get_read}
+use Rattle.shim_base.specs.Paths.{Channel}
+use Rattle.shim_base.proofs.Facts.{some_same, none_some}
+use Rattle.shim_laws_records.specs.Counts.{Reading as Read, read_of, all_there, Moved}
+use Rattle.shim_laws_records.specs.Climbing.{CanMove, AreMoved, Climbed, at_top, no_counts, stays, goes_on}
+use Rattle.shim_laws_records.proofs.SameTrees.{same_or_not}
+use Rattle.shim_records.specs.Pairs.{tally, reading_of, place_of, counts_at, counts_in, least_at, up_at, up_in, rest_of, chans_of, Rest}
+use Rattle.shim_records.specs.Ways.{OnlyCounts, StepsUp}
+use Rattle.shim_records.specs.declared.pair.Pair.{Pair}
+use Rattle.shim_records.specs.declared.pair.Reading.{Reading}
+use Rattle.shim_records.specs.declared.record.Record.{Record}
+use Rattle.shim_records.specs.declared.upward.Rise.{Rise}
+use Rattle.shim_records.proofs.Pairing.{Put, put_there, place_within}
+
+pub set_there : {A : Type 0} (xs : List A) (i : ℕ) (x y : A) → slice_get xs i ≡ Some x → slice_get (slice_set xs i y) i ≡ Some y
+set_there [] i x y e = none_some x e
+set_there (z ∷ xs) zero x y e = refl
+set_there (z ∷ xs) (suc i) x y e = set_there xs i x y e
+
+pub set_elsewhere : {A : Type 0} (xs : List A) (i j : ℕ) (y : A) → j ≢ i → slice_get (slice_set xs i y) j ≡ slice_get xs j
+set_elsewhere [] i j y h = refl
+set_elsewhere (z ∷ xs) zero zero y h = absurd (h refl)
+set_elsewhere (z ∷ xs) zero (suc j) y h = refl
+set_elsewhere (z ∷ xs) (suc i) zero y h = refl
+set_elsewhere (z ∷ xs) (suc i) (suc j) y h = set_elsewhere xs i j y (λ e. h (ap suc e))
+
+pub same_items : {A : Type 0} (xs : List A) (i : ℕ) (x : A) → slice_get xs i ≡ Some x → slice_set xs i x ≡ xs
+same_items [] i x e = refl
+same_items (y ∷ xs) zero x e = ap (λ z. z ∷ xs) (sym (some_same y x e))
+same_items (y ∷ xs) (suc i) x e = ap (λ z. y ∷ z) (same_items xs i x e)
+
+-- a list of what items say, where another one says the same
+pub map_set : {A B : Type 0} (f : A → B) (xs : List A) (i : ℕ) (x y : A) → slice_get xs i ≡ Some x → f y ≡ f x → map f (slice_set xs i y) ≡ map f xs
+map_set f [] i x y e h = refl
+map_set f (z ∷ xs) zero x y e h = ap (λ w. w ∷ map f xs) (h ∙ ap f (sym (some_same z x e)))
+map_set f (z ∷ xs) (suc i) x y e h = ap (λ w. f z ∷ w) (map_set f xs i x y e h)
+
+pub past_end : {A : Type 0} (xs : List A) (i : ℕ) → length xs ≤ i → slice_get xs i ≡ None
+past_end [] i h = refl
+past_end (x ∷ xs) zero h = absurd (omega (arith, h))
+past_end (x ∷ xs) (suc i) h = past_end xs i (omega (arith, h))
+
+pub same_bools : (b d : Bool) → beq b d ≡ true → b ≡ d
+same_bools true true e = refl
+same_bools true false e = absurd cc
+same_bools false true e = absurd cc
+same_bools false false e = refl
+
+-- nothing has changed
+pub nothing_changed : (c : Channel) (rs : List Record) → OnlyCounts c rs rs
+nothing_changed c rs = record { rest = refl; elsewhere = λ d far i. refl; labels = λ d i. refl }
+
+-- what is read of two pairs' counts in one record
+abbrev pub with_pair : Record → ℕ → Pair → Record
+with_pair r i q = record { standing = r.standing; first = r.first; parent = r.parent; path = r.path; going = r.going; pairs = with_item r.pairs i q }
+
+-- a record with the same channels in its pairs
+pub rest_with : (r : Record) (cs : List Channel) → cs ≡ chans_of r.pairs.items → record { standing = r.standing; first = r.first; parent = r.parent; path = r.path; going = r.going; chans = cs } ≡ rest_of r
+rest_with r cs e = ap (λ z. let w : Rest = record { standing = r.standing; first = r.first; parent = r.parent; path = r.path; going = r.going; chans = z } in w) e
+
+module _ (c : Channel) (rs : List Record) (here : Rise) where
+  pub top : up_in rs here.at ≡ None → StepsUp c rs here None rs
+  top e = ((λ n. at_top n (counts_in c rs) here.at (reading_of here.was) (reading_of here.is) e), nothing_changed c rs)
+
+  pub uncounted : (j : ℕ) → up_in rs here.at ≡ Some j → counts_in c rs j ≡ None → StepsUp c rs here None rs
+  uncounted j e f = ((λ n. no_counts n (counts_in c rs) here.at j (reading_of here.was) (reading_of here.is) e f), nothing_changed c rs)
+
+  -- the record of a number within
+  pub its : (n i : ℕ) (r : Record) → n ≡ length rs → i < n → r ≡ get_or rs i r → slice_get rs i ≡ Some r
+  its n i r e less is = slice_get_read rs n i r e less is
+
+  pub up_is : (r : Record) (j : Option ℕ) → slice_get rs here.at ≡ Some r → r.parent ≡ j → up_in rs here.at ≡ j
+  up_is r j e f = ap up_at e ∙ f
+
+  module _ (j i : ℕ) (r : Record) (p q : Pair) (up : up_in rs here.at ≡ Some j) (stood : slice_get rs j ≡ Some r) (place : place_of c r.pairs.items ≡ Some i) (is_p : p ≡ get_or r.pairs.items i p)
+      (chan : q.chan ≡ p.chan) (label : q.least ≡ p.least)
+      (moved : CanMove 4294967295 (reading_of here.was) (reading_of here.is) (tally p) → Moved (reading_of here.was) (reading_of here.is) (tally p) (tally q)) where
+    abbrev new : Record
+    new = with_pair r i q
+
+    abbrev now : List Record
+    now = slice_set rs j new
+
+    put : Put c r.pairs.items i p q
+    put = put_there c r.pairs.items i p q place is_p chan label
+
+    stands : slice_get now j ≡ Some new
+    stands = set_there rs j r new stood
+
+    are_moved : AreMoved 4294967295 (counts_in c rs) j (reading_of here.was) (reading_of here.is) (tally p) (tally q) (counts_in c now)
+    are_moved = record {
+      old = ap (counts_at c) stood ∙ ap (option_map tally) put.found;
+      new = ap (counts_at c) stands ∙ ap (option_map tally) put.finds;
+      moved = moved;
+      others = λ k far. ap (counts_at c) (set_elsewhere rs j k new far);
+    }
+
+    -- the channels of its pairs are as before
+    same_chans : chans_of (slice_set r.pairs.items i q) ≡ chans_of r.pairs.items
+    same_chans =
+        map_set (λ z. z.chan.channel) r.pairs.items i p q (slice_get_read r.pairs.items (length r.pairs.items) i p refl (place_within c r.pairs.items i place) is_p) (ap (λ z. z.channel) chan)
+
+    only : OnlyCounts c rs now
+    only = record {
+      rest = map_set rest_of rs j r new stood (rest_with r (chans_of (slice_set r.pairs.items i q)) same_chans);
+      elsewhere = λ d far k. elim (same_or_not k j) [
+        | inl w ↦ ap (λ z. counts_at d (slice_get now z)) w ∙ (ap (counts_at d) stands ∙ (ap (option_map tally) (put.elsewhere d far) ∙ (sym (ap (counts_at d) stood) ∙ sym (ap (λ z. counts_at d (slice_get rs z)) w))))
+        | inr w ↦ ap (counts_at d) (set_elsewhere rs j k new w)
+      ];
+      labels = λ d k. elim (same_or_not k j) [
+        | inl w ↦ ap (λ z. least_at d (slice_get now z)) w ∙ (ap (least_at d) stands ∙ (put.labels d ∙ (sym (ap (least_at d) stood) ∙ sym (ap (λ z. least_at d (slice_get rs z)) w))))
+        | inr w ↦ ap (least_at d) (set_elsewhere rs j k new w)
+      ];
+    }
+
+    pub ends : all_there (tally p) ≡ all_there (tally q) → StepsUp c rs here None now
+    ends same = ((λ n. stays n (counts_in c rs) (counts_in c now) here.at j (reading_of here.was) (reading_of here.is) (tally p) (tally q) up are_moved same), only)
+
+    pub goes : (next : Rise) → next.at ≡ j → reading_of next.was ≡ read_of true (tally p) → reading_of next.is ≡ read_of true (tally q) → StepsUp c rs here (Some next) now
+    goes next at was is = (
+      (λ n behind rest. goes_on n (counts_in c rs) (counts_in c now) behind here.at j (reading_of here.was) (reading_of here.is) (tally p) (tally q) up are_moved
+          (subst (λ z. Climbed (up_in rs) 4294967295 n (counts_in c now) j (read_of true (tally p)) z behind) is (subst (λ z. Climbed (up_in rs) 4294967295 n (counts_in c now) j z (reading_of next.is) behind) was
+          (subst (λ z. Climbed (up_in rs) 4294967295 n (counts_in c now) z (reading_of next.was) (reading_of next.is) behind) at rest)))),
+      only,
+    )
+
+-- what is read of a fork that shares the channel
+pub fork_read : (r : Reading) (b : Bool) (p : Pair) → r ≡ record { joining = true; readiness = b; failing = false } → b ≡ all_there (tally p) → reading_of r ≡ read_of true (tally p)
+fork_read r b p e f = ap reading_of e ∙ ap (λ z. let w : Read = record { joining = true; readiness = z; failing = false } in w) f

@@ -1,0 +1,13 @@
+-- The definitions of this crate, one module for each subject.
+pub mod Pairs
+pub mod Ways
+pub mod Blocks
+pub mod Fresh
+pub mod Receiving
+pub mod Waiting
+pub mod Showing
+pub mod Labels
+pub mod Leaving
+pub mod Recounting
+pub mod AllWays
+pub mod Acted

@@ -1,0 +1,96 @@
+-- Records as lists of what they say: their standings, parents, and counts for a channel.
+use Rattle.std.specs.declared.cmp.Ordering.TheVariants.{Less}
+use Rattle.std.specs.Prelude.{ℕ, suc, Option, Some, None, List, [], ◌∷◌, cond, slice_get, ◌≡◌, ◌<◌, map}
+use Rattle.std.specs.Option.{option_map}
+use Rattle.shim_base.specs.Paths.{Path, Channel, same_channel, channel_order}
+use Rattle.shim_semantics.specs.Nodes.{death}
+use Rattle.shim_laws_records.specs.Seen.{lives, forks, ends, dies}
+use Rattle.shim_laws_records.specs.Agrees.{Standing as Stands, free, used}
+use Rattle.shim_laws_records.specs.Counts.{Tally, Reading as Read}
+use Rattle.shim_records.specs.declared.pair.Pair.{Pair}
+use Rattle.shim_records.specs.declared.pair.Reading.{Reading}
+use Rattle.shim_records.specs.declared.record.Record.{Record}
+use Rattle.shim_records.specs.declared.record.Standing.{Standing}
+use Rattle.shim_records.specs.declared.record.Standing.TheVariants as code
+
+abbrev pub tally : Pair → Tally
+tally p = record { live = p.live; waiting = p.waiting; dead = p.dead }
+
+abbrev pub reading_of : Reading → Read
+reading_of r = record { joining = r.joining; readiness = r.readiness; failing = r.failing }
+
+abbrev pub chans_of : List Pair → List Channel
+chans_of ps = map (λ p. p.chan.channel) ps
+
+-- they stand in order, each once
+pub record IsOrdered (cs : List Channel) : Type 0 where
+  pub order : (i j : ℕ) (a b : Channel) → i < j → slice_get cs i ≡ Some a → slice_get cs j ≡ Some b → channel_order a b ≡ Less
+
+-- where the pair of the channel stands
+abbrev pub place_of : Channel → List Pair → Option ℕ
+place_of c [] = None
+place_of c (p ∷ ps) = cond (same_channel p.chan.channel c) (Some 0) (option_map suc (place_of c ps))
+
+-- the pair of the channel
+abbrev pub pair_of : Channel → List Pair → Option Pair
+pair_of c [] = None
+pair_of c (p ∷ ps) = cond (same_channel p.chan.channel c) (Some p) (pair_of c ps)
+
+abbrev pub find : Channel → List Pair → Option Tally
+find c ps = option_map tally (pair_of c ps)
+
+abbrev pub counts_at : Channel → Option Record → Option Tally
+counts_at c None = None
+counts_at c (Some r) = find c r.pairs.items
+
+-- the counts that the records have for the channel
+abbrev pub counts_in : Channel → List Record → ℕ → Option Tally
+counts_in c rs i = counts_at c (slice_get rs i)
+
+-- the label of a pair, where there is the pair
+abbrev pub label_of : Option Pair → Option ℕ
+label_of None = None
+label_of (Some p) = p.least
+
+abbrev pub least_at : Channel → Option Record → Option ℕ
+least_at c None = None
+least_at c (Some r) = label_of (pair_of c r.pairs.items)
+
+-- the least labels that they have for it
+abbrev pub leasts_in : Channel → List Record → ℕ → Option ℕ
+leasts_in c rs i = least_at c (slice_get rs i)
+
+abbrev pub up_at : Option Record → Option ℕ
+up_at None = None
+up_at (Some r) = r.parent
+
+-- whose fork made whom
+abbrev pub up_in : List Record → ℕ → Option ℕ
+up_in rs i = up_at (slice_get rs i)
+
+-- what came of a process
+abbrev pub stands_by : ℕ → Standing → Stands
+stands_by f code.Free = free
+stands_by f code.Live = used f lives
+stands_by f (code.Forked n) = used f (forks n)
+stands_by f code.Ended = used f ends
+stands_by f (code.Dead x) = used f (dies (death x))
+
+abbrev pub stands_of : Record → Stands
+stands_of r = stands_by r.first r.standing
+
+-- a record without what is counted
+pub record Rest : Type 0 where
+  pub standing : Standing
+  pub first : ℕ
+  pub parent : Option ℕ
+  pub path : Path
+  pub going : ℕ
+  pub chans : List Channel
+
+abbrev pub rest_of : Record → Rest
+rest_of r = record { standing = r.standing; first = r.first; parent = r.parent; path = r.path; going = r.going; chans = chans_of r.pairs.items }
+
+-- the pairs of each record stand in order
+abbrev pub AreOrdered : List Record → Type 0
+AreOrdered rs = (i : ℕ) (r : Record) → slice_get rs i ≡ Some r → IsOrdered (chans_of r.pairs.items)

@@ -1,0 +1,31 @@
+-- How the least labels of records are read off the forks' children again, on the way up.
+use Rattle.std.specs.Prelude.{ℕ, suc, Option, Some, None, List, map}
+use Rattle.shim_base.specs.Paths.{Channel}
+use Rattle.shim_local.specs.Process.{Ops}
+use Rattle.shim_laws_records.specs.Recounting.{Recounted}
+use Rattle.shim_records.specs.Pairs.{counts_in, leasts_in, up_in, stands_of}
+use Rattle.shim_records.specs.Labels.{OnlyLabels}
+use Rattle.shim_records.specs.declared.record.Record.{Record}
+use Rattle.shim_records.specs.declared.record.Standing.{Standing}
+use Rattle.shim_records.specs.declared.record.Standing.TheVariants.{Forked}
+
+-- how many children a fork has
+abbrev pub children_of : Standing → ℕ
+children_of (Forked n) = n
+children_of _ = 0
+
+-- from the labels before to those in the end, with parents and counts as they stood
+abbrev pub Recounts : {S : Type 0} → Ops S → Channel → List S → List Record → ℕ → (ℕ → Option ℕ) → ℕ → (ℕ → Option ℕ) → Type 0
+Recounts o c states rs n labels x end = Recounted o c states (map stands_of rs) (up_in rs) (counts_in c rs) n labels x end
+
+-- the way ends here, however far it might have gone; or it goes on from the parent
+abbrev pub ReadsOn : {S : Type 0} → Ops S → Channel → List S → List Record → ℕ → Option ℕ → List Record → Type 0
+ReadsOn o c states before x None behind = (n : ℕ) → Recounts o c states before n (leasts_in c before) x (leasts_in c behind)
+ReadsOn o c states before x (Some j) behind = (n : ℕ) (end : ℕ → Option ℕ) → Recounts o c states before n (leasts_in c behind) j end → Recounts o c states before (suc n) (leasts_in c before) x end
+
+abbrev pub RecountsOne : {S : Type 0} → Ops S → Channel → List S → List Record → ℕ → Option ℕ → List Record → Type 0
+RecountsOne o c states before x next behind = ReadsOn o c states before x next behind × OnlyLabels c before behind
+
+-- the way was gone through at most so many forks
+abbrev pub IsRecounted : {S : Type 0} → Ops S → Channel → List S → ℕ → ℕ → List Record → List Record → Type 0
+IsRecounted o c states n x before behind = Recounts o c states before n (leasts_in c before) x (leasts_in c behind) × OnlyLabels c before behind

@@ -1,0 +1,108 @@
+// The counts above a process that has done anything by itself, brought up to date for all channels.
+ghost use Rattle.std.specs.Prelude.{◌≡◌, ◌≤◌, true, false, length};
+ghost use Rattle.shim_records.specs.Pairs.{reading_of, AreOrdered};
+ghost use Rattle.shim_records.specs.Acted.{Earlier, sort_of, ClimbsOne, AllGone};
+ghost use Rattle.shim_laws_records.specs.Sufficing.{read_leaf};
+
+use crate::pair::Reading;
+use crate::receiving::stands_at;
+use crate::record::{Record, Standing};
+use crate::upward::climb;
+use shim_base::Chan;
+use shim_local::Local;
+
+// What a fork reads of a process without children, of which this came.
+fn reading_now<L: Local>(process: &L, standing: Standing, c: &Chan) -> Reading
+    ensures { reading_of result ≡ read_leaf L.ops c.now.channel process.now (sort_of standing) }
+{
+    match standing {
+        Standing::Live => Reading {
+            joining: process.shares(c),
+            readiness: stands_at(process, c),
+            failing: false,
+        },
+        Standing::Dead(_) => Reading {
+            joining: false,
+            readiness: false,
+            failing: process.shares(c),
+        },
+        Standing::Free | Standing::Forked(_) | Standing::Ended => Reading {
+            joining: false,
+            readiness: false,
+            failing: false,
+        },
+    }
+}
+
+// Whether the channel stands at no place before this one, of those that the process was given.
+fn is_first<L: Local>(process: &L, c: &Chan, place: usize) -> bool
+    ensures first { result ≡ true → Earlier L.ops process.now c.now.channel place → ⊥ }
+    ensures again { result ≡ false → Earlier L.ops process.now c.now.channel place }
+{
+    for at in 0..place {
+        match process.given(at) {
+            None => {}
+            Some(chan) => {
+                if *chan == *c {
+                    return false;
+                }
+            }
+        }
+    }
+    true
+}
+
+// Goes the way up for the channel, if the process shares it and it stands at no place before.
+fn climb_one<L: Local>(
+    process: &L,
+    standing: Standing,
+    records: &mut Vec<Record>,
+    at: usize,
+    c: &Chan,
+    place: usize,
+    forks: u32,
+)
+    requires { AreOrdered records.old.items }
+    ensures { ClimbsOne L.ops process.now (sort_of standing) forks at c.now.channel place records.old.items records.new.items }
+{
+    if !process.shares(c) {
+        return;
+    }
+    if !is_first(process, c, place) {
+        return;
+    }
+    let was = Reading {
+        joining: true,
+        readiness: false,
+        failing: false,
+    };
+    climb(
+        records,
+        at,
+        c,
+        was,
+        reading_now(process, standing, c),
+        forks,
+    );
+}
+
+/// Brings the counts above a process up to date that has done anything by itself, and of which this came, for
+/// each channel that it was given and shares. It has no children.
+pub fn climb_all<L: Local>(
+    process: &L,
+    standing: Standing,
+    records: &mut Vec<Record>,
+    at: usize,
+    forks: u32,
+)
+    requires ordered { AreOrdered records.old.items }
+    requires few { length (L.ops.given process.now) ≤ 18446744073709551615 }
+    ensures { AllGone L.ops process.now (sort_of standing) forks at records.old.items records.new.items }
+{
+    for place in 0..usize::MAX {
+        match process.given(place) {
+            None => return,
+            Some(chan) => climb_one(process, standing, records, at, chan, place, forks),
+        }
+    }
+}

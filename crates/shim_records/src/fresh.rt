@@ -1,0 +1,137 @@
+// The counts of a new fork's children.
+ghost use Rattle.std.specs.Prelude.{◌≡◌, ◌≤◌, ◌<◌, suc, None, ◌++◌, ◌&&◌, not, [], ◌∷◌, cond, if◌then◌else◌, length, IfOk, OnOk};
+ghost use Rattle.shim_semantics.specs.Nodes.{is_next};
+ghost use Rattle.shim_laws_records.specs.Counts.{fresh_tally};
+ghost use Rattle.shim_records.specs.Pairs.{tally};
+ghost use Rattle.shim_records.specs.Fresh.{shared_of, shared_given, channels, Rises, comes_after, IsOneMore, IsPaired, FreshPairs};
+
+use crate::pair::Pair;
+use crate::receiving::stands_at;
+use shim_base::{Chan, NoMemory};
+use shim_local::Local;
+use std::alloc::Global;
+use std::cmp::Ordering;
+
+// One more, where the test holds.
+fn more(count: u32, test: bool) -> u32
+    requires { count < 4294967295 }
+    ensures { result ≡ (if test then suc count else count) }
+{
+    if test { count + 1 } else { count }
+}
+
+// Whether the process shares the channel, and doesn't stand at it.
+fn waits_for<L: Local>(process: &L, chan: &Chan) -> bool
+    ensures { result ≡ L.ops.shares process.now chan.now.channel && not (is_next (L.ops.stop process.now) chan.now.channel) }
+{
+    process.shares(chan) && !stands_at(process, chan)
+}
+
+// The pair of a channel, of children that have done nothing yet.
+fn counted<L: Local>(chan: Chan, children: &[L]) -> Pair
+    requires few { length children.now ≤ 4294967295 }
+    ensures chan { result.chan ≡ chan }
+    ensures counts { tally result ≡ fresh_tally L.ops chan.channel children.now }
+    ensures label { result.least ≡ None }
+{
+    let mut live = 0;
+    let mut waiting = 0;
+    for i in 0..children.len() {
+        let child = &children[i];
+        live = more(live, child.shares(&chan));
+        waiting = more(waiting, waits_for(child, &chan));
+    }
+    Pair {
+        chan,
+        live,
+        waiting,
+        dead: 0,
+        least: None,
+    }
+}
+
+// The channel behind others, if the process shares it.
+fn gather_one<L: Local>(process: &L, chan: &Chan, chans: &mut Vec<Chan>) -> Result<(), NoMemory>
+    ensures { OnOk result (chans.new.items ≡ chans.old.items ++ cond (L.ops.shares process.now chan.now.channel) (chan.now ∷ []) []) }
+{
+    if process.shares(chan) {
+        chans.push(chan.copy()?)?;
+    }
+    Ok(())
+}
+
+// The channels that a child was given and its parent shares, behind others.
+fn gather<L: Local>(parent: &L, child: &L, chans: &mut Vec<Chan>) -> Result<(), NoMemory>
+    ensures { OnOk result (chans.new.items ≡ chans.old.items ++ shared_of L.ops parent.now (L.ops.given child.now)) }
+{
+    for at in 0..usize::MAX {
+        match child.given(at) {
+            None => return Ok(()),
+            Some(chan) => gather_one(parent, chan, chans)?,
+        }
+    }
+    Err(NoMemory)
+}
+
+// Those of all children.
+fn gather_all<L: Local>(alloc: Global, parent: &L, children: &[L]) -> Result<Vec<Chan>, NoMemory>
+    ensures { IfOk result (λ chans. chans.items ≡ shared_given L.ops parent.now children.now) }
+{
+    let mut chans = Vec::new(alloc);
+    for i in 0..children.len() {
+        gather(parent, &children[i], &mut chans)?;
+    }
+    Ok(chans)
+}
+
+// Whether the channel comes behind those of all pairs.
+fn follows(pairs: &[Pair], chan: &Chan) -> bool
+    ensures { result ≡ comes_after pairs.now chan.now.channel }
+{
+    match pairs.last() {
+        None => true,
+        Some(last) => match last.chan.cmp(chan) {
+            Ordering::Less => true,
+            Ordering::Equal | Ordering::Greater => false,
+        },
+    }
+}
+
+// The pair of a channel behind others, if it isn't that of the last one.
+fn pair_one<L: Local>(pairs: &mut Vec<Pair>, chan: Chan, children: &[L]) -> Result<(), NoMemory>
+    requires few { length children.now ≤ 4294967295 }
+    ensures { OnOk result (IsOneMore L.ops children.now chan.channel pairs.old.items pairs.new.items) }
+{
+    if follows(pairs.as_slice(), &chan) {
+        pairs.push(counted(chan, children))?;
+    }
+    Ok(())
+}
+
+// A pair for each of these channels, which may stand there several times.
+fn paired<L: Local>(alloc: Global, chans: Vec<Chan>, children: &[L]) -> Result<Vec<Pair>, NoMemory>
+    requires few { length children.now ≤ 4294967295 }
+    requires rises { Rises (channels chans.items) }
+    ensures { IfOk result (λ pairs. IsPaired L.ops children.now (channels chans.items) pairs.items) }
+{
+    let mut pairs = Vec::new(alloc);
+    for chan in chans {
+        pair_one(&mut pairs, chan, children)?;
+    }
+    Ok(pairs)
+}
+
+/// The pairs of a fork by which the process made these children: one for each channel that it shares and
+/// gave to a child, with counts of what the children are.
+pub fn fork_pairs<L: Local>(
+    alloc: Global,
+    parent: &L,
+    children: &[L],
+) -> Result<Vec<Pair>, NoMemory>
+    requires few { length children.now ≤ 4294967295 }
+    ensures { IfOk result (λ pairs. FreshPairs L.ops parent.now children.now pairs.items) }
+{
+    let mut chans = gather_all(alloc, parent, children)?;
+    chans.sort()?;
+    paired(alloc, chans, children)
+}

@@ -1,0 +1,72 @@
+// The least labels of dead sharers, brought up to date on the way up from a death.
+ghost use Rattle.std.specs.Prelude.{◌≡◌, Some, false};
+ghost use Rattle.shim_laws_records.specs.Dooms.{lesser};
+ghost use Rattle.shim_records.specs.Pairs.{tally, AreOrdered};
+ghost use Rattle.shim_records.specs.Labels.{LowersOne, IsSunk};
+
+use crate::pair::{Pair, place_in};
+use crate::record::Record;
+use shim_base::Chan;
+
+// Takes a label into those of a pair, and answers whether it was lower.
+fn lower_label(pair: &mut Pair, label: u32) -> bool
+    ensures taken { pair.new.least ≡ lesser pair.old.least (Some label) }
+    ensures stays { result ≡ false → pair.new.least ≡ pair.old.least }
+    ensures chan { pair.new.chan ≡ pair.old.chan }
+    ensures counts { tally pair.new ≡ tally pair.old }
+{
+    match pair.least {
+        None => {
+            pair.least = Some(label);
+            true
+        }
+        Some(least) => {
+            if label < least {
+                pair.least = Some(label);
+                true
+            } else {
+                false
+            }
+        }
+    }
+}
+
+// Takes the label into those of the record's parent, if it has counts for the channel; the parent, where
+// the label was lower than before.
+fn lower_one(records: &mut Vec<Record>, at: usize, c: &Chan, label: u32) -> Option<usize>
+    requires { AreOrdered records.old.items }
+    ensures { LowersOne c.now.channel label records.old.items at result records.new.items }
+{
+    if at >= records.len() {
+        return None;
+    }
+    let above = match records[at].parent {
+        None => return None,
+        Some(above) => above as usize,
+    };
+    if above >= records.len() {
+        return None;
+    }
+    let record = &mut records[above];
+    let place = match place_in(record.pairs.as_slice(), c) {
+        None => return None,
+        Some(place) => place,
+    };
+    let lower = lower_label(&mut record.pairs[place], label);
+    if lower { Some(above) } else { None }
+}
+
+/// Takes the label of a death of a sharer of the channel into the labels above its record, through at most
+/// so many forks: as far up as a fork had none as low.
+pub fn sink(records: &mut Vec<Record>, at: usize, c: &Chan, label: u32, forks: u32)
+    requires { AreOrdered records.old.items }
+    ensures { IsSunk c.now.channel label forks at records.old.items records.new.items }
+{
+    let mut here = at;
+    for gone in 0..forks {
+        match lower_one(records, here, c, label) {
+            None => return,
+            Some(above) => here = above,
+        }
+    }
+}

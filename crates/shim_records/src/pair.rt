@@ -1,0 +1,87 @@
+// What is counted of the children of a fork for a channel.
+ghost use Rattle.std.specs.Prelude.{◌≡◌, ◌≤◌, ◌+◌};
+ghost use Rattle.shim_laws_records.specs.Counts.{bit, all_there, Moved};
+ghost use Rattle.shim_laws_records.specs.Climbing.{CanMove};
+ghost use Rattle.shim_records.specs.Pairs.{tally, reading_of, place_of, chans_of, IsOrdered};
+
+use shim_base::Chan;
+use std::cmp::Ordering;
+
+/// Of the children of a fork that share a channel: how many live or have forked, how many of these aren't
+/// ready on it, and how many are dead.
+#[derive(Drop)]
+pub struct Pair {
+    pub chan: Chan,
+    pub live: u32,
+    pub waiting: u32,
+    pub dead: u32,
+    /// The least label of those at and below the children that share it and are dead.
+    pub least: Option<u32>,
+}
+
+/// What a fork reads of a child on a channel: that it shares it and goes on, is ready, or shares it and is
+/// dead.
+#[derive(Clone, Copy)]
+pub struct Reading {
+    pub joining: bool,
+    pub readiness: bool,
+    pub failing: bool,
+}
+
+// One less for what was read, and one more for what is.
+fn moved(count: u32, was: bool, is: bool) -> u32
+    ensures { bit was ≤ count → count + bit is ≤ 4294967295 + bit was → result + bit was ≡ count + bit is }
+{
+    if was {
+        if is { count } else { count.saturating_sub(1) }
+    } else {
+        if is { count.saturating_add(1) } else { count }
+    }
+}
+
+/// Whether a fork with these counts is ready on the channel.
+pub(crate) fn has_all(pair: &Pair) -> bool
+    ensures { result ≡ all_there (tally pair.now) }
+{
+    if pair.live == 0 {
+        return false;
+    }
+    if pair.waiting == 0 {
+        pair.dead == 0
+    } else {
+        false
+    }
+}
+
+/// The counts with another reading of a child in place of that before.
+pub(crate) fn move_pair(pair: &mut Pair, was: Reading, is: Reading)
+    ensures moved { CanMove 4294967295 (reading_of was) (reading_of is) (tally pair.old) → Moved (reading_of was) (reading_of is) (tally pair.old) (tally pair.new) }
+    ensures same { pair.new.chan ≡ pair.old.chan }
+    ensures label { pair.new.least ≡ pair.old.least }
+{
+    pair.live = moved(pair.live, was.joining, is.joining);
+    pair.waiting = moved(
+        pair.waiting,
+        was.joining && !was.readiness,
+        is.joining && !is.readiness,
+    );
+    pair.dead = moved(pair.dead, was.failing, is.failing);
+}
+
+/// The place of the pair for the channel, among pairs in the order of their channels.
+pub(crate) fn place_in(pairs: &[Pair], c: &Chan) -> Option<usize>
+    requires { IsOrdered (chans_of pairs.now) }
+    ensures { result ≡ place_of c.now.channel pairs.now }
+{
+    let mut low = 0;
+    let mut high = pairs.len();
+    while low < high {
+        let middle = low + (high - low) / 2;
+        match pairs[middle].chan.cmp(c) {
+            Ordering::Equal => return Some(middle),
+            Ordering::Less => low = middle + 1,
+            Ordering::Greater => high = middle,
+        }
+    }
+    None
+}

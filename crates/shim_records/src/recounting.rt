@@ -1,0 +1,148 @@
+// The least labels of dead sharers, read off the forks' children again on the way up from a close.
+ghost use Rattle.std.specs.Prelude.{◌≡◌, false, map};
+ghost use Rattle.shim_laws_records.specs.Dooms.{lesser};
+ghost use Rattle.shim_laws_records.specs.Recounting.{label_at, label_among};
+ghost use Rattle.shim_records.specs.Pairs.{tally, label_of, pair_of, chans_of, stands_of, leasts_in, IsOrdered, AreOrdered};
+ghost use Rattle.shim_records.specs.Recounting.{children_of, RecountsOne, IsRecounted};
+
+use crate::pair::{Pair, place_in};
+use crate::record::{Record, Standing};
+use shim_base::Chan;
+use shim_local::Local;
+
+// The lesser of two labels, where there are any.
+fn lesser_of(one: Option<u32>, other: Option<u32>) -> Option<u32>
+    ensures { result ≡ lesser one other }
+{
+    match one {
+        None => other,
+        Some(x) => match other {
+            None => one,
+            Some(y) => if x < y { one } else { other },
+        },
+    }
+}
+
+// The label that a fork keeps for the channel.
+fn kept(fork: &Record, c: &Chan) -> Option<u32>
+    requires { IsOrdered (chans_of fork.now.pairs.items) }
+    ensures { result ≡ label_of (pair_of c.now.channel fork.now.pairs.items) }
+{
+    match place_in(fork.pairs.as_slice(), c) {
+        None => None,
+        Some(place) => fork.pairs[place].least,
+    }
+}
+
+// The label that its fork reads of the record with this number.
+fn label_of_child<L: Local>(states: &[L], records: &[Record], at: usize, c: &Chan) -> Option<u32>
+    requires { AreOrdered records.now }
+    ensures { result ≡ label_at L.ops c.now.channel states.now (map stands_of records.now) (leasts_in c.now.channel records.now) at }
+{
+    if at >= states.len() {
+        return None;
+    }
+    if at >= records.len() {
+        return None;
+    }
+    match records[at].standing {
+        Standing::Free | Standing::Live | Standing::Ended => None,
+        Standing::Forked(_) => kept(&records[at], c),
+        Standing::Dead(label) => if states[at].shares(c) {
+            Some(label)
+        } else {
+            None
+        },
+    }
+}
+
+// The least one of so many from a number on.
+fn label_of_children<L: Local>(
+    states: &[L],
+    records: &[Record],
+    first: u32,
+    count: u32,
+    c: &Chan,
+) -> Option<u32>
+    requires { AreOrdered records.now }
+    ensures { result ≡ label_among L.ops c.now.channel states.now (map stands_of records.now) (leasts_in c.now.channel records.now) first count }
+{
+    let mut least = None;
+    for i in 0..count {
+        least = lesser_of(
+            least,
+            label_of_child(states, records, first as usize + i as usize, c),
+        );
+    }
+    least
+}
+
+// How many children a fork has.
+fn children(fork: &Record) -> u32
+    ensures { result ≡ children_of fork.now.standing }
+{
+    match fork.standing {
+        Standing::Forked(count) => count,
+        Standing::Free | Standing::Live | Standing::Ended | Standing::Dead(_) => 0,
+    }
+}
+
+// Puts a label in place of that of a pair, and answers whether it is another one.
+fn put_label(pair: &mut Pair, label: Option<u32>) -> bool
+    ensures put { pair.new.least ≡ label }
+    ensures stays { result ≡ false → pair.new.least ≡ pair.old.least }
+    ensures chan { pair.new.chan ≡ pair.old.chan }
+    ensures counts { tally pair.new ≡ tally pair.old }
+{
+    let other = pair.least != label;
+    pair.least = label;
+    other
+}
+
+// Reads the label of the record's parent off its children, if it has counts for the channel; the parent,
+// where the label is another than before.
+fn recount_one<L: Local>(
+    states: &[L],
+    records: &mut Vec<Record>,
+    at: usize,
+    c: &Chan,
+) -> Option<usize>
+    requires { AreOrdered records.old.items }
+    ensures { RecountsOne L.ops c.now.channel states.now records.old.items at result records.new.items }
+{
+    if at >= records.len() {
+        return None;
+    }
+    let above = match records[at].parent {
+        None => return None,
+        Some(above) => above as usize,
+    };
+    if above >= records.len() {
+        return None;
+    }
+    let first = records[above].first;
+    let count = children(&records[above]);
+    let label = label_of_children(states, records.as_slice(), first, count, c);
+    let record = &mut records[above];
+    let place = match place_in(record.pairs.as_slice(), c) {
+        None => return None,
+        Some(place) => place,
+    };
+    let other = put_label(&mut record.pairs[place], label);
+    if other { Some(above) } else { None }
+}
+
+/// Reads the labels above a record off the forks' children again, through at most so many forks: as far up
+/// as a fork's label was another than before.
+pub fn recount<L: Local>(states: &[L], records: &mut Vec<Record>, at: usize, c: &Chan, forks: u32)
+    requires { AreOrdered records.old.items }
+    ensures { IsRecounted L.ops c.now.channel states.now forks at records.old.items records.new.items }
+{
+    let mut here = at;
+    for gone in 0..forks {
+        match recount_one(states, records, here, c) {
+            None => return,
+            Some(above) => here = above,
+        }
+    }
+}
