@@ -92,7 +92,11 @@ fn run_call<R: Print + Threads + Wait + Sync>(
 }
 
 // Makes the calls of a case.
-fn run_case<R: Print + Threads + Wait + Sync>(rt: &R, alloc: Global, case: &Case) -> io::Result<Tally> {
+fn run_case<R: Print + Threads + Wait + Sync>(
+    rt: &R,
+    alloc: Global,
+    case: &Case,
+) -> io::Result<Tally> {
     let mut tally = Tally { made: 0, right: 0 };
     for line in case.lines.iter() {
         for number in 0..line.count() {

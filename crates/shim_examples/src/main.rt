@@ -10,6 +10,7 @@ use std::thread::Threads;
 use std::{env, io, rt};
 
 const WORKERS: [&str; 5] = ["1", "2", "3", "4", "16"];
+
 const QUANTA: [&str; 4] = ["1", "7", "64", "10000"];
 
 // The most bytes that an example writes.
@@ -45,7 +46,7 @@ fn words(alloc: Global, mode: &str, rest: &str) -> Result<Vec<String>, NoMemory>
     Ok(words)
 }
 
-fn answer<R: rt::Files + Threads + Wait + Sync>(
+fn call<R: rt::Files + Threads + Wait + Sync>(
     rt: &R,
     alloc: Global,
     words: &[String],
@@ -57,7 +58,7 @@ fn answer<R: rt::Files + Threads + Wait + Sync>(
     Ok(Answer { status, sink })
 }
 
-fn answer_with<R: rt::Files + Threads + Wait + Sync>(
+fn run_with<R: rt::Files + Threads + Wait + Sync>(
     rt: &R,
     alloc: Global,
     rest: &str,
@@ -68,7 +69,7 @@ fn answer_with<R: rt::Files + Threads + Wait + Sync>(
     for word in ["--workers", workers, "--quantum", quantum] {
         push_word(&mut words, word)?;
     }
-    answer(rt, alloc, &words)
+    call(rt, alloc, &words)
 }
 
 // How many runs, one for each number of workers and each quantum, answer as `ref` does.
@@ -77,11 +78,11 @@ fn count_alike<R: rt::Files + Threads + Wait + Sync>(
     alloc: Global,
     rest: &str,
 ) -> Result<u64, NoMemory> {
-    let meant = answer(rt, alloc, &words(alloc, "ref", rest)?)?;
+    let meant = call(rt, alloc, &words(alloc, "ref", rest)?)?;
     let mut alike = 0u64;
     for workers in WORKERS {
         for quantum in QUANTA {
-            let run = answer_with(rt, alloc, rest, workers, quantum)?;
+            let run = run_with(rt, alloc, rest, workers, quantum)?;
             if run.is_like(&meant) {
                 alike = alike.saturating_add(1);
             }
