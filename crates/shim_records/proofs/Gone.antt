@@ -18,45 +18,45 @@ use Rattle.shim_records.proofs.ManyWays.{rest_same}
 
 -- ---- places in a list
 
-past_none : {A : Type 0} (xs : List A) (i j : ℕ) → slice_get xs i ≡ None → i ≤ j → slice_get xs j ≡ None
+pub past_none : {A : Type 0} (xs : List A) (i j : ℕ) → slice_get xs i ≡ None → i ≤ j → slice_get xs j ≡ None
 past_none [] i j e h = refl
 past_none (x ∷ xs) zero j e h = absurd cc
 past_none (x ∷ xs) (suc i) zero e h = absurd (omega (arith, h))
 past_none (x ∷ xs) (suc i) (suc j) e h = past_none xs i j e (omega (arith, h))
 
-inside : {A : Type 0} (xs : List A) (i : ℕ) (x : A) → slice_get xs i ≡ Some x → i < length xs
+pub inside : {A : Type 0} (xs : List A) (i : ℕ) (x : A) → slice_get xs i ≡ Some x → i < length xs
 inside [] i x e = none_some x e
 inside (y ∷ xs) zero x e = omega arith
 inside (y ∷ xs) (suc i) x e = let w = inside xs i x e in omega (arith, w)
 
-less_or_not : (i j : ℕ) → (i < j) ⊎ (j ≤ i)
+pub less_or_not : (i j : ℕ) → (i < j) ⊎ (j ≤ i)
 less_or_not i zero = inr (omega arith)
 less_or_not zero (suc j) = inl (omega arith)
 less_or_not (suc i) (suc j) = elim (less_or_not i j) [ inl h ↦ inl (omega (arith, h)) | inr h ↦ inr (omega (arith, h)) ]
 
-last_or_before : (i j : ℕ) → i < j + 1 → (i < j) ⊎ (i ≡ j)
+pub last_or_before : (i j : ℕ) → i < j + 1 → (i < j) ⊎ (i ≡ j)
 last_or_before zero zero h = inr refl
 last_or_before zero (suc j) h = inl (omega arith)
 last_or_before (suc i) zero h = absurd (omega (arith, h))
 last_or_before (suc i) (suc j) h = elim (last_or_before i j (omega (arith, h))) [ inl w ↦ inl (omega (arith, w)) | inr w ↦ inr (ap suc w) ]
 
-among_left : (c d : Channel) (cs : List Channel) → Among c cs → Among c (cs ++ d ∷ [])
+pub among_left : (c d : Channel) (cs : List Channel) → Among c cs → Among c (cs ++ d ∷ [])
 among_left c d [] (i, e) = none_some c e
 among_left c d (x ∷ cs) (zero, e) = (0, e)
 among_left c d (x ∷ cs) (suc i, e) = let w = among_left c d cs (i, e) in (suc w.0, w.1)
 
-among_last : (c : Channel) (cs : List Channel) → Among c (cs ++ c ∷ [])
+pub among_last : (c : Channel) (cs : List Channel) → Among c (cs ++ c ∷ [])
 among_last c [] = (0, refl)
 among_last c (x ∷ cs) = let w = among_last c cs in (suc w.0, w.1)
 
-among_either : (c d : Channel) (cs : List Channel) → Among c (cs ++ d ∷ []) → Among c cs ⊎ (d ≡ c)
+pub among_either : (c d : Channel) (cs : List Channel) → Among c (cs ++ d ∷ []) → Among c cs ⊎ (d ≡ c)
 among_either c d [] (zero, e) = inr (some_same d c e)
 among_either c d [] (suc i, e) = none_some c e
 among_either c d (x ∷ cs) (zero, e) = inl (0, e)
 among_either c d (x ∷ cs) (suc i, e) = elim (among_either c d cs (i, e)) [ inl w ↦ inl (suc w.0, w.1) | inr w ↦ inr w ]
 
 -- one more way behind others
-one_behind : (was is : Channel → Read) (n x : ℕ) {cs : List Channel} {a b : List Record} (d : List Record) (c : Channel) (read reads : Reading) → AllClimbed was is n x cs a b → (Among c cs → ⊥) → reading_of read ≡ was c → reading_of reads ≡ is c → IsClimbed c n x read reads b d
+pub one_behind : (was is : Channel → Read) (n x : ℕ) {cs : List Channel} {a b : List Record} (d : List Record) (c : Channel) (read reads : Reading) → AllClimbed was is n x cs a b → (Among c cs → ⊥) → reading_of read ≡ was c → reading_of reads ≡ is c → IsClimbed c n x read reads b d
     → AllClimbed was is n x (cs ++ c ∷ []) a d
 one_behind was is n x d c read reads (none_left rs) out e f way = one_more c [] read reads rs d d none_there e f way (none_left d)
   where

@@ -1,5 +1,7 @@
 -- The lemmas of this crate, one module for each subject.
 pub mod Acting
+pub mod AllKilled
+pub mod AllSinks
 pub mod Gathering
 pub mod Gone
 pub mod Lowering

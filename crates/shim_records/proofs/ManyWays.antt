@@ -20,7 +20,7 @@ use Rattle.shim_records.proofs.WholeWay.{rest_ups}
 use Rattle.shim_records.proofs.ReadOff.{same_stands}
 
 -- another channel than the first is among those behind it
-among_rest : (c d : Channel) (cs : List Channel) → same_channel d c ≡ false → Among c (d ∷ cs) → Among c cs
+pub among_rest : (c d : Channel) (cs : List Channel) → same_channel d c ≡ false → Among c (d ∷ cs) → Among c cs
 among_rest c d cs far (zero, e) = absurd (clash (same_channel d c) (ap (λ z. same_channel z c) (some_same d c e) ∙ same_channel_refl c) far)
 among_rest c d cs far (suc i, e) = (i, e)
 

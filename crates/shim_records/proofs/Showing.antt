@@ -66,7 +66,7 @@ module _ {A : Type 0} where
   one_long zero x (y ∷ ys) h = omega arith
   one_long (suc g) x (y ∷ ys) h = let w = one_long g x ys (omega (arith, h)) in omega (arith, w)
 
-  block_out : (g : ℕ) (xs ys : List A) (j : ℕ) → g ≤ length ys → ((b : ℕ) → b < length xs → j ≢ g + b) → slice_get (with_block g xs ys) j ≡ slice_get ys j
+  pub block_out : (g : ℕ) (xs ys : List A) (j : ℕ) → g ≤ length ys → ((b : ℕ) → b < length xs → j ≢ g + b) → slice_get (with_block g xs ys) j ≡ slice_get ys j
   block_out g [] ys j h n = refl
   block_out g (x ∷ xs) ys j h n =
       block_out (g + 1) xs (with_one g x ys) j (one_long g x ys h) (λ b less e. n (suc b) (omega (arith, less)) (e ∙ next g b))
@@ -78,7 +78,7 @@ module _ {A : Type 0} where
       here : (g : ℕ) → g ≡ g + 0
       here g = omega arith
 
-  block_in : (g : ℕ) (xs ys : List A) (b : ℕ) (x : A) → g ≤ length ys → slice_get xs b ≡ Some x → slice_get (with_block g xs ys) (g + b) ≡ Some x
+  pub block_in : (g : ℕ) (xs ys : List A) (b : ℕ) (x : A) → g ≤ length ys → slice_get xs b ≡ Some x → slice_get (with_block g xs ys) (g + b) ≡ Some x
   block_in g [] ys b x h e = none_some x e
   block_in g (y ∷ xs) ys zero x h e =
       let at : g + 0 ≡ g = omega arith in

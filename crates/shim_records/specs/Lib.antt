@@ -11,3 +11,5 @@ pub mod Leaving
 pub mod Recounting
 pub mod AllWays
 pub mod Acted
+pub mod Died
+pub mod Killed

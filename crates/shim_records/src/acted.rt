@@ -35,7 +35,7 @@ fn reading_now<L: Local>(process: &L, standing: Standing, c: &Chan) -> Reading
 }
 
 // Whether the channel stands at no place before this one, of those that the process was given.
-fn is_first<L: Local>(process: &L, c: &Chan, place: usize) -> bool
+pub(crate) fn is_first<L: Local>(process: &L, c: &Chan, place: usize) -> bool
     ensures first { result ≡ true → Earlier L.ops process.now c.now.channel place → ⊥ }
     ensures again { result ≡ false → Earlier L.ops process.now c.now.channel place }
 {

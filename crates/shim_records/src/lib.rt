@@ -7,7 +7,9 @@
 
 mod acted;
 mod blocks;
+mod died;
 mod fresh;
+mod killed;
 mod labels;
 /// What the calls do to records, and what records show.
 pub mod laws;
@@ -21,10 +23,12 @@ mod worklist;
 
 pub use acted::climb_all;
 pub use blocks::{free_block, put_block};
+pub use died::sink_all;
 pub use fresh::fork_pairs;
+pub use killed::kill_all;
 pub use labels::sink;
 pub use leaving::leave;
-pub use pair::{Pair, Reading};
+pub use pair::{Pair, Reading, has_all, place_in};
 pub use receiving::{receive_one, stands_at};
 pub use record::{Record, Standing};
 pub use recounting::recount;

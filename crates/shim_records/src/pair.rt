@@ -40,7 +40,7 @@ fn moved(count: u32, was: bool, is: bool) -> u32
 }
 
 /// Whether a fork with these counts is ready on the channel.
-pub(crate) fn has_all(pair: &Pair) -> bool
+pub fn has_all(pair: &Pair) -> bool
     ensures { result ≡ all_there (tally pair.now) }
 {
     if pair.live == 0 {
@@ -69,7 +69,7 @@ pub(crate) fn move_pair(pair: &mut Pair, was: Reading, is: Reading)
 }
 
 /// The place of the pair for the channel, among pairs in the order of their channels.
-pub(crate) fn place_in(pairs: &[Pair], c: &Chan) -> Option<usize>
+pub fn place_in(pairs: &[Pair], c: &Chan) -> Option<usize>
     requires { IsOrdered (chans_of pairs.now) }
     ensures { result ≡ place_of c.now.channel pairs.now }
 {

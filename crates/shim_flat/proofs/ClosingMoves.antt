@@ -1,0 +1,212 @@
+-- A close of a fork: what its parts ask for, and that the tree moves by it.
+use Rattle.std.proofs.Common.{◌≡◌, ◌<◌, ◌≤◌, ◌+◌, ◌⊎◌, ℕ, false, Option, Some, List, map, take, length, get_or, slice_set, refl, sym, ap, subst, ◌∙◌, arith}
+use Rattle.std.specs.Prelude.{slice_get, unwrap_or}
+use Rattle.std.specs.Option.{option_map}
+use Rattle.std.proofs.lemmas.List.{length-set}
+use Rattle.std.proofs.lemmas.Option.{slice_get_within}
+use Rattle.shim_base.proofs.Facts.{some_same}
+use Rattle.shim_local.specs.Process.{Ops}
+use Rattle.shim_local.specs.Laws.{LocalLaws}
+use Rattle.shim_semantics.specs.Nodes.{death, state}
+use Rattle.shim_semantics.specs.Acts.{Acted, closed}
+use Rattle.shim_semantics.specs.Trees.{Close}
+use Rattle.shim_laws_records.specs.Seen.{forks, sort}
+use Rattle.shim_laws_records.specs.Agrees.{free as unused_so, used, Has}
+use Rattle.shim_laws_records.proofs.Hanging.{tree_of}
+use Rattle.shim_laws_records.specs.Changes.{HasClosed, block, prevailing_among}
+use Rattle.shim_records.specs.Acted.{sort_of, AllGone}
+use Rattle.shim_records.specs.Pairs.{stands_of, stands_by, chans_of, IsOrdered, AreOrdered}
+use Rattle.shim_records.specs.declared.record.Record.{Record}
+use Rattle.shim_records.specs.declared.record.Standing.{Standing}
+use Rattle.shim_records.specs.declared.record.Standing.TheVariants as code
+use Rattle.shim_records.proofs.Showing.{map_get}
+use Rattle.shim_records.proofs.Stepping.{set_there}
+use Rattle.shim_laws_keeping.specs.Flats.{FlatView, Keeps, IsKept}
+use Rattle.shim_laws_keeping.specs.Moves.{MovesBy}
+use Rattle.shim_laws_closes.specs.Closing.{Beside, beside_of, AreFreed, HasCome, LeavesIf, RecountedIf}
+use Rattle.shim_laws_closes.proofs.Closed.{behind as behind_close, given_few}
+use Rattle.shim_laws_closes.proofs.Closes.{closes_keep, stands_stay}
+use Rattle.shim_laws_closes.proofs.Cuts.{cut, closed_cut}
+use Rattle.shim_laws_closes.proofs.Saying.{map_length, said_alike, was_item}
+use Rattle.shim_laws_closes.proofs.Taking.{born, below, within, apart}
+use Rattle.shim_flat.specs.Closing.{CanClose, told_by, CameTo, acted_by, sort_left, ClosesHere, fork_size, ClosesRecord}
+use Rattle.shim_flat.specs.declared.closing.CloseOutcome.{CloseOutcome}
+use Rattle.shim_flat.specs.declared.closing.CloseOutcome.TheVariants.{GoesOn, Caught, Died}
+use Rattle.shim_flat.proofs.ClosingTakes.{read_there}
+use Rattle.shim_flat.specs.Touching.{TouchesAbove}
+use Rattle.shim_flat.proofs.TouchingCloses.{closes_touch}
+use Rattle.shim_flat.proofs.TouchingCuts.{cut_touched}
+
+-- what a record of a fork says
+forked_says : (f g n : ℕ) (s : Standing) → stands_by f s ≡ used g (forks n) → (f ≡ g) × (fork_size s ≡ n)
+forked_says f g n code.Free e = absurd cc
+forked_says f g n code.Live e = absurd cc
+forked_says f g n (code.Forked m) e = (cc, cc)
+forked_says f g n code.Ended e = absurd cc
+forked_says f g n (code.Dead x) e = absurd cc
+
+state_told : {S : Type 0} (outcome : CloseOutcome) (x : ℕ) (s : S) → state (acted_by outcome x s).node ≡ s
+state_told GoesOn x s = refl
+state_told (Caught name line) x s = refl
+state_told Died x s = refl
+
+sort_told : {S : Type 0} (outcome : CloseOutcome) (x : ℕ) (s : S) → sort (acted_by outcome x s).node ≡ sort_left outcome x
+sort_told GoesOn x s = refl
+sort_told (Caught name line) x s = refl
+sort_told Died x s = refl
+
+effects_told : {S : Type 0} (outcome : CloseOutcome) (x : ℕ) (s : S) → (acted_by outcome x s).effects ≡ told_by outcome
+effects_told GoesOn x s = refl
+effects_told (Caught name line) x s = refl
+effects_told Died x s = refl
+
+came_to : {S : Type 0} (outcome : CloseOutcome) (x : ℕ) (s : S) → CameTo outcome (sort (acted_by outcome x s).node)
+came_to GoesOn x s = refl
+came_to (Caught name line) x s = refl
+came_to Died x s = (death x, refl)
+
+-- records that say the same beside what came of their processes have their pairs in the same order
+pub freed_order : (g n : ℕ) (before behind : List Record) → AreFreed g n before behind → AreOrdered before → AreOrdered behind
+freed_order g n before behind h ordered i r e = let w = was_item beside_of before behind h.beside i r e in subst (λ z. IsOrdered (chans_of z)) (ap (λ (z : Beside). z.pairs) w.2) (ordered i w.0 w.1)
+
+pub freed_long : (g n : ℕ) (before behind : List Record) → AreFreed g n before behind → length behind ≡ length before
+freed_long g n before behind h = sym (map_length beside_of behind) ∙ (ap length h.beside ∙ map_length beside_of before)
+
+module _ {S : Type 0} (states : List S) (rs : List Record) (number : ℕ) (done : CanClose (record { states = states; records = rs }) number) where
+  -- its number is that of a record and of a state
+  pub record_there : number < length rs
+  record_there = slice_get_within rs number done.said done.there
+
+  pub state_there : number < length states
+  state_there = slice_get_within states number done.process done.forked.state_is
+
+  -- the record that was read tells of its children
+  pub forked_so : (r p : Record) (n : ℕ) → r ≡ get_or rs number r → p ≡ get_or rs number p → n ≡ fork_size p.standing → Has states (map stands_of rs) number r.first done.process (forks n)
+  forked_so r p n is_r is_p is_n =
+      let so : stands_of done.said ≡ used done.first (forks done.many) = some_same (stands_of done.said) (used done.first (forks done.many)) (sym (map_get stands_of rs number ∙ ap (option_map stands_of) done.there) ∙ done.forked.stands_so) in
+      let told = forked_says done.said.first done.first done.many done.said.standing so in
+      let first : r.first ≡ done.first = ap (λ (z : Record). z.first) (read_there rs number r done.said record_there is_r done.there) ∙ told.0 in
+      let many : n ≡ done.many = is_n ∙ (ap (λ (z : Record). fork_size z.standing) (read_there rs number p done.said record_there is_p done.there) ∙ told.1) in
+      subst (λ z. Has states (map stands_of rs) number z done.process (forks n)) (sym first) (subst (λ z. Has states (map stands_of rs) number done.first done.process (forks z)) (sym many) done.forked)
+
+module _ {S : Type 0} (o : Ops S) (law : LocalLaws o) (states : List S) (rs : List Record) (number : ℕ) (kept : IsKept o (record { states = states; records = rs })) (done : CanClose (record { states = states; records = rs }) number) (first count : ℕ)
+    (has : Has states (map stands_of rs) number first done.process (forks count)) where
+  -- ---- what is asked for
+
+  pub is_apart : (number < first) ⊎ (first + count ≤ number)
+  is_apart = apart o law kept.0 states rs kept.1 number first count done.process kept.2 has
+
+  pub states_within : first + count ≤ length states
+  states_within = within o law kept.0 states rs kept.1 number first count done.process kept.2 has
+
+  pub records_within : first + count ≤ length rs
+  records_within = let w = states_within in let same = kept.2.beside in omega (arith, w, same)
+
+  pub are_born : (l : S) → slice_get states number ≡ Some l → o.born l (block first count states)
+  are_born l e = subst (λ z. o.born z (block first count states)) (some_same done.process l (sym done.forked.state_is ∙ e)) (born o law kept.0 states rs kept.1 number first count done.process kept.2 has)
+
+  pub is_below : (label : Option ℕ) → option_map death label ≡ prevailing_among (block first count (map stands_of rs)) → (l : S) (x : ℕ) → slice_get states number ≡ Some l → label ≡ Some x → x < o.handlers (o.join l (block first count states) false)
+  is_below label read l x e f =
+      subst (λ z. x < o.handlers (o.join z (block first count states) false)) (some_same done.process l (sym done.forked.state_is ∙ e))
+      (below o law kept.0 states rs kept.1 number first count done.process kept.2 has (death x) (sym read ∙ ap (option_map death) f))
+
+  pub are_ordered : AreOrdered rs
+  are_ordered = kept.2.ordered
+
+  -- ---- what came of it
+
+  module _ (label : Option ℕ) (outcome : CloseOutcome) (now : List S) (read : option_map death label ≡ prevailing_among (block first count (map stands_of rs)))
+      (taken : (l : S) → slice_get states number ≡ Some l → (s : S) × (now ≡ slice_set states number s) × (acted_by outcome (unwrap_or label 0) s ≡ closed o l (block first count states) (option_map death label))) where
+    last : (s : S) × (now ≡ slice_set states number s) × (acted_by outcome (unwrap_or label 0) s ≡ closed o done.process (block first count states) (option_map death label))
+    last = taken done.process done.forked.state_is
+
+    abbrev a : Acted S
+    a = acted_by outcome (unwrap_or label 0) last.0
+
+    is : a ≡ closed o done.process (block first count states) (prevailing_among (block first count (map stands_of rs)))
+    is = last.2 ∙ ap (closed o done.process (block first count states)) read
+
+    state_is : state a.node ≡ last.0
+    state_is = state_told outcome (unwrap_or label 0) last.0
+
+    set : now ≡ slice_set states number (state a.node)
+    set = last.1 ∙ ap (slice_set states number) (sym state_is)
+
+    its : (s : S) → slice_get now number ≡ Some s → s ≡ state a.node
+    its s e = some_same s (state a.node) (sym e ∙ (ap (λ z. slice_get z number) set ∙ set_there states number done.process (state a.node) done.forked.state_is))
+
+    pub few : (s : S) → slice_get now number ≡ Some s → length (o.given s) ≤ 18446744073709551615
+    few s e = subst (λ z. length (o.given z) ≤ 18446744073709551615) (sym (its s e)) (given_few o law kept.0 (tree_of o kept.1) states rs number first count done.process done.said a kept.2 has done.there done.none_goes is)
+
+    pub still_there : number < length now
+    still_there = let w = state_there states rs number done in let long = ap length set ∙ length-set states number (state a.node) in omega (arith, w, long)
+
+    module _ (freed behind : List Record) (standing : Standing) (end : ℕ) (free : AreFreed first count rs freed) (sort_is : sort_of standing ≡ sort_left outcome (unwrap_or label 0))
+        (settled : ClosesRecord o now number standing (option_map death label) freed behind) (unused : (i : ℕ) (r : Record) → end ≤ i → slice_get behind i ≡ Some r → stands_of r ≡ unused_so) where
+      same_sort : sort_of standing ≡ sort a.node
+      same_sort = sort_is ∙ sym (sort_told outcome (unwrap_or label 0) last.0)
+
+      same_state : settled.process ≡ state a.node
+      same_state = its settled.process settled.state_is
+
+      same_beside : beside_of settled.was ≡ beside_of done.said
+      same_beside = some_same (beside_of settled.was) (beside_of done.said) (sym (ap (option_map beside_of) settled.there) ∙ (said_alike beside_of rs freed free.beside number ∙ ap (option_map beside_of) done.there))
+
+      come : HasCome done.said settled.is (sort a.node)
+      come = record {
+        first = settled.come.first;
+        stands_so = subst (λ z. stands_of settled.is ≡ used settled.come.first z) same_sort settled.come.stands_so;
+        parent = settled.come.parent ∙ ap (λ (z : Beside). z.parent) same_beside;
+        path = settled.come.path ∙ ap (λ (z : Beside). z.path) same_beside;
+        no_pairs = settled.come.no_pairs;
+      }
+
+      leaves : LeavesIf (sort a.node) number (slice_set freed number settled.is) settled.left
+      leaves = subst (λ z. LeavesIf z number (slice_set freed number settled.is) settled.left) same_sort settled.leaves
+
+      gone : AllGone o (state a.node) (sort a.node) 4294967295 number settled.left settled.between
+      gone = subst (λ z. AllGone o z (sort a.node) 4294967295 number settled.left settled.between) same_state (subst (λ z. AllGone o settled.process z 4294967295 number settled.left settled.between) same_sort settled.gone)
+
+      again : RecountedIf (prevailing_among (block first count (map stands_of rs))) o (slice_set states number (state a.node)) (state a.node) 4294967295 number settled.between behind
+      again = subst (λ z. RecountedIf (prevailing_among (block first count (map stands_of rs))) o z (state a.node) 4294967295 number settled.between behind) set
+          (subst (λ z. RecountedIf z o now (state a.node) 4294967295 number settled.between behind) read (subst (λ z. RecountedIf (option_map death label) o now z 4294967295 number settled.between behind) same_state settled.again))
+
+      abbrev After : FlatView S
+      After = record { states = take end now; records = take end behind }
+
+      pub moves : MovesBy o (Close (o.path done.process)) (record { states = states; records = rs }) After
+      moves rp t was =
+          let w = closes_keep o law rp t states rs freed settled.left settled.between behind number first count done.process done.said settled.is a was has done.there done.none_goes is free come leaves gone again in
+          (w.0, w.1, subst (λ z. Keeps o rp (record { states = take end z; records = take end behind }) w.0.root) (sym set) (cut o rp w.0.root (slice_set states number (state a.node)) behind end w.2 unused))
+
+      pub still_kept : IsKept o After
+      still_kept = let w = moves kept.0 (tree_of o kept.1) kept.2 in (kept.0, w.0.root, w.2)
+
+      closes : HasClosed states (slice_set states number (state a.node)) (map stands_of rs) (map stands_of behind) number first count (state a.node) (sort a.node)
+      closes =
+          subst (λ z. HasClosed states (slice_set states number (state a.node)) (map stands_of rs) z number first count (state a.node) (sort a.node))
+          (sym (stands_stay o (slice_set states number (state a.node)) (state a.node) (sort a.node) 4294967295 number (slice_set freed number settled.is) settled.left settled.between behind (prevailing_among (block first count (map stands_of rs))) leaves gone again))
+          (behind_close o law kept.0 (tree_of o kept.1) states rs number first count done.process done.said a kept.2 has done.there done.none_goes is freed settled.is free come).closes
+
+      touches : TouchesAbove number (record { states = states; records = rs }) After
+      touches =
+          let w = closes_keep o law kept.0 (tree_of o kept.1) states rs freed settled.left settled.between behind number first count done.process done.said settled.is a kept.2 has done.there done.none_goes is free come leaves gone again in
+          subst (λ z. TouchesAbove number (record { states = states; records = rs }) (record { states = take end z; records = take end behind })) (sym set)
+          (cut_touched o (record { states = slice_set states number (state a.node); records = behind }) end unused number (record { states = states; records = rs }) (kept.0, w.0.root, w.2) (closes.first, state a.node, sort a.node, closes.parent)
+          (closes_touch o states rs freed settled.left settled.between behind number first count done.said settled.is (state a.node) (sort a.node) (prevailing_among (block first count (map stands_of rs))) free done.there come leaves gone again))
+
+      pub closes_here : ClosesHere o number outcome (record { states = states; records = rs }) After
+      closes_here = record {
+        first = first;
+        many = count;
+        process = done.process;
+        forked = has;
+        left = a;
+        does = is;
+        told = effects_told outcome (unwrap_or label 0) last.0;
+        came = came_to outcome (unwrap_or label 0) last.0;
+        becomes = subst (λ z. HasClosed states (take end z) (map stands_of rs) (map stands_of (take end behind)) number first count (state a.node) (sort a.node)) (sym set)
+            (closed_cut (slice_set states number (state a.node)) behind end unused states (map stands_of rs) number first count (state a.node) (sort a.node) closes);
+        moves = moves;
+        touches = touches;
+      }

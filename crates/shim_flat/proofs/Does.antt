@@ -1,0 +1,163 @@
+-- What one live process did by itself in place, as an event of the tree that is shown.
+use Rattle.std.proofs.Common.{◌≡◌, ◌≤◌, ◌<◌, ℕ, Bool, false, cond, ltb, ltb-true, Option, Some, List, length, get_or, slice_set, inl, inr, refl, sym, ap, subst, ◌∙◌, arith}
+use Rattle.std.specs.Prelude.{slice_get}
+use Rattle.std.proofs.lemmas.Option.{slice_get_read, slice_get_within}
+use Rattle.std.proofs.lemmas.Bool.{lt-ltb}
+use Rattle.shim_base.proofs.Facts.{some_same, true_or_false}
+use Rattle.shim_local.specs.Process.{Ops, StopView, AtPut, AtThrow}
+use Rattle.shim_local.specs.Laws.{LocalLaws}
+use Rattle.shim_semantics.specs.Nodes.{Live, Dead, death, goes, state}
+use Rattle.shim_semantics.specs.Acts.{Acted, Effects, nothing, putting, catching, act_live}
+use Rattle.shim_semantics.specs.Places.{at}
+use Rattle.shim_semantics.proofs.Replaced.{sound_at}
+use Rattle.shim_laws_records.specs.Seen.{Sort, lives, place}
+use Rattle.shim_laws_records.specs.Agrees.{used}
+use Rattle.shim_laws_records.proofs.SameTrees.{seen_live}
+use Rattle.shim_laws_records.proofs.Hanging.{tree_of}
+use Rattle.shim_records.specs.Pairs.{stands_of, chans_of, IsOrdered, AreOrdered}
+use Rattle.shim_records.specs.Acted.{sort_of}
+use Rattle.shim_records.specs.declared.record.Record.{Record}
+use Rattle.shim_records.specs.declared.record.Standing.{Standing}
+use Rattle.shim_records.proofs.Stepping.{map_set}
+use Rattle.shim_records.proofs.Showing.{map_get}
+use Rattle.shim_records.proofs.WholeWay.{kept_order}
+use Rattle.shim_laws_keeping.specs.Flats.{FlatView, HasProcess, IsKept}
+use Rattle.shim_laws_keeping.specs.Moves.{MovesBy}
+use Rattle.shim_laws_keeping.specs.Arriving.{Arrives}
+use Rattle.shim_laws_keeping.specs.Acting.{event_of, left_by, marked, TakesIn, Leaves}
+use Rattle.shim_laws_keeping.proofs.Acts.{lives_on}
+use Rattle.shim_laws_keeping.proofs.Moved.{from_map}
+use Rattle.shim_laws_keeping.proofs.OneLess.{found}
+use Rattle.shim_laws_keeping.proofs.Gone.{leaves_keep}
+use Rattle.shim_laws_keeping.proofs.Marks.{left_sort, rest_taken, changed_then}
+use Rattle.shim_flat.specs.Stepping.{LivesAt, HasBecome}
+use Rattle.shim_flat.specs.Acting.{ActsHere}
+use Rattle.shim_flat.proofs.HereSteps.{read_set, has_become}
+use Rattle.shim_flat.proofs.TouchingOwn.{arrival_touches, leaving_touches}
+
+-- a record that says what came of its process has its pairs in order
+pub marked_order : (rs : List Record) (x : ℕ) (r : Record) (k : Standing) → slice_get rs x ≡ Some r → AreOrdered rs → AreOrdered (slice_set rs x (marked k r))
+marked_order rs x r k there h i q e =
+    let w = found (λ (z : Record). chans_of z.pairs.items) rs (slice_set rs x (marked k r)) i q (map_set (λ (z : Record). chans_of z.pairs.items) rs x r (marked k r) there refl) e in
+    subst IsOrdered w.2 (h i w.0 w.1)
+
+-- so it is behind the labels
+pub taken_order : {S : Type 0} (o : Ops S) (s : S) (rs behind : List Record) (n x : ℕ) (r : Record) (k : Standing) → slice_get rs x ≡ Some r → AreOrdered rs → TakesIn o s k n x (slice_set rs x (marked k r)) behind → AreOrdered behind
+taken_order o s rs behind n x r k there h takes = kept_order (slice_set rs x (marked k r)) behind (rest_taken o s k n x (slice_set rs x (marked k r)) behind takes) (marked_order rs x r k there h)
+
+module _ {S : Type 0} (o : Ops S) where
+  -- ---- what is known of a live process before anything is done
+
+  module _ (states : List S) (rs : List Record) (x : ℕ) (stop : StopView) (l : S) (here : LivesAt o (record { states = states; records = rs }) x stop) (read : l ≡ get_or states x l) where
+    is : slice_get states x ≡ Some l
+    is = slice_get_read states (length states) x l refl (slice_get_within states x here.1 here.2.state_is) read
+
+    pub its : HasProcess (record { states = states; records = rs }) x here.0 l lives
+    its = record { state_is = is; stands_so = here.2.stands_so }
+
+    pub stood : o.stop l ≡ stop
+    stood = ap o.stop (some_same l here.1 (sym is ∙ here.2.state_is)) ∙ here.3
+
+  -- one state stands there, however often it is read
+  pub one_read : (states : List S) (rs : List Record) (x : ℕ) (stop : StopView) (l m : S) → LivesAt o (record { states = states; records = rs }) x stop → l ≡ get_or states x l → m ≡ get_or states x m → l ≡ m
+  one_read states rs x stop l m here read again = some_same l m (sym (is states rs x stop l here read) ∙ is states rs x stop m here again)
+
+  -- its record
+  pub record_there : (states : List S) (rs : List Record) (x : ℕ) (stop : StopView) → LivesAt o (record { states = states; records = rs }) x stop → (r : Record) × (slice_get rs x ≡ Some r)
+  record_there states rs x stop here = let w = from_map stands_of (slice_get rs x) (used here.0 lives) (sym (map_get stands_of rs x) ∙ here.2.stands_so) in (w.0, w.1)
+
+  pub inside_records : (states : List S) (rs : List Record) (x : ℕ) (stop : StopView) → LivesAt o (record { states = states; records = rs }) x stop → x < length rs
+  inside_records states rs x stop here = let w = record_there states rs x stop here in slice_get_within rs x w.0 w.1
+
+  pub inside_states : (states : List S) (rs : List Record) (x : ℕ) (stop : StopView) → LivesAt o (record { states = states; records = rs }) x stop → x < length states
+  inside_states states rs x stop here = slice_get_within states x here.1 here.2.state_is
+
+  -- it is sound, and wasn't given too much
+  pub is_sound : (states : List S) (rs : List Record) (x f : ℕ) (l : S) → IsKept o (record { states = states; records = rs }) → HasProcess (record { states = states; records = rs }) x f l lives → o.sound l
+  is_sound states rs x f l kept has = sound_at o (place o kept.0 l) kept.1 (Live l) kept.2.shows.sound.below (seen_live (at (place o kept.0 l) kept.1) l (kept.2.shows.agrees.shown x f l lives has))
+
+  pub few_given : (states : List S) (rs : List Record) (x f : ℕ) (l : S) → IsKept o (record { states = states; records = rs }) → HasProcess (record { states = states; records = rs }) x f l lives → length (o.given l) ≤ 18446744073709551615
+  few_given states rs x f l kept has =
+      let w = from_map stands_of (slice_get rs x) (used f lives) (sym (map_get stands_of rs x) ∙ has.stands_so) in
+      (kept.2.fit x f l lives w.0 has w.1).few
+
+  pub in_order : (v : FlatView S) → IsKept o v → AreOrdered v.records
+  in_order v kept = kept.2.ordered
+
+  -- ---- what it does
+
+  pub puts : (l s : S) (byte : Option ℕ) → byte ≡ o.byte l → s ≡ o.put l → act_live o l AtPut ≡ Some (record { node = Live s; effects = putting byte })
+  puts l s byte told next = λ i. let a : Acted S = record { node = Live (sym next i); effects = putting (sym told i) } in Some a
+
+  abbrev dead_of : S → ℕ → Acted S
+  dead_of l label = record { node = Dead l (death label); effects = nothing }
+
+  abbrev caught_by : S → ℕ → Acted S
+  caught_by l label = record { node = Live (o.unwind l label); effects = catching (o.handler l label) }
+
+  pub throw_dies : (l : S) (label : ℕ) → label < o.base l → act_live o l (AtThrow label) ≡ Some (record { node = Dead l (death label); effects = nothing })
+  throw_dies l label less = ap (λ (b : Bool). Some (cond b (dead_of l label) (caught_by l label))) (lt-ltb label (o.base l) less)
+
+  pub throw_caught : (l s : S) (label : ℕ) (h : ℕ × ℕ) → o.base l ≤ label → s ≡ o.unwind l label → h ≡ o.handler l label → act_live o l (AtThrow label) ≡ Some (record { node = Live s; effects = catching h })
+  throw_caught l s label h past next by =
+      ap (λ (b : Bool). Some (cond b (dead_of l label) (caught_by l label))) none
+      ∙ (λ i. let a : Acted S = record { node = Live (sym next i); effects = catching (sym by i) } in Some a)
+    where
+      none : ltb label (o.base l) ≡ false
+      none = elim (true_or_false (ltb label (o.base l))) [ inl w ↦ let less = ltb-true label (o.base l) w in absurd (omega (arith, less, past)) | inr w ↦ w ]
+
+  -- a label that isn't below those in force around it is one of its own
+  pub can_catch : LocalLaws o → (states : List S) (rs : List Record) (x label b : ℕ) (l read_first : S) → IsKept o (record { states = states; records = rs }) → LivesAt o (record { states = states; records = rs }) x (AtThrow label) → l ≡ get_or states x l → read_first ≡ get_or states x read_first
+      → b ≡ o.base read_first → b ≤ label → (o.base l ≤ label) × (label < o.handlers l)
+  can_catch law states rs x label b l read_first kept here read first e past =
+      let base : b ≡ o.base l = e ∙ ap o.base (one_read states rs x (AtThrow label) read_first l here first read) in
+      (subst (λ z. z ≤ label) base past, law.throw_below l label (is_sound states rs x here.0 l kept (its states rs x (AtThrow label) l here read)) (stood states rs x (AtThrow label) l here read))
+
+  -- ---- what was done
+
+  -- the records still show a tree
+  pub still_kept : (x : ℕ) (stop : StopView) (k : Sort) (effects : Effects) (before behind : FlatView S) → ActsHere o x stop k effects before behind → IsKept o before → IsKept o behind
+  still_kept x stop k effects before behind did h = let w = did.moves h.0 (tree_of o h.1) h.2 in (h.0, w.0.root, w.2)
+
+  module _ (law : LocalLaws o) (states : List S) (rs behind : List Record) (x : ℕ) (stop : StopView) (effects : Effects) (l : S) (here : LivesAt o (record { states = states; records = rs }) x stop) (read : l ≡ get_or states x l) where
+    has : HasProcess (record { states = states; records = rs }) x here.0 l lives
+    has = its states rs x stop l here read
+
+    stop_is : o.stop l ≡ stop
+    stop_is = stood states rs x stop l here read
+
+    -- it lives on
+    pub lives_here : (s now : S) → now ≡ get_or (slice_set states x s) x now → Arrives o now 4294967295 x rs behind → act_live o l stop ≡ Some (record { node = Live s; effects = effects })
+        → ActsHere o x stop lives effects (record { states = states; records = rs }) (record { states = slice_set states x s; records = behind })
+    lives_here s now read_then came does =
+        let arrives = subst (λ z. Arrives o z 4294967295 x rs behind) (read_set states x l s now has.state_is read_then) came in
+        record {
+          first = here.0;
+          process = l;
+          has = has;
+          stood = stop_is;
+          left = Live s;
+          does = does;
+          came = refl;
+          becomes = has_become o states rs behind x here.0 l s has arrives;
+          moves = subst (λ z. MovesBy o (event_of z (o.path l)) (record { states = states; records = rs }) (record { states = slice_set states x s; records = behind })) stop_is
+              (lives_on o law states rs behind x here.0 l s effects has (ap (act_live o l) stop_is ∙ does) arrives);
+          touches = arrival_touches o s 4294967295 x states rs behind arrives;
+        }
+
+    module _ (k : Standing) (gone : goes (left_by l k) ≡ false) (leaves : Leaves o l k 4294967295 x rs behind) where
+      -- it ends or dies
+      pub leaves_here : act_live o l stop ≡ Some (record { node = left_by l k; effects = effects }) → ActsHere o x stop (sort_of k) effects (record { states = states; records = rs }) (record { states = states; records = behind })
+      leaves_here does = record {
+        first = here.0;
+        process = l;
+        has = has;
+        stood = stop_is;
+        left = left_by l k;
+        does = does;
+        came = left_sort l k gone;
+        becomes = subst (λ z. HasBecome x (state (left_by l k)) z (record { states = states; records = rs }) (record { states = states; records = behind })) (left_sort l k gone) (changed_then o states rs behind l k x here.0 has leaves gone);
+        moves = subst (λ z. MovesBy o (event_of z (o.path l)) (record { states = states; records = rs }) (record { states = states; records = behind })) stop_is
+            (leaves_keep o law states rs behind x here.0 l k effects has (ap (act_live o l) stop_is ∙ does) gone leaves);
+        touches = leaving_touches o l k 4294967295 x states rs behind leaves;
+      }

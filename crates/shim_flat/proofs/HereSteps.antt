@@ -1,0 +1,122 @@
+-- What quiet steps in place are to the tree.
+use Rattle.std.proofs.Common.{◌≡◌, ◌≢◌, ◌<◌, ℕ, Bool, true, false, Some, List, [], ◌∷◌, ◌++◌, length, map, get_or, slice_set, refl, sym, ap, subst, ◌∙◌}
+use Rattle.std.specs.Prelude.{slice_get}
+use Rattle.std.specs.Option.{option_map}
+use Rattle.std.proofs.lemmas.Option.{slice_get_read, slice_get_within}
+use Rattle.std.proofs.lemmas.List.{length-set}
+use Rattle.shim_base.proofs.Facts.{some_same}
+use Rattle.shim_local.specs.Process.{Ops, StopView, AtQuiet}
+use Rattle.shim_local.specs.Laws.{LocalLaws}
+use Rattle.shim_local.specs.Quiets.{QuietSteps}
+use Rattle.shim_laws_records.specs.Seen.{lives}
+use Rattle.shim_laws_records.specs.Agrees.{used}
+use Rattle.shim_laws_records.specs.Changes.{HasChanged}
+use Rattle.shim_laws_records.proofs.Hanging.{tree_of}
+use Rattle.shim_records.specs.Pairs.{stands_of, stands_by, rest_of}
+use Rattle.shim_records.specs.declared.record.Record.{Record}
+use Rattle.shim_records.specs.declared.record.Standing.{Standing}
+use Rattle.shim_records.specs.declared.record.Standing.TheVariants as code
+use Rattle.shim_records.proofs.Stepping.{set_there, set_elsewhere}
+use Rattle.shim_records.proofs.Showing.{map_get}
+use Rattle.shim_records.proofs.ReadOff.{same_stands}
+use Rattle.shim_laws_keeping.specs.Flats.{FlatView, HasProcess, IsKept}
+use Rattle.shim_laws_keeping.specs.Moves.{AdvancesBy}
+use Rattle.shim_laws_keeping.specs.Arriving.{Arrives, nowhere, there}
+use Rattle.shim_laws_keeping.proofs.Steps.{advanced}
+use Rattle.shim_flat.specs.Stepping.{HasBecome, LivesAt, IsLive, IsBeforeQuiet, StepsHere, stepped, is_live}
+
+-- one value behind none
+pub one_pushed : {A : Type 0} (new old : List A) (x : A) → new ≡ old ++ x ∷ [] → old ≡ [] → new ≡ x ∷ []
+one_pushed new old x e none = e ∙ ap (λ z. z ++ x ∷ []) none
+
+-- what stands where another value was put
+pub read_set : {A : Type 0} (xs : List A) (i : ℕ) (x y z : A) → slice_get xs i ≡ Some x → z ≡ get_or (slice_set xs i y) i z → z ≡ y
+read_set xs i x y z e h = some_same z y (sym (slice_get_read (slice_set xs i y) (length (slice_set xs i y)) i z refl within h) ∙ set_there xs i x y e)
+  where
+    within : i < length (slice_set xs i y)
+    within = subst (λ n. i < n) (sym (length-set xs i y)) (slice_get_within xs i x e)
+
+live_stands : (f : ℕ) (k : Standing) → is_live k ≡ true → stands_by f k ≡ used f lives
+live_stands f code.Free e = absurd cc
+live_stands f code.Live e = refl
+live_stands f (code.Forked n) e = absurd cc
+live_stands f code.Ended e = absurd cc
+live_stands f (code.Dead x) e = absurd cc
+
+no_longer_lives : (f g : ℕ) (k : Standing) → is_live k ≡ false → stands_by f k ≡ used g lives → ⊥
+no_longer_lives f g code.Free e h = absurd cc
+no_longer_lives f g code.Live e h = absurd cc
+no_longer_lives f g (code.Forked n) e h = absurd cc
+no_longer_lives f g code.Ended e h = absurd cc
+no_longer_lives f g (code.Dead x) e h = absurd cc
+
+-- what a record says of its process
+pub is_alive : {S : Type 0} (v : FlatView S) (i : ℕ) (l : S) (r : Record) → slice_get v.states i ≡ Some l → slice_get v.records i ≡ Some r → IsLive i v (is_live r.standing)
+is_alive {S} v i l r state record_is = on (is_live r.standing) refl
+  where
+    says : slice_get (map stands_of v.records) i ≡ Some (stands_of r)
+    says = map_get stands_of v.records i ∙ ap (option_map stands_of) record_is
+
+    on : (b : Bool) → is_live r.standing ≡ b → IsLive i v b
+    on true e = (r.first, l, record { state_is = state; stands_so = says ∙ ap Some (live_stands r.first r.standing e) })
+    on false e = λ f s has. no_longer_lives r.first f r.standing e (some_same (stands_of r) (used f lives) (sym says ∙ has.stands_so))
+
+-- what is read of the state of a live process
+pub state_read : {S : Type 0} (v : FlatView S) (i : ℕ) (l : S) → IsLive i v true → l ≡ get_or v.states i l → slice_get v.states i ≡ Some l
+state_read v i l here read = slice_get_read v.states (length v.states) i l refl (slice_get_within v.states i here.1 here.2.state_is) read
+
+pub within_states : {S : Type 0} (v : FlatView S) (i : ℕ) → IsLive i v true → i < length v.states
+within_states v i here = slice_get_within v.states i here.1 here.2.state_is
+
+module _ {S : Type 0} (o : Ops S) where
+  pub stands_at : (v : FlatView S) (i : ℕ) (l : S) (stop : StopView) → IsLive i v true → l ≡ get_or v.states i l → stop ≡ o.stop l → LivesAt o v i stop
+  stands_at v i l stop here read e = (here.0, l, record { state_is = state_read v i l here read; stands_so = here.2.stands_so }, sym e)
+
+  pub before_quiet : (v : FlatView S) (i : ℕ) (l : S) (b : Bool) → IsLive i v true → l ≡ get_or v.states i l → (b ≡ true → o.stop l ≡ AtQuiet) → (b ≡ false → o.stop l ≢ AtQuiet) → IsBeforeQuiet o i v b
+  before_quiet v i l true here read quiet other = stands_at v i l AtQuiet here read (sym (quiet refl))
+  before_quiet v i l false here read quiet other = λ f s has e. other refl (ap o.stop (some_same l s (sym (state_read v i l here read) ∙ has.state_is)) ∙ e)
+
+  -- one process alone stands there
+  pub no_longer_quiet : (v : FlatView S) (i f : ℕ) (l : S) → HasProcess v i f l lives → o.stop l ≢ AtQuiet → IsBeforeQuiet o i v false
+  no_longer_quiet v i f l has other g s h e = other (ap o.stop (some_same l s (sym has.state_is ∙ h.state_is)) ∙ e)
+
+  -- beside the counts the records say what they did
+  pub rest_arrived : (s : S) (n x : ℕ) (before behind : List Record) → Arrives o s n x before behind → map rest_of behind ≡ map rest_of before
+  rest_arrived s n x before behind (nowhere e same) = ap (map rest_of) same
+  rest_arrived s n x before behind (there d was is e u v climbed) = climbed.1.rest
+
+  module _ (states : List S) (rs behind : List Record) (x f : ℕ) (l s : S) (has : HasProcess (record { states = states; records = rs }) x f l lives) (arrives : Arrives o s 4294967295 x rs behind) where
+    -- another state stands in the record of a live process
+    pub has_become : HasBecome x s lives (record { states = states; records = rs }) (record { states = slice_set states x s; records = behind })
+    has_become = subst (λ z. HasChanged states (slice_set states x s) (map stands_of rs) z x s lives) (sym (same_stands rs behind (rest_arrived s 4294967295 x rs behind arrives))) (record {
+      first = f;
+      mine = record { state_is = set_there states x l s has.state_is; stands_so = has.stands_so };
+      others = λ j d t k n h. record { state_is = set_elsewhere states x j s n ∙ h.state_is; stands_so = h.stands_so };
+      only = λ j d t k n h. record { state_is = sym (set_elsewhere states x j s n) ∙ h.state_is; stands_so = h.stands_so };
+    })
+
+  module _ (law : LocalLaws o) (states : List S) (rs behind : List Record) (x n : ℕ) (l last now : S) (before : IsBeforeQuiet o x (record { states = states; records = rs }) true) (read : l ≡ get_or states x l) (taken : QuietSteps o n l last)
+      (read_then : now ≡ get_or (slice_set states x last) x now) (came : Arrives o now 4294967295 x rs behind) where
+    is : slice_get states x ≡ Some l
+    is = slice_get_read states (length states) x l refl (slice_get_within states x before.1 before.2.state_is) read
+
+    its : HasProcess (record { states = states; records = rs }) x before.0 l lives
+    its = record { state_is = is; stands_so = before.2.stands_so }
+
+    stop : o.stop l ≡ AtQuiet
+    stop = ap o.stop (some_same l before.1 (sym is ∙ before.2.state_is)) ∙ before.3
+
+    pub arrives : Arrives o last 4294967295 x rs behind
+    arrives = subst (λ z. Arrives o z 4294967295 x rs behind) (read_set states x l last now is read_then) came
+
+    advances : AdvancesBy o (o.path l) n (record { states = states; records = rs }) (record { states = slice_set states x last; records = behind })
+    advances rp t kept = advanced o law rp t states rs behind n x before.0 l last kept its stop taken arrives
+
+    pub steps_here : StepsHere o x n (record { states = states; records = rs }) (record { states = slice_set states x last; records = behind })
+    steps_here = stepped before.0 l last its stop taken (has_become states rs behind x before.0 l last its arrives) advances
+
+    pub still_kept : IsKept o (record { states = states; records = rs }) → IsKept o (record { states = slice_set states x last; records = behind })
+    still_kept h = let w = advances h.0 (tree_of o h.1) h.2 in (h.0, w.0.root, w.2)
+
+    pub other_stop : o.stop last ≢ AtQuiet → IsBeforeQuiet o x (record { states = slice_set states x last; records = behind }) false
+    other_stop other = let b = has_become states rs behind x before.0 l last its arrives in no_longer_quiet (record { states = slice_set states x last; records = behind }) x b.first last b.mine other

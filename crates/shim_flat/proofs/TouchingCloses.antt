@@ -1,0 +1,86 @@
+-- A close touches the records of its process, of its children, which are free behind it, and of the forks above it.
+use Rattle.std.proofs.Common.{arith, length, ◌≡◌, ◌≢◌, ◌<◌, ℕ, ◌+◌, Option, Some, None, List, slice_set, refl, sym, ap, ◌∙◌}
+use Rattle.std.specs.Prelude.{slice_get}
+use Rattle.std.specs.Option.{option_map}
+use Rattle.shim_base.specs.Paths.{Channel}
+use Rattle.shim_base.proofs.Facts.{some_same}
+use Rattle.shim_local.specs.Process.{Ops}
+use Rattle.shim_semantics.specs.Nodes.{Death}
+use Rattle.shim_laws_records.specs.Seen.{Sort, lives, forks, ends, dies}
+use Rattle.shim_laws_records.specs.Agrees.{free, used}
+use Rattle.shim_records.specs.Pairs.{up_in, stands_of}
+use Rattle.shim_records.specs.Acted.{AllGone}
+use Rattle.shim_records.specs.declared.record.Record.{Record}
+use Rattle.shim_records.proofs.Showing.{map_get}
+use Rattle.shim_records.proofs.Stepping.{set_elsewhere}
+use Rattle.shim_laws_keeping.specs.Flats.{FlatView, HasProcess}
+use Rattle.shim_laws_waking.specs.Waking.{IsAsBefore}
+use Rattle.shim_laws_waking.proofs.PairsFound.{record_of, from_map}
+use Rattle.shim_laws_waking.proofs.Same.{had}
+use Rattle.shim_laws_closes.specs.Closing.{Beside, beside_of, AreFreed, HasCome, LeavesIf, AllRecounted, none_left, one_more, GivenRecounted, RecountedIf}
+use Rattle.shim_laws_closes.proofs.Saying.{map_length}
+use Rattle.shim_flat.specs.Touching.{IsAbove, TouchesAbove}
+use Rattle.shim_flat.proofs.Above.{above_as}
+use Rattle.shim_flat.proofs.Touching.{SaysAsBefore, TouchesRecords, touches_none, touches_on, touches_set, same_record, says_on, reads_off, leaving}
+use Rattle.shim_flat.proofs.TouchingOwn.{all_gone}
+
+module _ {S : Type 0} (o : Ops S) (states : List S) where
+  pub all_read_off : (n x : ℕ) (cs : List Channel) (before behind : List Record) → AllRecounted o states n x cs before behind → TouchesRecords x before behind
+  all_read_off n x cs before behind (none_left rs) = touches_none x rs rs refl
+  all_read_off n x cs before behind (one_more c ds first between last way more) = touches_on x first between last (reads_off o c states n x first between way) (all_read_off n x ds between last more)
+
+  pub given_read_off : (s : S) (n x : ℕ) (before behind : List Record) → GivenRecounted o states s n x before behind → TouchesRecords x before behind
+  given_read_off s n x before behind h = all_read_off n x h.chans before behind h.recounted
+
+  pub recounted_if : (d : Option Death) (s : S) (n x : ℕ) (before behind : List Record) → RecountedIf d o states s n x before behind → TouchesRecords x before behind
+  recounted_if None s n x before behind h = touches_none x before behind h
+  recounted_if (Some d) s n x before behind h = given_read_off s n x before behind h
+
+pub leaves_if : (k : Sort) (x : ℕ) (before behind : List Record) → LeavesIf k x before behind → TouchesRecords x before behind
+leaves_if lives x before behind h = touches_none x before behind h
+leaves_if (forks n) x before behind h = touches_none x before behind h
+leaves_if ends x before behind h = leaving x before behind h
+leaves_if (dies d) x before behind h = leaving x before behind h
+
+module _ {S : Type 0} (o : Ops S) (states : List S) (rs freed left between behind : List Record) (i g n : ℕ) (q r : Record) (s : S) (k : Sort) (d : Option Death) (free_ones : AreFreed g n rs freed) (at_q : slice_get rs i ≡ Some q) (come : HasCome q r k)
+    (leaves : LeavesIf k i (slice_set freed i r) left) (gone : AllGone o s k 4294967295 i left between) (again : RecountedIf d o (slice_set states i s) s 4294967295 i between behind) where
+  abbrev now : List S
+  now = slice_set states i s
+
+  -- the record of the fork once its children's ones are free
+  its : (z : Record) × (slice_get freed i ≡ Some z) × (beside_of z ≡ beside_of q)
+  its = from_map beside_of (slice_get freed i) (beside_of q) (sym (map_get beside_of freed i) ∙ (ap (λ z. slice_get z i) free_ones.beside ∙ (map_get beside_of rs i ∙ ap (option_map beside_of) at_q)))
+
+  touches : TouchesRecords i freed behind
+  touches =
+      let own = slice_set freed i r in
+      touches_on i freed own behind (touches_set i freed its.0 r its.1 (come.parent ∙ sym (ap (λ (z : Beside). z.parent) its.2)))
+      (touches_on i own left behind (leaves_if k i own left leaves)
+      (touches_on i left between behind (all_gone o s k 4294967295 i left between gone) (recounted_if o now d s 4294967295 i between behind again)))
+
+  -- who is in use behind isn't one of the children
+  no_child : (j f : ℕ) (t : S) (h : Sort) → HasProcess (record { states = now; records = behind }) j f t h → SaysAsBefore freed behind j → (b : ℕ) → b < n → j ≢ g + b
+  no_child j f t h has said b less e =
+      let same : IsAsBefore (record { states = now; records = freed }) (record { states = now; records = behind }) j = record { state = refl; rest = said.rest; counts = said.counts; labels = said.labels } in
+      let was = had (record { states = now; records = freed }) (record { states = now; records = behind }) j same f t h has in
+      let w = record_of freed j f h was.stands_so in
+      let is_free = free_ones.freed.inside b w.0 less (ap (slice_get freed) (sym e) ∙ w.1) in
+      not_free f h (sym is_free ∙ some_same (stands_of w.0) (used f h) (sym (map_get stands_of freed j ∙ ap (option_map stands_of) w.1) ∙ was.stands_so))
+    where
+      not_free : {B : Type 0} (f : ℕ) (h : Sort) → free ≡ used f h → B
+      not_free f h e = absurd cc
+
+  freed_long : length freed ≡ length rs
+  freed_long = sym (map_length beside_of freed) ∙ (ap length free_ones.beside ∙ map_length beside_of rs)
+
+  abbrev After : FlatView S
+  After = record { states = now; records = behind }
+
+  others : (j f : ℕ) (t : S) (h : Sort) → HasProcess After j f t h → j ≢ i → (IsAbove (up_in behind) i j → ⊥) → IsAsBefore (record { states = states; records = rs }) After j
+  others j f t h has far out =
+      let said = touches.others j far (λ w. out (above_as (up_in freed) (up_in behind) touches.parents w)) in
+      let w = says_on rs freed behind j (same_record rs freed j (free_ones.freed.outside j (no_child j f t h has said))) said in
+      record { state = set_elsewhere states i j s far; rest = w.rest; counts = w.counts; labels = w.labels }
+
+  pub closes_touch : TouchesAbove i (record { states = states; records = rs }) After
+  closes_touch = record { others = others; no_more = let a = touches.as_many in let b = freed_long in omega (arith, a, b) }

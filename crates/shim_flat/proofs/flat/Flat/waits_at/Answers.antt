@@ -1,0 +1,12 @@
+use Rattle.std.proofs.Common.{true, sym, subst}
+use Rattle.shim_flat.specs.Stepping.{IsLive}
+use Rattle.shim_flat.specs.Meeting.{WaitsAt}
+use Rattle.shim_flat.proofs.HereMeets.{waits}
+use Rattle.shim_flat.proofs.flat.Flat.waits_at.Goals as goal
+
+pub returns : goal.returns
+returns g c =
+    let v = c.self.inside in
+    let live = subst (λ z. IsLive c.args.at z true) (sym c.self.view_is) c.if-not-lives.ensures in
+    subst (λ z. WaitsAt g.L.Local.ops c.args.c.now.channel c.args.at z c.stands_at.result) c.self.view_is
+    (waits g.L.Local.ops c.args.c.now.channel (record { states = v.states.items; records = v.records.items }) c.args.at c.index.result.now c.stands_at.result live c.index.ensures c.stands_at.ensures)

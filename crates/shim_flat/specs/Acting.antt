@@ -1,0 +1,41 @@
+-- What a call did to one live process by itself, as an event.
+use Rattle.std.specs.Prelude.{◌≡◌, ℕ, Some}
+use Rattle.shim_base.specs.declared.operators.Trap.{Trap}
+use Rattle.shim_local.specs.Process.{Ops, StopView, AtTrap}
+use Rattle.shim_semantics.specs.Nodes.{Node, death, state}
+use Rattle.shim_semantics.specs.Acts.{Effects, nothing, catching, act_live}
+use Rattle.shim_laws_records.specs.Seen.{Sort, lives, dies, sort}
+use Rattle.shim_laws_keeping.specs.Flats.{FlatView, HasProcess}
+use Rattle.shim_laws_keeping.specs.Moves.{MovesBy}
+use Rattle.shim_laws_keeping.specs.Acting.{event_of}
+use Rattle.shim_flat.specs.Stepping.{LivesAt, HasBecome}
+use Rattle.shim_flat.specs.Touching.{TouchesAbove}
+use Rattle.shim_flat.specs.declared.acting.Thrown.{Thrown}
+use Rattle.shim_flat.specs.declared.acting.Thrown.TheVariants as thrown
+
+-- the process with this number lives, and stands trapped
+abbrev pub IsTrappedAt : {S : Type 0} → Ops S → FlatView S → ℕ → Type 0
+IsTrappedAt o v number = (kind : Trap) × (line : ℕ) × LivesAt o v number (AtTrap kind line)
+
+-- The live process with this number stood so, and did the one thing that it can do by itself: this came of it, these effects are told, the tree moves by that event, no other process has changed, and of the records none but its own and those of the forks above.
+pub record ActsHere {S : Type 0} (o : Ops S) (number : ℕ) (stop : StopView) (k : Sort) (effects : Effects) (before behind : FlatView S) : Type 0 where
+  pub first : ℕ
+  pub process : S
+  pub has : HasProcess before number first process lives
+  pub stood : o.stop process ≡ stop
+  pub left : Node S
+  pub does : act_live o process stop ≡ Some (record { node = left; effects = effects })
+  pub came : sort left ≡ k
+  pub becomes : HasBecome number (state left) k before behind
+  pub moves : MovesBy o (event_of stop (o.path process)) before behind
+  pub touches : TouchesAbove number before behind
+
+-- what came of a process that threw the exception of this label
+abbrev pub sort_by : ℕ → Thrown → Sort
+sort_by label (thrown.Caught name line) = lives
+sort_by label thrown.Died = dies (death label)
+
+-- what is told of it
+abbrev pub told_of : Thrown → Effects
+told_of (thrown.Caught name line) = catching (name, line)
+told_of thrown.Died = nothing

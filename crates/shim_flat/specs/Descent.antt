@@ -1,0 +1,36 @@
+-- Numbers that are still to be looked at on a descent, as blocks of children that lie together.
+use Rattle.std.specs.Prelude.{◌≡◌, ℕ, true, false, Option, Some, None, List, [], ◌∷◌, ◌++◌}
+use Rattle.shim_base.specs.Paths.{Channel}
+use Rattle.shim_local.specs.Process.{Ops}
+use Rattle.shim_laws_records.specs.Seen.{Sort}
+use Rattle.shim_laws_keeping.specs.Flats.{FlatView, HasProcess}
+use Rattle.shim_laws_meetings.specs.Descents.{children, numbers_from, Descends}
+use Rattle.shim_records.specs.declared.record.Standing.{Standing}
+use Rattle.shim_records.specs.declared.record.Standing.TheVariants as code
+use Rattle.shim_flat.specs.declared.descent.Block.{Block}
+
+-- the numbers of one block
+abbrev pub inside : Block → List ℕ
+inside b = numbers_from b.first b.count
+
+-- those of all blocks, the last one first
+abbrev pub ahead_of : List Block → List ℕ
+ahead_of [] = []
+ahead_of (b ∷ bs) = ahead_of bs ++ inside b
+
+-- how many children it has of which this came; none where the record is free
+abbrev pub children_by : Standing → Option ℕ
+children_by code.Free = None
+children_by code.Live = Some 0
+children_by (code.Forked n) = Some n
+children_by code.Ended = Some 0
+children_by (code.Dead x) = Some 0
+
+-- the process with this number shares the channel, and these are its children; or it doesn't
+abbrev pub IsSharer : {S : Type 0} → Ops S → FlatView S → Channel → ℕ → Option Block → Type 0
+IsSharer {S} o v c i None = (f : ℕ) (s : S) (k : Sort) → HasProcess v i f s k → o.shares s c ≡ false
+IsSharer {S} o v c i (Some b) = (s : S) × (k : Sort) × HasProcess v i b.first s k × (o.shares s c ≡ true) × (b.count ≡ children k)
+
+-- what is found from then on, behind what was found before, is found from there
+abbrev pub LeadsOn : {S : Type 0} → Ops S → FlatView S → Channel → List ℕ → List ℕ → List ℕ → List ℕ → Type 0
+LeadsOn o v c ahead found ahead' found' = (more : List ℕ) → Descends o v c ahead' more → (all : List ℕ) × Descends o v c ahead all × (found ++ all ≡ found' ++ more)

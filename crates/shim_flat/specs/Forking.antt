@@ -1,0 +1,61 @@
+-- What a fork in place did.
+use Rattle.std.specs.Prelude.{◌≡◌, ◌≢◌, ◌<◌, ◌≤◌, ℕ, ◌+◌, Bool, true, false, Some, List, slice_get, slice_set, length}
+use Rattle.shim_local.specs.Process.{Ops, AtFork, Parted, Trapped}
+use Rattle.shim_semantics.specs.Trees.{Own}
+use Rattle.shim_laws_records.specs.Seen.{Sort, lives, forks}
+use Rattle.shim_laws_records.specs.Agrees.{free}
+use Rattle.shim_records.specs.Pairs.{stands_of}
+use Rattle.shim_records.specs.declared.record.Record.{Record}
+use Rattle.shim_laws_keeping.specs.Flats.{FlatView, HasProcess}
+use Rattle.shim_laws_keeping.specs.Moves.{MovesBy}
+use Rattle.shim_flat.specs.Touching.{TouchesAbove, TouchesForking}
+use Rattle.shim_flat.specs.declared.forking.ForkOutcome.{ForkOutcome}
+use Rattle.shim_flat.specs.declared.forking.ForkOutcome.TheVariants as outcome
+
+-- The process with this number forked into so many, which have numbers from the first one on; every other process has its number and all that it had.
+pub record HasForkedHere {S : Type 0} (o : Ops S) (number first count : ℕ) (before behind : FlatView S) : Type 0 where
+  pub was_first : ℕ
+  pub was : S
+  pub is : S
+  pub born : List S
+  pub lived : HasProcess before number was_first was lives
+  pub stood : o.stop was ≡ AtFork
+  pub forked : o.fork was ≡ Parted is born
+  pub many : length born ≡ count
+  pub fits : first + count ≤ 4294967295
+  pub parent : HasProcess behind number first is (forks count)
+  pub children : (b : ℕ) (k : S) → slice_get born b ≡ Some k → (d : ℕ) × HasProcess behind (first + b) d k lives
+  pub others : (j d : ℕ) (s : S) (k : Sort) → j ≢ number → HasProcess before j d s k → HasProcess behind j d s k
+  pub moves : MovesBy o (Own (o.path was)) before behind
+  pub touches : TouchesForking number first count before behind
+
+-- its fork trapped, and it lives on
+pub record HasTrappedHere {S : Type 0} (o : Ops S) (number : ℕ) (before behind : FlatView S) : Type 0 where
+  pub first : ℕ
+  pub was : S
+  pub is : S
+  pub lived : HasProcess before number first was lives
+  pub stood : o.stop was ≡ AtFork
+  pub trapped : o.fork was ≡ Trapped is
+  pub behind_is : behind ≡ record { states = slice_set before.states number is; records = before.records }
+  pub moves : MovesBy o (Own (o.path was)) before behind
+  pub touches : TouchesAbove number before behind
+
+abbrev pub ForksHere : {S : Type 0} → Ops S → ℕ → FlatView S → FlatView S → ForkOutcome → Type 0
+ForksHere {S} o number before behind (outcome.Forked first count) = HasForkedHere o number first count before behind
+ForksHere {S} o number before behind outcome.Trapped = HasTrappedHere o number before behind
+ForksHere {S} o number before behind outcome.NoFork = (behind ≡ before) × ((f : ℕ) (l : S) → HasProcess before number f l lives → o.stop l ≢ AtFork)
+
+-- whether the process with this number lives and stands at a fork
+abbrev pub IsBeforeFork : {S : Type 0} → Ops S → ℕ → FlatView S → Bool → Type 0
+IsBeforeFork {S} o i v true = (f : ℕ) × (l : S) × HasProcess v i f l lives × (o.stop l ≡ AtFork)
+IsBeforeFork {S} o i v false = (f : ℕ) (l : S) → HasProcess v i f l lives → o.stop l ≢ AtFork
+
+-- so many records from the number g on are free, or behind all others
+pub record IsFreeBlock (g n : ℕ) (rs : List Record) : Type 0 where
+  pub inside : g ≤ length rs
+  pub free_ones : (b : ℕ) (r : Record) → b < n → slice_get rs (g + b) ≡ Some r → stands_of r ≡ free
+
+-- the process with this number lives, stands at a fork, and would stand so behind it, with these children
+abbrev pub ForkedTo : {S : Type 0} → Ops S → ℕ → S → List S → FlatView S → Type 0
+ForkedTo {S} o i p ks v = (f : ℕ) × (l : S) × HasProcess v i f l lives × (o.stop l ≡ AtFork) × (o.fork l ≡ Parted p ks)

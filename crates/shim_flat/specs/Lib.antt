@@ -1,0 +1,12 @@
+-- The definitions of this crate, one module for each subject.
+pub mod Closing
+pub mod Stepping
+pub mod Reading
+pub mod Due
+pub mod Touching
+pub mod Acting
+pub mod Forking
+pub mod Descent
+pub mod Meeting
+pub mod Naming
+pub mod Poisoning

@@ -1,0 +1,27 @@
+-- What readers of one process ask, and what they answer.
+use Rattle.std.specs.Prelude.{◌≡◌, ◌≤◌, ◌<◌, ℕ, Option, Some, None, List, slice_get, length}
+use Rattle.shim_laws_records.specs.Seen.{Sort, forks}
+use Rattle.shim_records.specs.Pairs.{up_in}
+use Rattle.shim_records.specs.declared.pair.Pair.{Pair}
+use Rattle.shim_records.specs.declared.record.Record.{Record}
+use Rattle.shim_laws_keeping.specs.Flats.{FlatView, HasProcess}
+
+-- there is a process with this number
+abbrev pub IsInUse : {S : Type 0} → FlatView S → ℕ → Type 0
+IsInUse {S} v i = (f : ℕ) × (s : S) × (k : Sort) × HasProcess v i f s k
+
+-- the process with this number has forked, and this is a pair of its record
+pub record HasPair {S : Type 0} (v : FlatView S) (i first n : ℕ) (l : S) (q : ℕ) (y : Pair) : Type 0 where
+  pub forked : HasProcess v i first l (forks n)
+  pub said : Record
+  pub there : slice_get v.records i ≡ Some said
+  pub pair : slice_get said.pairs.items q ≡ Some y
+
+-- it has a pair in this place
+abbrev pub HasPairAt : {S : Type 0} → FlatView S → ℕ → ℕ → Type 0
+HasPairAt {S} v i q = (first : ℕ) × (n : ℕ) × (l : S) × (y : Pair) × HasPair v i first n l q y
+
+-- the number of the record's parent, if there is a record with that number
+abbrev pub ParentIs : List Record → ℕ → Option ℕ → Type 0
+ParentIs rs i None = (j : ℕ) → up_in rs i ≡ Some j → length rs ≤ j
+ParentIs rs i (Some j) = (up_in rs i ≡ Some j) × (j < length rs)

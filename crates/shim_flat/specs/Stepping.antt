@@ -1,0 +1,48 @@
+-- What quiet steps in place did.
+use Rattle.std.specs.Prelude.{◌≡◌, ◌≢◌, ℕ, Bool, true, false, Option, Some, None}
+use Rattle.shim_local.specs.Process.{Ops, StopView, AtQuiet}
+use Rattle.shim_local.specs.Views.{stop_view}
+use Rattle.shim_local.specs.declared.local.Stop.{Stop}
+use Rattle.shim_local.specs.Quiets.{QuietSteps}
+use Rattle.shim_laws_records.specs.Seen.{Sort, lives}
+use Rattle.shim_laws_records.specs.Changes.{HasChanged}
+use Rattle.shim_records.specs.declared.record.Standing.{Standing}
+use Rattle.shim_records.specs.declared.record.Standing.TheVariants as code
+use Rattle.shim_laws_keeping.specs.Flats.{FlatView, stands, HasProcess}
+use Rattle.shim_laws_keeping.specs.Moves.{AdvancesBy}
+
+-- the process with this number is this now, and no other process has changed
+abbrev pub HasBecome : {S : Type 0} → ℕ → S → Sort → FlatView S → FlatView S → Type 0
+HasBecome number s k before behind = HasChanged before.states behind.states (stands before) (stands behind) number s k
+
+-- the process with this number lives, and stands so
+abbrev pub LivesAt : {S : Type 0} → Ops S → FlatView S → ℕ → StopView → Type 0
+LivesAt {S} o v number stop = (f : ℕ) × (l : S) × HasProcess v number f l lives × (o.stop l ≡ stop)
+
+-- whether the process with this number lives
+abbrev pub IsLive : {S : Type 0} → ℕ → FlatView S → Bool → Type 0
+IsLive {S} i v true = (f : ℕ) × (l : S) × HasProcess v i f l lives
+IsLive {S} i v false = (f : ℕ) (l : S) → HasProcess v i f l lives → ⊥
+
+-- at what it stands, if it lives
+abbrev pub StopsAt : {S : Type 0} → Ops S → ℕ → FlatView S → Option Stop → Type 0
+StopsAt o i v None = IsLive i v false
+StopsAt o i v (Some stop) = LivesAt o v i (stop_view stop)
+
+-- whether the process with this number lives and has a quiet step to do
+abbrev pub IsBeforeQuiet : {S : Type 0} → Ops S → ℕ → FlatView S → Bool → Type 0
+IsBeforeQuiet {S} o i v true = LivesAt o v i AtQuiet
+IsBeforeQuiet {S} o i v false = (f : ℕ) (l : S) → HasProcess v i f l lives → o.stop l ≢ AtQuiet
+
+-- The process with this number did so many quiet steps; or it doesn't live, or stands at something else, and nothing has changed.
+pub data StepsHere {S : Type 0} (o : Ops S) (number taken : ℕ) (before behind : FlatView S) : Type 0 where
+  stands_else : taken ≡ 0 → behind ≡ before → IsBeforeQuiet o number before false → StepsHere o number taken before behind
+  stepped : (f : ℕ) (l last : S) → HasProcess before number f l lives → o.stop l ≡ AtQuiet → QuietSteps o taken l last → HasBecome number last lives before behind
+      → AdvancesBy o (o.path l) taken before behind → StepsHere o number taken before behind
+
+abbrev pub is_live : Standing → Bool
+is_live code.Free = false
+is_live code.Live = true
+is_live (code.Forked n) = false
+is_live code.Ended = false
+is_live (code.Dead x) = false

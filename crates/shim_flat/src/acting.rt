@@ -1,0 +1,78 @@
+// What a live process does by itself beside quiet steps and forks, in place.
+ghost use Rattle.std.specs.Prelude.{◌≡◌, ℕ};
+ghost use Rattle.shim_base.specs.declared.operators.Trap.{Trap as TrapView};
+ghost use Rattle.shim_local.specs.Process.{AtPut, AtFinish, AtThrow, AtTrap};
+ghost use Rattle.shim_semantics.specs.Nodes.{death};
+ghost use Rattle.shim_semantics.specs.Acts.{nothing, putting, trapping};
+ghost use Rattle.shim_laws_records.specs.Seen.{lives, ends, dies};
+ghost use Rattle.shim_flat.specs.Stepping.{LivesAt};
+ghost use Rattle.shim_flat.specs.Acting.{IsTrappedAt, ActsHere, sort_by, told_of};
+
+use crate::acting_gone::leave_tree;
+use crate::arriving::arrive;
+use crate::flat::Flat;
+use shim_local::Local;
+use shim_records::Standing;
+
+/// What came of a throw.
+#[derive(Clone, Copy, Debug, PartialEq, Eq)]
+pub enum Thrown {
+    /// The process caught it: the number of the exception's name, and the line of the `try`.
+    Caught(u32, u32),
+    /// No handler of its own is in force, and the process died of it.
+    Died,
+}
+
+impl<L: Local> Flat<L> {
+    /// The process with this number, which lives and stands at a `put`, does it. The answer is the byte, or
+    /// `None` where the expression traps; it then stands trapped.
+    pub fn put_here(&mut self, number: u32) -> Option<u8>
+        requires { LivesAt L.ops self.old number AtPut }
+        ensures { ActsHere L.ops number AtPut lives (putting result) self.old self.new }
+    {
+        let at = number as usize;
+        let byte = self.states[at].put();
+        arrive(&self.states[at], &mut self.records, at);
+        byte
+    }
+
+    /// The process with this number, which lives and stands at a throw of the exception of this label, throws
+    /// it: a handler of its own catches it, or the process dies.
+    pub fn throw_here(&mut self, number: u32, label: u32) -> Thrown
+        requires { LivesAt L.ops self.old number (AtThrow label) }
+        ensures { ActsHere L.ops number (AtThrow label) (sort_by label result) (told_of result) self.old self.new }
+    {
+        let at = number as usize;
+        if label < self.states[at].base() {
+            leave_tree(
+                &self.states[at],
+                Standing::Dead(label),
+                &mut self.records,
+                at,
+            );
+            return Thrown::Died;
+        }
+        let (name, line) = self.states[at].handler(label);
+        self.states[at].unwind(label);
+        arrive(&self.states[at], &mut self.records, at);
+        Thrown::Caught(name, line)
+    }
+
+    /// The process with this number, which lives and stands trapped, dies of the trap.
+    pub fn trap_here(&mut self, number: u32)
+        requires { IsTrappedAt L.ops self.old number }
+        ensures { (kind : TrapView) (line : ℕ) → LivesAt L.ops self.old number (AtTrap kind line) → ActsHere L.ops number (AtTrap kind line) (dies (death 0)) (trapping kind line) self.old self.new }
+    {
+        let at = number as usize;
+        leave_tree(&self.states[at], Standing::Dead(0), &mut self.records, at);
+    }
+
+    /// The process with this number, which lives and has nothing left to do, ends.
+    pub fn finish_here(&mut self, number: u32)
+        requires { LivesAt L.ops self.old number AtFinish }
+        ensures { ActsHere L.ops number AtFinish ends nothing self.old self.new }
+    {
+        let at = number as usize;
+        leave_tree(&self.states[at], Standing::Ended, &mut self.records, at);
+    }
+}

@@ -1,0 +1,140 @@
+// Who shares a channel at and below a process.
+ghost use Rattle.std.specs.Prelude.{◌≡◌, [], ◌++◌, OnOk};
+ghost use Rattle.shim_laws_meetings.specs.Sharers.{ListsSharers};
+ghost use Rattle.shim_laws_meetings.specs.Descents.{numbers_from};
+ghost use Rattle.shim_flat.specs.Descent.{inside, ahead_of, children_by, IsSharer, LeadsOn};
+
+use crate::flat::Flat;
+use shim_base::{Chan, NoMemory};
+use shim_local::Local;
+use shim_records::Standing;
+use std::alloc::Global;
+use std::marker::Model;
+
+/// So many numbers from one on: those of a fork's children that are still to be looked at.
+#[derive(Clone, Copy)]
+pub(crate) struct Block {
+    pub(crate) first: usize,
+    pub(crate) count: usize,
+}
+
+/// The numbers of processes that share a channel, in the order of a walk from the root with leftmost children
+/// first. `Flat::sharers` fills it, and it keeps the room that it has.
+#[derive(Drop)]
+pub struct Sharers {
+    pub(crate) numbers: Vec<usize>,
+    ahead: Vec<Block>,
+}
+
+impl Model for Sharers {
+    ghost use Rattle.std.specs.Prelude.{ℕ, List};
+
+    ghost Value = { List ℕ };
+
+    ghost view = { λ s. s.numbers.items };
+}
+
+impl Sharers {
+    /// None yet.
+    pub fn new(alloc: Global) -> Sharers
+        ensures { result ≡ [] }
+    {
+        Sharers {
+            numbers: Vec::new(alloc),
+            ahead: Vec::new(alloc),
+        }
+    }
+}
+
+// How many children it has of which this came; none where the record is free.
+fn children_of(standing: Standing) -> Option<u32>
+    ensures { result ≡ children_by standing }
+{
+    match standing {
+        Standing::Free => None,
+        Standing::Forked(count) => Some(count),
+        Standing::Live | Standing::Ended | Standing::Dead(_) => Some(0),
+    }
+}
+
+// Puts a block before those that are still to be looked at, if there is a number in it.
+fn put_ahead(ahead: &mut Vec<Block>, first: usize, count: usize) -> Result<(), NoMemory>
+    ensures { OnOk result (ahead_of ahead.new.items ≡ numbers_from first count ++ ahead_of ahead.old.items) }
+{
+    if count > 0 {
+        ahead.push(Block { first, count })?;
+    }
+    Ok(())
+}
+
+impl<L: Local> Flat<L> {
+    /// Finds the processes at and below this one that share the channel, whatever came of them. The process
+    /// itself has to share it.
+    pub fn sharers(&self, number: u32, c: &Chan, sharers: &mut Sharers) -> Result<(), NoMemory>
+        ensures { OnOk result (ListsSharers L.ops self.now c.now.channel number sharers.new) }
+    {
+        sharers.numbers.clear();
+        sharers.ahead.clear();
+        put_ahead(&mut sharers.ahead, number as usize, 1)?;
+        for looked in 0..usize::MAX {
+            match sharers.ahead.pop() {
+                None => return Ok(()),
+                Some(block) => self.look(block, c, &mut sharers.numbers, &mut sharers.ahead)?,
+            }
+        }
+        Err(NoMemory)
+    }
+
+    // Looks at the first process of a block: its children come next if it shares the channel, and then the
+    // rest of the block.
+    fn look(
+        &self,
+        block: Block,
+        c: &Chan,
+        numbers: &mut Vec<usize>,
+        ahead: &mut Vec<Block>,
+    ) -> Result<(), NoMemory>
+        ensures { OnOk result (LeadsOn L.ops self.now c.now.channel (inside block ++ ahead_of ahead.old.items) numbers.old.items (ahead_of ahead.new.items) numbers.new.items) }
+    {
+        let at = block.first;
+        if block.count == 0 {
+            return Ok(());
+        }
+        if at >= self.states.len() {
+            return Ok(());
+        }
+        put_ahead(ahead, at + 1, block.count - 1)?;
+        match self.sharer(at, c) {
+            None => {}
+            Some(children) => {
+                numbers.push(at)?;
+                put_ahead(ahead, children.first, children.count)?;
+            }
+        }
+        Ok(())
+    }
+
+    // The children of the process with this number, if it shares the channel.
+    fn sharer(&self, at: usize, c: &Chan) -> Option<Block>
+        ensures { IsSharer L.ops self.now c.now.channel at result }
+    {
+        if at >= self.states.len() {
+            return None;
+        }
+        if at >= self.records.len() {
+            return None;
+        }
+        let record = &self.records[at];
+        let count = match children_of(record.standing) {
+            None => return None,
+            Some(count) => count as usize,
+        };
+        if !self.states[at].shares(c) {
+            return None;
+        }
+        Some(Block {
+            first: record.first as usize,
+            count,
+        })
+    }
+}

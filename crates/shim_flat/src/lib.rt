@@ -1,0 +1,28 @@
+//! A tree of processes as states and records side by side.
+//!
+//! Contracts say how the tree moves that the records show: `shim_laws_records` says which one that is.
+#![tactic(auto)]
+
+mod acting;
+mod acting_gone;
+mod arriving;
+mod closing;
+mod descent;
+mod due;
+mod flat;
+mod forking;
+mod free_blocks;
+mod looking;
+mod meeting;
+mod naming;
+mod poisoning;
+mod reading;
+mod stepping;
+mod waking;
+
+pub use acting::Thrown;
+pub use closing::CloseOutcome;
+pub use descent::Sharers;
+pub use due::Due;
+pub use flat::Flat;
+pub use forking::ForkOutcome;

@@ -1,0 +1,125 @@
+// A meeting, one process after the other.
+ghost use Rattle.shim_semantics.specs.Trees.{Meet};
+ghost use Rattle.shim_records.specs.Pairs.{AreOrdered};
+ghost use Rattle.shim_laws_keeping.specs.Moves.{MovesBy};
+ghost use Rattle.shim_laws_meetings.specs.Receiving.{ComesTo, MovesOn};
+ghost use Rattle.shim_laws_meetings.specs.Sharers.{ListsSharers};
+ghost use Rattle.shim_laws_meetings.specs.Meetings.{IsEnabled, Declares, HasValue, ReceivesOne, ReceiveAll, AllReceived};
+ghost use Rattle.shim_laws_meetings.specs.Values.{IsValueAmong};
+ghost use Rattle.shim_flat.specs.Meeting.{WaitsAt};
+ghost use Rattle.shim_flat.specs.Touching.{TouchesEach};
+
+use crate::arriving::live_reading;
+use crate::descent::Sharers;
+use crate::flat::Flat;
+use shim_base::Chan;
+use shim_local::{Local, Stop};
+use shim_records::{Record, climb, stands_at};
+
+// Brings the counts above up to date for the channel at which the process stands, if that is another one.
+fn come_to<L: Local>(process: &L, c: &Chan, records: &mut Vec<Record>, at: usize)
+    requires { AreOrdered records.old.items }
+    ensures { ComesTo L.ops process.now c.now.channel 4294967295 at records.old.items records.new.items }
+{
+    match process.stop() {
+        Stop::Next(chan) => {
+            if *c == *chan {
+                return;
+            }
+            climb(
+                records,
+                at,
+                chan,
+                live_reading(false),
+                live_reading(true),
+                u32::MAX,
+            );
+        }
+        Stop::Quiet
+        | Stop::Put
+        | Stop::Fork
+        | Stop::Finish
+        | Stop::Throw(_)
+        | Stop::Trapped(_, _) => {}
+    }
+}
+
+// Brings the counts above a process up to date that stood at the channel and has received there.
+fn move_on<L: Local>(process: &L, c: &Chan, records: &mut Vec<Record>, at: usize)
+    requires { AreOrdered records.old.items }
+    ensures { MovesOn L.ops process.now c.now.channel 4294967295 at records.old.items records.new.items }
+{
+    climb(
+        records,
+        at,
+        c,
+        live_reading(true),
+        live_reading(stands_at(process, c)),
+        u32::MAX,
+    );
+    come_to(process, c, records, at);
+}
+
+impl<L: Local> Flat<L> {
+    /// The channel meets, whose home has this number: all that live and share it stand at it, and receive the
+    /// value of its source, which is the answer. It takes no memory.
+    pub fn meet_here(&mut self, number: u32, c: &Chan, sharers: &Sharers) -> i64
+        requires home { Declares L.ops self.old number c.now.channel }
+        requires enabled { IsEnabled L.ops (Meet c.now.channel) self.old }
+        requires sharers { ListsSharers L.ops self.old c.now.channel number sharers.now }
+        ensures moves { MovesBy L.ops (Meet c.now.channel) self.old self.new }
+        ensures received { AllReceived L.ops c.now.channel result self.old self.new }
+        ensures value { HasValue L.ops self.old c.now.channel result }
+        ensures touches { TouchesEach sharers.now self.old self.new }
+    {
+        let value = self.value_among(sharers, c);
+        self.receive_all(sharers, c, value);
+        value
+    }
+
+    // The value of the one among these that carries the channel.
+    fn value_among(&self, sharers: &Sharers, c: &Chan) -> i64
+        ensures { IsValueAmong L.ops self.now c.now.channel sharers.now result }
+    {
+        for place in 0..sharers.numbers.len() {
+            let at = sharers.numbers[place];
+            if at < self.states.len() {
+                let process = &self.states[at];
+                if process.carries(c) {
+                    return process.value(c);
+                }
+            }
+        }
+        0
+    }
+
+    // Each of these receives the value that lives and stands at the channel.
+    fn receive_all(&mut self, sharers: &Sharers, c: &Chan, v: i64)
+        ensures { ReceiveAll L.ops c.now.channel v sharers.now self.old self.new }
+    {
+        for place in 0..sharers.numbers.len() {
+            self.receive_at(sharers.numbers[place], c, v);
+        }
+    }
+
+    // The process with this number receives the value, if it lives and stands at the channel.
+    fn receive_at(&mut self, at: usize, c: &Chan, v: i64)
+        ensures { ReceivesOne L.ops c.now.channel v at self.old self.new }
+    {
+        if !self.waits_at(at, c) {
+            return;
+        }
+        self.states[at].receive(v);
+        move_on(&self.states[at], c, &mut self.records, at);
+    }
+
+    // Whether the process with this number lives and stands at the channel.
+    fn waits_at(&self, at: usize, c: &Chan) -> bool
+        ensures { WaitsAt L.ops c.now.channel at self.now result }
+    {
+        if !self.lives(at) {
+            return false;
+        }
+        stands_at(&self.states[at], c)
+    }
+}

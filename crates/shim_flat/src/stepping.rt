@@ -1,0 +1,93 @@
+// Quiet steps in place.
+ghost use Rattle.std.specs.Prelude.{◌≡◌, ◌≢◌, ◌≤◌, ◌<◌, true, false};
+ghost use Rattle.shim_local.specs.Process.{AtQuiet};
+ghost use Rattle.shim_flat.specs.Stepping.{StepsHere, is_live, IsLive, IsBeforeQuiet, StopsAt};
+ghost use Rattle.shim_flat.specs.Touching.{TouchesAbove};
+
+use crate::arriving::arrive;
+use crate::flat::Flat;
+use shim_local::{Local, Quiet, Stop};
+use shim_records::Standing;
+
+// Whether the process has a quiet step to do.
+fn is_quiet<L: Local>(process: &L) -> bool
+    ensures quiet { result ≡ true → L.ops.stop process.now ≡ AtQuiet }
+    ensures other { result ≡ false → L.ops.stop process.now ≢ AtQuiet }
+{
+    match process.stop() {
+        Stop::Quiet => true,
+        Stop::Next(_)
+        | Stop::Put
+        | Stop::Fork
+        | Stop::Finish
+        | Stop::Throw(_)
+        | Stop::Trapped(_, _) => false,
+    }
+}
+
+// Whether it lives of which this came.
+fn lives_on(standing: Standing) -> bool
+    ensures { result ≡ is_live standing }
+{
+    match standing {
+        Standing::Live => true,
+        Standing::Free | Standing::Forked(_) | Standing::Ended | Standing::Dead(_) => false,
+    }
+}
+
+impl<L: Local> Flat<L> {
+    /// The process with this number does up to `most` quiet steps in place, if it lives and stands before one.
+    /// It does fewer only where it comes to another stop, or memory is wanted.
+    pub fn step_here(&mut self, number: u32, most: u64) -> Quiet
+        ensures steps { StepsHere L.ops number result.taken self.old self.new }
+        ensures most { result.taken ≤ most }
+        ensures touches { TouchesAbove number self.old self.new }
+        ensures fewer { result.taken < most → result.short ≡ false → IsBeforeQuiet L.ops number self.new false }
+    {
+        let at = number as usize;
+        if !self.is_before_quiet(number) {
+            return Quiet {
+                taken: 0,
+                short: false,
+            };
+        }
+        let quiet = self.states[at].quiet(most);
+        arrive(&self.states[at], &mut self.records, at);
+        quiet
+    }
+
+    /// At what the process with this number stands, if it lives.
+    pub fn stop(&self, number: u32) -> Option<Stop<'_>>
+        ensures { StopsAt L.ops number self.now result }
+    {
+        let at = number as usize;
+        if !self.lives(at) {
+            return None;
+        }
+        Some(self.states[at].stop())
+    }
+
+    /// Whether the process with this number lives and has a quiet step to do. It takes no memory.
+    pub fn is_before_quiet(&self, number: u32) -> bool
+        ensures { IsBeforeQuiet L.ops number self.now result }
+    {
+        let at = number as usize;
+        if !self.lives(at) {
+            return false;
+        }
+        is_quiet(&self.states[at])
+    }
+
+    // Whether the process with this number lives.
+    pub(crate) fn lives(&self, at: usize) -> bool
+        ensures { IsLive at self.now result }
+    {
+        if at >= self.states.len() {
+            return false;
+        }
+        if at >= self.records.len() {
+            return false;
+        }
+        lives_on(self.records[at].standing)
+    }
+}

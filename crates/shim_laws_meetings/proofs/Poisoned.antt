@@ -1,0 +1,274 @@
+-- All that live and share a channel at and below a child have died one after the other: the tree has moved by its poison.
+use Rattle.std.proofs.Common.{◌≡◌, ◌≢◌, ◌<◌, ◌≤◌, ℕ, ◌+◌, ◌-◌, true, false, cond, Some, List, [], ◌∷◌, ◌++◌, map, inl, inr, refl, sym, ap, subst, ◌∙◌, arith}
+use Rattle.std.specs.Prelude.{slice_get}
+use Rattle.std.proofs.lemmas.List.{append_assoc}
+use Rattle.shim_base.specs.Paths.{Path, Channel}
+use Rattle.shim_base.proofs.Facts.{some_same, true_or_false}
+use Rattle.shim_local.specs.Process.{Ops}
+use Rattle.shim_local.specs.Laws.{LocalLaws}
+use Rattle.shim_semantics.specs.Nodes.{Node, Nodes, Forked, death, state, ready}
+use Rattle.shim_semantics.specs.Places.{at, child_at}
+use Rattle.shim_semantics.specs.Trees.{Tree, Poison, after}
+use Rattle.shim_semantics.proofs.Replaced.{sound_at}
+use Rattle.shim_semantics.proofs.HowMany.{clash}
+use Rattle.shim_laws_schedules.specs.Waiting.{has_sharer}
+use Rattle.shim_laws_schedules.proofs.Homes.{unshared_is_unshared, ready_has_sharer}
+use Rattle.shim_laws_schedules.proofs.Unshared.{is_unshared_still}
+use Rattle.shim_laws_records.specs.Seen.{Sort, lives, forks, ends, dies, place}
+use Rattle.shim_laws_records.specs.Agrees.{Standing, free, used, Shows}
+use Rattle.shim_laws_records.specs.Places.{killed}
+use Rattle.shim_laws_records.specs.Changes.{HaveDied}
+use Rattle.shim_laws_records.specs.Dooms.{least_among, is_below}
+use Rattle.shim_laws_records.proofs.Aside.{at_split}
+use Rattle.shim_laws_records.proofs.SameTrees.{same_or_not, seen_fork}
+use Rattle.shim_laws_records.proofs.OneChange.{one_state}
+use Rattle.shim_laws_records.proofs.OneTree.{one_tree}
+use Rattle.shim_laws_records.proofs.Shown.{events_are_shown}
+use Rattle.shim_laws_records.proofs.Singles.{singles_are_shown}
+use Rattle.shim_laws_records.proofs.Leasts.{child_sound, shared_not_below}
+use Rattle.shim_laws_records.proofs.CanHappen.{enabled_by_records}
+use Rattle.shim_laws_records.proofs.Hanging.{tree_of}
+use Rattle.shim_records.specs.Pairs.{stands_of}
+use Rattle.shim_records.proofs.Stepping.{set_there, set_elsewhere}
+use Rattle.shim_laws_keeping.specs.Flats.{FlatView, HasProcess, Keeps}
+use Rattle.shim_laws_keeping.proofs.Steps.{some_of}
+use Rattle.shim_laws_meetings.specs.Sharers.{IsAmong, AreSharers, ListsSharers}
+use Rattle.shim_laws_meetings.specs.Dying.{Falls}
+use Rattle.shim_laws_meetings.specs.Poisons.{FallsOne, spared, fell, AllFall, none_left, one_more, IsChildOf, PoisonsMove}
+use Rattle.shim_laws_meetings.specs.Meetings.{IsEnabled}
+use Rattle.shim_laws_meetings.proofs.Among.{none_among, among_later, among_split, AreDistinct, distinct}
+use Rattle.shim_laws_meetings.proofs.AtHome.{node_at}
+use Rattle.shim_laws_meetings.proofs.Dies.{died_keeps, stands_now}
+
+used_so : (f g : ℕ) (k h : Sort) → used f k ≡ used g h → (f ≡ g) × (k ≡ h)
+used_so f g k h e = (ap (first_of f) e, ap (sort_is k) e)
+  where
+    first_of : ℕ → Standing → ℕ
+    first_of d free = d
+    first_of d (used f k) = f
+
+    sort_is : Sort → Standing → Sort
+    sort_is d free = d
+    sort_is d (used f k) = k
+
+less_one : (h : ℕ) → 1 ≤ h → h - 1 < h
+less_one h e = omega (arith, e)
+
+module _ {S : Type 0} (o : Ops S) (label : ℕ) where
+  abbrev stands : FlatView S → List Standing
+  stands w = map stands_of w.records
+
+  -- what came of a process that lived and died so, or of one that didn't live
+  abbrev falls_to : Sort → Sort
+  falls_to lives = dies (death label)
+  falls_to (forks n) = forks n
+  falls_to ends = ends
+  falls_to (dies d) = dies d
+
+  -- ---- one of them
+
+  module _ (i : ℕ) (before behind : FlatView S) where
+    one_states : FallsOne o label i before behind → behind.states ≡ before.states
+    one_states (spared none same) = ap (λ z. z.states) same
+    one_states (fell f l has low states falls) = states
+
+    one_untouched : (j : ℕ) → FallsOne o label i before behind → j ≢ i → slice_get (stands behind) j ≡ slice_get (stands before) j
+    one_untouched j (spared none same) far = ap (λ z. slice_get (stands z) j) same
+    one_untouched j (fell f l has low states falls) far =
+        ap (λ z. slice_get z j) (stands_now o before.states before.records behind.records i f label l has falls) ∙ set_elsewhere (stands before) i j (used f (dies (death label))) far
+
+    still : (k : Sort) → (k ≡ lives → ⊥) → falls_to k ≡ k
+    still lives h = absurd (h refl)
+    still (forks n) h = refl
+    still ends h = refl
+    still (dies d) h = refl
+
+    one_falls : ((f : ℕ) (l : S) → HasProcess before i f l lives → label < o.base l) → (f : ℕ) (s : S) (k : Sort) → FallsOne o label i before behind → HasProcess before i f s k → slice_get (stands behind) i ≡ Some (used f (falls_to k))
+    one_falls less f s k (spared none same) has =
+        ap (λ z. slice_get (stands z) i) same ∙ (has.stands_so ∙ ap (λ z. Some (used f z)) (sym (still k (λ e. let now = subst (HasProcess before i f s) e has in none f s now (less f s now)))))
+    one_falls less f s k (fell g l mine low states falls) has =
+        let same = used_so f g k lives (some_same (used f k) (used g lives) (sym has.stands_so ∙ mine.stands_so)) in
+        ap (λ z. slice_get z i) (stands_now o before.states before.records behind.records i g label l mine falls)
+        ∙ (set_there (stands before) i (used g lives) (used g (dies (death label))) mine.stands_so ∙ (λ j. Some (used (sym same.0 j) (falls_to (sym same.1 j)))))
+
+    fell_stands : (g : ℕ) (l : S) → HasProcess before i g l lives → Falls o l label 4294967295 i before.records behind.records → slice_get (stands behind) i ≡ Some (used g (dies (death label)))
+    fell_stands g l mine falls =
+        ap (λ z. slice_get z i) (stands_now o before.states before.records behind.records i g label l mine falls) ∙ set_there (stands before) i (used g lives) (used g (dies (death label))) mine.stands_so
+
+    one_had : (j f : ℕ) (k : Sort) → FallsOne o label i before behind → slice_get (stands behind) j ≡ Some (used f k) → (h : Sort) × (slice_get (stands before) j ≡ Some (used f h))
+    one_had j f k (spared none same) e = (k, ap (λ z. slice_get (stands z) j) (sym same) ∙ e)
+    one_had j f k (fell g l mine low states falls) e = elim (same_or_not j i) [
+      | inl w ↦
+          let now = fell_stands g l mine falls in
+          let same = used_so f g k (dies (death label)) (some_same (used f k) (used g (dies (death label))) (sym e ∙ (ap (slice_get (stands behind)) w ∙ now))) in
+          (lives, ap (slice_get (stands before)) w ∙ (mine.stands_so ∙ ap (λ z. Some (used z lives)) (sym same.0)))
+      | inr w ↦ (k, sym (one_untouched j (fell g l mine low states falls) w) ∙ e)
+    ]
+
+    -- who lives behind it lived before
+    one_lived : ((f : ℕ) (l : S) → HasProcess before i f l lives → label < o.base l) → (j f : ℕ) (l : S) → FallsOne o label i before behind → HasProcess behind j f l lives → HasProcess before j f l lives
+    one_lived less j f l falls has = elim (same_or_not j i) [
+      | inl w ↦
+          let was = one_had j f lives falls has.stands_so in
+          let its : HasProcess before j f l was.0 = record { state_is = ap (λ z. slice_get z j) (sym (one_states falls)) ∙ has.state_is; stands_so = was.1 } in
+          let now : slice_get (stands behind) j ≡ Some (used f (falls_to was.0)) = ap (slice_get (stands behind)) w ∙ one_falls less f l was.0 falls (subst (λ z. HasProcess before z f l was.0) w its) in
+          let same = used_so f f lives (falls_to was.0) (some_same (used f lives) (used f (falls_to was.0)) (sym has.stands_so ∙ now)) in
+          absurd (no_more was.0 (sym same.1))
+      | inr w ↦ record { state_is = ap (λ z. slice_get z j) (sym (one_states falls)) ∙ has.state_is; stands_so = sym (one_untouched j falls w) ∙ has.stands_so }
+    ]
+      where
+        no_more : (k : Sort) → falls_to k ≡ lives → ⊥
+        no_more lives e = cc
+        no_more (forks n) e = cc
+        no_more ends e = cc
+        no_more (dies d) e = cc
+
+    pub one_keeps : LocalLaws o → (rp : Path) (root : Node S) → Keeps o rp before root → FallsOne o label i before behind → (new : Node S) × Keeps o rp behind new
+    one_keeps law rp root kept (spared none same) = (root, subst (λ z. Keeps o rp z root) (sym same) kept)
+    one_keeps law rp root kept (fell f l has low states falls) =
+        let w = died_keeps o law rp root before.states before.records behind.records i f label l kept has low falls in
+        (w.0, subst (λ z. Keeps o rp (record { states = z; records = behind.records }) w.0) (sym states) w.2)
+
+  -- ---- all of them
+
+  abbrev AllLess : FlatView S → List ℕ → Type 0
+  AllLess w numbers = (i : ℕ) → IsAmong i numbers → (f : ℕ) (l : S) → HasProcess w i f l lives → label < o.base l
+
+  pub record Fallen (rp : Path) (numbers : List ℕ) (before behind : FlatView S) : Type 0 where
+    pub states : behind.states ≡ before.states
+    pub root : Node S
+    pub keeps : Keeps o rp behind root
+    pub untouched : (j : ℕ) → (IsAmong j numbers → ⊥) → slice_get (stands behind) j ≡ slice_get (stands before) j
+    pub falls : (j f : ℕ) (s : S) (k : Sort) → HasProcess before j f s k → IsAmong j numbers → slice_get (stands behind) j ≡ Some (used f (falls_to k))
+    pub had : (j f : ℕ) (k : Sort) → slice_get (stands behind) j ≡ Some (used f k) → (h : Sort) × (slice_get (stands before) j ≡ Some (used f h))
+
+  all_fall : {numbers : List ℕ} {before behind : FlatView S} → LocalLaws o → (rp : Path) (root : Node S) → AllFall o label numbers before behind → AreDistinct numbers → Keeps o rp before root → AllLess before numbers → Fallen rp numbers before behind
+  all_fall law rp root (none_left w) apart kept less = record { states = refl; root = root; keeps = kept; untouched = λ j out. refl; falls = λ j f s k has g. none_among j g; had = λ j f k e. (k, e) }
+  all_fall law rp root (one_more i is before between behind first more) apart kept less = joined (all_fall law rp next.0 more apart.1 next.1 (λ j g f l has. less j (among_later j i is g) f l (one_lived i before between here j f l first has)))
+    where
+      here : (f : ℕ) (l : S) → HasProcess before i f l lives → label < o.base l
+      here f l has = less i (0, refl) f l has
+
+      next : (new : Node S) × Keeps o rp between new
+      next = one_keeps i before between law rp root kept first
+
+      joined : Fallen rp is between behind → Fallen rp (i ∷ is) before behind
+      joined w = record {
+        states = w.states ∙ one_states i before between first;
+        root = w.root;
+        keeps = w.keeps;
+        untouched = λ j out. w.untouched j (λ g. out (among_later j i is g)) ∙ one_untouched i before between j first (λ e. out (0, ap Some (sym e)));
+        falls = λ j f s k has g. elim (same_or_not j i) [
+          | inl e ↦ w.untouched j (λ h. apart.0 j h (sym e)) ∙ (ap (slice_get (stands between)) e ∙ one_falls i before between here f s k first (subst (λ z. HasProcess before z f s k) e has))
+          | inr n ↦ elim (among_split j i is g) [
+            | inl e ↦ absurd (n (sym e))
+            | inr h ↦ w.falls j f s k (record { state_is = ap (λ z. slice_get z j) (one_states i before between first) ∙ has.state_is; stands_so = one_untouched i before between j first n ∙ has.stands_so }) h
+          ]
+        ];
+        had = λ j f k e. let h = w.had j f k e in one_had i before between j f h.0 first h.1;
+      }
+
+module _ {S : Type 0} (o : Ops S) (law : LocalLaws o) (before behind : FlatView S) (c : Channel) (i label : ℕ) (k l : S) (numbers : List ℕ) (child : IsChildOf before i k l) (is_label : label ≡ o.handlers l - 1) (enabled : IsEnabled o (Poison (o.path k) c) before)
+    (lists : ListsSharers o before c i numbers) (all : AllFall o label numbers before behind) (rp : Path) (t : Tree S) (kept : Keeps o rp before t.root) where
+  can : (u : Tree S) × (after o (Poison (o.path k) c) t ≡ Some u)
+  can = some_of (after o (Poison (o.path k) c) t) (enabled rp t kept)
+
+  fork : (ks : Nodes S) × (at (place o rp l) t.root ≡ Some (Forked l ks))
+  fork = let w = seen_fork (at (place o rp l) t.root) l child.many (kept.shows.agrees.shown child.parent child.first l (forks child.many) child.fork) in (w.0, w.1)
+
+  its : HasProcess before (child.first + child.branch) child.own_first k child.sort
+  its = subst (λ z. HasProcess before z child.own_first k child.sort) child.mine child.has
+
+  -- its place
+  its_place : place o rp k ≡ place o rp l ++ child.branch ∷ []
+  its_place =
+      let z = kept.shows.agrees.below child.parent child.first child.many l child.fork child.branch child.within in
+      ap (place o rp) (one_state before.states (map stands_of before.records) (child.first + child.branch) child.own_first z.0 k z.1 child.sort z.2 its z.3) ∙ z.4
+
+  node : (n : Node S) × (at (place o rp k) t.root ≡ Some n) × (state n ≡ k)
+  node = node_at o rp before.states (map stands_of before.records) t.root kept.shows i child.own_first k child.sort child.has
+
+  at_branch : child_at child.branch [] fork.0 ≡ Some node.0
+  at_branch = sym (at_split (place o rp l) (child.branch ∷ []) t.root (Forked l fork.0) fork.1) ∙ (ap (λ z. at z t.root) (sym its_place) ∙ node.1)
+
+  told : (o.shares l c ≡ true) × (ready o c node.0 ≡ true) × (is_below (least_among o c fork.0) (o.handlers l) ≡ true)
+  told = ((enabled_by_records o law).poisons rp before.states (map stands_of before.records) t c child.parent child.first child.many child.branch child.own_first l k child.sort fork.0 node.0 kept.shows child.fork its child.within fork.1 at_branch).0 (enabled rp t kept)
+
+  shares : o.shares k c ≡ true
+  shares = elim (true_or_false (o.shares k c)) [
+    | inl e ↦ e
+    | inr e ↦
+        let sound = sound_at o (place o rp l) t.root (Forked l fork.0) kept.shows.sound.below fork.1 in
+        let w = child_sound o l sound.number 0 child.branch fork.0 node.0 sound.children at_branch in
+        let quiet = unshared_is_unshared o c node.0 w.0 (ap (λ z. o.shares z c) node.2 ∙ e) (λ r h. shared_not_below o t.root (place o rp l) (Forked l fork.0) c kept.shows.sound fork.1 told.0 (sound.number, w.1) r (h ∙ w.2 r)) in
+        clash (has_sharer o c node.0) (ready_has_sharer o law c node.0 w.0 told.1) (is_unshared_still o c node.0 quiet)
+  ]
+
+  are : AreSharers o rp before c (place o rp k) numbers
+  are = lists rp t.root child.own_first k child.sort kept child.has shares
+
+  -- none of them has a handler for it
+  below_base : (j : ℕ) → IsAmong j numbers → (f : ℕ) (s : S) → HasProcess before j f s lives → label < o.base s
+  below_base j g f s has =
+      let from = are.only j g in
+      let m = node_at o rp before.states (map stands_of before.records) t.root kept.shows j f s lives has in
+      let same : from.state ≡ s = one_state before.states (map stands_of before.records) j from.first f from.state s from.sort lives from.has has in
+      let there : at (place o rp l ++ child.branch ∷ from.further) t.root ≡ Some m.0 = ap (λ z. at z t.root) (sym (append_assoc (place o rp l) (child.branch ∷ []) from.further) ∙ (ap (λ z. z ++ from.further) (sym its_place) ∙ (sym from.is_there ∙ ap (place o rp) same))) ∙ m.1 in
+      let handled = (singles_are_shown o law).handled t.root m.0 (place o rp l) l fork.0 child.branch from.further kept.shows.sound fork.1 (sym (at_split (place o rp l) (child.branch ∷ from.further) t.root (Forked l fork.0) fork.1) ∙ there) in
+      let sound = sound_at o (place o rp l) t.root (Forked l fork.0) kept.shows.sound.below fork.1 in
+      less_than label (o.handlers l) (o.base l) (o.base s) is_label (law.base_least l sound.sound) (law.base_most l sound.sound) (subst (λ z. o.handlers l ≤ o.base z) m.2 handled)
+    where
+      less_than : (x h b y : ℕ) → x ≡ h - 1 → 1 ≤ b → b ≤ h → h ≤ y → x < y
+      less_than x h b y e f g w = omega (arith, e, f, g, w)
+
+  fallen : Fallen o label rp numbers before behind
+  fallen = all_fall o label law rp t.root all (distinct o rp before c (place o rp k) numbers are) kept below_base
+
+  killed_so : (x : Sort) (s : S) → o.shares s c ≡ true → falls_to o label x ≡ killed o c (death label) s x
+  killed_so lives s e = sym (ap (λ b. cond b (dies (death label)) lives) e)
+  killed_so (forks n) s e = refl
+  killed_so ends s e = refl
+  killed_so (dies d) s e = refl
+
+  spared_so : (x : Sort) (s : S) → o.shares s c ≡ false → x ≡ killed o c (death label) s x
+  spared_so lives s e = sym (ap (λ b. cond b (dies (death label)) lives) e)
+  spared_so (forks n) s e = refl
+  spared_so ends s e = refl
+  spared_so (dies d) s e = refl
+
+  from_there : (j f : ℕ) (s : S) (x : Sort) (r : List ℕ) → HasProcess before j f s x → place o rp s ≡ place o rp k ++ r → o.shares s c ≡ true → IsAmong j numbers
+  from_there j f s x r has there e = are.all j (record { first = f; state = s; sort = x; has = has; shares = e; further = r; is_there = there })
+
+  have : HaveDied o rp (place o rp k) c (death label) before.states (map stands_of before.records) (map stands_of behind.records)
+  have = record {
+    below = λ j f s x r has there. elim (true_or_false (o.shares s c)) [
+      | inl e ↦ fallen.falls j f s x has (from_there j f s x r has there e) ∙ ap (λ z. Some (used f z)) (killed_so x s e)
+      | inr e ↦
+          fallen.untouched j (λ g. let w = are.only j g in clash (o.shares s c) (ap (λ z. o.shares z c) (one_state before.states (map stands_of before.records) j f w.first s w.state x w.sort has w.has) ∙ w.shares) e)
+          ∙ (has.stands_so ∙ ap (λ z. Some (used f z)) (spared_so x s e))
+    ];
+    aside = λ j f s x has far. fallen.untouched j (λ g. let w = are.only j g in far w.further (ap (place o rp) (one_state before.states (map stands_of before.records) j f w.first s w.state x w.sort has w.has) ∙ w.is_there)) ∙ has.stands_so;
+    had = fallen.had;
+  }
+
+  shown : Shows o rp before.states (map stands_of behind.records) can.0.root
+  shown = (events_are_shown o law).poisoned rp before.states (map stands_of before.records) (map stands_of behind.records) t can.0 c child.parent child.own_first child.first child.branch child.many l k child.sort kept.shows child.fork child.within its can.1
+      (subst (λ z. HaveDied o rp (place o rp k) c (death z) before.states (map stands_of before.records) (map stands_of behind.records)) is_label have)
+
+  same : fallen.root ≡ can.0.root
+  same = one_tree o rp before.states (map stands_of behind.records) fallen.root can.0.root shown.rooted (subst (λ z. Shows o rp z (map stands_of behind.records) fallen.root) fallen.states fallen.keeps.shows).agrees shown.agrees
+
+  moved : (u : Tree S) × (after o (Poison (o.path k) c) t ≡ Some u) × Keeps o rp behind u.root
+  moved = (can.0, can.1, subst (Keeps o rp behind) same fallen.keeps)
+
+  died_so : (f : ℕ) (s : S) (x : Sort) → HasProcess before i f s x → (behind.states ≡ before.states) × HaveDied o rp (place o rp s) c (death label) before.states (map stands_of before.records) (map stands_of behind.records)
+  died_so f s x has = (
+    fallen.states,
+    subst (λ z. HaveDied o rp (place o rp z) c (death label) before.states (map stands_of before.records) (map stands_of behind.records)) (one_state before.states (map stands_of before.records) i child.own_first f k s child.sort x child.has has) have,
+  )
+
+pub poisons_move : {S : Type 0} (o : Ops S) → LocalLaws o → PoisonsMove o
+poisons_move o law before behind c i label k l numbers child is_label enabled lists all = (
+  (λ rp t kept. moved o law before behind c i label k l numbers child is_label enabled lists all rp t kept),
+  (λ rp root f s x kept has. died_so o law before behind c i label k l numbers child is_label enabled lists all rp (tree_of o root) kept f s x has),
+)

@@ -1,0 +1,46 @@
+-- A poison done one process after the other, from the numbers of those that share the channel.
+use Rattle.std.specs.Prelude.{◌≡◌, ◌<◌, ◌-◌, ℕ, ◌+◌, List, [], ◌∷◌}
+use Rattle.shim_base.specs.Paths.{Path, Channel}
+use Rattle.shim_local.specs.Process.{Ops}
+use Rattle.shim_semantics.specs.Nodes.{Node, death}
+use Rattle.shim_semantics.specs.Trees.{Poison}
+use Rattle.shim_laws_records.specs.Seen.{Sort, lives, forks, place}
+use Rattle.shim_laws_records.specs.Changes.{HaveDied}
+use Rattle.shim_laws_keeping.specs.Flats.{FlatView, stands, HasProcess, Keeps}
+use Rattle.shim_laws_keeping.specs.Moves.{MovesBy}
+use Rattle.shim_laws_meetings.specs.Dying.{Falls}
+use Rattle.shim_laws_meetings.specs.Sharers.{ListsSharers}
+use Rattle.shim_laws_meetings.specs.Meetings.{IsEnabled}
+
+-- the process with this number has died of an exception with this label, if it lived and had no handler for it
+pub data FallsOne {S : Type 0} (o : Ops S) (label i : ℕ) (before behind : FlatView S) : Type 0 where
+  spared : ((f : ℕ) (l : S) → HasProcess before i f l lives → label < o.base l → ⊥) → behind ≡ before → FallsOne o label i before behind
+  fell : (f : ℕ) (l : S) → HasProcess before i f l lives → label < o.base l → behind.states ≡ before.states → Falls o l label 4294967295 i before.records behind.records → FallsOne o label i before behind
+
+-- all of them, one after the other
+pub data AllFall {S : Type 0} (o : Ops S) (label : ℕ) : List ℕ → FlatView S → FlatView S → Type 0 where
+  none_left : (w : FlatView S) → AllFall o label [] w w
+  one_more : (i : ℕ) (is : List ℕ) (before between behind : FlatView S) → FallsOne o label i before between → AllFall o label is between behind → AllFall o label (i ∷ is) before behind
+
+-- the process with this number is a child, of a fork of a process with this state
+pub record IsChildOf {S : Type 0} (v : FlatView S) (i : ℕ) (k l : S) : Type 0 where
+  pub parent : ℕ
+  pub first : ℕ
+  pub many : ℕ
+  pub fork : HasProcess v parent first l (forks many)
+  pub branch : ℕ
+  pub within : branch < many
+  pub mine : i ≡ first + branch
+  pub own_first : ℕ
+  pub sort : Sort
+  pub has : HasProcess v i own_first k sort
+
+-- each live process that shared the channel at or below the one with this number has died so, and nothing else has changed of what is shown
+abbrev pub AllDied : {S : Type 0} → Ops S → Channel → ℕ → ℕ → FlatView S → FlatView S → Type 0
+AllDied {S} o c label i before behind = (rp : Path) (root : Node S) (f : ℕ) (k : S) (x : Sort) → Keeps o rp before root → HasProcess before i f k x
+    → (behind.states ≡ before.states) × HaveDied o rp (place o rp k) c (death label) before.states (stands before) (stands behind)
+
+-- Where a child's poison is enabled, and all that live and share the channel at and below it die one after the other of the innermost label in force at its fork, the tree moves by the poison.
+abbrev pub PoisonsMove : {S : Type 0} → Ops S → Type 0
+PoisonsMove {S} o = (before behind : FlatView S) (c : Channel) (i label : ℕ) (k l : S) (numbers : List ℕ) → IsChildOf before i k l → label ≡ o.handlers l - 1 → IsEnabled o (Poison (o.path k) c) before → ListsSharers o before c i numbers → AllFall o label numbers before behind
+    → MovesBy o (Poison (o.path k) c) before behind × AllDied o c label i before behind

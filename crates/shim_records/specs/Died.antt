@@ -1,0 +1,27 @@
+-- The label of a death taken in upwards for all channels that the process was given and shares, one after the other.
+use Rattle.std.specs.Prelude.{◌≡◌, ℕ, true, false, List, [], ◌∷◌}
+use Rattle.shim_base.specs.Paths.{Channel}
+use Rattle.shim_local.specs.Process.{Ops}
+use Rattle.shim_local.specs.Laws.{IsGiven}
+use Rattle.shim_records.specs.Fresh.{Among}
+use Rattle.shim_records.specs.Labels.{IsSunk}
+use Rattle.shim_records.specs.Acted.{Earlier}
+use Rattle.shim_records.specs.declared.record.Record.{Record}
+
+-- For each of these channels, none of which stands there twice, the label y was taken in from the record x on, through at most n forks.
+pub data AllSunk (y n x : ℕ) : List Channel → List Record → List Record → Type 0 where
+  none_left : (rs : List Record) → AllSunk y n x [] rs rs
+  one_more : (c : Channel) (cs : List Channel) (before between behind : List Record) → (Among c cs → ⊥) → IsSunk c y n x before between → AllSunk y n x cs between behind → AllSunk y n x (c ∷ cs) before behind
+
+-- for one channel it was taken in, unless the process doesn't share it or it stood before
+pub data SinksOne {S : Type 0} (o : Ops S) (s : S) (y n x : ℕ) (c : Channel) (place : ℕ) (before behind : List Record) : Type 0 where
+  unshared : o.shares s c ≡ false → behind ≡ before → SinksOne o s y n x c place before behind
+  again : Earlier o s c place → behind ≡ before → SinksOne o s y n x c place before behind
+  sunk : o.shares s c ≡ true → (Earlier o s c place → ⊥) → IsSunk c y n x before behind → SinksOne o s y n x c place before behind
+
+-- for all that the process was given and shares
+pub record IsTaken {S : Type 0} (o : Ops S) (s : S) (y n x : ℕ) (before behind : List Record) : Type 0 where
+  pub chans : List Channel
+  pub sunk : AllSunk y n x chans before behind
+  pub all : (c : Channel) → IsGiven o s c → o.shares s c ≡ true → Among c chans
+  pub shared : (c : Channel) → Among c chans → o.shares s c ≡ true

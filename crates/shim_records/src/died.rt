@@ -1,0 +1,47 @@
+// The labels above a process that has died, brought up to date for all channels.
+ghost use Rattle.std.specs.Prelude.{◌≡◌, ◌≤◌, length};
+ghost use Rattle.shim_records.specs.Pairs.{AreOrdered};
+ghost use Rattle.shim_records.specs.Died.{SinksOne, IsTaken};
+
+use crate::acted::is_first;
+use crate::labels::sink;
+use crate::record::Record;
+use shim_base::Chan;
+use shim_local::Local;
+
+// Takes the label in for the channel, if the process shares it and it stands at no place before.
+fn sink_one<L: Local>(
+    process: &L,
+    records: &mut Vec<Record>,
+    at: usize,
+    c: &Chan,
+    place: usize,
+    label: u32,
+    forks: u32,
+)
+    requires { AreOrdered records.old.items }
+    ensures { SinksOne L.ops process.now label forks at c.now.channel place records.old.items records.new.items }
+{
+    if !process.shares(c) {
+        return;
+    }
+    if !is_first(process, c, place) {
+        return;
+    }
+    sink(records, at, c, label, forks);
+}
+
+/// Takes the label of a process's death into the labels above its record, for each channel that it was given
+/// and shares.
+pub fn sink_all<L: Local>(process: &L, records: &mut Vec<Record>, at: usize, label: u32, forks: u32)
+    requires ordered { AreOrdered records.old.items }
+    requires few { length (L.ops.given process.now) ≤ 18446744073709551615 }
+    ensures { IsTaken L.ops process.now label forks at records.old.items records.new.items }
+{
+    for place in 0..usize::MAX {
+        match process.given(place) {
+            None => return,
+            Some(chan) => sink_one(process, records, at, chan, place, label, forks),
+        }
+    }
+}

@@ -1,0 +1,77 @@
+// The counts above a live process that was killed where it stood, brought up to date for all channels.
+ghost use Rattle.std.specs.Prelude.{◌≡◌, ◌≤◌, length};
+ghost use Rattle.shim_records.specs.Pairs.{reading_of, AreOrdered};
+ghost use Rattle.shim_records.specs.Killed.{living, fallen, KillsOne, IsKilled};
+
+use crate::acted::is_first;
+use crate::pair::Reading;
+use crate::receiving::stands_at;
+use crate::record::Record;
+use crate::upward::climb;
+use shim_base::Chan;
+use shim_local::Local;
+
+// What a fork read of the process while it lived.
+fn living_reading<L: Local>(process: &L, c: &Chan) -> Reading
+    ensures { reading_of result ≡ living L.ops process.now c.now.channel }
+{
+    Reading {
+        joining: process.shares(c),
+        readiness: stands_at(process, c),
+        failing: false,
+    }
+}
+
+// What a fork reads of it when it has died.
+fn fallen_reading<L: Local>(process: &L, c: &Chan) -> Reading
+    ensures { reading_of result ≡ fallen L.ops process.now c.now.channel }
+{
+    Reading {
+        joining: false,
+        readiness: false,
+        failing: process.shares(c),
+    }
+}
+
+// Goes the way up for the channel, if the process shares it and it stands at no place before.
+fn kill_one<L: Local>(
+    process: &L,
+    records: &mut Vec<Record>,
+    at: usize,
+    c: &Chan,
+    place: usize,
+    forks: u32,
+)
+    requires { AreOrdered records.old.items }
+    ensures { KillsOne L.ops process.now forks at c.now.channel place records.old.items records.new.items }
+{
+    if !process.shares(c) {
+        return;
+    }
+    if !is_first(process, c, place) {
+        return;
+    }
+    climb(
+        records,
+        at,
+        c,
+        living_reading(process, c),
+        fallen_reading(process, c),
+        forks,
+    );
+}
+
+/// Brings the counts above a process up to date that lived and was killed, for each channel that it was given
+/// and shares. It may have stood at a channel, and so have been read as ready there.
+pub fn kill_all<L: Local>(process: &L, records: &mut Vec<Record>, at: usize, forks: u32)
+    requires ordered { AreOrdered records.old.items }
+    requires few { length (L.ops.given process.now) ≤ 18446744073709551615 }
+    ensures { IsKilled L.ops process.now forks at records.old.items records.new.items }
+{
+    for place in 0..usize::MAX {
+        match process.given(place) {
+            None => return,
+            Some(chan) => kill_one(process, records, at, chan, place, forks),
+        }
+    }
+}
