@@ -1,0 +1,84 @@
+-- A process that has the locations of what it names has them for each `next` and each argument, and a branch at each fork.
+use Rattle.std.proofs.Common.{◌≡◌, ℕ, true, List, [], ◌∷◌, Some, slice_get, subst}
+use Rattle.std.proofs.lemmas.Bool.{and_parts}
+use Rattle.shim_units.specs.declared.unit.Unit.{Unit as UnitOf}
+use Rattle.shim_scopes.specs.declared.tree.UParam.{UParam}
+use Rattle.shim_units.specs.declared.unit.Arg.{Arg}
+use Rattle.shim_units.specs.declared.unit.Arg.TheVariants.{Ref, Pass, Fresh}
+use Rattle.shim_units.specs.declared.unit.UBranch.{UBranch}
+use Rattle.shim_units.specs.declared.unit.UCall.{UCall}
+use Rattle.shim_units.specs.declared.unit.UStmt.{UStmt}
+use Rattle.shim_units.specs.declared.unit.UWhat.{UWhat, UWhat-F, out-UWhat}
+use Rattle.shim_process.specs.LocalState.{LocalState, unit_at}
+use Rattle.shim_process.specs.Todo.{Item, Do, Leave, next_stmt}
+use Rattle.shim_base.proofs.Facts.{some_same, none_some, second_holds, first_holds}
+use Rattle.shim_laws_stops.specs.InScope.{is_number, same_kind, has_number, argument_right, arguments_right, references, distinct, call_right, all_calls_right, are_some, branches_apart}
+use Rattle.shim_laws_stops.specs.FrameLocations.{item_right, ItemsScoped, FrameScoped, HasLocations}
+use Rattle.shim_laws_stops.specs.Named.{StandsAt, HasItsLocation, IsNextOf, next, next_assign, assign_next, ArgumentHasLocation, AllHaveLocations, CallHasLocations, BranchesHaveLocations}
+use Rattle.shim_laws_stops.proofs.Among.{Among}
+use Rattle.shim_laws_stops.proofs.ScopeEntries.{number_of_kind}
+use Rattle.shim_laws_stops.proofs.ScopeFrames.{inner_scoped}
+use Rattle.shim_laws_stops.proofs.LocationSteps.{Has}
+use Rattle.shim_laws_stops.proofs.LocationForks.{known_here}
+
+-- what the statement names has its location
+pub record IsRight (l : LocalState) (w : UWhat-F UWhat UStmt) : Type 0 where
+  pub slots : List ℕ
+  pub has : (x : ℕ) → Among slots x → Has l x
+  pub right : item_right l.program (unit_at l.program l.frame.unit) w slots ≡ true
+
+item_is_right : (l : LocalState) (todo : List Item) (s : UStmt) → ItemsScoped l.program (unit_at l.program l.frame.unit) (Has l) [] todo → next_stmt todo ≡ Some s → IsRight l (out-UWhat s.what)
+item_is_right l [] s h e = none_some s e
+item_is_right l (Leave ∷ k) s h e = none_some s e
+item_is_right l (Do n r ∷ k) s h e =
+    let same : r ≡ s = some_same r s e in
+    subst (λ (z : UStmt). IsRight l (out-UWhat z.what)) same (record { slots = h.0.slots; has = known_here l r h.0; right = h.0.right })
+
+pub stands_right : (l : LocalState) (w : UWhat-F UWhat UStmt) → HasLocations l → StandsAt l w → IsRight l w
+stands_right l w h (s, at, is) =
+    let f : FrameScoped l.program l.locations l.frame = inner_scoped l.program l.locations l.frame l.callers h.frames in
+    subst (IsRight l) is (item_is_right l l.frame.todo s f.todo at)
+
+module _ (l : LocalState) where
+  abbrev u : UnitOf
+  u = unit_at l.program l.frame.unit
+
+  a_number : (xs : List ℕ) (x : ℕ) → ((y : ℕ) → Among xs y → Has l y) → has_number u xs x ≡ true → HasItsLocation l x
+  a_number xs x has h = let w = and_parts _ (is_number (slice_get u.slots x)) h in has x w.0 w.1
+
+  pub next_has : {w : UWhat-F UWhat UStmt} (x : ℕ) → IsNextOf x w → IsRight l w → HasItsLocation l x
+  next_has x next r = a_number r.slots x r.has r.right
+  next_has x (next_assign e) r = a_number r.slots x r.has r.right
+  next_has x (assign_next y) r = a_number r.slots x r.has (second_holds (has_number u r.slots y) (has_number u r.slots x) r.right)
+
+  argument_has : (xs : List ℕ) (p : UParam) (a : Arg) → ((y : ℕ) → Among xs y → Has l y) → argument_right u xs p a ≡ true → ArgumentHasLocation l p a
+  argument_has xs p (Ref x) has h = λ number. let w = and_parts _ (same_kind p.sort (slice_get u.slots x)) h in has x w.0 (number_of_kind p.sort (slice_get u.slots x) number w.1)
+  argument_has xs p (Pass x) has h = a_number xs x has (second_holds (is_number (Some p.sort)) (has_number u xs x) h)
+  argument_has xs p (Fresh e) has h = tt
+
+  arguments_have : (xs : List ℕ) (ps : List UParam) (args : List Arg) → ((y : ℕ) → Among xs y → Has l y) → arguments_right u xs ps args ≡ true → AllHaveLocations l ps args
+  arguments_have xs [] [] has h = tt
+  arguments_have xs [] (a ∷ rest) has h = absurd (cc h)
+  arguments_have xs (p ∷ ps) [] has h = absurd (cc h)
+  arguments_have xs (p ∷ ps) (a ∷ rest) has h =
+      let w = and_parts (argument_right u xs p a) (arguments_right u xs ps rest) h in
+      (argument_has xs p a has w.0, arguments_have xs ps rest has w.1)
+
+  call_has : (xs : List ℕ) (c : UCall) → ((y : ℕ) → Among xs y → Has l y) → call_right l.program u xs c ≡ true → CallHasLocations l c
+  call_has xs c has h = arguments_have xs (unit_at l.program c.unit).params c.args has (first_holds (arguments_right u xs (unit_at l.program c.unit).params c.args) (distinct (references c.args)) h)
+
+  branches_have : (xs : List ℕ) (bs : List UBranch) → ((y : ℕ) → Among xs y → Has l y) → all_calls_right l.program u xs bs ≡ true → BranchesHaveLocations l bs
+  branches_have xs [] has h = tt
+  branches_have xs (b ∷ bs) has h =
+      let w = and_parts (call_right l.program u xs b.call) (all_calls_right l.program u xs bs) h in
+      (call_has xs b.call has w.0, branches_have xs bs has w.1)
+
+  pub at_call : (c : UCall) → IsRight l (UWhat-F.Call c) → CallHasLocations l c
+  at_call c r = call_has r.slots c r.has r.right
+
+  pub at_fork : (bs : List UBranch) → IsRight l (UWhat-F.Par bs) → BranchesHaveLocations l bs
+  at_fork bs r = branches_have r.slots bs r.has (second_holds (branches_apart bs) (all_calls_right l.program u r.slots bs) (second_holds (are_some bs) _ r.right))
+
+  pub some_branch : (bs : List UBranch) → IsRight l (UWhat-F.Par bs) → bs ≡ [] → ⊥
+  some_branch [] r e = cc r.right
+  some_branch (b ∷ bs) r e = cc e

@@ -1,0 +1,67 @@
+-- What the frames of a process have for the variables that they name.
+use Rattle.std.specs.Prelude.{◌≡◌, ◌<◌, ◌≤◌, ◌⊎◌, ℕ, Bool, true, ◌&&◌, List, [], ◌∷◌, ◌++◌, length, take, slice_get}
+use Rattle.shim_units.specs.declared.form.Form.{Form}
+use Rattle.shim_units.specs.declared.unit.Unit.{Unit as UnitOf}
+use Rattle.shim_units.specs.declared.unit.UStmt.{UStmt}
+use Rattle.shim_units.specs.declared.unit.UWhat.{UWhat, UWhat-F, fold-UWhat, map-UWhat, out-UWhat}
+use Rattle.shim_units.specs.Lifting.{is_among}
+use Rattle.shim_process.specs.Locations.{Locations}
+use Rattle.shim_process.specs.Todo.{Item, Do, Leave}
+use Rattle.shim_process.specs.LocalState.{LocalState, Frame, ExceptionPlace, unit_at, number_of, location_of}
+use Rattle.shim_laws_sources.specs.OwnSlots.{is_own_slot, UsesOwnSlots}
+use Rattle.shim_laws_sources.specs.Anchored.{FrameFits}
+use Rattle.shim_laws_stops.specs.Named.{IsThere}
+use Rattle.shim_laws_stops.specs.InScope.{is_number, Scoped, what_scoped, scoped, all_scoped, AllInScope}
+
+-- the slot has a location, where it holds a number
+abbrev pub HasLocation : UnitOf → Locations → List ℕ → ℕ → Type 0
+HasLocation u locations slots x = is_number (slice_get u.slots x) ≡ true → IsThere (location_of locations slots x)
+
+-- a statement as far as its kind, and where a loop stands at its test
+abbrev pub scoped_kind : Form → UnitOf → UWhat-F UWhat UStmt → Scoped
+scoped_kind program u w = what_scoped program u (map-UWhat UWhat UStmt Scoped Scoped (fold-UWhat Scoped Scoped (what_scoped program u) (λ s. s.what)) (scoped program u) w)
+
+abbrev pub item_right : Form → UnitOf → UWhat-F UWhat UStmt → List ℕ → Bool
+item_right program u (UWhat-F.For first test step body) xs = all_scoped program u step xs && all_scoped program u body xs
+item_right program u w xs = (scoped_kind program u w).right xs
+
+-- the statement names what is in scope, and each of that has what is asked, or one of these statements before it declares it
+pub record ItemScoped (program : Form) (u : UnitOf) (Has : ℕ → Type 0) (declared : List ℕ) (s : UStmt) : Type 0 where
+  pub slots : List ℕ
+  pub known : (x : ℕ) → is_among slots x ≡ true → Has x ⊎ (is_among declared x ≡ true)
+  pub right : item_right program u (out-UWhat s.what) slots ≡ true
+
+-- so does all that is to be done, where these are declared before it
+abbrev pub ItemsScoped : Form → UnitOf → (ℕ → Type 0) → List ℕ → List Item → Type 0
+ItemsScoped program u Has declared [] = Unit {0}
+ItemsScoped program u Has declared (Leave ∷ k) = ItemsScoped program u Has declared k
+ItemsScoped program u Has declared (Do n s ∷ k) = ItemScoped program u Has declared s × ItemsScoped program u Has ((scoped program u s).declares ++ declared) k
+
+-- what the statement that is next declares
+abbrev pub next_declares : Form → UnitOf → List Item → List ℕ
+next_declares program u [] = []
+next_declares program u (Leave ∷ k) = []
+next_declares program u (Do n s ∷ k) = (scoped program u s).declares
+
+-- what there was to do at each exception place, where a `try` was next
+abbrev pub PlacesScoped : Form → UnitOf → (ℕ → Type 0) → List ExceptionPlace → Type 0
+PlacesScoped program u Has [] = Unit {0}
+PlacesScoped program u Has (p ∷ places) = ItemsScoped program u Has [] p.todo × (next_declares program u p.todo ≡ []) × PlacesScoped program u Has places
+
+pub record FrameScoped (program : Form) (locations : Locations) (f : Frame) : Type 0 where
+  pub fit : FrameFits program 0 f
+  pub todo : ItemsScoped program (unit_at program f.unit) (HasLocation (unit_at program f.unit) locations f.slots) [] f.todo
+  pub places : PlacesScoped program (unit_at program f.unit) (HasLocation (unit_at program f.unit) locations f.slots) f.places
+  -- there is room for the locations of its own variables
+  pub room : (x : ℕ) → is_own_slot (unit_at program f.unit) x ≡ true → number_of f.slots x < length locations
+
+-- each unit that waits does so at a call, and has its variables before the locations of the one that it called
+abbrev pub FramesScoped : Form → Locations → Frame → List Frame → Type 0
+FramesScoped program locations f [] = FrameScoped program locations f
+FramesScoped program locations f (caller ∷ callers) =
+    FrameScoped program locations f × (f.floor ≤ length locations) × (next_declares program (unit_at program caller.unit) caller.todo ≡ []) × FramesScoped program (take f.floor locations) caller callers
+
+pub record HasLocations (l : LocalState) : Type 0 where
+  pub own : UsesOwnSlots l.program
+  pub units : AllInScope l.program
+  pub frames : FramesScoped l.program l.locations l.frame l.callers

@@ -1,0 +1,72 @@
+-- That the variables at which a process waits and those that it hands on have locations, and that a fork has a branch.
+use Rattle.std.specs.Prelude.{◌≡◌, ℕ, true, List, [], ◌∷◌, Option, Some}
+use Rattle.shim_semantics.specs.Nodes.{Live}
+use Rattle.shim_semantics.specs.Places.{at}
+use Rattle.shim_semantics.specs.Trees.{Tree}
+use Rattle.shim_scopes.specs.declared.tree.UExpr.{UExpr}
+use Rattle.shim_scopes.specs.declared.tree.UParam.{UParam}
+use Rattle.shim_units.specs.declared.unit.Arg.{Arg}
+use Rattle.shim_units.specs.declared.unit.Arg.TheVariants.{Ref, Pass, Fresh}
+use Rattle.shim_units.specs.declared.unit.UBranch.{UBranch}
+use Rattle.shim_units.specs.declared.unit.UCall.{UCall}
+use Rattle.shim_units.specs.declared.unit.UStmt.{UStmt}
+use Rattle.shim_units.specs.declared.unit.UWhat.{UWhat, UWhat-F, out-UWhat}
+use Rattle.shim_process.specs.Locations.{Location}
+use Rattle.shim_process.specs.Todo.{next_stmt}
+use Rattle.shim_process.specs.LocalState.{LocalState, unit_at, location_of}
+use Rattle.shim_laws_stops.specs.InScope.{is_number}
+
+-- there is a location
+abbrev pub IsThere : Option Location → Type 0
+IsThere o = (x : Location) × (o ≡ Some x)
+
+-- the statement that is next for the process does this
+abbrev pub StandsAt : LocalState → UWhat-F UWhat UStmt → Type 0
+StandsAt l w = (s : UStmt) × (next_stmt l.frame.todo ≡ Some s) × (out-UWhat s.what ≡ w)
+
+-- the variable of this slot has a location
+abbrev pub HasItsLocation : LocalState → ℕ → Type 0
+HasItsLocation l x = IsThere (location_of l.locations l.frame.slots x)
+
+-- a live process of the tree
+abbrev pub IsLive : Tree LocalState → LocalState → Type 0
+IsLive t l = (q : List ℕ) × (at q t.root ≡ Some (Live l))
+
+-- `next x;`, `next x = e;` and `y = next x;`
+pub data IsNextOf (x : ℕ) : UWhat-F UWhat UStmt → Type 0 where
+  next : IsNextOf x (UWhat-F.Next x)
+  next_assign : (e : UExpr) → IsNextOf x (UWhat-F.NextAssign x e)
+  assign_next : (y : ℕ) → IsNextOf x (UWhat-F.AssignNext y x)
+
+-- each `next` at which a live process stands has a location
+abbrev pub NextsHaveLocations : Tree LocalState → Type 0
+NextsHaveLocations t = (l : LocalState) (w : UWhat-F UWhat UStmt) (x : ℕ) → IsLive t l → StandsAt l w → IsNextOf x w → HasItsLocation l x
+
+-- each fork at which one stands has a branch
+abbrev pub ForksHaveBranches : Tree LocalState → Type 0
+ForksHaveBranches t = (l : LocalState) (branches : List UBranch) → IsLive t l → StandsAt l (UWhat-F.Par branches) → branches ≡ [] → ⊥
+
+-- an argument that is a variable has its location, where its parameter is a number; a stream has none
+abbrev pub ArgumentHasLocation : LocalState → UParam → Arg → Type 0
+ArgumentHasLocation l p (Ref x) = is_number (Some p.sort) ≡ true → HasItsLocation l x
+ArgumentHasLocation l p (Pass x) = HasItsLocation l x
+ArgumentHasLocation l p (Fresh e) = Unit {0}
+
+-- so do all of them, and there is one for each parameter
+abbrev pub AllHaveLocations : LocalState → List UParam → List Arg → Type 0
+AllHaveLocations l [] [] = Unit {0}
+AllHaveLocations l [] (a ∷ rest) = ⊥
+AllHaveLocations l (p ∷ ps) [] = ⊥
+AllHaveLocations l (p ∷ ps) (a ∷ rest) = ArgumentHasLocation l p a × AllHaveLocations l ps rest
+
+abbrev pub CallHasLocations : LocalState → UCall → Type 0
+CallHasLocations l c = AllHaveLocations l (unit_at l.program c.unit).params c.args
+
+abbrev pub BranchesHaveLocations : LocalState → List UBranch → Type 0
+BranchesHaveLocations l [] = Unit {0}
+BranchesHaveLocations l (b ∷ branches) = CallHasLocations l b.call × BranchesHaveLocations l branches
+
+-- each argument of a branch of a fork at which a live process stands has a location, and so has each of a call
+pub record ArgumentsHaveLocations (t : Tree LocalState) : Type 0 where
+  pub forks : (l : LocalState) (branches : List UBranch) → IsLive t l → StandsAt l (UWhat-F.Par branches) → BranchesHaveLocations l branches
+  pub calls : (l : LocalState) (c : UCall) → IsLive t l → StandsAt l (UWhat-F.Call c) → CallHasLocations l c

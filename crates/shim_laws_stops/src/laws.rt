@@ -1,0 +1,64 @@
+// Laws of the units of an accepted program, and of the trees that its runs reach.
+ghost use Rattle.std.specs.Prelude.{ℕ, List};
+ghost use Rattle.shim_semantics.specs.Trees.{Tree};
+ghost use Rattle.shim_units.specs.declared.form.Form.{Form};
+ghost use Rattle.shim_units.specs.OfText.{IsAcceptedForm};
+ghost use Rattle.shim_process.specs.LocalState.{LocalState};
+ghost use Rattle.shim_laws_sources.specs.Sources.{IsReached};
+ghost use Rattle.shim_laws_stops.specs.InForce.{AllInForce};
+ghost use Rattle.shim_laws_stops.specs.InScope.{AllInScope};
+ghost use Rattle.shim_laws_stops.specs.Ends.{EndsHaveNothingLeft};
+ghost use Rattle.shim_laws_stops.specs.Outputs.{PutsHaveOutput};
+ghost use Rattle.shim_laws_stops.specs.Named.{ArgumentsHaveLocations, ForksHaveBranches, NextsHaveLocations};
+ghost use Rattle.shim_laws_stops.specs.Thrown.{ThrownHavePlaces};
+
+/// In the units of an accepted program each exception that a statement throws or hands on is in force
+/// there: its unit was given it, or the statement stands in the body of its `try`. Each call and each
+/// branch hands on an exception for each that its unit is given.
+pub fn what_is_thrown_is_in_force()
+    ensures { (form : Form) → IsAcceptedForm form → AllInForce form }
+{}
+
+/// In the units of an accepted program each variable that a statement stores in, waits at or gives to a
+/// call or a branch is in scope there: it is a parameter of its unit, or its declaration stands before in
+/// the same block or in one around it. It holds what is asked for: a number, or the output at a `put`.
+/// Each call and each branch has one argument for each parameter, of its kind, and is given no slot by
+/// reference twice; no two branches of a fork are given one slot by reference, and each fork has a branch.
+pub fn what_is_named_is_in_scope()
+    ensures { (form : Form) → IsAcceptedForm form → AllInScope form }
+{}
+
+/// In each tree that a run of an accepted program reaches each exception that a live process throws has a
+/// place: that of a `try` in force, its own or one of a process that waits around it, or else it is one
+/// of those that `main` throws.
+pub fn thrown_exceptions_have_places()
+    ensures { (program : Form) (input : List ℕ) (t : Tree LocalState) → IsAcceptedForm program → IsReached program input t → ThrownHavePlaces program t }
+{}
+
+/// In each tree that a run of an accepted program reaches the variable of each `next` at which a live
+/// process stands has a location.
+pub fn nexts_have_locations()
+    ensures { (program : Form) (input : List ℕ) (t : Tree LocalState) → IsAcceptedForm program → IsReached program input t → NextsHaveLocations t }
+{}
+
+/// In each such tree each fork at which a live process stands has a branch.
+pub fn forks_have_branches()
+    ensures { (program : Form) (input : List ℕ) (t : Tree LocalState) → IsAcceptedForm program → IsReached program input t → ForksHaveBranches t }
+{}
+
+/// In each such tree each argument of a branch or a call at which a live process stands has a location
+/// where it is a variable that holds a number, and there is one argument for each parameter.
+pub fn arguments_have_locations()
+    ensures { (program : Form) (input : List ℕ) (t : Tree LocalState) → IsAcceptedForm program → IsReached program input t → ArgumentsHaveLocations t }
+{}
+
+/// In each such tree each live process that stands at a `put` has the output.
+pub fn puts_have_output()
+    ensures { (program : Form) (input : List ℕ) (t : Tree LocalState) → IsAcceptedForm program → IsReached program input t → PutsHaveOutput t }
+{}
+
+/// In each such tree a live process stands at its end only where nothing is left to do, in any unit that
+/// it is in. So no `next`, no `put` and no fork comes to the stop of an end.
+pub fn ends_have_nothing_left()
+    ensures { (program : Form) (input : List ℕ) (t : Tree LocalState) → IsAcceptedForm program → IsReached program input t → EndsHaveNothingLeft t }
+{}
