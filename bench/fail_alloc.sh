@@ -1,25 +1,35 @@
 #!/usr/bin/env bash
-# Runs ./shim with its first, second, .. allocation failing, until a run makes no more of them. Each run must
-# answer as ever, or write `no memory` and end with 8. Wants gcc.
-# Use: make shim && bench/fail_alloc.sh [SOURCE]
+# Runs ./shim with its first, second, .. allocation failing, until runs make no more of them; then with that allocation and
+# each behind it failing. Each run must answer as ever, or write `no memory` and end with 8. Without words it does so for
+# programs that meet, that throw and that read, for one that is made, and for every mode, by one worker and by four. Runs
+# by four workers make more or fewer allocations by chance, so there ten numbers in a row have to come to nothing.
+# Wants gcc.
+# Use: make shim && bench/fail_alloc.sh [WORDS..], with WORDS as `run examples/frame.shim`
 set -eu
 cd "$(dirname "$0")/.."
-source=${1:-examples/frame.shim}
 room=$(mktemp -d)
 trap 'rm -rf "$room"' EXIT
 
-# Refuses one call of the C library's allocator, by its number, and says whether it was made.
+# Refuses one call of the C library's allocator, by its number, or all from it on, and says whether that call was made.
 cat > "$room/refuse.c" <<'C'
 #define _GNU_SOURCE
 #include <dlfcn.h>
 #include <errno.h>
+#include <stdatomic.h>
 #include <stdlib.h>
 #include <unistd.h>
-static long left = -1;
+static atomic_long made;
+static long number, from;
+__attribute__((constructor)) static void begin(void) {
+  const char *n = getenv("REFUSE"), *f = getenv("REFUSE_FROM");
+  number = n ? atol(n) : 0;
+  from = f ? atol(f) : 0;
+}
 static int refuses(void) {
-  if (left < 0) { const char *n = getenv("REFUSE"); left = n ? atol(n) : 0; }
-  if (left == 0 || --left != 0) return 0;
-  if (write(9, "!", 1) != 1) _exit(99);
+  if (number == 0 && from == 0) return 0;
+  long now = atomic_fetch_add(&made, 1) + 1;
+  if (now != number && (from == 0 || now < from)) return 0;
+  if ((now == number || now == from) && write(9, "!", 1) != 1) _exit(99);
   errno = ENOMEM;
   return 1;
 }
@@ -43,21 +53,111 @@ void *aligned_alloc(size_t a, size_t n) {
   if (!next) next = dlsym(RTLD_NEXT, "aligned_alloc");
   return refuses() ? NULL : next(a, n);
 }
+int posix_memalign(void **p, size_t a, size_t n) {
+  static int (*next)(void **, size_t, size_t);
+  if (!next) next = dlsym(RTLD_NEXT, "posix_memalign");
+  return refuses() ? ENOMEM : next(p, a, n);
+}
 C
 gcc -O1 -shared -fPIC -o "$room/refuse.so" "$room/refuse.c" -ldl
 
-./shim run "$source" > "$room/as_ever" || { cat "$room/as_ever"; exit 1; }
-wanting=0
-for number in $(seq 1 100000); do
+# One run, with a variable that says what is refused. Sets `status`.
+answer() { # VARIABLE WORDS..
+  local refused=$1
+  shift
   status=0
-  REFUSE=$number LD_PRELOAD="$room/refuse.so" ./shim run "$source" > "$room/out" 9> "$room/refused" || status=$?
-  if [ ! -s "$room/refused" ]; then
-    echo "$((number - 1)) allocations, of which $wanting ended with 8 when refused"
-    exit 0
-  fi
-  if [ "$status" = 8 ] && [ "$(cat "$room/out")" = "no memory" ]; then
-    wanting=$((wanting + 1))
-  elif [ "$status" != 0 ] || ! cmp -s "$room/out" "$room/as_ever"; then
-    echo "allocation $number refused: status $status"; cat "$room/out"; exit 1
-  fi
+  timeout 60 env "$refused" LD_PRELOAD="$room/refuse.so" ./shim "$@" > "$room/out" 2> "$room/err" 9> "$room/refused" || status=$?
+}
+
+# Runs with number after number refused, by that variable, until so many in a row come to nothing.
+refuse_each() { # VARIABLE QUIET WORDS..
+  local variable=$1 quiet=$2 idle=0 number=0 wanting=0
+  shift 2
+  while [ "$idle" -lt "$quiet" ]; do
+    number=$((number + 1))
+    answer "$variable=$number" "$@"
+    if [ -s "$room/refused" ]; then idle=0; else idle=$((idle + 1)); fi
+    if [ "$status" = 8 ] && [ -s "$room/refused" ] && printf 'no memory\n' | cmp -s "$room/out" - && [ ! -s "$room/err" ]; then
+      wanting=$((wanting + 1))
+    elif [ "$status" != "$wanted" ] || ! cmp -s "$room/out" "$room/as_ever" || [ -s "$room/err" ]; then
+      echo "$variable=$number ./shim $*: status $status, and not $wanted"
+      cat "$room/out" "$room/err"
+      exit 1
+    fi
+  done
+  allocations=$((number - quiet))
+  said=$wanting
+}
+
+refuse_all() { # QUIET WORDS..
+  local quiet=$1 one
+  shift
+  wanted=0
+  timeout 60 ./shim "$@" > "$room/as_ever" || wanted=$?
+  if [ "$wanted" = 8 ] || [ "$wanted" -gt 9 ]; then cat "$room/as_ever"; exit 1; fi
+  refuse_each REFUSE "$quiet" "$@"
+  one="$allocations allocations, of which $said ended with 8 when refused alone"
+  refuse_each REFUSE_FROM "$quiet" "$@"
+  echo "$*: $one, and $said with each one behind them"
+}
+
+if [ $# -gt 0 ]; then
+  quiet=10
+  case " $* " in *" --workers 1 "* | *" --workers=1 "* | " ref "* | " check "* | " code "*) quiet=1 ;; esac
+  refuse_all $quiet "$@"
+  exit 0
+fi
+
+cd "$room" && ln -s "$OLDPWD/shim" shim
+cat > meeting.shim <<'S'
+void f(int a) { a = 3; next a; }
+void g(int &b) { b = 5; next b; }
+void main() { int c; f(c); par g(c); }
+S
+cat > poison.shim <<'S'
+void main() {
+  int a;
+  try {
+    { next a = 1; throw T; } par { while (1) { next a; } }
+  } catch (T) { }
+}
+S
+cat > filter.shim <<'S'
+void reader(istream &i, int &a) throws Done {
+  int c;
+  c = get i;
+  while (c != -1) { next a = c; c = get i; }
+  throw Done;
+}
+void twice(int a, int &b) {
+  while (1) { next a; next b = a * 2; }
+}
+void writer(int b, ostream &o) {
+  while (1) { next b; put o, b; }
+}
+void main(istream &i, ostream &o) {
+  int a; int b;
+  try {
+    reader(i, a); par twice(a, b); par writer(b, o);
+  } catch (Done) { }
+}
+S
+printf AB > bytes
+echo 'void main() { x = 1; }' > refused.shim
+
+for workers in 1 4; do
+  quiet=$((workers == 1 ? 1 : 10))
+  refuse_all $quiet run meeting.shim --workers $workers
+  refuse_all $quiet run poison.shim --workers $workers
+  refuse_all $quiet run filter.shim --input bytes --workers $workers
+  refuse_all $quiet run filter.shim --input bytes --workers $workers --budget 31
+  refuse_all $quiet gen storm --size 10 --workers $workers
 done
+for source in meeting poison filter; do
+  refuse_all 1 ref $source.shim --input bytes
+  refuse_all 1 check $source.shim
+  refuse_all 1 code $source.shim
+done
+refuse_all 1 check refused.shim
+refuse_all 1 check nowhere.shim
+refuse_all 1 walk

@@ -84,4 +84,5 @@ class Maker:
         return f"void main(ostream &o) {{ {declarations} {body} {ends} }}\n"
 
 
-print(Maker(int(sys.argv[1])).program(), end="")
+if __name__ == "__main__":
+    print(Maker(int(sys.argv[1])).program(), end="")

@@ -1,0 +1,554 @@
+#!/usr/bin/env python3
+"""Gives ./shim texts that were changed at random, and looks whether each answer is one that it may give.
+
+The texts are those of crates/shim_conformance and of examples/, and programs of bench/made.py: their bytes flipped, their
+tokens swapped, doubled, deleted, exchanged or nested deeper, their statements moved, their numbers put to limits. Each is
+checked, listed, run by some number of workers and pieces, and run by `ref`, with a limit of time and of memory, and
+
+- each call ends by itself with a status from 0 to 9, its text is of the form that docs/FORMATS.md has for that status and
+  mode, and nothing comes on standard error;
+- where the text is refused, the line is that of bench/grammar.py, or one of a text that is a program, the same in every
+  mode; `check` counts the functions as bench/grammar.py does;
+- `run` and `ref` have the same status, and the same text but where the budget stopped them; then the counts add up to it.
+
+The same numbers make the same texts and words. Prints how many calls had each status, the longest time and the most
+memory. Keeps what differs in the folder `found`, says its words, and ends with 1.
+Use: make shim && python3 bench/fuzz.py [--texts N] [--first N] [--seed S] [--processes P] [--show NUMBER]
+"""
+import argparse
+import collections
+import glob
+import multiprocessing
+import os
+import random
+import re
+import resource
+import shutil
+import signal
+import sys
+import tempfile
+import time
+
+import grammar
+import made
+
+TOP = os.path.dirname(os.path.dirname(os.path.abspath(__file__)))
+SHIM = os.path.join(TOP, "shim")
+SECONDS = 20
+MEMORY = 4 << 30
+MIB = 1 << 20
+
+# What `--input` gives.
+INPUTS = [b"", b"A", b"AB", bytes(range(256)), b"\xff\x00\n" * 7, b"0123456789" * 30]
+NUMBERS = (
+    "0 1 2 3 7 8 63 64 65 127 128 199 200 201 255 256 32767 32768 65535 65536 2147483647 2147483648 4294967295 4294967296 "
+    "4611686018427387904 9223372036854775807 9223372036854775808 18446744073709551615 0x7fffffffffffffff 0xFFFFFFFFFFFFFFFF "
+    "0X0 0x 00000000000000000000000000000001 1e9 1.5"
+).split()
+WORDS = sorted(grammar.KEYWORDS) + list(grammar.TIGHTNESS) + list("(){},;=!~") + ["a", "b", "c", "o", "T", "main", "f"]
+PIECES = [
+    "{ } par { }", "next a;", "throw T;", "try { throw T; } catch (T) { }", "while (1) { }", "while (1) next a;", "int z; z = 1 / z;",
+    "for (int q = 0; q < 3; q = q + 1) ;", "{ next a; } par { next a; }", "{ throw T; } par { next a; }", "main();", "f(1);",
+    "if (a) { } else { }", "a = a << 63;", "a = 9223372036854775807 + a;", "put o, a;", "a = next a;", "next a = a + 1;", "int a;",
+    "{ a = 1; } par { { a = 2; } }", "try { { next a; throw T; } par { while (1) next a; } } catch (T) { }", ";", "{ }",
+]
+TOKEN = re.compile(rb"[A-Za-z_0-9]+|<<|>>|<=|>=|==|!=|&&|\|\||/\*.*?\*/|//[^\n]*|\s+|.", re.DOTALL)
+
+
+def case_files(path):
+    """The bytes of each file that the cases of a file have, and the status of the case."""
+    files, part, form = [], None, None
+    with open(path, encoding="utf-8", newline="\n") as lines:
+        for line in lines:
+            word, _, rest = line[4:].rstrip("\n").partition(" ")
+            if not line.startswith("=== "):
+                if part is not None:
+                    part.append(line)
+                continue
+            if word == "repeat" and part is not None:
+                count, _, text = rest.partition(" ")
+                part.append(text * int(count) + "\n")
+                continue
+            if part is not None and form == "hex":
+                files.append(bytes.fromhex("".join("".join(part).split())))
+            elif part is not None:
+                files.append("".join(part).encode())
+            form, part = word, [] if word in ("file", "bare", "hex") else None
+            if word == "status":
+                for file in files:
+                    yield file, int(rest)
+                files = []
+
+
+def known_texts():
+    """The texts that run, and those that are refused."""
+    running, refused = set(), set()
+    for path in glob.glob(os.path.join(TOP, "crates/shim_conformance/data/*.cases")):
+        if os.path.basename(path) != "prefixes.cases":
+            for text, status in case_files(path):
+                if 8 < len(text) < 20000:
+                    (running if status in (0, 1, 3, 4) else refused).add(text)
+    for path in glob.glob(os.path.join(TOP, "examples/*.shim")):
+        with open(path, "rb") as file:
+            running.add(file.read())
+    return sorted(running), sorted(refused)
+
+
+class Changer:
+    """Changes a text at random."""
+
+    def __init__(self, dice, texts):
+        self.dice = dice
+        self.texts = texts
+
+    def base(self):
+        kind = self.dice.random()
+        if kind < 0.45:
+            return made.Maker(self.dice.randrange(1 << 30)).program().encode()
+        running, refused = self.texts
+        return self.dice.choice(running if kind < 0.9 else refused)
+
+    def text(self):
+        text = self.base()
+        # Gentle changes mostly leave a program that is accepted.
+        gentle = self.dice.random() < 0.75
+        for _ in range(self.dice.choice([1, 1, 1, 2, 2, 3, 5, 8])):
+            change = self.dice.choice(self.GENTLE if gentle and self.dice.random() < 0.95 else self.ROUGH)
+            text = change(self, text)
+        return text[: MIB + self.dice.choice([0, 0, 0, 1])]
+
+    def place(self, text):
+        return self.dice.randrange(len(text) + 1)
+
+    def span(self, text):
+        at = self.place(text)
+        return at, min(len(text), at + self.dice.choice([1, 1, 2, 5, 20, 200]))
+
+    def tokens(self, text):
+        return TOKEN.findall(text)
+
+    def at_token(self, tokens, fits=lambda token: not token.isspace()):
+        places = [at for at, token in enumerate(tokens) if fits(token)]
+        return self.dice.choice(places) if places else None
+
+    # Rough changes.
+    def flip(self, text):
+        if not text:
+            return b"\x00"
+        bytes_ = bytearray(text)
+        for _ in range(self.dice.choice([1, 1, 2, 9])):
+            bytes_[self.dice.randrange(len(bytes_))] ^= 1 << self.dice.randrange(8)
+        return bytes(bytes_)
+
+    def put_bytes(self, text):
+        at = self.place(text)
+        some = [b"\x00", b"\xff", b"\xc3\x28", b"\xe2\x82", b"\xef\xbb\xbf", b"/*", b"*/", b"//", b"\r\n", b"\x0b", b"\x1a", b"@", b"\\", b'"']
+        return text[:at] + self.dice.choice(some) + text[at:]
+
+    def cut(self, text):
+        return text[: self.place(text)]
+
+    def cut_head(self, text):
+        return text[self.place(text) :]
+
+    def delete_span(self, text):
+        at, past = self.span(text)
+        return text[:at] + text[past:]
+
+    def double_span(self, text):
+        at, past = self.span(text)
+        return text[:past] + text[at:past] * self.dice.choice([1, 1, 2, 70, 300]) + text[past:]
+
+    def splice(self, text):
+        other = self.base()
+        return text[: self.place(text)] + other[self.place(other) :]
+
+    def swap_tokens(self, text):
+        tokens = self.tokens(text)
+        one, two = self.at_token(tokens), self.at_token(tokens)
+        if one is not None:
+            tokens[one], tokens[two] = tokens[two], tokens[one]
+        return b"".join(tokens)
+
+    def delete_token(self, text):
+        tokens = self.tokens(text)
+        at = self.at_token(tokens)
+        if at is not None:
+            del tokens[at]
+        return b"".join(tokens)
+
+    def double_token(self, text):
+        tokens = self.tokens(text)
+        at = self.at_token(tokens)
+        if at is not None:
+            tokens[at] = (tokens[at] + b" ") * self.dice.choice([2, 2, 3, 66, 260])
+        return b"".join(tokens)
+
+    def other_token(self, text):
+        tokens = self.tokens(text)
+        at = self.at_token(tokens)
+        if at is not None:
+            tokens[at] = b" " + self.dice.choice(WORDS).encode() + b" "
+        return b"".join(tokens)
+
+    def long_name(self, text):
+        return self.at_name(text, b"n" * self.dice.choice([63, 64, 65, 300]))
+
+    def many_functions(self, text):
+        count = self.dice.choice([3, 1022, 1023, 1024, 1025])
+        return text + b"".join(b"void g%d() { }\n" % number for number in range(count))
+
+    # Gentle ones.
+    def number(self, text):
+        tokens = self.tokens(text)
+        at = self.at_token(tokens, lambda token: token[:1].isdigit())
+        if at is not None:
+            tokens[at] = self.dice.choice(NUMBERS[:24]).encode()
+        return b"".join(tokens)
+
+    def any_number(self, text):
+        tokens = self.tokens(text)
+        at = self.at_token(tokens, lambda token: token[:1].isdigit())
+        if at is not None:
+            tokens[at] = self.dice.choice(NUMBERS).encode()
+        return b"".join(tokens)
+
+    def at_name(self, text, name):
+        tokens = self.tokens(text)
+        at = self.at_token(tokens, lambda token: token[:1].isalpha() and token.decode() not in grammar.KEYWORDS)
+        if at is not None:
+            tokens[at] = name
+        return b"".join(tokens)
+
+    def name(self, text):
+        names = [token for token in self.tokens(text) if token[:1].isalpha() and token.decode() not in grammar.KEYWORDS]
+        return self.at_name(text, self.dice.choice(names)) if names else text
+
+    def rename_all(self, text):
+        names = sorted({token for token in self.tokens(text) if token[:1].isalpha() and token.decode() not in grammar.KEYWORDS})
+        if not names:
+            return text
+        old, new = self.dice.choice(names), self.dice.choice(names)
+        return b"".join(new if token == old else token for token in self.tokens(text))
+
+    def operator(self, text):
+        tokens = self.tokens(text)
+        at = self.at_token(tokens, lambda token: token.decode("latin-1") in grammar.TIGHTNESS)
+        if at is not None:
+            tokens[at] = self.dice.choice(list(grammar.TIGHTNESS)).encode()
+        return b"".join(tokens)
+
+    def type(self, text):
+        tokens = self.tokens(text)
+        at = self.at_token(tokens, lambda token: token.decode("latin-1") in grammar.TYPES)
+        if at is not None:
+            tokens[at] = self.dice.choice(sorted(grammar.TYPES)).encode()
+        return b"".join(tokens)
+
+    def by_reference(self, text):
+        """A parameter that was by value goes by reference, or the other way round."""
+        tokens = self.tokens(text)
+        depths, depth = [], 0
+        for token in tokens:
+            depth += (token == b"{") - (token == b"}")
+            depths.append(depth)
+        places = [at for at, token in enumerate(tokens) if token.decode("latin-1") in grammar.TYPES and depths[at] == 0]
+        if places:
+            at = self.dice.choice(places)
+            if at + 2 < len(tokens) and tokens[at + 2] == b"&":
+                del tokens[at + 2]
+            else:
+                tokens[at] += b" &"
+        return b"".join(tokens)
+
+    def beginnings(self, text):
+        """Where a statement may begin, with how many braces are open there."""
+        places, braces, brackets, at, end = [], 0, 0, 0, False
+        for token in self.tokens(text):
+            if end and not token.isspace() and token[:2] not in (b"//", b"/*"):
+                if braces > 0 and brackets == 0 and token not in (b"par", b"else", b"catch"):
+                    places.append((at, braces))
+                end = False
+            at += len(token)
+            braces += (token == b"{") - (token == b"}")
+            brackets += (token == b"(") - (token == b")")
+            end = end or token in (b"{", b"}", b";")
+        return places
+
+    def statement(self, text):
+        """Puts a statement where one may begin."""
+        places = self.beginnings(text)
+        at = self.dice.choice(places)[0] if places else 0
+        return text[:at] + b" " + self.dice.choice(PIECES).encode() + b" " + text[at:]
+
+    def statements(self, text):
+        """Takes what stands between two places where a statement may begin, and puts it somewhere else, too, or nowhere."""
+        places = self.beginnings(text)
+        if not places:
+            return text
+        at, braces = self.dice.choice(places)
+        others = [place for place, there in places if there == braces and place > at]
+        past = others[min(len(others) - 1, self.dice.choice([0, 0, 0, 1, 3]))] if others else at
+        taken, where = text[at:past], self.dice.choice(places)[0]
+        way = self.dice.randrange(3)
+        if way == 0:
+            return text[:at] + text[past:]
+        if way == 1:
+            return text[:where] + taken * self.dice.choice([1, 1, 3, 70]) + text[where:]
+        return text[:at] + taken + taken + text[past:]
+
+    def nest(self, text):
+        """Puts a statement deeper, or an operand."""
+        count = self.dice.choice([1, 2, 5, 30, 57, 62, 63, 64, 65, 300])
+        if self.dice.random() < 0.3:
+            tokens = self.tokens(text)
+            at = self.at_token(tokens, lambda token: token[:1].isdigit())
+            if at is not None:
+                before, behind = self.dice.choice([(b"(", b")"), (b"-", b""), (b"!", b""), (b"~(", b")"), (b"1+(", b")"), (b"(", b"+1)")])
+                tokens[at] = before * count + tokens[at] + behind * count
+            return b"".join(tokens)
+        places = [at for at, _ in self.beginnings(text) if re.match(rb"[^;{}()]+;", text[at:])]
+        if not places:
+            return text
+        at = self.dice.choice(places)
+        past = text.index(b";", at) + 1
+        before, behind = self.dice.choice([
+            (b"{ ", b" }"), (b"if (1) ", b""), (b"if (1) { ", b" }"), (b"if (0) ; else ", b""), (b"try { ", b" } catch (T) { }"),
+            (b"try { } catch (T) { ", b" }"), (b"{ ", b" } par { }"), (b"{ } par { ", b" }"), (b"{ { ", b" } par { } }"),
+            (b"for (int q = 0; q < 1; q = q + 1) ", b""), (b"while (1) ", b""), (b"if (1) { ", b" } par { }"),
+        ])
+        return text[:at] + b" " + before * count + text[at:past] + behind * count + text[past:]
+
+    def spacing(self, text):
+        tokens = self.tokens(text)
+        at = self.at_token(tokens)
+        if at is not None:
+            tokens[at] = self.dice.choice([b" ", b"\n", b"\r\n", b"\t", b"\x0b\x0c", b"/* \xff\x00 */", b"// \xc3\n", b"/**/"]) + tokens[at]
+        return b"".join(tokens)
+
+    ROUGH = [flip, put_bytes, cut, cut_head, delete_span, double_span, splice, swap_tokens, delete_token, double_token, other_token,
+             long_name, many_functions, any_number, name, nest, statements]
+    GENTLE = [number, number, name, rename_all, operator, operator, type, by_reference, statement, statement, statement, statements,
+              statements, nest, nest, spacing]
+
+
+class Job:
+    """The text of a number, its input, and the words of its calls."""
+
+    def __init__(self, seed, number, texts):
+        dice = random.Random("%d %d" % (seed, number))
+        self.number = number
+        self.text = Changer(dice, texts).text()
+        self.input = dice.choice(INPUTS)
+        self.budget = dice.choice([1, 7, 50, 300, 2000, 2000, 10000, 10000])
+        fed = ["--input", "i", "--budget", str(self.budget)]
+        self.calls = [["check", "p"], ["code", "p"], ["ref", "p"] + fed]
+        for _ in range(2):
+            workers, quantum = dice.choice([1, 2, 3, 4, 16]), dice.choice([1, 2, 7, 64, 10000])
+            self.calls.append(["run", "p"] + fed + ["--workers", str(workers), "--quantum", str(quantum)])
+
+
+Answer = collections.namedtuple("Answer", "words status text error seconds memory")
+
+
+class Late(Exception):
+    pass
+
+
+def late(_number, _frame):
+    raise Late
+
+
+def limits():
+    resource.setrlimit(resource.RLIMIT_AS, (MEMORY, MEMORY))
+    resource.setrlimit(resource.RLIMIT_CORE, (0, 0))
+
+
+def ask(words):
+    """Calls ./shim in this folder. The status is negative where a signal or the time ended it."""
+    begin = time.monotonic()
+    child = os.fork()
+    if child == 0:
+        try:
+            os.dup2(os.open("out", os.O_WRONLY | os.O_CREAT | os.O_TRUNC, 0o600), 1)
+            os.dup2(os.open("err", os.O_WRONLY | os.O_CREAT | os.O_TRUNC, 0o600), 2)
+            signal.setitimer(signal.ITIMER_REAL, 0)
+            limits()
+            os.execv(SHIM, ["shim"] + words)
+        finally:
+            os._exit(99)
+    signal.setitimer(signal.ITIMER_REAL, SECONDS)
+    try:
+        _, how, usage = os.wait4(child, 0)
+    except Late:
+        os.kill(child, signal.SIGKILL)
+        _, how, usage = os.wait4(child, 0)
+    finally:
+        signal.setitimer(signal.ITIMER_REAL, 0)
+    seconds = time.monotonic() - begin
+    with open("out", "rb") as out, open("err", "rb") as err:
+        return Answer(words, os.waitstatus_to_exitcode(how), out.read(), err.read(), seconds, usage.ru_maxrss)
+
+
+PATH = r"main(?:/\d+\.\d+)*"
+NAME = r"[A-Za-z_][A-Za-z0-9_]{0,63}"
+REPORT = re.compile(
+    rf"output (?:0|[1-9]\d* (?:[0-9a-f]{{2}})+)\n(?:chan {PATH}#\d+ {NAME} :(?: -?\d+)+\n)*"
+    rf"(?:catch {PATH} {NAME} \d+\n|trap {PATH} (?:overflow|zero|shift|depth) \d+\n)*(?P<waits>(?:wait {PATH} {PATH}#\d+\n)*)"
+    rf"(?P<counts>(?:steps {PATH} \d+\n)*(?:events \d+\n)?)"
+    rf"end (?P<end>done|uncaught {NAME}|trap|blocked|spent) (?P<steps>\d+)\n"
+)
+ENDS = {0: "done", 1: "uncaught|trap", 3: "blocked", 4: "spent"}
+LISTING = re.compile(r"(?:unit [A-Za-z0-9_.]+\n(?:\d+ [a-z]+(?: [a-z0-9-]+)*\n)+)+")
+OF_TEXT = re.compile(r"refused \d+ (?:bad byte \d+|long name \d+|big number \d+|open comment \d+|unexpected \d+|too deep|too many [a-z]+)\n")
+OF_PROGRAM = re.compile(
+    rf"refused (?:\d+ (?:unknown name|unknown function|unknown exception|twice|arity|wrong kind|alias) {NAME}|1 no main"
+    rf"|\d+ main parameters|\d+ two writers {NAME} \d+ \d+)\n"
+)
+
+
+def wrong_form(answer, budget):
+    """What is wrong with an answer by itself, or None."""
+    mode, status = answer.words[0], answer.status
+    if answer.error:
+        return "something on standard error"
+    if not 0 <= status <= 9:
+        return "no status from 0 to 9"
+    try:
+        text = answer.text.decode("ascii")
+    except UnicodeDecodeError:
+        return "a text that is no ASCII"
+    if status == 8:
+        return None if text == "no memory\n" else "another text than no memory"
+    if status == 6:
+        return None if text == "file too long p 1048576\n" else "another text than of a file that is too long"
+    if status == 5:
+        return None if OF_TEXT.fullmatch(text) or OF_PROGRAM.fullmatch(text) else "no refusal"
+    if status in (2, 7, 9):
+        return "a status that nothing gave cause for"
+    if mode == "check":
+        return None if status == 0 and re.fullmatch(r"accepted \d+\n", text) else "no count of functions"
+    if mode == "code":
+        return None if status == 0 and LISTING.fullmatch(text) else "no listing"
+    report = REPORT.fullmatch(text)
+    if not report:
+        return "no report"
+    if not re.match(ENDS[status], report["end"]):
+        return "an end of another status"
+    if (report["waits"] != "") != (status == 3):
+        return "waits and a run that isn't blocked, or none"
+    if (report["counts"] != "") != (status == 4):
+        return "counts and a run that isn't spent, or none"
+    if int(report["steps"]) > budget:
+        return "more steps than the budget has"
+    if status == 4:
+        counts = sum(int(line.split()[-1]) for line in report["counts"].splitlines())
+        if counts != budget or int(report["steps"]) != budget:
+            return "counts that don't add up to the budget"
+    return None
+
+
+def wrong(job, answers):
+    """What is wrong with the answers to a text, and the answer that shows it, or None."""
+    for answer in answers:
+        why = wrong_form(answer, job.budget)
+        if why:
+            return why, answer
+    full = [answer for answer in answers if answer.status != 8]
+    if len(job.text) > MIB:
+        return next((("a text that is too long", answer) for answer in full if answer.status != 6), None)
+    parser, fault = None, None
+    try:
+        parser = grammar.Parser(job.text)
+        parser.program()
+    except grammar.Fault as found:
+        fault = found.args[0] + "\n"
+    for answer in full:
+        text = answer.text.decode()
+        if answer.status == 6:
+            return "a text that isn't too long", answer
+        if fault and text != fault:
+            return "another fault than " + fault.strip(), answer
+        if not fault and OF_TEXT.fullmatch(text):
+            return "a fault of a text that is a program", answer
+        if answer.words[0] == "check" and answer.status == 0 and text != "accepted %d\n" % parser.functions:
+            return "another count than %d" % parser.functions, answer
+        if (answer.status == 5) != (full[0].status == 5) or answer.status == 5 and text != full[0].text.decode():
+            return "another answer than that of " + full[0].words[0], answer
+    runs = [answer for answer in full if answer.words[0] in ("run", "ref")]
+    for answer in runs:
+        if answer.status != runs[0].status:
+            return "another status than that of %s, %d" % (runs[0].words[0], runs[0].status), answer
+        if answer.status != 4 and answer.text != runs[0].text:
+            return "another text than that of " + runs[0].words[0], answer
+    return None
+
+
+def do(number):
+    job = Job(do.seed, number, do.texts)
+    for name, content in (("p", job.text), ("i", job.input)):
+        with open(name, "wb") as file:
+            file.write(content)
+    answers = [ask(words) for words in job.calls]
+    found = wrong(job, answers)
+    seen = [(answer.words[0], answer.status, answer.seconds, answer.memory) for answer in answers]
+    return number, len(job.text), seen, (found and (found[0], found[1].words, found[1].status, found[1].text[:300], found[1].error[:300]))
+
+
+def settle(seed, texts, room):
+    """Makes a process ready to do jobs, in a folder of its own."""
+    do.seed, do.texts = seed, texts
+    os.chdir(tempfile.mkdtemp(dir=room))
+    sys.setrecursionlimit(20000)
+    signal.signal(signal.SIGALRM, late)
+
+
+def main():
+    words = argparse.ArgumentParser(description=__doc__.splitlines()[0])
+    words.add_argument("--texts", type=int, default=10000)
+    words.add_argument("--first", type=int, default=0)
+    words.add_argument("--seed", type=int, default=1)
+    words.add_argument("--processes", type=int, default=2)
+    words.add_argument("--show", type=int)
+    given = words.parse_args()
+    texts = known_texts()
+    if given.show is not None:
+        job = Job(given.seed, given.show, texts)
+        sys.stdout.buffer.write(job.text)
+        print(*job.calls, sep="\n", file=sys.stderr)
+        return 0
+    room = tempfile.mkdtemp()
+    counts, ends, lengths = collections.Counter(), collections.Counter(), 0
+    longest, most, differing = {}, {}, 0
+    begin = time.monotonic()
+    with multiprocessing.Pool(given.processes, settle, (given.seed, texts, room)) as pool:
+        for number, length, seen, found in pool.imap_unordered(do, range(given.first, given.first + given.texts), 8):
+            lengths += length
+            for mode, status, seconds, memory in seen:
+                counts[mode, status] += 1
+                longest[mode] = max(longest.get(mode, (0, 0)), (seconds, number))
+                most[mode] = max(most.get(mode, (0, 0)), (memory, number))
+            statuses = dict((mode, status) for mode, status, _, _ in seen)
+            ends[statuses["ref"]] += 1
+            if found:
+                differing += 1
+                why, call, status, text, error = found
+                print("text %d: shim %s: status %d: %s\n%r %r" % (number, " ".join(call), status, why, text, error), flush=True)
+                os.makedirs(os.path.join(TOP, "found"), exist_ok=True)
+                with open(os.path.join(TOP, "found", "%d-%d.shim" % (given.seed, number)), "wb") as file:
+                    file.write(Job(given.seed, number, texts).text)
+    shutil.rmtree(room)
+    calls = sum(counts.values())
+    print("%d texts of seed %d from number %d, %d bytes on the average; %d calls in %.0f s"
+          % (given.texts, given.seed, given.first, lengths / max(1, given.texts), calls, time.monotonic() - begin))
+    for mode in ("check", "code", "ref", "run"):
+        statuses = ", ".join("%d with status %d" % (counts[key], key[1]) for key in sorted(counts) if key[0] == mode)
+        print("%s: %s; longest %.2f s (text %d), most memory %.1f MiB (text %d)"
+              % (mode, statuses, *longest[mode], most[mode][0] / 1024, most[mode][1]))
+    ended = sum(count for status, count in ends.items() if status in (0, 1, 3))
+    print("run and ref compared: %d texts that ended, %d that were stopped; %d texts differ" % (ended, ends[4], differing))
+    return 1 if differing else 0
+
+
+if __name__ == "__main__":
+    sys.exit(main())
