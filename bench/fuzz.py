@@ -5,7 +5,7 @@ The texts are those of crates/shim_conformance and of examples/, and programs of
 tokens swapped, doubled, deleted, exchanged or nested deeper, their statements moved, their numbers put to limits. Each is
 checked, listed, run by some number of workers and pieces, and run by `ref`, with a limit of time and of memory, and
 
-- each call ends by itself with a status from 0 to 9, its text is of the form that docs/FORMATS.md has for that status and
+- each call ends by itself with a status from 0 to 8, its text is of the form that docs/FORMATS.md has for that status and
   mode, and nothing comes on standard error;
 - where the text is refused, the line is that of bench/grammar.py, or one of a text that is a program, the same in every
   mode; `check` counts the functions as bench/grammar.py does;
@@ -412,8 +412,8 @@ def wrong_form(answer, budget):
     mode, status = answer.words[0], answer.status
     if answer.error:
         return "something on standard error"
-    if not 0 <= status <= 9:
-        return "no status from 0 to 9"
+    if not 0 <= status <= 8:
+        return "no status from 0 to 8"
     try:
         text = answer.text.decode("ascii")
     except UnicodeDecodeError:

@@ -6,3 +6,4 @@ pub mod Tokens
 pub mod Cutting
 pub mod Paths
 pub mod PathLaws
+pub mod SharedPaths

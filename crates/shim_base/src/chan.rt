@@ -78,7 +78,8 @@ impl PartialEq for Chan {
     ghost laws = { same_channel_laws };
 
     fn eq(&self, other: &Chan) -> bool {
-        *self.home == *other.home && self.serial == other.serial
+        // the serial first, since it tells most channels apart
+        self.serial == other.serial && *self.home == *other.home
     }
 }
 

@@ -34,6 +34,15 @@ impl<T> List<T> {
         }
     }
 
+    /// An empty list with room for so many elements.
+    pub fn with_capacity(alloc: Global, capacity: usize) -> Result<List<T>, NoMemory>
+        ensures { IfOk result (λ list. list ≡ []) }
+    {
+        Ok(List {
+            items: Vec::with_capacity(alloc, capacity)?,
+        })
+    }
+
     pub fn len(&self) -> usize
         ensures { result ≡ length self.now }
     {
@@ -75,12 +84,27 @@ impl<T> List<T> {
 }
 
 impl<T: Drop> List<T> {
+    // Makes room for more values: for just these at first, and later for as many again as there are.
+    // `Vec` alone would begin with room for four, and most lists of a syntax tree have one element.
+    #[cold]
+    #[inline(never)]
+    fn grow(&mut self, more: usize) -> Result<(), NoMemory>
+        ensures { self.new ≡ self.old }
+    {
+        let wanted = more.max(self.items.len());
+        self.items.reserve_exact(wanted)?;
+        Ok(())
+    }
+
     /// Adds a value at the end. Where there is no memory for it, the list stays as it was, and the value
     /// is dropped.
     pub fn push(&mut self, value: T) -> Result<(), NoMemory>
         ensures ok { OnOk result (self.new ≡ self.old ++ value ∷ []) }
         ensures err { OnErr result (self.new ≡ self.old) }
     {
+        if self.items.len() == self.items.capacity() {
+            self.grow(1)?;
+        }
         self.items.push(value)?;
         Ok(())
     }
@@ -92,6 +116,13 @@ impl<T: Drop> List<T> {
         ensures err { OnErr result (self.new ≡ self.old) }
     {
         let List { mut items } = other;
+        if self.items.is_empty() {
+            self.items = items;
+            return Ok(());
+        }
+        if items.len() > self.items.capacity().saturating_sub(self.items.len()) {
+            self.grow(items.len())?;
+        }
         self.items.append(&mut items)?;
         Ok(())
     }

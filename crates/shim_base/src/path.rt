@@ -1,24 +1,28 @@
 // Where a process stands in the tree of processes.
 ghost use Rattle.std.specs.Prelude.{◌≡◌, [], ◌∷◌, ◌++◌, IfOk};
 
-use crate::{List, NoMemory};
+use crate::{List, NoMemory, Shared};
 use std::alloc::Global;
 use std::cmp::Ordering;
 use std::marker::Model;
 
 /// How a process is reached from the root: for each fork on the way the fork's number at its process
-/// and the branch's number, both counted from 0. Contracts see a list of pairs.
-#[derive(Debug, Drop)]
+/// and the branch's number, both counted from 0. Contracts see a list of pairs. Copies share it, so a copy
+/// costs a count.
+#[derive(Drop)]
 pub struct Path {
-    pairs: List<(u32, u32)>,
+    alloc: Global,
+    // none of the root's
+    pairs: Option<Shared<List<(u32, u32)>>>,
 }
 
 impl Model for Path {
     ghost use Rattle.shim_base.specs.Paths.{Path as PathOf};
+    ghost use Rattle.shim_base.specs.SharedPaths.{pairs_of};
 
     ghost Value = { PathOf };
 
-    ghost view = { λ path. path.pairs };
+    ghost view = { λ path. pairs_of path.pairs };
 }
 
 impl Path {
@@ -26,33 +30,42 @@ impl Path {
     pub fn root(alloc: Global) -> Path
         ensures { result ≡ [] }
     {
-        Path {
-            pairs: List::new(alloc),
-        }
+        Path { alloc, pairs: None }
     }
 
     /// The path of the process in this branch of the fork of that number.
     pub fn child(&self, fork: u32, branch: u32) -> Result<Path, NoMemory>
         ensures { IfOk result (λ path. path ≡ self.now ++ (fork, branch) ∷ []) }
     {
-        let mut pairs = List::from_slice(self.pairs.allocator(), self.pairs.as_slice())?;
+        let mut pairs = List::from_slice(self.alloc, self.pairs())?;
         pairs.push((fork, branch))?;
-        Ok(Path { pairs })
+        Ok(Path {
+            alloc: self.alloc,
+            pairs: Some(Shared::new(self.alloc, pairs)?),
+        })
     }
 
     /// The pairs of a fork's and a branch's number, from the root on.
     pub fn pairs(&self) -> &[(u32, u32)]
         ensures { result.now ≡ self.now }
     {
-        self.pairs.as_slice()
+        match &self.pairs {
+            None => &[],
+            Some(pairs) => pairs.as_slice(),
+        }
     }
 
     /// Another path of the same pairs.
     pub fn copy(&self) -> Result<Path, NoMemory>
         ensures { IfOk result (λ path. path ≡ self.now) }
     {
+        let pairs = match &self.pairs {
+            None => None,
+            Some(pairs) => Some(pairs.share()?),
+        };
         Ok(Path {
-            pairs: List::from_slice(self.pairs.allocator(), self.pairs.as_slice())?,
+            alloc: self.alloc,
+            pairs,
         })
     }
 }

@@ -22,7 +22,7 @@ use Rattle.shim_code.specs.declared.unit.CodeUnit.{CodeUnit}
 use Rattle.shim_code.specs.Layout.{arms, behind, loop, one}
 use Rattle.shim_code.specs.Code.{Code, arg_code, args_code, branch_code, branches_code, call_code, expr_code, expr_or, expr_step, fork_code, looped, marked, stmt_code, stmts_code, unit_code, what_code}
 use Rattle.shim_code.specs.MachineCode.{MachineCode, begun, callee_of, first_name, first_sort, machine_arg, machine_args, machine_branch, machine_branches, machine_call, machine_expr, machine_expr_or, machine_expr_step, machine_fork, machine_looped, machine_marked, machine_stmt, machine_stmts, machine_unit, numbered, params_in, what_machine, with_number}
-use Rattle.shim_code.specs.Programs.{code_units, machine_units, with_code}
+use Rattle.shim_code.specs.Programs.{code_units, machine_units}
 use Rattle.shim_code.specs.Published.{published, published_all}
 use Rattle.shim_code.proofs.StatementKinds.{machine_what}
 
@@ -272,21 +272,10 @@ unit_shown units body =
     numbered_shown 0 (behind (machine_stmts units body) (one (machine.End 0)) 0)
     ∙ then_shown (machine_stmts units body) (machine.End 0) (stmts_code body) (stmts_shown units body) 0
 
--- the units with what is shown of their lists
-abbrev pub shown_units : List UnitOf → List UnitOf → List CodeUnit
-shown_units units us = map (λ (u : UnitOf). with_code u (published_all (machine_unit units u.body))) us
-
-pub shown_are_units : (units us : List UnitOf) → shown_units units us ≡ code_units us
-shown_are_units units [] = refl
-shown_are_units units (u ∷ us) = ap (λ c. with_code u c ∷ shown_units units us) (unit_shown units u.body) ∙ ap (λ l. with_code u (unit_code u.body) ∷ l) (shown_are_units units us)
-
 pub machine_shows_units : (units us : List UnitOf) → map published_all (machine_units units us) ≡ map (λ (u : CodeUnit). u.code) (code_units us)
 machine_shows_units units [] = refl
 machine_shows_units units (u ∷ us) = ap (λ c. c ∷ map published_all (machine_units units us)) (unit_shown units u.body) ∙ ap (λ l. unit_code u.body ∷ l) (machine_shows_units units us)
 
--- the lists are whole where no unit is left
-pub all_shown : (units : List UnitOf) (i : ℕ) (made : List CodeUnit) → length units ≤ i → made ++ shown_units units (drop i units) ≡ shown_units units units → made ≡ shown_units units units
-all_shown units i made le e = sym (append-nil made) ∙ ap (λ us. made ++ shown_units units us) (sym (drop_all i units le)) ∙ e
-
+-- the list is whole where no unit is left
 pub all_machine : (units : List UnitOf) (i : ℕ) (made : List (List MachineInstr)) → length units ≤ i → made ++ machine_units units (drop i units) ≡ machine_units units units → made ≡ machine_units units units
 all_machine units i made le e = sym (append-nil made) ∙ ap (λ us. made ++ machine_units units us) (sym (drop_all i units le)) ∙ e

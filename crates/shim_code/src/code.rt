@@ -5,17 +5,15 @@ ghost use Rattle.shim_code.specs.Published.{published_all};
 ghost use Rattle.shim_code.specs.declared.unit.CodeUnit.{CodeUnit};
 
 use crate::machine_instr::MachineInstr;
-use crate::unit::CodeUnit;
 use shim_base::List;
 use shim_units::Accepted;
 use std::marker::Model;
 
-/// The code of an accepted program, which contracts see as the program: of each unit the list that is
-/// shown and the one that the machine runs.
+/// The code of an accepted program, which contracts see as the program: of each unit the list that the
+/// machine runs. The list that is shown is made when it is told.
 #[derive(Drop)]
 pub struct Code {
     program: Accepted,
-    units: List<CodeUnit>,
     machine: List<List<MachineInstr>>,
 }
 
@@ -24,7 +22,7 @@ impl Model for Code {
     ghost use Rattle.std.specs.Coded.{codes};
     ghost use Rattle.shim_units.specs.contracts.unit.Unit as unit;
     ghost use Rattle.shim_units.specs.declared.form.Form.{Form};
-    ghost use Rattle.shim_code.specs.Programs.{code_units, machine_units};
+    ghost use Rattle.shim_code.specs.Programs.{machine_units};
 
     ghost Value = { Form };
 
@@ -32,24 +30,16 @@ impl Model for Code {
 
     ghost view = { λ code. code.program };
 
-    ghost invariant = { λ code. (code.units ≡ code_units code.program.units) × (code.machine ≡ machine_units code.program.units code.program.units) };
+    ghost invariant = { λ code. code.machine ≡ machine_units code.program.units code.program.units };
 }
 
 impl Code {
     /// These lists as the code of the program that they are of.
-    pub(crate) fn new(
-        program: Accepted,
-        units: List<CodeUnit>,
-        machine: List<List<MachineInstr>>,
-    ) -> Code
-        requires { (units ≡ code_units program.units) × (machine ≡ machine_units program.units program.units) }
+    pub(crate) fn new(program: Accepted, machine: List<List<MachineInstr>>) -> Code
+        requires { machine ≡ machine_units program.units program.units }
         ensures { result ≡ program }
     {
-        Code {
-            program,
-            units,
-            machine,
-        }
+        Code { program, machine }
     }
 
     /// The program that it is the code of.
@@ -57,13 +47,6 @@ impl Code {
         ensures { result.now ≡ self.now }
     {
         &self.program
-    }
-
-    /// The units, in the order of the program's, each with its code.
-    pub fn units(&self) -> &[CodeUnit]
-        ensures { result.now ≡ code_units self.now.units }
-    {
-        self.units.as_slice()
     }
 
     /// What the machine runs for each unit. Without what only running it takes, this is the unit's code.

@@ -46,9 +46,9 @@ impl Draft {
         ensures { OnOk result (self.new ≡ self.old ++ begins kind line halfway ∷ []) }
     {
         self.push(MachineInstr::Mark(Mark {
-            kind,
             line,
             number: 0,
+            kind,
             halfway,
         }))
     }
@@ -116,6 +116,7 @@ impl Draft {
         for at in 0..items.len() {
             next = write_number(&mut items[at], next)?;
         }
+        items.shrink_to_fit();
         Ok(List::from(items))
     }
 }

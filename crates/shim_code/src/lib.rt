@@ -17,6 +17,6 @@ mod unit;
 pub use code::Code;
 pub use instr::{Instr, MarkKind};
 pub use machine_instr::{Callee, MachineInstr, Mark};
-pub use program::compile;
+pub use program::{code_unit, compile};
 pub use text::listing;
 pub use unit::CodeUnit;

@@ -1,12 +1,14 @@
 // The code of a whole program.
 ghost use Rattle.std.specs.Prelude.{◌≡◌, IfOk};
+ghost use Rattle.shim_code.specs.Code.{unit_code};
+ghost use Rattle.shim_code.specs.Programs.{with_code};
 
 use crate::code::Code;
 use crate::published::published_all;
 use crate::stmts::machine_unit;
-use crate::unit::with_code;
+use crate::unit::{CodeUnit, with_code};
 use shim_base::{List, NoMemory};
-use shim_units::Accepted;
+use shim_units::{Accepted, Unit};
 use std::alloc::Global;
 
 /// The code of an accepted program. There is no refusal but want of memory.
@@ -15,13 +17,19 @@ pub fn compile(alloc: Global, program: &Accepted) -> Result<Code, NoMemory>
 {
     let kept = program.share()?;
     let units = program.units();
-    let mut shown = List::new(alloc);
-    let mut machine = List::new(alloc);
+    let mut machine = List::with_capacity(alloc, units.len())?;
     for unit in units {
-        let code = machine_unit(alloc, unit.body.as_slice(), units)?;
-        let published = published_all(alloc, code.as_slice())?;
-        shown.push(with_code(alloc, unit, published)?)?;
-        machine.push(code)?;
+        machine.push(machine_unit(alloc, unit.body.as_slice(), units)?)?;
     }
-    Ok(Code::new(kept, shown, machine))
+    Ok(Code::new(kept, machine))
+}
+
+/// A unit with its code, one of these units of a program.
+pub fn code_unit(alloc: Global, unit: &Unit, units: &[Unit]) -> Result<CodeUnit, NoMemory>
+    ensures { IfOk result (λ made. made ≡ with_code unit.now (unit_code unit.now.body)) }
+{
+    let machine = machine_unit(alloc, unit.body.as_slice(), units)?;
+    let code = published_all(alloc, machine.as_slice())?;
+    let made = with_code(alloc, unit, code)?;
+    Ok(made)
 }

@@ -47,7 +47,7 @@ fn published(alloc: Global, instr: &MachineInstr) -> Result<Instr, NoMemory>
 pub fn published_all(alloc: Global, code: &[MachineInstr]) -> Result<List<Instr>, NoMemory>
     ensures { IfOk result (λ made. made ≡ published_all code.now) }
 {
-    let mut made = List::new(alloc);
+    let mut made = List::with_capacity(alloc, code.len())?;
     for instr in code {
         made.push(published(alloc, instr)?)?;
     }

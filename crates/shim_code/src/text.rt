@@ -4,21 +4,23 @@ ghost use Rattle.shim_code.specs.declared.instr.Instr.TheVariants.{Mark, Num};
 ghost use Rattle.shim_code.specs.Programs.{code_units};
 ghost use Rattle.shim_code.specs.Listing.{bin_word, instr_text, kind_word, line_text, lines_text, listing, then_number, un_word, unit_text};
 
-use crate::code::Code;
 use crate::instr::{Instr, MarkKind};
+use crate::program::code_unit;
 use crate::unit::CodeUnit;
 use shim_base::{BinOp, List, NoMemory, UnOp, push_decimal};
+use shim_units::Accepted;
 use std::alloc::Global;
 
 /// The units of a program in their order: for each a line with its title, and its instructions in lines
 /// of their own, each behind its place.
-pub fn listing(alloc: Global, code: &Code) -> Result<List<u8>, NoMemory>
-    ensures { IfOk result (λ text. text ≡ listing (code_units code.now.units)) }
+pub fn listing(alloc: Global, program: &Accepted) -> Result<List<u8>, NoMemory>
+    ensures { IfOk result (λ text. text ≡ listing (code_units program.now.units)) }
 {
-    let units = code.units();
+    let units = program.units();
     let mut text = List::new(alloc);
     for unit in units {
-        push_unit(&mut text, unit)?;
+        let made = code_unit(alloc, unit, units)?;
+        push_unit(&mut text, &made)?;
     }
     Ok(text)
 }

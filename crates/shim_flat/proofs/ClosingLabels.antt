@@ -7,12 +7,12 @@ use Rattle.shim_base.proofs.Facts.{some_same, none_some}
 use Rattle.shim_local.specs.Process.{Ops}
 use Rattle.shim_semantics.specs.Nodes.{death}
 use Rattle.shim_laws_records.specs.Changes.{block, prevailing_of, prevailing_among}
+use Rattle.shim_records.specs.Members.{IsAmong}
 use Rattle.shim_records.specs.Acted.{Earlier}
-use Rattle.shim_records.specs.Fresh.{Among}
 use Rattle.shim_records.specs.Pairs.{stands_of, stands_by, rest_of}
 use Rattle.shim_records.specs.Recounting.{IsRecounted}
 use Rattle.shim_records.specs.declared.record.Record.{Record}
-use Rattle.shim_records.proofs.Gone.{none_earlier}
+use Rattle.shim_records.proofs.Walked.{none_earlier}
 use Rattle.shim_records.proofs.Showing.{map_get}
 use Rattle.shim_laws_closes.specs.Closing.{AllRecounted, none_left, one_more, GivenRecounted}
 use Rattle.shim_laws_closes.proofs.Labels.{rest_recounted}
@@ -33,7 +33,7 @@ none_read rs g n =
     sym (ap (λ z. prevailing_among (block (g + n) z (map stands_of rs))) none ∙ ap prevailing_among (no_block (drop (g + n) (map stands_of rs))))
 
 -- one more child
-pub one_read : (rs : List Record) (g n i : ℕ) (r : Record) (least now : Option ℕ) → i < n → slice_get rs (g + i) ≡ Some r → ((f : ℕ) → option_map death now ≡ prevailing_of (stands_by f r.standing) (option_map death least))
+pub one_read : (rs : List Record) (g n i : ℕ) (r : Record) (least now : Option ℕ) → i < n → slice_get rs (g + i) ≡ Some r → ((f : ℕ) → option_map death now ≡ prevailing_of (stands_by f r.status) (option_map death least))
     → option_map death least ≡ prevailing_among (block (g + (i + 1)) (n - (i + 1)) (map stands_of rs)) → option_map death now ≡ prevailing_among (block (g + i) (n - i) (map stands_of rs))
 one_read rs g n i r least now less there is so =
     let left : n - i ≡ suc (n - (i + 1)) = omega (arith, less) in
@@ -73,16 +73,16 @@ last_or_before zero (suc j) h = inl (omega arith)
 last_or_before (suc i) zero h = absurd (omega (arith, h))
 last_or_before (suc i) (suc j) h = elim (last_or_before i j (omega (arith, h))) [ inl w ↦ inl (omega (arith, w)) | inr w ↦ inr (ap suc w) ]
 
-among_left : (c d : Channel) (cs : List Channel) → Among c cs → Among c (cs ++ d ∷ [])
+among_left : (c d : Channel) (cs : List Channel) → IsAmong c cs → IsAmong c (cs ++ d ∷ [])
 among_left c d [] (i, e) = none_some c e
 among_left c d (x ∷ cs) (zero, e) = (0, e)
 among_left c d (x ∷ cs) (suc i, e) = let w = among_left c d cs (i, e) in (suc w.0, w.1)
 
-among_last : (c : Channel) (cs : List Channel) → Among c (cs ++ c ∷ [])
+among_last : (c : Channel) (cs : List Channel) → IsAmong c (cs ++ c ∷ [])
 among_last c [] = (0, refl)
 among_last c (x ∷ cs) = let w = among_last c cs in (suc w.0, w.1)
 
-among_either : (c d : Channel) (cs : List Channel) → Among c (cs ++ d ∷ []) → Among c cs ⊎ (d ≡ c)
+among_either : (c d : Channel) (cs : List Channel) → IsAmong c (cs ++ d ∷ []) → IsAmong c cs ⊎ (d ≡ c)
 among_either c d [] (zero, e) = inr (some_same d c e)
 among_either c d [] (suc i, e) = none_some c e
 among_either c d (x ∷ cs) (zero, e) = inl (0, e)
@@ -97,8 +97,8 @@ module _ {S : Type 0} (o : Ops S) (states : List S) (n x : ℕ) where
     pub record SoFar (place : ℕ) (now : List Record) : Type 0 where
       pub chans : List Channel
       pub recounted : AllRecounted o states n x chans start now
-      pub all : (c : Channel) → Earlier o s c place → o.shares s c ≡ true → Among c chans
-      pub only : (c : Channel) → Among c chans → o.shares s c ≡ true
+      pub all : (c : Channel) → Earlier o s c place → o.shares s c ≡ true → IsAmong c chans
+      pub only : (c : Channel) → IsAmong c chans → o.shares s c ≡ true
 
     pub at_first : SoFar 0 start
     at_first = record { chans = []; recounted = none_left start; all = λ c h shares. absurd (none_earlier o s c h); only = λ c g. none_some c g.1 }
@@ -115,7 +115,7 @@ module _ {S : Type 0} (o : Ops S) (states : List S) (n x : ℕ) where
         | inl w ↦ among_left c d.channel so.chans (so.all c (h.0, h.1, w, h.3, h.4) too)
         | inr w ↦
             let is : d.channel ≡ c = ap (λ z. z.channel) (some_same d h.1 (sym e ∙ (ap (slice_get (o.given s)) (sym w) ∙ h.3))) ∙ h.4 in
-            subst (λ z. Among z (so.chans ++ d.channel ∷ [])) is (among_last d.channel so.chans)
+            subst (λ z. IsAmong z (so.chans ++ d.channel ∷ [])) is (among_last d.channel so.chans)
       ];
       only = λ c g. elim (among_either c d.channel so.chans g) [
         | inl w ↦ so.only c w

@@ -1,5 +1,5 @@
 -- A close of a fork: what its parts ask for, and that the tree moves by it.
-use Rattle.std.proofs.Common.{◌≡◌, ◌<◌, ◌≤◌, ◌+◌, ◌⊎◌, ℕ, false, Option, Some, List, map, take, length, get_or, slice_set, refl, sym, ap, subst, ◌∙◌, arith}
+use Rattle.std.proofs.Common.{◌≡◌, ◌≢◌, ◌<◌, ◌≤◌, ◌+◌, ◌⊎◌, inl, inr, ℕ, false, Option, Some, List, map, take, length, get_or, slice_set, refl, sym, ap, subst, ◌∙◌, arith}
 use Rattle.std.specs.Prelude.{slice_get, unwrap_or}
 use Rattle.std.specs.Option.{option_map}
 use Rattle.std.proofs.lemmas.List.{length-set}
@@ -14,56 +14,67 @@ use Rattle.shim_laws_records.specs.Seen.{forks, sort}
 use Rattle.shim_laws_records.specs.Agrees.{free as unused_so, used, Has}
 use Rattle.shim_laws_records.proofs.Hanging.{tree_of}
 use Rattle.shim_laws_records.specs.Changes.{HasClosed, block, prevailing_among}
-use Rattle.shim_records.specs.Acted.{sort_of, AllGone}
-use Rattle.shim_records.specs.Pairs.{stands_of, stands_by, chans_of, IsOrdered, AreOrdered}
+use Rattle.shim_records.specs.Acted.{sort_of, AllUpdated}
+use Rattle.shim_records.specs.Pairs.{fork_size, stands_of, stands_by, chans_of, IsOrdered, AreOrdered}
 use Rattle.shim_records.specs.declared.record.Record.{Record}
-use Rattle.shim_records.specs.declared.record.Standing.{Standing}
-use Rattle.shim_records.specs.declared.record.Standing.TheVariants as code
+use Rattle.shim_records.specs.declared.record.Status.{Status}
+use Rattle.shim_records.specs.declared.record.Status.TheVariants as code
 use Rattle.shim_records.proofs.Showing.{map_get}
 use Rattle.shim_records.proofs.Stepping.{set_there}
 use Rattle.shim_laws_keeping.specs.Flats.{FlatView, Keeps, IsKept}
 use Rattle.shim_laws_keeping.specs.Moves.{MovesBy}
+use Rattle.shim_laws_waking.proofs.PairsFound.{record_of}
 use Rattle.shim_laws_closes.specs.Closing.{Beside, beside_of, AreFreed, HasCome, LeavesIf, RecountedIf}
 use Rattle.shim_laws_closes.proofs.Closed.{behind as behind_close, given_few}
 use Rattle.shim_laws_closes.proofs.Closes.{closes_keep, stands_stay}
 use Rattle.shim_laws_closes.proofs.Cuts.{cut, closed_cut}
 use Rattle.shim_laws_closes.proofs.Saying.{map_length, said_alike, was_item}
 use Rattle.shim_laws_closes.proofs.Taking.{born, below, within, apart}
-use Rattle.shim_flat.specs.Closing.{CanClose, told_by, CameTo, acted_by, sort_left, ClosesHere, fork_size, ClosesRecord}
+use Rattle.shim_flat.specs.Closing.{CanClose, told_by, CameTo, acted_by, sort_left, ClosesHere, ClosesRecord}
+use Rattle.shim_flat.specs.declared.acting.Thrown.TheVariants as thrown
 use Rattle.shim_flat.specs.declared.closing.CloseOutcome.{CloseOutcome}
-use Rattle.shim_flat.specs.declared.closing.CloseOutcome.TheVariants.{GoesOn, Caught, Died}
+use Rattle.shim_flat.specs.declared.closing.CloseOutcome.TheVariants.{GoesOn, Threw}
 use Rattle.shim_flat.proofs.ClosingTakes.{read_there}
 use Rattle.shim_flat.specs.Touching.{TouchesAbove}
 use Rattle.shim_flat.proofs.TouchingCloses.{closes_touch}
 use Rattle.shim_flat.proofs.TouchingCuts.{cut_touched}
 
 -- what a record of a fork says
-forked_says : (f g n : ℕ) (s : Standing) → stands_by f s ≡ used g (forks n) → (f ≡ g) × (fork_size s ≡ n)
+forked_says : (f g n : ℕ) (s : Status) → stands_by f s ≡ used g (forks n) → (f ≡ g) × (fork_size s ≡ n)
 forked_says f g n code.Free e = absurd cc
 forked_says f g n code.Live e = absurd cc
 forked_says f g n (code.Forked m) e = (cc, cc)
 forked_says f g n code.Ended e = absurd cc
 forked_says f g n (code.Dead x) e = absurd cc
 
+-- and what is read of it
+pub children_read : {S : Type 0} (v : FlatView S) (i f n : ℕ) (l : S) (r : Record) (k : ℕ) → Has v.states (map stands_of v.records) i f l (forks n) → r ≡ get_or v.records i r → k ≡ fork_size r.status → (r.first ≡ f) × (k ≡ n)
+children_read v i f n l r k has read is =
+    let w = record_of v.records i f (forks n) has.stands_so in
+    let same : r ≡ w.0 = read_there v.records i r w.0 (slice_get_within v.records i w.0 w.1) read w.1 in
+    let so : stands_of w.0 ≡ used f (forks n) = some_same (stands_of w.0) (used f (forks n)) (sym (map_get stands_of v.records i ∙ ap (option_map stands_of) w.1) ∙ has.stands_so) in
+    let told = forked_says w.0.first f n w.0.status so in
+    (ap (λ (z : Record). z.first) same ∙ told.0, is ∙ (ap (λ (z : Record). fork_size z.status) same ∙ told.1))
+
 state_told : {S : Type 0} (outcome : CloseOutcome) (x : ℕ) (s : S) → state (acted_by outcome x s).node ≡ s
 state_told GoesOn x s = refl
-state_told (Caught name line) x s = refl
-state_told Died x s = refl
+state_told (Threw (thrown.Caught name line)) x s = refl
+state_told (Threw thrown.Died) x s = refl
 
 sort_told : {S : Type 0} (outcome : CloseOutcome) (x : ℕ) (s : S) → sort (acted_by outcome x s).node ≡ sort_left outcome x
 sort_told GoesOn x s = refl
-sort_told (Caught name line) x s = refl
-sort_told Died x s = refl
+sort_told (Threw (thrown.Caught name line)) x s = refl
+sort_told (Threw thrown.Died) x s = refl
 
 effects_told : {S : Type 0} (outcome : CloseOutcome) (x : ℕ) (s : S) → (acted_by outcome x s).effects ≡ told_by outcome
 effects_told GoesOn x s = refl
-effects_told (Caught name line) x s = refl
-effects_told Died x s = refl
+effects_told (Threw (thrown.Caught name line)) x s = refl
+effects_told (Threw thrown.Died) x s = refl
 
 came_to : {S : Type 0} (outcome : CloseOutcome) (x : ℕ) (s : S) → CameTo outcome (sort (acted_by outcome x s).node)
 came_to GoesOn x s = refl
-came_to (Caught name line) x s = refl
-came_to Died x s = (death x, refl)
+came_to (Threw (thrown.Caught name line)) x s = refl
+came_to (Threw thrown.Died) x s = (death x, refl)
 
 -- records that say the same beside what came of their processes have their pairs in the same order
 pub freed_order : (g n : ℕ) (before behind : List Record) → AreFreed g n before behind → AreOrdered before → AreOrdered behind
@@ -81,12 +92,12 @@ module _ {S : Type 0} (states : List S) (rs : List Record) (number : ℕ) (done 
   state_there = slice_get_within states number done.process done.forked.state_is
 
   -- the record that was read tells of its children
-  pub forked_so : (r p : Record) (n : ℕ) → r ≡ get_or rs number r → p ≡ get_or rs number p → n ≡ fork_size p.standing → Has states (map stands_of rs) number r.first done.process (forks n)
+  pub forked_so : (r p : Record) (n : ℕ) → r ≡ get_or rs number r → p ≡ get_or rs number p → n ≡ fork_size p.status → Has states (map stands_of rs) number r.first done.process (forks n)
   forked_so r p n is_r is_p is_n =
       let so : stands_of done.said ≡ used done.first (forks done.many) = some_same (stands_of done.said) (used done.first (forks done.many)) (sym (map_get stands_of rs number ∙ ap (option_map stands_of) done.there) ∙ done.forked.stands_so) in
-      let told = forked_says done.said.first done.first done.many done.said.standing so in
+      let told = forked_says done.said.first done.first done.many done.said.status so in
       let first : r.first ≡ done.first = ap (λ (z : Record). z.first) (read_there rs number r done.said record_there is_r done.there) ∙ told.0 in
-      let many : n ≡ done.many = is_n ∙ (ap (λ (z : Record). fork_size z.standing) (read_there rs number p done.said record_there is_p done.there) ∙ told.1) in
+      let many : n ≡ done.many = is_n ∙ (ap (λ (z : Record). fork_size z.status) (read_there rs number p done.said record_there is_p done.there) ∙ told.1) in
       subst (λ z. Has states (map stands_of rs) number z done.process (forks n)) (sym first) (subst (λ z. Has states (map stands_of rs) number done.first done.process (forks z)) (sym many) done.forked)
 
 module _ {S : Type 0} (o : Ops S) (law : LocalLaws o) (states : List S) (rs : List Record) (number : ℕ) (kept : IsKept o (record { states = states; records = rs })) (done : CanClose (record { states = states; records = rs }) number) (first count : ℕ)
@@ -141,9 +152,9 @@ module _ {S : Type 0} (o : Ops S) (law : LocalLaws o) (states : List S) (rs : Li
     pub still_there : number < length now
     still_there = let w = state_there states rs number done in let long = ap length set ∙ length-set states number (state a.node) in omega (arith, w, long)
 
-    module _ (freed behind : List Record) (standing : Standing) (end : ℕ) (free : AreFreed first count rs freed) (sort_is : sort_of standing ≡ sort_left outcome (unwrap_or label 0))
-        (settled : ClosesRecord o now number standing (option_map death label) freed behind) (unused : (i : ℕ) (r : Record) → end ≤ i → slice_get behind i ≡ Some r → stands_of r ≡ unused_so) where
-      same_sort : sort_of standing ≡ sort a.node
+    module _ (freed behind : List Record) (status : Status) (end : ℕ) (free : AreFreed first count rs freed) (sort_is : sort_of status ≡ sort_left outcome (unwrap_or label 0))
+        (settled : ClosesRecord o now number status (option_map death label) freed behind) (unused : (i : ℕ) (r : Record) → end ≤ i → slice_get behind i ≡ Some r → stands_of r ≡ unused_so) where
+      same_sort : sort_of status ≡ sort a.node
       same_sort = sort_is ∙ sym (sort_told outcome (unwrap_or label 0) last.0)
 
       same_state : settled.process ≡ state a.node
@@ -164,8 +175,8 @@ module _ {S : Type 0} (o : Ops S) (law : LocalLaws o) (states : List S) (rs : Li
       leaves : LeavesIf (sort a.node) number (slice_set freed number settled.is) settled.left
       leaves = subst (λ z. LeavesIf z number (slice_set freed number settled.is) settled.left) same_sort settled.leaves
 
-      gone : AllGone o (state a.node) (sort a.node) 4294967295 number settled.left settled.between
-      gone = subst (λ z. AllGone o z (sort a.node) 4294967295 number settled.left settled.between) same_state (subst (λ z. AllGone o settled.process z 4294967295 number settled.left settled.between) same_sort settled.gone)
+      walked : AllUpdated o (state a.node) (sort a.node) 4294967295 number settled.left settled.between
+      walked = subst (λ z. AllUpdated o z (sort a.node) 4294967295 number settled.left settled.between) same_state (subst (λ z. AllUpdated o settled.process z 4294967295 number settled.left settled.between) same_sort settled.walked)
 
       again : RecountedIf (prevailing_among (block first count (map stands_of rs))) o (slice_set states number (state a.node)) (state a.node) 4294967295 number settled.between behind
       again = subst (λ z. RecountedIf (prevailing_among (block first count (map stands_of rs))) o z (state a.node) 4294967295 number settled.between behind) set
@@ -176,7 +187,7 @@ module _ {S : Type 0} (o : Ops S) (law : LocalLaws o) (states : List S) (rs : Li
 
       pub moves : MovesBy o (Close (o.path done.process)) (record { states = states; records = rs }) After
       moves rp t was =
-          let w = closes_keep o law rp t states rs freed settled.left settled.between behind number first count done.process done.said settled.is a was has done.there done.none_goes is free come leaves gone again in
+          let w = closes_keep o law rp t states rs freed settled.left settled.between behind number first count done.process done.said settled.is a was has done.there done.none_goes is free come leaves walked again in
           (w.0, w.1, subst (λ z. Keeps o rp (record { states = take end z; records = take end behind }) w.0.root) (sym set) (cut o rp w.0.root (slice_set states number (state a.node)) behind end w.2 unused))
 
       pub still_kept : IsKept o After
@@ -185,15 +196,23 @@ module _ {S : Type 0} (o : Ops S) (law : LocalLaws o) (states : List S) (rs : Li
       closes : HasClosed states (slice_set states number (state a.node)) (map stands_of rs) (map stands_of behind) number first count (state a.node) (sort a.node)
       closes =
           subst (λ z. HasClosed states (slice_set states number (state a.node)) (map stands_of rs) z number first count (state a.node) (sort a.node))
-          (sym (stands_stay o (slice_set states number (state a.node)) (state a.node) (sort a.node) 4294967295 number (slice_set freed number settled.is) settled.left settled.between behind (prevailing_among (block first count (map stands_of rs))) leaves gone again))
+          (sym (stands_stay o (slice_set states number (state a.node)) (state a.node) (sort a.node) 4294967295 number (slice_set freed number settled.is) settled.left settled.between behind (prevailing_among (block first count (map stands_of rs))) leaves walked again))
           (behind_close o law kept.0 (tree_of o kept.1) states rs number first count done.process done.said a kept.2 has done.there done.none_goes is freed settled.is free come).closes
 
       touches : TouchesAbove number (record { states = states; records = rs }) After
       touches =
-          let w = closes_keep o law kept.0 (tree_of o kept.1) states rs freed settled.left settled.between behind number first count done.process done.said settled.is a kept.2 has done.there done.none_goes is free come leaves gone again in
+          let w = closes_keep o law kept.0 (tree_of o kept.1) states rs freed settled.left settled.between behind number first count done.process done.said settled.is a kept.2 has done.there done.none_goes is free come leaves walked again in
           subst (λ z. TouchesAbove number (record { states = states; records = rs }) (record { states = take end z; records = take end behind })) (sym set)
           (cut_touched o (record { states = slice_set states number (state a.node); records = behind }) end unused number (record { states = states; records = rs }) (kept.0, w.0.root, w.2) (closes.first, state a.node, sort a.node, closes.parent)
-          (closes_touch o states rs freed settled.left settled.between behind number first count done.said settled.is (state a.node) (sort a.node) (prevailing_among (block first count (map stands_of rs))) free done.there come leaves gone again))
+          (closes_touch o states rs freed settled.left settled.between behind number first count done.said settled.is (state a.node) (sort a.node) (prevailing_among (block first count (map stands_of rs))) free done.there come leaves walked again))
+
+      path : o.path (state a.node) ≡ o.path done.process
+      path =
+          let b = behind_close o law kept.0 (tree_of o kept.1) states rs number first count done.process done.said a kept.2 has done.there done.none_goes is freed settled.is free come in
+          sym (b.fits settled.is settled.is (set_there freed number settled.was settled.is settled.there) refl).path ∙ (come.path ∙ (kept.2.fit number first done.process (forks count) done.said has done.there).path)
+
+      is_no_child : (b : ℕ) → b < count → number ≢ first + b
+      is_no_child b less e = elim is_apart [ inl w ↦ absurd (omega (arith, w, e)) | inr w ↦ absurd (omega (arith, w, e, less)) ]
 
       pub closes_here : ClosesHere o number outcome (record { states = states; records = rs }) After
       closes_here = record {
@@ -203,6 +222,8 @@ module _ {S : Type 0} (o : Ops S) (law : LocalLaws o) (states : List S) (rs : Li
         forked = has;
         left = a;
         does = is;
+        path = path;
+        apart = is_no_child;
         told = effects_told outcome (unwrap_or label 0) last.0;
         came = came_to outcome (unwrap_or label 0) last.0;
         becomes = subst (λ z. HasClosed states (take end z) (map stands_of rs) (map stands_of (take end behind)) number first count (state a.node) (sort a.node)) (sym set)

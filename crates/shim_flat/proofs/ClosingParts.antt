@@ -8,14 +8,14 @@ use Rattle.shim_laws_records.proofs.SameTrees.{same_or_not}
 use Rattle.shim_records.specs.Acted.{sort_of}
 use Rattle.shim_records.specs.Pairs.{stands_of, stands_by, chans_of, IsOrdered, AreOrdered}
 use Rattle.shim_records.specs.declared.record.Record.{Record}
-use Rattle.shim_records.specs.declared.record.Standing.{Standing}
-use Rattle.shim_records.specs.declared.record.Standing.TheVariants as code
+use Rattle.shim_records.specs.declared.record.Status.{Status}
+use Rattle.shim_records.specs.declared.record.Status.TheVariants as code
 use Rattle.shim_records.proofs.Stepping.{map_set, set_elsewhere}
 use Rattle.shim_records.proofs.Together.{none_freed, freed_one}
 use Rattle.shim_laws_closes.specs.Closing.{AreFreed, beside_of, LeavesIf}
 use Rattle.shim_laws_closes.proofs.Saying.{leaves_said, said_order}
 
-pub in_use : (f : ℕ) (standing : Standing) → standing ≢ code.Free → stands_by f standing ≡ used f (sort_of standing)
+pub in_use : (f : ℕ) (status : Status) → status ≢ code.Free → stands_by f status ≡ used f (sort_of status)
 in_use f code.Free h = absurd (h refl)
 in_use f code.Live h = refl
 in_use f (code.Forked n) h = refl
@@ -25,7 +25,7 @@ in_use f (code.Dead x) h = refl
 pub none_free : (g n : ℕ) (rs : List Record) → n ≡ 0 → AreFreed g n rs rs
 none_free g n rs e = record { freed = none_freed g rs n e; beside = refl }
 
-pub one_free : (first at : ℕ) (before now : List Record) (r new : Record) → AreFreed first (at - first) before now → first ≤ at → slice_get now at ≡ Some r → new ≡ record { standing = code.Free; first = r.first; parent = r.parent; path = r.path; going = r.going; pairs = r.pairs } → AreFreed first (at + 1 - first) before (slice_set now at new)
+pub one_free : (first at : ℕ) (before now : List Record) (r new : Record) → AreFreed first (at - first) before now → first ≤ at → slice_get now at ≡ Some r → new ≡ record { status = code.Free; first = r.first; parent = r.parent; path = r.path; going = r.going; pairs = r.pairs } → AreFreed first (at + 1 - first) before (slice_set now at new)
 one_free first at before now r new h less e is = record {
   freed = freed_one first at before now r new h.freed less e (ap stands_of is);
   beside = map_set beside_of now at r new e (ap beside_of is) ∙ h.beside;

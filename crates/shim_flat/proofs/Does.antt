@@ -17,14 +17,14 @@ use Rattle.shim_laws_records.proofs.Hanging.{tree_of}
 use Rattle.shim_records.specs.Pairs.{stands_of, chans_of, IsOrdered, AreOrdered}
 use Rattle.shim_records.specs.Acted.{sort_of}
 use Rattle.shim_records.specs.declared.record.Record.{Record}
-use Rattle.shim_records.specs.declared.record.Standing.{Standing}
+use Rattle.shim_records.specs.declared.record.Status.{Status}
 use Rattle.shim_records.proofs.Stepping.{map_set}
 use Rattle.shim_records.proofs.Showing.{map_get}
 use Rattle.shim_records.proofs.WholeWay.{kept_order}
 use Rattle.shim_laws_keeping.specs.Flats.{FlatView, HasProcess, IsKept}
 use Rattle.shim_laws_keeping.specs.Moves.{MovesBy}
 use Rattle.shim_laws_keeping.specs.Arriving.{Arrives}
-use Rattle.shim_laws_keeping.specs.Acting.{event_of, left_by, marked, TakesIn, Leaves}
+use Rattle.shim_laws_keeping.specs.Acting.{event_at_stop, left_by, marked, TakesIn, Leaves}
 use Rattle.shim_laws_keeping.proofs.Acts.{lives_on}
 use Rattle.shim_laws_keeping.proofs.Moved.{from_map}
 use Rattle.shim_laws_keeping.proofs.OneLess.{found}
@@ -36,13 +36,13 @@ use Rattle.shim_flat.proofs.HereSteps.{read_set, has_become}
 use Rattle.shim_flat.proofs.TouchingOwn.{arrival_touches, leaving_touches}
 
 -- a record that says what came of its process has its pairs in order
-pub marked_order : (rs : List Record) (x : ℕ) (r : Record) (k : Standing) → slice_get rs x ≡ Some r → AreOrdered rs → AreOrdered (slice_set rs x (marked k r))
+pub marked_order : (rs : List Record) (x : ℕ) (r : Record) (k : Status) → slice_get rs x ≡ Some r → AreOrdered rs → AreOrdered (slice_set rs x (marked k r))
 marked_order rs x r k there h i q e =
     let w = found (λ (z : Record). chans_of z.pairs.items) rs (slice_set rs x (marked k r)) i q (map_set (λ (z : Record). chans_of z.pairs.items) rs x r (marked k r) there refl) e in
     subst IsOrdered w.2 (h i w.0 w.1)
 
 -- so it is behind the labels
-pub taken_order : {S : Type 0} (o : Ops S) (s : S) (rs behind : List Record) (n x : ℕ) (r : Record) (k : Standing) → slice_get rs x ≡ Some r → AreOrdered rs → TakesIn o s k n x (slice_set rs x (marked k r)) behind → AreOrdered behind
+pub taken_order : {S : Type 0} (o : Ops S) (s : S) (rs behind : List Record) (n x : ℕ) (r : Record) (k : Status) → slice_get rs x ≡ Some r → AreOrdered rs → TakesIn o s k n x (slice_set rs x (marked k r)) behind → AreOrdered behind
 taken_order o s rs behind n x r k there h takes = kept_order (slice_set rs x (marked k r)) behind (rest_taken o s k n x (slice_set rs x (marked k r)) behind takes) (marked_order rs x r k there h)
 
 module _ {S : Type 0} (o : Ops S) where
@@ -140,12 +140,12 @@ module _ {S : Type 0} (o : Ops S) where
           does = does;
           came = refl;
           becomes = has_become o states rs behind x here.0 l s has arrives;
-          moves = subst (λ z. MovesBy o (event_of z (o.path l)) (record { states = states; records = rs }) (record { states = slice_set states x s; records = behind })) stop_is
+          moves = subst (λ z. MovesBy o (event_at_stop z (o.path l)) (record { states = states; records = rs }) (record { states = slice_set states x s; records = behind })) stop_is
               (lives_on o law states rs behind x here.0 l s effects has (ap (act_live o l) stop_is ∙ does) arrives);
           touches = arrival_touches o s 4294967295 x states rs behind arrives;
         }
 
-    module _ (k : Standing) (gone : goes (left_by l k) ≡ false) (leaves : Leaves o l k 4294967295 x rs behind) where
+    module _ (k : Status) (gone : goes (left_by l k) ≡ false) (leaves : Leaves o l k 4294967295 x rs behind) where
       -- it ends or dies
       pub leaves_here : act_live o l stop ≡ Some (record { node = left_by l k; effects = effects }) → ActsHere o x stop (sort_of k) effects (record { states = states; records = rs }) (record { states = states; records = behind })
       leaves_here does = record {
@@ -157,7 +157,7 @@ module _ {S : Type 0} (o : Ops S) where
         does = does;
         came = left_sort l k gone;
         becomes = subst (λ z. HasBecome x (state (left_by l k)) z (record { states = states; records = rs }) (record { states = states; records = behind })) (left_sort l k gone) (changed_then o states rs behind l k x here.0 has leaves gone);
-        moves = subst (λ z. MovesBy o (event_of z (o.path l)) (record { states = states; records = rs }) (record { states = states; records = behind })) stop_is
+        moves = subst (λ z. MovesBy o (event_at_stop z (o.path l)) (record { states = states; records = rs }) (record { states = states; records = behind })) stop_is
             (leaves_keep o law states rs behind x here.0 l k effects has (ap (act_live o l) stop_is ∙ does) gone leaves);
         touches = leaving_touches o l k 4294967295 x states rs behind leaves;
       }

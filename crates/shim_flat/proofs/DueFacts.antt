@@ -12,9 +12,9 @@ use Rattle.shim_laws_records.specs.Counts.{all_there}
 use Rattle.shim_records.specs.Pairs.{tally, stands_of, stands_by}
 use Rattle.shim_records.specs.declared.pair.Pair.{Pair}
 use Rattle.shim_records.specs.declared.record.Record.{Record}
-use Rattle.shim_records.specs.declared.record.Standing.{Standing}
-use Rattle.shim_records.specs.declared.record.Standing.TheVariants as code
-use Rattle.shim_records.proofs.Gone.{last_or_before}
+use Rattle.shim_records.specs.declared.record.Status.{Status}
+use Rattle.shim_records.specs.declared.record.Status.TheVariants as code
+use Rattle.shim_records.proofs.Walked.{last_or_before}
 use Rattle.shim_records.proofs.Showing.{map_get}
 use Rattle.shim_laws_keeping.specs.Flats.{FlatView, HasProcess, stands}
 use Rattle.shim_laws_waking.specs.Looks.{IsIdlePair, IsIdle, unused, has_ended, has_died, is_open}
@@ -37,27 +37,27 @@ module _ {S : Type 0} (o : Ops S) (v : FlatView S) (i : ℕ) where
   no_record e = unused (λ f s k has. none_some (used f k) (sym (map_get stands_of v.records i ∙ ap (option_map stands_of) e) ∙ has.stands_so))
 
   module _ (l : S) (r : Record) (state_is : slice_get v.states i ≡ Some l) (there : slice_get v.records i ≡ Some r) where
-    stands_there : (k : Standing) → r.standing ≡ k → slice_get (stands v) i ≡ Some (stands_by r.first k)
+    stands_there : (k : Status) → r.status ≡ k → slice_get (stands v) i ≡ Some (stands_by r.first k)
     stands_there k e = map_get stands_of v.records i ∙ (ap (option_map stands_of) there ∙ ap (λ z. Some (stands_by r.first z)) e)
 
-    pub its_process : (k : Sort) (w : Standing) → r.standing ≡ w → stands_by r.first w ≡ used r.first k → HasProcess v i r.first l k
+    pub its_process : (k : Sort) (w : Status) → r.status ≡ w → stands_by r.first w ≡ used r.first k → HasProcess v i r.first l k
     its_process k w e is = record { state_is = state_is; stands_so = stands_there w e ∙ ap Some is }
 
-    pub is_free : r.standing ≡ code.Free → IsIdle o v i
+    pub is_free : r.status ≡ code.Free → IsIdle o v i
     is_free e = unused (λ f s k has. no_use f k (some_same free (used f k) (sym (stands_there code.Free e) ∙ has.stands_so)))
 
-    pub is_ended : r.standing ≡ code.Ended → IsIdle o v i
+    pub is_ended : r.status ≡ code.Ended → IsIdle o v i
     is_ended e = has_ended r.first l (its_process ends code.Ended e refl)
 
-    pub is_dead : (x : ℕ) → r.standing ≡ code.Dead x → IsIdle o v i
+    pub is_dead : (x : ℕ) → r.status ≡ code.Dead x → IsIdle o v i
     is_dead x e = has_died r.first l (death x) (its_process (dies (death x)) (code.Dead x) e refl)
 
-    pub live_process : r.standing ≡ code.Live → HasProcess v i r.first l lives
+    pub live_process : r.status ≡ code.Live → HasProcess v i r.first l lives
     live_process e = its_process lives code.Live e refl
 
     -- ---- a fork
 
-    module _ (n : ℕ) (forked : r.standing ≡ code.Forked n) where
+    module _ (n : ℕ) (forked : r.status ≡ code.Forked n) where
       fork : HasProcess v i r.first l (forks n)
       fork = its_process (forks n) (code.Forked n) forked refl
 
@@ -110,7 +110,7 @@ module _ {S : Type 0} (o : Ops S) (v : FlatView S) (l : S) (g n : ℕ) (ps : Lis
   ]
 
 -- behind all pairs nothing can happen
-pub all_idle : {S : Type 0} (o : Ops S) (v : FlatView S) (i : ℕ) (l : S) (r : Record) → slice_get v.states i ≡ Some l → slice_get v.records i ≡ Some r → (n : ℕ) → r.standing ≡ code.Forked n → r.going ≢ 0
+pub all_idle : {S : Type 0} (o : Ops S) (v : FlatView S) (i : ℕ) (l : S) (r : Record) → slice_get v.states i ≡ Some l → slice_get v.records i ≡ Some r → (n : ℕ) → r.status ≡ code.Forked n → r.going ≢ 0
     → (past : ℕ) → length r.pairs.items ≤ past → IdleBefore o v l r.first n r.pairs.items past → IsIdle o v i
 all_idle o v i l r state there n forked some past all idle =
     nothing_due o v i l r state there n forked some (λ q y e. idle q y (let w = slice_get_within r.pairs.items q y e in omega (arith, w, all)) e)
@@ -118,7 +118,7 @@ all_idle o v i l r state there n forked some past all idle =
 -- ---- what the code says of lists
 
 -- of a process that has ended or died, or of a free record, nothing
-pub at_rest : {S : Type 0} (o : Ops S) (v : FlatView S) (i : ℕ) (r : Record) → i < length v.states → slice_get v.records i ≡ Some r → (r.standing ≡ code.Free) ⊎ ((r.standing ≡ code.Ended) ⊎ ((x : ℕ) × (r.standing ≡ code.Dead x))) → IsIdle o v i
+pub at_rest : {S : Type 0} (o : Ops S) (v : FlatView S) (i : ℕ) (r : Record) → i < length v.states → slice_get v.records i ≡ Some r → (r.status ≡ code.Free) ⊎ ((r.status ≡ code.Ended) ⊎ ((x : ℕ) × (r.status ≡ code.Dead x))) → IsIdle o v i
 at_rest o v i r within there h = let l = there_is v.states i within in elim h [
   | inl e ↦ is_free o v i l.0 r l.1 there e
   | inr (inl e) ↦ is_ended o v i l.0 r l.1 there e

@@ -10,15 +10,17 @@ use Rattle.shim_local.specs.Process.{Ops}
 use Rattle.shim_laws_records.specs.Seen.{Sort, lives, forks, ends, dies}
 use Rattle.shim_laws_records.specs.Agrees.{used}
 use Rattle.shim_semantics.specs.Nodes.{death}
+use Rattle.shim_records.specs.Members.{IsAmong}
 use Rattle.shim_records.specs.Pairs.{stands_of, stands_by}
 use Rattle.shim_records.specs.declared.record.Record.{Record}
-use Rattle.shim_records.specs.declared.record.Standing.{Standing}
-use Rattle.shim_records.specs.declared.record.Standing.TheVariants as code
+use Rattle.shim_records.specs.declared.record.Status.{Status}
+use Rattle.shim_records.specs.declared.record.Status.TheVariants as code
 use Rattle.shim_records.proofs.Showing.{map_get}
 use Rattle.shim_laws_keeping.specs.Flats.{FlatView, HasProcess}
 use Rattle.shim_laws_meetings.specs.Sharers.{ListsSharers}
 use Rattle.shim_laws_meetings.specs.Descents.{children, numbers_from, Descends, at_end, passes, finds}
 use Rattle.shim_laws_meetings.proofs.Descents.{descents_find}
+use Rattle.shim_flat.specs.Reading.{IsInUse, AreInUse}
 use Rattle.shim_flat.specs.Descent.{inside, ahead_of, children_by, IsSharer, LeadsOn}
 use Rattle.shim_flat.specs.declared.descent.Block.{Block}
 
@@ -85,19 +87,32 @@ module _ {S : Type 0} (o : Ops S) (v : FlatView S) (c : Channel) where
       let w = leads more h in
       subst (Descends o v c (i ∷ [])) w.2 (so w.0 (subst (λ z. Descends o v c z w.0) (sym (ap ahead_of e ∙ put_last rest b)) w.1))
 
+  all_found : (i : ℕ) (found : List ℕ) (ahead : List Block) → ahead ≡ [] → FoundSoFar i found ahead → Descends o v c (i ∷ []) found
+  all_found i found ahead none so = subst (Descends o v c (i ∷ [])) (append-nil found) (so [] (subst (λ z. Descends o v c (ahead_of z) []) (sym none) at_end))
+
   pub all_looked : (i : ℕ) (found : List ℕ) (ahead : List Block) → ahead ≡ [] → FoundSoFar i found ahead → ListsSharers o v c i found
-  all_looked i found ahead none so = descents_find o v c i found (subst (Descends o v c (i ∷ [])) (append-nil found) (so [] (subst (λ z. Descends o v c (ahead_of z) []) (sym none) at_end)))
+  all_looked i found ahead none so = descents_find o v c i found (all_found i found ahead none so)
+
+  -- who was found is in use
+  found_in_use : {ahead found : List ℕ} → Descends o v c ahead found → (j : ℕ) → IsAmong j found → IsInUse v j
+  found_in_use at_end j g = none_some j g.1
+  found_in_use (passes i ahead found out more) j g = found_in_use more j g
+  found_in_use (finds i f s k ahead found has shares more) j (zero, e) = (f, s, k, subst (λ z. HasProcess v z f s k) (some_same i j e) has)
+  found_in_use (finds i f s k ahead found has shares more) j (suc at, e) = found_in_use more j (at, e)
+
+  pub all_in_use : (i : ℕ) (found : List ℕ) (ahead : List Block) → ahead ≡ [] → FoundSoFar i found ahead → AreInUse v found
+  all_in_use i found ahead none so = found_in_use (all_found i found ahead none so)
 
 -- ---- the children of a process
 
-children_are : (f : ℕ) (k : Standing) (n : ℕ) → children_by k ≡ Some n → (x : Sort) × (stands_by f k ≡ used f x) × (n ≡ children x)
+children_are : (f : ℕ) (k : Status) (n : ℕ) → children_by k ≡ Some n → (x : Sort) × (stands_by f k ≡ used f x) × (n ≡ children x)
 children_are f code.Free n e = none_some n e
 children_are f code.Live n e = (lives, refl, sym (some_same 0 n e))
 children_are f (code.Forked m) n e = (forks m, refl, sym (some_same m n e))
 children_are f code.Ended n e = (ends, refl, sym (some_same 0 n e))
 children_are f (code.Dead x) n e = (dies (death x), refl, sym (some_same 0 n e))
 
-not_used : {B : Type 0} (f g : ℕ) (k : Standing) (x : Sort) → children_by k ≡ None → stands_by f k ≡ used g x → B
+not_used : {B : Type 0} (f g : ℕ) (k : Status) (x : Sort) → children_by k ≡ None → stands_by f k ≡ used g x → B
 not_used f g code.Free x e h = absurd (let z : ⊥ = cc in z)
 not_used f g code.Live x e h = absurd (let z : ⊥ = cc in z)
 not_used f g (code.Forked m) x e h = absurd (let z : ⊥ = cc in z)
@@ -111,13 +126,13 @@ module _ {S : Type 0} (o : Ops S) (v : FlatView S) (c : Channel) (i : ℕ) where
   pub past_records : slice_get v.records i ≡ None → IsSharer o v c i None
   past_records none f s k has = none_some (used f k) (sym (map_get stands_of v.records i ∙ ap (option_map stands_of) none) ∙ has.stands_so)
 
-  pub is_free : (r : Record) → slice_get v.records i ≡ Some r → children_by r.standing ≡ None → IsSharer o v c i None
-  is_free r e none f s k has = not_used r.first f r.standing k none (some_same (stands_of r) (used f k) (sym (map_get stands_of v.records i ∙ ap (option_map stands_of) e) ∙ has.stands_so))
+  pub is_free : (r : Record) → slice_get v.records i ≡ Some r → children_by r.status ≡ None → IsSharer o v c i None
+  is_free r e none f s k has = not_used r.first f r.status k none (some_same (stands_of r) (used f k) (sym (map_get stands_of v.records i ∙ ap (option_map stands_of) e) ∙ has.stands_so))
 
   pub lacks : (s : S) → slice_get v.states i ≡ Some s → o.shares s c ≡ false → IsSharer o v c i None
   lacks s e no_share f t k has = ap (λ z. o.shares z c) (some_same t s (sym has.state_is ∙ e)) ∙ no_share
 
-  pub shares_it : (r : Record) (s : S) (n : ℕ) → slice_get v.records i ≡ Some r → slice_get v.states i ≡ Some s → children_by r.standing ≡ Some n → o.shares s c ≡ true → IsSharer o v c i (Some (record { first = r.first; count = n }))
+  pub shares_it : (r : Record) (s : S) (n : ℕ) → slice_get v.records i ≡ Some r → slice_get v.states i ≡ Some s → children_by r.status ≡ Some n → o.shares s c ≡ true → IsSharer o v c i (Some (record { first = r.first; count = n }))
   shares_it r s n e is kids shares =
-      let w = children_are r.first r.standing n kids in
+      let w = children_are r.first r.status n kids in
       (s, w.0, record { state_is = is; stands_so = map_get stands_of v.records i ∙ (ap (option_map stands_of) e ∙ ap Some w.1) }, shares, w.2)

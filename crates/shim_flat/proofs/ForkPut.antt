@@ -6,14 +6,14 @@ use Rattle.shim_base.specs.Paths.{NamedChannel}
 use Rattle.shim_base.proofs.Facts.{some_same, none_some}
 use Rattle.shim_local.specs.Process.{Ops}
 use Rattle.shim_laws_records.specs.Seen.{Sort, forks}
-use Rattle.shim_laws_records.specs.Agrees.{Standing, free, used, Has}
+use Rattle.shim_laws_records.specs.Agrees.{free, used, Has}
 use Rattle.shim_records.specs.Pairs.{stands_of}
 use Rattle.shim_records.specs.Fresh.{channels, FreshPairs}
 use Rattle.shim_records.specs.Blocks.{with_block}
 use Rattle.shim_records.specs.declared.pair.Pair.{Pair}
 use Rattle.shim_records.specs.declared.record.Record.{Record}
 use Rattle.shim_records.proofs.Showing.{map_get}
-use Rattle.shim_laws_forks.specs.Forking.{AreOfChildren, IsOfFork, ready_chans, EachClimbed, ForksAt}
+use Rattle.shim_laws_forks.specs.Forking.{AreOfChildren, IsOfFork, ready_chans, EachUpdatedAbove, ForksAt}
 use Rattle.shim_flat.specs.Forking.{IsFreeBlock}
 
 free_used : {B : Type 0} (f : ℕ) (k : Sort) → free ≡ used f k → B
@@ -41,9 +41,9 @@ its_record o g n p ks was is pairs many forked parent path going same fresh = re
 
 pub put : {S : Type 0} (o : Ops S) (x g n : ℕ) (p : S) (ks states states' : List S) (rs records behind : List Record) (was is : Record) (born : List Record) (chans : List NamedChannel)
     → slice_get rs x ≡ Some was → IsFreeBlock g n rs → length ks ≡ n → n ≤ 4294967295 → AreOfChildren o x ks born → IsOfFork o g p ks was is → states' ≡ with_block g ks (slice_set states x p)
-    → channels chans ≡ ready_chans is.pairs.items → records ≡ with_block g born (slice_set rs x is) → EachClimbed 4294967295 x (channels chans) records behind
+    → channels chans ≡ ready_chans is.pairs.items → records ≡ with_block g born (slice_set rs x is) → EachUpdatedAbove 4294967295 x (channels chans) records behind
     → ForksAt o x g p ks (record { states = states; records = rs }) (record { states = states'; records = behind })
-put o x g n p ks states states' rs records behind was is born chans had block many few children parent put_in ready at_first gone = record {
+put o x g n p ks states states' rs records behind was is born chans had block many few children parent put_in ready at_first walked = record {
   was = was;
   is = is;
   born = born;
@@ -54,5 +54,5 @@ put o x g n p ks states states' rs records behind was is born chans had block ma
   children = children;
   parent = parent;
   states = put_in;
-  records = subst (λ z. EachClimbed 4294967295 x z (with_block g born (slice_set rs x is)) behind) ready (subst (λ z. EachClimbed 4294967295 x (channels chans) z behind) at_first gone);
+  records = subst (λ z. EachUpdatedAbove 4294967295 x z (with_block g born (slice_set rs x is)) behind) ready (subst (λ z. EachUpdatedAbove 4294967295 x (channels chans) z behind) at_first walked);
 }

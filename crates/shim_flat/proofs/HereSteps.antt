@@ -14,8 +14,8 @@ use Rattle.shim_laws_records.specs.Changes.{HasChanged}
 use Rattle.shim_laws_records.proofs.Hanging.{tree_of}
 use Rattle.shim_records.specs.Pairs.{stands_of, stands_by, rest_of}
 use Rattle.shim_records.specs.declared.record.Record.{Record}
-use Rattle.shim_records.specs.declared.record.Standing.{Standing}
-use Rattle.shim_records.specs.declared.record.Standing.TheVariants as code
+use Rattle.shim_records.specs.declared.record.Status.{Status}
+use Rattle.shim_records.specs.declared.record.Status.TheVariants as code
 use Rattle.shim_records.proofs.Stepping.{set_there, set_elsewhere}
 use Rattle.shim_records.proofs.Showing.{map_get}
 use Rattle.shim_records.proofs.ReadOff.{same_stands}
@@ -23,7 +23,7 @@ use Rattle.shim_laws_keeping.specs.Flats.{FlatView, HasProcess, IsKept}
 use Rattle.shim_laws_keeping.specs.Moves.{AdvancesBy}
 use Rattle.shim_laws_keeping.specs.Arriving.{Arrives, nowhere, there}
 use Rattle.shim_laws_keeping.proofs.Steps.{advanced}
-use Rattle.shim_flat.specs.Stepping.{HasBecome, LivesAt, IsLive, IsBeforeQuiet, StepsHere, stepped, is_live}
+use Rattle.shim_flat.specs.Stepping.{HasBecome, LivesAt, IsLive, IsBeforeQuiet, StepsHere, stepped, QuietlyReaches, is_live}
 
 -- one value behind none
 pub one_pushed : {A : Type 0} (new old : List A) (x : A) → new ≡ old ++ x ∷ [] → old ≡ [] → new ≡ x ∷ []
@@ -36,14 +36,14 @@ read_set xs i x y z e h = some_same z y (sym (slice_get_read (slice_set xs i y) 
     within : i < length (slice_set xs i y)
     within = subst (λ n. i < n) (sym (length-set xs i y)) (slice_get_within xs i x e)
 
-live_stands : (f : ℕ) (k : Standing) → is_live k ≡ true → stands_by f k ≡ used f lives
+live_stands : (f : ℕ) (k : Status) → is_live k ≡ true → stands_by f k ≡ used f lives
 live_stands f code.Free e = absurd cc
 live_stands f code.Live e = refl
 live_stands f (code.Forked n) e = absurd cc
 live_stands f code.Ended e = absurd cc
 live_stands f (code.Dead x) e = absurd cc
 
-no_longer_lives : (f g : ℕ) (k : Standing) → is_live k ≡ false → stands_by f k ≡ used g lives → ⊥
+no_longer_lives : (f g : ℕ) (k : Status) → is_live k ≡ false → stands_by f k ≡ used g lives → ⊥
 no_longer_lives f g code.Free e h = absurd cc
 no_longer_lives f g code.Live e h = absurd cc
 no_longer_lives f g (code.Forked n) e h = absurd cc
@@ -51,15 +51,15 @@ no_longer_lives f g code.Ended e h = absurd cc
 no_longer_lives f g (code.Dead x) e h = absurd cc
 
 -- what a record says of its process
-pub is_alive : {S : Type 0} (v : FlatView S) (i : ℕ) (l : S) (r : Record) → slice_get v.states i ≡ Some l → slice_get v.records i ≡ Some r → IsLive i v (is_live r.standing)
-is_alive {S} v i l r state record_is = on (is_live r.standing) refl
+pub is_alive : {S : Type 0} (v : FlatView S) (i : ℕ) (l : S) (r : Record) → slice_get v.states i ≡ Some l → slice_get v.records i ≡ Some r → IsLive i v (is_live r.status)
+is_alive {S} v i l r state record_is = on (is_live r.status) refl
   where
     says : slice_get (map stands_of v.records) i ≡ Some (stands_of r)
     says = map_get stands_of v.records i ∙ ap (option_map stands_of) record_is
 
-    on : (b : Bool) → is_live r.standing ≡ b → IsLive i v b
-    on true e = (r.first, l, record { state_is = state; stands_so = says ∙ ap Some (live_stands r.first r.standing e) })
-    on false e = λ f s has. no_longer_lives r.first f r.standing e (some_same (stands_of r) (used f lives) (sym says ∙ has.stands_so))
+    on : (b : Bool) → is_live r.status ≡ b → IsLive i v b
+    on true e = (r.first, l, record { state_is = state; stands_so = says ∙ ap Some (live_stands r.first r.status e) })
+    on false e = λ f s has. no_longer_lives r.first f r.status e (some_same (stands_of r) (used f lives) (sym says ∙ has.stands_so))
 
 -- what is read of the state of a live process
 pub state_read : {S : Type 0} (v : FlatView S) (i : ℕ) (l : S) → IsLive i v true → l ≡ get_or v.states i l → slice_get v.states i ≡ Some l
@@ -83,7 +83,7 @@ module _ {S : Type 0} (o : Ops S) where
   -- beside the counts the records say what they did
   pub rest_arrived : (s : S) (n x : ℕ) (before behind : List Record) → Arrives o s n x before behind → map rest_of behind ≡ map rest_of before
   rest_arrived s n x before behind (nowhere e same) = ap (map rest_of) same
-  rest_arrived s n x before behind (there d was is e u v climbed) = climbed.1.rest
+  rest_arrived s n x before behind (there d was is e u v updated) = updated.1.rest
 
   module _ (states : List S) (rs behind : List Record) (x f : ℕ) (l s : S) (has : HasProcess (record { states = states; records = rs }) x f l lives) (arrives : Arrives o s 4294967295 x rs behind) where
     -- another state stands in the record of a live process
@@ -120,3 +120,18 @@ module _ {S : Type 0} (o : Ops S) where
 
     pub other_stop : o.stop last ≢ AtQuiet → IsBeforeQuiet o x (record { states = slice_set states x last; records = behind }) false
     other_stop other = let b = has_become states rs behind x before.0 l last its arrives in no_longer_quiet (record { states = slice_set states x last; records = behind }) x b.first last b.mine other
+
+  -- the same where they were done elsewhere
+  module _ (law : LocalLaws o) (states : List S) (rs behind : List Record) (x n : ℕ) (last now : S) (comes : QuietlyReaches o (record { states = states; records = rs }) x n last) (read_then : now ≡ get_or (slice_set states x last) x now)
+      (came : Arrives o now 4294967295 x rs behind) where
+    pub arrives_elsewhere : Arrives o last 4294967295 x rs behind
+    arrives_elsewhere = subst (λ z. Arrives o z 4294967295 x rs behind) (read_set states x comes.process last now comes.has.state_is read_then) came
+
+    moves_on : AdvancesBy o (o.path comes.process) n (record { states = states; records = rs }) (record { states = slice_set states x last; records = behind })
+    moves_on rp t kept = advanced o law rp t states rs behind n x comes.first comes.process last kept comes.has comes.stands comes.chain arrives_elsewhere
+
+    pub steps_elsewhere : StepsHere o x n (record { states = states; records = rs }) (record { states = slice_set states x last; records = behind })
+    steps_elsewhere = stepped comes.first comes.process last comes.has comes.stands comes.chain (has_become states rs behind x comes.first comes.process last comes.has arrives_elsewhere) moves_on
+
+    pub kept_elsewhere : IsKept o (record { states = states; records = rs }) → IsKept o (record { states = slice_set states x last; records = behind })
+    kept_elsewhere h = let w = moves_on h.0 (tree_of o h.1) h.2 in (h.0, w.0.root, w.2)

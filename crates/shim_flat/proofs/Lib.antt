@@ -6,6 +6,7 @@ pub mod HereNames
 pub mod HerePoisons
 pub mod HereSteps
 pub mod Above
+pub mod ChangingEach
 pub mod Parents
 pub mod ReadyChildren
 pub mod DueFacts

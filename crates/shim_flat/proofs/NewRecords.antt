@@ -2,7 +2,7 @@
 use Rattle.std.proofs.Common.{◌≡◌, ◌<◌, ◌+◌, inl, inr, ℕ, Some, List, [], ◌∷◌, ◌++◌, length, sym, ap, subst, ◌∙◌, arith}
 use Rattle.std.specs.Prelude.{slice_get}
 use Rattle.std.proofs.lemmas.Option.{slice_get_within}
-use Rattle.shim_base.proofs.Facts.{some_same, none_some}
+use Rattle.shim_base.proofs.Facts.{some_same}
 use Rattle.shim_local.specs.Process.{Ops}
 use Rattle.shim_records.specs.declared.record.Record.{Record}
 use Rattle.shim_laws_forks.specs.Forking.{IsOfChild, IsWithin, AreOfChildren}

@@ -17,7 +17,7 @@ use Rattle.shim_records.proofs.Stepping.{set_there, set_elsewhere}
 use Rattle.shim_laws_keeping.specs.Flats.{FlatView, HasProcess, Keeps, IsKept, stands}
 use Rattle.shim_laws_waking.specs.Awake.{is_set, is_listed}
 use Rattle.shim_laws_waking.proofs.PairsFound.{record_of}
-use Rattle.shim_flat.specs.Reading.{IsInUse, ParentIs}
+use Rattle.shim_flat.specs.Reading.{IsInUse, IsForAll, ParentIs}
 use Rattle.shim_flat.specs.Touching.{IsAbove, its_fork, ListsAbove}
 use Rattle.shim_flat.proofs.Above.{one_above, none_above, above_fork}
 
@@ -87,7 +87,7 @@ module _ {S : Type 0} (o : Ops S) (v : FlatView S) where
   IsAtLevel kept i d = (f : ℕ) × (s : S) × (k : Sort) × HasProcess v i f s k × (length (place o kept.0 s) ≡ d)
 
   -- so many forks were listed on the way up from a number, the last of which has this one
-  pub record IsListing (number : ℕ) (old now : List Bool) (here gone : ℕ) : Type 0 where
+  pub record IsListing (number : ℕ) (old now : List Bool) (here walked : ℕ) : Type 0 where
     pub kept : (i : ℕ) → is_listed old i ≡ true → is_listed now i ≡ true
     pub mine : is_listed now number ≡ true
     pub left : (i : ℕ) → IsAbove (up_in v.records) number i → (is_listed now i ≡ true) ⊎ IsAbove (up_in v.records) here i
@@ -95,12 +95,12 @@ module _ {S : Type 0} (o : Ops S) (v : FlatView S) where
     pub as_many : length now ≡ length old
     pub reached : (here ≡ number) ⊎ IsAbove (up_in v.records) number here
     pub used : IsInUse v here
-    pub level : (w : IsKept o v) (d : ℕ) → IsAtLevel w here d → IsAtLevel w number (d + gone)
+    pub level : (w : IsKept o v) (d : ℕ) → IsAtLevel w here d → IsAtLevel w number (d + walked)
 
-  pub listing_begins : (number : ℕ) (old now : List Bool) → IsInUse v number → length v.records ≤ length old → now ≡ slice_set old number true → IsListing number old now number 0
+  pub listing_begins : (number : ℕ) (old now : List Bool) → IsInUse v number → IsForAll v old → now ≡ slice_set old number true → IsListing number old now number 0
   listing_begins number old now used room adds = record {
     kept = still_listed old now number adds;
-    mine = now_listed old now number adds (let a = use_within number used in omega (arith, a, room));
+    mine = now_listed old now number adds (room number used);
     left = λ i w. inr w;
     only = λ i e. elim (only_listed old now number adds i e) [ inl w ↦ inl w | inr w ↦ inr (inl w) ];
     as_many = as_long old now number adds;
@@ -112,8 +112,8 @@ module _ {S : Type 0} (o : Ops S) (v : FlatView S) where
       d_is : (d : ℕ) → d ≡ d + 0
       d_is d = omega arith
 
-  module _ (number : ℕ) (old now : List Bool) (here gone : ℕ) (so_far : IsListing number old now here gone) where
-    pub listing_goes : IsKept o v → length v.records ≤ length old → (j : ℕ) (next : List Bool) → up_in v.records here ≡ Some j → next ≡ slice_set now j true → IsListing number old next j (gone + 1)
+  module _ (number : ℕ) (old now : List Bool) (here walked : ℕ) (so_far : IsListing number old now here walked) where
+    pub listing_goes : IsKept o v → IsForAll v old → (j : ℕ) (next : List Bool) → up_in v.records here ≡ Some j → next ≡ slice_set now j true → IsListing number old next j (walked + 1)
     listing_goes all room j next up adds = record {
       kept = λ i e. still_listed now next j adds i (so_far.kept i e);
       mine = still_listed now next j adds number so_far.mine;
@@ -132,21 +132,21 @@ module _ {S : Type 0} (o : Ops S) (v : FlatView S) where
         used = fork_in_use all here j so_far.used up
 
         within : j < length now
-        within = let a = use_within j used in let b = so_far.as_many in omega (arith, a, b, room)
+        within = let a = room j used in let b = so_far.as_many in omega (arith, a, b)
 
         reaches : IsAbove (up_in v.records) number j
         reaches = elim so_far.reached [ inl e ↦ its_fork number j (ap (up_in v.records) (sym e) ∙ up) | inr w ↦ one_above (up_in v.records) j w up ]
 
-        on : (w : IsKept o v) (d : ℕ) → IsAtLevel w j d → IsAtLevel w number (d + (gone + 1))
+        on : (w : IsKept o v) (d : ℕ) → IsAtLevel w j d → IsAtLevel w number (d + (walked + 1))
         on w d (f, s, k, has, e) =
             let m = so_far.used in
             let u = fork_of w.0 w.1 w.2 here j m.0 m.1 m.2 m.3 up in
             let same = one_state v.states (stands v) j u.0 f u.2 s (forks u.1) k u.3 has in
             let r = so_far.level w (d + 1) (m.0, m.1, m.2, m.3, u.4 ∙ (ap (λ z. length (place o w.0 z) + 1) same ∙ ap (λ z. z + 1) e)) in
-            (r.0, r.1, r.2, r.3, r.4 ∙ one_later d gone)
+            (r.0, r.1, r.2, r.3, r.4 ∙ one_later d walked)
           where
-            one_later : (d gone : ℕ) → d + 1 + gone ≡ d + (gone + 1)
-            one_later d gone = omega arith
+            one_later : (d walked : ℕ) → d + 1 + walked ≡ d + (walked + 1)
+            one_later d walked = omega arith
 
     -- the way ends at a process without a fork
     pub listing_ends : up_in v.records here ≡ None → ListsAbove v number old now
@@ -159,7 +159,7 @@ module _ {S : Type 0} (o : Ops S) (v : FlatView S) where
     }
 
     -- and no process is further from the root than that
-    pub none_further : IsKept o v → 4294967295 ≤ gone → ListsAbove v number old now
+    pub none_further : IsKept o v → 4294967295 ≤ walked → ListsAbove v number old now
     none_further w far = listing_ends (root_alone w.0 w.1 w.2 here m.0 m.1 m.2 m.3 level)
       where
         m : IsInUse v here

@@ -6,19 +6,19 @@ use Rattle.shim_base.specs.Paths.{Channel}
 use Rattle.shim_local.specs.Process.{Ops}
 use Rattle.shim_semantics.proofs.HowMany.{clash}
 use Rattle.shim_laws_records.specs.Seen.{Sort}
-use Rattle.shim_laws_records.specs.Agrees.{Standing, free, used}
+use Rattle.shim_laws_records.specs.Agrees.{RecordView, free, used}
 use Rattle.shim_laws_records.specs.Counts.{Tally, all_there}
 use Rattle.shim_records.specs.Pairs.{tally, counts_in, place_of, find}
 use Rattle.shim_records.specs.declared.pair.Pair.{Pair}
 use Rattle.shim_records.specs.declared.record.Record.{Record}
-use Rattle.shim_records.proofs.Gone.{last_or_before}
+use Rattle.shim_records.proofs.Walked.{last_or_before}
 use Rattle.shim_records.proofs.Pairing.{put_there, no_place}
 use Rattle.shim_laws_keeping.specs.Flats.{FlatView, HasProcess, stands}
 use Rattle.shim_laws_waking.specs.Looks.{ready_by, counts_ready, IsReady, IsIdlePair}
 use Rattle.shim_flat.specs.Due.{ready_record, ready_at, DoomedAmong}
 
 module _ {S : Type 0} (o : Ops S) (c : Channel) where
-  who_by : (x : Option S) (w : Option Standing) (y : Option Tally) → ready_record o c x w y ≡ true → (f : ℕ) × (s : S) × (k : Sort) × (x ≡ Some s) × (w ≡ Some (used f k)) × (ready_by o c s k y ≡ true)
+  who_by : (x : Option S) (w : Option RecordView) (y : Option Tally) → ready_record o c x w y ≡ true → (f : ℕ) × (s : S) × (k : Sort) × (x ≡ Some s) × (w ≡ Some (used f k)) × (ready_by o c s k y ≡ true)
   who_by None w y e = absurd cc
   who_by (Some s) None y e = absurd cc
   who_by (Some s) (Some free) y e = absurd cc

@@ -6,15 +6,15 @@ use Rattle.std.proofs.lemmas.List.{length-set}
 use Rattle.shim_base.specs.Paths.{Channel, same_channel}
 use Rattle.shim_base.proofs.SamePaths.{same_channel_is}
 use Rattle.shim_laws_records.specs.Counts.{Tally, Reading as Read}
-use Rattle.shim_laws_records.specs.Climbing.{Climbed, too_far, at_top, no_counts, stays, goes_on}
-use Rattle.shim_laws_records.specs.Sinking.{Sunk, all_the_way, at_the_root, uncounted, as_low, lowers}
-use Rattle.shim_laws_records.specs.Agrees.{Standing}
+use Rattle.shim_laws_records.specs.Updating.{UpdatedAbove, too_far, at_top, no_counts, stays, goes_on}
+use Rattle.shim_laws_records.specs.LoweredLabels.{LoweredAbove, all_the_way, at_the_root, uncounted, as_low, lowers}
+use Rattle.shim_laws_records.specs.Agrees.{RecordView}
 use Rattle.shim_laws_records.specs.Recounting.{Recounted, all_the_way as all_read, at_the_root as at_root, uncounted as none_counted, as_before, recounts}
 use Rattle.shim_laws_records.proofs.SameTrees.{same_or_not}
 use Rattle.shim_local.specs.Process.{Ops}
 use Rattle.shim_records.specs.Pairs.{up_in, up_at, rest_of, counts_in, counts_at, leasts_in, least_at}
-use Rattle.shim_records.specs.Ways.{IsClimbed}
-use Rattle.shim_records.specs.Labels.{IsSunk}
+use Rattle.shim_records.specs.Ways.{IsUpdatedAbove}
+use Rattle.shim_records.specs.Labels.{IsLoweredAbove}
 use Rattle.shim_records.specs.Recounting.{IsRecounted}
 use Rattle.shim_records.specs.Leaving.{HasLeft, alone, lost, below}
 use Rattle.shim_records.specs.declared.pair.Reading.{Reading}
@@ -84,21 +84,21 @@ touches_above x before behind touches same = record {
 -- ---- the way up for a channel
 
 module _ (up : ℕ → Option ℕ) where
-  climbed_above : {most n x : ℕ} {was is : Read} {before behind : ℕ → Option Tally} → Climbed up most n before x was is behind → (i : ℕ) → (IsAbove up x i → ⊥) → behind i ≡ before i
-  climbed_above (too_far before x was is) i out = refl
-  climbed_above (at_top n before x was is top) i out = refl
-  climbed_above (no_counts n before x j was is e none) i out = refl
-  climbed_above (stays n before behind x j was is y z e moved same) i out = moved.others i (λ w. out (subst (IsAbove up x) (sym w) (its_fork x j e)))
-  climbed_above (goes_on n before between behind x j was is y z e moved more) i out = climbed_above more i (λ w. out (further x j i e w)) ∙ moved.others i (λ w. out (subst (IsAbove up x) (sym w) (its_fork x j e)))
+  updated_above : {most n x : ℕ} {was is : Read} {before behind : ℕ → Option Tally} → UpdatedAbove up most n before x was is behind → (i : ℕ) → (IsAbove up x i → ⊥) → behind i ≡ before i
+  updated_above (too_far before x was is) i out = refl
+  updated_above (at_top n before x was is top) i out = refl
+  updated_above (no_counts n before x j was is e none) i out = refl
+  updated_above (stays n before behind x j was is y z e moved same) i out = moved.others i (λ w. out (subst (IsAbove up x) (sym w) (its_fork x j e)))
+  updated_above (goes_on n before between behind x j was is y z e moved more) i out = updated_above more i (λ w. out (further x j i e w)) ∙ moved.others i (λ w. out (subst (IsAbove up x) (sym w) (its_fork x j e)))
 
-  sunk_above : {counts : ℕ → Option Tally} {y : Option ℕ} {n x : ℕ} {before behind : ℕ → Option ℕ} → Sunk up counts y n before x behind → (i : ℕ) → (IsAbove up x i → ⊥) → behind i ≡ before i
-  sunk_above (all_the_way before x) i out = refl
-  sunk_above (at_the_root n before x top) i out = refl
-  sunk_above (uncounted n before x j e none) i out = refl
-  sunk_above (as_low n before x j e some low) i out = refl
-  sunk_above (lowers n before between behind x j e some lowered more) i out = sunk_above more i (λ w. out (further x j i e w)) ∙ lowered.others i (λ w. out (subst (IsAbove up x) (sym w) (its_fork x j e)))
+  lowered_above : {counts : ℕ → Option Tally} {y : Option ℕ} {n x : ℕ} {before behind : ℕ → Option ℕ} → LoweredAbove up counts y n before x behind → (i : ℕ) → (IsAbove up x i → ⊥) → behind i ≡ before i
+  lowered_above (all_the_way before x) i out = refl
+  lowered_above (at_the_root n before x top) i out = refl
+  lowered_above (uncounted n before x j e none) i out = refl
+  lowered_above (as_low n before x j e some low) i out = refl
+  lowered_above (lowers n before between behind x j e some lowered more) i out = lowered_above more i (λ w. out (further x j i e w)) ∙ lowered.others i (λ w. out (subst (IsAbove up x) (sym w) (its_fork x j e)))
 
-  recounted_above : {S : Type 0} {o : Ops S} {c : Channel} {states : List S} {stands : List Standing} {counts : ℕ → Option Tally} {n x : ℕ} {before behind : ℕ → Option ℕ}
+  recounted_above : {S : Type 0} {o : Ops S} {c : Channel} {states : List S} {stands : List RecordView} {counts : ℕ → Option Tally} {n x : ℕ} {before behind : ℕ → Option ℕ}
       → Recounted o c states stands up counts n before x behind → (i : ℕ) → (IsAbove up x i → ⊥) → behind i ≡ before i
   recounted_above (all_read before x) i out = refl
   recounted_above (at_root n before x top) i out = refl
@@ -123,25 +123,25 @@ rest_parents before behind e i = ap (λ u. u i) (rest_ups before behind e)
 rest_long : (before behind : List Record) → map rest_of behind ≡ map rest_of before → length behind ≡ length before
 rest_long before behind e = sym (map_length rest_of behind) ∙ (ap length e ∙ map_length rest_of before)
 
-pub climbs : (c : Channel) (n x : ℕ) (was is : Reading) (before behind : List Record) → IsClimbed c n x was is before behind → TouchesRecords x before behind
-climbs c n x was is before behind way = record {
+pub counts_above : (c : Channel) (n x : ℕ) (was is : Reading) (before behind : List Record) → IsUpdatedAbove c n x was is before behind → TouchesRecords x before behind
+counts_above c n x was is before behind way = record {
   parents = rest_parents before behind way.1.rest;
   as_many = rest_long before behind way.1.rest;
   others = λ i far out. record {
     rest = rest_at before behind i way.1.rest;
-    counts = same_all c (λ d. counts_in d behind i) (λ d. counts_in d before i) (climbed_above (up_in before) way.0 i out) (λ d other. way.1.elsewhere d other i);
+    counts = same_all c (λ d. counts_in d behind i) (λ d. counts_in d before i) (updated_above (up_in before) way.0 i out) (λ d other. way.1.elsewhere d other i);
     labels = λ d. way.1.labels d i;
   };
 }
 
-pub sinks : (c : Channel) (y n x : ℕ) (before behind : List Record) → IsSunk c y n x before behind → TouchesRecords x before behind
-sinks c y n x before behind way = record {
+pub labels_above : (c : Channel) (y n x : ℕ) (before behind : List Record) → IsLoweredAbove c y n x before behind → TouchesRecords x before behind
+labels_above c y n x before behind way = record {
   parents = rest_parents before behind way.1.rest;
   as_many = rest_long before behind way.1.rest;
   others = λ i far out. record {
     rest = rest_at before behind i way.1.rest;
     counts = λ d. way.1.counts d i;
-    labels = same_all c (λ d. leasts_in d behind i) (λ d. leasts_in d before i) (sunk_above (up_in before) way.0 i out) (λ d other. way.1.elsewhere d other i);
+    labels = same_all c (λ d. leasts_in d behind i) (λ d. leasts_in d before i) (lowered_above (up_in before) way.0 i out) (λ d other. way.1.elsewhere d other i);
   };
 }
 
@@ -162,7 +162,7 @@ pub leaving : (x : ℕ) (before behind : List Record) → HasLeft x before behin
 leaving x before behind (alone top e) = touches_none x before behind e
 leaving x before behind (lost j up none e) = touches_none x before behind e
 leaving x before behind (below j r up there e) =
-    let now = touches_set j before r (record { standing = r.standing; first = r.first; parent = r.parent; path = r.path; going = r.going - 1; pairs = r.pairs }) there refl in
+    let now = touches_set j before r (record { status = r.status; first = r.first; parent = r.parent; path = r.path; going = r.going - 1; pairs = r.pairs }) there refl in
     subst (TouchesRecords x before) (sym e) (record {
       parents = now.parents;
       as_many = now.as_many;
@@ -170,4 +170,4 @@ leaving x before behind (below j r up there e) =
     })
   where
     less : Record
-    less = record { standing = r.standing; first = r.first; parent = r.parent; path = r.path; going = r.going - 1; pairs = r.pairs }
+    less = record { status = r.status; first = r.first; parent = r.parent; path = r.path; going = r.going - 1; pairs = r.pairs }

@@ -9,7 +9,7 @@ use Rattle.shim_semantics.specs.Nodes.{Death}
 use Rattle.shim_laws_records.specs.Seen.{Sort, lives, forks, ends, dies}
 use Rattle.shim_laws_records.specs.Agrees.{free, used}
 use Rattle.shim_records.specs.Pairs.{up_in, stands_of}
-use Rattle.shim_records.specs.Acted.{AllGone}
+use Rattle.shim_records.specs.Acted.{AllUpdated}
 use Rattle.shim_records.specs.declared.record.Record.{Record}
 use Rattle.shim_records.proofs.Showing.{map_get}
 use Rattle.shim_records.proofs.Stepping.{set_elsewhere}
@@ -22,7 +22,7 @@ use Rattle.shim_laws_closes.proofs.Saying.{map_length}
 use Rattle.shim_flat.specs.Touching.{IsAbove, TouchesAbove}
 use Rattle.shim_flat.proofs.Above.{above_as}
 use Rattle.shim_flat.proofs.Touching.{SaysAsBefore, TouchesRecords, touches_none, touches_on, touches_set, same_record, says_on, reads_off, leaving}
-use Rattle.shim_flat.proofs.TouchingOwn.{all_gone}
+use Rattle.shim_flat.proofs.TouchingOwn.{all_walked}
 
 module _ {S : Type 0} (o : Ops S) (states : List S) where
   pub all_read_off : (n x : ℕ) (cs : List Channel) (before behind : List Record) → AllRecounted o states n x cs before behind → TouchesRecords x before behind
@@ -43,7 +43,7 @@ leaves_if ends x before behind h = leaving x before behind h
 leaves_if (dies d) x before behind h = leaving x before behind h
 
 module _ {S : Type 0} (o : Ops S) (states : List S) (rs freed left between behind : List Record) (i g n : ℕ) (q r : Record) (s : S) (k : Sort) (d : Option Death) (free_ones : AreFreed g n rs freed) (at_q : slice_get rs i ≡ Some q) (come : HasCome q r k)
-    (leaves : LeavesIf k i (slice_set freed i r) left) (gone : AllGone o s k 4294967295 i left between) (again : RecountedIf d o (slice_set states i s) s 4294967295 i between behind) where
+    (leaves : LeavesIf k i (slice_set freed i r) left) (walked : AllUpdated o s k 4294967295 i left between) (again : RecountedIf d o (slice_set states i s) s 4294967295 i between behind) where
   abbrev now : List S
   now = slice_set states i s
 
@@ -56,7 +56,7 @@ module _ {S : Type 0} (o : Ops S) (states : List S) (rs freed left between behin
       let own = slice_set freed i r in
       touches_on i freed own behind (touches_set i freed its.0 r its.1 (come.parent ∙ sym (ap (λ (z : Beside). z.parent) its.2)))
       (touches_on i own left behind (leaves_if k i own left leaves)
-      (touches_on i left between behind (all_gone o s k 4294967295 i left between gone) (recounted_if o now d s 4294967295 i between behind again)))
+      (touches_on i left between behind (all_walked o s k 4294967295 i left between walked) (recounted_if o now d s 4294967295 i between behind again)))
 
   -- who is in use behind isn't one of the children
   no_child : (j f : ℕ) (t : S) (h : Sort) → HasProcess (record { states = now; records = behind }) j f t h → SaysAsBefore freed behind j → (b : ℕ) → b < n → j ≢ g + b

@@ -8,7 +8,7 @@ use Rattle.shim_laws_records.specs.Seen.{Sort}
 use Rattle.shim_laws_records.specs.Agrees.{free, used}
 use Rattle.shim_records.specs.Pairs.{up_in, up_at, stands_of}
 use Rattle.shim_records.specs.declared.record.Record.{Record}
-use Rattle.shim_records.proofs.Gone.{less_or_not}
+use Rattle.shim_records.proofs.Walked.{less_or_not}
 use Rattle.shim_records.proofs.Showing.{map_get}
 use Rattle.shim_laws_keeping.specs.Flats.{FlatView, HasProcess, IsKept}
 use Rattle.shim_laws_waking.proofs.PairsFound.{record_of}

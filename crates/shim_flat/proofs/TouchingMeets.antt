@@ -9,29 +9,29 @@ use Rattle.shim_records.proofs.Stepping.{set_elsewhere}
 use Rattle.shim_laws_keeping.specs.Flats.{FlatView}
 use Rattle.shim_laws_waking.specs.Waking.{IsAsBefore}
 use Rattle.shim_laws_meetings.specs.Receiving.{ComesTo, no_other, other, MovesOn}
-use Rattle.shim_laws_meetings.specs.Dying.{dead_record, Falls}
+use Rattle.shim_laws_meetings.specs.Dying.{dead_record, DiesAt}
 use Rattle.shim_laws_meetings.specs.Meetings.{ReceivesOne, stands_elsewhere, received, ReceiveAll, none_left, one_more}
-use Rattle.shim_laws_meetings.specs.Poisons.{FallsOne, spared, fell, AllFall, none_left as none_falls, one_more as one_falls}
+use Rattle.shim_laws_meetings.specs.Poisons.{DiesOne, survived, was_killed, AllDie, none_left as none_die, one_more as one_dies}
 use Rattle.shim_flat.specs.Touching.{TouchesAbove, TouchesEach}
 use Rattle.shim_flat.proofs.Above.{above_as}
-use Rattle.shim_flat.proofs.Touching.{before_on, TouchesRecords, touches_none, touches_on, touches_set, touches_above, climbs, leaving}
-use Rattle.shim_flat.proofs.TouchingOwn.{all_climb, taken}
+use Rattle.shim_flat.proofs.Touching.{before_on, TouchesRecords, touches_none, touches_on, touches_set, touches_above, counts_above, leaving}
+use Rattle.shim_flat.proofs.TouchingOwn.{all_update, taken}
 
 module _ {S : Type 0} (o : Ops S) where
   comes_to : (s : S) (c : Channel) (n x : ℕ) (before behind : List Record) → ComesTo o s c n x before behind → TouchesRecords x before behind
   comes_to s c n x before behind (no_other e same) = touches_none x before behind same
-  comes_to s c n x before behind (other d was is stop far u v way) = climbs d.channel n x was is before behind way
+  comes_to s c n x before behind (other d was is stop far u v way) = counts_above d.channel n x was is before behind way
 
   -- a process that has received
   pub moves_on : (s : S) (c : Channel) (n x : ℕ) (before behind : List Record) → MovesOn o s c n x before behind → TouchesRecords x before behind
-  moves_on s c n x before behind h = touches_on x before h.between behind (climbs c n x h.was h.is before h.between h.left) (comes_to s c n x h.between behind h.came)
+  moves_on s c n x before behind h = touches_on x before h.between behind (counts_above c n x h.was h.is before h.between h.left) (comes_to s c n x h.between behind h.came)
 
   -- one that was killed
-  pub falls : (s : S) (label n x : ℕ) (before behind : List Record) → Falls o s label n x before behind → TouchesRecords x before behind
-  falls s label n x before behind h =
+  pub is_killed : (s : S) (label n x : ℕ) (before behind : List Record) → DiesAt o s label n x before behind → TouchesRecords x before behind
+  is_killed s label n x before behind h =
       let now = slice_set before x (dead_record h.stood label) in
       touches_on x before now behind (touches_set x before h.stood (dead_record h.stood label) h.there refl)
-      (touches_on x now h.counted behind (all_climb _ _ n x h.killed.chans now h.counted h.killed.climbed)
+      (touches_on x now h.counted behind (all_update _ _ n x h.killed.chans now h.counted h.killed.updated)
       (touches_on x h.counted h.labelled behind (taken o s label n x h.counted h.labelled h.taken) (leaving x h.labelled behind h.left)))
 
 -- ---- with the states
@@ -73,13 +73,13 @@ module _ {S : Type 0} (o : Ops S) where
   all_receive_touch c v is before behind (none_left w) = each_none w
   all_receive_touch c v is before behind (one_more i js first between last one more) = each_on i js first between last (receives_touch c v i first between one) (all_receive_touch c v js between last more)
 
-  pub falls_touch : (label i : ℕ) (before behind : FlatView S) → FallsOne o label i before behind → TouchesOne i before behind
-  falls_touch label i before behind (spared none same) = same_view i before behind same
-  falls_touch label i before behind (fell f l has less states down) = record {
-    records = falls o l label 4294967295 i before.records behind.records down;
+  pub dies_touch : (label i : ℕ) (before behind : FlatView S) → DiesOne o label i before behind → TouchesOne i before behind
+  dies_touch label i before behind (survived none same) = same_view i before behind same
+  dies_touch label i before behind (was_killed f l has less states down) = record {
+    records = is_killed o l label 4294967295 i before.records behind.records down;
     states = λ j far. ap (λ z. slice_get z j) states;
   }
 
-  pub all_fall_touch : (label : ℕ) (is : List ℕ) (before behind : FlatView S) → AllFall o label is before behind → TouchesEach is before behind
-  all_fall_touch label is before behind (none_falls w) = each_none w
-  all_fall_touch label is before behind (one_falls i js first between last one more) = each_on i js first between last (falls_touch label i first between one) (all_fall_touch label js between last more)
+  pub all_die_touch : (label : ℕ) (is : List ℕ) (before behind : FlatView S) → AllDie o label is before behind → TouchesEach is before behind
+  all_die_touch label is before behind (none_die w) = each_none w
+  all_die_touch label is before behind (one_dies i js first between last one more) = each_on i js first between last (dies_touch label i first between one) (all_die_touch label js between last more)

@@ -7,7 +7,7 @@ use Rattle.shim_semantics.specs.Acts.{Effects, nothing, catching, act_live}
 use Rattle.shim_laws_records.specs.Seen.{Sort, lives, dies, sort}
 use Rattle.shim_laws_keeping.specs.Flats.{FlatView, HasProcess}
 use Rattle.shim_laws_keeping.specs.Moves.{MovesBy}
-use Rattle.shim_laws_keeping.specs.Acting.{event_of}
+use Rattle.shim_laws_keeping.specs.Acting.{event_at_stop}
 use Rattle.shim_flat.specs.Stepping.{LivesAt, HasBecome}
 use Rattle.shim_flat.specs.Touching.{TouchesAbove}
 use Rattle.shim_flat.specs.declared.acting.Thrown.{Thrown}
@@ -27,7 +27,7 @@ pub record ActsHere {S : Type 0} (o : Ops S) (number : ℕ) (stop : StopView) (k
   pub does : act_live o process stop ≡ Some (record { node = left; effects = effects })
   pub came : sort left ≡ k
   pub becomes : HasBecome number (state left) k before behind
-  pub moves : MovesBy o (event_of stop (o.path process)) before behind
+  pub moves : MovesBy o (event_at_stop stop (o.path process)) before behind
   pub touches : TouchesAbove number before behind
 
 -- what came of a process that threw the exception of this label

@@ -1,5 +1,5 @@
 -- What a close of a fork did, and what its parts do to states and records.
-use Rattle.std.specs.Prelude.{◌≡◌, ℕ, Bool, Option, Some, List, slice_get, slice_set, unwrap_or}
+use Rattle.std.specs.Prelude.{◌≡◌, ◌≢◌, ◌<◌, ◌+◌, ℕ, Bool, Option, Some, List, slice_get, slice_set, unwrap_or}
 use Rattle.std.specs.Option.{option_map}
 use Rattle.shim_local.specs.Process.{Ops}
 use Rattle.shim_semantics.specs.Nodes.{Live, Dead, Death, death, state}
@@ -7,16 +7,18 @@ use Rattle.shim_semantics.specs.Acts.{Acted, Effects, nothing, catching, closed}
 use Rattle.shim_semantics.specs.Trees.{Close}
 use Rattle.shim_laws_records.specs.Seen.{Sort, lives, forks, dies, sort}
 use Rattle.shim_laws_records.specs.Changes.{HasClosed, block, prevailing_among}
-use Rattle.shim_records.specs.Acted.{sort_of, AllGone}
+use Rattle.shim_records.specs.Acted.{sort_of, AllUpdated}
 use Rattle.shim_records.specs.declared.record.Record.{Record}
-use Rattle.shim_records.specs.declared.record.Standing.{Standing}
-use Rattle.shim_records.specs.declared.record.Standing.TheVariants as code
+use Rattle.shim_records.specs.declared.record.Status.{Status}
 use Rattle.shim_laws_keeping.specs.Flats.{FlatView, HasProcess, stands}
 use Rattle.shim_laws_keeping.specs.Moves.{MovesBy}
 use Rattle.shim_laws_closes.specs.Closing.{HasCome, LeavesIf, RecountedIf}
 use Rattle.shim_flat.specs.Touching.{TouchesAbove}
+use Rattle.shim_flat.specs.Acting.{sort_by, told_of}
+use Rattle.shim_flat.specs.declared.acting.Thrown.{Thrown}
+use Rattle.shim_flat.specs.declared.acting.Thrown.TheVariants as thrown
 use Rattle.shim_flat.specs.declared.closing.CloseOutcome.{CloseOutcome}
-use Rattle.shim_flat.specs.declared.closing.CloseOutcome.TheVariants.{GoesOn, Caught, Died}
+use Rattle.shim_flat.specs.declared.closing.CloseOutcome.TheVariants.{GoesOn, Threw}
 
 -- the process with this number has forked, and none of its children goes on
 pub record CanClose {S : Type 0} (v : FlatView S) (number : ℕ) : Type 0 where
@@ -31,16 +33,15 @@ pub record CanClose {S : Type 0} (v : FlatView S) (number : ℕ) : Type 0 where
 -- what is told of a close of which this came
 abbrev pub told_by : CloseOutcome → Effects
 told_by GoesOn = nothing
-told_by (Caught name line) = catching (name, line)
-told_by Died = nothing
+told_by (Threw t) = told_of t
 
 -- whether the process lives behind it
 abbrev pub CameTo : CloseOutcome → Sort → Type 0
 CameTo GoesOn k = k ≡ lives
-CameTo (Caught name line) k = k ≡ lives
-CameTo Died k = (d : Death) × (k ≡ dies d)
+CameTo (Threw (thrown.Caught name line)) k = k ≡ lives
+CameTo (Threw thrown.Died) k = (d : Death) × (k ≡ dies d)
 
--- The process with this number had forked, and its fork closed: this came of it, the tree moves by that event, and of all others its children alone are gone.
+-- The process with this number had forked, and its fork closed: this came of it, the tree moves by that event, and of all others its children alone are no more.
 pub record ClosesHere {S : Type 0} (o : Ops S) (number : ℕ) (outcome : CloseOutcome) (before behind : FlatView S) : Type 0 where
   pub first : ℕ
   pub many : ℕ
@@ -48,6 +49,8 @@ pub record ClosesHere {S : Type 0} (o : Ops S) (number : ℕ) (outcome : CloseOu
   pub forked : HasProcess before number first process (forks many)
   pub left : Acted S
   pub does : left ≡ closed o process (block first many before.states) (prevailing_among (block first many (stands before)))
+  pub path : o.path (state left.node) ≡ o.path process
+  pub apart : (b : ℕ) → b < many → number ≢ first + b
   pub told : left.effects ≡ told_by outcome
   pub came : CameTo outcome (sort left.node)
   pub becomes : HasClosed before.states behind.states (stands before) (stands behind) number first many (state left.node) (sort left.node)
@@ -56,24 +59,20 @@ pub record ClosesHere {S : Type 0} (o : Ops S) (number : ℕ) (outcome : CloseOu
 
 -- ---- the parts
 
+-- what a process leaves in which the exception of the label x was thrown
+abbrev pub thrown_by : {S : Type 0} → Thrown → ℕ → S → Acted S
+thrown_by (thrown.Caught name line) x s = record { node = Live s; effects = catching (name, line) }
+thrown_by thrown.Died x s = record { node = Dead s (death x); effects = nothing }
+
 -- what a process leaves of which this came, where the label that prevailed is x
 abbrev pub acted_by : {S : Type 0} → CloseOutcome → ℕ → S → Acted S
 acted_by GoesOn x s = record { node = Live s; effects = nothing }
-acted_by (Caught name line) x s = record { node = Live s; effects = catching (name, line) }
-acted_by Died x s = record { node = Dead s (death x); effects = nothing }
+acted_by (Threw t) x s = thrown_by t x s
 
+-- what came of a process with this outcome, where the label that prevailed is x
 abbrev pub sort_left : CloseOutcome → ℕ → Sort
 sort_left GoesOn x = lives
-sort_left (Caught name line) x = lives
-sort_left Died x = dies (death x)
-
--- into how many a process has forked
-abbrev pub fork_size : Standing → ℕ
-fork_size code.Free = 0
-fork_size code.Live = 0
-fork_size (code.Forked n) = n
-fork_size code.Ended = 0
-fork_size (code.Dead x) = 0
+sort_left (Threw t) x = sort_by x t
 
 -- the process p has the values of its children again, whose states lie together from g on
 abbrev pub HasJoined : {S : Type 0} → Ops S → ℕ → ℕ → ℕ → Bool → List S → List S → Type 0
@@ -84,7 +83,7 @@ abbrev pub TakesBack : {S : Type 0} → Ops S → ℕ → ℕ → ℕ → Option
 TakesBack {S} o p g n label outcome before behind = (l : S) → slice_get before p ≡ Some l → (s : S) × (behind ≡ slice_set before p s) × (acted_by outcome (unwrap_or label 0) s ≡ closed o l (block g n before) (option_map death label))
 
 -- The record at a place says what came of its process, and all above was brought up to date.
-pub record ClosesRecord {S : Type 0} (o : Ops S) (states : List S) (at : ℕ) (standing : Standing) (d : Option Death) (before behind : List Record) : Type 0 where
+pub record ClosesRecord {S : Type 0} (o : Ops S) (states : List S) (at : ℕ) (status : Status) (d : Option Death) (before behind : List Record) : Type 0 where
   pub process : S
   pub was : Record
   pub is : Record
@@ -92,7 +91,7 @@ pub record ClosesRecord {S : Type 0} (o : Ops S) (states : List S) (at : ℕ) (s
   pub between : List Record
   pub state_is : slice_get states at ≡ Some process
   pub there : slice_get before at ≡ Some was
-  pub come : HasCome was is (sort_of standing)
-  pub leaves : LeavesIf (sort_of standing) at (slice_set before at is) left
-  pub gone : AllGone o process (sort_of standing) 4294967295 at left between
+  pub come : HasCome was is (sort_of status)
+  pub leaves : LeavesIf (sort_of status) at (slice_set before at is) left
+  pub walked : AllUpdated o process (sort_of status) 4294967295 at left between
   pub again : RecountedIf d o states process 4294967295 at between behind

@@ -5,8 +5,8 @@ use Rattle.shim_local.specs.Process.{Ops}
 use Rattle.shim_laws_records.specs.Seen.{Sort}
 use Rattle.shim_laws_keeping.specs.Flats.{FlatView, HasProcess}
 use Rattle.shim_laws_meetings.specs.Descents.{children, numbers_from, Descends}
-use Rattle.shim_records.specs.declared.record.Standing.{Standing}
-use Rattle.shim_records.specs.declared.record.Standing.TheVariants as code
+use Rattle.shim_records.specs.declared.record.Status.{Status}
+use Rattle.shim_records.specs.declared.record.Status.TheVariants as code
 use Rattle.shim_flat.specs.declared.descent.Block.{Block}
 
 -- the numbers of one block
@@ -19,7 +19,7 @@ ahead_of [] = []
 ahead_of (b ∷ bs) = ahead_of bs ++ inside b
 
 -- how many children it has of which this came; none where the record is free
-abbrev pub children_by : Standing → Option ℕ
+abbrev pub children_by : Status → Option ℕ
 children_by code.Free = None
 children_by code.Live = Some 0
 children_by (code.Forked n) = Some n

@@ -3,7 +3,7 @@ use Rattle.std.specs.Prelude.{◌≡◌, ◌<◌, ℕ, ◌+◌, Bool, true, fals
 use Rattle.shim_base.specs.Paths.{Channel, NamedChannel}
 use Rattle.shim_local.specs.Process.{Ops, AtPut, AtFork, AtThrow, AtTrap, AtFinish, AtNext}
 use Rattle.shim_laws_records.specs.Seen.{Sort, lives}
-use Rattle.shim_laws_records.specs.Agrees.{Standing, used}
+use Rattle.shim_laws_records.specs.Agrees.{RecordView, used}
 use Rattle.shim_laws_records.specs.Counts.{Tally, all_there}
 use Rattle.shim_laws_records.specs.Dooms.{is_below}
 use Rattle.shim_records.specs.Pairs.{tally, counts_in, stands_of}
@@ -53,6 +53,7 @@ pub record IsDoomed {S : Type 0} (o : Ops S) (v : FlatView S) (i q j : ℕ) : Ty
   pub its : HasProcess v j child_first child child_sort
   pub ready : IsReady o v pair_is.chan.channel j child child_sort
 
+-- what an answer says of the process with this number
 abbrev pub DueIs : {S : Type 0} → Ops S → FlatView S → ℕ → Due → Type 0
 DueIs o v i code.Nothing = IsIdle o v i
 DueIs o v i code.Put = LivesAt o v i AtPut
@@ -68,7 +69,7 @@ DueIs o v i (code.Poison q j) = IsDoomed o v i q j
 -- ---- the parts
 
 -- whether a process with this state, of which this came, is ready on a channel for which its record has these counts
-abbrev pub ready_record : {S : Type 0} → Ops S → Channel → Option S → Option Standing → Option Tally → Bool
+abbrev pub ready_record : {S : Type 0} → Ops S → Channel → Option S → Option RecordView → Option Tally → Bool
 ready_record o c (Some s) (Some (used f k)) y = ready_by o c s k y
 ready_record o c _ _ y = false
 

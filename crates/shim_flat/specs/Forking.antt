@@ -1,18 +1,22 @@
 -- What a fork in place did.
-use Rattle.std.specs.Prelude.{◌≡◌, ◌≢◌, ◌<◌, ◌≤◌, ℕ, ◌+◌, Bool, true, false, Some, List, slice_get, slice_set, length}
+use Rattle.std.specs.Prelude.{◌≡◌, ◌<◌, ◌≤◌, ℕ, ◌+◌, Some, List, slice_get, slice_set, length}
 use Rattle.shim_local.specs.Process.{Ops, AtFork, Parted, Trapped}
+use Rattle.shim_local.specs.Views.{ForkGives}
+use Rattle.shim_local.specs.declared.local.Forked.{Forked}
+use Rattle.shim_local.specs.declared.local.Forked.TheVariants as forked_view
 use Rattle.shim_semantics.specs.Trees.{Own}
-use Rattle.shim_laws_records.specs.Seen.{Sort, lives, forks}
+use Rattle.shim_laws_records.specs.Seen.{Sort, lives}
 use Rattle.shim_laws_records.specs.Agrees.{free}
+use Rattle.shim_laws_records.specs.Changes.{HasForked}
 use Rattle.shim_records.specs.Pairs.{stands_of}
 use Rattle.shim_records.specs.declared.record.Record.{Record}
-use Rattle.shim_laws_keeping.specs.Flats.{FlatView, HasProcess}
+use Rattle.shim_laws_keeping.specs.Flats.{FlatView, HasProcess, stands}
 use Rattle.shim_laws_keeping.specs.Moves.{MovesBy}
 use Rattle.shim_flat.specs.Touching.{TouchesAbove, TouchesForking}
 use Rattle.shim_flat.specs.declared.forking.ForkOutcome.{ForkOutcome}
 use Rattle.shim_flat.specs.declared.forking.ForkOutcome.TheVariants as outcome
 
--- The process with this number forked into so many, which have numbers from the first one on; every other process has its number and all that it had.
+-- The process with this number forked into so many, which have numbers from the first one on that weren't in use; every other process has its number and all that it had.
 pub record HasForkedHere {S : Type 0} (o : Ops S) (number first count : ℕ) (before behind : FlatView S) : Type 0 where
   pub was_first : ℕ
   pub was : S
@@ -23,9 +27,8 @@ pub record HasForkedHere {S : Type 0} (o : Ops S) (number first count : ℕ) (be
   pub forked : o.fork was ≡ Parted is born
   pub many : length born ≡ count
   pub fits : first + count ≤ 4294967295
-  pub parent : HasProcess behind number first is (forks count)
-  pub children : (b : ℕ) (k : S) → slice_get born b ≡ Some k → (d : ℕ) × HasProcess behind (first + b) d k lives
-  pub others : (j d : ℕ) (s : S) (k : Sort) → j ≢ number → HasProcess before j d s k → HasProcess behind j d s k
+  pub unused : (b d : ℕ) (t : S) (k : Sort) → b < count → HasProcess before (first + b) d t k → ⊥
+  pub becomes : HasForked before.states behind.states (stands before) (stands behind) number first is born
   pub moves : MovesBy o (Own (o.path was)) before behind
   pub touches : TouchesForking number first count before behind
 
@@ -41,15 +44,19 @@ pub record HasTrappedHere {S : Type 0} (o : Ops S) (number : ℕ) (before behind
   pub moves : MovesBy o (Own (o.path was)) before behind
   pub touches : TouchesAbove number before behind
 
+-- it forked, or its fork trapped, as the outcome says
 abbrev pub ForksHere : {S : Type 0} → Ops S → ℕ → FlatView S → FlatView S → ForkOutcome → Type 0
 ForksHere {S} o number before behind (outcome.Forked first count) = HasForkedHere o number first count before behind
 ForksHere {S} o number before behind outcome.Trapped = HasTrappedHere o number before behind
-ForksHere {S} o number before behind outcome.NoFork = (behind ≡ before) × ((f : ℕ) (l : S) → HasProcess before number f l lives → o.stop l ≢ AtFork)
 
--- whether the process with this number lives and stands at a fork
-abbrev pub IsBeforeFork : {S : Type 0} → Ops S → ℕ → FlatView S → Bool → Type 0
-IsBeforeFork {S} o i v true = (f : ℕ) × (l : S) × HasProcess v i f l lives × (o.stop l ≡ AtFork)
-IsBeforeFork {S} o i v false = (f : ℕ) (l : S) → HasProcess v i f l lives → o.stop l ≢ AtFork
+-- how many children there are where a fork comes to this
+abbrev pub how_many : {S : Type 0} → Forked S → ℕ
+how_many (forked_view.Children ks) = length ks
+how_many forked_view.Trapped = 0
+
+-- the process with this number lives and stands at a fork, which leaves the process in this state, and comes to these children or to a trap
+abbrev pub ForkComesTo : {S : Type 0} → Ops S → FlatView S → ℕ → S → Forked S → Type 0
+ForkComesTo {S} o v i p came = (f : ℕ) × (l : S) × HasProcess v i f l lives × (o.stop l ≡ AtFork) × ForkGives o l p came
 
 -- so many records from the number g on are free, or behind all others
 pub record IsFreeBlock (g n : ℕ) (rs : List Record) : Type 0 where

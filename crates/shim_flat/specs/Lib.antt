@@ -5,6 +5,7 @@ pub mod Reading
 pub mod Due
 pub mod Touching
 pub mod Acting
+pub mod Changing
 pub mod Forking
 pub mod Descent
 pub mod Meeting

@@ -10,9 +10,9 @@ use Rattle.shim_laws_meetings.specs.Meetings.{IsEnabled}
 use Rattle.shim_laws_meetings.specs.Poisons.{IsChildOf}
 
 -- the process with this number lives and has no handler for exceptions with this label; or it doesn't live, or has one
-abbrev pub IsFelledBy : {S : Type 0} → Ops S → ℕ → ℕ → FlatView S → Bool → Type 0
-IsFelledBy {S} o label i v true = (f : ℕ) × (l : S) × HasProcess v i f l lives × (label < o.base l)
-IsFelledBy {S} o label i v false = (f : ℕ) (l : S) → HasProcess v i f l lives → label < o.base l → ⊥
+abbrev pub IsKilledBy : {S : Type 0} → Ops S → ℕ → ℕ → FlatView S → Bool → Type 0
+IsKilledBy {S} o label i v true = (f : ℕ) × (l : S) × HasProcess v i f l lives × (label < o.base l)
+IsKilledBy {S} o label i v false = (f : ℕ) (l : S) → HasProcess v i f l lives → label < o.base l → ⊥
 
 -- the process with this number is a child whose poison on the channel is enabled, and the label is the innermost one in force at its fork
 pub record CanPoison {S : Type 0} (o : Ops S) (c : Channel) (label i : ℕ) (v : FlatView S) : Type 0 where

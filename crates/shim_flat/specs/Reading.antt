@@ -1,6 +1,7 @@
 -- What readers of one process ask, and what they answer.
 use Rattle.std.specs.Prelude.{◌≡◌, ◌≤◌, ◌<◌, ℕ, Option, Some, None, List, slice_get, length}
 use Rattle.shim_laws_records.specs.Seen.{Sort, forks}
+use Rattle.shim_records.specs.Members.{IsAmong}
 use Rattle.shim_records.specs.Pairs.{up_in}
 use Rattle.shim_records.specs.declared.pair.Pair.{Pair}
 use Rattle.shim_records.specs.declared.record.Record.{Record}
@@ -9,6 +10,22 @@ use Rattle.shim_laws_keeping.specs.Flats.{FlatView, HasProcess}
 -- there is a process with this number
 abbrev pub IsInUse : {S : Type 0} → FlatView S → ℕ → Type 0
 IsInUse {S} v i = (f : ℕ) × (s : S) × (k : Sort) × HasProcess v i f s k
+
+-- a list has an item for the number of each process
+abbrev pub IsForAll : {S A : Type 0} → FlatView S → List A → Type 0
+IsForAll {S} v xs = (i : ℕ) → IsInUse v i → i < length xs
+
+-- there is one, and it has forked
+abbrev pub HasForkedAt : {S : Type 0} → FlatView S → ℕ → Type 0
+HasForkedAt {S} v i = (first : ℕ) × (n : ℕ) × (l : S) × HasProcess v i first l (forks n)
+
+-- the first number is that of the first child, and there are so many
+abbrev pub ChildrenAre : ℕ × ℕ → ℕ → ℕ → Type 0
+ChildrenAre c first n = (c.0 ≡ first) × (c.1 ≡ n)
+
+-- there is one with each of these numbers
+abbrev pub AreInUse : {S : Type 0} → FlatView S → List ℕ → Type 0
+AreInUse v numbers = (i : ℕ) → IsAmong i numbers → IsInUse v i
 
 -- the process with this number has forked, and this is a pair of its record
 pub record HasPair {S : Type 0} (v : FlatView S) (i first n : ℕ) (l : S) (q : ℕ) (y : Pair) : Type 0 where

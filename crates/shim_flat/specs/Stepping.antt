@@ -6,8 +6,8 @@ use Rattle.shim_local.specs.declared.local.Stop.{Stop}
 use Rattle.shim_local.specs.Quiets.{QuietSteps}
 use Rattle.shim_laws_records.specs.Seen.{Sort, lives}
 use Rattle.shim_laws_records.specs.Changes.{HasChanged}
-use Rattle.shim_records.specs.declared.record.Standing.{Standing}
-use Rattle.shim_records.specs.declared.record.Standing.TheVariants as code
+use Rattle.shim_records.specs.declared.record.Status.{Status}
+use Rattle.shim_records.specs.declared.record.Status.TheVariants as code
 use Rattle.shim_laws_keeping.specs.Flats.{FlatView, stands, HasProcess}
 use Rattle.shim_laws_keeping.specs.Moves.{AdvancesBy}
 
@@ -24,11 +24,6 @@ abbrev pub IsLive : {S : Type 0} → ℕ → FlatView S → Bool → Type 0
 IsLive {S} i v true = (f : ℕ) × (l : S) × HasProcess v i f l lives
 IsLive {S} i v false = (f : ℕ) (l : S) → HasProcess v i f l lives → ⊥
 
--- at what it stands, if it lives
-abbrev pub StopsAt : {S : Type 0} → Ops S → ℕ → FlatView S → Option Stop → Type 0
-StopsAt o i v None = IsLive i v false
-StopsAt o i v (Some stop) = LivesAt o v i (stop_view stop)
-
 -- whether the process with this number lives and has a quiet step to do
 abbrev pub IsBeforeQuiet : {S : Type 0} → Ops S → ℕ → FlatView S → Bool → Type 0
 IsBeforeQuiet {S} o i v true = LivesAt o v i AtQuiet
@@ -40,7 +35,16 @@ pub data StepsHere {S : Type 0} (o : Ops S) (number taken : ℕ) (before behind 
   stepped : (f : ℕ) (l last : S) → HasProcess before number f l lives → o.stop l ≡ AtQuiet → QuietSteps o taken l last → HasBecome number last lives before behind
       → AdvancesBy o (o.path l) taken before behind → StepsHere o number taken before behind
 
-abbrev pub is_live : Standing → Bool
+-- The process with this number lives, stands before a quiet step, and comes to this state by so many.
+pub record QuietlyReaches {S : Type 0} (o : Ops S) (v : FlatView S) (number taken : ℕ) (last : S) : Type 0 where
+  pub first : ℕ
+  pub process : S
+  pub has : HasProcess v number first process lives
+  pub stands : o.stop process ≡ AtQuiet
+  pub chain : QuietSteps o taken process last
+
+-- a process of which this came lives
+abbrev pub is_live : Status → Bool
 is_live code.Free = false
 is_live code.Live = true
 is_live (code.Forked n) = false

@@ -12,7 +12,7 @@ use crate::acting_gone::leave_tree;
 use crate::arriving::arrive;
 use crate::flat::Flat;
 use shim_local::Local;
-use shim_records::Standing;
+use shim_records::Status;
 
 /// What came of a throw.
 #[derive(Clone, Copy, Debug, PartialEq, Eq)]
@@ -44,12 +44,7 @@ impl<L: Local> Flat<L> {
     {
         let at = number as usize;
         if label < self.states[at].base() {
-            leave_tree(
-                &self.states[at],
-                Standing::Dead(label),
-                &mut self.records,
-                at,
-            );
+            leave_tree(&self.states[at], Status::Dead(label), &mut self.records, at);
             return Thrown::Died;
         }
         let (name, line) = self.states[at].handler(label);
@@ -64,7 +59,7 @@ impl<L: Local> Flat<L> {
         ensures { (kind : TrapView) (line : ℕ) → LivesAt L.ops self.old number (AtTrap kind line) → ActsHere L.ops number (AtTrap kind line) (dies (death 0)) (trapping kind line) self.old self.new }
     {
         let at = number as usize;
-        leave_tree(&self.states[at], Standing::Dead(0), &mut self.records, at);
+        leave_tree(&self.states[at], Status::Dead(0), &mut self.records, at);
     }
 
     /// The process with this number, which lives and has nothing left to do, ends.
@@ -73,6 +68,6 @@ impl<L: Local> Flat<L> {
         ensures { ActsHere L.ops number AtFinish ends nothing self.old self.new }
     {
         let at = number as usize;
-        leave_tree(&self.states[at], Standing::Ended, &mut self.records, at);
+        leave_tree(&self.states[at], Status::Ended, &mut self.records, at);
     }
 }

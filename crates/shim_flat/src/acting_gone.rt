@@ -4,17 +4,17 @@ ghost use Rattle.shim_records.specs.Pairs.{AreOrdered};
 ghost use Rattle.shim_laws_keeping.specs.Acting.{TakesIn, Leaves};
 
 use shim_local::Local;
-use shim_records::{Record, Standing, climb_all, leave, sink_all};
+use shim_records::{Record, Status, leave, lower_all_labels, update_all_counts};
 
 // Takes in the label of a death above the process's record, for each channel that it was given and shares.
-fn take_label<L: Local>(process: &L, standing: Standing, records: &mut Vec<Record>, at: usize)
+fn take_label<L: Local>(process: &L, status: Status, records: &mut Vec<Record>, at: usize)
     requires ordered { AreOrdered records.old.items }
     requires few { length (L.ops.given process.now) ≤ 18446744073709551615 }
-    ensures { TakesIn L.ops process.now standing 4294967295 at records.old.items records.new.items }
+    ensures { TakesIn L.ops process.now status 4294967295 at records.old.items records.new.items }
 {
-    match standing {
-        Standing::Dead(label) => sink_all(process, records, at, label, u32::MAX),
-        Standing::Free | Standing::Live | Standing::Forked(_) | Standing::Ended => {}
+    match status {
+        Status::Dead(label) => lower_all_labels(process, records, at, label, u32::MAX),
+        Status::Free | Status::Live | Status::Forked(_) | Status::Ended => {}
     }
 }
 
@@ -22,17 +22,17 @@ fn take_label<L: Local>(process: &L, standing: Standing, records: &mut Vec<Recor
 /// forks above know of it is brought up to date.
 pub(crate) fn leave_tree<L: Local>(
     process: &L,
-    standing: Standing,
+    status: Status,
     records: &mut Vec<Record>,
     at: usize,
 )
     requires within { at < vec_len records.old }
     requires ordered { AreOrdered records.old.items }
     requires few { length (L.ops.given process.now) ≤ 18446744073709551615 }
-    ensures { Leaves L.ops process.now standing 4294967295 at records.old.items records.new.items }
+    ensures { Leaves L.ops process.now status 4294967295 at records.old.items records.new.items }
 {
-    records[at].standing = standing;
-    take_label(process, standing, records, at);
-    climb_all(process, standing, records, at, u32::MAX);
+    records[at].status = status;
+    take_label(process, status, records, at);
+    update_all_counts(process, status, records, at, u32::MAX);
     leave(records, at);
 }

@@ -1,21 +1,9 @@
 // A live process that has changed, and may have come to a channel.
-ghost use Rattle.std.specs.Prelude.{◌≡◌, true, false};
-ghost use Rattle.shim_records.specs.Pairs.{reading_of, AreOrdered};
+ghost use Rattle.shim_records.specs.Pairs.{AreOrdered};
 ghost use Rattle.shim_laws_keeping.specs.Arriving.{Arrives};
 
 use shim_local::{Local, Stop};
-use shim_records::{Reading, Record, climb};
-
-// What a fork reads of a process that shares a channel and lives.
-pub(crate) fn live_reading(readiness: bool) -> Reading
-    ensures { reading_of result ≡ record { joining = true; readiness = readiness; failing = false } }
-{
-    Reading {
-        joining: true,
-        readiness,
-        failing: false,
-    }
-}
+use shim_records::{Record, live_reading, update_counts_above};
 
 /// Brings the counts above a live process up to date that has changed, where it stands at a channel now and
 /// stood at none before.
@@ -25,7 +13,7 @@ pub(crate) fn arrive<L: Local>(process: &L, records: &mut Vec<Record>, at: usize
 {
     match process.stop() {
         Stop::Next(chan) => {
-            climb(
+            update_counts_above(
                 records,
                 at,
                 chan,

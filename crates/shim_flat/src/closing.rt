@@ -8,45 +8,34 @@ ghost use Rattle.shim_laws_records.specs.Changes.{block, prevailing_of, prevaili
 ghost use Rattle.shim_records.specs.Acted.{sort_of};
 ghost use Rattle.shim_records.specs.Pairs.{stands_of, stands_by, AreOrdered};
 ghost use Rattle.shim_records.specs.declared.record.Record.{Record};
-ghost use Rattle.shim_records.specs.declared.record.Standing.TheVariants.{Free};
+ghost use Rattle.shim_records.specs.declared.record.Status.TheVariants.{Free};
 ghost use Rattle.shim_laws_closes.specs.Closing.{AreFreed, HasCome, LeavesIf, GivenRecounted, RecountedIf};
-ghost use Rattle.shim_flat.specs.Closing.{CanClose, acted_by, ClosesHere, sort_left, fork_size, HasJoined, TakesBack, ClosesRecord};
+ghost use Rattle.shim_flat.specs.Closing.{CanClose, thrown_by, ClosesHere, sort_left, HasJoined, TakesBack, ClosesRecord};
 
+use crate::acting::Thrown;
 use crate::flat::Flat;
 use shim_local::Local;
-use shim_records::{Record, Standing, climb_all, leave, recount};
+use shim_records::{Record, Status, fork_size, is_free, leave, recount, update_all_counts};
 
 /// What came of a process whose fork has closed.
 #[derive(Clone, Copy, Debug, PartialEq, Eq)]
 pub enum CloseOutcome {
     /// All children had ended, and it stands behind the fork.
     GoesOn,
-    /// A child had died, and a handler of its own goes on: the number of its name, and the line of its `try`.
-    Caught(u32, u32),
-    /// A child had died, and it died of the same exception.
-    Died,
-}
-
-// Into how many a process has forked of which this came.
-fn size_of_fork(standing: Standing) -> u32
-    ensures { result ≡ fork_size standing }
-{
-    match standing {
-        Standing::Forked(count) => count,
-        Standing::Free | Standing::Live | Standing::Ended | Standing::Dead(_) => 0,
-    }
+    /// A child had died, and the exception was thrown in it.
+    Threw(Thrown),
 }
 
 // The lesser of the label of a death and another one, if there are any.
-fn lesser_label(standing: Standing, least: Option<u32>) -> Option<u32>
-    ensures { (f : ℕ) → option_map death result ≡ prevailing_of (stands_by f standing) (option_map death least) }
+fn lesser_label(status: Status, least: Option<u32>) -> Option<u32>
+    ensures { (f : ℕ) → option_map death result ≡ prevailing_of (stands_by f status) (option_map death least) }
 {
-    match standing {
-        Standing::Dead(label) => match least {
+    match status {
+        Status::Dead(label) => match least {
             None => Some(label),
             Some(other) => Some(if label < other { label } else { other }),
         },
-        Standing::Free | Standing::Live | Standing::Forked(_) | Standing::Ended => least,
+        Status::Free | Status::Live | Status::Forked(_) | Status::Ended => least,
     }
 }
 
@@ -59,7 +48,7 @@ fn least_label(records: &[Record], first: usize, count: usize) -> Option<u32>
     let mut left = count;
     while left > 0 {
         left -= 1;
-        least = lesser_label(records[first + left].standing, least);
+        least = lesser_label(records[first + left].status, least);
     }
     least
 }
@@ -75,7 +64,7 @@ fn join_behind<L: Local>(states: &mut [L], parent: usize, first: usize, count: u
     front[parent].join(&back[..count], goes_on);
 }
 
-// The same where they stand before it.
+// The process takes back the values of its children, whose states stand before its own.
 fn join_before<L: Local>(states: &mut [L], parent: usize, first: usize, count: usize, goes_on: bool)
     requires order { first + count ≤ parent }
     requires inside { parent < length states.old }
@@ -87,7 +76,7 @@ fn join_before<L: Local>(states: &mut [L], parent: usize, first: usize, count: u
     back[0].join(&children[..count], goes_on);
 }
 
-// The same wherever they stand.
+// The process takes back the values of its children, wherever their states stand.
 fn join_children<L: Local>(
     states: &mut Vec<L>,
     parent: usize,
@@ -109,16 +98,16 @@ fn join_children<L: Local>(
 }
 
 // Throws the exception of this label in a process.
-fn throw_in<L: Local>(process: &mut L, label: u32) -> CloseOutcome
+fn throw_in<L: Local>(process: &mut L, label: u32) -> Thrown
     requires { label < L.ops.handlers process.old }
-    ensures { acted_by result label process.new ≡ thrown L.ops process.old (death label) }
+    ensures { thrown_by result label process.new ≡ thrown L.ops process.old (death label) }
 {
     if label < process.base() {
-        return CloseOutcome::Died;
+        return Thrown::Died;
     }
     let (name, line) = process.handler(label);
     process.unwind(label);
-    CloseOutcome::Caught(name, line)
+    Thrown::Caught(name, line)
 }
 
 // The process takes back its children's values. Where any died, the exception of the least label is thrown in it.
@@ -139,7 +128,7 @@ fn take_back<L: Local>(
     join_children(states, parent, first, count, label.is_none());
     match label {
         None => CloseOutcome::GoesOn,
-        Some(label) => throw_in(&mut states[parent], label),
+        Some(label) => CloseOutcome::Threw(throw_in(&mut states[parent], label)),
     }
 }
 
@@ -149,26 +138,26 @@ fn free_children(records: &mut Vec<Record>, first: usize, count: usize)
     ensures { AreFreed first count records.old.items records.new.items }
 {
     for at in first..first + count {
-        records[at].standing = Standing::Free;
+        records[at].status = Status::Free;
     }
 }
 
 // This came of a process, and it has no children any more.
-fn come_to(parent: &mut Record, standing: Standing)
-    requires { standing ≢ Free }
-    ensures { HasCome parent.old parent.new (sort_of standing) }
+fn come_to(parent: &mut Record, status: Status)
+    requires { status ≢ Free }
+    ensures { HasCome parent.old parent.new (sort_of status) }
 {
-    parent.standing = standing;
+    parent.status = status;
     parent.pairs.clear();
 }
 
 // A process that has ended or died goes on no more.
-fn leave_if(records: &mut Vec<Record>, at: usize, standing: Standing)
-    ensures { LeavesIf (sort_of standing) at records.old.items records.new.items }
+fn leave_if(records: &mut Vec<Record>, at: usize, status: Status)
+    ensures { LeavesIf (sort_of status) at records.old.items records.new.items }
 {
-    match standing {
-        Standing::Free | Standing::Ended | Standing::Dead(_) => leave(records, at),
-        Standing::Live | Standing::Forked(_) => {}
+    match status {
+        Status::Free | Status::Ended | Status::Dead(_) => leave(records, at),
+        Status::Live | Status::Forked(_) => {}
     }
 }
 
@@ -192,7 +181,8 @@ fn recount_all<L: Local>(states: &[L], records: &mut Vec<Record>, at: usize, for
     }
 }
 
-// The same where a child died of this label; where none did there is no label to take away.
+// Reads the labels above a process off again where a child died of this label; where none did there is no label
+// to take away.
 fn recount_if<L: Local>(states: &[L], records: &mut Vec<Record>, at: usize, label: Option<u32>)
     requires ordered { AreOrdered records.old.items }
     requires few { (s : L) → slice_get states.now at ≡ Some s → length (L.ops.given s) ≤ 18446744073709551615 }
@@ -211,40 +201,31 @@ fn close_record<L: Local>(
     states: &[L],
     records: &mut Vec<Record>,
     at: usize,
-    standing: Standing,
+    status: Status,
     label: Option<u32>,
 )
     requires ordered { AreOrdered records.old.items }
     requires few { (s : L) → slice_get states.now at ≡ Some s → length (L.ops.given s) ≤ 18446744073709551615 }
     requires of_state { at < length states.now }
     requires of_record { at < length records.old.items }
-    requires standing { standing ≢ Free }
-    ensures { ClosesRecord L.ops states.now at standing (option_map death label) records.old.items records.new.items }
+    requires status { status ≢ Free }
+    ensures { ClosesRecord L.ops states.now at status (option_map death label) records.old.items records.new.items }
 {
-    come_to(&mut records[at], standing);
-    leave_if(records, at, standing);
-    climb_all(&states[at], standing, records, at, u32::MAX);
+    come_to(&mut records[at], status);
+    leave_if(records, at, status);
+    update_all_counts(&states[at], status, records, at, u32::MAX);
     recount_if(states, records, at, label);
 }
 
 // What came of a process, and its label where it died.
-fn standing_after(outcome: CloseOutcome, label: Option<u32>) -> Standing
+fn status_after(outcome: CloseOutcome, label: Option<u32>) -> Status
     ensures used { result ≢ Free }
     ensures sort { sort_of result ≡ sort_left outcome (unwrap_or label 0) }
 {
     match outcome {
-        CloseOutcome::GoesOn | CloseOutcome::Caught(_, _) => Standing::Live,
-        CloseOutcome::Died => Standing::Dead(label.unwrap_or(0)),
-    }
-}
-
-// Whether the record is free.
-fn is_free(standing: Standing) -> bool
-    ensures { result ≡ true → (f : ℕ) → stands_by f standing ≡ free }
-{
-    match standing {
-        Standing::Free => true,
-        Standing::Live | Standing::Forked(_) | Standing::Ended | Standing::Dead(_) => false,
+        CloseOutcome::GoesOn => Status::Live,
+        CloseOutcome::Threw(Thrown::Caught(_, _)) => Status::Live,
+        CloseOutcome::Threw(Thrown::Died) => Status::Dead(label.unwrap_or(0)),
     }
 }
 
@@ -254,7 +235,7 @@ fn used_end(records: &[Record]) -> usize
 {
     let mut end = records.len();
     while end > 0 {
-        if !is_free(records[end - 1].standing) {
+        if !is_free(&records[end - 1]) {
             return end;
         }
         end -= 1;
@@ -273,19 +254,13 @@ impl<L: Local> Flat<L> {
     {
         let at = number as usize;
         let first = self.records[at].first;
-        let count = size_of_fork(self.records[at].standing);
+        let count = fork_size(self.records[at].status);
         let label = least_label(self.records.as_slice(), first as usize, count as usize);
         let outcome = take_back(&mut self.states, at, first as usize, count as usize, label);
         free_children(&mut self.records, first as usize, count as usize);
         self.free.give_back(first, count);
-        let standing = standing_after(outcome, label);
-        close_record(
-            self.states.as_slice(),
-            &mut self.records,
-            at,
-            standing,
-            label,
-        );
+        let status = status_after(outcome, label);
+        close_record(self.states.as_slice(), &mut self.records, at, status, label);
         let end = used_end(self.records.as_slice());
         self.records.truncate(end);
         self.states.truncate(end);

@@ -3,11 +3,12 @@ ghost use Rattle.std.specs.Prelude.{◌≡◌, [], ◌++◌, OnOk};
 ghost use Rattle.shim_laws_meetings.specs.Sharers.{ListsSharers};
 ghost use Rattle.shim_laws_meetings.specs.Descents.{numbers_from};
 ghost use Rattle.shim_flat.specs.Descent.{inside, ahead_of, children_by, IsSharer, LeadsOn};
+ghost use Rattle.shim_flat.specs.Reading.{AreInUse};
 
 use crate::flat::Flat;
 use shim_base::{Chan, NoMemory};
 use shim_local::Local;
-use shim_records::Standing;
+use shim_records::Status;
 use std::alloc::Global;
 use std::marker::Model;
 
@@ -22,7 +23,7 @@ pub(crate) struct Block {
 /// first. `Flat::sharers` fills it, and it keeps the room that it has.
 #[derive(Drop)]
 pub struct Sharers {
-    pub(crate) numbers: Vec<usize>,
+    pub(crate) numbers: Vec<u32>,
     ahead: Vec<Block>,
 }
 
@@ -44,16 +45,23 @@ impl Sharers {
             ahead: Vec::new(alloc),
         }
     }
+
+    /// Lends them.
+    pub fn numbers(&self) -> &[u32]
+        ensures { result.now ≡ self.now }
+    {
+        self.numbers.as_slice()
+    }
 }
 
 // How many children it has of which this came; none where the record is free.
-fn children_of(standing: Standing) -> Option<u32>
-    ensures { result ≡ children_by standing }
+fn children_of(status: Status) -> Option<u32>
+    ensures { result ≡ children_by status }
 {
-    match standing {
-        Standing::Free => None,
-        Standing::Forked(count) => Some(count),
-        Standing::Live | Standing::Ended | Standing::Dead(_) => Some(0),
+    match status {
+        Status::Free => None,
+        Status::Forked(count) => Some(count),
+        Status::Live | Status::Ended | Status::Dead(_) => Some(0),
     }
 }
 
@@ -71,7 +79,8 @@ impl<L: Local> Flat<L> {
     /// Finds the processes at and below this one that share the channel, whatever came of them. The process
     /// itself has to share it.
     pub fn sharers(&self, number: u32, c: &Chan, sharers: &mut Sharers) -> Result<(), NoMemory>
-        ensures { OnOk result (ListsSharers L.ops self.now c.now.channel number sharers.new) }
+        ensures lists { OnOk result (ListsSharers L.ops self.now c.now.channel number sharers.new) }
+        ensures used { OnOk result (AreInUse self.now sharers.new) }
     {
         sharers.numbers.clear();
         sharers.ahead.clear();
@@ -91,7 +100,7 @@ impl<L: Local> Flat<L> {
         &self,
         block: Block,
         c: &Chan,
-        numbers: &mut Vec<usize>,
+        numbers: &mut Vec<u32>,
         ahead: &mut Vec<Block>,
     ) -> Result<(), NoMemory>
         ensures { OnOk result (LeadsOn L.ops self.now c.now.channel (inside block ++ ahead_of ahead.old.items) numbers.old.items (ahead_of ahead.new.items) numbers.new.items) }
@@ -107,7 +116,8 @@ impl<L: Local> Flat<L> {
         match self.sharer(at, c) {
             None => {}
             Some(children) => {
-                numbers.push(at)?;
+                let number = u32::try_from(at).map_err(|_| NoMemory)?;
+                numbers.push(number)?;
                 put_ahead(ahead, children.first, children.count)?;
             }
         }
@@ -125,7 +135,7 @@ impl<L: Local> Flat<L> {
             return None;
         }
         let record = &self.records[at];
-        let count = match children_of(record.standing) {
+        let count = match children_of(record.status) {
             None => return None,
             Some(count) => count as usize,
         };

@@ -3,7 +3,7 @@ ghost use Rattle.std.specs.Prelude.{◌≡◌, ◌≢◌, ℕ, true, false, Some
 ghost use Rattle.shim_laws_records.specs.Seen.{lives};
 ghost use Rattle.shim_laws_records.specs.Counts.{all_there};
 ghost use Rattle.shim_records.specs.Pairs.{tally, AreOrdered};
-ghost use Rattle.shim_records.specs.declared.record.Standing.TheVariants.{Forked};
+ghost use Rattle.shim_records.specs.declared.record.Status.TheVariants.{Forked};
 ghost use Rattle.shim_laws_keeping.specs.Flats.{FlatView, HasProcess};
 ghost use Rattle.shim_flat.specs.Due.{DueIs};
 
@@ -11,7 +11,7 @@ use crate::flat::Flat;
 use crate::looking::doomed;
 use shim_base::{Chan, Trap};
 use shim_local::{Local, Stop};
-use shim_records::{Pair, Record, Standing, has_all};
+use shim_records::{Pair, Record, Status, has_all};
 
 /// What can happen at a process, other than a quiet step.
 #[derive(Clone, Copy, Debug, PartialEq, Eq)]
@@ -88,7 +88,7 @@ fn due_below<L: Local>(
     count: u32,
 ) -> Due
     requires { AreOrdered records.now }
-    ensures { (i : ℕ) → slice_get states.now i ≡ Some process.now → slice_get records.now i ≡ Some fork.now → fork.now.standing ≡ Forked count → DueIs L.ops (record { states = states.now; records = records.now }) i result }
+    ensures { (i : ℕ) → slice_get states.now i ≡ Some process.now → slice_get records.now i ≡ Some fork.now → fork.now.status ≡ Forked count → DueIs L.ops (record { states = states.now; records = records.now }) i result }
 {
     if fork.going == 0 {
         return Due::Close;
@@ -118,10 +118,10 @@ impl<L: Local> Flat<L> {
         if at >= self.records.len() {
             return Due::Nothing;
         }
-        match self.records[at].standing {
-            Standing::Free | Standing::Ended | Standing::Dead(_) => Due::Nothing,
-            Standing::Live => due_alone(&self.states[at]),
-            Standing::Forked(count) => due_below(
+        match self.records[at].status {
+            Status::Free | Status::Ended | Status::Dead(_) => Due::Nothing,
+            Status::Live => due_alone(&self.states[at]),
+            Status::Forked(count) => due_below(
                 self.states.as_slice(),
                 self.records.as_slice(),
                 &self.states[at],

@@ -5,9 +5,9 @@ ghost use Rattle.shim_semantics.specs.Sound.{SharesItsOwn};
 ghost use Rattle.shim_laws_keeping.specs.Flats.{Keeps, IsOfRoot};
 
 use crate::free_blocks::FreeBlocks;
-use shim_base::{NoMemory, Shared};
+use shim_base::NoMemory;
 use shim_local::Local;
-use shim_records::{Record, Standing};
+use shim_records::{Record, Status};
 use std::alloc::Global;
 use std::marker::Model;
 
@@ -57,9 +57,9 @@ fn root_record<L: Local>(alloc: Global, root: &L) -> Result<Record, NoMemory>
     ensures sound { L.ops.sound root.now }
     ensures record { IfOk result (λ r. IsOfRoot L.ops root.now r) }
 {
-    let path = Shared::new(alloc, root.path().copy()?)?;
+    let path = root.path().copy()?;
     Ok(Record {
-        standing: Standing::Live,
+        status: Status::Live,
         first: 0,
         parent: None,
         path,

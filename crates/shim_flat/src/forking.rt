@@ -6,14 +6,18 @@ ghost use Rattle.shim_laws_records.specs.Agrees.{free, used};
 ghost use Rattle.shim_laws_records.specs.Counts.{all_there};
 ghost use Rattle.shim_records.specs.Pairs.{tally, reading_of, stands_of, AreOrdered};
 ghost use Rattle.shim_records.specs.Fresh.{channels};
-ghost use Rattle.shim_records.specs.Blocks.{with_one, with_block};
-ghost use Rattle.shim_laws_forks.specs.Forking.{IsOfChild, IsWithin, AreOfChildren, ready_chans, EachClimbed, ForksAt};
-ghost use Rattle.shim_flat.specs.Forking.{ForksHere, ForkedTo, IsBeforeFork, IsFreeBlock};
+ghost use Rattle.shim_records.specs.Blocks.{with_block};
+ghost use Rattle.shim_laws_forks.specs.Forking.{IsOfChild, IsWithin, AreOfChildren, ready_chans, EachUpdatedAbove, ForksAt};
+ghost use Rattle.shim_flat.specs.Forking.{ForksHere, ForkedTo, ForkComesTo, how_many, IsFreeBlock};
+ghost use Rattle.shim_flat.specs.Stepping.{LivesAt};
 
 use crate::flat::Flat;
-use shim_base::{Chan, NoMemory, Shared};
-use shim_local::{Forked, Local, Stop};
-use shim_records::{Pair, Reading, Record, Standing, climb, fork_pairs, has_all, put_block};
+use shim_base::{Chan, NoMemory};
+use shim_local::{Forked, Local};
+use shim_records::{
+    Pair, Record, Status, fork_pairs, has_all, is_free, live_reading, put_block,
+    update_counts_above,
+};
 use std::alloc::Global;
 
 /// What came of a process that was to fork.
@@ -23,52 +27,34 @@ pub enum ForkOutcome {
     Forked(u32, u32),
     /// Its fork trapped, and it lives on.
     Trapped,
-    /// It doesn't live, or stands at something else, and nothing has changed.
-    NoFork,
 }
 
-// A fork that has to be put: the number of the process, how it stands then, and its children.
-struct Fork<L> {
+/// What the fork of a process comes to: the number of the process, how it stands behind the fork, and its
+/// children or a trap.
+#[derive(Drop)]
+pub struct Fork<L> {
+    number: u32,
+    parent: L,
+    came: Forked<L>,
+}
+
+impl<L> Fork<L> {
+    /// How many children the process has behind it.
+    pub fn count(&self) -> usize
+        ensures { result ≡ how_many self.now.came }
+    {
+        match &self.came {
+            Forked::Children(children) => children.len(),
+            Forked::Trapped => 0,
+        }
+    }
+}
+
+// A fork whose children have to be put: the number of the process, how it stands then, and its children.
+struct Parted<L> {
     number: u32,
     parent: L,
     children: Vec<L>,
-}
-
-// Whether the process stands at a fork.
-fn is_at_fork<L: Local>(process: &L) -> bool
-    ensures fork { result ≡ true → L.ops.stop process.now ≡ AtFork }
-    ensures other { result ≡ false → L.ops.stop process.now ≢ AtFork }
-{
-    match process.stop() {
-        Stop::Fork => true,
-        Stop::Quiet
-        | Stop::Next(_)
-        | Stop::Put
-        | Stop::Finish
-        | Stop::Throw(_)
-        | Stop::Trapped(_, _) => false,
-    }
-}
-
-// Whether the process with this record lives.
-fn is_live(process: &Record) -> bool
-    ensures live { result ≡ true → stands_of process.now ≡ used process.now.first lives }
-    ensures other { result ≡ false → (f : ℕ) → stands_of process.now ≢ used f lives }
-{
-    match process.standing {
-        Standing::Live => true,
-        Standing::Free | Standing::Forked(_) | Standing::Ended | Standing::Dead(_) => false,
-    }
-}
-
-// Whether the record is free.
-fn is_free(place: &Record) -> bool
-    ensures { result ≡ true → stands_of place.now ≡ free }
-{
-    match place.standing {
-        Standing::Free => true,
-        Standing::Live | Standing::Forked(_) | Standing::Ended | Standing::Dead(_) => false,
-    }
 }
 
 // Whether the child's path isn't too long, nor the list of the channels that it was given.
@@ -91,9 +77,9 @@ fn child_record<L: Local>(alloc: Global, parent: u32, child: &L) -> Result<Recor
     if !is_within(child) {
         return Err(NoMemory);
     }
-    let path = Shared::new(alloc, child.path().copy()?)?;
+    let path = child.path().copy()?;
     Ok(Record {
-        standing: Standing::Live,
+        status: Status::Live,
         first: 0,
         parent: Some(parent),
         path,
@@ -138,29 +124,18 @@ fn ready(alloc: Global, pairs: &[Pair]) -> Result<Vec<Chan>, NoMemory>
     Ok(chans)
 }
 
-// What a fork reads of a process that shares a channel and lives or has forked.
-fn joining(readiness: bool) -> Reading
-    ensures { reading_of result ≡ record { joining = true; readiness = readiness; failing = false } }
-{
-    Reading {
-        joining: true,
-        readiness,
-        failing: false,
-    }
-}
-
 // Goes the way up from the record for each of these channels, of a process that wasn't ready on it and is.
-fn climb_ready(records: &mut Vec<Record>, at: usize, chans: &[Chan])
+fn update_ready(records: &mut Vec<Record>, at: usize, chans: &[Chan])
     requires { AreOrdered records.old.items }
-    ensures { EachClimbed 4294967295 at (channels chans.now) records.old.items records.new.items }
+    ensures { EachUpdatedAbove 4294967295 at (channels chans.now) records.old.items records.new.items }
 {
     for i in 0..chans.len() {
-        climb(
+        update_counts_above(
             records,
             at,
             &chans[i],
-            joining(false),
-            joining(true),
+            live_reading(false),
+            live_reading(true),
             u32::MAX,
         );
     }
@@ -213,38 +188,10 @@ fn note_fork(parent: &mut Record, first: u32, count: u32, pairs: Vec<Pair>)
     ensures going { parent.new.going ≡ count }
     ensures pairs { parent.new.pairs.items ≡ pairs.items }
 {
-    parent.standing = Standing::Forked(count);
+    parent.status = Status::Forked(count);
     parent.first = first;
     parent.going = count;
     parent.pairs = pairs;
-}
-
-// Puts one state in place of another, or behind all others.
-fn put_state<L: Local>(states: &mut Vec<L>, at: usize, state: L)
-    requires within { at ≤ vec_len states.old }
-    requires room { at < vec_capacity states.old }
-    ensures items { states.new.items ≡ with_one at state states.old.items }
-    ensures len { at < vec_len states.new }
-    ensures capacity { vec_capacity states.new ≡ vec_capacity states.old }
-{
-    if at < states.len() {
-        states[at] = state;
-    } else {
-        states.push_reserved(state);
-    }
-}
-
-// Puts the states of children from a number on, in place of others or behind all others.
-fn put_states<L: Local>(states: &mut Vec<L>, first: usize, children: Vec<L>)
-    requires within { first ≤ vec_len states.old }
-    requires room { first + vec_len children ≤ vec_capacity states.old }
-    ensures { states.new.items ≡ with_block first children.items states.old.items }
-{
-    let mut at = first;
-    for child in children {
-        put_state(states, at, child);
-        at += 1;
-    }
 }
 
 // Puts the fork's children from the hint's number on, if the records there are free, or behind all others,
@@ -253,7 +200,7 @@ fn put_fork<L: Local>(
     alloc: Global,
     states: &mut Vec<L>,
     records: &mut Vec<Record>,
-    fork: Fork<L>,
+    fork: Parted<L>,
     hint: Option<u32>,
 ) -> Result<u32, NoMemory>
     requires inside { fork.number < vec_len records.old }
@@ -263,7 +210,7 @@ fn put_fork<L: Local>(
     ensures fits { IfOk result (λ first. first + length fork.children.items ≤ 4294967295) }
     ensures err { OnErr result ((states.new.items ≡ states.old.items) × (records.new.items ≡ records.old.items)) }
 {
-    let Fork {
+    let Parted {
         number,
         parent,
         children,
@@ -279,29 +226,46 @@ fn put_fork<L: Local>(
     records.reserve(end.saturating_sub(records.len()))?;
     // from here on nothing wants memory
     states[at] = parent;
-    put_states(states, first as usize, children);
+    put_block(states, first as usize, children);
     note_fork(&mut records[at], first, count, pairs);
     put_block(records, first as usize, born);
-    climb_ready(records, at, chans.as_slice());
+    update_ready(records, at, chans.as_slice());
     Ok(first)
 }
 
 impl<L: Local> Flat<L> {
-    /// The process with this number forks in place, if it lives and stands at a fork. Want of memory changes
-    /// nothing.
-    pub fn fork_here(&mut self, alloc: Global, number: u32) -> Result<ForkOutcome, NoMemory>
-        ensures ok { IfOk result (λ outcome. ForksHere L.ops number self.old self.new outcome) }
+    /// What the fork comes to of the process with this number, which lives and stands at one. Nothing changes
+    /// before it is put.
+    pub fn fork_of(&self, number: u32) -> Result<Fork<L>, NoMemory>
+        requires { LivesAt L.ops self.now number AtFork }
+        ensures number { IfOk result (λ fork. fork.number ≡ number) }
+        ensures comes { IfOk result (λ fork. ForkComesTo L.ops self.now number fork.parent fork.came) }
+    {
+        // a copy, since a fork can't be taken back
+        let mut parent = self.states[number as usize].copy()?;
+        let came = parent.fork()?;
+        Ok(Fork {
+            number,
+            parent,
+            came,
+        })
+    }
+
+    /// The process forks so, in place. Want of memory changes nothing.
+    pub fn put_fork(&mut self, alloc: Global, fork: Fork<L>) -> Result<ForkOutcome, NoMemory>
+        requires { ForkComesTo L.ops self.old fork.number fork.parent fork.came }
+        ensures ok { IfOk result (λ outcome. ForksHere L.ops fork.number self.old self.new outcome) }
+        ensures few { length self.new.records ≤ length self.old.records + how_many fork.came }
         ensures err { OnErr result (self.new ≡ self.old) }
     {
-        let at = number as usize;
-        if !self.is_before_fork(at) {
-            return Ok(ForkOutcome::NoFork);
-        }
-        // a copy, since a fork can't be taken back
-        let mut parent = self.states[at].copy()?;
-        match parent.fork()? {
+        let Fork {
+            number,
+            parent,
+            came,
+        } = fork;
+        match came {
             Forked::Trapped => {
-                self.states[at] = parent;
+                self.states[number as usize] = parent;
                 Ok(ForkOutcome::Trapped)
             }
             Forked::Children(children) => self.fork_into(
@@ -311,22 +275,6 @@ impl<L: Local> Flat<L> {
                 children.into_vec(),
             ),
         }
-    }
-
-    // Whether the process with this number lives and stands at a fork.
-    fn is_before_fork(&self, at: usize) -> bool
-        ensures { IsBeforeFork L.ops at self.now result }
-    {
-        if at >= self.states.len() {
-            return false;
-        }
-        if at >= self.records.len() {
-            return false;
-        }
-        if !is_live(&self.records[at]) {
-            return false;
-        }
-        is_at_fork(&self.states[at])
     }
 
     // The process with this number has forked so.
@@ -339,12 +287,13 @@ impl<L: Local> Flat<L> {
     ) -> Result<ForkOutcome, NoMemory>
         requires { ForkedTo L.ops number parent children.items self.old }
         ensures ok { IfOk result (λ outcome. ForksHere L.ops number self.old self.new outcome) }
+        ensures few { length self.new.records ≤ length self.old.records + length children.items }
         ensures err { OnErr result (self.new ≡ self.old) }
     {
         let count = u32::try_from(children.len()).map_err(|_| NoMemory)?;
         self.free.make_room(alloc, count)?;
         let hint = self.free.hint(count);
-        let fork = Fork {
+        let fork = Parted {
             number,
             parent,
             children,

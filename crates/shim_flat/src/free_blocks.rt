@@ -10,7 +10,7 @@ pub(crate) struct FreeBlocks {
 }
 
 // The blocks of one count of records: how many were put behind all others, and where those begin that were
-// given back. There is room for all of them, so giving one back takes no memory.
+// given back. Room is asked for where a block is made, so giving one back takes no memory.
 #[derive(Drop)]
 struct Blocks {
     made: usize,

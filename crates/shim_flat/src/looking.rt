@@ -7,7 +7,7 @@ ghost use Rattle.shim_flat.specs.Due.{ready_at, ReadyAmong, DoomedAmong};
 
 use shim_base::Chan;
 use shim_local::Local;
-use shim_records::{Pair, Record, Standing, has_all, place_in, stands_at};
+use shim_records::{Pair, Record, Status, has_all, place_in, stands_at};
 
 // Whether all are there by the counts that a fork has for the channel.
 fn counts_all(fork: &Record, c: &Chan) -> bool
@@ -31,10 +31,10 @@ fn is_ready<L: Local>(states: &[L], records: &[Record], at: usize, c: &Chan) -> 
     if at >= records.len() {
         return false;
     }
-    match records[at].standing {
-        Standing::Free | Standing::Ended | Standing::Dead(_) => false,
-        Standing::Live => stands_at(&states[at], c),
-        Standing::Forked(_) => counts_all(&records[at], c),
+    match records[at].status {
+        Status::Free | Status::Ended | Status::Dead(_) => false,
+        Status::Live => stands_at(&states[at], c),
+        Status::Forked(_) => counts_all(&records[at], c),
     }
 }
 

@@ -8,13 +8,13 @@ ghost use Rattle.shim_laws_meetings.specs.Meetings.{IsEnabled, Declares, HasValu
 ghost use Rattle.shim_laws_meetings.specs.Values.{IsValueAmong};
 ghost use Rattle.shim_flat.specs.Meeting.{WaitsAt};
 ghost use Rattle.shim_flat.specs.Touching.{TouchesEach};
+ghost use Rattle.shim_flat.specs.Changing.{ChangesEach};
 
-use crate::arriving::live_reading;
 use crate::descent::Sharers;
 use crate::flat::Flat;
 use shim_base::Chan;
 use shim_local::{Local, Stop};
-use shim_records::{Record, climb, stands_at};
+use shim_records::{Record, live_reading, stands_at, update_counts_above};
 
 // Brings the counts above up to date for the channel at which the process stands, if that is another one.
 fn come_to<L: Local>(process: &L, c: &Chan, records: &mut Vec<Record>, at: usize)
@@ -26,7 +26,7 @@ fn come_to<L: Local>(process: &L, c: &Chan, records: &mut Vec<Record>, at: usize
             if *c == *chan {
                 return;
             }
-            climb(
+            update_counts_above(
                 records,
                 at,
                 chan,
@@ -49,7 +49,7 @@ fn move_on<L: Local>(process: &L, c: &Chan, records: &mut Vec<Record>, at: usize
     requires { AreOrdered records.old.items }
     ensures { MovesOn L.ops process.now c.now.channel 4294967295 at records.old.items records.new.items }
 {
-    climb(
+    update_counts_above(
         records,
         at,
         c,
@@ -61,20 +61,30 @@ fn move_on<L: Local>(process: &L, c: &Chan, records: &mut Vec<Record>, at: usize
 }
 
 impl<L: Local> Flat<L> {
+    /// The value that the channel has when it meets, whose home has this number: that of its source. It takes
+    /// no memory.
+    pub fn value_met(&self, number: u32, c: &Chan, sharers: &Sharers) -> i64
+        requires home { Declares L.ops self.now number c.now.channel }
+        requires enabled { IsEnabled L.ops (Meet c.now.channel) self.now }
+        requires sharers { ListsSharers L.ops self.now c.now.channel number sharers.now }
+        ensures { HasValue L.ops self.now c.now.channel result }
+    {
+        self.value_among(sharers, c)
+    }
+
     /// The channel meets, whose home has this number: all that live and share it stand at it, and receive the
-    /// value of its source, which is the answer. It takes no memory.
-    pub fn meet_here(&mut self, number: u32, c: &Chan, sharers: &Sharers) -> i64
+    /// value of its source. It takes no memory.
+    pub fn meet_here(&mut self, number: u32, c: &Chan, sharers: &Sharers, value: i64)
         requires home { Declares L.ops self.old number c.now.channel }
         requires enabled { IsEnabled L.ops (Meet c.now.channel) self.old }
         requires sharers { ListsSharers L.ops self.old c.now.channel number sharers.now }
+        requires value { HasValue L.ops self.old c.now.channel value }
         ensures moves { MovesBy L.ops (Meet c.now.channel) self.old self.new }
-        ensures received { AllReceived L.ops c.now.channel result self.old self.new }
-        ensures value { HasValue L.ops self.old c.now.channel result }
+        ensures received { AllReceived L.ops c.now.channel value self.old self.new }
         ensures touches { TouchesEach sharers.now self.old self.new }
+        ensures changes { ChangesEach L.ops sharers.now self.old self.new }
     {
-        let value = self.value_among(sharers, c);
         self.receive_all(sharers, c, value);
-        value
     }
 
     // The value of the one among these that carries the channel.
@@ -82,7 +92,7 @@ impl<L: Local> Flat<L> {
         ensures { IsValueAmong L.ops self.now c.now.channel sharers.now result }
     {
         for place in 0..sharers.numbers.len() {
-            let at = sharers.numbers[place];
+            let at = sharers.numbers[place] as usize;
             if at < self.states.len() {
                 let process = &self.states[at];
                 if process.carries(c) {
@@ -98,7 +108,7 @@ impl<L: Local> Flat<L> {
         ensures { ReceiveAll L.ops c.now.channel v sharers.now self.old self.new }
     {
         for place in 0..sharers.numbers.len() {
-            self.receive_at(sharers.numbers[place], c, v);
+            self.receive_at(sharers.numbers[place] as usize, c, v);
         }
     }
 

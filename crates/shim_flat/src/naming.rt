@@ -44,7 +44,7 @@ impl<L: Local> Flat<L> {
         ensures { IsName L.ops self.now c.now.channel sharers.now result }
     {
         for place in 0..sharers.numbers.len() {
-            match self.name_by(sharers.numbers[place], c) {
+            match self.name_by(sharers.numbers[place] as usize, c) {
                 None => {}
                 Some(name) => return name,
             }

@@ -1,14 +1,15 @@
 // A poison, one process after the other.
 ghost use Rattle.shim_laws_meetings.specs.Sharers.{ListsSharers};
-ghost use Rattle.shim_laws_meetings.specs.Poisons.{FallsOne, AllFall, AllDied};
-ghost use Rattle.shim_flat.specs.Poisoning.{IsFelledBy, CanPoison, PoisonsHere};
+ghost use Rattle.shim_laws_meetings.specs.Poisons.{DiesOne, AllDie, AllDied};
+ghost use Rattle.shim_flat.specs.Poisoning.{IsKilledBy, CanPoison, PoisonsHere};
 ghost use Rattle.shim_flat.specs.Touching.{TouchesEach};
+ghost use Rattle.shim_flat.specs.Changing.{IsChanged};
 
 use crate::descent::Sharers;
 use crate::flat::Flat;
 use shim_base::Chan;
 use shim_local::Local;
-use shim_records::{Standing, kill_all, leave, sink_all};
+use shim_records::{Status, kill_all, leave, lower_all_labels};
 
 impl<L: Local> Flat<L> {
     /// The child with this number is poisoned on the channel: all that live there or below and share it die of
@@ -19,36 +20,37 @@ impl<L: Local> Flat<L> {
         ensures died { AllDied L.ops c.now.channel label number self.old self.new }
         ensures moves { PoisonsHere L.ops c.now.channel number self.old self.new }
         ensures touches { TouchesEach sharers.now self.old self.new }
+        ensures changes { IsChanged L.ops sharers.now self.old self.new }
     {
-        self.fall_all(sharers, label);
+        self.kill_each(sharers, label);
     }
 
     // Each of these that lives dies of an exception with this label, if it has no handler for it.
-    fn fall_all(&mut self, sharers: &Sharers, label: u32)
-        ensures { AllFall L.ops label sharers.now self.old self.new }
+    fn kill_each(&mut self, sharers: &Sharers, label: u32)
+        ensures { AllDie L.ops label sharers.now self.old self.new }
     {
         for place in 0..sharers.numbers.len() {
-            self.fall_at(sharers.numbers[place], label);
+            self.kill_at(sharers.numbers[place] as usize, label);
         }
     }
 
     // The process with this number dies of an exception with this label, if it lives and has no handler for it.
-    fn fall_at(&mut self, at: usize, label: u32)
-        ensures { FallsOne L.ops label at self.old self.new }
+    fn kill_at(&mut self, at: usize, label: u32)
+        ensures { DiesOne L.ops label at self.old self.new }
     {
-        if !self.is_felled_by(at, label) {
+        if !self.is_killed_by(at, label) {
             return;
         }
-        self.records[at].standing = Standing::Dead(label);
+        self.records[at].status = Status::Dead(label);
         let process = &self.states[at];
         kill_all(process, &mut self.records, at, u32::MAX);
-        sink_all(process, &mut self.records, at, label, u32::MAX);
+        lower_all_labels(process, &mut self.records, at, label, u32::MAX);
         leave(&mut self.records, at);
     }
 
     // Whether the process with this number lives and has no handler for the label.
-    fn is_felled_by(&self, at: usize, label: u32) -> bool
-        ensures { IsFelledBy L.ops label at self.now result }
+    fn is_killed_by(&self, at: usize, label: u32) -> bool
+        ensures { IsKilledBy L.ops label at self.now result }
     {
         if !self.lives(at) {
             return false;

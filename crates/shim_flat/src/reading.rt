@@ -1,13 +1,14 @@
 // Readers of one process, by its number. None takes memory.
 ghost use Rattle.std.specs.Prelude.{◌≡◌, ℕ, Some, slice_get, length};
-ghost use Rattle.shim_records.specs.Pairs.{up_in};
 ghost use Rattle.shim_records.specs.declared.pair.Pair.{Pair as PairOf};
-ghost use Rattle.shim_flat.specs.Reading.{IsInUse, HasPair, HasPairAt, ParentIs};
+ghost use Rattle.shim_laws_records.specs.Seen.{forks};
+ghost use Rattle.shim_laws_keeping.specs.Flats.{HasProcess};
+ghost use Rattle.shim_flat.specs.Reading.{IsInUse, HasForkedAt, ChildrenAre, HasPair, HasPairAt, ParentIs};
 
 use crate::flat::Flat;
-use shim_base::{Chan, Path, Shared};
+use shim_base::{Chan, Path};
 use shim_local::Local;
-use shim_records::Record;
+use shim_records::{Record, fork_size};
 
 /// The number of the record's parent, if there is a record with that number.
 pub(crate) fn parent_in(records: &[Record], number: u32) -> Option<u32>
@@ -46,19 +47,20 @@ impl<L: Local> Flat<L> {
     }
 
     /// Lends the path of the process with this number, which has to be in use.
-    pub fn path(&self, number: u32) -> &Shared<Path>
+    pub fn path(&self, number: u32) -> &Path
         requires { IsInUse self.now number }
         ensures { (l : L) → slice_get self.now.states number ≡ Some l → result.now ≡ L.ops.path l }
     {
         &self.records[number as usize].path
     }
 
-    /// The number of the process whose fork made the one with this number; none at the root.
-    pub fn parent(&self, number: u32) -> Option<u32>
-        ensures is { ParentIs self.now.records number result }
-        ensures used { IsInUse self.now number → result ≡ up_in self.now.records number }
+    /// The number of the first child, and how many there are, of the process with this number, which has forked.
+    pub fn children(&self, number: u32) -> (u32, u32)
+        requires { HasForkedAt self.now number }
+        ensures { (first n : ℕ) (l : L) → HasProcess self.now number first l (forks n) → ChildrenAre result first n }
     {
-        parent_in(self.records.as_slice(), number)
+        let fork = &self.records[number as usize];
+        (fork.first, fork_size(fork.status))
     }
 
     /// Lends the channel of the pair in this place, of the fork of the process with this number.

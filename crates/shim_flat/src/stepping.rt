@@ -1,13 +1,13 @@
 // Quiet steps in place.
-ghost use Rattle.std.specs.Prelude.{◌≡◌, ◌≢◌, ◌≤◌, ◌<◌, true, false};
+ghost use Rattle.std.specs.Prelude.{◌≡◌, ◌≢◌, ◌≤◌, ◌<◌, ℕ, true, false};
 ghost use Rattle.shim_local.specs.Process.{AtQuiet};
-ghost use Rattle.shim_flat.specs.Stepping.{StepsHere, is_live, IsLive, IsBeforeQuiet, StopsAt};
+ghost use Rattle.shim_flat.specs.Stepping.{StepsHere, QuietlyReaches, is_live, IsLive, IsBeforeQuiet};
 ghost use Rattle.shim_flat.specs.Touching.{TouchesAbove};
 
 use crate::arriving::arrive;
 use crate::flat::Flat;
 use shim_local::{Local, Quiet, Stop};
-use shim_records::Standing;
+use shim_records::Status;
 
 // Whether the process has a quiet step to do.
 fn is_quiet<L: Local>(process: &L) -> bool
@@ -26,12 +26,12 @@ fn is_quiet<L: Local>(process: &L) -> bool
 }
 
 // Whether it lives of which this came.
-fn lives_on(standing: Standing) -> bool
-    ensures { result ≡ is_live standing }
+fn lives_on(status: Status) -> bool
+    ensures { result ≡ is_live status }
 {
-    match standing {
-        Standing::Live => true,
-        Standing::Free | Standing::Forked(_) | Standing::Ended | Standing::Dead(_) => false,
+    match status {
+        Status::Live => true,
+        Status::Free | Status::Forked(_) | Status::Ended | Status::Dead(_) => false,
     }
 }
 
@@ -56,15 +56,16 @@ impl<L: Local> Flat<L> {
         quiet
     }
 
-    /// At what the process with this number stands, if it lives.
-    pub fn stop(&self, number: u32) -> Option<Stop<'_>>
-        ensures { StopsAt L.ops number self.now result }
+    /// The process with this number, which lives and stands before a quiet step, did so many of them
+    /// elsewhere as lead to this state. It takes no memory.
+    pub fn advance_here(&mut self, number: u32, last: L)
+        requires comes { (taken : ℕ) × QuietlyReaches L.ops self.old number taken last }
+        ensures steps { (taken : ℕ) → QuietlyReaches L.ops self.old number taken last → StepsHere L.ops number taken self.old self.new }
+        ensures touches { TouchesAbove number self.old self.new }
     {
         let at = number as usize;
-        if !self.lives(at) {
-            return None;
-        }
-        Some(self.states[at].stop())
+        self.states[at] = last;
+        arrive(&self.states[at], &mut self.records, at);
     }
 
     /// Whether the process with this number lives and has a quiet step to do. It takes no memory.
@@ -88,6 +89,6 @@ impl<L: Local> Flat<L> {
         if at >= self.records.len() {
             return false;
         }
-        lives_on(self.records[at].standing)
+        lives_on(self.records[at].status)
     }
 }

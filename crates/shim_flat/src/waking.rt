@@ -1,6 +1,5 @@
 // Numbers of records at which something may have become possible.
-ghost use Rattle.std.specs.Prelude.{◌≤◌, length};
-ghost use Rattle.shim_flat.specs.Reading.{IsInUse};
+ghost use Rattle.shim_flat.specs.Reading.{IsInUse, IsForAll};
 ghost use Rattle.shim_flat.specs.Touching.{ListsAbove};
 
 use crate::flat::Flat;
@@ -12,13 +11,13 @@ impl<L: Local> Flat<L> {
     /// Lists the number of a process in use, and those of all forks above it. It takes no memory.
     pub fn above(&self, number: u32, list: &mut Worklist)
         requires used { IsInUse self.now number }
-        requires room { length self.now.records ≤ length list.old }
+        requires room { IsForAll self.now list.old }
         ensures { ListsAbove self.now number list.old list.new }
     {
         let records = self.records.as_slice();
         list.add(number);
         let mut here = number;
-        for gone in 0..u32::MAX {
+        for walked in 0..u32::MAX {
             match parent_in(records, here) {
                 None => return,
                 Some(fork) => {

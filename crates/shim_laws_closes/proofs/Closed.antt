@@ -16,13 +16,13 @@ use Rattle.shim_semantics.proofs.Leading.{route_rest}
 use Rattle.shim_semantics.proofs.Replaced.{sound_at}
 use Rattle.shim_semantics.proofs.SoundEvents.{here_keeps}
 use Rattle.shim_laws_records.specs.Seen.{Sort, forks, sort, is_leaf, place, how_many_nodes}
-use Rattle.shim_laws_records.specs.Agrees.{Standing as Stands, Has, Shows}
+use Rattle.shim_laws_records.specs.Agrees.{RecordView, Has, Shows}
 use Rattle.shim_laws_records.specs.Places.{IsReplaced, HasActed}
 use Rattle.shim_laws_records.specs.Changes.{HasClosed, block, prevailing_among}
 use Rattle.shim_laws_records.specs.Counts.{going_of}
 use Rattle.shim_laws_records.specs.Tallied.{OnTheWay, HaveCounts}
-use Rattle.shim_laws_records.specs.Climbing.{AreLinked, AreAtMost}
-use Rattle.shim_laws_records.specs.Sinking.{LabelsOnTheWay}
+use Rattle.shim_laws_records.specs.Updating.{AreLinked, AreAtMost}
+use Rattle.shim_laws_records.specs.LoweredLabels.{LabelsOnTheWay}
 use Rattle.shim_laws_records.proofs.Begun.{counts_begin}
 use Rattle.shim_laws_records.proofs.CanHappen.{enabled_by_records}
 use Rattle.shim_laws_records.proofs.Children.{children_are_shown}
@@ -109,7 +109,7 @@ pub record Behind {S : Type 0} (o : Ops S) (rp : Path) (t : Tree S) (states : Li
 module _ {S : Type 0} (o : Ops S) (law : LocalLaws o) (rp : Path) (t : Tree S) (states : List S) (rs : List Record) (i g n : ℕ) (l : S) (q : Record) (a : Acted S)
     (kept : Keeps o rp (record { states = states; records = rs }) t.root) (has : Has states (map stands_of rs) i g l (forks n)) (at_q : slice_get rs i ≡ Some q) (none : q.going ≡ 0)
     (is : a ≡ closed o l (block g n states) (prevailing_among (block g n (map stands_of rs)))) where
-  abbrev stood : List Stands
+  abbrev stood : List RecordView
   stood = map stands_of rs
 
   abbrev states' : List S
@@ -188,7 +188,7 @@ module _ {S : Type 0} (o : Ops S) (law : LocalLaws o) (rp : Path) (t : Tree S) (
     abbrev now : List Record
     now = slice_set freed i r
 
-    abbrev stands : List Stands
+    abbrev stands : List RecordView
     stands = map stands_of now
 
     closes : HasClosed states states' stood stands i g n (state a.node) (sort a.node)

@@ -12,19 +12,19 @@ use Rattle.shim_semantics.specs.Acts.{Acted, closed}
 use Rattle.shim_semantics.specs.Places.{at}
 use Rattle.shim_semantics.specs.Trees.{Tree}
 use Rattle.shim_laws_records.specs.Seen.{Sort, lives, forks, ends, dies, sort, place}
-use Rattle.shim_laws_records.specs.Agrees.{Standing as Stands, Has, Shows}
+use Rattle.shim_laws_records.specs.Agrees.{RecordView, Has, Shows}
 use Rattle.shim_laws_records.specs.Places.{IsReplaced}
 use Rattle.shim_laws_records.specs.Changes.{block, prevailing_among}
 use Rattle.shim_laws_records.specs.Counts.{Reading as Read, going_of}
 use Rattle.shim_laws_records.specs.Tallied.{Tallied, HaveCounts}
-use Rattle.shim_laws_records.specs.Climbing.{AreLinked, AreAtMost}
+use Rattle.shim_laws_records.specs.Updating.{AreLinked, AreAtMost}
 use Rattle.shim_laws_records.specs.Dooms.{least}
-use Rattle.shim_laws_records.specs.Sinking.{Labelled, LabelsOnTheWay}
+use Rattle.shim_laws_records.specs.LoweredLabels.{Labelled, LabelsOnTheWay}
 use Rattle.shim_laws_records.proofs.SameTrees.{no_fork}
 use Rattle.shim_laws_records.proofs.Suffices.{given_suffice}
 use Rattle.shim_laws_records.specs.Sufficing.{read_leaf}
-use Rattle.shim_records.specs.Acted.{acting, AllGone}
-use Rattle.shim_records.specs.AllWays.{AllClimbed, none_left, one_more}
+use Rattle.shim_records.specs.Acted.{acting, AllUpdated}
+use Rattle.shim_records.specs.AllWays.{AllUpdatedAbove, none_left, one_more}
 use Rattle.shim_records.specs.Pairs.{stands_of, up_in, counts_in, leasts_in, rest_of, Rest}
 use Rattle.shim_records.specs.Leaving.{HasLeft}
 use Rattle.shim_records.specs.declared.record.Record.{Record}
@@ -41,8 +41,8 @@ use Rattle.shim_laws_closes.proofs.Closed.{Begins, begins_too, Behind, behind as
 use Rattle.shim_laws_closes.proofs.Goings.{still_go}
 use Rattle.shim_laws_closes.proofs.Labels.{on_other_counts, as_before, at_first, brings_right, others, rest_recounted, counts_recounted}
 
--- labels stay where ways were gone
-same_labels : {was is : Channel → Read} {n x : ℕ} {cs : List Channel} {before behind : List Record} (c : Channel) → AllClimbed was is n x cs before behind → leasts_in c behind ≡ leasts_in c before
+-- labels stay where ways were walked
+same_labels : {was is : Channel → Read} {n x : ℕ} {cs : List Channel} {before behind : List Record} (c : Channel) → AllUpdatedAbove was is n x cs before behind → leasts_in c behind ≡ leasts_in c before
 same_labels c (none_left rs) = refl
 same_labels c (one_more d cs read reads before between behind once u v way more) = same_labels c more ∙ (λ t i. way.1.labels c i t)
 
@@ -52,10 +52,10 @@ rest_if o states s n x between behind None e = ap (map rest_of) e
 rest_if o states s n x between behind (Some d) e = rest_recounted o states n x e.recounted
 
 -- what came of processes stands as where the close began
-pub stands_stay : {S : Type 0} (o : Ops S) (states : List S) (s : S) (k : Sort) (n x : ℕ) (now left between behind : List Record) (d : Option Death) → LeavesIf k x now left → AllGone o s k n x left between → RecountedIf d o states s n x between behind
+pub stands_stay : {S : Type 0} (o : Ops S) (states : List S) (s : S) (k : Sort) (n x : ℕ) (now left between behind : List Record) (d : Option Death) → LeavesIf k x now left → AllUpdated o s k n x left between → RecountedIf d o states s n x between behind
     → map stands_of behind ≡ map stands_of now
-stands_stay o states s k n x now left between behind d leaves gone again =
-    same_stands left behind (rest_if o states s n x between behind d again ∙ rest_same (acting o s) (λ c. read_leaf o c s k) n x gone.climbed) ∙ said_stands now left (leaves_said k x now left leaves)
+stands_stay o states s k n x now left between behind d leaves walked again =
+    same_stands left behind (rest_if o states s n x between behind d again ∙ rest_same (acting o s) (λ c. read_leaf o c s k) n x walked.updated) ∙ said_stands now left (leaves_said k x now left leaves)
 
 -- whether a process of this sort goes on
 abbrev goes_on : Sort → Bool
@@ -78,7 +78,7 @@ one_less x y z e f = omega (arith, e, f)
 
 module _ {S : Type 0} (o : Ops S) (law : LocalLaws o) (rp : Path) (t : Tree S) (states : List S) (rs now left between behind : List Record) (i g n : ℕ) (l : S) (a : Acted S)
     (kept : Keeps o rp (record { states = states; records = rs }) t.root) (has : Has states (map stands_of rs) i g l (forks n)) (is : a ≡ closed o l (block g n states) (prevailing_among (block g n (map stands_of rs))))
-    (b : Behind o rp t states rs i g n l a now) (leaves : LeavesIf (sort a.node) i now left) (gone : AllGone o (state a.node) (sort a.node) 4294967295 i left between)
+    (b : Behind o rp t states rs i g n l a now) (leaves : LeavesIf (sort a.node) i now left) (walked : AllUpdated o (state a.node) (sort a.node) 4294967295 i left between)
     (again : RecountedIf (prevailing_among (block g n (map stands_of rs))) o (slice_set states i (state a.node)) (state a.node) 4294967295 i between behind) where
   abbrev s : S
   s = state a.node
@@ -112,9 +112,9 @@ module _ {S : Type 0} (o : Ops S) (law : LocalLaws o) (rp : Path) (t : Tree S) (
   -- ---- where the counts were brought up to date
 
   brought : (map rest_of between ≡ map rest_of left) × ((c : Channel) → Tallied o rp states' (map stands_of between) c (counts_in c between) new × HaveCounts o rp states' (map stands_of between) c (counts_in c between) new)
-  brought = acted_brings o law rp states' left between t.root new m a 4294967295 i begun.first s k kept.shows.sound begun.shown begun.linked begun.few begun.has b.replaced b.acts b.leaf b.near begun.there begun.counts gone
+  brought = acted_brings o law rp states' left between t.root new m a 4294967295 i begun.first s k kept.shows.sound begun.shown begun.linked begun.few begun.has b.replaced b.acts b.leaf b.near begun.there begun.counts walked
 
-  abbrev stands : List Stands
+  abbrev stands : List RecordView
   stands = map stands_of between
 
   st : map stands_of left ≡ stands
@@ -131,7 +131,7 @@ module _ {S : Type 0} (o : Ops S) (law : LocalLaws o) (rp : Path) (t : Tree S) (
 
   labels_on_way : (c : Channel) → LabelsOnTheWay o rp states' stands c (counts_in c between) (leasts_in c between) t.root new q
   labels_on_way c =
-      subst (λ z. LabelsOnTheWay o rp states' stands c (counts_in c between) z t.root new q) (sym (same_labels c gone.climbed))
+      subst (λ z. LabelsOnTheWay o rp states' stands c (counts_in c between) z t.root new q) (sym (same_labels c walked.updated))
       (on_other_counts o rp states' stands c (counts_in c left) (counts_in c between) (leasts_in c left) t.root new q shown (subst (λ z. HaveCounts o rp states' z c (counts_in c left) new) st (begun.there c)) (brought.1 c).1
       (subst (λ z. LabelsOnTheWay o rp states' z c (counts_in c left) (leasts_in c left) t.root new q) st (begun.labels c)))
 
@@ -241,6 +241,6 @@ module _ {S : Type 0} (o : Ops S) (law : LocalLaws o) (rp : Path) (t : Tree S) (
 
 -- The fork can close, and the tree behind is shown.
 pub closes_keep : {S : Type 0} (o : Ops S) → LocalLaws o → ClosesKeep o
-closes_keep o law rp t states rs freed left between behind i g n l q r a kept has at_q none is free come leaves gone again =
+closes_keep o law rp t states rs freed left between behind i g n l q r a kept has at_q none is free come leaves walked again =
     let b = behind_close o law rp t states rs i g n l q a kept has at_q none is freed r free come in
-    (b.tree, b.enabled, keeps o law rp t states rs (slice_set freed i r) left between behind i g n l a kept has is b leaves gone again)
+    (b.tree, b.enabled, keeps o law rp t states rs (slice_set freed i r) left between behind i g n l a kept has is b leaves walked again)

@@ -6,7 +6,7 @@ use Rattle.shim_base.proofs.Facts.{none_some}
 use Rattle.shim_local.specs.Process.{Ops}
 use Rattle.shim_semantics.specs.Nodes.{Node}
 use Rattle.shim_laws_records.specs.Seen.{Sort}
-use Rattle.shim_laws_records.specs.Agrees.{Standing as Stands, free, used, Has}
+use Rattle.shim_laws_records.specs.Agrees.{RecordView, free, used, Has}
 use Rattle.shim_laws_records.specs.Changes.{HasClosed}
 use Rattle.shim_records.specs.Pairs.{stands_of, up_at, counts_at, least_at}
 use Rattle.shim_records.specs.declared.record.Record.{Record}
@@ -54,10 +54,10 @@ not_free : {B : Type 0} (f : ℕ) (k : Sort) → free ≡ used f k → B
 not_free f k e = absurd cc
 
 module _ {S : Type 0} (states : List S) (rs : List Record) (m : ℕ) (unused : (i : ℕ) (r : Record) → m ≤ i → slice_get rs i ≡ Some r → stands_of r ≡ free) where
-  abbrev stood : List Stands
+  abbrev stood : List RecordView
   stood = map stands_of rs
 
-  abbrev stands : List Stands
+  abbrev stands : List RecordView
   stands = map stands_of (take m rs)
 
   -- a record in use stands before the cut
@@ -84,7 +84,7 @@ module _ {S : Type 0} (states : List S) (rs : List Record) (m : ℕ) (unused : (
   still i f s k h = taken rs m i (before i f s k h)
 
   -- what came of a closed fork stands as before
-  pub closed_cut : (first : List S) (given : List Stands) (i g n : ℕ) (s : S) (k : Sort) → HasClosed first states given stood i g n s k → HasClosed first (take m states) given stands i g n s k
+  pub closed_cut : (first : List S) (given : List RecordView) (i g n : ℕ) (s : S) (k : Sort) → HasClosed first states given stood i g n s k → HasClosed first (take m states) given stands i g n s k
   closed_cut first given i g n s k h = record {
     first = h.first;
     parent = has_now i h.first s k h.parent;

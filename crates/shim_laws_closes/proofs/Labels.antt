@@ -11,18 +11,18 @@ use Rattle.shim_semantics.specs.Nodes.{Node, Nodes, Live, Forked, Ended, Dead, D
 use Rattle.shim_semantics.specs.Places.{at}
 use Rattle.shim_semantics.proofs.HowMany.{clash}
 use Rattle.shim_laws_records.specs.Seen.{Sort, forks, is_leaf, place}
-use Rattle.shim_laws_records.specs.Agrees.{Standing as Stands, Has, Shows}
+use Rattle.shim_laws_records.specs.Agrees.{RecordView, Has, Shows}
 use Rattle.shim_laws_records.specs.Places.{IsReplaced}
 use Rattle.shim_laws_records.specs.Counts.{Tally}
 use Rattle.shim_laws_records.specs.Tallied.{HaveCounts, is_above}
-use Rattle.shim_laws_records.specs.Climbing.{AreLinked}
+use Rattle.shim_laws_records.specs.Updating.{AreLinked}
 use Rattle.shim_laws_records.specs.Dooms.{least, least_among}
-use Rattle.shim_laws_records.specs.Sinking.{Labelled, LabelsOnTheWay}
+use Rattle.shim_laws_records.specs.LoweredLabels.{Labelled, LabelsOnTheWay}
 use Rattle.shim_laws_records.specs.Recounting.{Recounted, NoneUncounted}
 use Rattle.shim_laws_records.proofs.Leasts.{leasts_follow}
 use Rattle.shim_laws_records.proofs.Recounts.{labels_recount}
 use Rattle.shim_laws_records.proofs.SameTrees.{seen_fork}
-use Rattle.shim_records.specs.Fresh.{Among}
+use Rattle.shim_records.specs.Members.{IsAmong}
 use Rattle.shim_records.specs.Labels.{OnlyLabels}
 use Rattle.shim_records.specs.Pairs.{stands_of, up_in, counts_at, counts_in, least_at, leasts_in, rest_of, pair_of, label_of, tally}
 use Rattle.shim_records.specs.Recounting.{IsRecounted}
@@ -34,7 +34,7 @@ use Rattle.shim_laws_keeping.proofs.Forks.{carried}
 use Rattle.shim_laws_closes.specs.Closing.{AllRecounted, none_left, one_more}
 
 -- another channel than the first is among those behind it
-among_rest : (c d : Channel) (cs : List Channel) → same_channel d c ≡ false → Among c (d ∷ cs) → Among c cs
+among_rest : (c d : Channel) (cs : List Channel) → same_channel d c ≡ false → IsAmong c (d ∷ cs) → IsAmong c cs
 among_rest c d cs far (zero, e) = absurd (clash (same_channel d c) (ap (λ z. same_channel z c) (some_same d c e) ∙ same_channel_refl c) far)
 among_rest c d cs far (suc i, e) = (i, e)
 
@@ -48,7 +48,7 @@ unlabelled c (Some r) e = on (pair_of c r.pairs.items) e
     on (Some p) e = none_some (tally p) (sym e)
 
 -- counts just where the others are: the same labels are on the way
-pub on_other_counts : {S : Type 0} (o : Ops S) (rp : Path) (states : List S) (stands : List Stands) (c : Channel) (counts others : ℕ → Option Tally) (labels : ℕ → Option ℕ) (old new : Node S) (q : List ℕ) → Shows o rp states stands new
+pub on_other_counts : {S : Type 0} (o : Ops S) (rp : Path) (states : List S) (stands : List RecordView) (c : Channel) (counts others : ℕ → Option Tally) (labels : ℕ → Option ℕ) (old new : Node S) (q : List ℕ) → Shows o rp states stands new
     → HaveCounts o rp states stands c counts new → HaveCounts o rp states stands c others new → LabelsOnTheWay o rp states stands c counts labels old new q → LabelsOnTheWay o rp states stands c others labels old new q
 on_other_counts o rp states stands c counts others labels old new q shown have too way i f n s l ks h counted there =
     let w = seen_fork (at (place o rp s) new) s n (shown.agrees.shown i f s (forks n) h) in
@@ -67,7 +67,7 @@ none_dead o c (node_and (Forked l js) ks) e p = absurd cc
 none_dead o c (node_and (Ended l) ks) e p = none_dead o c ks e p
 none_dead o c (node_and (Dead l d) ks) e p = absurd (no_death d (prevailing_death ks) p)
 
-pub as_before : {S : Type 0} (o : Ops S) (rp : Path) (states : List S) (stands : List Stands) (c : Channel) (counts : ℕ → Option Tally) (labels : ℕ → Option ℕ) (old new a : Node S) (q : List ℕ) (l : S) (ks : Nodes S) → IsReplaced q (Forked l ks) a old new → is_leaf a ≡ true
+pub as_before : {S : Type 0} (o : Ops S) (rp : Path) (states : List S) (stands : List RecordView) (c : Channel) (counts : ℕ → Option Tally) (labels : ℕ → Option ℕ) (old new a : Node S) (q : List ℕ) (l : S) (ks : Nodes S) → IsReplaced q (Forked l ks) a old new → is_leaf a ≡ true
     → all_done ks ≡ true → prevailing_death ks ≡ None → least o c a ≡ None → LabelsOnTheWay o rp states stands c counts labels old new q → Labelled o rp states stands c counts labels new
 as_before o rp states stands c counts labels old new a q l ks rep leaf done none nothing way j d n t u us fork counted there = on (is_above (place o rp t) q) refl
   where
@@ -85,21 +85,21 @@ as_before o rp states stands c counts labels old new a q l ks rep leaf done none
 module _ {S : Type 0} (o : Ops S) (law : LocalLaws o) (rp : Path) (states : List S) (base : List Record) (old new m a : Node S) (n x f : ℕ) (s : S) (k : Sort) (shown : Shows o rp states (map stands_of base) new)
     (linked : AreLinked states (map stands_of base) (up_in base)) (has : Has states (map stands_of base) x f s k) (rep : IsReplaced (place o rp s) m a old new)
     (have : (c : Channel) → HaveCounts o rp states (map stands_of base) c (counts_in c base) new) (near : length (place o rp s) ≤ n) where
-  abbrev stands : List Stands
+  abbrev stands : List RecordView
   stands = map stands_of base
 
   -- beside labels records say what they did at first
   pub record AsAtFirst (now : List Record) : Type 0 where
-    pub standings : map stands_of now ≡ stands
+    pub statuses : map stands_of now ≡ stands
     pub ups : up_in now ≡ up_in base
     pub counts : (c : Channel) → counts_in c now ≡ counts_in c base
 
   pub at_first : AsAtFirst base
-  at_first = record { standings = refl; ups = refl; counts = λ c. refl }
+  at_first = record { statuses = refl; ups = refl; counts = λ c. refl }
 
   still : (c : Channel) (before behind : List Record) → OnlyLabels c before behind → AsAtFirst before → AsAtFirst behind
   still c before behind h y = record {
-    standings = same_stands before behind h.rest ∙ y.standings;
+    statuses = same_stands before behind h.rest ∙ y.statuses;
     ups = rest_ups before behind h.rest ∙ y.ups;
     counts = λ d. (λ t i. h.counts d i t) ∙ y.counts d;
   }
@@ -112,7 +112,7 @@ module _ {S : Type 0} (o : Ops S) (law : LocalLaws o) (rp : Path) (states : List
 
   its_way : (c : Channel) (before behind : List Record) → AsAtFirst before → IsRecounted o c states n x before behind → Recounted o c states stands (up_in base) (counts_in c base) n (leasts_in c before) x (leasts_in c behind)
   its_way c before behind y h =
-      subst (λ z. Recounted o c states z (up_in base) (counts_in c base) n (leasts_in c before) x (leasts_in c behind)) y.standings
+      subst (λ z. Recounted o c states z (up_in base) (counts_in c base) n (leasts_in c before) x (leasts_in c behind)) y.statuses
       (subst (λ z. Recounted o c states (map stands_of before) z (counts_in c base) n (leasts_in c before) x (leasts_in c behind)) y.ups
       (subst (λ z. Recounted o c states (map stands_of before) (up_in before) z n (leasts_in c before) x (leasts_in c behind)) (y.counts c) h.0))
 
@@ -137,7 +137,7 @@ module _ {S : Type 0} (o : Ops S) (law : LocalLaws o) (rp : Path) (states : List
   elsewhere : (c d : Channel) (before behind : List Record) → OnlyLabels d before behind → same_channel d c ≡ false → leasts_in c behind ≡ leasts_in c before
   elsewhere c d before behind h far = λ t i. h.elsewhere c far i t
 
-  keeps_right : {cs : List Channel} {before behind : List Record} (c : Channel) → AllRecounted o states n x cs before behind → ((d : Channel) → Among d cs → o.shares s d ≡ true) → AsAtFirst before → Right c before → Right c behind
+  keeps_right : {cs : List Channel} {before behind : List Record} (c : Channel) → AllRecounted o states n x cs before behind → ((d : Channel) → IsAmong d cs → o.shares s d ≡ true) → AsAtFirst before → Right c before → Right c behind
   keeps_right c (none_left rs) share y right = right
   keeps_right c (one_more d cs before between behind h more) share y right =
       keeps_right c more (λ e g. share e (suc g.0, g.1)) (still d before between h.1 y) (on (same_channel d c) refl)
@@ -148,11 +148,11 @@ module _ {S : Type 0} (o : Ops S) (law : LocalLaws o) (rp : Path) (states : List
           again c before between (share c (0, ap Some same)) y (subst (λ z. IsRecounted o z states n x before between) same h) right
       on false e = subst (λ z. Labelled o rp states stands c (counts_in c base) z new) (sym (elsewhere c d before between h.1 e)) right
 
-  pub brings_right : {cs : List Channel} {before behind : List Record} (c : Channel) → AllRecounted o states n x cs before behind → ((d : Channel) → Among d cs → o.shares s d ≡ true) → Among c cs → AsAtFirst before → OnWay c before → Right c behind
+  pub brings_right : {cs : List Channel} {before behind : List Record} (c : Channel) → AllRecounted o states n x cs before behind → ((d : Channel) → IsAmong d cs → o.shares s d ≡ true) → IsAmong c cs → AsAtFirst before → OnWay c before → Right c behind
   brings_right c (none_left rs) share g y way = none_some c g.1
   brings_right c (one_more d cs before between behind h more) share g y way = on (same_channel d c) refl (λ g way. brings_right c more (λ e g. share e (suc g.0, g.1)) g (still d before between h.1 y) way)
     where
-      on : (b : Bool) → same_channel d c ≡ b → (Among c cs → OnWay c between → Right c behind) → Right c behind
+      on : (b : Bool) → same_channel d c ≡ b → (IsAmong c cs → OnWay c between → Right c behind) → Right c behind
       on true e later =
           let same = same_channel_is d c e in
           keeps_right c more (λ e g. share e (suc g.0, g.1)) (still d before between h.1 y)
@@ -161,7 +161,7 @@ module _ {S : Type 0} (o : Ops S) (law : LocalLaws o) (rp : Path) (states : List
 
 module _ {S : Type 0} (o : Ops S) (states : List S) (n x : ℕ) where
   -- no labels of other channels have changed
-  pub others : {cs : List Channel} {before behind : List Record} (c : Channel) → AllRecounted o states n x cs before behind → (Among c cs → ⊥) → leasts_in c behind ≡ leasts_in c before
+  pub others : {cs : List Channel} {before behind : List Record} (c : Channel) → AllRecounted o states n x cs before behind → (IsAmong c cs → ⊥) → leasts_in c behind ≡ leasts_in c before
   others c (none_left rs) out = refl
   others c (one_more d cs before between behind h more) out = others c more (λ g. out (suc g.0, g.1)) ∙ (λ t i. h.1.elsewhere c (on (same_channel d c) refl) i t)
     where

@@ -4,7 +4,7 @@ use Rattle.std.specs.Prelude.{slice_get}
 use Rattle.std.specs.Option.{option_map}
 use Rattle.shim_base.specs.Paths.{Path, Channel}
 use Rattle.shim_base.proofs.Facts.{some_same, none_some}
-use Rattle.shim_laws_records.specs.Agrees.{Standing as Stands}
+use Rattle.shim_laws_records.specs.Agrees.{RecordView}
 use Rattle.shim_laws_records.specs.Counts.{Tally}
 use Rattle.shim_laws_records.specs.Seen.{Sort, lives, forks, ends, dies}
 use Rattle.shim_laws_closes.specs.Closing.{LeavesIf}
@@ -33,7 +33,7 @@ was_item f before behind h i r e = from_map f (slice_get before i) (f r) (sym (s
 
 -- what a record says but for how many children go on
 pub record Said : Type 0 where
-  pub stands : Stands
+  pub stands : RecordView
   pub parent : Option ℕ
   pub path : Path
   pub pairs : List Pair
@@ -112,7 +112,7 @@ module _ (before behind : List Record) (h : map said behind ≡ map said before)
 pub left_said : (x : ℕ) (before behind : List Record) → HasLeft x before behind → map said behind ≡ map said before
 left_said x before behind (alone e same) = ap (map said) same
 left_said x before behind (lost j up e same) = ap (map said) same
-left_said x before behind (below j r up e same) = ap (map said) same ∙ map_set said before j r (record { standing = r.standing; first = r.first; parent = r.parent; path = r.path; going = r.going - 1; pairs = r.pairs }) e refl
+left_said x before behind (below j r up e same) = ap (map said) same ∙ map_set said before j r (record { status = r.status; first = r.first; parent = r.parent; path = r.path; going = r.going - 1; pairs = r.pairs }) e refl
 
 pub leaves_said : (k : Sort) (x : ℕ) (before behind : List Record) → LeavesIf k x before behind → map said behind ≡ map said before
 leaves_said lives x before behind e = ap (map said) e
@@ -126,7 +126,7 @@ going_elsewhere x before behind (alone e same) j far = ap (λ z. slice_get z j) 
 going_elsewhere x before behind (lost h up e same) j far = ap (λ z. slice_get z j) same
 going_elsewhere x before behind (below h r up e same) j far =
     ap (λ z. slice_get z j) same
-    ∙ set_elsewhere before h j (record { standing = r.standing; first = r.first; parent = r.parent; path = r.path; going = r.going - 1; pairs = r.pairs }) (λ w. far (up ∙ ap Some (sym w)))
+    ∙ set_elsewhere before h j (record { status = r.status; first = r.first; parent = r.parent; path = r.path; going = r.going - 1; pairs = r.pairs }) (λ w. far (up ∙ ap Some (sym w)))
 
 -- and one less of that
 pub going_less : (x : ℕ) (before behind : List Record) → HasLeft x before behind → (j : ℕ) (q r : Record) → up_in before x ≡ Some j → slice_get before j ≡ Some q → slice_get behind j ≡ Some r → r.going ≡ q.going - 1
@@ -134,7 +134,7 @@ going_less x before behind (alone e same) j q r up was is = none_some j (sym e �
 going_less x before behind (lost h above e same) j q r up was is =
     none_some q (sym e ∙ (ap (slice_get before) (some_same h j (sym above ∙ up)) ∙ was))
 going_less x before behind (below h p above e same) j q r up was is =
-    let new : Record = record { standing = p.standing; first = p.first; parent = p.parent; path = p.path; going = p.going - 1; pairs = p.pairs } in
+    let new : Record = record { status = p.status; first = p.first; parent = p.parent; path = p.path; going = p.going - 1; pairs = p.pairs } in
     let w : h ≡ j = some_same h j (sym above ∙ up) in
     let now : slice_get behind h ≡ Some new = ap (λ z. slice_get z h) same ∙ set_there before h p new e in
     let is_new : new ≡ r = some_same new r (sym now ∙ (ap (slice_get behind) w ∙ is)) in

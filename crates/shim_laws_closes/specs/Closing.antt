@@ -6,8 +6,8 @@ use Rattle.shim_local.specs.Laws.{IsGiven}
 use Rattle.shim_semantics.specs.Nodes.{Death}
 use Rattle.shim_laws_records.specs.Seen.{Sort, lives, forks, ends, dies}
 use Rattle.shim_laws_records.specs.Agrees.{used}
+use Rattle.shim_records.specs.Members.{IsAmong}
 use Rattle.shim_records.specs.Blocks.{IsFreed}
-use Rattle.shim_records.specs.Fresh.{Among}
 use Rattle.shim_records.specs.Leaving.{HasLeft}
 use Rattle.shim_records.specs.Pairs.{stands_of}
 use Rattle.shim_records.specs.Recounting.{IsRecounted}
@@ -22,6 +22,7 @@ pub record Beside : Type 0 where
   pub going : ℕ
   pub pairs : List Pair
 
+-- what this record says beside that
 abbrev pub beside_of : Record → Beside
 beside_of r = record { first = r.first; parent = r.parent; path = r.path; going = r.going; pairs = r.pairs.items }
 
@@ -54,8 +55,8 @@ pub data AllRecounted {S : Type 0} (o : Ops S) (states : List S) (n x : ℕ) : L
 pub record GivenRecounted {S : Type 0} (o : Ops S) (states : List S) (s : S) (n x : ℕ) (before behind : List Record) : Type 0 where
   pub chans : List Channel
   pub recounted : AllRecounted o states n x chans before behind
-  pub all : (c : Channel) → IsGiven o s c → o.shares s c ≡ true → Among c chans
-  pub shared : (c : Channel) → Among c chans → o.shares s c ≡ true
+  pub all : (c : Channel) → IsGiven o s c → o.shares s c ≡ true → IsAmong c chans
+  pub shared : (c : Channel) → IsAmong c chans → o.shares s c ≡ true
 
 -- where a child of it died
 abbrev pub RecountedIf : {S : Type 0} → Option Death → Ops S → List S → S → ℕ → ℕ → List Record → List Record → Type 0

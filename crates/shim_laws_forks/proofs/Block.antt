@@ -10,7 +10,7 @@ use Rattle.shim_semantics.specs.Nodes.{Live, Forked, all_live}
 use Rattle.shim_semantics.specs.Acts.{nothing, act_live, parted}
 use Rattle.shim_semantics.specs.Trees.{Tree, Own, after}
 use Rattle.shim_laws_records.specs.Seen.{Sort, lives, place}
-use Rattle.shim_laws_records.specs.Agrees.{Standing, Shows}
+use Rattle.shim_laws_records.specs.Agrees.{RecordView, Shows}
 use Rattle.shim_laws_records.specs.Places.{IsReplaced}
 use Rattle.shim_laws_records.specs.Changes.{HasForked}
 use Rattle.shim_laws_records.proofs.Forking.{there_is}
@@ -27,17 +27,17 @@ use Rattle.shim_laws_forks.proofs.OwnSteps.{is_sound, own_replaced}
 
 module _ {S : Type 0} (o : Ops S) (law : LocalLaws o) (rp : Path) (t : Tree S) (before behind : FlatView S) (x g f : ℕ) (l p : S) (ks : List S)
     (kept : Keeps o rp before t.root) (has : HasProcess before x f l lives) (forked : ForksAt o x g p ks before behind) where
-  abbrev pub stood : List Standing
+  abbrev pub stood : List RecordView
   stood = map stands_of before.records
 
-  -- the states behind, and the records before the ways up were gone
+  -- the states behind, and the records before the ways up were walked
   abbrev pub states : List S
   states = with_block g ks (slice_set before.states x p)
 
   abbrev pub records : List Record
   records = with_block g forked.born (slice_set before.records x forked.is)
 
-  abbrev pub stands : List Standing
+  abbrev pub stands : List RecordView
   stands = map stands_of records
 
   fits : g ≤ length (slice_set before.records x forked.is)

@@ -1,4 +1,4 @@
--- Where a process has forked, and the ways up were gone for the channels on which it is ready, what records keep for each channel is right.
+-- Where a process has forked, and the ways up were walked for the channels on which it is ready, what records keep for each channel is right.
 use Rattle.std.proofs.Common.{◌≡◌, ◌≢◌, ◌⊎◌, ◌↔◌, ◌≤◌, ◌+◌, inl, inr, ℕ, suc, Bool, true, false, ◌&&◌, not, Option, Some, None, List, [], ◌∷◌, ◌++◌, map, cond, drop, length, refl, sym, ap, subst, ◌∙◌}
 use Rattle.std.specs.Prelude.{slice_get, eqb, if◌then◌else◌}
 use Rattle.std.proofs.lemmas.Bool.{eqb-true, eq-eqb}
@@ -9,15 +9,15 @@ use Rattle.shim_local.specs.Laws.{LocalLaws, AllOf, AnyOf, IsGiven, AreChildren,
 use Rattle.shim_semantics.specs.Nodes.{Node, Live, Forked, all_live, is_next}
 use Rattle.shim_semantics.specs.Places.{at, branches}
 use Rattle.shim_laws_records.specs.Seen.{Sort, lives, forks, place}
-use Rattle.shim_laws_records.specs.Agrees.{Standing, Shows}
+use Rattle.shim_laws_records.specs.Agrees.{RecordView, Shows}
 use Rattle.shim_laws_records.specs.Places.{IsReplaced}
 use Rattle.shim_laws_records.specs.Changes.{HasForked}
 use Rattle.shim_laws_records.specs.Counts.{Tally, Reading as Read, reading, fresh_tally, all_there, is_zero}
 use Rattle.shim_laws_records.specs.Tallied.{Tallied, OnTheWay, HaveCounts, is_above}
-use Rattle.shim_laws_records.specs.Climbing.{AreLinked, AreAtMost, Climbed, too_far, at_top, no_counts, stays, goes_on}
+use Rattle.shim_laws_records.specs.Updating.{AreLinked, AreAtMost, UpdatedAbove, too_far, at_top, no_counts, stays, goes_on}
 use Rattle.shim_laws_records.specs.Beginning.{AreOf}
 use Rattle.shim_laws_records.specs.Dooms.{least_among}
-use Rattle.shim_laws_records.specs.Sinking.{Labelled, LabelsOnTheWay}
+use Rattle.shim_laws_records.specs.LoweredLabels.{Labelled, LabelsOnTheWay}
 use Rattle.shim_laws_records.proofs.SameTrees.{same_or_not}
 use Rattle.shim_laws_records.proofs.Way.{above_its_own}
 use Rattle.shim_laws_records.proofs.Tallies.{counts_tell}
@@ -27,13 +27,14 @@ use Rattle.shim_laws_records.proofs.Brought.{counts_follow}
 use Rattle.shim_laws_records.proofs.Leasts.{leasts_follow}
 use Rattle.shim_laws_records.proofs.Suffices.{below_or_not}
 use Rattle.shim_laws_records.proofs.Hanging.{tied, counts_share, none_above}
+use Rattle.shim_records.specs.Members.{IsAmong}
 use Rattle.shim_records.specs.Pairs.{tally, find, pair_of, label_of, counts_at, counts_in, least_at, leasts_in, up_in, stands_of}
-use Rattle.shim_records.specs.Fresh.{Among, FreshPairs}
+use Rattle.shim_records.specs.Fresh.{FreshPairs}
 use Rattle.shim_records.specs.declared.record.Record.{Record}
 use Rattle.shim_records.proofs.ManyWays.{others, its_way, among_or_not}
 use Rattle.shim_records.proofs.Showing.{pairs_begin}
 use Rattle.shim_laws_keeping.specs.Flats.{FlatView, HasProcess, Keeps}
-use Rattle.shim_laws_forks.specs.Forking.{ready_chans, EachClimbed}
+use Rattle.shim_laws_forks.specs.Forking.{ready_chans, EachUpdatedAbove}
 use Rattle.shim_laws_forks.proofs.Above.{fork_was}
 use Rattle.shim_laws_forks.proofs.Readied.{joining, all_ways, ready_pair, found_pair, ready_once, is_ready}
 
@@ -81,7 +82,7 @@ module _ {S : Type 0} (o : Ops S) (law : LocalLaws o) (rp : Path) (old new : Nod
     (forked : HasForked before.states states (map stands_of before.records) (map stands_of records) x g p ks) (shown : Shows o rp states (map stands_of records) new)
     (rep : IsReplaced (place o rp l) (Live l) (Forked p (all_live ks)) old new) (path : o.path p ≡ o.path l) (given : o.given p ≡ o.given l) (pairs : FreshPairs o p ks is.pairs.items)
     (linked : AreLinked states (map stands_of records) (up_in records)) (few : AreAtMost 4294967295 states (map stands_of records)) (near : length (place o rp p) ≤ 4294967295) (c : Channel) where
-  abbrev stands : List Standing
+  abbrev stands : List RecordView
   stands = map stands_of records
 
   abbrev now : ℕ → Option Tally
@@ -178,7 +179,7 @@ module _ {S : Type 0} (o : Ops S) (law : LocalLaws o) (rp : Path) (old new : Nod
       none_above o rp states stands new shown c x g b.number b.first b.many p b.parent (forks (length ks)) r forked.parent home b.has (ap (is_above (place o rp b.parent)) b.is ∙ above_its_own (place o rp b.parent) b.branch)
       (counts_share o rp states stands new shown c counts have b.number b.first b.many b.parent y b.has (ap counts w.1 ∙ at_j))
 
-  nothing_done : {n : ℕ} {w v : Read} {start end : ℕ → Option Tally} → Climbed (up_in records) 4294967295 n start x w v end → HaveCounts o rp states stands c start new → (r : Path) → c.home ≡ o.path p ++ r → end ≡ start
+  nothing_done : {n : ℕ} {w v : Read} {start end : ℕ → Option Tally} → UpdatedAbove (up_in records) 4294967295 n start x w v end → HaveCounts o rp states stands c start new → (r : Path) → c.home ≡ o.path p ++ r → end ≡ start
   nothing_done (too_far start x w v) have r home = refl
   nothing_done (at_top n start x w v e) have r home = refl
   nothing_done (no_counts n start x j w v e none) have r home = refl
@@ -186,30 +187,30 @@ module _ {S : Type 0} (o : Ops S) (law : LocalLaws o) (rp : Path) (old new : Nod
   nothing_done (goes_on n start between end x j w v y z e step more) have r home = absurd (uncounted start have r home j y e step.old)
 
   -- the channel is one of those on which the fork is ready
-  ready_shares : Among c (ready_chans is.pairs.items) → (o.shares p c ≡ true) × (all_there (fresh_tally o c ks) ≡ true)
+  ready_shares : IsAmong c (ready_chans is.pairs.items) → (o.shares p c ≡ true) × (all_there (fresh_tally o c ks) ≡ true)
   ready_shares h =
       let w = ready_pair c is.pairs.items h in
       let e = found_pair c is.pairs.items w.0 w.1 pairs.ordered w.2 w.3 in
       (((pairs.there c).0 (λ z. none_some (tally w.1) (sym z ∙ e))).0, ap all_there (sym (pairs.right c (tally w.1) e)) ∙ w.4)
 
-  ready_among : ((r : Path) → c.home ≢ o.path p ++ r) → all_there (fresh_tally o c ks) ≡ true → Among c (ready_chans is.pairs.items)
+  ready_among : ((r : Path) → c.home ≢ o.path p ++ r) → all_there (fresh_tally o c ks) ≡ true → IsAmong c (ready_chans is.pairs.items)
   ready_among out e =
       let children = law.fork_children l p ks sound (stop, parts) in
-      let any = some_live (λ s. o.shares s c) ks (is_zero (fresh_tally o c ks).waiting && is_zero (fresh_tally o c ks).dead) e in
+      let any = some_live (λ s. o.shares s c) ks (is_zero (fresh_tally o c ks).not_ready && is_zero (fresh_tally o c ks).dead) e in
       let w = shared_given o l c (o.handlers l) children.0 0 ks children.1 (law.children_share l p ks c sound (stop, parts)) (law.children_given l p ks c sound (stop, parts)) (λ r z. out r (z ∙ ap (λ q. q ++ r) (sym path))) any in
       let z = some_counts (find c is.pairs.items) ((pairs.there c).1 (shares_same ∙ w.0, w.1)) in
       is_ready c is.pairs.items z.0 z.1 (ap all_there (pairs.right c z.0 z.1) ∙ e)
 
-  climbed : (end : ℕ → Option Tally) → Among c (ready_chans is.pairs.items) → Climbed (up_in records) 4294967295 4294967295 now x (joining false c) (joining true c) end → Both end
-  climbed end h gone = let r = ready_shares h in elim (below_or_not (o.path p) c.home) [
-    | inl e ↦ subst Both (sym (nothing_done gone begun.1 e.0 e.1)) (own e.0 e.1)
+  updated : (end : ℕ → Option Tally) → IsAmong c (ready_chans is.pairs.items) → UpdatedAbove (up_in records) 4294967295 4294967295 now x (joining false c) (joining true c) end → Both end
+  updated end h walked = let r = ready_shares h in elim (below_or_not (o.path p) c.home) [
+    | inl e ↦ subst Both (sym (nothing_done walked begun.1 e.0 e.1)) (own e.0 e.1)
     | inr out ↦
-        (counts_follow o law).climbed rp states stands (up_in records) c old new (Live l) (Forked p (all_live ks)) 4294967295 4294967295 x g p (forks (length ks)) (joining false c) (joining true c) now end shown linked few forked.parent there
+        (counts_follow o law).updated rp states stands (up_in records) c old new (Live l) (Forked p (all_live ks)) 4294967295 4294967295 x g p (forks (length ks)) (joining false c) (joining true c) now end shown linked few forked.parent there
         (λ i. let z : Read = record { joining = (sym shares_same ∙ r.0) i; readiness = not_next i; failing = false } in z)
-        (fork_read ∙ λ i. let z : Read = record { joining = r.0 i; readiness = r.1 i; failing = false } in z) near r.0 begun.1 way gone
+        (fork_read ∙ λ i. let z : Read = record { joining = r.0 i; readiness = r.1 i; failing = false } in z) near r.0 begun.1 way walked
   ]
 
-  still : (Among c (ready_chans is.pairs.items) → ⊥) → Both now
+  still : (IsAmong c (ready_chans is.pairs.items) → ⊥) → Both now
   still none = elim (below_or_not (o.path p) c.home) [
     | inl e ↦ own e.0 e.1
     | inr out ↦ ((counts_follow o law).alike rp states stands c old new (Live l) (Forked p (all_live ks)) (place o rp l) now rep (alike out) begun.0, begun.1)
@@ -220,11 +221,11 @@ module _ {S : Type 0} (o : Ops S) (law : LocalLaws o) (rp : Path) (old new : Nod
           let unready : all_there (fresh_tally o c ks) ≡ false = elim (true_or_false (all_there (fresh_tally o c ks))) [ inl e ↦ absurd (none (ready_among out e)) | inr e ↦ e ] in
           (λ i. let z : Read = record { joining = sym shares_same i; readiness = (not_next ∙ sym unready) i; failing = false } in z) ∙ sym fork_read
 
-  -- so where the ways were gone all counts are right
-  pub brought : (behind : List Record) → EachClimbed 4294967295 x (ready_chans is.pairs.items) records behind → Both (counts_in c behind)
-  brought behind gone =
-      let ways = all_ways 4294967295 x (ready_once is.pairs.items pairs.ordered) gone in
+  -- so where the ways were walked all counts are right
+  pub brought : (behind : List Record) → EachUpdatedAbove 4294967295 x (ready_chans is.pairs.items) records behind → Both (counts_in c behind)
+  brought behind walked =
+      let ways = all_ways 4294967295 x (ready_once is.pairs.items pairs.ordered) walked in
       elim (among_or_not c (ready_chans is.pairs.items)) [
-        | inl h ↦ climbed (counts_in c behind) h (its_way (joining false) (joining true) 4294967295 x c ways h).climbed
+        | inl h ↦ updated (counts_in c behind) h (its_way (joining false) (joining true) 4294967295 x c ways h).updated
         | inr out ↦ subst Both (sym (others (joining false) (joining true) 4294967295 x c ways out)) (still out)
       ]

@@ -16,8 +16,8 @@ use Rattle.shim_laws_records.specs.Places.{IsReplaced}
 use Rattle.shim_laws_records.specs.Changes.{HasForked}
 use Rattle.shim_laws_records.specs.Counts.{going_of}
 use Rattle.shim_laws_records.specs.Tallied.{is_above, Tallied, HaveCounts}
-use Rattle.shim_laws_records.specs.Climbing.{AreLinked, AreAtMost}
-use Rattle.shim_laws_records.specs.Sinking.{Labelled}
+use Rattle.shim_laws_records.specs.Updating.{AreLinked, AreAtMost}
+use Rattle.shim_laws_records.specs.LoweredLabels.{Labelled}
 use Rattle.shim_laws_records.proofs.SameTrees.{same_or_not, fork_count, aside_or_further}
 use Rattle.shim_laws_records.proofs.Forking.{there_is}
 use Rattle.shim_laws_records.proofs.Begun.{fork_parts, lives_no_fork, none_there}

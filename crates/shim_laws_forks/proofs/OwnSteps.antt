@@ -11,7 +11,7 @@ use Rattle.shim_semantics.specs.Trees.{Tree, Own, Steps, after, kind_of_stop}
 use Rattle.shim_semantics.proofs.Leading.{route_rest}
 use Rattle.shim_semantics.proofs.Replaced.{sound_at}
 use Rattle.shim_laws_records.specs.Seen.{lives, place}
-use Rattle.shim_laws_records.specs.Agrees.{Standing, Has, Shows}
+use Rattle.shim_laws_records.specs.Agrees.{RecordView, Has, Shows}
 use Rattle.shim_laws_records.specs.Places.{IsReplaced}
 use Rattle.shim_laws_records.proofs.SameTrees.{seen_live}
 use Rattle.shim_laws_records.proofs.EventPlaces.{events_show}
@@ -21,7 +21,7 @@ some_of : {A : Type 0} (x : Option A) → x ≢ None → (y : A) × (x ≡ Some 
 some_of None h = absurd (h refl)
 some_of (Some y) h = (y, refl)
 
-module _ {S : Type 0} (o : Ops S) (law : LocalLaws o) (rp : Path) (states : List S) (stands : List Standing) (t : Tree S) (x f : ℕ) (l : S) (shows : Shows o rp states stands t.root) (has : Has states stands x f l lives) where
+module _ {S : Type 0} (o : Ops S) (law : LocalLaws o) (rp : Path) (states : List S) (stands : List RecordView) (t : Tree S) (x f : ℕ) (l : S) (shows : Shows o rp states stands t.root) (has : Has states stands x f l lives) where
   pub live_there : at (place o rp l) t.root ≡ Some (Live l)
   live_there = seen_live (at (place o rp l) t.root) l (shows.agrees.shown x f l lives has)
 

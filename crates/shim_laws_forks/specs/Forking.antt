@@ -5,9 +5,9 @@ use Rattle.shim_local.specs.Process.{Ops, AtFork, Parted, Trapped}
 use Rattle.shim_semantics.specs.Trees.{Own}
 use Rattle.shim_laws_records.specs.Seen.{Sort, lives, forks}
 use Rattle.shim_laws_records.specs.Agrees.{used}
-use Rattle.shim_laws_records.specs.Counts.{all_there}
+use Rattle.shim_laws_records.specs.Counts.{live_reading, all_there}
 use Rattle.shim_records.specs.Pairs.{tally, reading_of, stands_of}
-use Rattle.shim_records.specs.Ways.{IsClimbed}
+use Rattle.shim_records.specs.Ways.{IsUpdatedAbove}
 use Rattle.shim_records.specs.Fresh.{FreshPairs}
 use Rattle.shim_records.specs.Blocks.{with_block}
 use Rattle.shim_records.specs.declared.pair.Pair.{Pair}
@@ -47,12 +47,12 @@ abbrev pub ready_chans : List Pair → List Channel
 ready_chans [] = []
 ready_chans (p ∷ ps) = cond (all_there (tally p)) (p.chan.channel ∷ ready_chans ps) (ready_chans ps)
 
--- For each of these channels the way up was gone from the record x, of a process that wasn't ready on it and is.
-pub data EachClimbed (n x : ℕ) : List Channel → List Record → List Record → Type 0 where
-  none_left : (rs : List Record) → EachClimbed n x [] rs rs
+-- For each of these channels the way up was walked from the record x, of a process that wasn't ready on it and is.
+pub data EachUpdatedAbove (n x : ℕ) : List Channel → List Record → List Record → Type 0 where
+  none_left : (rs : List Record) → EachUpdatedAbove n x [] rs rs
   one_more : (c : Channel) (cs : List Channel) (was is : Reading) (before between behind : List Record)
-      → reading_of was ≡ record { joining = true; readiness = false; failing = false } → reading_of is ≡ record { joining = true; readiness = true; failing = false }
-      → IsClimbed c n x was is before between → EachClimbed n x cs between behind → EachClimbed n x (c ∷ cs) before behind
+      → reading_of was ≡ live_reading false → reading_of is ≡ live_reading true
+      → IsUpdatedAbove c n x was is before between → EachUpdatedAbove n x cs between behind → EachUpdatedAbove n x (c ∷ cs) before behind
 
 -- The process with the number x forked and stands as p: its children's states and records were put together from the number g on, in place of free ones or behind all others, and the counts above follow.
 pub record ForksAt {S : Type 0} (o : Ops S) (x g : ℕ) (p : S) (ks : List S) (before behind : FlatView S) : Type 0 where
@@ -66,7 +66,7 @@ pub record ForksAt {S : Type 0} (o : Ops S) (x g : ℕ) (p : S) (ks : List S) (b
   pub children : AreOfChildren o x ks born
   pub parent : IsOfFork o g p ks was is
   pub states : behind.states ≡ with_block g ks (slice_set before.states x p)
-  pub records : EachClimbed 4294967295 x (ready_chans is.pairs.items) (with_block g born (slice_set before.records x is)) behind.records
+  pub records : EachUpdatedAbove 4294967295 x (ready_chans is.pairs.items) (with_block g born (slice_set before.records x is)) behind.records
 
 -- so the tree moves by the process's own step
 abbrev pub ForksMove : {S : Type 0} → Ops S → Type 0

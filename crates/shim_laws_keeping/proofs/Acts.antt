@@ -13,7 +13,7 @@ use Rattle.shim_semantics.proofs.Replaced.{sound_at}
 use Rattle.shim_semantics.proofs.ReplacedNodes.{put}
 use Rattle.shim_semantics.proofs.SoundEvents.{here_keeps}
 use Rattle.shim_laws_records.specs.Seen.{lives, sort, is_leaf, place}
-use Rattle.shim_laws_records.specs.Agrees.{Standing, Has, Shows}
+use Rattle.shim_laws_records.specs.Agrees.{RecordView, Has, Shows}
 use Rattle.shim_laws_records.specs.Places.{IsReplaced, IsBy}
 use Rattle.shim_laws_records.specs.Changes.{HasChanged}
 use Rattle.shim_laws_records.proofs.SameTrees.{seen_live, put_replaces}
@@ -22,11 +22,11 @@ use Rattle.shim_laws_records.proofs.Shown.{events_are_shown, one_is_shown}
 use Rattle.shim_laws_records.proofs.CanHappen.{enabled_by_records}
 use Rattle.shim_laws_records.proofs.Foreign.{foreign_stays}
 use Rattle.shim_records.specs.Pairs.{stands_of}
-use Rattle.shim_laws_keeping.specs.Acting.{event_of, LivesOnKeeps}
+use Rattle.shim_laws_keeping.specs.Acting.{event_at_stop, LivesOnKeeps}
 use Rattle.shim_laws_keeping.proofs.Moved.{Stays, moved}
 use Rattle.shim_laws_keeping.proofs.Steps.{some_of, set_changed}
 
-by_event : (s : StopView) (p : Path) → IsBy p (event_of s p)
+by_event : (s : StopView) (p : Path) → IsBy p (event_at_stop s p)
 by_event AtFinish p = refl
 by_event AtQuiet p = refl
 by_event AtPut p = refl
@@ -49,7 +49,7 @@ module _ {S : Type 0} (o : Ops S) (law : LocalLaws o) where
       on (AtThrow label) e = refl
       on (AtTrap kind line) e = refl
 
-  module _ (rp : Path) (states states' : List S) (stood stands : List Standing) (t : Tree S) (x f : ℕ) (l : S) (a : Acted S) (shows : Shows o rp states stood t.root) (has : Has states stood x f l lives) (does : act_live o l (o.stop l) ≡ Some a) (leaf : is_leaf a.node ≡ true)
+  module _ (rp : Path) (states states' : List S) (stood stands : List RecordView) (t : Tree S) (x f : ℕ) (l : S) (a : Acted S) (shows : Shows o rp states stood t.root) (has : Has states stood x f l lives) (does : act_live o l (o.stop l) ≡ Some a) (leaf : is_leaf a.node ≡ true)
       (change : HasChanged states states' stood stands x (state a.node) (sort a.node)) where
     there : at (place o rp l) t.root ≡ Some (Live l)
     there = seen_live (at (place o rp l) t.root) l (shows.agrees.shown x f l lives has)
@@ -57,10 +57,10 @@ module _ {S : Type 0} (o : Ops S) (law : LocalLaws o) where
     pub keeps : follows.Keeps o (Live l) a.node
     keeps = here_keeps o law (Live l) a (sound_at o (place o rp l) t.root (Live l) shows.sound.below there) does
 
-    pub next : (u : Tree S) × (after o (event_of (o.stop l) (o.path l)) t ≡ Some u)
+    pub next : (u : Tree S) × (after o (event_at_stop (o.stop l) (o.path l)) t ≡ Some u)
     next = on (o.stop l) refl does
       where
-        on : (s : StopView) → o.stop l ≡ s → act_live o l s ≡ Some a → (u : Tree S) × (after o (event_of s (o.path l)) t ≡ Some u)
+        on : (s : StopView) → o.stop l ≡ s → act_live o l s ≡ Some a → (u : Tree S) × (after o (event_at_stop s (o.path l)) t ≡ Some u)
         on (AtNext c) e d = none_some a d
         on AtFinish e d = some_of (after o (End (o.path l)) t) (((enabled_by_records o law).ends rp states stood t x f l shows has).1 (ap kind_of_stop e))
         on AtQuiet e d = some_of (after o (Own (o.path l)) t) (((enabled_by_records o law).steps rp states stood t x f l shows has).1 (ap kind_of_stop e))
@@ -70,7 +70,7 @@ module _ {S : Type 0} (o : Ops S) (law : LocalLaws o) where
         on (AtTrap kind line) e d = some_of (after o (Own (o.path l)) t) (((enabled_by_records o law).steps rp states stood t x f l shows has).1 (ap kind_of_stop e))
 
     pub shown : Shows o rp states' stands next.0.root
-    shown = (events_are_shown o law).stepped rp states states' stood stands t next.0 (event_of (o.stop l) (o.path l)) x f l a shows has (by_event (o.stop l) (o.path l)) next.1 does leaf change
+    shown = (events_are_shown o law).stepped rp states states' stood stands t next.0 (event_at_stop (o.stop l) (o.path l)) x f l a shows has (by_event (o.stop l) (o.path l)) next.1 does leaf change
 
     pub replaced : IsReplaced (place o rp l) (Live l) a.node t.root next.0.root
     replaced =

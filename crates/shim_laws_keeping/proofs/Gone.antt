@@ -12,14 +12,14 @@ use Rattle.shim_semantics.specs.Places.{at}
 use Rattle.shim_semantics.proofs.HowMany.{clash}
 use Rattle.shim_semantics.proofs.ReplacedNodes.{put, put_child}
 use Rattle.shim_laws_records.specs.Seen.{Sort, lives, forks, sort, is_leaf, place, IsAside}
-use Rattle.shim_laws_records.specs.Agrees.{Standing as Stands, used, Has, Shows}
+use Rattle.shim_laws_records.specs.Agrees.{RecordView, used, Has, Shows}
 use Rattle.shim_laws_records.specs.Places.{IsReplaced}
 use Rattle.shim_laws_records.specs.Changes.{HasChanged}
 use Rattle.shim_laws_records.specs.Counts.{Reading as Read, going_of, bit}
 use Rattle.shim_laws_records.specs.Tallied.{Tallied, OnTheWay, HaveCounts, is_above}
-use Rattle.shim_laws_records.specs.Climbing.{AreLinked, AreAtMost}
+use Rattle.shim_laws_records.specs.Updating.{AreLinked, AreAtMost}
 use Rattle.shim_laws_records.specs.Dooms.{least, least_among}
-use Rattle.shim_laws_records.specs.Sinking.{Labelled, LabelsOnTheWay, Sunk}
+use Rattle.shim_laws_records.specs.LoweredLabels.{Labelled, LabelsOnTheWay, LoweredAbove}
 use Rattle.shim_laws_records.proofs.Aside.{at_split}
 use Rattle.shim_laws_records.proofs.SameTrees.{same_or_not, no_fork, aside_or_further, is_put}
 use Rattle.shim_laws_records.proofs.OneChange.{one_state, one_sort}
@@ -29,22 +29,22 @@ use Rattle.shim_laws_records.proofs.Linked.{links_follow, going_follow}
 use Rattle.shim_laws_records.proofs.Hanging.{tied, topmost, Below}
 use Rattle.shim_laws_records.proofs.LabelsBegun.{labels_begin}
 use Rattle.shim_laws_records.proofs.Leasts.{leasts_follow}
-use Rattle.shim_laws_records.proofs.Sinks.{labels_sink, not_above_root}
+use Rattle.shim_laws_records.proofs.LabelsLowering.{labels_lowered, not_above_root}
 use Rattle.shim_laws_records.proofs.Suffices.{given_suffice}
 use Rattle.shim_records.specs.Pairs.{stands_of, up_in, up_at, counts_in, counts_at, leasts_in, least_at, rest_of, chans_of, IsOrdered, AreOrdered}
 use Rattle.shim_records.specs.Acted.{sort_of}
-use Rattle.shim_records.specs.AllWays.{AllClimbed, none_left, one_more}
+use Rattle.shim_records.specs.AllWays.{AllUpdatedAbove, none_left, one_more}
 use Rattle.shim_records.specs.Died.{IsTaken}
 use Rattle.shim_records.specs.Leaving.{HasLeft, alone, lost, below}
 use Rattle.shim_records.specs.declared.record.Record.{Record}
-use Rattle.shim_records.specs.declared.record.Standing.{Standing}
-use Rattle.shim_records.specs.declared.record.Standing.TheVariants as code
+use Rattle.shim_records.specs.declared.record.Status.{Status}
+use Rattle.shim_records.specs.declared.record.Status.TheVariants as code
 use Rattle.shim_records.proofs.Stepping.{set_there, set_elsewhere, map_set}
 use Rattle.shim_records.proofs.Showing.{map_get}
 use Rattle.shim_records.proofs.ReadOff.{same_stands}
 use Rattle.shim_records.proofs.WholeWay.{rest_ups}
 use Rattle.shim_records.proofs.ManyWays.{among_or_not}
-use Rattle.shim_records.proofs.AllSinks as sinks
+use Rattle.shim_records.proofs.AllLowered as labels_above
 use Rattle.shim_records.proofs.Acting.{acted_brings}
 use Rattle.shim_laws_keeping.specs.Flats.{IsFit, Keeps}
 use Rattle.shim_laws_keeping.specs.Acting.{left_by, marked, TakesIn, Leaves, LeavesKeep}
@@ -99,11 +99,11 @@ module _ {S : Type 0} (o : Ops S) (q : List ℕ) (m a old new : Node S) (rep : I
           record { children = v.children; there = was; same = stays v.children ks u was there }
 
 -- the ways up change no labels
-climbed_labels : {was is : Channel → Read} {n x : ℕ} {cs : List Channel} {rs behind : List Record} (c : Channel) (i : ℕ) → AllClimbed was is n x cs rs behind → leasts_in c behind i ≡ leasts_in c rs i
-climbed_labels c i (none_left rs) = refl
-climbed_labels c i (one_more d cs read reads before between behind once v u way more) = climbed_labels c i more ∙ way.1.labels c i
+updated_labels : {was is : Channel → Read} {n x : ℕ} {cs : List Channel} {rs behind : List Record} (c : Channel) (i : ℕ) → AllUpdatedAbove was is n x cs rs behind → leasts_in c behind i ≡ leasts_in c rs i
+updated_labels c i (none_left rs) = refl
+updated_labels c i (one_more d cs read reads before between behind once v u way more) = updated_labels c i more ∙ way.1.labels c i
 
-module _ {S : Type 0} (o : Ops S) (law : LocalLaws o) (rp : Path) (states : List S) (rs behind : List Record) (old new : Node S) (l : S) (k : Standing) (effects : Effects) (x f : ℕ)
+module _ {S : Type 0} (o : Ops S) (law : LocalLaws o) (rp : Path) (states : List S) (rs behind : List Record) (old new : Node S) (l : S) (k : Status) (effects : Effects) (x f : ℕ)
     (kept : Keeps o rp (record { states = states; records = rs }) old) (has : Has states (map stands_of rs) x f l lives) (leaves : Leaves o l k 4294967295 x rs behind) (gone : goes (left_by l k) ≡ false)
     (acts : act_live o l (o.stop l) ≡ Some (record { node = left_by l k; effects = effects })) where
   abbrev a : Acted S
@@ -115,10 +115,10 @@ module _ {S : Type 0} (o : Ops S) (law : LocalLaws o) (rp : Path) (states : List
   abbrev ms : List Record
   ms = slice_set rs x (marked k was)
 
-  abbrev st : List Stands
+  abbrev st : List RecordView
   st = map stands_of rs
 
-  abbrev st' : List Stands
+  abbrev st' : List RecordView
   st' = map stands_of ms
 
   -- its record says what came of it
@@ -185,9 +185,9 @@ module _ {S : Type 0} (o : Ops S) (law : LocalLaws o) (rp : Path) (states : List
     with_death c y is taken = elim (among_or_not c taken.chans) [
       | inl g ↦
           let label : Some y ≡ least o c (left_by l k) = sym (is ∙ ap (λ z. cond z (Some y) None) (taken.shared c g)) in
-          labels_sink o law rp states st' (up_in ms) c old new (Live l) (left_by l k) 4294967295 x was.first l (sort_of k) (counts_in c ms) (leasts_in c ms) (leasts_in c leaves.labelled) shown linked mine rep refl (taken.shared c g) (have c) near (labels_way c)
-          (subst (λ z. Sunk (up_in ms) (counts_in c ms) z 4294967295 (leasts_in c ms) x (leasts_in c leaves.labelled)) label (sinks.its_way y 4294967295 x c taken.sunk g).way)
-      | inr out ↦ subst (λ z. Labelled o rp states st' c (counts_in c ms) z new) (sym (sinks.others y 4294967295 x c taken.sunk out))
+          labels_lowered o law rp states st' (up_in ms) c old new (Live l) (left_by l k) 4294967295 x was.first l (sort_of k) (counts_in c ms) (leasts_in c ms) (leasts_in c leaves.labelled) shown linked mine rep refl (taken.shared c g) (have c) near (labels_way c)
+          (subst (λ z. LoweredAbove (up_in ms) (counts_in c ms) z 4294967295 (leasts_in c ms) x (leasts_in c leaves.labelled)) label (labels_above.its_way y 4294967295 x c taken.is_lowered g).way)
+      | inr out ↦ subst (λ z. Labelled o rp states st' c (counts_in c ms) z new) (sym (labels_above.others y 4294967295 x c taken.is_lowered out))
           ((given_suffice o law).labels rp states st' c old new (Live l) a x was.first l (sort_of k) (counts_in c ms) (leasts_in c ms) kept.shows.sound shown mine rep acts (λ given shares. out (taken.all c given shares)) (have c) (labels_way c))
     ]
 
@@ -200,18 +200,18 @@ module _ {S : Type 0} (o : Ops S) (law : LocalLaws o) (rp : Path) (states : List
     taken : HasTaken
     taken = on k refl leaves.takes
       where
-        lives_still : (h : Standing) → h ≡ k → goes (left_by l h) ≡ true → HasTaken
+        lives_still : (h : Status) → h ≡ k → goes (left_by l h) ≡ true → HasTaken
         lives_still h e g = absurd (clash (goes (left_by l h)) g (ap (λ z. goes (left_by l z)) e ∙ gone))
 
-        on : (h : Standing) → h ≡ k → TakesIn o l h 4294967295 x ms leaves.labelled → HasTaken
+        on : (h : Status) → h ≡ k → TakesIn o l h 4294967295 x ms leaves.labelled → HasTaken
         on code.Ended e same = record {
           rest = ap (map rest_of) same;
           counts = λ c. ap (counts_in c) same;
           labels = λ c. subst (λ z. Labelled o rp states st' c (counts_in c ms) (leasts_in c z) new) (sym same) (as_before c (ap (λ z. least o c (left_by l z)) (sym e)));
         }
         on (code.Dead y) e t = record {
-          rest = sinks.rest_same y 4294967295 x t.sunk;
-          counts = λ c i j. sinks.counts_same y 4294967295 x c j t.sunk i;
+          rest = labels_above.rest_same y 4294967295 x t.is_lowered;
+          counts = λ c i j. labels_above.counts_same y 4294967295 x c j t.is_lowered i;
           labels = λ c. with_death c y (ap (λ z. least o c (left_by l z)) (sym e)) t;
         }
         on code.Free e same = lives_still code.Free e refl
@@ -233,7 +233,7 @@ module _ {S : Type 0} (o : Ops S) (law : LocalLaws o) (rp : Path) (states : List
         (subst (λ z. AreLinked states z (up_in leaves.labelled)) (sym stands_labelled) (subst (AreLinked states st') (sym ups_labelled) linked)) (subst (AreAtMost 4294967295 states) (sym stands_labelled) few)
         (subst (λ z. Has states z x was.first l (sort_of k)) (sym stands_labelled) mine) rep acts (left_leaf l k) near
         (λ c. subst (λ z. HaveCounts o rp states z c (counts_in c leaves.labelled) new) (sym stands_labelled) (subst (λ z. HaveCounts o rp states st' c z new) (sym (taken.counts c)) (have c)))
-        (λ c. subst (λ z. OnTheWay o rp states z c (counts_in c leaves.labelled) old new (place o rp l)) (sym stands_labelled) (subst (λ z. OnTheWay o rp states st' c z old new (place o rp l)) (sym (taken.counts c)) (way c))) leaves.climbed
+        (λ c. subst (λ z. OnTheWay o rp states z c (counts_in c leaves.labelled) old new (place o rp l)) (sym stands_labelled) (subst (λ z. OnTheWay o rp states st' c z old new (place o rp l)) (sym (taken.counts c)) (way c))) leaves.updated
 
     stands_counted : map stands_of leaves.counted ≡ st'
     stands_counted = same_stands leaves.labelled leaves.counted brought.0 ∙ stands_labelled
@@ -260,7 +260,7 @@ module _ {S : Type 0} (o : Ops S) (law : LocalLaws o) (rp : Path) (states : List
         (subst (λ z. Tallied o rp states (map stands_of leaves.counted) c z new) (sym (left_counts x leaves.counted behind c leaves.left)) (brought.1 c).0)
 
     labels_end : (c : Channel) (j : ℕ) → leasts_in c behind j ≡ leasts_in c leaves.labelled j
-    labels_end c j = ap (λ z. z j) (left_labels x leaves.counted behind c leaves.left) ∙ climbed_labels c j leaves.climbed.climbed
+    labels_end c j = ap (λ z. z j) (left_labels x leaves.counted behind c leaves.left) ∙ updated_labels c j leaves.updated.updated
 
     labelled_end : (c : Channel) → Labelled o rp states (map stands_of behind) c (counts_in c behind) (leasts_in c behind) new
     labelled_end c j d n t u ks fork counted now =

@@ -11,38 +11,38 @@ use Rattle.shim_laws_records.specs.Sufficing.{read_leaf}
 use Rattle.shim_records.specs.Pairs.{stands_of, rest_of}
 use Rattle.shim_records.specs.Acted.{sort_of, acting}
 use Rattle.shim_records.specs.declared.record.Record.{Record}
-use Rattle.shim_records.specs.declared.record.Standing.{Standing}
-use Rattle.shim_records.specs.declared.record.Standing.TheVariants as code
+use Rattle.shim_records.specs.declared.record.Status.{Status}
+use Rattle.shim_records.specs.declared.record.Status.TheVariants as code
 use Rattle.shim_records.proofs.Stepping.{set_there, set_elsewhere}
 use Rattle.shim_records.proofs.Showing.{map_get}
 use Rattle.shim_records.proofs.ReadOff.{same_stands}
 use Rattle.shim_records.proofs.ManyWays as ways
-use Rattle.shim_records.proofs.AllSinks as sinks
+use Rattle.shim_records.proofs.AllLowered as labels_above
 use Rattle.shim_laws_keeping.specs.Acting.{left_by, marked, TakesIn, Leaves}
 use Rattle.shim_laws_keeping.proofs.OneLess.{left_stands}
 
-pub left_state : {S : Type 0} (l : S) (k : Standing) → state (left_by l k) ≡ l
+pub left_state : {S : Type 0} (l : S) (k : Status) → state (left_by l k) ≡ l
 left_state l code.Free = refl
 left_state l code.Live = refl
 left_state l (code.Forked n) = refl
 left_state l code.Ended = refl
 left_state l (code.Dead y) = refl
 
-pub left_leaf : {S : Type 0} (l : S) (k : Standing) → is_leaf (left_by l k) ≡ true
+pub left_leaf : {S : Type 0} (l : S) (k : Status) → is_leaf (left_by l k) ≡ true
 left_leaf l code.Free = refl
 left_leaf l code.Live = refl
 left_leaf l (code.Forked n) = refl
 left_leaf l code.Ended = refl
 left_leaf l (code.Dead y) = refl
 
-pub left_sort : {S : Type 0} (l : S) (k : Standing) → goes (left_by l k) ≡ false → sort (left_by l k) ≡ sort_of k
+pub left_sort : {S : Type 0} (l : S) (k : Status) → goes (left_by l k) ≡ false → sort (left_by l k) ≡ sort_of k
 left_sort l code.Free e = absurd cc
 left_sort l code.Live e = absurd cc
 left_sort l (code.Forked n) e = absurd cc
 left_sort l code.Ended e = refl
 left_sort l (code.Dead y) e = refl
 
-pub marked_stands : {S : Type 0} (l : S) (k : Standing) → goes (left_by l k) ≡ false → (r : Record) → stands_of (marked k r) ≡ used r.first (sort_of k)
+pub marked_stands : {S : Type 0} (l : S) (k : Status) → goes (left_by l k) ≡ false → (r : Record) → stands_of (marked k r) ≡ used r.first (sort_of k)
 marked_stands l code.Free e r = absurd cc
 marked_stands l code.Live e r = absurd cc
 marked_stands l (code.Forked n) e r = absurd cc
@@ -50,14 +50,14 @@ marked_stands l code.Ended e r = refl
 marked_stands l (code.Dead y) e r = refl
 
 -- the labels are taken in, and the records say all else as before
-pub rest_taken : {S : Type 0} (o : Ops S) (s : S) (k : Standing) (n x : ℕ) (before behind : List Record) → TakesIn o s k n x before behind → map rest_of behind ≡ map rest_of before
-rest_taken o s (code.Dead y) n x before behind h = sinks.rest_same y n x h.sunk
+pub rest_taken : {S : Type 0} (o : Ops S) (s : S) (k : Status) (n x : ℕ) (before behind : List Record) → TakesIn o s k n x before behind → map rest_of behind ≡ map rest_of before
+rest_taken o s (code.Dead y) n x before behind h = labels_above.rest_same y n x h.is_lowered
 rest_taken o s code.Ended n x before behind h = ap (map rest_of) h
 rest_taken o s code.Free n x before behind h = ap (map rest_of) h
 rest_taken o s code.Live n x before behind h = ap (map rest_of) h
 rest_taken o s (code.Forked m) n x before behind h = ap (map rest_of) h
 
-module _ {S : Type 0} (o : Ops S) (states : List S) (rs behind : List Record) (l : S) (k : Standing) (x f : ℕ) (has : Has states (map stands_of rs) x f l lives) (leaves : Leaves o l k 4294967295 x rs behind) (gone : goes (left_by l k) ≡ false) where
+module _ {S : Type 0} (o : Ops S) (states : List S) (rs behind : List Record) (l : S) (k : Status) (x f : ℕ) (has : Has states (map stands_of rs) x f l lives) (leaves : Leaves o l k 4294967295 x rs behind) (gone : goes (left_by l k) ≡ false) where
   abbrev was : Record
   was = leaves.was
 
@@ -87,7 +87,7 @@ module _ {S : Type 0} (o : Ops S) (states : List S) (rs behind : List Record) (l
   stands_end : map stands_of behind ≡ map stands_of ms
   stands_end =
       left_stands x leaves.counted behind leaves.left
-      ∙ (same_stands leaves.labelled leaves.counted (ways.rest_same (acting o l) (λ c. read_leaf o c l (sort_of k)) 4294967295 x leaves.climbed.climbed)
+      ∙ (same_stands leaves.labelled leaves.counted (ways.rest_same (acting o l) (λ c. read_leaf o c l (sort_of k)) 4294967295 x leaves.updated.updated)
       ∙ same_stands ms leaves.labelled (rest_taken o l k 4294967295 x ms leaves.labelled leaves.takes))
 
   pub changed_then : HasChanged states states (map stands_of rs) (map stands_of behind) x (state (left_by l k)) (sort (left_by l k))

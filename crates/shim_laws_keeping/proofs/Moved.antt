@@ -13,14 +13,14 @@ use Rattle.shim_semantics.specs.Places.{at, branches}
 use Rattle.shim_semantics.proofs.HowMany.{clash}
 use Rattle.shim_semantics.proofs.Replaced.{sound_at}
 use Rattle.shim_laws_records.specs.Seen.{Sort, lives, forks, place}
-use Rattle.shim_laws_records.specs.Agrees.{Standing, used, Has, Shows}
+use Rattle.shim_laws_records.specs.Agrees.{RecordView, used, Has, Shows}
 use Rattle.shim_laws_records.specs.Places.{IsReplaced}
 use Rattle.shim_laws_records.specs.Changes.{HasChanged}
 use Rattle.shim_laws_records.specs.Counts.{Tally, Reading as Read, reading, going_of}
 use Rattle.shim_laws_records.specs.Tallied.{Tallied, OnTheWay, HaveCounts, is_above}
-use Rattle.shim_laws_records.specs.Climbing.{AreLinked, AreAtMost, Climbed, too_far, at_top, no_counts, stays, goes_on}
+use Rattle.shim_laws_records.specs.Updating.{AreLinked, AreAtMost, UpdatedAbove, too_far, at_top, no_counts, stays, goes_on}
 use Rattle.shim_laws_records.specs.Dooms.{least_among}
-use Rattle.shim_laws_records.specs.Sinking.{Labelled}
+use Rattle.shim_laws_records.specs.LoweredLabels.{Labelled}
 use Rattle.shim_laws_records.proofs.SameTrees.{same_or_not, no_fork, fork_count}
 use Rattle.shim_laws_records.proofs.OneChange.{one_state, one_sort}
 use Rattle.shim_laws_records.proofs.Way.{above_its_own}
@@ -66,7 +66,7 @@ module _ {S : Type 0} (o : Ops S) (law : LocalLaws o) (rp : Path) (states : List
     (kept : Keeps o rp (record { states = states; records = rs }) old) (has : Has states (map stands_of rs) x f l lives)
     (shown : Shows o rp (slice_set states x s) (map stands_of rs) new) (rep : IsReplaced (place o rp l) (Live l) (Live s) old new) (stay : Stays o l s)
     (unread : (c : Channel) → is_next (o.stop l) c ≡ false) (arrives : Arrives o s 4294967295 x rs behind) where
-  abbrev st : List Standing
+  abbrev st : List RecordView
   st = map stands_of rs
 
   abbrev states' : List S
@@ -104,14 +104,14 @@ module _ {S : Type 0} (o : Ops S) (law : LocalLaws o) (rp : Path) (states : List
     where
       on : Arrives o s 4294967295 x rs behind → map rest_of behind ≡ map rest_of rs
       on (nowhere e same) = ap (map rest_of) same
-      on (there d was is e u v climbed) = climbed.1.rest
+      on (there d was is e u v updated) = updated.1.rest
 
   labels_same : (c : Channel) → leasts_in c behind ≡ leasts_in c rs
   labels_same c = on arrives
     where
       on : Arrives o s 4294967295 x rs behind → leasts_in c behind ≡ leasts_in c rs
       on (nowhere e same) = ap (leasts_in c) same
-      on (there d was is e u v climbed) = λ t i. climbed.1.labels c i t
+      on (there d was is e u v updated) = λ t i. updated.1.labels c i t
 
   module _ (c : Channel) where
     abbrev Both : (ℕ → Option Tally) → Type 0
@@ -151,23 +151,23 @@ module _ {S : Type 0} (o : Ops S) (law : LocalLaws o) (rp : Path) (states : List
         none_above o rp states' st new shown c x f b.number b.first b.many s b.parent lives r mine home b.has (ap (is_above (place o rp b.parent)) b.is ∙ above_its_own (place o rp b.parent) b.branch)
         (counts_share o rp states' st new shown c counts have b.number b.first b.many b.parent y b.has (ap counts w.1 ∙ is))
 
-    nothing_done : {p : ℕ} {was is : Read} {before after : ℕ → Option Tally} → Climbed (up_in rs) 4294967295 p before x was is after → HaveCounts o rp states' st c before new → (r : Path) → c.home ≡ o.path s ++ r → after ≡ before
+    nothing_done : {p : ℕ} {was is : Read} {before after : ℕ → Option Tally} → UpdatedAbove (up_in rs) 4294967295 p before x was is after → HaveCounts o rp states' st c before new → (r : Path) → c.home ≡ o.path s ++ r → after ≡ before
     nothing_done (too_far before x was is) have r home = refl
     nothing_done (at_top p before x was is e) have r home = refl
     nothing_done (no_counts p before x j was is e none) have r home = refl
     nothing_done (stays p before after x j was is y z e step same) have r home = absurd (uncounted before have r home j y e step.old)
     nothing_done (goes_on p before between after x j was is y z e step more) have r home = absurd (uncounted before have r home j y e step.old)
 
-    -- of the one at which it stands the way up was gone
+    -- of the one at which it stands the way up was walked
     came : (after : ℕ → Option Tally) → is_next (o.stop s) c ≡ true → o.shares s c ≡ true → length (place o rp s) ≤ 4294967295
-        → Climbed (up_in rs) 4294967295 4294967295 (counts_in c rs) x (record { joining = true; readiness = false; failing = false }) (record { joining = true; readiness = true; failing = false }) after → Both after
-    came after e shares near climbed = elim (true_or_false (same_path c.home (o.path l))) [
-      | inl w ↦ subst Both (sym (nothing_done climbed begun.1 [] (is_own w))) ((counts_follow o law).own rp states' st c old new x f s lives [] (counts_in c rs) shown mine (is_own w) begun.1 way, begun.1)
+        → UpdatedAbove (up_in rs) 4294967295 4294967295 (counts_in c rs) x (record { joining = true; readiness = false; failing = false }) (record { joining = true; readiness = true; failing = false }) after → Both after
+    came after e shares near updated = elim (true_or_false (same_path c.home (o.path l))) [
+      | inl w ↦ subst Both (sym (nothing_done updated begun.1 [] (is_own w))) ((counts_follow o law).own rp states' st c old new x f s lives [] (counts_in c rs) shown mine (is_own w) begun.1 way, begun.1)
       | inr w ↦
-          (counts_follow o law).climbed rp states' st (up_in rs) c old new (Live l) (Live s) 4294967295 4294967295 x f s lives (record { joining = true; readiness = false; failing = false }) (record { joining = true; readiness = true; failing = false })
+          (counts_follow o law).updated rp states' st (up_in rs) c old new (Live l) (Live s) 4294967295 4294967295 x f s lives (record { joining = true; readiness = false; failing = false }) (record { joining = true; readiness = true; failing = false })
           (counts_in c rs) after shown linked few mine rep'
           (λ i. let r : Read = record { joining = (stay.shares c (is_far w) ∙ shares) i; readiness = unread c i; failing = false } in r)
-          (λ i. let r : Read = record { joining = shares i; readiness = e i; failing = false } in r) near shares begun.1 way climbed
+          (λ i. let r : Read = record { joining = shares i; readiness = e i; failing = false } in r) near shares begun.1 way updated
     ]
 
   near : length (place o rp s) ≤ 4294967295
@@ -178,19 +178,19 @@ module _ {S : Type 0} (o : Ops S) (law : LocalLaws o) (rp : Path) (states : List
     where
       on : Arrives o s 4294967295 x rs behind → Both c (counts_in c behind)
       on (nowhere e same) = subst (λ z. Both c (counts_in c z)) (sym same) (still c (e c))
-      on (there d was is e u v climbed) = at_channel (same_channel d.channel c) refl
+      on (there d was is e u v updated) = at_channel (same_channel d.channel c) refl
         where
           same_of : same_channel d.channel c ≡ false → counts_in c behind ≡ counts_in c rs
-          same_of w = λ t i. climbed.1.elsewhere c w i t
+          same_of w = λ t i. updated.1.elsewhere c w i t
 
           at_channel : (b : Bool) → same_channel d.channel c ≡ b → Both c (counts_in c behind)
           at_channel false w = subst (Both c) (sym (same_of w)) (still c (ap (λ z. is_next z c) e ∙ w))
           at_channel true w =
               let same = same_channel_is d.channel c w in
               came c (counts_in c behind) (ap (λ z. is_next z c) e ∙ w) (ap (o.shares s) (sym same) ∙ law.next_shares s d sound e) near
-              (subst (λ z. Climbed (up_in rs) 4294967295 4294967295 (counts_in z rs) x (record { joining = true; readiness = false; failing = false }) (record { joining = true; readiness = true; failing = false }) (counts_in z behind)) same
-              (subst (λ z. Climbed (up_in rs) 4294967295 4294967295 (counts_in d.channel rs) x (record { joining = true; readiness = false; failing = false }) z (counts_in d.channel behind)) v
-              (subst (λ z. Climbed (up_in rs) 4294967295 4294967295 (counts_in d.channel rs) x z (reading_of is) (counts_in d.channel behind)) u climbed.0)))
+              (subst (λ z. UpdatedAbove (up_in rs) 4294967295 4294967295 (counts_in z rs) x (record { joining = true; readiness = false; failing = false }) (record { joining = true; readiness = true; failing = false }) (counts_in z behind)) same
+              (subst (λ z. UpdatedAbove (up_in rs) 4294967295 4294967295 (counts_in d.channel rs) x (record { joining = true; readiness = false; failing = false }) z (counts_in d.channel behind)) v
+              (subst (λ z. UpdatedAbove (up_in rs) 4294967295 4294967295 (counts_in d.channel rs) x z (reading_of is) (counts_in d.channel behind)) u updated.0)))
 
   labelled : (c : Channel) → HaveCounts o rp states' st c (counts_in c behind) new → Labelled o rp states' st c (counts_in c behind) (leasts_in c behind) new
   labelled c have j d n t u ks fork counted now =

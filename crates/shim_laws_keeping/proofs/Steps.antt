@@ -16,7 +16,7 @@ use Rattle.shim_semantics.specs.Systems.{run, go_on}
 use Rattle.shim_semantics.specs.Trees.{Tree, Own, after, kind_of_stop}
 use Rattle.shim_semantics.proofs.Replaced.{sound_at}
 use Rattle.shim_laws_records.specs.Seen.{lives, place}
-use Rattle.shim_laws_records.specs.Agrees.{Standing, Has, Shows}
+use Rattle.shim_laws_records.specs.Agrees.{RecordView, Has, Shows}
 use Rattle.shim_laws_records.specs.Places.{IsReplaced}
 use Rattle.shim_laws_records.specs.Changes.{HasChanged}
 use Rattle.shim_laws_records.proofs.SameTrees.{seen_live, put_replaces, is_put}
@@ -63,7 +63,7 @@ module _ {S : Type 0} (o : Ops S) (law : LocalLaws o) where
       one quiet c far false true e f = absurd (far (law.quiet_adds l c sound quiet e f))
       one quiet c far false false e f = e ∙ sym f
 
-  module _ (rp : Path) (stands : List Standing) where
+  module _ (rp : Path) (stands : List RecordView) where
     -- a record gets another state
     has_set : (states : List S) (x f : ℕ) (l s : S) → Has states stands x f l lives → Has (slice_set states x s) stands x f s lives
     has_set states x f l s has = record { state_is = set_there states x l s has.state_is; stands_so = has.stands_so }

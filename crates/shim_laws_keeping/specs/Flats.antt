@@ -5,11 +5,11 @@ use Rattle.shim_local.specs.Process.{Ops}
 use Rattle.shim_semantics.specs.Nodes.{Node, Nodes, Forked}
 use Rattle.shim_semantics.specs.Places.{at}
 use Rattle.shim_laws_records.specs.Seen.{Sort, lives, forks, place}
-use Rattle.shim_laws_records.specs.Agrees.{Standing, used, Has, Shows}
+use Rattle.shim_laws_records.specs.Agrees.{RecordView, used, Has, Shows}
 use Rattle.shim_laws_records.specs.Counts.{going_of}
 use Rattle.shim_laws_records.specs.Tallied.{Tallied, HaveCounts}
-use Rattle.shim_laws_records.specs.Climbing.{AreLinked, AreAtMost}
-use Rattle.shim_laws_records.specs.Sinking.{Labelled}
+use Rattle.shim_laws_records.specs.Updating.{AreLinked, AreAtMost}
+use Rattle.shim_laws_records.specs.LoweredLabels.{Labelled}
 use Rattle.shim_records.specs.Pairs.{stands_of, up_in, counts_in, leasts_in, AreOrdered}
 use Rattle.shim_records.specs.declared.record.Record.{Record}
 
@@ -18,7 +18,8 @@ pub record FlatView (S : Type 0) : Type 0 where
   pub states : List S
   pub records : List Record
 
-abbrev pub stands : {S : Type 0} → FlatView S → List Standing
+-- what the records say of their processes
+abbrev pub stands : {S : Type 0} → FlatView S → List RecordView
 stands v = map stands_of v.records
 
 -- The process with this number stands so: the number of its first child, its state, and what came of it.

@@ -16,7 +16,7 @@ use Rattle.shim_laws_keeping.specs.Arriving.{Arrives}
 abbrev pub StartKeeps : {S : Type 0} → Ops S → Type 0
 StartKeeps {S} o = (root : S) (r : Record) → IsOfRoot o root r → o.sound root → o.path root ≡ [] → SharesItsOwn o root → Keeps o [] (record { states = root ∷ []; records = r ∷ [] }) (Live root)
 
--- Where a live process stands before a quiet step, it can do so many as lead on from its state; and where its state is the last one, and the way up was gone for the channel to which it came, the tree behind them is shown.
+-- Where a live process stands before a quiet step, it can do so many as lead on from its state; and where its state is the last one, and the way up was walked for the channel to which it came, the tree behind them is shown.
 abbrev pub AdvancesKeep : {S : Type 0} → Ops S → Type 0
 AdvancesKeep {S} o = (rp : Path) (t : Tree S) (states : List S) (rs behind : List Record) (n x f : ℕ) (l last : S) → Keeps o rp (record { states = states; records = rs }) t.root → HasProcess (record { states = states; records = rs }) x f l lives
     → o.stop l ≡ AtQuiet → QuietSteps o n l last → Arrives o last 4294967295 x rs behind → (u : Tree S) × Advances o (o.path l) n t u × Keeps o rp (record { states = slice_set states x last; records = behind }) u.root

@@ -10,6 +10,6 @@ use Rattle.shim_laws_keeping.specs.Flats.{FlatView, Keeps}
 abbrev pub MovesBy : {S : Type 0} → Ops S → Event → FlatView S → FlatView S → Type 0
 MovesBy {S} o e before behind = (rp : Path) (t : Tree S) → Keeps o rp before t.root → (u : Tree S) × (after o e t ≡ Some u) × Keeps o rp behind u.root
 
--- the same of so many quiet steps of the process of the path
+-- in each tree that was shown the process of the path could do so many quiet steps, and the tree after them is shown
 abbrev pub AdvancesBy : {S : Type 0} → Ops S → Path → ℕ → FlatView S → FlatView S → Type 0
 AdvancesBy {S} o p n before behind = (rp : Path) (t : Tree S) → Keeps o rp before t.root → (u : Tree S) × Advances o p n t u × Keeps o rp behind u.root

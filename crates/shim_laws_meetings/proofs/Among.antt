@@ -9,8 +9,9 @@ use Rattle.shim_semantics.proofs.HowMany.{clash}
 use Rattle.shim_laws_records.specs.Seen.{place}
 use Rattle.shim_laws_records.specs.Sources.{is_before}
 use Rattle.shim_laws_records.proofs.SameTrees.{same_or_not}
+use Rattle.shim_records.specs.Members.{IsAmong}
 use Rattle.shim_laws_keeping.specs.Flats.{FlatView}
-use Rattle.shim_laws_meetings.specs.Sharers.{SharesFrom, Precedes, IsAmong, InOrder, AreSharers}
+use Rattle.shim_laws_meetings.specs.Sharers.{SharesFrom, Precedes, InOrder, AreSharers}
 
 pub none_among : {A B : Type 0} (x : A) → IsAmong x [] → B
 none_among x g = none_some x g.1

@@ -19,9 +19,10 @@ use Rattle.shim_laws_records.proofs.SameTrees.{child_counted, seen_some, seen_fo
 use Rattle.shim_laws_records.proofs.OneChange.{one_state}
 use Rattle.shim_laws_records.proofs.Way.{fork_above}
 use Rattle.shim_laws_records.proofs.Leasts.{child_sound, shared_not_below}
+use Rattle.shim_records.specs.Members.{IsAmong}
 use Rattle.shim_records.specs.Pairs.{stands_of}
 use Rattle.shim_laws_keeping.specs.Flats.{FlatView, HasProcess, Keeps}
-use Rattle.shim_laws_meetings.specs.Sharers.{SharesFrom, Precedes, IsAmong, InOrder}
+use Rattle.shim_laws_meetings.specs.Sharers.{SharesFrom, Precedes, InOrder}
 use Rattle.shim_laws_meetings.specs.Descents.{children, numbers_from, Descends, at_end, passes, finds, DescentsFind}
 use Rattle.shim_laws_meetings.proofs.Among.{none_among, among_later, among_split}
 

@@ -19,35 +19,35 @@ use Rattle.shim_laws_records.specs.Places.{IsReplaced}
 use Rattle.shim_laws_records.specs.Changes.{HasChanged}
 use Rattle.shim_laws_records.specs.Counts.{Tally, Reading as Read}
 use Rattle.shim_laws_records.specs.Tallied.{HaveCounts, is_above}
-use Rattle.shim_laws_records.specs.Climbing.{Climbed, AreLinked}
+use Rattle.shim_laws_records.specs.Updating.{UpdatedAbove, AreLinked}
 use Rattle.shim_laws_records.specs.Dooms.{least}
-use Rattle.shim_laws_records.specs.Sinking.{Labelled, LabelsOnTheWay, Sunk, at_the_root, uncounted}
+use Rattle.shim_laws_records.specs.LoweredLabels.{Labelled, LabelsOnTheWay, LoweredAbove, at_the_root, uncounted}
 use Rattle.shim_laws_records.proofs.SameTrees.{seen_live, seen_fork, put_replaces, same_or_not}
 use Rattle.shim_laws_records.proofs.Singles.{singles_are_shown}
-use Rattle.shim_laws_records.proofs.Sinks.{labels_sink}
+use Rattle.shim_laws_records.proofs.LabelsLowering.{labels_lowered}
 use Rattle.shim_laws_records.proofs.Hanging.{ends_of, given_place, tied, counts_share, none_above}
 use Rattle.shim_laws_records.proofs.Way.{above_its_own}
 use Rattle.shim_records.specs.Pairs.{stands_of, up_at, up_in, counts_at, counts_in, least_at, leasts_in, rest_of, chans_of, IsOrdered, AreOrdered, stands_by}
-use Rattle.shim_records.specs.Killed.{living, fallen}
+use Rattle.shim_records.specs.Killed.{living, as_dead}
 use Rattle.shim_records.specs.Leaving.{HasLeft, alone, lost, below}
-use Rattle.shim_records.specs.AllWays.{AllClimbed, none_left, one_more}
+use Rattle.shim_records.specs.AllWays.{AllUpdatedAbove, none_left, one_more}
 use Rattle.shim_records.specs.declared.record.Record.{Record}
-use Rattle.shim_records.specs.declared.record.Standing.{Standing as Stood}
-use Rattle.shim_records.specs.declared.record.Standing.TheVariants as code
+use Rattle.shim_records.specs.declared.record.Status.{Status as Stood}
+use Rattle.shim_records.specs.declared.record.Status.TheVariants as code
 use Rattle.shim_records.proofs.Showing.{map_get}
 use Rattle.shim_records.proofs.Stepping.{set_there, set_elsewhere}
 use Rattle.shim_records.proofs.ReadOff.{same_stands}
 use Rattle.shim_records.proofs.WholeWay.{rest_ups, kept_order}
 use Rattle.shim_records.proofs.ManyWays as ways
-use Rattle.shim_records.proofs.AllSinks as sinks
+use Rattle.shim_records.proofs.AllLowered as labels_above
 use Rattle.shim_laws_keeping.specs.Flats.{IsRight, Keeps}
 use Rattle.shim_laws_keeping.proofs.Moved.{from_map, set_length}
 use Rattle.shim_laws_keeping.proofs.OneLess.{less_going, at_set, left_counts, left_labels, left_ups, left_stands}
-use Rattle.shim_laws_meetings.specs.Dying.{dead_record, Falls}
+use Rattle.shim_laws_meetings.specs.Dying.{dead_record, DiesAt}
 use Rattle.shim_laws_meetings.specs.Laws.{DiedKeeps}
 use Rattle.shim_laws_meetings.proofs.Lists.{map_slice_set, same_length, SamePaths, rest_paths, set_paths, both_paths, going_at, rest_going}
 use Rattle.shim_laws_meetings.proofs.Leaves.{one_less}
-use Rattle.shim_laws_meetings.proofs.Replacing.{Both, was_fork, linked, near, labels_begun, have_begun, unread, its_own, gone, unlabelled, keeps}
+use Rattle.shim_laws_meetings.proofs.Replacing.{Both, was_fork, linked, near, labels_begun, have_begun, unread, its_own, walked, unlabelled, keeps}
 
 -- another record with the same pairs, of one that was set
 pub set_order : (rs : List Record) (x : ℕ) (r q : Record) → slice_get rs x ≡ Some r → q.pairs ≡ r.pairs → AreOrdered rs → AreOrdered (slice_set rs x q)
@@ -99,30 +99,30 @@ module _ (x : ℕ) (before behind : List Record) where
     (λ far. ap going_at (sym h ∙ (ap (λ z. slice_get z i) is ∙ set_elsewhere before j i (less_going q) (λ w. far (e ∙ ap Some (sym w)))))),
   )
 
-module _ {S : Type 0} (o : Ops S) (states : List S) (rs behind : List Record) (x f label : ℕ) (l : S) (has : Has states (map stands_of rs) x f l lives) (falls : Falls o l label 4294967295 x rs behind) where
+module _ {S : Type 0} (o : Ops S) (states : List S) (rs behind : List Record) (x f label : ℕ) (l : S) (has : Has states (map stands_of rs) x f l lives) (is_killed : DiesAt o l label 4294967295 x rs behind) where
   abbrev dead : List Record
-  dead = slice_set rs x (dead_record falls.stood label)
+  dead = slice_set rs x (dead_record is_killed.stood label)
 
   -- ---- the records, beside counts and labels
 
-  counted_rest : map rest_of falls.counted ≡ map rest_of dead
-  counted_rest = ways.rest_same (living o l) (fallen o l) 4294967295 x falls.killed.climbed
+  counted_rest : map rest_of is_killed.counted ≡ map rest_of dead
+  counted_rest = ways.rest_same (living o l) (as_dead o l) 4294967295 x is_killed.killed.updated
 
-  labelled_rest : map rest_of falls.labelled ≡ map rest_of falls.counted
-  labelled_rest = sinks.rest_same label 4294967295 x falls.taken.sunk
+  labelled_rest : map rest_of is_killed.labelled ≡ map rest_of is_killed.counted
+  labelled_rest = labels_above.rest_same label 4294967295 x is_killed.taken.is_lowered
 
-  between : map rest_of falls.labelled ≡ map rest_of dead
+  between : map rest_of is_killed.labelled ≡ map rest_of dead
   between = labelled_rest ∙ counted_rest
 
-  first_is : falls.stood.first ≡ f
+  first_is : is_killed.stood.first ≡ f
   first_is = let r = from_map stands_of (slice_get rs x) (used f lives) (sym (map_get stands_of rs x) ∙ has.stands_so) in
-      live_first falls.stood.first falls.stood.standing f (ap stands_of (some_same falls.stood r.0 (sym falls.there ∙ r.1)) ∙ r.2)
+      live_first is_killed.stood.first is_killed.stood.status f (ap stands_of (some_same is_killed.stood r.0 (sym is_killed.there ∙ r.1)) ∙ r.2)
 
-  its_standing : stands_of (dead_record falls.stood label) ≡ used f (dies (death label))
+  its_standing : stands_of (dead_record is_killed.stood label) ≡ used f (dies (death label))
   its_standing = ap (λ z. used z (dies (death label))) first_is
 
   pub stands_now : map stands_of behind ≡ slice_set (map stands_of rs) x (used f (dies (death label)))
-  stands_now = left_stands x falls.labelled behind falls.left ∙ (same_stands dead falls.labelled between ∙ (map_slice_set stands_of rs x (dead_record falls.stood label) ∙ ap (slice_set (map stands_of rs) x) its_standing))
+  stands_now = left_stands x is_killed.labelled behind is_killed.left ∙ (same_stands dead is_killed.labelled between ∙ (map_slice_set stands_of rs x (dead_record is_killed.stood label) ∙ ap (slice_set (map stands_of rs) x) its_standing))
 
   module _ (law : LocalLaws o) (rp : Path) (root : Node S) (kept : Keeps o rp (record { states = states; records = rs }) root) (less : label < o.base l) where
     abbrev a : Node S
@@ -140,20 +140,20 @@ module _ {S : Type 0} (o : Ops S) (states : List S) (rs behind : List Record) (x
     sound : o.sound l
     sound = sound_at o (place o rp l) root (Live l) kept.shows.sound.below there
 
-    ups_labelled : up_in falls.labelled ≡ up_in rs
-    ups_labelled = rest_ups dead falls.labelled between ∙ (λ t i. at_set up_at rs x falls.stood (dead_record falls.stood label) falls.there refl i t)
+    ups_labelled : up_in is_killed.labelled ≡ up_in rs
+    ups_labelled = rest_ups dead is_killed.labelled between ∙ (λ t i. at_set up_at rs x is_killed.stood (dead_record is_killed.stood label) is_killed.there refl i t)
 
     ups : up_in behind ≡ up_in rs
-    ups = left_ups x falls.labelled behind falls.left ∙ ups_labelled
+    ups = left_ups x is_killed.labelled behind is_killed.left ∙ ups_labelled
 
     paths : SamePaths rs behind
-    paths = both_paths rs falls.labelled behind (both_paths rs dead falls.labelled (set_paths rs x falls.stood (dead_record falls.stood label) falls.there refl) (rest_paths dead falls.labelled between)) (left_paths x falls.labelled behind falls.left)
+    paths = both_paths rs is_killed.labelled behind (both_paths rs dead is_killed.labelled (set_paths rs x is_killed.stood (dead_record is_killed.stood label) is_killed.there refl) (rest_paths dead is_killed.labelled between)) (left_paths x is_killed.labelled behind is_killed.left)
 
     ordered : AreOrdered behind
-    ordered = left_order x falls.labelled behind falls.left (kept_order dead falls.labelled between (set_order rs x falls.stood (dead_record falls.stood label) falls.there refl kept.ordered))
+    ordered = left_order x is_killed.labelled behind is_killed.left (kept_order dead is_killed.labelled between (set_order rs x is_killed.stood (dead_record is_killed.stood label) is_killed.there refl kept.ordered))
 
     as_long : length states ≡ length behind
-    as_long = kept.beside ∙ (sym (set_length rs x (dead_record falls.stood label)) ∙ (same_length dead falls.labelled between ∙ sym (left_length x falls.labelled behind falls.left)))
+    as_long = kept.beside ∙ (sym (set_length rs x (dead_record is_killed.stood label)) ∙ (same_length dead is_killed.labelled between ∙ sym (left_length x is_killed.labelled behind is_killed.left)))
 
     -- ---- the tree
 
@@ -195,24 +195,24 @@ module _ {S : Type 0} (o : Ops S) (states : List S) (rs behind : List Record) (x
       B counts = Both o law rp states states rs behind root new l a x f kept has changed refl refl refl rep shown ups c counts
 
       counts_dead : counts_in c dead ≡ counts_in c rs
-      counts_dead = λ t i. at_set (counts_at c) rs x falls.stood (dead_record falls.stood label) falls.there refl i t
+      counts_dead = λ t i. at_set (counts_at c) rs x is_killed.stood (dead_record is_killed.stood label) is_killed.there refl i t
 
       labels_dead : leasts_in c dead ≡ leasts_in c rs
-      labels_dead = λ t i. at_set (least_at c) rs x falls.stood (dead_record falls.stood label) falls.there refl i t
+      labels_dead = λ t i. at_set (least_at c) rs x is_killed.stood (dead_record is_killed.stood label) is_killed.there refl i t
 
       ups_dead : up_in dead ≡ up_in behind
-      ups_dead = (λ t i. at_set up_at rs x falls.stood (dead_record falls.stood label) falls.there refl i t) ∙ sym ups
+      ups_dead = (λ t i. at_set up_at rs x is_killed.stood (dead_record is_killed.stood label) is_killed.there refl i t) ∙ sym ups
 
-      counts_behind : counts_in c behind ≡ counts_in c falls.counted
-      counts_behind = left_counts x falls.labelled behind c falls.left ∙ (λ t i. sinks.counts_same label 4294967295 x c i falls.taken.sunk t)
+      counts_behind : counts_in c behind ≡ counts_in c is_killed.counted
+      counts_behind = left_counts x is_killed.labelled behind c is_killed.left ∙ (λ t i. labels_above.counts_same label 4294967295 x c i is_killed.taken.is_lowered t)
 
-      labels_behind : leasts_in c behind ≡ leasts_in c falls.labelled
-      labels_behind = left_labels x falls.labelled behind c falls.left
+      labels_behind : leasts_in c behind ≡ leasts_in c is_killed.labelled
+      labels_behind = left_labels x is_killed.labelled behind c is_killed.left
 
-      labels_counted : leasts_in c falls.counted ≡ leasts_in c rs
-      labels_counted = (λ t i. labels_stay falls.killed.climbed i t) ∙ labels_dead
+      labels_counted : leasts_in c is_killed.counted ≡ leasts_in c rs
+      labels_counted = (λ t i. labels_stay is_killed.killed.updated i t) ∙ labels_dead
         where
-          labels_stay : {cs : List Channel} {before after : List Record} → AllClimbed (living o l) (fallen o l) 4294967295 x cs before after → (i : ℕ) → leasts_in c after i ≡ leasts_in c before i
+          labels_stay : {cs : List Channel} {before after : List Record} → AllUpdatedAbove (living o l) (as_dead o l) 4294967295 x cs before after → (i : ℕ) → leasts_in c after i ≡ leasts_in c before i
           labels_stay (none_left rs) i = refl
           labels_stay (one_more d cs read reads before middle after once w r way more) i = labels_stay more i ∙ way.1.labels c i
 
@@ -221,17 +221,17 @@ module _ {S : Type 0} (o : Ops S) (states : List S) (rs behind : List Record) (x
       unshared e = unread o law rp states states rs behind root new l a x f kept has changed refl refl refl rep shown ups c
           (λ i. let r : Read = record { joining = e i; readiness = stands_elsewhere o law c l sound e i; failing = sym e i } in r)
 
-      counted_now : B (counts_in c falls.counted)
-      counted_now = elim (ways.among_or_not c falls.killed.chans) [
+      counted_now : B (counts_in c is_killed.counted)
+      counted_now = elim (ways.among_or_not c is_killed.killed.chans) [
         | inl g ↦
-            gone o law rp states states rs behind root new l a x f kept has changed refl refl refl rep shown ups c (living o l c) (fallen o l c) (counts_in c falls.counted) refl refl (falls.killed.shared c g)
-            (subst (λ z. Climbed z 4294967295 4294967295 (counts_in c rs) x (living o l c) (fallen o l c) (counts_in c falls.counted)) ups_dead
-            (subst (λ z. Climbed (up_in dead) 4294967295 4294967295 z x (living o l c) (fallen o l c) (counts_in c falls.counted)) counts_dead
-            (ways.its_way (living o l) (fallen o l) 4294967295 x c falls.killed.climbed g).climbed))
-        | inr out ↦ subst B (sym (ways.others (living o l) (fallen o l) 4294967295 x c falls.killed.climbed out ∙ counts_dead)) (elim (true_or_false (o.shares l c)) [
+            walked o law rp states states rs behind root new l a x f kept has changed refl refl refl rep shown ups c (living o l c) (as_dead o l c) (counts_in c is_killed.counted) refl refl (is_killed.killed.shared c g)
+            (subst (λ z. UpdatedAbove z 4294967295 4294967295 (counts_in c rs) x (living o l c) (as_dead o l c) (counts_in c is_killed.counted)) ups_dead
+            (subst (λ z. UpdatedAbove (up_in dead) 4294967295 4294967295 z x (living o l c) (as_dead o l c) (counts_in c is_killed.counted)) counts_dead
+            (ways.its_way (living o l) (as_dead o l) 4294967295 x c is_killed.killed.updated g).updated))
+        | inr out ↦ subst B (sym (ways.others (living o l) (as_dead o l) 4294967295 x c is_killed.killed.updated out ∙ counts_dead)) (elim (true_or_false (o.shares l c)) [
           | inl shares ↦ elim (own_or_given c shares) [
             | inl home ↦ its_own o law rp states states rs behind root new l a x f kept has changed refl refl refl rep shown ups c [] (home ∙ sym (append-nil (o.path l)))
-            | inr given ↦ absurd (out (falls.killed.all c given shares))
+            | inr given ↦ absurd (out (is_killed.killed.all c given shares))
           ]
           | inr e ↦ unshared e
         ])
@@ -243,50 +243,50 @@ module _ {S : Type 0} (o : Ops S) (states : List S) (rs behind : List Record) (x
       P = place o rp l
 
       -- for which numbers there are counts is told by the tree alone
-      labels_way : LabelsOnTheWay o rp states (map stands_of behind) c (counts_in c falls.counted) (leasts_in c rs) root new P
+      labels_way : LabelsOnTheWay o rp states (map stands_of behind) c (counts_in c is_killed.counted) (leasts_in c rs) root new P
       labels_way i g n s k ks fork some at_it =
           let w = seen_fork (at (place o rp s) new) s n (shown.agrees.shown i g s (forks n) fork) in
           labels_begun o law rp states states rs behind root new l a x f kept has changed refl refl refl rep shown ups c i g n s k ks fork
           ((have_begun o law rp states states rs behind root new l a x f kept has changed refl refl refl rep shown ups c i g n s s w.0 fork w.1).1 ((counted_now.1 i g n s s w.0 fork w.1).0 some)) at_it
 
-      sinks_to : o.shares l c ≡ true → (labels : ℕ → Option ℕ) → Sunk (up_in behind) (counts_in c falls.counted) (least o c a) 4294967295 (leasts_in c rs) x labels → Labelled o rp states (map stands_of behind) c (counts_in c falls.counted) labels new
-      sinks_to shares labels sunk =
-          labels_sink o law rp states (map stands_of behind) (up_in behind) c root new (Live l) a 4294967295 x f l (dies (death label)) (counts_in c falls.counted) (leasts_in c rs) labels shown links mine rep refl shares counted_now.1
-          (near o law rp states states rs behind root new l a x f kept has changed refl refl refl rep shown ups) labels_way sunk
+      lowers_to : o.shares l c ≡ true → (labels : ℕ → Option ℕ) → LoweredAbove (up_in behind) (counts_in c is_killed.counted) (least o c a) 4294967295 (leasts_in c rs) x labels → Labelled o rp states (map stands_of behind) c (counts_in c is_killed.counted) labels new
+      lowers_to shares labels is_lowered =
+          labels_lowered o law rp states (map stands_of behind) (up_in behind) c root new (Live l) a 4294967295 x f l (dies (death label)) (counts_in c is_killed.counted) (leasts_in c rs) labels shown links mine rep refl shares counted_now.1
+          (near o law rp states states rs behind root new l a x f kept has changed refl refl refl rep shown ups) labels_way is_lowered
 
       its_label : o.shares l c ≡ true → least o c a ≡ Some label
       its_label shares = ap (λ b. cond b (Some label) None) shares
 
       -- no fork above counts one of its own
-      own_sunk : c.home ≡ o.path l → Sunk (up_in behind) (counts_in c falls.counted) (least o c a) 4294967295 (leasts_in c rs) x (leasts_in c rs)
-      own_sunk home = on (up_in behind x) refl
+      own_lowered : c.home ≡ o.path l → LoweredAbove (up_in behind) (counts_in c is_killed.counted) (least o c a) 4294967295 (leasts_in c rs) x (leasts_in c rs)
+      own_lowered home = on (up_in behind x) refl
         where
-          no_counts : (j : ℕ) → up_in behind x ≡ Some j → (y : Option Tally) → counts_in c falls.counted j ≡ y → counts_in c falls.counted j ≡ None
+          no_counts : (j : ℕ) → up_in behind x ≡ Some j → (y : Option Tally) → counts_in c is_killed.counted j ≡ y → counts_in c is_killed.counted j ≡ None
           no_counts j e None is = is
           no_counts j e (Some y) is =
               let w = tied o rp states (map stands_of behind) new shown (up_in behind) links x f j l (dies (death label)) mine e in
               let b = w.0 in
               absurd (none_above o rp states (map stands_of behind) new shown c x f b.number b.first b.many l b.parent (dies (death label)) [] mine (home ∙ sym (append-nil (o.path l))) b.has (ap (is_above (place o rp b.parent)) b.is ∙ above_its_own (place o rp b.parent) b.branch)
-              (counts_share o rp states (map stands_of behind) new shown c (counts_in c falls.counted) counted_now.1 b.number b.first b.many b.parent y b.has (ap (counts_in c falls.counted) w.1 ∙ is)))
+              (counts_share o rp states (map stands_of behind) new shown c (counts_in c is_killed.counted) counted_now.1 b.number b.first b.many b.parent y b.has (ap (counts_in c is_killed.counted) w.1 ∙ is)))
 
-          on : (y : Option ℕ) → up_in behind x ≡ y → Sunk (up_in behind) (counts_in c falls.counted) (least o c a) 4294967295 (leasts_in c rs) x (leasts_in c rs)
+          on : (y : Option ℕ) → up_in behind x ≡ y → LoweredAbove (up_in behind) (counts_in c is_killed.counted) (least o c a) 4294967295 (leasts_in c rs) x (leasts_in c rs)
           on None e = at_the_root 4294967295 (leasts_in c rs) x e
-          on (Some j) e = uncounted 4294967295 (leasts_in c rs) x j e (no_counts j e (counts_in c falls.counted j) refl)
+          on (Some j) e = uncounted 4294967295 (leasts_in c rs) x j e (no_counts j e (counts_in c is_killed.counted j) refl)
 
-      labelled_now : Labelled o rp states (map stands_of behind) c (counts_in c falls.counted) (leasts_in c falls.labelled) new
-      labelled_now = elim (ways.among_or_not c falls.taken.chans) [
-        | inl g ↦ let shares = falls.taken.shared c g in
-            sinks_to shares (leasts_in c falls.labelled)
-            (subst (λ z. Sunk (up_in behind) (counts_in c falls.counted) z 4294967295 (leasts_in c rs) x (leasts_in c falls.labelled)) (sym (its_label shares))
-            (subst (λ z. Sunk (up_in behind) (counts_in c falls.counted) (Some label) 4294967295 z x (leasts_in c falls.labelled)) labels_counted
-            (subst (λ z. Sunk z (counts_in c falls.counted) (Some label) 4294967295 (leasts_in c falls.counted) x (leasts_in c falls.labelled)) (rest_ups dead falls.counted counted_rest ∙ ups_dead)
-            (sinks.its_way label 4294967295 x c falls.taken.sunk g).way)))
-        | inr out ↦ subst (λ z. Labelled o rp states (map stands_of behind) c (counts_in c falls.counted) z new) (sym (sinks.others label 4294967295 x c falls.taken.sunk out ∙ labels_counted)) (elim (true_or_false (o.shares l c)) [
+      labelled_now : Labelled o rp states (map stands_of behind) c (counts_in c is_killed.counted) (leasts_in c is_killed.labelled) new
+      labelled_now = elim (ways.among_or_not c is_killed.taken.chans) [
+        | inl g ↦ let shares = is_killed.taken.shared c g in
+            lowers_to shares (leasts_in c is_killed.labelled)
+            (subst (λ z. LoweredAbove (up_in behind) (counts_in c is_killed.counted) z 4294967295 (leasts_in c rs) x (leasts_in c is_killed.labelled)) (sym (its_label shares))
+            (subst (λ z. LoweredAbove (up_in behind) (counts_in c is_killed.counted) (Some label) 4294967295 z x (leasts_in c is_killed.labelled)) labels_counted
+            (subst (λ z. LoweredAbove z (counts_in c is_killed.counted) (Some label) 4294967295 (leasts_in c is_killed.counted) x (leasts_in c is_killed.labelled)) (rest_ups dead is_killed.counted counted_rest ∙ ups_dead)
+            (labels_above.its_way label 4294967295 x c is_killed.taken.is_lowered g).way)))
+        | inr out ↦ subst (λ z. Labelled o rp states (map stands_of behind) c (counts_in c is_killed.counted) z new) (sym (labels_above.others label 4294967295 x c is_killed.taken.is_lowered out ∙ labels_counted)) (elim (true_or_false (o.shares l c)) [
           | inl shares ↦ elim (own_or_given c shares) [
-            | inl home ↦ sinks_to shares (leasts_in c rs) (own_sunk home)
-            | inr given ↦ absurd (out (falls.taken.all c given shares))
+            | inl home ↦ lowers_to shares (leasts_in c rs) (own_lowered home)
+            | inr given ↦ absurd (out (is_killed.taken.all c given shares))
           ]
-          | inr e ↦ unlabelled o law rp states states rs behind root new l a x f kept has changed refl refl refl rep shown ups c (counts_in c falls.counted) counted_now.1 (ap (λ b. cond b (Some label) None) e)
+          | inr e ↦ unlabelled o law rp states states rs behind root new l a x f kept has changed refl refl refl rep shown ups c (counts_in c is_killed.counted) counted_now.1 (ap (λ b. cond b (Some label) None) e)
         ])
       ]
 
@@ -295,20 +295,20 @@ module _ {S : Type 0} (o : Ops S) (states : List S) (rs behind : List Record) (x
         there = subst (λ z. HaveCounts o rp states (map stands_of behind) c z new) (sym counts_behind) counted_now.1;
         counts = (subst B (sym counts_behind) counted_now).0;
         labels = subst (λ z. Labelled o rp states (map stands_of behind) c z (leasts_in c behind) new) (sym counts_behind)
-            (subst (λ z. Labelled o rp states (map stands_of behind) c (counts_in c falls.counted) z new) (sym labels_behind) labelled_now);
+            (subst (λ z. Labelled o rp states (map stands_of behind) c (counts_in c is_killed.counted) z new) (sym labels_behind) labelled_now);
       }
 
     -- ---- how many go on
 
-    going_before : (j : ℕ) → going_at (slice_get falls.labelled j) ≡ going_at (slice_get rs j)
-    going_before j = rest_going dead falls.labelled between j ∙ at_set going_at rs x falls.stood (dead_record falls.stood label) falls.there refl j
+    going_before : (j : ℕ) → going_at (slice_get is_killed.labelled j) ≡ going_at (slice_get rs j)
+    going_before j = rest_going dead is_killed.labelled between j ∙ at_set going_at rs x is_killed.stood (dead_record is_killed.stood label) is_killed.there refl j
 
     lessened : (j : ℕ) (r : Record) → slice_get behind j ≡ Some r → (q : Record) × (slice_get rs j ≡ Some q) × (up_in rs x ≡ Some j → r.going ≡ q.going - 1) × (up_in rs x ≢ Some j → r.going ≡ q.going)
     lessened j r e =
         let q = paths j r e in
-        let w = left_going x falls.labelled behind falls.left j r e in
-        let same : going_at (slice_get falls.labelled j) ≡ q.0.going = going_before j ∙ ap going_at q.1 in
-        let up : up_in falls.labelled x ≡ up_in rs x = ap (λ z. z x) ups_labelled in
+        let w = left_going x is_killed.labelled behind is_killed.left j r e in
+        let same : going_at (slice_get is_killed.labelled j) ≡ q.0.going = going_before j ∙ ap going_at q.1 in
+        let up : up_in is_killed.labelled x ≡ up_in rs x = ap (λ z. z x) ups_labelled in
         (q.0, q.1, (λ u. w.0 (up ∙ u) ∙ ap (λ z. z - 1) same), (λ u. w.1 (λ z. u (sym up ∙ z)) ∙ same))
 
     pub died : (new : Node S) × IsReplaced (place o rp l) (Live l) a root new × Keeps o rp (record { states = states; records = behind }) new
@@ -320,4 +320,4 @@ module _ {S : Type 0} (o : Ops S) (states : List S) (rs behind : List Record) (x
     )
 
 pub died_keeps : {S : Type 0} (o : Ops S) → LocalLaws o → DiedKeeps o
-died_keeps o law rp root states rs behind x f label l kept has less falls = died o states rs behind x f label l has falls law rp root kept less
+died_keeps o law rp root states rs behind x f label l kept has less is_killed = died o states rs behind x f label l has is_killed law rp root kept less

@@ -12,7 +12,7 @@ use Rattle.shim_semantics.specs.Trees.{Tree, Meet, met, after}
 use Rattle.shim_semantics.proofs.Replaced.{sound_at}
 use Rattle.shim_laws_schedules.proofs.Unshared.{stands_shares}
 use Rattle.shim_laws_records.specs.Seen.{Sort, lives, forks, ends, dies, place}
-use Rattle.shim_laws_records.specs.Agrees.{Standing, Shows}
+use Rattle.shim_laws_records.specs.Agrees.{RecordView, Shows}
 use Rattle.shim_laws_records.specs.Places.{got}
 use Rattle.shim_laws_records.specs.Changes.{HaveReceived}
 use Rattle.shim_laws_records.proofs.SameTrees.{same_or_not, seen_live}
@@ -20,18 +20,19 @@ use Rattle.shim_laws_records.proofs.OneChange.{one_state, one_sort}
 use Rattle.shim_laws_records.proofs.OneTree.{one_tree}
 use Rattle.shim_laws_records.proofs.Shown.{events_are_shown}
 use Rattle.shim_laws_records.proofs.Hanging.{tree_of}
+use Rattle.shim_records.specs.Members.{IsAmong}
 use Rattle.shim_records.specs.Pairs.{stands_of}
 use Rattle.shim_records.proofs.Stepping.{set_there, set_elsewhere}
 use Rattle.shim_records.proofs.ReadOff.{same_stands}
 use Rattle.shim_laws_keeping.specs.Flats.{FlatView, HasProcess, Keeps}
-use Rattle.shim_laws_meetings.specs.Sharers.{IsAmong, AreSharers, ListsSharers}
+use Rattle.shim_laws_meetings.specs.Sharers.{AreSharers, ListsSharers}
 use Rattle.shim_laws_meetings.specs.Meetings.{ReceivesOne, stands_elsewhere, received, ReceiveAll, none_left, one_more, IsEnabled, Declares, HasValue, MeetingsMove}
 use Rattle.shim_laws_meetings.proofs.Among.{none_among, among_later, among_split, among_or_not, AreDistinct, distinct}
 use Rattle.shim_laws_meetings.proofs.AtHome.{below_home, home_shares, can_meet}
 use Rattle.shim_laws_meetings.proofs.Receives.{received_keeps, moves_on_rest}
 
 module _ {S : Type 0} (o : Ops S) (law : LocalLaws o) (c : Channel) (v : ℤ) where
-  abbrev stands : FlatView S → List Standing
+  abbrev stands : FlatView S → List RecordView
   stands w = map stands_of w.records
 
   -- ---- one of them

@@ -17,9 +17,10 @@ use Rattle.shim_laws_records.proofs.OneChange.{one_state}
 use Rattle.shim_laws_records.proofs.OneTree.{covered}
 use Rattle.shim_laws_records.proofs.Hanging.{tree_of}
 use Rattle.shim_laws_records.proofs.Sources.{sources_by_records}
+use Rattle.shim_records.specs.Members.{IsAmong}
 use Rattle.shim_records.specs.Pairs.{stands_of}
 use Rattle.shim_laws_keeping.specs.Flats.{FlatView, HasProcess}
-use Rattle.shim_laws_meetings.specs.Sharers.{Precedes, IsAmong, InOrder, AreSharers}
+use Rattle.shim_laws_meetings.specs.Sharers.{Precedes, InOrder, AreSharers}
 use Rattle.shim_laws_meetings.specs.Names.{IsFirstName, nobody, later, first, NamesFound}
 use Rattle.shim_laws_meetings.proofs.Among.{none_among, among_split, not_before, not_behind}
 use Rattle.shim_laws_meetings.proofs.AtHome.{below_home, home_shares, can_meet}
@@ -52,15 +53,15 @@ module _ {S : Type 0} (o : Ops S) (c : Channel) where
           | inl same ↦ none g t (subst (λ z. HasProcess v z g t lives) (sym same) has)
           | inr h ↦ rest j g t h has
         ])
-        on (one_stands j f l d has stop its e rest) = one_stands j f l d has stop its e (λ k g t among standing y. elim (among_split k i is among) [
-          | inl same ↦ clash (is_next (o.stop t) c) y (none g t (subst (λ z. HasProcess v z g t lives) (sym same) standing))
-          | inr h ↦ rest k g t h standing y
+        on (one_stands j f l d has stop its e rest) = one_stands j f l d has stop its e (λ k g t among status y. elim (among_split k i is among) [
+          | inl same ↦ clash (is_next (o.stop t) c) y (none g t (subst (λ z. HasProcess v z g t lives) (sym same) status))
+          | inr h ↦ rest k g t h status y
         ])
-    firsts (first i f l d is has stop its) ordered = one_stands i f l d has stop its refl (λ j g t among standing y. elim (among_split j i is among) [
+    firsts (first i f l d is has stop its) ordered = one_stands i f l d has stop its refl (λ j g t among status y. elim (among_split j i is among) [
       | inl same ↦
-          let is_l : t ≡ l = one_state v.states (map stands_of v.records) i g f t l lives lives (subst (λ z. HasProcess v z g t lives) (sym same) standing) has in
+          let is_l : t ≡ l = one_state v.states (map stands_of v.records) i g f t l lives lives (subst (λ z. HasProcess v z g t lives) (sym same) status) has in
           ap (λ z. is_before (place o rp z) (place o rp l)) is_l ∙ not_before (place o rp l)
-      | inr h ↦ not_behind (place o rp l) (place o rp t) (ordered.0 j h f g l t lives lives has standing)
+      | inr h ↦ not_behind (place o rp l) (place o rp t) (ordered.0 j h f g l t lives lives has status)
     ])
 
 pub names_found : {S : Type 0} (o : Ops S) → LocalLaws o → NamesFound o
@@ -84,4 +85,4 @@ names_found {S} o law v c i numbers x home enabled lists named rp root kept = ap
         let has : HasProcess v w.number w.first t lives = subst (λ z. HasProcess v w.number w.first t z) (ap (λ z. z.1) same) (subst (λ z. HasProcess v w.number w.first z w.sort_is) (ap (λ z. z.0) same) w.has) in
         clash (is_next (o.stop t) c) y (none w.number w.first t (stander_among w.number w.first t has y) has)) ∙ sym e
     on (one_stands j f l d has stop its e before) =
-        (sources_by_records o).name rp v.states (map stands_of v.records) root c j f l d kept.shows has stop its (λ k g t standing y. before k g t (stander_among k g t standing y) standing y) ∙ sym e
+        (sources_by_records o).name rp v.states (map stands_of v.records) root c j f l d kept.shows has stop its (λ k g t status y. before k g t (stander_among k g t status y) status y) ∙ sym e

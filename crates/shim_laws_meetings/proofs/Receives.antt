@@ -15,8 +15,8 @@ use Rattle.shim_laws_records.specs.Seen.{lives, place}
 use Rattle.shim_laws_records.specs.Agrees.{Has, Shows}
 use Rattle.shim_laws_records.specs.Places.{IsReplaced}
 use Rattle.shim_laws_records.specs.Changes.{HasChanged}
-use Rattle.shim_laws_records.specs.Counts.{Tally, Reading as Read, reading}
-use Rattle.shim_laws_records.specs.Climbing.{Climbed}
+use Rattle.shim_laws_records.specs.Counts.{Tally, Reading as Read, live_reading, reading}
+use Rattle.shim_laws_records.specs.Updating.{UpdatedAbove}
 use Rattle.shim_laws_records.proofs.SameTrees.{seen_live, put_replaces}
 use Rattle.shim_laws_records.proofs.Singles.{singles_are_shown}
 use Rattle.shim_records.specs.Pairs.{stands_of, up_in, counts_in, leasts_in, rest_of, reading_of, Rest}
@@ -26,12 +26,12 @@ use Rattle.shim_records.proofs.ReadOff.{same_stands}
 use Rattle.shim_records.proofs.WholeWay.{rest_ups, kept_order}
 use Rattle.shim_laws_keeping.specs.Flats.{GoRight, Keeps}
 use Rattle.shim_laws_keeping.proofs.Forks.{as_many}
-use Rattle.shim_laws_meetings.specs.Receiving.{live_reading, ComesTo, no_other, other, MovesOn}
+use Rattle.shim_laws_meetings.specs.Receiving.{ComesTo, no_other, other, MovesOn}
 use Rattle.shim_laws_meetings.specs.Laws.{ReceivedKeeps}
-use Rattle.shim_laws_records.specs.Sinking.{Labelled}
+use Rattle.shim_laws_records.specs.LoweredLabels.{Labelled}
 use Rattle.shim_laws_keeping.proofs.Moved.{set_length, was_record}
 use Rattle.shim_laws_meetings.proofs.Lists.{same_length, rest_paths}
-use Rattle.shim_laws_meetings.proofs.Replacing.{Both, was_fork, unread, gone, unlabelled, keeps}
+use Rattle.shim_laws_meetings.proofs.Replacing.{Both, was_fork, unread, walked, unlabelled, keeps}
 
 -- beside counts the records stay as they are
 pub moves_on_rest : {S : Type 0} {o : Ops S} {s : S} {c : Channel} {n x : ℕ} {before behind : List Record} → MovesOn o s c n x before behind → map rest_of behind ≡ map rest_of before
@@ -39,7 +39,7 @@ moves_on_rest {o = o} {s = s} {c = c} {n = n} {x = x} {behind = behind} on = cam
   where
     came_rest : ComesTo o s c n x on.between behind → map rest_of behind ≡ map rest_of on.between
     came_rest (no_other e same) = ap (map rest_of) same
-    came_rest (other e was is g far u w climbed) = climbed.1.rest
+    came_rest (other e was is g far u w updated) = updated.1.rest
 
 module _ {S : Type 0} (o : Ops S) (law : LocalLaws o) (rp : Path) (root : Node S) (states : List S) (rs behind : List Record) (x f : ℕ) (l : S) (d : NamedChannel) (v : ℤ)
     (kept : Keeps o rp (record { states = states; records = rs }) root) (has : Has states (map stands_of rs) x f l lives) (stop : o.stop l ≡ AtNext d) (on : MovesOn o (o.receive l v) d.channel 4294967295 x rs behind) where
@@ -104,7 +104,7 @@ module _ {S : Type 0} (o : Ops S) (law : LocalLaws o) (rp : Path) (root : Node S
     where
       on_came : ComesTo o s d.channel 4294967295 x on.between behind → leasts_in c behind ≡ leasts_in c on.between
       on_came (no_other e is) = ap (leasts_in c) is
-      on_came (other e was is g far u w climbed) = λ t i. climbed.1.labels c i t
+      on_came (other e was is g far u w updated) = λ t i. updated.1.labels c i t
 
   module _ (c : Channel) where
     abbrev B : (ℕ → Option Tally) → Type 0
@@ -115,13 +115,13 @@ module _ {S : Type 0} (o : Ops S) (law : LocalLaws o) (rp : Path) (root : Node S
     still far e = unread o law rp states states' rs behind root new l (Live s) x f kept has changed refl path given rep shown ups c
         (λ i. let r : Read = record { joining = sym (shares c) i; readiness = (ap (λ z. is_next z c) stop ∙ (far ∙ sym e)) i; failing = false } in r)
 
-    climbs : (was is : Read) (after : ℕ → Option Tally) → reading o c (Live l) ≡ was → reading o c (Live s) ≡ is → o.shares s c ≡ true → Climbed (up_in rs) 4294967295 4294967295 (counts_in c rs) x was is after → B after
-    climbs was is after e g h climbed = gone o law rp states states' rs behind root new l (Live s) x f kept has changed refl path given rep shown ups c was is after e g h
-        (subst (λ z. Climbed z 4294967295 4294967295 (counts_in c rs) x was is after) (sym ups) climbed)
+    counts_above : (was is : Read) (after : ℕ → Option Tally) → reading o c (Live l) ≡ was → reading o c (Live s) ≡ is → o.shares s c ≡ true → UpdatedAbove (up_in rs) 4294967295 4294967295 (counts_in c rs) x was is after → B after
+    counts_above was is after e g h updated = walked o law rp states states' rs behind root new l (Live s) x f kept has changed refl path given rep shown ups c was is after e g h
+        (subst (λ z. UpdatedAbove z 4294967295 4294967295 (counts_in c rs) x was is after) (sym ups) updated)
 
     -- the one at which it stood
     stood : same_channel d.channel c ≡ true → B (counts_in c behind)
-    stood w = subst B (sym (kept_counts on.came)) (climbs (live_reading true) (live_reading (is_next (o.stop s) c)) (counts_in c on.between)
+    stood w = subst B (sym (kept_counts on.came)) (counts_above (live_reading true) (live_reading (is_next (o.stop s) c)) (counts_in c on.between)
         (λ i. let r : Read = record { joining = shared i; readiness = (ap (λ z. is_next z c) stop ∙ w) i; failing = false } in r)
         (λ i. let r : Read = record { joining = (shares c ∙ shared) i; readiness = is_next (o.stop s) c; failing = false } in r)
         (shares c ∙ shared) way)
@@ -132,14 +132,14 @@ module _ {S : Type 0} (o : Ops S) (law : LocalLaws o) (rp : Path) (root : Node S
         shared : o.shares l c ≡ true
         shared = ap (o.shares l) (sym is) ∙ law.next_shares l d sound stop
 
-        way : Climbed (up_in rs) 4294967295 4294967295 (counts_in c rs) x (live_reading true) (live_reading (is_next (o.stop s) c)) (counts_in c on.between)
-        way = subst (λ z. Climbed (up_in rs) 4294967295 4294967295 (counts_in z rs) x (live_reading true) (live_reading (is_next (o.stop s) z)) (counts_in z on.between)) is
-            (subst (λ z. Climbed (up_in rs) 4294967295 4294967295 (counts_in d.channel rs) x (live_reading true) z (counts_in d.channel on.between)) on.stands
-            (subst (λ z. Climbed (up_in rs) 4294967295 4294967295 (counts_in d.channel rs) x z (reading_of on.is) (counts_in d.channel on.between)) on.stood on.left.0))
+        way : UpdatedAbove (up_in rs) 4294967295 4294967295 (counts_in c rs) x (live_reading true) (live_reading (is_next (o.stop s) c)) (counts_in c on.between)
+        way = subst (λ z. UpdatedAbove (up_in rs) 4294967295 4294967295 (counts_in z rs) x (live_reading true) (live_reading (is_next (o.stop s) z)) (counts_in z on.between)) is
+            (subst (λ z. UpdatedAbove (up_in rs) 4294967295 4294967295 (counts_in d.channel rs) x (live_reading true) z (counts_in d.channel on.between)) on.stands
+            (subst (λ z. UpdatedAbove (up_in rs) 4294967295 4294967295 (counts_in d.channel rs) x z (reading_of on.is) (counts_in d.channel on.between)) on.stood on.left.0))
 
         kept_counts : ComesTo o s d.channel 4294967295 x on.between behind → counts_in c behind ≡ counts_in c on.between
         kept_counts (no_other e b) = ap (counts_in c) b
-        kept_counts (other e was is' g far u y climbed) = λ t i. climbed.1.elsewhere c (ap (λ z. same_channel e.channel z) (sym is) ∙ not_same e.channel far) i t
+        kept_counts (other e was is' g far u y updated) = λ t i. updated.1.elsewhere c (ap (λ z. same_channel e.channel z) (sym is) ∙ not_same e.channel far) i t
           where
             not_same : (b : Channel) → same_channel d.channel b ≡ false → same_channel b d.channel ≡ false
             not_same b far = elim (true_or_false (same_channel b d.channel)) [
@@ -156,22 +156,22 @@ module _ {S : Type 0} (o : Ops S) (law : LocalLaws o) (rp : Path) (root : Node S
 
         on_came : ComesTo o s d.channel 4294967295 x on.between behind → B (counts_in c behind)
         on_came (no_other e b) = subst B (sym (ap (counts_in c) b ∙ between_same)) (still far (e c far))
-        on_came (other e was is g out u y climbed) = at_channel (same_channel e.channel c) refl
+        on_came (other e was is g out u y updated) = at_channel (same_channel e.channel c) refl
           where
             at_channel : (b : Bool) → same_channel e.channel c ≡ b → B (counts_in c behind)
-            at_channel false w = subst B (sym ((λ t i. climbed.1.elsewhere c w i t) ∙ between_same)) (still far (ap (λ z. is_next z c) g ∙ w))
+            at_channel false w = subst B (sym ((λ t i. updated.1.elsewhere c w i t) ∙ between_same)) (still far (ap (λ z. is_next z c) g ∙ w))
             at_channel true w =
                 let is' = same_channel_is e.channel c w in
                 let shared : o.shares s c ≡ true = ap (o.shares s) (sym is') ∙ law.next_shares s e sound' g in
-                climbs (live_reading false) (live_reading true) (counts_in c behind)
+                counts_above (live_reading false) (live_reading true) (counts_in c behind)
                 (λ i. let r : Read = record { joining = (sym (shares c) ∙ shared) i; readiness = (ap (λ z. is_next z c) stop ∙ far) i; failing = false } in r)
                 (λ i. let r : Read = record { joining = shared i; readiness = (ap (λ z. is_next z c) g ∙ w) i; failing = false } in r)
                 shared
-                (subst (λ z. Climbed z 4294967295 4294967295 (counts_in c rs) x (live_reading false) (live_reading true) (counts_in c behind)) ups_between
-                (subst (λ z. Climbed (up_in on.between) 4294967295 4294967295 z x (live_reading false) (live_reading true) (counts_in c behind)) between_same
-                (subst (λ z. Climbed (up_in on.between) 4294967295 4294967295 (counts_in z on.between) x (live_reading false) (live_reading true) (counts_in z behind)) is'
-                (subst (λ z. Climbed (up_in on.between) 4294967295 4294967295 (counts_in e.channel on.between) x (live_reading false) z (counts_in e.channel behind)) y
-                (subst (λ z. Climbed (up_in on.between) 4294967295 4294967295 (counts_in e.channel on.between) x z (reading_of is) (counts_in e.channel behind)) u climbed.0)))))
+                (subst (λ z. UpdatedAbove z 4294967295 4294967295 (counts_in c rs) x (live_reading false) (live_reading true) (counts_in c behind)) ups_between
+                (subst (λ z. UpdatedAbove (up_in on.between) 4294967295 4294967295 z x (live_reading false) (live_reading true) (counts_in c behind)) between_same
+                (subst (λ z. UpdatedAbove (up_in on.between) 4294967295 4294967295 (counts_in z on.between) x (live_reading false) (live_reading true) (counts_in z behind)) is'
+                (subst (λ z. UpdatedAbove (up_in on.between) 4294967295 4294967295 (counts_in e.channel on.between) x (live_reading false) z (counts_in e.channel behind)) y
+                (subst (λ z. UpdatedAbove (up_in on.between) 4294967295 4294967295 (counts_in e.channel on.between) x z (reading_of is) (counts_in e.channel behind)) u updated.0)))))
 
     counted : B (counts_in c behind)
     counted = elim (true_or_false (same_channel d.channel c)) [ inl w ↦ stood w | inr w ↦ elsewhere w ]

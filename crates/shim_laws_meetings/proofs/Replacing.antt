@@ -7,14 +7,14 @@ use Rattle.shim_local.specs.Laws.{LocalLaws}
 use Rattle.shim_semantics.specs.Nodes.{Node, Live, state}
 use Rattle.shim_semantics.specs.Places.{branches}
 use Rattle.shim_laws_records.specs.Seen.{Sort, lives, forks, sort, is_leaf, place}
-use Rattle.shim_laws_records.specs.Agrees.{Standing, used, Has, Shows}
+use Rattle.shim_laws_records.specs.Agrees.{RecordView, used, Has, Shows}
 use Rattle.shim_laws_records.specs.Places.{IsReplaced}
 use Rattle.shim_laws_records.specs.Changes.{HasChanged}
 use Rattle.shim_laws_records.specs.Counts.{Tally, Reading as Read, reading}
 use Rattle.shim_laws_records.specs.Tallied.{Tallied, OnTheWay, HaveCounts}
-use Rattle.shim_laws_records.specs.Climbing.{AreLinked, AreAtMost, Climbed}
+use Rattle.shim_laws_records.specs.Updating.{AreLinked, AreAtMost, UpdatedAbove}
 use Rattle.shim_laws_records.specs.Dooms.{least, least_among}
-use Rattle.shim_laws_records.specs.Sinking.{Labelled, LabelsOnTheWay}
+use Rattle.shim_laws_records.specs.LoweredLabels.{Labelled, LabelsOnTheWay}
 use Rattle.shim_laws_records.proofs.SameTrees.{same_or_not, no_fork}
 use Rattle.shim_laws_records.proofs.OneChange.{one_state, one_sort}
 use Rattle.shim_laws_records.proofs.Begun.{counts_begin}
@@ -35,10 +35,10 @@ module _ {S : Type 0} (o : Ops S) (law : LocalLaws o) (rp : Path) (states states
     (changed : HasChanged states states' (map stands_of rs) (map stands_of behind) x (state a) (sort a)) (leaf : is_leaf a ≡ true)
     (path : o.path (state a) ≡ o.path l) (given : o.given (state a) ≡ o.given l) (rep : IsReplaced (place o rp l) (Live l) a old new)
     (shown : Shows o rp states' (map stands_of behind) new) (ups : up_in behind ≡ up_in rs) where
-  abbrev st : List Standing
+  abbrev st : List RecordView
   st = map stands_of rs
 
-  abbrev st' : List Standing
+  abbrev st' : List RecordView
   st' = map stands_of behind
 
   pub same_place : place o rp (state a) ≡ place o rp l
@@ -84,9 +84,9 @@ module _ {S : Type 0} (o : Ops S) (law : LocalLaws o) (rp : Path) (states states
     pub its_own : (r : Path) → c.home ≡ o.path (state a) ++ r → Both (counts_in c rs)
     its_own r home = ((counts_follow o law).own rp states' st' c old new x changed.first (state a) (sort a) r (counts_in c rs) shown changed.mine home begun.1 way, begun.1)
 
-    -- for others the way up was gone
-    pub gone : (was is : Read) (after : ℕ → Option Tally) → reading o c (Live l) ≡ was → reading o c a ≡ is → o.shares (state a) c ≡ true → Climbed (up_in behind) 4294967295 4294967295 (counts_in c rs) x was is after → Both after
-    gone was is after e g shares climbed = (counts_follow o law).climbed rp states' st' (up_in behind) c old new (Live l) a 4294967295 4294967295 x changed.first (state a) (sort a) was is (counts_in c rs) after shown linked few changed.mine rep' e g near shares begun.1 way climbed
+    -- for others the way up was walked
+    pub walked : (was is : Read) (after : ℕ → Option Tally) → reading o c (Live l) ≡ was → reading o c a ≡ is → o.shares (state a) c ≡ true → UpdatedAbove (up_in behind) 4294967295 4294967295 (counts_in c rs) x was is after → Both after
+    walked was is after e g shares updated = (counts_follow o law).updated rp states' st' (up_in behind) c old new (Live l) a 4294967295 4294967295 x changed.first (state a) (sort a) was is (counts_in c rs) after shown linked few changed.mine rep' e g near shares begun.1 way updated
 
     pub labels_begun : LabelsOnTheWay o rp states' st' c (counts_in c rs) (leasts_in c rs) old new (place o rp (state a))
     labels_begun = subst (LabelsOnTheWay o rp states' st' c (counts_in c rs) (leasts_in c rs) old new) (sym same_place)

@@ -9,9 +9,10 @@ use Rattle.shim_semantics.proofs.HowMany.{clash}
 use Rattle.shim_laws_records.specs.Seen.{Sort, place}
 use Rattle.shim_laws_records.proofs.Hanging.{tree_of}
 use Rattle.shim_laws_records.proofs.Sources.{sources_by_records}
+use Rattle.shim_records.specs.Members.{IsAmong}
 use Rattle.shim_records.specs.Pairs.{stands_of}
 use Rattle.shim_laws_keeping.specs.Flats.{HasProcess}
-use Rattle.shim_laws_meetings.specs.Sharers.{IsAmong, AreSharers}
+use Rattle.shim_laws_meetings.specs.Sharers.{AreSharers}
 use Rattle.shim_laws_meetings.specs.Values.{IsValueAmong, carried, nobody, ValuesFound}
 use Rattle.shim_laws_meetings.proofs.AtHome.{below_home, home_shares, can_meet, node_at}
 

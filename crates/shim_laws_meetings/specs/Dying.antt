@@ -5,14 +5,14 @@ use Rattle.shim_records.specs.Killed.{IsKilled}
 use Rattle.shim_records.specs.Died.{IsTaken}
 use Rattle.shim_records.specs.Leaving.{HasLeft}
 use Rattle.shim_records.specs.declared.record.Record.{Record}
-use Rattle.shim_records.specs.declared.record.Standing.TheVariants.{Dead}
+use Rattle.shim_records.specs.declared.record.Status.TheVariants.{Dead}
 
 -- the record of a process that died of an exception with this label
 abbrev pub dead_record : Record → ℕ → Record
-dead_record r label = record { standing = Dead label; first = r.first; parent = r.parent; path = r.path; going = r.going; pairs = r.pairs }
+dead_record r label = record { status = Dead label; first = r.first; parent = r.parent; path = r.path; going = r.going; pairs = r.pairs }
 
--- the record x says so, the ways up were gone and the label taken in through at most n forks, and its fork has one child less that goes on
-pub record Falls {S : Type 0} (o : Ops S) (s : S) (label n x : ℕ) (before behind : List Record) : Type 0 where
+-- the record x says so, the ways up were walked and the label taken in through at most n forks, and its fork has one child less that goes on
+pub record DiesAt {S : Type 0} (o : Ops S) (s : S) (label n x : ℕ) (before behind : List Record) : Type 0 where
   pub stood : Record
   pub there : slice_get before x ≡ Some stood
   pub counted : List Record

@@ -8,19 +8,19 @@ use Rattle.shim_laws_records.specs.Seen.{Sort, lives, forks, place}
 use Rattle.shim_laws_records.specs.Changes.{HaveDied}
 use Rattle.shim_laws_keeping.specs.Flats.{FlatView, stands, HasProcess, Keeps}
 use Rattle.shim_laws_keeping.specs.Moves.{MovesBy}
-use Rattle.shim_laws_meetings.specs.Dying.{Falls}
+use Rattle.shim_laws_meetings.specs.Dying.{DiesAt}
 use Rattle.shim_laws_meetings.specs.Sharers.{ListsSharers}
 use Rattle.shim_laws_meetings.specs.Meetings.{IsEnabled}
 
 -- the process with this number has died of an exception with this label, if it lived and had no handler for it
-pub data FallsOne {S : Type 0} (o : Ops S) (label i : ℕ) (before behind : FlatView S) : Type 0 where
-  spared : ((f : ℕ) (l : S) → HasProcess before i f l lives → label < o.base l → ⊥) → behind ≡ before → FallsOne o label i before behind
-  fell : (f : ℕ) (l : S) → HasProcess before i f l lives → label < o.base l → behind.states ≡ before.states → Falls o l label 4294967295 i before.records behind.records → FallsOne o label i before behind
+pub data DiesOne {S : Type 0} (o : Ops S) (label i : ℕ) (before behind : FlatView S) : Type 0 where
+  survived : ((f : ℕ) (l : S) → HasProcess before i f l lives → label < o.base l → ⊥) → behind ≡ before → DiesOne o label i before behind
+  was_killed : (f : ℕ) (l : S) → HasProcess before i f l lives → label < o.base l → behind.states ≡ before.states → DiesAt o l label 4294967295 i before.records behind.records → DiesOne o label i before behind
 
 -- all of them, one after the other
-pub data AllFall {S : Type 0} (o : Ops S) (label : ℕ) : List ℕ → FlatView S → FlatView S → Type 0 where
-  none_left : (w : FlatView S) → AllFall o label [] w w
-  one_more : (i : ℕ) (is : List ℕ) (before between behind : FlatView S) → FallsOne o label i before between → AllFall o label is between behind → AllFall o label (i ∷ is) before behind
+pub data AllDie {S : Type 0} (o : Ops S) (label : ℕ) : List ℕ → FlatView S → FlatView S → Type 0 where
+  none_left : (w : FlatView S) → AllDie o label [] w w
+  one_more : (i : ℕ) (is : List ℕ) (before between behind : FlatView S) → DiesOne o label i before between → AllDie o label is between behind → AllDie o label (i ∷ is) before behind
 
 -- the process with this number is a child, of a fork of a process with this state
 pub record IsChildOf {S : Type 0} (v : FlatView S) (i : ℕ) (k l : S) : Type 0 where
@@ -42,5 +42,5 @@ AllDied {S} o c label i before behind = (rp : Path) (root : Node S) (f : ℕ) (k
 
 -- Where a child's poison is enabled, and all that live and share the channel at and below it die one after the other of the innermost label in force at its fork, the tree moves by the poison.
 abbrev pub PoisonsMove : {S : Type 0} → Ops S → Type 0
-PoisonsMove {S} o = (before behind : FlatView S) (c : Channel) (i label : ℕ) (k l : S) (numbers : List ℕ) → IsChildOf before i k l → label ≡ o.handlers l - 1 → IsEnabled o (Poison (o.path k) c) before → ListsSharers o before c i numbers → AllFall o label numbers before behind
+PoisonsMove {S} o = (before behind : FlatView S) (c : Channel) (i label : ℕ) (k l : S) (numbers : List ℕ) → IsChildOf before i k l → label ≡ o.handlers l - 1 → IsEnabled o (Poison (o.path k) c) before → ListsSharers o before c i numbers → AllDie o label numbers before behind
     → MovesBy o (Poison (o.path k) c) before behind × AllDied o c label i before behind

@@ -5,6 +5,7 @@ use Rattle.shim_local.specs.Process.{Ops}
 use Rattle.shim_semantics.specs.Nodes.{Node}
 use Rattle.shim_laws_records.specs.Seen.{Sort, place}
 use Rattle.shim_laws_records.specs.Sources.{is_before}
+use Rattle.shim_records.specs.Members.{IsAmong}
 use Rattle.shim_laws_keeping.specs.Flats.{FlatView, HasProcess, Keeps}
 
 -- the process with this number shares the channel, and its place is q or further along
@@ -20,10 +21,6 @@ pub record SharesFrom {S : Type 0} (o : Ops S) (rp : Path) (v : FlatView S) (c :
 -- on a walk from the root with leftmost children first the process with the first number comes before that with the second one
 abbrev pub Precedes : {S : Type 0} → Ops S → Path → FlatView S → ℕ → ℕ → Type 0
 Precedes {S} o rp v i j = (f g : ℕ) (s t : S) (k h : Sort) → HasProcess v i f s k → HasProcess v j g t h → is_before (place o rp s) (place o rp t) ≡ true
-
--- one of these is it
-abbrev pub IsAmong : {A : Type 0} → A → List A → Type 0
-IsAmong {A} x xs = (at : ℕ) × (slice_get xs at ≡ Some x)
 
 -- each of these stands so to those behind it
 abbrev pub InOrder : {A : Type 0} → (A → A → Type 0) → List A → Type 0

@@ -3,8 +3,9 @@ use Rattle.std.specs.Prelude.{◌≡◌, ℕ, ℤ, pos, true, false, Some, List,
 use Rattle.shim_base.specs.Paths.{Channel}
 use Rattle.shim_local.specs.Process.{Ops}
 use Rattle.shim_semantics.specs.Trees.{Meet}
+use Rattle.shim_records.specs.Members.{IsAmong}
 use Rattle.shim_laws_keeping.specs.Flats.{FlatView}
-use Rattle.shim_laws_meetings.specs.Sharers.{IsAmong, ListsSharers}
+use Rattle.shim_laws_meetings.specs.Sharers.{ListsSharers}
 use Rattle.shim_laws_meetings.specs.Meetings.{IsEnabled, Declares, HasValue}
 
 -- it is that of the one of these numbers that carries the channel, or none of them does and it is 0

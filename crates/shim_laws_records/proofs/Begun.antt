@@ -11,7 +11,7 @@ use Rattle.shim_semantics.specs.Places.{at, child_at, branches}
 use Rattle.shim_semantics.proofs.ReplacedNodes.{put, put_child}
 use Rattle.shim_base.proofs.Facts.{some_same, none_some}
 use Rattle.shim_laws_records.specs.Seen.{Sort, lives, forks, sort, place, IsAside}
-use Rattle.shim_laws_records.specs.Agrees.{Standing, Has, Agrees}
+use Rattle.shim_laws_records.specs.Agrees.{RecordView, Has, Agrees}
 use Rattle.shim_laws_records.specs.Places.{IsReplaced}
 use Rattle.shim_laws_records.specs.Counts.{Tally, tally_of}
 use Rattle.shim_laws_records.specs.Tallied.{Tallied, OnTheWay, is_above, IsCounted, HaveCounts}
@@ -84,7 +84,7 @@ module _ {S : Type 0} (o : Ops S) (c : Channel) where
 
 -- ---- the counts at first
 
-module _ {S : Type 0} (o : Ops S) (rp : Path) (before behind : List S) (stood stands : List Standing) (c : Channel) (old new m a : Node S) (q : List ℕ) (counts now : ℕ → Option Tally)
+module _ {S : Type 0} (o : Ops S) (rp : Path) (before behind : List S) (stood stands : List RecordView) (c : Channel) (old new m a : Node S) (q : List ℕ) (counts now : ℕ → Option Tally)
     (rep : IsReplaced q m a old new) (given : o.given (state a) ≡ o.given (state m))
     (kept : (j f n : ℕ) (s : S) → Has behind stands j f s (forks n) → IsAside (place o rp s) q → (g : ℕ) × Has before stood j g s (forks n) × (now j ≡ counts j))
     (inside : (j f n : ℕ) (s : S) (r : List ℕ) (l : S) (ks : Nodes S) → Has behind stands j f s (forks n) → place o rp s ≡ q ++ r → at r a ≡ Some (Forked l ks) → AreOf o c l ks (now j))
@@ -150,7 +150,7 @@ module _ {S : Type 0} (o : Ops S) where
       subst (λ z. AreOf o c u us (now z)) (sym w) (subst (λ z. AreOf o c z us (now i)) parts.0 (subst (λ z. AreOf o c p z (now i)) parts.1 mine))
 
   -- no fork stands where a process lives, or below
-  pub none_there : {B : Type 0} (rp : Path) (before : List S) (stood : List Standing) (old : Node S) (l : S) (n j d : ℕ) (s : S) (r : List ℕ) → Agrees o rp before stood old → Has before stood j d s (forks n) → at (place o rp l) old ≡ Some (Live l) → place o rp s ≡ place o rp l ++ r → B
+  pub none_there : {B : Type 0} (rp : Path) (before : List S) (stood : List RecordView) (old : Node S) (l : S) (n j d : ℕ) (s : S) (r : List ℕ) → Agrees o rp before stood old → Has before stood j d s (forks n) → at (place o rp l) old ≡ Some (Live l) → place o rp s ≡ place o rp l ++ r → B
   none_there rp before stood old l n j d s r ok has live e =
       let w = seen_fork (at (place o rp s) old) s n (ok.shown j d s (forks n) has) in
       leaf_no_fork r (Live l) s w.0 refl (sym (at_split (place o rp l) r old (Live l) live) ∙ (ap (λ z. at z old) (sym e) ∙ w.1))

@@ -13,11 +13,11 @@ use Rattle.shim_laws_schedules.proofs.Unshared.{is_unshared_still}
 use Rattle.shim_laws_schedules.proofs.Homes.{unshared_is_unshared, ready_has_sharer}
 use Rattle.shim_base.proofs.Facts.{some_same, none_some, and_false, false_unless}
 use Rattle.shim_laws_records.specs.Seen.{Sort, forks, seen, place, how_many_nodes}
-use Rattle.shim_laws_records.specs.Agrees.{Standing, Has, Agrees, Shows}
+use Rattle.shim_laws_records.specs.Agrees.{RecordView, Has, Agrees, Shows}
 use Rattle.shim_laws_records.specs.Places.{IsReplaced}
-use Rattle.shim_laws_records.specs.Counts.{Tally, tally_of, joins, waits, fails, count, bit, is_waiting, Reading, reading, read_of, all_there, Moved}
+use Rattle.shim_laws_records.specs.Counts.{Tally, tally_of, joins, isnt_ready, fails, count, bit, is_missing, Reading, reading, read_of, all_there, Moved}
 use Rattle.shim_laws_records.specs.Tallied.{Tallied, OnTheWay, is_above, HaveCounts}
-use Rattle.shim_laws_records.specs.Climbing.{AreLinked, AreAtMost, CanMove, AreMoved, Climbed, too_far, at_top, no_counts, stays, goes_on, CountsFollow}
+use Rattle.shim_laws_records.specs.Updating.{AreLinked, AreAtMost, CanMove, AreMoved, UpdatedAbove, too_far, at_top, no_counts, stays, goes_on, CountsFollow}
 use Rattle.shim_laws_records.proofs.Aside.{as_many}
 use Rattle.shim_laws_records.proofs.SameTrees.{same_or_not, is_put, fork_count}
 use Rattle.shim_laws_records.proofs.Tallies.{one_more, count_changed}
@@ -57,7 +57,7 @@ bounded e f g = omega (arith, e, f, g)
 room : (y is was now many most : ℕ) → now + was ≡ y + is → now ≤ many → many ≤ most → y + is ≤ most + was
 room y is was now many most e f g = omega (arith, e, f, g)
 
-module _ {S : Type 0} (o : Ops S) (rp : Path) (records : List S) (stands : List Standing) (c : Channel) (up : ℕ → Option ℕ) (most : ℕ) (root a new : Node S) (q : List ℕ)
+module _ {S : Type 0} (o : Ops S) (rp : Path) (records : List S) (stands : List RecordView) (c : Channel) (up : ℕ → Option ℕ) (most : ℕ) (root a new : Node S) (q : List ℕ)
     (shown : Shows o rp records stands new) (is_new : new ≡ put q a root) (linked : AreLinked records stands up) (few : AreAtMost most records stands) where
   ok : Agrees o rp records stands (put q a root)
   ok = subst (Agrees o rp records stands) is_new shown.agrees
@@ -136,9 +136,9 @@ module _ {S : Type 0} (o : Ops S) (rp : Path) (records : List S) (stands : List 
     can =
         let e = sym its_own in
         let live = moves (joins o c) was.joining is.joining y.live (ap (λ w. w.joining) read) (ap (λ w. w.joining) reads) (ap (λ w. w.live) e) in
-        let waiting = moves (waits o c) (is_waiting was) (is_waiting is) y.waiting (ap is_waiting read) (ap is_waiting reads) (ap (λ w. w.waiting) e) in
+        let not_ready = moves (isnt_ready o c) (is_missing was) (is_missing is) y.not_ready (ap is_missing read) (ap is_missing reads) (ap (λ w. w.not_ready) e) in
         let dead = moves (fails o c) was.failing is.failing y.dead (ap (λ w. w.failing) read) (ap (λ w. w.failing) reads) (ap (λ w. w.dead) e) in
-        record { live = live.0; waiting = waiting.0; dead = dead.0; live_fits = live.1; waiting_fits = waiting.1; dead_fits = dead.1 }
+        record { live = live.0; not_ready = not_ready.0; dead = dead.0; live_fits = live.1; not_ready_fits = not_ready.1; dead_fits = dead.1 }
 
     moved : Moved (reading o c m) (reading o c (put t a m)) y z
     moved = subst (λ w. Moved w (reading o c (put t a m)) y z) (sym read) (subst (λ w. Moved was w y z) (sym reads) (step.moved can))
@@ -189,7 +189,7 @@ module _ {S : Type 0} (o : Ops S) (rp : Path) (records : List S) (stands : List 
       on false v = way i d e z y l ks its w (ap (λ k. at (place o rp z) (cond k root (put q a root))) v ∙ at_z)
       on true v = absurd (none_above o rp records stands new shown c x f i d e s z k r has home its v (counts_share o rp records stands new shown c counts have i d e z y its w))
 
-  pub go : LocalLaws o → {n x : ℕ} {was is : Reading} {before behind : ℕ → Option Tally} → Climbed up most n before x was is behind → HaveCounts o rp records stands c before new
+  pub go : LocalLaws o → {n x : ℕ} {was is : Reading} {before behind : ℕ → Option Tally} → UpdatedAbove up most n before x was is behind → HaveCounts o rp records stands c before new
       → (f : ℕ) (s : S) (k : Sort) → Has records stands x f s k → o.shares s c ≡ true → (t : List ℕ) (m : Node S)
       → q ≡ place o rp s ++ t → at (place o rp s) root ≡ Some m → reading o c m ≡ was → reading o c (put t a m) ≡ is → length (place o rp s) ≤ n
       → On before (place o rp s) → Done behind × HaveCounts o rp records stands c behind new
@@ -214,19 +214,19 @@ module _ {S : Type 0} (o : Ops S) (rp : Path) (records : List S) (stands : List 
       (way_on x j f s t m u before between was is y z step have read reads way)
 
 module _ {S : Type 0} (o : Ops S) (law : LocalLaws o) where
-  climbed : (rp : Path) (records : List S) (stands : List Standing) (up : ℕ → Option ℕ) (c : Channel) (old new m a : Node S) (most n x f : ℕ) (s : S) (k : Sort) (was is : Reading) (before behind : ℕ → Option Tally)
+  updated : (rp : Path) (records : List S) (stands : List RecordView) (up : ℕ → Option ℕ) (c : Channel) (old new m a : Node S) (most n x f : ℕ) (s : S) (k : Sort) (was is : Reading) (before behind : ℕ → Option Tally)
       → Shows o rp records stands new → AreLinked records stands up → AreAtMost most records stands → Has records stands x f s k → IsReplaced (place o rp s) m a old new
       → reading o c m ≡ was → reading o c a ≡ is → length (place o rp s) ≤ n → o.shares s c ≡ true
-      → HaveCounts o rp records stands c before new → OnTheWay o rp records stands c before old new (place o rp s) → Climbed up most n before x was is behind
+      → HaveCounts o rp records stands c before new → OnTheWay o rp records stands c before old new (place o rp s) → UpdatedAbove up most n before x was is behind
       → Tallied o rp records stands c behind new × HaveCounts o rp records stands c behind new
-  climbed rp records stands up c old new m a most n x f s k was is before behind shown linked few has rep read reads far shares have way climb =
+  updated rp records stands up c old new m a most n x f s k was is before behind shown linked few has rep read reads far shares have way update_counts_above =
       let q = place o rp s in
       let same = is_put q m a old new rep in
-      let w = go o rp records stands c up most old a new q shown same linked few law climb have f s k has shares [] m (sym (append-nil q)) rep.was read reads far
+      let w = go o rp records stands c up most old a new q shown same linked few law update_counts_above have f s k has shares [] m (sym (append-nil q)) rep.was read reads far
       (subst (λ z. OnTheWay o rp records stands c before old z q) same way) in
       (subst (Tallied o rp records stands c behind) (sym same) w.0, w.1)
 
-  alike : (rp : Path) (records : List S) (stands : List Standing) (c : Channel) (old new m a : Node S) (q : List ℕ) (counts : ℕ → Option Tally)
+  alike : (rp : Path) (records : List S) (stands : List RecordView) (c : Channel) (old new m a : Node S) (q : List ℕ) (counts : ℕ → Option Tally)
       → IsReplaced q m a old new → reading o c m ≡ reading o c a → OnTheWay o rp records stands c counts old new q → Tallied o rp records stands c counts new
   alike rp records stands c old new m a q counts rep same way =
       let is = is_put q m a old new rep in
@@ -234,7 +234,7 @@ module _ {S : Type 0} (o : Ops S) (law : LocalLaws o) where
       subst (Tallied o rp records stands c counts) (sym (is ∙ e))
       (ended o rp records stands c counts old m a q [] rep.was same (subst (λ z. OnTheWay o rp records stands c counts old z q) (is ∙ e) way))
 
-  own : (rp : Path) (records : List S) (stands : List Standing) (c : Channel) (old new : Node S) (x f : ℕ) (s : S) (k : Sort) (r : Path) (counts : ℕ → Option Tally)
+  own : (rp : Path) (records : List S) (stands : List RecordView) (c : Channel) (old new : Node S) (x f : ℕ) (s : S) (k : Sort) (r : Path) (counts : ℕ → Option Tally)
       → Shows o rp records stands new → Has records stands x f s k → c.home ≡ o.path s ++ r
       → HaveCounts o rp records stands c counts new → OnTheWay o rp records stands c counts old new (place o rp s) → Tallied o rp records stands c counts new
   own rp records stands c old new x f s k r counts shown has home have way i d e z y l ks its w at_z = on (is_above (place o rp z) (place o rp s)) refl
@@ -251,4 +251,4 @@ module _ {S : Type 0} (o : Ops S) (law : LocalLaws o) where
       λ i. record { joining = and_false (goes n) (o.shares (state n) c) e i; readiness = never i; failing = and_false (is_dead n) (o.shares (state n) c) e i }
 
   pub counts_follow : CountsFollow o
-  counts_follow = record { climbed = climbed; alike = alike; own = own; unshared = unshared }
+  counts_follow = record { updated = updated; alike = alike; own = own; unshared = unshared }

@@ -16,7 +16,7 @@ use Rattle.shim_laws_schedules.proofs.PoisonDiamond.{nodes_changed_some}
 use Rattle.shim_base.proofs.Facts.{some_same, none_some, first_holds, second_holds, both_hold, cond_some, cond_there, not_false, false_not}
 use Rattle.shim_base.proofs.SamePaths.{same_path_is, same_path_refl}
 use Rattle.shim_laws_records.specs.Seen.{Sort, lives, forks, sort, place, how_many_nodes}
-use Rattle.shim_laws_records.specs.Agrees.{Standing, Has, Shows}
+use Rattle.shim_laws_records.specs.Agrees.{RecordView, Has, Shows}
 use Rattle.shim_laws_records.specs.Counts.{going_of, all_there}
 use Rattle.shim_laws_records.specs.Dooms.{least_among, is_below}
 use Rattle.shim_laws_records.specs.Enabled.{Can, EnabledByRecords, IsAt, at_step, at_end, at_close, at_home, at_child, EnabledAreFound, NothingNew}
@@ -77,7 +77,7 @@ module _ {S : Type 0} (o : Ops S) where
   live_acts l Closes (AtNext c) e = absurd cc
   live_acts l Nothing (AtNext c) e = absurd cc
 
-  module _ (rp : Path) (records : List S) (stands : List Standing) (t : Tree S) (s : Shows o rp records stands t.root) where
+  module _ (rp : Path) (records : List S) (stands : List RecordView) (t : Tree S) (s : Shows o rp records stands t.root) where
     module _ (l : S) (m : Node S) (there : at (place o rp l) t.root ≡ Some m) (is : state m ≡ l) where
       led : route (o.path (state t.root)) (o.path l) ≡ Some (place o rp l)
       led = route_of o t.root m (place o rp l) (o.path l) s.sound.below there (ap o.path is)
@@ -247,27 +247,27 @@ module _ {S : Type 0} (o : Ops S) where
         on None w h = absurd cc
         on (Some m) w h = (q, m, w, same_path_is (o.path (state m)) c.home (first_holds (same_path (o.path (state m)) c.home) (ready o c m) h), second_holds (same_path (o.path (state m)) c.home) (ready o c m) h)
 
-    found_at : (e : Event) → Can o t e → IsAt o records stands e
+    found_at : (e : Event) → Can o t e → (i : ℕ) × IsAt o records stands e i
     found_at (Own p) can =
         let u = there_is (after o (Own p) t) can in
         let x = opened o (Own p) t u.0 (λ z. cc) u.1 in
         let w = found x.place x.old x.there in
-        at_step w.number w.first (state x.old) p (subst (Has records stands w.number w.first (state x.old)) (live_of x.old (inl (steps_is (kind_of o x.old) (its_kind o (Own p) t u.0 x)))) w.has) (its_path o (Own p) t u.0 x)
+        (w.number, at_step w.number w.first (state x.old) p (subst (Has records stands w.number w.first (state x.old)) (live_of x.old (inl (steps_is (kind_of o x.old) (its_kind o (Own p) t u.0 x)))) w.has) (its_path o (Own p) t u.0 x))
     found_at (End p) can =
         let u = there_is (after o (End p) t) can in
         let x = opened o (End p) t u.0 (λ z. cc) u.1 in
         let w = found x.place x.old x.there in
-        at_end w.number w.first (state x.old) p (subst (Has records stands w.number w.first (state x.old)) (live_of x.old (inr (ends_is (kind_of o x.old) (its_kind o (End p) t u.0 x)))) w.has) (its_path o (End p) t u.0 x)
+        (w.number, at_end w.number w.first (state x.old) p (subst (Has records stands w.number w.first (state x.old)) (live_of x.old (inr (ends_is (kind_of o x.old) (its_kind o (End p) t u.0 x)))) w.has) (its_path o (End p) t u.0 x))
     found_at (Close p) can =
         let u = there_is (after o (Close p) t) can in
         let x = opened o (Close p) t u.0 (λ z. cc) u.1 in
         let w = found x.place x.old x.there in
         let n = fork_of x.old (its_kind o (Close p) t u.0 x) in
-        at_close w.number w.first n.0 (state x.old) p (subst (Has records stands w.number w.first (state x.old)) n.1 w.has) (its_path o (Close p) t u.0 x)
+        (w.number, at_close w.number w.first n.0 (state x.old) p (subst (Has records stands w.number w.first (state x.old)) n.1 w.has) (its_path o (Close p) t u.0 x))
     found_at (Meet c) can =
         let y = ready_home c (route (o.path (state t.root)) c.home) (cond_there (meets o c t.root) (Some (met o c (value_of o c (source o c t.root)) t)) can).0 in
         let w = found y.0 y.1 y.2 in
-        at_home w.number w.first (state y.1) (sort y.1) c w.has (goes_of c y.1 y.4) y.3
+        (w.number, at_home w.number w.first (state y.1) (sort y.1) c w.has (goes_of c y.1 y.4) y.3)
     found_at (Poison p c) can =
         let u = there_is (after o (Poison p c) t) can in
         let v = nodes_changed_some t u.0 (poisons o p c t.root) u.1 in
@@ -280,7 +280,7 @@ module _ {S : Type 0} (o : Ops S) where
         let x = s.agrees.below w.number w.first (how_many_nodes z.children) z.parent w.has b less in
         let m = seen_some (at (place o rp x.1) t.root) x.1 x.2 (s.agrees.shown (w.first + b) x.0 x.1 x.2 x.3) in
         let same : y.child ≡ m.0 = some_same y.child m.0 (sym y.there ∙ (ap (λ q. at q t.root) (sym (x.4 ∙ (ap (λ q. q ++ b ∷ []) w.placed ∙ fork_and_last y.place y.further))) ∙ m.1)) in
-        at_child w.number w.first (how_many_nodes z.children) b x.0 z.parent x.1 x.2 p c w.has less x.3 (ap o.path (sym m.2) ∙ (ap (λ z. o.path (state z)) (sym same) ∙ y.path))
+        (w.number, at_child w.number w.first (how_many_nodes z.children) b x.0 z.parent x.1 x.2 p c w.has less x.3 (ap o.path (sym m.2) ∙ (ap (λ z. o.path (state z)) (sym same) ∙ y.path)))
 
   pub enabled_by_records : LocalLaws o → EnabledByRecords o
   enabled_by_records law = record {

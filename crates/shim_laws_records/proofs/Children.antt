@@ -6,7 +6,7 @@ use Rattle.shim_semantics.specs.Nodes.{Node, Nodes, Live, Forked, Ended, Dead, D
 use Rattle.shim_semantics.specs.Places.{at, child_at}
 use Rattle.shim_base.proofs.Facts.{some_same, none_some}
 use Rattle.shim_laws_records.specs.Seen.{forks, seen, sort, place, how_many_nodes}
-use Rattle.shim_laws_records.specs.Agrees.{Standing, used, Has}
+use Rattle.shim_laws_records.specs.Agrees.{RecordView, used, Has}
 use Rattle.shim_laws_records.specs.Changes.{block, prevailing_of, prevailing_among, ChildrenAreShown}
 use Rattle.shim_laws_records.proofs.Aside.{at_split}
 use Rattle.shim_laws_records.proofs.SameTrees.{seen_state, seen_sort, child_counted, fork_count}
@@ -28,7 +28,7 @@ one_on : (g b : ℕ) → suc g + b ≡ g + suc b
 one_on g b = omega arith
 
 -- what a child's record says
-record Says {S : Type 0} (states' : List S) (stands : List Standing) (i : ℕ) (k : Node S) : Type 0 where
+record Says {S : Type 0} (states' : List S) (stands : List RecordView) (i : ℕ) (k : Node S) : Type 0 where
   pub first : ℕ
   pub has : Has states' stands i first (state k) (sort k)
 
@@ -38,7 +38,7 @@ prevails f (Forked l js) ks d e = e
 prevails f (Ended l) ks d e = e
 prevails f (Dead l x) ks d e = ap (prevailing x) e
 
-module _ {S : Type 0} (states' : List S) (stands : List Standing) where
+module _ {S : Type 0} (states' : List S) (stands : List RecordView) where
   all_said : (ks : Nodes S) (g : ℕ) → ((b : ℕ) (k : Node S) → child_at b [] ks ≡ Some k → Says states' stands (g + b) k)
       → (states ks ≡ block g (how_many_nodes ks) states') × (prevailing_death ks ≡ prevailing_among (block g (how_many_nodes ks) stands))
   all_said no_node g f = (sym (no_block (drop g states')), sym (ap prevailing_among (no_block (drop g stands))))

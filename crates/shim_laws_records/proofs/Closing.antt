@@ -8,7 +8,7 @@ use Rattle.shim_semantics.specs.Places.{at, child_at}
 use Rattle.shim_semantics.proofs.ReplacedNodes.{put}
 use Rattle.shim_base.proofs.Facts.{some_same, none_some}
 use Rattle.shim_laws_records.specs.Seen.{Sort, forks, seen, sort, is_leaf, place, how_many_nodes, IsAside}
-use Rattle.shim_laws_records.specs.Agrees.{Standing, Has, Agrees}
+use Rattle.shim_laws_records.specs.Agrees.{RecordView, Has, Agrees}
 use Rattle.shim_laws_records.specs.Changes.{HasClosed}
 use Rattle.shim_laws_records.proofs.Aside.{there, outside, at_split}
 use Rattle.shim_laws_records.proofs.SameTrees.{same_or_not, no_fork, child_counted}
@@ -40,7 +40,7 @@ one_less (x ∷ q) (y ∷ p) b c e = (λ i. heads i ∷ one_less q p b c tails i
     tails : q ++ b ∷ [] ≡ p ++ c ∷ []
     tails = cc
 
-module _ {S : Type 0} (o : Ops S) (rp : Path) (before after : List S) (stood stands : List Standing) (root : Node S) (i g : ℕ) (l : S) (ks : Nodes S) (new : Node S)
+module _ {S : Type 0} (o : Ops S) (rp : Path) (before after : List S) (stood stands : List RecordView) (root : Node S) (i g : ℕ) (l : S) (ks : Nodes S) (new : Node S)
     (ok : Agrees o rp before stood root) (has : Has before stood i g l (forks (how_many_nodes ks))) (is : at (place o rp l) root ≡ Some (Forked l ks)) (done : all_done ks ≡ true)
     (closed : HasClosed before after stood stands i g (how_many_nodes ks) (state new) (sort new)) (leaf : is_leaf new ≡ true) (stays : place o rp (state new) ≡ place o rp l) where
   abbrev pub q : List ℕ

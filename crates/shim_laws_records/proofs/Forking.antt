@@ -8,7 +8,7 @@ use Rattle.shim_semantics.specs.Places.{at, child_at}
 use Rattle.shim_semantics.proofs.ReplacedNodes.{put}
 use Rattle.shim_base.proofs.Facts.{some_same, none_some}
 use Rattle.shim_laws_records.specs.Seen.{Sort, lives, forks, seen, place, how_many_nodes, IsAside}
-use Rattle.shim_laws_records.specs.Agrees.{Standing, used, Has, Agrees}
+use Rattle.shim_laws_records.specs.Agrees.{RecordView, used, Has, Agrees}
 use Rattle.shim_laws_records.specs.Changes.{HasForked}
 use Rattle.shim_laws_records.proofs.Aside.{there, outside, at_split}
 use Rattle.shim_laws_records.proofs.SameTrees.{same_or_not, seen_live}
@@ -36,7 +36,7 @@ pub no_shorter : (q : List ℕ) (b : ℕ) → q ≢ q ++ b ∷ []
 no_shorter [] b e = absurd cc
 no_shorter (x ∷ q) b e = no_shorter q b cc
 
-module _ {S : Type 0} (o : Ops S) (rp : Path) (before after : List S) (stood stands : List Standing) (root : Node S) (i f g : ℕ) (l p : S) (ks : List S)
+module _ {S : Type 0} (o : Ops S) (rp : Path) (before after : List S) (stood stands : List RecordView) (root : Node S) (i f g : ℕ) (l p : S) (ks : List S)
     (ok : Agrees o rp before stood root) (has : Has before stood i f l lives) (forked : HasForked before after stood stands i g p ks)
     (stays : place o rp p ≡ place o rp l) (its : (b : ℕ) (k : S) → slice_get ks b ≡ Some k → place o rp k ≡ place o rp l ++ b ∷ []) where
   abbrev pub q : List ℕ

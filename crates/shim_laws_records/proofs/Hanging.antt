@@ -15,10 +15,10 @@ use Rattle.shim_semantics.proofs.Routes.{at_path}
 use Rattle.shim_base.proofs.Facts.{some_same, none_some}
 use Rattle.shim_base.proofs.SamePaths.{same_path_is, same_path_refl}
 use Rattle.shim_laws_records.specs.Seen.{Sort, forks, place, how_many_nodes}
-use Rattle.shim_laws_records.specs.Agrees.{Standing, Has, Shows}
+use Rattle.shim_laws_records.specs.Agrees.{RecordView, Has, Shows}
 use Rattle.shim_laws_records.specs.Counts.{Tally}
 use Rattle.shim_laws_records.specs.Tallied.{is_above, HaveCounts}
-use Rattle.shim_laws_records.specs.Climbing.{AreLinked}
+use Rattle.shim_laws_records.specs.Updating.{AreLinked}
 use Rattle.shim_laws_records.proofs.SameTrees.{seen_some, seen_fork, child_counted}
 use Rattle.shim_laws_records.proofs.OneTree.{covered}
 use Rattle.shim_laws_records.proofs.Way.{way_from, fork_above}
@@ -78,7 +78,7 @@ module _ {S : Type 0} (o : Ops S) where
   given_place law root [] b k c s e far shares = (children_share_given o law (tree_of root) s b [] k c e far).0 shares
   given_place law root (i ∷ q) b k c s e far shares = (children_share_given o law (tree_of root) s i (q ++ b ∷ []) k c e far).0 shares
 
-  module _ (rp : Path) (records : List S) (stands : List Standing) (root : Node S) (s : Shows o rp records stands root) where
+  module _ (rp : Path) (records : List S) (stands : List RecordView) (root : Node S) (s : Shows o rp records stands root) where
     -- the node of a record
     pub record Node_of (i f : ℕ) (l : S) (k : Sort) : Type 0 where
       pub node : Node S

@@ -8,12 +8,12 @@ use Rattle.shim_semantics.specs.Nodes.{Node, Nodes, Live, Forked, state, all_liv
 use Rattle.shim_semantics.specs.Places.{at, branches}
 use Rattle.shim_semantics.proofs.ReplacedNodes.{put}
 use Rattle.shim_laws_records.specs.Seen.{forks, sort, place, IsAside}
-use Rattle.shim_laws_records.specs.Agrees.{Standing, Has}
+use Rattle.shim_laws_records.specs.Agrees.{RecordView, Has}
 use Rattle.shim_laws_records.specs.Places.{IsReplaced}
 use Rattle.shim_laws_records.specs.Counts.{Tally}
 use Rattle.shim_laws_records.specs.Tallied.{is_above}
 use Rattle.shim_laws_records.specs.Dooms.{least_among}
-use Rattle.shim_laws_records.specs.Sinking.{Labelled, LabelsOnTheWay}
+use Rattle.shim_laws_records.specs.LoweredLabels.{Labelled, LabelsOnTheWay}
 use Rattle.shim_laws_records.specs.Beginning.{LabelsBegin}
 use Rattle.shim_laws_records.proofs.Aside.{at_split}
 use Rattle.shim_laws_records.proofs.SameTrees.{same_or_not, aside_or_further, is_put, no_fork}
@@ -21,7 +21,7 @@ use Rattle.shim_laws_records.proofs.OneChange.{one_sort}
 use Rattle.shim_laws_records.proofs.Way.{untouched, leaf_no_fork}
 use Rattle.shim_laws_records.proofs.Begun.{fork_parts, lives_no_fork, is_here, none_there}
 
-module _ {S : Type 0} (o : Ops S) (rp : Path) (before behind : List S) (stood stands : List Standing) (c : Channel) (old new m a : Node S) (q : List ℕ) (counts now : ℕ → Option Tally) (labels say : ℕ → Option ℕ)
+module _ {S : Type 0} (o : Ops S) (rp : Path) (before behind : List S) (stood stands : List RecordView) (c : Channel) (old new m a : Node S) (q : List ℕ) (counts now : ℕ → Option Tally) (labels say : ℕ → Option ℕ)
     (rep : IsReplaced q m a old new)
     (kept : (j f n : ℕ) (s : S) → Has behind stands j f s (forks n) → IsAside (place o rp s) q → (g : ℕ) × Has before stood j g s (forks n) × (now j ≡ counts j) × (say j ≡ labels j))
     (inside : (j f n : ℕ) (s : S) (r : List ℕ) (l : S) (ks : Nodes S) → Has behind stands j f s (forks n) → place o rp s ≡ q ++ r → at r a ≡ Some (Forked l ks) → say j ≡ least_among o c ks)

@@ -215,17 +215,17 @@ module _ {S : Type 0} (o : Ops S) where
 
   module _ (c : Channel) where
     mutual
-      falls_to : (q : List ℕ) (m a n : Node S) → at q n ≡ Some m → least o c m ≡ None → least o c (put q a n) ≡ lesser (least o c n) (least o c a)
-      falls_to [] m a n e none = sym (ap (λ z. lesser z (least o c a)) (ap (least o c) (some_same n m e) ∙ none))
-      falls_to (i ∷ q) m a (Live l) e none = none_some m e
-      falls_to (i ∷ q) m a (Ended l) e none = none_some m e
-      falls_to (i ∷ q) m a (Dead l d) e none = none_some m e
-      falls_to (i ∷ q) m a (Forked l ks) e none = falls_among i q m a ks e none
+      taken_to : (q : List ℕ) (m a n : Node S) → at q n ≡ Some m → least o c m ≡ None → least o c (put q a n) ≡ lesser (least o c n) (least o c a)
+      taken_to [] m a n e none = sym (ap (λ z. lesser z (least o c a)) (ap (least o c) (some_same n m e) ∙ none))
+      taken_to (i ∷ q) m a (Live l) e none = none_some m e
+      taken_to (i ∷ q) m a (Ended l) e none = none_some m e
+      taken_to (i ∷ q) m a (Dead l d) e none = none_some m e
+      taken_to (i ∷ q) m a (Forked l ks) e none = taken_among i q m a ks e none
 
-      falls_among : (i : ℕ) (q : List ℕ) (m a : Node S) (ks : Nodes S) → child_at i q ks ≡ Some m → least o c m ≡ None → least_among o c (put_child i q a ks) ≡ lesser (least_among o c ks) (least o c a)
-      falls_among i q m a no_node e none = none_some m e
-      falls_among zero q m a (node_and k ks) e none = ap (λ z. lesser z (least_among o c ks)) (falls_to q m a k e none) ∙ lesser_swap (least o c k) (least o c a) (least_among o c ks)
-      falls_among (suc i) q m a (node_and k ks) e none = ap (lesser (least o c k)) (falls_among i q m a ks e none) ∙ lesser_further (least o c k) (least_among o c ks) (least o c a)
+      taken_among : (i : ℕ) (q : List ℕ) (m a : Node S) (ks : Nodes S) → child_at i q ks ≡ Some m → least o c m ≡ None → least_among o c (put_child i q a ks) ≡ lesser (least_among o c ks) (least o c a)
+      taken_among i q m a no_node e none = none_some m e
+      taken_among zero q m a (node_and k ks) e none = ap (λ z. lesser z (least_among o c ks)) (taken_to q m a k e none) ∙ lesser_swap (least o c k) (least o c a) (least_among o c ks)
+      taken_among (suc i) q m a (node_and k ks) e none = ap (lesser (least o c k)) (taken_among i q m a ks e none) ∙ lesser_further (least o c k) (least_among o c ks) (least o c a)
 
     mutual
       stays_as : (q : List ℕ) (m a n : Node S) → at q n ≡ Some m → least o c a ≡ least o c m → least o c (put q a n) ≡ least o c n
@@ -253,8 +253,8 @@ module _ {S : Type 0} (o : Ops S) where
 
   pub leasts_follow : LeastsFollow o
   leasts_follow = record {
-    falls = λ c old new m a q r l ks js rep none above e f.
-        let w = above_both c old new m a q r l ks js rep above e f in ap (least_among o c) w.3 ∙ falls_among c w.0 w.1 m a ks w.2 none;
+    taken_in = λ c old new m a q r l ks js rep none above e f.
+        let w = above_both c old new m a q r l ks js rep above e f in ap (least_among o c) w.3 ∙ taken_among c w.0 w.1 m a ks w.2 none;
     stays = λ c old new m a q r l ks js rep same above e f.
         let w = above_both c old new m a q r l ks js rep above e f in ap (least_among o c) w.3 ∙ stays_among c w.0 w.1 m a ks w.2 same;
     aside = λ old new m a q r rep above far. ap (at r) (is_put q m a old new rep) ∙ untouched q r m a old rep.was above far;

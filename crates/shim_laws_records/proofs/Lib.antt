@@ -22,7 +22,7 @@ pub mod Recounts
 pub mod SameTrees
 pub mod Shown
 pub mod Singles
-pub mod Sinks
+pub mod LabelsLowering
 pub mod Sources
 pub mod Suffices
 pub mod Tallies

@@ -7,7 +7,7 @@ use Rattle.shim_semantics.specs.Places.{at, child_at}
 use Rattle.shim_semantics.proofs.ReplacedNodes.{put, put_child}
 use Rattle.shim_base.proofs.Facts.{some_same}
 use Rattle.shim_laws_records.specs.Seen.{Sort, forks, sort}
-use Rattle.shim_laws_records.specs.Agrees.{Standing, free, used, Has}
+use Rattle.shim_laws_records.specs.Agrees.{RecordView, free, used, Has}
 use Rattle.shim_laws_records.specs.Places.{IsReplaced}
 use Rattle.shim_laws_records.specs.Counts.{bit, going_of}
 use Rattle.shim_laws_records.specs.Links.{LinksFollow, GoingFollow}
@@ -18,11 +18,11 @@ use Rattle.shim_laws_records.proofs.Way.{with_split, fork_above}
 use Rattle.shim_laws_records.proofs.Begun.{fork_parts, lives_no_fork}
 
 -- which number the first child has
-abbrev first_of : ℕ → Standing → ℕ
+abbrev first_of : ℕ → RecordView → ℕ
 first_of d free = d
 first_of d (used f k) = f
 
-one_first : {S : Type 0} (states : List S) (stands : List Standing) (i f g : ℕ) (s t : S) (k h : Sort) → Has states stands i f s k → Has states stands i g t h → f ≡ g
+one_first : {S : Type 0} (states : List S) (stands : List RecordView) (i f g : ℕ) (s t : S) (k h : Sort) → Has states stands i f s k → Has states stands i g t h → f ≡ g
 one_first states stands i f g s t k h a b = ap (first_of f) (some_same (used f k) (used g h) (sym a.stands_so ∙ b.stands_so))
 
 module _ {S : Type 0} (o : Ops S) where

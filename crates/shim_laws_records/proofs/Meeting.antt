@@ -7,7 +7,7 @@ use Rattle.shim_semantics.specs.Nodes.{Node, Nodes, Live, Forked, Ended, Dead, n
 use Rattle.shim_semantics.specs.Places.{at, child_at}
 use Rattle.shim_base.proofs.Facts.{some_same}
 use Rattle.shim_laws_records.specs.Seen.{Sort, forks, seen, place, how_many_nodes}
-use Rattle.shim_laws_records.specs.Agrees.{Standing, Has, Agrees}
+use Rattle.shim_laws_records.specs.Agrees.{RecordView, Has, Agrees}
 use Rattle.shim_laws_records.specs.Places.{got, seen_met}
 use Rattle.shim_laws_records.specs.Changes.{HaveReceived}
 
@@ -32,7 +32,7 @@ module _ {S : Type 0} (o : Ops S) (c : Channel) (v : ℤ) where
     seen_received_in zero p (node_and k ks) = seen_received p k
     seen_received_in (suc b) p (node_and k ks) = seen_received_in b p ks
 
-  module _ (rp : Path) (before after : List S) (stands : List Standing) (root : Node S) (h : HaveReceived o c v stands before after)
+  module _ (rp : Path) (before after : List S) (stands : List RecordView) (root : Node S) (h : HaveReceived o c v stands before after)
       (stays : (i f : ℕ) (s : S) (k : Sort) → Has before stands i f s k → place o rp (got o c v k s) ≡ place o rp s) (ok : Agrees o rp before stands root) where
     -- what a record had before
     record Was (i f : ℕ) (s : S) (k : Sort) : Type 0 where

@@ -8,8 +8,8 @@ use Rattle.shim_semantics.specs.Places.{at, child_at}
 use Rattle.shim_semantics.proofs.ReplacedNodes.{put, put_child}
 use Rattle.shim_base.proofs.Facts.{some_same}
 use Rattle.shim_laws_records.specs.Seen.{forks, place}
-use Rattle.shim_laws_records.specs.Agrees.{Standing, Has, Agrees}
-use Rattle.shim_laws_records.specs.Counts.{Tally, tally_of, joins, waits, fails, count, reading, read_of, Moved}
+use Rattle.shim_laws_records.specs.Agrees.{RecordView, Has, Agrees}
+use Rattle.shim_laws_records.specs.Counts.{Tally, tally_of, joins, isnt_ready, fails, count, reading, read_of, Moved}
 use Rattle.shim_laws_records.specs.Tallied.{is_above, OnTheWay}
 use Rattle.shim_laws_records.proofs.Tallies.{count_changed, fork_read}
 use Rattle.shim_laws_records.proofs.SameTrees.{same_or_not}
@@ -18,7 +18,7 @@ use Rattle.shim_laws_records.proofs.Way.{above_its_own, not_above_itself, above_
 cancelled : (a d x y m n : ℕ) → a + m ≡ x + n → d + m ≡ y + n → x ≡ y → a ≡ d
 cancelled a d x y m n e f g = omega (arith, e, f, g)
 
-module _ {S : Type 0} (o : Ops S) (rp : Path) (states : List S) (stands : List Standing) (c : Channel) (before after : ℕ → Option Tally) (root k a : Node S) (l s : S) (ks : Nodes S) (r t : List ℕ) (b j f n : ℕ) (y z : Tally)
+module _ {S : Type 0} (o : Ops S) (rp : Path) (states : List S) (stands : List RecordView) (c : Channel) (before after : ℕ → Option Tally) (root k a : Node S) (l s : S) (ks : Nodes S) (r t : List ℕ) (b j f n : ℕ) (y z : Tally)
     (ok : Agrees o rp states stands (put (r ++ b ∷ t) a root)) (has : Has states stands j f s (forks n)) (its : place o rp s ≡ r)
     (there : at r root ≡ Some (Forked l ks)) (child : child_at b [] ks ≡ Some k)
     (moved : Moved (reading o c k) (reading o c (put t a k)) y z) (stood : before j ≡ Some y) (stands_now : after j ≡ Some z) (others : (i : ℕ) → i ≢ j → after i ≡ before i)
@@ -36,7 +36,7 @@ module _ {S : Type 0} (o : Ops S) (rp : Path) (states : List S) (stands : List S
   now : z ≡ tally_of o c js
   now = λ i. record {
     live = cancelled z.live (count (joins o c) js) y.live (count (joins o c) ks) _ _ moved.live (count_changed (joins o c) b t ks k a child) (ap (λ w. w.live) its_own) i;
-    waiting = cancelled z.waiting (count (waits o c) js) y.waiting (count (waits o c) ks) _ _ moved.waiting (count_changed (waits o c) b t ks k a child) (ap (λ w. w.waiting) its_own) i;
+    not_ready = cancelled z.not_ready (count (isnt_ready o c) js) y.not_ready (count (isnt_ready o c) ks) _ _ moved.not_ready (count_changed (isnt_ready o c) b t ks k a child) (ap (λ w. w.not_ready) its_own) i;
     dead = cancelled z.dead (count (fails o c) js) y.dead (count (fails o c) ks) _ _ moved.dead (count_changed (fails o c) b t ks k a child) (ap (λ w. w.dead) its_own) i;
   }
 

@@ -8,23 +8,23 @@ use Rattle.shim_semantics.specs.Places.{at}
 use Rattle.shim_semantics.proofs.ReplacedNodes.{put}
 use Rattle.shim_base.proofs.Facts.{some_same, none_some}
 use Rattle.shim_laws_records.specs.Seen.{Sort, forks, seen, sort, is_leaf, place, IsAside}
-use Rattle.shim_laws_records.specs.Agrees.{Standing, free, used, Has, Agrees}
+use Rattle.shim_laws_records.specs.Agrees.{RecordView, free, used, Has, Agrees}
 use Rattle.shim_laws_records.specs.Changes.{HasChanged}
 use Rattle.shim_laws_records.proofs.Aside.{there, outside, none_below, at_split}
 use Rattle.shim_laws_records.proofs.SameTrees.{same_or_not, no_fork}
 
-abbrev sort_of : Standing → Sort → Sort
+abbrev sort_of : RecordView → Sort → Sort
 sort_of free d = d
 sort_of (used f k) d = k
 
 -- a number has one record
-pub one_state : {S : Type 0} (states : List S) (stands : List Standing) (i f g : ℕ) (s t : S) (k h : Sort) → Has states stands i f s k → Has states stands i g t h → s ≡ t
+pub one_state : {S : Type 0} (states : List S) (stands : List RecordView) (i f g : ℕ) (s t : S) (k h : Sort) → Has states stands i f s k → Has states stands i g t h → s ≡ t
 one_state states stands i f g s t k h a b = some_same s t (sym a.state_is ∙ b.state_is)
 
-pub one_sort : {S : Type 0} (states : List S) (stands : List Standing) (i f g : ℕ) (s t : S) (k h : Sort) → Has states stands i f s k → Has states stands i g t h → k ≡ h
+pub one_sort : {S : Type 0} (states : List S) (stands : List RecordView) (i f g : ℕ) (s t : S) (k h : Sort) → Has states stands i f s k → Has states stands i g t h → k ≡ h
 one_sort states stands i f g s t k h a b = ap (λ z. sort_of z k) (some_same (used f k) (used g h) (sym a.stands_so ∙ b.stands_so))
 
-module _ {S : Type 0} (o : Ops S) (rp : Path) (before behind : List S) (stood stands : List Standing) (root m a : Node S) (i f : ℕ)
+module _ {S : Type 0} (o : Ops S) (rp : Path) (before behind : List S) (stood stands : List RecordView) (root m a : Node S) (i f : ℕ)
     (ok : Agrees o rp before stood root) (has : Has before stood i f (state m) (sort m)) (is : at (place o rp (state m)) root ≡ Some m)
     (leaf : is_leaf m ≡ true) (leaf' : is_leaf a ≡ true) (stays : place o rp (state a) ≡ place o rp (state m)) (changed : HasChanged before behind stood stands i (state a) (sort a)) where
   abbrev pub q : List ℕ

@@ -7,11 +7,11 @@ use Rattle.shim_semantics.specs.Nodes.{Node, Live, Forked, Ended, Dead}
 use Rattle.shim_semantics.specs.Places.{at}
 use Rattle.shim_base.proofs.Facts.{some_same, none_some}
 use Rattle.shim_laws_records.specs.Seen.{Sort, forks, seen, place, how_many_nodes}
-use Rattle.shim_laws_records.specs.Agrees.{Standing, Has, Agrees, Rooted, OneTree}
+use Rattle.shim_laws_records.specs.Agrees.{RecordView, Has, Agrees, Rooted, OneTree}
 use Rattle.shim_laws_records.proofs.Aside.{at_split}
 use Rattle.shim_laws_records.proofs.SameTrees.{same_tree, child_counted, through}
 
-module _ {S : Type 0} (o : Ops S) (rp : Path) (states : List S) (stands : List Standing) where
+module _ {S : Type 0} (o : Ops S) (rp : Path) (states : List S) (stands : List RecordView) where
   -- a node of the tree has a record
   pub record Covered (q : List ℕ) (n : Node S) : Type 0 where
     pub number : ℕ

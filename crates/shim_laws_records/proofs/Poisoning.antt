@@ -9,7 +9,7 @@ use Rattle.shim_semantics.proofs.ReplacedNodes.{put, put_child}
 use Rattle.shim_semantics.proofs.PoisonStays.{above_some, before_some, after_some}
 use Rattle.shim_base.proofs.Facts.{some_same, none_some, chosen}
 use Rattle.shim_laws_records.specs.Seen.{Sort, lives, forks, ends, dies, seen, place, how_many_nodes}
-use Rattle.shim_laws_records.specs.Agrees.{Standing, used, Has, Agrees}
+use Rattle.shim_laws_records.specs.Agrees.{RecordView, used, Has, Agrees}
 use Rattle.shim_laws_records.specs.Places.{killed, seen_killed, SameAside}
 use Rattle.shim_laws_records.specs.Changes.{HaveDied}
 use Rattle.shim_laws_records.proofs.SameTrees.{aside_or_further}
@@ -97,7 +97,7 @@ module _ {S : Type 0} (o : Ops S) (c : Channel) where
 
   -- ---- the records
 
-  module _ (rp : Path) (q : List ℕ) (d : Death) (states : List S) (stood stands : List Standing) (root new : Node S)
+  module _ (rp : Path) (q : List ℕ) (d : Death) (states : List S) (stood stands : List RecordView) (root new : Node S)
       (ok : Agrees o rp states stood root) (died : HaveDied o rp q c d states stood stands)
       (shows : (s : List ℕ) → seen (at (q ++ s) new) ≡ seen_killed o c d (seen (at (q ++ s) root))) (aside : SameAside q root new) where
     -- what a record said before

@@ -13,13 +13,13 @@ use Rattle.shim_semantics.proofs.Replaced.{sound_at}
 use Rattle.shim_semantics.proofs.PoisonsListed.{at_child as child_there}
 use Rattle.shim_base.proofs.Facts.{none_some}
 use Rattle.shim_laws_records.specs.Seen.{Sort, forks, seen, sort, place, how_many_nodes}
-use Rattle.shim_laws_records.specs.Agrees.{Standing, used, Has, Shows}
+use Rattle.shim_laws_records.specs.Agrees.{RecordView, used, Has, Shows}
 use Rattle.shim_laws_records.specs.Places.{IsReplaced}
 use Rattle.shim_laws_records.specs.Counts.{Tally}
 use Rattle.shim_laws_records.specs.Tallied.{is_above, HaveCounts}
-use Rattle.shim_laws_records.specs.Climbing.{AreLinked}
+use Rattle.shim_laws_records.specs.Updating.{AreLinked}
 use Rattle.shim_laws_records.specs.Dooms.{lesser, least, least_among}
-use Rattle.shim_laws_records.specs.Sinking.{Labelled, LabelsOnTheWay}
+use Rattle.shim_laws_records.specs.LoweredLabels.{Labelled, LabelsOnTheWay}
 use Rattle.shim_laws_records.specs.Recounting.{read_label, read_record, label_at, label_among, NoneUncounted, IsReadOff, Recounted, all_the_way, at_the_root, uncounted, as_before, recounts, LabelsRecount}
 use Rattle.shim_laws_records.proofs.SameTrees.{same_or_not, is_put, seen_state, seen_sort, child_counted, fork_count}
 use Rattle.shim_laws_records.proofs.OneChange.{one_state}
@@ -27,11 +27,11 @@ use Rattle.shim_laws_records.proofs.Way.{way_from, not_above_itself, above_its_o
 use Rattle.shim_laws_records.proofs.Begun.{fork_parts}
 use Rattle.shim_laws_records.proofs.Leasts.{leasts_tell, leasts_follow, shared_not_below, child_sound}
 use Rattle.shim_laws_records.proofs.Hanging.{Below, tied, topmost, counts_share, declared, none_above}
-use Rattle.shim_laws_records.proofs.Sinks.{not_above_root, shorter, too_long}
+use Rattle.shim_laws_records.proofs.LabelsLowering.{not_above_root, shorter, too_long}
 
 -- ---- one fork's label, read off its children
 
-module _ {S : Type 0} (o : Ops S) (c : Channel) (records : List S) (stands : List Standing) (labels : ℕ → Option ℕ) where
+module _ {S : Type 0} (o : Ops S) (c : Channel) (records : List S) (stands : List RecordView) (labels : ℕ → Option ℕ) where
   read_all : (ks : Nodes S) (g : ℕ) → ((b : ℕ) (k : Node S) → child_at b [] ks ≡ Some k → label_at o c records stands labels (g + b) ≡ least o c k) → label_among o c records stands labels g (how_many_nodes ks) ≡ least_among o c ks
   read_all no_node g f = refl
   read_all (node_and k ks) g f =
@@ -51,7 +51,7 @@ module _ {S : Type 0} (o : Ops S) (c : Channel) (records : List S) (stands : Lis
       by_sort (Ended l) g = refl
       by_sort (Dead l d) g = refl
 
-module _ {S : Type 0} (o : Ops S) (law : LocalLaws o) (rp : Path) (records : List S) (stands : List Standing) (c : Channel) (new : Node S) (counts : ℕ → Option Tally) (shown : Shows o rp records stands new) (have : HaveCounts o rp records stands c counts new) where
+module _ {S : Type 0} (o : Ops S) (law : LocalLaws o) (rp : Path) (records : List S) (stands : List RecordView) (c : Channel) (new : Node S) (counts : ℕ → Option Tally) (shown : Shows o rp records stands new) (have : HaveCounts o rp records stands c counts new) where
   module _ (labels : ℕ → Option ℕ) (empty : NoneUncounted counts labels) (i g n : ℕ) (s l : S) (ks : Nodes S) (has : Has records stands i g s (forks n)) (there : at (place o rp s) new ≡ Some (Forked l ks)) (shares : o.shares l c ≡ true)
       (right : (b f m : ℕ) (t u : S) (js : Nodes S) → b < n → Has records stands (g + b) f t (forks m) → counts (g + b) ≢ None → at (place o rp t) new ≡ Some (Forked u js) → labels (g + b) ≡ least_among o c js) where
     many : how_many_nodes ks ≡ n
@@ -92,7 +92,7 @@ module _ {S : Type 0} (o : Ops S) (law : LocalLaws o) (rp : Path) (records : Lis
 
 -- ---- the way up
 
-module _ {S : Type 0} (o : Ops S) (law : LocalLaws o) (rp : Path) (records : List S) (stands : List Standing) (up : ℕ → Option ℕ) (c : Channel) (old new m a : Node S) (q : List ℕ) (counts : ℕ → Option Tally)
+module _ {S : Type 0} (o : Ops S) (law : LocalLaws o) (rp : Path) (records : List S) (stands : List RecordView) (up : ℕ → Option ℕ) (c : Channel) (old new m a : Node S) (q : List ℕ) (counts : ℕ → Option Tally)
     (shown : Shows o rp records stands new) (linked : AreLinked records stands up) (rep : IsReplaced q m a old new) (have : HaveCounts o rp records stands c counts new) where
   abbrev On : (ℕ → Option ℕ) → List ℕ → Type 0
   On labels p = LabelsOnTheWay o rp records stands c counts labels old new p

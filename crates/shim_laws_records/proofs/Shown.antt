@@ -21,7 +21,7 @@ use Rattle.shim_semantics.proofs.MeetStays.{meeting_stays}
 use Rattle.shim_laws_schedules.proofs.Lengths.{went_on}
 use Rattle.shim_base.proofs.Facts.{some_same, none_some, cond_some}
 use Rattle.shim_laws_records.specs.Seen.{Sort, lives, forks, ends, dies, seen, sort, is_leaf, place}
-use Rattle.shim_laws_records.specs.Agrees.{Standing, used, Has, Agrees, Rooted, Shows, StartShows}
+use Rattle.shim_laws_records.specs.Agrees.{RecordView, used, Has, Agrees, Rooted, Shows, StartShows}
 use Rattle.shim_laws_records.specs.Places.{IsBy, IsReplaced, got, killed, seen_killed}
 use Rattle.shim_laws_records.specs.Changes.{HasChanged, HasForked, HasClosed, HaveReceived, HaveDied, block, prevailing_among, EventsAreShown, OneIsShown}
 use Rattle.shim_laws_records.proofs.SameTrees.{same_or_not, aside_or_further, is_put, seen_live, seen_fork}
@@ -82,7 +82,7 @@ module _ {S : Type 0} (o : Ops S) (law : LocalLaws o) where
       }
 
   -- what a tree keeps through any event
-  shows_after : (rp : Path) (before behind : List S) (stood stands : List Standing) (t u : Tree S) (e : Event) → Shows o rp before stood t.root → after o e t ≡ Some u → Rooted o rp behind stands → Agrees o rp behind stands u.root → Shows o rp behind stands u.root
+  shows_after : (rp : Path) (before behind : List S) (stood stands : List RecordView) (t u : Tree S) (e : Event) → Shows o rp before stood t.root → after o e t ≡ Some u → Rooted o rp behind stands → Agrees o rp behind stands u.root → Shows o rp behind stands u.root
   shows_after rp before behind stood stands t u e s h r ok = record {
     sound = (events_keep_sound o law).kept t s.sound e u h;
     root_path = (events_show o law).root_path t u e s.sound h ∙ s.root_path;
@@ -99,7 +99,7 @@ module _ {S : Type 0} (o : Ops S) (law : LocalLaws o) where
 
   -- ---- one record that has changed
 
-  pub rooted_changed : (rp : Path) (before behind : List S) (stood stands : List Standing) (i f : ℕ) (l m : S) (x k : Sort) → Rooted o rp before stood → Has before stood i f l x → o.path m ≡ o.path l → HasChanged before behind stood stands i m k → Rooted o rp behind stands
+  pub rooted_changed : (rp : Path) (before behind : List S) (stood stands : List RecordView) (i f : ℕ) (l m : S) (x k : Sort) → Rooted o rp before stood → Has before stood i f l x → o.path m ≡ o.path l → HasChanged before behind stood stands i m k → Rooted o rp behind stands
   rooted_changed rp before behind stood stands i f l m x k r has same changed = elim (same_or_not 0 i) [
     | inl w ↦
         let old : r.state ≡ l = one_state before stood 0 r.first f r.state l r.sort x r.has (subst (λ z. Has before stood z f l x) (sym w) has) in
@@ -107,7 +107,7 @@ module _ {S : Type 0} (o : Ops S) (law : LocalLaws o) where
     | inr n ↦ record { first = r.first; state = r.state; sort = r.sort; has = changed.others 0 r.first r.state r.sort n r.has; at_root = r.at_root }
   ]
 
-  stepped : (rp : Path) (before behind : List S) (stood stands : List Standing) (t u : Tree S) (e : Event) (i f : ℕ) (l : S) (a : Acted S)
+  stepped : (rp : Path) (before behind : List S) (stood stands : List RecordView) (t u : Tree S) (e : Event) (i f : ℕ) (l : S) (a : Acted S)
       → Shows o rp before stood t.root → Has before stood i f l lives → IsBy (o.path l) e → after o e t ≡ Some u → act_live o l (o.stop l) ≡ Some a → is_leaf a.node ≡ true
       → HasChanged before behind stood stands i (state a.node) (sort a.node) → Shows o rp behind stands u.root
   stepped rp before behind stood stands t u e i f l a s has by h act leaf changed =
@@ -153,7 +153,7 @@ module _ {S : Type 0} (o : Ops S) (law : LocalLaws o) where
       (ap (λ z. at z x.0.root) stays ∙ one.is) x.2 in
       replaced_twice (place o rp l) (Live l) (Live (o.quiet l)) (Live last) t.root x.0.root u.root one (subst (λ z. IsReplaced z (Live (o.quiet l)) (Live last) x.0.root u.root) stays rest)
 
-  advanced : (rp : Path) (before behind : List S) (stood stands : List Standing) (t u : Tree S) (i f n : ℕ) (l last : S)
+  advanced : (rp : Path) (before behind : List S) (stood stands : List RecordView) (t u : Tree S) (i f n : ℕ) (l last : S)
       → Shows o rp before stood t.root → Has before stood i f l lives → QuietSteps o n l last → Advances o (o.path l) n t u
       → HasChanged before behind stood stands i last lives → Shows o rp behind stands u.root
   advanced rp before behind stood stands t u i f n l last s has taken h changed =
@@ -184,7 +184,7 @@ module _ {S : Type 0} (o : Ops S) (law : LocalLaws o) where
   abbrev forks_so : (p : S) (ks : List S) → S → Acted S
   forks_so p ks l = record { node = Forked p (all_live ks); effects = nothing }
 
-  forked : (rp : Path) (before behind : List S) (stood stands : List Standing) (t u : Tree S) (i f g : ℕ) (l p : S) (ks : List S)
+  forked : (rp : Path) (before behind : List S) (stood stands : List RecordView) (t u : Tree S) (i f g : ℕ) (l p : S) (ks : List S)
       → Shows o rp before stood t.root → Has before stood i f l lives → after o (Own (o.path l)) t ≡ Some u → o.stop l ≡ AtFork → o.fork l ≡ Parted p ks
       → HasForked before behind stood stands i g p ks → Shows o rp behind stands u.root
   forked rp before behind stood stands t u i f g l p ks s has h stop parts changed =
@@ -218,7 +218,7 @@ module _ {S : Type 0} (o : Ops S) (law : LocalLaws o) where
   closed_there : (l : S) (ks : Nodes S) (a : Acted S) → act_here o (Forked l ks) ≡ Some a → (all_done ks ≡ true) × (closed o l (states ks) (prevailing_death ks) ≡ a)
   closed_there l ks a e = cond_some (all_done ks) (closed o l (states ks) (prevailing_death ks)) a e
 
-  has_closed : (rp : Path) (before behind : List S) (stood stands : List Standing) (t u : Tree S) (i g n : ℕ) (l : S) (a : Acted S)
+  has_closed : (rp : Path) (before behind : List S) (stood stands : List RecordView) (t u : Tree S) (i g n : ℕ) (l : S) (a : Acted S)
       → Shows o rp before stood t.root → Has before stood i g l (forks n) → after o (Close (o.path l)) t ≡ Some u → a ≡ closed o l (block g n before) (prevailing_among (block g n stood))
       → HasClosed before behind stood stands i g n (state a.node) (sort a.node) → Shows o rp behind stands u.root
   has_closed rp before behind stood stands t u i g n l a s has h is changed =
@@ -264,7 +264,7 @@ module _ {S : Type 0} (o : Ops S) (law : LocalLaws o) where
   got_path rp c v s ends sound = refl
   got_path rp c v s (dies d) sound = refl
 
-  has_met : (rp : Path) (before behind : List S) (stands : List Standing) (t u : Tree S) (c : Channel) (v : ℤ)
+  has_met : (rp : Path) (before behind : List S) (stands : List RecordView) (t u : Tree S) (c : Channel) (v : ℤ)
       → Shows o rp before stands t.root → after o (Meet c) t ≡ Some u → v ≡ value_of o c (source o c t.root) → HaveReceived o c v stands before behind → Shows o rp behind stands u.root
   has_met rp before behind stands t u c v s h is changed =
       let ok = agrees_met o c v rp before behind stands t.root changed (λ i f l k has. stays i f l k has) s.agrees in
@@ -279,7 +279,7 @@ module _ {S : Type 0} (o : Ops S) (law : LocalLaws o) where
 
   -- ---- a poison
 
-  has_poisoned : (rp : Path) (states' : List S) (stood stands : List Standing) (t u : Tree S) (c : Channel) (i f g b n : ℕ) (l k : S) (x : Sort)
+  has_poisoned : (rp : Path) (states' : List S) (stood stands : List RecordView) (t u : Tree S) (c : Channel) (i f g b n : ℕ) (l k : S) (x : Sort)
       → Shows o rp states' stood t.root → Has states' stood i g l (forks n) → b < n → Has states' stood (g + b) f k x → after o (Poison (o.path k) c) t ≡ Some u
       → HaveDied o rp (place o rp k) c (death (o.handlers l - 1)) states' stood stands → Shows o rp states' stands u.root
   has_poisoned rp states' stood stands t u c i f g b n l k x s has less child h changed =

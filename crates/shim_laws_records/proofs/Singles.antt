@@ -14,7 +14,7 @@ use Rattle.shim_semantics.proofs.Replaced.{sound_at, replaced}
 use Rattle.shim_laws_schedules.proofs.Stood.{base_below}
 use Rattle.shim_base.proofs.Facts.{some_same}
 use Rattle.shim_laws_records.specs.Seen.{lives, sort, is_leaf, place}
-use Rattle.shim_laws_records.specs.Agrees.{Standing, Has, Agrees, Shows}
+use Rattle.shim_laws_records.specs.Agrees.{RecordView, Has, Agrees, Shows}
 use Rattle.shim_laws_records.specs.Places.{IsReplaced}
 use Rattle.shim_laws_records.specs.Changes.{HasChanged}
 use Rattle.shim_laws_records.specs.Singles.{SinglesAreShown}
@@ -30,7 +30,7 @@ module _ {S : Type 0} (o : Ops S) (law : LocalLaws o) where
   root_put (i ∷ q) (Ended l) m a e same = refl
   root_put (i ∷ q) (Dead l d) m a e same = refl
 
-  single : (rp : Path) (before behind : List S) (stood stands : List Standing) (old new : Node S) (i f : ℕ) (l : S) (a : Node S) → Shows o rp before stood old → Has before stood i f l lives → Keeps o (Live l) a → is_leaf a ≡ true
+  single : (rp : Path) (before behind : List S) (stood stands : List RecordView) (old new : Node S) (i f : ℕ) (l : S) (a : Node S) → Shows o rp before stood old → Has before stood i f l lives → Keeps o (Live l) a → is_leaf a ≡ true
       → IsReplaced (place o rp l) (Live l) a old new → HasChanged before behind stood stands i (state a) (sort a) → Shows o rp behind stands new
   single rp before behind stood stands old new i f l a s has keeps leaf rep changed =
       let q = place o rp l in

@@ -16,12 +16,12 @@ use Rattle.shim_semantics.proofs.Replaced.{sound_at}
 use Rattle.shim_semantics.proofs.SoundEvents.{here_keeps}
 use Rattle.shim_laws_schedules.proofs.Homes.{unshared_is_unshared}
 use Rattle.shim_laws_records.specs.Seen.{Sort, sort, is_leaf, place}
-use Rattle.shim_laws_records.specs.Agrees.{Standing, Has, Shows}
+use Rattle.shim_laws_records.specs.Agrees.{RecordView, Has, Shows}
 use Rattle.shim_laws_records.specs.Places.{IsReplaced}
 use Rattle.shim_laws_records.specs.Counts.{Tally, reading}
 use Rattle.shim_laws_records.specs.Tallied.{Tallied, OnTheWay, is_above, HaveCounts}
 use Rattle.shim_laws_records.specs.Dooms.{least, least_among}
-use Rattle.shim_laws_records.specs.Sinking.{Labelled, LabelsOnTheWay}
+use Rattle.shim_laws_records.specs.LoweredLabels.{Labelled, LabelsOnTheWay}
 use Rattle.shim_laws_records.specs.Sufficing.{GivenSuffice, read_leaf, ActorsAreRead}
 use Rattle.shim_laws_records.proofs.SameTrees.{is_put}
 use Rattle.shim_laws_records.proofs.Way.{way_from, with_split, fork_above}
@@ -55,7 +55,7 @@ some_counts : (o : Option Tally) → o ≢ None → (y : Tally) × (o ≡ Some y
 some_counts None h = absurd (h refl)
 some_counts (Some y) h = (y, refl)
 
-module _ {S : Type 0} (o : Ops S) (law : LocalLaws o) (rp : Path) (records : List S) (stands : List Standing) (c : Channel) (old new m : Node S) (a : Acted S) (x f : ℕ) (s : S) (k : Sort)
+module _ {S : Type 0} (o : Ops S) (law : LocalLaws o) (rp : Path) (records : List S) (stands : List RecordView) (c : Channel) (old new m : Node S) (a : Acted S) (x f : ℕ) (s : S) (k : Sort)
     (sound : IsSound o old) (shown : Shows o rp records stands new) (has : Has records stands x f s k) (rep : IsReplaced (place o rp s) m a.node old new) (acts : act_here o m ≡ Some a) (not_given : IsGiven o s c → o.shares s c ≡ true → ⊥) where
   abbrev q : List ℕ
   q = place o rp s

@@ -8,7 +8,7 @@ use Rattle.shim_semantics.specs.Places.{at, child_at}
 use Rattle.shim_semantics.proofs.ReplacedNodes.{put, put_child}
 use Rattle.shim_base.proofs.Facts.{some_same, none_some}
 use Rattle.shim_laws_records.specs.Places.{IsReplaced}
-use Rattle.shim_laws_records.specs.Counts.{joins, waits, fails, count, all_there, tally_of, bit, Reading, reading, Moved, CountsTell}
+use Rattle.shim_laws_records.specs.Counts.{joins, isnt_ready, fails, count, all_there, tally_of, bit, Reading, reading, Moved, CountsTell}
 use Rattle.shim_laws_records.proofs.SameTrees.{is_put}
 use Rattle.shim_laws_records.proofs.Readiness.{by_counts}
 
@@ -47,14 +47,14 @@ module _ {S : Type 0} (o : Ops S) (c : Channel) where
   with_alike : (k a : Node S) (ks : Nodes S) → reading o c k ≡ reading o c a → tally_of o c (node_and a ks) ≡ tally_of o c (node_and k ks)
   with_alike k a ks h = λ t. record {
     live = if (sym h t).joining then suc (count (joins o c) ks) else count (joins o c) ks;
-    waiting = if (sym h t).joining && not (sym h t).readiness then suc (count (waits o c) ks) else count (waits o c) ks;
+    not_ready = if (sym h t).joining && not (sym h t).readiness then suc (count (isnt_ready o c) ks) else count (isnt_ready o c) ks;
     dead = if (sym h t).failing then suc (count (fails o c) ks) else count (fails o c) ks;
   }
 
   behind_same : (k : Node S) (ks js : Nodes S) → tally_of o c js ≡ tally_of o c ks → tally_of o c (node_and k js) ≡ tally_of o c (node_and k ks)
   behind_same k ks js e = λ t. record {
     live = if joins o c k then suc (e t).live else (e t).live;
-    waiting = if waits o c k then suc (e t).waiting else (e t).waiting;
+    not_ready = if isnt_ready o c k then suc (e t).not_ready else (e t).not_ready;
     dead = if fails o c k then suc (e t).dead else (e t).dead;
   }
 
@@ -92,9 +92,9 @@ module _ {S : Type 0} (o : Ops S) (c : Channel) where
   fresh_live [] = refl
   fresh_live (k ∷ ks) = ap (λ n. if o.shares k c then suc n else n) (fresh_live ks)
 
-  fresh_waiting : (ks : List S) → count (waits o c) (all_live ks) ≡ how_many (λ s. o.shares s c && not (is_next (o.stop s) c)) ks
-  fresh_waiting [] = refl
-  fresh_waiting (k ∷ ks) = ap (λ n. if o.shares k c && not (is_next (o.stop k) c) then suc n else n) (fresh_waiting ks)
+  fresh_not_ready : (ks : List S) → count (isnt_ready o c) (all_live ks) ≡ how_many (λ s. o.shares s c && not (is_next (o.stop s) c)) ks
+  fresh_not_ready [] = refl
+  fresh_not_ready (k ∷ ks) = ap (λ n. if o.shares k c && not (is_next (o.stop k) c) then suc n else n) (fresh_not_ready ks)
 
   fresh_dead : (ks : List S) → count (fails o c) (all_live ks) ≡ 0
   fresh_dead [] = refl
@@ -111,12 +111,12 @@ counts_tell o = record {
       let w = child_of l b p ks js m a k h x e f in
       subst (λ z. Moved (reading o c k) (reading o c h) (tally_of o c ks) (tally_of o c z)) (sym w.0) (subst (λ z. Moved (reading o c k) (reading o c z) (tally_of o c ks) (tally_of o c (put_child b p a ks))) (sym w.1) (record {
         live = count_changed (joins o c) b p ks k a e;
-        waiting = count_changed (waits o c) b p ks k a e;
+        not_ready = count_changed (isnt_ready o c) b p ks k a e;
         dead = count_changed (fails o c) b p ks k a e;
       }));
   going = λ l ks js b p m a k h x e f.
       let w = child_of l b p ks js m a k h x e f in
       (λ i. count goes (w.0 i) + bit (goes k)) ∙ (count_changed goes b p ks k a e ∙ ap (λ z. count goes ks + bit (goes z)) (sym w.1));
-  fresh = λ c ks i. record { live = fresh_live o c ks i; waiting = fresh_waiting o c ks i; dead = fresh_dead o c ks i };
+  fresh = λ c ks i. record { live = fresh_live o c ks i; not_ready = fresh_not_ready o c ks i; dead = fresh_dead o c ks i };
   all_go = all_go;
 }

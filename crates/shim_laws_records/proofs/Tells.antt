@@ -14,7 +14,7 @@ use Rattle.shim_laws_schedules.proofs.Opened.{told, opened}
 use Rattle.shim_laws_schedules.proofs.PoisonDiamond.{with_root, nodes_changed_some}
 use Rattle.shim_base.proofs.Facts.{some_same, cond_some}
 use Rattle.shim_laws_records.specs.Seen.{lives, forks, place}
-use Rattle.shim_laws_records.specs.Agrees.{Standing, Shows}
+use Rattle.shim_laws_records.specs.Agrees.{RecordView, Shows}
 use Rattle.shim_laws_records.specs.Changes.{block, prevailing_among}
 use Rattle.shim_laws_records.specs.Told.{EventsTell}
 use Rattle.shim_laws_records.proofs.SameTrees.{seen_live, seen_fork}
@@ -25,7 +25,7 @@ module _ {S : Type 0} (o : Ops S) where
   told_root : (e : Event) (t u : Tree S) (n : Node S) (s : Effects) → told e t n s ≡ u → u ≡ told e t u.root s
   told_root e t u n s h = sym h ∙ ap (λ z. told e t z s) (ap (λ (z : Tree S). z.root) h)
 
-  module _ (rp : Path) (records : List S) (stands : List Standing) (t u : Tree S) (l : S) (m : Node S) (a : Acted S) (s : Shows o rp records stands t.root) (there : at (place o rp l) t.root ≡ Some m) (is : state m ≡ l) where
+  module _ (rp : Path) (records : List S) (stands : List RecordView) (t u : Tree S) (l : S) (m : Node S) (a : Acted S) (s : Shows o rp records stands t.root) (there : at (place o rp l) t.root ≡ Some m) (is : state m ≡ l) where
     tells : (e : Event) → IsAlone e → doer e ≡ o.path l → after o e t ≡ Some u → ((b : Acted S) → act_here o m ≡ Some b → b ≡ a) → u ≡ told e t u.root a.effects
     tells e d its h one =
         let x = opened o e t u d h in

@@ -9,7 +9,7 @@ use Rattle.shim_semantics.specs.Places.{at, child_at}
 use Rattle.shim_semantics.proofs.ReplacedNodes.{put, put_child}
 use Rattle.shim_base.proofs.Facts.{some_same, none_some}
 use Rattle.shim_laws_records.specs.Seen.{is_leaf, place, IsAside}
-use Rattle.shim_laws_records.specs.Agrees.{Standing}
+use Rattle.shim_laws_records.specs.Agrees.{RecordView}
 use Rattle.shim_laws_records.specs.Counts.{Tally, tally_of, reading}
 use Rattle.shim_laws_records.specs.Tallied.{Tallied, is_above, OnTheWay}
 use Rattle.shim_laws_records.proofs.Aside.{none_below}
@@ -137,7 +137,7 @@ mutual
   fork_in zero x b rest (node_and k ks) m e = let w = fork_above x b rest k m e in record { state = w.state; children = w.children; there = w.there; child = w.child }
   fork_in (suc i) x b rest (node_and k ks) m e = let w = fork_in i x b rest ks m e in record { state = w.state; children = w.children; there = w.there; child = w.child }
 
-module _ {S : Type 0} (o : Ops S) (rp : Path) (states : List S) (stands : List Standing) (c : Channel) where
+module _ {S : Type 0} (o : Ops S) (rp : Path) (states : List S) (stands : List RecordView) (c : Channel) where
   pub topped : (counts : ℕ → Option Tally) (old new : Node S) → OnTheWay o rp states stands c counts old new [] → Tallied o rp states stands c counts new
   topped counts old new t i f n s y l ks has w g = t i f n s y l ks has w (ap (λ d. at (place o rp s) (cond d old new)) (not_above_root (place o rp s)) ∙ g)
 

@@ -8,17 +8,17 @@ use Rattle.shim_semantics.specs.Sound.{IsSound}
 use Rattle.shim_laws_records.specs.Seen.{Sort, lives, forks, seen, place}
 
 -- what came of a process: the number of its first child, and what is seen of its node beside the state; or the record is free
-pub data Standing : Type 0 where
-  free : Standing
-  used : ℕ → Sort → Standing
+pub data RecordView : Type 0 where
+  free : RecordView
+  used : ℕ → Sort → RecordView
 
 -- The states of the processes and what came of them stand side by side; a process's number is its place in both. The record with this number is in use, with this state and this sort.
-pub record Has {S : Type 0} (states : List S) (stands : List Standing) (i first : ℕ) (s : S) (k : Sort) : Type 0 where
+pub record Has {S : Type 0} (states : List S) (stands : List RecordView) (i first : ℕ) (s : S) (k : Sort) : Type 0 where
   pub state_is : slice_get states i ≡ Some s
   pub stands_so : slice_get stands i ≡ Some (used first k)
 
 -- The root's path is rp, so that a state's own path tells its place.
-pub record Agrees {S : Type 0} (o : Ops S) (rp : Path) (states : List S) (stands : List Standing) (root : Node S) : Type 0 where
+pub record Agrees {S : Type 0} (o : Ops S) (rp : Path) (states : List S) (stands : List RecordView) (root : Node S) : Type 0 where
   -- what a record says is what is seen at its place
   pub shown : (i f : ℕ) (s : S) (k : Sort) → Has states stands i f s k → seen (at (place o rp s) root) ≡ Some (s, k)
   -- no two records have one place
@@ -28,7 +28,7 @@ pub record Agrees {S : Type 0} (o : Ops S) (rp : Path) (states : List S) (stands
       → (g : ℕ) × (t : S) × (k : Sort) × Has states stands (f + b) g t k × (place o rp t ≡ place o rp s ++ b ∷ [])
 
 -- the root has the record 0
-pub record Rooted {S : Type 0} (o : Ops S) (rp : Path) (states : List S) (stands : List Standing) : Type 0 where
+pub record Rooted {S : Type 0} (o : Ops S) (rp : Path) (states : List S) (stands : List RecordView) : Type 0 where
   pub first : ℕ
   pub state : S
   pub sort : Sort
@@ -36,7 +36,7 @@ pub record Rooted {S : Type 0} (o : Ops S) (rp : Path) (states : List S) (stands
   pub at_root : place o rp state ≡ []
 
 -- the records show a sound tree
-pub record Shows {S : Type 0} (o : Ops S) (rp : Path) (states : List S) (stands : List Standing) (root : Node S) : Type 0 where
+pub record Shows {S : Type 0} (o : Ops S) (rp : Path) (states : List S) (stands : List RecordView) (root : Node S) : Type 0 where
   pub sound : IsSound o root
   pub root_path : o.path (state root) ≡ rp
   pub rooted : Rooted o rp states stands
@@ -44,7 +44,7 @@ pub record Shows {S : Type 0} (o : Ops S) (rp : Path) (states : List S) (stands 
 
 -- records agree with one tree at most
 abbrev pub OneTree : {S : Type 0} → Ops S → Type 0
-OneTree {S} o = (rp : Path) (states : List S) (stands : List Standing) (t u : Node S) → Rooted o rp states stands → Agrees o rp states stands t → Agrees o rp states stands u → t ≡ u
+OneTree {S} o = (rp : Path) (states : List S) (stands : List RecordView) (t u : Node S) → Rooted o rp states stands → Agrees o rp states stands t → Agrees o rp states stands u → t ≡ u
 
 -- one live process has one record
 abbrev pub StartShows : {S : Type 0} → Ops S → Type 0

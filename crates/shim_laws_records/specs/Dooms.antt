@@ -28,10 +28,12 @@ abbrev mutual
   least_among o c no_node = None
   least_among o c (node_and k ks) = lesser (least o c k) (least_among o c ks)
 
+-- there is a label, and it is one of so many handlers'
 abbrev pub is_below : Option ℕ → ℕ → Bool
 is_below None h = false
 is_below (Some x) h = ltb x h
 
+-- What the least labels of dead sharers tell of who is doomed:
 pub record LeastsTell {S : Type 0} (o : Ops S) : Type 0 where
   -- where a death dooms, the least label does
   pub here : (h : ℕ) (c : Channel) (n : Node S) → dooms o h c n ≡ is_below (least o c n) h
@@ -45,7 +47,7 @@ pub record LeastsTell {S : Type 0} (o : Ops S) : Type 0 where
 -- Another node stands in a place. What that does to the least label of each fork:
 pub record LeastsFollow {S : Type 0} (o : Ops S) : Type 0 where
   -- where there was none at the place, the label that came is taken into all forks above
-  pub falls : (c : Channel) (old new m a : Node S) (q r : List ℕ) (l : S) (ks js : Nodes S) → IsReplaced q m a old new → least o c m ≡ None → is_above r q ≡ true
+  pub taken_in : (c : Channel) (old new m a : Node S) (q r : List ℕ) (l : S) (ks js : Nodes S) → IsReplaced q m a old new → least o c m ≡ None → is_above r q ≡ true
       → at r old ≡ Some (Forked l ks) → at r new ≡ Some (Forked l js) → least_among o c js ≡ lesser (least_among o c ks) (least o c a)
   -- where there is the same at the place, it is the same in all forks above
   pub stays : (c : Channel) (old new m a : Node S) (q r : List ℕ) (l : S) (ks js : Nodes S) → IsReplaced q m a old new → least o c a ≡ least o c m → is_above r q ≡ true

@@ -5,7 +5,7 @@ pub mod Places
 pub mod Changes
 pub mod Counts
 pub mod Tallied
-pub mod Climbing
+pub mod Updating
 pub mod Beginning
 pub mod Dooms
 pub mod Enabled
@@ -13,6 +13,6 @@ pub mod Singles
 pub mod Links
 pub mod Sources
 pub mod Told
-pub mod Sinking
+pub mod LoweredLabels
 pub mod Recounting
 pub mod Sufficing

@@ -56,6 +56,7 @@ killed o c d s (forks n) = forks n
 killed o c d s ends = ends
 killed o c d s (dies e) = dies e
 
+-- what is seen where a node was seen, behind the poison
 abbrev pub seen_killed : {S : Type 0} → Ops S → Channel → Death → Option (S × Sort) → Option (S × Sort)
 seen_killed o c d None = None
 seen_killed o c d (Some x) = Some (x.0, killed o c d x.0 x.1)

@@ -12,10 +12,12 @@ pub data Sort : Type 0 where
   ends : Sort
   dies : Death → Sort
 
+-- how many nodes there are
 abbrev pub how_many_nodes : {S : Type 0} → Nodes S → ℕ
 how_many_nodes no_node = 0
 how_many_nodes (node_and k ks) = suc (how_many_nodes ks)
 
+-- what came of the process of a node
 abbrev pub sort : {S : Type 0} → Node S → Sort
 sort (Live l) = lives
 sort (Forked l ks) = forks (how_many_nodes ks)

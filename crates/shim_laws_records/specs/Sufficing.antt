@@ -7,20 +7,20 @@ use Rattle.shim_semantics.specs.Nodes.{Node, state, is_next}
 use Rattle.shim_semantics.specs.Acts.{Acted, act_here}
 use Rattle.shim_semantics.specs.Sound.{IsSound}
 use Rattle.shim_laws_records.specs.Seen.{Sort, lives, forks, ends, dies, sort, is_leaf, place}
-use Rattle.shim_laws_records.specs.Agrees.{Standing, Has, Shows}
+use Rattle.shim_laws_records.specs.Agrees.{RecordView, Has, Shows}
 use Rattle.shim_laws_records.specs.Places.{IsReplaced}
 use Rattle.shim_laws_records.specs.Counts.{Tally, Reading, reading}
 use Rattle.shim_laws_records.specs.Tallied.{Tallied, OnTheWay, HaveCounts}
-use Rattle.shim_laws_records.specs.Sinking.{Labelled, LabelsOnTheWay}
+use Rattle.shim_laws_records.specs.LoweredLabels.{Labelled, LabelsOnTheWay}
 
 -- Of a channel that the process s wasn't given by its fork, or doesn't share, nothing above changes by what it did:
 pub record GivenSuffice {S : Type 0} (o : Ops S) : Type 0 where
   -- no counts
-  pub counts : (rp : Path) (records : List S) (stands : List Standing) (c : Channel) (old new m : Node S) (a : Acted S) (x f : ℕ) (s : S) (k : Sort) (counts : ℕ → Option Tally)
+  pub counts : (rp : Path) (records : List S) (stands : List RecordView) (c : Channel) (old new m : Node S) (a : Acted S) (x f : ℕ) (s : S) (k : Sort) (counts : ℕ → Option Tally)
       → IsSound o old → Shows o rp records stands new → Has records stands x f s k → IsReplaced (place o rp s) m a.node old new → act_here o m ≡ Some a → (IsGiven o s c → o.shares s c ≡ true → ⊥)
       → HaveCounts o rp records stands c counts new → OnTheWay o rp records stands c counts old new (place o rp s) → Tallied o rp records stands c counts new
   -- and no label
-  pub labels : (rp : Path) (records : List S) (stands : List Standing) (c : Channel) (old new m : Node S) (a : Acted S) (x f : ℕ) (s : S) (k : Sort) (counts : ℕ → Option Tally) (labels : ℕ → Option ℕ)
+  pub labels : (rp : Path) (records : List S) (stands : List RecordView) (c : Channel) (old new m : Node S) (a : Acted S) (x f : ℕ) (s : S) (k : Sort) (counts : ℕ → Option Tally) (labels : ℕ → Option ℕ)
       → IsSound o old → Shows o rp records stands new → Has records stands x f s k → IsReplaced (place o rp s) m a.node old new → act_here o m ≡ Some a → (IsGiven o s c → o.shares s c ≡ true → ⊥)
       → HaveCounts o rp records stands c counts new → LabelsOnTheWay o rp records stands c counts labels old new (place o rp s) → Labelled o rp records stands c counts labels new
 

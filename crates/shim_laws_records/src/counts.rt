@@ -1,6 +1,6 @@
 // Laws of the counts that forks keep of their children.
 ghost use Rattle.shim_laws_records.specs.Counts.{CountsTell};
-ghost use Rattle.shim_laws_records.specs.Climbing.{CountsFollow};
+ghost use Rattle.shim_laws_records.specs.Updating.{CountsFollow};
 ghost use Rattle.shim_laws_records.specs.Beginning.{CountsBegin, ForeignStays};
 ghost use Rattle.shim_laws_records.specs.Sufficing.{GivenSuffice, ActorsAreRead};
 ghost use Rattle.shim_laws_records.specs.Links.{LinksFollow, GoingFollow};
@@ -8,12 +8,12 @@ ghost use Rattle.shim_laws_records.specs.Links.{LinksFollow, GoingFollow};
 use shim_local::Local;
 
 /// What is read of a fork on a channel is told by three counts of its children: how many join, how many of
-/// these wait, and how many fail. A child's change moves them by bits.
+/// these aren't ready, and how many fail. A child's change moves them by bits.
 pub fn counts_tell<L: Local>()
     ensures { CountsTell L.ops }
 {}
 
-/// How the counts follow a change at one process up the forks: channel by channel either the way up is gone,
+/// How the counts follow a change at one process up the forks: channel by channel either the way up is walked,
 /// or nothing is to be done.
 pub fn counts_follow<L: Local>()
     ensures { CountsFollow L.ops }

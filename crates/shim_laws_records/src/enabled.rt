@@ -2,7 +2,7 @@
 ghost use Rattle.shim_laws_records.specs.Dooms.{LeastsTell, LeastsFollow};
 ghost use Rattle.shim_laws_records.specs.Beginning.{LabelsBegin};
 ghost use Rattle.shim_laws_records.specs.Enabled.{EnabledByRecords, EnabledAreFound, NothingNew};
-ghost use Rattle.shim_laws_records.specs.Sinking.{LabelsSink};
+ghost use Rattle.shim_laws_records.specs.LoweredLabels.{LabelsLowered};
 ghost use Rattle.shim_laws_records.specs.Recounting.{LabelsRecount};
 
 use shim_local::Local;
@@ -45,8 +45,8 @@ pub fn labels_begin<L: Local>()
 
 /// Where a process has died and its label was taken in on the way up, the labels that forks keep for a channel
 /// are all those of the tree behind.
-pub fn labels_sink<L: Local>()
-    ensures { LabelsSink L.ops }
+pub fn labels_lowered<L: Local>()
+    ensures { LabelsLowered L.ops }
 {}
 
 /// Where another node stands in a place, as a fork has closed, and the labels above were read off the forks'

@@ -7,7 +7,7 @@ use Rattle.shim_local.specs.Process.{Ops}
 use Rattle.shim_semantics.specs.Nodes.{Node, Nodes, Live, Forked, Ended, Dead, no_node, node_and, state}
 use Rattle.shim_semantics.specs.Places.{at, child_at, branches}
 use Rattle.shim_laws_records.specs.Seen.{Sort, lives, forks, ends, dies, seen, sort, place, how_many_nodes}
-use Rattle.shim_laws_records.specs.Agrees.{Standing, used, Has, Agrees, Shows}
+use Rattle.shim_laws_records.specs.Agrees.{RecordView, used, Has, Agrees, Shows}
 use Rattle.shim_laws_records.proofs.Aside.{at_split}
 use Rattle.shim_laws_records.proofs.SameTrees.{seen_sort, seen_state}
 use Rattle.shim_laws_shown.specs.Shown.{node_in_front, nodes_from, fork_over, node_by, node_in, node_of, lengths_of, tree_of, TreeIsComputed}
@@ -30,20 +30,24 @@ one_more : (q : List ℕ) (b : ℕ) → length (q ++ b ∷ []) ≡ length q + 1
 one_more [] b = refl
 one_more (x ∷ q) b = let w = one_more q b in omega (arith, w)
 
-module _ {S : Type 0} (o : Ops S) (rp : Path) (states : List S) (stands : List Standing) (root : Node S) (ok : Agrees o rp states stands root) where
-  near : (i f : ℕ) (s : S) (k : Sort) → Has states stands i f s k → length (place o rp s) ≤ lengths_of o states
-  near i f s k h =
-      let w = one_of o states i s h.state_is in
-      let d = drop_shorter (length rp) (o.path s) in
-      let e = branches_length (drop (length rp) (o.path s)) in
-      omega (arith, w, d, e)
+-- no process of the records is further from the root than that
+abbrev pub AreNear : {S : Type 0} → Ops S → Path → List S → List RecordView → ℕ → Type 0
+AreNear {S} o rp states stands most = (i f : ℕ) (s : S) (k : Sort) → Has states stands i f s k → length (place o rp s) ≤ most
 
+near_lengths : {S : Type 0} (o : Ops S) (rp : Path) (states : List S) (stands : List RecordView) → AreNear o rp states stands (lengths_of o states)
+near_lengths o rp states stands i f s k h =
+    let w = one_of o states i s h.state_is in
+    let d = drop_shorter (length rp) (o.path s) in
+    let e = branches_length (drop (length rp) (o.path s)) in
+    omega (arith, w, d, e)
+
+module _ {S : Type 0} (o : Ops S) (rp : Path) (states : List S) (stands : List RecordView) (root : Node S) (ok : Agrees o rp states stands root) (most : ℕ) (near : AreNear o rp states stands most) where
   -- so many levels are enough for the nodes at and below these branches
   abbrev Computed : ℕ → Type 0
-  Computed m = (i f : ℕ) (s : S) (k : Sort) (n : Node S) → Has states stands i f s k → at (place o rp s) root ≡ Some n → suc (lengths_of o states) ≤ m + length (place o rp s) → node_of states stands m i ≡ Some n
+  Computed m = (i f : ℕ) (s : S) (k : Sort) (n : Node S) → Has states stands i f s k → at (place o rp s) root ≡ Some n → suc most ≤ m + length (place o rp s) → node_of states stands m i ≡ Some n
 
   -- some children of a fork, from one of them on
-  among : (m : ℕ) → Computed m → (l : S) (ks js : Nodes S) (i f n b : ℕ) → Has states stands i f l (forks n) → at (place o rp l) root ≡ Some (Forked l ks) → suc (lengths_of o states) ≤ suc m + length (place o rp l)
+  among : (m : ℕ) → Computed m → (l : S) (ks js : Nodes S) (i f n b : ℕ) → Has states stands i f l (forks n) → at (place o rp l) root ≡ Some (Forked l ks) → suc most ≤ suc m + length (place o rp l)
       → ((c : ℕ) → child_at c [] js ≡ child_at (b + c) [] ks) → b + how_many_nodes js ≡ n → nodes_from (node_of states stands m) (f + b) (how_many_nodes js) ≡ Some js
   among m all l ks no_node i f n b h e far same count = refl
   among m all l ks (node_and k js) i f n b h e far same count =
@@ -74,10 +78,10 @@ module _ {S : Type 0} (o : Ops S) (rp : Path) (states : List S) (stands : List S
   in_record : (m i f : ℕ) (s : S) (k : Sort) → Has states stands i f s k → node_of states stands (suc m) i ≡ node_by (node_of states stands m) s f k
   in_record m i f s k h = λ t. node_in (node_of states stands m) (h.state_is t) (h.stands_so t)
 
-  computed : (m : ℕ) → Computed m
+  pub computed : (m : ℕ) → Computed m
   computed zero i f s k n h e far = let w = near i f s k h in absurd (too_much w far)
     where
-      too_much : length (place o rp s) ≤ lengths_of o states → suc (lengths_of o states) ≤ 0 + length (place o rp s) → ⊥
+      too_much : length (place o rp s) ≤ most → suc most ≤ 0 + length (place o rp s) → ⊥
       too_much w far = omega (arith, w, far)
   computed (suc m) i f s k n h e far = on (computed m) n (seen_state n s k shown) (seen_sort n s k shown) e
     where
@@ -98,7 +102,11 @@ module _ {S : Type 0} (o : Ops S) (rp : Path) (states : List S) (stands : List S
           given (forks (how_many_nodes ks)) w
           ∙ (ap (fork_over s) (ap (λ z. nodes_from (node_of states stands m) z (how_many_nodes ks)) (behind f) ∙ children) ∙ ap (λ z. Some (Forked z ks)) (sym u))
 
-pub tree_is_computed : {S : Type 0} (o : Ops S) → TreeIsComputed o
-tree_is_computed o rp states stands root shows =
+-- so where so many levels are allowed the root is computed
+pub root_within : {S : Type 0} (o : Ops S) (rp : Path) (states : List S) (stands : List RecordView) (root : Node S) (most : ℕ) → Shows o rp states stands root → AreNear o rp states stands most → node_of states stands (suc most) 0 ≡ Some root
+root_within o rp states stands root most shows near =
     let r = shows.rooted in
-    computed o rp states stands root shows.agrees (suc (lengths_of o states)) 0 r.first r.state r.sort root r.has (ap (λ z. at z root) r.at_root) (omega arith)
+    computed o rp states stands root shows.agrees most near (suc most) 0 r.first r.state r.sort root r.has (ap (λ z. at z root) r.at_root) (omega arith)
+
+pub tree_is_computed : {S : Type 0} (o : Ops S) → TreeIsComputed o
+tree_is_computed o rp states stands root shows = root_within o rp states stands root (lengths_of o states) shows (near_lengths o rp states stands)

@@ -4,7 +4,7 @@ use Rattle.shim_base.specs.Paths.{Path}
 use Rattle.shim_local.specs.Process.{Ops}
 use Rattle.shim_semantics.specs.Nodes.{Node, Nodes, Live, Forked, Ended, Dead, no_node, node_and}
 use Rattle.shim_laws_records.specs.Seen.{Sort, lives, forks, ends, dies}
-use Rattle.shim_laws_records.specs.Agrees.{Standing, used, Shows}
+use Rattle.shim_laws_records.specs.Agrees.{RecordView, used, Shows}
 
 -- a node in front of others, where there are all of them
 abbrev pub node_in_front : {S : Type 0} → Option (Node S) → Option (Nodes S) → Option (Nodes S)
@@ -16,6 +16,7 @@ abbrev pub nodes_from : {S : Type 0} → (ℕ → Option (Node S)) → ℕ → �
 nodes_from node first zero = Some no_node
 nodes_from node first (suc n) = node_in_front (node first) (nodes_from node (first + 1) n)
 
+-- a fork of this process over these children, where there are all of them
 abbrev pub fork_over : {S : Type 0} → S → Option (Nodes S) → Option (Node S)
 fork_over l None = None
 fork_over l (Some ks) = Some (Forked l ks)
@@ -27,12 +28,13 @@ node_by node s first (forks n) = fork_over s (nodes_from node first n)
 node_by node s first ends = Some (Ended s)
 node_by node s first (dies d) = Some (Dead s d)
 
-abbrev pub node_in : {S : Type 0} → (ℕ → Option (Node S)) → Option S → Option Standing → Option (Node S)
+-- the node of a record with this state and view; none of a free one
+abbrev pub node_in : {S : Type 0} → (ℕ → Option (Node S)) → Option S → Option RecordView → Option (Node S)
 node_in node (Some s) (Some (used first k)) = node_by node s first k
 node_in node _ _ = None
 
 -- the node of the record with a number, where so many forks at most stand in each other
-abbrev pub node_of : {S : Type 0} → List S → List Standing → ℕ → ℕ → Option (Node S)
+abbrev pub node_of : {S : Type 0} → List S → List RecordView → ℕ → ℕ → Option (Node S)
 node_of states stands zero i = None
 node_of states stands (suc m) i = node_in (node_of states stands m) (slice_get states i) (slice_get stands i)
 
@@ -42,9 +44,9 @@ lengths_of o [] = 0
 lengths_of o (s ∷ ss) = length (o.path s) + lengths_of o ss
 
 -- the tree of the root's record
-abbrev pub tree_of : {S : Type 0} → Ops S → List S → List Standing → Option (Node S)
+abbrev pub tree_of : {S : Type 0} → Ops S → List S → List RecordView → Option (Node S)
 tree_of o states stands = node_of states stands (suc (lengths_of o states)) 0
 
 -- where records show a tree, it is the one that is computed
 abbrev pub TreeIsComputed : {S : Type 0} → Ops S → Type 0
-TreeIsComputed {S} o = (rp : Path) (states : List S) (stands : List Standing) (root : Node S) → Shows o rp states stands root → tree_of o states stands ≡ Some root
+TreeIsComputed {S} o = (rp : Path) (states : List S) (stands : List RecordView) (root : Node S) → Shows o rp states stands root → tree_of o states stands ≡ Some root

@@ -1,11 +1,12 @@
 -- What is at a number of locations, from before a change.
-use Rattle.std.proofs.Common.{◌≡◌, ◌∙◌, ℕ, zero, suc, ◌<◌, ◌≤◌, inl, inr, [], ◌∷◌, ◌++◌, length, take, Option, Some, None, refl, sym, ap, subst, arith}
+use Rattle.std.proofs.Common.{◌≡◌, ◌∙◌, ℕ, zero, suc, ◌<◌, inl, inr, [], ◌∷◌, ◌++◌, length, take, Option, Some, None, refl, sym, ap, subst, arith}
 use Rattle.std.proofs.lemmas.Bool.{cases_eq}
 use Rattle.std.specs.Prelude.{slice_set}
 use Rattle.shim_base.specs.Paths.{Channel, NamedChannel}
 use Rattle.shim_process.specs.Locations.{Location, Locations, Copy, at_number}
 use Rattle.shim_process.specs.Sound.{IsOwned}
 use Rattle.shim_process.proofs.PlaceLocations.{at_set}
+use Rattle.shim_process.proofs.PlaceChannels.{length_put}
 use Rattle.shim_laws_sources.specs.Anchored.{OwnedOn}
 use Rattle.shim_base.proofs.Facts.{some_same}
 
@@ -29,21 +30,11 @@ at_taken (suc k) [] n x h e = e
 at_taken (suc k) (y ∷ xs) zero x h e = e
 at_taken (suc k) (y ∷ xs) (suc n) x h e = at_taken k xs n x (omega (arith, h)) e
 
-pub length_taken : (k : ℕ) (xs : Locations) → k ≤ length xs → length (take k xs) ≡ k
-length_taken zero xs h = refl
-length_taken (suc k) [] h = absurd (omega (arith, h))
-length_taken (suc k) (y ∷ xs) h = ap suc (length_taken k xs (omega (arith, h)))
-
 pub at_before : (xs ys : Locations) (n : ℕ) (x : Location) → at_number xs n ≡ Some x → at_number (xs ++ ys) n ≡ Some x
 unfolding at_number
 at_before [] ys n x e = absurd cc
 at_before (y ∷ xs) ys zero x e = e
 at_before (y ∷ xs) ys (suc n) x e = at_before xs ys n x e
-
-pub length_put : (xs : Locations) (k : ℕ) (o : Option Location) → length (slice_set xs k o) ≡ length xs
-length_put [] k o = refl
-length_put (x ∷ xs) zero o = refl
-length_put (x ∷ xs) (suc k) o = ap suc (length_put xs k o)
 
 -- where another one is changed
 pub still_at : (o : Option Location) (xs : Locations) (k n : ℕ) (y : Location) → (k ≡ n → ⊥) → at_number xs n ≡ Some y → at_number (slice_set xs k o) n ≡ Some y

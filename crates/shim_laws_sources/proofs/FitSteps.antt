@@ -9,7 +9,7 @@ use Rattle.shim_units.specs.declared.unit.UCall.{UCall}
 use Rattle.shim_units.specs.declared.unit.UStmt.{UStmt, fold-roll-UStmt}
 use Rattle.shim_units.specs.declared.unit.UWhat.{UWhat, UWhat-F, fold-UWhat, fold-roll-UWhat, map-UWhat, roll-UWhat}
 use Rattle.shim_units.specs.declared.unit.UWhat.TheVariants as u
-use Rattle.shim_laws_sources.specs.OwnSlots.{suits, all_suit, is_own_slot, what_fits, fits, all_fit}
+use Rattle.shim_process.specs.OwnSlots.{suits, all_suit, is_own_slot, what_fits, fits, all_fit}
 
 module _ (p : Form) (o : UnitOf) where
   abbrev pub fits_what : UWhat → Bool

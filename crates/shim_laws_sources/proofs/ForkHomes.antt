@@ -1,15 +1,14 @@
 -- What a fork leaves: the parent has what a process has that waits for children, and each child is whole.
-use Rattle.std.proofs.Common.{◌≡◌, ◌∙◌, ℕ, zero, suc, ◌+◌, ◌<◌, ◌≤◌, ◌⊎◌, inl, inr, List, [], ◌∷◌, ◌++◌, length, Some, Ok, refl, sym, ap, subst, arith, length-append}
+use Rattle.std.proofs.Common.{◌≡◌, ◌∙◌, ℕ, ◌+◌, ◌≤◌, ◌⊎◌, inl, inr, List, [], ◌∷◌, length, Some, Ok, refl, sym, ap, subst, arith}
 use Rattle.std.specs.Prelude.{slice_get}
-use Rattle.shim_base.specs.Paths.{Path, Channel, NamedChannel}
+use Rattle.shim_base.specs.Paths.{Channel, NamedChannel}
 use Rattle.shim_local.specs.Laws.{AllOf, Forks}
-use Rattle.shim_syntax.specs.declared.tree.Sort.{Sort}
 use Rattle.shim_semantics.specs.Nodes.{Forked, states, all_live}
 use Rattle.shim_units.specs.declared.unit.Unit.{Unit as UnitOf}
 use Rattle.shim_units.specs.declared.unit.UBranch.{UBranch}
 use Rattle.shim_process.specs.Locations.{Location, Locations, Lent, at_number}
 use Rattle.shim_process.specs.LocalState.{LocalState, Frame, unit_at}
-use Rattle.shim_process.specs.Arguments.{Argument, branch_locations, declared_slots, empties}
+use Rattle.shim_process.specs.Arguments.{Argument, branch_locations, declared_slots}
 use Rattle.shim_process.specs.Forks.{lent, item_branches, all_arguments, child, children_from, lending, all_lending, parent}
 use Rattle.shim_process.specs.Sound.{Sound}
 use Rattle.shim_process.specs.Ops.{process_ops}
@@ -19,17 +18,22 @@ use Rattle.shim_process.proofs.ChildSound.{below, all_apart}
 use Rattle.shim_process.proofs.ForkKeeps.{kept_sound}
 use Rattle.shim_process.proofs.ForkLending.{given_away, Suit, all_suit, lends_one}
 use Rattle.shim_laws_sources.proofs.Ownerships.{own_not_copy, own_not_lent, copy_not_lent}
-use Rattle.shim_laws_sources.specs.Anchored.{FrameFits, of_child, parameters_of, IsAnchored, IsWhole, Stays}
+use Rattle.shim_process.specs.FittingFrames.{parameters_of}
+use Rattle.shim_laws_sources.specs.Anchored.{IsAnchored, IsWhole, Stays}
 use Rattle.shim_laws_sources.specs.Homes.{GivesBack, OneGivesBack, HasOn, IsGivenBy, IsHome, AreHome}
 use Rattle.shim_laws_sources.proofs.AtPlaces.{Onward, onward_same, onward_both}
-use Rattle.shim_laws_sources.proofs.CallSlots.{first_slot}
-use Rattle.shim_laws_sources.proofs.FittingItems.{body_fits}
-use Rattle.shim_laws_sources.proofs.FittingFrames.{inner_fits}
-use Rattle.shim_laws_sources.proofs.LendingPlaces.{lent_onward, WasLent, StandFrom, branch_back, branch_length, branch_kind}
+use Rattle.shim_process.proofs.ChildChannels.{stand_child}
+use Rattle.shim_process.proofs.ChildFitting.{child_parameters, child_fitting}
+use Rattle.shim_laws_sources.proofs.LendingPlaces.{lent_onward, WasLent, branch_back, branch_kind}
 use Rattle.shim_laws_sources.proofs.WholeEnds.{stays_same, stays_both}
 use Rattle.shim_laws_sources.proofs.WholeStores.{onward_anchored, onward_stays}
-use Rattle.shim_laws_sources.proofs.ForkArguments.{IsParted, branches, fork_parted, branches_suit, AllMatch, all_match}
+use Rattle.shim_process.proofs.ForkArguments.{AllMatch, fork_matches}
+use Rattle.shim_process.proofs.ForkParts.{Parts, parts_of}
 use Rattle.shim_process.proofs.ForkLaws.{lends_keeps}
+
+-- the branches of the fork at which the process stands
+abbrev branches : LocalState → List UBranch
+branches l = item_branches l.frame.todo
 
 -- what is left after branches
 
@@ -63,34 +67,12 @@ same_slots m (b ∷ bs) = same_slots (lending m b) bs
 
 -- a child
 
-long_enough : (p g a b c : ℕ) → g ≡ p → a ≡ b + c → b ≡ g → p ≤ a
-long_enough p g a b c e f h = omega (arith, e, f, h)
-
-child_most : (path : Path) (n : ℕ) → of_child path n ≤ n
-child_most [] n = omega arith
-child_most (x ∷ path) n = omega arith
-
-child_all : (path : Path) (x : ℕ × ℕ) (n : ℕ) → of_child (path ++ x ∷ []) n ≡ n
-child_all [] x n = refl
-child_all (y ∷ path) x n = refl
-
-no_more : (k n a : ℕ) → k ≤ n → n ≤ a → k ≤ a
-no_more k n a e f = omega (arith, e, f)
-
 child_whole : (m : LocalState) (i : ℕ) (b : UBranch) (g : List Argument) → Sound m → IsAnchored m → length g ≡ length (unit_at m.program b.call.unit).params → IsWhole (child m i b g)
 child_whole m i b g s h many =
     let u : UnitOf = unit_at m.program b.call.unit in
-    let passed : Locations = branch_locations (below m i) m.locations 0 g in
-    let behind : Locations = empties (declared_slots u) in (
+    let passed : Locations = branch_locations (below m i) m.locations 0 g in (
       record {
-        uses = h.uses;
-        fit = record {
-          todo = body_fits m.program u u.body 0 (h.uses b.call.unit);
-          places = tt;
-          slots = λ x own. let at = first_slot u x own in let most = child_most (below m i) (length u.params) in (omega arith, omega (arith, at, most));
-        };
-        long = no_more (of_child (below m i) (length u.params)) (length u.params) (length (passed ++ behind)) (child_most (below m i) (length u.params)) (long_enough (length u.params) (length g) (length (passed ++ behind)) (length passed) (length behind) many (length-append passed behind) (branch_length (below m i) m.locations 0 g));
-        floor = omega arith;
+        fitting = child_fitting m i b g h.fitting many;
         anchors = λ n x e ownership home. elim (branch_kind (below m i) m.locations 0 g n x (before_empties passed (declared_slots u) n x e)) [
           | inl is ↦ own_not_copy x.ownership is ownership
           | inr w ↦ absurd (all_apart m i s w.1.number w.1.place w.1.at (ap (λ (d : NamedChannel). d.channel.home) w.1.on ∙ home))
@@ -125,25 +107,16 @@ all_well m i [] given s h match = tt
 all_well m i (b ∷ bs) [] s h match = tt
 all_well m i (b ∷ bs) (g ∷ gs) s h match = (
   (
-    child_whole m i b g s h match.1,
+    child_whole m i b g s h match.0.many,
     λ at d e. elim (child_given m i b g at d e) [
       | inl here ↦ inl here
       | inr w ↦ inr (has_onward m.locations (all_lending m (b ∷ bs)).locations d.channel (all_onward m (b ∷ bs)) w)
     ],
   ),
-  all_well (lending m b) (i + 1) bs gs (lending_sound m b s) (lending_anchored m b h) match.2,
+  all_well (lending m b) (i + 1) bs gs (lending_sound m b s) (lending_anchored m b h) match.1,
 )
 
 -- what is lent comes back
-
-in_front : (xs : Locations) (ss : List Sort) (i : ℕ) → i < length xs → at_number (xs ++ empties ss) i ≡ at_number xs i
-unfolding at_number
-in_front [] ss i h = absurd (omega (arith, h))
-in_front (x ∷ xs) ss zero h = refl
-in_front (x ∷ xs) ss (suc i) h = in_front xs ss i (omega (arith, h))
-
-stand_child : (passed : Locations) (ss : List Sort) → StandFrom (passed ++ empties ss) 0 passed
-stand_child passed ss i h = ap (at_number (passed ++ empties ss)) (let e : 0 + i ≡ i = omega arith in e) ∙ in_front passed ss i h
 
 within_parameters : (g p k : ℕ) → g ≡ p → k ≡ p → 0 + g ≤ k
 within_parameters g p k e f = omega (arith, e, f)
@@ -156,11 +129,11 @@ lent_back m i (b ∷ bs) [] n x suit match e lent = absurd suit
 lent_back m i (b ∷ bs) (g ∷ gs) n x suit match e lent =
     let k : LocalState = child m i b g in
     let passed : Locations = branch_locations (below m i) m.locations 0 g in
-    elim (lent_back (lending m b) (i + 1) bs gs n x suit.1 match.2 e lent) [
+    elim (lent_back (lending m b) (i + 1) bs gs n x suit.1 match.1 e lent) [
       | inl was ↦
           let there : at_number (given_away g m.locations) n ≡ Some was.place = ap (λ (xs : Locations). at_number xs n) (sym (suit.0 m.locations)) ∙ was.at in
-          elim (branch_back m.frame.slots b.call.args g (below m i) m.locations 0 0 k n was.place match.0 (stand_child passed (declared_slots (unit_at m.program b.call.unit)))
-          (within_parameters (length g) (length (unit_at m.program b.call.unit).params) (parameters_of k) match.1 (child_all m.path (m.forks, i) (length (unit_at m.program b.call.unit).params))) there was.lent) [
+          elim (branch_back m.frame.slots b.call.args g (below m i) m.locations 0 0 k n was.place match.0.matches (stand_child passed (declared_slots (unit_at m.program b.call.unit)))
+          (within_parameters (length g) (length (unit_at m.program b.call.unit).params) (parameters_of k) match.0.many (child_parameters m i b g)) there was.lent) [
             | inl w ↦ inl (record { place = w.place; at = w.at; channel = w.channel ∙ was.channel; lent = w.lent })
             | inr w ↦ inr (inl (subst (λ (d : NamedChannel). GivesBack m.frame.slots 0 b.call.args k n d.channel) was.channel w))
           ]
@@ -185,8 +158,7 @@ parted_waits : (l : LocalState) (given : List (List Argument)) → Sound l → I
 parted_waits l given s h e =
     let bs : List UBranch = branches l in
     let kids : List LocalState = children_from l 0 bs given in
-    let inner : FrameFits l.program (parameters_of l) l.frame = inner_fits l.program (parameters_of l) l.frame l.callers h.0.fit in
-    let match : AllMatch l.frame.slots l.program bs given = all_match l bs given (branches_suit l.program (unit_at l.program l.frame.unit) l.frame.todo inner.todo) e in
+    let match : AllMatch l.frame.slots l.program bs given = fork_matches l given h.0.fitting e in
     let suit : Suit l.frame.slots l.program bs given = all_suit l bs given e in
     let well : AllOf (IsWell (all_lending l bs)) kids = all_well l 0 bs given s h.0 match in (
       record {
@@ -207,7 +179,7 @@ one_more_fork l m n s = record { path = s.path; given = s.given; many = s.many; 
 
 pub fork_home : (l p : LocalState) (ks : List LocalState) → Sound l → IsWhole l → Forks process_ops l p ks → IsHome (Forked p (all_live ks)) × Stays l p
 fork_home l p ks s h at =
-    let w : IsParted l p ks (branches l) (all_arguments l (branches l)) = fork_parted l p ks at.1 in
+    let w : Parts l p ks = parts_of l p ks at in
     let stays : Stays l (parent l (branches l)) = one_more_fork l (all_lending l (branches l)) (l.forks + 1) (all_stays l (branches l)) in (
       subst (λ (q : LocalState). IsHome (Forked q (all_live ks))) (sym w.parent_is)
           (subst (λ (js : List LocalState). IsHome (Forked (parent l (branches l)) (all_live js))) (sym w.children_are) (parted_waits l w.given s h w.computed)),

@@ -90,5 +90,5 @@ home_relates = record {
   traps = λ l m s at e h. fork_trapped_whole l m e h;
   ends = λ l h. (h, stays_same l);
   dies = λ l x h. (h, stays_same l);
-  joins = λ l ks goes_on s all born done h. join_whole l (states ks) goes_on h.0 (done_whole ks done h.1);
+  joins = λ l ks goes_on s all born done h. join_whole l (states ks) goes_on h.0 (done_whole ks done h.1) born;
 }

@@ -1,5 +1,5 @@
 -- What a fork leaves of locations, and what its children have of them.
-use Rattle.std.proofs.Common.{◌≡◌, ◌∙◌, ℕ, zero, suc, ◌+◌, ◌<◌, ◌≤◌, ◌⊎◌, inl, inr, List, [], ◌∷◌, length, Option, Some, None, Ok, refl, sym, ap, subst, arith}
+use Rattle.std.proofs.Common.{◌≡◌, ◌∙◌, ℕ, zero, suc, ◌+◌, ◌≤◌, ◌⊎◌, inl, inr, List, [], ◌∷◌, length, Option, Some, None, refl, sym, ap, subst, arith}
 use Rattle.shim_base.specs.declared.types.Ty.{Ty}
 use Rattle.shim_base.specs.Value.{stored}
 use Rattle.shim_base.specs.Paths.{Path, NamedChannel}
@@ -8,15 +8,17 @@ use Rattle.shim_units.specs.declared.unit.Arg.{Arg}
 use Rattle.shim_units.specs.declared.unit.Arg.TheVariants.{Ref, Pass, Fresh}
 use Rattle.shim_process.specs.Values.{value}
 use Rattle.shim_process.specs.Locations.{Location, Locations, Ownership, Own, Lent, Copy, at_number, kept, with_kept, moved, with_moved, lend_at}
-use Rattle.shim_process.specs.LocalState.{LocalState, number_of, env_of, type_of}
-use Rattle.shim_process.specs.Arguments.{Argument, ByReference, ByCopy, ByValue, on_value, arguments, copied, new_location, branch_locations}
+use Rattle.shim_process.specs.LocalState.{LocalState, number_of}
+use Rattle.shim_process.specs.Arguments.{Argument, ByReference, ByCopy, ByValue, arguments, copied, new_location, branch_locations}
 use Rattle.shim_process.specs.Forks.{lent}
 use Rattle.shim_process.specs.Sound.{IsOwned}
 use Rattle.shim_process.proofs.PlaceLocations.{at_set}
-use Rattle.shim_process.proofs.ForkLending.{from_value, given_away, ok_same}
+use Rattle.shim_process.proofs.ForkLending.{given_away}
 use Rattle.shim_process.proofs.ForkPlaces.{Place, within_lend, kept_owned}
+use Rattle.shim_process.proofs.ChildChannels.{Matches, StandFrom, stand_next, stand_first}
 use Rattle.shim_process.proofs.ChildGiven.{Given}
-use Rattle.shim_laws_sources.specs.Anchored.{OwnedOn, parameters_of}
+use Rattle.shim_process.specs.FittingFrames.{parameters_of}
+use Rattle.shim_laws_sources.specs.Anchored.{OwnedOn}
 use Rattle.shim_laws_sources.specs.Homes.{GivesBack}
 use Rattle.shim_laws_sources.proofs.AtPlaces.{Onward, IsGentle, onward_same, onward_both, onward_put}
 use Rattle.shim_base.proofs.Facts.{some_same}
@@ -49,32 +51,6 @@ lent_onward slots (p ∷ ps) (Ref x ∷ rest) xs =
     onward_both xs ys (lent slots ps rest ys) (lend_onward xs (number_of slots x)) (lent_onward slots ps rest ys)
 lent_onward slots (p ∷ ps) (Pass x ∷ rest) xs = lent_onward slots ps rest xs
 lent_onward slots (p ∷ ps) (Fresh v ∷ rest) xs = lent_onward slots ps rest xs
-
--- the arguments go with what is written
-abbrev pub Matches : List ℕ → List Arg → List Argument → Type 0
-Matches slots [] [] = Unit {0}
-Matches slots (Ref x ∷ rest) (ByReference n ∷ given) = (number_of slots x ≡ n) × Matches slots rest given
-Matches slots (Pass x ∷ rest) (ByCopy t n ∷ given) = Matches slots rest given
-Matches slots (Fresh v ∷ rest) (ByValue t name w ∷ given) = Matches slots rest given
-Matches _ _ _ = ⊥
-
-pub they_match : (at : Locations) (slots : List ℕ) (ps : List UParam) (args : List Arg) (given : List Argument) → arguments at slots ps args ≡ Ok given → length args ≡ length ps → Matches slots args given
-they_match at slots [] [] given e many = subst (Matches slots []) (ok_same [] given e) tt
-they_match at slots [] (a ∷ rest) given e many = absurd (omega (arith, many))
-they_match at slots (p ∷ ps) [] given e many = absurd (omega (arith, many))
-they_match at slots (p ∷ ps) (Ref x ∷ rest) given e many =
-    let w = from_value (λ others. Ok (ByReference (number_of slots x) ∷ others)) (arguments at slots ps rest) given e in
-    subst (Matches slots (Ref x ∷ rest)) (ok_same (ByReference (number_of slots x) ∷ w.0) given w.2) (refl, they_match at slots ps rest w.0 w.1 (omega (arith, many)))
-they_match at slots (p ∷ ps) (Pass x ∷ rest) given e many =
-    let w = from_value (λ others. Ok (ByCopy (type_of p.sort) (number_of slots x) ∷ others)) (arguments at slots ps rest) given e in
-    subst (Matches slots (Pass x ∷ rest)) (ok_same (ByCopy (type_of p.sort) (number_of slots x) ∷ w.0) given w.2) (they_match at slots ps rest w.0 w.1 (omega (arith, many)))
-they_match at slots (p ∷ ps) (Fresh v ∷ rest) given e many =
-    let w = from_value (λ one. on_value (λ others. Ok (one ∷ others)) (arguments at slots ps rest)) (on_value (λ n. Ok (ByValue (type_of p.sort) p.name n)) (value v (env_of at slots))) given e in
-    let u = from_value (λ n. Ok (ByValue (type_of p.sort) p.name n)) (value v (env_of at slots)) w.0 w.1 in
-    let o = from_value (λ others. Ok (w.0 ∷ others)) (arguments at slots ps rest) given w.2 in
-    let one : ByValue (type_of p.sort) p.name u.0 ≡ w.0 = ok_same (ByValue (type_of p.sort) p.name u.0) w.0 u.2 in
-    subst (Matches slots (Fresh v ∷ rest)) (ok_same (w.0 ∷ o.0) given o.2)
-    (subst (λ (a : Argument). Matches slots (Fresh v ∷ rest) (a ∷ o.0)) one (they_match at slots ps rest o.0 o.1 (omega (arith, many))))
 
 -- the location that is lent was lent before
 pub record WasLent (xs : Locations) (n : ℕ) (x : Location) : Type 0 where
@@ -119,18 +95,6 @@ lend_back xs ys k n j x e lent there = elim (at_set xs k n (with_kept (at_number
   | inr same ↦ inl (record { place = x; at = same; channel = refl; lent = lent })
 ]
 
--- the locations of the second list are among those of the first one, from this number on
-abbrev pub StandFrom : Locations → ℕ → Locations → Type 0
-StandFrom ys j zs = (i : ℕ) → i < length zs → at_number ys (j + i) ≡ at_number zs i
-
-stand_next : (ys : Locations) (j : ℕ) (o : Option Location) (zs : Locations) → StandFrom ys j (o ∷ zs) → StandFrom ys (j + 1) zs
-unfolding at_number
-stand_next ys j o zs h i below = ap (at_number ys) (let e : (j + 1) + i ≡ j + suc i = omega arith in e) ∙ h (suc i) (omega (arith, below))
-
-stand_first : (ys : Locations) (j : ℕ) (o : Option Location) (zs : Locations) → StandFrom ys j (o ∷ zs) → at_number ys j ≡ o
-unfolding at_number
-stand_first ys j o zs h = ap (at_number ys) (let e : j ≡ j + 0 = omega arith in e) ∙ h 0 (omega arith)
-
 -- A location that is lent after a branch took its arguments was lent before, or the child gives its channel's own variable back.
 pub branch_back : (slots : List ℕ) (args : List Arg) (given : List Argument) (child : Path) (xs : Locations) (s j : ℕ) (k : LocalState) (n : ℕ) (x : Location) → Matches slots args given
     → StandFrom k.locations j (branch_locations child xs s given) → j + length given ≤ parameters_of k → at_number (given_away given xs) n ≡ Some x → x.ownership ≡ Lent → WasLent xs n x ⊎ GivesBack slots j args k n x.channel.channel
@@ -152,18 +116,12 @@ branch_back slots (Ref v ∷ rest) (ByCopy t i ∷ given) child xs s j k n x mat
 branch_back slots (Ref v ∷ rest) (ByValue t name w ∷ given) child xs s j k n x match stand many e lent = absurd match
 branch_back slots (Pass v ∷ rest) (ByReference i ∷ given) child xs s j k n x match stand many e lent = absurd match
 branch_back slots (Pass v ∷ rest) (ByCopy t i ∷ given) child xs s j k n x match stand many e lent =
-    branch_back slots rest given child xs s (j + 1) k n x match (stand_next k.locations j (copied t (at_number xs i)) (branch_locations child xs s given) stand) (omega (arith, many)) e lent
+    branch_back slots rest given child xs s (j + 1) k n x match.1 (stand_next k.locations j (copied t (at_number xs i)) (branch_locations child xs s given) stand) (omega (arith, many)) e lent
 branch_back slots (Pass v ∷ rest) (ByValue t name w ∷ given) child xs s j k n x match stand many e lent = absurd match
 branch_back slots (Fresh v ∷ rest) (ByReference i ∷ given) child xs s j k n x match stand many e lent = absurd match
 branch_back slots (Fresh v ∷ rest) (ByCopy t i ∷ given) child xs s j k n x match stand many e lent = absurd match
 branch_back slots (Fresh v ∷ rest) (ByValue t name w ∷ given) child xs s j k n x match stand many e lent =
     branch_back slots rest given child xs (s + 1) (j + 1) k n x match (stand_next k.locations j (Some (new_location child s name t w)) (branch_locations child xs (s + 1) given) stand) (omega (arith, many)) e lent
-
-pub branch_length : (child : Path) (xs : Locations) (s : ℕ) (given : List Argument) → length (branch_locations child xs s given) ≡ length given
-branch_length child xs s [] = refl
-branch_length child xs s (ByReference i ∷ rest) = ap suc (branch_length child (lend_at xs i) s rest)
-branch_length child xs s (ByCopy t i ∷ rest) = ap suc (branch_length child xs s rest)
-branch_length child xs s (ByValue t name v ∷ rest) = ap suc (branch_length child xs (s + 1) rest)
 
 -- a child's location is a channel's own variable, or a copy of one that is on a channel of its parent's
 abbrev pub IsKind : Locations → Location → Type 0

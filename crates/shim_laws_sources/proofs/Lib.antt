@@ -17,9 +17,7 @@ pub mod Along
 pub mod AlongEvents
 pub mod InputMoves
 pub mod Input
-pub mod FittingItems
-pub mod FittingFrames
-pub mod CallSlots
+pub mod Floors
 pub mod Ownerships
 pub mod AtPlaces
 pub mod WholeEnds
@@ -27,7 +25,6 @@ pub mod WholeStores
 pub mod WholeCalls
 pub mod WholeSteps
 pub mod LendingPlaces
-pub mod ForkArguments
 pub mod ForkHomes
 pub mod WholeJoins
 pub mod Homes

@@ -19,7 +19,7 @@ use Rattle.shim_units.specs.Lifting.{lift_all, whole}
 use Rattle.shim_units.specs.PartFold.{branch_what_step, what_step, branch_step, stmt_step, in_line, part, parts, branch_part, branch_parts}
 use Rattle.shim_laws_binding.specs.HandedOn.{Calls, branch_what_calls, what_calls, stmt_calls, calls_among}
 use Rattle.shim_laws_binding.proofs.CallSteps.{calls_of_branch_what, calls_of_what, calls_of_branch, calls_of_branches, calls_stmt, calls_branch}
-use Rattle.shim_laws_sources.specs.OwnSlots.{suits, all_suit, fits, all_fit}
+use Rattle.shim_process.specs.OwnSlots.{suits, all_suit, fits, all_fit}
 use Rattle.shim_laws_sources.proofs.FitSteps.{fits_what, fits_line, fits_declare, fits_assign, fits_next, fits_next_assign, fits_assign_next, fits_get, fits_put, fits_if, fits_while, fits_for, fits_block, fits_call, fits_try, fits_throw, fits_par}
 use Rattle.shim_laws_sources.proofs.Lifting.{declared_in_both, declared_behind, LiftFits, PartFits, PartsFit, alone, around, two, three, block_branch, moved_suits}
 use Rattle.shim_laws_sources.proofs.Placing.{declares_it}

@@ -19,7 +19,7 @@ use Rattle.shim_units.specs.Captures.{declares}
 use Rattle.shim_units.specs.Lifting.{lift_all, whole, on_tree, lift_two, lift_three, sort_of, branch_arg, branch_param, branch_call, branch_unit, branch_captures, branch_slots, branch_exceptions, branch_inner, lift_branch, is_among}
 use Rattle.shim_laws_binding.specs.HandedOn.{Calls}
 use Rattle.shim_laws_binding.proofs.Lists.{Each, each_of_both, each_of_first, each_of_second}
-use Rattle.shim_laws_sources.specs.OwnSlots.{suits, is_own_slot, all_fit}
+use Rattle.shim_process.specs.OwnSlots.{suits, is_own_slot, all_fit}
 use Rattle.shim_laws_sources.proofs.Lists.{each_by_two}
 use Rattle.shim_laws_sources.proofs.Placing.{all_among, declared_not_taken, some_first, some_second, own_place}
 use Rattle.shim_base.proofs.Facts.{both_hold}

@@ -13,7 +13,7 @@ use Rattle.shim_units.specs.declared.found.How.TheVariants.{Declared}
 use Rattle.shim_units.specs.Units.{upto}
 use Rattle.shim_units.specs.Uses.{used}
 use Rattle.shim_laws_binding.proofs.Lists.{Each}
-use Rattle.shim_laws_sources.specs.OwnSlots.{is_own_slot}
+use Rattle.shim_process.specs.OwnSlots.{is_own_slot}
 use Rattle.shim_laws_sources.proofs.Lists.{each_weaker}
 use Rattle.shim_base.proofs.Facts.{both_hold}
 

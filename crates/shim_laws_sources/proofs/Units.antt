@@ -1,12 +1,13 @@
 -- The units of an accepted program use slots of their own: those of its functions, and those that are lifted out of them.
-use Rattle.std.proofs.Common.{ℕ, zero, suc, ◌+◌, ◌≤◌, ◌≡◌, ◌∙◌, Bool, true, inl, inr, List, [], ◌∷◌, ◌++◌, Some, length, slice_get, refl, sym, ap, subst, arith, length-append, append_assoc}
+use Rattle.std.proofs.Common.{ℕ, zero, suc, ◌+◌, ◌≤◌, ◌≡◌, ◌∙◌, Bool, true, inl, inr, List, [], ◌∷◌, ◌++◌, Some, Ok, length, slice_get, refl, sym, ap, subst, arith, length-append, append_assoc}
 use Rattle.std.proofs.lemmas.Bool.{cases_Bool, true≢false}
 use Rattle.std.proofs.lemmas.Grind.{not_there}
 use Rattle.std.proofs.lemmas.List.{length-map}
+use Rattle.shim_syntax.specs.declared.tree.Program.{Program}
 use Rattle.shim_scopes.specs.declared.form.Form.{Form as Resolved}
 use Rattle.shim_scopes.specs.declared.tree.RCall.{RCall}
 use Rattle.shim_scopes.specs.declared.tree.RFunction.{RFunction}
-use Rattle.shim_scopes.specs.Resolving.{IsFormOfText}
+use Rattle.shim_scopes.specs.Functions.{bind_program}
 use Rattle.shim_units.specs.declared.form.Form.{Form}
 use Rattle.shim_units.specs.declared.unit.Unit.{Unit as UnitOf}
 use Rattle.shim_units.specs.Lifting.{sort_of, is_among}
@@ -19,7 +20,7 @@ use Rattle.shim_laws_binding.specs.HandedOn.{HandsOn, calls_among}
 use Rattle.shim_laws_binding.specs.Naming.{naming_of}
 use Rattle.shim_laws_binding.proofs.Lists.{Each, each_of_both}
 use Rattle.shim_laws_binding.proofs.NamedFunctions.{calls_hand_on_what_is_thrown}
-use Rattle.shim_laws_sources.specs.OwnSlots.{all_fit, UsesOwnSlots}
+use Rattle.shim_process.specs.OwnSlots.{all_fit, UsesOwnSlots}
 use Rattle.shim_laws_sources.proofs.Lists.{each_weaker, each_by_two, each_of_all, at_length, at_first}
 use Rattle.shim_laws_sources.proofs.Placing.{all_among, not_upto, own_place}
 use Rattle.shim_laws_sources.proofs.Lifting.{StandFrom, stand_first, stand_from, IsGiven, FitsWell, IsOwn}
@@ -111,13 +112,14 @@ uses_at : (form : Form) (n : ℕ) → Each (FitsWell form) form.units → FitsWe
 unfolding unit_at
 uses_at form n h = fit_at form form.units n h
 
-lifted_use_own : (p : Resolved) → IsFormOfText p → UsesOwnSlots (lifted p)
-lifted_use_own p t n =
+-- those of what a program is bound to
+pub lifted_use_own : (program : Program) (p : Resolved) → bind_program program ≡ Ok p → UsesOwnSlots (lifted p)
+lifted_use_own program p bound n =
     let r = lift_functions p.names p.functions 0 (length p.functions) p.functions in
-    let handed = each_of_all _ p.functions (calls_hand_on_what_is_thrown t.program p t.meant) in
+    let handed = each_of_all _ p.functions (calls_hand_on_what_is_thrown program p bound) in
     let given = each_weaker _ (AreGiven (lifted p) p.names p.functions) (λ f calls. each_weaker (HandsOn p (naming_of p f)) (IsGiven (lifted p)) (call_given p f) (calls_among f.body) (each_of_all (HandsOn p (naming_of p f)) (calls_among f.body) calls)) p.functions handed in
     let stand = all_stand (lifted p) (length p.functions) r.own r.lifted (sym (own_length p.names p.functions 0 (length p.functions) p.functions)) refl in
-    let fit = functions_fit (lifted p) p.names p.functions 0 (length p.functions) p.functions (program_behind t.program p t.meant) given stand in
+    let fit = functions_fit (lifted p) p.names p.functions 0 (length p.functions) p.functions (program_behind program p bound) given stand in
     uses_at (lifted p) n (each_of_both (FitsWell (lifted p)) r.own r.lifted fit.own fit.lifted)
 
 -- what is truncated says whether a test passes
@@ -125,7 +127,7 @@ passes : {A : Type 0} (b : Bool) → ∥ A ∥₁ → (A → b ≡ true) → b �
 passes b a so = elim (cases_Bool b) [ inl e ↦ e | inr e ↦ absurd (not_there a (λ x. true≢false (sym (so x) ∙ e))) ]
 
 units_of_text : (form : Form) (k : IsUnitsOfText form) (n : ℕ) → all_fit form (unit_at form n) (unit_at form n).body ≡ true
-units_of_text form k n = passes _ k.of_text (λ t. subst (λ (f : Form). all_fit f (unit_at f n) (unit_at f n).body ≡ true) k.meant (lifted_use_own k.resolved t n))
+units_of_text form k n = passes _ k.of_text (λ t. subst (λ (f : Form). all_fit f (unit_at f n) (unit_at f n).body ≡ true) k.meant (lifted_use_own t.program k.resolved t.meant n))
 
 pub units_use_slots_of_their_own : (form : Form) → IsAcceptedForm form → UsesOwnSlots form
 units_use_slots_of_their_own form k n = passes _ k.of_text (λ u. units_of_text form u n)

@@ -1,5 +1,5 @@
 -- A process that is whole is that after it calls a unit.
-use Rattle.std.proofs.Common.{◌≡◌, ◌∙◌, ℕ, ◌+◌, ◌<◌, ◌≤◌, inl, inr, List, ◌∷◌, ◌++◌, length, Some, refl, sym, ap, subst, arith, length-append}
+use Rattle.std.proofs.Common.{◌≡◌, ◌∙◌, ℕ, ◌+◌, ◌<◌, ◌≤◌, inl, inr, List, ◌∷◌, ◌++◌, length, Some, refl, sym, ap, subst, arith}
 use Rattle.shim_base.specs.Paths.{Channel, NamedChannel}
 use Rattle.shim_units.specs.declared.unit.Unit.{Unit as UnitOf}
 use Rattle.shim_process.specs.Locations.{Location, Locations, Lent, Copy, at_number}
@@ -10,10 +10,9 @@ use Rattle.shim_process.specs.Steps.{pushed, called}
 use Rattle.shim_process.specs.Sound.{IsOwned}
 use Rattle.shim_process.proofs.CallLocations.{Passed, by_copy, by_value, at_passed}
 use Rattle.shim_process.proofs.PlaceLocations.{at_append, at_empty}
-use Rattle.shim_laws_sources.specs.Anchored.{parameters_of, Anchor, Anchored, IsAnchored, NoneLent, IsWhole}
+use Rattle.shim_laws_sources.specs.Anchored.{Anchor, Anchored, IsAnchored, NoneLent, IsWhole}
 use Rattle.shim_laws_sources.proofs.AtPlaces.{at_below, at_before}
-use Rattle.shim_laws_sources.proofs.CallSlots.{called_slot}
-use Rattle.shim_laws_sources.proofs.FittingItems.{body_fits}
+use Rattle.shim_process.proofs.FittingSteps.{fitting_called}
 use Rattle.shim_laws_sources.proofs.WholeEnds.{Moves, moves_on, settled_whole}
 use Rattle.shim_laws_sources.proofs.Ownerships.{own_not_copy, own_not_lent, copy_not_lent, by_ownership}
 
@@ -73,12 +72,6 @@ passed_ownership l given j x (by_value own at least most is) lent = own_not_lent
 at_least : (m n j : ℕ) → m ≡ n + j → n ≤ m
 at_least m n j e = omega (arith, e)
 
-less_with : (k n a b : ℕ) → k ≤ n → a ≡ n + b → k ≤ a
-less_with k n a b h e = omega (arith, h, e)
-
-itself : (n : ℕ) → n ≤ n
-itself n = omega arith
-
 pub called_whole : (unit : ℕ) (given : List Argument) (labels : List ℕ) (l : LocalState) → IsWhole l → length given ≡ length (unit_at l.program unit).params → Moves l (called unit given labels l)
 unfolding called pushed
 called_whole unit given labels l h many =
@@ -87,22 +80,8 @@ called_whole unit given labels l h many =
     let passed : Locations = call_locations l.path xs l.made given in
     let ys : Locations = passed ++ empties (declared_slots u) in
     let f : Frame = entered u unit (call_slots (length xs) given (declared_slots u)) labels (length xs) (l.frame.outer + length l.frame.places) in
-    let long : length (xs ++ ys) ≡ length xs + length ys = length-append xs ys in
-    let all : parameters_of l ≤ length xs = h.0.long in
     let anchored : Anchored l.path l.program f (l.frame ∷ l.callers) (xs ++ ys) = record {
-      uses = h.0.uses;
-      fit = (
-        record {
-          todo = body_fits l.program u u.body 0 (h.0.uses unit);
-          places = tt;
-          slots = λ x own. let at = called_slot (length xs) u given x many own in (at, omega (arith, at, all));
-        },
-        all,
-        h.0.floor,
-        h.0.fit,
-      );
-      long = less_with (parameters_of l) (length xs) (length (xs ++ ys)) (length ys) all long;
-      floor = less_with (length xs) (length xs) (length (xs ++ ys)) (length ys) (itself (length xs)) long;
+      fitting = fitting_called unit given labels l ys h.0.fitting many;
       anchors = λ m x e ownership home. elim (at_append xs ys m x e) [
         | inl there ↦ before_anchor l.frame f l.callers xs ys m x.channel.channel (h.0.anchors m x there ownership home)
         | inr w ↦ elim (at_append passed (empties (declared_slots u)) w.0 x w.2) [

@@ -1,5 +1,5 @@
 -- What the ends of units and a throw that is caught leave of a process has what it had.
-use Rattle.std.proofs.Common.{◌≡◌, ◌∙◌, ℕ, ◌-◌, ◌<◌, ◌≤◌, inl, inr, List, [], ◌∷◌, length, take, nat_lt, refl, sym, subst, arith}
+use Rattle.std.proofs.Common.{◌≡◌, ◌∙◌, ℕ, ◌-◌, ◌<◌, ◌≤◌, inl, inr, List, [], ◌∷◌, take, nat_lt, refl, sym, subst, arith}
 use Rattle.std.specs.Prelude.{slice_get}
 use Rattle.shim_base.specs.Paths.{Path, Channel}
 use Rattle.shim_units.specs.declared.form.Form.{Form}
@@ -9,10 +9,13 @@ use Rattle.shim_process.specs.LocalState.{LocalState, Frame, unit_at}
 use Rattle.shim_process.specs.Ends.{went, is_over, settled, gone}
 use Rattle.shim_process.specs.Unwinding.{handling, unwound, unwind}
 use Rattle.shim_process.proofs.PlaceLocations.{at_take}
-use Rattle.shim_laws_sources.specs.Anchored.{FrameFits, FramesFit, parameters, parameters_of, IsFloor, Anchor, Anchored, NoneLent, IsWhole, Stays}
-use Rattle.shim_laws_sources.proofs.AtPlaces.{take_below, at_taken, length_taken}
-use Rattle.shim_laws_sources.proofs.FittingItems.{place_at}
-use Rattle.shim_laws_sources.proofs.FittingFrames.{GoesOn, went_fits, handling_fits, inner_fits, frames_fit, same_parameters, same_floors}
+use Rattle.shim_process.specs.FittingFrames.{FrameFits, parameters, parameters_of}
+use Rattle.shim_laws_sources.specs.Anchored.{IsFloor, Anchor, Anchored, NoneLent, IsWhole, Stays}
+use Rattle.shim_laws_sources.proofs.AtPlaces.{take_below, at_taken}
+use Rattle.shim_process.proofs.FittingEnds.{fitting_on, fitting_left}
+use Rattle.shim_process.proofs.FittingItems.{place_at}
+use Rattle.shim_process.proofs.FittingFrames.{GoesOn, went_fits, handling_fits, inner_fits, same_parameters}
+use Rattle.shim_laws_sources.proofs.Floors.{same_floors}
 use Rattle.shim_base.proofs.Facts.{choose}
 
 -- a state that is whole, of the same process
@@ -38,15 +41,10 @@ same_anchor f g cs xs m c e a = record { number = a.number; owned = a.owned; bou
 
 -- another state of the innermost unit
 pub anchored_on : (path : Path) (program : Form) (f g : Frame) (cs : List Frame) (xs : Locations) → Anchored path program f cs xs → GoesOn program (parameters path program f cs) f g → Anchored path program g cs xs
-anchored_on path program f g cs xs h w =
-    let many : parameters path program g cs ≡ parameters path program f cs = same_parameters path program f g cs w.unit in
-    record {
-      uses = h.uses;
-      fit = subst (λ (n : ℕ). FramesFit program n g cs) (sym many) (frames_fit program (parameters path program f cs) f g cs h.fit w);
-      long = subst (λ (n : ℕ). n ≤ length xs) (sym many) h.long;
-      floor = subst (λ (n : ℕ). n ≤ length xs) (sym w.floor) h.floor;
-      anchors = λ m x e ownership home. same_anchor f g cs xs m x.channel.channel w.floor (h.anchors m x e ownership home);
-    }
+anchored_on path program f g cs xs h w = record {
+  fitting = fitting_on path program f g cs xs h.fitting w;
+  anchors = λ m x e ownership home. same_anchor f g cs xs m x.channel.channel w.floor (h.anchors m x e ownership home);
+}
 
 left_anchor : (f c : Frame) (cs : List Frame) (xs : Locations) (m : ℕ) (d : Channel) → m < f.floor → Anchor f (c ∷ cs) xs m d → Anchor c cs (take f.floor xs) m d
 left_anchor f c cs xs m d below a =
@@ -67,15 +65,10 @@ left_anchor f c cs xs m d below a =
 
 -- the innermost unit is left, with its locations
 pub anchored_left : (path : Path) (program : Form) (f c : Frame) (cs : List Frame) (xs : Locations) → Anchored path program f (c ∷ cs) xs → Anchored path program c cs (take f.floor xs)
-anchored_left path program f c cs xs h =
-    let many : length (take f.floor xs) ≡ f.floor = length_taken f.floor xs h.floor in
-    record {
-      uses = h.uses;
-      fit = h.fit.3;
-      long = subst (λ (n : ℕ). parameters path program c cs ≤ n) (sym many) h.fit.1;
-      floor = subst (λ (n : ℕ). c.floor ≤ n) (sym many) h.fit.2;
-      anchors = λ m x e ownership home. left_anchor f c cs xs m x.channel.channel (take_below f.floor xs m x e) (h.anchors m x (at_take xs f.floor m x e) ownership home);
-    }
+anchored_left path program f c cs xs h = record {
+  fitting = fitting_left path program f c cs xs h.fitting;
+  anchors = λ m x e ownership home. left_anchor f c cs xs m x.channel.channel (take_below f.floor xs m x e) (h.anchors m x (at_take xs f.floor m x e) ownership home);
+}
 
 left_stays : (l : LocalState) (f c g : Frame) (cs : List Frame) → g.unit ≡ c.unit → parameters l.path l.program f (c ∷ cs) ≤ f.floor
     → Stays (record l { frame = f; callers = c ∷ cs }) (record l { locations = take f.floor l.locations; frame = g; callers = cs })
@@ -94,10 +87,10 @@ settled_whole [] f l h none = ((h, none), stays_same (record l { frame = f; call
 settled_whole (c ∷ cs) f l h none =
     let out : LocalState = record l { locations = take f.floor l.locations } in
     let left : Anchored l.path l.program c cs (take f.floor l.locations) = anchored_left l.path l.program f c cs l.locations h in
-    let w : GoesOn l.program (parameters l.path l.program c cs) c (went On c) = went_fits l.program (parameters l.path l.program c cs) On c (inner_fits l.program (parameters l.path l.program c cs) c cs left.fit) in
+    let w : GoesOn l.program (parameters l.path l.program c cs) c (went On c) = went_fits l.program (parameters l.path l.program c cs) On c (inner_fits l.program (parameters l.path l.program c cs) c cs left.fitting.fit) in
     choose (λ (z : LocalState). Moves (record l { frame = f; callers = c ∷ cs }) z) (is_over f.todo) (settled cs (went On c) out) (record l { frame = f; callers = c ∷ cs })
     (moves_on (record l { frame = f; callers = c ∷ cs }) (record out { frame = went On c; callers = cs }) (settled cs (went On c) out)
-    (left_stays l f c (went On c) cs w.unit h.fit.1)
+    (left_stays l f c (went On c) cs w.unit h.fitting.fit.1)
     (settled_whole cs (went On c) out (anchored_on l.path l.program c (went On c) cs (take f.floor l.locations) left w) (none_taken f.floor l.locations none)))
     ((h, none), stays_same (record l { frame = f; callers = c ∷ cs }))
 
@@ -108,13 +101,13 @@ frame_stays l g unit = record { path = refl; given = refl; many = same_parameter
 pub gone_whole : (successor : Successor) (l : LocalState) → IsWhole l → Moves l (gone successor l)
 unfolding gone
 gone_whole successor l h =
-    let w : GoesOn l.program (parameters_of l) l.frame (went successor l.frame) = went_fits l.program (parameters_of l) successor l.frame (inner_fits l.program (parameters_of l) l.frame l.callers h.0.fit) in
+    let w : GoesOn l.program (parameters_of l) l.frame (went successor l.frame) = went_fits l.program (parameters_of l) successor l.frame (inner_fits l.program (parameters_of l) l.frame l.callers h.0.fitting.fit) in
     moves_on l (record l { frame = went successor l.frame }) (settled l.callers (went successor l.frame) l) (frame_stays l (went successor l.frame) w.unit)
     (settled_whole l.callers (went successor l.frame) l (anchored_on l.path l.program l.frame (went successor l.frame) l.callers l.locations h.0 w) h.1)
 
 handled : (l : LocalState) (f : Frame) (cs : List Frame) (i : ℕ) → Anchored l.path l.program f cs l.locations → GoesOn l.program (parameters l.path l.program f cs) f (handling (slice_get f.places i) i f)
 handled l f cs i h =
-    let inner : FrameFits l.program (parameters l.path l.program f cs) f = inner_fits l.program (parameters l.path l.program f cs) f cs h.fit in
+    let inner : FrameFits l.program (parameters l.path l.program f cs) f = inner_fits l.program (parameters l.path l.program f cs) f cs h.fitting.fit in
     handling_fits l.program (parameters l.path l.program f cs) (slice_get f.places i) i f inner (λ e is. place_at l.program (unit_at l.program f.unit) f.places i e inner.places is)
 
 stopped : (l : LocalState) (f : Frame) (cs : List Frame) (i : ℕ) → Anchored l.path l.program f cs l.locations → NoneLent l.locations → Moves (record l { frame = f; callers = cs }) (settled cs (handling (slice_get f.places i) i f) l)
@@ -131,7 +124,7 @@ unwound_whole (c ∷ cs) f n l h none =
     let out : LocalState = record l { locations = take f.floor l.locations } in
     choose (λ (z : LocalState). Moves (record l { frame = f; callers = c ∷ cs }) z) (nat_lt n f.outer) (unwound cs c n out) (settled (c ∷ cs) g l)
     (moves_on (record l { frame = f; callers = c ∷ cs }) (record out { frame = c; callers = cs }) (unwound cs c n out)
-    (left_stays l f c c cs refl h.fit.1)
+    (left_stays l f c c cs refl h.fitting.fit.1)
     (unwound_whole cs c n out (anchored_left l.path l.program f c cs l.locations h) (none_taken f.floor l.locations none)))
     (stopped l f (c ∷ cs) (n - f.outer) h none)
 

@@ -1,5 +1,5 @@
 -- A process whose children are done is whole again.
-use Rattle.std.proofs.Common.{◌≡◌, ◌∙◌, ℕ, ◌+◌, inl, inr, Bool, true, List, [], ◌∷◌, Option, Some, None, cond, refl, sym, ap, subst}
+use Rattle.std.proofs.Common.{◌≡◌, ◌∙◌, ℕ, ◌+◌, inl, inr, Bool, List, [], ◌∷◌, Option, Some, None, refl, sym, ap, subst}
 use Rattle.std.proofs.lemmas.Bool.{cases_eq}
 use Rattle.std.specs.Prelude.{slice_set}
 use Rattle.shim_base.specs.Paths.{Channel}
@@ -7,13 +7,13 @@ use Rattle.shim_local.specs.Laws.{AllOf}
 use Rattle.shim_units.specs.declared.unit.UBranch.{UBranch}
 use Rattle.shim_units.specs.declared.unit.Arg.{Arg}
 use Rattle.shim_units.specs.declared.unit.Arg.TheVariants.{Ref, Pass, Fresh}
-use Rattle.shim_process.specs.Locations.{Location, Locations, Ownership, Own, Lent, Copy, at_number, is_on, regained, with_back}
+use Rattle.shim_process.specs.Locations.{Location, Locations, Ownership, Own, Lent, Copy, at_number, regained, with_back}
 use Rattle.shim_process.specs.Todo.{On}
 use Rattle.shim_process.specs.LocalState.{LocalState, number_of}
 use Rattle.shim_process.specs.Ends.{gone}
 use Rattle.shim_process.specs.Forks.{item_branches, taken_back, all_back, joined, join}
 use Rattle.shim_process.specs.Sound.{IsOwned}
-use Rattle.shim_process.proofs.ForkNames.{same_channel_of}
+use Rattle.shim_process.specs.Born.{Born}
 use Rattle.shim_process.proofs.JoinLocations.{Kept, same_ownership, came_back, OneCarries, all_kept}
 use Rattle.shim_laws_sources.proofs.Ownerships.{own_not_lent}
 use Rattle.shim_laws_sources.specs.Anchored.{OwnedOn, NoneLent, IsWhole, Stays}
@@ -43,10 +43,7 @@ back_gentle : (o p : Option Location) → IsGentle p (with_back o p)
 back_gentle None None = tt
 back_gentle None (Some l) = record { channel = refl; owned = λ h. h; copy = λ h. h }
 back_gentle (Some back) None = tt
-back_gentle (Some back) (Some l) =
-    choose (IsGentle (Some l)) (is_on l.channel.channel back) (Some (record l { value = back.value; ownership = regained back.ownership l.ownership })) (Some l)
-    (record { channel = refl; owned = owned_back back.ownership l.ownership; copy = copy_back back.ownership l.ownership })
-    (record { channel = refl; owned = λ h. h; copy = λ h. h })
+back_gentle (Some back) (Some l) = record { channel = refl; owned = owned_back back.ownership l.ownership; copy = copy_back back.ownership l.ownership }
 
 -- what comes back to the location at number i
 abbrev back_at : Locations → ℕ → Option Location → Locations
@@ -90,9 +87,7 @@ own_now xs n None (Some w) x at e own = record { place = w; at = put_at xs n w w
 own_now xs n (Some back) (Some w) x at e own =
     let is_own : w.ownership ≡ Own = ap (λ (r : Location). r.ownership) (some_same w x e) ∙ own in
     let new : Location = record w { value = back.value; ownership = regained back.ownership w.ownership } in
-    choose (λ (z : Option Location). IsOwnAt (slice_set xs n z) n) (is_on w.channel.channel back) (Some new) (Some w)
-    (record { place = new; at = put_at xs n w new at; own = own_back back.ownership w.ownership is_own })
-    (record { place = w; at = put_at xs n w w at; own = is_own })
+    record { place = new; at = put_at xs n w new at; own = own_back back.ownership w.ownership is_own }
 
 own_one : (xs : Locations) (i n : ℕ) (o : Option Location) → IsOwnAt xs n → IsOwnAt (back_at xs i o) n
 own_one xs i n o w = elim (cases_eq i n) [
@@ -125,17 +120,15 @@ regains Own Copy e h = absurd h
 regains Lent m e h = absurd cc
 regains Copy m e h = absurd cc
 
-own_again : (xs : Locations) (n : ℕ) (x back : Location) (o was : Option Location) → at_number xs n ≡ was → was ≡ Some x → o ≡ Some back → IsOwned x.ownership → back.ownership ≡ Own → back.channel.channel ≡ x.channel.channel
+own_again : (xs : Locations) (n : ℕ) (x back : Location) (o was : Option Location) → at_number xs n ≡ was → was ≡ Some x → o ≡ Some back → IsOwned x.ownership → back.ownership ≡ Own
     → IsOwnAt (slice_set xs n (with_back o was)) n
-own_again xs n x back o None at e f owned own on = absurd cc
-own_again xs n x back None (Some w) at e f owned own on = absurd cc
-own_again xs n x back (Some b) (Some w) at e f owned own on =
+own_again xs n x back o None at e f owned own = absurd cc
+own_again xs n x back None (Some w) at e f owned own = absurd cc
+own_again xs n x back (Some b) (Some w) at e f owned own =
     let same : w ≡ x = some_same w x e in
     let also : b ≡ back = some_same b back f in
     let new : Location = record w { value = b.value; ownership = regained b.ownership w.ownership } in
-    let test : is_on w.channel.channel b ≡ true = same_channel_of b.channel.channel w.channel.channel (ap (λ (r : Location). r.channel.channel) also ∙ (on ∙ ap (λ (r : Location). r.channel.channel) (sym same))) in
-    subst (λ (t : Bool). IsOwnAt (slice_set xs n (cond t (Some new) (Some w))) n) (sym test)
-    (record { place = new; at = put_at xs n w new at; own = regains b.ownership w.ownership (ap (λ (r : Location). r.ownership) also ∙ own) (subst (λ (r : Location). IsOwned r.ownership) (sym same) owned) })
+    record { place = new; at = put_at xs n w new at; own = regains b.ownership w.ownership (ap (λ (r : Location). r.ownership) also ∙ own) (subst (λ (r : Location). IsOwned r.ownership) (sym same) owned) }
 
 gives : (slots : List ℕ) (j : ℕ) (args : List Arg) (k : LocalState) (n : ℕ) (c : Channel) (xs : Locations) → NoneLent k.locations → GivesBack slots j args k n c → OwnedOn xs n c → IsOwnAt (taken_back slots j args k.locations xs) n
 gives slots j [] k n c xs none g w = absurd g
@@ -143,7 +136,7 @@ gives slots j (Ref v ∷ rest) k n c xs none (inl g) w =
     let back : OwnedOn k.locations j c = g.2 in
     own_taken slots (j + 1) rest k.locations (back_at xs (number_of slots v) (at_number k.locations j)) n
     (subst (λ (m : ℕ). IsOwnAt (back_at xs m (at_number k.locations j)) n) (sym g.0)
-    (own_again xs n w.place back.place (at_number k.locations j) (at_number xs n) refl w.at back.at w.owned (not_lent_own back.place.ownership back.owned (λ lent. none j back.place back.at lent)) (back.on ∙ sym w.on)))
+    (own_again xs n w.place back.place (at_number k.locations j) (at_number xs n) refl w.at back.at w.owned (not_lent_own back.place.ownership back.owned (λ lent. none j back.place back.at lent))))
 gives slots j (Ref v ∷ rest) k n c xs none (inr g) w =
     let ys : Locations = back_at xs (number_of slots v) (at_number k.locations j) in
     gives slots (j + 1) rest k n c ys none g (onward_owned xs ys n c (back_onward xs (number_of slots v) (at_number k.locations j)) w)
@@ -160,10 +153,8 @@ one_gives slots (b ∷ bs) (k ∷ ks) n c xs all (inr g) w =
 
 -- so nothing is lent any more
 
-joined_none : (l : LocalState) (ks : List LocalState) → Waits l ks → AllOf IsWhole ks → NoneLent (joined l ks).locations
-joined_none l ks h all n y e lent =
-    let bs : List UBranch = item_branches l.frame.todo in
-    by_kept (all_kept l.frame.slots bs ks l.locations n y e)
+joined_none : (l : LocalState) (ks : List LocalState) → Waits l ks → AllOf IsWhole ks → Born l ks → NoneLent (joined l ks).locations
+joined_none l ks h all born n y e lent = by_kept (all_kept l born.fork 0 (item_branches l.frame.todo) ks l.locations n y born.places (λ j. refl) e)
   where
     by_kept : Kept (OneCarries ks) l.locations n y → ⊥
     by_kept (came_back x there channel was own away) = own_not_lent y.ownership own lent
@@ -174,16 +165,16 @@ joined_none l ks h all n y e lent =
         (record { place = w.location; at = w.there; owned = subst IsOwned (sym was) tt; on = refl }) in
         own_not_lent y.ownership (ap (λ (r : Location). r.ownership) (some_same y o.place (sym e ∙ o.at)) ∙ o.own) lent
 
-joined_whole : (l : LocalState) (ks : List LocalState) → Waits l ks → AllOf IsWhole ks → Moves l (joined l ks)
-joined_whole l ks h all =
+joined_whole : (l : LocalState) (ks : List LocalState) → Waits l ks → AllOf IsWhole ks → Born l ks → Moves l (joined l ks)
+joined_whole l ks h all born =
     let bs : List UBranch = item_branches l.frame.todo in
     let ys : Locations = all_back l.frame.slots bs ks l.locations in
     let w : Onward l.locations (all_back l.frame.slots bs ks l.locations) = all_onward l.frame.slots bs ks l.locations in
     let s : Stays l (record l { locations = ys }) = onward_stays l ys w in
-    ((onward_anchored l ys h.anchored w, joined_none l ks h all), record { path = refl; given = refl; many = refl; owned = s.owned })
+    ((onward_anchored l ys h.anchored w, joined_none l ks h all born), record { path = refl; given = refl; many = refl; owned = s.owned })
 
-pub join_whole : (l : LocalState) (ks : List LocalState) (goes_on : Bool) → Waits l ks → AllOf IsWhole ks → Moves l (join l ks goes_on)
+pub join_whole : (l : LocalState) (ks : List LocalState) (goes_on : Bool) → Waits l ks → AllOf IsWhole ks → Born l ks → Moves l (join l ks goes_on)
 unfolding join
-join_whole l ks goes_on h all =
-    let w : Moves l (joined l ks) = joined_whole l ks h all in
+join_whole l ks goes_on h all born =
+    let w : Moves l (joined l ks) = joined_whole l ks h all born in
     choose (λ (z : LocalState). Moves l z) goes_on (gone On (joined l ks)) (joined l ks) (moves_on l (joined l ks) (gone On (joined l ks)) w.1 (gone_whole On (joined l ks) w.0)) w

@@ -1,5 +1,5 @@
 -- A process that is whole is that after a value is stored, and after a declaration; and where its locations go on.
-use Rattle.std.proofs.Common.{◌≡◌, ◌∙◌, ℕ, ℤ, ◌<◌, ◌≤◌, inl, inr, true, List, length, Option, Some, None, refl, sym, ap, subst, arith}
+use Rattle.std.proofs.Common.{◌≡◌, ◌∙◌, ℕ, ℤ, ◌<◌, ◌≤◌, inl, inr, true, List, Option, Some, None, refl, sym, ap, subst, arith}
 use Rattle.std.specs.Prelude.{slice_set}
 use Rattle.shim_base.specs.declared.types.Ty.{Ty}
 use Rattle.shim_base.specs.Paths.{Path, Channel, NamedChannel}
@@ -8,10 +8,14 @@ use Rattle.shim_process.specs.LocalState.{LocalState, Frame, unit_at, number_of}
 use Rattle.shim_process.specs.Arguments.{new_location}
 use Rattle.shim_process.specs.Steps.{stored_in, made_in, next_byte, read_in}
 use Rattle.shim_process.proofs.PlaceLocations.{Was, at_store, at_set}
-use Rattle.shim_laws_sources.specs.OwnSlots.{is_own_slot}
-use Rattle.shim_laws_sources.specs.Anchored.{FrameFits, parameters_of, IsFloor, Anchor, Anchored, IsAnchored, NoneLent, IsWhole, Stays}
-use Rattle.shim_laws_sources.proofs.AtPlaces.{length_put, still_at, Onward, IsGentle, onward_put, onward_owned}
-use Rattle.shim_laws_sources.proofs.FittingFrames.{inner_fits, floors_below}
+use Rattle.shim_process.specs.OwnSlots.{is_own_slot}
+use Rattle.shim_process.specs.FittingFrames.{FrameFits, parameters_of}
+use Rattle.shim_laws_sources.specs.Anchored.{IsFloor, Anchor, Anchored, IsAnchored, NoneLent, IsWhole, Stays}
+use Rattle.shim_laws_sources.proofs.AtPlaces.{still_at, Onward, IsGentle, onward_put, onward_owned}
+use Rattle.shim_process.proofs.PlaceChannels.{length_put}
+use Rattle.shim_process.proofs.FittingFrames.{inner_fits}
+use Rattle.shim_process.proofs.FittingEnds.{fitting_over}
+use Rattle.shim_laws_sources.proofs.Floors.{floors_below}
 use Rattle.shim_laws_sources.proofs.WholeEnds.{Moves}
 use Rattle.shim_laws_sources.proofs.Ownerships.{own_not_copy, own_not_lent}
 use Rattle.shim_base.proofs.Facts.{some_same}
@@ -23,10 +27,7 @@ onward_anchor f cs xs ys m c w a = record { number = a.number; owned = onward_ow
 
 pub onward_anchored : (l : LocalState) (ys : Locations) → IsAnchored l → Onward l.locations ys → Anchored l.path l.program l.frame l.callers ys
 onward_anchored l ys h w = record {
-  uses = h.uses;
-  fit = h.fit;
-  long = subst (λ (n : ℕ). parameters_of l ≤ n) (sym w.long) h.long;
-  floor = subst (λ (n : ℕ). l.frame.floor ≤ n) (sym w.long) h.floor;
+  fitting = fitting_over l.path l.program l.frame l.callers l.locations ys w.long h.fitting;
   anchors = λ m y e ownership home.
       let b = w.back m y e in
       let same : b.place.channel.channel ≡ y.channel.channel = ap (λ (d : NamedChannel). d.channel) b.channel in
@@ -91,21 +92,17 @@ made_whole t x v l h own =
     let k : ℕ = number_of l.frame.slots x in
     let name : ℕ = number_of (unit_at l.program l.frame.unit).slot_names x in
     let new : Option Location = Some (new_location l.path l.made name t v) in
-    let inner : FrameFits l.program (parameters_of l) l.frame = inner_fits l.program (parameters_of l) l.frame l.callers h.0.fit in
+    let inner : FrameFits l.program (parameters_of l) l.frame = inner_fits l.program (parameters_of l) l.frame l.callers h.0.fitting.fit in
     let at : (l.frame.floor ≤ number_of l.frame.slots x) × (parameters_of l ≤ number_of l.frame.slots x) = inner.slots x own in
     let floor : l.frame.floor ≤ k = at.0 in
-    let kept : parameters_of l ≤ k = at.1 in
-    let many : length (slice_set xs k new) ≡ length xs = length_put xs k new in (
+    let kept : parameters_of l ≤ k = at.1 in (
       (
         record {
-          uses = h.0.uses;
-          fit = h.0.fit;
-          long = subst (λ (n : ℕ). parameters_of l ≤ n) (sym many) h.0.long;
-          floor = subst (λ (n : ℕ). l.frame.floor ≤ n) (sym many) h.0.floor;
+          fitting = fitting_over l.path l.program l.frame l.callers xs (slice_set xs k new) (length_put xs k new) h.0.fitting;
           anchors = λ m y e ownership home. elim (at_set xs k m new y e) [
             | inl w ↦ own_not_copy y.ownership (new_own l.path l.made name t v y w.1) ownership
             | inr there ↦ put_anchor l.frame l.callers xs k new m y.channel.channel
-                (λ bound is. let b = floors_below l.program (parameters_of l) bound l.frame l.callers h.0.fit is in omega (arith, b, floor))
+                (λ bound is. let b = floors_below l.program (parameters_of l) bound l.frame l.callers h.0.fitting.fit is in omega (arith, b, floor))
                 (h.0.anchors m y there ownership home)
           ];
         },

@@ -9,7 +9,8 @@ use Rattle.shim_units.specs.declared.unit.UBranch.{UBranch}
 use Rattle.shim_process.specs.Locations.{Location, Locations, Lent, at_number}
 use Rattle.shim_process.specs.LocalState.{LocalState, number_of}
 use Rattle.shim_process.specs.Forks.{item_branches}
-use Rattle.shim_laws_sources.specs.Anchored.{OwnedOn, IsAnchored, IsWhole, parameters_of}
+use Rattle.shim_process.specs.FittingFrames.{parameters_of}
+use Rattle.shim_laws_sources.specs.Anchored.{OwnedOn, IsAnchored, IsWhole}
 
 -- The child gives back the own variable of the channel, for the location at number n of its parent: an argument by reference, of those whose first one has the number j in the child.
 abbrev pub GivesBack : List ℕ → ℕ → List Arg → LocalState → ℕ → Channel → Type 0

@@ -1,5 +1,4 @@
 -- The definitions of this crate, one module for each subject.
-pub mod OwnSlots
 pub mod DeclaredSorts
 pub mod Sources
 pub mod Anchored

@@ -4,7 +4,7 @@ ghost use Rattle.shim_semantics.specs.Trees.{Tree};
 ghost use Rattle.shim_units.specs.declared.form.Form.{Form};
 ghost use Rattle.shim_process.specs.LocalState.{LocalState};
 ghost use Rattle.shim_units.specs.OfText.{IsAcceptedForm};
-ghost use Rattle.shim_laws_sources.specs.OwnSlots.{UsesOwnSlots};
+ghost use Rattle.shim_process.specs.OwnSlots.{UsesOwnSlots};
 ghost use Rattle.shim_laws_sources.specs.DeclaredSorts.{HasDeclaredSorts};
 ghost use Rattle.shim_laws_sources.specs.Sources.{IsReached, HasOneInput, HasSources};
 
@@ -20,10 +20,9 @@ pub fn declared_slots_have_their_sorts()
     ensures { (form : Form) → IsAcceptedForm form → HasDeclaredSorts form }
 {}
 
-/// In each tree that a run of a program reaches at most one process has the input. Where the program is
-/// an accepted one, and a live process stands at a `next`, some process of the tree has the own variable
-/// of that channel.
+/// In each tree that a run of an accepted program reaches at most one process has the input, and where a
+/// live process stands at a `next`, some process of the tree has the own variable of that channel.
 pub fn sources()
-    ensures input { (program : Form) (input : List ℕ) (t : Tree LocalState) → IsReached program input t → HasOneInput t }
+    ensures input { (program : Form) (input : List ℕ) (t : Tree LocalState) → IsAcceptedForm program → IsReached program input t → HasOneInput t }
     ensures carried { (program : Form) (input : List ℕ) (t : Tree LocalState) → IsAcceptedForm program → IsReached program input t → HasSources t }
 {}

@@ -24,12 +24,14 @@ use Rattle.shim_process.specs.StatementViews.{statement_view, passed_labels}
 use Rattle.shim_process.specs.Stops.{what_stop, stmt_stop, stop_or, stop}
 use Rattle.shim_process.specs.Todo.{Item, Do, Leave, On, next_stmt}
 use Rattle.shim_process.proofs.ForkLending.{from_value, ok_same}
-use Rattle.shim_laws_sources.specs.OwnSlots as own
-use Rattle.shim_laws_sources.specs.OwnSlots.{is_own_slot, suits}
+use Rattle.shim_process.specs.OwnSlots as own
+use Rattle.shim_process.specs.OwnSlots.{suits}
 use Rattle.shim_laws_sources.proofs.Along.{behind, Relates}
-use Rattle.shim_laws_sources.proofs.CallSlots.{own_slot, from_number, given_many}
-use Rattle.shim_laws_sources.proofs.ForkArguments.{IsParted, fork_parted, branches_suit}
-use Rattle.shim_laws_sources.proofs.LendingPlaces.{branch_length, lent_onward}
+use Rattle.shim_process.proofs.CallSlots.{own_slot, from_number, given_many}
+use Rattle.shim_process.proofs.ChildChannels.{branch_length}
+use Rattle.shim_process.proofs.ForkArguments.{branches_suit}
+use Rattle.shim_process.proofs.ForkParts.{Parts, parts_of}
+use Rattle.shim_laws_sources.proofs.LendingPlaces.{lent_onward}
 use Rattle.shim_laws_sources.proofs.WholeJoins.{all_onward}
 use Rattle.shim_base.proofs.Facts.{choose, some_same, none_some}
 use Rattle.shim_laws_stops.specs.InScope.{same_kind, arguments_right, references, distinct, call_right, all_calls_right, are_some, branches_apart, slots_right, Scoped, all_scoped}
@@ -218,7 +220,7 @@ items_branches_right l (Do n s ∷ k) h = what_branches_right l (out-UWhat s.wha
 pub forks_have : (l p : LocalState) (ks : List LocalState) → HasLocations l → Forks process_ops l p ks → HasLocations p × EachHas (all_live ks)
 forks_have l p ks h at =
     let bs : List UBranch = item_branches l.frame.todo in
-    let w : IsParted l p ks (item_branches l.frame.todo) (all_arguments l (item_branches l.frame.todo)) = fork_parted l p ks at.1 in
+    let w : Parts l p ks = parts_of l p ks at in
     let f : FrameScoped l.program l.locations l.frame = inner_scoped l.program l.locations l.frame l.callers h.frames in
     let r = items_branches_right l l.frame.todo f.todo in
     let suit = branches_suit l.program (unit_at l.program l.frame.unit) l.frame.todo f.fit.todo in

@@ -25,12 +25,12 @@ use Rattle.shim_process.specs.Forks.{fork}
 use Rattle.shim_process.specs.Steps.{Action, Go, Store, StoreFirst, Make, Read, Enter, Install, Trapped, Wait, action, limited, value_or, try_name, what_action, stmt_action, next_action, line_of, stored_in, made_in, read_in, next_byte, half, installed, pushed, called, done, quiet}
 use Rattle.shim_process.specs.Stops.{put_value, after_put, put, what_receive, stmt_receive, receive}
 use Rattle.shim_process.proofs.CallKeeps.{fork_trapped}
-use Rattle.shim_laws_sources.specs.OwnSlots.{is_own_slot, suits}
-use Rattle.shim_laws_sources.specs.Anchored.{ItemsFit}
+use Rattle.shim_process.specs.OwnSlots.{is_own_slot, suits}
+use Rattle.shim_process.specs.FittingFrames.{ItemsFit}
 use Rattle.shim_laws_sources.proofs.AtPlaces.{at_before}
-use Rattle.shim_laws_sources.proofs.CallSlots.{called_slot, given_many}
-use Rattle.shim_laws_sources.proofs.FittingFrames.{installed_fits}
-use Rattle.shim_laws_sources.proofs.FittingItems.{fits_layer, fits_out}
+use Rattle.shim_process.proofs.CallSlots.{called_slot, given_many}
+use Rattle.shim_process.proofs.FittingFrames.{installed_fits}
+use Rattle.shim_process.proofs.FittingItems.{fits_layer, fits_out}
 use Rattle.shim_base.proofs.Facts.{choose}
 use Rattle.shim_laws_stops.specs.InScope.{all_scoped, arguments_right, references, distinct, call_right, Scoped, scoped}
 use Rattle.shim_laws_stops.specs.FrameLocations.{HasLocation, scoped_kind, item_right, ItemsScoped, next_declares, FrameScoped, FramesScoped, HasLocations}

@@ -22,7 +22,7 @@ use Rattle.shim_process.proofs.PlaceStops.{throw_below}
 use Rattle.shim_laws_sources.specs.Sources.{IsReached}
 use Rattle.shim_laws_sources.proofs.Along.{Relates}
 use Rattle.shim_laws_sources.proofs.AlongEvents.{run_related}
-use Rattle.shim_laws_sources.proofs.CallSlots.{own_slot, from_number}
+use Rattle.shim_process.proofs.CallSlots.{own_slot, from_number}
 use Rattle.shim_laws_sources.proofs.Units.{units_use_slots_of_their_own}
 use Rattle.shim_laws_stops.specs.FrameLabels.{AreLabels, HasLabels}
 use Rattle.shim_laws_stops.specs.FrameLocations.{HasLocations}
@@ -48,15 +48,15 @@ use Rattle.shim_laws_stops.proofs.ThrowUnits.{all_in_force, main_given}
 use Rattle.shim_laws_stops.proofs.ThrownPlaces.{thrown_least, on_way}
 
 -- the tree of one process that begins a program is sound
-start_sound : (program : Form) (input : List ℕ) → IsSound process_ops (Live (root program input))
-start_sound program input = (events_keep_sound process_ops process_laws).starts (root program input) (root_sound program input) (λ c e. absurd (true≢false (sym e ∙ root_shares_nothing program input c)))
+start_sound : (program : Form) (input : List ℕ) → IsAcceptedForm program → IsSound process_ops (Live (root program input))
+start_sound program input kept = (events_keep_sound process_ops process_laws).starts (root program input) (root_sound program input (units_use_slots_of_their_own program kept)) (λ c e. absurd (true≢false (sym e ∙ root_shares_nothing program input c)))
 
 -- what is related along each run is related to that tree
-pub reached_related : (R : Node LocalState → Node LocalState → Type 0) → Relates process_ops R → (program : Form) (input : List ℕ) (t : Tree LocalState) → IsReached program input t → R (Live (root program input)) t.root
-reached_related R g program input t h = run_related process_ops R process_laws g h.0 (start (root program input)) t (start_sound program input) h.1
+pub reached_related : (R : Node LocalState → Node LocalState → Type 0) → Relates process_ops R → (program : Form) (input : List ℕ) (t : Tree LocalState) → IsAcceptedForm program → IsReached program input t → R (Live (root program input)) t.root
+reached_related R g program input t kept h = run_related process_ops R process_laws g h.0 (start (root program input)) t (start_sound program input kept) h.1
 
-pub reached_sound : (program : Form) (input : List ℕ) (t : Tree LocalState) → IsReached program input t → IsSound process_ops t.root
-reached_sound program input t h = runs_stay_sound process_ops process_laws (start (root program input)) t h.0 (start_sound program input) h.1
+pub reached_sound : (program : Form) (input : List ℕ) (t : Tree LocalState) → IsAcceptedForm program → IsReached program input t → IsSound process_ops t.root
+reached_sound program input t kept h = runs_stay_sound process_ops process_laws (start (root program input)) t h.0 (start_sound program input kept) h.1
 
 -- exceptions
 
@@ -88,8 +88,8 @@ root_base program input = refl
 
 pub thrown_have_places : (program : Form) (input : List ℕ) (t : Tree LocalState) → IsAcceptedForm program → IsReached program input t → ThrownHavePlaces program t
 thrown_have_places program input t kept h q l label there stands =
-    let w = reached_related KeepsLabels labels_relate program input t h (root_labels program input kept) in
-    let below : SoundBelow process_ops t.root = (reached_sound program input t h).below in
+    let w = reached_related KeepsLabels labels_relate program input t kept h (root_labels program input kept) in
+    let below : SoundBelow process_ops t.root = (reached_sound program input t kept h).below in
     let sound = sound_at process_ops q t.root (Live l) below there in
     let least : 1 ≤ label = thrown_least l label sound (live_has_labels q t.root l w.0 there) stands in
     elim (on_way q t.root l label w.0 below there (throw_below l label sound stands)) [
@@ -121,7 +121,7 @@ root_locations program input kept =
 
 -- each live process has the locations of what it names
 live_locations : (program : Form) (input : List ℕ) (t : Tree LocalState) → IsAcceptedForm program → IsReached program input t → (l : LocalState) → IsLive t l → HasLocations l
-live_locations program input t kept h l live = live_has live.0 t.root l (reached_related KeepsLocations locations_relate program input t h (root_locations program input kept)) live.1
+live_locations program input t kept h l live = live_has live.0 t.root l (reached_related KeepsLocations locations_relate program input t kept h (root_locations program input kept)) live.1
 
 pub nexts_have_locations : (program : Form) (input : List ℕ) (t : Tree LocalState) → IsAcceptedForm program → IsReached program input t → NextsHaveLocations t
 nexts_have_locations program input t kept h l w x live at is = next_has l x is (stands_right l w (live_locations program input t kept h l live) at)
@@ -143,7 +143,7 @@ root_output program input kept = record { named = root_locations program input k
 
 -- each live process has it where it should
 live_output : (program : Form) (input : List ℕ) (t : Tree LocalState) → IsAcceptedForm program → IsReached program input t → (l : LocalState) → IsLive t l → HoldsOutput l
-live_output program input t kept h l live = live_holds live.0 t.root l (reached_related KeepsOutput output_relates program input t h (root_output program input kept)).0 live.1
+live_output program input t kept h l live = live_holds live.0 t.root l (reached_related KeepsOutput output_relates program input t kept h (root_output program input kept)).0 live.1
 
 pub puts_have_output : (program : Form) (input : List ℕ) (t : Tree LocalState) → IsAcceptedForm program → IsReached program input t → PutsHaveOutput t
 puts_have_output program input t kept h l o e live at = put_holds l o e (live_output program input t kept h l live) at
@@ -156,4 +156,4 @@ root_settled program input = begins_settled (root program input) (unit_at progra
 
 pub ends_have_nothing_left : (program : Form) (input : List ℕ) (t : Tree LocalState) → IsAcceptedForm program → IsReached program input t → EndsHaveNothingLeft t
 ends_have_nothing_left program input t kept h l live stands =
-    end_has_nothing_left l (live_output program input t kept h l live) (live_settled live.0 t.root l (reached_related KeepsSettled settled_relates program input t h (root_settled program input)) live.1) stands
+    end_has_nothing_left l (live_output program input t kept h l live) (live_settled live.0 t.root l (reached_related KeepsSettled settled_relates program input t kept h (root_settled program input)) live.1) stands

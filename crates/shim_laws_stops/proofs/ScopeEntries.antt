@@ -20,10 +20,10 @@ use Rattle.shim_process.specs.LocalState.{number_of, unit_at, env_of, type_of}
 use Rattle.shim_process.specs.Arguments.{Argument, ByReference, ByCopy, ByValue, on_value, arguments, copied, new_location, call_locations, branch_locations, declared_slots, empties, call_slots, entered}
 use Rattle.shim_process.specs.Todo.{items_all}
 use Rattle.shim_process.proofs.ForkLending.{from_value, ok_same}
-use Rattle.shim_laws_sources.specs.OwnSlots.{is_own_slot, UsesOwnSlots}
+use Rattle.shim_process.specs.OwnSlots.{is_own_slot, UsesOwnSlots}
 use Rattle.shim_laws_sources.proofs.AtPlaces.{at_before}
-use Rattle.shim_laws_sources.proofs.CallSlots.{own_slot, from_number}
-use Rattle.shim_laws_sources.proofs.FittingItems.{body_fits}
+use Rattle.shim_process.proofs.CallSlots.{own_slot, from_number}
+use Rattle.shim_process.proofs.FittingItems.{body_fits}
 use Rattle.shim_base.proofs.Facts.{some_same}
 use Rattle.shim_laws_stops.specs.InScope.{is_number, same_kind, has_number, argument_right, arguments_right, slots_right, all_scoped, AllInScope}
 use Rattle.shim_laws_stops.specs.FrameLocations.{HasLocation, ItemsScoped, FrameScoped}

@@ -9,12 +9,13 @@ use Rattle.shim_process.specs.Todo.{Item, Do, Leave, Successor, On, Second, foll
 use Rattle.shim_process.specs.LocalState.{LocalState, Frame, ExceptionPlace, unit_at, number_of}
 use Rattle.shim_process.specs.Ends.{without_last, past_ends, went, is_over, settled, gone}
 use Rattle.shim_process.specs.Unwinding.{handling, unwound, unwind}
+use Rattle.shim_process.proofs.PlaceChannels.{length_put}
 use Rattle.shim_process.proofs.PlaceLocations.{at_take}
-use Rattle.shim_laws_sources.specs.Anchored.{FrameFits}
-use Rattle.shim_laws_sources.specs.OwnSlots.{is_own_slot, UsesOwnSlots}
-use Rattle.shim_laws_sources.proofs.AtPlaces.{take_below, at_taken, length_put, still_at, put_at, Onward}
-use Rattle.shim_laws_sources.proofs.FittingFrames.{went_fits}
-use Rattle.shim_laws_sources.proofs.FittingItems as fitting_items
+use Rattle.shim_process.specs.FittingFrames.{FrameFits}
+use Rattle.shim_process.specs.OwnSlots.{is_own_slot, UsesOwnSlots}
+use Rattle.shim_laws_sources.proofs.AtPlaces.{take_below, at_taken, still_at, put_at, Onward}
+use Rattle.shim_process.proofs.FittingFrames.{went_fits}
+use Rattle.shim_process.proofs.FittingItems as fitting_items
 use Rattle.shim_base.proofs.Facts.{choose}
 use Rattle.shim_laws_stops.specs.InScope.{AllInScope}
 use Rattle.shim_laws_stops.specs.FrameLocations.{HasLocation, ItemsScoped, next_declares, PlacesScoped, FrameScoped, FramesScoped, HasLocations}

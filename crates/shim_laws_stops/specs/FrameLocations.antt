@@ -8,8 +8,8 @@ use Rattle.shim_units.specs.Lifting.{is_among}
 use Rattle.shim_process.specs.Locations.{Locations}
 use Rattle.shim_process.specs.Todo.{Item, Do, Leave}
 use Rattle.shim_process.specs.LocalState.{LocalState, Frame, ExceptionPlace, unit_at, number_of, location_of}
-use Rattle.shim_laws_sources.specs.OwnSlots.{is_own_slot, UsesOwnSlots}
-use Rattle.shim_laws_sources.specs.Anchored.{FrameFits}
+use Rattle.shim_process.specs.OwnSlots.{is_own_slot, UsesOwnSlots}
+use Rattle.shim_process.specs.FittingFrames.{FrameFits}
 use Rattle.shim_laws_stops.specs.Named.{IsThere}
 use Rattle.shim_laws_stops.specs.InScope.{is_number, Scoped, what_scoped, scoped, all_scoped, AllInScope}
 

@@ -10,8 +10,9 @@ use Rattle.shim_laws_records.specs.Seen.{Sort, lives, forks}
 use Rattle.shim_laws_records.proofs.OneChange.{one_state}
 use Rattle.shim_laws_records.proofs.SameTrees.{same_or_not}
 use Rattle.shim_laws_keeping.specs.Flats.{FlatView, HasProcess, stands}
-use Rattle.shim_laws_waking.specs.Waking.{IsAtNumber, at_step, at_end, at_close, at_home, at_child}
-use Rattle.shim_laws_waking.specs.Looks.{IsQuietStep}
+use Rattle.shim_laws_records.specs.Enabled.{at_step, at_end, at_close, at_home, at_child}
+use Rattle.shim_laws_waking.specs.Waking.{IsAtNumber}
+use Rattle.shim_laws_waking.specs.Looks.{IsQuietStepAt}
 use Rattle.shim_laws_waking.specs.Awake.{is_listed, ListingStays}
 use Rattle.shim_laws_waking.proofs.Same.{had, turned}
 use Rattle.shim_laws_waking.proofs.Idle.{looks_decide}
@@ -46,13 +47,13 @@ module _ {S : Type 0} (o : Ops S) where
 
   -- an event is a quiet step, or isn't one
   module _ (v : FlatView S) where
-    a_step : (i f : ℕ) (l : S) (p : Path) → HasProcess v i f l lives → o.path l ≡ p → (s : StopView) → o.stop l ≡ s → IsQuietStep o v i (Own p) ⊎ (IsQuietStep o v i (Own p) → ⊥)
+    a_step : (i f : ℕ) (l : S) (p : Path) → HasProcess v i f l lives → o.path l ≡ p → (s : StopView) → o.stop l ≡ s → IsQuietStepAt o v i (Own p) ⊎ (IsQuietStepAt o v i (Own p) → ⊥)
     a_step i f l p has path s e = on s e
       where
-        other : (x : StopView) → o.stop l ≡ x → (x ≡ AtQuiet → ⊥) → IsQuietStep o v i (Own p) → ⊥
+        other : (x : StopView) → o.stop l ≡ x → (x ≡ AtQuiet → ⊥) → IsQuietStepAt o v i (Own p) → ⊥
         other x e no_quiet w = no_quiet (sym e ∙ (ap o.stop (one_state v.states (stands v) i f w.first l w.process lives lives has w.has) ∙ w.stands))
 
-        on : (x : StopView) → o.stop l ≡ x → IsQuietStep o v i (Own p) ⊎ (IsQuietStep o v i (Own p) → ⊥)
+        on : (x : StopView) → o.stop l ≡ x → IsQuietStepAt o v i (Own p) ⊎ (IsQuietStepAt o v i (Own p) → ⊥)
         on AtQuiet e = inl (record { first = f; process = l; has = has; stands = e; is = ap Own (sym path) })
         on AtPut e = inr (other AtPut e (λ z. absurd cc))
         on AtFork e = inr (other AtFork e (λ z. absurd cc))
@@ -61,7 +62,7 @@ module _ {S : Type 0} (o : Ops S) where
         on (AtThrow x) e = inr (other (AtThrow x) e (λ z. absurd cc))
         on (AtTrap a b) e = inr (other (AtTrap a b) e (λ z. absurd cc))
 
-    quiet_or_not : {e : Event} {i : ℕ} → IsAtNumber o v e i → IsQuietStep o v i e ⊎ (IsQuietStep o v i e → ⊥)
+    quiet_or_not : {e : Event} {i : ℕ} → IsAtNumber o v e i → IsQuietStepAt o v i e ⊎ (IsQuietStepAt o v i e → ⊥)
     quiet_or_not (at_step i f l p has path) = a_step i f l p has path (o.stop l) refl
     quiet_or_not (at_end i f l p has path) = inr (λ w. no_own_end p (o.path w.process) w.is)
     quiet_or_not (at_close i f n l p has path) = inr (λ w. no_own_close p (o.path w.process) w.is)
@@ -82,7 +83,7 @@ module _ {S : Type 0} (o : Ops S) where
     ];
     drops = λ rp v t i flags now kept listed idle others e j can is other. elim (same_or_not j i) [
       | inr far ↦ others j far (listed e j can is other)
-      | inl here ↦ absurd (other (subst (λ z. IsQuietStep o v z e) (sym here) ((looks_decide o law).idle rp v t e i kept idle can (subst (IsAtNumber o v e) here is))))
+      | inl here ↦ absurd (other (subst (λ z. IsQuietStepAt o v z e) (sym here) ((looks_decide o law).idle rp v t e i kept idle can (subst (IsAtNumber o v e) here is))))
     ];
     settled = λ rp v t flags e kept listed none can.
         let w = (looked_for o law).somewhere rp v t e kept can in

@@ -9,7 +9,7 @@ use Rattle.shim_semantics.specs.Nodes.{Death}
 use Rattle.shim_semantics.specs.Trees.{Event, Own, Steps, Ends, kind_of_stop}
 use Rattle.shim_semantics.proofs.HowMany.{clash}
 use Rattle.shim_laws_records.specs.Seen.{Sort, lives, forks, ends, dies}
-use Rattle.shim_laws_records.specs.Agrees.{Standing, free, used}
+use Rattle.shim_laws_records.specs.Agrees.{RecordView, free, used}
 use Rattle.shim_laws_records.specs.Counts.{all_there}
 use Rattle.shim_laws_records.specs.Dooms.{is_below}
 use Rattle.shim_laws_records.proofs.OneChange.{one_state, one_sort}
@@ -18,10 +18,10 @@ use Rattle.shim_records.specs.Pairs.{tally}
 use Rattle.shim_records.specs.declared.pair.Pair.{Pair}
 use Rattle.shim_records.specs.declared.record.Record.{Record}
 use Rattle.shim_laws_keeping.specs.Flats.{FlatView, HasProcess, stands}
-use Rattle.shim_laws_waking.specs.Looks.{IsReady, IsDue, to_step, to_end, to_meet, to_close, to_meet_below, to_poison, IsIdlePair, IsIdle, unused, has_ended, has_died, is_quiet, waits, is_open, IsQuietStep, LooksDecide}
+use Rattle.shim_laws_waking.specs.Looks.{IsReady, IsDue, to_step, to_end, to_meet, to_close, to_meet_below, to_poison, IsIdlePair, IsIdle, unused, has_ended, has_died, is_quiet, waits, is_open, IsQuietStepAt, LooksDecide}
 use Rattle.shim_laws_waking.proofs.Looks.{due_can, can_due}
 
-abbrev first_of : Standing → ℕ
+abbrev first_of : RecordView → ℕ
 first_of free = 0
 first_of (used f k) = f
 
@@ -90,7 +90,7 @@ module _ {S : Type 0} (o : Ops S) (v : FlatView S) (i : ℕ) where
     no_fork g n m has = live_or_fork n (one_sort v.states (stands v) i f g l m lives (forks n) is has)
 
     -- of one that stands before a quiet step
-    quiet_alone : {e : Event} → o.stop l ≡ AtQuiet → IsDue o v i e → IsQuietStep o v i e
+    quiet_alone : {e : Event} → o.stop l ≡ AtQuiet → IsDue o v i e → IsQuietStepAt o v i e
     quiet_alone quiet (to_step g m p has stop path) = record { first = f; process = l; has = is; stands = quiet; is = ap Own (sym path ∙ ap o.path (same_live g m has)) }
     quiet_alone quiet (to_end g m p has stop path) = no_end (ap kind_of_stop (sym quiet ∙ ap o.stop (sym (same_live g m has))) ∙ stop)
     quiet_alone quiet (to_meet g m d c has stop same home) = no_next d (sym quiet ∙ (ap o.stop (sym (same_live g m has)) ∙ stop))
@@ -135,7 +135,7 @@ module _ {S : Type 0} (o : Ops S) (v : FlatView S) (i : ℕ) where
         absurd ((idle q y (its_pair s q y re e)).poisons_not (ap (λ z. is_below y.least (o.handlers z)) (sym (same_fork h d m has)) ∙ low) b f k x (subst (λ z. b < z) many less)
         (subst (λ z. HasProcess v (z + b) f k x) first child) (subst (λ z. IsReady o v z (g + b) k x) (sym same) (subst (λ z. IsReady o v c (z + b) k x) first readiness)))
 
-  pub idle_due : {e : Event} → IsIdle o v i → IsDue o v i e → IsQuietStep o v i e
+  pub idle_due : {e : Event} → IsIdle o v i → IsDue o v i e → IsQuietStepAt o v i e
   idle_due (unused none) due = not_unused none (teller due)
   idle_due (has_ended f l has) due = not_ended f l has (teller due)
   idle_due (has_died f l d has) due = not_dead f l d has (teller due)

@@ -15,7 +15,7 @@ use Rattle.shim_laws_schedules.proofs.Homes.{NotBelow, no_further, child_further
 use Rattle.shim_laws_records.specs.Seen.{Sort, lives, forks, place, how_many_nodes}
 use Rattle.shim_laws_records.specs.Counts.{Tally, tally_of, all_there}
 use Rattle.shim_laws_records.specs.Dooms.{least_among, is_below}
-use Rattle.shim_laws_records.specs.Enabled.{Can, EnabledByRecords}
+use Rattle.shim_laws_records.specs.Enabled.{Can, EnabledByRecords, at_step, at_end, at_close, at_home, at_child}
 use Rattle.shim_laws_records.proofs.CanHappen.{enabled_by_records}
 use Rattle.shim_laws_records.proofs.Leasts.{leasts_tell, shared_not_below}
 use Rattle.shim_laws_records.proofs.OneChange.{one_state}
@@ -25,7 +25,7 @@ use Rattle.shim_records.specs.Pairs.{tally, pair_of, counts_in}
 use Rattle.shim_records.specs.declared.pair.Pair.{Pair}
 use Rattle.shim_records.specs.declared.record.Record.{Record}
 use Rattle.shim_laws_keeping.specs.Flats.{FlatView, HasProcess, Keeps, stands}
-use Rattle.shim_laws_waking.specs.Waking.{IsAtNumber, at_step, at_end, at_close, at_home, at_child}
+use Rattle.shim_laws_waking.specs.Waking.{IsAtNumber}
 use Rattle.shim_laws_waking.specs.Looks.{IsDue, to_step, to_end, to_meet, to_close, to_meet_below, to_poison}
 use Rattle.shim_laws_waking.proofs.PairsFound.{pair_at, place_of_pair, record_of, counts_of, label_by, pair_by, counts_there}
 use Rattle.shim_laws_waking.proofs.Readiness.{is_child, fork_ready, ready_is}

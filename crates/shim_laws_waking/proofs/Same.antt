@@ -14,7 +14,7 @@ use Rattle.shim_laws_keeping.specs.Flats.{FlatView, HasProcess}
 use Rattle.shim_laws_waking.specs.Waking.{IsAsBefore, Wakes}
 use Rattle.shim_laws_waking.proofs.PairsFound.{from_map, pair_at, place_of_pair, counts_of, label_by, pair_by}
 
-stands_rest : (x : Option Record) → option_map stands_of x ≡ option_map (λ (z : Rest). stands_by z.first z.standing) (option_map rest_of x)
+stands_rest : (x : Option Record) → option_map stands_of x ≡ option_map (λ (z : Rest). stands_by z.first z.status) (option_map rest_of x)
 stands_rest None = refl
 stands_rest (Some r) = refl
 
@@ -37,7 +37,7 @@ module _ {S : Type 0} where
     had f s k has = record {
       state_is = sym same.state ∙ has.state_is;
       stands_so =
-          map_get stands_of before.records i ∙ (stands_rest (slice_get before.records i) ∙ (ap (option_map (λ (z : Rest). stands_by z.first z.standing)) (sym same.rest)
+          map_get stands_of before.records i ∙ (stands_rest (slice_get before.records i) ∙ (ap (option_map (λ (z : Rest). stands_by z.first z.status)) (sym same.rest)
           ∙ (sym (stands_rest (slice_get behind.records i)) ∙ (sym (map_get stands_of behind.records i) ∙ has.stands_so))));
     }
 

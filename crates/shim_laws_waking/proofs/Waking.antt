@@ -7,13 +7,13 @@ use Rattle.shim_semantics.specs.Nodes.{Node}
 use Rattle.shim_semantics.specs.Places.{branches}
 use Rattle.shim_semantics.specs.Trees.{Event, Own, Meet, Poison, Close, End}
 use Rattle.shim_laws_records.specs.Seen.{Sort, lives, forks, place}
-use Rattle.shim_laws_records.specs.Enabled.{IsAt, at_step as found_step, at_end as found_end, at_close as found_close, at_home as found_home, at_child as found_child}
+use Rattle.shim_laws_records.specs.Enabled.{at_step, at_end, at_close, at_home, at_child}
 use Rattle.shim_laws_records.proofs.CanHappen.{enabled_are_found}
 use Rattle.shim_laws_records.proofs.Closing.{one_less}
 use Rattle.shim_laws_records.proofs.OneChange.{one_state}
 use Rattle.shim_records.specs.Pairs.{tally}
 use Rattle.shim_laws_keeping.specs.Flats.{FlatView, HasProcess, Keeps, stands}
-use Rattle.shim_laws_waking.specs.Waking.{IsAtNumber, at_step, at_end, at_close, at_home, at_child, Wakes, WakingSuffices, LookedFor}
+use Rattle.shim_laws_waking.specs.Waking.{IsAtNumber, Wakes, WakingSuffices, LookedFor}
 use Rattle.shim_laws_waking.specs.Looks.{ready_by, IsDue, to_step, to_end, to_meet, to_close, to_meet_below, to_poison}
 use Rattle.shim_laws_waking.proofs.Looks.{all_by, low_by, due_can, can_due}
 use Rattle.shim_laws_waking.proofs.Same.{had, record_before, pair_before}
@@ -45,13 +45,6 @@ waking_suffices o law rp before behind t u again e i kept keeps wakes can is out
     (w.1, w.0)
 
 module _ {S : Type 0} (o : Ops S) (rp : Path) (v : FlatView S) where
-  numbered : {e : Event} → IsAt o v.states (stands v) e → (i : ℕ) × IsAtNumber o v e i
-  numbered (found_step i f l p has path) = (i, at_step i f l p has path)
-  numbered (found_end i f l p has path) = (i, at_end i f l p has path)
-  numbered (found_close i f n l p has path) = (i, at_close i f n l p has path)
-  numbered (found_home i f l k c has goes home) = (i, at_home i f l k c has goes home)
-  numbered (found_child i g n b f l k x p c has less child path) = (i, at_child i g n b f l k x p c has less child path)
-
   -- the branches that lead to the process of a path
   abbrev to : Path → List ℕ
   to p = branches (drop (length rp) p)
@@ -97,6 +90,6 @@ module _ {S : Type 0} (o : Ops S) (rp : Path) (v : FlatView S) where
 
 pub looked_for : {S : Type 0} (o : Ops S) → LocalLaws o → LookedFor o
 looked_for o law = record {
-  somewhere = λ rp v t e kept can. numbered o rp v (enabled_are_found o rp v.states (stands v) t e kept.shows can);
+  somewhere = λ rp v t e kept can. enabled_are_found o rp v.states (stands v) t e kept.shows can;
   once = λ rp v root e i j kept a b. once o rp v root kept e i j a b;
 }

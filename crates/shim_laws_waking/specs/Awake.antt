@@ -7,7 +7,7 @@ use Rattle.shim_laws_records.specs.Seen.{Sort}
 use Rattle.shim_laws_records.specs.Enabled.{Can}
 use Rattle.shim_laws_keeping.specs.Flats.{FlatView, HasProcess, Keeps}
 use Rattle.shim_laws_waking.specs.Waking.{IsAtNumber, Wakes}
-use Rattle.shim_laws_waking.specs.Looks.{IsIdle, IsQuietStep}
+use Rattle.shim_laws_waking.specs.Looks.{IsIdle, IsQuietStepAt}
 
 -- the flag is there, and it is set
 abbrev pub is_set : Option Bool → Bool
@@ -20,7 +20,7 @@ is_listed flags i = is_set (slice_get flags i)
 
 -- each event that can happen, and is no quiet step, is looked for at a listed number
 abbrev pub AreListed : {S : Type 0} → Ops S → FlatView S → Tree S → List Bool → Type 0
-AreListed {S} o v t flags = (e : Event) (i : ℕ) → Can o t e → IsAtNumber o v e i → (IsQuietStep o v i e → ⊥) → is_listed flags i ≡ true
+AreListed {S} o v t flags = (e : Event) (i : ℕ) → Can o t e → IsAtNumber o v e i → (IsQuietStepAt o v i e → ⊥) → is_listed flags i ≡ true
 
 -- Of such a list:
 pub record ListingStays {S : Type 0} (o : Ops S) : Type 0 where
@@ -32,4 +32,4 @@ pub record ListingStays {S : Type 0} (o : Ops S) : Type 0 where
   -- a record that tells of nothing but a quiet step needn't be listed
   pub drops : (rp : Path) (v : FlatView S) (t : Tree S) (i : ℕ) (flags now : List Bool) → Keeps o rp v t.root → AreListed o v t flags → IsIdle o v i → ((j : ℕ) → j ≢ i → is_listed flags j ≡ true → is_listed now j ≡ true) → AreListed o v t now
   -- and where none is listed, nothing but quiet steps can happen
-  pub settled : (rp : Path) (v : FlatView S) (t : Tree S) (flags : List Bool) (e : Event) → Keeps o rp v t.root → AreListed o v t flags → ((i : ℕ) → is_listed flags i ≡ false) → Can o t e → (i : ℕ) × IsQuietStep o v i e
+  pub settled : (rp : Path) (v : FlatView S) (t : Tree S) (flags : List Bool) (e : Event) → Keeps o rp v t.root → AreListed o v t flags → ((i : ℕ) → is_listed flags i ≡ false) → Can o t e → (i : ℕ) × IsQuietStepAt o v i e

@@ -64,7 +64,7 @@ pub data IsIdle {S : Type 0} (o : Ops S) (v : FlatView S) (i : ℕ) : Type 0 whe
   is_open : (g n : ℕ) (l : S) (r : Record) → HasProcess v i g l (forks n) → slice_get v.records i ≡ Some r → r.going ≢ 0 → ((q : ℕ) (y : Pair) → slice_get r.pairs.items q ≡ Some y → IsIdlePair o v l g n y) → IsIdle o v i
 
 -- the event is a quiet step of the process with this number
-pub record IsQuietStep {S : Type 0} (o : Ops S) (v : FlatView S) (i : ℕ) (e : Event) : Type 0 where
+pub record IsQuietStepAt {S : Type 0} (o : Ops S) (v : FlatView S) (i : ℕ) (e : Event) : Type 0 where
   pub first : ℕ
   pub process : S
   pub has : HasProcess v i first process lives
@@ -78,4 +78,4 @@ pub record LooksDecide {S : Type 0} (o : Ops S) : Type 0 where
   -- and what can happen and is looked for there, it tells
   pub told : (rp : Path) (v : FlatView S) (t : Tree S) (e : Event) (i : ℕ) → Keeps o rp v t.root → Can o t e → IsAtNumber o v e i → IsDue o v i e
   -- so where it tells of nothing but a quiet step, nothing else can happen there
-  pub idle : (rp : Path) (v : FlatView S) (t : Tree S) (e : Event) (i : ℕ) → Keeps o rp v t.root → IsIdle o v i → Can o t e → IsAtNumber o v e i → IsQuietStep o v i e
+  pub idle : (rp : Path) (v : FlatView S) (t : Tree S) (e : Event) (i : ℕ) → Keeps o rp v t.root → IsIdle o v i → Can o t e → IsAtNumber o v e i → IsQuietStepAt o v i e

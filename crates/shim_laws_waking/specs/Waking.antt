@@ -6,17 +6,13 @@ use Rattle.shim_local.specs.Process.{Ops}
 use Rattle.shim_semantics.specs.Nodes.{Node}
 use Rattle.shim_semantics.specs.Trees.{Tree, Event, Own, Meet, Poison, Close, End}
 use Rattle.shim_laws_records.specs.Seen.{Sort, lives, forks}
-use Rattle.shim_laws_records.specs.Enabled.{Can}
+use Rattle.shim_laws_records.specs.Enabled.{Can, IsAt}
 use Rattle.shim_records.specs.Pairs.{up_in, rest_of, counts_in, leasts_in}
-use Rattle.shim_laws_keeping.specs.Flats.{FlatView, HasProcess, Keeps}
+use Rattle.shim_laws_keeping.specs.Flats.{FlatView, HasProcess, Keeps, stands}
 
--- The event is looked for at the record with this number: that of the process which does it, that of the channel's home, which lives or has forked, or that of the fork whose child is poisoned.
-pub data IsAtNumber {S : Type 0} (o : Ops S) (v : FlatView S) : Event → ℕ → Type 0 where
-  at_step : (i f : ℕ) (l : S) (p : Path) → HasProcess v i f l lives → o.path l ≡ p → IsAtNumber o v (Own p) i
-  at_end : (i f : ℕ) (l : S) (p : Path) → HasProcess v i f l lives → o.path l ≡ p → IsAtNumber o v (End p) i
-  at_close : (i f n : ℕ) (l : S) (p : Path) → HasProcess v i f l (forks n) → o.path l ≡ p → IsAtNumber o v (Close p) i
-  at_home : (i f : ℕ) (l : S) (k : Sort) (c : Channel) → HasProcess v i f l k → (k ≡ lives) ⊎ ((n : ℕ) × (k ≡ forks n)) → o.path l ≡ c.home → IsAtNumber o v (Meet c) i
-  at_child : (i g n b f : ℕ) (l k : S) (x : Sort) (p : Path) (c : Channel) → HasProcess v i g l (forks n) → b < n → HasProcess v (g + b) f k x → o.path k ≡ p → IsAtNumber o v (Poison p c) i
+-- the event is looked for at the record with this number
+abbrev pub IsAtNumber : {S : Type 0} → Ops S → FlatView S → Event → ℕ → Type 0
+IsAtNumber o v e i = IsAt o v.states (stands v) e i
 
 -- The state with this number is that before, and the record says what it said: of the process, and for each channel.
 pub record IsAsBefore {S : Type 0} (before behind : FlatView S) (i : ℕ) : Type 0 where
@@ -37,6 +33,7 @@ abbrev pub WakingSuffices : {S : Type 0} → Ops S → Type 0
 WakingSuffices {S} o = (rp : Path) (before behind : FlatView S) (t u : Tree S) (again : ℕ → Bool) (e : Event) (i : ℕ) → Keeps o rp before t.root → Keeps o rp behind u.root → Wakes before behind again
     → Can o u e → IsAtNumber o behind e i → again i ≡ false → IsAtNumber o before e i × Can o t e
 
+-- Where events are looked for:
 pub record LookedFor {S : Type 0} (o : Ops S) : Type 0 where
   -- each enabled event is looked for at a number
   pub somewhere : (rp : Path) (v : FlatView S) (t : Tree S) (e : Event) → Keeps o rp v t.root → Can o t e → (i : ℕ) × IsAtNumber o v e i

@@ -145,6 +145,11 @@ pub trait Local: Send + Sized + Drop {
     fn copy(&self) -> Result<Self, NoMemory>
         ensures { IfOk result (λ copy. copy ≡ self.now) };
 
+    /// About how many quiet steps take as long as handing this process over does: the copies that are made
+    /// of it, and the comparison when it comes back. It is a hint for who hands processes out, and no clause
+    /// says anything of it; it takes no longer than a step.
+    fn hand_over_cost(&self) -> u64;
+
     /// What holds of every kind of process.
     ghost laws: { LocalLaws ops };
 }

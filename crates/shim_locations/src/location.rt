@@ -87,14 +87,12 @@ impl Location {
         self.ownership = kept(self.ownership);
     }
 
-    /// The value and the ownership of another one come back, where that is on the same channel.
+    /// The value and the ownership of another one come back.
     pub fn take_back(&mut self, other: &Location)
         ensures { self.new ≡ returned other.now self.old }
     {
-        if other.chan == self.chan {
-            self.value = other.value;
-            self.ownership = regained(other.ownership, self.ownership);
-        }
+        self.value = other.value;
+        self.ownership = regained(other.ownership, self.ownership);
     }
 
     /// A variable of this type on the same channel, which isn't the channel's own.

@@ -4,6 +4,7 @@ use Rattle.std.specs.Prelude.{slice_index_or, map}
 use Rattle.std.specs.List.{remove}
 use Rattle.std.proofs.lemmas.List.{map_push}
 use Rattle.shim_base.specs.Paths.{Path}
+use Rattle.shim_base.proofs.Facts.{some_same}
 use Rattle.shim_local.specs.Process.{Ops}
 use Rattle.shim_local.specs.Quiets.{QuietSteps}
 use Rattle.shim_local.specs.Pieces.{FewerWithCause}
@@ -20,7 +21,7 @@ use Rattle.shim_net.specs.Nets.{OpenGrant, NetView, IsNet, reserved_in}
 use Rattle.shim_net.specs.Taking.{Closes, Redoes, with_piece}
 use Rattle.shim_net.proofs.Keeping.{tree_sound, is_out, less_reserved, taken, taken_back}
 
-with_more : (p : Path) (n : ℕ) (js : List journals.Entry) → 1 ≤ n → with_piece p n js ≡ js ++ journals.Quiet p n ∷ []
+pub with_more : (p : Path) (n : ℕ) (js : List journals.Entry) → 1 ≤ n → with_piece p n js ≡ js ++ journals.Quiet p n ∷ []
 with_more p zero js h = absurd (omega (arith, h))
 with_more p (suc n) js h = refl
 
@@ -32,10 +33,10 @@ entries_more js p q n ks same e = ap (map entry_of) e ∙ (map_push entry_of js 
 module _ {S : Type 0} (o : Ops S) (law : LocalLaws o) (v n : NetView S) (same : v ≡ n) (w : IsNet o v) (i used : ℕ) (last : S)
     (within : i < length n.grants) (ran : (d : OpenGrant S) → QuietSteps o used (slice_index_or n.grants i d).start last) (most : (d : OpenGrant S) → used ≤ (slice_index_or n.grants i d).most)
     (g : OpenGrant S) (its : g ≡ slice_index_or v.grants i g) where
-  there : i < length v.grants
+  pub there : i < length v.grants
   there = subst (λ (z : NetView S). i < length z.grants) (sym same) within
 
-  its_run : QuietSteps o used g.start last
+  pub its_run : QuietSteps o used g.start last
   its_run = subst (λ (z : OpenGrant S). QuietSteps o used z.start last) (sym (its ∙ ap (λ (z : NetView S). slice_index_or z.grants i g) same)) (ran g)
 
   its_most : used ≤ g.most
@@ -43,9 +44,6 @@ module _ {S : Type 0} (o : Ops S) (law : LocalLaws o) (v n : NetView S) (same : 
 
   both : ComesBy o v.tree used last × (o.path last ≡ o.path g.start)
   both = (pieces_are_entries o law).comes v.tree used g.start last (tree_sound o law v w) (is_out o law v w i g there its).grantable its_run
-
-  pub comes : ComesBy o v.tree used last
-  comes = both.0
 
   -- the grants that are left
   module _ (gs : List (OpenGrant S)) (less : gs ≡ remove v.grants i) where
@@ -58,34 +56,39 @@ module _ {S : Type 0} (o : Ops S) (law : LocalLaws o) (v n : NetView S) (same : 
     pub fits : steps v.tree + used ≤ 4000000
     fits = omega (arith, less_reserved o law v w i g there its gs less, its_most, w.keeps.fits, w.most)
 
-    -- with steps
-    module _ (some : 1 ≤ used) (u : Tree S) (advances : Advances o (o.path last) used v.tree u) (js : List journals.Entry) (more : js ≡ v.journal ++ journals.Quiet (o.path g.start) used ∷ []) where
-      pub stays : IsNet o (record { root = v.root; budget = v.budget; tree = u; journal = js; grants = gs })
-      stays = taken o law v w i g there its gs less used last u its_run some its_most advances js more
+    -- what the steps make of the tree
+    module _ (u : Tree S) (advances : Advances o (o.path g.start) used v.tree u) where
+      its_advances : Advances o (o.path last) used v.tree u
+      its_advances = subst (λ p. Advances o p used v.tree u) (sym both.1) advances
 
-      pub counts : steps v.tree + used ≡ steps u
-      counts = sym ((pieces_are_entries o law).entry v.tree u used last (tree_sound o law v w) both.0 advances).counted
+      -- with steps
+      module _ (some : 1 ≤ used) (js : List journals.Entry) (more : js ≡ v.journal ++ journals.Quiet (o.path g.start) used ∷ []) where
+        pub stays : IsNet o (record { root = v.root; budget = v.budget; tree = u; journal = js; grants = gs })
+        stays = taken o law v w i g there its gs less used last u its_run some its_most its_advances js more
 
-      pub closes : Closes o n (record { root = v.root; budget = v.budget; tree = u; journal = js; grants = gs }) i used
-      closes = subst (λ (z : NetView S). Closes o z (record { root = v.root; budget = v.budget; tree = u; journal = js; grants = gs }) i used) same (record {
-        grant = g;
-        its = its;
-        tree = subst (λ p. quiet_steps o p used v.tree ≡ Some u) both.1 ((pieces_are_entries o law).entry v.tree u used last (tree_sound o law v w) both.0 advances).entry;
-        after_is = λ j. record { root = v.root; budget = v.budget; tree = u; journal = (more ∙ sym (with_more (o.path g.start) used v.journal some)) j; grants = less j };
-      })
+        pub closes : Closes o n (record { root = v.root; budget = v.budget; tree = u; journal = js; grants = gs }) i used
+        closes = subst (λ (z : NetView S). Closes o z (record { root = v.root; budget = v.budget; tree = u; journal = js; grants = gs }) i used) same (record {
+          grant = g;
+          its = its;
+          tree = subst (λ p. quiet_steps o p used v.tree ≡ Some u) both.1 ((pieces_are_entries o law).entry v.tree u used last (tree_sound o law v w) both.0 its_advances).entry;
+          after_is = λ j. record { root = v.root; budget = v.budget; tree = u; journal = (more ∙ sym (with_more (o.path g.start) used v.journal some)) j; grants = less j };
+        })
 
-    -- without a step
-    module _ (none : used ≡ 0) where
-      pub stays_back : IsNet o (record { root = v.root; budget = v.budget; tree = v.tree; journal = v.journal; grants = gs })
-      stays_back = taken_back o law v w i g there its gs less
+      -- without a step
+      module _ (none : used ≡ 0) where
+        back : v.tree ≡ u
+        back = some_same v.tree u (subst (λ n. Advances o (o.path g.start) n v.tree u) none advances)
 
-      pub closes_back : Closes o n (record { root = v.root; budget = v.budget; tree = v.tree; journal = v.journal; grants = gs }) i used
-      closes_back = subst (λ (z : NetView S). Closes o z (record { root = v.root; budget = v.budget; tree = v.tree; journal = v.journal; grants = gs }) i used) same (record {
-        grant = g;
-        its = its;
-        tree = ap (λ n. quiet_steps o (o.path g.start) n v.tree) none;
-        after_is = λ j. record { root = v.root; budget = v.budget; tree = v.tree; journal = ap (λ n. with_piece (o.path g.start) n v.journal) (sym none) j; grants = less j };
-      })
+        pub stays_back : IsNet o (record { root = v.root; budget = v.budget; tree = u; journal = v.journal; grants = gs })
+        stays_back = subst (λ t. IsNet o (record { root = v.root; budget = v.budget; tree = t; journal = v.journal; grants = gs })) back (taken_back o law v w i g there its gs less)
+
+        pub closes_back : Closes o n (record { root = v.root; budget = v.budget; tree = u; journal = v.journal; grants = gs }) i used
+        closes_back = subst (λ (z : NetView S). Closes o z (record { root = v.root; budget = v.budget; tree = u; journal = v.journal; grants = gs }) i used) same (record {
+          grant = g;
+          its = its;
+          tree = ap (λ n. quiet_steps o (o.path g.start) n v.tree) none ∙ ap Some back;
+          after_is = λ j. record { root = v.root; budget = v.budget; tree = u; journal = ap (λ n. with_piece (o.path g.start) n v.journal) (sym none) j; grants = less j };
+        })
 
 -- the piece of an open grant that was done again and isn't short has a step
 pub redone : {S : Type 0} (o : Ops S) (law : LocalLaws o) (v v' : NetView S) → IsNet o v → (i : ℕ) → i < length v.grants → (used most : ℕ) (short : Bool) (start last : S) (c : Closes o v v' i used)

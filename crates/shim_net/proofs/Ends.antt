@@ -1,5 +1,7 @@
 -- A net whose standing isn't Running has come to an end.
-use Rattle.std.proofs.Common.{◌≡◌, ◌≤◌, ◌⊎◌, inl, inr, map, arith}
+use Rattle.std.proofs.Common.{◌≡◌, ◌≤◌, ◌⊎◌, ℕ, List, [], inl, inr, length, map, refl, sym, subst, arith}
+use Rattle.std.specs.List.{Any}
+use Rattle.shim_base.proofs.Facts.{no_items}
 use Rattle.shim_local.specs.Process.{Ops}
 use Rattle.shim_local.specs.Laws.{LocalLaws}
 use Rattle.shim_semantics.specs.Trees.{steps, IsQuiescent}
@@ -8,8 +10,13 @@ use Rattle.shim_laws_replay.specs.Told.{IsToldAs}
 use Rattle.shim_laws_replay.proofs.Keeping.{nets_keep}
 use Rattle.shim_laws_replay.proofs.Ends.{journals_mean}
 use Rattle.shim_laws_replay.proofs.Moments.{ends_are_told}
-use Rattle.shim_net.specs.Nets.{NetView, IsNet, granted}
-use Rattle.shim_net.specs.Standings.{IsQuietNet, IsSpentNet}
+use Rattle.shim_flat_tree.specs.FlatTrees.{FlatTreeView}
+use Rattle.shim_flat_tree.specs.Holding.{NoneHeld}
+use Rattle.shim_net.specs.Nets.{NetView, OpenGrant, IsNet, granted}
+use Rattle.shim_net.specs.Holding.{AreHeld}
+use Rattle.shim_net.specs.Standings.{StandsAs, IsQuietNet, IsSpentNet}
+use Rattle.shim_net.specs.declared.standing.Standing.{Standing}
+use Rattle.shim_net.specs.declared.standing.Standing.TheVariants.{Running, Quiet, Spent}
 
 module _ {S : Type 0} (o : Ops S) (n : NetView S) (w : IsNet o n) (stands : IsQuietNet o n ⊎ IsSpentNet o n) where
   came : (IsQuietNet o n ⊎ IsSpentNet o n) → IsQuiescent o n.tree ⊎ ((steps n.tree ≡ n.budget) × (IsQuiescent o n.tree → ⊥))
@@ -28,3 +35,29 @@ module _ {S : Type 0} (o : Ops S) (n : NetView S) (w : IsNet o n) (stands : IsQu
 pub may_end : {S : Type 0} (o : Ops S) (n : NetView S) → IsNet o n → IsQuietNet o n ⊎ IsSpentNet o n → ((steps n.tree ≤ n.budget) × IsQuiescent o n.tree) ⊎ (steps n.tree ≡ n.budget)
 may_end o n w (inl q) = inl (omega (arith, w.keeps.fits), q.1)
 may_end o n w (inr s) = inr s.1
+
+-- with no grant open, nobody is held
+pub nobody_held : {S : Type 0} (o : Ops S) (v : FlatTreeView S) (grants : List (OpenGrant S)) → AreHeld o v grants → grants ≡ [] → NoneHeld o v
+nobody_held {S} o v grants are none i l held = let any = subst (λ (gs : List (OpenGrant S)). Any (λ g. (g.pid ≡ i) × (g.start ≡ l)) gs) none (are.only i l held) in
+    let none_below = any.2 in omega (arith, none_below)
+
+pub none_open : {S : Type 0} (o : Ops S) (n : NetView S) → IsQuietNet o n ⊎ IsSpentNet o n → n.grants ≡ []
+none_open o n (inl q) = q.0
+none_open o n (inr s) = s.0
+
+-- a net whose standing isn't Running stands at one of the others
+pub stopped : {S : Type 0} (o : Ops S) (n : NetView S) (s : Standing) → StandsAs o n s → (s ≡ Running → ⊥) → IsQuietNet o n ⊎ IsSpentNet o n
+stopped o n Running h other = absurd (other refl)
+stopped o n Quiet h other = inl h
+stopped o n Spent h other = inr h
+
+-- v is the net as the code holds it, and n as its contract names it
+module _ {S : Type 0} (o : Ops S) (v n : NetView S) (same : v ≡ n) where
+  pub is_spent : length v.grants ≡ 0 → steps v.tree ≡ v.budget → (IsQuiescent o v.tree → ⊥) → IsSpentNet o n
+  is_spent none taken more = subst (IsSpentNet o) same (no_items v.grants none, taken, more)
+
+  pub is_neither : (steps v.tree ≡ v.budget → ⊥) → (IsQuiescent o v.tree → ⊥) → (IsQuietNet o n → ⊥) × (IsSpentNet o n → ⊥)
+  is_neither left more = (
+    λ q. more (subst (λ (z : NetView S). IsQuiescent o z.tree) (sym same) q.1),
+    λ s. left (subst (λ (z : NetView S). steps z.tree ≡ z.budget) (sym same) s.1),
+  )

@@ -1,8 +1,9 @@
 -- What a net's type keeps stays kept, whatever is done with it.
-use Rattle.std.proofs.Common.{◌≡◌, ◌≢◌, ◌≤◌, ◌<◌, ◌+◌, ℕ, suc, Some, List, [], ◌∷◌, ◌++◌, length, sym, ap, subst, ◌∙◌, arith}
+use Rattle.std.proofs.Common.{◌≡◌, ◌≢◌, ◌≤◌, ◌<◌, ◌+◌, ◌-◌, ℕ, suc, Some, List, [], ◌∷◌, ◌++◌, length, refl, sym, ap, subst, ◌∙◌, arith}
 use Rattle.std.specs.Prelude.{slice_index_or, map, take, drop}
 use Rattle.std.specs.List.{All, AllPairs, remove}
-use Rattle.std.proofs.lemmas.List.{get_or_default, get_or-map, map-append, map_push, take-map, drop-map, length-map}
+use Rattle.std.proofs.lemmas.List.{get_or_default, get_or_push, get_or-map, append-nil, length_push, map-append, map_push, take-map, drop-map, length-map}
+use Rattle.std.proofs.lemmas.List.Edits.{remove-append_right}
 use Rattle.std.proofs.lemmas.List.Elements.{All-map}
 use Rattle.std.proofs.lemmas.List.Quantifiers.{all_pairs_push, all_pairs_remove}
 use Rattle.std.proofs.lemmas.List.Sums.{sum_by-remove, sum_by_push}
@@ -64,6 +65,41 @@ module _ {S : Type 0} (o : Ops S) (law : LocalLaws o) where
     numbers = subst (AllPairs HaveOtherNumbers) (sym more) (all_pairs_push HaveOtherNumbers n.grants g w.numbers (others_differ n.grants g fresh));
     pids = subst (AllPairs HaveOtherPids) (sym more) (all_pairs_push HaveOtherPids n.grants g w.pids other);
   }
+
+  -- a process at home does quiet steps: they are granted and taken in at once
+  module _ (n : NetView S) (w : IsNet o n) (l last : S) (used : ℕ) (grantable : IsGrantable o n.tree l) (free : All (λ h. o.path h.start ≢ o.path l) n.grants) (some : 1 ≤ used) (room : steps n.tree + reserved_in n.grants + used ≤ n.budget)
+      (ran : QuietSteps o used l last) (u : Tree S) (advances : Advances o (o.path last) used n.tree u) where
+    abbrev one : Grant S
+    one = record { start = l; most = used }
+
+    abbrev more : List (Grant S)
+    more = map granted n.grants ++ one ∷ []
+
+    abbrev count : ℕ
+    count = length (map granted n.grants)
+
+    out : NetKeeps o n.root n.budget n.journal n.tree more
+    out = (nets_keep o law).granted n.root n.budget n.journal n.tree (map granted n.grants) one w.keeps
+        (record { grantable = grantable; some = some }) (All-map (λ h. AreApart o h one) granted n.grants free) room
+
+    taken_out : remove more count ≡ map granted n.grants
+    taken_out =
+        let none : count - count ≡ 0 = omega arith in
+        remove-append_right (map granted n.grants) (one ∷ []) count count refl (omega arith) ∙ (ap (λ z. map granted n.grants ++ remove (one ∷ []) z) none ∙ append-nil (map granted n.grants))
+
+    in_again : NetKeeps o n.root n.budget (n.journal ++ Quiet (o.path l) used ∷ []) u (map granted n.grants)
+    in_again = subst (NetKeeps o n.root n.budget (n.journal ++ Quiet (o.path l) used ∷ []) u) taken_out
+        ((nets_keep o law).taken n.root n.budget n.journal n.tree u more count one used last out (let long = length_push (map granted n.grants) one in omega (arith, long)) (sym (get_or_push (map granted n.grants) one one count refl)) ran some (omega arith) advances)
+
+    pub stepped : (js : List Entry) → js ≡ n.journal ++ Quiet (o.path l) used ∷ [] → IsNet o (record { root = n.root; budget = n.budget; tree = u; journal = js; grants = n.grants })
+    stepped js more = record {
+      least = w.least;
+      most = w.most;
+      at_root = w.at_root;
+      keeps = subst (λ z. NetKeeps o n.root n.budget z u (map granted n.grants)) (sym more) in_again;
+      numbers = w.numbers;
+      pids = w.pids;
+    }
 
   -- one grant more reserves more
   pub more_reserved : (reserves : ℕ) (grants gs : List (OpenGrant S)) (g : OpenGrant S) → reserves ≡ reserved_in grants → gs ≡ grants ++ g ∷ [] → reserves + g.most ≡ reserved_in gs

@@ -1,8 +1,10 @@
 -- The lemmas of this crate, one module for each subject.
-pub mod Numbering
 pub mod Keeping
 pub mod Granting
+pub mod Holding
 pub mod Closing
 pub mod Settling
+pub mod InPlace
+pub mod Sends
 pub mod Ends
-pub mod AtHome
+pub mod Progress

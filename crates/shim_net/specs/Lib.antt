@@ -1,9 +1,11 @@
 -- The definitions of this crate, one module for each subject.
 pub mod Entries
 pub mod Nets
-pub mod Numbering
+pub mod Holding
 pub mod Codes
 pub mod Granting
 pub mod Taking
 pub mod Settling
 pub mod Standings
+pub mod Stepping
+pub mod Progress

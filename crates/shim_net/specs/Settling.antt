@@ -1,5 +1,5 @@
 -- Events other than quiet steps, one after another.
-use Rattle.std.specs.Prelude.{◌≡◌, ◌≢◌, ℕ, Some, None, List, [], ◌∷◌, ◌++◌, map, length}
+use Rattle.std.specs.Prelude.{◌≡◌, ◌≢◌, ℕ, Bool, true, false, Some, None, List, [], ◌∷◌, ◌++◌, map, length}
 use Rattle.shim_base.specs.Paths.{Path}
 use Rattle.shim_local.specs.Process.{Ops}
 use Rattle.shim_semantics.specs.Listing.{IsAmong}
@@ -35,3 +35,8 @@ pub record Settles {S : Type 0} (o : Ops S) (before after : NetView S) (count : 
   pub counted : length events ≡ count
   pub happened : AllHappen o events before.tree after.tree
   pub after_is : after ≡ record { root = before.root; budget = before.budget; tree = after.tree; journal = before.journal ++ map Did events; grants = before.grants }
+
+-- one such event happened, or there is none
+abbrev pub SettlesOne : {S : Type 0} → Ops S → NetView S → NetView S → Bool → Type 0
+SettlesOne {S} o before after true = (e : Event) × IsNoQuietStep o before.tree e × Happens o before after e
+SettlesOne o before after false = (after ≡ before) × RestsButForQuiet o before.tree

@@ -56,14 +56,13 @@ impl<L: Local> Net<L> {
     {
         let grant = self.grants.remove(at);
         self.reserved -= grant.most();
+        self.tree.release(grant.number(), last, used);
         if used == 0 {
             return;
         }
-        self.tree.advance(last, used);
         self.journal.push_reserved(Entry::Quiet {
             path: grant.into_path(),
             steps: used,
         });
-        self.taken += used;
     }
 }

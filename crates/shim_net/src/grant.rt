@@ -3,8 +3,7 @@ ghost use Rattle.std.specs.Prelude.{◌≡◌, ◌≤◌, IfOk, OnErr, MatchOpti
 ghost use Rattle.shim_net.specs.Nets.{IsOpen};
 ghost use Rattle.shim_net.specs.Granting.{GivesNone, Gives};
 
-use crate::home::at_home;
-use crate::net::Net;
+use crate::net::{Net, left_in};
 use crate::open_grant::OpenGrant;
 use shim_base::NoMemory;
 use shim_local::{Local, Parcel};
@@ -22,19 +21,19 @@ impl<L: Local> Net<L> {
         ensures given { IfOk result (λ p. MatchOption p (GivesNone L.ops self.old self.new) (λ p. (p.slot ≡ slot) × (p.round ≡ round) × Gives L.ops self.old self.new most slot round p.pid p.start p.grant)) }
         ensures err { OnErr result (self.new ≡ self.old) }
     {
-        let left = self.unreserved();
+        let left = left_in(&self.tree, self.budget, self.reserved);
         if left == 0 {
             return Ok(None);
         }
-        let Some(process) = at_home(&self.tree, self.grants.as_slice()) else {
+        let Some(number) = self.tree.next_quiet() else {
             return Ok(None);
         };
         let grant = most.min(left);
         self.journal.reserve(self.grants.len() + 1)?;
         self.grants.reserve(1)?;
-        let pid = self.numbers.number(process.path())?;
-        let given = OpenGrant::new(process, pid, slot, round, grant)?;
+        let given = OpenGrant::new(self.tree.process(number), number, slot, round, grant)?;
         let parcel = given.parcel()?;
+        self.tree.hold(number);
         self.grants.push_reserved(given);
         self.reserved += grant;
         Ok(Some(parcel))

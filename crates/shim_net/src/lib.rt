@@ -3,17 +3,17 @@
 
 mod absorb;
 mod entry;
-mod events;
+mod finish;
 mod grant;
-mod home;
+mod hints;
 mod named;
 mod net;
-mod numbers;
 mod open_grant;
 mod reading;
 mod redo;
 mod settle;
 mod standing;
+mod stepping;
 
 pub use absorb::Absorbed;
 pub use entry::Entry;

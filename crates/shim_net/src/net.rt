@@ -1,15 +1,15 @@
-// A net over a tree of processes.
+// A net over a flat tree of processes.
 ghost use Rattle.std.specs.Prelude.{◌≡◌, ◌≤◌, ◌-◌, ◌+◌, [], IfOk};
 ghost use Rattle.shim_semantics.specs.Sound.{SharesItsOwn};
 ghost use Rattle.shim_semantics.specs.Trees.{steps};
+ghost use Rattle.shim_flat_tree.specs.FlatTrees.{tree_in, KeepsTree};
 ghost use Rattle.shim_net.specs.Nets.{started, reserved_in};
 
 use crate::entry::Entry;
-use crate::numbers::Numbers;
 use crate::open_grant::OpenGrant;
 use shim_base::NoMemory;
+use shim_flat_tree::FlatTree;
 use shim_local::Local;
-use shim_tree::Tree;
 use std::alloc::Global;
 use std::marker::Model;
 use std::snapshot::Snapshot;
@@ -22,35 +22,32 @@ use std::snapshot::Snapshot;
 pub struct Net<L: Local> {
     pub(crate) root: Snapshot<L>,
     pub(crate) budget: u64,
-    pub(crate) tree: Tree<L>,
+    // of which the processes of all open grants are held, and no others
+    pub(crate) tree: FlatTree<L>,
     // with room for an entry of each open grant
     pub(crate) journal: Vec<Entry>,
     pub(crate) grants: Vec<OpenGrant<L>>,
-    // of the processes that were given out, those of all open grants among them
-    pub(crate) numbers: Numbers,
-    // the steps of the tree
-    pub(crate) taken: u64,
     // the steps of all open grants
     pub(crate) reserved: u64,
 }
 
 impl<L: Local> Model for Net<L> {
     ghost use Rattle.std.specs.Prelude.{◌≡◌, ◌≤◌, ◌+◌, map, vec_len, vec_capacity};
-    ghost use Rattle.shim_semantics.specs.Trees.{steps};
     ghost use Rattle.shim_net.specs.Entries.{entry_of};
     ghost use Rattle.shim_net.specs.Nets.{NetView, IsNet, reserved_in};
-    ghost use Rattle.shim_net.specs.Numbering.{AreNumbered};
+    ghost use Rattle.shim_flat_tree.specs.FlatTrees.{tree_in};
+    ghost use Rattle.shim_net.specs.Holding.{AreHeld};
     ghost use Rattle.shim_net.specs.Codes.{net_code};
 
     ghost Value = { NetView L };
 
     ghost coded = { net_code L.code };
 
-    ghost view = { λ n. record { root = n.root.value; budget = n.budget; tree = n.tree; journal = map entry_of n.journal.items; grants = n.grants.items } };
+    ghost view = { λ n. record { root = n.root.value; budget = n.budget; tree = tree_in L.ops n.tree; journal = map entry_of n.journal.items; grants = n.grants.items } };
 
-    ghost invariant = { λ n. IsNet L.ops (record { root = n.root.value; budget = n.budget; tree = n.tree; journal = map entry_of n.journal.items; grants = n.grants.items })
-        × (n.taken ≡ steps n.tree) × (n.reserved ≡ reserved_in n.grants.items) × (vec_len n.journal + vec_len n.grants ≤ vec_capacity n.journal)
-        × AreNumbered L.ops n.numbers n.grants.items };
+    ghost invariant = { λ n. IsNet L.ops (record { root = n.root.value; budget = n.budget; tree = tree_in L.ops n.tree; journal = map entry_of n.journal.items; grants = n.grants.items })
+        × (n.reserved ≡ reserved_in n.grants.items) × (vec_len n.journal + vec_len n.grants ≤ vec_capacity n.journal)
+        × AreHeld L.ops n.tree n.grants.items };
 }
 
 impl<L: Local> Net<L> {
@@ -64,15 +61,13 @@ impl<L: Local> Net<L> {
     {
         let begun = Snapshot::of(&root);
         let _path = root.path(); // its clause tells that the root is sound
-        let tree = Tree::start(alloc, root)?;
+        let tree = FlatTree::start(alloc, root)?;
         Ok(Net {
             root: begun,
             budget,
             tree,
             journal: Vec::new(alloc),
             grants: Vec::new(alloc),
-            numbers: Numbers::new(alloc),
-            taken: 0,
             reserved: 0,
         })
     }
@@ -82,6 +77,16 @@ impl<L: Local> Net<L> {
         ensures left { result ≡ self.now.budget - (steps self.now.tree + reserved_in self.now.grants) }
         ensures fits { steps self.now.tree + reserved_in self.now.grants ≤ self.now.budget }
     {
-        self.budget - self.taken - self.reserved
+        left_in(&self.tree, self.budget, self.reserved)
     }
+}
+
+/// How many steps of the budget are neither taken in the tree nor reserved. Its clauses tell, too, what the
+/// tree's type keeps.
+pub(crate) fn left_in<L: Local>(tree: &FlatTree<L>, budget: u64, reserved: u64) -> u64
+    requires { steps (tree_in L.ops tree.now) + reserved ≤ budget }
+    ensures left { result ≡ budget - (steps (tree_in L.ops tree.now) + reserved) }
+    ensures keeps { KeepsTree L.ops tree.now }
+{
+    budget - tree.steps() - reserved
 }

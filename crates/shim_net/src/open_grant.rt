@@ -1,6 +1,6 @@
 // Grants that are open.
-ghost use Rattle.std.specs.Prelude.{◌≡◌, ◌<◌, ◌↔◌, ℕ, IsTrue, IsFalse, IfOk, MatchOption, length, slice_index_or};
-ghost use Rattle.std.specs.List.{All, Any};
+ghost use Rattle.std.specs.Prelude.{◌≡◌, ◌<◌, ◌↔◌, ℕ, IsTrue, IfOk, MatchOption, length, slice_index_or};
+ghost use Rattle.std.specs.List.{All};
 ghost use Rattle.shim_net.specs.Nets.{OpenGrant as GrantOf, HasNumbers, IsOpen};
 ghost use Rattle.shim_net.specs.Taking.{Matches};
 
@@ -12,7 +12,7 @@ use std::marker::Model;
 /// is kept for the entry that will tell of the steps, so that closing a grant takes no memory.
 #[derive(Drop)]
 pub(crate) struct OpenGrant<L: Local> {
-    pid: u64,
+    number: u32,
     slot: u64,
     round: u64,
     most: u64,
@@ -26,7 +26,7 @@ impl<L: Local> Model for OpenGrant<L> {
 
     ghost Value = { GrantOf L };
 
-    ghost view = { λ g. record { pid = g.pid; slot = g.slot; round = g.round; most = g.most; start = g.start } };
+    ghost view = { λ g. record { pid = g.number; slot = g.slot; round = g.round; most = g.most; start = g.start } };
 
     ghost invariant = { λ g. g.path ≡ L.ops.path g.start };
 }
@@ -35,15 +35,15 @@ impl<L: Local> OpenGrant<L> {
     /// A grant of so many steps to the process of this number, in this state.
     pub(crate) fn new(
         process: &L,
-        pid: u64,
+        number: u32,
         slot: u64,
         round: u64,
         most: u64,
     ) -> Result<Self, NoMemory>
-        ensures { IfOk result (λ g. g ≡ record { pid = pid; slot = slot; round = round; most = most; start = process.now }) }
+        ensures { IfOk result (λ g. g ≡ record { pid = number; slot = slot; round = round; most = most; start = process.now }) }
     {
         Ok(OpenGrant {
-            pid,
+            number,
             slot,
             round,
             most,
@@ -60,7 +60,7 @@ impl<L: Local> OpenGrant<L> {
         Ok(Parcel {
             slot: self.slot,
             round: self.round,
-            pid: self.pid,
+            pid: self.number as u64,
             start: self.start.copy()?,
             work: self.start.copy()?,
             grant: self.most,
@@ -74,19 +74,19 @@ impl<L: Local> OpenGrant<L> {
         self.most
     }
 
+    /// The number of its process.
+    pub(crate) fn number(&self) -> u32
+        ensures { result ≡ self.now.pid }
+    {
+        self.number
+    }
+
     /// The path of its process.
     pub(crate) fn into_path(self) -> Path
         ensures { result ≡ L.ops.path self.start }
     {
         let OpenGrant { path, .. } = self;
         path
-    }
-
-    // Whether its process is that of this path.
-    fn is_at(&self, path: &Path) -> bool
-        ensures { IsTrue result ↔ (L.ops.path self.now.start ≡ path.now) }
-    {
-        self.path == *path
     }
 
     // Whether it has this slot and round.
@@ -100,26 +100,13 @@ impl<L: Local> OpenGrant<L> {
     fn is_of(&self, finished: &Finished<L>) -> bool
         ensures { IsTrue result ↔ Matches finished.now.pid finished.now.slot finished.now.round finished.now.grant finished.now.start self.now }
     {
-        let numbers = self.pid == finished.pid && self.slot == finished.slot;
+        let numbers = self.number as u64 == finished.pid && self.slot == finished.slot;
         let more = self.round == finished.round && self.most == finished.grant;
         if numbers && more {
             return self.start.same(&finished.start);
         }
         false
     }
-}
-
-/// Whether a grant of the process of this path is open.
-pub(crate) fn is_out_at<L: Local>(grants: &[OpenGrant<L>], path: &Path) -> bool
-    ensures free { IsFalse result → All (λ g. L.ops.path g.start ≡ path.now → ⊥) grants.now }
-    ensures out { IsTrue result → Any (λ g. L.ops.path g.start ≡ path.now) grants.now }
-{
-    for at in 0..grants.len() {
-        if grants[at].is_at(path) {
-            return true;
-        }
-    }
-    false
 }
 
 /// Whether a grant of this slot and round is open.

@@ -24,7 +24,7 @@ impl<L: Local> Net<L> {
     pub fn steps(&self) -> u64
         ensures { result ≡ trees.steps self.now.tree }
     {
-        self.taken
+        self.tree.steps()
     }
 
     /// What was done in it.

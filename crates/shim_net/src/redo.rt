@@ -1,6 +1,7 @@
 // Doing work that was given out again.
-ghost use Rattle.std.specs.Prelude.{◌≡◌, IfOk, OnErr};
+ghost use Rattle.std.specs.Prelude.{◌≡◌, [], IfOk, OnOk, OnErr};
 ghost use Rattle.shim_net.specs.Taking.{RedoesOne};
+ghost use Rattle.shim_net.specs.Progress.{GoesOn, AreAmong};
 
 use crate::net::Net;
 use shim_base::NoMemory;
@@ -28,5 +29,16 @@ impl<L: Local> Net<L> {
         }
         self.close(0, used, last);
         Ok(true)
+    }
+
+    /// Does the work of all open grants, each from its start, and takes it in. Where memory is wanted, the
+    /// grants whose work was done stay closed, and the others stay open.
+    pub fn redo_all(&mut self) -> Result<(), NoMemory>
+        ensures goes_on { GoesOn L.ops self.old self.new }
+        ensures left { AreAmong self.new.grants self.old.grants }
+        ensures home { OnOk result (self.new.grants ≡ []) }
+    {
+        while self.redo()? {}
+        Ok(())
     }
 }

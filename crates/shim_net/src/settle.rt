@@ -1,17 +1,13 @@
 // Doing all events but quiet steps.
-ghost use Rattle.std.specs.Prelude.{◌≡◌, ◌≢◌, ◌<◌, ◌+◌, ◌⊎◌, ℕ, None, IfOk, OnOk, OnErr, MatchOption};
-ghost use Rattle.shim_semantics.specs.Trees.{after, steps};
-ghost use Rattle.shim_tree.specs.NodeStatus.{event_of};
-ghost use Rattle.shim_laws_replay.specs.Grants.{IsNoQuietStep};
+ghost use Rattle.std.specs.Prelude.{◌≡◌, ◌<◌, ◌+◌, ◌⊎◌, ℕ, IfOk, OnOk, OnErr};
+ghost use Rattle.shim_semantics.specs.Trees.{steps};
 ghost use Rattle.shim_net.specs.Nets.{reserved_in};
-ghost use Rattle.shim_net.specs.Settling.{RestsButForQuiet, Happens, Settles};
+ghost use Rattle.shim_net.specs.Settling.{RestsButForQuiet, SettlesOne, Settles};
 
 use crate::entry::Entry;
-use crate::events::next_other;
 use crate::net::Net;
 use shim_base::NoMemory;
 use shim_local::Local;
-use shim_tree::Event;
 
 impl<L: Local> Net<L> {
     /// Does enabled events other than quiet steps, until none is enabled, or all that is left of the
@@ -24,36 +20,27 @@ impl<L: Local> Net<L> {
     {
         let left = self.unreserved();
         for done in 0..left {
-            let Some(event) = self.next_event()? else {
+            if !self.settle_one()? {
                 return Ok(done);
-            };
-            self.happen(event)?;
+            }
         }
         Ok(left)
     }
 
-    // An enabled event that is no quiet step, if there is one.
-    fn next_event(&self) -> Result<Option<Event>, NoMemory>
-        ensures { IfOk result (λ event. MatchOption event
-            (RestsButForQuiet L.ops self.now.tree)
-            (λ e. (after L.ops (event_of e) self.now.tree ≢ None) × IsNoQuietStep L.ops self.now.tree (event_of e))) }
-    {
-        next_other(&self.tree)
-    }
-
-    // The event happens.
-    fn happen(&mut self, event: Event) -> Result<(), NoMemory>
-        requires enabled { after L.ops (event_of event) self.old.tree ≢ None }
-        requires other { IsNoQuietStep L.ops self.old.tree (event_of event) }
+    // Does an enabled event that is no quiet step; false where there is none.
+    fn settle_one(&mut self) -> Result<bool, NoMemory>
         requires room { steps self.old.tree + reserved_in self.old.grants < self.old.budget }
-        ensures ok { OnOk result (Happens L.ops self.old self.new (event_of event)) }
+        ensures ok { IfOk result (λ did. SettlesOne L.ops self.old self.new did) }
         ensures err { OnErr result (self.new ≡ self.old) }
     {
         // with room for an entry of each open grant behind it
         self.journal.reserve(self.grants.len() + 1)?;
-        self.tree.do_event(&event)?;
-        self.journal.push_reserved(Entry::Did(event));
-        self.taken += 1;
-        Ok(())
+        match self.tree.settle_one()? {
+            None => Ok(false),
+            Some(event) => {
+                self.journal.push_reserved(Entry::Did(event));
+                Ok(true)
+            }
+        }
     }
 }

@@ -33,7 +33,7 @@ impl<L: Local> Net<L> {
         if self.tree.quiescent() {
             return Standing::Quiet;
         }
-        if self.taken == self.budget {
+        if self.tree.steps() == self.budget {
             return Standing::Spent;
         }
         Standing::Running

@@ -12,6 +12,7 @@ use Rattle.shim_process.specs.Sound.{Sound}
 use Rattle.shim_process.specs.Born.{Born}
 use Rattle.shim_process.specs.Ops.{process_ops}
 use Rattle.shim_process.proofs.CarryChannels.{shares_same, shares_given, given_shares, Carried, carried_at}
+use Rattle.shim_process.proofs.FittingEnds.{HasParameters}
 use Rattle.shim_process.proofs.PlaceStops.{trapped_stands}
 use Rattle.shim_process.proofs.QuietKeeps.{Keeps, keeps_sound, keeps_shares, keeps_adds, keeps_carries, keeps_holds}
 use Rattle.shim_process.proofs.QuietActions.{quiet_keeps}
@@ -48,6 +49,11 @@ pub moved_given : ((l m : LocalState) (ks : List LocalState) → Sound l → sto
     → ((l : LocalState) (ks : List LocalState) (goes_on : Bool) → Sound l → AllOf Sound ks → Born l ks → (join l ks goes_on).given ≡ l.given)
     → (l m : LocalState) → Sound l → Moved process_ops l m → m.given ≡ l.given
 moved_given forks joins = moved (λ l m. m.given ≡ l.given) (λ l m s k. k.changed.given) forks joins
+
+pub moved_parameters : ((l m : LocalState) (ks : List LocalState) → Sound l → stop l ≡ AtFork → fork l ≡ Parted m ks → HasParameters l m)
+    → ((l : LocalState) (ks : List LocalState) (goes_on : Bool) → Sound l → AllOf Sound ks → Born l ks → HasParameters l (join l ks goes_on))
+    → (l m : LocalState) → Sound l → Moved process_ops l m → HasParameters l m
+moved_parameters forks joins = moved HasParameters (λ l m s k. k.fitting.1) forks joins
 
 pub root_given : (l : LocalState) → Sound l → l.path ≡ [] → l.given ≡ []
 root_given l s e = s.root e

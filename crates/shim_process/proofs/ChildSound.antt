@@ -1,5 +1,5 @@
 -- The children of a sound process are sound.
-use Rattle.std.proofs.Common.{◌≡◌, ℕ, ◌+◌, ◌<◌, true, List, [], ◌∷◌, ◌++◌, Some, ◌⊎◌, inl, inr, sym, ap, ◌∙◌, subst, arith}
+use Rattle.std.proofs.Common.{◌≡◌, ℕ, ◌+◌, ◌<◌, true, List, [], ◌∷◌, ◌++◌, length, Some, ◌⊎◌, inl, inr, sym, ap, ◌∙◌, subst, arith}
 use Rattle.std.proofs.lemmas.Bool.{and_parts, or_cases, or_left, ltb-true}
 use Rattle.std.specs.Prelude.{slice_get}
 use Rattle.shim_base.specs.Paths.{Path, Channel, NamedChannel, same_path}
@@ -14,6 +14,7 @@ use Rattle.shim_process.specs.Sound.{Sound, LeadsTo, LabelsBelow}
 use Rattle.shim_process.proofs.CarryChannels.{among_at}
 use Rattle.shim_process.proofs.LabelFrames.{passed_below}
 use Rattle.shim_process.proofs.ForkNames.{leads_here, leads_on, leads_no_child}
+use Rattle.shim_process.proofs.ChildFitting.{child_fitting}
 use Rattle.shim_process.proofs.ChildPlaces.{Taken, origin, once_child}
 use Rattle.shim_process.proofs.ChildGiven.{Given, before_empties, among_given, given_where, among_made}
 use Rattle.shim_base.proofs.SamePaths.{same_path_is}
@@ -61,9 +62,9 @@ not_empty : (p : Path) (x : ℕ × ℕ) → p ++ x ∷ [] ≡ [] → ⊥
 not_empty [] x e = cc
 not_empty (y ∷ p) x e = cc
 
-pub child_sound : (l : LocalState) (i : ℕ) (b : UBranch) (given : List Argument) → Sound l → Sound (child l i b given)
+pub child_sound : (l : LocalState) (i : ℕ) (b : UBranch) (given : List Argument) → Sound l → length given ≡ length (unit_at l.program b.call.unit).params → Sound (child l i b given)
 unfolding shares
-child_sound l i b given s =
+child_sound l i b given s many =
     let passed : Locations = branch_locations (below l i) l.locations 0 given in
     let base = s.base in
     let outer : handlers l ≡ handlers l + 0 = omega arith in
@@ -87,6 +88,7 @@ child_sound l i b given s =
             | inr own ↦ own.1
           ];
       root = λ e. absurd (not_empty l.path (l.forks, i) e);
+      fitting = child_fitting l i b given s.fitting many;
     }
 
 -- what a child shares

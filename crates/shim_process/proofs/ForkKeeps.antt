@@ -5,8 +5,10 @@ use Rattle.shim_base.specs.Paths.{Path, Channel, NamedChannel}
 use Rattle.shim_process.specs.Locations.{Location, at_number}
 use Rattle.shim_process.specs.LocalState.{LocalState}
 use Rattle.shim_process.specs.Sharers.{shares}
+use Rattle.shim_process.specs.FittingFrames.{IsFitting}
 use Rattle.shim_process.specs.Sound.{Sound, LeadsTo, IsOwned, FramesBelow}
 use Rattle.shim_process.proofs.CarryChannels.{shares_same}
+use Rattle.shim_process.proofs.FittingEnds.{GoesFitting}
 use Rattle.shim_process.proofs.ForkPlaces.{Place}
 
 -- the second state is on the channels of the first one, and its own variables are among those
@@ -17,6 +19,7 @@ pub record Keeps (l m : LocalState) : Type 0 where
   pub given : m.given ≡ l.given
   pub frames : FramesBelow l.base (l.frame ∷ l.callers) → FramesBelow m.base (m.frame ∷ m.callers)
   pub places : (n : ℕ) (y : Location) → at_number m.locations n ≡ Some y → Place IsOwned l.locations n y
+  pub fitting : IsFitting l → GoesFitting l m
 
 pub shares_kept : (l m : LocalState) (c : Channel) → Keeps l m → shares m c ≡ shares l c
 shares_kept l m c k = shares_same l m c k.path k.given k.made
@@ -35,4 +38,5 @@ kept_sound l m k s = record {
   homes = λ at c e. subst (λ (p : Path). LeadsTo c.channel.home p) (sym k.path) (s.homes at c (ap (λ (g : List NamedChannel). slice_get g at) (sym k.given) ∙ e));
   serials = λ at c e h. subst (λ (n : ℕ). c.channel.serial < n) (sym k.made) (s.serials at c (ap (λ (g : List NamedChannel). slice_get g at) (sym k.given) ∙ e) (h ∙ k.path));
   root = λ e. k.given ∙ s.root (sym k.path ∙ e);
+  fitting = (k.fitting s.fitting).0;
 }

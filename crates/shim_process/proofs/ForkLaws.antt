@@ -20,7 +20,9 @@ use Rattle.shim_process.proofs.ForkPlaces.{carried_within}
 use Rattle.shim_process.proofs.ForkKeeps.{Keeps, shares_kept, kept_sound}
 use Rattle.shim_process.proofs.ForkLending.{as_many, Lends, lends_one, lends_all}
 use Rattle.shim_process.proofs.ForkParts.{Parts, parts_of, parent_stands, branches_there, each_child}
-use Rattle.shim_process.proofs.ForkBorn.{born_in_branches}
+use Rattle.shim_process.proofs.ForkBorn.{IsParent, born_in_branches}
+use Rattle.shim_process.proofs.ForkArguments.{AllMatch, fork_matches}
+use Rattle.shim_process.proofs.FittingEnds.{HasParameters, GoesFitting}
 use Rattle.shim_process.proofs.ForkCounts.{bit, state_carries, child_carried, count_children, carries_balanced, output_balanced}
 use Rattle.shim_process.proofs.ChildCarried.{child_carries}
 use Rattle.shim_process.proofs.ChildSound.{below, child_sound, child_shares, child_given}
@@ -42,11 +44,15 @@ lends_keeps l m w = record {
       subst (λ (n : ℕ). FramesBelow n (m.frame ∷ m.callers)) (sym w.base)
       (subst (λ (f : Frame). FramesBelow l.base (f ∷ m.callers)) (sym w.frame) (subst (λ (fs : List Frame). FramesBelow l.base (l.frame ∷ fs)) (sym w.callers) h));
   places = w.owned;
+  fitting = λ h. (w.fitting h, record { many = w.many; channels = λ n below. w.channels n });
 }
 
 -- the number of forks is none of what is kept
+one_more_fits : (l m : LocalState) (n : ℕ) → GoesFitting l m → GoesFitting l (record m { forks = n })
+one_more_fits l m n w = (w.0, record { many = w.1.many; channels = w.1.channels })
+
 one_fork_more : (l m : LocalState) (n : ℕ) → Keeps l m → Keeps l (record m { forks = n })
-one_fork_more l m n k = record { path = k.path; base = k.base; made = k.made; given = k.given; frames = k.frames; places = k.places }
+one_fork_more l m n k = record { path = k.path; base = k.base; made = k.made; given = k.given; frames = k.frames; places = k.places; fitting = λ h. one_more_fits l m n (k.fitting h) }
 
 fork_keeps : (l p : LocalState) (ks : List LocalState) → Forks process_ops l p ks → Keeps l p
 fork_keeps l p ks h =
@@ -61,6 +67,9 @@ parent_path l p ks s at e = (fork_keeps l p ks (at, e)).path
 
 pub parent_base : (l p : LocalState) (ks : List LocalState) → Sound l → stop l ≡ AtFork → fork l ≡ Parted p ks → p.base ≡ l.base
 parent_base l p ks s at e = (fork_keeps l p ks (at, e)).base
+
+pub parent_parameters : (l p : LocalState) (ks : List LocalState) → Sound l → stop l ≡ AtFork → fork l ≡ Parted p ks → HasParameters l p
+parent_parameters l p ks s at e = ((fork_keeps l p ks (at, e)).fitting s.fitting).1
 
 pub parent_given : (l p : LocalState) (ks : List LocalState) → Sound l → stop l ≡ AtFork → fork l ≡ Parted p ks → p.given ≡ l.given
 parent_given l p ks s at e = (fork_keeps l p ks (at, e)).given
@@ -81,11 +90,18 @@ fork_handlers l p ks s h =
 
 -- the children
 
+lending_sound : (m : LocalState) (b : UBranch) → Sound m → Sound (lending m b)
+lending_sound m b s = kept_sound m (lending m b) (lends_keeps m (lending m b) (lends_one m b)) s
+
+all_sound : (m : LocalState) (i : ℕ) (bs : List UBranch) (given : List (List Argument)) → Sound m → AllMatch m.frame.slots m.program bs given → AllOf Sound (children_from m i bs given)
+all_sound m i [] given s match = tt
+all_sound m i (b ∷ bs) [] s match = tt
+all_sound m i (b ∷ bs) (g ∷ gs) s match = (child_sound m i b g s match.0.many, all_sound (lending m b) (i + 1) bs gs (lending_sound m b s) match.1)
+
 pub fork_sound : (l p : LocalState) (ks : List LocalState) → Sound l → Forks process_ops l p ks → AllOf Sound ks
 fork_sound l p ks s h =
     let w : Parts l p ks = parts_of l p ks h in
-    subst (AllOf Sound) (sym w.children_are)
-    (each_child Sound Sound (λ m b sm. kept_sound m (lending m b) (lends_keeps m (lending m b) (lends_one m b)) sm) (λ m i b g sm. child_sound m i b g sm) l 0 (branches l) w.given s)
+    subst (AllOf Sound) (sym w.children_are) (all_sound l 0 (branches l) w.given s (fork_matches l w.given s.fitting w.computed))
 
 pub fork_some : (l p : LocalState) (ks : List LocalState) → Sound l → Forks process_ops l p ks → ks ≢ []
 fork_some l p ks s h none =
@@ -98,15 +114,18 @@ fork_born l p ks s h =
     let w : Parts l p ks = parts_of l p ks h in
     let m : LocalState = parent l (branches l) in
     let k : Lends l (all_lending l (branches l)) = lends_all l (branches l) in
-    let paths : l.path ≡ m.path = sym k.path in
-    let many : handlers l ≡ handlers m = sym (lends_handlers l (all_lending l (branches l)) k) in
-    let at : InBranches l.path (handlers l) l.forks 0 ks = subst (InBranches l.path (handlers l) l.forks 0) (sym w.children_are) (born_in_branches l 0 (branches l) w.given) in
+    let is_parent : IsParent l m = record {
+      path = sym k.path;
+      handlers = sym (lends_handlers l (all_lending l (branches l)) k);
+      slots = ap (λ (f : Frame). f.slots) (sym k.frame);
+      channels = λ n. sym (k.channels n);
+    } in
+    let places : InBranches m l.forks 0 (branches l) ks = subst (InBranches m l.forks 0 (branches l)) (sym w.children_are) (born_in_branches l m 0 (branches l) w.given is_parent (fork_matches l w.given s.fitting w.computed)) in
     subst (λ (n : LocalState). Born n ks) (sym w.parent_is) (record {
       fork = l.forks;
       last = refl;
       stands = parent_stands l m k.trap k.frame w.at;
-      each = ap length w.children_are ∙ (as_many l 0 (branches l) w.given w.suit ∙ ap (λ (f : Frame). length (item_branches f.todo)) (sym k.frame));
-      places = subst (λ (n : ℕ). InBranches m.path n l.forks 0 ks) many (subst (λ (q : Path). InBranches q (handlers l) l.forks 0 ks) paths at);
+      places = subst (λ (f : Frame). InBranches m l.forks 0 (item_branches f.todo) ks) (sym k.frame) places;
     })
 
 pub fork_children : (l p : LocalState) (ks : List LocalState) → Sound l → Forks process_ops l p ks → (f : ℕ) × AreChildren process_ops l.path (handlers l) f 0 ks

@@ -7,11 +7,14 @@ use Rattle.shim_units.specs.declared.unit.UBranch.{UBranch}
 use Rattle.shim_units.specs.declared.unit.Arg.{Arg}
 use Rattle.shim_units.specs.declared.unit.Arg.TheVariants.{Ref, Pass, Fresh}
 use Rattle.shim_process.specs.Values.{value}
-use Rattle.shim_process.specs.Locations.{Location, Locations, at_number, lend_at}
+use Rattle.shim_process.specs.Locations.{Location, Locations, at_number, channel_at, lend_at}
 use Rattle.shim_process.specs.LocalState.{LocalState, unit_at, number_of, env_of, type_of}
 use Rattle.shim_process.specs.Arguments.{Argument, ByReference, ByCopy, ByValue, on_value, arguments}
 use Rattle.shim_process.specs.Forks.{lent, lending, all_lending, all_arguments, children_from}
+use Rattle.shim_process.specs.FittingFrames.{parameters_of, IsFitting}
 use Rattle.shim_process.specs.Sound.{IsOwned}
+use Rattle.shim_process.proofs.PlaceChannels.{lend_channel, lend_length}
+use Rattle.shim_process.proofs.FittingEnds.{fitting_over}
 use Rattle.shim_process.proofs.ForkPlaces.{IsOwn, Place, within_both, within_lent, kept_owned, kept_own}
 
 abbrev pub fine : {A : Type 0} → A → Result A Trap
@@ -81,6 +84,23 @@ pub record Lends (l m : LocalState) : Type 0 where
   pub owned : (n : ℕ) (y : Location) → at_number m.locations n ≡ Some y → Place IsOwned l.locations n y
   pub own : (n : ℕ) (y : Location) → at_number m.locations n ≡ Some y → Place IsOwn l.locations n y
   pub output : m.holds_output ≡ true → l.holds_output ≡ true
+  pub channels : (n : ℕ) → channel_at m.locations n ≡ channel_at l.locations n
+  pub many : parameters_of m ≡ parameters_of l
+  pub fitting : IsFitting l → IsFitting m
+
+lent_channel : (slots : List ℕ) (ps : List UParam) (args : List Arg) (xs : Locations) (n : ℕ) → channel_at (lent slots ps args xs) n ≡ channel_at xs n
+lent_channel slots [] args xs n = refl
+lent_channel slots (p ∷ ps) [] xs n = refl
+lent_channel slots (p ∷ ps) (Ref x ∷ rest) xs n = lent_channel slots ps rest (lend_at xs (number_of slots x)) n ∙ lend_channel xs (number_of slots x) n
+lent_channel slots (p ∷ ps) (Pass x ∷ rest) xs n = lent_channel slots ps rest xs n
+lent_channel slots (p ∷ ps) (Fresh v ∷ rest) xs n = lent_channel slots ps rest xs n
+
+lent_length : (slots : List ℕ) (ps : List UParam) (args : List Arg) (xs : Locations) → length (lent slots ps args xs) ≡ length xs
+lent_length slots [] args xs = refl
+lent_length slots (p ∷ ps) [] xs = refl
+lent_length slots (p ∷ ps) (Ref x ∷ rest) xs = lent_length slots ps rest (lend_at xs (number_of slots x)) ∙ lend_length xs (number_of slots x)
+lent_length slots (p ∷ ps) (Pass x ∷ rest) xs = lent_length slots ps rest xs
+lent_length slots (p ∷ ps) (Fresh v ∷ rest) xs = lent_length slots ps rest xs
 
 if_none : (b h : Bool) → cond b false h ≡ true → h ≡ true
 if_none true h e = absurd cc
@@ -98,6 +118,9 @@ lends_one l b = record {
   owned = within_lent IsOwned kept_owned l.frame.slots (unit_at l.program b.call.unit).params b.call.args l.locations;
   own = within_lent IsOwn kept_own l.frame.slots (unit_at l.program b.call.unit).params b.call.args l.locations;
   output = if_none _ l.holds_output;
+  channels = lent_channel l.frame.slots (unit_at l.program b.call.unit).params b.call.args l.locations;
+  many = refl;
+  fitting = fitting_over l.path l.program l.frame l.callers l.locations (lending l b).locations (lent_length l.frame.slots (unit_at l.program b.call.unit).params b.call.args l.locations);
 }
 
 pub lends_both : (l m k : LocalState) → Lends l m → Lends m k → Lends l k
@@ -112,6 +135,9 @@ lends_both l m k f g = record {
   owned = within_both IsOwned k.locations m.locations l.locations g.owned f.owned;
   own = within_both IsOwn k.locations m.locations l.locations g.own f.own;
   output = λ e. f.output (g.output e);
+  channels = λ n. g.channels n ∙ f.channels n;
+  many = g.many ∙ f.many;
+  fitting = λ h. g.fitting (f.fitting h);
 }
 
 pub lends_all : (l : LocalState) (bs : List UBranch) → Lends l (all_lending l bs)
@@ -126,5 +152,8 @@ lends_all l [] = record {
   owned = λ n y e. record { was = y; at = e; channel = refl; marked = λ h. h };
   own = λ n y e. record { was = y; at = e; channel = refl; marked = λ h. h };
   output = λ e. e;
+  channels = λ n. refl;
+  many = refl;
+  fitting = λ h. h;
 }
 lends_all l (b ∷ bs) = lends_both l (lending l b) (all_lending (lending l b) bs) (lends_one l b) (lends_all (lending l b) bs)

@@ -21,6 +21,7 @@ use Rattle.shim_process.proofs.ForkLending.{Suit, all_suit}
 -- the parent and the children of a fork that parted
 pub record Parts (l p : LocalState) (ks : List LocalState) : Type 0 where
   pub given : List (List Argument)
+  pub computed : all_arguments l (item_branches l.frame.todo) ≡ Ok given
   pub suit : Suit l.frame.slots l.program (item_branches l.frame.todo) given
   pub parent_is : p ≡ parent l (item_branches l.frame.todo)
   pub children_are : ks ≡ children_from l 0 (item_branches l.frame.todo) given
@@ -57,6 +58,7 @@ parts_of l p ks h =
     let w = fork_parts l p ks h.1 in
     record {
       given = w.0;
+      computed = w.1;
       suit = all_suit l (item_branches l.frame.todo) w.0 w.1;
       parent_is = w.2;
       children_are = w.3;

@@ -4,17 +4,20 @@ use Rattle.std.proofs.lemmas.Bool.{or_cases}
 use Rattle.std.specs.Prelude.{slice_get}
 use Rattle.shim_base.specs.Paths.{Channel, NamedChannel}
 use Rattle.shim_local.specs.Laws.{AllOf, AnyOf}
+use Rattle.shim_units.specs.declared.unit.UBranch.{UBranch}
 use Rattle.shim_process.specs.Locations.{Location, Own, at_number}
 use Rattle.shim_process.specs.Todo.{On}
 use Rattle.shim_process.specs.LocalState.{LocalState, handlers}
 use Rattle.shim_process.specs.Ends.{gone}
-use Rattle.shim_process.specs.Forks.{item_branches, output_back, joined, join}
+use Rattle.shim_process.specs.FittingFrames.{IsFitting}
+use Rattle.shim_process.specs.Forks.{item_branches, all_back, output_back, joined, join}
 use Rattle.shim_process.specs.Sharers.{shares, carries}
 use Rattle.shim_process.specs.Sound.{LeadsTo, IsOwned, FramesBelow, Sound}
 use Rattle.shim_process.specs.Born.{Born}
 use Rattle.shim_process.proofs.CarryChannels.{shares_same, Carried, carried_at, carries_at}
 use Rattle.shim_process.proofs.LabelFrames.{HasLeft, gone_left, none_left}
-use Rattle.shim_process.proofs.JoinLocations.{Kept, same_ownership, came_back, OneCarries, all_kept, kept_owned, kept_channel}
+use Rattle.shim_process.proofs.FittingEnds.{HasParameters, GoesFitting, then_fitting, fitting_over, gone_fitting}
+use Rattle.shim_process.proofs.JoinLocations.{Kept, same_ownership, came_back, OneCarries, all_channel, all_length, all_kept, kept_owned, kept_channel}
 use Rattle.shim_base.proofs.Facts.{choose}
 
 -- one of the children has the output
@@ -30,6 +33,7 @@ pub record Joined (l : LocalState) (ks : List LocalState) (m : LocalState) : Typ
   pub output : m.holds_output ≡ true → (l.holds_output ≡ true) ⊎ OneHolds ks
   pub kept : (n : ℕ) (x : Location) → at_number m.locations n ≡ Some x → Kept (OneCarries ks) l.locations n x
   pub labels : FramesBelow l.base (m.frame ∷ m.callers)
+  pub fitting : GoesFitting l m
 
 output_kept : (ks : List LocalState) (holds : Bool) → output_back ks holds ≡ true → (holds ≡ true) ⊎ OneHolds ks
 output_kept [] holds e = inl e
@@ -39,22 +43,37 @@ output_kept (k ∷ ks) holds e = elim (output_kept ks (k.holds_output || holds) 
 ]
 
 -- and units may be left then
-left_joined : (l : LocalState) (ks : List LocalState) (m : LocalState) → HasLeft l.base (joined l ks) m → Joined l ks m
-left_joined l ks m h = record {
+left_joined : (l : LocalState) (ks : List LocalState) (m : LocalState) → Born l ks → HasLeft l.base (joined l ks) m → GoesFitting l m → Joined l ks m
+left_joined l ks m born h fitting = record {
   path = h.path;
   base = h.base;
   made = h.made;
   given = h.given;
   output = λ e. output_kept ks l.holds_output (sym h.output ∙ e);
-  kept = λ n x e. all_kept l.frame.slots (item_branches l.frame.todo) ks l.locations n x (h.at n x e);
+  kept = λ n x e. all_kept l born.fork 0 (item_branches l.frame.todo) ks l.locations n x born.places (λ j. refl) (h.at n x e);
   labels = h.labels;
+  fitting = fitting;
 }
 
-pub join_joined : (l : LocalState) (ks : List LocalState) (goes_on : Bool) → Sound l → Joined l ks (join l ks goes_on)
+joined_fitting : (l : LocalState) (ks : List LocalState) → IsFitting l → GoesFitting l (joined l ks)
+joined_fitting l ks h =
+    let bs : List UBranch = item_branches l.frame.todo in (
+      fitting_over l.path l.program l.frame l.callers l.locations (all_back l.frame.slots bs ks l.locations) (all_length l.frame.slots bs ks l.locations) h,
+      record { many = refl; channels = λ n below. all_channel l.frame.slots bs ks l.locations n },
+    )
+
+join_fitting : (l : LocalState) (ks : List LocalState) (goes_on : Bool) → IsFitting l → GoesFitting l (join l ks goes_on)
 unfolding join
-join_joined l ks goes_on s =
-    left_joined l ks (join l ks goes_on)
+join_fitting l ks goes_on h =
+    let w : GoesFitting l (joined l ks) = joined_fitting l ks h in
+    choose (λ (z : LocalState). GoesFitting l z) goes_on (gone On (joined l ks)) (joined l ks) (then_fitting l (joined l ks) (gone On (joined l ks)) w.1 (gone_fitting On (joined l ks) w.0)) w
+
+pub join_joined : (l : LocalState) (ks : List LocalState) (goes_on : Bool) → Sound l → Born l ks → Joined l ks (join l ks goes_on)
+unfolding join
+join_joined l ks goes_on s born =
+    left_joined l ks (join l ks goes_on) born
     (choose (HasLeft l.base (joined l ks)) goes_on (gone On (joined l ks)) (joined l ks) (gone_left l.base On (joined l ks) s.labels) (none_left l.base (joined l ks) s.labels))
+    (join_fitting l ks goes_on s.fitting)
 
 joined_shares : (l : LocalState) (ks : List LocalState) (m : LocalState) (c : Channel) → Joined l ks m → shares m c ≡ shares l c
 joined_shares l ks m c h = shares_same l m c h.path h.given h.made
@@ -83,6 +102,7 @@ joined_sound l ks m s h = record {
       let made = h.made in
       omega (arith, below, made);
   root = λ e. h.given ∙ s.root (sym h.path ∙ e);
+  fitting = h.fitting.0;
 }
 
 kept_carries : (l : LocalState) (ks : List LocalState) (n : ℕ) (x : Location) (c : Channel) → Kept (OneCarries ks) l.locations n x → x.ownership ≡ Own → x.channel.channel ≡ c
@@ -91,16 +111,19 @@ kept_carries l ks n x c (same_ownership w) own on = inl (carries_at l c n w.loca
 kept_carries l ks n x c (came_back y there channel lent own away) ownership on = inr (subst (OneCarries ks) on away)
 
 pub join_sound : (l : LocalState) (ks : List LocalState) (goes_on : Bool) → Sound l → AllOf Sound ks → Born l ks → Sound (join l ks goes_on)
-join_sound l ks goes_on s all born = joined_sound l ks (join l ks goes_on) s (join_joined l ks goes_on s)
+join_sound l ks goes_on s all born = joined_sound l ks (join l ks goes_on) s (join_joined l ks goes_on s born)
 
 pub join_path : (l : LocalState) (ks : List LocalState) (goes_on : Bool) → Sound l → AllOf Sound ks → Born l ks → (join l ks goes_on).path ≡ l.path
-join_path l ks goes_on s all born = (join_joined l ks goes_on s).path
+join_path l ks goes_on s all born = (join_joined l ks goes_on s born).path
 
 pub join_base : (l : LocalState) (ks : List LocalState) (goes_on : Bool) → Sound l → AllOf Sound ks → Born l ks → (join l ks goes_on).base ≡ l.base
-join_base l ks goes_on s all born = (join_joined l ks goes_on s).base
+join_base l ks goes_on s all born = (join_joined l ks goes_on s born).base
 
 pub join_given : (l : LocalState) (ks : List LocalState) (goes_on : Bool) → Sound l → AllOf Sound ks → Born l ks → (join l ks goes_on).given ≡ l.given
-join_given l ks goes_on s all born = (join_joined l ks goes_on s).given
+join_given l ks goes_on s all born = (join_joined l ks goes_on s born).given
+
+pub join_parameters : (l : LocalState) (ks : List LocalState) (goes_on : Bool) → Sound l → AllOf Sound ks → Born l ks → HasParameters l (join l ks goes_on)
+join_parameters l ks goes_on s all born = (join_joined l ks goes_on s born).fitting.1
 
 -- the process still stands at the fork
 pub join_handlers : (l : LocalState) (ks : List LocalState) → Sound l → AllOf Sound ks → Born l ks → handlers (join l ks false) ≡ handlers l
@@ -108,14 +131,14 @@ unfolding join
 join_handlers l ks s all born = refl
 
 pub join_shares : (l : LocalState) (ks : List LocalState) (goes_on : Bool) (c : Channel) → Sound l → AllOf Sound ks → Born l ks → shares (join l ks goes_on) c ≡ shares l c
-join_shares l ks goes_on c s all born = joined_shares l ks (join l ks goes_on) c (join_joined l ks goes_on s)
+join_shares l ks goes_on c s all born = joined_shares l ks (join l ks goes_on) c (join_joined l ks goes_on s born)
 
 pub join_carries : (l : LocalState) (ks : List LocalState) (goes_on : Bool) (c : Channel) → Sound l → AllOf Sound ks → Born l ks → carries (join l ks goes_on) c ≡ true
     → (carries l c ≡ true) ⊎ OneCarries ks c
 join_carries l ks goes_on c s all born e =
     let w : Carried (join l ks goes_on).locations c = carried_at (join l ks goes_on) c e in
-    kept_carries l ks w.number w.location c ((join_joined l ks goes_on s).kept w.number w.location w.there) w.ownership w.channel
+    kept_carries l ks w.number w.location c ((join_joined l ks goes_on s born).kept w.number w.location w.there) w.ownership w.channel
 
 pub join_holds : (l : LocalState) (ks : List LocalState) (goes_on : Bool) → Sound l → AllOf Sound ks → Born l ks → (join l ks goes_on).holds_output ≡ true
     → (l.holds_output ≡ true) ⊎ OneHolds ks
-join_holds l ks goes_on s all born e = (join_joined l ks goes_on s).output e
+join_holds l ks goes_on s all born e = (join_joined l ks goes_on s born).output e

@@ -2,6 +2,13 @@
 pub mod TodoItems
 pub mod PlaceRoot
 pub mod PlaceLocations
+pub mod PlaceChannels
+pub mod FittingItems
+pub mod FittingFrames
+pub mod FittingEnds
+pub mod CallSlots
+pub mod FittingActions
+pub mod FittingSteps
 pub mod CallLocations
 pub mod CarryChannels
 pub mod LabelFrames
@@ -18,6 +25,9 @@ pub mod ForkNames
 pub mod ForkPlaces
 pub mod ForkKeeps
 pub mod ForkLending
+pub mod ChildChannels
+pub mod ChildFitting
+pub mod ForkArguments
 pub mod ChildPlaces
 pub mod ChildGiven
 pub mod ChildCarried

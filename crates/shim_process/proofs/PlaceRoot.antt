@@ -2,10 +2,14 @@
 use Rattle.std.proofs.Common.{◌≡◌, ℕ, ◌+◌, ◌≤◌, inl, inr, Bool, true, false, List, [], ◌∷◌, length, refl, arith}
 use Rattle.shim_base.specs.Paths.{Channel}
 use Rattle.shim_units.specs.declared.form.Form.{Form}
+use Rattle.shim_units.specs.declared.unit.Unit.{Unit as UnitOf}
 use Rattle.shim_process.specs.LocalState.{unit_at}
 use Rattle.shim_process.specs.Forks.{labels_from, root}
 use Rattle.shim_process.specs.Sharers.{shares}
+use Rattle.shim_process.specs.OwnSlots.{UsesOwnSlots}
+use Rattle.shim_process.specs.FittingFrames.{IsFitting}
 use Rattle.shim_process.specs.Sound.{LabelsBelow, Sound}
+use Rattle.shim_process.proofs.FittingItems.{body_fits}
 use Rattle.shim_process.proofs.PlaceLocations.{at_empty}
 use Rattle.shim_process.proofs.CarryChannels.{shares_how}
 
@@ -13,9 +17,24 @@ labels_below : (bound first : ℕ) (names : List ℕ) → first + length names �
 labels_below bound first [] h = tt
 labels_below bound first (x ∷ names) h = (omega (arith, h), labels_below bound (first + 1) names (omega (arith, h)))
 
-pub root_sound : (program : Form) (input : List ℕ) → Sound (root program input)
+pub root_fitting : (program : Form) (input : List ℕ) → UsesOwnSlots program → IsFitting (root program input)
 unfolding root
-root_sound program input = record {
+root_fitting program input uses =
+    let u : UnitOf = unit_at program program.main in
+    record {
+      uses = uses;
+      fit = record {
+        todo = body_fits program u u.body 0 (uses program.main);
+        places = tt;
+        slots = λ x own. (omega arith, omega arith);
+      };
+      long = omega arith;
+      floor = omega arith;
+    }
+
+pub root_sound : (program : Form) (input : List ℕ) → UsesOwnSlots program → Sound (root program input)
+unfolding root
+root_sound program input uses = record {
   base = omega arith;
   labels = (labels_below ((1 + length program.main_throws) + 0) 1 program.main_throws (omega arith), tt);
   channels = λ n x e. absurd (at_empty (unit_at program program.main).slots n x e);
@@ -23,6 +42,7 @@ root_sound program input = record {
   homes = λ at c e. absurd (cc);
   serials = λ at c e home. absurd (cc);
   root = λ e. refl;
+  fitting = root_fitting program input uses;
 }
 
 by_answer : (program : Form) (input : List ℕ) (c : Channel) (b : Bool) → shares (root program input) c ≡ b → b ≡ false

@@ -21,6 +21,8 @@ use Rattle.shim_process.specs.Sound.{LabelsBelow, Sound}
 use Rattle.shim_process.proofs.PlaceLocations.{was_there, at_store, at_set, at_append, at_empty}
 use Rattle.shim_process.proofs.CallLocations.{place_of, Passed, by_copy, by_value, at_passed}
 use Rattle.shim_process.proofs.LabelFrames.{settled_left, gone_left, half_left, trapped_left, none_left, passed_below}
+use Rattle.shim_process.proofs.FittingEnds.{GoesFitting}
+use Rattle.shim_process.proofs.FittingSteps.{action_fitting}
 use Rattle.shim_process.proofs.QuietKeeps.{From, as_was, as_copy, as_new, Changed, Keeps, keeps}
 use Rattle.shim_base.proofs.Facts.{some_same, choose}
 
@@ -107,13 +109,13 @@ behind_changed l u given f fs s = record {
   from = λ n x e. from_behind l u given n x s e;
 }
 
-call_keeps : (unit : ℕ) (given : List Argument) (labels : List ℕ) (l : LocalState) → Sound l → LabelsBelow (handlers l) labels → Keeps l (called unit given labels l)
+call_keeps : (unit : ℕ) (given : List Argument) (labels : List ℕ) (l : LocalState) → Sound l → LabelsBelow (handlers l) labels → GoesFitting l (called unit given labels l) → Keeps l (called unit given labels l)
 unfolding called pushed
-call_keeps unit given labels l s h =
+call_keeps unit given labels l s h w =
     let u : UnitOf = unit_at l.program unit in
     let f : Frame = entered u unit (call_slots (length l.locations) given (declared_slots u)) labels (length l.locations) (l.frame.outer + length l.frame.places) in
     let m : LocalState = behind l u given f (l.frame ∷ l.callers) in
-    keeps l m (settled (l.frame ∷ l.callers) f m) (behind_changed l u given f (l.frame ∷ l.callers) s) (settled_left l.base (l.frame ∷ l.callers) f m (h, s.labels))
+    keeps l m (settled (l.frame ∷ l.callers) f m) (behind_changed l u given f (l.frame ∷ l.callers) s) (settled_left l.base (l.frame ∷ l.callers) f m (h, s.labels)) w
 
 -- a called unit is given labels of places in force
 abbrev Fits : LocalState → Action → Type 0
@@ -151,19 +153,19 @@ next_fits : (l : LocalState) → Sound l → Fits l (next_action l)
 unfolding next_action
 next_fits l s = stmt_fits (next_stmt l.frame.todo) l s
 
-done_keeps : (d : Action) (l : LocalState) → Sound l → Fits l d → Keeps l (done d l)
-done_keeps (Go successor) l s h = keeps l l (gone successor l) (unchanged l) (gone_left l.base successor l s.labels)
-done_keeps (Store x v) l s h = keeps l (stored_in x v l) (gone On (stored_in x v l)) (store_changed l x v) (gone_left l.base On (stored_in x v l) s.labels)
-done_keeps (StoreFirst x v) l s h = keeps l (stored_in x v l) (record (stored_in x v l) { frame = half l.frame }) (store_changed l x v) (half_left l.base (stored_in x v l) s.labels)
-done_keeps (Make t x v) l s h = keeps l (made_in t x v l) (gone On (made_in t x v l)) (make_changed l t x v) (gone_left l.base On (made_in t x v l) s.labels)
-done_keeps (Read x) l s h = keeps l (read_in x l) (gone On (read_in x l)) (read_changed l x) (gone_left l.base On (read_in x l) s.labels)
-done_keeps (Enter unit given labels) l s h = call_keeps unit given labels l s h
-done_keeps (Install x name) l s h =
+done_keeps : (d : Action) (l : LocalState) → Sound l → Fits l d → GoesFitting l (done d l) → Keeps l (done d l)
+done_keeps (Go successor) l s h w = keeps l l (gone successor l) (unchanged l) (gone_left l.base successor l s.labels) w
+done_keeps (Store x v) l s h w = keeps l (stored_in x v l) (gone On (stored_in x v l)) (store_changed l x v) (gone_left l.base On (stored_in x v l) s.labels) w
+done_keeps (StoreFirst x v) l s h w = keeps l (stored_in x v l) (record (stored_in x v l) { frame = half l.frame }) (store_changed l x v) (half_left l.base (stored_in x v l) s.labels) w
+done_keeps (Make t x v) l s h w = keeps l (made_in t x v l) (gone On (made_in t x v l)) (make_changed l t x v) (gone_left l.base On (made_in t x v l) s.labels) w
+done_keeps (Read x) l s h w = keeps l (read_in x l) (gone On (read_in x l)) (read_changed l x) (gone_left l.base On (read_in x l) s.labels) w
+done_keeps (Enter unit given labels) l s h w = call_keeps unit given labels l s h w
+done_keeps (Install x name) l s h w =
     let k : LocalState = record l { frame = installed x name l.frame } in
-    keeps l k (gone First k) (arm_changed l x name) (gone_left l.base First k s.labels)
-done_keeps (Trapped t) l s h = keeps l l (trapped t (line_of l.frame.todo) l) (unchanged l) (trapped_left l.base t (line_of l.frame.todo) l s.labels)
-done_keeps Wait l s h = keeps l l l (unchanged l) (none_left l.base l s.labels)
+    keeps l k (gone First k) (arm_changed l x name) (gone_left l.base First k s.labels) w
+done_keeps (Trapped t) l s h w = keeps l l (trapped t (line_of l.frame.todo) l) (unchanged l) (trapped_left l.base t (line_of l.frame.todo) l s.labels) w
+done_keeps Wait l s h w = keeps l l l (unchanged l) (none_left l.base l s.labels) w
 
 pub quiet_keeps : (l : LocalState) → Sound l → Keeps l (quiet l)
 unfolding quiet
-quiet_keeps l s = done_keeps (next_action l) l s (next_fits l s)
+quiet_keeps l s = done_keeps (next_action l) l s (next_fits l s) (action_fitting l s.fitting)

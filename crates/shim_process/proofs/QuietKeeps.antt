@@ -9,6 +9,7 @@ use Rattle.shim_process.specs.Sound.{LeadsTo, IsOwned, FramesBelow, Sound}
 use Rattle.shim_process.proofs.PlaceLocations.{Was}
 use Rattle.shim_process.proofs.CarryChannels.{shares_more, shares_new, shares_made, shares_how, Carried, carried_at, carries_at}
 use Rattle.shim_process.proofs.LabelFrames.{HasLeft}
+use Rattle.shim_process.proofs.FittingEnds.{GoesFitting}
 
 -- What a location was before: the same, or one that is made, of an older channel or of a new one. The new channels are those from l's count on to this one, and each has a place.
 pub data From (l : LocalState) (made : ℕ) (place : ℕ → ℕ) (n : ℕ) (x : Location) : Type 0 where
@@ -30,10 +31,11 @@ pub record Changed (l m : LocalState) : Type 0 where
 pub record Keeps (l m : LocalState) : Type 0 where
   pub changed : Changed l m
   pub labels : FramesBelow l.base (m.frame ∷ m.callers)
+  pub fitting : GoesFitting l m
 
 -- a change, and then units left
-pub keeps : (l k m : LocalState) → Changed l k → HasLeft l.base k m → Keeps l m
-keeps l k m c e = record {
+pub keeps : (l k m : LocalState) → Changed l k → HasLeft l.base k m → GoesFitting l m → Keeps l m
+keeps l k m c e fitting = record {
   changed = record {
     path = e.path ∙ c.path;
     base = e.base ∙ c.base;
@@ -44,6 +46,7 @@ keeps l k m c e = record {
     from = λ n x there. subst (λ made. From l made c.place n x) (sym e.made) (c.from n x (e.at n x there));
   };
   labels = e.labels;
+  fitting = fitting;
 }
 
 -- a channel of the process's own that it shares is one that it made
@@ -101,6 +104,7 @@ keeps_sound l m s k =
           let more = c.made in
           omega (arith, below, more);
       root = λ e. c.given ∙ s.root (sym c.path ∙ e);
+      fitting = k.fitting.0;
     }
 
 pub keeps_shares : (l m : LocalState) (c : Channel) → Keeps l m → shares l c ≡ true → shares m c ≡ true

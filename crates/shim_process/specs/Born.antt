@@ -1,20 +1,38 @@
 -- Processes in the places of the children of a process's last fork.
 use Rattle.std.specs.Prelude.{◌≡◌, ℕ, ◌+◌, List, [], ◌∷◌, ◌++◌, length}
-use Rattle.shim_base.specs.Paths.{Path}
 use Rattle.shim_local.specs.Process.{AtFork}
-use Rattle.shim_process.specs.LocalState.{LocalState, handlers}
+use Rattle.shim_units.specs.declared.unit.Arg.{Arg}
+use Rattle.shim_units.specs.declared.unit.Arg.TheVariants.{Ref, Pass, Fresh}
+use Rattle.shim_units.specs.declared.unit.UBranch.{UBranch}
+use Rattle.shim_process.specs.Locations.{Locations, channel_at}
+use Rattle.shim_process.specs.LocalState.{LocalState, number_of, handlers}
+use Rattle.shim_process.specs.FittingFrames.{parameters_of}
 use Rattle.shim_process.specs.Forks.{item_branches}
 use Rattle.shim_process.specs.Stops.{stop}
 
--- these are in the branches from place i on of the fork of number f of the process with this path, which has so many exception places in force
-abbrev pub InBranches : Path → ℕ → ℕ → ℕ → List LocalState → Type 0
-InBranches path base f i [] = Unit {0}
-InBranches path base f i (k ∷ ks) = (k.path ≡ path ++ (f, i) ∷ []) × (k.base ≡ base) × InBranches path base f (i + 1) ks
+-- A variable that an argument gives, by reference or as a copy, has a location in the child, on the channel of that of the parent. The child's first locations are those of its parameters, in order; the first argument's has this number.
+abbrev pub OnChannels : List ℕ → ℕ → List Arg → Locations → Locations → Type 0
+OnChannels slots n [] child locations = Unit {0}
+OnChannels slots n (Ref x ∷ rest) child locations = (channel_at child n ≡ channel_at locations (number_of slots x)) × OnChannels slots (n + 1) rest child locations
+OnChannels slots n (Pass x ∷ rest) child locations = (channel_at child n ≡ channel_at locations (number_of slots x)) × OnChannels slots (n + 1) rest child locations
+OnChannels slots n (Fresh e ∷ rest) child locations = OnChannels slots (n + 1) rest child locations
 
--- The process stands at its last fork. These have the places and the bases of its children there, in order, each after any calls, and there is one for each branch.
+-- This is in the branch at place i of the fork of number f. It has a parameter for each of the branch's arguments, on the channels of those that are variables.
+pub record InBranch (l : LocalState) (f i : ℕ) (b : UBranch) (k : LocalState) : Type 0 where
+  pub path : k.path ≡ l.path ++ (f, i) ∷ []
+  pub base : k.base ≡ handlers l
+  pub many : parameters_of k ≡ length b.call.args
+  pub channels : OnChannels l.frame.slots 0 b.call.args k.locations l.locations
+
+-- these are in these branches, of which the first has this place, one in each
+abbrev pub InBranches : LocalState → ℕ → ℕ → List UBranch → List LocalState → Type 0
+InBranches l f i [] [] = Unit {0}
+InBranches l f i (b ∷ branches) (k ∷ ks) = InBranch l f i b k × InBranches l f (i + 1) branches ks
+InBranches _ _ _ _ _ = ⊥
+
+-- The process stands at its last fork, and these are in its branches in order, each after any calls.
 pub record Born (l : LocalState) (ks : List LocalState) : Type 0 where
   pub fork : ℕ
   pub last : l.forks ≡ fork + 1
   pub stands : stop l ≡ AtFork
-  pub each : length ks ≡ length (item_branches l.frame.todo)
-  pub places : InBranches l.path (handlers l) fork 0 ks
+  pub places : InBranches l fork 0 (item_branches l.frame.todo) ks

@@ -11,6 +11,8 @@ pub mod Stops
 pub mod Forks
 pub mod Unwinding
 pub mod Sharers
+pub mod OwnSlots
+pub mod FittingFrames
 pub mod Sound
 pub mod Born
 pub mod Ops

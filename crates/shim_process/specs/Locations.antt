@@ -30,6 +30,15 @@ flattened (Some l) = l
 unfoldable pub at_number : Locations → ℕ → Option Location
 at_number locations n = flattened (slice_get locations n)
 
+-- the channel of a location that is there
+abbrev pub channel_in : Option Location → Option NamedChannel
+channel_in None = None
+channel_in (Some l) = Some l.channel
+
+-- the channel on which the location of this number is
+abbrev pub channel_at : Locations → ℕ → Option NamedChannel
+channel_at locations n = channel_in (at_number locations n)
+
 -- what it holds; a variable in scope has a location, so that the 0 is never asked for
 abbrev pub number_in : Option Location → ℤ
 number_in None = pos 0
@@ -85,9 +94,9 @@ lend_at locations n = slice_set locations n (with_kept (at_number locations n))
 abbrev pub is_on : Channel → Location → Bool
 is_on c l = same_channel l.channel.channel c
 
--- The value comes back from the child's location, where that is still on the same channel, and the ownership if it was lent.
+-- the value comes back from the child's location, and the ownership if it was lent
 abbrev pub with_back : Option Location → Option Location → Option Location
-with_back (Some back) (Some l) = if is_on l.channel.channel back then Some (record l { value = back.value; ownership = regained back.ownership l.ownership }) else Some l
+with_back (Some back) (Some l) = Some (record l { value = back.value; ownership = regained back.ownership l.ownership })
 with_back _ l = l
 
 -- the first location that is the channel's own variable

@@ -4,6 +4,7 @@ use Rattle.shim_base.specs.Paths.{Path, NamedChannel}
 use Rattle.shim_process.specs.Locations.{Location, Ownership, Own, Lent, Copy, at_number}
 use Rattle.shim_process.specs.LocalState.{LocalState, Frame}
 use Rattle.shim_process.specs.Sharers.{shares}
+use Rattle.shim_process.specs.FittingFrames.{IsFitting}
 
 -- the first path leads to the second, or is it
 abbrev pub LeadsTo : Path → Path → Type 0
@@ -37,3 +38,5 @@ pub record Sound (l : LocalState) : Type 0 where
   pub serials : (at : ℕ) (c : NamedChannel) → slice_get l.given at ≡ Some c → c.channel.home ≡ l.path → c.channel.serial < l.made
   -- a root was given no channels
   pub root : l.path ≡ [] → l.given ≡ []
+  -- its program's units use slots of their own, so that what it declares is behind the locations of its parameters
+  pub fitting : IsFitting l

@@ -6,6 +6,7 @@ ghost use Rattle.shim_units.specs.declared.form.Form.{Form};
 ghost use Rattle.shim_process.specs.Forks.{root};
 ghost use Rattle.shim_process.specs.Sharers.{shares};
 ghost use Rattle.shim_process.specs.Ops.{process_ops};
+ghost use Rattle.shim_process.specs.OwnSlots.{UsesOwnSlots};
 ghost use Rattle.shim_process.specs.Sound.{Sound};
 
 /// What holds of every kind of process holds of that which the definition describes.
@@ -14,9 +15,9 @@ pub fn process_obeys_the_laws()
 {}
 
 /// The state in which the process that runs `main` begins has what all states have that a process comes
-/// to.
+/// to, where the units of the program use slots of their own, as those of each accepted program do.
 pub fn root_is_sound()
-    ensures { (program : Form) (input : List ℕ) → Sound (root program input) }
+    ensures { (program : Form) (input : List ℕ) → UsesOwnSlots program → Sound (root program input) }
 {}
 
 /// The process that runs `main` shares no channel at first: it was given none and made none.

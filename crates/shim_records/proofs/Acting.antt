@@ -1,4 +1,4 @@
--- A process has done anything by itself: the ways up that were gone bring all counts up to date.
+-- A process has done anything by itself: the ways up that were walked bring all counts up to date.
 use Rattle.std.proofs.Common.{◌≡◌, ◌≢◌, ◌≤◌, inl, inr, ℕ, true, false, Option, Some, List, [], ◌++◌, map, length, refl, sym, ap, subst, ◌∙◌}
 use Rattle.std.proofs.lemmas.List.{append-nil}
 use Rattle.shim_base.specs.Paths.{Path, Channel}
@@ -11,11 +11,11 @@ use Rattle.shim_semantics.specs.Sound.{IsSound}
 use Rattle.shim_semantics.proofs.Replaced.{sound_at}
 use Rattle.shim_semantics.proofs.SoundEvents.{here_keeps}
 use Rattle.shim_laws_records.specs.Seen.{Sort, sort, seen, is_leaf, place}
-use Rattle.shim_laws_records.specs.Agrees.{Standing as Stands, Has, Shows}
+use Rattle.shim_laws_records.specs.Agrees.{RecordView, Has, Shows}
 use Rattle.shim_laws_records.specs.Places.{IsReplaced}
 use Rattle.shim_laws_records.specs.Counts.{Tally, Reading as Read, reading}
 use Rattle.shim_laws_records.specs.Tallied.{Tallied, OnTheWay, HaveCounts, is_above}
-use Rattle.shim_laws_records.specs.Climbing.{AreLinked, AreAtMost, Climbed, too_far, at_top, no_counts, stays, goes_on}
+use Rattle.shim_laws_records.specs.Updating.{AreLinked, AreAtMost, UpdatedAbove, too_far, at_top, no_counts, stays, goes_on}
 use Rattle.shim_laws_records.specs.Sufficing.{read_leaf}
 use Rattle.shim_laws_records.proofs.Way.{above_its_own}
 use Rattle.shim_laws_records.proofs.Brought.{counts_follow}
@@ -27,7 +27,7 @@ use Rattle.shim_records.specs.Acted.{acting, ActedBrings}
 use Rattle.shim_records.proofs.ManyWays.{rest_same, others, its_way, among_or_not}
 use Rattle.shim_records.proofs.ReadOff.{same_stands}
 
-module _ {S : Type 0} (o : Ops S) (law : LocalLaws o) (rp : Path) (states : List S) (stands : List Stands) (up : ℕ → Option ℕ) (c : Channel) (old new m : Node S) (a : Acted S) (n x f : ℕ) (s : S) (k : Sort)
+module _ {S : Type 0} (o : Ops S) (law : LocalLaws o) (rp : Path) (states : List S) (stands : List RecordView) (up : ℕ → Option ℕ) (c : Channel) (old new m : Node S) (a : Acted S) (n x f : ℕ) (s : S) (k : Sort)
     (sound : IsSound o old) (shown : Shows o rp states stands new) (linked : AreLinked states stands up) (few : AreAtMost 4294967295 states stands)
     (has : Has states stands x f s k) (rep : IsReplaced (place o rp s) m a.node old new) (acts : act_here o m ≡ Some a) (leaf : is_leaf a.node ≡ true) where
   -- its state and sort are what the record says
@@ -62,7 +62,7 @@ module _ {S : Type 0} (o : Ops S) (law : LocalLaws o) (rp : Path) (states : List
       (counts_share o rp states stands new shown c counts have b.number b.first b.many b.parent y b.has (ap counts w.1 ∙ is))
 
   -- so nothing is done for it
-  nothing_done : {p : ℕ} {was is : Read} {before behind : ℕ → Option Tally} → Climbed up 4294967295 p before x was is behind → HaveCounts o rp states stands c before new → (r : Path) → c.home ≡ o.path s ++ r → behind ≡ before
+  nothing_done : {p : ℕ} {was is : Read} {before behind : ℕ → Option Tally} → UpdatedAbove up 4294967295 p before x was is behind → HaveCounts o rp states stands c before new → (r : Path) → c.home ≡ o.path s ++ r → behind ≡ before
   nothing_done (too_far before x was is) have r home = refl
   nothing_done (at_top p before x was is e) have r home = refl
   nothing_done (no_counts p before x j was is e none) have r home = refl
@@ -72,29 +72,29 @@ module _ {S : Type 0} (o : Ops S) (law : LocalLaws o) (rp : Path) (states : List
   abbrev pub Both : (ℕ → Option Tally) → Type 0
   Both counts = Tallied o rp states stands c counts new × HaveCounts o rp states stands c counts new
 
-  pub climbed_one : (before behind : ℕ → Option Tally) → length (place o rp s) ≤ n → o.shares s c ≡ true → HaveCounts o rp states stands c before new → OnTheWay o rp states stands c before old new (place o rp s)
-      → Climbed up 4294967295 n before x (acting o s c) (read_leaf o c s k) behind → Both behind
-  climbed_one before behind far shares have way climbed = elim (below_or_not (o.path s) c.home) [
-    | inl e ↦ subst Both (sym (nothing_done climbed have e.0 e.1)) ((counts_follow o law).own rp states stands c old new x f s k e.0 before shown has e.1 have way, have)
+  pub updated_one : (before behind : ℕ → Option Tally) → length (place o rp s) ≤ n → o.shares s c ≡ true → HaveCounts o rp states stands c before new → OnTheWay o rp states stands c before old new (place o rp s)
+      → UpdatedAbove up 4294967295 n before x (acting o s c) (read_leaf o c s k) behind → Both behind
+  updated_one before behind far shares have way updated = elim (below_or_not (o.path s) c.home) [
+    | inl e ↦ subst Both (sym (nothing_done updated have e.0 e.1)) ((counts_follow o law).own rp states stands c old new x f s k e.0 before shown has e.1 have way, have)
     | inr out ↦
-        (counts_follow o law).climbed rp states stands up c old new m a.node 4294967295 n x f s k (acting o s c) (read_leaf o c s k) before behind shown linked few has rep (was_read out) is_read far shares have way climbed
+        (counts_follow o law).updated rp states stands up c old new m a.node 4294967295 n x f s k (acting o s c) (read_leaf o c s k) before behind shown linked few has rep (was_read out) is_read far shares have way updated
   ]
 
 pub acted_brings : {S : Type 0} (o : Ops S) → LocalLaws o → ActedBrings o
 acted_brings {S} o law rp states rs behind old new m a n x f s k sound shown linked few has rep acts leaf far have way done = (rest, each)
   where
     rest : map rest_of behind ≡ map rest_of rs
-    rest = rest_same (acting o s) (λ c. read_leaf o c s k) n x done.climbed
+    rest = rest_same (acting o s) (λ c. read_leaf o c s k) n x done.updated
 
-    Right : List Stands → Channel → (ℕ → Option Tally) → Type 0
+    Right : List RecordView → Channel → (ℕ → Option Tally) → Type 0
     Right stands c counts = Tallied o rp states stands c counts new × HaveCounts o rp states stands c counts new
 
     brought : (c : Channel) → Right (map stands_of rs) c (counts_in c behind)
     brought c = elim (among_or_not c done.chans) [
       | inl g ↦
-          climbed_one o law rp states (map stands_of rs) (up_in rs) c old new m a n x f s k sound shown linked few has rep acts leaf (counts_in c rs) (counts_in c behind) far (done.shared c g) (have c) (way c)
-          (its_way (acting o s) (λ d. read_leaf o d s k) n x c done.climbed g).climbed
-      | inr out ↦ subst (Right (map stands_of rs) c) (sym (others (acting o s) (λ d. read_leaf o d s k) n x c done.climbed out)) (
+          updated_one o law rp states (map stands_of rs) (up_in rs) c old new m a n x f s k sound shown linked few has rep acts leaf (counts_in c rs) (counts_in c behind) far (done.shared c g) (have c) (way c)
+          (its_way (acting o s) (λ d. read_leaf o d s k) n x c done.updated g).updated
+      | inr out ↦ subst (Right (map stands_of rs) c) (sym (others (acting o s) (λ d. read_leaf o d s k) n x c done.updated out)) (
         (given_suffice o law).counts rp states (map stands_of rs) c old new m a x f s k (counts_in c rs) sound shown has rep acts (λ given shares. out (done.all c given shares)) (have c) (way c),
         have c,
       )

@@ -16,22 +16,23 @@ use Rattle.shim_base.proofs.SamePaths.{same_channel_is, same_channel_refl}
 use Rattle.shim_local.specs.Process.{Ops}
 use Rattle.shim_local.specs.Laws.{AnyOf, IsGiven}
 use Rattle.shim_laws_records.specs.Counts.{Tally, fresh_tally}
+use Rattle.shim_records.specs.Members.{IsAmong}
 use Rattle.shim_records.specs.Pairs.{tally, chans_of, IsOrdered, pair_of, find, label_of}
-use Rattle.shim_records.specs.Fresh.{shared_of, shared_given, Among, channels, RisesFrom, Rises, is_behind, comes_after, IsOneMore, skipped, added, IsPaired, FreshPairs}
+use Rattle.shim_records.specs.Fresh.{shared_of, shared_given, channels, RisesFrom, Rises, is_behind, comes_after, IsOneMore, skipped, added, IsPaired, FreshPairs}
 use Rattle.shim_records.specs.declared.pair.Pair.{Pair}
 
 -- ---- one of these
 
-among_left : (c : Channel) (xs ys : List Channel) → Among c xs → Among c (xs ++ ys)
+among_left : (c : Channel) (xs ys : List Channel) → IsAmong c xs → IsAmong c (xs ++ ys)
 among_left c [] ys h = none_some c h.1
 among_left c (x ∷ xs) ys (zero, e) = (zero, e)
 among_left c (x ∷ xs) ys (suc i, e) = let w = among_left c xs ys (i, e) in (suc w.0, w.1)
 
-among_right : (c : Channel) (xs ys : List Channel) → Among c ys → Among c (xs ++ ys)
+among_right : (c : Channel) (xs ys : List Channel) → IsAmong c ys → IsAmong c (xs ++ ys)
 among_right c [] ys h = h
 among_right c (x ∷ xs) ys h = let w = among_right c xs ys h in (suc w.0, w.1)
 
-among_either : (c : Channel) (xs ys : List Channel) → Among c (xs ++ ys) → Among c xs ⊎ Among c ys
+among_either : (c : Channel) (xs ys : List Channel) → IsAmong c (xs ++ ys) → IsAmong c xs ⊎ IsAmong c ys
 among_either c [] ys h = inr h
 among_either c (x ∷ xs) ys (zero, e) = inl (zero, e)
 among_either c (x ∷ xs) ys (suc i, e) = elim (among_either c xs ys (i, e)) [ inl w ↦ inl (suc w.0, w.1) | inr w ↦ inr w ]
@@ -47,42 +48,42 @@ module _ {S : Type 0} (o : Ops S) (p : S) where
   abbrev Named : Channel → List NamedChannel → Type 0
   Named c ds = (at : ℕ) × (d : NamedChannel) × (slice_get ds at ≡ Some d) × (d.channel ≡ c)
 
-  shared_forth : (c : Channel) (ds : List NamedChannel) → Among c (channels (shared_of o p ds)) → (o.shares p c ≡ true) × Named c ds
+  shared_forth : (c : Channel) (ds : List NamedChannel) → IsAmong c (channels (shared_of o p ds)) → (o.shares p c ≡ true) × Named c ds
   shared_forth c [] h = none_some c h.1
   shared_forth c (d ∷ ds) h = on (o.shares p d.channel) refl h (shared_forth c ds)
     where
       further : Named c ds → Named c (d ∷ ds)
       further r = (suc r.0, r.1, r.2, r.3)
 
-      on : (b : Bool) → o.shares p d.channel ≡ b → Among c (channels (cond b (d ∷ shared_of o p ds) (shared_of o p ds))) → (Among c (channels (shared_of o p ds)) → (o.shares p c ≡ true) × Named c ds) → (o.shares p c ≡ true) × Named c (d ∷ ds)
+      on : (b : Bool) → o.shares p d.channel ≡ b → IsAmong c (channels (cond b (d ∷ shared_of o p ds) (shared_of o p ds))) → (IsAmong c (channels (shared_of o p ds)) → (o.shares p c ≡ true) × Named c ds) → (o.shares p c ≡ true) × Named c (d ∷ ds)
       on true w (zero, e) f = let same = some_same d.channel c e in (ap (o.shares p) (sym same) ∙ w, (0, d, refl, same))
       on true w (suc i, e) f = let r = f (i, e) in (r.0, further r.1)
       on false w y f = let r = f y in (r.0, further r.1)
 
-  shared_back : (c : Channel) (ds : List NamedChannel) → o.shares p c ≡ true → Named c ds → Among c (channels (shared_of o p ds))
+  shared_back : (c : Channel) (ds : List NamedChannel) → o.shares p c ≡ true → Named c ds → IsAmong c (channels (shared_of o p ds))
   shared_back c [] s h = none_some h.1 h.2
   shared_back c (d ∷ ds) s (zero, e, f, g) =
       let same : d.channel ≡ c = ap (λ z. z.channel) (some_same d e f) ∙ g in
-      subst (λ b. Among c (channels (cond b (d ∷ shared_of o p ds) (shared_of o p ds)))) (sym (ap (o.shares p) same ∙ s)) (0, ap Some same)
+      subst (λ b. IsAmong c (channels (cond b (d ∷ shared_of o p ds) (shared_of o p ds)))) (sym (ap (o.shares p) same ∙ s)) (0, ap Some same)
   shared_back c (d ∷ ds) s (suc i, e, f, g) = on (o.shares p d.channel) (shared_back c ds s (i, e, f, g))
     where
-      on : (b : Bool) → Among c (channels (shared_of o p ds)) → Among c (channels (cond b (d ∷ shared_of o p ds) (shared_of o p ds)))
+      on : (b : Bool) → IsAmong c (channels (shared_of o p ds)) → IsAmong c (channels (cond b (d ∷ shared_of o p ds) (shared_of o p ds)))
       on true y = (suc y.0, y.1)
       on false y = y
 
-  given_forth : (c : Channel) (ks : List S) → Among c (channels (shared_given o p ks)) → (o.shares p c ≡ true) × AnyOf (λ k. IsGiven o k c) ks
+  given_forth : (c : Channel) (ks : List S) → IsAmong c (channels (shared_given o p ks)) → (o.shares p c ≡ true) × AnyOf (λ k. IsGiven o k c) ks
   given_forth c [] h = none_some c h.1
   given_forth c (k ∷ ks) h =
-      elim (among_either c (channels (shared_of o p (o.given k))) (channels (shared_given o p ks)) (subst (Among c) (channels_both (shared_of o p (o.given k)) (shared_given o p ks)) h)) [
+      elim (among_either c (channels (shared_of o p (o.given k))) (channels (shared_given o p ks)) (subst (IsAmong c) (channels_both (shared_of o p (o.given k)) (shared_given o p ks)) h)) [
         | inl w ↦ let r = shared_forth c (o.given k) w in (r.0, inl r.1)
         | inr w ↦ let r = given_forth c ks w in (r.0, inr r.1)
       ]
 
-  given_back : (c : Channel) (ks : List S) → o.shares p c ≡ true → AnyOf (λ k. IsGiven o k c) ks → Among c (channels (shared_given o p ks))
+  given_back : (c : Channel) (ks : List S) → o.shares p c ≡ true → AnyOf (λ k. IsGiven o k c) ks → IsAmong c (channels (shared_given o p ks))
   given_back c (k ∷ ks) s (inl h) =
-      subst (Among c) (sym (channels_both (shared_of o p (o.given k)) (shared_given o p ks))) (among_left c (channels (shared_of o p (o.given k))) (channels (shared_given o p ks)) (shared_back c (o.given k) s h))
+      subst (IsAmong c) (sym (channels_both (shared_of o p (o.given k)) (shared_given o p ks))) (among_left c (channels (shared_of o p (o.given k))) (channels (shared_given o p ks)) (shared_back c (o.given k) s h))
   given_back c (k ∷ ks) s (inr h) =
-      subst (Among c) (sym (channels_both (shared_of o p (o.given k)) (shared_given o p ks))) (among_right c (channels (shared_of o p (o.given k))) (channels (shared_given o p ks)) (given_back c ks s h))
+      subst (IsAmong c) (sym (channels_both (shared_of o p (o.given k)) (shared_given o p ks))) (among_right c (channels (shared_of o p (o.given k))) (channels (shared_given o p ks)) (given_back c ks s h))
   given_back c [] s h = absurd h
 
 -- ---- sorted
@@ -97,13 +98,13 @@ named_at [] i c e = none_some c e
 named_at (x ∷ ds) zero c e = (x, refl, some_same x.channel c e)
 named_at (x ∷ ds) (suc i) c e = named_at ds i c e
 
-shuffled : (c : Channel) (old new : List NamedChannel) → IsPermutation old new → Among c (channels old) → Among c (channels new)
+shuffled : (c : Channel) (old new : List NamedChannel) → IsPermutation old new → IsAmong c (channels old) → IsAmong c (channels new)
 shuffled c old new same h =
     let d = named_at old h.0 c h.1 in
     let w = Contains-permutation old new d.0 same (h.0, slice_get_within old h.0 d.0 d.1, get_or_from_slice_get old h.0 d.0 d.0 d.1) in
     (w.0, channel_at new w.0 d.0 (slice_get_read new (length new) w.0 d.0 refl w.1 (sym w.2)) ∙ ap Some d.2)
 
-pub shuffled_both : (c : Channel) (old new : List NamedChannel) → IsPermutation old new → Among c (channels old) ↔ Among c (channels new)
+pub shuffled_both : (c : Channel) (old new : List NamedChannel) → IsPermutation old new → IsAmong c (channels old) ↔ IsAmong c (channels new)
 shuffled_both c old new same = (shuffled c old new same, shuffled c new old (IsPermutation-sym old new same))
 
 abbrev pub chan_order : NamedChannel → NamedChannel → Ordering
@@ -185,8 +186,8 @@ module _ {S : Type 0} (o : Ops S) (ks : List S) (whole : List Channel) where
   pub record SoFar (pairs : List Pair) (rest : List Channel) : Type 0 where
     pub ordered : IsOrdered (chans_of pairs)
     pub right : (i : ℕ) (p : Pair) → slice_get pairs i ≡ Some p → (tally p ≡ fresh_tally o p.chan.channel ks) × (p.least ≡ None)
-    pub forth : (c : Channel) → Among c (chans_of pairs) ⊎ Among c rest → Among c whole
-    pub back : (c : Channel) → Among c whole → Among c (chans_of pairs) ⊎ Among c rest
+    pub forth : (c : Channel) → IsAmong c (chans_of pairs) ⊎ IsAmong c rest → IsAmong c whole
+    pub back : (c : Channel) → IsAmong c whole → IsAmong c (chans_of pairs) ⊎ IsAmong c rest
     pub rises : LastRises (last_pair pairs) rest
 
   pub at_first : (pairs : List Pair) → pairs ≡ [] → Rises whole → SoFar pairs whole
@@ -269,22 +270,22 @@ module _ {S : Type 0} (o : Ops S) (ks : List S) (whole : List Channel) where
         | inr w ↦ subst (λ z. (tally z ≡ fresh_tally o z.chan.channel ks) × (z.least ≡ None)) (sym w.1) (says ∙ ap (λ z. fresh_tally o z ks) (sym chan), label)
       ];
       forth = λ c h. s.forth c (elim h [
-        | inl w ↦ elim (among_either c (chans_of pairs) (p.chan.channel ∷ []) (subst (Among c) (chans_both pairs p) w)) [ inl v ↦ inl v | inr v ↦ inr (first v) ]
+        | inl w ↦ elim (among_either c (chans_of pairs) (p.chan.channel ∷ []) (subst (IsAmong c) (chans_both pairs p) w)) [ inl v ↦ inl v | inr v ↦ inr (first v) ]
         | inr w ↦ inr (suc w.0, w.1)
       ]);
       back = λ c h. elim (s.back c h) [
-        | inl w ↦ inl (subst (Among c) (sym (chans_both pairs p)) (among_left c (chans_of pairs) (p.chan.channel ∷ []) w))
+        | inl w ↦ inl (subst (IsAmong c) (sym (chans_both pairs p)) (among_left c (chans_of pairs) (p.chan.channel ∷ []) w))
         | inr w ↦ later c w
       ];
       rises = subst (λ z. LastRises z rest) (sym (last_is pairs p)) (subst (λ z. RisesFrom z rest) (sym chan) (rises_on (last_pair pairs) s.rises));
     })
       where
-        first : {c : Channel} → Among c (p.chan.channel ∷ []) → Among c (d ∷ rest)
+        first : {c : Channel} → IsAmong c (p.chan.channel ∷ []) → IsAmong c (d ∷ rest)
         first (zero, e) = (0, ap Some (sym chan) ∙ e)
         first (suc i, e) = none_some _ e
 
-        later : (c : Channel) → Among c (d ∷ rest) → Among c (chans_of (pairs ++ p ∷ [])) ⊎ Among c rest
-        later c (zero, e) = inl (subst (Among c) (sym (chans_both pairs p)) (among_right c (chans_of pairs) (p.chan.channel ∷ []) (0, ap Some chan ∙ e)))
+        later : (c : Channel) → IsAmong c (d ∷ rest) → IsAmong c (chans_of (pairs ++ p ∷ [])) ⊎ IsAmong c rest
+        later c (zero, e) = inl (subst (IsAmong c) (sym (chans_both pairs p)) (among_right c (chans_of pairs) (p.chan.channel ∷ []) (0, ap Some chan ∙ e)))
         later c (suc i, e) = inr (i, e)
 
         order_at : (i j : ℕ) (a b : Channel) → i < j → (slice_get (chans_of pairs) i ≡ Some a) ⊎ ((i ≡ length (chans_of pairs)) × (a ≡ p.chan.channel)) → (slice_get (chans_of pairs) j ≡ Some b) ⊎ ((j ≡ length (chans_of pairs)) × (b ≡ p.chan.channel)) → channel_order a b ≡ Less
@@ -309,7 +310,7 @@ module _ {S : Type 0} (o : Ops S) (ks : List S) (whole : List Channel) where
         chan_at (x ∷ ps) zero p f = ap (λ z. Some z.chan.channel) (some_same x p f)
         chan_at (x ∷ ps) (suc k) p f = chan_at ps k p f
 
-        later : (c : Channel) → Among c (d ∷ rest) → slice_get (chans_of pairs) (length pairs - 1) ≡ Some d → Among c (chans_of pairs) ⊎ Among c rest
+        later : (c : Channel) → IsAmong c (d ∷ rest) → slice_get (chans_of pairs) (length pairs - 1) ≡ Some d → IsAmong c (chans_of pairs) ⊎ IsAmong c rest
         later c (zero, e) there = inl (length pairs - 1, there ∙ e)
         later c (suc i, e) there = inr (i, e)
 
@@ -352,7 +353,7 @@ pair_found c (x ∷ ps) p e = on (same_channel x.chan.channel c) refl e (pair_fo
     on true w e f = (0, e, ap (λ z. z.chan.channel) (sym (some_same x p e)) ∙ same_channel_is x.chan.channel c w)
     on false w e f = let r = f e in (suc r.0, r.1, r.2)
 
-pair_there : (c : Channel) (ps : List Pair) → Among c (chans_of ps) → (p : Pair) × (pair_of c ps ≡ Some p)
+pair_there : (c : Channel) (ps : List Pair) → IsAmong c (chans_of ps) → (p : Pair) × (pair_of c ps ≡ Some p)
 pair_there c [] h = none_some c h.1
 pair_there c (x ∷ ps) (zero, e) = (x, ap (λ b. cond b (Some x) (pair_of c ps)) (ap (λ z. same_channel z c) (some_same x.chan.channel c e) ∙ same_channel_refl c))
 pair_there c (x ∷ ps) (suc i, e) = on (same_channel x.chan.channel c) (pair_there c ps (i, e))
@@ -361,7 +362,7 @@ pair_there c (x ∷ ps) (suc i, e) = on (same_channel x.chan.channel c) (pair_th
     on true h = (x, refl)
     on false h = h
 
-chan_among : (c : Channel) (ps : List Pair) (i : ℕ) (p : Pair) → slice_get ps i ≡ Some p → p.chan.channel ≡ c → Among c (chans_of ps)
+chan_among : (c : Channel) (ps : List Pair) (i : ℕ) (p : Pair) → slice_get ps i ≡ Some p → p.chan.channel ≡ c → IsAmong c (chans_of ps)
 chan_among c [] i p e f = none_some p e
 chan_among c (x ∷ ps) zero p e f = (0, ap (λ z. Some z.chan.channel) (some_same x p e) ∙ ap Some f)
 chan_among c (x ∷ ps) (suc i) p e f = let w = chan_among c ps i p e f in (suc w.0, w.1)
@@ -391,9 +392,9 @@ fresh_pairs {S} o p ks given sorted pairs is same h = record {
     (λ some.
         let w = some_pair c pairs some in
         let v = pair_found c pairs w.0 w.1 in
-        given_forth o p c ks (subst (λ z. Among c (channels z)) is ((shuffled_both c given sorted same).1 ((h.there c).0 (chan_among c pairs v.0 w.0 v.1 v.2))))),
+        given_forth o p c ks (subst (λ z. IsAmong c (channels z)) is ((shuffled_both c given sorted same).1 ((h.there c).0 (chan_among c pairs v.0 w.0 v.1 v.2))))),
     (λ counted e.
-        let w = (h.there c).1 ((shuffled_both c given sorted same).0 (subst (λ z. Among c (channels z)) (sym is) (given_back o p c ks counted.0 counted.1))) in
+        let w = (h.there c).1 ((shuffled_both c given sorted same).0 (subst (λ z. IsAmong c (channels z)) (sym is) (given_back o p c ks counted.0 counted.1))) in
         let v = pair_there c pairs w in
         none_some (tally v.0) (sym e ∙ ap (option_map tally) v.1)),
   );

@@ -1,14 +1,13 @@
 -- The lemmas of this crate, one module for each subject.
 pub mod Acting
 pub mod AllKilled
-pub mod AllSinks
+pub mod AllLowered
 pub mod Gathering
-pub mod Gone
+pub mod Walked
 pub mod Lowering
 pub mod ManyWays
 pub mod Pairing
 pub mod ReadOff
-pub mod Receives
 pub mod Searching
 pub mod Showing
 pub mod Stepping

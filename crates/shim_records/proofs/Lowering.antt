@@ -8,10 +8,10 @@ use Rattle.shim_base.specs.Paths.{Channel, same_channel}
 use Rattle.shim_base.proofs.Facts.{some_same, none_some}
 use Rattle.shim_base.proofs.SamePaths.{same_channel_is}
 use Rattle.shim_laws_records.specs.Dooms.{lesser}
-use Rattle.shim_laws_records.specs.Sinking.{IsLowered, Sunk, all_the_way, at_the_root, uncounted, as_low, lowers}
+use Rattle.shim_laws_records.specs.LoweredLabels.{IsLowered, LoweredAbove, all_the_way, at_the_root, uncounted, as_low, lowers}
 use Rattle.shim_laws_records.proofs.SameTrees.{same_or_not}
 use Rattle.shim_records.specs.Pairs.{tally, place_of, pair_of, find, label_of, counts_at, counts_in, least_at, leasts_in, up_in, rest_of, chans_of}
-use Rattle.shim_records.specs.Labels.{OnlyLabels, LowersOne, IsSunk}
+use Rattle.shim_records.specs.Labels.{OnlyLabels, LowersOne, IsLoweredAbove}
 use Rattle.shim_records.specs.declared.pair.Pair.{Pair}
 use Rattle.shim_records.specs.declared.record.Record.{Record}
 use Rattle.shim_records.proofs.Stepping.{set_there, set_elsewhere, map_set, with_pair, rest_with}
@@ -140,7 +140,7 @@ module _ (c : Channel) (y : ℕ) (rs : List Record) (x : ℕ) where
 
   pub stops : (j : ℕ) (now : List Record) (was is : Option ℕ) → up_in rs x ≡ Some j → Relabelled c rs j was is now → is ≡ lesser was (Some y) → is ≡ was → LowersOne c y rs x None now
   stops j now was is up h taken same = (
-    (λ n. subst (λ z. Sunk (up_in rs) (counts_in c rs) (Some y) n (leasts_in c rs) x z) (sym (same_labels c rs j was is now h same))
+    (λ n. subst (λ z. LoweredAbove (up_in rs) (counts_in c rs) (Some y) n (leasts_in c rs) x z) (sym (same_labels c rs j was is now h same))
         (as_low n (leasts_in c rs) x j up h.counted (ap (λ z. lesser z (Some y)) h.label_was ∙ (sym taken ∙ (same ∙ sym h.label_was))))),
     h.only,
   )
@@ -157,12 +157,12 @@ only_both c a b d g h = record {
   elsewhere = λ e far i. h.elsewhere e far i ∙ g.elsewhere e far i;
 }
 
-module _ (c : Channel) (y n x : ℕ) (start now : List Record) (here gone : ℕ) where
+module _ (c : Channel) (y n x : ℕ) (start now : List Record) (here walked : ℕ) where
   abbrev pub OnIt : ℕ → List Record → ℕ → Type 0
-  OnIt left now here = ((end : ℕ → Option ℕ) → Sunk (up_in start) (counts_in c start) (Some y) left (leasts_in c now) here end → Sunk (up_in start) (counts_in c start) (Some y) n (leasts_in c start) x end) × OnlyLabels c start now
+  OnIt left now here = ((end : ℕ → Option ℕ) → LoweredAbove (up_in start) (counts_in c start) (Some y) left (leasts_in c now) here end → LoweredAbove (up_in start) (counts_in c start) (Some y) n (leasts_in c start) x end) × OnlyLabels c start now
 
-  next_left : (n gone : ℕ) → gone < n → suc (n - (gone + 1)) ≡ n - gone
-  next_left n gone h = omega (arith, h)
+  next_left : (n walked : ℕ) → walked < n → suc (n - (walked + 1)) ≡ n - walked
+  next_left n walked h = omega (arith, h)
 
   same_ups : OnlyLabels c start now → up_in now ≡ up_in start
   same_ups h = rest_ups start now h.rest
@@ -170,23 +170,23 @@ module _ (c : Channel) (y n x : ℕ) (start now : List Record) (here gone : ℕ)
   same_counts : OnlyLabels c start now → counts_in c now ≡ counts_in c start
   same_counts h = λ t i. h.counts c i t
 
-  pub ended : (behind : List Record) → OnIt (n - gone) now here → LowersOne c y now here None behind → IsSunk c y n x start behind
+  pub ended : (behind : List Record) → OnIt (n - walked) now here → LowersOne c y now here None behind → IsLoweredAbove c y n x start behind
   ended behind on step = (
     on.0 (leasts_in c behind)
-        (subst (λ u. Sunk u (counts_in c start) (Some y) (n - gone) (leasts_in c now) here (leasts_in c behind)) (same_ups on.1) (subst (λ k. Sunk (up_in now) k (Some y) (n - gone) (leasts_in c now) here (leasts_in c behind)) (same_counts on.1) (step.0 (n - gone)))),
+        (subst (λ u. LoweredAbove u (counts_in c start) (Some y) (n - walked) (leasts_in c now) here (leasts_in c behind)) (same_ups on.1) (subst (λ k. LoweredAbove (up_in now) k (Some y) (n - walked) (leasts_in c now) here (leasts_in c behind)) (same_counts on.1) (step.0 (n - walked)))),
     only_both c start now behind on.1 step.1,
   )
 
-  pub further : (behind : List Record) (j : ℕ) → gone < n → OnIt (n - gone) now here → LowersOne c y now here (Some j) behind → OnIt (n - (gone + 1)) behind j
+  pub further : (behind : List Record) (j : ℕ) → walked < n → OnIt (n - walked) now here → LowersOne c y now here (Some j) behind → OnIt (n - (walked + 1)) behind j
   further behind j less on step = (
-    (λ end rest. on.0 end (subst (λ k. Sunk (up_in start) (counts_in c start) (Some y) k (leasts_in c now) here end) (next_left n gone less)
-        (subst (λ u. Sunk u (counts_in c start) (Some y) (suc (n - (gone + 1))) (leasts_in c now) here end) (same_ups on.1) (subst (λ k. Sunk (up_in now) k (Some y) (suc (n - (gone + 1))) (leasts_in c now) here end) (same_counts on.1)
-        (step.0 (n - (gone + 1)) end
-        (subst (λ u. Sunk u (counts_in c now) (Some y) (n - (gone + 1)) (leasts_in c behind) j end) (sym (same_ups on.1)) (subst (λ k. Sunk (up_in start) k (Some y) (n - (gone + 1)) (leasts_in c behind) j end) (sym (same_counts on.1)) rest))))))),
+    (λ end rest. on.0 end (subst (λ k. LoweredAbove (up_in start) (counts_in c start) (Some y) k (leasts_in c now) here end) (next_left n walked less)
+        (subst (λ u. LoweredAbove u (counts_in c start) (Some y) (suc (n - (walked + 1))) (leasts_in c now) here end) (same_ups on.1) (subst (λ k. LoweredAbove (up_in now) k (Some y) (suc (n - (walked + 1))) (leasts_in c now) here end) (same_counts on.1)
+        (step.0 (n - (walked + 1)) end
+        (subst (λ u. LoweredAbove u (counts_in c now) (Some y) (n - (walked + 1)) (leasts_in c behind) j end) (sym (same_ups on.1)) (subst (λ k. LoweredAbove (up_in start) k (Some y) (n - (walked + 1)) (leasts_in c behind) j end) (sym (same_counts on.1)) rest))))))),
     only_both c start now behind on.1 step.1,
   )
 
-  pub stopped : n ≤ gone → OnIt (n - gone) now here → IsSunk c y n x start now
+  pub stopped : n ≤ walked → OnIt (n - walked) now here → IsLoweredAbove c y n x start now
   stopped past on =
-      let none : n - gone ≡ 0 = omega (arith, past) in
-      (on.0 (leasts_in c now) (subst (λ k. Sunk (up_in start) (counts_in c start) (Some y) k (leasts_in c now) here (leasts_in c now)) (sym none) (all_the_way (leasts_in c now) here)), on.1)
+      let none : n - walked ≡ 0 = omega (arith, past) in
+      (on.0 (leasts_in c now) (subst (λ k. LoweredAbove (up_in start) (counts_in c start) (Some y) k (leasts_in c now) here (leasts_in c now)) (sym none) (all_the_way (leasts_in c now) here)), on.1)

@@ -6,17 +6,17 @@ use Rattle.shim_base.specs.Paths.{Channel, same_channel}
 use Rattle.shim_base.proofs.Facts.{some_same}
 use Rattle.shim_local.specs.Process.{Ops}
 use Rattle.shim_laws_records.specs.Seen.{forks}
-use Rattle.shim_laws_records.specs.Agrees.{Standing as Stands, free, used}
+use Rattle.shim_laws_records.specs.Agrees.{RecordView, free, used}
 use Rattle.shim_laws_records.specs.Dooms.{lesser}
 use Rattle.shim_laws_records.specs.Recounting.{label_at, label_among, IsReadOff, Recounted, all_the_way, at_the_root, uncounted, as_before, recounts}
 use Rattle.shim_laws_records.proofs.Leasts.{lesser_nothing, lesser_further}
-use Rattle.shim_records.specs.Pairs.{place_of, pair_of, label_of, counts_in, leasts_in, up_in, Rest, rest_of, stands_by, stands_of}
+use Rattle.shim_records.specs.Pairs.{fork_size, place_of, pair_of, label_of, counts_in, leasts_in, up_in, Rest, rest_of, stands_by, stands_of}
 use Rattle.shim_records.specs.Labels.{OnlyLabels}
-use Rattle.shim_records.specs.Recounting.{children_of, Recounts, RecountsOne, IsRecounted}
+use Rattle.shim_records.specs.Recounting.{Recounts, RecountsOne, IsRecounted}
 use Rattle.shim_records.specs.declared.pair.Pair.{Pair}
 use Rattle.shim_records.specs.declared.record.Record.{Record}
-use Rattle.shim_records.specs.declared.record.Standing.{Standing}
-use Rattle.shim_records.specs.declared.record.Standing.TheVariants as code
+use Rattle.shim_records.specs.declared.record.Status.{Status}
+use Rattle.shim_records.specs.declared.record.Status.TheVariants as code
 use Rattle.shim_records.proofs.Lowering.{put_there, Relabelled, same_labels, nothing_changed, only_both}
 use Rattle.shim_records.proofs.Showing.{map_get}
 use Rattle.shim_records.proofs.WholeWay.{rest_ups}
@@ -34,7 +34,7 @@ no_label c (p ∷ ps) e = on (same_channel p.chan.channel c) (place_of c ps) (no
     on false None f e = f refl
     on false (Some k) f e = absurd cc
 
-module _ {S : Type 0} (o : Ops S) (c : Channel) (states : List S) (stands : List Stands) (labels : ℕ → Option ℕ) where
+module _ {S : Type 0} (o : Ops S) (c : Channel) (states : List S) (stands : List RecordView) (labels : ℕ → Option ℕ) where
   -- one more of the children read
   pub one_more : (g n i : ℕ) (y z : Option ℕ) → i < n → z ≡ lesser y (label_at o c states stands labels (g + i)) → lesser y (label_among o c states stands labels (g + i) (n - i)) ≡ label_among o c states stands labels g n
       → lesser z (label_among o c states stands labels (g + (i + 1)) (n - (i + 1))) ≡ label_among o c states stands labels g n
@@ -59,16 +59,16 @@ module _ {S : Type 0} (o : Ops S) (c : Channel) (states : List S) (stands : List
       let none : n - i ≡ 0 = omega (arith, past) in
       sym (lesser_nothing y) ∙ (ap (λ w. lesser y (label_among o c states stands labels (g + i) w)) (sym none) ∙ h)
 
-abbrev first_of : Stands → ℕ
+abbrev first_of : RecordView → ℕ
 first_of free = 0
 first_of (used f k) = f
 
-abbrev many_of : Stands → ℕ
+abbrev many_of : RecordView → ℕ
 many_of (used f (forks n)) = n
 many_of _ = 0
 
 -- a fork's first child and how many they are
-forked : (f g n : ℕ) (k : Standing) → stands_by f k ≡ used g (forks n) → (f ≡ g) × (children_of k ≡ n)
+forked : (f g n : ℕ) (k : Status) → stands_by f k ≡ used g (forks n) → (f ≡ g) × (fork_size k ≡ n)
 forked f g n code.Free e = absurd cc
 forked f g n code.Live e = absurd cc
 forked f g n (code.Forked m) e = (ap first_of e, ap many_of e)
@@ -76,8 +76,8 @@ forked f g n code.Ended e = absurd cc
 forked f g n (code.Dead x) e = absurd cc
 
 -- what came of a process is told by what its record says beside the pairs
-abbrev stands_from : Rest → Stands
-stands_from r = stands_by r.first r.standing
+abbrev stands_from : Rest → RecordView
+stands_from r = stands_by r.first r.status
 
 all_from : (rs : List Record) → map stands_from (map rest_of rs) ≡ map stands_of rs
 all_from [] = refl
@@ -88,12 +88,12 @@ same_stands before behind h = sym (all_from behind) ∙ (ap (map stands_from) h 
 
 module _ {S : Type 0} (o : Ops S) (c : Channel) (states : List S) where
   -- what was read off the children of a record
-  pub read : (rs seen : List Record) (j n : ℕ) (r q : Record) (y : Option ℕ) → slice_get rs j ≡ Some r → slice_get rs j ≡ Some q → seen ≡ rs → n ≡ children_of q.standing
+  pub read : (rs seen : List Record) (j n : ℕ) (r q : Record) (y : Option ℕ) → slice_get rs j ≡ Some r → slice_get rs j ≡ Some q → seen ≡ rs → n ≡ fork_size q.status
       → y ≡ label_among o c states (map stands_of seen) (leasts_in c seen) r.first n → IsReadOff o c states (map stands_of rs) (leasts_in c rs) j y
   read rs seen j n r q y stood stood_so same many is g m s has =
       let so : stands_of r ≡ used g (forks m) = some_same (stands_of r) (used g (forks m)) (sym (ap (option_map stands_of) stood) ∙ (sym (map_get stands_of rs j) ∙ has.stands_so)) in
-      let told = forked r.first g m r.standing so in
-      let how_many : n ≡ m = many ∙ (ap (λ z. children_of z.standing) (some_same q r (sym stood_so ∙ stood)) ∙ told.1) in
+      let told = forked r.first g m r.status so in
+      let how_many : n ≡ m = many ∙ (ap (λ z. fork_size z.status) (some_same q r (sym stood_so ∙ stood)) ∙ told.1) in
       is ∙ (ap (λ z. label_among o c states (map stands_of z) (leasts_in c z) r.first n) same
       ∙ (ap (λ z. label_among o c states (map stands_of rs) (leasts_in c rs) z n) told.0 ∙ ap (label_among o c states (map stands_of rs) (leasts_in c rs) g) how_many))
 
@@ -117,7 +117,7 @@ module _ {S : Type 0} (o : Ops S) (c : Channel) (states : List S) where
       h.only,
     )
 
-  -- standings, parents and counts stay
+  -- statuses, parents and counts stay
   over : (a b : List Record) (k : ℕ) (labels : ℕ → Option ℕ) (x : ℕ) (end : ℕ → Option ℕ) → OnlyLabels c a b → Recounts o c states b k labels x end → Recounts o c states a k labels x end
   over a b k labels x end h way =
       subst (λ z. Recounted o c states z (up_in a) (counts_in c a) k labels x end) (same_stands a b h.rest)
@@ -130,29 +130,29 @@ module _ {S : Type 0} (o : Ops S) (c : Channel) (states : List S) where
       (subst (λ z. Recounted o c states (map stands_of a) z (counts_in c b) k labels x end) (sym (rest_ups a b h.rest))
       (subst (λ z. Recounted o c states (map stands_of a) (up_in a) z k labels x end) (λ t i. sym (h.counts c i) t) way))
 
-  module _ (n x : ℕ) (start now : List Record) (here gone : ℕ) where
+  module _ (n x : ℕ) (start now : List Record) (here walked : ℕ) where
     abbrev pub OnIt : ℕ → List Record → ℕ → Type 0
     OnIt left now here = ((end : ℕ → Option ℕ) → Recounts o c states start left (leasts_in c now) here end → Recounts o c states start n (leasts_in c start) x end) × OnlyLabels c start now
 
-    next_left : (n gone : ℕ) → gone < n → suc (n - (gone + 1)) ≡ n - gone
-    next_left n gone h = omega (arith, h)
+    next_left : (n walked : ℕ) → walked < n → suc (n - (walked + 1)) ≡ n - walked
+    next_left n walked h = omega (arith, h)
 
-    pub ended : (behind : List Record) → OnIt (n - gone) now here → RecountsOne o c states now here None behind → IsRecounted o c states n x start behind
-    ended behind on step = (on.0 (leasts_in c behind) (over start now (n - gone) (leasts_in c now) here (leasts_in c behind) on.1 (step.0 (n - gone))), only_both c start now behind on.1 step.1)
+    pub ended : (behind : List Record) → OnIt (n - walked) now here → RecountsOne o c states now here None behind → IsRecounted o c states n x start behind
+    ended behind on step = (on.0 (leasts_in c behind) (over start now (n - walked) (leasts_in c now) here (leasts_in c behind) on.1 (step.0 (n - walked))), only_both c start now behind on.1 step.1)
 
-    pub further : (behind : List Record) (j : ℕ) → gone < n → OnIt (n - gone) now here → RecountsOne o c states now here (Some j) behind → OnIt (n - (gone + 1)) behind j
+    pub further : (behind : List Record) (j : ℕ) → walked < n → OnIt (n - walked) now here → RecountsOne o c states now here (Some j) behind → OnIt (n - (walked + 1)) behind j
     further behind j less on step = (
-      (λ end rest. on.0 end (subst (λ k. Recounts o c states start k (leasts_in c now) here end) (next_left n gone less)
-          (over start now (suc (n - (gone + 1))) (leasts_in c now) here end on.1 (step.0 (n - (gone + 1)) end (back start now (n - (gone + 1)) (leasts_in c behind) j end on.1 rest))))),
+      (λ end rest. on.0 end (subst (λ k. Recounts o c states start k (leasts_in c now) here end) (next_left n walked less)
+          (over start now (suc (n - (walked + 1))) (leasts_in c now) here end on.1 (step.0 (n - (walked + 1)) end (back start now (n - (walked + 1)) (leasts_in c behind) j end on.1 rest))))),
       only_both c start now behind on.1 step.1,
     )
 
-    pub stopped : n ≤ gone → OnIt (n - gone) now here → IsRecounted o c states n x start now
+    pub stopped : n ≤ walked → OnIt (n - walked) now here → IsRecounted o c states n x start now
     stopped past on =
-        let none : n - gone ≡ 0 = omega (arith, past) in
+        let none : n - walked ≡ 0 = omega (arith, past) in
         (on.0 (leasts_in c now) (subst (λ k. Recounts o c states start k (leasts_in c now) here (leasts_in c now)) (sym none) (all_the_way (leasts_in c now) here)), on.1)
 
-  -- at first nothing is gone
+  -- at first nothing is walked
   pub begun : (n x : ℕ) (start : List Record) → OnIt n x start start x 0 (n - 0) start x
   begun n x start =
       let all : n - 0 ≡ n = omega arith in

@@ -12,7 +12,7 @@ use Rattle.shim_local.specs.Process.{Ops}
 use Rattle.shim_semantics.specs.Nodes.{Node, all_live, states}
 use Rattle.shim_base.proofs.Facts.{some_same, none_some}
 use Rattle.shim_laws_records.specs.Seen.{Sort, lives, forks, place}
-use Rattle.shim_laws_records.specs.Agrees.{Standing as Stands, free, used, Has, Agrees}
+use Rattle.shim_laws_records.specs.Agrees.{RecordView, free, used, Has, Agrees}
 use Rattle.shim_laws_records.specs.Changes.{HasForked, HasClosed}
 use Rattle.shim_laws_records.proofs.SameTrees.{same_or_not}
 use Rattle.shim_laws_records.proofs.Forking.{there_is, no_shorter}
@@ -117,12 +117,12 @@ used_sort f g k h e = cc
 free_used : {B : Type 0} (f : ℕ) (k : Sort) → free ≡ used f k → B
 free_used f k e = absurd cc
 
-module _ {S : Type 0} (states : List S) (stood births : List Stands) (i f g : ℕ) (l p : S) (ks : List S) (long : length states ≡ length stood) (fits : g ≤ length stood) (as_long : length births ≡ length ks)
-    (live : (b : ℕ) (x : Stands) → slice_get births b ≡ Some x → (d : ℕ) × (x ≡ used d lives)) (has : Has states stood i f l lives) (clear : (b d : ℕ) (t : S) (x : Sort) → b < length ks → Has states stood (g + b) d t x → ⊥) where
+module _ {S : Type 0} (states : List S) (stood births : List RecordView) (i f g : ℕ) (l p : S) (ks : List S) (long : length states ≡ length stood) (fits : g ≤ length stood) (as_long : length births ≡ length ks)
+    (live : (b : ℕ) (x : RecordView) → slice_get births b ≡ Some x → (d : ℕ) × (x ≡ used d lives)) (has : Has states stood i f l lives) (clear : (b d : ℕ) (t : S) (x : Sort) → b < length ks → Has states stood (g + b) d t x → ⊥) where
   abbrev states' : List S
   states' = with_block g ks (slice_set states i p)
 
-  abbrev stands' : List Stands
+  abbrev stands' : List RecordView
   stands' = with_block g births (slice_set stood i (used g (forks (length ks))))
 
   fits_states : g ≤ length (slice_set states i p)
@@ -182,8 +182,8 @@ module _ {S : Type 0} (states : List S) (stood births : List Stands) (i f g : �
     ];
   }
 
-module _ {S : Type 0} (o : Ops S) (rp : Path) (states : List S) (stood freed : List Stands) (root : Node S) (i g n f : ℕ) (l s : S) (k : Sort) (ok : Agrees o rp states stood root) (has : Has states stood i g l (forks n))
-    (inside : (b : ℕ) (x : Stands) → b < n → slice_get freed (g + b) ≡ Some x → x ≡ free) (outside : (j : ℕ) → ((b : ℕ) → b < n → j ≢ g + b) → slice_get freed j ≡ slice_get stood j) where
+module _ {S : Type 0} (o : Ops S) (rp : Path) (states : List S) (stood freed : List RecordView) (root : Node S) (i g n f : ℕ) (l s : S) (k : Sort) (ok : Agrees o rp states stood root) (has : Has states stood i g l (forks n))
+    (inside : (b : ℕ) (x : RecordView) → b < n → slice_get freed (g + b) ≡ Some x → x ≡ free) (outside : (j : ℕ) → ((b : ℕ) → b < n → j ≢ g + b) → slice_get freed j ≡ slice_get stood j) where
   -- the fork's own record is none of its children's
   apart : (b : ℕ) → b < n → i ≢ g + b
   apart b less e =

@@ -7,15 +7,15 @@ use mathlib.Core.Bool.{beq}
 use Rattle.std.proofs.lemmas.Option.{slice_get_read}
 use Rattle.shim_base.specs.Paths.{Channel}
 use Rattle.shim_base.proofs.Facts.{some_same, none_some}
-use Rattle.shim_laws_records.specs.Counts.{Reading as Read, read_of, all_there, Moved}
-use Rattle.shim_laws_records.specs.Climbing.{CanMove, AreMoved, Climbed, at_top, no_counts, stays, goes_on}
+use Rattle.shim_laws_records.specs.Counts.{live_reading, read_of, all_there, Moved}
+use Rattle.shim_laws_records.specs.Updating.{CanMove, AreMoved, UpdatedAbove, at_top, no_counts, stays, goes_on}
 use Rattle.shim_laws_records.proofs.SameTrees.{same_or_not}
 use Rattle.shim_records.specs.Pairs.{tally, reading_of, place_of, counts_at, counts_in, least_at, up_at, up_in, rest_of, chans_of, Rest}
 use Rattle.shim_records.specs.Ways.{OnlyCounts, StepsUp}
 use Rattle.shim_records.specs.declared.pair.Pair.{Pair}
 use Rattle.shim_records.specs.declared.pair.Reading.{Reading}
 use Rattle.shim_records.specs.declared.record.Record.{Record}
-use Rattle.shim_records.specs.declared.upward.Rise.{Rise}
+use Rattle.shim_records.specs.declared.upward.CountChange.{CountChange}
 use Rattle.shim_records.proofs.Pairing.{Put, put_there, place_within}
 
 pub set_there : {A : Type 0} (xs : List A) (i : ℕ) (x y : A) → slice_get xs i ≡ Some x → slice_get (slice_set xs i y) i ≡ Some y
@@ -58,13 +58,13 @@ nothing_changed c rs = record { rest = refl; elsewhere = λ d far i. refl; label
 
 -- what is read of two pairs' counts in one record
 abbrev pub with_pair : Record → ℕ → Pair → Record
-with_pair r i q = record { standing = r.standing; first = r.first; parent = r.parent; path = r.path; going = r.going; pairs = with_item r.pairs i q }
+with_pair r i q = record { status = r.status; first = r.first; parent = r.parent; path = r.path; going = r.going; pairs = with_item r.pairs i q }
 
 -- a record with the same channels in its pairs
-pub rest_with : (r : Record) (cs : List Channel) → cs ≡ chans_of r.pairs.items → record { standing = r.standing; first = r.first; parent = r.parent; path = r.path; going = r.going; chans = cs } ≡ rest_of r
-rest_with r cs e = ap (λ z. let w : Rest = record { standing = r.standing; first = r.first; parent = r.parent; path = r.path; going = r.going; chans = z } in w) e
+pub rest_with : (r : Record) (cs : List Channel) → cs ≡ chans_of r.pairs.items → record { status = r.status; first = r.first; parent = r.parent; path = r.path; going = r.going; chans = cs } ≡ rest_of r
+rest_with r cs e = ap (λ z. let w : Rest = record { status = r.status; first = r.first; parent = r.parent; path = r.path; going = r.going; chans = z } in w) e
 
-module _ (c : Channel) (rs : List Record) (here : Rise) where
+module _ (c : Channel) (rs : List Record) (here : CountChange) where
   pub top : up_in rs here.at ≡ None → StepsUp c rs here None rs
   top e = ((λ n. at_top n (counts_in c rs) here.at (reading_of here.was) (reading_of here.is) e), nothing_changed c rs)
 
@@ -122,14 +122,14 @@ module _ (c : Channel) (rs : List Record) (here : Rise) where
     pub ends : all_there (tally p) ≡ all_there (tally q) → StepsUp c rs here None now
     ends same = ((λ n. stays n (counts_in c rs) (counts_in c now) here.at j (reading_of here.was) (reading_of here.is) (tally p) (tally q) up are_moved same), only)
 
-    pub goes : (next : Rise) → next.at ≡ j → reading_of next.was ≡ read_of true (tally p) → reading_of next.is ≡ read_of true (tally q) → StepsUp c rs here (Some next) now
+    pub goes : (next : CountChange) → next.at ≡ j → reading_of next.was ≡ read_of true (tally p) → reading_of next.is ≡ read_of true (tally q) → StepsUp c rs here (Some next) now
     goes next at was is = (
       (λ n behind rest. goes_on n (counts_in c rs) (counts_in c now) behind here.at j (reading_of here.was) (reading_of here.is) (tally p) (tally q) up are_moved
-          (subst (λ z. Climbed (up_in rs) 4294967295 n (counts_in c now) j (read_of true (tally p)) z behind) is (subst (λ z. Climbed (up_in rs) 4294967295 n (counts_in c now) j z (reading_of next.is) behind) was
-          (subst (λ z. Climbed (up_in rs) 4294967295 n (counts_in c now) z (reading_of next.was) (reading_of next.is) behind) at rest)))),
+          (subst (λ z. UpdatedAbove (up_in rs) 4294967295 n (counts_in c now) j (read_of true (tally p)) z behind) is (subst (λ z. UpdatedAbove (up_in rs) 4294967295 n (counts_in c now) j z (reading_of next.is) behind) was
+          (subst (λ z. UpdatedAbove (up_in rs) 4294967295 n (counts_in c now) z (reading_of next.was) (reading_of next.is) behind) at rest)))),
       only,
     )
 
 -- what is read of a fork that shares the channel
-pub fork_read : (r : Reading) (b : Bool) (p : Pair) → r ≡ record { joining = true; readiness = b; failing = false } → b ≡ all_there (tally p) → reading_of r ≡ read_of true (tally p)
-fork_read r b p e f = ap reading_of e ∙ ap (λ z. let w : Read = record { joining = true; readiness = z; failing = false } in w) f
+pub fork_read : (r : Reading) (b : Bool) (p : Pair) → reading_of r ≡ live_reading b → b ≡ all_there (tally p) → reading_of r ≡ read_of true (tally p)
+fork_read r b p e f = e ∙ ap live_reading f

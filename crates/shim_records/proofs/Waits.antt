@@ -1,13 +1,13 @@
 -- A number more, or less, in a list that has each at most once.
-use Rattle.std.proofs.Common.{◌≡◌, ◌⊎◌, inl, inr, ℕ, zero, suc, ◌<◌, ◌≤◌, Bool, true, false, Some, List, [], ◌∷◌, ◌++◌, length, slice_set, refl, sym, ap, ◌∙◌, arith}
-use Rattle.std.specs.Prelude.{slice_get}
+use Rattle.std.proofs.Common.{◌≡◌, ◌⊎◌, inl, inr, ℕ, zero, suc, ◌<◌, ◌≤◌, Bool, true, false, Some, List, [], ◌∷◌, ◌++◌, ◌+◌, length, slice_set, refl, sym, ap, ◌∙◌, arith}
+use Rattle.std.specs.Prelude.{slice_get, replicate}
 use Rattle.std.specs.Global.{Vec}
 use Rattle.std.specs.Vec.{vec_capacity}
 use Rattle.std.proofs.lemmas.Option.{slice_get_within}
-use Rattle.std.proofs.lemmas.List.{length-set}
+use Rattle.std.proofs.lemmas.List.{length-set, append_assoc, length-append}
 use Rattle.std.proofs.lemmas.Bool.{true≢false}
 use Rattle.shim_base.proofs.Facts.{some_same, none_some}
-use Rattle.shim_records.specs.Waiting.{set_flags, KeepsRoom}
+use Rattle.shim_records.specs.Waiting.{set_flags, KeepsRoom, AreRaised}
 use Rattle.shim_laws_records.proofs.SameTrees.{same_or_not}
 use Rattle.shim_records.proofs.Stepping.{set_there, set_elsewhere}
 
@@ -147,3 +147,28 @@ raised old new bs k items room = record {
   as_many = ap length items ∙ (k.as_many ∙ sym (more_flags bs));
   room = let a = one_more_flag bs in omega (arith, a, room);
 }
+
+-- one flag more behind so many more
+pub raised_again : (old now next : List Bool) → AreRaised old now → next ≡ now ++ false ∷ [] → AreRaised old next
+raised_again old now next so e = (suc so.0, e ∙ (ap (λ z. z ++ false ∷ []) so.1 ∙ (append_assoc old (replicate so.0 false) (false ∷ []) ∙ ap (λ z. old ++ z) (at_end so.0))))
+  where
+    at_end : (k : ℕ) → replicate k false ++ false ∷ [] ≡ false ∷ replicate k false
+    at_end zero = refl
+    at_end (suc k) = ap (λ z. false ∷ z) (at_end k)
+
+-- there are at least as many then
+pub still_longer : (now next : List Bool) (n : ℕ) → next ≡ now ++ false ∷ [] → n ≤ length now → n + 1 ≤ length next
+still_longer now next n e h = let w = ap length e ∙ length-append now (false ∷ []) in omega (arith, w, h)
+
+-- and no more
+pub still_within : (now next : List Bool) (n : ℕ) → next ≡ now ++ false ∷ [] → length now ≤ n → length next ≤ n + 1
+still_within now next n e h = let w = ap length e ∙ length-append now (false ∷ []) in omega (arith, w, h)
+
+-- where there was none, there is one flag, which isn't set
+pub first_flag : (old new : List Bool) → old ≡ [] → AreRaised old new → 1 ≤ length new → length new ≤ 1 → new ≡ false ∷ []
+first_flag old new none so low high = on so.0 (so.1 ∙ ap (λ z. z ++ replicate so.0 false) none)
+  where
+    on : (k : ℕ) → new ≡ replicate k false → new ≡ false ∷ []
+    on zero e = absurd (let w = ap length e in omega (arith, w, low))
+    on (suc zero) e = e
+    on (suc (suc k)) e = absurd (let w = ap length e in omega (arith, w, high))

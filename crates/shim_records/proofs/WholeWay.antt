@@ -4,12 +4,12 @@ use Rattle.std.proofs.Common.{◌≡◌, ℕ, zero, suc, ◌+◌, ◌-◌, ◌<�
 use Rattle.std.specs.Prelude.{slice_get}
 use Rattle.shim_base.specs.Paths.{Channel}
 use Rattle.shim_laws_records.specs.Counts.{Tally}
-use Rattle.shim_laws_records.specs.Climbing.{Climbed, too_far}
+use Rattle.shim_laws_records.specs.Updating.{UpdatedAbove, too_far}
 use Rattle.shim_records.specs.Pairs.{reading_of, counts_in, up_in, Rest, rest_of, AreOrdered, IsOrdered, chans_of}
-use Rattle.shim_records.specs.Ways.{OnlyCounts, Goes, StepsUp, IsClimbed}
+use Rattle.shim_records.specs.Ways.{OnlyCounts, Goes, StepsUp, IsUpdatedAbove}
 use Rattle.shim_records.specs.declared.pair.Reading.{Reading}
 use Rattle.shim_records.specs.declared.record.Record.{Record}
-use Rattle.shim_records.specs.declared.upward.Rise.{Rise}
+use Rattle.shim_records.specs.declared.upward.CountChange.{CountChange}
 
 abbrev parent_of : Option Rest → Option ℕ
 parent_of None = None
@@ -34,42 +34,42 @@ only_both c a b d g h = record {
   labels = λ e i. h.labels e i ∙ g.labels e i;
 }
 
-module _ (c : Channel) (n x : ℕ) (was is : Reading) (start now : List Record) (here : Rise) (gone : ℕ) where
+module _ (c : Channel) (n x : ℕ) (was is : Reading) (start now : List Record) (here : CountChange) (walked : ℕ) where
   abbrev pub Whole : (ℕ → Option Tally) → Type 0
-  Whole behind = Climbed (up_in start) 4294967295 n (counts_in c start) x (reading_of was) (reading_of is) behind
+  Whole behind = UpdatedAbove (up_in start) 4294967295 n (counts_in c start) x (reading_of was) (reading_of is) behind
 
-  abbrev pub OnIt : ℕ → List Record → Rise → Type 0
+  abbrev pub OnIt : ℕ → List Record → CountChange → Type 0
   OnIt left now here = ((behind : ℕ → Option Tally) → Goes (up_in start) left (counts_in c now) here behind → Whole behind) × OnlyCounts c start now
 
-  next_left : (n gone : ℕ) → gone < n → suc (n - (gone + 1)) ≡ n - gone
-  next_left n gone h = omega (arith, h)
+  next_left : (n walked : ℕ) → walked < n → suc (n - (walked + 1)) ≡ n - walked
+  next_left n walked h = omega (arith, h)
 
   -- the way ends
-  pub ended : (behind : List Record) → OnIt (n - gone) now here → StepsUp c now here None behind → IsClimbed c n x was is start behind
+  pub ended : (behind : List Record) → OnIt (n - walked) now here → StepsUp c now here None behind → IsUpdatedAbove c n x was is start behind
   ended behind on step =
       let up = same_ups c start now on.1 in
-      (on.0 (counts_in c behind) (subst (λ u. Goes u (n - gone) (counts_in c now) here (counts_in c behind)) up (step.0 (n - gone))), only_both c start now behind on.1 step.1)
+      (on.0 (counts_in c behind) (subst (λ u. Goes u (n - walked) (counts_in c now) here (counts_in c behind)) up (step.0 (n - walked))), only_both c start now behind on.1 step.1)
 
   -- it goes on
-  pub further : (behind : List Record) (next : Rise) → gone < n → OnIt (n - gone) now here → StepsUp c now here (Some next) behind → OnIt (n - (gone + 1)) behind next
+  pub further : (behind : List Record) (next : CountChange) → walked < n → OnIt (n - walked) now here → StepsUp c now here (Some next) behind → OnIt (n - (walked + 1)) behind next
   further behind next less on step =
       let up = same_ups c start now on.1 in (
-        (λ end rest. on.0 end (subst (λ k. Goes (up_in start) k (counts_in c now) here end) (next_left n gone less)
-            (subst (λ u. Goes u (suc (n - (gone + 1))) (counts_in c now) here end) up (step.0 (n - (gone + 1)) end (subst (λ u. Goes u (n - (gone + 1)) (counts_in c behind) next end) (sym up) rest))))),
+        (λ end rest. on.0 end (subst (λ k. Goes (up_in start) k (counts_in c now) here end) (next_left n walked less)
+            (subst (λ u. Goes u (suc (n - (walked + 1))) (counts_in c now) here end) up (step.0 (n - (walked + 1)) end (subst (λ u. Goes u (n - (walked + 1)) (counts_in c behind) next end) (sym up) rest))))),
         only_both c start now behind on.1 step.1,
       )
 
   -- or as far as it may
-  pub stopped : n ≤ gone → OnIt (n - gone) now here → IsClimbed c n x was is start now
+  pub stopped : n ≤ walked → OnIt (n - walked) now here → IsUpdatedAbove c n x was is start now
   stopped past on =
-      let none : n - gone ≡ 0 = omega (arith, past) in
+      let none : n - walked ≡ 0 = omega (arith, past) in
       (on.0 (counts_in c now) (subst (λ k. Goes (up_in start) k (counts_in c now) here (counts_in c now)) (sym none) (too_far (counts_in c now) here.at (reading_of here.was) (reading_of here.is))), on.1)
 
--- at first nothing is gone
+-- at first nothing is walked
 pub begun : (c : Channel) (n x : ℕ) (was is : Reading) (start : List Record) → OnIt c n x was is start start (record { at = x; was = was; is = is }) 0 (n - 0) start (record { at = x; was = was; is = is })
 begun c n x was is start =
     let all : n - 0 ≡ n = omega arith in
-    ((λ behind h. subst (λ k. Climbed (up_in start) 4294967295 k (counts_in c start) x (reading_of was) (reading_of is) behind) all h), record { rest = refl; elsewhere = λ d far i. refl; labels = λ d i. refl })
+    ((λ behind h. subst (λ k. UpdatedAbove (up_in start) 4294967295 k (counts_in c start) x (reading_of was) (reading_of is) behind) all h), record { rest = refl; elsewhere = λ d far i. refl; labels = λ d i. refl })
 
 -- so is the order of their pairs
 pub kept_order : (before behind : List Record) → map rest_of behind ≡ map rest_of before → AreOrdered before → AreOrdered behind

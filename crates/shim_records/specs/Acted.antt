@@ -10,20 +10,20 @@ use Rattle.shim_laws_records.specs.Seen.{Sort, lives, forks, ends, dies, is_leaf
 use Rattle.shim_laws_records.specs.Agrees.{Has, Shows}
 use Rattle.shim_laws_records.specs.Places.{IsReplaced}
 use Rattle.shim_laws_records.specs.Tallied.{Tallied, OnTheWay, HaveCounts}
-use Rattle.shim_laws_records.specs.Climbing.{AreLinked, AreAtMost}
+use Rattle.shim_laws_records.specs.Updating.{AreLinked, AreAtMost}
 use Rattle.shim_laws_records.specs.Counts.{Reading as Read}
 use Rattle.shim_laws_records.specs.Sufficing.{read_leaf}
+use Rattle.shim_records.specs.Members.{IsAmong}
 use Rattle.shim_records.specs.Pairs.{reading_of, counts_in, up_in, rest_of, stands_of}
-use Rattle.shim_records.specs.Fresh.{Among}
-use Rattle.shim_records.specs.Ways.{IsClimbed}
-use Rattle.shim_records.specs.AllWays.{AllClimbed}
+use Rattle.shim_records.specs.Ways.{IsUpdatedAbove}
+use Rattle.shim_records.specs.AllWays.{AllUpdatedAbove}
 use Rattle.shim_records.specs.declared.pair.Reading.{Reading}
 use Rattle.shim_records.specs.declared.record.Record.{Record}
-use Rattle.shim_records.specs.declared.record.Standing.{Standing}
-use Rattle.shim_records.specs.declared.record.Standing.TheVariants as code
+use Rattle.shim_records.specs.declared.record.Status.{Status}
+use Rattle.shim_records.specs.declared.record.Status.TheVariants as code
 
 -- what came of the process of a record in use
-abbrev pub sort_of : Standing → Sort
+abbrev pub sort_of : Status → Sort
 sort_of code.Free = ends
 sort_of code.Live = lives
 sort_of (code.Forked n) = forks n
@@ -38,25 +38,25 @@ acting o s c = record { joining = o.shares s c; readiness = false; failing = fal
 abbrev pub Earlier : {S : Type 0} → Ops S → S → Channel → ℕ → Type 0
 Earlier o s c place = (at : ℕ) × (d : NamedChannel) × (at < place) × (slice_get (o.given s) at ≡ Some d) × (d.channel ≡ c)
 
--- for one of them the way up was gone, unless the process doesn't share it or it stood before
-pub data ClimbsOne {S : Type 0} (o : Ops S) (s : S) (k : Sort) (n x : ℕ) (c : Channel) (place : ℕ) (before behind : List Record) : Type 0 where
-  unshared : o.shares s c ≡ false → behind ≡ before → ClimbsOne o s k n x c place before behind
-  again : Earlier o s c place → behind ≡ before → ClimbsOne o s k n x c place before behind
-  gone : o.shares s c ≡ true → (Earlier o s c place → ⊥) → (read reads : Reading) → reading_of read ≡ acting o s c → reading_of reads ≡ read_leaf o c s k → IsClimbed c n x read reads before behind → ClimbsOne o s k n x c place before behind
+-- for one of them the way up was walked, unless the process doesn't share it or it stood before
+pub data UpdatesForOne {S : Type 0} (o : Ops S) (s : S) (k : Sort) (n x : ℕ) (c : Channel) (place : ℕ) (before behind : List Record) : Type 0 where
+  unshared : o.shares s c ≡ false → behind ≡ before → UpdatesForOne o s k n x c place before behind
+  again : Earlier o s c place → behind ≡ before → UpdatesForOne o s k n x c place before behind
+  walked : o.shares s c ≡ true → (Earlier o s c place → ⊥) → (read reads : Reading) → reading_of read ≡ acting o s c → reading_of reads ≡ read_leaf o c s k → IsUpdatedAbove c n x read reads before behind → UpdatesForOne o s k n x c place before behind
 
 -- for all of them
-pub record AllGone {S : Type 0} (o : Ops S) (s : S) (k : Sort) (n x : ℕ) (before behind : List Record) : Type 0 where
+pub record AllUpdated {S : Type 0} (o : Ops S) (s : S) (k : Sort) (n x : ℕ) (before behind : List Record) : Type 0 where
   pub chans : List Channel
-  pub climbed : AllClimbed (acting o s) (λ c. read_leaf o c s k) n x chans before behind
-  pub all : (c : Channel) → IsGiven o s c → o.shares s c ≡ true → Among c chans
-  pub shared : (c : Channel) → Among c chans → o.shares s c ≡ true
+  pub updated : AllUpdatedAbove (acting o s) (λ c. read_leaf o c s k) n x chans before behind
+  pub all : (c : Channel) → IsGiven o s c → o.shares s c ≡ true → IsAmong c chans
+  pub shared : (c : Channel) → IsAmong c chans → o.shares s c ≡ true
 
--- What a process without children did by itself stands at its place, and the counts above are those of the tree before. When those ways were gone, the records' counts are all those of the tree behind, and they say all else as before.
+-- What a process without children did by itself stands at its place, and the counts above are those of the tree before. When those ways were walked, the records' counts are all those of the tree behind, and they say all else as before.
 abbrev pub ActedBrings : {S : Type 0} → Ops S → Type 0
 ActedBrings {S} o = (rp : Path) (states : List S) (rs behind : List Record) (old new m : Node S) (a : Acted S) (n x f : ℕ) (s : S) (k : Sort)
     → IsSound o old → Shows o rp states (map stands_of rs) new → AreLinked states (map stands_of rs) (up_in rs) → AreAtMost 4294967295 states (map stands_of rs)
     → Has states (map stands_of rs) x f s k → IsReplaced (place o rp s) m a.node old new → act_here o m ≡ Some a → is_leaf a.node ≡ true → length (place o rp s) ≤ n
     → ((c : Channel) → HaveCounts o rp states (map stands_of rs) c (counts_in c rs) new) → ((c : Channel) → OnTheWay o rp states (map stands_of rs) c (counts_in c rs) old new (place o rp s))
-    → AllGone o s k n x rs behind
+    → AllUpdated o s k n x rs behind
     → (map rest_of behind ≡ map rest_of rs)
     × ((c : Channel) → Tallied o rp states (map stands_of behind) c (counts_in c behind) new × HaveCounts o rp states (map stands_of behind) c (counts_in c behind) new)

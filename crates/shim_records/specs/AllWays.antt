@@ -1,4 +1,4 @@
--- The ways up gone for all channels that a process was given and shares, one after the other.
+-- The ways up walked for all channels that a process was given and shares, one after the other.
 use Rattle.std.specs.Prelude.{◌≡◌, ◌≤◌, ℕ, true, Some, List, [], ◌∷◌, length, map}
 use Rattle.shim_base.specs.Paths.{Path, Channel}
 use Rattle.shim_local.specs.Process.{Ops}
@@ -11,26 +11,26 @@ use Rattle.shim_laws_records.specs.Agrees.{Has, Shows}
 use Rattle.shim_laws_records.specs.Places.{IsReplaced}
 use Rattle.shim_laws_records.specs.Counts.{Reading as Read, reading}
 use Rattle.shim_laws_records.specs.Tallied.{Tallied, OnTheWay, HaveCounts}
-use Rattle.shim_laws_records.specs.Climbing.{AreLinked, AreAtMost}
+use Rattle.shim_laws_records.specs.Updating.{AreLinked, AreAtMost}
+use Rattle.shim_records.specs.Members.{IsAmong}
 use Rattle.shim_records.specs.Pairs.{reading_of, counts_in, up_in, rest_of, stands_of}
-use Rattle.shim_records.specs.Fresh.{Among}
-use Rattle.shim_records.specs.Ways.{IsClimbed}
+use Rattle.shim_records.specs.Ways.{IsUpdatedAbove}
 use Rattle.shim_records.specs.declared.pair.Reading.{Reading}
 use Rattle.shim_records.specs.declared.record.Record.{Record}
 
--- For each of these channels, none of which stands there twice, the way up was gone from the record x, of which was read the one, and is read the other.
-pub data AllClimbed (was is : Channel → Read) (n x : ℕ) : List Channel → List Record → List Record → Type 0 where
-  none_left : (rs : List Record) → AllClimbed was is n x [] rs rs
-  one_more : (c : Channel) (cs : List Channel) (read reads : Reading) (before between behind : List Record) → (Among c cs → ⊥) → reading_of read ≡ was c → reading_of reads ≡ is c
-      → IsClimbed c n x read reads before between → AllClimbed was is n x cs between behind → AllClimbed was is n x (c ∷ cs) before behind
+-- For each of these channels, none of which stands there twice, the way up was walked from the record x, of which was read the one, and is read the other.
+pub data AllUpdatedAbove (was is : Channel → Read) (n x : ℕ) : List Channel → List Record → List Record → Type 0 where
+  none_left : (rs : List Record) → AllUpdatedAbove was is n x [] rs rs
+  one_more : (c : Channel) (cs : List Channel) (read reads : Reading) (before between behind : List Record) → (IsAmong c cs → ⊥) → reading_of read ≡ was c → reading_of reads ≡ is c
+      → IsUpdatedAbove c n x read reads before between → AllUpdatedAbove was is n x cs between behind → AllUpdatedAbove was is n x (c ∷ cs) before behind
 
--- What a process did by itself stands at its place, and the counts above are those of the tree before. When those ways were gone, the records' counts are all those of the tree behind, and they say all else as before.
+-- What a process did by itself stands at its place, and the counts above are those of the tree before. When those ways were walked, the records' counts are all those of the tree behind, and they say all else as before.
 abbrev pub WaysBring : {S : Type 0} → Ops S → Type 0
 WaysBring {S} o = (rp : Path) (states : List S) (rs behind : List Record) (old new m : Node S) (a : Acted S) (n x f : ℕ) (s : S) (k : Sort) (cs : List Channel)
     → IsSound o old → Shows o rp states (map stands_of rs) new → AreLinked states (map stands_of rs) (up_in rs) → AreAtMost 4294967295 states (map stands_of rs)
     → Has states (map stands_of rs) x f s k → IsReplaced (place o rp s) m a.node old new → act_here o m ≡ Some a → length (place o rp s) ≤ n
-    → ((c : Channel) → IsGiven o s c → o.shares s c ≡ true → Among c cs) → ((c : Channel) → Among c cs → o.shares s c ≡ true)
+    → ((c : Channel) → IsGiven o s c → o.shares s c ≡ true → IsAmong c cs) → ((c : Channel) → IsAmong c cs → o.shares s c ≡ true)
     → ((c : Channel) → HaveCounts o rp states (map stands_of rs) c (counts_in c rs) new) → ((c : Channel) → OnTheWay o rp states (map stands_of rs) c (counts_in c rs) old new (place o rp s))
-    → AllClimbed (λ c. reading o c m) (λ c. reading o c a.node) n x cs rs behind
+    → AllUpdatedAbove (λ c. reading o c m) (λ c. reading o c a.node) n x cs rs behind
     → (map rest_of behind ≡ map rest_of rs)
     × ((c : Channel) → Tallied o rp states (map stands_of behind) c (counts_in c behind) new × HaveCounts o rp states (map stands_of behind) c (counts_in c behind) new)

@@ -3,25 +3,25 @@ use Rattle.std.specs.Prelude.{◌≡◌, ℕ, true, false, List, [], ◌∷◌}
 use Rattle.shim_base.specs.Paths.{Channel}
 use Rattle.shim_local.specs.Process.{Ops}
 use Rattle.shim_local.specs.Laws.{IsGiven}
-use Rattle.shim_records.specs.Fresh.{Among}
-use Rattle.shim_records.specs.Labels.{IsSunk}
+use Rattle.shim_records.specs.Members.{IsAmong}
+use Rattle.shim_records.specs.Labels.{IsLoweredAbove}
 use Rattle.shim_records.specs.Acted.{Earlier}
 use Rattle.shim_records.specs.declared.record.Record.{Record}
 
 -- For each of these channels, none of which stands there twice, the label y was taken in from the record x on, through at most n forks.
-pub data AllSunk (y n x : ℕ) : List Channel → List Record → List Record → Type 0 where
-  none_left : (rs : List Record) → AllSunk y n x [] rs rs
-  one_more : (c : Channel) (cs : List Channel) (before between behind : List Record) → (Among c cs → ⊥) → IsSunk c y n x before between → AllSunk y n x cs between behind → AllSunk y n x (c ∷ cs) before behind
+pub data AllLoweredAbove (y n x : ℕ) : List Channel → List Record → List Record → Type 0 where
+  none_left : (rs : List Record) → AllLoweredAbove y n x [] rs rs
+  one_more : (c : Channel) (cs : List Channel) (before between behind : List Record) → (IsAmong c cs → ⊥) → IsLoweredAbove c y n x before between → AllLoweredAbove y n x cs between behind → AllLoweredAbove y n x (c ∷ cs) before behind
 
 -- for one channel it was taken in, unless the process doesn't share it or it stood before
-pub data SinksOne {S : Type 0} (o : Ops S) (s : S) (y n x : ℕ) (c : Channel) (place : ℕ) (before behind : List Record) : Type 0 where
-  unshared : o.shares s c ≡ false → behind ≡ before → SinksOne o s y n x c place before behind
-  again : Earlier o s c place → behind ≡ before → SinksOne o s y n x c place before behind
-  sunk : o.shares s c ≡ true → (Earlier o s c place → ⊥) → IsSunk c y n x before behind → SinksOne o s y n x c place before behind
+pub data LowersForOne {S : Type 0} (o : Ops S) (s : S) (y n x : ℕ) (c : Channel) (place : ℕ) (before behind : List Record) : Type 0 where
+  unshared : o.shares s c ≡ false → behind ≡ before → LowersForOne o s y n x c place before behind
+  again : Earlier o s c place → behind ≡ before → LowersForOne o s y n x c place before behind
+  is_lowered : o.shares s c ≡ true → (Earlier o s c place → ⊥) → IsLoweredAbove c y n x before behind → LowersForOne o s y n x c place before behind
 
 -- for all that the process was given and shares
 pub record IsTaken {S : Type 0} (o : Ops S) (s : S) (y n x : ℕ) (before behind : List Record) : Type 0 where
   pub chans : List Channel
-  pub sunk : AllSunk y n x chans before behind
-  pub all : (c : Channel) → IsGiven o s c → o.shares s c ≡ true → Among c chans
-  pub shared : (c : Channel) → Among c chans → o.shares s c ≡ true
+  pub is_lowered : AllLoweredAbove y n x chans before behind
+  pub all : (c : Channel) → IsGiven o s c → o.shares s c ≡ true → IsAmong c chans
+  pub shared : (c : Channel) → IsAmong c chans → o.shares s c ≡ true

@@ -5,6 +5,7 @@ use Rattle.shim_base.specs.Paths.{Channel, NamedChannel, channel_order}
 use Rattle.shim_local.specs.Process.{Ops}
 use Rattle.shim_local.specs.Laws.{AnyOf, IsGiven}
 use Rattle.shim_laws_records.specs.Counts.{Tally, fresh_tally}
+use Rattle.shim_records.specs.Members.{IsAmong}
 use Rattle.shim_records.specs.Pairs.{tally, chans_of, IsOrdered, pair_of, find, label_of}
 use Rattle.shim_records.specs.declared.pair.Pair.{Pair}
 
@@ -18,10 +19,7 @@ abbrev pub shared_given : {S : Type 0} → Ops S → S → List S → List Named
 shared_given o p [] = []
 shared_given o p (k ∷ ks) = shared_of o p (o.given k) ++ shared_given o p ks
 
--- a channel is one of these
-abbrev pub Among : Channel → List Channel → Type 0
-Among c cs = (i : ℕ) × (slice_get cs i ≡ Some c)
-
+-- the channels without their names
 abbrev pub channels : List NamedChannel → List Channel
 channels ds = map (λ d. d.channel) ds
 
@@ -30,10 +28,12 @@ abbrev pub RisesFrom : Channel → List Channel → Type 0
 RisesFrom a [] = Unit {0}
 RisesFrom a (c ∷ cs) = (is_lt (channel_order c a) ≡ false) × RisesFrom c cs
 
+-- they stand in order, some perhaps several times
 abbrev pub Rises : List Channel → Type 0
 Rises [] = Unit {0}
 Rises (c ∷ cs) = RisesFrom c cs
 
+-- there is no such pair, or the channel comes behind that of the pair
 abbrev pub is_behind : Option Pair → Channel → Bool
 is_behind None c = true
 is_behind (Some p) c = is_lt (channel_order p.chan.channel c)
@@ -51,7 +51,7 @@ pub data IsOneMore {S : Type 0} (o : Ops S) (ks : List S) (c : Channel) (before 
 pub record IsPaired {S : Type 0} (o : Ops S) (ks : List S) (cs : List Channel) (pairs : List Pair) : Type 0 where
   pub ordered : IsOrdered (chans_of pairs)
   pub right : (i : ℕ) (p : Pair) → slice_get pairs i ≡ Some p → (tally p ≡ fresh_tally o p.chan.channel ks) × (p.least ≡ None)
-  pub there : (c : Channel) → Among c (chans_of pairs) ↔ Among c cs
+  pub there : (c : Channel) → IsAmong c (chans_of pairs) ↔ IsAmong c cs
 
 -- the pairs of the fork that made these children
 pub record FreshPairs {S : Type 0} (o : Ops S) (p : S) (ks : List S) (pairs : List Pair) : Type 0 where

@@ -7,30 +7,31 @@ use Rattle.shim_semantics.specs.Nodes.{death}
 use Rattle.shim_laws_records.specs.Seen.{lives, dies}
 use Rattle.shim_laws_records.specs.Counts.{Reading as Read}
 use Rattle.shim_laws_records.specs.Sufficing.{read_leaf}
+use Rattle.shim_records.specs.Members.{IsAmong}
 use Rattle.shim_records.specs.Pairs.{reading_of}
-use Rattle.shim_records.specs.Fresh.{Among}
-use Rattle.shim_records.specs.Ways.{IsClimbed}
-use Rattle.shim_records.specs.AllWays.{AllClimbed}
+use Rattle.shim_records.specs.Ways.{IsUpdatedAbove}
+use Rattle.shim_records.specs.AllWays.{AllUpdatedAbove}
 use Rattle.shim_records.specs.Acted.{Earlier}
 use Rattle.shim_records.specs.declared.pair.Reading.{Reading}
 use Rattle.shim_records.specs.declared.record.Record.{Record}
 
--- what was read of it while it lived, and what is now; of which label it died isn't read
+-- what was read of it while it lived
 abbrev pub living : {S : Type 0} → Ops S → S → Channel → Read
 living o s c = read_leaf o c s lives
 
-abbrev pub fallen : {S : Type 0} → Ops S → S → Channel → Read
-fallen o s c = read_leaf o c s (dies (death 0))
+-- what is read of it when it has died; of which label isn't read
+abbrev pub as_dead : {S : Type 0} → Ops S → S → Channel → Read
+as_dead o s c = read_leaf o c s (dies (death 0))
 
--- for one channel the way up was gone, unless the process doesn't share it or it stood before
+-- for one channel the way up was walked, unless the process doesn't share it or it stood before
 pub data KillsOne {S : Type 0} (o : Ops S) (s : S) (n x : ℕ) (c : Channel) (place : ℕ) (before behind : List Record) : Type 0 where
   unshared : o.shares s c ≡ false → behind ≡ before → KillsOne o s n x c place before behind
   again : Earlier o s c place → behind ≡ before → KillsOne o s n x c place before behind
-  gone : o.shares s c ≡ true → (Earlier o s c place → ⊥) → (read reads : Reading) → reading_of read ≡ living o s c → reading_of reads ≡ fallen o s c → IsClimbed c n x read reads before behind → KillsOne o s n x c place before behind
+  walked : o.shares s c ≡ true → (Earlier o s c place → ⊥) → (read reads : Reading) → reading_of read ≡ living o s c → reading_of reads ≡ as_dead o s c → IsUpdatedAbove c n x read reads before behind → KillsOne o s n x c place before behind
 
 -- for all of them
 pub record IsKilled {S : Type 0} (o : Ops S) (s : S) (n x : ℕ) (before behind : List Record) : Type 0 where
   pub chans : List Channel
-  pub climbed : AllClimbed (living o s) (fallen o s) n x chans before behind
-  pub all : (c : Channel) → IsGiven o s c → o.shares s c ≡ true → Among c chans
-  pub shared : (c : Channel) → Among c chans → o.shares s c ≡ true
+  pub updated : AllUpdatedAbove (living o s) (as_dead o s) n x chans before behind
+  pub all : (c : Channel) → IsGiven o s c → o.shares s c ≡ true → IsAmong c chans
+  pub shared : (c : Channel) → IsAmong c chans → o.shares s c ≡ true

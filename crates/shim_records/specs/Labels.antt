@@ -1,7 +1,7 @@
 -- How the least labels of records are brought up to date on the way up.
 use Rattle.std.specs.Prelude.{◌≡◌, ℕ, suc, false, Option, Some, None, List, map}
 use Rattle.shim_base.specs.Paths.{Channel, same_channel}
-use Rattle.shim_laws_records.specs.Sinking.{Sunk}
+use Rattle.shim_laws_records.specs.LoweredLabels.{LoweredAbove}
 use Rattle.shim_records.specs.Pairs.{counts_in, leasts_in, up_in, rest_of}
 use Rattle.shim_records.specs.declared.record.Record.{Record}
 
@@ -11,14 +11,15 @@ pub record OnlyLabels (c : Channel) (before behind : List Record) : Type 0 where
   pub counts : (d : Channel) (i : ℕ) → counts_in d behind i ≡ counts_in d before i
   pub elsewhere : (d : Channel) → same_channel c d ≡ false → (i : ℕ) → leasts_in d behind i ≡ leasts_in d before i
 
--- the way ends here, however far it might have gone; or it goes on from the parent
-abbrev pub GoesOn : Channel → ℕ → List Record → ℕ → Option ℕ → List Record → Type 0
-GoesOn c y before x None behind = (n : ℕ) → Sunk (up_in before) (counts_in c before) (Some y) n (leasts_in c before) x (leasts_in c behind)
-GoesOn c y before x (Some j) behind = (n : ℕ) (end : ℕ → Option ℕ) → Sunk (up_in before) (counts_in c before) (Some y) n (leasts_in c behind) j end → Sunk (up_in before) (counts_in c before) (Some y) (suc n) (leasts_in c before) x end
+-- the walk ends here, however far it might have led; or it goes on from the parent
+abbrev pub IsWalkStep : Channel → ℕ → List Record → ℕ → Option ℕ → List Record → Type 0
+IsWalkStep c y before x None behind = (n : ℕ) → LoweredAbove (up_in before) (counts_in c before) (Some y) n (leasts_in c before) x (leasts_in c behind)
+IsWalkStep c y before x (Some j) behind = (n : ℕ) (end : ℕ → Option ℕ) → LoweredAbove (up_in before) (counts_in c before) (Some y) n (leasts_in c behind) j end → LoweredAbove (up_in before) (counts_in c before) (Some y) (suc n) (leasts_in c before) x end
 
+-- the label is taken into the one record above, and nothing else has changed
 abbrev pub LowersOne : Channel → ℕ → List Record → ℕ → Option ℕ → List Record → Type 0
-LowersOne c y before x next behind = GoesOn c y before x next behind × OnlyLabels c before behind
+LowersOne c y before x next behind = IsWalkStep c y before x next behind × OnlyLabels c before behind
 
--- the way was gone through at most so many forks
-abbrev pub IsSunk : Channel → ℕ → ℕ → ℕ → List Record → List Record → Type 0
-IsSunk c y n x before behind = Sunk (up_in before) (counts_in c before) (Some y) n (leasts_in c before) x (leasts_in c behind) × OnlyLabels c before behind
+-- the way up was walked through at most so many forks
+abbrev pub IsLoweredAbove : Channel → ℕ → ℕ → ℕ → List Record → List Record → Type 0
+IsLoweredAbove c y n x before behind = LoweredAbove (up_in before) (counts_in c before) (Some y) n (leasts_in c before) x (leasts_in c behind) × OnlyLabels c before behind

@@ -8,4 +8,4 @@ pub data HasLeft (x : ℕ) (before behind : List Record) : Type 0 where
   alone : up_in before x ≡ None → behind ≡ before → HasLeft x before behind
   lost : (j : ℕ) → up_in before x ≡ Some j → slice_get before j ≡ None → behind ≡ before → HasLeft x before behind
   below : (j : ℕ) (r : Record) → up_in before x ≡ Some j → slice_get before j ≡ Some r
-      → behind ≡ slice_set before j (record { standing = r.standing; first = r.first; parent = r.parent; path = r.path; going = r.going - 1; pairs = r.pairs }) → HasLeft x before behind
+      → behind ≡ slice_set before j (record { status = r.status; first = r.first; parent = r.parent; path = r.path; going = r.going - 1; pairs = r.pairs }) → HasLeft x before behind

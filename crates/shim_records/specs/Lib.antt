@@ -1,9 +1,9 @@
 -- The definitions of this crate, one module for each subject.
+pub mod Members
 pub mod Pairs
 pub mod Ways
 pub mod Blocks
 pub mod Fresh
-pub mod Receiving
 pub mod Waiting
 pub mod Showing
 pub mod Labels

@@ -1,24 +1,27 @@
--- Records as lists of what they say: their standings, parents, and counts for a channel.
+-- Records as lists of what they say: their statuses, parents, and counts for a channel.
 use Rattle.std.specs.declared.cmp.Ordering.TheVariants.{Less}
 use Rattle.std.specs.Prelude.{ℕ, suc, Option, Some, None, List, [], ◌∷◌, cond, slice_get, ◌≡◌, ◌<◌, map}
 use Rattle.std.specs.Option.{option_map}
 use Rattle.shim_base.specs.Paths.{Path, Channel, same_channel, channel_order}
 use Rattle.shim_semantics.specs.Nodes.{death}
 use Rattle.shim_laws_records.specs.Seen.{lives, forks, ends, dies}
-use Rattle.shim_laws_records.specs.Agrees.{Standing as Stands, free, used}
+use Rattle.shim_laws_records.specs.Agrees.{RecordView, free, used}
 use Rattle.shim_laws_records.specs.Counts.{Tally, Reading as Read}
 use Rattle.shim_records.specs.declared.pair.Pair.{Pair}
 use Rattle.shim_records.specs.declared.pair.Reading.{Reading}
 use Rattle.shim_records.specs.declared.record.Record.{Record}
-use Rattle.shim_records.specs.declared.record.Standing.{Standing}
-use Rattle.shim_records.specs.declared.record.Standing.TheVariants as code
+use Rattle.shim_records.specs.declared.record.Status.{Status}
+use Rattle.shim_records.specs.declared.record.Status.TheVariants as code
 
+-- the counts of a pair
 abbrev pub tally : Pair → Tally
-tally p = record { live = p.live; waiting = p.waiting; dead = p.dead }
+tally p = record { live = p.live; not_ready = p.not_ready; dead = p.dead }
 
+-- a reading of the code, as the laws have it
 abbrev pub reading_of : Reading → Read
 reading_of r = record { joining = r.joining; readiness = r.readiness; failing = r.failing }
 
+-- the channels of the pairs
 abbrev pub chans_of : List Pair → List Channel
 chans_of ps = map (λ p. p.chan.channel) ps
 
@@ -36,9 +39,11 @@ abbrev pub pair_of : Channel → List Pair → Option Pair
 pair_of c [] = None
 pair_of c (p ∷ ps) = cond (same_channel p.chan.channel c) (Some p) (pair_of c ps)
 
+-- the counts that these pairs have for the channel
 abbrev pub find : Channel → List Pair → Option Tally
 find c ps = option_map tally (pair_of c ps)
 
+-- the counts that a record has for the channel, if there is the record
 abbrev pub counts_at : Channel → Option Record → Option Tally
 counts_at c None = None
 counts_at c (Some r) = find c r.pairs.items
@@ -52,6 +57,7 @@ abbrev pub label_of : Option Pair → Option ℕ
 label_of None = None
 label_of (Some p) = p.least
 
+-- the least label that a record has for the channel, if there is the record
 abbrev pub least_at : Channel → Option Record → Option ℕ
 least_at c None = None
 least_at c (Some r) = label_of (pair_of c r.pairs.items)
@@ -60,6 +66,7 @@ least_at c (Some r) = label_of (pair_of c r.pairs.items)
 abbrev pub leasts_in : Channel → List Record → ℕ → Option ℕ
 leasts_in c rs i = least_at c (slice_get rs i)
 
+-- the number of the process whose fork made that of the record, if there is the record
 abbrev pub up_at : Option Record → Option ℕ
 up_at None = None
 up_at (Some r) = r.parent
@@ -69,27 +76,37 @@ abbrev pub up_in : List Record → ℕ → Option ℕ
 up_in rs i = up_at (slice_get rs i)
 
 -- what came of a process
-abbrev pub stands_by : ℕ → Standing → Stands
+abbrev pub stands_by : ℕ → Status → RecordView
 stands_by f code.Free = free
 stands_by f code.Live = used f lives
 stands_by f (code.Forked n) = used f (forks n)
 stands_by f code.Ended = used f ends
 stands_by f (code.Dead x) = used f (dies (death x))
 
-abbrev pub stands_of : Record → Stands
-stands_of r = stands_by r.first r.standing
+-- into how many a process has forked
+abbrev pub fork_size : Status → ℕ
+fork_size code.Free = 0
+fork_size code.Live = 0
+fork_size (code.Forked n) = n
+fork_size code.Ended = 0
+fork_size (code.Dead x) = 0
+
+-- what the record says of its process
+abbrev pub stands_of : Record → RecordView
+stands_of r = stands_by r.first r.status
 
 -- a record without what is counted
 pub record Rest : Type 0 where
-  pub standing : Standing
+  pub status : Status
   pub first : ℕ
   pub parent : Option ℕ
   pub path : Path
   pub going : ℕ
   pub chans : List Channel
 
+-- what the record says without what is counted
 abbrev pub rest_of : Record → Rest
-rest_of r = record { standing = r.standing; first = r.first; parent = r.parent; path = r.path; going = r.going; chans = chans_of r.pairs.items }
+rest_of r = record { status = r.status; first = r.first; parent = r.parent; path = r.path; going = r.going; chans = chans_of r.pairs.items }
 
 -- the pairs of each record stand in order
 abbrev pub AreOrdered : List Record → Type 0

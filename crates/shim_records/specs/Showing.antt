@@ -18,6 +18,7 @@ use Rattle.shim_records.specs.declared.record.Record.{Record}
 abbrev pub AllLive : List Record → Type 0
 AllLive rs = (b : ℕ) (r : Record) → slice_get rs b ≡ Some r → (f : ℕ) × (stands_of r ≡ used f lives)
 
+-- What records show when a block was put, or was freed:
 pub record BlocksShow {S : Type 0} (o : Ops S) : Type 0 where
   -- a process has forked whose record says so, and whose children's states and records were put together in place of free ones or behind all
   pub fork : (states : List S) (rs born : List Record) (i f g : ℕ) (l p : S) (ks : List S) (r : Record) → length states ≡ length rs → g ≤ length rs → length born ≡ length ks → AllLive born

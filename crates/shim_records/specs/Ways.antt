@@ -2,9 +2,9 @@
 use Rattle.std.specs.Prelude.{◌≡◌, ℕ, suc, false, Option, Some, None, List, map}
 use Rattle.shim_base.specs.Paths.{Channel, same_channel}
 use Rattle.shim_laws_records.specs.Counts.{Tally}
-use Rattle.shim_laws_records.specs.Climbing.{Climbed}
+use Rattle.shim_laws_records.specs.Updating.{UpdatedAbove}
 use Rattle.shim_records.specs.Pairs.{reading_of, counts_in, leasts_in, up_in, rest_of}
-use Rattle.shim_records.specs.declared.upward.Rise.{Rise}
+use Rattle.shim_records.specs.declared.upward.CountChange.{CountChange}
 use Rattle.shim_records.specs.declared.pair.Reading.{Reading}
 use Rattle.shim_records.specs.declared.record.Record.{Record}
 
@@ -14,18 +14,19 @@ pub record OnlyCounts (c : Channel) (before behind : List Record) : Type 0 where
   pub elsewhere : (d : Channel) → same_channel c d ≡ false → (i : ℕ) → counts_in d behind i ≡ counts_in d before i
   pub labels : (d : Channel) (i : ℕ) → leasts_in d behind i ≡ leasts_in d before i
 
--- what is still to be gone from the place on, through at most so many forks
-abbrev pub Goes : (ℕ → Option ℕ) → ℕ → (ℕ → Option Tally) → Rise → (ℕ → Option Tally) → Type 0
-Goes up n before here behind = Climbed up 4294967295 n before here.at (reading_of here.was) (reading_of here.is) behind
+-- what is still to be walked from the place on, through at most so many forks
+abbrev pub Goes : (ℕ → Option ℕ) → ℕ → (ℕ → Option Tally) → CountChange → (ℕ → Option Tally) → Type 0
+Goes up n before here behind = UpdatedAbove up 4294967295 n before here.at (reading_of here.was) (reading_of here.is) behind
 
--- the way ends here, however far it might have gone; or it goes on from the parent
-abbrev pub Continues : (ℕ → Option ℕ) → (ℕ → Option Tally) → Rise → Option Rise → (ℕ → Option Tally) → Type 0
+-- the walk ends here, however far it might have led; or it goes on from the parent
+abbrev pub Continues : (ℕ → Option ℕ) → (ℕ → Option Tally) → CountChange → Option CountChange → (ℕ → Option Tally) → Type 0
 Continues up before here None now = (n : ℕ) → Goes up n before here now
 Continues up before here (Some next) now = (n : ℕ) (behind : ℕ → Option Tally) → Goes up n now next behind → Goes up (suc n) before here behind
 
-abbrev pub StepsUp : Channel → List Record → Rise → Option Rise → List Record → Type 0
+-- the counts of the one record above are moved, and nothing else has changed
+abbrev pub StepsUp : Channel → List Record → CountChange → Option CountChange → List Record → Type 0
 StepsUp c before here next behind = Continues (up_in before) (counts_in c before) here next (counts_in c behind) × OnlyCounts c before behind
 
--- the way was gone through at most so many forks
-abbrev pub IsClimbed : Channel → ℕ → ℕ → Reading → Reading → List Record → List Record → Type 0
-IsClimbed c n x was is before behind = Climbed (up_in before) 4294967295 n (counts_in c before) x (reading_of was) (reading_of is) (counts_in c behind) × OnlyCounts c before behind
+-- the way up was walked through at most so many forks
+abbrev pub IsUpdatedAbove : Channel → ℕ → ℕ → Reading → Reading → List Record → List Record → Type 0
+IsUpdatedAbove c n x was is before behind = UpdatedAbove (up_in before) 4294967295 n (counts_in c before) x (reading_of was) (reading_of is) (counts_in c behind) × OnlyCounts c before behind

@@ -1,32 +1,32 @@
 // The counts above a process that has done anything by itself, brought up to date for all channels.
 ghost use Rattle.std.specs.Prelude.{◌≡◌, ◌≤◌, true, false, length};
 ghost use Rattle.shim_records.specs.Pairs.{reading_of, AreOrdered};
-ghost use Rattle.shim_records.specs.Acted.{Earlier, sort_of, ClimbsOne, AllGone};
+ghost use Rattle.shim_records.specs.Acted.{Earlier, sort_of, UpdatesForOne, AllUpdated};
 ghost use Rattle.shim_laws_records.specs.Sufficing.{read_leaf};
 
 use crate::pair::Reading;
 use crate::receiving::stands_at;
-use crate::record::{Record, Standing};
-use crate::upward::climb;
+use crate::record::{Record, Status};
+use crate::upward::update_counts_above;
 use shim_base::Chan;
 use shim_local::Local;
 
 // What a fork reads of a process without children, of which this came.
-fn reading_now<L: Local>(process: &L, standing: Standing, c: &Chan) -> Reading
-    ensures { reading_of result ≡ read_leaf L.ops c.now.channel process.now (sort_of standing) }
+fn reading_now<L: Local>(process: &L, status: Status, c: &Chan) -> Reading
+    ensures { reading_of result ≡ read_leaf L.ops c.now.channel process.now (sort_of status) }
 {
-    match standing {
-        Standing::Live => Reading {
+    match status {
+        Status::Live => Reading {
             joining: process.shares(c),
             readiness: stands_at(process, c),
             failing: false,
         },
-        Standing::Dead(_) => Reading {
+        Status::Dead(_) => Reading {
             joining: false,
             readiness: false,
             failing: process.shares(c),
         },
-        Standing::Free | Standing::Forked(_) | Standing::Ended => Reading {
+        Status::Free | Status::Forked(_) | Status::Ended => Reading {
             joining: false,
             readiness: false,
             failing: false,
@@ -53,9 +53,9 @@ pub(crate) fn is_first<L: Local>(process: &L, c: &Chan, place: usize) -> bool
 }
 
 // Goes the way up for the channel, if the process shares it and it stands at no place before.
-fn climb_one<L: Local>(
+fn update_for_one<L: Local>(
     process: &L,
-    standing: Standing,
+    status: Status,
     records: &mut Vec<Record>,
     at: usize,
     c: &Chan,
@@ -63,7 +63,7 @@ fn climb_one<L: Local>(
     forks: u32,
 )
     requires { AreOrdered records.old.items }
-    ensures { ClimbsOne L.ops process.now (sort_of standing) forks at c.now.channel place records.old.items records.new.items }
+    ensures { UpdatesForOne L.ops process.now (sort_of status) forks at c.now.channel place records.old.items records.new.items }
 {
     if !process.shares(c) {
         return;
@@ -76,33 +76,26 @@ fn climb_one<L: Local>(
         readiness: false,
         failing: false,
     };
-    climb(
-        records,
-        at,
-        c,
-        was,
-        reading_now(process, standing, c),
-        forks,
-    );
+    update_counts_above(records, at, c, was, reading_now(process, status, c), forks);
 }
 
 /// Brings the counts above a process up to date that has done anything by itself, and of which this came, for
 /// each channel that it was given and shares. It has no children.
-pub fn climb_all<L: Local>(
+pub fn update_all_counts<L: Local>(
     process: &L,
-    standing: Standing,
+    status: Status,
     records: &mut Vec<Record>,
     at: usize,
     forks: u32,
 )
     requires ordered { AreOrdered records.old.items }
     requires few { length (L.ops.given process.now) ≤ 18446744073709551615 }
-    ensures { AllGone L.ops process.now (sort_of standing) forks at records.old.items records.new.items }
+    ensures { AllUpdated L.ops process.now (sort_of status) forks at records.old.items records.new.items }
 {
     for place in 0..usize::MAX {
         match process.given(place) {
             None => return,
-            Some(chan) => climb_one(process, standing, records, at, chan, place, forks),
+            Some(chan) => update_for_one(process, status, records, at, chan, place, forks),
         }
     }
 }

@@ -1,16 +1,16 @@
 // The labels above a process that has died, brought up to date for all channels.
 ghost use Rattle.std.specs.Prelude.{◌≡◌, ◌≤◌, length};
 ghost use Rattle.shim_records.specs.Pairs.{AreOrdered};
-ghost use Rattle.shim_records.specs.Died.{SinksOne, IsTaken};
+ghost use Rattle.shim_records.specs.Died.{LowersForOne, IsTaken};
 
 use crate::acted::is_first;
-use crate::labels::sink;
+use crate::labels::lower_labels_above;
 use crate::record::Record;
 use shim_base::Chan;
 use shim_local::Local;
 
 // Takes the label in for the channel, if the process shares it and it stands at no place before.
-fn sink_one<L: Local>(
+fn lower_for_one<L: Local>(
     process: &L,
     records: &mut Vec<Record>,
     at: usize,
@@ -20,7 +20,7 @@ fn sink_one<L: Local>(
     forks: u32,
 )
     requires { AreOrdered records.old.items }
-    ensures { SinksOne L.ops process.now label forks at c.now.channel place records.old.items records.new.items }
+    ensures { LowersForOne L.ops process.now label forks at c.now.channel place records.old.items records.new.items }
 {
     if !process.shares(c) {
         return;
@@ -28,12 +28,18 @@ fn sink_one<L: Local>(
     if !is_first(process, c, place) {
         return;
     }
-    sink(records, at, c, label, forks);
+    lower_labels_above(records, at, c, label, forks);
 }
 
 /// Takes the label of a process's death into the labels above its record, for each channel that it was given
 /// and shares.
-pub fn sink_all<L: Local>(process: &L, records: &mut Vec<Record>, at: usize, label: u32, forks: u32)
+pub fn lower_all_labels<L: Local>(
+    process: &L,
+    records: &mut Vec<Record>,
+    at: usize,
+    label: u32,
+    forks: u32,
+)
     requires ordered { AreOrdered records.old.items }
     requires few { length (L.ops.given process.now) ≤ 18446744073709551615 }
     ensures { IsTaken L.ops process.now label forks at records.old.items records.new.items }
@@ -41,7 +47,7 @@ pub fn sink_all<L: Local>(process: &L, records: &mut Vec<Record>, at: usize, lab
     for place in 0..usize::MAX {
         match process.given(place) {
             None => return,
-            Some(chan) => sink_one(process, records, at, chan, place, label, forks),
+            Some(chan) => lower_for_one(process, records, at, chan, place, label, forks),
         }
     }
 }

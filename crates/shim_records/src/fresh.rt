@@ -21,7 +21,7 @@ fn more(count: u32, test: bool) -> u32
 }
 
 // Whether the process shares the channel, and doesn't stand at it.
-fn waits_for<L: Local>(process: &L, chan: &Chan) -> bool
+fn isnt_ready<L: Local>(process: &L, chan: &Chan) -> bool
     ensures { result ≡ L.ops.shares process.now chan.now.channel && not (is_next (L.ops.stop process.now) chan.now.channel) }
 {
     process.shares(chan) && !stands_at(process, chan)
@@ -35,16 +35,16 @@ fn counted<L: Local>(chan: Chan, children: &[L]) -> Pair
     ensures label { result.least ≡ None }
 {
     let mut live = 0;
-    let mut waiting = 0;
+    let mut not_ready = 0;
     for i in 0..children.len() {
         let child = &children[i];
         live = more(live, child.shares(&chan));
-        waiting = more(waiting, waits_for(child, &chan));
+        not_ready = more(not_ready, isnt_ready(child, &chan));
     }
     Pair {
         chan,
         live,
-        waiting,
+        not_ready,
         dead: 0,
         least: None,
     }

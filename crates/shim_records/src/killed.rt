@@ -1,13 +1,13 @@
 // The counts above a live process that was killed where it stood, brought up to date for all channels.
 ghost use Rattle.std.specs.Prelude.{◌≡◌, ◌≤◌, length};
 ghost use Rattle.shim_records.specs.Pairs.{reading_of, AreOrdered};
-ghost use Rattle.shim_records.specs.Killed.{living, fallen, KillsOne, IsKilled};
+ghost use Rattle.shim_records.specs.Killed.{living, as_dead, KillsOne, IsKilled};
 
 use crate::acted::is_first;
 use crate::pair::Reading;
 use crate::receiving::stands_at;
 use crate::record::Record;
-use crate::upward::climb;
+use crate::upward::update_counts_above;
 use shim_base::Chan;
 use shim_local::Local;
 
@@ -23,8 +23,8 @@ fn living_reading<L: Local>(process: &L, c: &Chan) -> Reading
 }
 
 // What a fork reads of it when it has died.
-fn fallen_reading<L: Local>(process: &L, c: &Chan) -> Reading
-    ensures { reading_of result ≡ fallen L.ops process.now c.now.channel }
+fn dead_reading<L: Local>(process: &L, c: &Chan) -> Reading
+    ensures { reading_of result ≡ as_dead L.ops process.now c.now.channel }
 {
     Reading {
         joining: false,
@@ -51,12 +51,12 @@ fn kill_one<L: Local>(
     if !is_first(process, c, place) {
         return;
     }
-    climb(
+    update_counts_above(
         records,
         at,
         c,
         living_reading(process, c),
-        fallen_reading(process, c),
+        dead_reading(process, c),
         forks,
     );
 }

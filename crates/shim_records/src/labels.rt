@@ -2,7 +2,7 @@
 ghost use Rattle.std.specs.Prelude.{◌≡◌, Some, false};
 ghost use Rattle.shim_laws_records.specs.Dooms.{lesser};
 ghost use Rattle.shim_records.specs.Pairs.{tally, AreOrdered};
-ghost use Rattle.shim_records.specs.Labels.{LowersOne, IsSunk};
+ghost use Rattle.shim_records.specs.Labels.{LowersOne, IsLoweredAbove};
 
 use crate::pair::{Pair, place_in};
 use crate::record::Record;
@@ -58,12 +58,12 @@ fn lower_one(records: &mut Vec<Record>, at: usize, c: &Chan, label: u32) -> Opti
 
 /// Takes the label of a death of a sharer of the channel into the labels above its record, through at most
 /// so many forks: as far up as a fork had none as low.
-pub fn sink(records: &mut Vec<Record>, at: usize, c: &Chan, label: u32, forks: u32)
+pub fn lower_labels_above(records: &mut Vec<Record>, at: usize, c: &Chan, label: u32, forks: u32)
     requires { AreOrdered records.old.items }
-    ensures { IsSunk c.now.channel label forks at records.old.items records.new.items }
+    ensures { IsLoweredAbove c.now.channel label forks at records.old.items records.new.items }
 {
     let mut here = at;
-    for gone in 0..forks {
+    for walked in 0..forks {
         match lower_one(records, here, c, label) {
             None => return,
             Some(above) => here = above,

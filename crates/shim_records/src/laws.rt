@@ -18,12 +18,12 @@ pub fn pairs_begin<L: Local>()
 {}
 
 /// Where a process has done anything by itself, and for each channel that it was given and shares the way up
-/// was gone, the counts of all records are right again.
+/// was walked, the counts of all records are right again.
 pub fn ways_bring<L: Local>()
     ensures { WaysBring L.ops }
 {}
 
-/// So they are where `climb_all` did that.
+/// So they are where `update_all_counts` did that.
 pub fn acted_brings<L: Local>()
     ensures { ActedBrings L.ops }
 {}

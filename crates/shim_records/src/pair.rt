@@ -1,7 +1,7 @@
 // What is counted of the children of a fork for a channel.
 ghost use Rattle.std.specs.Prelude.{◌≡◌, ◌≤◌, ◌+◌};
-ghost use Rattle.shim_laws_records.specs.Counts.{bit, all_there, Moved};
-ghost use Rattle.shim_laws_records.specs.Climbing.{CanMove};
+ghost use Rattle.shim_laws_records.specs.Counts.{bit, all_there, live_reading, Moved};
+ghost use Rattle.shim_laws_records.specs.Updating.{CanMove};
 ghost use Rattle.shim_records.specs.Pairs.{tally, reading_of, place_of, chans_of, IsOrdered};
 
 use shim_base::Chan;
@@ -13,7 +13,7 @@ use std::cmp::Ordering;
 pub struct Pair {
     pub chan: Chan,
     pub live: u32,
-    pub waiting: u32,
+    pub not_ready: u32,
     pub dead: u32,
     /// The least label of those at and below the children that share it and are dead.
     pub least: Option<u32>,
@@ -26,6 +26,17 @@ pub struct Reading {
     pub joining: bool,
     pub readiness: bool,
     pub failing: bool,
+}
+
+/// What a fork reads of a child that goes on and shares the channel, and is ready on it or not.
+pub fn live_reading(readiness: bool) -> Reading
+    ensures { reading_of result ≡ live_reading readiness }
+{
+    Reading {
+        joining: true,
+        readiness,
+        failing: false,
+    }
 }
 
 // One less for what was read, and one more for what is.
@@ -46,7 +57,7 @@ pub fn has_all(pair: &Pair) -> bool
     if pair.live == 0 {
         return false;
     }
-    if pair.waiting == 0 {
+    if pair.not_ready == 0 {
         pair.dead == 0
     } else {
         false
@@ -60,8 +71,8 @@ pub(crate) fn move_pair(pair: &mut Pair, was: Reading, is: Reading)
     ensures label { pair.new.least ≡ pair.old.least }
 {
     pair.live = moved(pair.live, was.joining, is.joining);
-    pair.waiting = moved(
-        pair.waiting,
+    pair.not_ready = moved(
+        pair.not_ready,
         was.joining && !was.readiness,
         is.joining && !is.readiness,
     );

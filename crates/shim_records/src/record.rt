@@ -1,10 +1,14 @@
 // What is kept of a process beside its state.
+ghost use Rattle.std.specs.Prelude.{◌≡◌, true};
+ghost use Rattle.shim_laws_records.specs.Agrees.{free};
+ghost use Rattle.shim_records.specs.Pairs.{fork_size, stands_of};
+
 use crate::pair::Pair;
-use shim_base::{Path, Shared};
+use shim_base::Path;
 
 /// What came of a process, or that the record is free.
 #[derive(Clone, Copy)]
-pub enum Standing {
+pub enum Status {
     Free,
     Live,
     /// Into so many.
@@ -14,15 +18,35 @@ pub enum Standing {
     Dead(u32),
 }
 
+/// Into how many a process has forked of which this came.
+pub fn fork_size(status: Status) -> u32
+    ensures { result ≡ fork_size status }
+{
+    match status {
+        Status::Forked(count) => count,
+        Status::Free | Status::Live | Status::Ended | Status::Dead(_) => 0,
+    }
+}
+
+/// Whether the record is free.
+pub fn is_free(place: &Record) -> bool
+    ensures { result ≡ true → stands_of place.now ≡ free }
+{
+    match place.status {
+        Status::Free => true,
+        Status::Live | Status::Forked(_) | Status::Ended | Status::Dead(_) => false,
+    }
+}
+
 /// What is kept of a process beside its state.
 #[derive(Drop)]
 pub struct Record {
-    pub standing: Standing,
+    pub status: Status,
     /// The number of the first child of its fork; the others come behind it.
     pub first: u32,
     /// The number of the process whose fork made it; none at the root.
     pub parent: Option<u32>,
-    pub path: Shared<Path>,
+    pub path: Path,
     /// How many children of its fork have neither ended nor died.
     pub going: u32,
     /// The counts of its fork's children, for each channel that it shares and gave to one of them.

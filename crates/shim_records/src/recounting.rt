@@ -3,10 +3,10 @@ ghost use Rattle.std.specs.Prelude.{◌≡◌, false, map};
 ghost use Rattle.shim_laws_records.specs.Dooms.{lesser};
 ghost use Rattle.shim_laws_records.specs.Recounting.{label_at, label_among};
 ghost use Rattle.shim_records.specs.Pairs.{tally, label_of, pair_of, chans_of, stands_of, leasts_in, IsOrdered, AreOrdered};
-ghost use Rattle.shim_records.specs.Recounting.{children_of, RecountsOne, IsRecounted};
+ghost use Rattle.shim_records.specs.Recounting.{RecountsOne, IsRecounted};
 
 use crate::pair::{Pair, place_in};
-use crate::record::{Record, Standing};
+use crate::record::{Record, Status, fork_size};
 use shim_base::Chan;
 use shim_local::Local;
 
@@ -45,10 +45,10 @@ fn label_of_child<L: Local>(states: &[L], records: &[Record], at: usize, c: &Cha
     if at >= records.len() {
         return None;
     }
-    match records[at].standing {
-        Standing::Free | Standing::Live | Standing::Ended => None,
-        Standing::Forked(_) => kept(&records[at], c),
-        Standing::Dead(label) => if states[at].shares(c) {
+    match records[at].status {
+        Status::Free | Status::Live | Status::Ended => None,
+        Status::Forked(_) => kept(&records[at], c),
+        Status::Dead(label) => if states[at].shares(c) {
             Some(label)
         } else {
             None
@@ -75,16 +75,6 @@ fn label_of_children<L: Local>(
         );
     }
     least
-}
-
-// How many children a fork has.
-fn children(fork: &Record) -> u32
-    ensures { result ≡ children_of fork.now.standing }
-{
-    match fork.standing {
-        Standing::Forked(count) => count,
-        Standing::Free | Standing::Live | Standing::Ended | Standing::Dead(_) => 0,
-    }
 }
 
 // Puts a label in place of that of a pair, and answers whether it is another one.
@@ -121,7 +111,7 @@ fn recount_one<L: Local>(
         return None;
     }
     let first = records[above].first;
-    let count = children(&records[above]);
+    let count = fork_size(records[above].status);
     let label = label_of_children(states, records.as_slice(), first, count, c);
     let record = &mut records[above];
     let place = match place_in(record.pairs.as_slice(), c) {
@@ -139,7 +129,7 @@ pub fn recount<L: Local>(states: &[L], records: &mut Vec<Record>, at: usize, c: 
     ensures { IsRecounted L.ops c.now.channel states.now forks at records.old.items records.new.items }
 {
     let mut here = at;
-    for gone in 0..forks {
+    for walked in 0..forks {
         match recount_one(states, records, here, c) {
             None => return,
             Some(above) => here = above,

@@ -1,34 +1,23 @@
 // Counts brought up to date on the way up.
 ghost use Rattle.std.specs.Prelude.{◌≡◌, true, false};
 ghost use Rattle.shim_records.specs.Pairs.{AreOrdered};
-ghost use Rattle.shim_records.specs.Ways.{StepsUp, IsClimbed};
+ghost use Rattle.shim_records.specs.Ways.{StepsUp, IsUpdatedAbove};
 
-use crate::pair::{Reading, has_all, move_pair, place_in};
+use crate::pair::{Reading, has_all, live_reading, move_pair, place_in};
 use crate::record::Record;
 use shim_base::Chan;
 
 /// A place on the way up: a record, what was read of it, and what is.
 #[derive(Clone, Copy)]
-pub(crate) struct Rise {
+pub(crate) struct CountChange {
     pub(crate) at: usize,
     pub(crate) was: Reading,
     pub(crate) is: Reading,
 }
 
-// What is read of a fork that shares the channel.
-fn fork_reading(readiness: bool) -> Reading
-    ensures { result ≡ record { joining = true; readiness = readiness; failing = false } }
-{
-    Reading {
-        joining: true,
-        readiness,
-        failing: false,
-    }
-}
-
 // Moves the counts of the record's parent, if it has counts for the channel; the parent, where it is read
 // otherwise than before.
-fn step_up(records: &mut Vec<Record>, c: &Chan, here: Rise) -> Option<Rise>
+fn step_up(records: &mut Vec<Record>, c: &Chan, here: CountChange) -> Option<CountChange>
     requires { AreOrdered records.old.items }
     ensures { StepsUp c.now.channel records.old.items here result records.new.items }
 {
@@ -54,21 +43,28 @@ fn step_up(records: &mut Vec<Record>, c: &Chan, here: Rise) -> Option<Rise>
     if before == after {
         return None;
     }
-    Some(Rise {
+    Some(CountChange {
         at: above,
-        was: fork_reading(before),
-        is: fork_reading(after),
+        was: live_reading(before),
+        is: live_reading(after),
     })
 }
 
 /// Brings the counts for a channel up to date, from a record of which was read `was` and is read `is`,
 /// through at most so many forks: as far up as a fork is read otherwise than before.
-pub fn climb(records: &mut Vec<Record>, at: usize, c: &Chan, was: Reading, is: Reading, forks: u32)
+pub fn update_counts_above(
+    records: &mut Vec<Record>,
+    at: usize,
+    c: &Chan,
+    was: Reading,
+    is: Reading,
+    forks: u32,
+)
     requires { AreOrdered records.old.items }
-    ensures { IsClimbed c.now.channel forks at was is records.old.items records.new.items }
+    ensures { IsUpdatedAbove c.now.channel forks at was is records.old.items records.new.items }
 {
-    let mut here = Rise { at, was, is };
-    for gone in 0..forks {
+    let mut here = CountChange { at, was, is };
+    for walked in 0..forks {
         match step_up(records, c, here) {
             None => return,
             Some(next) => here = next,

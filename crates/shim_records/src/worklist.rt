@@ -1,6 +1,6 @@
 // Numbers that wait to be looked at.
-ghost use Rattle.std.specs.Prelude.{◌≡◌, ◌<◌, false, [], ◌∷◌, ◌++◌, length, OnOk, OnErr};
-ghost use Rattle.shim_records.specs.Waiting.{Adds, Takes};
+ghost use Rattle.std.specs.Prelude.{◌≡◌, ◌<◌, ◌≤◌, false, [], ◌∷◌, ◌++◌, length, OnOk, OnErr};
+ghost use Rattle.shim_records.specs.Waiting.{AreRaised, Adds, Takes, AreListedIn};
 
 use shim_base::NoMemory;
 use std::alloc::Global;
@@ -36,13 +36,32 @@ impl Worklist {
         }
     }
 
-    /// One number more may be listed. Want of memory changes nothing.
-    pub fn raise(&mut self) -> Result<(), NoMemory>
+    /// The numbers that are listed, in no certain order.
+    pub fn numbers(&self) -> &[u32]
+        ensures { AreListedIn result.now self.now }
+    {
+        self.numbers.as_slice()
+    }
+
+    // One number more may be listed. Want of memory changes nothing.
+    fn raise(&mut self) -> Result<(), NoMemory>
         ensures ok { OnOk result (self.new ≡ self.old ++ false ∷ []) }
         ensures err { OnErr result (self.new ≡ self.old) }
     {
         self.numbers.reserve(self.listed.len() + 1)?;
         self.listed.push(false)?;
+        Ok(())
+    }
+
+    /// All numbers below this one may be listed, and no further ones. Want of memory leaves all that is listed.
+    pub fn raise_to(&mut self, end: usize) -> Result<(), NoMemory>
+        ensures raised { AreRaised self.old self.new }
+        ensures ok { OnOk result (end ≤ length self.new) }
+        ensures most { length self.old ≤ end → length self.new ≤ end }
+    {
+        for bound in self.listed.len()..end {
+            self.raise()?;
+        }
         Ok(())
     }
 

@@ -2,10 +2,14 @@
 #![tactic(auto)]
 
 #[cfg(test)]
+mod finish_rows;
+#[cfg(test)]
 mod nets;
 #[cfg(test)]
 mod order_rows;
 #[cfg(test)]
 mod piece_rows;
+#[cfg(test)]
+mod turns;
 #[cfg(test)]
 mod worker_rows;

@@ -13,6 +13,34 @@ use std::process::Abort;
 use std::str;
 use std::test::Fail;
 
+/// A filter, which ends by an exception that is caught.
+pub const FILTER: &str = "void reader(istream &i, int &a) throws Done {
+  int c;
+  c = get i;
+  while (c != -1) { next a = c; c = get i; }
+  throw Done;
+}
+void twice(int a, int &b) {
+  while (1) { next a; next b = a * 2; }
+}
+void writer(int b, ostream &o) {
+  while (1) { next b; put o, b; }
+}
+void main(istream &i, ostream &o) {
+  int a; int b;
+  try {
+    reader(i, a); par twice(a, b); par writer(b, o);
+  } catch (Done) { }
+}";
+
+/// What comes of it on the input `AB`.
+pub const FILTERED: &str = "output 2 8284
+chan main#0 a : 65 66
+chan main#1 b : 130 132
+catch main Done 15
+end done 32
+";
+
 // A source has at most so many bytes.
 const MOST_BYTES: usize = 1_048_576;
 

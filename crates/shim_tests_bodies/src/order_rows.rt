@@ -1,9 +1,10 @@
 // Nets of whole programs, run by hand: pieces come back in the other order than they were given out in, and
 // some of them too late.
 use crate::nets::{accepted, expect_end, net_of};
+use crate::turns::{Ran, Way, turn};
 use shim_base::NoMemory;
-use shim_local::{Local, Parcel, work};
-use shim_net::{Absorbed, Net, Standing};
+use shim_local::Local;
+use shim_net::{Net, Standing};
 use shim_sharing::Accepted;
 use shim_workers::{NoOpGate, rounds};
 use std::alloc::Global;
@@ -11,76 +12,8 @@ use std::process::Abort;
 use std::test::Fail;
 use std::thread::Threads;
 
-// How a net is run by hand: how many steps a piece has at most, and whether one piece of each turn is done
-// again before the pieces come back.
-#[derive(Clone, Copy)]
-struct Way {
-    most: u64,
-    redone: bool,
-}
-
-// What came of that: how many were out at once, and how many pieces came back too late.
-#[derive(Clone, Copy)]
-struct Ran {
-    out: usize,
-    late: u64,
-}
-
 // How many are out at once at most, the source, and its report.
 type Row<'a> = (usize, &'a str, &'a str);
-
-// Gives out a piece of each process that can be given out.
-fn give_all<L: Local>(
-    alloc: Global,
-    net: &mut Net<L>,
-    most: u64,
-) -> Result<Vec<Parcel<L>>, NoMemory> {
-    let mut parcels = Vec::new(alloc);
-    for slot in 0..64 {
-        if net.is_out(slot, 0) {
-            return Ok(parcels);
-        }
-        match net.grant(most.max(1), slot, 0)? {
-            None => return Ok(parcels),
-            Some(parcel) => parcels.push(parcel)?,
-        }
-    }
-    Ok(parcels)
-}
-
-// Does a piece and takes it in; true where it comes too late.
-fn take<L: Local>(net: &mut Net<L>, parcel: Parcel<L>) -> Result<bool, NoMemory> {
-    match net.absorb(work(parcel)) {
-        Absorbed::Taken => Ok(false),
-        Absorbed::Short => Err(NoMemory),
-        Absorbed::Stranger(_) => Ok(true),
-    }
-}
-
-// Takes in all pieces, the last one first, and answers how many come too late.
-fn take_back<L: Local>(net: &mut Net<L>, parcels: Vec<Parcel<L>>) -> Result<u64, NoMemory> {
-    let mut left = parcels;
-    let mut late = 0u64;
-    for _ in 0..left.len() {
-        let Some(parcel) = left.pop() else {
-            return Ok(late);
-        };
-        late = late.saturating_add(u64::from(take(net, parcel)?));
-    }
-    Ok(late)
-}
-
-// One turn.
-fn turn<L: Local>(alloc: Global, net: &mut Net<L>, way: Way) -> Result<Ran, NoMemory> {
-    let parcels = give_all(alloc, net, way.most)?;
-    let out = parcels.len();
-    if way.redone {
-        net.redo()?;
-    }
-    let late = take_back(net, parcels)?;
-    net.settle()?;
-    Ok(Ran { out, late })
-}
 
 // Turns, until the net has come to its end. The most that were out at once, and all that came too late.
 fn run<L: Local>(alloc: Global, net: &mut Net<L>, way: Way) -> Result<Ran, NoMemory> {

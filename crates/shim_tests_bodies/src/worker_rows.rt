@@ -1,5 +1,5 @@
 // Nets of a filter, run by workers.
-use crate::nets::{accepted, expect_end, net_of};
+use crate::nets::{FILTER, FILTERED, accepted, expect_end, net_of};
 use shim_local::Local;
 use shim_net::Net;
 use shim_sharing::Accepted;
@@ -9,33 +9,6 @@ use std::process::Abort;
 use std::sync::Wait;
 use std::test::Fail;
 use std::thread::Threads;
-
-const FILTER: &str = "void reader(istream &i, int &a) throws Done {
-  int c;
-  c = get i;
-  while (c != -1) { next a = c; c = get i; }
-  throw Done;
-}
-void twice(int a, int &b) {
-  while (1) { next a; next b = a * 2; }
-}
-void writer(int b, ostream &o) {
-  while (1) { next b; put o, b; }
-}
-void main(istream &i, ostream &o) {
-  int a; int b;
-  try {
-    reader(i, a); par twice(a, b); par writer(b, o);
-  } catch (Done) { }
-}";
-
-// What comes of it on the input `AB`.
-const FILTERED: &str = "output 2 8284
-chan main#0 a : 65 66
-chan main#1 b : 130 132
-catch main Done 15
-end done 32
-";
 
 fn expect_by_rounds<L: Local, R: Threads + Sync + Abort>(
     rt: &R,

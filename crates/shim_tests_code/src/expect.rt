@@ -1,5 +1,5 @@
 // The listing of a source, and what is wanted of it.
-use shim_code::{compile, listing};
+use shim_code::listing;
 use shim_front_end::read_source;
 use std::alloc::Global;
 use std::process::Abort;
@@ -15,8 +15,7 @@ pub fn expect_listing(
 ) -> Result<(), Fail> {
     assert!(rt; source.len() <= 1048576);
     let accepted = read_source(alloc, source.as_bytes())?;
-    let code = compile(alloc, &accepted)?;
-    let text = listing(alloc, &code)?;
+    let text = listing(alloc, &accepted)?;
     assert_eq!(rt; str::from_utf8(text.as_slice())?, wanted);
     Ok(())
 }

@@ -1,6 +1,6 @@
 // Programs of several units and their code.
 use crate::expect::expect_listing;
-use shim_code::{CodeUnit, Instr, compile};
+use shim_code::{CodeUnit, Instr, code_unit};
 use shim_front_end::read_source;
 use std::test::Fail;
 
@@ -119,15 +119,12 @@ fn a_lifted_branch_passes_exceptions_on(rt: HostRuntime) -> Result<(), Fail> {
     )
 }
 
-// The exceptions that the instruction of a place hands on, which no listing tells.
-fn throws_at(units: &[CodeUnit], unit: usize, place: usize) -> &[u32] {
-    match units.get(unit) {
-        None => &[],
-        Some(unit) => match unit.code.get(place) {
-            Some(Instr::Call(_, _, throws)) => throws.as_slice(),
-            Some(Instr::Branch(_, _, throws)) => throws.as_slice(),
-            _ => &[],
-        },
+// The exceptions that the instruction of a place of a unit hands on, which no listing tells.
+fn throws_at(unit: &CodeUnit, place: usize) -> &[u32] {
+    match unit.code.get(place) {
+        Some(Instr::Call(_, _, throws)) => throws.as_slice(),
+        Some(Instr::Branch(_, _, throws)) => throws.as_slice(),
+        _ => &[],
     }
 }
 
@@ -139,11 +136,14 @@ fn exceptions_are_those_of_the_caller(rt: HostRuntime) -> Result<(), Fail> {
         }";
     assert!(rt; source.len() <= 1048576);
     let accepted = read_source(rt.alloc(), source.as_bytes())?;
-    let code = compile(rt.alloc(), &accepted)?;
+    let units = accepted.units();
+    assert_eq!(rt; units.len(), 4);
     // Of `main` Z is 0, X is 1 and Y is 2; its first branch is given X and Y.
-    assert!(rt; throws_at(code.units(), 1, 5) == [1, 2].as_slice());
-    assert!(rt; throws_at(code.units(), 1, 6) == [0].as_slice());
-    assert!(rt; throws_at(code.units(), 2, 1) == [0, 1].as_slice());
-    assert_eq!(rt; code.main(), 1);
+    let main = code_unit(rt.alloc(), &units[1], units)?;
+    assert!(rt; throws_at(&main, 5) == [1, 2].as_slice());
+    assert!(rt; throws_at(&main, 6) == [0].as_slice());
+    let branch = code_unit(rt.alloc(), &units[2], units)?;
+    assert!(rt; throws_at(&branch, 1) == [0, 1].as_slice());
+    assert_eq!(rt; accepted.main(), 1);
     Ok(())
 }

@@ -126,11 +126,11 @@ fn block_branches_stand_behind_the_functions_with_what_they_take(
                     UStmt { line: 10, what: Call(UCall { unit: 0, args: [Pass(3), Ref(1), Ref(0)], throws: [] }) }, \
                     UStmt { line: 11, what: Call(UCall { unit: 0, args: [Pass(2), Ref(1), Ref(0)], throws: [] }) }, \
                     UStmt { line: 12, what: Call(UCall { unit: 0, args: [\
-                    Fresh(Binary(Add, Boxed { inner: Var(1) }, Boxed { inner: Number(0) })), Ref(2), Ref(0)], \
+                    Fresh(Boxed { inner: Binary(Add, Boxed { inner: Var(1) }, Boxed { inner: Number(0) }) }), Ref(2), Ref(0)], \
                     throws: [] }) }, \
                     UStmt { line: 13, what: Par([\
                     UBranch { line: 13, call: UCall { unit: 0, args: [\
-                    Fresh(Unary(Neg, Boxed { inner: Number(3) })), Ref(1), Ref(0)], throws: [] } }, \
+                    Fresh(Boxed { inner: Unary(Neg, Boxed { inner: Number(3) }) }), Ref(1), Ref(0)], throws: [] } }, \
                     UBranch { line: 14, call: UCall { unit: 7, args: [Pass(2)], throws: [] } }]) }]",
             },
             Wanted {

@@ -34,8 +34,14 @@ enum Call {
     Absorb,
     // So it is, but it was changed before.
     AbsorbChanged(Change),
+    // A second net of the same root gives out as much with this slot, which is done and brought here.
+    AbsorbOfAnother(u64, u64),
+    // The last parcel is lost.
+    Lose,
     Redo,
+    RedoAll,
     Settle,
+    Finish,
 }
 
 fn add_number(told: &mut List<u8>, before: &[u8], number: u64) -> Result<(), NoMemory> {
@@ -191,9 +197,47 @@ fn redo<L: Local>(told: &mut List<u8>, net: &mut Net<L>) -> Result<(), NoMemory>
     }
 }
 
+fn redo_all<L: Local>(told: &mut List<u8>, net: &mut Net<L>) -> Result<(), NoMemory> {
+    match net.redo_all() {
+        Ok(()) => told.extend_from_slice(b" all redone;"),
+        Err(_) => told.extend_from_slice(b" redo refused;"),
+    }
+}
+
+fn finish<L: Local>(told: &mut List<u8>, net: &mut Net<L>) -> Result<(), NoMemory> {
+    match net.finish() {
+        Ok(()) => told.extend_from_slice(b" finished;"),
+        Err(_) => told.extend_from_slice(b" finish refused;"),
+    }
+}
+
+// A piece that another net gives out is done and brought to this one.
+fn absorb_of_another<L: Local>(
+    told: &mut List<u8>,
+    net: &mut Net<L>,
+    other: &mut Net<L>,
+    most: u64,
+    slot: u64,
+) -> Result<(), NoMemory> {
+    let mut given = Vec::new(told.allocator());
+    grant(told, other, &mut given, most, slot)?;
+    match given.pop() {
+        Some(parcel) => absorb(told, net, work(parcel)),
+        None => told.extend_from_slice(b" no parcel;"),
+    }
+}
+
+fn lose<L: Local>(told: &mut List<u8>, parcels: &mut Vec<Parcel<L>>) -> Result<(), NoMemory> {
+    match parcels.pop() {
+        Some(_) => told.extend_from_slice(b" lost;"),
+        None => told.extend_from_slice(b" no parcel;"),
+    }
+}
+
 fn do_call<L: Local>(
     told: &mut List<u8>,
     net: &mut Net<L>,
+    other: &mut Net<L>,
     parcels: &mut Vec<Parcel<L>>,
     call: Call,
 ) -> Result<(), NoMemory> {
@@ -207,11 +251,15 @@ fn do_call<L: Local>(
             Some(parcel) => absorb(told, net, work(changed(parcel, change)?)),
             None => told.extend_from_slice(b" no parcel;"),
         },
+        Call::AbsorbOfAnother(most, slot) => absorb_of_another(told, net, other, most, slot),
+        Call::Lose => lose(told, parcels),
         Call::Redo => redo(told, net),
+        Call::RedoAll => redo_all(told, net),
         Call::Settle => {
             add_number(told, b" settled ", net.settle()?)?;
             told.extend_from_slice(b";")
         }
+        Call::Finish => finish(told, net),
     }
 }
 
@@ -227,10 +275,11 @@ fn root(alloc: Global, left: &[Step]) -> Result<Small, NoMemory>
 // All that is told of a net of a root with these steps to do and this budget, which is 1 at least.
 fn tell(alloc: Global, left: &[Step], budget: u8, calls: &[Call]) -> Result<List<u8>, NoMemory> {
     let mut net = Net::start(alloc, root(alloc, left)?, budget.max(1) as u64)?;
+    let mut other = Net::start(alloc, root(alloc, left)?, budget.max(1) as u64)?;
     let mut parcels = Vec::new(alloc);
     let mut told = List::new(alloc);
     for call in calls {
-        do_call(&mut told, &mut net, &mut parcels, *call)?;
+        do_call(&mut told, &mut net, &mut other, &mut parcels, *call)?;
     }
     add_net(alloc, &mut told, &net)?;
     Ok(told)
@@ -438,6 +487,152 @@ fn settling_stops_at_quiet_steps_or_at_the_budget(rt: HostRuntime) -> Result<(),
                 &[Call::Settle, Call::Settle],
                 " settled 6; settled 0; running; \
                  steps 6: own root, meet 2, end root/0.1, end root/0.0, close root, own root, met 0",
+            ),
+        ],
+    )
+}
+
+#[test]
+fn finish_comes_to_rest_or_to_the_budget(rt: HostRuntime) -> Result<(), Fail> {
+    expect(
+        &rt,
+        rt.alloc(),
+        &[
+            Step::Quiet,
+            Step::Quiet,
+            Step::Fork,
+            Step::Quiet,
+            Step::Put,
+            Step::Quiet,
+        ],
+        &[
+            (
+                255,
+                &[Call::Finish, Call::Finish],
+                " finished; finished; done after 11; \
+                 steps 11: quiet root 2, own root, meet 2, end root/0.1, end root/0.0, close root, \
+                 quiet root 1, own root, quiet root 1, end root, met 0",
+            ),
+            (
+                4,
+                &[Call::Finish, Call::Finish],
+                " finished; finished; spent after 4; steps 4: quiet root 2, own root, meet 2, met 0",
+            ),
+            (
+                1,
+                &[Call::Finish],
+                " finished; spent after 1; steps 1: quiet root 1, none met",
+            ),
+        ],
+    )
+}
+
+#[test]
+fn finish_does_what_was_given_out_and_lost(rt: HostRuntime) -> Result<(), Fail> {
+    expect(
+        &rt,
+        rt.alloc(),
+        &[Step::Quiet, Step::Quiet, Step::Quiet, Step::Put],
+        &[
+            (
+                255,
+                &[Call::Grant(2, 1), Call::Lose, Call::Finish],
+                " gave root number 0 steps 2; lost; finished; done after 5; \
+                 steps 5: quiet root 2, quiet root 1, own root, end root, none met",
+            ),
+            // What is reserved for the lost work is all that is left.
+            (
+                2,
+                &[Call::Grant(9, 1), Call::Lose, Call::Settle, Call::Finish],
+                " gave root number 0 steps 2; lost; settled 0; finished; spent after 2; \
+                 steps 2: quiet root 2, none met",
+            ),
+            (
+                255,
+                &[Call::Grant(2, 1), Call::Lose, Call::RedoAll, Call::RedoAll],
+                " gave root number 0 steps 2; lost; all redone; all redone; running; \
+                 steps 2: quiet root 2, none met",
+            ),
+        ],
+    )
+}
+
+#[test]
+fn strangers_change_no_end(rt: HostRuntime) -> Result<(), Fail> {
+    expect(
+        &rt,
+        rt.alloc(),
+        &[Step::Quiet, Step::Quiet, Step::Quiet, Step::Put],
+        &[
+            // A piece of a second net, which has a start like that of the open grant.
+            (
+                255,
+                &[
+                    Call::Grant(2, 1),
+                    Call::AbsorbOfAnother(2, 3),
+                    Call::Lose,
+                    Call::Finish,
+                ],
+                " gave root number 0 steps 2; gave root number 0 steps 2; stranger; lost; finished; \
+                 done after 5; steps 5: quiet root 2, quiet root 1, own root, end root, none met",
+            ),
+            // A piece whose grant was closed by `redo`, and one whose grant was closed by `finish`.
+            (
+                255,
+                &[
+                    Call::Grant(2, 1),
+                    Call::Redo,
+                    Call::Absorb,
+                    Call::Grant(2, 1),
+                    Call::Finish,
+                    Call::Absorb,
+                ],
+                " gave root number 0 steps 2; redone; stranger; gave root number 0 steps 2; finished; stranger; \
+                 done after 5; steps 5: quiet root 2, quiet root 1, own root, end root, none met",
+            ),
+        ],
+    )
+}
+
+// The fourth exception place would be the fifth in force.
+#[test]
+fn finish_that_wants_memory_keeps_what_it_did(rt: HostRuntime) -> Result<(), Fail> {
+    expect(
+        &rt,
+        rt.alloc(),
+        &[
+            Step::Fork,
+            Step::Try(3, 20),
+            Step::Try(4, 21),
+            Step::Try(5, 22),
+            Step::Try(6, 23),
+        ],
+        &[
+            (
+                255,
+                &[Call::Finish],
+                " finish refused; running; \
+                 steps 8: own root, meet 2, end root/0.1, end root/0.0, close root, quiet root 3, met 0",
+            ),
+            // The work that is out is done again.
+            (
+                255,
+                &[Call::Settle, Call::Grant(2, 1), Call::Lose, Call::Finish],
+                " settled 5; gave root number 0 steps 2; lost; finish refused; running; \
+                 steps 8: own root, meet 2, end root/0.1, end root/0.0, close root, quiet root 2, quiet root 1, met 0",
+            ),
+            // It isn't where it wants memory itself, and stays out.
+            (
+                255,
+                &[
+                    Call::Settle,
+                    Call::Grant(9, 1),
+                    Call::Finish,
+                    Call::Grant(9, 1),
+                    Call::Absorb,
+                ],
+                " settled 5; gave root number 0 steps 9; finish refused; slot is out; short; running; \
+                 steps 8: own root, meet 2, end root/0.1, end root/0.0, close root, quiet root 3, met 0",
             ),
         ],
     )

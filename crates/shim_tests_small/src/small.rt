@@ -322,5 +322,9 @@ impl Local for Small {
         })
     }
 
+    fn hand_over_cost(&self) -> u64 {
+        100
+    }
+
     ghost laws = { small_laws };
 }

@@ -5,6 +5,7 @@ use Rattle.shim_base.specs.Paths.{Path}
 use Rattle.shim_local.specs.Process.{Ops}
 use Rattle.shim_local.specs.declared.Outcome.{Outcome}
 use Rattle.shim_local.specs.declared.Outcome.TheVariants.{Done, Uncaught, Trapped, Blocked, Spent}
+use Rattle.shim_process.specs.OwnSlots.{UsesOwnSlots}
 use Rattle.shim_process.specs.Ops.{process_ops}
 use Rattle.shim_process.specs.LocalState.{LocalState}
 use Rattle.shim_semantics.specs.Nodes.{Node, Live, Forked, Ended, Dead, has_ended, is_dead, goes}
@@ -88,17 +89,17 @@ never_spent (Forked l ks) e = omega (arith, e)
 never_spent (Ended l) e = omega (arith, e)
 never_spent (Dead l d) e = let one = dead_status d.label in omega (arith, e, one)
 
--- the status comes exactly where this is so
+-- of a source whose units use slots of their own, the status comes exactly where this is so
 pub record Tells (status : ℕ) (Cause : Execution → Type 0) : Type 0 where
-  pub only : (x : Execution) → status_of x ≡ status → Cause x
-  pub when : (x : Execution) → Cause x → status_of x ≡ status
+  pub only : (x : Execution) → UsesOwnSlots x.source → status_of x ≡ status → Cause x
+  pub when : (x : Execution) → UsesOwnSlots x.source → Cause x → status_of x ≡ status
 
 -- nothing can happen any more, and the root is of this kind
 abbrev RestsSo : (Node LocalState → Bool) → Execution → Type 0
 RestsSo kind x = IsQuiescent process_ops (tree_of x) × IsTrue (kind (tree_of x).root)
 
 rest_tells : (status : ℕ) (kind : Node LocalState → Bool) → (status ≡ 4 → ⊥) → ((n : Node LocalState) → IsTrue (kind n) ↔ (status_of_outcome (outcome_of_root n) ≡ status)) → Tells status (RestsSo kind)
-rest_tells status kind apart tells = record { only = λ x is. only x (was_run x) is; when = λ x cause. when x (was_run x) cause } where
+rest_tells status kind apart tells = record { only = λ x own is. only x (was_run x own) is; when = λ x own cause. when x (was_run x own) cause } where
   only : (x : Execution) → IsEndOfRun process_ops x.budget (tree_of x) → status_of x ≡ status → RestsSo kind x
   only x (inl (none, quiet)) is = (quiet, (tells (tree_of x).root).1 (sym (status_at_rest x none) ∙ is))
   only x (inr (some, busy, full)) is = absurd (apart (sym is ∙ status_stopped x some))
@@ -117,7 +118,7 @@ pub tells_blocked : Tells 3 IsBlocked
 tells_blocked = rest_tells 3 goes (λ e. omega (arith, e)) root_goes
 
 pub tells_spent : Tells 4 IsSpent
-tells_spent = record { only = λ x is. only x (was_run x) is; when = λ x cause. when x (was_run x) cause } where
+tells_spent = record { only = λ x own is. only x (was_run x own) is; when = λ x own cause. when x (was_run x own) cause } where
   only : (x : Execution) → IsEndOfRun process_ops x.budget (tree_of x) → status_of x ≡ 4 → IsSpent x
   only x (inl (none, quiet)) is = absurd (never_spent (tree_of x).root (sym (status_at_rest x none) ∙ is))
   only x (inr (some, busy, full)) is = busy
@@ -137,14 +138,14 @@ unfolding ended
 printed o throws t = ap (λ (ns : List ℕ). sum ns + t.events) (counts_of (finite.entries t.counts))
 
 -- where the meaning is stopped, it did as many events as the budget has
-pub spent_steps : (x : Execution) → status_of x ≡ 4 → steps (tree_of x) ≡ x.budget
-spent_steps x is = full (was_run x)
+pub spent_steps : (x : Execution) → UsesOwnSlots x.source → status_of x ≡ 4 → steps (tree_of x) ≡ x.budget
+spent_steps x own is = full (was_run x own)
   where
     full : IsEndOfRun process_ops x.budget (tree_of x) → steps (tree_of x) ≡ x.budget
     full (inl (none, quiet)) = absurd (never_spent (tree_of x).root (sym (status_at_rest x none) ∙ is))
     full (inr (some, busy, n)) = n
 
 -- and those of a meaning that is stopped to the budget
-pub spent_counts : (x : Execution) → status_of x ≡ 4 → printed_steps (end_of x) ≡ x.budget
+pub spent_counts : (x : Execution) → UsesOwnSlots x.source → status_of x ≡ 4 → printed_steps (end_of x) ≡ x.budget
 unfolding end_of reference_of tree_of
-spent_counts x is = printed process_ops x.source.main_throws (tree_of x) ∙ spent_steps x is
+spent_counts x own is = printed process_ops x.source.main_throws (tree_of x) ∙ spent_steps x own is

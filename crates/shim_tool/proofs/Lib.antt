@@ -1,5 +1,6 @@
 -- The lemmas of this crate, one module for each subject.
 pub mod ExecuteLemmas
+pub mod SourceSlots
 pub mod MeaningEnds
 pub mod Causes
 pub mod NetEnds

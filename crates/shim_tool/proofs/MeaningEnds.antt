@@ -3,6 +3,7 @@ use Rattle.std.proofs.Common.{◌≡◌, ℕ, inl, inr, Option, Some, None, leng
 use Rattle.shim_local.specs.Process.{Ops}
 use Rattle.shim_local.specs.Laws.{LocalLaws}
 use Rattle.shim_process.specs.Forks.{root}
+use Rattle.shim_process.specs.OwnSlots.{UsesOwnSlots}
 use Rattle.shim_process.specs.Ops.{process_ops}
 use Rattle.shim_process.proofs.AllLaws.{process_laws}
 use Rattle.shim_process.proofs.PlaceRoot.{root_sound}
@@ -42,6 +43,6 @@ module _ {S : Type 0} (o : Ops S) where
       came root b (meaning o b (start root)) (runs_stay_sound o law (start root) (meaning o b (start root)) w.events s w.leads) w (first o (meaning o b (start root))) refl
 
 -- the tree to which a source comes is the end of a run of first events
-pub was_run : (x : Execution) → IsEndOfRun process_ops x.budget (tree_of x)
+pub was_run : (x : Execution) → UsesOwnSlots x.source → IsEndOfRun process_ops x.budget (tree_of x)
 unfolding tree_of meaning_of
-was_run x = meaning_came process_ops process_laws (root x.source x.input) x.budget (root_sound x.source x.input) (main_shares_its_own (root x.source x.input) x.source x.input refl)
+was_run x own = meaning_came process_ops process_laws (root x.source x.input) x.budget (root_sound x.source x.input own) (main_shares_its_own (root x.source x.input) x.source x.input refl)

@@ -6,6 +6,8 @@ use Rattle.shim_local.specs.declared.Outcome.TheVariants.{Done, Uncaught, Trappe
 use Rattle.shim_units.specs.declared.form.Form.{Form}
 use Rattle.shim_process.specs.Forks.{root}
 use Rattle.shim_process.specs.LocalState.{LocalState}
+use Rattle.shim_process.specs.OwnSlots.{UsesOwnSlots}
+use Rattle.shim_process.specs.Sound.{Sound}
 use Rattle.shim_process.specs.Ops.{process_ops}
 use Rattle.shim_semantics.specs.Endings.{ended}
 use Rattle.shim_semantics.specs.Trees.{Tree, start, IsQuiescent}
@@ -42,14 +44,14 @@ status_is : (x : Execution) → status_of x ≡ status_of_outcome (ended process
 status_is x = ap (λ (e : Ended). status_of_outcome e.outcome) (end_is x) ∙ status_named x.source.main_throws (ended process_ops (meant x)).outcome
 
 -- a tree at which a schedule has ended gives what a run may come to
-pub net_end : (x : Execution) (t : Tree LocalState) → AgreesWithMeaning process_ops (root x.source x.input) x.budget t → IsToldAs process_ops (root x.source x.input) x.budget t
+pub net_end : (x : Execution) (t : Tree LocalState) → UsesOwnSlots x.source → AgreesWithMeaning process_ops (root x.source x.input) x.budget t → IsToldAs process_ops (root x.source x.input) x.budget t
     → IsEnd in_some_order x (read_off x t)
-net_end x t agrees told = by_outcome (spent_or_not (ended process_ops (meant x)).outcome)
+net_end x t own agrees told = by_outcome (spent_or_not (ended process_ops (meant x)).outcome)
   where
     goes_on : status_of x ≡ 4 → IsQuiescent process_ops t → ⊥
     goes_on four q =
         let P : Tree LocalState → Type 0 = λ u. IsQuiescent process_ops u in
-        tells_spent.only x four (subst P (sym (tree_is x)) (agrees.alike.rests.0 q))
+        tells_spent.only x own four (subst P (sym (tree_is x)) (agrees.alike.rests.0 q))
 
     by_outcome : ((ended process_ops (meant x)).outcome ≡ Spent) ⊎ (((ended process_ops (meant x)).outcome ≢ Spent) × (status_of_outcome (ended process_ops (meant x)).outcome ≢ 4)) → IsEnd in_some_order x (read_off x t)
     by_outcome (inl spent) =
@@ -67,15 +69,20 @@ meaning_end x e is = by_outcome (spent_or_not (end_of x).outcome)
     by_outcome (inl spent) = stopped (ap status_of_outcome spent) is (ap (λ (y : Ended). status_of_outcome y.outcome) is ∙ ap status_of_outcome spent)
     by_outcome (inr (other, apart)) = as_meant apart is
 
+-- a sound process that runs `main` tells that the units use slots of their own
+own_slots : (l : LocalState) (program : Form) (input : List ℕ) → Sound l → l ≡ root program input → UsesOwnSlots program
+unfolding root
+own_slots l program input s is = subst UsesOwnSlots (ap (λ (m : LocalState). m.program) is) s.fitting.uses
+
 -- a net of this root and this budget gives its end
-pub net_ended : (source : LocalState) (x : Execution) (n : NetView LocalState) (e : Ended) → source ≡ root x.source x.input → n.root ≡ source → n.budget ≡ x.budget
+pub net_ended : (source : LocalState) (x : Execution) (n : NetView LocalState) (e : Ended) → Sound source → source ≡ root x.source x.input → n.root ≡ source → n.budget ≡ x.budget
     → AgreesWithMeaning process_ops n.root n.budget n.tree → IsToldAs process_ops n.root n.budget n.tree → e ≡ read_off x n.tree → IsEnd in_some_order x e
-net_ended source x n e is same within agrees told read =
+net_ended source x n e sound is same within agrees told read =
     let A : LocalState → ℕ → Type 0 = λ r b. AgreesWithMeaning process_ops r b n.tree in
     let T : LocalState → ℕ → Type 0 = λ r b. IsToldAs process_ops r b n.tree in
     let from = same ∙ is in
     let E : Ended → Type 0 = λ y. IsEnd in_some_order x y in
-    subst E (sym read) (net_end x n.tree (subst (λ b. A (root x.source x.input) b) within (subst (λ r. A r n.budget) from agrees))
+    subst E (sym read) (net_end x n.tree (own_slots source x.source x.input sound is) (subst (λ b. A (root x.source x.input) b) within (subst (λ r. A r n.budget) from agrees))
     (subst (λ b. T (root x.source x.input) b) within (subst (λ r. T r n.budget) from told)))
 
 -- the process that runs `main` has the path of a root

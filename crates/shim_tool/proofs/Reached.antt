@@ -2,6 +2,7 @@
 use Rattle.std.proofs.Common.{◌≡◌, ℕ, zero, suc, ◌+◌, ◌≤◌, Option, Some, None, List, [], ◌∷◌, length, refl, ap, ◌∙◌, arith}
 use Rattle.shim_local.specs.Process.{Ops}
 use Rattle.shim_process.specs.Forks.{root}
+use Rattle.shim_process.specs.OwnSlots.{UsesOwnSlots}
 use Rattle.shim_process.specs.Ops.{process_ops}
 use Rattle.shim_semantics.specs.Systems.{run, go_on}
 use Rattle.shim_semantics.specs.Trees.{Tree, Event, after, start, steps}
@@ -47,8 +48,8 @@ pub is_reached : (x : Execution) → (n : ℕ) × (n ≤ x.budget) × IsReachedI
 is_reached x = let w = tree_reached x in (length w.0, w.3, (w.0, w.1, refl))
 
 -- and where it was stopped, by as many events as the budget has
-pub is_reached_whole : (x : Execution) → status_of x ≡ 4 → IsReachedIn x.budget x
-is_reached_whole x is = whole (tree_reached x) (spent_steps x is)
+pub is_reached_whole : (x : Execution) → UsesOwnSlots x.source → status_of x ≡ 4 → IsReachedIn x.budget x
+is_reached_whole x own is = whole (tree_reached x) (spent_steps x own is)
   where
     whole : Reaches process_ops x.budget (start (root x.source x.input)) (tree_of x) → steps (tree_of x) ≡ x.budget → IsReachedIn x.budget x
     whole (es, leads, counts, few) full = (es, leads, omega (arith, counts, full, none_counted (root x.source x.input) (start (root x.source x.input)) refl))

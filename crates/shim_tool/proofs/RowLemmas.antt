@@ -14,9 +14,11 @@ use Rattle.shim_tool.specs.Reads.{AreContents, HoldsAll, HoldsUpTo, Holds, OneRe
 use Rattle.shim_tool.specs.Answer.{Answer, Answers, AnswersGathered, AnswersUnits, FailedGrew, MayAnswer, IsNoSource, IsStoppedBy, gathered, status_by, text_by, text_with, longer_line, memory_line, usage_line}
 use Rattle.shim_tool.specs.Call.{Ran, Writes}
 use Rattle.shim_tool.specs.Rows.{Came, Comes, ComesUnlessUnread, WasRead, EndsBy, IsReached, IsRefusal, execution, CameStopped, EndRow, SpentRow, CountRow, RefusedRow, FileCause, FileRow, SinkRow, MemoryRow, WordsRow, FilesRow, IsComplete}
+use Rattle.shim_process.specs.OwnSlots.{UsesOwnSlots}
 use Rattle.shim_process.specs.Ops.{process_ops}
 use Rattle.shim_tool.proofs.Causes.{Tells, tells_spent, printed, spent_counts}
 use Rattle.shim_tool.proofs.Reached.{is_reached, is_reached_whole}
+use Rattle.shim_tool.proofs.SourceSlots.{source_uses_own_slots}
 use Rattle.shim_tool.proofs.Outcomes.{Outcome, does, refuses, outcome}
 use Rattle.shim_tool.proofs.Joins.{looks_grew}
 use Rattle.shim_tool.proofs.Sights.{WasSeen, was_seen, same_contents, none_failed, none_too_long, not_all_read, one_too_long}
@@ -110,13 +112,13 @@ stopped_answered (runs course text) x answer (e, stopped _ may told, is) four = 
 stopped_answered (tells text) x answer is four = absurd (omega (arith, four))
 
 -- the counts of a stopped run add up to the budget
-stopped_counts : (course : Course) (x : Execution) (e : Ended) → status_of x ≡ 4 → IsStoppedEnd course x e → printed_steps e ≡ x.budget
-stopped_counts by_first_events x e four same = ap printed_steps same ∙ spent_counts x four
-stopped_counts in_some_order x e four (t, at, same) = ap printed_steps same ∙ (printed process_ops x.source.main_throws t ∙ at.counted)
+stopped_counts : (course : Course) (x : Execution) (e : Ended) → UsesOwnSlots x.source → status_of x ≡ 4 → IsStoppedEnd course x e → printed_steps e ≡ x.budget
+stopped_counts by_first_events x e own four same = ap printed_steps same ∙ spent_counts x own four
+stopped_counts in_some_order x e own four (t, at, same) = ap printed_steps same ∙ (printed process_ops x.source.main_throws t ∙ at.counted)
 
-deed_counts : (deed : Deed) (x : Execution) (e : Ended) → status_by deed x ≡ 4 → IsStoppedBy deed x e → printed_steps e ≡ x.budget
-deed_counts (runs course text) x e four may = stopped_counts course x e four may
-deed_counts (tells text) x e four may = absurd may
+deed_counts : (deed : Deed) (x : Execution) (e : Ended) → UsesOwnSlots x.source → status_by deed x ≡ 4 → IsStoppedBy deed x e → printed_steps e ≡ x.budget
+deed_counts (runs course text) x e own four may = stopped_counts course x e own four may
+deed_counts (tells text) x e own four may = absurd may
 
 -- a refusal's line was written with 5
 refused_with : (job : Job) (contents : List (List ℕ)) (line : List ℕ) (answer : Answer) (ob on : SinkAt) (result : ℕ) → IsRefusal (source_text job contents) line → OutcomeOf job contents answer →
@@ -160,21 +162,21 @@ ended_so status few apart ask before now ob on result ran came_so = by_wrote ask
   by_wrote (Some job) (answered answer (saw, looks, is) came) ends = by_saw job answer saw (was_seen (reads_of job) before now saw looks) is came ends
 
 -- what a status tells of the meaning
-ends_by : (status : ℕ) (Cause : Execution → Type 0) → Tells status Cause → (deed : Deed) (x : Execution) → status_by deed x ≡ status → EndsBy status Cause deed x
-ends_by status Cause tell (runs course text) x e = tell.only x e
-ends_by status Cause tell (tells text) x e = sym e
+ends_by : (status : ℕ) (Cause : Execution → Type 0) → Tells status Cause → (deed : Deed) (x : Execution) → UsesOwnSlots x.source → status_by deed x ≡ status → EndsBy status Cause deed x
+ends_by status Cause tell (runs course text) x own e = tell.only x own e
+ends_by status Cause tell (tells text) x own e = sym e
 
-status_is : (status : ℕ) (Cause : Execution → Type 0) → Tells status Cause → (deed : Deed) (x : Execution) → EndsBy status Cause deed x → status_by deed x ≡ status
-status_is status Cause tell (runs course text) x cause = tell.when x cause
-status_is status Cause tell (tells text) x cause = sym cause
+status_is : (status : ℕ) (Cause : Execution → Type 0) → Tells status Cause → (deed : Deed) (x : Execution) → UsesOwnSlots x.source → EndsBy status Cause deed x → status_by deed x ≡ status
+status_is status Cause tell (runs course text) x own cause = tell.when x own cause
+status_is status Cause tell (tells text) x own cause = sym cause
 
 deed_reached : (deed : Deed) (x : Execution) → IsReached deed x
 deed_reached (runs course text) x = is_reached x
 deed_reached (tells text) x = tt
 
-deed_spent : (deed : Deed) (x : Execution) → status_by deed x ≡ 4 → IsReachedIn x.budget x
-deed_spent (runs course text) x four = is_reached_whole x four
-deed_spent (tells text) x four = absurd (omega (arith, four))
+deed_spent : (deed : Deed) (x : Execution) → UsesOwnSlots x.source → status_by deed x ≡ 4 → IsReachedIn x.budget x
+deed_spent (runs course text) x own four = is_reached_whole x own four
+deed_spent (tells text) x own four = absurd (omega (arith, four))
 
 pub end_row : (status : ℕ) (Cause : Execution → Type 0) → Tells status Cause → status < 5 → (status ≡ 2 → ⊥) → (status ≡ 4 → ⊥) → (ask : Option Job) (before now : FilesAt) (ob on : SinkAt) (result : ℕ)
     → Ran ask before now ob on result → EndRow status Cause ask before now ob on result
@@ -191,17 +193,17 @@ end_row status Cause tell few apart whole ask before now ob on result ran = reco
       let x = execution job contents source in
       let is : status_by deed x ≡ status = sym (status_answered deed x answer told) ∙ ends in
       let text : answer.text ≡ text_by deed x = text_answered deed x answer told (λ four. whole (sym is ∙ four)) in
-      (same, job, contents, source, read, has, ends_by status Cause tell deed x is, deed_reached deed x, is, taken ∙ ap (λ (t : List ℕ). then_bytes ob.taken t) text)
+      (same, job, contents, source, read, has, ends_by status Cause tell deed x (source_uses_own_slots (source_text job contents) source has) is, deed_reached deed x, is, taken ∙ ap (λ (t : List ℕ). then_bytes ob.taken t) text)
 
-  comes : (deed : Deed) (x : Execution) (answer : Answer) → EndsBy status Cause deed x → AnswersUnits deed x answer → Came answer.status answer.text ob on result → Came status (text_by deed x) ob on result
-  comes deed x answer cause told came =
-      let is : status_by deed x ≡ status = status_is status Cause tell deed x cause in
+  comes : (deed : Deed) (x : Execution) (answer : Answer) → UsesOwnSlots x.source → EndsBy status Cause deed x → AnswersUnits deed x answer → Came answer.status answer.text ob on result → Came status (text_by deed x) ob on result
+  comes deed x answer own cause told came =
+      let is : status_by deed x ≡ status = status_is status Cause tell deed x own cause in
       let text : answer.text ≡ text_by deed x = text_answered deed x answer told (λ four. whole (sym is ∙ four)) in
       (came.0 ∙ (status_answered deed x answer told ∙ is), came.1 ∙ ap (λ (t : List ℕ). then_bytes ob.taken t) text)
 
   when : (job : Job) (contents : List (List ℕ)) (source : Source) → IsSource (source_text job contents) source → EndsBy status Cause (deed_of job) (execution job contents source)
       → CameOf job contents before now ob on result → ComesUnlessUnread status (text_by (deed_of job) (execution job contents source)) job before now ob on result
-  when job contents source has cause (of_source answer is came) = inl (inl (comes (deed_of job) (execution job contents source) answer cause (units_of job contents source answer has is) came))
+  when job contents source has cause (of_source answer is came) = inl (inl (comes (deed_of job) (execution job contents source) answer (source_uses_own_slots (source_text job contents) source has) cause (units_of job contents source answer has is) came))
   when job contents source has cause (unreadable is read) = inr (is, read)
   when job contents source has cause (wanting is) = inl (inr (inr is))
   when job contents source has cause (unwritten is rose) = inl (inr (inl is))
@@ -224,17 +226,17 @@ spent_row ask before now ob on result ran = record {
       let deed = deed_of job in
       let x = execution job contents source in
       let four : status_by deed x ≡ 4 = sym (status_answered deed x answer told) ∙ ends in
-      (same, job, contents, source, read, has, ends_by 4 IsSpent tells_spent deed x four, deed_reached deed x, four, came_stopped deed x answer told four is taken)
+      (same, job, contents, source, read, has, ends_by 4 IsSpent tells_spent deed x (source_uses_own_slots (source_text job contents) source has) four, deed_reached deed x, four, came_stopped deed x answer told four is taken)
 
-  comes : (deed : Deed) (x : Execution) (answer : Answer) → EndsBy 4 IsSpent deed x → AnswersUnits deed x answer → Came answer.status answer.text ob on result → CameStopped deed x ob on result
-  comes deed x answer cause told came =
-      let four : status_by deed x ≡ 4 = status_is 4 IsSpent tells_spent deed x cause in
+  comes : (deed : Deed) (x : Execution) (answer : Answer) → UsesOwnSlots x.source → EndsBy 4 IsSpent deed x → AnswersUnits deed x answer → Came answer.status answer.text ob on result → CameStopped deed x ob on result
+  comes deed x answer own cause told came =
+      let four : status_by deed x ≡ 4 = status_is 4 IsSpent tells_spent deed x own cause in
       came_stopped deed x answer told four (came.0 ∙ (status_answered deed x answer told ∙ four)) came.1
 
   when : (job : Job) (contents : List (List ℕ)) (source : Source) → IsSource (source_text job contents) source → EndsBy 4 IsSpent (deed_of job) (execution job contents source)
       → CameOf job contents before now ob on result
       → CameStopped (deed_of job) (execution job contents source) ob on result ⊎ (result ≡ 7) ⊎ (result ≡ 8) ⊎ ((result ≡ 6) × OneReadFailed (reads_of job) before now)
-  when job contents source has cause (of_source answer is came) = inl (comes (deed_of job) (execution job contents source) answer cause (units_of job contents source answer has is) came)
+  when job contents source has cause (of_source answer is came) = inl (comes (deed_of job) (execution job contents source) answer (source_uses_own_slots (source_text job contents) source has) cause (units_of job contents source answer has is) came)
   when job contents source has cause (unreadable is read) = inr (inr (inr (is, read)))
   when job contents source has cause (wanting is) = inr (inr (inl is))
   when job contents source has cause (unwritten is rose) = inr (inl is)
@@ -249,7 +251,8 @@ count_row ask before now ob on result ran is = counts (ended_so 4 (omega arith) 
       let x = execution job contents source in
       let four : status_by deed x ≡ 4 = sym (status_answered deed x answer told) ∙ ends in
       let s = stopped_answered deed x answer told four in
-      (job, contents, source, read, has, deed_spent deed x four, s.0, s.1, deed_counts deed x s.0 four s.1, taken ∙ ap (λ (t : List ℕ). then_bytes ob.taken t) s.2)
+      let own : UsesOwnSlots source = source_uses_own_slots (source_text job contents) source has in
+      (job, contents, source, read, has, deed_spent deed x own four, s.0, s.1, deed_counts deed x s.0 own four s.1, taken ∙ ap (λ (t : List ℕ). then_bytes ob.taken t) s.2)
 
 -- what is told where a source was refused
 abbrev RefusedSo : FilesAt → FilesAt → SinkAt → SinkAt → Option Job → Type 0

@@ -167,10 +167,9 @@ fn answer_check(alloc: Global, source: &Accepted) -> Result<Answer, NoMemory>
 fn answer_code(alloc: Global, source: &Accepted) -> Result<Answer, NoMemory>
     ensures { IfOk result (λ a. answer_view a ≡ record { status = 0; text = code_text source.now }) }
 {
-    let code = compile(alloc, source)?;
     Ok(Answer {
         status: Status::Done,
-        text: listing(alloc, &code)?,
+        text: listing(alloc, source)?,
     })
 }
 

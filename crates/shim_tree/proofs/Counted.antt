@@ -15,7 +15,7 @@ use Rattle.shim_tree.specs.Maps.{has_stepped}
 use Rattle.shim_semantics.specs.Endings.{own_steps}
 use Rattle.shim_tree.specs.Advancing.{stepped, HasCount, KeepsCounts, with_count, more_steps, steps_taken}
 use Rattle.shim_semantics.proofs.InOrder.{first_holds, second_holds, no_entries, none_below, entries_from, sorted_filtered}
-use Rattle.shim_tree.proofs.Mapped.{tied, count_below}
+use Rattle.shim_run_log.proofs.Mapped.{tied, count_below}
 
 -- a count of 0 is left out, and each other one stays
 left_out : (e : Path × ℕ) (es : List (Path × ℕ)) → e.1 ≡ 0 → filter has_stepped (e ∷ es) ≡ filter has_stepped es

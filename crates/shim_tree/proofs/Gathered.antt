@@ -11,13 +11,13 @@ use Rattle.shim_semantics.specs.Nodes as model
 use Rattle.shim_semantics.specs.Nodes.{next_of}
 use Rattle.shim_semantics.specs.Endings.{wait_of, wait_at, waits_of, waiting, all_waiting, outcome_of_root, outcome_of_label}
 use Rattle.shim_tree.specs.NodeStatus.{together, node, nodes, node_step}
-use Rattle.shim_tree.specs.Readings.{with_wait, with_waits}
+use Rattle.shim_run_log.specs.Waits.{with_wait, with_waits}
 use Rattle.shim_tree.specs.declared.node_status.NodeStatus.{NodeStatus}
 use Rattle.shim_tree.specs.declared.node_status.NodeStatus.TheVariants as code
 use Rattle.shim_tree.specs.declared.node_status.NodeStatus.TheOpen as open_below
 use Rattle.shim_tree.specs.declared.node_status.NodeStatus.TheFolds.{fold-roll-NodeStatus}
 use Rattle.std.proofs.lemmas.Bool.{true≢false, false≢true}
-use Rattle.shim_tree.proofs.Mapped.{tied}
+use Rattle.shim_run_log.proofs.Mapped.{tied}
 
 node_live : {S : Type 0} (l : S) → node l code.Live ≡ model.Live l
 node_live {S} l = ap (node l) (sym code.rolls-Live) ∙ ap (λ f. f l) (fold-roll-NodeStatus S (S → model.Node S) node_step open_below.Live)

@@ -15,25 +15,15 @@ use Rattle.shim_semantics.specs.Trees.{Tree, start, with_logs, count_own, acts, 
 use Rattle.shim_tree.specs.Acting.{effects_of, acted_on, ActsOn}
 use Rattle.shim_tree.specs.Advancing.{stepped, HasCount, AllHaveCounts, KeepsCounts, with_count, more_steps}
 use Rattle.shim_semantics.specs.Sound.{IsSound}
-use Rattle.shim_tree.specs.Telling.{with_each, logged, Tells}
+use Rattle.shim_run_log.specs.Logged.{logged}
+use Rattle.shim_run_log.proofs.Logged.{with_one_more}
+use Rattle.shim_tree.specs.Telling.{Tells}
 use Rattle.shim_tree.specs.declared.effects.Effects.{Effects}
 use Rattle.shim_tree.specs.declared.effects.Effects.TheVariants as told
 use Rattle.shim_tree.proofs.Counted.{few_steps, placed, steps_placed, none_stepped, more_stay, steps_more}
 use Rattle.shim_tree.proofs.Placed.{still_placed}
 use Rattle.shim_semantics.proofs.SoundEvents.{route_sound}
 use Rattle.shim_base.proofs.Facts.{first_holds, cond_there}
-
--- nothing is left behind the end
-drop_past : {A : Type 0} (xs : List A) (i : ℕ) → length xs ≤ i → drop i xs ≡ []
-drop_past [] zero h = refl
-drop_past [] (suc i) h = refl
-drop_past (x ∷ xs) zero h = absurd (omega (arith, h))
-drop_past (x ∷ xs) (suc i) h = drop_past xs i (omega (arith, h))
-
--- one thing more is logged behind the others
-with_one_more : (m : finite.FinMap path_order (List LogWhat)) (es : List Log) (e : Log) → with_each m (es ++ e ∷ []) ≡ with_logs (with_each m es) e.path (e.what ∷ [])
-with_one_more m [] e = refl
-with_one_more m (f ∷ es) e = with_one_more (with_logs m f.path (f.what ∷ [])) es e
 
 -- what the code was told of an event, put or logged
 module _ {S : Type 0} (o : Ops S) (p : Path) (before after : Node S) (put put' : List ℕ) (logs logs' : List Log) (t : Effects) (acts_so : ActsOn o p before (effects_of t) after) where
@@ -107,11 +97,3 @@ started l t root output histories logs none m m' p fresh e logs_are counts event
 -- the test of the code tells what the walk's emptiness does
 pub told_quiescent : (b x : Bool) (Q : Type 0) → b ≡ x → (x ≡ true) ↔ Q → IsTrue b ↔ Q
 told_quiescent b x Q e w = (λ t. w.0 (sym e ∙ t), λ q. e ∙ w.1 q)
-
--- of what was logged, the rest is gathered behind what was
-pub gathered_one : (all m m' : finite.FinMap path_order (List LogWhat)) (es : List Log) (i : ℕ) (e : Log) → drop i es ≡ e ∷ drop (i + 1) es → m' ≡ with_logs m e.path (e.what ∷ []) → with_each m (drop i es) ≡ all → with_each m' (drop (i + 1) es) ≡ all
-gathered_one all m m' es i e d more h = ap (λ z. with_each z (drop (i + 1) es)) more ∙ (sym (ap (with_each m) d) ∙ h)
-
--- and at the end all is gathered
-pub gathered_all : (all m : finite.FinMap path_order (List LogWhat)) (es : List Log) (i : ℕ) → length es ≤ i → with_each m (drop i es) ≡ all → m ≡ all
-gathered_all all m es i h e = sym (ap (with_each m) (drop_past es i h)) ∙ e

@@ -9,7 +9,6 @@ pub mod Telling
 pub mod Inserted
 pub mod Labels
 pub mod Meeting
-pub mod Readings
 pub mod Sought
 pub mod Advancing
 pub mod ChildCounts

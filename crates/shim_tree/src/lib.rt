@@ -9,9 +9,7 @@ mod doom;
 mod effects;
 mod event;
 mod fill;
-mod histories;
 mod listing;
-mod logs;
 mod node_status;
 mod own_step;
 mod poison;
@@ -22,7 +20,6 @@ mod receive;
 mod seek;
 mod standing;
 mod tree;
-mod waits;
 
 pub use event::Event;
 pub use tree::Tree;

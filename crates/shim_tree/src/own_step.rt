@@ -4,7 +4,8 @@ ghost use Rattle.shim_semantics.specs.Places.{SoundBelow};
 ghost use Rattle.shim_tree.specs.NodeStatus.{node};
 ghost use Rattle.shim_tree.specs.Acting.{acted_on};
 ghost use Rattle.shim_tree.specs.Advancing.{stepped, AllHaveCounts, KeepsCounts};
-ghost use Rattle.shim_tree.specs.Telling.{logged, Tells, TellsNothing};
+ghost use Rattle.shim_run_log.specs.Logged.{logged};
+ghost use Rattle.shim_tree.specs.Telling.{Tells, TellsNothing};
 
 use crate::act::act_on;
 use crate::child_counts::reserve_child_counts;

@@ -4,15 +4,12 @@ ghost use Rattle.shim_local.specs.declared.Outcome.TheVariants.{Spent};
 ghost use Rattle.shim_tree.specs.NodeStatus.{node};
 ghost use Rattle.shim_semantics.specs.Nodes.{next_of};
 ghost use Rattle.shim_semantics.specs.Endings as endings;
-ghost use Rattle.shim_tree.specs.Readings.{with_waits};
-ghost use Rattle.shim_tree.specs.Telling.{logged};
-ghost use Rattle.std.specs.FinMap as finite;
+ghost use Rattle.shim_run_log.specs.Waits.{with_waits};
 
-use crate::logs::Logs;
 use crate::node_status::NodeStatus;
-use crate::waits::Waits;
 use shim_base::{List, NoMemory};
-use shim_local::{Local, Log, Outcome, Stop, WaitAt};
+use shim_local::{Local, Outcome, Stop, WaitAt};
+use shim_run_log::Waits;
 use std::alloc::Global;
 
 /// How a run has ended whose tree is quiescent or not.
@@ -104,15 +101,4 @@ fn gather_live<L: Local>(process: &L, waits: &mut Waits) -> Result<(), NoMemory>
         Stop::Throw(_) => Ok(()),
         Stop::Trapped(_, _) => Ok(()),
     }
-}
-
-/// What was logged in the order of the events, by path, and for one path in that order.
-pub(crate) fn logs_by_path(alloc: Global, logs: &[Log]) -> Result<List<Log>, NoMemory>
-    ensures { IfOk result (λ list. list ≡ endings.all_logs (finite.entries (logged logs.now))) }
-{
-    let mut by_path = Logs::new(alloc);
-    for log in logs.iter() {
-        by_path.add(&log.path, log.what)?;
-    }
-    by_path.list(alloc)
 }

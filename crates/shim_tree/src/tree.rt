@@ -18,18 +18,18 @@ ghost use Rattle.std.specs.FinMap as finite;
 use crate::advance::swap_on;
 use crate::counts::Counts;
 use crate::event::Event;
-use crate::histories::Histories;
 use crate::listing;
 use crate::node_status::NodeStatus;
 use crate::own_step::own_step;
 use crate::poison::poison_on;
 use crate::quiet::quiet_from;
-use crate::reading::{logs_by_path, outcome_of, waits_of};
+use crate::reading::{outcome_of, waits_of};
 use crate::receive::{name_met, receive_at, value_met};
 use crate::seek::{found_first, is_quiescent};
 use crate::standing::{live_of, stands_quiet};
 use shim_base::{Chan, List, NoMemory, Path};
 use shim_local::{Ended, Local, Log};
+use shim_run_log::{Histories, logs_by_path};
 use std::alloc::Global;
 use std::marker::Model;
 
@@ -54,7 +54,7 @@ impl<L: Local> Model for Tree<L> {
     ghost use Rattle.shim_tree.specs.NodeStatus.{node};
     ghost use Rattle.shim_semantics.specs.Sound.{IsSound};
     ghost use Rattle.shim_tree.specs.Advancing.{stepped, AllHaveCounts};
-    ghost use Rattle.shim_tree.specs.Telling.{logged};
+    ghost use Rattle.shim_run_log.specs.Logged.{logged};
 
     ghost Value = { trees.Tree L };
 

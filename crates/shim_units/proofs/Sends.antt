@@ -46,6 +46,12 @@ shared_field_send T s y = search (sendable, crosses) depth 20
 shared_field_sync : (T : RattleType) → IsSend T → IsSync T → IsSync (Shared.the_field T).row
 shared_field_sync T s y = search (sendable, crosses) depth 20
 
+boxed_field_send : (T : RattleType) → IsSend T → IsSend (Boxed.the_field T).row
+boxed_field_send T s = search (sendable, crosses) depth 20
+
+boxed_field_sync : (T : RattleType) → IsSync T → IsSync (Boxed.the_field T).row
+boxed_field_sync T y = search (sendable, crosses) depth 20
+
 expression_send : IsSend (UExpr.the_field).row
 expression_send = expressions.send-UExpr (search sendable) (search sendable) (search sendable depth 20) boxed_send (search sendable depth 20)
 
@@ -59,10 +65,10 @@ option_sync : IsSync (Option.the_field UExpr.the_row).row
 option_sync = let y = expression_sync in search sendable depth 20
 
 call_send : IsSend (UCall.the_field).row
-call_send = let s = expression_send in search (list_field_send, sendable) depth 20
+call_send = let s = expression_send in search (list_field_send, boxed_field_send, sendable) depth 20
 
 call_sync : IsSync (UCall.the_field).row
-call_sync = let y = expression_sync in search (list_field_sync, sendable) depth 20
+call_sync = let y = expression_sync in search (list_field_sync, boxed_field_sync, sendable) depth 20
 
 branches_send : IsSend (List.the_field UBranch.the_row).row
 branches_send = let s = call_send in search (list_field_send, sendable) depth 20

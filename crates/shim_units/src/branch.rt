@@ -102,7 +102,7 @@ fn make_params(
 ) -> Result<List<UParam>, NoMemory>
     ensures { IfOk result (λ made. made ≡ map (branch_param function.now (captures_of captures.now)) slots.now) }
 {
-    let mut made = List::new(alloc);
+    let mut made = List::with_capacity(alloc, slots.len())?;
     for slot in slots {
         made.push(UParam {
             sort: sort_of(function, *slot),
@@ -122,7 +122,7 @@ fn make_args(
     requires { length around.now < 2 ^ 32 }
     ensures { IfOk result (λ made. made ≡ map (branch_arg around.now (captures_of captures.now)) slots.now) }
 {
-    let mut made = List::new(alloc);
+    let mut made = List::with_capacity(alloc, slots.len())?;
     for slot in slots {
         let at = slot_index(around, *slot);
         made.push(pass(is_reference(capture_at(captures, *slot as usize)), at))?;
@@ -145,7 +145,7 @@ fn make_title(alloc: Global, context: &LiftContext, unit: u32) -> Result<List<u8
 fn sort_all(alloc: Global, function: &RFunction, slots: &[u32]) -> Result<List<Sort>, NoMemory>
     ensures { IfOk result (λ made. made ≡ map (sort_of function.now) slots.now) }
 {
-    let mut made = List::new(alloc);
+    let mut made = List::with_capacity(alloc, slots.len())?;
     for slot in slots {
         made.push(sort_of(function, *slot))?;
     }
@@ -155,7 +155,7 @@ fn sort_all(alloc: Global, function: &RFunction, slots: &[u32]) -> Result<List<S
 fn name_all(alloc: Global, function: &RFunction, slots: &[u32]) -> Result<List<u32>, NoMemory>
     ensures { IfOk result (λ made. made ≡ map (name_of function.now) slots.now) }
 {
-    let mut made = List::new(alloc);
+    let mut made = List::with_capacity(alloc, slots.len())?;
     for slot in slots {
         made.push(name_of(function, *slot as usize))?;
     }
@@ -165,7 +165,7 @@ fn name_all(alloc: Global, function: &RFunction, slots: &[u32]) -> Result<List<u
 fn name_tries(alloc: Global, function: &RFunction, tries: &[u32]) -> Result<List<u32>, NoMemory>
     ensures { IfOk result (λ made. made ≡ map (try_name function.now) tries.now) }
 {
-    let mut made = List::new(alloc);
+    let mut made = List::with_capacity(alloc, tries.len())?;
     for exception in tries {
         made.push(try_name(function, *exception))?;
     }

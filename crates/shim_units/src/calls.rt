@@ -49,7 +49,7 @@ pub fn behind_first(params: &[UParam]) -> &[UParam]
 pub fn copy_params(alloc: Global, params: &[UParam]) -> Result<List<UParam>, NoMemory>
     ensures { IfOk result (λ made. made ≡ params.now) }
 {
-    let mut made = List::new(alloc);
+    let mut made = List::with_capacity(alloc, params.len())?;
     for param in params {
         made.push(UParam {
             sort: param.sort,

@@ -40,7 +40,7 @@ pub fn slot_indices(alloc: Global, all: &[u32], some: &[u32]) -> Result<List<u32
     requires { length all.now < 2 ^ 32 }
     ensures { IfOk result (λ made. made ≡ slot_indices_of all.now some.now) }
 {
-    let mut made = List::new(alloc);
+    let mut made = List::with_capacity(alloc, some.len())?;
     for one in some {
         made.push(slot_index(all, *one))?;
     }
@@ -106,7 +106,7 @@ fn move_arg(alloc: Global, slots: &[u32], lent: bool, arg: &UExpr) -> Result<Arg
         }
         None => {
             let arg = move_expr(alloc, slots, arg)?;
-            Ok(Arg::Fresh(arg))
+            Ok(Arg::Fresh(Boxed::new(alloc, arg)?))
         }
     }
 }
@@ -120,7 +120,7 @@ fn move_args(
     requires { length slots.now < 2 ^ 32 }
     ensures { IfOk result (λ made. made ≡ args_of slots.now params.now args.now) }
 {
-    let mut made = List::new(alloc);
+    let mut made = List::with_capacity(alloc, args.len())?;
     let mut left = params;
     for arg in args {
         made.push(move_arg(alloc, slots, lends_first(left), arg)?)?;

@@ -1,5 +1,5 @@
 // The tree of an accepted program: its functions and its block branches as units.
-use shim_base::{List, Ty};
+use shim_base::{Boxed, List, Ty};
 use shim_scopes::{UExpr, UParam};
 use shim_syntax::Sort;
 
@@ -73,5 +73,6 @@ pub enum Arg {
     Ref(u32),
     /// A bare variable by value.
     Pass(u32),
-    Fresh(UExpr),
+    /// In a box, since a fork may have many arguments that are variables.
+    Fresh(Boxed<UExpr>),
 }

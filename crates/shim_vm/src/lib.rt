@@ -6,6 +6,7 @@ mod body;
 mod branches;
 mod brief;
 mod computing;
+mod cost;
 mod few_numbers;
 mod instrs;
 mod landing;

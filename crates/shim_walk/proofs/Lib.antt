@@ -7,5 +7,6 @@ pub mod MadeChildren
 pub mod Forking
 pub mod SamePlaces
 pub mod SameStates
+pub mod Accepting
 pub mod Sounding
 pub mod Sends

@@ -4,6 +4,7 @@ use denote.Param.Send.{IsSend, IsSync, recorded_send, sendable, struct_send}
 use denote.Struct.Declared.{shape}
 use Rattle.std.proofs.Crossing.{Arc-send}
 use Rattle.shim_base.proofs.chan.Chan.TheSendSync as channels
+use Rattle.shim_base.proofs.path.Path.TheSendSync as paths
 use Rattle.shim_base.specs.contracts.chan.Chan as Chan
 use Rattle.shim_base.specs.contracts.list.List as List
 use Rattle.shim_base.specs.contracts.path.Path as Path
@@ -16,12 +17,6 @@ use Rattle.shim_locations.proofs.locations.Locations.TheSendSync as locations
 use Rattle.shim_walk.specs.contracts.process.Process as Process
 use Rattle.shim_walk.specs.contracts.process.Process.TheInside as inside
 use Rattle.shim_walk.specs.contracts.walk.Walk as Walk
-
-path_send : IsSend Path.the_row
-path_send = search (list_send, sendable) depth 20
-
-path_sync : IsSync Path.the_row
-path_sync = search (list_sync, sendable) depth 20
 
 channels_send : IsSend (List.the_row Chan.the_row)
 channels_send = list_send Chan.the_row channels.the_send
@@ -40,7 +35,7 @@ input_send = shared_send (List.the_row u8) bytes_send bytes_sync
 
 fields_send : IsSend inside.the_row
 fields_send = recorded_send (inside.the_field).row _ _ (inside.the_type).to_one (struct_send (shape inside.the_type) (
-  Arc-send Path.the_row path_send path_sync,
+  Arc-send Path.the_row paths.the_send paths.the_sync,
   (
     search sendable,
     (

@@ -1,15 +1,18 @@
 -- Each call leaves a walk in a state that a process comes to.
-use Rattle.std.proofs.Common.{◌≡◌, ◌≤◌, ◌<◌, ◌+◌, ℕ, ℤ, List, [], ◌∷◌, ◌++◌, length, Result, Ok, Err, OnOk, OnErr, arith, refl, sym, ap, subst, ◌∙◌, append_assoc, append-nil}
+use Rattle.std.proofs.Common.{◌≡◌, ◌≤◌, ◌<◌, ◌+◌, ℕ, ℤ, Bool, List, [], ◌∷◌, ◌++◌, length, map, map-id, Result, Ok, Err, OnOk, OnErr, arith, refl, sym, ap, subst, ◌∙◌, append_assoc, append-nil}
 use Rattle.shim_base.specs.declared.memory.NoMemory.{NoMemory}
 use Rattle.shim_base.specs.Paths.{NamedChannel}
 use Rattle.shim_base.specs.declared.operators.Trap.{Trap}
 use Rattle.shim_local.specs.Laws.{AllOf, by_quiet, by_call, by_put, by_receive, by_unwind, by_label, by_fork, by_trap}
 use Rattle.shim_local.specs.Process.{StopView, AtQuiet, AtNext, AtPut, AtFork, Parted, Trapped as TrappedFork}
+use Rattle.shim_process.specs.Born.{Born}
+use Rattle.shim_process.specs.Forks.{join}
 use Rattle.shim_process.specs.LocalState.{LocalState, handlers, trapped}
 use Rattle.shim_process.specs.Steps.{line_of, quiet}
 use Rattle.shim_process.specs.Stops.{stop, put, receive}
 use Rattle.shim_process.specs.Unwinding.{unwind}
 use Rattle.shim_process.specs.Sound.{Sound}
+use Rattle.shim_process.proofs.JoinKeeps.{join_joined, joined_sound}
 use Rattle.shim_locations.specs.declared.remainder.Remainder.{Remainder}
 use Rattle.shim_walk.specs.declared.process.ForkedProcess.{ForkedProcess}
 use Rattle.shim_walk.specs.declared.process.ForkedProcess.TheVariants.{Children, Trapped}
@@ -34,6 +37,11 @@ pub unwind_sound : (l now m : LocalState) (label : ℕ) → l ≡ now → Sound 
 unwind_sound l now m label e s least most is =
     walk_laws.moved_sound l m s
     (by_unwind (by_label label (subst (λ k. k.base ≤ label) (sym e) least) (subst (λ k. label < handlers k) (sym e) most) is))
+
+pub join_sound : (l now m : LocalState) (ks : List LocalState) (goes_on : Bool) → l ≡ now → Sound l → Born now ks → m ≡ join l (map (λ k. k) ks) goes_on → Sound m
+join_sound l now m ks goes_on e s born is =
+    subst Sound (sym (is ∙ ap (λ cs. join l cs goes_on) (map-id ks)))
+    (joined_sound l ks (join l ks goes_on) s (join_joined l ks goes_on s (subst (λ k. Born k ks) (sym e) born)))
 
 pub trap_sound : (l now m : LocalState) (o : ForkedProcess) (t : Trap) → l ≡ now → Sound l → stop now ≡ AtFork → o ≡ Trapped t → Comes o l → m ≡ trapped t (line_of l.frame.todo) l → Sound m
 trap_sound l now m o t e s at is comes n =

@@ -3,6 +3,7 @@ ghost use Rattle.std.specs.Prelude.{◌≡◌, ◌≢◌, ◌<◌, ◌≤◌, �
 ghost use Rattle.std.specs.Option.{option_copied};
 ghost use Rattle.shim_local.specs.Process.{AtQuiet};
 ghost use Rattle.shim_local.specs.Views.{stop_view};
+ghost use Rattle.shim_units.specs.OfText.{IsAcceptedForm};
 ghost use Rattle.shim_process.specs.Ends.{gone, settled};
 ghost use Rattle.shim_process.specs.Forks.{all_back, all_lending, child_in, fork, input_back, is_far, item_branches, join, joined, lending, lending_given, output_back, root, some_or};
 ghost use Rattle.shim_process.specs.Arguments.{arguments};
@@ -122,7 +123,8 @@ impl Process {
         program: Shared<Accepted>,
         input: Shared<List<u8>>,
     ) -> Result<Process, NoMemory>
-        ensures { IfOk result (λ process. process ≡ root program input) }
+        ensures value { IfOk result (λ process. process ≡ root program input) }
+        ensures accepted { IfOk result (λ process. IsAcceptedForm process.program) }
     {
         let units = program.units();
         let unit = program.main();

@@ -181,6 +181,11 @@ impl Local for Walk {
         Ok(Walk::of(self.process.copy()?))
     }
 
+    // of a small program
+    fn hand_over_cost(&self) -> u64 {
+        200
+    }
+
     ghost laws = { walk_laws };
 }
 

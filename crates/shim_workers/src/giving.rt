@@ -1,7 +1,8 @@
 // Giving out the work of a turn.
 ghost use Rattle.std.specs.Prelude.{◌≡◌, ◌≤◌, ◌<◌, ◌+◌, [], true, false, length, IfOk, OnOk};
 ghost use Rattle.shim_semantics.specs.Trees.{steps};
-ghost use Rattle.shim_workers.specs.Progress.{GoesOn, HaveSteps, AreBelow, CanGive};
+ghost use Rattle.shim_net.specs.Progress.{GoesOn, CanGive};
+ghost use Rattle.shim_workers.specs.Progress.{HaveSteps, AreBelow};
 
 use crate::job::Jobs;
 use shim_base::NoMemory;
@@ -21,7 +22,7 @@ fn give<L: Local>(
     requires most { 1 ≤ most }
     requires below { AreBelow slot net.old.grants }
     requires steps { HaveSteps L.ops net.old.grants }
-    ensures goes_on { OnOk result (GoesOn net.old net.new) }
+    ensures goes_on { OnOk result (GoesOn L.ops net.old net.new) }
     ensures below { OnOk result (AreBelow (slot + 1) net.new.grants) }
     ensures steps { OnOk result (HaveSteps L.ops net.new.grants) }
     ensures more { IfOk result (λ more. more ≡ true → steps net.old.tree + length net.old.grants < steps net.new.tree + length net.new.grants) }
@@ -48,7 +49,7 @@ pub(crate) fn give_all<L: Local>(
     requires most { 1 ≤ most }
     requires home { net.old.grants ≡ [] }
     requires can { CanGive L.ops net.old }
-    ensures goes_on { OnOk result (GoesOn net.old net.new) }
+    ensures goes_on { OnOk result (GoesOn L.ops net.old net.new) }
     ensures steps { OnOk result (HaveSteps L.ops net.new.grants) }
     ensures more { OnOk result (steps net.old.tree + length net.old.grants < steps net.new.tree + length net.new.grants) }
 {

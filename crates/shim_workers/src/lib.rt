@@ -2,10 +2,15 @@
 //! board from which each worker claims its work.
 #![tactic(auto)]
 
+mod at_home;
+mod collecting;
 mod driving;
 mod gate;
 mod giving;
+mod handing_out;
+mod in_place;
 mod job;
+mod lengths;
 mod load;
 mod pool;
 mod scheduling;

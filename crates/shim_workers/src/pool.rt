@@ -1,4 +1,7 @@
 // What the workers of a run share beside the board.
+ghost use Rattle.std.specs.Prelude.{◌≤◌};
+
+use crate::lengths::Lengths;
 use std::sync::Wait;
 use std::sync::atomic::{AtomicU64, Ordering};
 use std::time::Duration;
@@ -10,23 +13,59 @@ const SPINS: u64 = 64;
 /// How often it has tried when it begins to sleep in between.
 const TRIES_AWAKE: u64 = 96;
 
-/// The longest sleep, in microseconds.
-const LONGEST_SLEEP: u64 = 50;
+/// The first sleep, in microseconds. Each one is longer than the one before by as much.
+const SHORTEST_SLEEP: u64 = 50;
 
-/// Whether a worker of the run wanted memory, and how many workers have begun.
+/// The longest sleep, in microseconds.
+const LONGEST_SLEEP: u64 = 5_000;
+
+/// How many pieces may stop early before all processes are tried in place.
+const PATIENCE: u64 = 8;
+
+/// Up to how many steps in place are so few that processes may be handed out without them.
+const FEW_IN_PLACE: u64 = 1_000;
+
+const HALF_A_WORD: u64 = 1 << 32;
+
+/// What the run has come to.
+const RUNNING: u64 = 0;
+
+const ENDED: u64 = 1;
+
+const WANTED_MEMORY: u64 = 2;
+
+/// What the run has come to, which workers sleep, how long pieces are, and whether they are worth their price.
 #[derive(Drop)]
 pub(crate) struct Pool {
-    // 1 from then on; idle workers sleep on it
-    wanted: AtomicU64,
+    lengths: Lengths,
     begun: AtomicU64,
+    // RUNNING, ENDED or WANTED_MEMORY
+    state: AtomicU64,
+    // goes up with all that may concern an idle worker, and these sleep on it
+    news: AtomicU64,
+    asleep: AtomicU64,
+    // pieces that came back without being used up, and how many of them it takes
+    early: AtomicU64,
+    patience: u64,
 }
 
 impl Pool {
-    pub(crate) fn new() -> Pool {
+    pub(crate) fn new(lengths: Lengths) -> Pool {
+        let is_cheap = lengths.in_place() <= FEW_IN_PLACE;
         Pool {
-            wanted: AtomicU64::new(0),
+            lengths,
             begun: AtomicU64::new(0),
+            state: AtomicU64::new(RUNNING),
+            news: AtomicU64::new(0),
+            asleep: AtomicU64::new(0),
+            early: AtomicU64::new(0),
+            patience: if is_cheap { PATIENCE } else { 0 },
         }
+    }
+
+    /// How long pieces are.
+    pub(crate) fn lengths(&self) -> &Lengths {
+        &self.lengths
     }
 
     /// The number of a worker that begins, from 0.
@@ -34,29 +73,84 @@ impl Pool {
         self.begun.fetch_add(1, Ordering::SeqCst)
     }
 
-    /// Tells all workers that memory was wanted, so that they end, too.
-    pub(crate) fn want_memory(&self) {
-        self.wanted.store(1, Ordering::SeqCst);
-        self.wanted.wake_all();
+    // The run has come to this. Idle workers wake, so that they end, too.
+    fn stop(&self, state: u64) {
+        self.state.store(state, Ordering::SeqCst);
+        let _before = self.news.fetch_add(1, Ordering::SeqCst);
+        self.news.wake_all();
     }
 
-    /// Whether a worker wanted memory.
+    /// The run has come to its end.
+    pub(crate) fn end(&self) {
+        self.stop(ENDED);
+    }
+
+    /// Memory was wanted, and so the run ends.
+    pub(crate) fn want_memory(&self) {
+        self.stop(WANTED_MEMORY);
+    }
+
+    /// Whether memory was wanted.
     pub(crate) fn wanted_memory(&self) -> bool {
-        self.wanted.load(Ordering::SeqCst) != 0
+        self.state.load(Ordering::SeqCst) == WANTED_MEMORY
+    }
+
+    /// Whether the run goes on.
+    pub(crate) fn is_running(&self) -> bool {
+        self.state.load(Ordering::SeqCst) == RUNNING
+    }
+
+    /// A piece came back that was not used up.
+    pub(crate) fn came_early(&self) {
+        let _before = self.early.fetch_add(1, Ordering::SeqCst);
+    }
+
+    /// Whether processes are handed out that nobody has tried, so that a run that forks into long branches
+    /// begins on all workers at the same time. Once some pieces were not used up, each process is tried in
+    /// place first, and so it is where handing out is dear.
+    pub(crate) fn hands_out_untried(&self) -> bool {
+        self.early.load(Ordering::SeqCst) < self.patience
+    }
+
+    /// What a worker has to know before it looks for work, so that it doesn't sleep over what comes
+    /// meanwhile.
+    pub(crate) fn news(&self) -> u64 {
+        self.news.load(Ordering::SeqCst)
+    }
+
+    /// There is work for so many more workers: wakes as many of those that sleep.
+    pub(crate) fn call(&self, workers: u64) {
+        if workers == 0 {
+            return;
+        }
+        let _before = self.news.fetch_add(1, Ordering::SeqCst);
+        let asleep = self.asleep.load(Ordering::SeqCst);
+        for _ in 0..workers.min(asleep) {
+            self.news.wake_one();
+        }
+    }
+
+    // Sleeps until something has come since this was the news, and at most so long.
+    fn sleep<R: Wait>(&self, rt: &R, news: u64, micros: u64) {
+        let _before = self.asleep.fetch_add(1, Ordering::SeqCst);
+        let seen = (news % HALF_A_WORD) as u32; // who sleeps looks at that much of a word
+        self.news
+            .park_timeout(rt, seen, Duration::from_micros(micros));
+        let _before = self.asleep.fetch_sub(1, Ordering::SeqCst);
     }
 
     /// Lets a worker rest that has found nothing to do so many times: first not at all, so that short work
-    /// is handed over fast, then until others have had the processor, and then for longer each time. Work
-    /// wakes no one, since no sleep is long.
-    pub(crate) fn back_off<R: Wait>(&self, rt: &R, tries: u64) {
+    /// is handed over fast, then until others have had the processor, and then until it is called, or for
+    /// longer each time.
+    pub(crate) fn rest<R: Wait>(&self, rt: &R, news: u64, tries: u64) {
         if tries < SPINS {
             hint::spin_loop();
         } else if tries < TRIES_AWAKE {
             thread::yield_now();
         } else {
-            let micros = (tries - TRIES_AWAKE + 1).min(LONGEST_SLEEP);
-            self.wanted
-                .park_timeout(rt, 0, Duration::from_micros(micros));
+            let sleeps = tries - TRIES_AWAKE + 1;
+            let micros = sleeps.saturating_mul(SHORTEST_SLEEP);
+            self.sleep(rt, news, micros.min(LONGEST_SLEEP));
         }
     }
 }

@@ -1,6 +1,7 @@
 // Taking back the work of a turn.
-ghost use Rattle.std.specs.Prelude.{◌≡◌, ◌<◌, [], true, false, length, IfOk, OnOk};
-ghost use Rattle.shim_workers.specs.Progress.{GoesOn, HaveSteps};
+ghost use Rattle.std.specs.Prelude.{OnOk};
+ghost use Rattle.shim_net.specs.Progress.{GoesOn};
+ghost use Rattle.shim_workers.specs.Progress.{HaveSteps};
 
 use shim_base::NoMemory;
 use shim_local::{Finished, Local};
@@ -14,7 +15,7 @@ fn leave<L: Local>(_finished: Finished<L>) -> Result<(), NoMemory> {
 // Takes in a piece that was done. One that wanted memory is want of memory.
 fn take<L: Local>(net: &mut Net<L>, finished: Finished<L>) -> Result<(), NoMemory>
     requires steps { HaveSteps L.ops net.old.grants }
-    ensures goes_on { OnOk result (GoesOn net.old net.new) }
+    ensures goes_on { OnOk result (GoesOn L.ops net.old net.new) }
     ensures steps { OnOk result (HaveSteps L.ops net.new.grants) }
 {
     match net.absorb(finished) {
@@ -27,29 +28,11 @@ fn take<L: Local>(net: &mut Net<L>, finished: Finished<L>) -> Result<(), NoMemor
 /// Takes in all that one job did.
 pub(crate) fn take_all<L: Local>(net: &mut Net<L>, done: Vec<Finished<L>>) -> Result<(), NoMemory>
     requires steps { HaveSteps L.ops net.old.grants }
-    ensures goes_on { OnOk result (GoesOn net.old net.new) }
+    ensures goes_on { OnOk result (GoesOn L.ops net.old net.new) }
     ensures steps { OnOk result (HaveSteps L.ops net.new.grants) }
 {
     for finished in done {
         take(net, finished)?;
     }
-    Ok(())
-}
-
-// Does one piece of work that is out, in this thread; false where none is.
-fn redo_one<L: Local>(net: &mut Net<L>) -> Result<bool, NoMemory>
-    ensures goes_on { OnOk result (GoesOn net.old net.new) }
-    ensures fewer { IfOk result (λ more. more ≡ true → length net.new.grants < length net.old.grants) }
-    ensures home { IfOk result (λ more. more ≡ false → net.new.grants ≡ []) }
-{
-    net.redo()
-}
-
-/// Does all work that is out, in this thread.
-pub(crate) fn redo_all<L: Local>(net: &mut Net<L>) -> Result<(), NoMemory>
-    ensures goes_on { OnOk result (GoesOn net.old net.new) }
-    ensures home { OnOk result (net.new.grants ≡ []) }
-{
-    while redo_one(net)? {}
     Ok(())
 }

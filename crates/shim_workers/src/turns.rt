@@ -3,11 +3,13 @@ ghost use Rattle.std.specs.Prelude.{◌≡◌, ◌≤◌, ◌<◌, ◌*◌, ◌�
 ghost use Rattle.shim_semantics.specs.Trees.{steps};
 ghost use Rattle.shim_net.specs.Nets.{IsNet};
 ghost use Rattle.shim_net.specs.Standings.{IsQuietNet, IsSpentNet};
-ghost use Rattle.shim_workers.specs.Progress.{GoesOn, HasSettled, CanGive};
+ghost use Rattle.shim_net.specs.Progress.{GoesOn, HasSettled, CanGive};
 
 use crate::gate::Gate;
 use crate::giving::give_all;
-use crate::taking::{redo_all, take_all};
+use crate::in_place::step_in_place;
+use crate::lengths::longer;
+use crate::taking::take_all;
 use shim_base::NoMemory;
 use shim_local::Local;
 use shim_net::{Net, Standing};
@@ -30,7 +32,7 @@ fn is_running<L: Local>(net: &Net<L>) -> bool
 // Does all that is no process's work, and answers how many events that were.
 fn settle_all<L: Local>(net: &mut Net<L>) -> Result<u64, NoMemory>
     requires home { net.old.grants ≡ [] }
-    ensures goes_on { OnOk result (GoesOn net.old net.new) }
+    ensures goes_on { OnOk result (GoesOn L.ops net.old net.new) }
     ensures home { OnOk result (net.new.grants ≡ []) }
     ensures settled { OnOk result (HasSettled L.ops net.new) }
 {
@@ -38,7 +40,7 @@ fn settle_all<L: Local>(net: &mut Net<L>) -> Result<u64, NoMemory>
 }
 
 // Gives out a piece of each process that has quiet steps to do, has them done on at most as many threads
-// as there are workers, and takes them back.
+// as there are workers, and takes them back. One worker gives nothing out: a process does its piece in place.
 fn turn<L: Local, G: Gate, R: Threads + Sync>(
     rt: &R,
     alloc: Global,
@@ -52,20 +54,20 @@ fn turn<L: Local, G: Gate, R: Threads + Sync>(
     requires most { 1 ≤ most }
     requires home { net.old.grants ≡ [] }
     requires can { CanGive L.ops net.old }
-    ensures goes_on { OnOk result (GoesOn net.old net.new) }
+    ensures goes_on { OnOk result (GoesOn L.ops net.old net.new) }
     ensures home { OnOk result (net.new.grants ≡ []) }
     ensures more { OnOk result (steps net.old.tree < steps net.new.tree) }
 {
+    if workers == 1 {
+        return step_in_place(net, most, gate);
+    }
     let jobs = give_all(alloc, net, workers, most, round)?;
     for one in jobs.do_all(rt, gate)? {
         take_all(net, one)?;
     }
-    redo_all(net)?;
+    net.redo_all()?;
     Ok(())
 }
-
-// The most steps that a piece is ever given.
-const LONGEST: u64 = 10_000;
 
 // The most steps of the next round's pieces, where this round's had so many, and so many events were done
 // behind them. Behind an event they have as many as at first, since short pieces let processes meet soon.
@@ -78,17 +80,14 @@ fn next_most(first: u64, most: u64, events: u64) -> u64
     ensures again { 0 < events → result ≡ first }
     ensures grown { events ≡ 0 → result ≡ min (most * 2) 10000 }
 {
-    if events > 0 {
-        first
-    } else {
-        (most * 2).min(LONGEST)
-    }
+    if events > 0 { first } else { longer(most) }
 }
 
 /// Runs a net in rounds until no event is enabled in it or its budget is spent. In each round a piece of
 /// work is given out of each process that has quiet steps to do, of at most `quantum` steps at first; at
 /// most as many threads as there are workers do the pieces, each behind the gate, and they are taken in
-/// one after another. Pieces grow while nothing but quiet steps happens.
+/// one after another. Pieces grow while nothing but quiet steps happens. One worker gives nothing out: in
+/// each round one process does its piece in place.
 pub fn rounds<L: Local, G: Gate, R: Threads + Sync>(
     rt: &R,
     alloc: Global,
@@ -105,7 +104,7 @@ pub fn rounds<L: Local, G: Gate, R: Threads + Sync>(
     ensures keeps { IfOk result (λ n. IsNet L.ops n) }
 {
     let mut net = net;
-    redo_all(&mut net)?;
+    net.redo_all()?;
     settle_all(&mut net)?;
     let mut most = quantum;
     let mut round = 0u64;

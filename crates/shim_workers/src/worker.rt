@@ -4,9 +4,9 @@ ghost use Rattle.shim_board.specs.Chairs.{HasSlot, StandsAs, slots_of};
 ghost use Rattle.shim_workers.specs.Workers.{HasTurn};
 
 use crate::gate::Gate;
-use crate::load::Load;
+use crate::load::{Load, NetBoard, NetChair};
 use crate::pool::Pool;
-use crate::scheduling::{Found, NetBoard, NetChair, schedule};
+use crate::scheduling::schedule;
 use shim_local::{Local, work};
 use std::sync::Wait;
 
@@ -60,28 +60,26 @@ fn do_any<L: Local, G: Gate>(
     false
 }
 
-// Does a piece; where there is none, tries the turn.
+// Does a piece; where there is none, tries the turn. False where there was nothing to do.
 fn work_once<L: Local, G: Gate>(
     board: &NetBoard<L>,
     chair: &mut NetChair<L>,
     slots: u64,
     first: u64,
-    quantum: u64,
     gate: &G,
     pool: &Pool,
-) -> Found
+) -> bool
     requires chair { HasTurn 0 board.now chair.old }
     requires slots { slots_of board.now ≡ slots }
-    requires quantum { 1 ≤ quantum }
     ensures turn { HasTurn 0 board.now chair.new }
     ensures same { StandsAs chair.old chair.new }
 {
     if do_any(board, chair, slots, first, gate) {
-        return Found::Work;
+        return true;
     }
     match board.take_turn(chair) {
-        None => Found::Nothing,
-        Some(net) => schedule(board, chair, net, slots, quantum, pool),
+        None => false,
+        Some(net) => schedule(board, chair, net, slots, gate, pool),
     }
 }
 
@@ -92,29 +90,26 @@ pub(crate) fn run_worker<L: Local, G: Gate, R: Wait>(
     board: &NetBoard<L>,
     mut chair: NetChair<L>,
     slots: u64,
-    quantum: u64,
     gate: &G,
     pool: &Pool,
 ) -> NetChair<L>
     requires chair { HasTurn 0 board.now chair }
     requires slots { slots_of board.now ≡ slots }
-    requires quantum { 1 ≤ quantum }
     ensures turn { HasTurn 0 board.now result }
     ensures same { StandsAs chair result }
 {
     let first = pool.begin().wrapping_mul(SLOTS_EACH);
     let mut tries = 0u64;
     for _ in rt.forever() {
-        if pool.wanted_memory() {
+        let news = pool.news();
+        if !pool.is_running() {
             break;
         }
-        match work_once(board, &mut chair, slots, first, quantum, gate, pool) {
-            Found::Work => tries = 0,
-            Found::Nothing => {
-                pool.back_off(rt, tries);
-                tries = tries.saturating_add(1);
-            }
-            Found::End => break,
+        if work_once(board, &mut chair, slots, first, gate, pool) {
+            tries = 0;
+        } else {
+            pool.rest(rt, news, tries);
+            tries = tries.saturating_add(1);
         }
     }
     chair

@@ -1,7 +1,6 @@
-use Rattle.std.proofs.Common.{◌≡◌, ◌∙◌, ◌≤◌, ap, arith, length, sym}
-use Rattle.shim_units.specs.declared.unit.Unit.{Unit as UnitOf}
+use Rattle.std.proofs.Common.{◌∙◌, ◌≤◌, ap, arith, length, sym}
 use Rattle.shim_code.specs.Programs.{machine_units}
-use Rattle.shim_code.proofs.PublishedCode.{all_machine, all_shown, shown_are_units, shown_units}
+use Rattle.shim_code.proofs.PublishedCode.{all_machine}
 use Rattle.shim_code.proofs.program.compile.Goals as goal
 
 pub new-requires : goal.new-requires
@@ -10,7 +9,5 @@ new-requires c =
     let i = c.loop-unit.unit-index in
     let le : length units ≤ i = let a = c.loop-unit.auto.unit-index-end in let d = c.loop-unit-test.false in omega arith in
     let kept = c.in_ok-kept.ensures in
-    let same = c.units-units.ensures.value ∙ ap (λ f. f.units) (sym kept) in (
-      all_shown units i c.loop-unit.shown le c.loop-unit.invariant.0 ∙ ap (λ us. shown_units us us) same ∙ shown_are_units _ _,
-      all_machine units i c.loop-unit.machine le c.loop-unit.invariant.1 ∙ ap (λ us. machine_units us us) same,
-    )
+    let same = c.units-units.ensures.value ∙ ap (λ f. f.units) (sym kept) in
+    all_machine units i c.loop-unit.machine le c.loop-unit.invariant ∙ ap (λ us. machine_units us us) same

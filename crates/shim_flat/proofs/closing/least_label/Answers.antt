@@ -18,6 +18,6 @@ loop-left-preserved c =
       omega (arith, within),
       one_read rs c.args.first c.args.count (c.loop-left.left - 1) c.index-records-first.result c.loop-left.least c.lesser_label-least.result (omega (arith, some, within))
           (slice_get_read rs _ (c.args.first + (c.loop-left.left - 1)) c.index-records-first.result refl (omega (arith, some, within, asked)) c.index-records-first.is)
-          (λ f. subst (λ (z : Record). option_map death c.lesser_label-least.result ≡ prevailing_of (stands_by f z.standing) (option_map death c.loop-left.least)) (sym c.index-records-first.is) (c.lesser_label-least.ensures f))
+          (λ f. subst (λ (z : Record). option_map death c.lesser_label-least.result ≡ prevailing_of (stands_by f z.status) (option_map death c.loop-left.least)) (sym c.index-records-first.is) (c.lesser_label-least.ensures f))
           (subst (λ i. option_map death c.loop-left.least ≡ prevailing_among (block (c.args.first + i) (c.args.count - i) (map stands_of rs))) back c.loop-left.invariant.1),
     )

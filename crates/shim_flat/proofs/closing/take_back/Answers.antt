@@ -1,4 +1,5 @@
 use Rattle.shim_laws_records.specs.Changes.{block}
+use Rattle.shim_flat.specs.declared.closing.CloseOutcome.TheVariants.{Threw}
 use Rattle.shim_flat.proofs.ClosingTakes.{still_within, goes, below, throws}
 use Rattle.shim_flat.proofs.closing.take_back.Goals as goal
 
@@ -22,4 +23,4 @@ pub returns-in-Some : goal.returns-in-Some
 returns-in-Some g c l e =
     let xs = c.args.states.now.items in
     throws g.L.Local.ops xs c.join_children.new.states.items (block c.args.first c.args.count xs) c.args.parent c.args.label c.is_none.result c.is_none.ensures c.join_children.ensures c.in-Some.label c.in-Some.is c.index_mut.result.now c.index_mut.ensures.value
-    c.throw_in.result c.throw_in.new.process l e c.throw_in.ensures
+    (Threw c.throw_in.result) c.throw_in.new.process l e c.throw_in.ensures

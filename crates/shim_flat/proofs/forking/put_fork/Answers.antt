@@ -3,7 +3,7 @@ use Rattle.std.proofs.lemmas.Option.{slice_get_read}
 use Rattle.shim_records.specs.Pairs.{chans_of, IsOrdered, AreOrdered}
 use Rattle.shim_records.specs.Blocks.{with_block}
 use Rattle.shim_records.specs.Fresh.{channels, FreshPairs}
-use Rattle.shim_laws_forks.specs.Forking.{AreOfChildren, EachClimbed, ready_chans}
+use Rattle.shim_laws_forks.specs.Forking.{AreOfChildren, EachUpdatedAbove, ready_chans}
 use Rattle.shim_flat.specs.Forking.{IsFreeBlock}
 use Rattle.shim_laws_forks.proofs.Orders.{put_ordered}
 use Rattle.shim_flat.proofs.ForkPut.{put, its_record}
@@ -22,21 +22,21 @@ returns-clause-ok g c =
     let many : length c.args.fork.children.items ≡ c.in_ok-count.count = search rules in
     let few : c.in_ok-count.count ≤ 4294967295 = search rules in
     let fresh : FreshPairs o c.args.fork.parent c.args.fork.children.items c.in_ok-pairs.pairs.items = search rules in
-    let put_in : c.put_states.new.states.items ≡ with_block c.in_ok-first.first c.args.fork.children.items (slice_set c.args.states.now.items c.args.fork.number c.args.fork.parent) = search rules in
+    let put_in : c.put_block.new.items.items ≡ with_block c.in_ok-first.first c.args.fork.children.items (slice_set c.args.states.now.items c.args.fork.number c.args.fork.parent) = search rules in
     let ready : channels c.in_ok-chans.chans.items ≡ ready_chans c.note_fork.new.parent.pairs.items = search rules in
-    let records : c.put_block.new.records.items ≡ with_block c.in_ok-first.first c.in_ok-born.born.items (slice_set c.args.records.now.items c.args.fork.number c.note_fork.new.parent) = search rules in
-    let gone : EachClimbed 4294967295 c.args.fork.number (channels c.in_ok-chans.chans.items) c.put_block.new.records.items c.climb_ready.new.records.items = search rules in
-    put o c.args.fork.number c.in_ok-first.first c.in_ok-count.count c.args.fork.parent c.args.fork.children.items c.args.states.now.items _ c.args.records.now.items c.put_block.new.records.items c.climb_ready.new.records.items
+    let records : c.put_block-2.new.items.items ≡ with_block c.in_ok-first.first c.in_ok-born.born.items (slice_set c.args.records.now.items c.args.fork.number c.note_fork.new.parent) = search rules in
+    let walked : EachUpdatedAbove 4294967295 c.args.fork.number (channels c.in_ok-chans.chans.items) c.put_block-2.new.items.items c.update_ready.new.records.items = search rules in
+    put o c.args.fork.number c.in_ok-first.first c.in_ok-count.count c.args.fork.parent c.args.fork.children.items c.args.states.now.items _ c.args.records.now.items c.put_block-2.new.items.items c.update_ready.new.records.items
     c.index_mut-2.result.now c.note_fork.new.parent c.in_ok-born.born.items c.in_ok-chans.chans.items had block many few children
     (its_record o c.in_ok-first.first c.in_ok-count.count c.args.fork.parent c.args.fork.children.items c.index_mut-2.result.now c.note_fork.new.parent c.in_ok-pairs.pairs.items many c.note_fork.ensures.forked c.note_fork.ensures.parent c.note_fork.ensures.path c.note_fork.ensures.going c.note_fork.ensures.pairs fresh)
-    put_in ready records gone
+    put_in ready records walked
 
-pub climb_ready-requires : goal.climb_ready-requires
-climb_ready-requires g c =
+pub update_ready-requires : goal.update_ready-requires
+update_ready-requires g c =
     let o = g.L.Local.ops in
     let rs = c.args.records.now in
     let children : AreOfChildren o c.args.fork.number c.args.fork.children.items c.in_ok-born.born.items = search rules in
     let fresh : FreshPairs o c.args.fork.parent c.args.fork.children.items c.in_ok-pairs.pairs.items = search rules in
-    let records : c.put_block.new.records.items ≡ with_block c.in_ok-first.first c.in_ok-born.born.items (slice_set rs.items c.args.fork.number c.note_fork.new.parent) = search rules in
+    let records : c.put_block-2.new.items.items ≡ with_block c.in_ok-first.first c.in_ok-born.born.items (slice_set rs.items c.args.fork.number c.note_fork.new.parent) = search rules in
     subst AreOrdered (sym records)
     (put_ordered o c.args.fork.number c.in_ok-first.first c.args.fork.children.items rs.items c.in_ok-born.born.items c.note_fork.new.parent c.requires.ordered (subst (λ z. IsOrdered (chans_of z)) (sym c.note_fork.ensures.pairs) fresh.ordered) children)

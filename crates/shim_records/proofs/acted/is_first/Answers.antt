@@ -2,7 +2,7 @@ use Rattle.std.proofs.Common.{ap, sym, ◌∙◌, arith}
 use Rattle.shim_base.specs.Paths.{same_channel}
 use Rattle.shim_base.proofs.SamePaths.{same_channel_is, same_channel_refl}
 use Rattle.shim_semantics.proofs.HowMany.{clash}
-use Rattle.shim_records.proofs.Gone.{none_earlier, still_none, another, stood_before}
+use Rattle.shim_records.proofs.Walked.{none_earlier, still_none, another, stood_before}
 use Rattle.shim_records.proofs.acted.is_first.Goals.{in-None, in-Some+else-eq}
 use Rattle.shim_records.proofs.acted.is_first.Goals as goal
 

@@ -2,7 +2,7 @@ use Rattle.std.proofs.Common.{◌≡◌, ◌≤◌, ◌+◌, vec_len, vec_capaci
 use Rattle.shim_records.specs.Blocks.{with_block}
 use Rattle.shim_records.proofs.blocks.put_block.Given as goal
 
-abbrev pub invariant-loop-child : goal.invariant-loop-child
-invariant-loop-child l =
-    (with_block l.at l.child-iterator.rest.items l.records.items ≡ with_block l.first l.fn.children.items l.initial.records.items)
-    × (l.at ≤ vec_len l.records) × (l.at + length l.child-iterator.rest.items ≤ vec_capacity l.records)
+abbrev pub invariant-loop-item : goal.invariant-loop-item
+invariant-loop-item g l =
+    (with_block l.at l.item-iterator.rest.items l.items.items ≡ with_block l.first l.fn.block.items l.initial.items.items)
+    × (l.at ≤ vec_len l.items) × (l.at + length l.item-iterator.rest.items ≤ vec_capacity l.items)

@@ -62,8 +62,8 @@ returns-then-other g c =
     relabelled ch rs.items c.in-Some.above c.in-Some-place_in.place c.index_mut-record.result.now c.index_mut.result.now c.put_label-other.new.pair fork (ap (place_of ch) (sym c.as_slice-2.ensures.value) ∙ (sym c.place_in.ensures ∙ c.in-Some-place_in.is)) c.index_mut.ensures.value c.put_label-other.ensures.chan
     c.put_label-other.ensures.counts in
     let off =
-    read g.L.Local.ops ch c.args.states.now rs.items c.as_slice.result.now c.in-Some.above c.children-count.result c.index-2.result.now c.index-3.result.now c.put_label-other.new.pair.least first_there many_there c.as_slice.ensures.value
-    c.children-count.ensures (c.put_label-other.ensures.put ∙ c.label_of_children-label.ensures) in
+    read g.L.Local.ops ch c.args.states.now rs.items c.as_slice.result.now c.in-Some.above c.fork_size-count.result c.index-2.result.now c.index-3.result.now c.put_label-other.new.pair.least first_there many_there c.as_slice.ensures.value
+    c.fork_size-count.ensures (c.put_label-other.ensures.put ∙ c.label_of_children-label.ensures) in
     goes g.L.Local.ops ch c.args.states.now rs.items c.args.at c.in-Some.above (slice_set rs.items c.in-Some.above (with_pair c.index_mut-record.result.now c.in-Some-place_in.place c.put_label-other.new.pair)) c.index_mut.result.now.least
     c.put_label-other.new.pair.least (ap up_at stood ∙ c.in-Some.is) relabels off
 
@@ -79,7 +79,7 @@ returns-else-other g c =
     relabelled ch rs.items c.in-Some.above c.in-Some-place_in.place c.index_mut-record.result.now c.index_mut.result.now c.put_label-other.new.pair fork (ap (place_of ch) (sym c.as_slice-2.ensures.value) ∙ (sym c.place_in.ensures ∙ c.in-Some-place_in.is)) c.index_mut.ensures.value c.put_label-other.ensures.chan
     c.put_label-other.ensures.counts in
     let off =
-    read g.L.Local.ops ch c.args.states.now rs.items c.as_slice.result.now c.in-Some.above c.children-count.result c.index-2.result.now c.index-3.result.now c.put_label-other.new.pair.least first_there many_there c.as_slice.ensures.value
-    c.children-count.ensures (c.put_label-other.ensures.put ∙ c.label_of_children-label.ensures) in
+    read g.L.Local.ops ch c.args.states.now rs.items c.as_slice.result.now c.in-Some.above c.fork_size-count.result c.index-2.result.now c.index-3.result.now c.put_label-other.new.pair.least first_there many_there c.as_slice.ensures.value
+    c.fork_size-count.ensures (c.put_label-other.ensures.put ∙ c.label_of_children-label.ensures) in
     stops g.L.Local.ops ch c.args.states.now rs.items c.args.at c.in-Some.above (slice_set rs.items c.in-Some.above (with_pair c.index_mut-record.result.now c.in-Some-place_in.place c.put_label-other.new.pair)) c.index_mut.result.now.least
     c.put_label-other.new.pair.least (ap up_at stood ∙ c.in-Some.is) relabels off (c.put_label-other.ensures.stays c.if-other.false)

@@ -61,9 +61,9 @@ returns c =
     goes ch rs.items c.args.here c.in-Some.above c.in-Some-place_in.place c.index_mut-record.result.now c.index_mut-pair.result.now c.move_pair.new.pair
     (up_is ch rs.items c.args.here c.index.result.now _ stood c.in-Some.is) fork (ap (place_of ch) (sym c.as_slice.ensures.value) ∙ (sym c.place_in.ensures ∙ c.in-Some-place_in.is)) c.index_mut-pair.ensures.value
     c.move_pair.ensures.same c.move_pair.ensures.label c.move_pair.ensures.moved
-    (record { at = c.in-Some.above; was = c.fork_reading.result; is = c.fork_reading-2.result }) refl
-    (fork_read c.fork_reading.result c.has_all-before.result c.index_mut-pair.result.now c.fork_reading.ensures c.has_all-before.ensures)
-    (fork_read c.fork_reading-2.result c.has_all-after.result c.move_pair.new.pair c.fork_reading-2.ensures c.has_all-after.ensures)
+    (record { at = c.in-Some.above; was = c.live_reading.result; is = c.live_reading-2.result }) refl
+    (fork_read c.live_reading.result c.has_all-before.result c.index_mut-pair.result.now c.live_reading.ensures c.has_all-before.ensures)
+    (fork_read c.live_reading-2.result c.has_all-after.result c.move_pair.new.pair c.live_reading-2.ensures c.has_all-after.ensures)
 
 pub place_in-requires : goal.place_in-requires
 place_in-requires c =

@@ -8,7 +8,7 @@ pub start-requires-send-L : goal.start-requires-send-L
 start-requires-send-L c κs = search (body_send, sendable)
 
 pub start-requires-clause-path : goal.start-requires-clause-path
-start-requires-clause-path c κs = root_path _ _ _ c.in_ok-root.ensures
+start-requires-clause-path c κs = root_path _ _ _ c.in_ok-root.ensures.value
 
 pub start-requires-clause-own : goal.start-requires-clause-own
-start-requires-clause-own c κs = main_shares_its_own _ _ _ c.in_ok-root.ensures
+start-requires-clause-own c κs = main_shares_its_own _ _ _ c.in_ok-root.ensures.value

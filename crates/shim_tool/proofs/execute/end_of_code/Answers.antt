@@ -14,10 +14,10 @@ pub start-requires-send-L : goal.start-requires-send-L
 start-requires-send-L g c κs = search (body_send, sendable)
 
 pub start-requires-clause-path : goal.start-requires-clause-path
-start-requires-clause-path g c κs = root_path _ _ _ c.in_ok-main.ensures
+start-requires-clause-path g c κs = root_path _ _ _ c.in_ok-main.ensures.value
 
 pub start-requires-clause-own : goal.start-requires-clause-own
-start-requires-clause-own g c κs = main_shares_its_own _ _ _ c.in_ok-main.ensures
+start-requires-clause-own g c κs = main_shares_its_own _ _ _ c.in_ok-main.ensures.value
 
 pub drive-requires-send-L : goal.drive-requires-send-L
 drive-requires-send-L g c κs = search (body_send, sendable)
@@ -29,7 +29,8 @@ pub returns : goal.returns
 returns g c =
     let code = c.in_ok-code.ensures ∙ c.in_ok-compile.ensures in
     net_ended c.in_ok-main.main (executed c.args.job.now c.args.input c.args.source.now) c.in_ok-net.net c.named.result
-    (c.in_ok-main.ensures ∙ (λ i. root (code i) (c.in_ok-input.ensures i)))
+    c.in_ok-main.ensures.sound
+    (c.in_ok-main.ensures.value ∙ (λ i. root (code i) (c.in_ok-input.ensures i)))
     (c.in_ok-net.ensures.root ∙ ap (λ (n : NetView LocalState). n.root) c.in_ok-begun.ensures)
     (c.in_ok-net.ensures.budget ∙ ap (λ (n : NetView LocalState). n.budget) c.in_ok-begun.ensures)
     c.in_ok-ended.ensures.agrees c.in_ok-ended.ensures.told

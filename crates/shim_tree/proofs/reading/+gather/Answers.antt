@@ -1,7 +1,7 @@
 use Rattle.std.proofs.Common.{◌<◌, ◌≤◌, length, arith}
 use Rattle.shim_tree.specs.NodeStatus.{together, nodes}
 use Rattle.shim_semantics.specs.Endings.{all_waiting}
-use Rattle.shim_tree.specs.Readings.{with_waits}
+use Rattle.shim_run_log.specs.Waits.{with_waits}
 use Rattle.shim_tree.proofs.Gathered.{gathered_child, gathered_live, gathered_all}
 use Rattle.shim_tree.proofs.reading.+gather.Goals as goal
 use Rattle.shim_tree.proofs.reading.+gather.Goals.{then-i-len+in_ok-gather-in-Forked, else-i-len+in_ok-gather_live-in-Forked}

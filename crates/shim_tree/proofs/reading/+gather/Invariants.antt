@@ -1,7 +1,7 @@
 use Rattle.std.proofs.Common.{◌≡◌, drop}
 use Rattle.shim_tree.specs.NodeStatus.{together, nodes}
 use Rattle.shim_semantics.specs.Endings.{all_waiting}
-use Rattle.shim_tree.specs.Readings.{with_waits}
+use Rattle.shim_run_log.specs.Waits.{with_waits}
 use Rattle.shim_tree.proofs.reading.+gather.Given as goal
 
 -- what is found from here on, added, is what all gives

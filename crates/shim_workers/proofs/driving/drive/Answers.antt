@@ -1,7 +1,14 @@
-use Rattle.std.proofs.Common.{arith, sym, ap, subst, slice_index_or, length, ◌∙◌}
+use Rattle.std.proofs.Common.{◌<◌, arith, sym, ap, subst, slice_index_or, length, ◌∙◌}
+use denote.Param.Send.{param_sync, struct_sync, shr_sync, sendable}
+use Rattle.shim_board.proofs.board.Board.TheSendSync as boards
+use Rattle.shim_board.proofs.chair.Chair.TheSendSync as chairs
+use Rattle.shim_net.proofs.Sends.{net_send}
+use Rattle.shim_workers.proofs.load.Load.TheSendSync as loads
+use Rattle.shim_workers.proofs.pool.Pool.TheSendSync as pools
 use Rattle.shim_workers.proofs.Weaker.{if_ok_weaker}
 use Rattle.shim_board.specs.Chairs.{AreAll, IsIdleOn, StandsAs}
 use Rattle.shim_board.proofs.Standing.{stand_as_all}
+use Rattle.shim_workers.proofs.driving.drive.Lts as lts
 use Rattle.shim_workers.proofs.driving.drive.Goals as goal
 
 pub close-requires-clause-chairs : goal.close-requires-clause-chairs
@@ -15,7 +22,32 @@ close-requires-clause-all g c = let len = c.in_ok-chairs.ensures.len in let befo
     (subst AreAll (sym c.into_vec.ensures) c.in_ok-board.ensures.chairs.1))
 
 pub returns-clause-root : goal.returns-clause-root
-returns-clause-root g c = let same = c.in-Ok.ensures.net ∙ c.in_ok-board.ensures.board.1 in if_ok_weaker c.rounds.result _ _ (λ n e. e ∙ ap (λ p. p.0) same ∙ c.in_ok-redo_all.ensures.goes_on.root) c.rounds.ensures.root
+returns-clause-root g c = let same = c.in-Ok.ensures.net ∙ c.in_ok-board.ensures.board.1 in if_ok_weaker c.rounds-2.result _ _ (λ n e. e ∙ ap (λ p. p.0) same ∙ c.in_ok-redo_all.ensures.goes_on.root) c.rounds-2.ensures.root
 
 pub returns-clause-budget : goal.returns-clause-budget
-returns-clause-budget g c = let same = c.in-Ok.ensures.net ∙ c.in_ok-board.ensures.board.1 in if_ok_weaker c.rounds.result _ _ (λ n e. e ∙ ap (λ p. p.1) same ∙ c.in_ok-redo_all.ensures.goes_on.budget) c.rounds.ensures.budget
+returns-clause-budget g c = let same = c.in-Ok.ensures.net ∙ c.in_ok-board.ensures.board.1 in if_ok_weaker c.rounds-2.result _ _ (λ n e. e ∙ ap (λ p. p.1) same ∙ c.in_ok-redo_all.ensures.goes_on.budget) c.rounds-2.ensures.budget
+
+-- each chair of a new board has neither the turn nor a slot
+pub map_vec-requires-after_bounds : goal.map_vec-requires-after_bounds
+map_vec-requires-after_bounds g c κs within i x inside same =
+    let s = c.type_bounds.send-L in
+    let q = c.type_bounds.sync-G in
+    let r = c.type_bounds.sync-R in
+    let are = c.into_vec.ensures in
+    let new = c.in_ok-board.ensures.chairs.0 i x (subst (λ l. i < length l) are inside) in
+    ((subst (λ z. IsIdleOn c.in_ok-board.board z) (sym (same ∙ ap (λ l. slice_index_or l i x) are)) new.0, c.in_ok-board.ensures.board.0), search sendable depth 20)
+
+pub map_vec-requires-send-J : goal.map_vec-requires-send-J
+map_vec-requires-send-J g c κs within = search (net_send, chairs.the_send, loads.the_send, sendable) depth 20
+
+pub map_vec-requires-send-X : goal.map_vec-requires-send-X
+map_vec-requires-send-X g c κs within = search (net_send, chairs.the_send, loads.the_send, sendable) depth 20
+
+-- the type of the closure is named, since no `search` finds it
+pub map_vec-requires-sync-F : goal.map_vec-requires-sync-F
+map_vec-requires-sync-F g c κs within =
+    let r = c.type_bounds.sync-R in
+    let q = c.type_bounds.sync-G in
+    let s = c.type_bounds.send-L in
+    let p = pools.the_sync in
+    param_sync 4 (lts.arg-25-4 g.row.L g.row.G g.row.R g.L.laws g.G.laws g.R.laws g.L.Local g.L.Local-dict g.G.Gate g.G.Gate-dict g.R.Threads g.R.Threads-dict g.R.Wait g.R.Wait-dict g.L.Destruct-dict κs) (search (net_send, boards.the_sync, loads.the_send, pools.the_sync, struct_sync, shr_sync, param_sync, sendable) depth 60)

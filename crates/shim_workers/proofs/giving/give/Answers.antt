@@ -1,13 +1,14 @@
 use Rattle.std.proofs.Common.{rules}
 use Rattle.shim_net.specs.Granting.{GivesNone, Gives}
-use Rattle.shim_workers.proofs.Progress.{same_net, fresh, gave_on, gave_more, gave_steps, gave_below, gave_none, gave_none_below, gave_none_steps}
+use Rattle.shim_net.proofs.Progress.{same_net, gave_none}
+use Rattle.shim_workers.proofs.Progress.{fresh, gave_on, gave_more, gave_steps, gave_below, gave_none_below, gave_none_steps}
 use Rattle.shim_workers.proofs.giving.give.Goals as goal
 
 pub grant-requires-clause-numbers : goal.grant-requires-clause-numbers
 grant-requires-clause-numbers g c κs within = fresh c.args.slot c.args.round c.args.net.now.grants c.requires.below
 
 pub returns-in-None-clause-goes_on : goal.returns-in-None-clause-goes_on
-returns-in-None-clause-goes_on g c = let none : GivesNone g.L.Local.ops c.args.net.now c.grant.new.self = search rules in same_net c.args.net.now c.grant.new.self none.0
+returns-in-None-clause-goes_on g c = let none : GivesNone g.L.Local.ops c.args.net.now c.grant.new.self = search rules in same_net g.L.Local.ops c.args.net.now c.grant.new.self none.0
 
 pub returns-in-None-clause-below : goal.returns-in-None-clause-below
 returns-in-None-clause-below g c = let none : GivesNone g.L.Local.ops c.args.net.now c.grant.new.self = search rules in gave_none_below g.L.Local.ops c.args.slot c.args.net.now c.grant.new.self none c.requires.below

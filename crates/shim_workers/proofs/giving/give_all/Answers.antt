@@ -1,10 +1,11 @@
 use Rattle.std.proofs.Common.{rules, inl, inr, refl}
-use Rattle.shim_workers.proofs.Progress.{stays, on_and_on, on_and_more, none_below, none_have, no_more, all_slots}
+use Rattle.shim_net.proofs.Progress.{stays, on_and_on}
+use Rattle.shim_workers.proofs.Progress.{on_and_more, none_below, none_have, no_more, all_slots}
 use Rattle.shim_workers.proofs.giving.give_all.Goals as goal
 
 pub loop-slot-init : goal.loop-slot-init
 loop-slot-init g c = record {
-  goes_on = stays c.args.net.now;
+  goes_on = stays g.L.Local.ops c.args.net.now;
   below = none_below 0 c.args.net.now.grants c.requires.home;
   have = none_have g.L.Local.ops c.args.net.now.grants c.requires.home;
   more = inl (refl, refl);
@@ -15,14 +16,14 @@ loop-slot-preserved g c =
     let i = c.loop-slot.invariant in
     let e = c.in_ok-give.ensures in
     record {
-      goes_on = on_and_on c.args.net.now c.loop-slot.net c.give.new.net i.goes_on e.goes_on;
+      goes_on = on_and_on g.L.Local.ops c.args.net.now c.loop-slot.net c.give.new.net i.goes_on e.goes_on;
       below = e.below;
       have = e.steps;
-      more = inr (on_and_more c.args.net.now c.loop-slot.net c.give.new.net i.goes_on (e.more (search rules)));
+      more = inr (on_and_more g.L.Local.ops c.args.net.now c.loop-slot.net c.give.new.net i.goes_on (e.more (search rules)));
     }
 
 pub returns-then-not-branch-clause-goes_on : goal.returns-then-not-branch-clause-goes_on
-returns-then-not-branch-clause-goes_on g c = on_and_on c.args.net.now c.loop-slot.net c.give.new.net c.loop-slot.invariant.goes_on c.in_ok-give.ensures.goes_on
+returns-then-not-branch-clause-goes_on g c = on_and_on g.L.Local.ops c.args.net.now c.loop-slot.net c.give.new.net c.loop-slot.invariant.goes_on c.in_ok-give.ensures.goes_on
 
 pub returns-then-not-branch-clause-more : goal.returns-then-not-branch-clause-more
 returns-then-not-branch-clause-more g c =

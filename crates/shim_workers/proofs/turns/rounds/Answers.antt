@@ -1,5 +1,5 @@
 use Rattle.std.proofs.Common.{rules}
-use Rattle.shim_workers.proofs.Progress.{on_and_on, can_give, closer}
+use Rattle.shim_net.proofs.Progress.{on_and_on, can_give, closer}
 use Rattle.shim_workers.proofs.turns.rounds.Goals as goal
 
 pub turn-requires-clause-can : goal.turn-requires-clause-can
@@ -9,7 +9,7 @@ turn-requires-clause-can g c κs within =
 
 pub loop-alloc-init : goal.loop-alloc-init
 loop-alloc-init g c = record {
-  goes_on = on_and_on c.args.net c.redo_all.new.net c.settle_all.new.net c.in_ok-redo_all.ensures.goes_on c.in_ok-settle_all.ensures.goes_on;
+  goes_on = on_and_on g.L.Local.ops c.args.net c.redo_all.new.self c.settle_all.new.net c.in_ok-redo_all.ensures.goes_on c.in_ok-settle_all.ensures.goes_on;
   home = c.in_ok-settle_all.ensures.home;
   settled = c.in_ok-settle_all.ensures.settled;
   most = c.requires.quantum;
@@ -21,7 +21,7 @@ loop-alloc-preserved g c =
     let t = c.in_ok-turn.ensures in
     let s = c.in_ok-events.ensures in
     record {
-      goes_on = on_and_on c.args.net c.turn.new.net c.settle_all-in-loop-alloc.new.net (on_and_on c.args.net c.loop-alloc.net c.turn.new.net i.goes_on t.goes_on) s.goes_on;
+      goes_on = on_and_on g.L.Local.ops c.args.net c.turn.new.net c.settle_all-in-loop-alloc.new.net (on_and_on g.L.Local.ops c.args.net c.loop-alloc.net c.turn.new.net i.goes_on t.goes_on) s.goes_on;
       home = s.home;
       settled = s.settled;
       most = c.next_most-most.ensures.within;

@@ -1,11 +1,11 @@
 use Rattle.std.proofs.Common.{◌≡◌, ◌≤◌, ◌-◌, []}
 use Rattle.shim_semantics.specs.Trees.{steps}
-use Rattle.shim_workers.specs.Progress.{GoesOn, HasSettled}
+use Rattle.shim_net.specs.Progress.{GoesOn, HasSettled}
 use Rattle.shim_workers.proofs.turns.rounds.Given as goal
 
 abbrev pub invariant-loop-alloc : goal.invariant-loop-alloc
 invariant-loop-alloc g l = record {
-  goes_on : GoesOn l.fn.net l.net;
+  goes_on : GoesOn g.L.Local.ops l.fn.net l.net;
   home : l.net.grants ≡ [];
   settled : HasSettled g.L.Local.ops l.net;
   most : (1 ≤ l.most) × (l.most ≤ 10000);

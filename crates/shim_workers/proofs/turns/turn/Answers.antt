@@ -1,4 +1,5 @@
-use Rattle.shim_workers.proofs.Progress.{on_and_on, more_and_on, more_steps}
+use Rattle.shim_net.proofs.Progress.{on_and_on}
+use Rattle.shim_workers.proofs.Progress.{more_and_on, more_steps}
 use Rattle.shim_workers.proofs.turns.turn.Goals as goal
 
 pub loop-one-preserved : goal.loop-one-preserved
@@ -6,13 +7,13 @@ loop-one-preserved g c =
     let i = c.loop-one.invariant in
     let e = c.in_ok-take_all.ensures in
     record {
-      goes_on = on_and_on c.args.net.now c.loop-one.net c.take_all.new.net i.goes_on e.goes_on;
+      goes_on = on_and_on g.L.Local.ops c.args.net.now c.loop-one.net c.take_all.new.net i.goes_on e.goes_on;
       have = e.steps;
-      more = more_and_on c.args.net.now c.loop-one.net c.take_all.new.net i.more e.goes_on;
+      more = more_and_on g.L.Local.ops c.args.net.now c.loop-one.net c.take_all.new.net i.more e.goes_on;
     }
 
 pub returns-clause-goes_on : goal.returns-clause-goes_on
-returns-clause-goes_on g c = on_and_on c.args.net.now c.loop-one.net c.redo_all.new.net c.loop-one.invariant.goes_on c.in_ok-redo_all.ensures.goes_on
+returns-clause-goes_on g c = on_and_on g.L.Local.ops c.args.net.now c.loop-one.net c.redo_all.new.self c.loop-one.invariant.goes_on c.in_ok-redo_all.ensures.goes_on
 
 pub returns-clause-more : goal.returns-clause-more
-returns-clause-more g c = more_steps c.args.net.now c.loop-one.net c.redo_all.new.net c.requires.home c.loop-one.invariant.more c.in_ok-redo_all.ensures.goes_on c.in_ok-redo_all.ensures.home
+returns-clause-more g c = more_steps g.L.Local.ops c.args.net.now c.loop-one.net c.redo_all.new.self c.requires.home c.loop-one.invariant.more c.in_ok-redo_all.ensures.goes_on c.in_ok-redo_all.ensures.home

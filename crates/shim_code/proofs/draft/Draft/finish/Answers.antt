@@ -14,4 +14,4 @@ pub returns : goal.returns
 returns c =
     let items = c.loop-at.items in
     let le : length items.items ≤ c.loop-at.at = let a = items.ok.0 in let b = c.loop-at.invariant.0 in let d = c.loop-at-test.false in omega arith in
-    c.from.ensures ∙ all_numbered items.items _ c.loop-at.at c.loop-at.next le c.loop-at.invariant.1 ∙ ap (numbered 0) c.self.view_is
+    c.from.ensures ∙ c.shrink_to_fit.ensures.items ∙ all_numbered items.items _ c.loop-at.at c.loop-at.next le c.loop-at.invariant.1 ∙ ap (numbered 0) c.self.view_is

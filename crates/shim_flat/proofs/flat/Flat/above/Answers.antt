@@ -1,9 +1,26 @@
-use Rattle.std.proofs.Common.{None, sym, subst, ap, ◌∙◌}
+use Rattle.std.proofs.Common.{None, sym, subst, ap, ◌∙◌, arith}
 use Rattle.shim_records.specs.Pairs.{up_in}
 use Rattle.shim_laws_keeping.specs.Flats.{IsKept}
 use Rattle.shim_flat.specs.Reading.{ParentIs}
-use Rattle.shim_flat.proofs.Parents.{parent_is_up, listing_goes, listing_ends, none_further}
+use Rattle.shim_flat.proofs.Parents.{parent_is_up, fork_in_use, listing_begins, listing_goes, listing_ends, none_further}
 use Rattle.shim_flat.proofs.flat.Flat.above.Goals as goal
+
+pub add-requires : goal.add-requires
+add-requires g c = c.requires.room c.args.number c.requires.used
+
+pub loop-walked-init : goal.loop-walked-init
+loop-walked-init g c = listing_begins g.L.Local.ops c.args.self.now c.args.number c.args.list.now c.add.new.self c.requires.used c.requires.room c.add.ensures
+
+pub add-requires-in-Some : goal.add-requires-in-Some
+add-requires-in-Some g c =
+    let o = g.L.Local.ops in
+    let same = c.as_slice-records.ensures.value ∙ ap (λ z. z.records) c.self.view_is in
+    let kept = subst (IsKept o) c.self.view_is c.self.invariant in
+    let fork = c.in-Some.fork in
+    let used = fork_in_use o c.args.self.now kept c.loop-walked.here fork c.loop-walked.invariant.used (ap (λ z. up_in z c.loop-walked.here) (sym same) ∙ c.in-Some.ensures.0) in
+    let within = c.requires.room fork used in
+    let long = c.loop-walked.invariant.as_many in
+    omega (arith, within, long)
 
 pub returns-in-None : goal.returns-in-None
 returns-in-None g c =
@@ -11,22 +28,22 @@ returns-in-None g c =
     let v = c.args.self.now in
     let same = c.as_slice-records.ensures.value ∙ ap (λ z. z.records) c.self.view_is in
     let kept = subst (IsKept o) c.self.view_is c.self.invariant in
-    let here = c.loop-gone.here in
-    let up = parent_is_up o v kept here c.loop-gone.invariant.used None (subst (λ z. ParentIs z here None) same c.in-None.ensures) in
-    listing_ends o v c.args.number c.args.list.now c.loop-gone.list here c.loop-gone.gone c.loop-gone.invariant (sym up)
+    let here = c.loop-walked.here in
+    let up = parent_is_up o v kept here c.loop-walked.invariant.used None (subst (λ z. ParentIs z here None) same c.in-None.ensures) in
+    listing_ends o v c.args.number c.args.list.now c.loop-walked.list here c.loop-walked.walked c.loop-walked.invariant (sym up)
 
-pub loop-gone-preserved : goal.loop-gone-preserved
-loop-gone-preserved g c =
+pub loop-walked-preserved : goal.loop-walked-preserved
+loop-walked-preserved g c =
     let o = g.L.Local.ops in
     let v = c.args.self.now in
     let same = c.as_slice-records.ensures.value ∙ ap (λ z. z.records) c.self.view_is in
     let kept = subst (IsKept o) c.self.view_is c.self.invariant in
     let up = c.in-Some.ensures.0 in
-    listing_goes o v c.args.number c.args.list.now c.loop-gone.list c.loop-gone.here c.loop-gone.gone c.loop-gone.invariant kept c.requires.room c.in-Some.fork c.add-in-Some.new.self
-    (ap (λ z. up_in z c.loop-gone.here) (sym same) ∙ up) c.add-in-Some.ensures
+    listing_goes o v c.args.number c.args.list.now c.loop-walked.list c.loop-walked.here c.loop-walked.walked c.loop-walked.invariant kept c.requires.room c.in-Some.fork c.add-in-Some.new.self
+    (ap (λ z. up_in z c.loop-walked.here) (sym same) ∙ up) c.add-in-Some.ensures
 
 pub returns : goal.returns
 returns g c =
     let o = g.L.Local.ops in
     let kept = subst (IsKept o) c.self.view_is c.self.invariant in
-    none_further o c.args.self.now c.args.number c.args.list.now c.loop-gone.list c.loop-gone.here c.loop-gone.gone c.loop-gone.invariant kept c.loop-gone-test.false
+    none_further o c.args.self.now c.args.number c.args.list.now c.loop-walked.list c.loop-walked.here c.loop-walked.walked c.loop-walked.invariant kept c.loop-walked-test.false

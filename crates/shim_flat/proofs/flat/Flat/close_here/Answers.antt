@@ -18,8 +18,8 @@ least_label-label-requires g c =
     let number = c.args.number in
     let done = subst (λ v. CanClose v number) (sym c.self.view_is) c.requires in
     let first = c.index.result.now.first in
-    let count = c.size_of_fork-count.result in
-    let has = closing.forked_so states rs number done c.index.result.now c.index-2.result.now count c.index.ensures c.index-2.ensures c.size_of_fork-count.ensures in
+    let count = c.fork_size-count.result in
+    let has = closing.forked_so states rs number done c.index.result.now c.index-2.result.now count c.index.ensures c.index-2.ensures c.fork_size-count.ensures in
     let w = closing.records_within o law states rs number c.self.invariant done first count has in
     let same = ap length c.as_slice.ensures.value in
     omega (arith, w, same)
@@ -33,8 +33,8 @@ take_back-outcome-requires-clause-apart g c κs within =
     let number = c.args.number in
     let done = subst (λ v. CanClose v number) (sym c.self.view_is) c.requires in
     let first = c.index.result.now.first in
-    let count = c.size_of_fork-count.result in
-    let has = closing.forked_so states rs number done c.index.result.now c.index-2.result.now count c.index.ensures c.index-2.ensures c.size_of_fork-count.ensures in
+    let count = c.fork_size-count.result in
+    let has = closing.forked_so states rs number done c.index.result.now c.index-2.result.now count c.index.ensures c.index-2.ensures c.fork_size-count.ensures in
     closing.is_apart o law states rs number c.self.invariant done first count has
 
 pub take_back-outcome-requires-clause-parent : goal.take_back-outcome-requires-clause-parent
@@ -46,8 +46,8 @@ take_back-outcome-requires-clause-parent g c κs within =
     let number = c.args.number in
     let done = subst (λ v. CanClose v number) (sym c.self.view_is) c.requires in
     let first = c.index.result.now.first in
-    let count = c.size_of_fork-count.result in
-    let has = closing.forked_so states rs number done c.index.result.now c.index-2.result.now count c.index.ensures c.index-2.ensures c.size_of_fork-count.ensures in
+    let count = c.fork_size-count.result in
+    let has = closing.forked_so states rs number done c.index.result.now c.index-2.result.now count c.index.ensures c.index-2.ensures c.fork_size-count.ensures in
     closing.state_there states rs number done
 
 pub take_back-outcome-requires-clause-inside : goal.take_back-outcome-requires-clause-inside
@@ -59,8 +59,8 @@ take_back-outcome-requires-clause-inside g c κs within =
     let number = c.args.number in
     let done = subst (λ v. CanClose v number) (sym c.self.view_is) c.requires in
     let first = c.index.result.now.first in
-    let count = c.size_of_fork-count.result in
-    let has = closing.forked_so states rs number done c.index.result.now c.index-2.result.now count c.index.ensures c.index-2.ensures c.size_of_fork-count.ensures in
+    let count = c.fork_size-count.result in
+    let has = closing.forked_so states rs number done c.index.result.now c.index-2.result.now count c.index.ensures c.index-2.ensures c.fork_size-count.ensures in
     closing.states_within o law states rs number c.self.invariant done first count has
 
 pub take_back-outcome-requires-clause-born : goal.take_back-outcome-requires-clause-born
@@ -72,8 +72,8 @@ take_back-outcome-requires-clause-born g c κs within =
     let number = c.args.number in
     let done = subst (λ v. CanClose v number) (sym c.self.view_is) c.requires in
     let first = c.index.result.now.first in
-    let count = c.size_of_fork-count.result in
-    let has = closing.forked_so states rs number done c.index.result.now c.index-2.result.now count c.index.ensures c.index-2.ensures c.size_of_fork-count.ensures in
+    let count = c.fork_size-count.result in
+    let has = closing.forked_so states rs number done c.index.result.now c.index-2.result.now count c.index.ensures c.index-2.ensures c.fork_size-count.ensures in
     closing.are_born o law states rs number c.self.invariant done first count has
 
 pub take_back-outcome-requires-clause-below : goal.take_back-outcome-requires-clause-below
@@ -85,8 +85,8 @@ take_back-outcome-requires-clause-below g c κs within =
     let number = c.args.number in
     let done = subst (λ v. CanClose v number) (sym c.self.view_is) c.requires in
     let first = c.index.result.now.first in
-    let count = c.size_of_fork-count.result in
-    let has = closing.forked_so states rs number done c.index.result.now c.index-2.result.now count c.index.ensures c.index-2.ensures c.size_of_fork-count.ensures in
+    let count = c.fork_size-count.result in
+    let has = closing.forked_so states rs number done c.index.result.now c.index-2.result.now count c.index.ensures c.index-2.ensures c.fork_size-count.ensures in
     let label = c.least_label-label.result in
     let read = c.least_label-label.ensures ∙ ap (λ z. prevailing_among (block first count (map stands_of z))) c.as_slice.ensures.value in
     closing.is_below o law states rs number c.self.invariant done first count has label read
@@ -100,8 +100,8 @@ free_children-requires g c =
     let number = c.args.number in
     let done = subst (λ v. CanClose v number) (sym c.self.view_is) c.requires in
     let first = c.index.result.now.first in
-    let count = c.size_of_fork-count.result in
-    let has = closing.forked_so states rs number done c.index.result.now c.index-2.result.now count c.index.ensures c.index-2.ensures c.size_of_fork-count.ensures in
+    let count = c.fork_size-count.result in
+    let has = closing.forked_so states rs number done c.index.result.now c.index-2.result.now count c.index.ensures c.index-2.ensures c.fork_size-count.ensures in
     let w = closing.records_within o law states rs number c.self.invariant done first count has in
     let same = c.self.inside.records.ok.0 in
     omega (arith, w, same)
@@ -115,8 +115,8 @@ close_record-requires-clause-ordered g c κs within =
     let number = c.args.number in
     let done = subst (λ v. CanClose v number) (sym c.self.view_is) c.requires in
     let first = c.index.result.now.first in
-    let count = c.size_of_fork-count.result in
-    let has = closing.forked_so states rs number done c.index.result.now c.index-2.result.now count c.index.ensures c.index-2.ensures c.size_of_fork-count.ensures in
+    let count = c.fork_size-count.result in
+    let has = closing.forked_so states rs number done c.index.result.now c.index-2.result.now count c.index.ensures c.index-2.ensures c.fork_size-count.ensures in
     closing.freed_order first count rs c.free_children.new.records.items c.free_children.ensures (closing.are_ordered o law states rs number c.self.invariant done first count has)
 
 pub close_record-requires-clause-few : goal.close_record-requires-clause-few
@@ -128,8 +128,8 @@ close_record-requires-clause-few g c κs within s e =
     let number = c.args.number in
     let done = subst (λ v. CanClose v number) (sym c.self.view_is) c.requires in
     let first = c.index.result.now.first in
-    let count = c.size_of_fork-count.result in
-    let has = closing.forked_so states rs number done c.index.result.now c.index-2.result.now count c.index.ensures c.index-2.ensures c.size_of_fork-count.ensures in
+    let count = c.fork_size-count.result in
+    let has = closing.forked_so states rs number done c.index.result.now c.index-2.result.now count c.index.ensures c.index-2.ensures c.fork_size-count.ensures in
     let label = c.least_label-label.result in
     let read = c.least_label-label.ensures ∙ ap (λ z. prevailing_among (block first count (map stands_of z))) c.as_slice.ensures.value in
     let outcome = c.take_back-outcome.result in
@@ -146,8 +146,8 @@ close_record-requires-clause-of_state g c κs within =
     let number = c.args.number in
     let done = subst (λ v. CanClose v number) (sym c.self.view_is) c.requires in
     let first = c.index.result.now.first in
-    let count = c.size_of_fork-count.result in
-    let has = closing.forked_so states rs number done c.index.result.now c.index-2.result.now count c.index.ensures c.index-2.ensures c.size_of_fork-count.ensures in
+    let count = c.fork_size-count.result in
+    let has = closing.forked_so states rs number done c.index.result.now c.index-2.result.now count c.index.ensures c.index-2.ensures c.fork_size-count.ensures in
     let label = c.least_label-label.result in
     let read = c.least_label-label.ensures ∙ ap (λ z. prevailing_among (block first count (map stands_of z))) c.as_slice.ensures.value in
     let outcome = c.take_back-outcome.result in
@@ -166,8 +166,8 @@ close_record-requires-clause-of_record g c κs within =
     let number = c.args.number in
     let done = subst (λ v. CanClose v number) (sym c.self.view_is) c.requires in
     let first = c.index.result.now.first in
-    let count = c.size_of_fork-count.result in
-    let has = closing.forked_so states rs number done c.index.result.now c.index-2.result.now count c.index.ensures c.index-2.ensures c.size_of_fork-count.ensures in
+    let count = c.fork_size-count.result in
+    let has = closing.forked_so states rs number done c.index.result.now c.index-2.result.now count c.index.ensures c.index-2.ensures c.fork_size-count.ensures in
     let w = closing.record_there states rs number done in
     let same = closing.freed_long first count rs c.free_children.new.records.items c.free_children.ensures in
     omega (arith, w, same)
@@ -181,19 +181,19 @@ invariant_of-self g c =
     let number = c.args.number in
     let done = subst (λ v. CanClose v number) (sym c.self.view_is) c.requires in
     let first = c.index.result.now.first in
-    let count = c.size_of_fork-count.result in
-    let has = closing.forked_so states rs number done c.index.result.now c.index-2.result.now count c.index.ensures c.index-2.ensures c.size_of_fork-count.ensures in
+    let count = c.fork_size-count.result in
+    let has = closing.forked_so states rs number done c.index.result.now c.index-2.result.now count c.index.ensures c.index-2.ensures c.fork_size-count.ensures in
     let label = c.least_label-label.result in
     let read = c.least_label-label.ensures ∙ ap (λ z. prevailing_among (block first count (map stands_of z))) c.as_slice.ensures.value in
     let outcome = c.take_back-outcome.result in
     let now = c.take_back-outcome.new.states.items in
     let taken = c.take_back-outcome.ensures in
     let behind = c.close_record.new.records.items in
-    let standing = c.standing_after-standing.result in
+    let status = c.status_after-status.result in
     let end = c.used_end-end.result in
-    let settled = subst (λ z. ClosesRecord o z number standing (option_map death label) c.free_children.new.records.items behind) c.as_slice-2.ensures.value c.close_record.ensures in
+    let settled = subst (λ z. ClosesRecord o z number status (option_map death label) c.free_children.new.records.items behind) c.as_slice-2.ensures.value c.close_record.ensures in
     subst (λ z. IsKept o (record { states = z; records = c.truncate.new.self.items })) (sym c.truncate-2.ensures.items)
-    (subst (λ z. IsKept o (record { states = take end now; records = z })) (sym c.truncate.ensures.items) (closing.still_kept o law states rs number c.self.invariant done first count has label outcome now read taken c.free_children.new.records.items behind standing end c.free_children.ensures c.standing_after-standing.ensures.sort settled (λ i r past e. c.used_end-end.ensures i r past (ap (λ z. slice_get z i) c.as_slice-3.ensures.value ∙ e))))
+    (subst (λ z. IsKept o (record { states = take end now; records = z })) (sym c.truncate.ensures.items) (closing.still_kept o law states rs number c.self.invariant done first count has label outcome now read taken c.free_children.new.records.items behind status end c.free_children.ensures c.status_after-status.ensures.sort settled (λ i r past e. c.used_end-end.ensures i r past (ap (λ z. slice_get z i) c.as_slice-3.ensures.value ∙ e))))
 
 pub returns : goal.returns
 returns g c =
@@ -204,17 +204,17 @@ returns g c =
     let number = c.args.number in
     let done = subst (λ v. CanClose v number) (sym c.self.view_is) c.requires in
     let first = c.index.result.now.first in
-    let count = c.size_of_fork-count.result in
-    let has = closing.forked_so states rs number done c.index.result.now c.index-2.result.now count c.index.ensures c.index-2.ensures c.size_of_fork-count.ensures in
+    let count = c.fork_size-count.result in
+    let has = closing.forked_so states rs number done c.index.result.now c.index-2.result.now count c.index.ensures c.index-2.ensures c.fork_size-count.ensures in
     let label = c.least_label-label.result in
     let read = c.least_label-label.ensures ∙ ap (λ z. prevailing_among (block first count (map stands_of z))) c.as_slice.ensures.value in
     let outcome = c.take_back-outcome.result in
     let now = c.take_back-outcome.new.states.items in
     let taken = c.take_back-outcome.ensures in
     let behind = c.close_record.new.records.items in
-    let standing = c.standing_after-standing.result in
+    let status = c.status_after-status.result in
     let end = c.used_end-end.result in
-    let settled = subst (λ z. ClosesRecord o z number standing (option_map death label) c.free_children.new.records.items behind) c.as_slice-2.ensures.value c.close_record.ensures in
+    let settled = subst (λ z. ClosesRecord o z number status (option_map death label) c.free_children.new.records.items behind) c.as_slice-2.ensures.value c.close_record.ensures in
     subst (λ v. ClosesHere o number outcome v (record { states = c.truncate-2.new.self.items; records = c.truncate.new.self.items })) c.self.view_is
     (subst (λ z. ClosesHere o number outcome (record { states = states; records = rs }) (record { states = z; records = c.truncate.new.self.items })) (sym c.truncate-2.ensures.items)
-    (subst (λ z. ClosesHere o number outcome (record { states = states; records = rs }) (record { states = take end now; records = z })) (sym c.truncate.ensures.items) (closing.closes_here o law states rs number c.self.invariant done first count has label outcome now read taken c.free_children.new.records.items behind standing end c.free_children.ensures c.standing_after-standing.ensures.sort settled (λ i r past e. c.used_end-end.ensures i r past (ap (λ z. slice_get z i) c.as_slice-3.ensures.value ∙ e)))))
+    (subst (λ z. ClosesHere o number outcome (record { states = states; records = rs }) (record { states = take end now; records = z })) (sym c.truncate.ensures.items) (closing.closes_here o law states rs number c.self.invariant done first count has label outcome now read taken c.free_children.new.records.items behind status end c.free_children.ensures c.status_after-status.ensures.sort settled (λ i r past e. c.used_end-end.ensures i r past (ap (λ z. slice_get z i) c.as_slice-3.ensures.value ∙ e)))))

@@ -2,7 +2,7 @@ use Rattle.std.proofs.Common.{refl, sym, subst}
 use Rattle.shim_local.specs.Process.{AtFinish}
 use Rattle.shim_semantics.specs.Acts.{nothing}
 use Rattle.shim_laws_records.specs.Seen.{ends}
-use Rattle.shim_records.specs.declared.record.Standing.TheVariants as code
+use Rattle.shim_records.specs.declared.record.Status.TheVariants as code
 use Rattle.shim_laws_keeping.specs.Flats.{IsKept}
 use Rattle.shim_flat.specs.Stepping.{LivesAt}
 use Rattle.shim_flat.specs.Acting.{ActsHere}

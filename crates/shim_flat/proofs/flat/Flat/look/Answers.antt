@@ -1,4 +1,4 @@
-use Rattle.std.proofs.Common.{ap, arith, length}
+use Rattle.std.proofs.Common.{◌≡◌, [], ◌∷◌, ◌++◌, ap, ◌∙◌, arith, length, rules}
 use Rattle.shim_flat.specs.Descent.{ahead_of}
 use Rattle.shim_flat.proofs.Finding.{empty_block, past_block, passed, taken}
 use Rattle.shim_flat.proofs.flat.Flat.look.Goals as goal
@@ -17,5 +17,6 @@ returns-in-None g c =
 
 pub returns-in_ok-put_ahead-in-Some : goal.returns-in_ok-put_ahead-in-Some
 returns-in_ok-put_ahead-in-Some g c =
+    let number : c.in_ok-number-in-Some.number ≡ c.args.block.first = search rules in
     taken g.L.Local.ops c.args.self.now c.args.c.now.channel c.args.block c.in-Some.children (ahead_of c.args.ahead.now.items) (ahead_of c.put_ahead.new.ahead.items) (ahead_of c.put_ahead-in-Some.new.ahead.items) c.args.numbers.now.items c.push.new.self.items
-    (omega (arith, c.if-block-eq0.false)) c.in_ok-put_ahead.ensures c.in-Some.ensures c.in_ok-push-in-Some.ensures.items c.in_ok-put_ahead-in-Some.ensures
+    (omega (arith, c.if-block-eq0.false)) c.in_ok-put_ahead.ensures c.in-Some.ensures (c.in_ok-push-in-Some.ensures.items ∙ ap (λ z. c.args.numbers.now.items ++ z ∷ []) number) c.in_ok-put_ahead-in-Some.ensures

@@ -1,7 +1,9 @@
-use Rattle.std.proofs.Common.{rules, ◌≤◌, ◌+◌, map, ap, ◌∙◌, arith}
+use Rattle.std.proofs.Common.{rules, ◌≤◌, map, sym, subst, arith}
+use Rattle.shim_flat_tree.specs.FlatTrees.{tree_in, IsHeld}
+use Rattle.shim_flat_tree.specs.Holding.{HeldComes, Releases}
 use Rattle.shim_net.specs.Entries.{entry_of}
 use Rattle.shim_net.proofs.Closing as closing
-use Rattle.shim_net.proofs.Numbering.{one_less_numbered}
+use Rattle.shim_net.proofs.Holding.{held_at, one_less_held}
 use Rattle.shim_net.proofs.net.Net.close.Goals as goal
 
 pub overflow_sub-self : goal.overflow_sub-self
@@ -11,19 +13,48 @@ overflow_sub-self g c =
     let a = c.args in
     let r = c.requires in
     let less = closing.reserves o law _ a.self.now c.self.view_is c.self.invariant.0 a.at a.used a.last r.there r.steps r.most c.remove-grant.result c.remove-grant.ensures.value c.remove-grant.new.self.items c.remove-grant.ensures.items in
-    omega (arith, less, c.most.ensures, c.self.invariant.2)
+    omega (arith, less, c.most.ensures, c.self.invariant.1)
+
+pub release-requires-clause-did : goal.release-requires-clause-did
+release-requires-clause-did g c κs within =
+    let law = (g.met.L.Local g.world.𝓛 g.world.𝓜 g.world.𝓡 ((λ s x. x), (λ x. x), (λ x. x), λ x. x)).laws in
+    let o = g.L.Local.ops in
+    let a = c.args in
+    let r = c.requires in
+    let p = c.remove-grant.result in
+    let ft = c.self.inside.tree in
+    let comes : HeldComes o ft c.number.result a.used p.start a.last = record {
+      held = subst (λ n. IsHeld o ft n p.start) (sym c.number.ensures) (held_at o ft c.self.inside.grants.items a.at p c.self.invariant.3 (closing.there o law _ a.self.now c.self.view_is c.self.invariant.0 a.at a.used a.last r.there r.steps r.most c.remove-grant.result c.remove-grant.ensures.value) c.remove-grant.ensures.value);
+      chain = closing.its_run o law _ a.self.now c.self.view_is c.self.invariant.0 a.at a.used a.last r.there r.steps r.most c.remove-grant.result c.remove-grant.ensures.value;
+    } in
+    (p.start, comes)
+
+pub release-requires-clause-few : goal.release-requires-clause-few
+release-requires-clause-few g c κs within =
+    let law = (g.met.L.Local g.world.𝓛 g.world.𝓜 g.world.𝓡 ((λ s x. x), (λ x. x), (λ x. x), λ x. x)).laws in
+    let o = g.L.Local.ops in
+    let a = c.args in
+    let r = c.requires in
+    closing.fits o law _ a.self.now c.self.view_is c.self.invariant.0 a.at a.used a.last r.there r.steps r.most c.remove-grant.result c.remove-grant.ensures.value c.remove-grant.new.self.items c.remove-grant.ensures.items
 
 pub invariant_of-self : goal.invariant_of-self
 invariant_of-self g c =
     let law = (g.met.L.Local g.world.𝓛 g.world.𝓜 g.world.𝓡 ((λ s x. x), (λ x. x), (λ x. x), λ x. x)).laws in
     let o = g.L.Local.ops in
     let a = c.args in
-    let r = c.requires in (
-      closing.stays_back o law _ a.self.now c.self.view_is c.self.invariant.0 a.at a.used a.last r.there r.steps r.most c.remove-grant.result c.remove-grant.ensures.value c.remove-grant.new.self.items c.remove-grant.ensures.items (search rules),
-      c.self.invariant.1,
-      closing.reserves_less o law _ a.self.now c.self.view_is c.self.invariant.0 a.at a.used a.last r.there r.steps r.most c.remove-grant.result c.remove-grant.ensures.value c.remove-grant.new.self.items c.remove-grant.ensures.items c.self.inside.reserved c.most.result c.self.invariant.2 c.most.ensures,
+    let r = c.requires in
+    let p = c.remove-grant.result in
+    let ft = c.self.inside.tree in
+    let comes : HeldComes o ft c.number.result a.used p.start a.last = record {
+      held = subst (λ n. IsHeld o ft n p.start) (sym c.number.ensures) (held_at o ft c.self.inside.grants.items a.at p c.self.invariant.3 (closing.there o law _ a.self.now c.self.view_is c.self.invariant.0 a.at a.used a.last r.there r.steps r.most c.remove-grant.result c.remove-grant.ensures.value) c.remove-grant.ensures.value);
+      chain = closing.its_run o law _ a.self.now c.self.view_is c.self.invariant.0 a.at a.used a.last r.there r.steps r.most c.remove-grant.result c.remove-grant.ensures.value;
+    } in
+    let u = c.release.new.self in
+    let released = subst (λ n. Releases o ft u n a.used p.start a.last) c.number.ensures (c.release.ensures p.start comes) in (
+      closing.stays_back o law _ a.self.now c.self.view_is c.self.invariant.0 a.at a.used a.last r.there r.steps r.most c.remove-grant.result c.remove-grant.ensures.value c.remove-grant.new.self.items c.remove-grant.ensures.items (tree_in o u) released.advances (search rules),
+      closing.reserves_less o law _ a.self.now c.self.view_is c.self.invariant.0 a.at a.used a.last r.there r.steps r.most c.remove-grant.result c.remove-grant.ensures.value c.remove-grant.new.self.items c.remove-grant.ensures.items c.self.inside.reserved c.most.result c.self.invariant.1 c.most.ensures,
       search rules,
-      one_less_numbered o c.self.inside.numbers c.self.inside.grants.items c.remove-grant.new.self.items a.at c.remove-grant.ensures.items c.self.invariant.4,
+      one_less_held o ft u c.self.inside.grants.items a.at a.used p a.last c.self.invariant.3 c.self.invariant.0.pids (closing.there o law _ a.self.now c.self.view_is c.self.invariant.0 a.at a.used a.last r.there r.steps r.most c.remove-grant.result c.remove-grant.ensures.value) c.remove-grant.ensures.value released c.remove-grant.new.self.items c.remove-grant.ensures.items,
     )
 
 pub returns-then-used-eq0 : goal.returns-then-used-eq0
@@ -32,33 +63,15 @@ returns-then-used-eq0 g c =
     let o = g.L.Local.ops in
     let a = c.args in
     let r = c.requires in
-    closing.closes_back o law _ a.self.now c.self.view_is c.self.invariant.0 a.at a.used a.last r.there r.steps r.most c.remove-grant.result c.remove-grant.ensures.value c.remove-grant.new.self.items c.remove-grant.ensures.items (search rules)
-
-pub advance-requires-clause-comes : goal.advance-requires-clause-comes
-advance-requires-clause-comes g c κs within =
-    let law = (g.met.L.Local g.world.𝓛 g.world.𝓜 g.world.𝓡 ((λ s x. x), (λ x. x), (λ x. x), λ x. x)).laws in
-    let o = g.L.Local.ops in
-    let a = c.args in
-    let r = c.requires in
-    closing.comes o law _ a.self.now c.self.view_is c.self.invariant.0 a.at a.used a.last r.there r.steps r.most c.remove-grant.result c.remove-grant.ensures.value
-
-pub advance-requires-clause-few : goal.advance-requires-clause-few
-advance-requires-clause-few g c κs within =
-    let law = (g.met.L.Local g.world.𝓛 g.world.𝓜 g.world.𝓡 ((λ s x. x), (λ x. x), (λ x. x), λ x. x)).laws in
-    let o = g.L.Local.ops in
-    let a = c.args in
-    let r = c.requires in
-    closing.fits o law _ a.self.now c.self.view_is c.self.invariant.0 a.at a.used a.last r.there r.steps r.most c.remove-grant.result c.remove-grant.ensures.value c.remove-grant.new.self.items c.remove-grant.ensures.items
-
-pub overflow_add-self : goal.overflow_add-self
-overflow_add-self g c =
-    let law = (g.met.L.Local g.world.𝓛 g.world.𝓜 g.world.𝓡 ((λ s x. x), (λ x. x), (λ x. x), λ x. x)).laws in
-    let o = g.L.Local.ops in
-    let a = c.args in
-    let r = c.requires in
-    let fits = closing.fits o law _ a.self.now c.self.view_is c.self.invariant.0 a.at a.used a.last r.there r.steps r.most c.remove-grant.result c.remove-grant.ensures.value c.remove-grant.new.self.items c.remove-grant.ensures.items in
-    let small : c.self.inside.taken + a.used ≤ 4000000 = omega (arith, fits, c.self.invariant.1) in
-    search rules
+    let p = c.remove-grant.result in
+    let ft = c.self.inside.tree in
+    let comes : HeldComes o ft c.number.result a.used p.start a.last = record {
+      held = subst (λ n. IsHeld o ft n p.start) (sym c.number.ensures) (held_at o ft c.self.inside.grants.items a.at p c.self.invariant.3 (closing.there o law _ a.self.now c.self.view_is c.self.invariant.0 a.at a.used a.last r.there r.steps r.most c.remove-grant.result c.remove-grant.ensures.value) c.remove-grant.ensures.value);
+      chain = closing.its_run o law _ a.self.now c.self.view_is c.self.invariant.0 a.at a.used a.last r.there r.steps r.most c.remove-grant.result c.remove-grant.ensures.value;
+    } in
+    let u = c.release.new.self in
+    let released = subst (λ n. Releases o ft u n a.used p.start a.last) c.number.ensures (c.release.ensures p.start comes) in
+    closing.closes_back o law _ a.self.now c.self.view_is c.self.invariant.0 a.at a.used a.last r.there r.steps r.most c.remove-grant.result c.remove-grant.ensures.value c.remove-grant.new.self.items c.remove-grant.ensures.items (tree_in o u) released.advances (search rules)
 
 pub invariant_of-self-2 : goal.invariant_of-self-2
 invariant_of-self-2 g c =
@@ -66,13 +79,20 @@ invariant_of-self-2 g c =
     let o = g.L.Local.ops in
     let a = c.args in
     let r = c.requires in
-    let more = closing.entries_more c.self.inside.journal.items c.into_path.result (o.path c.remove-grant.result.start) a.used c.push_reserved.new.self.items c.into_path.ensures c.push_reserved.ensures.items in
+    let p = c.remove-grant.result in
+    let ft = c.self.inside.tree in
+    let comes : HeldComes o ft c.number.result a.used p.start a.last = record {
+      held = subst (λ n. IsHeld o ft n p.start) (sym c.number.ensures) (held_at o ft c.self.inside.grants.items a.at p c.self.invariant.3 (closing.there o law _ a.self.now c.self.view_is c.self.invariant.0 a.at a.used a.last r.there r.steps r.most c.remove-grant.result c.remove-grant.ensures.value) c.remove-grant.ensures.value);
+      chain = closing.its_run o law _ a.self.now c.self.view_is c.self.invariant.0 a.at a.used a.last r.there r.steps r.most c.remove-grant.result c.remove-grant.ensures.value;
+    } in
+    let u = c.release.new.self in
+    let released = subst (λ n. Releases o ft u n a.used p.start a.last) c.number.ensures (c.release.ensures p.start comes) in
+    let more = closing.entries_more c.self.inside.journal.items c.into_path.result (o.path p.start) a.used c.push_reserved.new.self.items c.into_path.ensures c.push_reserved.ensures.items in
     let some : 1 ≤ a.used = search rules in (
-      closing.stays o law _ a.self.now c.self.view_is c.self.invariant.0 a.at a.used a.last r.there r.steps r.most c.remove-grant.result c.remove-grant.ensures.value c.remove-grant.new.self.items c.remove-grant.ensures.items some c.advance.new.self c.advance.ensures (map entry_of c.push_reserved.new.self.items) more,
-      ap (λ z. z + a.used) c.self.invariant.1 ∙ closing.counts o law _ a.self.now c.self.view_is c.self.invariant.0 a.at a.used a.last r.there r.steps r.most c.remove-grant.result c.remove-grant.ensures.value c.remove-grant.new.self.items c.remove-grant.ensures.items some c.advance.new.self c.advance.ensures (map entry_of c.push_reserved.new.self.items) more,
-      closing.reserves_less o law _ a.self.now c.self.view_is c.self.invariant.0 a.at a.used a.last r.there r.steps r.most c.remove-grant.result c.remove-grant.ensures.value c.remove-grant.new.self.items c.remove-grant.ensures.items c.self.inside.reserved c.most.result c.self.invariant.2 c.most.ensures,
+      closing.stays o law _ a.self.now c.self.view_is c.self.invariant.0 a.at a.used a.last r.there r.steps r.most c.remove-grant.result c.remove-grant.ensures.value c.remove-grant.new.self.items c.remove-grant.ensures.items (tree_in o u) released.advances some (map entry_of c.push_reserved.new.self.items) more,
+      closing.reserves_less o law _ a.self.now c.self.view_is c.self.invariant.0 a.at a.used a.last r.there r.steps r.most c.remove-grant.result c.remove-grant.ensures.value c.remove-grant.new.self.items c.remove-grant.ensures.items c.self.inside.reserved c.most.result c.self.invariant.1 c.most.ensures,
       search rules,
-      one_less_numbered o c.self.inside.numbers c.self.inside.grants.items c.remove-grant.new.self.items a.at c.remove-grant.ensures.items c.self.invariant.4,
+      one_less_held o ft u c.self.inside.grants.items a.at a.used p a.last c.self.invariant.3 c.self.invariant.0.pids (closing.there o law _ a.self.now c.self.view_is c.self.invariant.0 a.at a.used a.last r.there r.steps r.most c.remove-grant.result c.remove-grant.ensures.value) c.remove-grant.ensures.value released c.remove-grant.new.self.items c.remove-grant.ensures.items,
     )
 
 pub returns : goal.returns
@@ -81,6 +101,14 @@ returns g c =
     let o = g.L.Local.ops in
     let a = c.args in
     let r = c.requires in
-    let more = closing.entries_more c.self.inside.journal.items c.into_path.result (o.path c.remove-grant.result.start) a.used c.push_reserved.new.self.items c.into_path.ensures c.push_reserved.ensures.items in
+    let p = c.remove-grant.result in
+    let ft = c.self.inside.tree in
+    let comes : HeldComes o ft c.number.result a.used p.start a.last = record {
+      held = subst (λ n. IsHeld o ft n p.start) (sym c.number.ensures) (held_at o ft c.self.inside.grants.items a.at p c.self.invariant.3 (closing.there o law _ a.self.now c.self.view_is c.self.invariant.0 a.at a.used a.last r.there r.steps r.most c.remove-grant.result c.remove-grant.ensures.value) c.remove-grant.ensures.value);
+      chain = closing.its_run o law _ a.self.now c.self.view_is c.self.invariant.0 a.at a.used a.last r.there r.steps r.most c.remove-grant.result c.remove-grant.ensures.value;
+    } in
+    let u = c.release.new.self in
+    let released = subst (λ n. Releases o ft u n a.used p.start a.last) c.number.ensures (c.release.ensures p.start comes) in
+    let more = closing.entries_more c.self.inside.journal.items c.into_path.result (o.path p.start) a.used c.push_reserved.new.self.items c.into_path.ensures c.push_reserved.ensures.items in
     let some : 1 ≤ a.used = search rules in
-    closing.closes o law _ a.self.now c.self.view_is c.self.invariant.0 a.at a.used a.last r.there r.steps r.most c.remove-grant.result c.remove-grant.ensures.value c.remove-grant.new.self.items c.remove-grant.ensures.items some c.advance.new.self c.advance.ensures (map entry_of c.push_reserved.new.self.items) more
+    closing.closes o law _ a.self.now c.self.view_is c.self.invariant.0 a.at a.used a.last r.there r.steps r.most c.remove-grant.result c.remove-grant.ensures.value c.remove-grant.new.self.items c.remove-grant.ensures.items (tree_in o u) released.advances some (map entry_of c.push_reserved.new.self.items) more

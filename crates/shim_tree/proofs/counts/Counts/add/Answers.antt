@@ -4,7 +4,7 @@ use Rattle.std.specs.Option.{unwrap_or, is_some}
 use Rattle.std.proofs.lemmas.Bool.{true≢false}
 use Rattle.shim_base.specs.PathLaws.{path_order_total, exact_path}
 use Rattle.shim_tree.specs.Maps.{counts_of}
-use Rattle.shim_tree.proofs.Mapped.{get_of, put_at}
+use Rattle.shim_run_log.proofs.Mapped.{get_of, put_at}
 use Rattle.shim_tree.proofs.counts.Counts.add.Goals.{in-Some, in_default}
 use Rattle.shim_tree.proofs.counts.Counts.add.Goals as goal
 

@@ -5,7 +5,7 @@ use Rattle.std.specs.FinMap as finite
 use Rattle.shim_base.specs.PathLaws.{path_order_total}
 use Rattle.shim_semantics.specs.Endings.{own_steps}
 use Rattle.shim_tree.specs.Maps.{has_stepped}
-use Rattle.shim_tree.proofs.Mapped.{entries_of}
+use Rattle.shim_run_log.proofs.Mapped.{entries_of}
 use Rattle.shim_tree.proofs.Counted.{entries_stepped, one_and_rest}
 use Rattle.shim_tree.proofs.counts.Counts.list.Goals as goal
 

@@ -2,7 +2,7 @@ use Rattle.std.proofs.Common.{ap, sym, ◌∙◌, cond}
 use Rattle.std.specs.Option.{is_some}
 use Rattle.std.specs.FinMap as finite
 use Rattle.shim_base.specs.PathLaws.{path_order_total, exact_path}
-use Rattle.shim_tree.proofs.Mapped.{get_of, put_at}
+use Rattle.shim_run_log.proofs.Mapped.{get_of, put_at}
 use Rattle.shim_tree.proofs.counts.Counts.reserve.Goals as goal
 
 pub returns-then-contains_key-clause-ok : goal.returns-then-contains_key-clause-ok

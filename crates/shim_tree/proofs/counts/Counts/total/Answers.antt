@@ -3,7 +3,7 @@ use Rattle.std.specs.FinMap as finite
 use Rattle.shim_base.specs.PathLaws.{path_order_total}
 use Rattle.shim_semantics.specs.Trees.{sum}
 use Rattle.shim_tree.specs.Advancing.{stepped}
-use Rattle.shim_tree.proofs.Mapped.{entries_of}
+use Rattle.shim_run_log.proofs.Mapped.{entries_of}
 use Rattle.shim_tree.proofs.Counted.{sum_stepped}
 use Rattle.shim_tree.proofs.counts.Counts.total.Goals as goal
 

@@ -3,7 +3,7 @@ use Rattle.std.specs.FinMap as finite
 use Rattle.shim_local.specs.declared.Outcome.TheVariants.{Spent}
 use Rattle.shim_semantics.specs.Trees.{sum}
 use Rattle.shim_semantics.specs.Endings.{waits_of, outcome_of_root, history_of, own_steps, all_logs}
-use Rattle.shim_tree.specs.Telling.{logged}
+use Rattle.shim_run_log.specs.Logged.{logged}
 use Rattle.shim_semantics.proofs.ReadOff.{read_off}
 use Rattle.shim_tree.proofs.tree.Tree.ended_of.Goals as goal
 

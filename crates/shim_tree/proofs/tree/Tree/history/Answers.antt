@@ -1,7 +1,7 @@
 use Rattle.std.proofs.Common.{◌∙◌, ap, subst}
 use Rattle.shim_semantics.specs.Endings.{history_at}
-use Rattle.shim_tree.specs.Maps.{AllHaveValues}
-use Rattle.shim_tree.proofs.HaveValues.{some_has, none_where_empty}
+use Rattle.shim_run_log.specs.Maps.{AllHaveValues}
+use Rattle.shim_run_log.proofs.HaveValues.{some_has, none_where_empty}
 use Rattle.shim_tree.proofs.tree.Tree.history.Goals as goal
 
 pub returns-clause-values : goal.returns-clause-values

@@ -6,11 +6,16 @@ use Rattle.shim_process.specs.LocalState.{unit_or}
 use Rattle.shim_process.specs.Arguments.{empties, entered, numbers_from}
 use Rattle.shim_process.specs.Forks.{takes_input, takes_output, labels_from}
 use Rattle.shim_walk_frames.specs.Depths.{shown}
+use Rattle.shim_walk.proofs.Accepting.{accepted}
 use Rattle.shim_walk.proofs.MadeChildren.{root_by}
 use Rattle.shim_walk.proofs.process.Process.main.Goals as goal
 
-pub returns : goal.returns
-returns c =
+pub returns-clause-accepted : goal.returns-clause-accepted
+returns-clause-accepted c =
+    accepted c.args.program _ _ c.main_throws-names.result.now c.deref.ensures c.deref-3.ensures c.units-units.ensures.of_text c.units-units.ensures.fit c.main_throws-names.ensures.value c.main_throws-names.ensures.few
+
+pub returns-clause-value : goal.returns-clause-value
+returns-clause-value c =
     let program = c.args.program in
     let u = c.units-units.ensures.value ∙ ap (λ (p : Form). p.units) c.deref.ensures in
     let m = c.main-unit.ensures ∙ ap (λ (p : Form). p.main) c.deref-2.ensures in

@@ -1,7 +1,5 @@
-use Rattle.std.proofs.Common.{sym, subst}
-use Rattle.shim_process.specs.Sound.{Sound}
-use Rattle.shim_process.proofs.PlaceRoot.{root_sound}
+use Rattle.shim_walk.proofs.Accepting.{begins_sound}
 use Rattle.shim_walk.proofs.walk.Walk.main.Goals as goal
 
 pub of-requires : goal.of-requires
-of-requires c = subst Sound (sym c.in_ok-main.ensures) (root_sound c.args.program c.args.input)
+of-requires c = begins_sound c.args.program c.args.input _ c.in_ok-main.ensures.value c.in_ok-main.ensures.accepted

@@ -1,0 +1,6 @@
+-- The pairs of a path whose copies share them.
+use Rattle.std.specs.Prelude.{ℕ, Option, Some, None, List, []}
+
+abbrev pub pairs_of : Option (List (ℕ × ℕ)) → List (ℕ × ℕ)
+pairs_of None = []
+pairs_of (Some pairs) = pairs

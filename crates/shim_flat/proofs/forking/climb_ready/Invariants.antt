@@ -1,5 +1,0 @@
-use Rattle.shim_flat.proofs.ReadyWays.{OnTheWays}
-use Rattle.shim_flat.proofs.forking.climb_ready.Given as goal
-
-abbrev pub invariant-loop-i : goal.invariant-loop-i
-invariant-loop-i l = OnTheWays l.at l.chans l.i l.initial.records.items l.records.items

@@ -1,0 +1,159 @@
+-- A live process did by itself something other than a quiet step.
+use Rattle.std.proofs.Common.{◌≡◌, ◌≢◌, ◌≤◌, ◌<◌, ◌+◌, ℕ, false, Some, [], ◌++◌, length, refl, sym, ap, subst, ◌∙◌, arith}
+use Rattle.std.specs.Prelude.{slice_get, Option, None, List}
+use Rattle.std.specs.FinMap as finite
+use Rattle.std.proofs.lemmas.List.{append-nil}
+use Rattle.shim_base.specs.Paths.{Path, path_order}
+use Rattle.shim_base.proofs.Facts.{some_same}
+use Rattle.shim_local.specs.Process.{Ops, StopView, AtQuiet}
+use Rattle.shim_local.specs.Laws.{LocalLaws}
+use Rattle.shim_local.specs.declared.LogWhat.{LogWhat}
+use Rattle.shim_semantics.specs.Nodes.{Live, state}
+use Rattle.shim_semantics.specs.Acts.{Acted, Effects, putting, act_live}
+use Rattle.shim_semantics.specs.Places.{at, at_route, route}
+use Rattle.shim_semantics.specs.Trees.{Event, Own, Meet, Poison, Close, End, steps, with_logs}
+use Rattle.shim_semantics.proofs.Replaced.{sound_at}
+use Rattle.shim_semantics.proofs.SoundEvents.{here_keeps}
+use Rattle.shim_laws_records.specs.Seen.{Sort, lives, place}
+use Rattle.shim_laws_records.proofs.SameTrees.{seen_live}
+use Rattle.shim_laws_replay.specs.Grants.{IsNoQuietStep}
+use Rattle.shim_laws_keeping.specs.Flats.{HasProcess}
+use Rattle.shim_laws_keeping.specs.Moves.{MovesBy}
+use Rattle.shim_laws_keeping.specs.Acting.{event_at_stop}
+use Rattle.shim_laws_waking.specs.Awake.{is_listed}
+use Rattle.shim_flat.specs.Reading.{IsForAll}
+use Rattle.shim_flat.specs.Acting.{ActsHere, told_of}
+use Rattle.shim_flat.specs.declared.acting.Thrown.{Thrown}
+use Rattle.shim_flat.specs.declared.acting.Thrown.TheVariants as thrown
+use Rattle.shim_flat.specs.Touching.{ListsAbove}
+use Rattle.shim_flat_tree.specs.FlatTrees.{FlatTreeView, tree_in, IsHeld, KeepsTree}
+use Rattle.shim_flat_tree.specs.Holding.{HappensIn}
+use Rattle.shim_flat_tree.specs.Settling.{StaysAs}
+use Rattle.shim_flat_tree.specs.Waking.{HasCounted, ListsQuiet}
+use Rattle.shim_flat_tree.proofs.Advanced.{stands_there}
+use Rattle.shim_flat_tree.proofs.Events as events
+use Rattle.shim_flat_tree.proofs.OneMoved.{same_held, one_moved, other_stop_free, for_all_behind}
+use Rattle.shim_flat_tree.proofs.OwnCounts.{count_is_few, counts_more, counts_stay, as_many_counts}
+
+-- where the value is the same, nothing has happened
+pub stays_as : {S : Type 0} (o : Ops S) (before behind : FlatTreeView S) → behind ≡ before → StaysAs o before behind
+stays_as o before behind e = record {
+  tree = ap (tree_in o) e;
+  held = λ i l. (λ h. subst (λ z. IsHeld o z i l) (sym e) h, λ h. subst (λ z. IsHeld o z i l) e h);
+}
+
+-- ---- what some of them tell
+
+-- a put logs nothing
+pub put_logs_none : (m : finite.FinMap path_order (List LogWhat)) (p : Path) (r : Option ℕ) → m ≡ with_logs m p (putting r).logs
+put_logs_none m p None = refl
+put_logs_none m p (Some b) = refl
+
+-- a throw puts nothing
+pub throw_puts_none : (bytes : List ℕ) (t : Thrown) → bytes ≡ bytes ++ (told_of t).bytes
+throw_puts_none bytes (thrown.Caught name line) = sym (append-nil bytes)
+throw_puts_none bytes thrown.Died = sym (append-nil bytes)
+
+-- ---- as an event
+
+-- the path of an own step
+abbrev own_path : Path → Event → Path
+own_path q (Own p) = p
+own_path q (Meet c) = q
+own_path q (Poison p c) = q
+own_path q (Close p) = q
+own_path q (End p) = q
+
+pub end_is_no_step : {S : Type 0} (o : Ops S) (v : FlatTreeView S) (p : Path) → IsNoQuietStep o (tree_in o v) (End p)
+end_is_no_step o v p q e s = absurd cc
+
+module _ {S : Type 0} (o : Ops S) (law : LocalLaws o) where
+  -- its count is so small that one may be added
+  pub one_may_be_counted : (v : FlatTreeView S) (i f : ℕ) (l : S) (k : Sort) → HasProcess v.flat i f l k → steps (tree_in o v) < 4000000 → (count : ℕ) → slice_get v.own i ≡ Some count → count + 1 ≤ 4000000
+  one_may_be_counted v i f l k has few count e = let c = count_is_few o v i f count l k has e in omega (arith, c, few)
+
+  -- the step of a process that stands at something else is no quiet one
+  pub no_quiet_step : (v : FlatTreeView S) → KeepsTree o v → (i f : ℕ) (l : S) → HasProcess v.flat i f l lives → o.stop l ≢ AtQuiet → IsNoQuietStep o (tree_in o v) (Own (o.path l))
+  no_quiet_step v kept i f l has other p e (m, stands, quiet) =
+      let t = tree_in o v in
+      let same : o.path l ≡ p = ap (own_path p) e in
+      let mine = stands_there o law v.flat t.root i f l kept.shows has in
+      let is : Live l ≡ Live m = some_same (Live l) (Live m) (sym mine.there ∙ (ap (λ z. at_route t.root (route (o.path (state t.root)) z)) same ∙ stands.there)) in
+      other (ap (λ z. o.stop (state z)) is ∙ quiet)
+
+  module _ (before behind : FlatTreeView S) (kept : KeepsTree o before) (number : ℕ) (stop : StopView) (k : Sort) (effects : Effects) (a : ActsHere o number stop k effects before.flat behind.flat) where
+    abbrev acted : Acted S
+    acted = record { node = a.left; effects = effects }
+
+    does : act_live o a.process (o.stop a.process) ≡ Some acted
+    does = ap (act_live o a.process) a.stood ∙ a.does
+
+    path : o.path (state a.left) ≡ o.path a.process
+    path =
+        let root = (tree_in o before).root in
+        let there = seen_live (at (place o [] a.process) root) a.process (kept.shows.shows.agrees.shown number a.first a.process lives a.has) in
+        (here_keeps o law (Live a.process) acted (sound_at o (place o [] a.process) root (Live a.process) kept.shows.shows.sound.below there) does).follows.path
+
+    -- what it told, and nothing else
+    pub record HasTold : Type 0 where
+      pub output : behind.output ≡ before.output ++ effects.bytes
+      pub histories : behind.histories ≡ before.histories
+      pub logs : behind.logs ≡ with_logs before.logs (o.path a.process) effects.logs
+      pub past : behind.past ≡ before.past
+
+    pub own_happens : event_at_stop stop (o.path a.process) ≡ Own (o.path a.process) → HasTold → HasCounted number 1 before.own behind.own → behind.events ≡ before.events → events.Happened o before behind kept.shows (Own (o.path a.process))
+    own_happens own told counted e =
+        events.own o before behind kept.shows number a.first a.process acted a.has does (subst (λ z. MovesBy o z before.flat behind.flat) own a.moves) told.output told.histories told.logs
+        (counts_more o before behind number a.first a.process (state a.left) lives k a.has a.becomes path told.past 1 counted) e
+
+    pub end_happens : event_at_stop stop (o.path a.process) ≡ End (o.path a.process) → HasTold → behind.own ≡ before.own → behind.events ≡ before.events + 1 → events.Happened o before behind kept.shows (End (o.path a.process))
+    end_happens end told own e =
+        events.end o before behind kept.shows number a.first a.process acted a.has does (subst (λ z. MovesBy o z before.flat behind.flat) end a.moves) told.output told.histories told.logs
+        (counts_stay o before behind number a.first a.process (state a.left) lives k a.has a.becomes path told.past own) e
+
+    module _ (other : stop ≢ AtQuiet) (held : behind.held ≡ before.held) (e : Event) (h : events.Happened o before behind kept.shows e) where
+      stands_else : o.stop a.process ≢ AtQuiet
+      stands_else z = other (sym a.stood ∙ z)
+
+      free : is_listed before.held number ≡ false
+      free = other_stop_free o law before behind kept number a.first a.process a.has stands_else
+
+      flags : (i : ℕ) → i ≢ number → is_listed behind.held i ≡ is_listed before.held i
+      flags i far = ap (λ z. is_listed z i) held
+
+      pub acted_keeps : steps (tree_in o before) < 4000000 → ListsAbove behind.flat number before.awake behind.awake → ListsQuiet o behind.flat number before.quiet behind.quiet → length behind.own ≡ length before.own → KeepsTree o behind
+      acted_keeps few awake quiet owns =
+          let more = h.counts in
+          one_moved o law before behind kept number a.first a.process (state a.left) lives k a.has a.becomes flags (ap (λ z. is_listed z number) held ∙ free) h.shows (omega (arith, few, more)) a.touches awake quiet owns (ap length held)
+
+      pub happens_in : IsNoQuietStep o (tree_in o before) e → HappensIn o before behind e
+      happens_in none = record {
+        leads = h.leads;
+        other = none;
+        same = same_held o law before behind kept number a.first a.process (state a.left) lives k a.has a.becomes flags (ap (λ z. is_listed z number) held ∙ free) free;
+      }
+
+    -- so the type keeps what it kept, and the event has happened
+    pub own_done : event_at_stop stop (o.path a.process) ≡ Own (o.path a.process) → stop ≢ AtQuiet → HasTold → HasCounted number 1 before.own behind.own → behind.events ≡ before.events → behind.held ≡ before.held → steps (tree_in o before) < 4000000
+        → ListsAbove behind.flat number before.awake behind.awake → ListsQuiet o behind.flat number before.quiet behind.quiet
+        → KeepsTree o behind × HappensIn o before behind (Own (o.path a.process)) × (steps (tree_in o behind) ≡ steps (tree_in o before) + 1)
+    own_done own other told counted same held few awake quiet =
+        let h = own_happens own told counted same in (
+          acted_keeps other held (Own (o.path a.process)) h few awake quiet (as_many_counts number 1 before.own behind.own counted),
+          happens_in other held (Own (o.path a.process)) h (no_quiet_step before kept number a.first a.process a.has (λ e. other (sym a.stood ∙ e))),
+          h.counts,
+        )
+
+    pub end_done : event_at_stop stop (o.path a.process) ≡ End (o.path a.process) → stop ≢ AtQuiet → HasTold → behind.own ≡ before.own → behind.events ≡ before.events + 1 → behind.held ≡ before.held → steps (tree_in o before) < 4000000
+        → ListsAbove behind.flat number before.awake behind.awake → ListsQuiet o behind.flat number before.quiet behind.quiet
+        → KeepsTree o behind × HappensIn o before behind (End (o.path a.process)) × (steps (tree_in o behind) ≡ steps (tree_in o before) + 1)
+    end_done end other told same more held few awake quiet =
+        let h = end_happens end told same more in (
+          acted_keeps other held (End (o.path a.process)) h few awake quiet (ap length same),
+          happens_in other held (End (o.path a.process)) h (end_is_no_step o before (o.path a.process)),
+          h.counts,
+        )
+
+    -- and whoever was in use then has an item in each list
+    pub still_for_all : {A : Type 0} (xs : List A) → IsForAll before.flat xs → IsForAll behind.flat xs
+    still_for_all xs = for_all_behind before.flat behind.flat number a.first a.process (state a.left) lives k a.has a.becomes xs

@@ -1,0 +1,26 @@
+-- The lemmas of this crate, one module for each subject.
+pub mod Acted
+pub mod Advanced
+pub mod Begun
+pub mod Blocks
+pub mod Closes
+pub mod Counts
+pub mod Events
+pub mod Flags
+pub mod Forks
+pub mod Held
+pub mod Gathering
+pub mod NextDue
+pub mod OneMoved
+pub mod OwnCounts
+pub mod PastCounts
+pub mod Paths
+pub mod Rooms
+pub mod Several
+pub mod Staying
+pub mod Quiescent
+pub mod RootRead
+pub mod Stepped
+pub mod Telling
+pub mod WakesEach
+pub mod Summing

@@ -1,0 +1,137 @@
+-- One process has changed, and its number and the forks above it are listed: the type's invariant stays.
+use Rattle.std.proofs.Common.{◌≡◌, ◌≢◌, ◌≤◌, ◌<◌, ◌↔◌, inl, inr, ℕ, true, false, List, [], length, sym, ap, subst, ◌∙◌}
+use Rattle.shim_base.proofs.Facts.{true_or_false}
+use Rattle.shim_local.specs.Process.{Ops, AtQuiet}
+use Rattle.shim_local.specs.Laws.{LocalLaws}
+use Rattle.shim_semantics.specs.Trees.{steps}
+use Rattle.shim_semantics.proofs.HowMany.{clash}
+use Rattle.shim_laws_records.specs.Seen.{Sort, lives}
+use Rattle.shim_laws_records.proofs.OneChange.{one_state}
+use Rattle.shim_laws_records.proofs.SameTrees.{same_or_not}
+use Rattle.shim_laws_keeping.specs.Flats.{FlatView, HasProcess, Keeps, stands}
+use Rattle.shim_laws_waking.specs.Waking.{Wakes}
+use Rattle.shim_laws_waking.specs.Awake.{is_listed}
+use Rattle.shim_laws_waking.proofs.Awake.{listing_stays}
+use Rattle.shim_flat.specs.Reading.{IsInUse, IsForAll}
+use Rattle.shim_flat.specs.Stepping.{HasBecome}
+use Rattle.shim_flat.specs.Touching.{TouchesAbove, ListsAbove}
+use Rattle.shim_flat.proofs.Above.{wake_list}
+use Rattle.shim_flat_tree.specs.FlatTrees.{FlatTreeView, tree_in, IsQuietAt, IsHeld, KeepsTree, QuietAreListed}
+use Rattle.shim_flat_tree.specs.Holding.{SameHeld}
+use Rattle.shim_flat_tree.specs.Waking.{ListsQuiet}
+
+-- as long a list has an item for the same numbers
+pub still_for_all : {S A : Type 0} (before behind : FlatView S) (xs ys : List A) → ((i : ℕ) → IsInUse behind i → IsInUse before i) → length ys ≡ length xs → IsForAll before xs → IsForAll behind ys
+still_for_all before behind xs ys used e h i u = subst (λ n. i < n) (sym e) (h i (used i u))
+
+-- where one process has become another, no other number is in use
+module _ {S : Type 0} (before behind : FlatView S) (number f : ℕ) (l s : S) (h k : Sort) (has : HasProcess before number f l h) (becomes : HasBecome number s k before behind) where
+  pub was_used : (i : ℕ) → IsInUse behind i → IsInUse before i
+  was_used i (g, t, x, there) = elim (same_or_not i number) [
+    | inl e ↦ (f, l, h, subst (λ z. HasProcess before z f l h) (sym e) has)
+    | inr far ↦ (g, t, x, becomes.only i g t x far there)
+  ]
+
+  pub for_all_behind : {A : Type 0} (xs : List A) → IsForAll before xs → IsForAll behind xs
+  for_all_behind xs h i u = h i (was_used i u)
+
+module _ {S : Type 0} (o : Ops S) (law : LocalLaws o) (before behind : FlatTreeView S) (kept : KeepsTree o before) where
+  -- Where the records show the tree behind, the list has all that is to be looked at again, and whoever stands before a quiet step is listed anew, or did so before.
+  pub record HasMoved : Type 0 where
+    pub shows : Keeps o [] behind.flat (tree_in o behind).root
+    pub few : steps (tree_in o behind) ≤ 4000000
+    pub wakes : Wakes before.flat behind.flat (is_listed behind.awake)
+    pub awake : (i : ℕ) → is_listed before.awake i ≡ true → is_listed behind.awake i ≡ true
+    pub quiet : QuietAreListed o behind.flat behind.quiet behind.held
+    pub held : (i : ℕ) → is_listed behind.held i ≡ true → (l : S) × IsQuietAt o behind.flat i l
+    pub owns : IsForAll behind.flat behind.own
+    pub awakes : IsForAll behind.flat behind.awake
+    pub quiets : IsForAll behind.flat behind.quiet
+    pub helds : IsForAll behind.flat behind.held
+
+  pub keeps_on : HasMoved → KeepsTree o behind
+  keeps_on m = record {
+    shows = m.shows;
+    awake = (listing_stays o law).moves [] before.flat behind.flat (tree_in o before) (tree_in o behind) before.awake behind.awake kept.shows m.shows kept.awake m.awake m.wakes;
+    quiet = m.quiet;
+    held = m.held;
+    owns = m.owns;
+    awakes = m.awakes;
+    quiets = m.quiets;
+    helds = m.helds;
+    few = m.few;
+  }
+
+  -- ---- one process has become another
+
+  module _ (number f : ℕ) (l s : S) (h k : Sort) (has : HasProcess before.flat number f l h) (becomes : HasBecome number s k before.flat behind.flat)
+      (flags : (i : ℕ) → i ≢ number → is_listed behind.held i ≡ is_listed before.held i) (free : is_listed behind.held number ≡ false) where
+    used_before : (i : ℕ) → IsInUse behind.flat i → IsInUse before.flat i
+    used_before = was_used before.flat behind.flat number f l s h k has becomes
+
+    pub quiet_before : (i : ℕ) (t : S) → i ≢ number → IsQuietAt o behind.flat i t → IsQuietAt o before.flat i t
+    quiet_before i t far q = record { first = q.first; has = becomes.only i q.first t lives far q.has; stands = q.stands }
+
+    pub quiet_behind : (i : ℕ) (t : S) → i ≢ number → IsQuietAt o before.flat i t → IsQuietAt o behind.flat i t
+    quiet_behind i t far q = record { first = q.first; has = becomes.others i q.first t lives far q.has; stands = q.stands }
+
+    -- who is held now is another one, and was held
+    held_far : (i : ℕ) → is_listed behind.held i ≡ true → i ≢ number
+    held_far i flag e = clash (is_listed behind.held i) flag (ap (is_listed behind.held) e ∙ free)
+
+    pub others_held : (i : ℕ) (t : S) → i ≢ number → IsHeld o before i t ↔ IsHeld o behind i t
+    others_held i t far = (
+      λ w. record { quiet = quiet_behind i t far w.quiet; flag = flags i far ∙ w.flag },
+      λ w. record { quiet = quiet_before i t far w.quiet; flag = sym (flags i far) ∙ w.flag },
+    )
+
+    pub isnt_held : (t : S) → IsHeld o behind number t → ⊥
+    isnt_held t w = clash (is_listed behind.held number) w.flag free
+
+    -- who was held still is, where the process wasn't
+    pub same_held : is_listed before.held number ≡ false → SameHeld o before behind
+    same_held was i t = elim (same_or_not i number) [
+      | inr far ↦ others_held i t far
+      | inl e ↦ (
+        λ w. clash (is_listed before.held i) w.flag (ap (is_listed before.held) e ∙ was),
+        λ w. clash (is_listed behind.held i) w.flag (ap (is_listed behind.held) e ∙ free),
+      )
+    ]
+
+    module _ (shows : Keeps o [] behind.flat (tree_in o behind).root) (few : steps (tree_in o behind) ≤ 4000000) (touches : TouchesAbove number before.flat behind.flat)
+        (awake : ListsAbove behind.flat number before.awake behind.awake) (quiet : ListsQuiet o behind.flat number before.quiet behind.quiet)
+        (owns : length behind.own ≡ length before.own) (helds : length behind.held ≡ length before.held) where
+      lists : QuietAreListed o behind.flat behind.quiet behind.held
+      lists i t q = elim (same_or_not i number) [
+        | inl e ↦ inl (ap (is_listed behind.quiet) e ∙ quiet.mine t (subst (λ z. IsQuietAt o behind.flat z t) e q))
+        | inr far ↦ elim (kept.quiet i t (quiet_before i t far q)) [ inl w ↦ inl (quiet.kept i w) | inr w ↦ inr (flags i far ∙ w) ]
+      ]
+
+      stay_held : (i : ℕ) → is_listed behind.held i ≡ true → (t : S) × IsQuietAt o behind.flat i t
+      stay_held i flag =
+          let far = held_far i flag in
+          let w = kept.held i (sym (flags i far) ∙ flag) in
+          (w.0, quiet_behind i w.0 far w.1)
+
+      pub one_moved : KeepsTree o behind
+      one_moved = keeps_on (record {
+        shows = shows;
+        few = few;
+        wakes = wake_list number before.flat behind.flat behind.awake awake.mine awake.above touches;
+        awake = awake.kept;
+        quiet = lists;
+        held = stay_held;
+        owns = still_for_all before.flat behind.flat before.own behind.own used_before owns kept.owns;
+        awakes = still_for_all before.flat behind.flat before.awake behind.awake used_before awake.as_many kept.awakes;
+        quiets = still_for_all before.flat behind.flat before.quiet behind.quiet used_before quiet.as_many kept.quiets;
+        helds = still_for_all before.flat behind.flat before.held behind.held used_before helds kept.helds;
+      })
+
+  -- who stands at something else isn't held
+  pub other_stop_free : (number f : ℕ) (l : S) → HasProcess before.flat number f l lives → o.stop l ≢ AtQuiet → is_listed before.held number ≡ false
+  other_stop_free number f l has other = elim (true_or_false (is_listed before.held number)) [
+    | inr e ↦ e
+    | inl e ↦
+        let w = kept.held number e in
+        absurd (other (ap o.stop (one_state before.flat.states (stands before.flat) number f w.1.first l w.0 lives lives has w.1.has) ∙ w.1.stands))
+  ]

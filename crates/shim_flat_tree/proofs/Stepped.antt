@@ -1,0 +1,98 @@
+-- One process did quiet steps, in place or elsewhere.
+use Rattle.std.proofs.Common.{◌≡◌, ◌≢◌, ◌≤◌, ◌<◌, ◌+◌, ℕ, false, List, length, sym, subst, arith}
+use Rattle.std.specs.Prelude.{slice_get, Some}
+use Rattle.shim_local.specs.Process.{Ops}
+use Rattle.shim_local.specs.Laws.{LocalLaws}
+use Rattle.shim_local.specs.Quiets.{QuietSteps}
+use Rattle.shim_local.specs.declared.local.Quiet.{Quiet}
+use Rattle.shim_semantics.specs.Trees.{steps}
+use Rattle.shim_semantics.specs.Quiets.{Advances}
+use Rattle.shim_laws_records.specs.Seen.{lives}
+use Rattle.shim_laws_records.proofs.OneChange.{one_state}
+use Rattle.shim_laws_replay.proofs.Entries.{pieces_are_entries}
+use Rattle.shim_laws_keeping.specs.Flats.{FlatView, stands}
+use Rattle.shim_laws_keeping.specs.Moves.{AdvancesBy}
+use Rattle.shim_laws_waking.specs.Awake.{is_listed}
+use Rattle.shim_flat.specs.Reading.{IsInUse, IsForAll}
+use Rattle.shim_flat.specs.Stepping.{HasBecome, IsBeforeQuiet, StepsHere, stands_else, stepped}
+use Rattle.shim_flat.specs.Touching.{TouchesAbove, ListsAbove}
+use Rattle.shim_flat_tree.specs.FlatTrees.{FlatTreeView, tree_in, IsQuietAt, IsHeld, KeepsTree}
+use Rattle.shim_flat_tree.specs.Holding.{Releases, StepsIn}
+use Rattle.shim_flat_tree.specs.Waking.{HasCounted, ListsQuiet}
+use Rattle.shim_flat_tree.proofs.Advanced.{Advanced, grantable, steps_on}
+use Rattle.shim_flat_tree.proofs.OneMoved.{for_all_behind, others_held, isnt_held, same_held, one_moved}
+use Rattle.shim_flat_tree.proofs.OwnCounts.{count_is_few, counts_more, as_many_counts}
+
+-- beside the processes and the counts nothing that is told has changed
+pub record SameTold {S : Type 0} (before behind : FlatTreeView S) : Type 0 where
+  pub output : behind.output ≡ before.output
+  pub histories : behind.histories ≡ before.histories
+  pub logs : behind.logs ≡ before.logs
+  pub past : behind.past ≡ before.past
+  pub events : behind.events ≡ before.events
+
+-- a process that stands before a quiet step did so many
+pub record DoesSteps {S : Type 0} (o : Ops S) (before behind : FlatView S) (number n : ℕ) (l : S) : Type 0 where
+  pub last : S
+  pub chain : QuietSteps o n l last
+  pub becomes : HasBecome number last lives before behind
+  pub advances : AdvancesBy o (o.path l) n before behind
+
+pub does_steps : {S : Type 0} (o : Ops S) (before behind : FlatView S) (number n : ℕ) (l : S) → IsQuietAt o before number l → StepsHere o number n before behind → DoesSteps o before behind number n l
+does_steps o before behind number n l q (stands_else none same other) = absurd (other q.first l q.has q.stands)
+does_steps o before behind number n l q (stepped f k last has stop chain becomes advances) =
+    let e : k ≡ l = one_state before.states (stands before) number f q.first k l lives lives has q.has in record {
+      last = last;
+      chain = subst (λ z. QuietSteps o n z last) e chain;
+      becomes = becomes;
+      advances = subst (λ z. AdvancesBy o (o.path z) n before behind) e advances;
+    }
+
+module _ {S : Type 0} (o : Ops S) where
+  -- its count, and that of all steps, is so small that these may be added
+  pub few_counted : (v : FlatTreeView S) (number n most : ℕ) (l : S) → IsQuietAt o v.flat number l → n ≤ most → steps (tree_in o v) + most ≤ 4000000 → (count : ℕ) → slice_get v.own number ≡ Some count → count + n ≤ 4000000
+  few_counted v number n most l q within few count e = let c = count_is_few o v number q.first count l lives q.has e in omega (arith, c, within, few)
+
+  module _ (before : FlatTreeView S) (behind : FlatView S) (number n : ℕ) (l : S) (q : IsQuietAt o before.flat number l) (d : DoesSteps o before.flat behind number n l) where
+    pub still_used : IsInUse behind number
+    still_used = (d.becomes.first, d.last, lives, d.becomes.mine)
+
+    pub still_for_all : {A : Type 0} (xs : List A) → IsForAll before.flat xs → IsForAll behind xs
+    still_for_all xs = for_all_behind before.flat behind number q.first l d.last lives lives q.has d.becomes xs
+
+module _ {S : Type 0} (o : Ops S) (law : LocalLaws o) (before behind : FlatTreeView S) (kept : KeepsTree o before) (number n : ℕ) (l : S) (q : IsQuietAt o before.flat number l) (d : DoesSteps o before.flat behind.flat number n l)
+    (flags : (i : ℕ) → i ≢ number → is_listed behind.held i ≡ is_listed before.held i) (free : is_listed behind.held number ≡ false) where
+  module _ (told : SameTold before behind) (counted : HasCounted number n before.own behind.own) where
+    path : o.path d.last ≡ o.path l
+    path = ((pieces_are_entries o law).comes (tree_in o before) n l d.last kept.shows.shows.sound (grantable o law before number l kept.shows q) d.chain).1
+
+    pub advanced_by : Advanced o law before behind n l d.last
+    advanced_by = steps_on o law before behind number n l d.last kept.shows q d.chain d.advances told.output told.histories told.logs (counts_more o before behind number q.first l d.last lives lives q.has d.becomes path told.past n counted) told.events
+
+    pub steps_keep : steps (tree_in o before) + n ≤ 4000000 → TouchesAbove number before.flat behind.flat → ListsAbove behind.flat number before.awake behind.awake → ListsQuiet o behind.flat number before.quiet behind.quiet → length behind.held ≡ length before.held → KeepsTree o behind
+    steps_keep few touches awake quiet helds =
+        let a = advanced_by in
+        let all = a.counts in
+        one_moved o law before behind kept number q.first l d.last lives lives q.has d.becomes flags free a.shows (omega (arith, few, all)) touches awake quiet (as_many_counts number n before.own behind.own counted) helds
+
+    -- it was held, and isn't
+    pub releases : IsHeld o before number l → (last : S) → QuietSteps o n l last → Releases o before behind number n l last
+    releases was last chain = record {
+      was = was;
+      chain = chain;
+      advances = advanced_by.leads;
+      is_not = isnt_held o law before behind kept number q.first l d.last lives lives q.has d.becomes flags free;
+      others = others_held o law before behind kept number q.first l d.last lives lives q.has d.becomes flags free;
+    }
+
+  -- it wasn't, and did up to so many in place
+  module _ (told : SameTold before behind) (counted : HasCounted number n before.own behind.own) where
+    pub steps_in : (most : ℕ) (quiet : Quiet) → quiet.taken ≡ n → n ≤ most → (n < most → quiet.short ≡ false → IsBeforeQuiet o number behind.flat false) → is_listed before.held number ≡ false → StepsIn o before behind number most quiet l
+    steps_in most quiet e within fewer was = record {
+      last = d.last;
+      chain = subst (λ z. QuietSteps o z l d.last) (sym e) d.chain;
+      within = subst (λ z. z ≤ most) (sym e) within;
+      fewer = λ less whole. fewer (subst (λ z. z < most) e less) whole d.becomes.first d.last d.becomes.mine;
+      advances = subst (λ z. Advances o (o.path l) z (tree_in o before) (tree_in o behind)) (sym e) (advanced_by told counted).leads;
+      same = same_held o law before behind kept number q.first l d.last lives lives q.has d.becomes flags free was;
+    }

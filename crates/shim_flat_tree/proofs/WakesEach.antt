@@ -1,0 +1,84 @@
+-- One number after the other is listed again.
+use Rattle.std.proofs.Common.{◌≡◌, ◌≢◌, ◌<◌, ◌≤◌, ◌+◌, ℕ, Bool, true, Some, List, inl, inr, refl, sym, ap, subst, ◌∙◌, arith, length}
+use Rattle.std.specs.Prelude.{slice_get}
+use Rattle.std.proofs.lemmas.Option.{slice_get_within}
+use Rattle.shim_base.proofs.Facts.{some_same}
+use Rattle.shim_local.specs.Process.{Ops}
+use Rattle.shim_laws_records.proofs.SameTrees.{same_or_not}
+use Rattle.shim_records.specs.Pairs.{up_in}
+use Rattle.shim_laws_keeping.specs.Flats.{FlatView}
+use Rattle.shim_laws_waking.specs.Awake.{is_listed}
+use Rattle.shim_flat.specs.Reading.{IsForAll}
+use Rattle.shim_flat.specs.Touching.{IsAbove, ListsAbove}
+use Rattle.shim_flat_tree.specs.FlatTrees.{IsQuietAt}
+use Rattle.shim_flat_tree.specs.Several.{ListsEach, ListsEachQuiet}
+use Rattle.shim_flat_tree.specs.Waking.{ListsQuiet}
+
+module _ {S : Type 0} (o : Ops S) (v : FlatView S) (numbers : List ℕ) where
+  -- the numbers before this place are listed
+  pub record ListedSoFar (place : ℕ) (old now : List Bool) : Type 0 where
+    pub kept : (i : ℕ) → is_listed old i ≡ true → is_listed now i ≡ true
+    pub mine : (at m : ℕ) → at < place → slice_get numbers at ≡ Some m → is_listed now m ≡ true
+    pub above : (at m i : ℕ) → at < place → slice_get numbers at ≡ Some m → IsAbove (up_in v.records) m i → is_listed now i ≡ true
+    pub as_many : length now ≡ length old
+
+  pub record QuietSoFar (place : ℕ) (old now : List Bool) : Type 0 where
+    pub kept : (i : ℕ) → is_listed old i ≡ true → is_listed now i ≡ true
+    pub mine : (at m : ℕ) (l : S) → at < place → slice_get numbers at ≡ Some m → IsQuietAt o v m l → is_listed now m ≡ true
+    pub as_many : length now ≡ length old
+
+  still_less : (x y : ℕ) → x ≢ y → x < y + 1 → x < y
+  still_less x y n less = omega (arith, n, less)
+
+  pub none_listed : (old : List Bool) → ListedSoFar 0 old old
+  none_listed old = record { kept = λ i e. e; mine = λ at m less. absurd (omega (arith, less)); above = λ at m i less. absurd (omega (arith, less)); as_many = refl }
+
+  pub none_quiet : (old : List Bool) → QuietSoFar 0 old old
+  none_quiet old = record { kept = λ i e. e; mine = λ at m l less. absurd (omega (arith, less)); as_many = refl }
+
+  module _ (place m : ℕ) (there : slice_get numbers place ≡ Some m) (old now next : List Bool) where
+    is : (at n : ℕ) → at ≡ place → slice_get numbers at ≡ Some n → m ≡ n
+    is at n e g = some_same m n (sym there ∙ (ap (slice_get numbers) (sym e) ∙ g))
+
+    pub one_listed : ListedSoFar place old now → ListsAbove v m now next → ListedSoFar (place + 1) old next
+    one_listed so lists = record {
+      kept = λ i e. lists.kept i (so.kept i e);
+      mine = λ at n less g. elim (same_or_not at place) [
+        | inl e ↦ ap (is_listed next) (sym (is at n e g)) ∙ lists.mine
+        | inr far ↦ lists.kept n (so.mine at n (still_less at place far less) g)
+      ];
+      above = λ at n i less g w. elim (same_or_not at place) [
+        | inl e ↦ lists.above i (subst (λ z. IsAbove (up_in v.records) z i) (sym (is at n e g)) w)
+        | inr far ↦ lists.kept i (so.above at n i (still_less at place far less) g w)
+      ];
+      as_many = lists.as_many ∙ so.as_many;
+    }
+
+    pub one_quiet : QuietSoFar place old now → ListsQuiet o v m now next → QuietSoFar (place + 1) old next
+    one_quiet so lists = record {
+      kept = λ i e. lists.kept i (so.kept i e);
+      mine = λ at n l less g q. elim (same_or_not at place) [
+        | inl e ↦ ap (is_listed next) (sym (is at n e g)) ∙ lists.mine l (subst (λ z. IsQuietAt o v z l) (sym (is at n e g)) q)
+        | inr far ↦ lists.kept n (so.mine at n l (still_less at place far less) g q)
+      ];
+      as_many = lists.as_many ∙ so.as_many;
+    }
+
+  module _ (place : ℕ) (past : length numbers ≤ place) (old now : List Bool) where
+    inside : (at m : ℕ) → slice_get numbers at ≡ Some m → at < place
+    inside at m e = let w = slice_get_within numbers at m e in omega (arith, w, past)
+
+    pub all_listed : ListedSoFar place old now → ListsEach v numbers old now
+    all_listed so = record {
+      kept = so.kept;
+      mine = λ m g. so.mine g.0 m (inside g.0 m g.1) g.1;
+      above = λ m i g w. so.above g.0 m i (inside g.0 m g.1) g.1 w;
+      as_many = so.as_many;
+    }
+
+    pub all_quiet : QuietSoFar place old now → ListsEachQuiet o v numbers old now
+    all_quiet so = record { kept = so.kept; mine = λ m l g q. so.mine g.0 m l (inside g.0 m g.1) g.1 q; as_many = so.as_many }
+
+-- as long a list serves the same numbers
+pub still_long : {S : Type 0} (v : FlatView S) (old now : List Bool) → length now ≡ length old → IsForAll v old → IsForAll v now
+still_long v old now e h i u = subst (λ n. i < n) (sym e) (h i u)

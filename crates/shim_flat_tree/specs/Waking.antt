@@ -1,0 +1,28 @@
+-- What calls do to the lists of numbers and to the counts by number.
+use Rattle.std.specs.Prelude.{◌≡◌, ℕ, ◌+◌, Bool, true, false, Option, Some, None, List, length, slice_get, slice_set}
+use Rattle.shim_local.specs.Process.{Ops}
+use Rattle.shim_laws_keeping.specs.Flats.{FlatView}
+use Rattle.shim_laws_waking.specs.Awake.{is_listed}
+use Rattle.shim_flat_tree.specs.FlatTrees.{IsQuietAt, QuietAreListed}
+
+-- what was listed is, and so is this number, if its process stands before a quiet step
+pub record ListsQuiet {S : Type 0} (o : Ops S) (v : FlatView S) (number : ℕ) (old new : List Bool) : Type 0 where
+  pub kept : (i : ℕ) → is_listed old i ≡ true → is_listed new i ≡ true
+  pub mine : (l : S) → IsQuietAt o v number l → is_listed new number ≡ true
+  pub as_many : length new ≡ length old
+
+-- the count of this number is so much greater now
+pub record HasCounted (number n : ℕ) (old new : List ℕ) : Type 0 where
+  pub count : ℕ
+  pub there : slice_get old number ≡ Some count
+  pub is : new ≡ slice_set old number (count + n)
+
+-- whoever stands before a quiet step and isn't held is still listed
+pub record StillListed {S : Type 0} (o : Ops S) (v : FlatView S) (held old new : List Bool) : Type 0 where
+  pub kept : QuietAreListed o v old held → QuietAreListed o v new held
+  pub as_many : length new ≡ length old
+
+-- the process with this number stands before a quiet step, and isn't held; or no number is listed
+abbrev pub IsFirstHome : {S : Type 0} → Ops S → FlatView S → List Bool → List Bool → Option ℕ → Type 0
+IsFirstHome o v held quiet None = (i : ℕ) → is_listed quiet i ≡ false
+IsFirstHome {S} o v held quiet (Some number) = (l : S) × IsQuietAt o v number l × (is_listed held number ≡ false)

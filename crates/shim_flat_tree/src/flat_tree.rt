@@ -1,0 +1,122 @@
+// A tree of processes kept as states and records.
+ghost use Rattle.std.specs.Prelude.{◌≡◌, ◌≢◌, ◌↔◌, [], IfOk, IfSome};
+ghost use Rattle.std.specs.Option.{option_copied};
+ghost use Rattle.shim_semantics.specs.Trees as trees;
+ghost use Rattle.shim_semantics.specs.Endings as endings;
+ghost use Rattle.shim_semantics.specs.Sound.{SharesItsOwn};
+ghost use Rattle.shim_flat_tree.specs.FlatTrees.{tree_in, KeepsTree};
+ghost use Rattle.shim_flat_tree.specs.Holding.{NoneHeld};
+
+use shim_base::{Chan, NoMemory, Path};
+use shim_flat::{Flat, Sharers};
+use shim_local::{Local, Log};
+use shim_records::Worklist;
+use shim_run_log::Histories;
+use std::alloc::Global;
+use std::marker::Model;
+use std::snapshot::Snapshot;
+
+/// How many steps of its own a process did whose fork has closed.
+#[derive(Drop)]
+pub(crate) struct PastSteps {
+    pub(crate) path: Path,
+    pub(crate) count: u64,
+}
+
+/// A tree of processes, as `shim_tree::Tree` is one, kept as states and records. What can happen next is
+/// listed by the numbers of processes, and a process that stands before a quiet step can be held: it then
+/// does nothing until it is released. Contracts see the tree (`tree_in`) and who is held.
+#[derive(Drop)]
+pub struct FlatTree<L: Local> {
+    pub(crate) begun: Snapshot<L>,
+    pub(crate) flat: Flat<L>,
+    pub(crate) output: Vec<u8>,
+    pub(crate) histories: Histories,
+    /// In the order of the events.
+    pub(crate) logs: Vec<Log>,
+    /// By number: how many steps of its own each process did.
+    pub(crate) own: Vec<u64>,
+    pub(crate) past: Vec<PastSteps>,
+    pub(crate) events: u64,
+    pub(crate) taken: u64,
+    /// The numbers at which something but a quiet step may happen.
+    pub(crate) awake: Worklist,
+    /// The numbers of processes that may stand before a quiet step.
+    pub(crate) quiet: Worklist,
+    /// By number: whether the process is held.
+    pub(crate) held: Vec<bool>,
+    /// Who shares a channel that meets, or on which a child is poisoned. Its room is used again.
+    pub(crate) sharers: Sharers,
+}
+
+impl<L: Local> Model for FlatTree<L> {
+    ghost use Rattle.shim_run_log.specs.Logged.{logged};
+    ghost use Rattle.shim_flat_tree.specs.FlatTrees.{FlatTreeView, KeepsCounted};
+    ghost use Rattle.shim_flat_tree.specs.Fields.{view_of};
+    ghost use Rattle.shim_semantics.proofs.Codes.{histories_code, logs_code};
+    ghost use Rattle.std.specs.Coded.{codes};
+
+    ghost Value = { FlatTreeView L };
+
+    ghost coded = { Prim.hlevel (codes, histories_code, logs_code) };
+
+    ghost view = { λ t. view_of t.begun.value t.flat t.output.items t.histories (logged t.logs.items) t.own.items t.past.items t.events t.awake t.quiet t.held.items };
+
+    ghost invariant = { λ t. KeepsCounted L.ops (view_of t.begun.value t.flat t.output.items t.histories (logged t.logs.items) t.own.items t.past.items t.events t.awake t.quiet t.held.items) t.taken };
+}
+
+impl<L: Local> FlatTree<L> {
+    /// The tree of this one live process, to which nothing has happened. It has the path of a root, and
+    /// shares channels of its own alone.
+    pub fn start(alloc: Global, root: L) -> Result<FlatTree<L>, NoMemory>
+        requires path { L.ops.path root ≡ [] }
+        requires own { SharesItsOwn L.ops root }
+        ensures tree { IfOk result (λ tree. tree_in L.ops tree ≡ trees.start root) }
+        ensures held { IfOk result (λ tree. NoneHeld L.ops tree) }
+    {
+        let begun = Snapshot::of(&root);
+        let flat = Flat::start(alloc, root)?;
+        let mut own = Vec::new(alloc);
+        own.push(0)?;
+        let mut held = Vec::new(alloc);
+        held.push(false)?;
+        let mut awake = Worklist::new(alloc);
+        awake.raise_to(1)?;
+        awake.add(0);
+        let mut quiet = Worklist::new(alloc);
+        quiet.raise_to(1)?;
+        quiet.add(0);
+        Ok(FlatTree {
+            begun,
+            flat,
+            output: Vec::new(alloc),
+            histories: Histories::new(alloc),
+            logs: Vec::new(alloc),
+            own,
+            past: Vec::new(alloc),
+            events: 0,
+            taken: 0,
+            awake,
+            quiet,
+            held,
+            sharers: Sharers::new(alloc),
+        })
+    }
+
+    /// How many events led to the tree. Its clauses tell, too, what its type keeps.
+    pub fn steps(&self) -> u64
+        ensures steps { result ≡ trees.steps (tree_in L.ops self.now) }
+        ensures keeps { KeepsTree L.ops self.now }
+    {
+        self.taken
+    }
+
+    /// The values that the meetings on the channel gave, if it had one; it lends no empty list.
+    pub fn history(&self, c: &Chan) -> Option<&[i64]>
+        ensures values { option_copied result ≡ endings.history_at c.now.channel (tree_in L.ops self.now) }
+        ensures none { (option_copied result ≡ None) ↔ (endings.values_on c.now.channel (tree_in L.ops self.now) ≡ []) }
+        ensures some { IfSome (option_copied result) (λ values. values ≢ []) }
+    {
+        self.histories.get(c)
+    }
+}

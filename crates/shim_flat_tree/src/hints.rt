@@ -1,0 +1,20 @@
+// What a scheduler may go by. No clause says anything of it.
+use crate::flat_tree::FlatTree;
+use shim_local::Local;
+
+impl<L: Local> FlatTree<L> {
+    /// About how many quiet steps take as long as handing over one of its processes does: the root's stands for
+    /// all, since they have program and input in common.
+    pub fn hand_over_cost(&self) -> u64 {
+        match self.flat.state(0) {
+            None => 0, // there is always a root
+            Some(root) => root.hand_over_cost(),
+        }
+    }
+
+    /// How many processes are listed as standing before a quiet step: each one that does and isn't held, and
+    /// perhaps some that have come to another stop since.
+    pub fn listed_quiet(&self) -> usize {
+        self.quiet.numbers().len()
+    }
+}

@@ -1,0 +1,108 @@
+// Processes that stand before a quiet step: which of them are held, and the steps that they do.
+ghost use Rattle.std.specs.Prelude.{◌≡◌, ◌≤◌, ◌+◌, ℕ, true, false};
+ghost use Rattle.shim_semantics.specs.Trees.{steps};
+ghost use Rattle.shim_laws_records.specs.Seen.{Sort};
+ghost use Rattle.shim_laws_keeping.specs.Flats.{HasProcess};
+ghost use Rattle.shim_laws_waking.specs.Awake.{is_listed};
+ghost use Rattle.shim_flat.specs.Reading.{IsInUse, IsForAll};
+ghost use Rattle.shim_flat_tree.specs.FlatTrees.{tree_in, IsQuietAt};
+ghost use Rattle.shim_flat_tree.specs.Waking.{StillListed, IsFirstHome};
+ghost use Rattle.shim_flat_tree.specs.Holding.{IsHomeAt, IsNextQuiet, Holds, HeldComes, Releases, StepsIn};
+
+use crate::flat_tree::FlatTree;
+use crate::waking::{count_steps, wake};
+use shim_base::Path;
+use shim_flat::Flat;
+use shim_local::{Local, Quiet};
+use shim_records::Worklist;
+
+// Whether the process with this number stands before a quiet step, and isn't held.
+fn is_at_home<L: Local>(flat: &Flat<L>, held: &[bool], number: u32) -> bool
+    requires { IsForAll flat.now held.now }
+    ensures home { result ≡ true → (l : L) × IsQuietAt L.ops flat.now number l × (is_listed held.now number ≡ false) }
+    ensures other { result ≡ false → (l : L) → IsQuietAt L.ops flat.now number l → is_listed held.now number ≡ true }
+{
+    if !flat.is_before_quiet(number) {
+        return false;
+    }
+    !held[number as usize]
+}
+
+// The first listed number of a process that stands before a quiet step and isn't held. The numbers before it
+// are listed no more.
+fn first_at_home<L: Local>(flat: &Flat<L>, held: &[bool], quiet: &mut Worklist) -> Option<u32>
+    requires { IsForAll flat.now held.now }
+    ensures still { StillListed L.ops flat.now held.now quiet.old quiet.new }
+    ensures first { IsFirstHome L.ops flat.now held.now quiet.new result }
+{
+    while let Some(number) = quiet.take() {
+        if is_at_home(flat, held, number) {
+            quiet.add(number);
+            return Some(number);
+        }
+    }
+    None
+}
+
+impl<L: Local> FlatTree<L> {
+    /// The number of a process that stands before a quiet step and isn't held; `None` exactly where each such
+    /// process is held. It takes no memory.
+    pub fn next_quiet(&mut self) -> Option<u32>
+        ensures { IsNextQuiet L.ops self.old self.new result }
+    {
+        first_at_home(&self.flat, self.held.as_slice(), &mut self.quiet)
+    }
+
+    /// The process with this number, which is in use.
+    pub fn process(&self, number: u32) -> &L
+        requires { IsInUse self.now.flat number }
+        ensures { (f : ℕ) × (k : Sort) × HasProcess self.now.flat number f result.now k }
+    {
+        self.flat.process(number)
+    }
+
+    /// Its path.
+    pub fn path(&self, number: u32) -> &Path
+        requires { IsInUse self.now.flat number }
+        ensures { (f : ℕ) (l : L) (k : Sort) → HasProcess self.now.flat number f l k → result.now ≡ L.ops.path l }
+    {
+        self.flat.path(number)
+    }
+
+    /// Holds the process with this number, which stands before a quiet step and isn't held: until it is
+    /// released, it stays as it is. It takes no memory.
+    pub fn hold(&mut self, number: u32)
+        requires { (l : L) × IsHomeAt L.ops self.old number l }
+        ensures { (l : L) → IsHomeAt L.ops self.old number l → Holds L.ops self.old self.new number l }
+    {
+        self.held[number as usize] = true;
+    }
+
+    /// The held process did so many quiet steps elsewhere, which led to this state, and is held no more. It
+    /// takes no memory.
+    pub fn release(&mut self, number: u32, last: L, taken: u64)
+        requires did { (l : L) × HeldComes L.ops self.old number taken l last }
+        requires few { steps (tree_in L.ops self.old) + taken ≤ 4000000 }
+        ensures { (l : L) → HeldComes L.ops self.old number taken l last → Releases L.ops self.old self.new number taken l last }
+    {
+        self.flat.advance_here(number, last);
+        self.held[number as usize] = false;
+        count_steps(&mut self.own, number, taken);
+        self.taken += taken;
+        wake(&self.flat, number, &mut self.awake, &mut self.quiet);
+    }
+
+    /// The process with this number, which stands before a quiet step and isn't held, does up to `most` quiet
+    /// steps in place. It does fewer only where it comes to another stop, or memory is wanted for one more.
+    pub fn step_here(&mut self, number: u32, most: u64) -> Quiet
+        requires home { (l : L) × IsHomeAt L.ops self.old number l }
+        requires few { steps (tree_in L.ops self.old) + most ≤ 4000000 }
+        ensures { (l : L) → IsHomeAt L.ops self.old number l → StepsIn L.ops self.old self.new number most result l }
+    {
+        let quiet = self.flat.step_here(number, most);
+        count_steps(&mut self.own, number, quiet.taken);
+        self.taken += quiet.taken;
+        wake(&self.flat, number, &mut self.awake, &mut self.quiet);
+        quiet
+    }
+}

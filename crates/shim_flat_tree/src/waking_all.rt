@@ -1,0 +1,27 @@
+// Several numbers that are listed again, since something has changed there.
+ghost use Rattle.shim_flat.specs.Reading.{IsForAll, AreInUse};
+ghost use Rattle.shim_flat_tree.specs.Several.{ListsEach, ListsEachQuiet};
+
+use crate::waking::wake;
+use shim_flat::Flat;
+use shim_local::Local;
+use shim_records::Worklist;
+
+/// The processes with these numbers have changed, and each is listed again, with the forks above it. It takes
+/// no memory.
+pub(crate) fn wake_each<L: Local>(
+    flat: &Flat<L>,
+    numbers: &[u32],
+    awake: &mut Worklist,
+    quiet: &mut Worklist,
+)
+    requires used { AreInUse flat.now numbers.now }
+    requires awakes { IsForAll flat.now awake.old }
+    requires quiets { IsForAll flat.now quiet.old }
+    ensures awake { ListsEach flat.now numbers.now awake.old awake.new }
+    ensures quiet { ListsEachQuiet L.ops flat.now numbers.now quiet.old quiet.new }
+{
+    for place in 0..numbers.len() {
+        wake(flat, numbers[place], awake, quiet);
+    }
+}

@@ -1,0 +1,187 @@
+-- The processes of open grants are those that the tree holds.
+use Rattle.std.proofs.Common.{◌≡◌, ◌≢◌, ◌≤◌, ◌<◌, ◌+◌, ◌-◌, ◌↔◌, ◌⊎◌, inl, inr, ℕ, Bool, true, false, Some, List, [], ◌∷◌, ◌++◌, length, get_or, refl, sym, ap, subst, ◌∙◌, arith}
+use Rattle.std.specs.Prelude.{slice_index_or, drop}
+use Rattle.std.specs.List.{All, Any, AllPairs, remove}
+use Rattle.std.proofs.lemmas.Bool.{cases_lt}
+use Rattle.std.proofs.lemmas.List.{get_or_default, get_or_append_left, length_push}
+use Rattle.std.proofs.lemmas.List.Edits.{length-remove, get_or-remove_below, get_or-remove_above}
+use Rattle.std.proofs.lemmas.List.Elements.{All-push}
+use Rattle.std.proofs.lemmas.List.Quantifiers.{Any-push}
+use Rattle.shim_base.specs.Paths.{Path}
+use Rattle.shim_local.specs.Process.{Ops}
+use Rattle.shim_local.specs.Laws.{LocalLaws}
+use Rattle.shim_semantics.specs.Places.{branches}
+use Rattle.shim_semantics.specs.Trees.{Tree}
+use Rattle.shim_semantics.proofs.HowMany.{clash}
+use Rattle.shim_laws_replay.specs.Grants.{IsGrantable}
+use Rattle.shim_laws_replay.specs.Journals.{Entry}
+use Rattle.shim_laws_records.specs.Seen.{Sort, lives, place}
+use Rattle.shim_laws_records.proofs.OneChange.{one_state}
+use Rattle.shim_laws_records.proofs.SameTrees.{same_or_not}
+use Rattle.shim_laws_keeping.specs.Flats.{HasProcess, stands}
+use Rattle.shim_laws_waking.specs.Awake.{is_listed}
+use Rattle.shim_flat_tree.specs.FlatTrees.{FlatTreeView, tree_in, IsQuietAt, IsHeld, KeepsTree}
+use Rattle.shim_flat_tree.specs.Holding.{SameHeld, NoneHeld, IsHomeAt, SameTree, Holds, Releases}
+use Rattle.shim_flat_tree.proofs.Advanced.{grantable}
+use Rattle.shim_net.specs.Nets.{OpenGrant, IsNet, HaveOtherPids}
+use Rattle.shim_net.specs.Granting.{IsAtHome, NoneAtHome}
+use Rattle.shim_net.specs.Holding.{AreHeld}
+
+-- a path without branches is that of a root
+no_branches : (p : Path) → branches p ≡ [] → p ≡ []
+no_branches [] e = refl
+no_branches (x ∷ p) e = absurd cc
+
+module _ {X : Type 0} (P : X → Type 0) (xs : List X) where
+  any_push : (y : X) → Any P xs → Any P (xs ++ y ∷ [])
+  any_push y a = let few = a.2 in (a.0, a.1, omega (arith, few, length_push xs y), get_or_append_left xs (y ∷ []) a.1 a.0 a.2 ∙ a.3, a.4)
+
+  -- one is taken out of the list, and another one is left
+  any_left : (n : ℕ) → n < length xs → (a : Any P xs) → a.0 ≢ n → Any P (remove xs n)
+  any_left n there a far =
+      let long = length-remove xs n there in
+      let few = a.2 in
+      elim (cases_lt a.0 n) [
+        | inl less ↦ (a.0, a.1, omega (arith, less, there, long), get_or-remove_below xs n a.1 a.0 less there ∙ a.3, a.4)
+        | inr more ↦
+            let m = a.0 - 1 in
+            let next : m + 1 ≡ a.0 = omega (arith, more, far) in
+            (m, a.1, omega (arith, few, long, next), get_or-remove_above xs n a.1 m (omega (arith, more, far)) there ∙ (ap (λ z. get_or xs z a.1) next ∙ a.3), a.4)
+      ]
+
+module _ {S : Type 0} (o : Ops S) where
+  -- ---- who is held where lists alone have changed
+
+  pub still_held : (v u : FlatTreeView S) (grants : List (OpenGrant S)) → AreHeld o v grants → SameHeld o v u → AreHeld o u grants
+  still_held v u grants h same = record {
+    held = λ k d few. let g = slice_index_or grants k d in (same g.pid g.start).0 (h.held k d few);
+    only = λ i l w. h.only i l ((same i l).1 w);
+  }
+
+  pub same_tree_held : (v u : FlatTreeView S) → SameTree o v u → SameHeld o v u
+  same_tree_held v u same i l = (
+    λ w. record { quiet = subst (λ z. IsQuietAt o z i l) (sym same.flat) w.quiet; flag = ap (λ z. is_listed z i) same.held ∙ w.flag },
+    λ w. record { quiet = subst (λ z. IsQuietAt o z i l) same.flat w.quiet; flag = ap (λ z. is_listed z i) (sym same.held) ∙ w.flag },
+  )
+
+  -- a net of the same tree, journal and grants
+  pub same_net : (root : S) (budget : ℕ) (t u : Tree S) (js ks : List Entry) (grants gs : List (OpenGrant S)) → u ≡ t → ks ≡ js → gs ≡ grants → IsNet o (record { root = root; budget = budget; tree = t; journal = js; grants = grants })
+      → IsNet o (record { root = root; budget = budget; tree = u; journal = ks; grants = gs })
+  same_net root budget t u js ks grants gs tree journal as_open w = subst (IsNet o) (λ i. record { root = root; budget = budget; tree = sym tree i; journal = sym journal i; grants = sym as_open i }) w
+
+  pub passed_home : (v u : FlatTreeView S) (i : ℕ) (l : S) → SameTree o v u → IsHomeAt o v i l → IsHomeAt o u i l
+  passed_home v u i l same home = record {
+    quiet = subst (λ z. IsQuietAt o z i l) (sym same.flat) home.quiet;
+    free = ap (λ z. is_listed z i) same.held ∙ home.free;
+  }
+
+  pub passed_held : (v u : FlatTreeView S) (grants gs : List (OpenGrant S)) → SameTree o v u → gs ≡ grants → AreHeld o v grants → AreHeld o u gs
+  passed_held v u grants gs same as_open h = subst (AreHeld o u) (sym as_open) (still_held v u grants h (same_tree_held v u same))
+
+  -- ---- nobody
+
+  pub begun_held : (v : FlatTreeView S) (grants : List (OpenGrant S)) → NoneHeld o v → grants ≡ [] → AreHeld o v grants
+  begun_held v grants none e = subst (AreHeld o v) (sym e) (record { held = λ k d few. absurd (omega (arith, few)); only = λ i l w. absurd (none i l w) })
+
+  pub none_held : (v : FlatTreeView S) (grants : List (OpenGrant S)) → AreHeld o v grants → length grants ≡ 0 → NoneHeld o v
+  none_held v grants h none i l w = let x = h.only i l w in let few = x.2 in absurd (omega (arith, few, none))
+
+  -- where whoever may be granted is held, nobody is at home
+  pub none_home : (v : FlatTreeView S) (grants : List (OpenGrant S)) → AreHeld o v grants → ((l : S) → IsGrantable o (tree_in o v) l → (i : ℕ) × IsHeld o v i l) → NoneAtHome o (tree_in o v) grants
+  none_home v grants h all l w =
+      let x = all l w in
+      let y = h.only x.0 l x.1 in
+      (y.0, y.1, y.2, y.3, ap o.path y.4.1)
+
+  pub held_at : (v : FlatTreeView S) (grants : List (OpenGrant S)) (place : ℕ) (g : OpenGrant S) → AreHeld o v grants → place < length grants → g ≡ slice_index_or grants place g → IsHeld o v g.pid g.start
+  held_at v grants place g h there its = subst (λ (z : OpenGrant S). IsHeld o v z.pid z.start) (sym its) (h.held place g there)
+
+  -- ---- a process that isn't held
+
+  module _ (law : LocalLaws o) (v : FlatTreeView S) (kept : KeepsTree o v) where
+    -- one place has one number
+    one_number : (i j f g : ℕ) (s t : S) (k h : Sort) → HasProcess v.flat i f s k → HasProcess v.flat j g t h → o.path s ≡ o.path t → i ≡ j
+    one_number i j f g s t k h w x e = kept.shows.shows.agrees.apart i j f g s t k h w x (ap (λ (p : Path). branches p) e)
+
+    -- the root alone has the number 0
+    pub zero_at_root : (i f : ℕ) (l : S) (k : Sort) → HasProcess v.flat i f l k → (i ≡ 0) ↔ (o.path l ≡ [])
+    zero_at_root i f l k has =
+        let r = kept.shows.shows.rooted in
+        let root : o.path r.state ≡ [] = no_branches (o.path r.state) r.at_root in (
+          λ e. ap o.path (one_state v.flat.states (stands v.flat) 0 f r.first l r.state k r.sort (subst (λ z. HasProcess v.flat z f l k) e has) r.has) ∙ root,
+          λ e. one_number i 0 f r.first l r.state k r.sort has r.has (e ∙ sym root),
+        )
+
+    module _ (grants : List (OpenGrant S)) (h : AreHeld o v grants) (i : ℕ) (l : S) (home : IsHomeAt o v i l) where
+      pub other_pids : All (λ g. g.pid ≢ i) grants
+      other_pids k d few e = clash (is_listed v.held i) (ap (is_listed v.held) (sym e) ∙ (h.held k d few).flag) home.free
+
+      pub is_home : IsAtHome o (tree_in o v) grants l
+      is_home = record {
+        grantable = grantable o law v i l kept.shows home.quiet;
+        free = λ k d few e.
+            let g = slice_index_or grants k d in
+            let w = h.held k d few in
+            other_pids k d few (one_number g.pid i w.quiet.first home.quiet.first g.start l lives lives w.quiet.has home.quiet.has e);
+      }
+
+  -- what is found of the next one, whose record is read where a list alone has changed
+  module _ (v u : FlatTreeView S) (same : SameTree o v u) (i : ℕ) (l p : S) (home : IsHomeAt o v i l) (f : ℕ) (k : Sort) (has : HasProcess u.flat i f p k) where
+    is_process : l ≡ p
+    is_process = one_state v.flat.states (stands v.flat) i home.quiet.first f l p lives k home.quiet.has (subst (λ z. HasProcess z i f p k) same.flat has)
+
+    pub its_home : IsHomeAt o v i p
+    its_home = subst (IsHomeAt o v i) is_process home
+
+    pub still_home : IsHomeAt o u i p
+    still_home = passed_home v u i p same its_home
+
+  -- ---- one more is held, or one less
+
+  pub one_more_held : (v u : FlatTreeView S) (grants gs : List (OpenGrant S)) (i : ℕ) (l : S) (g : OpenGrant S) → AreHeld o v grants → Holds o v u i l → All (λ g. g.pid ≢ i) grants → gs ≡ grants ++ g ∷ [] → g.pid ≡ i → g.start ≡ l → AreHeld o u gs
+  one_more_held v u grants gs i l g h holds others more pid start = subst (AreHeld o u) (sym more) (record {
+    held = all_held;
+    only = all_out;
+  })
+    where
+      all_held : All (λ g. IsHeld o u g.pid g.start) (grants ++ g ∷ [])
+      all_held = All-push (λ (g : OpenGrant S). IsHeld o u g.pid g.start) grants g
+          (λ k d few. let g = slice_index_or grants k d in (holds.others g.pid g.start (others k d few)).0 (h.held k d few))
+          (subst (λ z. IsHeld o u z g.start) (sym pid) (subst (IsHeld o u i) (sym start) holds.is))
+
+      all_out : (j : ℕ) (s : S) → IsHeld o u j s → Any (λ g. (g.pid ≡ j) × (g.start ≡ s)) (grants ++ g ∷ [])
+      all_out j s w = elim (same_or_not j i) [
+        | inl e ↦ Any-push (λ (z : OpenGrant S). (z.pid ≡ j) × (z.start ≡ s)) grants g (pid ∙ sym e, start ∙ one_state u.flat.states (stands u.flat) i holds.is.quiet.first w.quiet.first l s lives lives holds.is.quiet.has (subst (λ z. HasProcess u.flat z w.quiet.first s lives) e w.quiet.has))
+        | inr far ↦ any_push (λ (z : OpenGrant S). (z.pid ≡ j) × (z.start ≡ s)) grants g (h.only j s ((holds.others j s far).1 w))
+      ]
+
+  module _ (v u : FlatTreeView S) (grants : List (OpenGrant S)) (place used : ℕ) (g : OpenGrant S) (last : S) (h : AreHeld o v grants) (pids : AllPairs HaveOtherPids grants) (there : place < length grants) (its : g ≡ slice_index_or grants place g)
+      (released : Releases o v u g.pid used g.start last) where
+    its_at : (d : OpenGrant S) → slice_index_or grants place d ≡ g
+    its_at d = get_or_default grants place d g there ∙ sym its
+
+    far_from : (k : ℕ) (d : OpenGrant S) → k < length grants → k ≢ place → (slice_index_or grants k d).pid ≢ g.pid
+    far_from k d few far e = elim (cases_lt k place) [
+      | inl less ↦ pids k place d less there (e ∙ ap (λ (z : OpenGrant S). z.pid) (sym (its_at d)))
+      | inr more ↦ pids place k d (omega (arith, more, far)) few (ap (λ (z : OpenGrant S). z.pid) (its_at d) ∙ sym e)
+    ]
+
+    holds_at : (k : ℕ) (d : OpenGrant S) → k < length grants → k ≢ place → IsHeld o u (slice_index_or grants k d).pid (slice_index_or grants k d).start
+    holds_at k d few far = (released.others (slice_index_or grants k d).pid (slice_index_or grants k d).start (far_from k d few far)).0 (h.held k d few)
+
+    all_held : All (λ g. IsHeld o u g.pid g.start) (remove grants place)
+    all_held k d few =
+        let long = length-remove grants place there in
+        elim (cases_lt k place) [
+          | inl less ↦ subst (λ (z : OpenGrant S). IsHeld o u z.pid z.start) (sym (get_or-remove_below grants place d k less there)) (holds_at k d (omega (arith, less, there)) (λ e. absurd (omega (arith, e, less))))
+          | inr more ↦ subst (λ (z : OpenGrant S). IsHeld o u z.pid z.start) (sym (get_or-remove_above grants place d k more there)) (holds_at (k + 1) d (omega (arith, few, long)) (λ e. absurd (omega (arith, e, more))))
+        ]
+
+    all_out : (i : ℕ) (l : S) → IsHeld o u i l → Any (λ g. (g.pid ≡ i) × (g.start ≡ l)) (remove grants place)
+    all_out i l w =
+        let far : i ≢ g.pid = λ e. released.is_not l (subst (λ z. IsHeld o u z l) e w) in
+        let x = h.only i l ((released.others i l far).1 w) in
+        any_left (λ g. (g.pid ≡ i) × (g.start ≡ l)) grants place there x (λ e. far (sym x.4.0 ∙ ap (λ (z : OpenGrant S). z.pid) (sym x.3 ∙ ap (λ n. slice_index_or grants n x.1) e ∙ its_at x.1)))
+
+    pub one_less_held : (gs : List (OpenGrant S)) → gs ≡ remove grants place → AreHeld o u gs
+    one_less_held gs less = subst (AreHeld o u) (sym less) (record { held = all_held; only = all_out })

@@ -1,0 +1,23 @@
+use Rattle.std.proofs.Common.{rules, ◌≡◌, true, length, sym, ap, subst, ◌∙◌}
+use Rattle.shim_semantics.specs.Trees.{steps}
+use Rattle.shim_semantics.proofs.HowMany.{clash}
+use Rattle.shim_net.specs.Nets.{NetView}
+use Rattle.shim_net.proofs.Ends.{is_spent, is_neither}
+use Rattle.shim_net.proofs.Holding.{none_held}
+use Rattle.shim_net.proofs.net.Net.standing.Goals as goal
+
+pub quiescent-requires-after_bounds : goal.quiescent-requires-after_bounds
+quiescent-requires-after_bounds g c κs within =
+    let none : length c.self.inside.grants.items ≡ 0 = search rules in
+    none_held g.L.Local.ops c.self.inside.tree c.self.inside.grants.items c.self.invariant.3 none
+
+pub returns-then-steps-self-clause-stands : goal.returns-then-steps-self-clause-stands
+returns-then-steps-self-clause-stands g c =
+    let o = g.L.Local.ops in
+    let none : length c.self.inside.grants.items ≡ 0 = search rules in
+    is_spent o _ c.args.self.now c.self.view_is none (sym c.steps.ensures.steps ∙ c.if-steps-self.true) (λ q. clash c.quiescent.result (c.quiescent.ensures.1 q) c.if-quiescent.false)
+
+pub returns-clause-stands : goal.returns-clause-stands
+returns-clause-stands g c =
+    let o = g.L.Local.ops in
+    is_neither o _ c.args.self.now c.self.view_is (λ e. c.if-steps-self.false (c.steps.ensures.steps ∙ e)) (λ q. clash c.quiescent.result (c.quiescent.ensures.1 q) c.if-quiescent.false)

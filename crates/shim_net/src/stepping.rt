@@ -1,0 +1,84 @@
+// Quiet steps of a process at home, in place.
+ghost use Rattle.std.specs.Prelude.{◌≡◌, ◌≤◌, ◌<◌, ◌+◌, map, vec_len, vec_capacity, IfOk, OnOk, OnErr};
+ghost use Rattle.shim_semantics.specs.Trees as trees;
+ghost use Rattle.shim_net.specs.Entries.{entry_of};
+ghost use Rattle.shim_net.specs.Taking.{with_piece};
+ghost use Rattle.shim_net.specs.Stepping.{IsNextHome, StepsHome};
+ghost use Rattle.shim_net.specs.Progress.{GoesOn, CanGive};
+
+use crate::entry::Entry;
+use crate::net::{Net, left_in};
+use shim_base::{NoMemory, Path};
+use shim_local::{Local, Quiet};
+
+// Adds the entry of so many quiet steps of the process of this path, if there are any, for which there is
+// room.
+fn add_steps(journal: &mut Vec<Entry>, path: Path, steps: u64)
+    requires { vec_len journal.old < vec_capacity journal.old }
+    ensures items { map entry_of journal.new.items ≡ with_piece path steps (map entry_of journal.old.items) }
+    ensures room { (vec_capacity journal.new ≡ vec_capacity journal.old) × (vec_len journal.new ≤ vec_len journal.old + 1) }
+{
+    if steps > 0 {
+        journal.push_reserved(Entry::Quiet { path, steps });
+    }
+}
+
+impl<L: Local> Net<L> {
+    /// The number of a process that stands before a quiet step and isn't out: the one that `step_here` or
+    /// `grant` would take next. `None` exactly where there is none, or nothing is left of the budget. It takes
+    /// no memory.
+    pub fn next_home(&mut self) -> Option<u64>
+        ensures { IsNextHome L.ops self.old self.new result }
+    {
+        if left_in(&self.tree, self.budget, self.reserved) == 0 {
+            return None;
+        }
+        let number = self.tree.next_quiet()?;
+        Some(number as u64)
+    }
+
+    /// Such a process does quiet steps in place: up to `most`, which are at least 1, or what is left of the
+    /// budget where that is less. They are one entry of the journal, and no grant changes. It does fewer only
+    /// where it comes to another stop, or memory was wanted for a further step (`short`); `None` exactly where
+    /// no process is at home, or nothing is left. Want of memory before the first step changes nothing.
+    pub fn step_here(&mut self, most: u64) -> Result<Option<Quiet>, NoMemory>
+        requires most { 1 ≤ most }
+        ensures ok { IfOk result (λ quiet. StepsHome L.ops self.old self.new most quiet) }
+        ensures err { OnErr result (self.new ≡ self.old) }
+    {
+        let left = left_in(&self.tree, self.budget, self.reserved);
+        if left == 0 {
+            return Ok(None);
+        }
+        let Some(number) = self.tree.next_quiet() else {
+            return Ok(None);
+        };
+        // with room for an entry of each open grant behind it
+        self.journal.reserve(self.grants.len() + 1)?;
+        let path = self.tree.path(number).copy()?;
+        let quiet = self.tree.step_here(number, most.min(left));
+        add_steps(&mut self.journal, path, quiet.taken);
+        Ok(Some(quiet))
+    }
+
+    /// The process that is next at home, of which there is one, does quiet steps in place: up to `most`, which
+    /// are at least 1, or what is left of the budget where that is less. Want of memory for a step leaves those
+    /// before it, and they stand in the journal.
+    pub fn step_next(&mut self, most: u64) -> Result<(), NoMemory>
+        requires most { 1 ≤ most }
+        requires can { CanGive L.ops self.old }
+        ensures goes_on { GoesOn L.ops self.old self.new }
+        ensures same { self.new.grants ≡ self.old.grants }
+        ensures more { OnOk result (trees.steps self.old.tree < trees.steps self.new.tree) }
+    {
+        match self.step_here(most)? {
+            None => Ok(()), // excluded, since something can be given out
+            Some(quiet) => {
+                if quiet.short {
+                    return Err(NoMemory);
+                }
+                Ok(())
+            }
+        }
+    }
+}

@@ -1,0 +1,42 @@
+// Giving out work.
+ghost use Rattle.std.specs.Prelude.{◌≡◌, ◌≤◌, IfOk, OnErr, MatchOption};
+ghost use Rattle.shim_net.specs.Nets.{IsOpen};
+ghost use Rattle.shim_net.specs.Granting.{GivesNone, Gives};
+
+use crate::home::at_home;
+use crate::net::PlainNet;
+use crate::open_grant::OpenGrant;
+use shim_base::NoMemory;
+use shim_local::{Local, Parcel};
+
+impl<L: Local> PlainNet<L> {
+    /// Gives out work of a process that stands before a quiet step and isn't out: `most` steps, which
+    /// are at least 1, or what is left of the budget where that is less. `slot` and `round` are the
+    /// caller's numbers for the piece: they come back with it and tell the open grants apart, so no open
+    /// grant may have both. `pid` is the number of the process in this net, 0 exactly for the root, and
+    /// the same in all its pieces. `None` exactly where no process can be given out, or nothing is left.
+    /// Want of memory changes nothing.
+    pub fn grant(&mut self, most: u64, slot: u64, round: u64) -> Result<Option<Parcel<L>>, NoMemory>
+        requires most { 1 ≤ most }
+        requires numbers { IsOpen slot round self.old.grants → ⊥ }
+        ensures given { IfOk result (λ p. MatchOption p (GivesNone L.ops self.old self.new) (λ p. (p.slot ≡ slot) × (p.round ≡ round) × Gives L.ops self.old self.new most slot round p.pid p.start p.grant)) }
+        ensures err { OnErr result (self.new ≡ self.old) }
+    {
+        let left = self.unreserved();
+        if left == 0 {
+            return Ok(None);
+        }
+        let Some(process) = at_home(&self.tree, self.grants.as_slice()) else {
+            return Ok(None);
+        };
+        let grant = most.min(left);
+        self.journal.reserve(self.grants.len() + 1)?;
+        self.grants.reserve(1)?;
+        let pid = self.numbers.number(process.path())?;
+        let given = OpenGrant::new(process, pid, slot, round, grant)?;
+        let parcel = given.parcel()?;
+        self.grants.push_reserved(given);
+        self.reserved += grant;
+        Ok(Some(parcel))
+    }
+}

@@ -1,0 +1,42 @@
+// How a net stands, and what is read off it at its end.
+ghost use Rattle.std.specs.Prelude.{◌≡◌, ◌⊎◌, IfOk};
+ghost use Rattle.shim_semantics.specs.Endings as endings;
+ghost use Rattle.shim_laws_replay.specs.Ends.{AgreesWithMeaning};
+ghost use Rattle.shim_laws_replay.specs.Told.{IsToldAs};
+ghost use Rattle.shim_net.specs.Nets.{IsNet};
+ghost use Rattle.shim_net.specs.Standings.{StandsAs, IsQuietNet, IsSpentNet};
+
+use crate::net::PlainNet;
+use shim_base::NoMemory;
+use shim_local::{Ended, Local};
+use shim_net::Standing;
+
+impl<L: Local> PlainNet<L> {
+    /// How it stands. Its clauses tell, too, what its type keeps. It takes no memory.
+    pub fn standing(&self) -> Standing
+        ensures stands { StandsAs L.ops self.now result }
+        ensures keeps { IsNet L.ops self.now }
+    {
+        if !self.grants.is_empty() {
+            return Standing::Running;
+        }
+        if self.tree.quiescent() {
+            return Standing::Quiet;
+        }
+        if self.taken == self.budget {
+            return Standing::Spent;
+        }
+        Standing::Running
+    }
+
+    /// What is read off it at its end, where its standing isn't `Running`, and how that compares with
+    /// the meaning.
+    pub fn ended(&self) -> Result<Ended, NoMemory>
+        requires { IsQuietNet L.ops self.now ⊎ IsSpentNet L.ops self.now }
+        ensures ended { IfOk result (λ ended. ended ≡ endings.ended L.ops self.now.tree) }
+        ensures agrees { AgreesWithMeaning L.ops self.now.root self.now.budget self.now.tree }
+        ensures told { IsToldAs L.ops self.now.root self.now.budget self.now.tree }
+    {
+        self.tree.ended(self.budget)
+    }
+}

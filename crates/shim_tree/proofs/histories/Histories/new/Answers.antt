@@ -1,9 +1,0 @@
-use Rattle.std.proofs.Common.{ap, sym, subst}
-use Rattle.std.specs.FinMap.{from_entries}
-use Rattle.shim_tree.specs.Maps.{AllHaveValues}
-use Rattle.shim_tree.proofs.HaveValues.{none_have}
-use Rattle.shim_tree.proofs.Recorded.{mets}
-use Rattle.shim_tree.proofs.histories.Histories.new.Goals as goal
-
-pub invariant_of-result : goal.invariant_of-result
-invariant_of-result c = subst AllHaveValues (ap (λ es. from_entries (mets es)) (sym c.new.ensures.empty)) none_have

@@ -1,7 +1,0 @@
-use Rattle.std.proofs.Common.{◌≡◌, drop}
-use Rattle.shim_tree.specs.Telling.{with_each, logged}
-use Rattle.shim_tree.proofs.reading.logs_by_path.Given as goal
-
--- what is left, logged behind what was gathered, is all
-abbrev pub invariant-loop-log : goal.invariant-loop-log
-invariant-loop-log l = with_each l.by_path (drop l.log-index l.fn.logs) ≡ logged l.fn.logs

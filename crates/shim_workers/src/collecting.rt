@@ -1,0 +1,128 @@
+// Taking in what has come back over a board, by who has its turn.
+ghost use Rattle.std.specs.Prelude.{◌≡◌, ◌≤◌, ◌<◌};
+ghost use Rattle.shim_board.specs.Chairs.{HasSlot, StandsAs, slots_of};
+ghost use Rattle.shim_workers.specs.Workers.{HasTurn, SameName};
+
+use crate::handing_out::{Handed, hand_out, redo};
+use crate::lengths::longer;
+use crate::load::{Load, NetBoard, NetChair};
+use crate::pool::Pool;
+use shim_base::NoMemory;
+use shim_local::{Finished, Local};
+use shim_net::{Absorbed, Net};
+
+// What came of a slot.
+#[derive(Clone, Copy)]
+enum Came {
+    /// Nothing has come back.
+    Nothing,
+    /// A piece came back, and its process is at home.
+    Home,
+    /// A piece came back and was used up, and another one is out in its place.
+    Out,
+}
+
+/// How many pieces came back, and in place of how many of these others went out.
+#[derive(Clone, Copy)]
+pub(crate) struct Collected {
+    pub(crate) back: u64,
+    pub(crate) out: u64,
+}
+
+// Does the work of open grants in this thread, until that of this slot and round is done, whose piece
+// won't come back.
+fn redo_lost<L: Local>(net: &mut Net<L>, slot: u64, round: u64) -> Result<(), NoMemory>
+    ensures { SameName net.old net.new }
+{
+    while net.is_out(slot, round) && redo(net)? {}
+    Ok(())
+}
+
+// Takes in a piece that has come back. One that wanted memory is want of memory, and one that is of no
+// open grant is dropped.
+fn take_back<L: Local>(net: &mut Net<L>, finished: Finished<L>) -> Result<(), NoMemory>
+    ensures { SameName net.old net.new }
+{
+    match net.absorb(finished) {
+        Absorbed::Taken => Ok(()),
+        Absorbed::Short => Err(NoMemory),
+        Absorbed::Stranger(stranger) => redo_lost(net, stranger.slot, stranger.round),
+    }
+}
+
+// Whether the process of this number is the one that is next at home.
+fn is_next<L: Local>(net: &mut Net<L>, pid: u64) -> bool
+    ensures { SameName net.old net.new }
+{
+    net.next_home() == Some(pid)
+}
+
+// Takes in what has come back in a slot. A process that used up its piece mostly stands before a quiet step
+// again, and needs no other event; so its next piece goes out at once, twice as long.
+fn collect<L: Local>(
+    board: &NetBoard<L>,
+    chair: &mut NetChair<L>,
+    net: &mut Net<L>,
+    slot: u64,
+    pool: &Pool,
+) -> Result<Came, NoMemory>
+    requires chair { HasTurn 1 board.now chair.old }
+    requires slot { HasSlot board.now slot }
+    ensures turn { HasTurn 1 board.now chair.new }
+    ensures same { StandsAs chair.old chair.new }
+    ensures net { SameName net.old net.new }
+{
+    match board.collect(chair, slot) {
+        None => Ok(Came::Nothing),
+        Some(Load::Out(parcel)) => {
+            redo_lost(net, parcel.slot, parcel.round)?;
+            Ok(Came::Home)
+        }
+        Some(Load::Back(finished)) => {
+            let used = finished.used;
+            let pid = finished.pid;
+            let is_used_up = used == finished.grant;
+            take_back(net, finished)?;
+            if !is_used_up {
+                pool.came_early();
+                return Ok(Came::Home);
+            }
+            if !is_next(net, pid) {
+                return Ok(Came::Home);
+            }
+            match hand_out(board, chair, net, slot, longer(used))? {
+                Handed::Put => Ok(Came::Out),
+                Handed::NotPut | Handed::NoneLeft => Ok(Came::Home),
+            }
+        }
+    }
+}
+
+/// Takes in all that has come back. Processes that used up their pieces go on at once.
+pub(crate) fn collect_all<L: Local>(
+    board: &NetBoard<L>,
+    chair: &mut NetChair<L>,
+    net: &mut Net<L>,
+    slots: u64,
+    pool: &Pool,
+) -> Result<Collected, NoMemory>
+    requires chair { HasTurn 1 board.now chair.old }
+    requires slots { slots_of board.now ≡ slots }
+    ensures turn { HasTurn 1 board.now chair.new }
+    ensures same { StandsAs chair.old chair.new }
+    ensures net { SameName net.old net.new }
+{
+    let mut back = 0u64;
+    let mut out = 0u64;
+    for slot in 0..slots {
+        match collect(board, chair, net, slot, pool)? {
+            Came::Nothing => {}
+            Came::Home => back = back.saturating_add(1),
+            Came::Out => {
+                back = back.saturating_add(1);
+                out = out.saturating_add(1);
+            }
+        }
+    }
+    Ok(Collected { back, out })
+}
