@@ -80,6 +80,8 @@ TEXTS = {
     "throws in a fork beside tries": lambda: filled("void main() throws U {" + "try{}catch(T){}" * 35000 + "{}par{", "throw U;", "} }"),
     "forks beside tries": lambda: filled("void main() {" + "try{}catch(T){}" * 35000, "{}par{}", "}"),
     "forks that throw beside tries": lambda: filled("void main() throws U {" + "try{}catch(T){}" * 35000, "{throw U;}par{}", "}"),
+    "forks that throw past tries": lambda: filled(
+        "void main() {try{" + "try{}catch(T){}" * 35000 + "try{", "{throw U;throw V;}par{}", "}catch(V){}}catch(U){} }"),
     "flat forks": lambda: filled("void main() {", "{}par{}", "}"),
     "wide forks": lambda: filled("void main() {", "{}" + "par{}" * 63, "}"),
     "nested forks": lambda: nested("{}par{", "", "}", 62),

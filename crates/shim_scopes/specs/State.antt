@@ -71,7 +71,7 @@ IsRefusal (Refused l k n) line kind name = (l ≡ line) × ((k ≡ kind) × (n �
 IsRefusal NoMemory line kind name = Unit {0}
 
 -- the check of a place passes where there is no name to refuse it for
-abbrev pub Passes : Result (Unit {0}) ScopeFault → ℕ → ScopeKind → Option (List ℕ) → Type 0
+abbrev pub Passes : {T : Type 0} → Result T ScopeFault → ℕ → ScopeKind → Option (List ℕ) → Type 0
 Passes (Ok t) line kind name = name ≡ None
 Passes (Err (Refused l k n)) line kind name = (name ≡ Some n) × ((l ≡ line) × (k ≡ kind))
 Passes (Err NoMemory) line kind name = Unit {0}

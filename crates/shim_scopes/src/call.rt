@@ -4,15 +4,14 @@ ghost use Rattle.std.specs.Str.{bytes_eq};
 ghost use Rattle.std.specs.Option.{option_copied};
 ghost use Rattle.shim_syntax.specs.declared.tree.Function.{Function};
 ghost use Rattle.shim_scopes.specs.Binding.{exception_number};
-ghost use Rattle.shim_scopes.specs.Calls.{bind_call, bind_known, function_number, function_of, unhandled_of_all, wrong_arg, wrong_ref, wrong_in_all, same_type, same_sort, fits, if_false};
+ghost use Rattle.shim_scopes.specs.Calls.{bind_call, bind_known, function_of, unhandled_of_all, wrong_arg, wrong_ref, wrong_in_all, same_type, same_sort, fits, if_false};
 ghost use Rattle.shim_scopes.specs.Refusals.{Gives};
-ghost use Rattle.shim_scopes.specs.State.{IsNumber, around_of, before_of, whole};
+ghost use Rattle.shim_scopes.specs.State.{IsNumber, Passes, around_of, before_of, whole};
 
 use crate::check::{check, refuse};
 use crate::fault::{ScopeFault, ScopeKind};
 use crate::lookup::{
-    exception_at, find_bare, find_stream, find_unhandled, find_unknown_of_all, look_up,
-    resolve_exprs,
+    find_bare, find_stream, find_unknown_of_all, look_up, look_up_exception, resolve_exprs,
 };
 use crate::scope::{Bound, Handled, Local, Scope};
 use crate::tree::RCall;
@@ -22,14 +21,6 @@ use shim_syntax::word::is_same;
 use shim_syntax::{Call, Expr, Function, NameTable, Param, Sort};
 use std::alloc::Global;
 
-fn find_function<'a>(functions: &'a [Function], name: &Name) -> Option<&'a Function>
-    ensures { option_copied result ≡ function_of functions.now name.now }
-{
-    functions
-        .iter()
-        .find(|function| is_same(&function.name, name))
-}
-
 pub fn find_function_at(functions: &[Function], name: &Name) -> Option<usize>
     ensures { result ≡ position (λ (f : Function). bytes_eq f.name name.now) functions.now }
 {
@@ -38,33 +29,23 @@ pub fn find_function_at(functions: &[Function], name: &Name) -> Option<usize>
         .position(|function| is_same(&function.name, name))
 }
 
-fn function_at(functions: &[Function], name: &Name) -> usize
-    ensures { result ≡ function_number functions.now name.now }
+// The numbers of a callee's exceptions in the caller, unless one of them isn't in scope there. Each name
+// is looked up once, since a text may have very many calls that throw as much as they may.
+fn number_throws(
+    alloc: Global,
+    handled: &[Handled],
+    line: u32,
+    names: &[Name],
+) -> Result<List<u32>, ScopeFault>
+    ensures passes { Passes result line ScopeKind.UnknownException (unhandled_of_all handled.now names.now) }
+    ensures numbers { IfOk result (λ made. made ≡ map (exception_number handled.now) names.now) }
 {
-    match find_function_at(functions, name) {
-        Some(at) => at,
-        None => functions.len(),
-    }
-}
-
-fn find_unhandled_of_all<'a>(handled: &[Handled], names: &'a [Name]) -> Option<&'a Name>
-    ensures { option_copied result ≡ unhandled_of_all handled.now names.now }
-{
+    let mut made = List::with_capacity(alloc, names.len())?;
     for name in names {
-        match find_unhandled(handled, name) {
-            Some(name) => return Some(name),
-            None => {}
+        match look_up_exception(handled, name) {
+            Some(number) => made.push(number)?,
+            None => return Err(refuse(alloc, line, ScopeKind::UnknownException, name)),
         }
-    }
-    None
-}
-
-fn number_all(alloc: Global, handled: &[Handled], names: &[Name]) -> Result<List<u32>, NoMemory>
-    ensures { IfOk result (λ made. made ≡ map (exception_number handled.now) names.now) }
-{
-    let mut made = List::new(alloc);
-    for name in names {
-        made.push(exception_at(handled, name))?;
     }
     Ok(made)
 }
@@ -163,7 +144,8 @@ fn find_arity<'a>(call: &'a Call, callee: &Function) -> Option<&'a Name>
     }
 }
 
-#[tactic(auto, using(crate::proofs::Seams::seam, crate::proofs::Numbers::function_within))]
+// A call of the function that has that number.
+#[tactic(auto, using(crate::proofs::Seams::seam))]
 fn resolve_known(
     alloc: Global,
     functions: &[Function],
@@ -171,20 +153,18 @@ fn resolve_known(
     start: usize,
     line: u32,
     call: &Call,
-    callee: Option<&Function>,
+    at: usize,
 ) -> Result<RCall, ScopeFault>
-    requires { IsNumber (length functions.now) }
-    ensures { Gives result (bind_known (option_copied callee.entry) functions.now call.now line (around_of start scope.now) (before_of start scope.now)) }
+    requires count { IsNumber (length functions.now) }
+    requires found { position (λ (f : Function). bytes_eq f.name call.now.function) functions.now ≡ Some at }
+    ensures { Gives result (bind_known (function_of functions.now call.now.function) functions.now call.now line (around_of start scope.now) (before_of start scope.now)) }
 {
-    let callee = match callee {
-        Some(callee) => callee,
-        None => return Err(refuse(alloc, line, ScopeKind::UnknownFunction, &call.function)),
-    };
-    check(
+    let callee = &functions[at];
+    let throws = number_throws(
         alloc,
+        scope.handled.as_slice(),
         line,
-        ScopeKind::UnknownException,
-        find_unhandled_of_all(scope.handled.as_slice(), callee.throws.as_slice()),
+        callee.throws.as_slice(),
     )?;
     check(alloc, line, ScopeKind::Arity, find_arity(call, callee))?;
     check(
@@ -197,17 +177,15 @@ fn resolve_known(
             call.args.as_slice(),
         ),
     )?;
-    let function = number(function_at(functions, &call.function));
     let args = resolve_exprs(alloc, scope.visible.as_slice(), call.args.as_slice())?;
-    let throws = number_all(alloc, scope.handled.as_slice(), callee.throws.as_slice())?;
     Ok(RCall {
-        function,
+        function: number(at),
         args,
         throws,
     })
 }
 
-#[tactic(auto, using(crate::proofs::Seams::seam))]
+#[tactic(auto, using(crate::proofs::Seams::seam, crate::proofs::Numbers::none_found))]
 pub fn resolve_call(
     alloc: Global,
     functions: &[Function],
@@ -226,6 +204,8 @@ pub fn resolve_call(
         ScopeKind::UnknownName,
         find_unknown_of_all(scope.visible.as_slice(), call.args.as_slice()),
     )?;
-    let callee = find_function(functions, &call.function);
-    resolve_known(alloc, functions, scope, start, line, call, callee)
+    match find_function_at(functions, &call.function) {
+        Some(at) => resolve_known(alloc, functions, scope, start, line, call, at),
+        None => Err(refuse(alloc, line, ScopeKind::UnknownFunction, &call.function)),
+    }
 }

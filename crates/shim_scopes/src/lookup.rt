@@ -21,7 +21,7 @@ pub fn look_up(visible: &[Local], name: &Name) -> Option<Bound>
 }
 
 // The number of the innermost exception of a name.
-fn look_up_exception(handled: &[Handled], name: &Name) -> Option<u32>
+pub fn look_up_exception(handled: &[Handled], name: &Name) -> Option<u32>
     ensures { result ≡ exception_of name.now handled.now }
 {
     match handled.iter().rev().find(|one| is_same(&one.name, name)) {
