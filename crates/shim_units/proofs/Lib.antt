@@ -2,5 +2,7 @@
 pub mod Counting
 pub mod PartSteps
 pub mod EachKind
+pub mod Ascending
+pub mod Marks
 pub mod Usages
 pub mod Sends

@@ -4,13 +4,14 @@ ghost use Rattle.shim_units.specs.Usages.{captures_of};
 ghost use Rattle.shim_units.specs.LiftContextView.{context_view};
 ghost use Rattle.shim_units.specs.PartFold.{parts};
 ghost use Rattle.shim_units.specs.BranchCapturing.{IsBranchCaptures};
-ghost use Rattle.shim_units.specs.Lifting.{taken, is_among, given_exceptions, branch_param, branch_arg, branch_title, branch_slot_map, made_unit, branch_call, branch_unit};
+ghost use Rattle.shim_units.specs.Lifting.{taken, branch_param, branch_arg, branch_title, branch_slot_map, made_unit, branch_call, branch_unit};
 ghost use Rattle.shim_units.specs.Lifting.{sort_of, name_of, try_name};
 
 use crate::captures::{capture_at, is_reference, is_taken, take_all};
+use crate::exceptions::ExceptionList;
 use crate::found::Capture;
 use crate::lift_context::LiftContext;
-use crate::moving::{pass, slot_index, slot_indices};
+use crate::moving::{pass, slot_index};
 use crate::own::{declares_in, push_raises, tries_in};
 use crate::slot_map::SlotMap;
 use crate::unit::{Arg, UCall, UStmt, Unit};
@@ -47,30 +48,6 @@ fn take_some(alloc: Global, captures: &[Capture], slots: &[u32]) -> Result<List<
     Ok(made)
 }
 
-fn is_among(some: &[u32], one: u32) -> bool
-    ensures { result ≡ is_among some.now one }
-{
-    for other in some {
-        if *other == one {
-            return true;
-        }
-    }
-    false
-}
-
-// Those of some exceptions that are thrown or passed on, in their order.
-fn give_exceptions(alloc: Global, raises: &[u32], exceptions: &[u32]) -> Result<List<u32>, NoMemory>
-    ensures { IfOk result (λ made. made ≡ given_exceptions raises.now exceptions.now) }
-{
-    let mut made = List::new(alloc);
-    for exception in exceptions {
-        if is_among(raises, *exception) {
-            made.push(*exception)?;
-        }
-    }
-    Ok(made)
-}
-
 fn join(alloc: Global, first: &[u32], second: &[u32]) -> Result<List<u32>, NoMemory>
     ensures { IfOk result (λ made. made ≡ first.now ++ second.now) }
 {
@@ -90,7 +67,7 @@ pub fn open_unit(
     ensures { IfOk result (λ made. made ≡ branch_slot_map slots.now declares.now exceptions.now tries.now) }
 {
     let slots = join(alloc, slots, declares)?;
-    let exceptions = join(alloc, exceptions, tries)?;
+    let exceptions = ExceptionList::new(join(alloc, exceptions, tries)?);
     Ok(SlotMap { slots, exceptions })
 }
 
@@ -220,7 +197,7 @@ pub fn open_branch(
     let declares = declares_in(alloc, body)?;
     let tries = tries_in(alloc, body)?;
     let slots = take_some(alloc, captures.as_slice(), slot_map.slots.as_slice())?;
-    let exceptions = give_exceptions(alloc, raises.as_slice(), slot_map.exceptions.as_slice())?;
+    let exceptions = slot_map.exceptions.give(alloc, raises.as_slice())?;
     let inner = open_unit(
         alloc,
         slots.as_slice(),
@@ -254,11 +231,9 @@ pub fn call_branch(
         captured.captures.as_slice(),
         captured.slots.as_slice(),
     )?;
-    let throws = slot_indices(
-        alloc,
-        slot_map.exceptions.as_slice(),
-        captured.exceptions.as_slice(),
-    )?;
+    let throws = slot_map
+        .exceptions
+        .indices_of(alloc, captured.exceptions.as_slice())?;
     Ok(UCall { unit, args, throws })
 }
 

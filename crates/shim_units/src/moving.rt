@@ -1,7 +1,7 @@
 // Expressions and calls with a unit's own numbers of variables and exceptions.
 ghost use Rattle.std.specs.Prelude.{◌≡◌, ◌<◌, ◌≤◌, ◌^◌, IfOk, length, position, nat_eq, Option};
 ghost use Rattle.shim_units.specs.Calls.{bare, params_at};
-ghost use Rattle.shim_units.specs.Moving.{slot_index_of, slot_indices_of, moved, moved_option, by_mode, arg_of, args_of, moved_call};
+ghost use Rattle.shim_units.specs.Moving.{slot_index_of, moved, moved_option, by_mode, arg_of, args_of, moved_call};
 
 use crate::calls::{behind_first, find_bare, lends_first, params_at};
 use crate::slot_map::SlotMap;
@@ -18,7 +18,7 @@ fn find_index(all: &[u32], one: u32) -> Option<usize>
 }
 
 #[tactic(auto, unfolding(crate::specs::Moving::slot_index_of))]
-fn index_in(all: &[u32], one: u32) -> usize
+pub fn index_in(all: &[u32], one: u32) -> usize
     ensures is { result ≡ slot_index_of all.now one }
     ensures slot_map { result ≤ length all.now }
 {
@@ -34,17 +34,6 @@ pub fn slot_index(all: &[u32], one: u32) -> u32
     ensures { result ≡ slot_index_of all.now one }
 {
     number(index_in(all, one))
-}
-
-pub fn slot_indices(alloc: Global, all: &[u32], some: &[u32]) -> Result<List<u32>, NoMemory>
-    requires { length all.now < 2 ^ 32 }
-    ensures { IfOk result (λ made. made ≡ slot_indices_of all.now some.now) }
-{
-    let mut made = List::with_capacity(alloc, some.len())?;
-    for one in some {
-        made.push(slot_index(all, *one))?;
-    }
-    Ok(made)
 }
 
 #[tactic(auto, unfolding(crate::specs::Moving::moved))]
@@ -146,11 +135,9 @@ pub fn move_call(
         params_at(functions, call.function),
         call.args.as_slice(),
     )?;
-    let throws = slot_indices(
-        alloc,
-        slot_map.exceptions.as_slice(),
-        call.throws.as_slice(),
-    )?;
+    let throws = slot_map
+        .exceptions
+        .indices_of(alloc, call.throws.as_slice())?;
     Ok(UCall {
         unit: call.function,
         args,
