@@ -133,12 +133,12 @@ fn lift_what(
         }
         RWhat::Try(body, exception, handler) => {
             let body = lift_body(alloc, context, slot_map, next, units, body.as_slice())?;
-            let exception = slot_index(slot_map.exceptions.as_slice(), *exception);
+            let exception = slot_map.exceptions.index_of(*exception);
             let handler = lift_body(alloc, context, slot_map, next, units, handler.as_slice())?;
             Ok(UWhat::Try(body, exception, handler))
         }
         RWhat::Throw(exception) => {
-            let exception = slot_index(slot_map.exceptions.as_slice(), *exception);
+            let exception = slot_map.exceptions.index_of(*exception);
             Ok(UWhat::Throw(exception))
         }
         RWhat::Par(branches) => {
