@@ -1,15 +1,18 @@
 -- That each channel which has an entry among the histories has a value.
-use Rattle.std.specs.Prelude.{◌≡◌, ◌≢◌, ℕ, ℤ, Bool, true, false, Option, Some, None, List, [], ◌∷◌, ◌++◌, cond, Result, Ok, Err, OnOk, OnErr, IfSome, ◌↔◌, unwrap_or}
+use Rattle.std.specs.Prelude.{◌≡◌, ◌≢◌, ℕ, ℤ, Bool, true, false, Option, Some, None, List, [], ◌∷◌, ◌++◌, map, cond, Result, Ok, Err, OnOk, OnErr, IfSome, ◌↔◌, slice_get, slice_set, unwrap_or}
 use Rattle.std.proofs.Common.{refl, sym, ap, subst, ◌∙◌}
-use Rattle.std.specs.FinMap.{FinMap, find, get, from_entries, get-from_entries, get-insert}
-use Rattle.std.specs.Map.{lookup, set_value}
+use Rattle.std.specs.FinMap.{FinMap, get, from_entries, get-from_entries, get-insert}
+use Rattle.std.specs.BTreeMap.{BTreeMap, is_at}
+use Rattle.std.specs.Map.{lookup}
 use Rattle.std.proofs.lemmas.Option.{none-some, same_Some}
+use Rattle.std.proofs.lemmas.Result.{on_ok_weaker, on_err_weaker}
+use Rattle.shim_local.specs.declared.History.{History}
 use Rattle.shim_base.specs.Paths.{Channel, NamedChannel, channel_order}
 use Rattle.shim_base.specs.PathLaws.{channel_order_total}
 use Rattle.shim_semantics.specs.Trees.{Met, with_value, recorded}
 use Rattle.shim_semantics.specs.Endings.{values_in}
-use Rattle.shim_run_log.specs.Maps.{AllHaveValues}
-use Rattle.shim_run_log.proofs.Recorded.{is_of, mets, same, written}
+use Rattle.shim_run_log.specs.Maps.{AllHaveValues, IsKept, channel_at, histories_of, met_at, number_in}
+use Rattle.shim_run_log.proofs.Numbered.{numbered_more, put_same, recorded_more}
 
 last_there : (vs : List ℤ) (v : ℤ) → vs ++ v ∷ [] ≢ []
 last_there [] v e = cc
@@ -18,6 +21,15 @@ last_there (w ∷ vs) v e = cc
 -- where nothing has an entry
 pub none_have : AllHaveValues (from_entries [])
 none_have q h got = absurd (none-some h (sym (get-from_entries channel_order_total [] q) ∙ got))
+
+pub none_kept : (numbers : BTreeMap NamedChannel ℕ) (kept : List History) → numbers.entries ≡ [] → kept ≡ [] → IsKept numbers kept
+none_kept numbers kept none empty = record {
+  numbered = λ c i. (
+    λ e. absurd (none-some i (sym (ap (lookup (is_at (λ (k : NamedChannel). channel_order c k.channel))) none) ∙ e)),
+    λ e. absurd (none-some c (sym (ap (λ hs. channel_at hs i) empty) ∙ e)),
+  );
+  filled = subst (λ (es : List (NamedChannel × ℕ)). AllHaveValues (from_entries (map (λ e. (e.0.channel, met_at kept e.1)) es))) (sym none) none_have;
+}
 
 -- an entry that is put in has a value, and the others have theirs
 put_has : (b : Bool) (new : Met) (x : Option Met) (h : Met) → new.values ≢ [] → (x ≡ Some h → h.values ≢ []) → cond b (Some new) x ≡ Some h → h.values ≢ []
@@ -37,20 +49,15 @@ pub first_have : {A E : Type 0} (r : Result A E) (m n : FinMap channel_order Met
 first_have (Ok x) m n c name v all ok err = subst AllHaveValues (sym ok) (recorded_have m c name v all)
 first_have (Err x) m n c name v all ok err = subst AllHaveValues (sym err) all
 
--- the values of a channel grow by one, or stay
-grown : {A E : Type 0} (r : Result A E) (new old : List ℤ) (v : ℤ) → old ≢ [] → OnOk r (new ≡ old ++ v ∷ []) → OnErr r (new ≡ old) → new ≢ []
-grown (Ok x) new old v there ok err e = last_there old v (sym ok ∙ e)
-grown (Err x) new old v there ok err e = there (sym err ∙ e)
-
-pub more_have : {A E : Type 0} (r : Result A E) (es fs : List (NamedChannel × List ℤ)) (c : Channel) (new old : List ℤ) (v : ℤ)
-    → lookup (is_of c) es ≡ Some old → fs ≡ set_value (is_of c) es new → AllHaveValues (from_entries (mets es)) → OnOk r (new ≡ old ++ v ∷ []) → OnErr r (new ≡ old) → AllHaveValues (from_entries (mets fs))
-more_have r es fs c new old v there is all ok err q h got =
-    let w = written c new old es there in
-    let had = all c (record { name = w.name; values = old }) (get-from_entries channel_order_total (mets es) c ∙ w.found) in
-    put_has (same q c) (record { name = w.name; values = new }) (find channel_order q (mets es)) h
-    (grown r new old v had ok err)
-    (λ e. all q h (get-from_entries channel_order_total (mets es) q ∙ e))
-    (sym (w.after q) ∙ ap (λ z. find channel_order q (mets z)) (sym is) ∙ sym (get-from_entries channel_order_total (mets fs) q) ∙ got)
+-- a history has one value more, or stays
+pub more_kept : {A E : Type 0} (r : Result A E) (numbers : BTreeMap NamedChannel ℕ) (kept : List History) (c : Channel) (i : ℕ) (h : History) (new : List ℤ) (v : ℤ)
+    → IsKept numbers kept → number_in numbers c ≡ Some i → slice_get kept i ≡ Some h → OnOk r (new ≡ h.values ++ v ∷ []) → OnErr r (new ≡ h.values) → IsKept numbers (slice_set kept i (record { chan = h.chan; values = new }))
+more_kept r numbers kept c i h new v k at there ok err = record {
+  numbered = numbered_more numbers kept k.numbered c i at h (record { chan = h.chan; values = new }) there refl;
+  filled = first_have r (histories_of numbers kept) (histories_of numbers (slice_set kept i (record { chan = h.chan; values = new }))) c h.chan.name v k.filled
+      (on_ok_weaker r (λ is. recorded_more numbers kept k.numbered c i at h (record { chan = h.chan; values = new }) there h.chan.name v (λ j. record { chan = h.chan; values = is j })) ok)
+      (on_err_weaker r (λ is. ap (λ (vs : List ℤ). histories_of numbers (slice_set kept i (record { chan = h.chan; values = vs }))) is ∙ ap (histories_of numbers) (put_same kept i h there)) err);
+}
 
 -- What is found of a channel, where all have values.
 module _ (m : FinMap channel_order Met) (c : Channel) (all : AllHaveValues m) where

@@ -1,6 +1,6 @@
 -- The lemmas of this crate, one module for each subject.
 pub mod HaveValues
+pub mod Listed
 pub mod Logged
 pub mod Mapped
-pub mod Recorded
-pub mod Values
+pub mod Numbered

@@ -46,11 +46,6 @@ module _ {K X : Type 0} {R : K → K → Ordering} (o : IsTotalOrder R) where
   found_after_insert m k v = get-insert o m k v k ∙ ap (λ b. cond b (Some v) (get m k)) ((eq_by_cmp_equiv o).refl k)
 
   module _ (exact : IsAntisymmetric R) where
-    -- lists that find alike but at one key make maps that differ there
-    pub put_found : (es fs : List (K × X)) (k : K) (w : X) → ((q : K) → find R q fs ≡ cond (eq_by_cmp R q k) (Some w) (find R q es)) → from_entries {R = R} fs ≡ insert (from_entries es) k w
-    put_found es fs k w h = same_map o exact _ _ (λ q.
-        get-from_entries o fs q ∙ h q ∙ sym (get-insert o (from_entries es) k w q ∙ ap (cond (eq_by_cmp R q k) (Some w)) (get-from_entries o es q)))
-
     -- entries that differ at one key make maps that differ there
     pub put_at : (es fs : List (K × X)) (k : K) (w : X) → ((q : K) → lookup (is_at (R q)) fs ≡ cond (is_at (R k) q) (Some w) (lookup (is_at (R q)) es)) → from_entries {R = R} fs ≡ insert (from_entries es) k w
     put_at es fs k w h = same_map o exact _ _ (λ q.

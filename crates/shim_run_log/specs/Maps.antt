@@ -1,8 +1,10 @@
 -- The maps of the code, as the finite maps that they mean.
-use Rattle.std.specs.Prelude.{◌≡◌, ◌≢◌, ℤ, Some, List, [], map}
+use Rattle.std.specs.Prelude.{◌≡◌, ◌≢◌, ◌↔◌, ℕ, Option, Some, List, [], map, slice_get, unwrap_or}
+use Rattle.std.specs.Option.{option_map}
 use Rattle.std.specs.FinMap as finite
-use Rattle.std.specs.BTreeMap.{BTreeMap}
+use Rattle.std.specs.BTreeMap.{BTreeMap, get_by}
 use Rattle.shim_base.specs.Paths.{Path, Channel, NamedChannel, path_order, channel_order}
+use Rattle.shim_local.specs.declared.History.{History}
 use Rattle.shim_local.specs.declared.LogWhat.{LogWhat}
 use Rattle.shim_semantics.specs.Trees.{Met}
 
@@ -10,17 +12,38 @@ use Rattle.shim_semantics.specs.Trees.{Met}
 abbrev pub logs_in : BTreeMap Path (List LogWhat) → finite.FinMap path_order (List LogWhat)
 logs_in m = finite.from_entries m.entries
 
--- a channel with its name and its values
-abbrev pub met_of : NamedChannel × List ℤ → Channel × Met
-met_of e = (e.0.channel, record { name = e.0.name; values = e.1 })
+-- what is kept of a channel, with the name and the values that it has
+abbrev pub met_of : History → Met
+met_of h = record { name = h.chan.name; values = h.values }
+
+-- the same, of the history of this number
+abbrev pub met_at : List History → ℕ → Met
+met_at kept i = unwrap_or (option_map met_of (slice_get kept i)) (record { name = 0; values = [] })
+
+-- the channel of the history of this number
+abbrev pub channel_at : List History → ℕ → Option Channel
+channel_at kept i = option_map (λ h. h.chan.channel) (slice_get kept i)
+
+-- the number that stands at the channel
+abbrev pub number_in : BTreeMap NamedChannel ℕ → Channel → Option ℕ
+number_in numbers c = get_by (λ k. channel_order c k.channel) numbers
 
 -- what the meetings on each channel gave
-abbrev pub histories_of : BTreeMap NamedChannel (List ℤ) → finite.FinMap channel_order Met
-histories_of m = finite.from_entries (map met_of m.entries)
+abbrev pub histories_of : BTreeMap NamedChannel ℕ → List History → finite.FinMap channel_order Met
+histories_of numbers kept = finite.from_entries (map (λ e. (e.0.channel, met_at kept e.1)) numbers.entries)
+
+-- at each channel stands the number of its history, and each history has its number there
+abbrev pub IsNumbered : BTreeMap NamedChannel ℕ → List History → Type 0
+IsNumbered numbers kept = (c : Channel) (i : ℕ) → (number_in numbers c ≡ Some i) ↔ (channel_at kept i ≡ Some c)
 
 -- each channel that has an entry has a value
 abbrev pub AllHaveValues : finite.FinMap channel_order Met → Type 0
 AllHaveValues m = (c : Channel) (h : Met) → finite.get m c ≡ Some h → h.values ≢ []
+
+-- what is true of histories and their numbers
+pub record IsKept (numbers : BTreeMap NamedChannel ℕ) (kept : List History) : Type 0 where
+  pub numbered : IsNumbered numbers kept
+  pub filled : AllHaveValues (histories_of numbers kept)
 
 -- who waits, by path, and at which channel
 abbrev pub waits_in : BTreeMap Path NamedChannel → finite.FinMap path_order NamedChannel

@@ -1,11 +1,12 @@
 // The values that the meetings on each channel gave.
-ghost use Rattle.std.specs.Prelude.{◌≡◌, OnOk, OnErr, IfOk, map};
+ghost use Rattle.std.specs.Prelude.{◌≡◌, [], ◌∷◌, ◌↔◌, IsTrue, OnOk, OnErr, IfOk, map};
 ghost use Rattle.std.specs.Option.{option_copied};
 ghost use Rattle.std.specs.FinMap as finite;
 ghost use Rattle.shim_semantics.specs.Trees.{recorded};
 ghost use Rattle.shim_semantics.specs.Endings.{history_of, values_in};
-ghost use Rattle.shim_run_log.specs.Maps.{AllHaveValues};
+ghost use Rattle.shim_run_log.specs.Maps.{AllHaveValues, IsNumbered, channel_at, histories_of, met_of, number_in};
 
+use crate::recent::Recent;
 use shim_base::{Chan, List, NoMemory};
 use shim_local::History;
 use std::alloc::Global;
@@ -13,10 +14,15 @@ use std::collections::BTreeMap;
 use std::marker::Model;
 use std::sync::Arc;
 
-/// For each channel that had a meeting, the name by which it is printed and the values, in order.
+/// For each channel that had a meeting, the name by which it is printed and the values, in order. A meeting
+/// finds them by the table of recent channels, and the map is asked only where that doesn't have the channel.
 #[derive(Drop)]
 pub struct Histories {
-    kept: BTreeMap<Chan, List<i64>, Global>,
+    // in the order of the first meetings
+    kept: Vec<History>,
+    // where in that order each channel stands
+    numbers: BTreeMap<Chan, usize, Global>,
+    recent: Recent,
     alloc: Global,
 }
 
@@ -25,15 +31,15 @@ impl Model for Histories {
     ghost use Rattle.shim_base.specs.Paths.{channel_order};
     ghost use Rattle.shim_semantics.specs.Trees.{Met};
     ghost use Rattle.shim_semantics.proofs.Codes.{histories_code};
-    ghost use Rattle.shim_run_log.specs.Maps.{histories_of, AllHaveValues};
+    ghost use Rattle.shim_run_log.specs.Maps.{histories_of, IsKept};
 
     ghost Value = { finite.FinMap channel_order Met };
 
     ghost coded = { histories_code };
 
-    ghost view = { λ h. histories_of h.kept };
+    ghost view = { λ h. histories_of h.numbers h.kept.items };
 
-    ghost invariant = { λ h. AllHaveValues (histories_of h.kept) };
+    ghost invariant = { λ h. IsKept h.numbers h.kept.items };
 }
 
 impl Histories {
@@ -42,7 +48,9 @@ impl Histories {
         ensures { result ≡ finite.empty }
     {
         Histories {
-            kept: BTreeMap::new(alloc),
+            kept: Vec::new(alloc),
+            numbers: BTreeMap::new(alloc),
+            recent: Recent::new(alloc),
             alloc,
         }
     }
@@ -52,15 +60,16 @@ impl Histories {
         ensures ok { OnOk result (self.new ≡ recorded self.old chan.now.channel name value) }
         ensures err { OnErr result (self.new ≡ self.old) }
     {
-        if let Some(values) = self.kept.get_mut(chan) {
-            return values.push(value);
+        let found = number_of(self.kept.as_slice(), &self.numbers, &mut self.recent, chan);
+        match found {
+            Some(number) => self.kept[number].values.push(value),
+            None => {
+                let first = first_history(self.alloc, chan, name, value)?;
+                self.recent
+                    .make_room(self.alloc, self.kept.len().saturating_add(1))?;
+                keep(&mut self.kept, &mut self.numbers, first)
+            }
         }
-        let mut values = List::new(self.alloc);
-        values.push(value)?;
-        let home = Arc::new(self.alloc, chan.home().copy()?)?;
-        self.kept
-            .insert(Chan::new(home, chan.serial(), name), values)?;
-        Ok(())
     }
 
     /// The values of the channel, if it had a meeting. It takes no memory.
@@ -68,8 +77,8 @@ impl Histories {
         ensures values { option_copied result ≡ values_in (finite.get self.now chan.now.channel) }
         ensures filled { AllHaveValues self.now }
     {
-        match self.kept.get(chan) {
-            Some(values) => Some(values.as_slice()),
+        match self.numbers.get(chan) {
+            Some(number) => Some(self.kept[*number].values.as_slice()),
             None => None,
         }
     }
@@ -79,12 +88,75 @@ impl Histories {
         ensures { IfOk result (λ list. list ≡ map history_of (finite.entries self.now)) }
     {
         let mut list = List::new(alloc);
-        for (chan, values) in self.kept.iter() {
+        for number in self.numbers.values() {
+            let history = &self.kept[*number];
             list.push(History {
-                chan: chan.copy()?,
-                values: List::from_slice(alloc, values.as_slice())?,
+                chan: history.chan.copy()?,
+                values: List::from_slice(alloc, history.values.as_slice())?,
             })?;
         }
         Ok(list)
     }
+}
+
+// The number of the channel's history. Of a channel that has none the next number is noted, since it is
+// about to have that one.
+fn number_of(
+    kept: &[History],
+    numbers: &BTreeMap<Chan, usize, Global>,
+    recent: &mut Recent,
+    chan: &Chan,
+) -> Option<usize>
+    requires { IsNumbered numbers.now kept.now }
+    ensures { result ≡ number_in numbers.now chan.now.channel }
+{
+    for number in recent.numbers(chan) {
+        if is_of(kept, number, chan) {
+            return Some(number);
+        }
+    }
+    let number = numbers.get(chan).copied();
+    recent.note(chan, number.unwrap_or(kept.len()));
+    number
+}
+
+// Whether the history of this number is the channel's.
+fn is_of(kept: &[History], number: usize, chan: &Chan) -> bool
+    ensures { IsTrue result ↔ (channel_at kept.now number ≡ Some chan.now.channel) }
+{
+    match kept.get(number) {
+        Some(history) => history.chan == *chan,
+        None => false,
+    }
+}
+
+// The history of a channel at its first meeting.
+fn first_history(alloc: Global, chan: &Chan, name: u32, value: i64) -> Result<History, NoMemory>
+    ensures { IfOk result (λ first. first ≡ record { chan = record { channel = chan.now.channel; name = name }; values = value ∷ [] }) }
+{
+    let mut values = List::new(alloc);
+    values.push(value)?;
+    let home = Arc::new(alloc, chan.home().copy()?)?;
+    Ok(History {
+        chan: Chan::new(home, chan.serial(), name),
+        values,
+    })
+}
+
+// Keeps the history of a channel that has none yet.
+fn keep(
+    kept: &mut Vec<History>,
+    numbers: &mut BTreeMap<Chan, usize, Global>,
+    first: History,
+) -> Result<(), NoMemory>
+    requires absent { number_in numbers.old first.chan.channel ≡ None }
+    requires numbered { IsNumbered numbers.old kept.old.items }
+    ensures ok { OnOk result (histories_of numbers.new kept.new.items ≡ finite.insert (histories_of numbers.old kept.old.items) first.chan.channel (met_of first)) }
+    ensures err { OnErr result (histories_of numbers.new kept.new.items ≡ histories_of numbers.old kept.old.items) }
+    ensures numbered { IsNumbered numbers.new kept.new.items }
+{
+    kept.reserve(1)?;
+    numbers.insert(first.chan.copy()?, kept.len())?;
+    kept.push_reserved(first);
+    Ok(())
 }

@@ -4,6 +4,7 @@
 
 mod histories;
 mod logs;
+mod recent;
 mod waits;
 
 pub use histories::Histories;
