@@ -1,11 +1,12 @@
 // What is counted of the children of a fork for a channel.
-ghost use Rattle.std.specs.Prelude.{◌≡◌, ◌≤◌, ◌+◌};
+ghost use Rattle.std.specs.Prelude.{◌≡◌, ◌≤◌, ◌+◌, position};
+ghost use Rattle.shim_base.specs.Paths.{same_channel};
 ghost use Rattle.shim_laws_records.specs.Counts.{bit, all_there, live_reading, Moved};
 ghost use Rattle.shim_laws_records.specs.Updating.{CanMove};
+ghost use Rattle.shim_records.specs.declared.pair.Pair.{Pair as PairOf};
 ghost use Rattle.shim_records.specs.Pairs.{tally, reading_of, place_of, chans_of, IsOrdered};
 
 use shim_base::Chan;
-use std::cmp::Ordering;
 
 /// Of the children of a fork that share a channel: how many live or have forked, how many of these aren't
 /// ready on it, and how many are dead.
@@ -79,20 +80,18 @@ pub(crate) fn move_pair(pair: &mut Pair, was: Reading, is: Reading)
     pair.dead = moved(pair.dead, was.failing, is.failing);
 }
 
-/// The place of the pair for the channel, among pairs in the order of their channels.
+// The place of the first pair of the channel.
+fn first_of(pairs: &[Pair], c: &Chan) -> Option<usize>
+    ensures { result ≡ position (λ (p : PairOf). same_channel p.chan.channel c.now.channel) pairs.now }
+{
+    pairs.iter().position(|pair| pair.chan == *c)
+}
+
+/// The place of the pair for the channel, among pairs in the order of their channels. It is looked for from
+/// the front: mostly there are few, and whether two channels are the same is told sooner than their order.
 pub fn place_in(pairs: &[Pair], c: &Chan) -> Option<usize>
     requires { IsOrdered (chans_of pairs.now) }
     ensures { result ≡ place_of c.now.channel pairs.now }
 {
-    let mut low = 0;
-    let mut high = pairs.len();
-    while low < high {
-        let middle = low + (high - low) / 2;
-        match pairs[middle].chan.cmp(c) {
-            Ordering::Equal => return Some(middle),
-            Ordering::Less => low = middle + 1,
-            Ordering::Greater => high = middle,
-        }
-    }
-    None
+    first_of(pairs, c)
 }
