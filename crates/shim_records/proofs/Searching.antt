@@ -8,7 +8,6 @@ use Rattle.shim_base.specs.Paths.{Channel, same_channel}
 use Rattle.shim_records.specs.Pairs.{place_of}
 use Rattle.shim_records.specs.declared.pair.Pair.{Pair}
 
-
 -- a place behind the first one, counted from a number on
 behind_first : (i : ℕ) (o : Option ℕ) → option_map (λ k. i + 1 + k) o ≡ option_map (λ k. i + k) (option_map suc o)
 behind_first i None = refl
@@ -18,11 +17,11 @@ behind_first i (Some k) = ap Some (omega arith)
 found_from : (c : Channel) (i : ℕ) (ps : List Pair) → position_from (λ (p : Pair). same_channel p.chan.channel c) i ps ≡ option_map (λ k. i + k) (place_of c ps)
 found_from c i [] = refl
 found_from c i (p ∷ ps) = at_first (same_channel p.chan.channel c) (found_from c (i + 1) ps)
-    where
-      at_first : (b : Bool) → position_from (λ (q : Pair). same_channel q.chan.channel c) (i + 1) ps ≡ option_map (λ k. i + 1 + k) (place_of c ps)
-          → cond b (Some i) (position_from (λ (q : Pair). same_channel q.chan.channel c) (i + 1) ps) ≡ option_map (λ k. i + k) (cond b (Some 0) (option_map suc (place_of c ps)))
-      at_first true e = ap Some (omega arith)
-      at_first false e = e ∙ behind_first i (place_of c ps)
+  where
+    at_first : (b : Bool) → position_from (λ (q : Pair). same_channel q.chan.channel c) (i + 1) ps ≡ option_map (λ k. i + 1 + k) (place_of c ps)
+        → cond b (Some i) (position_from (λ (q : Pair). same_channel q.chan.channel c) (i + 1) ps) ≡ option_map (λ k. i + k) (cond b (Some 0) (option_map suc (place_of c ps)))
+    at_first true e = ap Some (omega arith)
+    at_first false e = e ∙ behind_first i (place_of c ps)
 
 from_zero : (o : Option ℕ) → option_map (λ k. 0 + k) o ≡ o
 from_zero None = refl
