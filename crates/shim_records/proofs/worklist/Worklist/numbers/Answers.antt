@@ -1,5 +1,4 @@
-use Rattle.std.proofs.Common.{sym, subst, ◌≡◌, Some, true, ℕ, List}
-use Rattle.std.specs.Prelude.{Bool, slice_get}
+use Rattle.std.proofs.Common.{sym, subst}
 use Rattle.shim_records.specs.Waiting.{AreListedIn}
 use Rattle.shim_records.proofs.worklist.Worklist.numbers.Goals as goal
 

@@ -1,4 +1,3 @@
-use Rattle.std.proofs.Common.{arith}
 use Rattle.shim_records.proofs.Waits.{raised_again, still_longer, still_within}
 use Rattle.shim_records.proofs.worklist.Worklist.raise_to.Goals as goal
 
