@@ -17,4 +17,10 @@ impl<L: Local> FlatTree<L> {
     pub fn listed_quiet(&self) -> usize {
         self.quiet.numbers().len()
     }
+
+    /// How many records it has: those of the root and of all children of forks that haven't closed, and free
+    /// ones between them.
+    pub fn records(&self) -> usize {
+        self.flat.len()
+    }
 }

@@ -12,4 +12,10 @@ impl<L: Local> Net<L> {
     pub fn runnable(&self) -> usize {
         self.tree.listed_quiet().saturating_add(self.grants.len())
     }
+
+    /// How many records of processes it has: those of the root and of all children of forks that haven't closed,
+    /// and free ones between them.
+    pub fn records(&self) -> usize {
+        self.tree.records()
+    }
 }

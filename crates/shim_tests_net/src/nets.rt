@@ -650,3 +650,32 @@ fn net_may_go_to_another_thread(rt: HostRuntime) -> Result<(), Fail> {
     assert_eq!(&rt; net.steps(), 0);
     Ok(())
 }
+
+// A root that forks so often, one fork after the other.
+fn forking_root(alloc: Global, forks: u8) -> Result<Small, NoMemory>
+    ensures own { IfOk result (λ root. SharesItsOwn small_ops root) }
+    ensures path { IfOk result (λ root. root.path ≡ []) }
+{
+    let mut left = Vec::new(alloc);
+    for _ in 0..forks {
+        left.push(Step::Fork)?;
+    }
+    root(alloc, left.as_slice())
+}
+
+// How many records such a net has where it has come to its end or to the budget, which is 1 at least.
+fn records_after(alloc: Global, forks: u8, budget: u16) -> Result<usize, NoMemory> {
+    let mut net = Net::start(alloc, forking_root(alloc, forks)?, budget.max(1) as u64)?;
+    net.finish()?;
+    Ok(net.records())
+}
+
+#[test]
+fn forks_one_after_another_use_the_same_records(rt: HostRuntime) -> Result<(), Fail> {
+    let alloc = rt.alloc();
+    // each fork takes five steps, and behind two of them its children wait
+    assert_eq!(&rt; records_after(alloc, 200, 2)?, 3);
+    assert_eq!(&rt; records_after(alloc, 200, 952)?, 3);
+    assert_eq!(&rt; records_after(alloc, 200, 2000)?, 1);
+    Ok(())
+}
