@@ -16,6 +16,7 @@ mod need;
 mod putting;
 mod regaining;
 mod return_stack;
+mod short;
 mod stack;
 mod stops;
 mod stretch;
