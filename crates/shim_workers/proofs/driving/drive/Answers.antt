@@ -50,4 +50,4 @@ map_vec-requires-sync-F g c κs within =
     let q = c.type_bounds.sync-G in
     let s = c.type_bounds.send-L in
     let p = pools.the_sync in
-    param_sync 4 (lts.arg-25-4 g.row.L g.row.G g.row.R g.L.laws g.G.laws g.R.laws g.L.Local g.L.Local-dict g.G.Gate g.G.Gate-dict g.R.Threads g.R.Threads-dict g.R.Wait g.R.Wait-dict g.L.Destruct-dict κs) (search (net_send, boards.the_sync, loads.the_send, pools.the_sync, struct_sync, shr_sync, param_sync, sendable) depth 60)
+    param_sync 4 (lts.arg-27-4 g.row.L g.row.G g.row.R g.L.laws g.G.laws g.R.laws g.L.Local g.L.Local-dict g.G.Gate g.G.Gate-dict g.R.Threads g.R.Threads-dict g.R.Wait g.R.Wait-dict g.L.Destruct-dict κs) (search (net_send, boards.the_sync, loads.the_send, pools.the_sync, struct_sync, shr_sync, param_sync, sendable) depth 60)
