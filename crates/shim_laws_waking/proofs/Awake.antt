@@ -72,10 +72,13 @@ module _ {S : Type 0} (o : Ops S) where
   pub listing_stays : LocalLaws o → ListingStays o
   listing_stays law = record {
     all = λ v t flags h e i can is other. let w = in_use is in h i w.first w.process w.sort_is w.has;
-    moves = λ rp before behind t u flags now kept keeps listed more wakes e i can is other. elim (true_or_false (is_listed now i)) [
-      | inl y ↦ y
+    moves = λ rp before behind t u flags now again kept keeps listed more wakes to_look e i can is other. elim (true_or_false (again i)) [
+      | inl y ↦ elim (to_look i y) [
+        | inl l ↦ l
+        | inr idle ↦ absurd (other ((looks_decide o law).idle rp behind u e i keeps idle can is))
+      ]
       | inr n ↦
-          let w = waking_suffices o law rp before behind t u (is_listed now) e i kept keeps wakes can is n in
+          let w = waking_suffices o law rp before behind t u again e i kept keeps wakes can is n in
           let x = in_use is in
           let same = wakes.itself i x.first x.process x.sort_is x.has n in
           more i

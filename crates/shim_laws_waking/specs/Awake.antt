@@ -1,5 +1,5 @@
 -- A list of numbers at which events may be enabled, kept along what happens.
-use Rattle.std.specs.Prelude.{◌≡◌, ◌≢◌, ℕ, Bool, true, false, Option, Some, None, List, slice_get}
+use Rattle.std.specs.Prelude.{◌≡◌, ◌≢◌, ◌⊎◌, ℕ, Bool, true, false, Option, Some, None, List, slice_get}
 use Rattle.shim_base.specs.Paths.{Path}
 use Rattle.shim_local.specs.Process.{Ops}
 use Rattle.shim_semantics.specs.Trees.{Tree, Event}
@@ -26,9 +26,9 @@ AreListed {S} o v t flags = (e : Event) (i : ℕ) → Can o t e → IsAtNumber o
 pub record ListingStays {S : Type 0} (o : Ops S) : Type 0 where
   -- one that lists each record in use is one
   pub all : (v : FlatView S) (t : Tree S) (flags : List Bool) → ((i f : ℕ) (s : S) (k : Sort) → HasProcess v i f s k → is_listed flags i ≡ true) → AreListed o v t flags
-  -- where something has happened, so is one that lists what was listed, whatever record isn't as before, and its parent
-  pub moves : (rp : Path) (before behind : FlatView S) (t u : Tree S) (flags now : List Bool) → Keeps o rp before t.root → Keeps o rp behind u.root → AreListed o before t flags
-      → ((i : ℕ) → is_listed flags i ≡ true → is_listed now i ≡ true) → Wakes before behind (is_listed now) → AreListed o behind u now
+  -- where something has happened, so is one that lists what was listed, and of whatever records aren't as before, and their parents, all that tell of more than a quiet step
+  pub moves : (rp : Path) (before behind : FlatView S) (t u : Tree S) (flags now : List Bool) (again : ℕ → Bool) → Keeps o rp before t.root → Keeps o rp behind u.root → AreListed o before t flags
+      → ((i : ℕ) → is_listed flags i ≡ true → is_listed now i ≡ true) → Wakes before behind again → ((i : ℕ) → again i ≡ true → (is_listed now i ≡ true) ⊎ IsIdle o behind i) → AreListed o behind u now
   -- a record that tells of nothing but a quiet step needn't be listed
   pub drops : (rp : Path) (v : FlatView S) (t : Tree S) (i : ℕ) (flags now : List Bool) → Keeps o rp v t.root → AreListed o v t flags → IsIdle o v i → ((j : ℕ) → j ≢ i → is_listed flags j ≡ true → is_listed now j ≡ true) → AreListed o v t now
   -- and where none is listed, nothing but quiet steps can happen

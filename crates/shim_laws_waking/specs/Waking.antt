@@ -1,11 +1,11 @@
 -- The record at which an event is looked for, and the records that are looked at again once states and records have changed.
-use Rattle.std.specs.Prelude.{◌≡◌, ◌⊎◌, ◌<◌, ℕ, ◌+◌, Bool, false, Some, slice_get}
+use Rattle.std.specs.Prelude.{◌≡◌, ℕ, Bool, false, Some, slice_get}
 use Rattle.std.specs.Option.{option_map}
 use Rattle.shim_base.specs.Paths.{Path, Channel}
 use Rattle.shim_local.specs.Process.{Ops}
 use Rattle.shim_semantics.specs.Nodes.{Node}
-use Rattle.shim_semantics.specs.Trees.{Tree, Event, Own, Meet, Poison, Close, End}
-use Rattle.shim_laws_records.specs.Seen.{Sort, lives, forks}
+use Rattle.shim_semantics.specs.Trees.{Tree, Event}
+use Rattle.shim_laws_records.specs.Seen.{Sort}
 use Rattle.shim_laws_records.specs.Enabled.{Can, IsAt}
 use Rattle.shim_records.specs.Pairs.{up_in, rest_of, counts_in, leasts_in}
 use Rattle.shim_laws_keeping.specs.Flats.{FlatView, HasProcess, Keeps, stands}

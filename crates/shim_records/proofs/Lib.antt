@@ -8,6 +8,7 @@ pub mod Lowering
 pub mod ManyWays
 pub mod Pairing
 pub mod ReadOff
+pub mod Reaching
 pub mod Searching
 pub mod Showing
 pub mod Stepping

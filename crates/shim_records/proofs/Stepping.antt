@@ -11,7 +11,7 @@ use Rattle.shim_laws_records.specs.Counts.{live_reading, read_of, all_there, Mov
 use Rattle.shim_laws_records.specs.Updating.{CanMove, AreMoved, UpdatedAbove, at_top, no_counts, stays, goes_on}
 use Rattle.shim_laws_records.proofs.SameTrees.{same_or_not}
 use Rattle.shim_records.specs.Pairs.{tally, reading_of, place_of, counts_at, counts_in, least_at, up_at, up_in, rest_of, chans_of, Rest}
-use Rattle.shim_records.specs.Ways.{OnlyCounts, StepsUp}
+use Rattle.shim_records.specs.Ways.{OnlyCounts, MovesParent, StepsUp}
 use Rattle.shim_records.specs.declared.pair.Pair.{Pair}
 use Rattle.shim_records.specs.declared.pair.Reading.{Reading}
 use Rattle.shim_records.specs.declared.record.Record.{Record}
@@ -65,11 +65,14 @@ pub rest_with : (r : Record) (cs : List Channel) → cs ≡ chans_of r.pairs.ite
 rest_with r cs e = ap (λ z. let w : Rest = record { status = r.status; first = r.first; parent = r.parent; path = r.path; going = r.going; chans = z } in w) e
 
 module _ (c : Channel) (rs : List Record) (here : CountChange) where
+  none_moved : MovesParent c rs here None rs
+  none_moved = record { others = λ i out. refl; goes_on = λ above e. none_some above e }
+
   pub top : up_in rs here.at ≡ None → StepsUp c rs here None rs
-  top e = ((λ n. at_top n (counts_in c rs) here.at (reading_of here.was) (reading_of here.is) e), nothing_changed c rs)
+  top e = ((λ n. at_top n (counts_in c rs) here.at (reading_of here.was) (reading_of here.is) e), nothing_changed c rs, none_moved)
 
   pub uncounted : (j : ℕ) → up_in rs here.at ≡ Some j → counts_in c rs j ≡ None → StepsUp c rs here None rs
-  uncounted j e f = ((λ n. no_counts n (counts_in c rs) here.at j (reading_of here.was) (reading_of here.is) e f), nothing_changed c rs)
+  uncounted j e f = ((λ n. no_counts n (counts_in c rs) here.at j (reading_of here.was) (reading_of here.is) e f), nothing_changed c rs, none_moved)
 
   -- the record of a number within
   pub its : (n i : ℕ) (r : Record) → n ≡ length rs → i < n → r ≡ get_or rs i r → slice_get rs i ≡ Some r
@@ -119,8 +122,15 @@ module _ (c : Channel) (rs : List Record) (here : CountChange) where
       ];
     }
 
+    -- nor have other records' counts, and whatever goes on does so from here
+    moves : (next : Option CountChange) → ((above : CountChange) → next ≡ Some above → above.at ≡ j) → MovesParent c rs here next now
+    moves next at = record {
+      others = λ k far. ap (counts_at c) (set_elsewhere rs j k new (λ e. far (up ∙ ap Some (sym e))));
+      goes_on = λ above e. up ∙ ap Some (sym (at above e));
+    }
+
     pub ends : all_there (tally p) ≡ all_there (tally q) → StepsUp c rs here None now
-    ends same = ((λ n. stays n (counts_in c rs) (counts_in c now) here.at j (reading_of here.was) (reading_of here.is) (tally p) (tally q) up are_moved same), only)
+    ends same = ((λ n. stays n (counts_in c rs) (counts_in c now) here.at j (reading_of here.was) (reading_of here.is) (tally p) (tally q) up are_moved same), only, moves None (λ above e. none_some above e))
 
     pub goes : (next : CountChange) → next.at ≡ j → reading_of next.was ≡ read_of true (tally p) → reading_of next.is ≡ read_of true (tally q) → StepsUp c rs here (Some next) now
     goes next at was is = (
@@ -128,6 +138,7 @@ module _ (c : Channel) (rs : List Record) (here : CountChange) where
           (subst (λ z. UpdatedAbove (up_in rs) 4294967295 n (counts_in c now) j (read_of true (tally p)) z behind) is (subst (λ z. UpdatedAbove (up_in rs) 4294967295 n (counts_in c now) j z (reading_of next.is) behind) was
           (subst (λ z. UpdatedAbove (up_in rs) 4294967295 n (counts_in c now) z (reading_of next.was) (reading_of next.is) behind) at rest)))),
       only,
+      moves (Some next) (λ above e. ap (λ z. z.at) (sym (some_same next above e)) ∙ at),
     )
 
 -- what is read of a fork that shares the channel

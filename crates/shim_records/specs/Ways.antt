@@ -8,6 +8,19 @@ use Rattle.shim_records.specs.declared.upward.CountChange.{CountChange}
 use Rattle.shim_records.specs.declared.pair.Reading.{Reading}
 use Rattle.shim_records.specs.declared.record.Record.{Record}
 
+-- the second number is that of one of the first n forks above the first one, by what children know of their forks
+pub data IsAbove (up : ℕ → Option ℕ) : ℕ → ℕ → ℕ → Type 0 where
+  its_fork : (n i j : ℕ) → up i ≡ Some j → IsAbove up (suc n) i j
+  further : (n i j k : ℕ) → up i ≡ Some j → IsAbove up n j k → IsAbove up (suc n) i k
+
+-- of all records those of the first n forks above this one alone have other counts for the channel
+abbrev pub ReachesTo : Channel → ℕ → ℕ → List Record → List Record → Type 0
+ReachesTo c n x before behind = (i : ℕ) → (IsAbove (up_in before) n x i → ⊥) → counts_in c behind i ≡ counts_in c before i
+
+-- and so it is with the counts for each channel
+abbrev pub MovesUpTo : ℕ → ℕ → List Record → List Record → Type 0
+MovesUpTo n x before behind = (c : Channel) → ReachesTo c n x before behind
+
 -- the counts for the channel alone have changed, of whatever records
 pub record OnlyCounts (c : Channel) (before behind : List Record) : Type 0 where
   pub rest : map rest_of behind ≡ map rest_of before
@@ -23,9 +36,14 @@ abbrev pub Continues : (ℕ → Option ℕ) → (ℕ → Option Tally) → Count
 Continues up before here None now = (n : ℕ) → Goes up n before here now
 Continues up before here (Some next) now = (n : ℕ) (behind : ℕ → Option Tally) → Goes up n now next behind → Goes up (suc n) before here behind
 
+-- no other record's counts have moved than the parent's, and the walk goes on from there alone
+pub record MovesParent (c : Channel) (before : List Record) (here : CountChange) (next : Option CountChange) (behind : List Record) : Type 0 where
+  pub others : (i : ℕ) → (up_in before here.at ≡ Some i → ⊥) → counts_in c behind i ≡ counts_in c before i
+  pub goes_on : (above : CountChange) → next ≡ Some above → up_in before here.at ≡ Some above.at
+
 -- the counts of the one record above are moved, and nothing else has changed
 abbrev pub StepsUp : Channel → List Record → CountChange → Option CountChange → List Record → Type 0
-StepsUp c before here next behind = Continues (up_in before) (counts_in c before) here next (counts_in c behind) × OnlyCounts c before behind
+StepsUp c before here next behind = Continues (up_in before) (counts_in c before) here next (counts_in c behind) × OnlyCounts c before behind × MovesParent c before here next behind
 
 -- the way up was walked through at most so many forks
 abbrev pub IsUpdatedAbove : Channel → ℕ → ℕ → Reading → Reading → List Record → List Record → Type 0

@@ -1,6 +1,7 @@
 // The counts above a process that has done anything by itself, brought up to date for all channels.
 ghost use Rattle.std.specs.Prelude.{◌≡◌, ◌≤◌, true, false, length};
 ghost use Rattle.shim_records.specs.Pairs.{reading_of, AreOrdered};
+ghost use Rattle.shim_records.specs.Ways.{MovesUpTo};
 ghost use Rattle.shim_records.specs.Acted.{Earlier, sort_of, UpdatesForOne, AllUpdated};
 ghost use Rattle.shim_laws_records.specs.Sufficing.{read_leaf};
 
@@ -52,7 +53,8 @@ pub(crate) fn is_first<L: Local>(process: &L, c: &Chan, place: usize) -> bool
     true
 }
 
-// Goes the way up for the channel, if the process shares it and it stands at no place before.
+// Goes the way up for the channel, if the process shares it and it stands at no place before. It answers how
+// many forks the way led to.
 fn update_for_one<L: Local>(
     process: &L,
     status: Status,
@@ -61,41 +63,51 @@ fn update_for_one<L: Local>(
     c: &Chan,
     place: usize,
     forks: u32,
-)
+) -> u32
     requires { AreOrdered records.old.items }
-    ensures { UpdatesForOne L.ops process.now (sort_of status) forks at c.now.channel place records.old.items records.new.items }
+    ensures counts { UpdatesForOne L.ops process.now (sort_of status) forks at c.now.channel place records.old.items records.new.items }
+    ensures reaches { MovesUpTo result at records.old.items records.new.items }
+    ensures most { result ≤ forks }
 {
     if !process.shares(c) {
-        return;
+        return 0;
     }
     if !is_first(process, c, place) {
-        return;
+        return 0;
     }
     let was = Reading {
         joining: true,
         readiness: false,
         failing: false,
     };
-    update_counts_above(records, at, c, was, reading_now(process, status, c), forks);
+    update_counts_above(records, at, c, was, reading_now(process, status, c), forks)
 }
 
 /// Brings the counts above a process up to date that has done anything by itself, and of which this came, for
-/// each channel that it was given and shares. It has no children.
+/// each channel that it was given and shares. It has no children. It answers how many forks the longest of
+/// these ways led to.
 pub fn update_all_counts<L: Local>(
     process: &L,
     status: Status,
     records: &mut Vec<Record>,
     at: usize,
     forks: u32,
-)
+) -> u32
     requires ordered { AreOrdered records.old.items }
     requires few { length (L.ops.given process.now) ≤ 18446744073709551615 }
-    ensures { AllUpdated L.ops process.now (sort_of status) forks at records.old.items records.new.items }
+    ensures counts { AllUpdated L.ops process.now (sort_of status) forks at records.old.items records.new.items }
+    ensures reaches { MovesUpTo result at records.old.items records.new.items }
+    ensures most { result ≤ forks }
 {
+    let mut furthest = 0;
     for place in 0..usize::MAX {
         match process.given(place) {
-            None => return,
-            Some(chan) => update_for_one(process, status, records, at, chan, place, forks),
+            None => return furthest,
+            Some(chan) => {
+                let reached = update_for_one(process, status, records, at, chan, place, forks);
+                furthest = furthest.max(reached);
+            }
         }
     }
+    furthest
 }

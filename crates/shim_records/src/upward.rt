@@ -1,7 +1,7 @@
 // Counts brought up to date on the way up.
-ghost use Rattle.std.specs.Prelude.{◌≡◌, true, false};
+ghost use Rattle.std.specs.Prelude.{◌≡◌, ◌≤◌, true, false};
 ghost use Rattle.shim_records.specs.Pairs.{AreOrdered};
-ghost use Rattle.shim_records.specs.Ways.{StepsUp, IsUpdatedAbove};
+ghost use Rattle.shim_records.specs.Ways.{StepsUp, IsUpdatedAbove, ReachesTo};
 
 use crate::pair::{Reading, has_all, live_reading, move_pair, place_in};
 use crate::record::Record;
@@ -51,7 +51,8 @@ fn step_up(records: &mut Vec<Record>, c: &Chan, here: CountChange) -> Option<Cou
 }
 
 /// Brings the counts for a channel up to date, from a record of which was read `was` and is read `is`,
-/// through at most so many forks: as far up as a fork is read otherwise than before.
+/// through at most so many forks: as far up as a fork is read otherwise than before. It answers how many
+/// forks the way led to.
 pub fn update_counts_above(
     records: &mut Vec<Record>,
     at: usize,
@@ -59,15 +60,18 @@ pub fn update_counts_above(
     was: Reading,
     is: Reading,
     forks: u32,
-)
+) -> u32
     requires { AreOrdered records.old.items }
-    ensures { IsUpdatedAbove c.now.channel forks at was is records.old.items records.new.items }
+    ensures counts { IsUpdatedAbove c.now.channel forks at was is records.old.items records.new.items }
+    ensures reaches { ReachesTo c.now.channel result at records.old.items records.new.items }
+    ensures most { result ≤ forks }
 {
     let mut here = CountChange { at, was, is };
     for walked in 0..forks {
         match step_up(records, c, here) {
-            None => return,
+            None => return walked + 1,
             Some(next) => here = next,
         }
     }
+    forks
 }
