@@ -35,7 +35,9 @@ use Rattle.shim_flat.specs.declared.acting.Thrown.TheVariants as thrown
 use Rattle.shim_flat.specs.declared.closing.CloseOutcome.{CloseOutcome}
 use Rattle.shim_flat.specs.declared.closing.CloseOutcome.TheVariants.{GoesOn, Threw}
 use Rattle.shim_flat.proofs.ClosingTakes.{read_there}
+use Rattle.shim_flat.specs.Reading.{IsInUse}
 use Rattle.shim_flat.specs.Touching.{TouchesAbove}
+use Rattle.shim_flat.proofs.Parents.{touches_near}
 use Rattle.shim_flat.proofs.TouchingCloses.{closes_touch}
 use Rattle.shim_flat.proofs.TouchingCuts.{cut_touched}
 
@@ -199,12 +201,15 @@ module _ {S : Type 0} (o : Ops S) (law : LocalLaws o) (states : List S) (rs : Li
           (sym (stands_stay o (slice_set states number (state a.node)) (state a.node) (sort a.node) 4294967295 number (slice_set freed number settled.is) settled.left settled.between behind (prevailing_among (block first count (map stands_of rs))) leaves walked again))
           (behind_close o law kept.0 (tree_of o kept.1) states rs number first count done.process done.said a kept.2 has done.there done.none_goes is freed settled.is free come).closes
 
-      touches : TouchesAbove number (record { states = states; records = rs }) After
+      touches : TouchesAbove 4294967295 number (record { states = states; records = rs }) After
       touches =
           let w = closes_keep o law kept.0 (tree_of o kept.1) states rs freed settled.left settled.between behind number first count done.process done.said settled.is a kept.2 has done.there done.none_goes is free come leaves walked again in
-          subst (λ z. TouchesAbove number (record { states = states; records = rs }) (record { states = take end z; records = take end behind })) (sym set)
-          (cut_touched o (record { states = slice_set states number (state a.node); records = behind }) end unused number (record { states = states; records = rs }) (kept.0, w.0.root, w.2) (closes.first, state a.node, sort a.node, closes.parent)
-          (closes_touch o states rs freed settled.left settled.between behind number first count done.said settled.is (state a.node) (sort a.node) (prevailing_among (block first count (map stands_of rs))) free done.there come leaves walked again))
+          let now : FlatView S = record { states = slice_set states number (state a.node); records = behind } in
+          let mine : IsInUse now number = (closes.first, state a.node, sort a.node, closes.parent) in
+          subst (λ z. TouchesAbove 4294967295 number (record { states = states; records = rs }) (record { states = take end z; records = take end behind })) (sym set)
+          (cut_touched o now end unused 4294967295 number (record { states = states; records = rs }) (kept.0, w.0.root, w.2) mine
+          (touches_near o now (kept.0, w.0.root, w.2) 4294967296 number (record { states = states; records = rs }) mine
+          (closes_touch o states rs freed settled.left settled.between behind number first count done.said settled.is (state a.node) (sort a.node) (prevailing_among (block first count (map stands_of rs))) free done.there come leaves walked again)))
 
       path : o.path (state a.node) ≡ o.path done.process
       path =

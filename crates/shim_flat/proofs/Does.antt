@@ -32,8 +32,9 @@ use Rattle.shim_laws_keeping.proofs.Gone.{leaves_keep}
 use Rattle.shim_laws_keeping.proofs.Marks.{left_sort, rest_taken, changed_then}
 use Rattle.shim_flat.specs.Stepping.{LivesAt, HasBecome}
 use Rattle.shim_flat.specs.Acting.{ActsHere}
+use Rattle.shim_flat.specs.Touching.{TouchesRecords}
 use Rattle.shim_flat.proofs.HereSteps.{read_set, has_become}
-use Rattle.shim_flat.proofs.TouchingOwn.{arrival_touches, leaving_touches}
+use Rattle.shim_flat.proofs.TouchingOwn.{one_touched, records_touched}
 
 -- a record that says what came of its process has its pairs in order
 pub marked_order : (rs : List Record) (x : ℕ) (r : Record) (k : Status) → slice_get rs x ≡ Some r → AreOrdered rs → AreOrdered (slice_set rs x (marked k r))
@@ -116,8 +117,8 @@ module _ {S : Type 0} (o : Ops S) where
   -- ---- what was done
 
   -- the records still show a tree
-  pub still_kept : (x : ℕ) (stop : StopView) (k : Sort) (effects : Effects) (before behind : FlatView S) → ActsHere o x stop k effects before behind → IsKept o before → IsKept o behind
-  still_kept x stop k effects before behind did h = let w = did.moves h.0 (tree_of o h.1) h.2 in (h.0, w.0.root, w.2)
+  pub still_kept : (n x : ℕ) (stop : StopView) (k : Sort) (effects : Effects) (before behind : FlatView S) → ActsHere o n x stop k effects before behind → IsKept o before → IsKept o behind
+  still_kept n x stop k effects before behind did h = let w = did.moves h.0 (tree_of o h.1) h.2 in (h.0, w.0.root, w.2)
 
   module _ (law : LocalLaws o) (states : List S) (rs behind : List Record) (x : ℕ) (stop : StopView) (effects : Effects) (l : S) (here : LivesAt o (record { states = states; records = rs }) x stop) (read : l ≡ get_or states x l) where
     has : HasProcess (record { states = states; records = rs }) x here.0 l lives
@@ -127,9 +128,9 @@ module _ {S : Type 0} (o : Ops S) where
     stop_is = stood states rs x stop l here read
 
     -- it lives on
-    pub lives_here : (s now : S) → now ≡ get_or (slice_set states x s) x now → Arrives o now 4294967295 x rs behind → act_live o l stop ≡ Some (record { node = Live s; effects = effects })
-        → ActsHere o x stop lives effects (record { states = states; records = rs }) (record { states = slice_set states x s; records = behind })
-    lives_here s now read_then came does =
+    pub lives_here : (n : ℕ) (s now : S) → now ≡ get_or (slice_set states x s) x now → Arrives o now 4294967295 x rs behind → TouchesRecords n x rs behind → act_live o l stop ≡ Some (record { node = Live s; effects = effects })
+        → ActsHere o n x stop lives effects (record { states = states; records = rs }) (record { states = slice_set states x s; records = behind })
+    lives_here n s now read_then came touches does =
         let arrives = subst (λ z. Arrives o z 4294967295 x rs behind) (read_set states x l s now has.state_is read_then) came in
         record {
           first = here.0;
@@ -142,12 +143,12 @@ module _ {S : Type 0} (o : Ops S) where
           becomes = has_become o states rs behind x here.0 l s has arrives;
           moves = subst (λ z. MovesBy o (event_at_stop z (o.path l)) (record { states = states; records = rs }) (record { states = slice_set states x s; records = behind })) stop_is
               (lives_on o law states rs behind x here.0 l s effects has (ap (act_live o l) stop_is ∙ does) arrives);
-          touches = arrival_touches o s 4294967295 x states rs behind arrives;
+          touches = one_touched n x states s rs behind touches;
         }
 
-    module _ (k : Status) (gone : goes (left_by l k) ≡ false) (leaves : Leaves o l k 4294967295 x rs behind) where
+    module _ (n : ℕ) (k : Status) (gone : goes (left_by l k) ≡ false) (leaves : Leaves o l k 4294967295 x rs behind) (touches : TouchesRecords n x rs behind) where
       -- it ends or dies
-      pub leaves_here : act_live o l stop ≡ Some (record { node = left_by l k; effects = effects }) → ActsHere o x stop (sort_of k) effects (record { states = states; records = rs }) (record { states = states; records = behind })
+      pub leaves_here : act_live o l stop ≡ Some (record { node = left_by l k; effects = effects }) → ActsHere o n x stop (sort_of k) effects (record { states = states; records = rs }) (record { states = states; records = behind })
       leaves_here does = record {
         first = here.0;
         process = l;
@@ -159,5 +160,5 @@ module _ {S : Type 0} (o : Ops S) where
         becomes = subst (λ z. HasBecome x (state (left_by l k)) z (record { states = states; records = rs }) (record { states = states; records = behind })) (left_sort l k gone) (changed_then o states rs behind l k x here.0 has leaves gone);
         moves = subst (λ z. MovesBy o (event_at_stop z (o.path l)) (record { states = states; records = rs }) (record { states = states; records = behind })) stop_is
             (leaves_keep o law states rs behind x here.0 l k effects has (ap (act_live o l) stop_is ∙ does) gone leaves);
-        touches = leaving_touches o l k 4294967295 x states rs behind leaves;
+        touches = records_touched n x states rs behind touches;
       }

@@ -1,24 +1,29 @@
 -- A meeting in place: one process receives, and then all.
-use Rattle.std.proofs.Common.{◌≡◌, ◌≢◌, ◌<◌, ◌≤◌, ℕ, zero, suc, ◌+◌, Bool, true, false, Some, List, [], ◌∷◌, drop, length, get_or, slice_set, inl, inr, refl, sym, ap, subst, ◌∙◌, arith}
+use Rattle.std.proofs.Common.{◌≡◌, ◌≢◌, ◌<◌, ◌≤◌, ℕ, zero, suc, ◌+◌, Bool, true, false, Option, Some, None, List, [], ◌∷◌, drop, length, get_or, slice_set, inl, inr, refl, sym, ap, subst, ◌∙◌, arith}
 use Rattle.std.specs.Prelude.{ℤ, pos, slice_get}
 use Rattle.std.proofs.lemmas.List.{drop_all}
 use Rattle.std.proofs.lemmas.Option.{slice_get_read, slice_get_within}
 use Rattle.shim_base.specs.Paths.{Channel, NamedChannel, same_channel}
 use Rattle.shim_base.proofs.Facts.{some_same, none_some}
-use Rattle.shim_base.proofs.SamePaths.{same_channel_is}
+use Rattle.shim_base.proofs.SamePaths.{same_channel_is, same_channel_refl}
 use Rattle.shim_local.specs.Process.{Ops, AtNext}
 use Rattle.shim_local.specs.Laws.{LocalLaws}
 use Rattle.shim_semantics.specs.Nodes.{is_next}
 use Rattle.shim_laws_schedules.proofs.Unshared.{stands_at}
+use Rattle.shim_laws_records.specs.Counts.{Tally, live_reading}
+use Rattle.shim_laws_records.specs.Updating.{UpdatedAbove, at_top, no_counts, stays}
+use Rattle.shim_records.specs.Pairs.{reading_of, up_in, counts_in}
+use Rattle.shim_records.specs.Ways.{IsUpdatedAbove}
+use Rattle.shim_records.specs.declared.pair.Reading.{Reading}
 use Rattle.shim_records.specs.declared.record.Record.{Record}
 use Rattle.shim_laws_keeping.specs.Flats.{FlatView, IsKept}
-use Rattle.shim_laws_meetings.specs.Receiving.{ComesTo, no_other, MovesOn}
+use Rattle.shim_laws_meetings.specs.Receiving.{no_other, other, MovesOn}
 use Rattle.shim_laws_meetings.specs.Meetings.{ReceivesOne, received, ReceiveAll, none_left, one_more}
 use Rattle.shim_laws_meetings.specs.Values.{IsValueAmong, carried, nobody}
 use Rattle.shim_laws_records.proofs.SameTrees.{same_or_not}
 use Rattle.shim_laws_meetings.proofs.Meets.{one_keeps}
 use Rattle.shim_flat.specs.Stepping.{IsLive}
-use Rattle.shim_flat.specs.Meeting.{WaitsAt}
+use Rattle.shim_flat.specs.Meeting.{WaitsAt, GoesOff}
 use Rattle.shim_flat.proofs.HereSteps.{read_set}
 
 -- the first of what is left of a list
@@ -33,9 +38,67 @@ drop_first (y ∷ xs) (suc i) x e = drop_first xs i x e ∙ ap (λ z. x ∷ drop
 pub none_left_over : {A : Type 0} (xs : List A) (i : ℕ) → length xs ≤ i → drop i xs ≡ []
 none_left_over xs i past = drop_all i xs past
 
--- it stands at the channel and at no other one
-pub stays_there : {S : Type 0} (o : Ops S) (s : S) (c : Channel) (d : NamedChannel) (n x : ℕ) (rs : List Record) → o.stop s ≡ AtNext d → true ≡ same_channel c d.channel → ComesTo o s c n x rs rs
-stays_there o s c d n x rs stop same = no_other (λ e far. ap (λ z. is_next z e) stop ∙ (ap (λ z. same_channel z e) (sym (same_channel_is c d.channel (sym same))) ∙ far)) refl
+-- the two channels change places
+same_both : (c d : Channel) → same_channel c d ≡ same_channel d c
+same_both c d = on (same_channel c d) refl (same_channel d c) refl
+  where
+    on : (x : Bool) → same_channel c d ≡ x → (y : Bool) → same_channel d c ≡ y → same_channel c d ≡ same_channel d c
+    on true e y f = e ∙ sym (ap (λ z. same_channel z c) (sym (same_channel_is c d e)) ∙ same_channel_refl c)
+    on false e true f = ap (λ z. same_channel z d) (sym (same_channel_is d c f)) ∙ (same_channel_refl d ∙ sym f)
+    on false e false f = e ∙ sym f
+
+-- the same is read of it as before, so that no counts have to move
+as_read : (c : Channel) (n x : ℕ) (r : Reading) (rs : List Record) → IsUpdatedAbove c n x r r rs rs
+as_read c n x r rs = (way (up_in rs x) refl, record { rest = refl; elsewhere = λ d other i. refl; labels = λ d i. refl })
+  where
+    counted : (j : ℕ) → up_in rs x ≡ Some j → (y : Option Tally) → counts_in c rs j ≡ y → UpdatedAbove (up_in rs) 4294967295 n (counts_in c rs) x (reading_of r) (reading_of r) (counts_in c rs)
+    counted j e None none = no_counts n (counts_in c rs) x j (reading_of r) (reading_of r) e none
+    counted j e (Some y) is = stays n (counts_in c rs) (counts_in c rs) x j (reading_of r) (reading_of r) y y e (record { old = is; new = is; moved = λ can. record { live = refl; not_ready = refl; dead = refl }; others = λ i far. refl }) refl
+
+    way : (u : Option ℕ) → up_in rs x ≡ u → UpdatedAbove (up_in rs) 4294967295 n (counts_in c rs) x (reading_of r) (reading_of r) (counts_in c rs)
+    way None e = at_top n (counts_in c rs) x (reading_of r) (reading_of r) e
+    way (Some j) e = counted j e (counts_in c rs j) refl
+
+module _ {S : Type 0} (o : Ops S) (s : S) (c : Channel) (n x : ℕ) where
+  -- a process that has received stands at the channel again
+  pub stays_there : (d : NamedChannel) (rs : List Record) → o.stop s ≡ AtNext d → true ≡ same_channel c d.channel → MovesOn o s c n x rs rs
+  stays_there d rs stop same = record {
+    between = rs;
+    was = ready;
+    is = ready;
+    stood = refl;
+    stands = ap live_reading (same ∙ (same_both c d.channel ∙ sym (ap (λ z. is_next z c) stop)));
+    left = as_read c n x ready rs;
+    came = no_other (λ e far. ap (λ z. is_next z e) stop ∙ (ap (λ z. same_channel z e) (sym (same_channel_is c d.channel (sym same))) ∙ far)) refl;
+  }
+    where
+      ready : Reading
+      ready = record { joining = true; readiness = true; failing = false }
+
+  -- at another one
+  pub stands_elsewhere : (d : NamedChannel) (was is : Reading) (before between behind : List Record) → o.stop s ≡ AtNext d → false ≡ same_channel c d.channel → GoesOff c n x before between
+      → reading_of was ≡ live_reading false → reading_of is ≡ live_reading true → IsUpdatedAbove d.channel n x was is between behind → MovesOn o s c n x before behind
+  stands_elsewhere d was is before between behind stop far off u v way = record {
+    between = between;
+    was = off.0;
+    is = off.1;
+    stood = off.2;
+    stands = off.3 ∙ ap live_reading (far ∙ (same_both c d.channel ∙ sym (ap (λ z. is_next z c) stop)));
+    left = off.4;
+    came = other d was is stop (sym far) u v way;
+  }
+
+  -- or at none
+  pub stands_nowhere : (before behind : List Record) → ((e : Channel) → is_next (o.stop s) e ≡ false) → GoesOff c n x before behind → MovesOn o s c n x before behind
+  stands_nowhere before behind none off = record {
+    between = behind;
+    was = off.0;
+    is = off.1;
+    stood = off.2;
+    stands = off.3 ∙ ap live_reading (sym (none c));
+    left = off.4;
+    came = no_other (λ e far. none e) refl;
+  }
 
 module _ {S : Type 0} (o : Ops S) (c : Channel) where
   pub waits : (v : FlatView S) (i : ℕ) (l : S) (b : Bool) → IsLive i v true → l ≡ get_or v.states i l → b ≡ is_next (o.stop l) c → WaitsAt o c i v b

@@ -112,6 +112,12 @@ module _ {S : Type 0} (o : Ops S) where
     advances : AdvancesBy o (o.path l) n (record { states = states; records = rs }) (record { states = slice_set states x last; records = behind })
     advances rp t kept = advanced o law rp t states rs behind n x before.0 l last kept its stop taken arrives
 
+    -- it is there, as it is read then
+    pub stands_then : (f : ℕ) × HasProcess (record { states = slice_set states x last; records = behind }) x f now lives
+    stands_then =
+        let b = has_become states rs behind x before.0 l last its arrives in
+        (b.first, subst (λ z. HasProcess (record { states = slice_set states x last; records = behind }) x b.first z lives) (sym (read_set states x l last now is read_then)) b.mine)
+
     pub steps_here : StepsHere o x n (record { states = states; records = rs }) (record { states = slice_set states x last; records = behind })
     steps_here = stepped before.0 l last its stop taken (has_become states rs behind x before.0 l last its arrives) advances
 
@@ -129,6 +135,11 @@ module _ {S : Type 0} (o : Ops S) where
 
     moves_on : AdvancesBy o (o.path comes.process) n (record { states = states; records = rs }) (record { states = slice_set states x last; records = behind })
     moves_on rp t kept = advanced o law rp t states rs behind n x comes.first comes.process last kept comes.has comes.stands comes.chain arrives_elsewhere
+
+    pub stands_elsewhere : (f : ℕ) × HasProcess (record { states = slice_set states x last; records = behind }) x f now lives
+    stands_elsewhere =
+        let b = has_become states rs behind x comes.first comes.process last comes.has arrives_elsewhere in
+        (b.first, subst (λ z. HasProcess (record { states = slice_set states x last; records = behind }) x b.first z lives) (sym (read_set states x comes.process last now comes.has.state_is read_then)) b.mine)
 
     pub steps_elsewhere : StepsHere o x n (record { states = states; records = rs }) (record { states = slice_set states x last; records = behind })
     steps_elsewhere = stepped comes.first comes.process last comes.has comes.stands comes.chain (has_become states rs behind x comes.first comes.process last comes.has arrives_elsewhere) moves_on

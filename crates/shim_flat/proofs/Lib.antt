@@ -10,6 +10,7 @@ pub mod ChangingEach
 pub mod Parents
 pub mod ReadyChildren
 pub mod DueFacts
+pub mod Listings
 pub mod Touching
 pub mod TouchingOwn
 pub mod TouchingForks

@@ -9,17 +9,18 @@ use Rattle.shim_local.specs.Process.{Ops}
 use Rattle.shim_semantics.specs.Nodes.{Node}
 use Rattle.shim_laws_records.specs.Seen.{Sort, forks, place}
 use Rattle.shim_laws_records.proofs.Hanging.{tied}
-use Rattle.shim_laws_records.proofs.OneChange.{one_state}
 use Rattle.shim_laws_records.proofs.SameTrees.{same_or_not}
 use Rattle.shim_records.specs.Pairs.{up_in}
 use Rattle.shim_records.specs.declared.record.Record.{Record}
+use Rattle.shim_records.proofs.Reaching.{among_more, one_above}
 use Rattle.shim_records.proofs.Stepping.{set_there, set_elsewhere}
 use Rattle.shim_laws_keeping.specs.Flats.{FlatView, HasProcess, Keeps, IsKept, stands}
 use Rattle.shim_laws_waking.specs.Awake.{is_set, is_listed}
 use Rattle.shim_laws_waking.proofs.PairsFound.{record_of}
 use Rattle.shim_flat.specs.Reading.{IsInUse, IsForAll, ParentIs}
-use Rattle.shim_flat.specs.Touching.{IsAbove, its_fork, ListsAbove}
-use Rattle.shim_flat.proofs.Above.{one_above, none_above, above_fork}
+use Rattle.shim_records.specs.Ways.{IsAbove, its_fork, further}
+use Rattle.shim_flat.specs.Touching.{TouchesAbove, ListsAbove}
+use Rattle.shim_flat.proofs.Above.{none_above, not_among_none, above_fork}
 
 pub there_is : {A : Type 0} (xs : List A) (i : ℕ) → i < length xs → (x : A) × (slice_get xs i ≡ Some x)
 there_is [] i h = absurd (omega (arith, h))
@@ -59,6 +60,9 @@ module _ (old new : List Bool) (n : ℕ) (adds : new ≡ slice_set old n true) w
 
 -- ---- processes in use
 
+one_later : (n : ℕ) → n + 1 ≡ suc n
+one_later n = omega arith
+
 module _ {S : Type 0} (o : Ops S) (v : FlatView S) where
   pub use_within : (i : ℕ) → IsInUse v i → i < length v.records
   use_within i (f, s, k, has) = let r = record_of v.records i f k has.stands_so in slice_get_within v.records i r.0 r.1
@@ -71,61 +75,67 @@ module _ {S : Type 0} (o : Ops S) (v : FlatView S) where
         let b = tied o rp v.states (stands v) root kept.shows (up_in v.records) kept.linked i f j s k has e in
         (b.0.first, b.0.many, b.0.parent, subst (λ z. HasProcess v z b.0.first b.0.parent (forks b.0.many)) b.1 b.0.has, ap length b.0.is ∙ length-append (place o rp b.0.parent) (b.0.branch ∷ []))
 
-    -- and one at the place of the root has none
-    root_alone : (i f : ℕ) (s : S) (k : Sort) → HasProcess v i f s k → length (place o rp s) ≡ 0 → up_in v.records i ≡ None
-    root_alone i f s k has e =
-        let r = kept.shows.rooted in
-        ap (up_in v.records) (kept.shows.agrees.apart i 0 f r.first s r.state k r.sort has r.has (no_items (place o rp s) e ∙ sym r.at_root)) ∙ kept.linked.top
-
   pub fork_in_use : IsKept o v → (i j : ℕ) → IsInUse v i → up_in v.records i ≡ Some j → IsInUse v j
   fork_in_use kept i j (f, s, k, has) e = let w = fork_of kept.0 kept.1 kept.2 i j f s k has e in (w.0, w.2, forks w.1, w.3)
 
+  -- no fork is further up than a path is long
+  module _ (kept : IsKept o v) where
+    at_level : {n i k : ℕ} (f : ℕ) (s : S) (h : Sort) → HasProcess v i f s h → IsAbove (up_in v.records) n i k → IsAbove (up_in v.records) (length (place o kept.0 s)) i k
+    at_level f s h has (its_fork n i j e) =
+        let u = fork_of kept.0 kept.1 kept.2 i j f s h has e in
+        subst (λ z. IsAbove (up_in v.records) z i j) (sym (u.4 ∙ one_later (length (place o kept.0 u.2)))) (its_fork (length (place o kept.0 u.2)) i j e)
+    at_level f s h has (further n i j k e w) =
+        let u = fork_of kept.0 kept.1 kept.2 i j f s h has e in
+        subst (λ z. IsAbove (up_in v.records) z i k) (sym (u.4 ∙ one_later (length (place o kept.0 u.2)))) (further (length (place o kept.0 u.2)) i j k e (at_level u.0 u.2 (forks u.1) u.3 w))
+
+    pub none_further : {n i k : ℕ} → IsInUse v i → IsAbove (up_in v.records) n i k → IsAbove (up_in v.records) 4294967295 i k
+    none_further {i} (f, s, h, has) w =
+        let r = record_of v.records i f h has.stands_so in
+        among_more (up_in v.records) 4294967295 (kept.2.fit i f s h r.0 has r.1).near (at_level f s h has w)
+
+    -- so what is touched is among those
+    pub touches_near : (n x : ℕ) (before : FlatView S) → IsInUse v x → TouchesAbove n x before v → TouchesAbove 4294967295 x before v
+    touches_near n x before used touches = record { others = λ i f s k has far out. touches.others i f s k has far (λ w. out (none_further used w)); no_more = touches.no_more }
+
   -- ---- on the way up
 
-  -- how far from the root the process with this number is
-  abbrev IsAtLevel : IsKept o v → ℕ → ℕ → Type 0
-  IsAtLevel kept i d = (f : ℕ) × (s : S) × (k : Sort) × HasProcess v i f s k × (length (place o kept.0 s) ≡ d)
-
-  -- so many forks were listed on the way up from a number, the last of which has this one
+  -- The first so many forks above a number were listed, the last of which has this one.
   pub record IsListing (number : ℕ) (old now : List Bool) (here walked : ℕ) : Type 0 where
     pub kept : (i : ℕ) → is_listed old i ≡ true → is_listed now i ≡ true
-    pub mine : is_listed now number ≡ true
-    pub left : (i : ℕ) → IsAbove (up_in v.records) number i → (is_listed now i ≡ true) ⊎ IsAbove (up_in v.records) here i
-    pub only : (i : ℕ) → is_listed now i ≡ true → (is_listed old i ≡ true) ⊎ (i ≡ number) ⊎ IsAbove (up_in v.records) number i
+    pub left : (m i : ℕ) → IsAbove (up_in v.records) (walked + m) number i → (is_listed now i ≡ true) ⊎ IsAbove (up_in v.records) m here i
+    pub only : (i : ℕ) → is_listed now i ≡ true → (is_listed old i ≡ true) ⊎ IsAbove (up_in v.records) walked number i
     pub as_many : length now ≡ length old
-    pub reached : (here ≡ number) ⊎ IsAbove (up_in v.records) number here
+    pub reached : (j : ℕ) → up_in v.records here ≡ Some j → IsAbove (up_in v.records) (walked + 1) number j
     pub used : IsInUse v here
-    pub level : (w : IsKept o v) (d : ℕ) → IsAtLevel w here d → IsAtLevel w number (d + walked)
 
-  pub listing_begins : (number : ℕ) (old now : List Bool) → IsInUse v number → IsForAll v old → now ≡ slice_set old number true → IsListing number old now number 0
-  listing_begins number old now used room adds = record {
-    kept = still_listed old now number adds;
-    mine = now_listed old now number adds (room number used);
-    left = λ i w. inr w;
-    only = λ i e. elim (only_listed old now number adds i e) [ inl w ↦ inl w | inr w ↦ inr (inl w) ];
-    as_many = as_long old now number adds;
-    reached = inl refl;
+  pub listing_begins : (number : ℕ) (old : List Bool) → IsInUse v number → IsListing number old old number 0
+  listing_begins number old used = record {
+    kept = λ i e. e;
+    left = λ m i w. inr (subst (λ z. IsAbove (up_in v.records) z number i) (none_yet m) w);
+    only = λ i e. inl e;
+    as_many = refl;
+    reached = λ j e. its_fork 0 number j e;
     used = used;
-    level = λ w d h. (h.0, h.1, h.2, h.3, h.4 ∙ d_is d);
   }
     where
-      d_is : (d : ℕ) → d ≡ d + 0
-      d_is d = omega arith
+      none_yet : (m : ℕ) → 0 + m ≡ m
+      none_yet m = omega arith
 
   module _ (number : ℕ) (old now : List Bool) (here walked : ℕ) (so_far : IsListing number old now here walked) where
     pub listing_goes : IsKept o v → IsForAll v old → (j : ℕ) (next : List Bool) → up_in v.records here ≡ Some j → next ≡ slice_set now j true → IsListing number old next j (walked + 1)
     listing_goes all room j next up adds = record {
       kept = λ i e. still_listed now next j adds i (so_far.kept i e);
-      mine = still_listed now next j adds number so_far.mine;
-      left = λ i w. elim (so_far.left i w) [
+      left = λ m i w. elim (so_far.left (suc m) i (subst (λ z. IsAbove (up_in v.records) z number i) (one_less walked m) w)) [
         | inl e ↦ inl (still_listed now next j adds i e)
         | inr h ↦ elim (above_fork (up_in v.records) j up h) [ inl e ↦ inl (ap (is_listed next) e ∙ now_listed now next j adds within) | inr h ↦ inr h ]
       ];
-      only = λ i e. elim (only_listed now next j adds i e) [ inl w ↦ so_far.only i w | inr w ↦ inr (inr (subst (IsAbove (up_in v.records) number) (sym w) reaches)) ];
+      only = λ i e. elim (only_listed now next j adds i e) [
+        | inl w ↦ elim (so_far.only i w) [ inl e ↦ inl e | inr h ↦ inr (among_more (up_in v.records) (walked + 1) (omega arith) h) ]
+        | inr w ↦ inr (subst (IsAbove (up_in v.records) (walked + 1) number) (sym w) (so_far.reached j up))
+      ];
       as_many = as_long now next j adds ∙ so_far.as_many;
-      reached = inr reaches;
+      reached = λ k e. subst (λ z. IsAbove (up_in v.records) z number k) (sym (one_later (walked + 1))) (one_above (up_in v.records) k (so_far.reached j up) e);
       used = used;
-      level = λ w d h. on w d h;
     }
       where
         used : IsInUse v j
@@ -134,44 +144,30 @@ module _ {S : Type 0} (o : Ops S) (v : FlatView S) where
         within : j < length now
         within = let a = room j used in let b = so_far.as_many in omega (arith, a, b)
 
-        reaches : IsAbove (up_in v.records) number j
-        reaches = elim so_far.reached [ inl e ↦ its_fork number j (ap (up_in v.records) (sym e) ∙ up) | inr w ↦ one_above (up_in v.records) j w up ]
+        one_less : (walked m : ℕ) → walked + 1 + m ≡ walked + suc m
+        one_less walked m = omega arith
 
-        on : (w : IsKept o v) (d : ℕ) → IsAtLevel w j d → IsAtLevel w number (d + (walked + 1))
-        on w d (f, s, k, has, e) =
-            let m = so_far.used in
-            let u = fork_of w.0 w.1 w.2 here j m.0 m.1 m.2 m.3 up in
-            let same = one_state v.states (stands v) j u.0 f u.2 s (forks u.1) k u.3 has in
-            let r = so_far.level w (d + 1) (m.0, m.1, m.2, m.3, u.4 ∙ (ap (λ z. length (place o w.0 z) + 1) same ∙ ap (λ z. z + 1) e)) in
-            (r.0, r.1, r.2, r.3, r.4 ∙ one_later d walked)
-          where
-            one_later : (d walked : ℕ) → d + 1 + walked ≡ d + (walked + 1)
-            one_later d walked = omega arith
+    module _ (n : ℕ) where
+      -- so many were to be listed
+      pub listing_ends : walked ≡ n → ListsAbove v n number old now
+      listing_ends all = record {
+        kept = so_far.kept;
+        above = λ i w. elim (so_far.left 0 i (subst (λ z. IsAbove (up_in v.records) z number i) (sym all ∙ none_more walked) w)) [ inl e ↦ e | inr h ↦ not_among_none (up_in v.records) h ];
+        only = λ i e. subst (λ z. (is_listed old i ≡ true) ⊎ IsAbove (up_in v.records) z number i) all (so_far.only i e);
+        as_many = so_far.as_many;
+      }
+        where
+          none_more : (n : ℕ) → n ≡ n + 0
+          none_more n = omega arith
 
-    -- the way ends at a process without a fork
-    pub listing_ends : up_in v.records here ≡ None → ListsAbove v number old now
-    listing_ends top = record {
-      kept = so_far.kept;
-      mine = so_far.mine;
-      above = λ i w. elim (so_far.left i w) [ inl e ↦ e | inr h ↦ none_above (up_in v.records) top h ];
-      only = so_far.only;
-      as_many = so_far.as_many;
-    }
-
-    -- and no process is further from the root than that
-    pub none_further : IsKept o v → 4294967295 ≤ walked → ListsAbove v number old now
-    none_further w far = listing_ends (root_alone w.0 w.1 w.2 here m.0 m.1 m.2 m.3 level)
-      where
-        m : IsInUse v here
-        m = so_far.used
-
-        level : length (place o w.0 m.1) ≡ 0
-        level =
-            let r = so_far.level w (length (place o w.0 m.1)) (m.0, m.1, m.2, m.3, refl) in
-            let q = record_of v.records number r.0 r.2 r.3.stands_so in
-            let near = (w.2.fit number r.0 r.1 r.2 q.0 r.3 q.1).near in
-            let is = r.4 in
-            omega (arith, near, is, far)
+      -- or the way ends at a process without a fork
+      pub listing_tops : walked ≤ n → up_in v.records here ≡ None → ListsAbove v n number old now
+      listing_tops few top = record {
+        kept = so_far.kept;
+        above = λ i w. elim (so_far.left n i (among_more (up_in v.records) (walked + n) (omega arith) w)) [ inl e ↦ e | inr h ↦ none_above (up_in v.records) top h ];
+        only = λ i e. elim (so_far.only i e) [ inl w ↦ inl w | inr w ↦ inr (among_more (up_in v.records) n few w) ];
+        as_many = so_far.as_many;
+      }
 
 -- ---- what readers answer
 

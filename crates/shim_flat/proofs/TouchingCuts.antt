@@ -14,7 +14,8 @@ use Rattle.shim_laws_keeping.specs.Flats.{FlatView, HasProcess, IsKept}
 use Rattle.shim_laws_waking.proofs.PairsFound.{record_of}
 use Rattle.shim_laws_waking.proofs.Same.{whole_same}
 use Rattle.shim_flat.specs.Reading.{IsInUse}
-use Rattle.shim_flat.specs.Touching.{IsAbove, its_fork, further, TouchesAbove}
+use Rattle.shim_records.specs.Ways.{IsAbove, its_fork, further}
+use Rattle.shim_flat.specs.Touching.{TouchesAbove}
 use Rattle.shim_flat.proofs.Parents.{fork_in_use}
 use Rattle.shim_flat.proofs.Touching.{before_on}
 
@@ -59,12 +60,12 @@ module _ {S : Type 0} (o : Ops S) (v : FlatView S) (m : ℕ) (past : (i : ℕ) (
       }
 
   -- the same forks are above a process in use
-  above_cut : IsKept o v → {i j : ℕ} → IsInUse v i → IsAbove (up_in v.records) i j → IsAbove (up_in cut.records) i j
-  above_cut kept mine (its_fork i j e) = its_fork i j (ap up_at (taken v.records m i (in_front i mine)) ∙ e)
-  above_cut kept mine (further i n j e w) = further i n j (ap up_at (taken v.records m i (in_front i mine)) ∙ e) (above_cut kept (fork_in_use o v kept i n mine e) w)
+  above_cut : IsKept o v → {n i j : ℕ} → IsInUse v i → IsAbove (up_in v.records) n i j → IsAbove (up_in cut.records) n i j
+  above_cut kept mine (its_fork n i j e) = its_fork n i j (ap up_at (taken v.records m i (in_front i mine)) ∙ e)
+  above_cut kept mine (further n i k j e w) = further n i k j (ap up_at (taken v.records m i (in_front i mine)) ∙ e) (above_cut kept (fork_in_use o v kept i k mine e) w)
 
-  pub cut_touched : (x : ℕ) (before : FlatView S) → IsKept o v → IsInUse v x → TouchesAbove x before v → TouchesAbove x before cut
-  cut_touched x before kept mine touches = record {
+  pub cut_touched : (n x : ℕ) (before : FlatView S) → IsKept o v → IsInUse v x → TouchesAbove n x before v → TouchesAbove n x before cut
+  cut_touched n x before kept mine touches = record {
     others = λ i f s k has far out.
         let less = inside v.states m i s has.state_is in
         before_on before v cut i (touches.others i f s k (had i f s k has) far (λ w. out (above_cut kept mine w))) (whole_same v cut i (taken v.states m i less) (taken v.records m i less));

@@ -11,10 +11,11 @@ use Rattle.shim_records.proofs.Showing.{block_out, block_in}
 use Rattle.shim_records.proofs.Stepping.{set_elsewhere}
 use Rattle.shim_laws_keeping.specs.Flats.{FlatView}
 use Rattle.shim_laws_forks.specs.Forking.{EachUpdatedAbove, none_left, one_more, ready_chans, ForksAt}
-use Rattle.shim_flat.specs.Touching.{TouchesForking}
+use Rattle.shim_records.specs.Ways.{IsAbove}
+use Rattle.shim_flat.specs.Touching.{TouchesForking, TouchesRecords}
 use Rattle.shim_flat.proofs.Above.{above_as}
 use Rattle.shim_flat.proofs.Parents.{there_is}
-use Rattle.shim_flat.proofs.Touching.{TouchesRecords, touches_none, touches_on, counts_above, same_record, says_on}
+use Rattle.shim_flat.proofs.Touching.{touches_none, touches_on, counts_above, same_record, says_on}
 
 one_long : {A : Type 0} (g : ℕ) (x : A) (ys : List A) (m : ℕ) → length ys ≤ m → g + 1 ≤ m → length (with_one g x ys) ≤ m
 one_long g x [] m h e = omega (arith, e)
@@ -26,14 +27,14 @@ block_long : {A : Type 0} (g : ℕ) (xs ys : List A) (m : ℕ) → length ys ≤
 block_long g [] ys m h e = h
 block_long g (x ∷ xs) ys m h e = block_long (g + 1) xs (with_one g x ys) m (one_long g x ys m h (omega (arith, e))) (omega (arith, e))
 
-pub each_update : (n x : ℕ) (cs : List Channel) (before behind : List Record) → EachUpdatedAbove n x cs before behind → TouchesRecords x before behind
-each_update n x cs before behind (none_left rs) = touches_none x rs rs refl
-each_update n x cs before behind (one_more c ds was is first between last u v way more) = touches_on x first between last (counts_above c n x was is first between way) (each_update n x ds between last more)
+pub each_update : (n x : ℕ) (cs : List Channel) (before behind : List Record) → EachUpdatedAbove n x cs before behind → TouchesRecords (suc n) x before behind
+each_update n x cs before behind (none_left rs) = touches_none (suc n) x rs rs refl
+each_update n x cs before behind (one_more c ds was is first between last u v way more) = touches_on (suc n) x first between last (counts_above c n x was is first between way) (each_update n x ds between last more)
 
-pub forks_touch : {S : Type 0} (o : Ops S) (x g : ℕ) (p : S) (ks : List S) (before behind : FlatView S) → length before.states ≡ length before.records → ForksAt o x g p ks before behind → TouchesForking x g (length ks) before behind
-forks_touch {S} o x g p ks before behind beside h = record {
+pub forks_touch : {S : Type 0} (o : Ops S) (x g : ℕ) (p : S) (ks : List S) (before behind : FlatView S) → length before.states ≡ length before.records → ((i : ℕ) → IsAbove (up_in behind.records) (suc 4294967295) x i → IsAbove (up_in behind.records) 4294967295 x i) → ForksAt o x g p ks before behind → TouchesForking x g (length ks) before behind
+forks_touch {S} o x g p ks before behind beside near h = record {
   others = λ i f s k has far out old.
-      let w = updated.others i far (λ a. out (above_as (up_in put) (up_in behind.records) updated.parents a)) in
+      let w = updated.others i far (λ a. out (near i (above_as (up_in put) (up_in behind.records) updated.parents a))) in
       let r = says_on before.records put behind.records i (same_record before.records put i (record_at i far old)) w in
       record { state = state_at i far old; rest = r.rest; counts = r.counts; labels = r.labels };
   born = λ b less. updated.parents (g + b) ∙ parent b less;
@@ -49,7 +50,7 @@ forks_touch {S} o x g p ks before behind beside h = record {
     put : List Record
     put = with_block g h.born own
 
-    updated : TouchesRecords x put behind.records
+    updated : TouchesRecords (suc 4294967295) x put behind.records
     updated = each_update 4294967295 x (ready_chans h.is.pairs.items) put behind.records h.records
 
     inside : g ≤ length own

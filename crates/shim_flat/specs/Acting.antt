@@ -17,8 +17,8 @@ use Rattle.shim_flat.specs.declared.acting.Thrown.TheVariants as thrown
 abbrev pub IsTrappedAt : {S : Type 0} → Ops S → FlatView S → ℕ → Type 0
 IsTrappedAt o v number = (kind : Trap) × (line : ℕ) × LivesAt o v number (AtTrap kind line)
 
--- The live process with this number stood so, and did the one thing that it can do by itself: this came of it, these effects are told, the tree moves by that event, no other process has changed, and of the records none but its own and those of the forks above.
-pub record ActsHere {S : Type 0} (o : Ops S) (number : ℕ) (stop : StopView) (k : Sort) (effects : Effects) (before behind : FlatView S) : Type 0 where
+-- The live process with this number stood so, and did the one thing that it can do by itself: this came of it, these effects are told, the tree moves by that event, no other process has changed, and of the records none but its own and those of the first n forks above.
+pub record ActsHere {S : Type 0} (o : Ops S) (n number : ℕ) (stop : StopView) (k : Sort) (effects : Effects) (before behind : FlatView S) : Type 0 where
   pub first : ℕ
   pub process : S
   pub has : HasProcess before number first process lives
@@ -28,7 +28,7 @@ pub record ActsHere {S : Type 0} (o : Ops S) (number : ℕ) (stop : StopView) (k
   pub came : sort left ≡ k
   pub becomes : HasBecome number (state left) k before behind
   pub moves : MovesBy o (event_at_stop stop (o.path process)) before behind
-  pub touches : TouchesAbove number before behind
+  pub touches : TouchesAbove n number before behind
 
 -- what came of a process that threw the exception of this label
 abbrev pub sort_by : ℕ → Thrown → Sort

@@ -55,7 +55,7 @@ pub record ClosesHere {S : Type 0} (o : Ops S) (number : ℕ) (outcome : CloseOu
   pub came : CameTo outcome (sort left.node)
   pub becomes : HasClosed before.states behind.states (stands before) (stands behind) number first many (state left.node) (sort left.node)
   pub moves : MovesBy o (Close (o.path process)) before behind
-  pub touches : TouchesAbove number before behind
+  pub touches : TouchesAbove 4294967295 number before behind
 
 -- ---- the parts
 

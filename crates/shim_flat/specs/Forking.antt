@@ -42,7 +42,7 @@ pub record HasTrappedHere {S : Type 0} (o : Ops S) (number : ℕ) (before behind
   pub trapped : o.fork was ≡ Trapped is
   pub behind_is : behind ≡ record { states = slice_set before.states number is; records = before.records }
   pub moves : MovesBy o (Own (o.path was)) before behind
-  pub touches : TouchesAbove number before behind
+  pub touches : TouchesAbove 4294967295 number before behind
 
 -- it forked, or its fork trapped, as the outcome says
 abbrev pub ForksHere : {S : Type 0} → Ops S → ℕ → FlatView S → FlatView S → ForkOutcome → Type 0

@@ -3,6 +3,7 @@ pub mod Closing
 pub mod Stepping
 pub mod Reading
 pub mod Due
+pub mod Listing
 pub mod Touching
 pub mod Acting
 pub mod Changing

@@ -1,8 +1,6 @@
 -- What quiet steps in place did.
-use Rattle.std.specs.Prelude.{◌≡◌, ◌≢◌, ℕ, Bool, true, false, Option, Some, None}
+use Rattle.std.specs.Prelude.{◌≡◌, ◌≢◌, ℕ, Bool, true, false}
 use Rattle.shim_local.specs.Process.{Ops, StopView, AtQuiet}
-use Rattle.shim_local.specs.Views.{stop_view}
-use Rattle.shim_local.specs.declared.local.Stop.{Stop}
 use Rattle.shim_local.specs.Quiets.{QuietSteps}
 use Rattle.shim_laws_records.specs.Seen.{Sort, lives}
 use Rattle.shim_laws_records.specs.Changes.{HasChanged}

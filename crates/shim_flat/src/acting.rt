@@ -28,7 +28,7 @@ impl<L: Local> Flat<L> {
     /// `None` where the expression traps; it then stands trapped.
     pub fn put_here(&mut self, number: u32) -> Option<u8>
         requires { LivesAt L.ops self.old number AtPut }
-        ensures { ActsHere L.ops number AtPut lives (putting result) self.old self.new }
+        ensures { ActsHere L.ops 4294967295 number AtPut lives (putting result) self.old self.new }
     {
         let at = number as usize;
         let byte = self.states[at].put();
@@ -40,7 +40,7 @@ impl<L: Local> Flat<L> {
     /// it: a handler of its own catches it, or the process dies.
     pub fn throw_here(&mut self, number: u32, label: u32) -> Thrown
         requires { LivesAt L.ops self.old number (AtThrow label) }
-        ensures { ActsHere L.ops number (AtThrow label) (sort_by label result) (told_of result) self.old self.new }
+        ensures { ActsHere L.ops 4294967295 number (AtThrow label) (sort_by label result) (told_of result) self.old self.new }
     {
         let at = number as usize;
         if label < self.states[at].base() {
@@ -56,18 +56,19 @@ impl<L: Local> Flat<L> {
     /// The process with this number, which lives and stands trapped, dies of the trap.
     pub fn trap_here(&mut self, number: u32)
         requires { IsTrappedAt L.ops self.old number }
-        ensures { (kind : TrapView) (line : ℕ) → LivesAt L.ops self.old number (AtTrap kind line) → ActsHere L.ops number (AtTrap kind line) (dies (death 0)) (trapping kind line) self.old self.new }
+        ensures { (kind : TrapView) (line : ℕ) → LivesAt L.ops self.old number (AtTrap kind line) → ActsHere L.ops 4294967295 number (AtTrap kind line) (dies (death 0)) (trapping kind line) self.old self.new }
     {
         let at = number as usize;
         leave_tree(&self.states[at], Status::Dead(0), &mut self.records, at);
     }
 
-    /// The process with this number, which lives and has nothing left to do, ends.
-    pub fn finish_here(&mut self, number: u32)
+    /// The process with this number, which lives and has nothing left to do, ends. The answer is how many forks
+    /// above it say something else now, at most.
+    pub fn finish_here(&mut self, number: u32) -> u32
         requires { LivesAt L.ops self.old number AtFinish }
-        ensures { ActsHere L.ops number AtFinish ends nothing self.old self.new }
+        ensures { ActsHere L.ops result number AtFinish ends nothing self.old self.new }
     {
         let at = number as usize;
-        leave_tree(&self.states[at], Status::Ended, &mut self.records, at);
+        leave_tree(&self.states[at], Status::Ended, &mut self.records, at)
     }
 }

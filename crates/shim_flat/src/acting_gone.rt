@@ -2,37 +2,45 @@
 ghost use Rattle.std.specs.Prelude.{◌≡◌, ◌≤◌, ◌<◌, length, vec_len};
 ghost use Rattle.shim_records.specs.Pairs.{AreOrdered};
 ghost use Rattle.shim_laws_keeping.specs.Acting.{TakesIn, Leaves};
+ghost use Rattle.shim_flat.specs.Touching.{TouchesRecords};
 
 use shim_local::Local;
 use shim_records::{Record, Status, leave, lower_all_labels, update_all_counts};
 
-// Takes in the label of a death above the process's record, for each channel that it was given and shares.
-fn take_label<L: Local>(process: &L, status: Status, records: &mut Vec<Record>, at: usize)
+// Takes in the label of a death above the process's record, for each channel that it was given and shares. It
+// answers how many forks took it, at most.
+fn take_label<L: Local>(process: &L, status: Status, records: &mut Vec<Record>, at: usize) -> u32
     requires ordered { AreOrdered records.old.items }
     requires few { length (L.ops.given process.now) ≤ 18446744073709551615 }
-    ensures { TakesIn L.ops process.now status 4294967295 at records.old.items records.new.items }
+    ensures takes { TakesIn L.ops process.now status 4294967295 at records.old.items records.new.items }
+    ensures touches { TouchesRecords result at records.old.items records.new.items }
 {
     match status {
-        Status::Dead(label) => lower_all_labels(process, records, at, label, u32::MAX),
-        Status::Free | Status::Live | Status::Forked(_) | Status::Ended => {}
+        Status::Dead(label) => {
+            lower_all_labels(process, records, at, label, u32::MAX);
+            u32::MAX
+        }
+        Status::Free | Status::Live | Status::Forked(_) | Status::Ended => 0,
     }
 }
 
 /// The process of the record at this place ends or dies: its record says what came of it, and all that the
-/// forks above know of it is brought up to date.
+/// forks above know of it is brought up to date. It answers how many of these that concerns, at most.
 pub(crate) fn leave_tree<L: Local>(
     process: &L,
     status: Status,
     records: &mut Vec<Record>,
     at: usize,
-)
+) -> u32
     requires within { at < vec_len records.old }
     requires ordered { AreOrdered records.old.items }
     requires few { length (L.ops.given process.now) ≤ 18446744073709551615 }
-    ensures { Leaves L.ops process.now status 4294967295 at records.old.items records.new.items }
+    ensures leaves { Leaves L.ops process.now status 4294967295 at records.old.items records.new.items }
+    ensures touches { TouchesRecords result at records.old.items records.new.items }
 {
     records[at].status = status;
-    take_label(process, status, records, at);
-    update_all_counts(process, status, records, at, u32::MAX);
+    let labelled = take_label(process, status, records, at);
+    let counted = update_all_counts(process, status, records, at, u32::MAX);
     leave(records, at);
+    labelled.max(counted).max(1)
 }

@@ -1,19 +1,35 @@
 // A live process that has changed, and may have come to a channel.
+ghost use Rattle.std.specs.Prelude.{ℕ};
+ghost use Rattle.shim_laws_records.specs.Seen.{lives};
 ghost use Rattle.shim_records.specs.Pairs.{AreOrdered};
+ghost use Rattle.shim_laws_keeping.specs.Flats.{FlatView, HasProcess};
 ghost use Rattle.shim_laws_keeping.specs.Arriving.{Arrives};
+ghost use Rattle.shim_flat.specs.Touching.{TouchesRecords};
+ghost use Rattle.shim_flat.specs.Listing.{ListingIs};
 
+use crate::listing::{Listing, listing_at};
 use shim_local::{Local, Stop};
 use shim_records::{Record, live_reading, update_counts_above};
 
+/// Where a live process has come: in which list it belongs now, and how many forks above it have other counts,
+/// at most.
+#[derive(Clone, Copy, Debug, PartialEq, Eq)]
+pub struct Arrival {
+    pub listing: Listing,
+    pub forks: u32,
+}
+
 /// Brings the counts above a live process up to date that has changed, where it stands at a channel now and
 /// stood at none before.
-pub(crate) fn arrive<L: Local>(process: &L, records: &mut Vec<Record>, at: usize)
+pub(crate) fn arrive<L: Local>(process: &L, records: &mut Vec<Record>, at: usize) -> Arrival
     requires { AreOrdered records.old.items }
-    ensures { Arrives L.ops process.now 4294967295 at records.old.items records.new.items }
+    ensures arrives { Arrives L.ops process.now 4294967295 at records.old.items records.new.items }
+    ensures touches { TouchesRecords result.forks at records.old.items records.new.items }
+    ensures listing { (v : FlatView L) (i f : ℕ) → HasProcess v i f process.now lives → ListingIs L.ops v i result.listing }
 {
     match process.stop() {
         Stop::Next(chan) => {
-            update_counts_above(
+            let forks = update_counts_above(
                 records,
                 at,
                 chan,
@@ -21,12 +37,18 @@ pub(crate) fn arrive<L: Local>(process: &L, records: &mut Vec<Record>, at: usize
                 live_reading(true),
                 u32::MAX,
             );
+            Arrival {
+                listing: listing_at(process, chan),
+                forks,
+            }
         }
-        Stop::Quiet
-        | Stop::Put
-        | Stop::Fork
-        | Stop::Finish
-        | Stop::Throw(_)
-        | Stop::Trapped(_, _) => {}
+        Stop::Quiet => Arrival {
+            listing: Listing::Quiet,
+            forks: 0,
+        },
+        Stop::Put | Stop::Fork | Stop::Finish | Stop::Throw(_) | Stop::Trapped(_, _) => Arrival {
+            listing: Listing::Awake,
+            forks: 0,
+        },
     }
 }

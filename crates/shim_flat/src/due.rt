@@ -38,8 +38,8 @@ pub enum Due {
     Poison(usize, usize),
 }
 
-// Whether the process declared the channel.
-fn declares<L: Local>(process: &L, chan: &Chan) -> bool
+/// Whether the process declared the channel.
+pub(crate) fn declares<L: Local>(process: &L, chan: &Chan) -> bool
     ensures own { result ≡ true → L.ops.path process.now ≡ chan.now.channel.home }
     ensures other { result ≡ false → L.ops.path process.now ≢ chan.now.channel.home }
 {

@@ -13,6 +13,7 @@ mod flat;
 mod forking;
 mod free_blocks;
 mod lending;
+mod listing;
 mod looking;
 mod meeting;
 mod naming;
@@ -22,8 +23,10 @@ mod stepping;
 mod waking;
 
 pub use acting::Thrown;
+pub use arriving::Arrival;
 pub use closing::CloseOutcome;
 pub use descent::Sharers;
 pub use due::Due;
 pub use flat::Flat;
 pub use forking::{Fork, ForkOutcome};
+pub use listing::Listing;

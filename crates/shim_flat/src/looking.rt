@@ -58,13 +58,13 @@ fn first_ready<L: Local>(
     None
 }
 
-// Whether a label is one of these handlers'.
-fn is_low(label: Option<u32>, handlers: u32) -> bool
-    ensures { result ≡ is_below label handlers }
+// Whether a label is one of the process's handlers'.
+fn is_low<L: Local>(label: Option<u32>, process: &L) -> bool
+    ensures { result ≡ is_below label (L.ops.handlers process.now) }
 {
     match label {
         None => false,
-        Some(label) => label < handlers,
+        Some(label) => label < process.handlers(),
     }
 }
 
@@ -81,7 +81,7 @@ pub(crate) fn doomed<L: Local>(
     requires { AreOrdered records.now }
     ensures { DoomedAmong L.ops states.now records.now process.now first count pair.now result }
 {
-    if is_low(pair.least, process.handlers()) {
+    if is_low(pair.least, process) {
         first_ready(states, records, first, count, &pair.chan)
     } else {
         None

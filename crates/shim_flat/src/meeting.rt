@@ -2,12 +2,12 @@
 ghost use Rattle.shim_semantics.specs.Trees.{Meet};
 ghost use Rattle.shim_records.specs.Pairs.{AreOrdered};
 ghost use Rattle.shim_laws_keeping.specs.Moves.{MovesBy};
-ghost use Rattle.shim_laws_meetings.specs.Receiving.{ComesTo, MovesOn};
+ghost use Rattle.shim_laws_meetings.specs.Receiving.{MovesOn};
 ghost use Rattle.shim_laws_meetings.specs.Sharers.{ListsSharers};
 ghost use Rattle.shim_laws_meetings.specs.Meetings.{IsEnabled, Declares, HasValue, ReceivesOne, ReceiveAll, AllReceived};
 ghost use Rattle.shim_laws_meetings.specs.Values.{IsValueAmong};
-ghost use Rattle.shim_flat.specs.Meeting.{WaitsAt};
-ghost use Rattle.shim_flat.specs.Touching.{TouchesEach};
+ghost use Rattle.shim_flat.specs.Meeting.{WaitsAt, GoesOff};
+ghost use Rattle.shim_flat.specs.Touching.{TouchesEach, TouchesOne};
 ghost use Rattle.shim_flat.specs.Changing.{ChangesEach};
 
 use crate::descent::Sharers;
@@ -16,16 +16,32 @@ use shim_base::Chan;
 use shim_local::{Local, Stop};
 use shim_records::{Record, live_reading, stands_at, update_counts_above};
 
-// Brings the counts above up to date for the channel at which the process stands, if that is another one.
-fn come_to<L: Local>(process: &L, c: &Chan, records: &mut Vec<Record>, at: usize)
+// Brings the counts above a process up to date that stood at the channel and stands there no more.
+fn go_off(c: &Chan, records: &mut Vec<Record>, at: usize)
     requires { AreOrdered records.old.items }
-    ensures { ComesTo L.ops process.now c.now.channel 4294967295 at records.old.items records.new.items }
+    ensures { GoesOff c.now.channel 4294967295 at records.old.items records.new.items }
+{
+    update_counts_above(
+        records,
+        at,
+        c,
+        live_reading(true),
+        live_reading(false),
+        u32::MAX,
+    );
+}
+
+// Brings the counts above a process up to date that stood at the channel and has received there.
+fn move_on<L: Local>(process: &L, c: &Chan, records: &mut Vec<Record>, at: usize)
+    requires { AreOrdered records.old.items }
+    ensures { MovesOn L.ops process.now c.now.channel 4294967295 at records.old.items records.new.items }
 {
     match process.stop() {
         Stop::Next(chan) => {
             if *c == *chan {
                 return;
             }
+            go_off(c, records, at);
             update_counts_above(
                 records,
                 at,
@@ -40,24 +56,8 @@ fn come_to<L: Local>(process: &L, c: &Chan, records: &mut Vec<Record>, at: usize
         | Stop::Fork
         | Stop::Finish
         | Stop::Throw(_)
-        | Stop::Trapped(_, _) => {}
+        | Stop::Trapped(_, _) => go_off(c, records, at),
     }
-}
-
-// Brings the counts above a process up to date that stood at the channel and has received there.
-fn move_on<L: Local>(process: &L, c: &Chan, records: &mut Vec<Record>, at: usize)
-    requires { AreOrdered records.old.items }
-    ensures { MovesOn L.ops process.now c.now.channel 4294967295 at records.old.items records.new.items }
-{
-    update_counts_above(
-        records,
-        at,
-        c,
-        live_reading(true),
-        live_reading(stands_at(process, c)),
-        u32::MAX,
-    );
-    come_to(process, c, records, at);
 }
 
 impl<L: Local> Flat<L> {
@@ -105,7 +105,8 @@ impl<L: Local> Flat<L> {
 
     // Each of these receives the value that lives and stands at the channel.
     fn receive_all(&mut self, sharers: &Sharers, c: &Chan, v: i64)
-        ensures { ReceiveAll L.ops c.now.channel v sharers.now self.old self.new }
+        ensures receive { ReceiveAll L.ops c.now.channel v sharers.now self.old self.new }
+        ensures touches { TouchesEach sharers.now self.old self.new }
     {
         for place in 0..sharers.numbers.len() {
             self.receive_at(sharers.numbers[place] as usize, c, v);
@@ -114,7 +115,8 @@ impl<L: Local> Flat<L> {
 
     // The process with this number receives the value, if it lives and stands at the channel.
     fn receive_at(&mut self, at: usize, c: &Chan, v: i64)
-        ensures { ReceivesOne L.ops c.now.channel v at self.old self.new }
+        ensures receives { ReceivesOne L.ops c.now.channel v at self.old self.new }
+        ensures touches { TouchesOne at self.old self.new }
     {
         if !self.waits_at(at, c) {
             return;

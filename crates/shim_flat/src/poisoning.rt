@@ -2,7 +2,7 @@
 ghost use Rattle.shim_laws_meetings.specs.Sharers.{ListsSharers};
 ghost use Rattle.shim_laws_meetings.specs.Poisons.{DiesOne, AllDie, AllDied};
 ghost use Rattle.shim_flat.specs.Poisoning.{IsKilledBy, CanPoison, PoisonsHere};
-ghost use Rattle.shim_flat.specs.Touching.{TouchesEach};
+ghost use Rattle.shim_flat.specs.Touching.{TouchesEach, TouchesOne};
 ghost use Rattle.shim_flat.specs.Changing.{IsChanged};
 
 use crate::descent::Sharers;
@@ -27,7 +27,8 @@ impl<L: Local> Flat<L> {
 
     // Each of these that lives dies of an exception with this label, if it has no handler for it.
     fn kill_each(&mut self, sharers: &Sharers, label: u32)
-        ensures { AllDie L.ops label sharers.now self.old self.new }
+        ensures die { AllDie L.ops label sharers.now self.old self.new }
+        ensures touches { TouchesEach sharers.now self.old self.new }
     {
         for place in 0..sharers.numbers.len() {
             self.kill_at(sharers.numbers[place] as usize, label);
@@ -36,7 +37,8 @@ impl<L: Local> Flat<L> {
 
     // The process with this number dies of an exception with this label, if it lives and has no handler for it.
     fn kill_at(&mut self, at: usize, label: u32)
-        ensures { DiesOne L.ops label at self.old self.new }
+        ensures dies { DiesOne L.ops label at self.old self.new }
+        ensures touches { TouchesOne at self.old self.new }
     {
         if !self.is_killed_by(at, label) {
             return;

@@ -1,10 +1,11 @@
 // Quiet steps in place.
 ghost use Rattle.std.specs.Prelude.{◌≡◌, ◌≢◌, ◌≤◌, ◌<◌, ℕ, true, false};
 ghost use Rattle.shim_local.specs.Process.{AtQuiet};
-ghost use Rattle.shim_flat.specs.Stepping.{StepsHere, QuietlyReaches, is_live, IsLive, IsBeforeQuiet};
+ghost use Rattle.shim_flat.specs.Stepping.{LivesAt, StepsHere, QuietlyReaches, is_live, IsLive, IsBeforeQuiet};
 ghost use Rattle.shim_flat.specs.Touching.{TouchesAbove};
+ghost use Rattle.shim_flat.specs.Listing.{ListingIs};
 
-use crate::arriving::arrive;
+use crate::arriving::{Arrival, arrive};
 use crate::flat::Flat;
 use shim_local::{Local, Quiet, Stop};
 use shim_records::Status;
@@ -36,36 +37,34 @@ fn lives_on(status: Status) -> bool
 }
 
 impl<L: Local> Flat<L> {
-    /// The process with this number does up to `most` quiet steps in place, if it lives and stands before one.
-    /// It does fewer only where it comes to another stop, or memory is wanted.
-    pub fn step_here(&mut self, number: u32, most: u64) -> Quiet
-        ensures steps { StepsHere L.ops number result.taken self.old self.new }
-        ensures most { result.taken ≤ most }
-        ensures touches { TouchesAbove number self.old self.new }
-        ensures fewer { result.taken < most → result.short ≡ false → IsBeforeQuiet L.ops number self.new false }
+    /// The process with this number, which lives and stands before a quiet step, does up to `most` of them in
+    /// place, and fewer only where it comes to another stop, or memory is wanted. The answer says where it has
+    /// come, too.
+    pub fn step_here(&mut self, number: u32, most: u64) -> (Quiet, Arrival)
+        requires { LivesAt L.ops self.old number AtQuiet }
+        ensures steps { StepsHere L.ops number result.0.taken self.old self.new }
+        ensures most { result.0.taken ≤ most }
+        ensures touches { TouchesAbove result.1.forks number self.old self.new }
+        ensures listing { ListingIs L.ops self.new number result.1.listing }
+        ensures fewer { result.0.taken < most → result.0.short ≡ false → IsBeforeQuiet L.ops number self.new false }
     {
         let at = number as usize;
-        if !self.is_before_quiet(number) {
-            return Quiet {
-                taken: 0,
-                short: false,
-            };
-        }
         let quiet = self.states[at].quiet(most);
-        arrive(&self.states[at], &mut self.records, at);
-        quiet
+        let arrival = arrive(&self.states[at], &mut self.records, at);
+        (quiet, arrival)
     }
 
     /// The process with this number, which lives and stands before a quiet step, did so many of them
-    /// elsewhere as lead to this state. It takes no memory.
-    pub fn advance_here(&mut self, number: u32, last: L)
+    /// elsewhere as lead to this state. The answer says where it has come. It takes no memory.
+    pub fn advance_here(&mut self, number: u32, last: L) -> Arrival
         requires comes { (taken : ℕ) × QuietlyReaches L.ops self.old number taken last }
         ensures steps { (taken : ℕ) → QuietlyReaches L.ops self.old number taken last → StepsHere L.ops number taken self.old self.new }
-        ensures touches { TouchesAbove number self.old self.new }
+        ensures touches { TouchesAbove result.forks number self.old self.new }
+        ensures listing { ListingIs L.ops self.new number result.listing }
     {
         let at = number as usize;
         self.states[at] = last;
-        arrive(&self.states[at], &mut self.records, at);
+        arrive(&self.states[at], &mut self.records, at)
     }
 
     /// Whether the process with this number lives and has a quiet step to do. It takes no memory.

@@ -8,16 +8,15 @@ use shim_local::Local;
 use shim_records::Worklist;
 
 impl<L: Local> Flat<L> {
-    /// Lists the number of a process in use, and those of all forks above it. It takes no memory.
-    pub fn above(&self, number: u32, list: &mut Worklist)
+    /// Lists the first so many forks above a process in use. It takes no memory.
+    pub fn above(&self, number: u32, forks: u64, list: &mut Worklist)
         requires used { IsInUse self.now number }
         requires room { IsForAll self.now list.old }
-        ensures { ListsAbove self.now number list.old list.new }
+        ensures { ListsAbove self.now forks number list.old list.new }
     {
         let records = self.records.as_slice();
-        list.add(number);
         let mut here = number;
-        for walked in 0..u32::MAX {
+        for walked in 0..forks {
             match parent_in(records, here) {
                 None => return,
                 Some(fork) => {

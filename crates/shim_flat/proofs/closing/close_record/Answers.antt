@@ -18,7 +18,7 @@ pub recount_if-requires-clause-ordered : goal.recount_if-requires-clause-ordered
 recount_if-requires-clause-ordered g c κs within =
     let o = g.L.Local.ops in
     let s = c.index-states-at.result in
-    kept_order c.leave_if.new.records.items c.update_all_counts.new.records.items (rest_same (acting o s) (λ d. read_leaf o d s (sort_of c.args.status)) 4294967295 c.args.at c.update_all_counts.ensures.updated)
+    kept_order c.leave_if.new.records.items c.update_all_counts.new.records.items (rest_same (acting o s) (λ d. read_leaf o d s (sort_of c.args.status)) 4294967295 c.args.at c.update_all_counts.ensures.counts.updated)
     (settled_order c.args.records.now.items c.leave_if.new.records.items c.args.at c.come_to.new.parent (sort_of c.args.status) c.requires.ordered c.come_to.ensures.no_pairs c.leave_if.ensures)
 
 pub returns : goal.returns
@@ -35,6 +35,6 @@ returns g c =
       there = slice_get_read c.args.records.now.items _ c.args.at c.index_mut.result.now refl c.requires.of_record c.index_mut.ensures.value;
       come = c.come_to.ensures;
       leaves = c.leave_if.ensures;
-      walked = c.update_all_counts.ensures;
+      walked = c.update_all_counts.ensures.counts;
       again = c.recount_if.ensures s there;
     }

@@ -12,7 +12,7 @@ loop-i-preserved c =
     let within = c.loop-i-test.true in
     let end = c.loop-i.auto.i-end in
     one_way c.args.at c.args.chans.now c.loop-i.i c.args.records.now.items c.loop-i.records.items c.update_counts_above.new.records.items c.index-chans-i.result c.live_reading.result c.live_reading-in-loop-i.result c.loop-i.invariant
-    (slice_get_read c.args.chans.now _ c.loop-i.i c.index-chans-i.result refl (omega (arith, within, end)) c.index-chans-i.is) c.live_reading.ensures c.live_reading-in-loop-i.ensures c.update_counts_above.ensures
+    (slice_get_read c.args.chans.now _ c.loop-i.i c.index-chans-i.result refl (omega (arith, within, end)) c.index-chans-i.is) c.live_reading.ensures c.live_reading-in-loop-i.ensures c.update_counts_above.ensures.counts
 
 pub returns : goal.returns
 returns c =

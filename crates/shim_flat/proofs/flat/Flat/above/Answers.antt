@@ -2,17 +2,14 @@ use Rattle.std.proofs.Common.{None, sym, subst, ap, ◌∙◌, arith}
 use Rattle.shim_records.specs.Pairs.{up_in}
 use Rattle.shim_laws_keeping.specs.Flats.{IsKept}
 use Rattle.shim_flat.specs.Reading.{ParentIs}
-use Rattle.shim_flat.proofs.Parents.{parent_is_up, fork_in_use, listing_begins, listing_goes, listing_ends, none_further}
+use Rattle.shim_flat.proofs.Parents.{parent_is_up, fork_in_use, listing_begins, listing_goes, listing_ends, listing_tops}
 use Rattle.shim_flat.proofs.flat.Flat.above.Goals as goal
 
-pub add-requires : goal.add-requires
-add-requires g c = c.requires.room c.args.number c.requires.used
-
 pub loop-walked-init : goal.loop-walked-init
-loop-walked-init g c = listing_begins g.L.Local.ops c.args.self.now c.args.number c.args.list.now c.add.new.self c.requires.used c.requires.room c.add.ensures
+loop-walked-init g c = listing_begins g.L.Local.ops c.args.self.now c.args.number c.args.list.now c.requires.used
 
-pub add-requires-in-Some : goal.add-requires-in-Some
-add-requires-in-Some g c =
+pub add-requires : goal.add-requires
+add-requires g c =
     let o = g.L.Local.ops in
     let same = c.as_slice-records.ensures.value ∙ ap (λ z. z.records) c.self.view_is in
     let kept = subst (IsKept o) c.self.view_is c.self.invariant in
@@ -30,7 +27,8 @@ returns-in-None g c =
     let kept = subst (IsKept o) c.self.view_is c.self.invariant in
     let here = c.loop-walked.here in
     let up = parent_is_up o v kept here c.loop-walked.invariant.used None (subst (λ z. ParentIs z here None) same c.in-None.ensures) in
-    listing_ends o v c.args.number c.args.list.now c.loop-walked.list here c.loop-walked.walked c.loop-walked.invariant (sym up)
+    let within = c.loop-walked-test.true in
+    listing_tops o v c.args.number c.args.list.now c.loop-walked.list here c.loop-walked.walked c.loop-walked.invariant c.args.forks (let end = c.loop-walked.auto.walked-end in omega (arith, within, end)) (sym up)
 
 pub loop-walked-preserved : goal.loop-walked-preserved
 loop-walked-preserved g c =
@@ -39,11 +37,11 @@ loop-walked-preserved g c =
     let same = c.as_slice-records.ensures.value ∙ ap (λ z. z.records) c.self.view_is in
     let kept = subst (IsKept o) c.self.view_is c.self.invariant in
     let up = c.in-Some.ensures.0 in
-    listing_goes o v c.args.number c.args.list.now c.loop-walked.list c.loop-walked.here c.loop-walked.walked c.loop-walked.invariant kept c.requires.room c.in-Some.fork c.add-in-Some.new.self
-    (ap (λ z. up_in z c.loop-walked.here) (sym same) ∙ up) c.add-in-Some.ensures
+    listing_goes o v c.args.number c.args.list.now c.loop-walked.list c.loop-walked.here c.loop-walked.walked c.loop-walked.invariant kept c.requires.room c.in-Some.fork c.add.new.self
+    (ap (λ z. up_in z c.loop-walked.here) (sym same) ∙ up) c.add.ensures
 
 pub returns : goal.returns
 returns g c =
-    let o = g.L.Local.ops in
-    let kept = subst (IsKept o) c.self.view_is c.self.invariant in
-    none_further o c.args.self.now c.args.number c.args.list.now c.loop-walked.list c.loop-walked.here c.loop-walked.walked c.loop-walked.invariant kept c.loop-walked-test.false
+    let past = c.loop-walked-test.false in
+    let end = c.loop-walked.auto.walked-end in
+    listing_ends g.L.Local.ops c.args.self.now c.args.number c.args.list.now c.loop-walked.list c.loop-walked.here c.loop-walked.walked c.loop-walked.invariant c.args.forks (omega (arith, past, end))

@@ -1,4 +1,4 @@
-use Rattle.std.proofs.Common.{refl, sym, ap, subst, ◌∙◌, slice_set, arith, ◌<◌}
+use Rattle.std.proofs.Common.{refl, sym, ap, subst, ◌∙◌, slice_set, arith, rules, ◌<◌, ◌≤◌}
 use Rattle.shim_local.specs.Process.{AtThrow}
 use Rattle.shim_semantics.specs.Nodes.{death}
 use Rattle.shim_semantics.specs.Acts.{nothing, catching}
@@ -8,6 +8,7 @@ use Rattle.shim_laws_keeping.specs.Flats.{IsKept}
 use Rattle.shim_flat.specs.Stepping.{LivesAt}
 use Rattle.shim_flat.specs.Acting.{ActsHere}
 use Rattle.shim_flat.proofs.Does.{its, inside_states, few_given, can_catch, throw_dies, throw_caught, still_kept, lives_here, leaves_here, one_read}
+use Rattle.shim_flat.proofs.Touching.{touches_more}
 use Rattle.shim_flat.proofs.flat.Flat.throw_here.Goals as goal
 
 -- ---- it dies
@@ -30,14 +31,16 @@ returns-then-label-base g c =
     let l = c.index-then-label-base.result.now in
     let here = subst (λ z. LivesAt o z x (AtThrow label)) (sym c.self.view_is) c.requires in
     let same = one_read o v.states.items v.records.items x (AtThrow label) c.index.result.now l here c.index.ensures c.index-then-label-base.ensures in
+    let few : c.leave_tree.result ≤ 4294967295 = search rules in
     let below = subst (λ n. label < n) (c.base.ensures ∙ ap o.base same) c.if-label-base.true in
-    subst (λ z. ActsHere o x (AtThrow label) (dies (death label)) nothing z (record { states = v.states.items; records = c.leave_tree.new.records.items })) c.self.view_is
-    (leaves_here o law v.states.items v.records.items c.leave_tree.new.records.items x (AtThrow label) nothing l here c.index-then-label-base.ensures (code.Dead label) refl c.leave_tree.ensures (throw_dies o l label below))
+    subst (λ z. ActsHere o 4294967295 x (AtThrow label) (dies (death label)) nothing z (record { states = v.states.items; records = c.leave_tree.new.records.items })) c.self.view_is
+    (leaves_here o law v.states.items v.records.items c.leave_tree.new.records.items x (AtThrow label) nothing l here c.index-then-label-base.ensures 4294967295 (code.Dead label) refl c.leave_tree.ensures.leaves
+    (touches_more c.leave_tree.result 4294967295 x v.records.items c.leave_tree.new.records.items few c.leave_tree.ensures.touches) (throw_dies o l label below))
 
 pub invariant_of-self : goal.invariant_of-self
 invariant_of-self g c =
     let o = g.L.Local.ops in
-    still_kept o c.args.number (AtThrow c.args.label) (dies (death c.args.label)) nothing c.args.self.now (record { states = c.self.inside.states.items; records = c.leave_tree.new.records.items }) (returns-then-label-base g c)
+    still_kept o 4294967295 c.args.number (AtThrow c.args.label) (dies (death c.args.label)) nothing c.args.self.now (record { states = c.self.inside.states.items; records = c.leave_tree.new.records.items }) (returns-then-label-base g c)
     (subst (IsKept o) c.self.view_is c.self.invariant)
 
 -- ---- it is caught
@@ -95,15 +98,17 @@ returns g c =
     let l = c.index_mut.result.now in
     let s = c.unwind.new.self in
     let told = catching c.handler-name.result in
+    let few : c.arrive.result.forks ≤ 4294967295 = search rules in
     let here = subst (λ z. LivesAt o z x (AtThrow label)) (sym c.self.view_is) c.requires in
     let catches = can_catch o law v.states.items v.records.items x label c.base.result l c.index.result.now c.self.invariant here c.index_mut.ensures.value c.index.ensures c.base.ensures (let past = c.if-label-base.false in omega (arith, past)) in
     let same = one_read o v.states.items v.records.items x (AtThrow label) c.index-2.result.now l here c.index-2.ensures c.index_mut.ensures.value in
-    subst (λ z. ActsHere o x (AtThrow label) lives told z (record { states = slice_set v.states.items x s; records = c.arrive.new.records.items })) c.self.view_is
-    (lives_here o law v.states.items v.records.items c.arrive.new.records.items x (AtThrow label) told l here c.index_mut.ensures.value s c.index-3.result.now c.index-3.ensures c.arrive.ensures
+    subst (λ z. ActsHere o 4294967295 x (AtThrow label) lives told z (record { states = slice_set v.states.items x s; records = c.arrive.new.records.items })) c.self.view_is
+    (lives_here o law v.states.items v.records.items c.arrive.new.records.items x (AtThrow label) told l here c.index_mut.ensures.value 4294967295 s c.index-3.result.now c.index-3.ensures c.arrive.ensures.arrives
+    (touches_more c.arrive.result.forks 4294967295 x v.records.items c.arrive.new.records.items few c.arrive.ensures.touches)
     (throw_caught o l s label c.handler-name.result catches.0 c.unwind.ensures (c.handler-name.ensures ∙ ap (λ z. o.handler z label) same)))
 
 pub invariant_of-self-2 : goal.invariant_of-self-2
 invariant_of-self-2 g c =
     let o = g.L.Local.ops in
-    still_kept o c.args.number (AtThrow c.args.label) lives (catching c.handler-name.result) c.args.self.now (record { states = slice_set c.self.inside.states.items c.args.number c.unwind.new.self; records = c.arrive.new.records.items }) (returns g c)
+    still_kept o 4294967295 c.args.number (AtThrow c.args.label) lives (catching c.handler-name.result) c.args.self.now (record { states = slice_set c.self.inside.states.items c.args.number c.unwind.new.self; records = c.arrive.new.records.items }) (returns g c)
     (subst (IsKept o) c.self.view_is c.self.invariant)

@@ -1,4 +1,4 @@
-use Rattle.std.proofs.Common.{refl, sym, subst}
+use Rattle.std.proofs.Common.{◌≤◌, refl, sym, subst, rules}
 use Rattle.shim_local.specs.Process.{AtTrap}
 use Rattle.shim_semantics.specs.Nodes.{death}
 use Rattle.shim_semantics.specs.Acts.{trapping}
@@ -8,6 +8,7 @@ use Rattle.shim_laws_keeping.specs.Flats.{IsKept}
 use Rattle.shim_flat.specs.Stepping.{LivesAt}
 use Rattle.shim_flat.specs.Acting.{ActsHere}
 use Rattle.shim_flat.proofs.Does.{its, few_given, still_kept, leaves_here}
+use Rattle.shim_flat.proofs.Touching.{touches_more}
 use Rattle.shim_flat.proofs.flat.Flat.trap_here.Goals as goal
 
 pub leave_tree-requires-clause-few : goal.leave_tree-requires-clause-few
@@ -25,13 +26,15 @@ returns g c kind line trapped =
     let v = c.self.inside in
     let stop = AtTrap kind line in
     let here = subst (λ z. LivesAt o z c.args.number stop) (sym c.self.view_is) trapped in
-    subst (λ z. ActsHere o c.args.number stop (dies (death 0)) (trapping kind line) z (record { states = v.states.items; records = c.leave_tree.new.records.items })) c.self.view_is
-    (leaves_here o law v.states.items v.records.items c.leave_tree.new.records.items c.args.number stop (trapping kind line) c.index.result.now here c.index.ensures (code.Dead 0) refl c.leave_tree.ensures refl)
+    let few : c.leave_tree.result ≤ 4294967295 = search rules in
+    subst (λ z. ActsHere o 4294967295 c.args.number stop (dies (death 0)) (trapping kind line) z (record { states = v.states.items; records = c.leave_tree.new.records.items })) c.self.view_is
+    (leaves_here o law v.states.items v.records.items c.leave_tree.new.records.items c.args.number stop (trapping kind line) c.index.result.now here c.index.ensures 4294967295 (code.Dead 0) refl c.leave_tree.ensures.leaves
+    (touches_more c.leave_tree.result 4294967295 c.args.number v.records.items c.leave_tree.new.records.items few c.leave_tree.ensures.touches) refl)
 
 pub invariant_of-self : goal.invariant_of-self
 invariant_of-self g c =
     let o = g.L.Local.ops in
     let kind = c.requires.0 in
     let line = c.requires.1 in
-    still_kept o c.args.number (AtTrap kind line) (dies (death 0)) (trapping kind line) c.args.self.now (record { states = c.self.inside.states.items; records = c.leave_tree.new.records.items }) (returns g c kind line c.requires.2)
+    still_kept o 4294967295 c.args.number (AtTrap kind line) (dies (death 0)) (trapping kind line) c.args.self.now (record { states = c.self.inside.states.items; records = c.leave_tree.new.records.items }) (returns g c kind line c.requires.2)
     (subst (IsKept o) c.self.view_is c.self.invariant)

@@ -1,0 +1,31 @@
+use Rattle.std.proofs.Common.{sym, subst}
+use Rattle.shim_laws_waking.specs.Looks.{IsIdle}
+use Rattle.shim_laws_keeping.specs.Flats.{FlatView}
+use Rattle.shim_flat.specs.Reading.{IsInUse}
+use Rattle.shim_flat.specs.Listing.{NotBeforeQuiet, ListingIs}
+use Rattle.shim_flat.proofs.Listings.{rests, is_fork, lives_there}
+use Rattle.shim_flat.proofs.flat.Flat.listing.Goals as goal
+
+pub returns-in-Free : goal.returns-in-Free
+returns-in-Free g c =
+    let v = c.self.inside in
+    let w : FlatView g.row.L.Denot = record { states = v.states.items; records = v.records.items } in
+    let used = subst (λ z. IsInUse z c.args.number) (sym c.self.view_is) c.requires in
+    subst (λ z. IsIdle g.L.Local.ops z c.args.number × NotBeforeQuiet g.L.Local.ops z c.args.number) c.self.view_is
+    (rests g.L.Local.ops w c.args.number used c.index.result.now c.index.ensures c.in-Free.is)
+
+pub returns-in-Live : goal.returns-in-Live
+returns-in-Live g c =
+    let v = c.self.inside in
+    let w : FlatView g.row.L.Denot = record { states = v.states.items; records = v.records.items } in
+    let used = subst (λ z. IsInUse z c.args.number) (sym c.self.view_is) c.requires in
+    subst (λ z. ListingIs g.L.Local.ops z c.args.number c.listing_alone.result) c.self.view_is
+    (c.listing_alone.ensures w c.args.number c.index.result.now.first (lives_there g.L.Local.ops w c.args.number used c.index.result.now c.index.ensures c.index-in-Live.result.now c.index-in-Live.ensures c.in-Live.is))
+
+pub returns-in-Forked : goal.returns-in-Forked
+returns-in-Forked g c =
+    let v = c.self.inside in
+    let w : FlatView g.row.L.Denot = record { states = v.states.items; records = v.records.items } in
+    let used = subst (λ z. IsInUse z c.args.number) (sym c.self.view_is) c.requires in
+    subst (λ z. NotBeforeQuiet g.L.Local.ops z c.args.number) c.self.view_is
+    (is_fork g.L.Local.ops w c.args.number used c.index.result.now c.index.ensures c.in-Forked.field-0 c.in-Forked.is)
