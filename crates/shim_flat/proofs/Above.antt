@@ -40,6 +40,10 @@ module _ {S : Type 0} (n number : ℕ) (before behind : FlatView S) (flags : Lis
   other : (i : ℕ) → is_listed flags i ≡ false → i ≢ number
   other i out e = clash (is_listed flags i) (subst (λ z. is_listed flags z ≡ true) (sym e) mine) out
 
+  -- and so is one whose fork isn't listed
+  no_child : (i j : ℕ) → is_listed flags i ≡ false → up_in behind.records j ≡ Some i → j ≢ number
+  no_child i j out up e = clash (is_listed flags i) (all i (among_more (up_in behind.records) (n + 1) (omega arith) (its_fork 0 number i (subst (λ z. up_in behind.records z ≡ Some i) e up)))) out
+
   -- it isn't one of the forks that were touched
   not_above : (i : ℕ) → is_listed flags i ≡ false → IsAbove (up_in behind.records) n number i → ⊥
   not_above i out w = clash (is_listed flags i) (all i (among_more (up_in behind.records) (n + 1) (omega arith) w)) out
@@ -50,10 +54,6 @@ module _ {S : Type 0} (n number : ℕ) (before behind : FlatView S) (flags : Lis
     where
       one_more : (n : ℕ) → suc n ≡ n + 1
       one_more n = omega arith
-
-  -- and so is one whose fork isn't listed
-  no_child : (i j : ℕ) → is_listed flags i ≡ false → up_in behind.records j ≡ Some i → j ≢ number
-  no_child i j out up e = clash (is_listed flags i) (all i (among_more (up_in behind.records) (n + 1) (omega arith) (its_fork 0 number i (subst (λ z. up_in behind.records z ≡ Some i) e up)))) out
 
   -- Where a list has the number, the forks that were touched, and the one above these, it has what is to be looked at again.
   pub wake_list : TouchesAbove n number before behind → Wakes before behind (is_listed flags)
