@@ -18,11 +18,10 @@ use Rattle.shim_flat.specs.declared.acting.Thrown.TheVariants as thrown
 use Rattle.shim_flat.specs.declared.closing.CloseOutcome.{CloseOutcome}
 use Rattle.shim_flat.specs.declared.closing.CloseOutcome.TheVariants.{GoesOn, Threw}
 use Rattle.shim_flat.specs.Reading.{IsInUse, IsForAll}
-use Rattle.shim_flat.specs.Touching.{ListsAbove}
-use Rattle.shim_flat.proofs.Above.{wake_list}
 use Rattle.shim_flat_tree.specs.FlatTrees.{FlatTreeView, tree_in, path_at, counts_from, IsQuietAt, KeepsTree}
 use Rattle.shim_flat_tree.specs.PastCounts.{only_block}
-use Rattle.shim_flat_tree.specs.Waking.{ListsQuiet}
+use Rattle.shim_flat_tree.specs.Waking.{Wakens, ListsQuiet}
+use Rattle.shim_flat_tree.proofs.Wakened.{one_suffices}
 use Rattle.shim_flat_tree.proofs.Events as events
 use Rattle.shim_flat_tree.proofs.OneMoved.{still_for_all, keeps_on}
 use Rattle.shim_flat_tree.proofs.PastCounts.{taken_out}
@@ -115,7 +114,7 @@ module _ {S : Type 0} (o : Ops S) (law : LocalLaws o) (before behind : FlatTreeV
   stay : (i : ℕ) (l : S) → IsQuietAt o before.flat i l → is_listed before.held i ≡ true → IsQuietAt o behind.flat i l
   stay i l q flag = quiet_stays o law before behind kept (Close (o.path h.process)) happened.leads no_step happened.shows lived i l q
 
-  module _ (few : steps (tree_in o before) < 4000000) (above : ListsAbove behind.flat number before.awake behind.awake) (mine : ListsQuiet o behind.flat number before.quiet behind.quiet) where
+  module _ (few : steps (tree_in o before) < 4000000) (above : Wakens o behind.flat 4294967295 number before.awake behind.awake) (mine : ListsQuiet o behind.flat number before.quiet behind.quiet) where
     quiet_listed : (i : ℕ) (l : S) → IsQuietAt o behind.flat i l → (is_listed behind.quiet i ≡ true) ⊎ IsQuietAt o before.flat i l
     quiet_listed i l q = elim (h.becomes.only i q.first l lives q.has) [
       | inl w ↦ inl (ap (is_listed behind.quiet) w.0 ∙ mine.mine l (subst (λ z. IsQuietAt o behind.flat z l) w.0 q))
@@ -130,7 +129,7 @@ module _ {S : Type 0} (o : Ops S) (law : LocalLaws o) (before behind : FlatTreeV
       keeps = keeps_on o law before behind kept (record {
         shows = happened.shows;
         few = let n = happened.counts in omega (arith, few, n);
-        wakes = wake_list number before.flat behind.flat behind.awake above.mine above.above h.touches;
+        looks = one_suffices o 4294967295 number before.flat behind.flat before.awake behind.awake above (subst (λ z. number < z) (sym above.as_many) (kept.awakes number (h.first, h.process, forks h.many, h.forked))) h.touches;
         awake = above.kept;
         quiet = still_listed o before behind kept flags stay mine.kept quiet_listed;
         held = still_held o before behind kept flags stay;

@@ -27,12 +27,11 @@ use Rattle.shim_flat.specs.declared.forking.ForkOutcome.TheVariants as outcome
 use Rattle.shim_records.proofs.Stepping.{set_there, set_elsewhere}
 use Rattle.shim_flat.specs.Acting.{ActsHere}
 use Rattle.shim_flat.specs.Reading.{IsInUse, IsForAll}
-use Rattle.shim_flat.specs.Touching.{ListsAbove}
-use Rattle.shim_flat.proofs.Above.{wake_forked}
 use Rattle.shim_flat.proofs.Parents.{there_is, use_within}
 use Rattle.shim_flat_tree.specs.FlatTrees.{FlatTreeView, tree_in, path_at, entry, counts_from, IsQuietAt, KeepsTree}
 use Rattle.shim_flat_tree.specs.Room.{HasRoomFor, block_of}
-use Rattle.shim_flat_tree.specs.Waking.{HasCounted, ListsQuiet}
+use Rattle.shim_flat_tree.specs.Waking.{HasCounted, Wakens, ListsQuiet}
+use Rattle.shim_flat_tree.proofs.Wakened.{forked_suffices}
 use Rattle.shim_flat_tree.proofs.Acted.{HasTold, one_may_be_counted, no_quiet_step, own_done}
 use Rattle.shim_flat_tree.proofs.Blocks.{in_block_or_not, block_is, outside_is, block_long, ListsBlock, block_listed}
 use Rattle.shim_flat_tree.proofs.Counts.{more, fresh}
@@ -160,7 +159,7 @@ module _ {S : Type 0} (o : Ops S) (law : LocalLaws o) (before behind : FlatTreeV
           not_quiet (ap o.stop (one_state before.flat.states (stands before.flat) number h.was_first q.first h.was l lives lives h.lived mine) ∙ q.stands)
 
   module _ (few : steps (tree_in o before) < 4000000) (end : ℕ) (most : length behind.flat.records ≤ end) (room : HasRoomFor end before) (awake quiet : List Bool) (awakes : ListsBlock first count before.awake awake) (quiets : ListsBlock first count before.quiet quiet)
-      (above : ListsAbove behind.flat number awake behind.awake) (mine : ListsQuiet o behind.flat number quiet behind.quiet) where
+      (above : Wakens o behind.flat 4294967295 number awake behind.awake) (mine : ListsQuiet o behind.flat number quiet behind.quiet) where
     quiet_listed : (i : ℕ) (l : S) → IsQuietAt o behind.flat i l → (is_listed behind.quiet i ≡ true) ⊎ IsQuietAt o before.flat i l
     quiet_listed i l q = elim (h.becomes.only i q.first l lives q.has) [
       | inl w ↦ absurd (let e = w.2 in cc)
@@ -180,7 +179,7 @@ module _ {S : Type 0} (o : Ops S) (law : LocalLaws o) (before behind : FlatTreeV
     keeps = keeps_on o law before behind kept (record {
       shows = happened.shows;
       few = let n = happened.counts in omega (arith, few, n);
-      wakes = wake_forked number before.flat behind.flat behind.awake above.mine above.above first count (λ b less. above.kept (first + b) (awakes.mine b less)) h.touches;
+      looks = forked_suffices o number before.flat behind.flat awake behind.awake above (room_for before.awake behind.awake room.awake (above.as_many ∙ awakes.as_many) number (first, h.is, _, h.becomes.parent)) first count (λ b less. above.kept (first + b) (awakes.mine b less)) h.touches;
       awake = λ i e. above.kept i (awakes.kept i e);
       quiet = still_listed o before behind kept flags stay (λ i e. mine.kept i (quiets.kept i e)) quiet_listed;
       held = still_held o before behind kept flags stay;
@@ -201,7 +200,7 @@ module _ {S : Type 0} (o : Ops S) (law : LocalLaws o) (before behind : FlatTreeV
 
 module _ {S : Type 0} (o : Ops S) (number : ℕ) (before behind : FlatView S) (h : HasTrappedHere o number before behind) where
   -- it is a step that its process did by itself
-  pub traps_act : ActsHere o number AtFork lives nothing before behind
+  pub traps_act : ActsHere o 4294967295 number AtFork lives nothing before behind
   traps_act = record {
     first = h.first;
     process = h.was;
@@ -224,8 +223,8 @@ module _ {S : Type 0} (o : Ops S) (number : ℕ) (before behind : FlatView S) (h
       }
 
 module _ {S : Type 0} (o : Ops S) (law : LocalLaws o) (before behind : FlatTreeView S) (kept : KeepsTree o before) (number : ℕ) (h : HasTrappedHere o number before.flat behind.flat) (one : OneOwnStep before behind) (c : HasCounted number 1 before.own behind.own)
-    (few : steps (tree_in o before) < 4000000) (above : ListsAbove behind.flat number before.awake behind.awake) (mine : ListsQuiet o behind.flat number before.quiet behind.quiet) where
-  acts : ActsHere o number AtFork lives nothing before.flat behind.flat
+    (few : steps (tree_in o before) < 4000000) (above : Wakens o behind.flat 4294967295 number before.awake behind.awake) (mine : ListsQuiet o behind.flat number before.quiet behind.quiet) where
+  acts : ActsHere o 4294967295 number AtFork lives nothing before.flat behind.flat
   acts = traps_act o number before.flat behind.flat h
 
   other : AtFork ≢ AtQuiet
@@ -234,8 +233,8 @@ module _ {S : Type 0} (o : Ops S) (law : LocalLaws o) (before behind : FlatTreeV
   pub traps_go : Goes o before behind (Own (o.path h.was))
   unfolding acts traps_act
   traps_go =
-      let told : HasTold o law before behind kept number AtFork lives nothing acts = record { output = one.output ∙ sym (append-nil before.output); histories = one.histories; logs = one.logs; past = one.past } in
-      let w = own_done o law before behind kept number AtFork lives nothing acts refl other told c one.events one.held few above mine in
+      let told : HasTold o law before behind kept 4294967295 number AtFork lives nothing acts = record { output = one.output ∙ sym (append-nil before.output); histories = one.histories; logs = one.logs; past = one.past } in
+      let w = own_done o law before behind kept 4294967295 number AtFork lives nothing acts refl other told c one.events one.held few above mine in
       record { keeps = w.0; happens = w.1; steps_are = w.2 }
 
 -- ---- either way
@@ -273,7 +272,7 @@ module _ {S : Type 0} (o : Ops S) (law : LocalLaws o) (before : FlatTreeView S) 
   has_room end xs ys most fits same i u = let w = use_within o now i u in omega (arith, w, most, fits, same)
 
 module _ {S : Type 0} (o : Ops S) (law : LocalLaws o) (before behind : FlatTreeView S) (kept : KeepsTree o before) (number : ℕ) (own : List ℕ) (c : HasCounted number 1 own behind.own) (one : OneOwnStep before behind) (few : steps (tree_in o before) < 4000000) (end : ℕ) (most : length behind.flat.records ≤ end)
-    (room : HasRoomFor end before) (awake quiet : List Bool) (above : ListsAbove behind.flat number awake behind.awake) (mine : ListsQuiet o behind.flat number quiet behind.quiet) where
+    (room : HasRoomFor end before) (awake quiet : List Bool) (above : Wakens o behind.flat 4294967295 number awake behind.awake) (mine : ListsQuiet o behind.flat number quiet behind.quiet) where
   -- what the process was that forked
   pub record Forks : Type 0 where
     pub first : ℕ
@@ -299,5 +298,5 @@ module _ {S : Type 0} (o : Ops S) (law : LocalLaws o) (before behind : FlatTreeV
     first = h.first;
     was = h.was;
     lived = h.lived;
-    goes = traps_go o law before behind kept number h one (subst (λ z. HasCounted number 1 z behind.own) zeros c) few (subst (λ z. ListsAbove behind.flat number z behind.awake) awakes above) (subst (λ z. ListsQuiet o behind.flat number z behind.quiet) quiets mine);
+    goes = traps_go o law before behind kept number h one (subst (λ z. HasCounted number 1 z behind.own) zeros c) few (subst (λ z. Wakens o behind.flat 4294967295 number z behind.awake) awakes above) (subst (λ z. ListsQuiet o behind.flat number z behind.quiet) quiets mine);
   }

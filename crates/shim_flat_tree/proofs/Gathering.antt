@@ -1,5 +1,5 @@
 -- Who waits, gathered record by record in the order of the tree.
-use Rattle.std.proofs.Common.{◌≡◌, ◌≢◌, ◌≤◌, ◌<◌, ◌+◌, ◌-◌, ℕ, zero, suc, Option, Some, None, List, [], ◌∷◌, ◌++◌, refl, sym, ap, subst, ◌∙◌, arith}
+use Rattle.std.proofs.Common.{◌≡◌, ◌≢◌, ◌≤◌, ◌<◌, ◌+◌, ◌-◌, ℕ, zero, suc, Option, Some, None, refl, sym, ap, ◌∙◌, arith}
 use Rattle.std.specs.Prelude.{slice_get}
 use Rattle.std.specs.FinMap as finite
 use Rattle.shim_base.specs.Paths.{NamedChannel, path_order}
@@ -9,14 +9,14 @@ use Rattle.shim_semantics.specs.Nodes.{Node, Nodes, Live, Forked, Ended, Dead, d
 use Rattle.shim_semantics.specs.Endings.{waiting, all_waiting}
 use Rattle.shim_run_log.specs.Waits.{with_waits}
 use Rattle.shim_tree.proofs.Gathered.{with_both}
-use Rattle.shim_laws_records.specs.Seen.{Sort, lives, forks, ends, dies}
+use Rattle.shim_laws_records.specs.Seen.{lives, forks, ends, dies}
 use Rattle.shim_laws_records.specs.Agrees.{RecordView, free, used}
 use Rattle.std.specs.Option.{option_map}
 use Rattle.shim_records.specs.Pairs.{stands_by, stands_of}
 use Rattle.shim_records.specs.declared.record.Record.{Record}
 use Rattle.shim_records.specs.declared.record.Status.TheVariants as code
 use Rattle.shim_records.proofs.Showing.{map_get}
-use Rattle.shim_laws_shown.specs.Shown.{node_of, node_in, node_by, nodes_from, node_in_front, fork_over}
+use Rattle.shim_laws_shown.specs.Shown.{node_of, node_in, nodes_from, node_in_front, fork_over}
 use Rattle.shim_laws_keeping.specs.Flats.{FlatView, stands}
 use Rattle.shim_flat_tree.specs.Gathering.{Gathers}
 

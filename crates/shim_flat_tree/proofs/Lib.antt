@@ -22,5 +22,6 @@ pub mod Quiescent
 pub mod RootRead
 pub mod Stepped
 pub mod Telling
+pub mod Wakened
 pub mod WakesEach
 pub mod Summing

@@ -1,4 +1,4 @@
--- One process has changed, and its number and the forks above it are listed: the type's invariant stays.
+-- One process has changed, and what is to be looked at again is listed: the type's invariant stays.
 use Rattle.std.proofs.Common.{◌≡◌, ◌≢◌, ◌≤◌, ◌<◌, ◌↔◌, inl, inr, ℕ, true, false, List, [], length, sym, ap, subst, ◌∙◌}
 use Rattle.shim_base.proofs.Facts.{true_or_false}
 use Rattle.shim_local.specs.Process.{Ops, AtQuiet}
@@ -9,16 +9,15 @@ use Rattle.shim_laws_records.specs.Seen.{Sort, lives}
 use Rattle.shim_laws_records.proofs.OneChange.{one_state}
 use Rattle.shim_laws_records.proofs.SameTrees.{same_or_not}
 use Rattle.shim_laws_keeping.specs.Flats.{FlatView, HasProcess, Keeps, stands}
-use Rattle.shim_laws_waking.specs.Waking.{Wakes}
 use Rattle.shim_laws_waking.specs.Awake.{is_listed}
 use Rattle.shim_laws_waking.proofs.Awake.{listing_stays}
 use Rattle.shim_flat.specs.Reading.{IsInUse, IsForAll}
 use Rattle.shim_flat.specs.Stepping.{HasBecome}
-use Rattle.shim_flat.specs.Touching.{TouchesAbove, ListsAbove}
-use Rattle.shim_flat.proofs.Above.{wake_list}
+use Rattle.shim_flat.specs.Touching.{TouchesAbove}
 use Rattle.shim_flat_tree.specs.FlatTrees.{FlatTreeView, tree_in, IsQuietAt, IsHeld, KeepsTree, QuietAreListed}
 use Rattle.shim_flat_tree.specs.Holding.{SameHeld}
-use Rattle.shim_flat_tree.specs.Waking.{ListsQuiet}
+use Rattle.shim_flat_tree.specs.Waking.{Wakens, ListsQuiet}
+use Rattle.shim_flat_tree.proofs.Wakened.{Suffices, one_suffices}
 
 -- as long a list has an item for the same numbers
 pub still_for_all : {S A : Type 0} (before behind : FlatView S) (xs ys : List A) → ((i : ℕ) → IsInUse behind i → IsInUse before i) → length ys ≡ length xs → IsForAll before xs → IsForAll behind ys
@@ -40,7 +39,7 @@ module _ {S : Type 0} (o : Ops S) (law : LocalLaws o) (before behind : FlatTreeV
   pub record HasMoved : Type 0 where
     pub shows : Keeps o [] behind.flat (tree_in o behind).root
     pub few : steps (tree_in o behind) ≤ 4000000
-    pub wakes : Wakes before.flat behind.flat (is_listed behind.awake)
+    pub looks : Suffices o before.flat behind.flat behind.awake
     pub awake : (i : ℕ) → is_listed before.awake i ≡ true → is_listed behind.awake i ≡ true
     pub quiet : QuietAreListed o behind.flat behind.quiet behind.held
     pub held : (i : ℕ) → is_listed behind.held i ≡ true → (l : S) × IsQuietAt o behind.flat i l
@@ -52,7 +51,7 @@ module _ {S : Type 0} (o : Ops S) (law : LocalLaws o) (before behind : FlatTreeV
   pub keeps_on : HasMoved → KeepsTree o behind
   keeps_on m = record {
     shows = m.shows;
-    awake = (listing_stays o law).moves [] before.flat behind.flat (tree_in o before) (tree_in o behind) before.awake behind.awake kept.shows m.shows kept.awake m.awake m.wakes;
+    awake = (listing_stays o law).moves [] before.flat behind.flat (tree_in o before) (tree_in o behind) before.awake behind.awake (is_listed m.looks.again) kept.shows m.shows kept.awake m.awake m.looks.wakes m.looks.to_look;
     quiet = m.quiet;
     held = m.held;
     owns = m.owns;
@@ -98,8 +97,8 @@ module _ {S : Type 0} (o : Ops S) (law : LocalLaws o) (before behind : FlatTreeV
       )
     ]
 
-    module _ (shows : Keeps o [] behind.flat (tree_in o behind).root) (few : steps (tree_in o behind) ≤ 4000000) (touches : TouchesAbove number before.flat behind.flat)
-        (awake : ListsAbove behind.flat number before.awake behind.awake) (quiet : ListsQuiet o behind.flat number before.quiet behind.quiet)
+    module _ (n : ℕ) (shows : Keeps o [] behind.flat (tree_in o behind).root) (few : steps (tree_in o behind) ≤ 4000000) (touches : TouchesAbove n number before.flat behind.flat)
+        (awake : Wakens o behind.flat n number before.awake behind.awake) (quiet : ListsQuiet o behind.flat number before.quiet behind.quiet)
         (owns : length behind.own ≡ length before.own) (helds : length behind.held ≡ length before.held) where
       lists : QuietAreListed o behind.flat behind.quiet behind.held
       lists i t q = elim (same_or_not i number) [
@@ -117,7 +116,7 @@ module _ {S : Type 0} (o : Ops S) (law : LocalLaws o) (before behind : FlatTreeV
       one_moved = keeps_on (record {
         shows = shows;
         few = few;
-        wakes = wake_list number before.flat behind.flat behind.awake awake.mine awake.above touches;
+        looks = one_suffices o n number before.flat behind.flat before.awake behind.awake awake (subst (λ z. number < z) (sym awake.as_many) (kept.awakes number (f, l, h, has))) touches;
         awake = awake.kept;
         quiet = lists;
         held = stay_held;

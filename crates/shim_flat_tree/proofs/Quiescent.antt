@@ -1,18 +1,16 @@
 -- Nothing can happen where nothing can at the listed numbers.
-use Rattle.std.proofs.Common.{◌≡◌, ◌≢◌, ◌≤◌, ◌<◌, ◌+◌, ◌⊎◌, inl, inr, ℕ, zero, suc, Bool, true, false, Option, Some, None, List, [], ◌∷◌, length, refl, sym, ap, subst, ◌∙◌, arith}
+use Rattle.std.proofs.Common.{◌≡◌, ◌≢◌, ◌≤◌, ◌<◌, ◌+◌, ◌⊎◌, inl, inr, ℕ, zero, suc, Bool, true, false, Option, Some, None, List, [], length, refl, sym, ap, subst, ◌∙◌, arith}
 use Rattle.std.specs.Prelude.{slice_get, ◌↔◌, IsTrue}
 use Rattle.std.proofs.lemmas.Option.{slice_get_within}
 use Rattle.shim_base.proofs.Facts.{none_some, some_same}
-use Rattle.shim_local.specs.Process.{Ops, AtQuiet}
+use Rattle.shim_local.specs.Process.{Ops}
 use Rattle.shim_local.specs.Laws.{LocalLaws}
 use Rattle.shim_semantics.specs.Trees.{Tree, Event, Own, after, IsQuiescent, kind_of_stop}
-use Rattle.shim_laws_records.specs.Seen.{lives}
 use Rattle.shim_laws_records.specs.Enabled.{Can}
 use Rattle.shim_laws_records.proofs.CanHappen.{enabled_by_records}
 use Rattle.shim_records.specs.Members.{IsAmong}
 use Rattle.shim_records.specs.Waiting.{AreListedIn}
-use Rattle.shim_laws_keeping.specs.Flats.{FlatView, HasProcess, Keeps, stands}
-use Rattle.shim_laws_waking.specs.Waking.{IsAtNumber}
+use Rattle.shim_laws_keeping.specs.Flats.{FlatView, stands}
 use Rattle.shim_laws_waking.specs.Looks.{IsIdle, IsDue, IsQuietStepAt}
 use Rattle.shim_laws_waking.specs.Awake.{is_set, is_listed}
 use Rattle.shim_laws_waking.proofs.Idle.{looks_decide}
@@ -22,7 +20,7 @@ use Rattle.shim_flat.specs.Due.{DueIs}
 use Rattle.shim_flat.specs.declared.due.Due.{Due}
 use Rattle.shim_flat.specs.declared.due.Due.TheVariants as code
 use Rattle.shim_flat.proofs.DueEvents as events
-use Rattle.shim_flat_tree.specs.FlatTrees.{FlatTreeView, tree_in, KeepsTree, IsQuietAt, IsHeld}
+use Rattle.shim_flat_tree.specs.FlatTrees.{FlatTreeView, tree_in, KeepsTree, IsQuietAt}
 use Rattle.shim_flat_tree.specs.Holding.{NoneHeld}
 use Rattle.shim_flat_tree.specs.Reading.{NoneQuiet, NoneDue}
 

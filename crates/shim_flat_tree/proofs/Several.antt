@@ -1,5 +1,5 @@
 -- Several processes have changed, and their numbers and the forks above them are listed.
-use Rattle.std.proofs.Common.{◌≡◌, ◌<◌, ◌⊎◌, inl, inr, ℕ, Bool, true, Some, List, ◌++◌, length, refl, ap, ◌∙◌, arith}
+use Rattle.std.proofs.Common.{◌≡◌, ◌<◌, ◌⊎◌, inl, inr, ℕ, Bool, true, Some, List, ◌++◌, length, refl, sym, ap, subst, ◌∙◌, arith}
 use Rattle.shim_local.specs.Process.{Ops}
 use Rattle.shim_local.specs.Laws.{LocalLaws}
 use Rattle.shim_semantics.specs.Trees.{Event, steps}
@@ -11,7 +11,6 @@ use Rattle.shim_flat.specs.Reading.{IsInUse, AreInUse, IsForAll}
 use Rattle.shim_laws_keeping.specs.Flats.{FlatView}
 use Rattle.shim_flat.specs.Changing.{IsChanged}
 use Rattle.shim_flat.specs.Touching.{TouchesEach}
-use Rattle.shim_flat.proofs.Above.{wake_each}
 use Rattle.shim_flat_tree.specs.FlatTrees.{FlatTreeView, tree_in, path_at, counts_from, IsQuietAt, KeepsTree}
 use Rattle.shim_flat_tree.specs.Holding.{HappensIn}
 use Rattle.shim_flat_tree.specs.Several.{ListsEach, ListsEachQuiet}
@@ -19,6 +18,7 @@ use Rattle.shim_flat_tree.proofs.Counts.{same}
 use Rattle.shim_flat_tree.proofs.Events.{counts_in, Happened}
 use Rattle.shim_flat_tree.proofs.OneMoved.{still_for_all, keeps_on}
 use Rattle.shim_flat_tree.proofs.Paths.{path_of, same_path_at}
+use Rattle.shim_flat_tree.proofs.Wakened.{each_suffices}
 use Rattle.shim_flat_tree.proofs.Staying.{quiet_stays, held_as_before, still_held, still_listed}
 
 module _ {S : Type 0} (o : Ops S) (numbers : List ℕ) (before behind : FlatView S) (changed : IsChanged o numbers before behind) where
@@ -48,8 +48,8 @@ module _ {S : Type 0} (o : Ops S) (before behind : FlatTreeView S) (numbers : Li
   used_before : (i : ℕ) → IsInUse behind.flat i → IsInUse before.flat i
   used_before = was_used o numbers before.flat behind.flat changed
 
-  module _ (law : LocalLaws o) (kept : KeepsTree o before) (e : Event) (h : Happened o before behind kept.shows e) (none : IsNoQuietStep o (tree_in o before) e) (touches : TouchesEach numbers before.flat behind.flat)
-      (awake : ListsEach behind.flat numbers before.awake behind.awake) (quiet : ListsEachQuiet o behind.flat numbers before.quiet behind.quiet) (held : behind.held ≡ before.held) (own : behind.own ≡ before.own) where
+  module _ (law : LocalLaws o) (kept : KeepsTree o before) (e : Event) (h : Happened o before behind kept.shows e) (none : IsNoQuietStep o (tree_in o before) e) (used : AreInUse before.flat numbers) (touches : TouchesEach numbers before.flat behind.flat)
+      (awake : ListsEach o behind.flat numbers before.awake behind.awake) (quiet : ListsEachQuiet o behind.flat numbers before.quiet behind.quiet) (held : behind.held ≡ before.held) (own : behind.own ≡ before.own) where
     flags : (i : ℕ) → is_listed behind.held i ≡ is_listed before.held i
     flags i = ap (λ z. is_listed z i) held
 
@@ -66,7 +66,7 @@ module _ {S : Type 0} (o : Ops S) (before behind : FlatTreeView S) (numbers : Li
     several_keep few = keeps_on o law before behind kept (record {
       shows = h.shows;
       few = let more = h.counts in omega (arith, few, more);
-      wakes = wake_each numbers before.flat behind.flat behind.awake (λ m at e. awake.mine m (at, e)) (λ m at i e. awake.above m i (at, e)) touches;
+      looks = each_suffices o numbers before.flat behind.flat before.awake behind.awake awake (λ m g. subst (λ z. m < z) (sym awake.as_many) (kept.awakes m (used m g))) touches;
       awake = awake.kept;
       quiet = still_listed o before behind kept flags stay quiet.kept fresh;
       held = still_held o before behind kept flags stay;

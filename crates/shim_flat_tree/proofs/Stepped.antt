@@ -15,10 +15,10 @@ use Rattle.shim_laws_keeping.specs.Moves.{AdvancesBy}
 use Rattle.shim_laws_waking.specs.Awake.{is_listed}
 use Rattle.shim_flat.specs.Reading.{IsInUse, IsForAll}
 use Rattle.shim_flat.specs.Stepping.{HasBecome, IsBeforeQuiet, StepsHere, stands_else, stepped}
-use Rattle.shim_flat.specs.Touching.{TouchesAbove, ListsAbove}
+use Rattle.shim_flat.specs.Touching.{TouchesAbove}
 use Rattle.shim_flat_tree.specs.FlatTrees.{FlatTreeView, tree_in, IsQuietAt, IsHeld, KeepsTree}
 use Rattle.shim_flat_tree.specs.Holding.{Releases, StepsIn}
-use Rattle.shim_flat_tree.specs.Waking.{HasCounted, ListsQuiet}
+use Rattle.shim_flat_tree.specs.Waking.{HasCounted, Wakens, ListsQuiet}
 use Rattle.shim_flat_tree.proofs.Advanced.{Advanced, grantable, steps_on}
 use Rattle.shim_flat_tree.proofs.OneMoved.{for_all_behind, others_held, isnt_held, same_held, one_moved}
 use Rattle.shim_flat_tree.proofs.OwnCounts.{count_is_few, counts_more, as_many_counts}
@@ -69,11 +69,11 @@ module _ {S : Type 0} (o : Ops S) (law : LocalLaws o) (before behind : FlatTreeV
     pub advanced_by : Advanced o law before behind n l d.last
     advanced_by = steps_on o law before behind number n l d.last kept.shows q d.chain d.advances told.output told.histories told.logs (counts_more o before behind number q.first l d.last lives lives q.has d.becomes path told.past n counted) told.events
 
-    pub steps_keep : steps (tree_in o before) + n ≤ 4000000 → TouchesAbove number before.flat behind.flat → ListsAbove behind.flat number before.awake behind.awake → ListsQuiet o behind.flat number before.quiet behind.quiet → length behind.held ≡ length before.held → KeepsTree o behind
-    steps_keep few touches awake quiet helds =
+    pub steps_keep : (forks : ℕ) → steps (tree_in o before) + n ≤ 4000000 → TouchesAbove forks number before.flat behind.flat → Wakens o behind.flat forks number before.awake behind.awake → ListsQuiet o behind.flat number before.quiet behind.quiet → length behind.held ≡ length before.held → KeepsTree o behind
+    steps_keep forks few touches awake quiet helds =
         let a = advanced_by in
         let all = a.counts in
-        one_moved o law before behind kept number q.first l d.last lives lives q.has d.becomes flags free a.shows (omega (arith, few, all)) touches awake quiet (as_many_counts number n before.own behind.own counted) helds
+        one_moved o law before behind kept number q.first l d.last lives lives q.has d.becomes flags free forks a.shows (omega (arith, few, all)) touches awake quiet (as_many_counts number n before.own behind.own counted) helds
 
     -- it was held, and isn't
     pub releases : IsHeld o before number l → (last : S) → QuietSteps o n l last → Releases o before behind number n l last

@@ -9,6 +9,7 @@ use Rattle.shim_laws_keeping.specs.Moves.{MovesBy}
 use Rattle.shim_laws_meetings.specs.Meetings.{HasValue}
 use Rattle.shim_flat.specs.Changing.{IsChanged, ChangesEach}
 use Rattle.shim_laws_meetings.specs.Names.{HasName}
+use Rattle.shim_flat.specs.Reading.{AreInUse}
 use Rattle.shim_flat.specs.Touching.{TouchesEach}
 use Rattle.shim_flat_tree.specs.FlatTrees.{FlatTreeView, tree_in, KeepsTree}
 use Rattle.shim_flat_tree.specs.Holding.{HappensIn}
@@ -38,12 +39,12 @@ module _ {S : Type 0} (o : Ops S) where
   poison_is_no_step : (v : FlatTreeView S) (p : Path) (c : Channel) → IsNoQuietStep o (tree_in o v) (Poison p c)
   poison_is_no_step v p c q e s = absurd cc
 
-  module _ (law : LocalLaws o) (before behind : FlatTreeView S) (kept : KeepsTree o before) (few : steps (tree_in o before) < 4000000) (numbers : List ℕ) (touches : TouchesEach numbers before.flat behind.flat)
-      (awake : ListsEach behind.flat numbers before.awake behind.awake) (quiet : ListsEachQuiet o behind.flat numbers before.quiet behind.quiet) (one : OneEvent before behind) where
+  module _ (law : LocalLaws o) (before behind : FlatTreeView S) (kept : KeepsTree o before) (few : steps (tree_in o before) < 4000000) (numbers : List ℕ) (used : AreInUse before.flat numbers) (touches : TouchesEach numbers before.flat behind.flat)
+      (awake : ListsEach o behind.flat numbers before.awake behind.awake) (quiet : ListsEachQuiet o behind.flat numbers before.quiet behind.quiet) (one : OneEvent before behind) where
     goes : (e : Event) → IsChanged o numbers before.flat behind.flat → IsNoQuietStep o (tree_in o before) e → events.Happened o before behind kept.shows e → Goes before behind e
     goes e changed none h = record {
-      keeps = several_keep o before behind numbers changed law kept e h none touches awake quiet one.held one.own few;
-      happens = several_happen o before behind numbers changed law kept e h none touches awake quiet one.held one.own;
+      keeps = several_keep o before behind numbers changed law kept e h none used touches awake quiet one.held one.own few;
+      happens = several_happen o before behind numbers changed law kept e h none used touches awake quiet one.held one.own;
       steps_are = h.counts;
     }
 

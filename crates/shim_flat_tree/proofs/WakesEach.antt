@@ -1,25 +1,26 @@
 -- One number after the other is listed again.
-use Rattle.std.proofs.Common.{◌≡◌, ◌≢◌, ◌<◌, ◌≤◌, ◌+◌, ℕ, Bool, true, Some, List, inl, inr, refl, sym, ap, subst, ◌∙◌, arith, length}
+use Rattle.std.proofs.Common.{◌≡◌, ◌≢◌, ◌<◌, ◌≤◌, ◌+◌, ◌⊎◌, ℕ, Bool, true, Some, List, inl, inr, refl, sym, ap, subst, ◌∙◌, arith, length}
 use Rattle.std.specs.Prelude.{slice_get}
 use Rattle.std.proofs.lemmas.Option.{slice_get_within}
 use Rattle.shim_base.proofs.Facts.{some_same}
 use Rattle.shim_local.specs.Process.{Ops}
 use Rattle.shim_laws_records.proofs.SameTrees.{same_or_not}
 use Rattle.shim_records.specs.Pairs.{up_in}
+use Rattle.shim_records.specs.Ways.{IsAbove}
 use Rattle.shim_laws_keeping.specs.Flats.{FlatView}
 use Rattle.shim_laws_waking.specs.Awake.{is_listed}
+use Rattle.shim_laws_waking.specs.Looks.{IsIdle}
 use Rattle.shim_flat.specs.Reading.{IsForAll}
-use Rattle.shim_flat.specs.Touching.{IsAbove, ListsAbove}
 use Rattle.shim_flat_tree.specs.FlatTrees.{IsQuietAt}
 use Rattle.shim_flat_tree.specs.Several.{ListsEach, ListsEachQuiet}
-use Rattle.shim_flat_tree.specs.Waking.{ListsQuiet}
+use Rattle.shim_flat_tree.specs.Waking.{Wakens, ListsQuiet}
 
 module _ {S : Type 0} (o : Ops S) (v : FlatView S) (numbers : List ℕ) where
-  -- the numbers before this place are listed
+  -- the numbers before this place are listed, unless they tell of nothing but a quiet step
   pub record ListedSoFar (place : ℕ) (old now : List Bool) : Type 0 where
     pub kept : (i : ℕ) → is_listed old i ≡ true → is_listed now i ≡ true
-    pub mine : (at m : ℕ) → at < place → slice_get numbers at ≡ Some m → is_listed now m ≡ true
-    pub above : (at m i : ℕ) → at < place → slice_get numbers at ≡ Some m → IsAbove (up_in v.records) m i → is_listed now i ≡ true
+    pub mine : (at m : ℕ) → at < place → slice_get numbers at ≡ Some m → (is_listed now m ≡ true) ⊎ IsIdle o v m
+    pub above : (at m i : ℕ) → at < place → slice_get numbers at ≡ Some m → IsAbove (up_in v.records) (4294967295 + 1) m i → is_listed now i ≡ true
     pub as_many : length now ≡ length old
 
   pub record QuietSoFar (place : ℕ) (old now : List Bool) : Type 0 where
@@ -40,15 +41,15 @@ module _ {S : Type 0} (o : Ops S) (v : FlatView S) (numbers : List ℕ) where
     is : (at n : ℕ) → at ≡ place → slice_get numbers at ≡ Some n → m ≡ n
     is at n e g = some_same m n (sym there ∙ (ap (slice_get numbers) (sym e) ∙ g))
 
-    pub one_listed : ListedSoFar place old now → ListsAbove v m now next → ListedSoFar (place + 1) old next
+    pub one_listed : ListedSoFar place old now → Wakens o v 4294967295 m now next → ListedSoFar (place + 1) old next
     one_listed so lists = record {
       kept = λ i e. lists.kept i (so.kept i e);
       mine = λ at n less g. elim (same_or_not at place) [
-        | inl e ↦ ap (is_listed next) (sym (is at n e g)) ∙ lists.mine
-        | inr far ↦ lists.kept n (so.mine at n (still_less at place far less) g)
+        | inl e ↦ subst (λ z. (is_listed next z ≡ true) ⊎ IsIdle o v z) (is at n e g) lists.mine
+        | inr far ↦ elim (so.mine at n (still_less at place far less) g) [ inl y ↦ inl (lists.kept n y) | inr y ↦ inr y ]
       ];
       above = λ at n i less g w. elim (same_or_not at place) [
-        | inl e ↦ lists.above i (subst (λ z. IsAbove (up_in v.records) z i) (sym (is at n e g)) w)
+        | inl e ↦ lists.above i (subst (λ z. IsAbove (up_in v.records) (4294967295 + 1) z i) (sym (is at n e g)) w)
         | inr far ↦ lists.kept i (so.above at n i (still_less at place far less) g w)
       ];
       as_many = lists.as_many ∙ so.as_many;
@@ -68,7 +69,7 @@ module _ {S : Type 0} (o : Ops S) (v : FlatView S) (numbers : List ℕ) where
     inside : (at m : ℕ) → slice_get numbers at ≡ Some m → at < place
     inside at m e = let w = slice_get_within numbers at m e in omega (arith, w, past)
 
-    pub all_listed : ListedSoFar place old now → ListsEach v numbers old now
+    pub all_listed : ListedSoFar place old now → ListsEach o v numbers old now
     all_listed so = record {
       kept = so.kept;
       mine = λ m g. so.mine g.0 m (inside g.0 m g.1) g.1;

@@ -1,13 +1,11 @@
 -- Whether anything can happen, as the code asks it of listed numbers.
-use Rattle.std.specs.Prelude.{◌≡◌, ℕ, Bool, true, false, List}
+use Rattle.std.specs.Prelude.{ℕ, Bool, true, false, List}
 use Rattle.shim_local.specs.Process.{Ops}
 use Rattle.shim_semantics.specs.Trees.{Event}
 use Rattle.shim_records.specs.Members.{IsAmong}
 use Rattle.shim_laws_keeping.specs.Flats.{FlatView}
 use Rattle.shim_laws_waking.specs.Looks.{IsIdle, IsDue}
 use Rattle.shim_flat.specs.Stepping.{IsBeforeQuiet}
-use Rattle.shim_flat.specs.declared.due.Due.{Due}
-use Rattle.shim_flat.specs.declared.due.Due.TheVariants as code
 
 -- whether none of the processes with these numbers stands before a quiet step
 abbrev pub NoneQuiet : {S : Type 0} → Ops S → FlatView S → List ℕ → Bool → Type 0

@@ -1,9 +1,28 @@
 -- What calls do to the lists of numbers and to the counts by number.
-use Rattle.std.specs.Prelude.{◌≡◌, ℕ, ◌+◌, Bool, true, false, Option, Some, None, List, length, slice_get, slice_set}
+use Rattle.std.specs.Prelude.{◌≡◌, ◌⊎◌, ℕ, ◌+◌, Bool, true, false, Option, Some, None, List, length, slice_get, slice_set}
 use Rattle.shim_local.specs.Process.{Ops}
+use Rattle.shim_records.specs.Pairs.{up_in}
+use Rattle.shim_records.specs.Waiting.{Adds}
+use Rattle.shim_records.specs.Ways.{IsAbove}
 use Rattle.shim_laws_keeping.specs.Flats.{FlatView}
 use Rattle.shim_laws_waking.specs.Awake.{is_listed}
+use Rattle.shim_laws_waking.specs.Looks.{IsIdle}
+use Rattle.shim_flat.specs.declared.listing.Listing.{Listing}
+use Rattle.shim_flat.specs.declared.listing.Listing.TheVariants as code
 use Rattle.shim_flat_tree.specs.FlatTrees.{IsQuietAt, QuietAreListed}
+
+-- the number is in the list in which it belongs, and no other flag has changed
+abbrev pub IsPutIn : Listing → ℕ → List Bool → List Bool → List Bool → List Bool → Type 0
+IsPutIn code.Nowhere number awake quiet awakes quiets = (awakes ≡ awake) × (quiets ≡ quiet)
+IsPutIn code.Quiet number awake quiet awakes quiets = (awakes ≡ awake) × Adds number quiet quiets
+IsPutIn code.Awake number awake quiet awakes quiets = Adds number awake awakes × (quiets ≡ quiet)
+
+-- What was listed is, and so are this number, unless it tells of nothing but a quiet step, the first n forks above it, and the next one.
+pub record Wakens {S : Type 0} (o : Ops S) (v : FlatView S) (n number : ℕ) (old new : List Bool) : Type 0 where
+  pub kept : (i : ℕ) → is_listed old i ≡ true → is_listed new i ≡ true
+  pub mine : (is_listed new number ≡ true) ⊎ IsIdle o v number
+  pub above : (i : ℕ) → IsAbove (up_in v.records) (n + 1) number i → is_listed new i ≡ true
+  pub as_many : length new ≡ length old
 
 -- what was listed is, and so is this number, if its process stands before a quiet step
 pub record ListsQuiet {S : Type 0} (o : Ops S) (v : FlatView S) (number : ℕ) (old new : List Bool) : Type 0 where

@@ -12,9 +12,9 @@ ghost use Rattle.shim_flat_tree.specs.Holding.{HappensIn};
 ghost use Rattle.shim_flat_tree.specs.Settling.{StaysAs};
 
 use crate::flat_tree::FlatTree;
-use crate::waking::{count_steps, wake};
+use crate::waking::{count_steps, wake, wake_as};
 use shim_base::{NoMemory, Path, Trap};
-use shim_flat::Thrown;
+use shim_flat::{Listing, Thrown};
 use shim_local::{Local, Log, LogWhat};
 use shim_tree::Event;
 
@@ -109,10 +109,17 @@ impl<L: Local> FlatTree<L> {
         ensures err { OnErr result (StaysAs L.ops self.old self.new) }
     {
         let event = Event::End(self.flat.path(number).copy()?);
-        self.flat.finish_here(number);
+        let forks = self.flat.finish_here(number);
         self.events += 1;
         self.taken += 1;
-        wake(&self.flat, number, &mut self.awake, &mut self.quiet);
+        wake_as(
+            &self.flat,
+            number,
+            Listing::Nowhere,
+            forks,
+            &mut self.awake,
+            &mut self.quiet,
+        );
         Ok(event)
     }
 }

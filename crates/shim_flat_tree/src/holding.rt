@@ -10,7 +10,7 @@ ghost use Rattle.shim_flat_tree.specs.Waking.{StillListed, IsFirstHome};
 ghost use Rattle.shim_flat_tree.specs.Holding.{IsHomeAt, IsNextQuiet, Holds, HeldComes, Releases, StepsIn};
 
 use crate::flat_tree::FlatTree;
-use crate::waking::{count_steps, wake};
+use crate::waking::{count_steps, wake_as};
 use shim_base::Path;
 use shim_flat::Flat;
 use shim_local::{Local, Quiet};
@@ -85,11 +85,18 @@ impl<L: Local> FlatTree<L> {
         requires few { steps (tree_in L.ops self.old) + taken ≤ 4000000 }
         ensures { (l : L) → HeldComes L.ops self.old number taken l last → Releases L.ops self.old self.new number taken l last }
     {
-        self.flat.advance_here(number, last);
+        let arrival = self.flat.advance_here(number, last);
         self.held[number as usize] = false;
         count_steps(&mut self.own, number, taken);
         self.taken += taken;
-        wake(&self.flat, number, &mut self.awake, &mut self.quiet);
+        wake_as(
+            &self.flat,
+            number,
+            arrival.listing,
+            arrival.forks,
+            &mut self.awake,
+            &mut self.quiet,
+        );
     }
 
     /// The process with this number, which stands before a quiet step and isn't held, does up to `most` quiet
@@ -99,10 +106,17 @@ impl<L: Local> FlatTree<L> {
         requires few { steps (tree_in L.ops self.old) + most ≤ 4000000 }
         ensures { (l : L) → IsHomeAt L.ops self.old number l → StepsIn L.ops self.old self.new number most result l }
     {
-        let quiet = self.flat.step_here(number, most);
+        let (quiet, arrival) = self.flat.step_here(number, most);
         count_steps(&mut self.own, number, quiet.taken);
         self.taken += quiet.taken;
-        wake(&self.flat, number, &mut self.awake, &mut self.quiet);
+        wake_as(
+            &self.flat,
+            number,
+            arrival.listing,
+            arrival.forks,
+            &mut self.awake,
+            &mut self.quiet,
+        );
         quiet
     }
 }

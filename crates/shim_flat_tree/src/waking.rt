@@ -1,15 +1,50 @@
 // Numbers that are listed again, since something has changed there, and steps that are counted.
-ghost use Rattle.std.specs.Prelude.{◌≡◌, ◌≤◌, ◌<◌, ◌+◌, ℕ, Some, vec_len, slice_get};
+ghost use Rattle.std.specs.Prelude.{◌≡◌, ◌≤◌, ◌<◌, ◌+◌, ℕ, Some, length, vec_len, slice_get};
+ghost use Rattle.shim_flat.specs.Listing.{ListingIs};
 ghost use Rattle.shim_flat.specs.Reading.{IsInUse, IsForAll};
-ghost use Rattle.shim_flat.specs.Touching.{ListsAbove};
-ghost use Rattle.shim_flat_tree.specs.Waking.{ListsQuiet, HasCounted};
+ghost use Rattle.shim_flat_tree.specs.Waking.{IsPutIn, Wakens, ListsQuiet, HasCounted};
 
-use shim_flat::Flat;
+use shim_flat::{Flat, Listing};
 use shim_local::Local;
 use shim_records::Worklist;
 
-/// The process with this number has changed: what can happen at it, and at the forks above it, is looked
-/// at again, and if it stands before a quiet step it is listed as that. It takes no memory.
+// Puts the number into the list in which its process belongs, if into any.
+fn put_in(number: u32, listing: Listing, awake: &mut Worklist, quiet: &mut Worklist)
+    requires awakes { number < length awake.old }
+    requires quiets { number < length quiet.old }
+    ensures { IsPutIn listing number awake.old quiet.old awake.new quiet.new }
+{
+    match listing {
+        Listing::Nowhere => {}
+        Listing::Quiet => quiet.add(number),
+        Listing::Awake => awake.add(number),
+    }
+}
+
+/// The process with this number, which belongs in this list, has changed, and with it at most the counts of
+/// so many forks above it: what can happen at it, at these, and at the next one is looked at again, unless
+/// that is a quiet step, as which it is listed. It takes no memory.
+pub(crate) fn wake_as<L: Local>(
+    flat: &Flat<L>,
+    number: u32,
+    listing: Listing,
+    forks: u32,
+    awake: &mut Worklist,
+    quiet: &mut Worklist,
+)
+    requires used { IsInUse flat.now number }
+    requires listing { ListingIs L.ops flat.now number listing }
+    requires awakes { IsForAll flat.now awake.old }
+    requires quiets { IsForAll flat.now quiet.old }
+    ensures awake { Wakens L.ops flat.now forks number awake.old awake.new }
+    ensures quiet { ListsQuiet L.ops flat.now number quiet.old quiet.new }
+{
+    put_in(number, listing, awake, quiet);
+    flat.above(number, forks as u64 + 1, awake);
+}
+
+/// The process with this number has changed, and perhaps all forks above it: these are looked at again, and
+/// so is it, or it is listed as standing before a quiet step. It takes no memory.
 pub(crate) fn wake<L: Local>(
     flat: &Flat<L>,
     number: u32,
@@ -19,13 +54,10 @@ pub(crate) fn wake<L: Local>(
     requires used { IsInUse flat.now number }
     requires awakes { IsForAll flat.now awake.old }
     requires quiets { IsForAll flat.now quiet.old }
-    ensures awake { ListsAbove flat.now number awake.old awake.new }
+    ensures awake { Wakens L.ops flat.now 4294967295 number awake.old awake.new }
     ensures quiet { ListsQuiet L.ops flat.now number quiet.old quiet.new }
 {
-    flat.above(number, awake);
-    if flat.is_before_quiet(number) {
-        quiet.add(number);
-    }
+    wake_as(flat, number, flat.listing(number), u32::MAX, awake, quiet);
 }
 
 /// The process with this number did so many steps of its own more.

@@ -7,8 +7,8 @@ use shim_flat::Flat;
 use shim_local::Local;
 use shim_records::Worklist;
 
-/// The processes with these numbers have changed, and each is listed again, with the forks above it. It takes
-/// no memory.
+/// The processes with these numbers have changed, and perhaps all forks above them: what can happen at each is
+/// looked at again. It takes no memory.
 pub(crate) fn wake_each<L: Local>(
     flat: &Flat<L>,
     numbers: &[u32],
@@ -18,7 +18,7 @@ pub(crate) fn wake_each<L: Local>(
     requires used { AreInUse flat.now numbers.now }
     requires awakes { IsForAll flat.now awake.old }
     requires quiets { IsForAll flat.now quiet.old }
-    ensures awake { ListsEach flat.now numbers.now awake.old awake.new }
+    ensures awake { ListsEach L.ops flat.now numbers.now awake.old awake.new }
     ensures quiet { ListsEachQuiet L.ops flat.now numbers.now quiet.old quiet.new }
 {
     for place in 0..numbers.len() {

@@ -1,6 +1,6 @@
 use Rattle.std.proofs.lemmas.List.{get_or_default}
 use Rattle.std.proofs.lemmas.Option.{slice_get_read}
-use Rattle.std.proofs.Common.{rules, refl, get_or, ◌≡◌, Some, sym, ◌∙◌, length, ◌≤◌}
+use Rattle.std.proofs.Common.{rules, refl, get_or, ◌≡◌, Some, length, ◌≤◌}
 use Rattle.std.specs.Prelude.{slice_get}
 use Rattle.shim_laws_waking.specs.Looks.{IsIdle}
 use Rattle.shim_flat_tree.proofs.Quiescent.{some_due, nothing_due, before_more, before_all}

@@ -1,11 +1,9 @@
-use Rattle.std.proofs.Common.{rules, ◌≡◌, ◌≢◌, ◌≤◌, ◌<◌, ◌+◌, ◌-◌, ℕ, suc, Some, refl, sym, ap, subst, ◌∙◌, arith}
+use Rattle.std.proofs.Common.{rules, ◌≡◌, ◌≤◌, ◌-◌, suc, Some}
 use Rattle.std.specs.Prelude.{slice_get}
 use Rattle.std.proofs.lemmas.Result.{on_ok_weaker}
 use Rattle.shim_laws_records.specs.Seen.{lives, forks, ends, dies}
 use Rattle.shim_laws_records.specs.Agrees.{used, free}
-use Rattle.shim_laws_keeping.specs.Flats.{stands}
 use Rattle.shim_semantics.specs.Nodes.{death}
-use Rattle.shim_flat_tree.specs.Gathering.{Gathers}
 use Rattle.shim_flat_tree.proofs.Gathering as lemmas
 use Rattle.shim_flat_tree.proofs.waits.+gather.Goals as goal
 

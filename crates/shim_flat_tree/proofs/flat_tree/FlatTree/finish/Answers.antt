@@ -9,29 +9,35 @@ use Rattle.shim_flat_tree.specs.Fields.{view_of}
 use Rattle.shim_flat_tree.specs.FlatTrees.{tree_in}
 use Rattle.shim_flat_tree.specs.Holding.{HappensIn}
 use Rattle.shim_flat_tree.proofs.Acted.{HasTold, end_done, still_for_all}
+use Rattle.shim_flat_tree.proofs.Wakened.{ended_nowhere}
 use Rattle.shim_flat_tree.proofs.flat_tree.FlatTree.finish.Goals as goal
 
-pub wake-requires-clause-awakes : goal.wake-requires-clause-awakes
-wake-requires-clause-awakes g c κs within =
-    let o = g.L.Local.ops in
-    let law = (g.met.L.Local g.world.𝓛 g.world.𝓜 g.world.𝓡 ((λ s x. x), (λ x. x), (λ x. x), λ x. x)).laws in
-    let w = c.self.inside in
-    let v = view_of w.begun.value w.flat w.output.items w.histories (logged w.logs.items) w.own.items w.past.items w.events w.awake w.quiet w.held.items in
-    let n = c.args.number in
-    let a = c.finish_here.ensures in
-    let x = view_of w.begun.value c.finish_here.new.self w.output.items w.histories (logged w.logs.items) w.own.items w.past.items w.events w.awake w.quiet w.held.items in
-    still_for_all o law v x c.self.invariant.0 n AtFinish ends nothing a w.awake c.self.invariant.0.awakes
+pub wake_as-requires-clause-listing : goal.wake_as-requires-clause-listing
+wake_as-requires-clause-listing g c κs within =
+    let a = c.finish_here-forks.ensures in
+    ended_nowhere g.L.Local.ops c.finish_here-forks.new.self c.args.number a.becomes.first _ a.becomes.mine
 
-pub wake-requires-clause-quiets : goal.wake-requires-clause-quiets
-wake-requires-clause-quiets g c κs within =
+pub wake_as-requires-clause-awakes : goal.wake_as-requires-clause-awakes
+wake_as-requires-clause-awakes g c κs within =
     let o = g.L.Local.ops in
     let law = (g.met.L.Local g.world.𝓛 g.world.𝓜 g.world.𝓡 ((λ s x. x), (λ x. x), (λ x. x), λ x. x)).laws in
     let w = c.self.inside in
     let v = view_of w.begun.value w.flat w.output.items w.histories (logged w.logs.items) w.own.items w.past.items w.events w.awake w.quiet w.held.items in
     let n = c.args.number in
-    let a = c.finish_here.ensures in
-    let x = view_of w.begun.value c.finish_here.new.self w.output.items w.histories (logged w.logs.items) w.own.items w.past.items w.events w.awake w.quiet w.held.items in
-    still_for_all o law v x c.self.invariant.0 n AtFinish ends nothing a w.quiet c.self.invariant.0.quiets
+    let a = c.finish_here-forks.ensures in
+    let x = view_of w.begun.value c.finish_here-forks.new.self w.output.items w.histories (logged w.logs.items) w.own.items w.past.items w.events w.awake w.quiet w.held.items in
+    still_for_all o law v x c.self.invariant.0 c.finish_here-forks.result n AtFinish ends nothing a w.awake c.self.invariant.0.awakes
+
+pub wake_as-requires-clause-quiets : goal.wake_as-requires-clause-quiets
+wake_as-requires-clause-quiets g c κs within =
+    let o = g.L.Local.ops in
+    let law = (g.met.L.Local g.world.𝓛 g.world.𝓜 g.world.𝓡 ((λ s x. x), (λ x. x), (λ x. x), λ x. x)).laws in
+    let w = c.self.inside in
+    let v = view_of w.begun.value w.flat w.output.items w.histories (logged w.logs.items) w.own.items w.past.items w.events w.awake w.quiet w.held.items in
+    let n = c.args.number in
+    let a = c.finish_here-forks.ensures in
+    let x = view_of w.begun.value c.finish_here-forks.new.self w.output.items w.histories (logged w.logs.items) w.own.items w.past.items w.events w.awake w.quiet w.held.items in
+    still_for_all o law v x c.self.invariant.0 c.finish_here-forks.result n AtFinish ends nothing a w.quiet c.self.invariant.0.quiets
 
 pub invariant_of-self : goal.invariant_of-self
 invariant_of-self g c =
@@ -41,15 +47,15 @@ invariant_of-self g c =
     let v = view_of w.begun.value w.flat w.output.items w.histories (logged w.logs.items) w.own.items w.past.items w.events w.awake w.quiet w.held.items in
     let n = c.args.number in
     let few = subst (λ z. steps (tree_in o z) < 4000000) (sym c.self.view_is) c.requires.few in
-    let a = c.finish_here.ensures in
-    let u = view_of w.begun.value c.finish_here.new.self w.output.items w.histories (logged w.logs.items) w.own.items w.past.items (w.events + 1) c.wake.new.awake c.wake.new.quiet w.held.items in
-    let told : HasTold o law v u c.self.invariant.0 n AtFinish ends nothing a = record {
+    let a = c.finish_here-forks.ensures in
+    let u = view_of w.begun.value c.finish_here-forks.new.self w.output.items w.histories (logged w.logs.items) w.own.items w.past.items (w.events + 1) c.wake_as.new.awake c.wake_as.new.quiet w.held.items in
+    let told : HasTold o law v u c.self.invariant.0 c.finish_here-forks.result n AtFinish ends nothing a = record {
       output = sym (append-nil w.output.items);
       histories = refl;
       logs = refl;
       past = refl;
     } in
-    let r = end_done o law v u c.self.invariant.0 n AtFinish ends nothing a refl (λ e. absurd cc) told refl refl refl few c.wake.ensures.awake c.wake.ensures.quiet in
+    let r = end_done o law v u c.self.invariant.0 c.finish_here-forks.result n AtFinish ends nothing a refl (λ e. absurd cc) told refl refl refl few c.wake_as.ensures.awake c.wake_as.ensures.quiet in
     (r.0, ap (λ z. z + 1) c.self.invariant.1 ∙ sym r.2)
 
 pub returns-clause-ok : goal.returns-clause-ok
@@ -60,14 +66,14 @@ returns-clause-ok g c =
     let v = view_of w.begun.value w.flat w.output.items w.histories (logged w.logs.items) w.own.items w.past.items w.events w.awake w.quiet w.held.items in
     let n = c.args.number in
     let few = subst (λ z. steps (tree_in o z) < 4000000) (sym c.self.view_is) c.requires.few in
-    let a = c.finish_here.ensures in
-    let u = view_of w.begun.value c.finish_here.new.self w.output.items w.histories (logged w.logs.items) w.own.items w.past.items (w.events + 1) c.wake.new.awake c.wake.new.quiet w.held.items in
-    let told : HasTold o law v u c.self.invariant.0 n AtFinish ends nothing a = record {
+    let a = c.finish_here-forks.ensures in
+    let u = view_of w.begun.value c.finish_here-forks.new.self w.output.items w.histories (logged w.logs.items) w.own.items w.past.items (w.events + 1) c.wake_as.new.awake c.wake_as.new.quiet w.held.items in
+    let told : HasTold o law v u c.self.invariant.0 c.finish_here-forks.result n AtFinish ends nothing a = record {
       output = sym (append-nil w.output.items);
       histories = refl;
       logs = refl;
       past = refl;
     } in
-    let r = end_done o law v u c.self.invariant.0 n AtFinish ends nothing a refl (λ e. absurd cc) told refl refl refl few c.wake.ensures.awake c.wake.ensures.quiet in
+    let r = end_done o law v u c.self.invariant.0 c.finish_here-forks.result n AtFinish ends nothing a refl (λ e. absurd cc) told refl refl refl few c.wake_as.ensures.awake c.wake_as.ensures.quiet in
     let path = c.in_ok-copy.ensures ∙ c.path.ensures a.process a.has.state_is in
     subst (λ z. HappensIn o z u (End c.in_ok-copy.field-0)) c.self.view_is (subst (λ z. HappensIn o v u (End z)) (sym path) r.1)

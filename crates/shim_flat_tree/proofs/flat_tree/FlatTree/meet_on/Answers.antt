@@ -38,13 +38,13 @@ invariant_of-self-2 g c =
     let now = c.meet_here.new.self in
     let before = view_of w.begun.value w.flat w.output.items w.histories (logged w.logs.items) w.own.items w.past.items w.events w.awake w.quiet w.held.items in
     let behind = view_of w.begun.value now w.output.items c.record.new.self (logged w.logs.items) w.own.items w.past.items (w.events + 1) c.wake_each.new.awake c.wake_each.new.quiet w.held.items in
-    let awake = subst (λ z. ListsEach now z w.awake c.wake_each.new.awake) c.numbers.ensures c.wake_each.ensures.awake in
+    let awake = subst (λ z. ListsEach o now z w.awake c.wake_each.new.awake) c.numbers.ensures c.wake_each.ensures.awake in
     let quiet = subst (λ z. ListsEachQuiet o now z w.quiet c.wake_each.new.quiet) c.numbers.ensures c.wake_each.ensures.quiet in
     let few = subst (λ z. steps (tree_in o z) < 4000000) (sym c.self.view_is) c.requires.few in
     let fits : FitsSigned w64 c.value_met-value.result = search rules in
     let histories = c.in_ok-record.ensures.ok ∙ ap (recorded w.histories c.args.chan.channel c.name_here-name.result) (to_z-of_z w64 c.value_met-value.result fits) in
     let one : OneEvent o before behind = record { output = refl; logs = refl; own = refl; past = refl; events = refl; held = refl } in
-    let went = meeting_goes o law before behind c.self.invariant.0 few sharers c.meet_here.ensures.touches awake quiet one c.args.chan.channel c.name_here-name.result c.value_met-value.result
+    let went = meeting_goes o law before behind c.self.invariant.0 few sharers c.in_ok-sharers.ensures.used c.meet_here.ensures.touches awake quiet one c.args.chan.channel c.name_here-name.result c.value_met-value.result
     c.meet_here.ensures.moves c.meet_here.ensures.changes c.name_here-name.ensures c.value_met-value.ensures histories in
     (went.keeps, ap (λ z. z + 1) c.self.invariant.1 ∙ sym went.steps_are)
 
@@ -57,12 +57,12 @@ returns-clause-ok g c =
     let now = c.meet_here.new.self in
     let before = view_of w.begun.value w.flat w.output.items w.histories (logged w.logs.items) w.own.items w.past.items w.events w.awake w.quiet w.held.items in
     let behind = view_of w.begun.value now w.output.items c.record.new.self (logged w.logs.items) w.own.items w.past.items (w.events + 1) c.wake_each.new.awake c.wake_each.new.quiet w.held.items in
-    let awake = subst (λ z. ListsEach now z w.awake c.wake_each.new.awake) c.numbers.ensures c.wake_each.ensures.awake in
+    let awake = subst (λ z. ListsEach o now z w.awake c.wake_each.new.awake) c.numbers.ensures c.wake_each.ensures.awake in
     let quiet = subst (λ z. ListsEachQuiet o now z w.quiet c.wake_each.new.quiet) c.numbers.ensures c.wake_each.ensures.quiet in
     let few = subst (λ z. steps (tree_in o z) < 4000000) (sym c.self.view_is) c.requires.few in
     let fits : FitsSigned w64 c.value_met-value.result = search rules in
     let histories = c.in_ok-record.ensures.ok ∙ ap (recorded w.histories c.args.chan.channel c.name_here-name.result) (to_z-of_z w64 c.value_met-value.result fits) in
     let one : OneEvent o before behind = record { output = refl; logs = refl; own = refl; past = refl; events = refl; held = refl } in
-    let went = meeting_goes o law before behind c.self.invariant.0 few sharers c.meet_here.ensures.touches awake quiet one c.args.chan.channel c.name_here-name.result c.value_met-value.result
+    let went = meeting_goes o law before behind c.self.invariant.0 few sharers c.in_ok-sharers.ensures.used c.meet_here.ensures.touches awake quiet one c.args.chan.channel c.name_here-name.result c.value_met-value.result
     c.meet_here.ensures.moves c.meet_here.ensures.changes c.name_here-name.ensures c.value_met-value.ensures histories in
     subst (λ z. HappensIn o z behind (Meet c.args.chan.channel)) c.self.view_is went.happens

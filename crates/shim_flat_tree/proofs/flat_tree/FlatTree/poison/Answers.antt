@@ -59,13 +59,13 @@ invariant_of-self-2 g c =
     let now = c.poison_here.new.self in
     let before = view_of w.begun.value w.flat w.output.items w.histories (logged w.logs.items) w.own.items w.past.items w.events w.awake w.quiet w.held.items in
     let behind = view_of w.begun.value now w.output.items w.histories (logged w.logs.items) w.own.items w.past.items (w.events + 1) c.wake_each.new.awake c.wake_each.new.quiet w.held.items in
-    let awake = subst (λ z. ListsEach now z w.awake c.wake_each.new.awake) c.numbers.ensures c.wake_each.ensures.awake in
+    let awake = subst (λ z. ListsEach o now z w.awake c.wake_each.new.awake) c.numbers.ensures c.wake_each.ensures.awake in
     let quiet = subst (λ z. ListsEachQuiet o now z w.quiet c.wake_each.new.quiet) c.numbers.ensures c.wake_each.ensures.quiet in
     let few = subst (λ z. steps (tree_in o z) < 4000000) (sym c.self.view_is) c.requires.few in
     let one : OneEvent o before behind = record { output = refl; logs = refl; own = refl; past = refl; events = refl; held = refl } in
     let its : HasProcess w.flat c.in_ok-child.child d.child_first d.child d.child_sort = subst (λ z. HasProcess w.flat z d.child_first d.child d.child_sort) child d.its in
     let moves = subst (λ z. MovesBy o (Poison z c.in_ok-chan.chan.channel) w.flat now) (sym path) (c.poison_here.ensures.moves d.child_first d.child d.child_sort its) in
-    let went = poison_goes o law before behind c.self.invariant.0 few sharers c.poison_here.ensures.touches awake quiet one c.in_ok-path.path c.in_ok-chan.chan.channel moves c.poison_here.ensures.changes refl in
+    let went = poison_goes o law before behind c.self.invariant.0 few sharers c.in_ok-sharers.ensures.used c.poison_here.ensures.touches awake quiet one c.in_ok-path.path c.in_ok-chan.chan.channel moves c.poison_here.ensures.changes refl in
     (went.keeps, ap (λ z. z + 1) c.self.invariant.1 ∙ sym went.steps_are)
 
 pub returns-clause-ok : goal.returns-clause-ok
@@ -83,11 +83,11 @@ returns-clause-ok g c =
     let now = c.poison_here.new.self in
     let before = view_of w.begun.value w.flat w.output.items w.histories (logged w.logs.items) w.own.items w.past.items w.events w.awake w.quiet w.held.items in
     let behind = view_of w.begun.value now w.output.items w.histories (logged w.logs.items) w.own.items w.past.items (w.events + 1) c.wake_each.new.awake c.wake_each.new.quiet w.held.items in
-    let awake = subst (λ z. ListsEach now z w.awake c.wake_each.new.awake) c.numbers.ensures c.wake_each.ensures.awake in
+    let awake = subst (λ z. ListsEach o now z w.awake c.wake_each.new.awake) c.numbers.ensures c.wake_each.ensures.awake in
     let quiet = subst (λ z. ListsEachQuiet o now z w.quiet c.wake_each.new.quiet) c.numbers.ensures c.wake_each.ensures.quiet in
     let few = subst (λ z. steps (tree_in o z) < 4000000) (sym c.self.view_is) c.requires.few in
     let one : OneEvent o before behind = record { output = refl; logs = refl; own = refl; past = refl; events = refl; held = refl } in
     let its : HasProcess w.flat c.in_ok-child.child d.child_first d.child d.child_sort = subst (λ z. HasProcess w.flat z d.child_first d.child d.child_sort) child d.its in
     let moves = subst (λ z. MovesBy o (Poison z c.in_ok-chan.chan.channel) w.flat now) (sym path) (c.poison_here.ensures.moves d.child_first d.child d.child_sort its) in
-    let went = poison_goes o law before behind c.self.invariant.0 few sharers c.poison_here.ensures.touches awake quiet one c.in_ok-path.path c.in_ok-chan.chan.channel moves c.poison_here.ensures.changes refl in
+    let went = poison_goes o law before behind c.self.invariant.0 few sharers c.in_ok-sharers.ensures.used c.poison_here.ensures.touches awake quiet one c.in_ok-path.path c.in_ok-chan.chan.channel moves c.poison_here.ensures.changes refl in
     subst (λ z. HappensIn o z behind (Poison c.in_ok-path.path c.in_ok-chan.chan.channel)) c.self.view_is went.happens

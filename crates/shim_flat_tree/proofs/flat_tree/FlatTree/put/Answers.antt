@@ -37,7 +37,7 @@ wake-requires-clause-awakes g c κs within =
     let n = c.args.number in
     let a = c.put_here-byte.ensures in
     let x = view_of w.begun.value c.put_here-byte.new.self w.output.items w.histories (logged w.logs.items) w.own.items w.past.items w.events w.awake w.quiet w.held.items in
-    still_for_all o law v x c.self.invariant.0 n AtPut lives (putting c.put_here-byte.result) a w.awake c.self.invariant.0.awakes
+    still_for_all o law v x c.self.invariant.0 4294967295 n AtPut lives (putting c.put_here-byte.result) a w.awake c.self.invariant.0.awakes
 
 pub wake-requires-clause-quiets : goal.wake-requires-clause-quiets
 wake-requires-clause-quiets g c κs within =
@@ -48,7 +48,7 @@ wake-requires-clause-quiets g c κs within =
     let n = c.args.number in
     let a = c.put_here-byte.ensures in
     let x = view_of w.begun.value c.put_here-byte.new.self w.output.items w.histories (logged w.logs.items) w.own.items w.past.items w.events w.awake w.quiet w.held.items in
-    still_for_all o law v x c.self.invariant.0 n AtPut lives (putting c.put_here-byte.result) a w.quiet c.self.invariant.0.quiets
+    still_for_all o law v x c.self.invariant.0 4294967295 n AtPut lives (putting c.put_here-byte.result) a w.quiet c.self.invariant.0.quiets
 
 pub invariant_of-self-2 : goal.invariant_of-self-2
 invariant_of-self-2 g c =
@@ -60,13 +60,13 @@ invariant_of-self-2 g c =
     let few = subst (λ z. steps (tree_in o z) < 4000000) (sym c.self.view_is) c.requires.few in
     let a = c.put_here-byte.ensures in
     let u = view_of w.begun.value c.put_here-byte.new.self c.tell_byte.new.output.items w.histories (logged w.logs.items) c.count_steps.new.own.items w.past.items w.events c.wake.new.awake c.wake.new.quiet w.held.items in
-    let told : HasTold o law v u c.self.invariant.0 n AtPut lives (putting c.put_here-byte.result) a = record {
+    let told : HasTold o law v u c.self.invariant.0 4294967295 n AtPut lives (putting c.put_here-byte.result) a = record {
       output = c.tell_byte.ensures ∙ ap (λ z. z ++ (putting c.put_here-byte.result).bytes) c.in_ok-reserve.ensures.items;
       histories = refl;
       logs = put_logs_none (logged w.logs.items) (o.path a.process) c.put_here-byte.result;
       past = refl;
     } in
-    let r = own_done o law v u c.self.invariant.0 n AtPut lives (putting c.put_here-byte.result) a refl (λ e. absurd cc) told c.count_steps.ensures refl refl few c.wake.ensures.awake c.wake.ensures.quiet in
+    let r = own_done o law v u c.self.invariant.0 4294967295 n AtPut lives (putting c.put_here-byte.result) a refl (λ e. absurd cc) told c.count_steps.ensures refl refl few c.wake.ensures.awake c.wake.ensures.quiet in
     (r.0, ap (λ z. z + 1) c.self.invariant.1 ∙ sym r.2)
 
 pub returns-clause-ok : goal.returns-clause-ok
@@ -79,12 +79,12 @@ returns-clause-ok g c =
     let few = subst (λ z. steps (tree_in o z) < 4000000) (sym c.self.view_is) c.requires.few in
     let a = c.put_here-byte.ensures in
     let u = view_of w.begun.value c.put_here-byte.new.self c.tell_byte.new.output.items w.histories (logged w.logs.items) c.count_steps.new.own.items w.past.items w.events c.wake.new.awake c.wake.new.quiet w.held.items in
-    let told : HasTold o law v u c.self.invariant.0 n AtPut lives (putting c.put_here-byte.result) a = record {
+    let told : HasTold o law v u c.self.invariant.0 4294967295 n AtPut lives (putting c.put_here-byte.result) a = record {
       output = c.tell_byte.ensures ∙ ap (λ z. z ++ (putting c.put_here-byte.result).bytes) c.in_ok-reserve.ensures.items;
       histories = refl;
       logs = put_logs_none (logged w.logs.items) (o.path a.process) c.put_here-byte.result;
       past = refl;
     } in
-    let r = own_done o law v u c.self.invariant.0 n AtPut lives (putting c.put_here-byte.result) a refl (λ e. absurd cc) told c.count_steps.ensures refl refl few c.wake.ensures.awake c.wake.ensures.quiet in
+    let r = own_done o law v u c.self.invariant.0 4294967295 n AtPut lives (putting c.put_here-byte.result) a refl (λ e. absurd cc) told c.count_steps.ensures refl refl few c.wake.ensures.awake c.wake.ensures.quiet in
     let path = c.in_ok-copy.ensures ∙ c.path.ensures a.process a.has.state_is in
     subst (λ z. HappensIn o z u (Own c.in_ok-copy.field-0)) c.self.view_is (subst (λ z. HappensIn o v u (Own z)) (sym path) r.1)

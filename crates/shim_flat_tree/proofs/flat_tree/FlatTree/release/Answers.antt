@@ -39,8 +39,8 @@ count_steps-requires-clause-few g c count e =
     let few = subst (λ z. steps (tree_in o z) + c.args.taken ≤ 4000000) (sym c.self.view_is) c.requires.few in
     few_counted o v n c.args.taken c.args.taken l held.held.quiet (omega arith) few count e
 
-pub wake-requires-clause-used : goal.wake-requires-clause-used
-wake-requires-clause-used g c κs within =
+pub wake_as-requires-clause-used : goal.wake_as-requires-clause-used
+wake_as-requires-clause-used g c κs within =
     let o = g.L.Local.ops in
     let w = c.self.inside in
     let v = view_of w.begun.value w.flat w.output.items w.histories (logged w.logs.items) w.own.items w.past.items w.events w.awake w.quiet w.held.items in
@@ -48,13 +48,13 @@ wake-requires-clause-used g c κs within =
     let l = c.requires.did.0 in
     let held = subst (λ z. HeldComes o z n c.args.taken l c.args.last) (sym c.self.view_is) c.requires.did.1 in
     let taken = c.args.taken in
-    let flat = c.advance_here.new.self in
+    let flat = c.advance_here-arrival.new.self in
     let comes : QuietlyReaches o w.flat n taken c.args.last = record { first = held.held.quiet.first; process = l; has = held.held.quiet.has; stands = held.held.quiet.stands; chain = held.chain } in
-    let d = does_steps o w.flat flat n taken l held.held.quiet (c.advance_here.ensures.steps taken comes) in
+    let d = does_steps o w.flat flat n taken l held.held.quiet (c.advance_here-arrival.ensures.steps taken comes) in
     still_used o v flat n taken l held.held.quiet d
 
-pub wake-requires-clause-awakes : goal.wake-requires-clause-awakes
-wake-requires-clause-awakes g c κs within =
+pub wake_as-requires-clause-awakes : goal.wake_as-requires-clause-awakes
+wake_as-requires-clause-awakes g c κs within =
     let o = g.L.Local.ops in
     let w = c.self.inside in
     let v = view_of w.begun.value w.flat w.output.items w.histories (logged w.logs.items) w.own.items w.past.items w.events w.awake w.quiet w.held.items in
@@ -62,13 +62,13 @@ wake-requires-clause-awakes g c κs within =
     let l = c.requires.did.0 in
     let held = subst (λ z. HeldComes o z n c.args.taken l c.args.last) (sym c.self.view_is) c.requires.did.1 in
     let taken = c.args.taken in
-    let flat = c.advance_here.new.self in
+    let flat = c.advance_here-arrival.new.self in
     let comes : QuietlyReaches o w.flat n taken c.args.last = record { first = held.held.quiet.first; process = l; has = held.held.quiet.has; stands = held.held.quiet.stands; chain = held.chain } in
-    let d = does_steps o w.flat flat n taken l held.held.quiet (c.advance_here.ensures.steps taken comes) in
+    let d = does_steps o w.flat flat n taken l held.held.quiet (c.advance_here-arrival.ensures.steps taken comes) in
     still_for_all o v flat n taken l held.held.quiet d w.awake c.self.invariant.0.awakes
 
-pub wake-requires-clause-quiets : goal.wake-requires-clause-quiets
-wake-requires-clause-quiets g c κs within =
+pub wake_as-requires-clause-quiets : goal.wake_as-requires-clause-quiets
+wake_as-requires-clause-quiets g c κs within =
     let o = g.L.Local.ops in
     let w = c.self.inside in
     let v = view_of w.begun.value w.flat w.output.items w.histories (logged w.logs.items) w.own.items w.past.items w.events w.awake w.quiet w.held.items in
@@ -76,9 +76,9 @@ wake-requires-clause-quiets g c κs within =
     let l = c.requires.did.0 in
     let held = subst (λ z. HeldComes o z n c.args.taken l c.args.last) (sym c.self.view_is) c.requires.did.1 in
     let taken = c.args.taken in
-    let flat = c.advance_here.new.self in
+    let flat = c.advance_here-arrival.new.self in
     let comes : QuietlyReaches o w.flat n taken c.args.last = record { first = held.held.quiet.first; process = l; has = held.held.quiet.has; stands = held.held.quiet.stands; chain = held.chain } in
-    let d = does_steps o w.flat flat n taken l held.held.quiet (c.advance_here.ensures.steps taken comes) in
+    let d = does_steps o w.flat flat n taken l held.held.quiet (c.advance_here-arrival.ensures.steps taken comes) in
     still_for_all o v flat n taken l held.held.quiet d w.quiet c.self.invariant.0.quiets
 
 pub invariant_of-self : goal.invariant_of-self
@@ -92,16 +92,16 @@ invariant_of-self g c =
     let held = subst (λ z. HeldComes o z n c.args.taken l c.args.last) (sym c.self.view_is) c.requires.did.1 in
     let few = subst (λ z. steps (tree_in o z) + c.args.taken ≤ 4000000) (sym c.self.view_is) c.requires.few in
     let taken = c.args.taken in
-    let flat = c.advance_here.new.self in
+    let flat = c.advance_here-arrival.new.self in
     let comes : QuietlyReaches o w.flat n taken c.args.last = record { first = held.held.quiet.first; process = l; has = held.held.quiet.has; stands = held.held.quiet.stands; chain = held.chain } in
-    let d = does_steps o w.flat flat n taken l held.held.quiet (c.advance_here.ensures.steps taken comes) in
+    let d = does_steps o w.flat flat n taken l held.held.quiet (c.advance_here-arrival.ensures.steps taken comes) in
     let flags = slice_set w.held.items n false in
-    let u = view_of w.begun.value flat w.output.items w.histories (logged w.logs.items) c.count_steps.new.own.items w.past.items w.events c.wake.new.awake c.wake.new.quiet flags in
+    let u = view_of w.begun.value flat w.output.items w.histories (logged w.logs.items) c.count_steps.new.own.items w.past.items w.events c.wake_as.new.awake c.wake_as.new.quiet flags in
     let told : SameTold v u = record { output = refl; histories = refl; logs = refl; past = refl; events = refl } in
     let far : (i : ℕ) → i ≢ n → is_listed flags i ≡ is_listed w.held.items i = λ i apart. far_flag w.held.items i n false apart in
     let free = flag_put w.held.items n false (c.self.invariant.0.helds n (held.held.quiet.first, l, lives, held.held.quiet.has)) in
     let a = advanced_by o law v u c.self.invariant.0 n taken l held.held.quiet d far free told c.count_steps.ensures in (
-      steps_keep o law v u c.self.invariant.0 n taken l held.held.quiet d far free told c.count_steps.ensures few c.advance_here.ensures.touches c.wake.ensures.awake c.wake.ensures.quiet (length-set w.held.items n false),
+      steps_keep o law v u c.self.invariant.0 n taken l held.held.quiet d far free told c.count_steps.ensures c.advance_here-arrival.result.forks few c.advance_here-arrival.ensures.touches c.wake_as.ensures.awake c.wake_as.ensures.quiet (length-set w.held.items n false),
       ap (λ z. z + taken) c.self.invariant.1 ∙ sym a.counts,
     )
 
@@ -114,11 +114,11 @@ returns g c l h =
     let n = c.args.number in
     let held = subst (λ z. HeldComes o z n c.args.taken l c.args.last) (sym c.self.view_is) h in
     let taken = c.args.taken in
-    let flat = c.advance_here.new.self in
+    let flat = c.advance_here-arrival.new.self in
     let comes : QuietlyReaches o w.flat n taken c.args.last = record { first = held.held.quiet.first; process = l; has = held.held.quiet.has; stands = held.held.quiet.stands; chain = held.chain } in
-    let d = does_steps o w.flat flat n taken l held.held.quiet (c.advance_here.ensures.steps taken comes) in
+    let d = does_steps o w.flat flat n taken l held.held.quiet (c.advance_here-arrival.ensures.steps taken comes) in
     let flags = slice_set w.held.items n false in
-    let u = view_of w.begun.value flat w.output.items w.histories (logged w.logs.items) c.count_steps.new.own.items w.past.items w.events c.wake.new.awake c.wake.new.quiet flags in
+    let u = view_of w.begun.value flat w.output.items w.histories (logged w.logs.items) c.count_steps.new.own.items w.past.items w.events c.wake_as.new.awake c.wake_as.new.quiet flags in
     let told : SameTold v u = record { output = refl; histories = refl; logs = refl; past = refl; events = refl } in
     let far : (i : ℕ) → i ≢ n → is_listed flags i ≡ is_listed w.held.items i = λ i apart. far_flag w.held.items i n false apart in
     let free = flag_put w.held.items n false (c.self.invariant.0.helds n (held.held.quiet.first, l, lives, held.held.quiet.has)) in
