@@ -56,7 +56,7 @@ pub fn arguments(
 ) -> Result<List<Argument>, ArgumentFault>
     ensures { Gives result (passing.arguments locations.now slots.now params.now args.now) }
 {
-    let mut given = List::new(alloc);
+    let mut given = List::with_capacity(alloc, params.len())?;
     let mut rest = args;
     for param in params {
         let Some((arg, after)) = rest.split_first() else {

@@ -217,7 +217,7 @@ fn set_value(location: &mut Option<Location>, value: i64)
 fn copied(alloc: Global, locations: &[Option<Location>]) -> Result<List<Option<Location>>, NoMemory>
     ensures { IfOk result (λ copies. copies ≡ locations.now) }
 {
-    let mut copies = List::new(alloc);
+    let mut copies = List::with_capacity(alloc, locations.len())?;
     for location in locations {
         copies.push(copied_one(location)?)?;
     }

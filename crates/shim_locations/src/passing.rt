@@ -101,7 +101,7 @@ pub fn call_locations(
 ) -> Result<Passed, NoMemory>
     ensures { IfOk result (λ passed. (passed.locations ≡ call_locations (arc_value home.now) locations.now made (arguments_of given.now)) × (passed.made ≡ made + new_channels (arguments_of given.now))) }
 {
-    let mut passed = List::new(alloc);
+    let mut passed = List::with_capacity(alloc, given.len())?;
     let mut serial = made;
     for argument in given {
         serial = call_location(&mut passed, home, locations, serial, argument)?;
@@ -181,7 +181,7 @@ pub fn branch_locations(
 ) -> Result<Passed, NoMemory>
     ensures { IfOk result (λ passed. (passed.locations ≡ branch_locations (arc_value home.now) (lent_at before.now locations.now) 0 (arguments_of given.now)) × (passed.made ≡ new_channels (arguments_of given.now))) }
 {
-    let mut passed = List::new(alloc);
+    let mut passed = List::with_capacity(alloc, given.len())?;
     let mut taken = List::from_slice(alloc, before)?;
     let mut serial = 0;
     for argument in given {
@@ -198,7 +198,7 @@ pub fn branch_locations(
 pub fn channels_of(alloc: Global, locations: &[Option<Location>]) -> Result<List<Chan>, NoMemory>
     ensures { IfOk result (λ channels. channels ≡ channels_of locations.now) }
 {
-    let mut channels = List::new(alloc);
+    let mut channels = List::with_capacity(alloc, locations.len())?;
     for location in locations {
         add_channel(&mut channels, location)?;
     }
@@ -232,7 +232,7 @@ pub fn with_empties(
 pub fn copy_channels(alloc: Global, channels: &[Chan]) -> Result<List<Chan>, NoMemory>
     ensures { IfOk result (λ copies. copies ≡ channels.now) }
 {
-    let mut copies = List::new(alloc);
+    let mut copies = List::with_capacity(alloc, channels.len())?;
     for channel in channels {
         copies.push(channel.copy()?)?;
     }

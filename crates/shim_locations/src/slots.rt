@@ -62,7 +62,8 @@ pub fn call_slots(
 ) -> Result<Vec<usize>, NoMemory>
     ensures { IfOk result (λ slots. slots.items ≡ call_slots first (arguments_of given.now) declared.now) }
 {
-    let mut slots = List::new(alloc);
+    let room = given.len().saturating_add(declared.len());
+    let mut slots = List::with_capacity(alloc, room)?;
     let mut next = first;
     for argument in given {
         next = call_slot(&mut slots, next, argument)?;

@@ -86,7 +86,7 @@ impl ReturnStack {
 fn copied(alloc: Global, places: &[ReturnPlace]) -> Result<Vec<ReturnPlace>, NoMemory>
     ensures { IfOk result (λ copies. copies.items ≡ places.now) }
 {
-    let mut copies = List::new(alloc);
+    let mut copies = List::with_capacity(alloc, places.len())?;
     for place in places {
         copies.push(place.copy()?)?;
     }

@@ -29,7 +29,9 @@ pub fn first_frame(
     ensures value { IfOk result (λ top. shown units.now top ≡ entered (unit_or (slice_get units.now unit)) unit (numbers_from 0 (unit_or (slice_get units.now unit)).slots) labels 0 0) }
     ensures cursor { IfOk result (λ top. Stands units.now top) }
 {
-    let slots = with_declared(List::new(alloc), 0, slots_of(units, unit))?;
+    let declared = slots_of(units, unit);
+    let room = List::with_capacity(alloc, declared.len())?;
+    let slots = with_declared(room, 0, declared)?;
     let labels = labels.into_vec();
     let cursor = cursor_of(text_of(units, unit), 0);
     Ok(Frame::enter(alloc, unit, cursor, slots, labels, 0, 0))
@@ -39,7 +41,7 @@ pub fn first_frame(
 pub fn labels_from(alloc: Global, first: u32, names: &[u32]) -> Result<List<u32>, NoMemory>
     ensures { IfOk result (λ labels. labels ≡ labels_from first names.now) }
 {
-    let mut labels = List::new(alloc);
+    let mut labels = List::with_capacity(alloc, names.len())?;
     let mut next = first;
     for _name in names {
         labels.push(next)?;

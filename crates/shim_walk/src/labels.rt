@@ -34,7 +34,7 @@ pub fn labels_for(
     requires { context.now.first + length context.now.places.now < 2 ^ 32 }
     ensures { IfOk result (λ passed. passed ≡ passed_labels (context_view context.now) throws.now) }
 {
-    let mut passed = List::new(alloc);
+    let mut passed = List::with_capacity(alloc, throws.len())?;
     for exception in throws {
         passed.push(label_for(context, *exception))?;
     }

@@ -720,7 +720,7 @@ impl Process {
         ensures children { MakesChildren result (children_made self.now (remainder_of self.now remainder.old) 0 branches.now) }
         ensures remainder { OnOk result (remainder_of self.now remainder.new ≡ all_lending (remainder_of self.now remainder.old) branches.now) }
     {
-        let mut children = List::new(self.given.allocator());
+        let mut children = List::with_capacity(self.given.allocator(), branches.len())?;
         let mut place = 0;
         for branch in branches {
             let given = self.branch_arguments(branch)?;

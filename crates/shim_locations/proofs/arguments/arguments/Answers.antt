@@ -9,7 +9,7 @@ returns-in_err-argument c =
     let h = c.in_err-argument.ensures in
     let m = c.in-Some.ensures.cases in
     let t = traps_at _ _ c.args.params.now c.loop-param.param-index _ c.in-Some.arg.now c.in-Some.after.now c.loop-param.rest.now c.loop-param.given _ _ c.loop-param-test.true m.0 h c.loop-param.invariant in
-    trap_given c.from_residual.result _ _ c.from_residual.ensures.0 c.from_residual.ensures.1 t
+    trap_given c.from_residual-in_err-argument.result _ _ c.from_residual-in_err-argument.ensures.0 c.from_residual-in_err-argument.ensures.1 t
 
 pub loop-param-preserved : goal.loop-param-preserved
 loop-param-preserved c =
