@@ -62,14 +62,13 @@ module _ {S : Type 0} (n number : ℕ) (before behind : FlatView S) (flags : Lis
     children = λ i j f s k has up out. touches.others j f s k has (no_child i j out up) (no_parent i j out up);
   }
 
-module _ {S : Type 0} (number : ℕ) (before behind : FlatView S) (flags : List Bool) (mine : is_listed flags number ≡ true) (all : (i : ℕ) → IsAbove (up_in behind.records) (4294967295 + 1) number i → is_listed flags i ≡ true) where
   -- So it has where the process forked, and the new children are listed, too.
-  pub wake_forked : (first count : ℕ) → ((b : ℕ) → b < count → is_listed flags (first + b) ≡ true) → TouchesForking number first count before behind → Wakes before behind (is_listed flags)
+  pub wake_forked : (first count : ℕ) → ((b : ℕ) → b < count → is_listed flags (first + b) ≡ true) → TouchesForking n number first count before behind → Wakes before behind (is_listed flags)
   wake_forked first count new touches = record {
-    itself = λ i f s k has out. touches.others i f s k has (other 4294967295 number before behind flags mine all i out) (not_above 4294967295 number before behind flags mine all i out)
+    itself = λ i f s k has out. touches.others i f s k has (other i out) (not_above i out)
         (λ b less e. clash (is_listed flags i) (subst (λ z. is_listed flags z ≡ true) (sym e) (new b less)) out);
-    children = λ i j f s k has up out. touches.others j f s k has (no_child 4294967295 number before behind flags mine all i j out up) (no_parent 4294967295 number before behind flags mine all i j out up)
-        (λ b less e. other 4294967295 number before behind flags mine all i out (some_same i number (sym up ∙ subst (λ z. up_in behind.records z ≡ Some number) (sym e) (touches.born b less))));
+    children = λ i j f s k has up out. touches.others j f s k has (no_child i j out up) (no_parent i j out up)
+        (λ b less e. other i out (some_same i number (sym up ∙ subst (λ z. up_in behind.records z ≡ Some number) (sym e) (touches.born b less))));
   }
 
 -- Where it has several numbers, and all that is above each, it has what is to be looked at again.

@@ -36,8 +36,7 @@ use Rattle.shim_flat.specs.declared.closing.CloseOutcome.{CloseOutcome}
 use Rattle.shim_flat.specs.declared.closing.CloseOutcome.TheVariants.{GoesOn, Threw}
 use Rattle.shim_flat.proofs.ClosingTakes.{read_there}
 use Rattle.shim_flat.specs.Reading.{IsInUse}
-use Rattle.shim_flat.specs.Touching.{TouchesAbove}
-use Rattle.shim_flat.proofs.Parents.{touches_near}
+use Rattle.shim_flat.specs.Touching.{TouchesAbove, TouchesRecords}
 use Rattle.shim_flat.proofs.TouchingCloses.{closes_touch}
 use Rattle.shim_flat.proofs.TouchingCuts.{cut_touched}
 
@@ -201,15 +200,13 @@ module _ {S : Type 0} (o : Ops S) (law : LocalLaws o) (states : List S) (rs : Li
           (sym (stands_stay o (slice_set states number (state a.node)) (state a.node) (sort a.node) 4294967295 number (slice_set freed number settled.is) settled.left settled.between behind (prevailing_among (block first count (map stands_of rs))) leaves walked again))
           (behind_close o law kept.0 (tree_of o kept.1) states rs number first count done.process done.said a kept.2 has done.there done.none_goes is freed settled.is free come).closes
 
-      touches : TouchesAbove 4294967295 number (record { states = states; records = rs }) After
-      touches =
+      touches : (m : ℕ) → TouchesRecords m number freed behind → TouchesAbove m number (record { states = states; records = rs }) After
+      touches m moved =
           let w = closes_keep o law kept.0 (tree_of o kept.1) states rs freed settled.left settled.between behind number first count done.process done.said settled.is a kept.2 has done.there done.none_goes is free come leaves walked again in
           let now : FlatView S = record { states = slice_set states number (state a.node); records = behind } in
           let mine : IsInUse now number = (closes.first, state a.node, sort a.node, closes.parent) in
-          subst (λ z. TouchesAbove 4294967295 number (record { states = states; records = rs }) (record { states = take end z; records = take end behind })) (sym set)
-          (cut_touched o now end unused 4294967295 number (record { states = states; records = rs }) (kept.0, w.0.root, w.2) mine
-          (touches_near o now (kept.0, w.0.root, w.2) 4294967296 number (record { states = states; records = rs }) mine
-          (closes_touch o states rs freed settled.left settled.between behind number first count done.said settled.is (state a.node) (sort a.node) (prevailing_among (block first count (map stands_of rs))) free done.there come leaves walked again)))
+          subst (λ z. TouchesAbove m number (record { states = states; records = rs }) (record { states = take end z; records = take end behind })) (sym set)
+          (cut_touched o now end unused m number (record { states = states; records = rs }) (kept.0, w.0.root, w.2) mine (closes_touch states rs freed behind m number first count (state a.node) free moved))
 
       path : o.path (state a.node) ≡ o.path done.process
       path =
@@ -219,8 +216,8 @@ module _ {S : Type 0} (o : Ops S) (law : LocalLaws o) (states : List S) (rs : Li
       is_no_child : (b : ℕ) → b < count → number ≢ first + b
       is_no_child b less e = elim is_apart [ inl w ↦ absurd (omega (arith, w, e)) | inr w ↦ absurd (omega (arith, w, e, less)) ]
 
-      pub closes_here : ClosesHere o number outcome (record { states = states; records = rs }) After
-      closes_here = record {
+      pub closes_here : (m : ℕ) → TouchesRecords m number freed behind → ClosesHere o m number outcome (record { states = states; records = rs }) After
+      closes_here m moved = record {
         first = first;
         many = count;
         process = done.process;
@@ -234,5 +231,5 @@ module _ {S : Type 0} (o : Ops S) (law : LocalLaws o) (states : List S) (rs : Li
         becomes = subst (λ z. HasClosed states (take end z) (map stands_of rs) (map stands_of (take end behind)) number first count (state a.node) (sort a.node)) (sym set)
             (closed_cut (slice_set states number (state a.node)) behind end unused states (map stands_of rs) number first count (state a.node) (sort a.node) closes);
         moves = moves;
-        touches = touches;
+        touches = touches m moved;
       }

@@ -127,6 +127,13 @@ module _ {S : Type 0} (o : Ops S) where
     stop_is : o.stop l ≡ stop
     stop_is = stood states rs x stop l here read
 
+    -- it is there, as it is read then
+    pub lives_then : (s now : S) → now ≡ get_or (slice_set states x s) x now → Arrives o now 4294967295 x rs behind → (f : ℕ) × HasProcess (record { states = slice_set states x s; records = behind }) x f now lives
+    lives_then s now read_then came =
+        let is = read_set states x l s now has.state_is read_then in
+        let b = has_become o states rs behind x here.0 l s has (subst (λ z. Arrives o z 4294967295 x rs behind) is came) in
+        (b.first, subst (λ z. HasProcess (record { states = slice_set states x s; records = behind }) x b.first z lives) (sym is) b.mine)
+
     -- it lives on
     pub lives_here : (n : ℕ) (s now : S) → now ≡ get_or (slice_set states x s) x now → Arrives o now 4294967295 x rs behind → TouchesRecords n x rs behind → act_live o l stop ≡ Some (record { node = Live s; effects = effects })
         → ActsHere o n x stop lives effects (record { states = states; records = rs }) (record { states = slice_set states x s; records = behind })

@@ -6,7 +6,7 @@ use Rattle.std.proofs.lemmas.Option.{slice_get_read, slice_get_within}
 use Rattle.shim_base.proofs.Facts.{some_same}
 use Rattle.shim_local.specs.Process.{Ops, AtFork, Parted, Trapped}
 use Rattle.shim_local.specs.Laws.{LocalLaws}
-use Rattle.shim_laws_records.specs.Seen.{lives, forks}
+use Rattle.shim_laws_records.specs.Seen.{lives}
 use Rattle.shim_laws_records.proofs.Hanging.{tree_of}
 use Rattle.shim_records.specs.declared.record.Record.{Record}
 use Rattle.shim_records.proofs.Stepping.{set_elsewhere}
@@ -17,9 +17,7 @@ use Rattle.shim_laws_forks.proofs.Forks.{forks_move, forks_say}
 use Rattle.shim_laws_forks.proofs.Traps.{traps_move}
 use Rattle.shim_flat.specs.Forking.{HasForkedHere, HasTrappedHere}
 use Rattle.shim_flat.specs.Touching.{TouchesForking}
-use Rattle.shim_flat.proofs.Parents.{none_further}
 use Rattle.shim_flat.proofs.Touching.{touches_none, touches_above}
-use Rattle.shim_flat.proofs.TouchingForks.{forks_touch}
 
 -- a block that is put makes a list longer by its own length at most
 block_long : {A : Type 0} (g : ℕ) (xs ys : List A) → length (with_block g xs ys) ≤ length ys + length xs
@@ -37,8 +35,8 @@ module _ {S : Type 0} (o : Ops S) (law : LocalLaws o) (before behind : FlatView 
     pub still_kept : IsKept o before → IsKept o behind
     still_kept kept = let m = forks_move o law x g f l p ks before behind has stop parts put kept.0 (tree_of o kept.1) kept.2 in (kept.0, m.0.root, m.2)
 
-    pub forked_here : IsKept o before → length ks ≡ n → g + length ks ≤ 4294967295 → HasForkedHere o x g n before behind
-    forked_here kept many few =
+    pub forked_here : IsKept o before → length ks ≡ n → g + length ks ≤ 4294967295 → (m : ℕ) → TouchesForking m x g (length ks) before behind → HasForkedHere o m x g n before behind
+    forked_here kept many few m touches =
         let says = forks_say o law x g f l p ks before behind has stop parts put kept.0 (tree_of o kept.1) kept.2 in
         record {
           was_first = f;
@@ -53,7 +51,7 @@ module _ {S : Type 0} (o : Ops S) (law : LocalLaws o) (before behind : FlatView 
           unused = λ b d t k less h. put.unused b d t k (omega (arith, less, many)) h;
           becomes = says;
           moves = forks_move o law x g f l p ks before behind has stop parts put;
-          touches = subst (λ z. TouchesForking x g z before behind) many (forks_touch o x g p ks before behind kept.2.beside (λ i w. none_further o behind (still_kept kept) (g, p, forks (length ks), says.parent) w) put);
+          touches = subst (λ z. TouchesForking m x g z before behind) many touches;
         }
 
     -- there are as many records more as there are children, at most
@@ -81,7 +79,7 @@ module _ {S : Type 0} (o : Ops S) (law : LocalLaws o) (before : FlatView S) (x f
     trapped = traps;
     behind_is = refl;
     moves = traps_move o law x f l p before has stop traps;
-    touches = touches_above 4294967295 x before trapped (touches_none 4294967295 x before.records before.records refl) (λ i far. set_elsewhere before.states x i p far);
+    touches = touches_above 0 x before trapped (touches_none 0 x before.records before.records refl) (λ i far. set_elsewhere before.states x i p far);
   }
 
   pub trapped_kept : IsKept o before → IsKept o trapped

@@ -19,7 +19,7 @@ use Rattle.shim_laws_waking.specs.Awake.{is_set, is_listed}
 use Rattle.shim_laws_waking.proofs.PairsFound.{record_of}
 use Rattle.shim_flat.specs.Reading.{IsInUse, IsForAll, ParentIs}
 use Rattle.shim_records.specs.Ways.{IsAbove, its_fork, further}
-use Rattle.shim_flat.specs.Touching.{TouchesAbove, ListsAbove}
+use Rattle.shim_flat.specs.Touching.{ListsAbove}
 use Rattle.shim_flat.proofs.Above.{none_above, not_among_none, above_fork}
 
 pub there_is : {A : Type 0} (xs : List A) (i : ℕ) → i < length xs → (x : A) × (slice_get xs i ≡ Some x)
@@ -92,10 +92,6 @@ module _ {S : Type 0} (o : Ops S) (v : FlatView S) where
     none_further {i} (f, s, h, has) w =
         let r = record_of v.records i f h has.stands_so in
         among_more (up_in v.records) 4294967295 (kept.2.fit i f s h r.0 has r.1).near (at_level f s h has w)
-
-    -- so what is touched is among those
-    pub touches_near : (n x : ℕ) (before : FlatView S) → IsInUse v x → TouchesAbove n x before v → TouchesAbove 4294967295 x before v
-    touches_near n x before used touches = record { others = λ i f s k has far out. touches.others i f s k has far (λ w. out (none_further used w)); no_more = touches.no_more }
 
   -- ---- on the way up
 

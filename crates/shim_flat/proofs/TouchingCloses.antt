@@ -1,29 +1,26 @@
 -- A close touches the records of its process, of its children, which are free behind it, and of the forks above it.
-use Rattle.std.proofs.Common.{arith, length, ◌≡◌, ◌≢◌, ◌<◌, ℕ, ◌+◌, Option, Some, None, List, slice_set, refl, sym, ap, ◌∙◌}
+use Rattle.std.proofs.Common.{arith, length, ◌≡◌, ◌≢◌, ◌<◌, ◌≤◌, ℕ, ◌+◌, Some, List, slice_set, refl, sym, ap, ◌∙◌}
 use Rattle.std.specs.Prelude.{slice_get}
 use Rattle.std.specs.Option.{option_map}
 use Rattle.shim_base.specs.Paths.{Channel}
 use Rattle.shim_base.proofs.Facts.{some_same}
 use Rattle.shim_local.specs.Process.{Ops}
-use Rattle.shim_semantics.specs.Nodes.{Death}
 use Rattle.shim_laws_records.specs.Seen.{Sort, lives, forks, ends, dies}
 use Rattle.shim_laws_records.specs.Agrees.{free, used}
 use Rattle.shim_records.specs.Pairs.{up_in, stands_of}
-use Rattle.shim_records.specs.Acted.{AllUpdated}
 use Rattle.shim_records.specs.declared.record.Record.{Record}
 use Rattle.shim_records.proofs.Showing.{map_get}
 use Rattle.shim_records.proofs.Stepping.{set_elsewhere}
 use Rattle.shim_laws_keeping.specs.Flats.{FlatView, HasProcess}
 use Rattle.shim_laws_waking.specs.Waking.{IsAsBefore}
-use Rattle.shim_laws_waking.proofs.PairsFound.{record_of, from_map}
+use Rattle.shim_laws_waking.proofs.PairsFound.{record_of}
 use Rattle.shim_laws_waking.proofs.Same.{had}
-use Rattle.shim_laws_closes.specs.Closing.{Beside, beside_of, AreFreed, HasCome, LeavesIf, AllRecounted, none_left, one_more, GivenRecounted, RecountedIf}
+use Rattle.shim_laws_closes.specs.Closing.{beside_of, AreFreed, HasCome, LeavesIf, AllRecounted, none_left, one_more, GivenRecounted}
 use Rattle.shim_laws_closes.proofs.Saying.{map_length}
 use Rattle.shim_records.specs.Ways.{IsAbove}
 use Rattle.shim_flat.specs.Touching.{TouchesAbove, SaysAsBefore, TouchesRecords}
 use Rattle.shim_flat.proofs.Above.{above_as}
 use Rattle.shim_flat.proofs.Touching.{touches_none, touches_on, touches_more, touches_set, same_record, says_on, reads_off, leaving}
-use Rattle.shim_flat.proofs.TouchingOwn.{all_walked}
 
 module _ {S : Type 0} (o : Ops S) (states : List S) where
   pub all_read_off : (n x : ℕ) (cs : List Channel) (before behind : List Record) → AllRecounted o states n x cs before behind → TouchesRecords n x before behind
@@ -33,32 +30,23 @@ module _ {S : Type 0} (o : Ops S) (states : List S) where
   pub given_read_off : (s : S) (n x : ℕ) (before behind : List Record) → GivenRecounted o states s n x before behind → TouchesRecords n x before behind
   given_read_off s n x before behind h = all_read_off n x h.chans before behind h.recounted
 
-  pub recounted_if : (d : Option Death) (s : S) (n x : ℕ) (before behind : List Record) → RecountedIf d o states s n x before behind → TouchesRecords n x before behind
-  recounted_if None s n x before behind h = touches_none n x before behind h
-  recounted_if (Some d) s n x before behind h = given_read_off s n x before behind h
-
 pub leaves_if : (k : Sort) (x : ℕ) (before behind : List Record) → LeavesIf k x before behind → TouchesRecords 1 x before behind
 leaves_if lives x before behind h = touches_none 1 x before behind h
 leaves_if (forks n) x before behind h = touches_none 1 x before behind h
 leaves_if ends x before behind h = leaving x before behind h
 leaves_if (dies d) x before behind h = leaving x before behind h
 
-module _ {S : Type 0} (o : Ops S) (states : List S) (rs freed left between behind : List Record) (i g n : ℕ) (q r : Record) (s : S) (k : Sort) (d : Option Death) (free_ones : AreFreed g n rs freed) (at_q : slice_get rs i ≡ Some q) (come : HasCome q r k)
-    (leaves : LeavesIf k i (slice_set freed i r) left) (walked : AllUpdated o s k 4294967295 i left between) (again : RecountedIf d o (slice_set states i s) s 4294967295 i between behind) where
+-- its record says what came of it, then one child less of its parent goes on, and then counts and labels above were brought up to date
+pub record_closes : (n x : ℕ) (k : Sort) (was is : Record) (before left between behind : List Record) → slice_get before x ≡ Some was → HasCome was is k → LeavesIf k x (slice_set before x is) left → TouchesRecords n x left between → TouchesRecords n x between behind → 1 ≤ n
+    → TouchesRecords n x before behind
+record_closes n x k was is before left between behind there come leaves counts labels some =
+    let own = slice_set before x is in
+    touches_on n x before own behind (touches_set n x before was is there come.parent)
+    (touches_on n x own left behind (touches_more 1 n x own left some (leaves_if k x own left leaves)) (touches_on n x left between behind counts labels))
+
+module _ {S : Type 0} (states : List S) (rs freed behind : List Record) (m i g n : ℕ) (s : S) (free_ones : AreFreed g n rs freed) (touches : TouchesRecords m i freed behind) where
   abbrev now : List S
   now = slice_set states i s
-
-  -- the record of the fork once its children's ones are free
-  its : (z : Record) × (slice_get freed i ≡ Some z) × (beside_of z ≡ beside_of q)
-  its = from_map beside_of (slice_get freed i) (beside_of q) (sym (map_get beside_of freed i) ∙ (ap (λ z. slice_get z i) free_ones.beside ∙ (map_get beside_of rs i ∙ ap (option_map beside_of) at_q)))
-
-  touches : TouchesRecords 4294967296 i freed behind
-  touches =
-      let own = slice_set freed i r in
-      let read_off = recounted_if o now d s 4294967295 i between behind again in
-      touches_on 4294967296 i freed own behind (touches_set 4294967296 i freed its.0 r its.1 (come.parent ∙ sym (ap (λ (z : Beside). z.parent) its.2)))
-      (touches_on 4294967296 i own left behind (touches_more 1 4294967296 i own left (omega arith) (leaves_if k i own left leaves))
-      (touches_on 4294967296 i left between behind (all_walked o s k 4294967295 i left between walked) (touches_more 4294967295 4294967296 i between behind (omega arith) read_off)))
 
   -- who is in use behind isn't one of the children
   no_child : (j f : ℕ) (t : S) (h : Sort) → HasProcess (record { states = now; records = behind }) j f t h → SaysAsBefore freed behind j → (b : ℕ) → b < n → j ≢ g + b
@@ -78,11 +66,11 @@ module _ {S : Type 0} (o : Ops S) (states : List S) (rs freed left between behin
   abbrev After : FlatView S
   After = record { states = now; records = behind }
 
-  others : (j f : ℕ) (t : S) (h : Sort) → HasProcess After j f t h → j ≢ i → (IsAbove (up_in behind) 4294967296 i j → ⊥) → IsAsBefore (record { states = states; records = rs }) After j
+  others : (j f : ℕ) (t : S) (h : Sort) → HasProcess After j f t h → j ≢ i → (IsAbove (up_in behind) m i j → ⊥) → IsAsBefore (record { states = states; records = rs }) After j
   others j f t h has far out =
       let said = touches.others j far (λ w. out (above_as (up_in freed) (up_in behind) touches.parents w)) in
       let w = says_on rs freed behind j (same_record rs freed j (free_ones.freed.outside j (no_child j f t h has said))) said in
       record { state = set_elsewhere states i j s far; rest = w.rest; counts = w.counts; labels = w.labels }
 
-  pub closes_touch : TouchesAbove 4294967296 i (record { states = states; records = rs }) After
+  pub closes_touch : TouchesAbove m i (record { states = states; records = rs }) After
   closes_touch = record { others = others; no_more = let a = touches.as_many in let b = freed_long in omega (arith, a, b) }

@@ -40,10 +40,7 @@ all_lowered y n x cs before behind (none_lowered rs) = touches_none n x rs rs re
 all_lowered y n x cs before behind (one_lowered c ds first between last once way more) = touches_on n x first between last (labels_above c y n x first between way) (all_lowered y n x ds between last more)
 
 module _ {S : Type 0} (o : Ops S) (s : S) where
-  pub all_walked : (k : Sort) (n x : ℕ) (before behind : List Record) → AllUpdated o s k n x before behind → TouchesRecords (suc n) x before behind
-  all_walked k n x before behind all = all_update _ _ n x all.chans before behind all.updated
-
-  -- where it is told how far the ways led
+  -- the counts were moved as far up as is told
   pub all_reach : (k : Sort) (m n x : ℕ) (before behind : List Record) → AllUpdated o s k n x before behind → MovesUpTo m x before behind → TouchesRecords m x before behind
   all_reach k m n x before behind all moves = counts_reach m x before behind (rest_stays _ _ n x all.chans before behind all.updated) (labels_stay _ _ n x all.chans before behind all.updated) moves
 

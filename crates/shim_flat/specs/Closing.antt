@@ -41,8 +41,8 @@ CameTo GoesOn k = k ≡ lives
 CameTo (Threw (thrown.Caught name line)) k = k ≡ lives
 CameTo (Threw thrown.Died) k = (d : Death) × (k ≡ dies d)
 
--- The process with this number had forked, and its fork closed: this came of it, the tree moves by that event, and of all others its children alone are no more.
-pub record ClosesHere {S : Type 0} (o : Ops S) (number : ℕ) (outcome : CloseOutcome) (before behind : FlatView S) : Type 0 where
+-- The process with this number had forked, and its fork closed: this came of it, the tree moves by that event, and of all others its children alone are no more. Of the records none has changed but its own, its children's and those of the first n forks above.
+pub record ClosesHere {S : Type 0} (o : Ops S) (n number : ℕ) (outcome : CloseOutcome) (before behind : FlatView S) : Type 0 where
   pub first : ℕ
   pub many : ℕ
   pub process : S
@@ -55,7 +55,7 @@ pub record ClosesHere {S : Type 0} (o : Ops S) (number : ℕ) (outcome : CloseOu
   pub came : CameTo outcome (sort left.node)
   pub becomes : HasClosed before.states behind.states (stands before) (stands behind) number first many (state left.node) (sort left.node)
   pub moves : MovesBy o (Close (o.path process)) before behind
-  pub touches : TouchesAbove 4294967295 number before behind
+  pub touches : TouchesAbove n number before behind
 
 -- ---- the parts
 

@@ -16,8 +16,8 @@ use Rattle.shim_flat.specs.Touching.{TouchesAbove, TouchesForking}
 use Rattle.shim_flat.specs.declared.forking.ForkOutcome.{ForkOutcome}
 use Rattle.shim_flat.specs.declared.forking.ForkOutcome.TheVariants as outcome
 
--- The process with this number forked into so many, which have numbers from the first one on that weren't in use; every other process has its number and all that it had.
-pub record HasForkedHere {S : Type 0} (o : Ops S) (number first count : ℕ) (before behind : FlatView S) : Type 0 where
+-- The process with this number forked into so many, which have numbers from the first one on that weren't in use; every other process has its number and all that it had. Of the other records none has changed but those of the first n forks above.
+pub record HasForkedHere {S : Type 0} (o : Ops S) (n number first count : ℕ) (before behind : FlatView S) : Type 0 where
   pub was_first : ℕ
   pub was : S
   pub is : S
@@ -30,7 +30,7 @@ pub record HasForkedHere {S : Type 0} (o : Ops S) (number first count : ℕ) (be
   pub unused : (b d : ℕ) (t : S) (k : Sort) → b < count → HasProcess before (first + b) d t k → ⊥
   pub becomes : HasForked before.states behind.states (stands before) (stands behind) number first is born
   pub moves : MovesBy o (Own (o.path was)) before behind
-  pub touches : TouchesForking number first count before behind
+  pub touches : TouchesForking n number first count before behind
 
 -- its fork trapped, and it lives on
 pub record HasTrappedHere {S : Type 0} (o : Ops S) (number : ℕ) (before behind : FlatView S) : Type 0 where
@@ -42,12 +42,12 @@ pub record HasTrappedHere {S : Type 0} (o : Ops S) (number : ℕ) (before behind
   pub trapped : o.fork was ≡ Trapped is
   pub behind_is : behind ≡ record { states = slice_set before.states number is; records = before.records }
   pub moves : MovesBy o (Own (o.path was)) before behind
-  pub touches : TouchesAbove 4294967295 number before behind
+  pub touches : TouchesAbove 0 number before behind
 
 -- it forked, or its fork trapped, as the outcome says
-abbrev pub ForksHere : {S : Type 0} → Ops S → ℕ → FlatView S → FlatView S → ForkOutcome → Type 0
-ForksHere {S} o number before behind (outcome.Forked first count) = HasForkedHere o number first count before behind
-ForksHere {S} o number before behind outcome.Trapped = HasTrappedHere o number before behind
+abbrev pub ForksHere : {S : Type 0} → Ops S → ℕ → ℕ → FlatView S → FlatView S → ForkOutcome → Type 0
+ForksHere {S} o n number before behind (outcome.Forked first count) = HasForkedHere o n number first count before behind
+ForksHere {S} o n number before behind outcome.Trapped = HasTrappedHere o number before behind
 
 -- how many children there are where a fork comes to this
 abbrev pub how_many : {S : Type 0} → Forked S → ℕ

@@ -15,13 +15,13 @@ pub record TouchesAbove {S : Type 0} (n number : ℕ) (before behind : FlatView 
   pub others : (i f : ℕ) (s : S) (k : Sort) → HasProcess behind i f s k → i ≢ number → (IsAbove (up_in behind.records) n number i → ⊥) → IsAsBefore before behind i
   pub no_more : length behind.records ≤ length before.records
 
--- Whatever record isn't as before is that with this number, that of a fork above it, or that of one of so many new children of its process; they have the numbers from the first one on, and lie behind all others at most. No process has more forks above it than the longest path has pairs, 4294967295.
-pub record TouchesForking {S : Type 0} (number first count : ℕ) (before behind : FlatView S) : Type 0 where
-  pub others : (i f : ℕ) (s : S) (k : Sort) → HasProcess behind i f s k → i ≢ number → (IsAbove (up_in behind.records) 4294967295 number i → ⊥) → ((b : ℕ) → b < count → i ≢ first + b) → IsAsBefore before behind i
+-- Whatever record isn't as before is that with this number, that of one of the first n forks above it, or that of one of so many new children of its process; they have the numbers from the first one on, and lie behind all others at most.
+pub record TouchesForking {S : Type 0} (n number first count : ℕ) (before behind : FlatView S) : Type 0 where
+  pub others : (i f : ℕ) (s : S) (k : Sort) → HasProcess behind i f s k → i ≢ number → (IsAbove (up_in behind.records) n number i → ⊥) → ((b : ℕ) → b < count → i ≢ first + b) → IsAsBefore before behind i
   pub born : (b : ℕ) → b < count → up_in behind.records (first + b) ≡ Some number
   pub no_more : (m : ℕ) → length before.records ≤ m → first + count ≤ m → length behind.records ≤ m
 
--- Whatever record isn't as before is that with one of these numbers, or that of a fork above one of them; and each knows the parent that it knew.
+-- Whatever record isn't as before is that with one of these numbers, or that of a fork above one of them; and each knows the parent that it knew. No process has more forks above it than the longest path has pairs, 4294967295.
 pub record TouchesEach {S : Type 0} (numbers : List ℕ) (before behind : FlatView S) : Type 0 where
   pub parents : (i : ℕ) → up_in behind.records i ≡ up_in before.records i
   pub as_many : length behind.records ≡ length before.records

@@ -7,9 +7,10 @@ ghost use Rattle.shim_semantics.specs.Acts.{nothing, putting, trapping};
 ghost use Rattle.shim_laws_records.specs.Seen.{lives, ends, dies};
 ghost use Rattle.shim_flat.specs.Stepping.{LivesAt};
 ghost use Rattle.shim_flat.specs.Acting.{IsTrappedAt, ActsHere, sort_by, told_of};
+ghost use Rattle.shim_flat.specs.Listing.{ListingIs};
 
 use crate::acting_gone::leave_tree;
-use crate::arriving::arrive;
+use crate::arriving::{Arrival, arrive};
 use crate::flat::Flat;
 use shim_local::Local;
 use shim_records::Status;
@@ -25,15 +26,16 @@ pub enum Thrown {
 
 impl<L: Local> Flat<L> {
     /// The process with this number, which lives and stands at a `put`, does it. The answer is the byte, or
-    /// `None` where the expression traps; it then stands trapped.
-    pub fn put_here(&mut self, number: u32) -> Option<u8>
+    /// `None` where the expression traps; it then stands trapped. It says where the process has come, too.
+    pub fn put_here(&mut self, number: u32) -> (Option<u8>, Arrival)
         requires { LivesAt L.ops self.old number AtPut }
-        ensures { ActsHere L.ops 4294967295 number AtPut lives (putting result) self.old self.new }
+        ensures acts { ActsHere L.ops result.1.forks number AtPut lives (putting result.0) self.old self.new }
+        ensures listing { ListingIs L.ops self.new number result.1.listing }
     {
         let at = number as usize;
         let byte = self.states[at].put();
-        arrive(&self.states[at], &mut self.records, at);
-        byte
+        let arrival = arrive(&self.states[at], &mut self.records, at);
+        (byte, arrival)
     }
 
     /// The process with this number, which lives and stands at a throw of the exception of this label, throws

@@ -11,6 +11,7 @@ ghost use Rattle.shim_records.specs.declared.record.Record.{Record};
 ghost use Rattle.shim_records.specs.declared.record.Status.TheVariants.{Free};
 ghost use Rattle.shim_laws_closes.specs.Closing.{AreFreed, HasCome, LeavesIf, GivenRecounted, RecountedIf};
 ghost use Rattle.shim_flat.specs.Closing.{CanClose, thrown_by, ClosesHere, sort_left, HasJoined, TakesBack, ClosesRecord};
+ghost use Rattle.shim_flat.specs.Touching.{TouchesRecords};
 
 use crate::acting::Thrown;
 use crate::flat::Flat;
@@ -182,39 +183,50 @@ fn recount_all<L: Local>(states: &[L], records: &mut Vec<Record>, at: usize, for
 }
 
 // Reads the labels above a process off again where a child died of this label; where none did there is no label
-// to take away.
-fn recount_if<L: Local>(states: &[L], records: &mut Vec<Record>, at: usize, label: Option<u32>)
+// to take away. It answers how many forks that concerns, at most.
+fn recount_if<L: Local>(
+    states: &[L],
+    records: &mut Vec<Record>,
+    at: usize,
+    label: Option<u32>,
+) -> u32
     requires ordered { AreOrdered records.old.items }
     requires few { (s : L) → slice_get states.now at ≡ Some s → length (L.ops.given s) ≤ 18446744073709551615 }
     requires inside { at < length states.now }
-    ensures { (s : L) → slice_get states.now at ≡ Some s → RecountedIf (option_map death label) L.ops states.now s 4294967295 at records.old.items records.new.items }
+    ensures recounts { (s : L) → slice_get states.now at ≡ Some s → RecountedIf (option_map death label) L.ops states.now s 4294967295 at records.old.items records.new.items }
+    ensures touches { TouchesRecords result at records.old.items records.new.items }
 {
     match label {
-        None => {}
-        Some(_) => recount_all(states, records, at, u32::MAX),
+        None => 0,
+        Some(_) => {
+            recount_all(states, records, at, u32::MAX);
+            u32::MAX
+        }
     }
 }
 
 // This came of a process whose fork has closed, and a child of which died of this label, if any did: its
-// record says so, and all above is brought up to date.
+// record says so, and all above is brought up to date. It answers how many forks that concerns, at most.
 fn close_record<L: Local>(
     states: &[L],
     records: &mut Vec<Record>,
     at: usize,
     status: Status,
     label: Option<u32>,
-)
+) -> u32
     requires ordered { AreOrdered records.old.items }
     requires few { (s : L) → slice_get states.now at ≡ Some s → length (L.ops.given s) ≤ 18446744073709551615 }
     requires of_state { at < length states.now }
     requires of_record { at < length records.old.items }
     requires status { status ≢ Free }
-    ensures { ClosesRecord L.ops states.now at status (option_map death label) records.old.items records.new.items }
+    ensures closes { ClosesRecord L.ops states.now at status (option_map death label) records.old.items records.new.items }
+    ensures touches { TouchesRecords result at records.old.items records.new.items }
 {
     come_to(&mut records[at], status);
     leave_if(records, at, status);
-    update_all_counts(&states[at], status, records, at, u32::MAX);
-    recount_if(states, records, at, label);
+    let counted = update_all_counts(&states[at], status, records, at, u32::MAX);
+    let labelled = recount_if(states, records, at, label);
+    labelled.max(counted).max(1)
 }
 
 // What came of a process, and its label where it died.
@@ -246,11 +258,11 @@ fn used_end(records: &[Record]) -> usize
 impl<L: Local> Flat<L> {
     /// Closes the fork of the process with this number, of which no child goes on: it takes back its
     /// children's values, and goes on behind the fork, or the exception of the least label of which a child
-    /// died is thrown in it. The children's records are free, and those at the end are cut off. It takes no
-    /// memory.
-    pub fn close_here(&mut self, number: u32) -> CloseOutcome
+    /// died is thrown in it. The children's records are free, and those at the end are cut off. The answer says
+    /// how many forks above the process say something else now, too, at most. It takes no memory.
+    pub fn close_here(&mut self, number: u32) -> (CloseOutcome, u32)
         requires { CanClose self.old number }
-        ensures { ClosesHere L.ops number result self.old self.new }
+        ensures { ClosesHere L.ops result.1 number result.0 self.old self.new }
     {
         let at = number as usize;
         let first = self.records[at].first;
@@ -260,10 +272,10 @@ impl<L: Local> Flat<L> {
         free_children(&mut self.records, first as usize, count as usize);
         self.free.give_back(first, count);
         let status = status_after(outcome, label);
-        close_record(self.states.as_slice(), &mut self.records, at, status, label);
+        let forks = close_record(self.states.as_slice(), &mut self.records, at, status, label);
         let end = used_end(self.records.as_slice());
         self.records.truncate(end);
         self.states.truncate(end);
-        outcome
+        (outcome, forks)
     }
 }

@@ -10,6 +10,7 @@ ghost use Rattle.shim_records.specs.Blocks.{with_block};
 ghost use Rattle.shim_laws_forks.specs.Forking.{IsOfChild, IsWithin, AreOfChildren, ready_chans, EachUpdatedAbove, ForksAt};
 ghost use Rattle.shim_flat.specs.Forking.{ForksHere, ForkedTo, ForkComesTo, how_many, IsFreeBlock};
 ghost use Rattle.shim_flat.specs.Stepping.{LivesAt};
+ghost use Rattle.shim_flat.specs.Touching.{TouchesForking, TouchesRecords};
 
 use crate::flat::Flat;
 use shim_base::{Chan, NoMemory};
@@ -124,13 +125,16 @@ fn ready(alloc: Global, pairs: &[Pair]) -> Result<Vec<Chan>, NoMemory>
     Ok(chans)
 }
 
-// Goes the way up from the record for each of these channels, of a process that wasn't ready on it and is.
-fn update_ready(records: &mut Vec<Record>, at: usize, chans: &[Chan])
+// Goes the way up from the record for each of these channels, of a process that wasn't ready on it and is. It
+// answers how many forks the longest of these ways led to.
+fn update_ready(records: &mut Vec<Record>, at: usize, chans: &[Chan]) -> u32
     requires { AreOrdered records.old.items }
-    ensures { EachUpdatedAbove 4294967295 at (channels chans.now) records.old.items records.new.items }
+    ensures ways { EachUpdatedAbove 4294967295 at (channels chans.now) records.old.items records.new.items }
+    ensures touches { TouchesRecords result at records.old.items records.new.items }
 {
+    let mut furthest: u32 = 0;
     for i in 0..chans.len() {
-        update_counts_above(
+        let reached = update_counts_above(
             records,
             at,
             &chans[i],
@@ -138,7 +142,9 @@ fn update_ready(records: &mut Vec<Record>, at: usize, chans: &[Chan])
             live_reading(true),
             u32::MAX,
         );
+        furthest = furthest.max(reached);
     }
+    furthest
 }
 
 // Whether so many records from a number on are there, and free.
@@ -195,19 +201,21 @@ fn note_fork(parent: &mut Record, first: u32, count: u32, pairs: Vec<Pair>)
 }
 
 // Puts the fork's children from the hint's number on, if the records there are free, or behind all others,
-// and brings the counts above up to date; the number of the first one. Want of memory changes nothing.
+// and brings the counts above up to date; the number of the first one, and how many forks above have other
+// counts, at most. Want of memory changes nothing.
 fn put_fork<L: Local>(
     alloc: Global,
     states: &mut Vec<L>,
     records: &mut Vec<Record>,
     fork: Parted<L>,
     hint: Option<u32>,
-) -> Result<u32, NoMemory>
+) -> Result<(u32, u32), NoMemory>
     requires inside { fork.number < vec_len records.old }
     requires beside { length states.old.items ≡ length records.old.items }
     requires ordered { AreOrdered records.old.items }
-    ensures ok { IfOk result (λ first. ForksAt L.ops fork.number first fork.parent fork.children.items (record { states = states.old.items; records = records.old.items }) (record { states = states.new.items; records = records.new.items })) }
-    ensures fits { IfOk result (λ first. first + length fork.children.items ≤ 4294967295) }
+    ensures ok { IfOk result (λ put. ForksAt L.ops fork.number put.0 fork.parent fork.children.items (record { states = states.old.items; records = records.old.items }) (record { states = states.new.items; records = records.new.items })) }
+    ensures fits { IfOk result (λ put. put.0 + length fork.children.items ≤ 4294967295) }
+    ensures touches { IfOk result (λ put. TouchesForking put.1 fork.number put.0 (length fork.children.items) (record { states = states.old.items; records = records.old.items }) (record { states = states.new.items; records = records.new.items })) }
     ensures err { OnErr result ((states.new.items ≡ states.old.items) × (records.new.items ≡ records.old.items)) }
 {
     let Parted {
@@ -229,8 +237,8 @@ fn put_fork<L: Local>(
     put_block(states, first as usize, children);
     note_fork(&mut records[at], first, count, pairs);
     put_block(records, first as usize, born);
-    update_ready(records, at, chans.as_slice());
-    Ok(first)
+    let forks = update_ready(records, at, chans.as_slice());
+    Ok((first, forks))
 }
 
 impl<L: Local> Flat<L> {
@@ -251,10 +259,11 @@ impl<L: Local> Flat<L> {
         })
     }
 
-    /// The process forks so, in place. Want of memory changes nothing.
-    pub fn put_fork(&mut self, alloc: Global, fork: Fork<L>) -> Result<ForkOutcome, NoMemory>
+    /// The process forks so, in place. The answer says how many forks above it have other counts, at most.
+    /// Want of memory changes nothing.
+    pub fn put_fork(&mut self, alloc: Global, fork: Fork<L>) -> Result<(ForkOutcome, u32), NoMemory>
         requires { ForkComesTo L.ops self.old fork.number fork.parent fork.came }
-        ensures ok { IfOk result (λ outcome. ForksHere L.ops fork.number self.old self.new outcome) }
+        ensures ok { IfOk result (λ put. ForksHere L.ops put.1 fork.number self.old self.new put.0) }
         ensures few { length self.new.records ≤ length self.old.records + how_many fork.came }
         ensures err { OnErr result (self.new ≡ self.old) }
     {
@@ -266,7 +275,7 @@ impl<L: Local> Flat<L> {
         match came {
             Forked::Trapped => {
                 self.states[number as usize] = parent;
-                Ok(ForkOutcome::Trapped)
+                Ok((ForkOutcome::Trapped, 0))
             }
             Forked::Children(children) => self.fork_into(
                 alloc,
@@ -284,9 +293,9 @@ impl<L: Local> Flat<L> {
         number: u32,
         parent: L,
         children: Vec<L>,
-    ) -> Result<ForkOutcome, NoMemory>
+    ) -> Result<(ForkOutcome, u32), NoMemory>
         requires { ForkedTo L.ops number parent children.items self.old }
-        ensures ok { IfOk result (λ outcome. ForksHere L.ops number self.old self.new outcome) }
+        ensures ok { IfOk result (λ put. ForksHere L.ops put.1 number self.old self.new put.0) }
         ensures few { length self.new.records ≤ length self.old.records + length children.items }
         ensures err { OnErr result (self.new ≡ self.old) }
     {
@@ -298,8 +307,8 @@ impl<L: Local> Flat<L> {
             parent,
             children,
         };
-        let first = put_fork(alloc, &mut self.states, &mut self.records, fork, hint)?;
+        let (first, forks) = put_fork(alloc, &mut self.states, &mut self.records, fork, hint)?;
         self.free.put(count, first);
-        Ok(ForkOutcome::Forked(first, count))
+        Ok((ForkOutcome::Forked(first, count), forks))
     }
 }

@@ -106,8 +106,8 @@ free_children-requires g c =
     let same = c.self.inside.records.ok.0 in
     omega (arith, w, same)
 
-pub close_record-requires-clause-ordered : goal.close_record-requires-clause-ordered
-close_record-requires-clause-ordered g c κs within =
+pub close_record-forks-requires-clause-ordered : goal.close_record-forks-requires-clause-ordered
+close_record-forks-requires-clause-ordered g c κs within =
     let o = g.L.Local.ops in
     let law = (g.met.L.Local g.world.𝓛 g.world.𝓜 g.world.𝓡 ((λ s x. x), (λ x. x), (λ x. x), λ x. x)).laws in
     let states = c.self.inside.states.items in
@@ -119,8 +119,8 @@ close_record-requires-clause-ordered g c κs within =
     let has = closing.forked_so states rs number done c.index.result.now c.index-2.result.now count c.index.ensures c.index-2.ensures c.fork_size-count.ensures in
     closing.freed_order first count rs c.free_children.new.records.items c.free_children.ensures (closing.are_ordered o law states rs number c.self.invariant done first count has)
 
-pub close_record-requires-clause-few : goal.close_record-requires-clause-few
-close_record-requires-clause-few g c κs within s e =
+pub close_record-forks-requires-clause-few : goal.close_record-forks-requires-clause-few
+close_record-forks-requires-clause-few g c κs within s e =
     let o = g.L.Local.ops in
     let law = (g.met.L.Local g.world.𝓛 g.world.𝓜 g.world.𝓡 ((λ s x. x), (λ x. x), (λ x. x), λ x. x)).laws in
     let states = c.self.inside.states.items in
@@ -137,8 +137,8 @@ close_record-requires-clause-few g c κs within s e =
     let taken = c.take_back-outcome.ensures in
     closing.few o law states rs number c.self.invariant done first count has label outcome now read taken s (ap (λ z. slice_get z number) (sym c.as_slice-2.ensures.value) ∙ e)
 
-pub close_record-requires-clause-of_state : goal.close_record-requires-clause-of_state
-close_record-requires-clause-of_state g c κs within =
+pub close_record-forks-requires-clause-of_state : goal.close_record-forks-requires-clause-of_state
+close_record-forks-requires-clause-of_state g c κs within =
     let o = g.L.Local.ops in
     let law = (g.met.L.Local g.world.𝓛 g.world.𝓜 g.world.𝓡 ((λ s x. x), (λ x. x), (λ x. x), λ x. x)).laws in
     let states = c.self.inside.states.items in
@@ -157,8 +157,8 @@ close_record-requires-clause-of_state g c κs within =
     let same = ap length c.as_slice-2.ensures.value in
     omega (arith, w, same)
 
-pub close_record-requires-clause-of_record : goal.close_record-requires-clause-of_record
-close_record-requires-clause-of_record g c κs within =
+pub close_record-forks-requires-clause-of_record : goal.close_record-forks-requires-clause-of_record
+close_record-forks-requires-clause-of_record g c κs within =
     let o = g.L.Local.ops in
     let law = (g.met.L.Local g.world.𝓛 g.world.𝓜 g.world.𝓡 ((λ s x. x), (λ x. x), (λ x. x), λ x. x)).laws in
     let states = c.self.inside.states.items in
@@ -188,10 +188,10 @@ invariant_of-self g c =
     let outcome = c.take_back-outcome.result in
     let now = c.take_back-outcome.new.states.items in
     let taken = c.take_back-outcome.ensures in
-    let behind = c.close_record.new.records.items in
+    let behind = c.close_record-forks.new.records.items in
     let status = c.status_after-status.result in
     let end = c.used_end-end.result in
-    let settled = subst (λ z. ClosesRecord o z number status (option_map death label) c.free_children.new.records.items behind) c.as_slice-2.ensures.value c.close_record.ensures in
+    let settled = subst (λ z. ClosesRecord o z number status (option_map death label) c.free_children.new.records.items behind) c.as_slice-2.ensures.value c.close_record-forks.ensures.closes in
     subst (λ z. IsKept o (record { states = z; records = c.truncate.new.self.items })) (sym c.truncate-2.ensures.items)
     (subst (λ z. IsKept o (record { states = take end now; records = z })) (sym c.truncate.ensures.items) (closing.still_kept o law states rs number c.self.invariant done first count has label outcome now read taken c.free_children.new.records.items behind status end c.free_children.ensures c.status_after-status.ensures.sort settled (λ i r past e. c.used_end-end.ensures i r past (ap (λ z. slice_get z i) c.as_slice-3.ensures.value ∙ e))))
 
@@ -211,10 +211,11 @@ returns g c =
     let outcome = c.take_back-outcome.result in
     let now = c.take_back-outcome.new.states.items in
     let taken = c.take_back-outcome.ensures in
-    let behind = c.close_record.new.records.items in
+    let behind = c.close_record-forks.new.records.items in
+    let forks = c.close_record-forks.result in
     let status = c.status_after-status.result in
     let end = c.used_end-end.result in
-    let settled = subst (λ z. ClosesRecord o z number status (option_map death label) c.free_children.new.records.items behind) c.as_slice-2.ensures.value c.close_record.ensures in
-    subst (λ v. ClosesHere o number outcome v (record { states = c.truncate-2.new.self.items; records = c.truncate.new.self.items })) c.self.view_is
-    (subst (λ z. ClosesHere o number outcome (record { states = states; records = rs }) (record { states = z; records = c.truncate.new.self.items })) (sym c.truncate-2.ensures.items)
-    (subst (λ z. ClosesHere o number outcome (record { states = states; records = rs }) (record { states = take end now; records = z })) (sym c.truncate.ensures.items) (closing.closes_here o law states rs number c.self.invariant done first count has label outcome now read taken c.free_children.new.records.items behind status end c.free_children.ensures c.status_after-status.ensures.sort settled (λ i r past e. c.used_end-end.ensures i r past (ap (λ z. slice_get z i) c.as_slice-3.ensures.value ∙ e)))))
+    let settled = subst (λ z. ClosesRecord o z number status (option_map death label) c.free_children.new.records.items behind) c.as_slice-2.ensures.value c.close_record-forks.ensures.closes in
+    subst (λ v. ClosesHere o forks number outcome v (record { states = c.truncate-2.new.self.items; records = c.truncate.new.self.items })) c.self.view_is
+    (subst (λ z. ClosesHere o forks number outcome (record { states = states; records = rs }) (record { states = z; records = c.truncate.new.self.items })) (sym c.truncate-2.ensures.items)
+    (subst (λ z. ClosesHere o forks number outcome (record { states = states; records = rs }) (record { states = take end now; records = z })) (sym c.truncate.ensures.items) (closing.closes_here o law states rs number c.self.invariant done first count has label outcome now read taken c.free_children.new.records.items behind status end c.free_children.ensures c.status_after-status.ensures.sort settled (λ i r past e. c.used_end-end.ensures i r past (ap (λ z. slice_get z i) c.as_slice-3.ensures.value ∙ e)) forks c.close_record-forks.ensures.touches)))
