@@ -39,7 +39,7 @@ no_bytes (Threw thrown.Died) = refl
 pub children_used : {S : Type 0} (o : Ops S) (v : FlatTreeView S) → KeepsTree o v → (i f n : ℕ) (l : S) → HasProcess v.flat i f l (forks n) → (b : ℕ) → b < n → IsInUse v.flat (f + b)
 children_used o v kept i f n l has b less = let w = kept.shows.shows.agrees.below i f n l has b less in (w.0, w.1, w.2, w.3)
 
-module _ {S : Type 0} (o : Ops S) (number : ℕ) (outcome : CloseOutcome) (before behind : FlatView S) (h : ClosesHere o number outcome before behind) where
+module _ {S : Type 0} (o : Ops S) (m number : ℕ) (outcome : CloseOutcome) (before behind : FlatView S) (h : ClosesHere o m number outcome before behind) where
   pub was_used : (i : ℕ) → IsInUse behind i → IsInUse before i
   was_used i u = elim (h.becomes.only i u.0 u.1 u.2 u.3) [
     | inl w ↦ (h.first, h.process, forks h.many, subst (λ z. HasProcess before z h.first h.process (forks h.many)) (sym w.0) h.forked)
@@ -51,7 +51,7 @@ module _ {S : Type 0} (o : Ops S) (number : ℕ) (outcome : CloseOutcome) (befor
   closed_room xs all = still_for_all before behind xs xs was_used refl all
 
 -- what is told of it, beside the process and lists of numbers
-pub record OneClose {S : Type 0} (o : Ops S) (number : ℕ) (outcome : CloseOutcome) (before behind : FlatTreeView S) (h : ClosesHere o number outcome before.flat behind.flat) : Type 0 where
+pub record OneClose {S : Type 0} (o : Ops S) (m number : ℕ) (outcome : CloseOutcome) (before behind : FlatTreeView S) (h : ClosesHere o m number outcome before.flat behind.flat) : Type 0 where
   pub output : behind.output ≡ before.output
   pub histories : behind.histories ≡ before.histories
   pub logs : behind.logs ≡ with_logs before.logs (o.path h.process) (told_by outcome).logs
@@ -62,7 +62,7 @@ pub record OneClose {S : Type 0} (o : Ops S) (number : ℕ) (outcome : CloseOutc
   pub events : behind.events ≡ before.events + 1
   pub held : behind.held ≡ before.held
 
-module _ {S : Type 0} (o : Ops S) (law : LocalLaws o) (before behind : FlatTreeView S) (kept : KeepsTree o before) (number : ℕ) (outcome : CloseOutcome) (h : ClosesHere o number outcome before.flat behind.flat) (one : OneClose o number outcome before behind h) where
+module _ {S : Type 0} (o : Ops S) (law : LocalLaws o) (before behind : FlatTreeView S) (kept : KeepsTree o before) (m number : ℕ) (outcome : CloseOutcome) (h : ClosesHere o m number outcome before.flat behind.flat) (one : OneClose o m number outcome before behind h) where
   gone : (b : ℕ) → b < h.many → path_at o behind.flat (h.first + b) ≡ None
   gone b less = elim (in_use_or_not o behind.flat (h.first + b)) [
     | inr n ↦ n
@@ -83,7 +83,7 @@ module _ {S : Type 0} (o : Ops S) (law : LocalLaws o) (before behind : FlatTreeV
 
   was_there : (i : ℕ) → InUse o behind.flat i → InUse o before.flat i
   was_there i u =
-      let w = was_used o number outcome before.flat behind.flat h i (u.first, u.process, u.sort_is, u.has) in
+      let w = was_used o m number outcome before.flat behind.flat h i (u.first, u.process, u.sort_is, u.has) in
       record { first = w.0; process = w.1; sort_is = w.2; has = w.3 }
 
   counts : events.counts_in o behind ≡ events.counts_in o before
@@ -114,7 +114,7 @@ module _ {S : Type 0} (o : Ops S) (law : LocalLaws o) (before behind : FlatTreeV
   stay : (i : ℕ) (l : S) → IsQuietAt o before.flat i l → is_listed before.held i ≡ true → IsQuietAt o behind.flat i l
   stay i l q flag = quiet_stays o law before behind kept (Close (o.path h.process)) happened.leads no_step happened.shows lived i l q
 
-  module _ (few : steps (tree_in o before) < 4000000) (above : Wakens o behind.flat 4294967295 number before.awake behind.awake) (mine : ListsQuiet o behind.flat number before.quiet behind.quiet) where
+  module _ (few : steps (tree_in o before) < 4000000) (above : Wakens o behind.flat m number before.awake behind.awake) (mine : ListsQuiet o behind.flat number before.quiet behind.quiet) where
     quiet_listed : (i : ℕ) (l : S) → IsQuietAt o behind.flat i l → (is_listed behind.quiet i ≡ true) ⊎ IsQuietAt o before.flat i l
     quiet_listed i l q = elim (h.becomes.only i q.first l lives q.has) [
       | inl w ↦ inl (ap (is_listed behind.quiet) w.0 ∙ mine.mine l (subst (λ z. IsQuietAt o behind.flat z l) w.0 q))
@@ -122,14 +122,14 @@ module _ {S : Type 0} (o : Ops S) (law : LocalLaws o) (before behind : FlatTreeV
     ]
 
     used_before : (i : ℕ) → IsInUse behind.flat i → IsInUse before.flat i
-    used_before = was_used o number outcome before.flat behind.flat h
+    used_before = was_used o m number outcome before.flat behind.flat h
 
     pub closes_go : Goes o before behind (Close (o.path h.process))
     closes_go = record {
       keeps = keeps_on o law before behind kept (record {
         shows = happened.shows;
         few = let n = happened.counts in omega (arith, few, n);
-        looks = one_suffices o 4294967295 number before.flat behind.flat before.awake behind.awake above (subst (λ z. number < z) (sym above.as_many) (kept.awakes number (h.first, h.process, forks h.many, h.forked))) h.touches;
+        looks = one_suffices o m number before.flat behind.flat before.awake behind.awake above (subst (λ z. number < z) (sym above.as_many) (kept.awakes number (h.first, h.process, forks h.many, h.forked))) h.touches;
         awake = above.kept;
         quiet = still_listed o before behind kept flags stay mine.kept quiet_listed;
         held = still_held o before behind kept flags stay;

@@ -31,7 +31,7 @@ use Rattle.shim_flat.proofs.Parents.{there_is, use_within}
 use Rattle.shim_flat_tree.specs.FlatTrees.{FlatTreeView, tree_in, path_at, entry, counts_from, IsQuietAt, KeepsTree}
 use Rattle.shim_flat_tree.specs.Room.{HasRoomFor, block_of}
 use Rattle.shim_flat_tree.specs.Waking.{HasCounted, Wakens, ListsQuiet}
-use Rattle.shim_flat_tree.proofs.Wakened.{forked_suffices}
+use Rattle.shim_flat_tree.proofs.Wakened.{forked_suffices, fewer_wakened}
 use Rattle.shim_flat_tree.proofs.Acted.{HasTold, one_may_be_counted, no_quiet_step, own_done}
 use Rattle.shim_flat_tree.proofs.Blocks.{in_block_or_not, block_is, outside_is, block_long, ListsBlock, block_listed}
 use Rattle.shim_flat_tree.proofs.Counts.{more, fresh}
@@ -69,7 +69,7 @@ is_sound o v kept i f l k has =
     let n = node_at o [] v.flat.states (stands v.flat) root shows i f l k has in
     subst (λ z. o.sound z) n.2 (state_sound o n.0 (sound_at o (place o [] l) root n.0 shows.sound.below n.1))
 
-module _ {S : Type 0} (o : Ops S) (law : LocalLaws o) (before : FlatTreeView S) (kept : KeepsTree o before) (now : FlatView S) (number first count : ℕ) (h : HasForkedHere o number first count before.flat now) where
+module _ {S : Type 0} (o : Ops S) (law : LocalLaws o) (before : FlatTreeView S) (kept : KeepsTree o before) (now : FlatView S) (m number first count : ℕ) (h : HasForkedHere o m number first count before.flat now) where
   sound : o.sound h.was
   sound = is_sound o before kept number h.was_first h.was lives h.lived
 
@@ -85,7 +85,7 @@ module _ {S : Type 0} (o : Ops S) (law : LocalLaws o) (before : FlatTreeView S) 
   pub block_fits : (end : ℕ) → length now.records ≤ end → first + count ≤ end
   block_fits end most = let w = some count refl in omega (arith, w, most)
 
-module _ {S : Type 0} (o : Ops S) (law : LocalLaws o) (before behind : FlatTreeView S) (kept : KeepsTree o before) (number first count : ℕ) (h : HasForkedHere o number first count before.flat behind.flat) (own : List ℕ) (within : first + count ≤ length before.own)
+module _ {S : Type 0} (o : Ops S) (law : LocalLaws o) (before behind : FlatTreeView S) (kept : KeepsTree o before) (m number first count : ℕ) (h : HasForkedHere o m number first count before.flat behind.flat) (own : List ℕ) (within : first + count ≤ length before.own)
     (zeros : own ≡ with_block first (replicate count 0) before.own) (c : HasCounted number 1 own behind.own) (one : OneOwnStep before behind) where
   path_is : o.path h.is ≡ o.path h.was
   path_is = law.moved_path h.was h.is (is_sound o before kept number h.was_first h.was lives h.lived) (by_fork h.born h.stood h.forked)
@@ -159,7 +159,7 @@ module _ {S : Type 0} (o : Ops S) (law : LocalLaws o) (before behind : FlatTreeV
           not_quiet (ap o.stop (one_state before.flat.states (stands before.flat) number h.was_first q.first h.was l lives lives h.lived mine) ∙ q.stands)
 
   module _ (few : steps (tree_in o before) < 4000000) (end : ℕ) (most : length behind.flat.records ≤ end) (room : HasRoomFor end before) (awake quiet : List Bool) (awakes : ListsBlock first count before.awake awake) (quiets : ListsBlock first count before.quiet quiet)
-      (above : Wakens o behind.flat 4294967295 number awake behind.awake) (mine : ListsQuiet o behind.flat number quiet behind.quiet) where
+      (above : Wakens o behind.flat m number awake behind.awake) (mine : ListsQuiet o behind.flat number quiet behind.quiet) where
     quiet_listed : (i : ℕ) (l : S) → IsQuietAt o behind.flat i l → (is_listed behind.quiet i ≡ true) ⊎ IsQuietAt o before.flat i l
     quiet_listed i l q = elim (h.becomes.only i q.first l lives q.has) [
       | inl w ↦ absurd (let e = w.2 in cc)
@@ -179,7 +179,7 @@ module _ {S : Type 0} (o : Ops S) (law : LocalLaws o) (before behind : FlatTreeV
     keeps = keeps_on o law before behind kept (record {
       shows = happened.shows;
       few = let n = happened.counts in omega (arith, few, n);
-      looks = forked_suffices o number before.flat behind.flat awake behind.awake above (room_for before.awake behind.awake room.awake (above.as_many ∙ awakes.as_many) number (first, h.is, _, h.becomes.parent)) first count (λ b less. above.kept (first + b) (awakes.mine b less)) h.touches;
+      looks = forked_suffices o m number before.flat behind.flat awake behind.awake above (room_for before.awake behind.awake room.awake (above.as_many ∙ awakes.as_many) number (first, h.is, _, h.becomes.parent)) first count (λ b less. above.kept (first + b) (awakes.mine b less)) h.touches;
       awake = λ i e. above.kept i (awakes.kept i e);
       quiet = still_listed o before behind kept flags stay (λ i e. mine.kept i (quiets.kept i e)) quiet_listed;
       held = still_held o before behind kept flags stay;
@@ -200,7 +200,7 @@ module _ {S : Type 0} (o : Ops S) (law : LocalLaws o) (before behind : FlatTreeV
 
 module _ {S : Type 0} (o : Ops S) (number : ℕ) (before behind : FlatView S) (h : HasTrappedHere o number before behind) where
   -- it is a step that its process did by itself
-  pub traps_act : ActsHere o 4294967295 number AtFork lives nothing before behind
+  pub traps_act : ActsHere o 0 number AtFork lives nothing before behind
   traps_act = record {
     first = h.first;
     process = h.was;
@@ -223,8 +223,8 @@ module _ {S : Type 0} (o : Ops S) (number : ℕ) (before behind : FlatView S) (h
       }
 
 module _ {S : Type 0} (o : Ops S) (law : LocalLaws o) (before behind : FlatTreeView S) (kept : KeepsTree o before) (number : ℕ) (h : HasTrappedHere o number before.flat behind.flat) (one : OneOwnStep before behind) (c : HasCounted number 1 before.own behind.own)
-    (few : steps (tree_in o before) < 4000000) (above : Wakens o behind.flat 4294967295 number before.awake behind.awake) (mine : ListsQuiet o behind.flat number before.quiet behind.quiet) where
-  acts : ActsHere o 4294967295 number AtFork lives nothing before.flat behind.flat
+    (few : steps (tree_in o before) < 4000000) (above : Wakens o behind.flat 0 number before.awake behind.awake) (mine : ListsQuiet o behind.flat number before.quiet behind.quiet) where
+  acts : ActsHere o 0 number AtFork lives nothing before.flat behind.flat
   acts = traps_act o number before.flat behind.flat h
 
   other : AtFork ≢ AtQuiet
@@ -233,36 +233,36 @@ module _ {S : Type 0} (o : Ops S) (law : LocalLaws o) (before behind : FlatTreeV
   pub traps_go : Goes o before behind (Own (o.path h.was))
   unfolding acts traps_act
   traps_go =
-      let told : HasTold o law before behind kept 4294967295 number AtFork lives nothing acts = record { output = one.output ∙ sym (append-nil before.output); histories = one.histories; logs = one.logs; past = one.past } in
-      let w = own_done o law before behind kept 4294967295 number AtFork lives nothing acts refl other told c one.events one.held few above mine in
+      let told : HasTold o law before behind kept 0 number AtFork lives nothing acts = record { output = one.output ∙ sym (append-nil before.output); histories = one.histories; logs = one.logs; past = one.past } in
+      let w = own_done o law before behind kept 0 number AtFork lives nothing acts refl other told c one.events one.held few above mine in
       record { keeps = w.0; happens = w.1; steps_are = w.2 }
 
 -- ---- either way
 
-module _ {S : Type 0} (o : Ops S) (law : LocalLaws o) (before : FlatTreeView S) (kept : KeepsTree o before) (now : FlatView S) (number : ℕ) where
+module _ {S : Type 0} (o : Ops S) (law : LocalLaws o) (before : FlatTreeView S) (kept : KeepsTree o before) (now : FlatView S) (m number : ℕ) where
   -- the block of new numbers lies below what there is room for
-  pub new_fits : (r : ForkOutcome) (end : ℕ) → ForksHere o number before.flat now r → length now.records ≤ end → (block_of r).0 + (block_of r).1 ≤ end
-  new_fits (outcome.Forked first count) end h most = block_fits o law before kept now number first count h end most
+  pub new_fits : (r : ForkOutcome) (end : ℕ) → ForksHere o m number before.flat now r → length now.records ≤ end → (block_of r).0 + (block_of r).1 ≤ end
+  new_fits (outcome.Forked first count) end h most = block_fits o law before kept now m number first count h end most
   new_fits outcome.Trapped end h most = omega arith
 
-  pub new_few : (r : ForkOutcome) → ForksHere o number before.flat now r → (block_of r).0 + (block_of r).1 ≤ 4294967295
+  pub new_few : (r : ForkOutcome) → ForksHere o m number before.flat now r → (block_of r).0 + (block_of r).1 ≤ 4294967295
   new_few (outcome.Forked first count) h = h.fits
   new_few outcome.Trapped h = omega arith
 
   -- the process's count is still small enough
-  pub may_be_counted : (r : ForkOutcome) (own : List ℕ) → ForksHere o number before.flat now r → own ≡ with_block (block_of r).0 (replicate (block_of r).1 0) before.own → (block_of r).0 + (block_of r).1 ≤ length before.own
+  pub may_be_counted : (r : ForkOutcome) (own : List ℕ) → ForksHere o m number before.flat now r → own ≡ with_block (block_of r).0 (replicate (block_of r).1 0) before.own → (block_of r).0 + (block_of r).1 ≤ length before.own
       → steps (tree_in o before) < 4000000 → (count : ℕ) → slice_get own number ≡ Some count → count + 1 ≤ 4000000
   may_be_counted (outcome.Forked first n) own h zeros fits few count e =
       let out = outside_is 0 first n before.own own fits zeros number (λ b less same. h.unused b h.was_first h.was lives less (subst (λ z. HasProcess before.flat z h.was_first h.was lives) same h.lived)) in
       one_may_be_counted o law before number h.was_first h.was lives h.lived few count (sym out ∙ e)
   may_be_counted outcome.Trapped own h zeros fits few count e = one_may_be_counted o law before number h.first h.was lives h.lived few count (ap (λ z. slice_get z number) (sym zeros) ∙ e)
 
-  pub counted_within : (r : ForkOutcome) (own : List ℕ) → ForksHere o number before.flat now r → own ≡ with_block (block_of r).0 (replicate (block_of r).1 0) before.own → (block_of r).0 + (block_of r).1 ≤ length before.own → number < length own
+  pub counted_within : (r : ForkOutcome) (own : List ℕ) → ForksHere o m number before.flat now r → own ≡ with_block (block_of r).0 (replicate (block_of r).1 0) before.own → (block_of r).0 + (block_of r).1 ≤ length before.own → number < length own
   counted_within (outcome.Forked first n) own h zeros fits = let w = kept.owns number (h.was_first, h.was, lives, h.lived) in let e = block_long 0 first n before.own own fits zeros in omega (arith, w, e)
   counted_within outcome.Trapped own h zeros fits = subst (λ z. number < length z) (sym zeros) (kept.owns number (h.first, h.was, lives, h.lived))
 
   -- the process still has a record
-  pub still_used : (r : ForkOutcome) → ForksHere o number before.flat now r → IsInUse now number
+  pub still_used : (r : ForkOutcome) → ForksHere o m number before.flat now r → IsInUse now number
   unfolding traps_act
   still_used (outcome.Forked first count) h = (first, h.is, _, h.becomes.parent)
   still_used outcome.Trapped h = let a = traps_act o number before.flat now h in (a.becomes.first, h.is, lives, a.becomes.mine)
@@ -271,8 +271,8 @@ module _ {S : Type 0} (o : Ops S) (law : LocalLaws o) (before : FlatTreeView S) 
   pub has_room : {A : Type 0} (end : ℕ) (xs ys : List A) → length now.records ≤ end → end ≤ length xs → length ys ≡ length xs → IsForAll now ys
   has_room end xs ys most fits same i u = let w = use_within o now i u in omega (arith, w, most, fits, same)
 
-module _ {S : Type 0} (o : Ops S) (law : LocalLaws o) (before behind : FlatTreeView S) (kept : KeepsTree o before) (number : ℕ) (own : List ℕ) (c : HasCounted number 1 own behind.own) (one : OneOwnStep before behind) (few : steps (tree_in o before) < 4000000) (end : ℕ) (most : length behind.flat.records ≤ end)
-    (room : HasRoomFor end before) (awake quiet : List Bool) (above : Wakens o behind.flat 4294967295 number awake behind.awake) (mine : ListsQuiet o behind.flat number quiet behind.quiet) where
+module _ {S : Type 0} (o : Ops S) (law : LocalLaws o) (before behind : FlatTreeView S) (kept : KeepsTree o before) (m number : ℕ) (own : List ℕ) (c : HasCounted number 1 own behind.own) (one : OneOwnStep before behind) (few : steps (tree_in o before) < 4000000) (end : ℕ) (most : length behind.flat.records ≤ end)
+    (room : HasRoomFor end before) (awake quiet : List Bool) (above : Wakens o behind.flat m number awake behind.awake) (mine : ListsQuiet o behind.flat number quiet behind.quiet) where
   -- what the process was that forked
   pub record Forks : Type 0 where
     pub first : ℕ
@@ -280,10 +280,10 @@ module _ {S : Type 0} (o : Ops S) (law : LocalLaws o) (before behind : FlatTreeV
     pub lived : HasProcess before.flat number first was lives
     pub goes : Goes o before behind (Own (o.path was))
 
-  pub fork_goes : (r : ForkOutcome) → ForksHere o number before.flat behind.flat r → own ≡ with_block (block_of r).0 (replicate (block_of r).1 0) before.own
+  pub fork_goes : (r : ForkOutcome) → ForksHere o m number before.flat behind.flat r → own ≡ with_block (block_of r).0 (replicate (block_of r).1 0) before.own
       → awake ≡ with_block (block_of r).0 (replicate (block_of r).1 true) before.awake → quiet ≡ with_block (block_of r).0 (replicate (block_of r).1 true) before.quiet → Forks
   fork_goes (outcome.Forked first count) h zeros awakes quiets =
-      let fits = block_fits o law before kept behind.flat number first count h end most in
+      let fits = block_fits o law before kept behind.flat m number first count h end most in
       let in_own = room.own in
       let in_awake = room.awake in
       let in_quiet = room.quiet in
@@ -291,12 +291,12 @@ module _ {S : Type 0} (o : Ops S) (law : LocalLaws o) (before behind : FlatTreeV
         first = h.was_first;
         was = h.was;
         lived = h.lived;
-        goes = forks_go o law before behind kept number first count h own (omega (arith, fits, in_own)) zeros c one few end most room awake quiet
+        goes = forks_go o law before behind kept m number first count h own (omega (arith, fits, in_own)) zeros c one few end most room awake quiet
             (block_listed first count before.awake awake (omega (arith, fits, in_awake)) awakes) (block_listed first count before.quiet quiet (omega (arith, fits, in_quiet)) quiets) above mine;
       }
   fork_goes outcome.Trapped h zeros awakes quiets = record {
     first = h.first;
     was = h.was;
     lived = h.lived;
-    goes = traps_go o law before behind kept number h one (subst (λ z. HasCounted number 1 z behind.own) zeros c) few (subst (λ z. Wakens o behind.flat 4294967295 number z behind.awake) awakes above) (subst (λ z. ListsQuiet o behind.flat number z behind.quiet) quiets mine);
+    goes = traps_go o law before behind kept number h one (subst (λ z. HasCounted number 1 z behind.own) zeros c) few (subst (λ z. Wakens o behind.flat 0 number z behind.awake) awakes (fewer_wakened o behind.flat 0 m number awake behind.awake (omega arith) above)) (subst (λ z. ListsQuiet o behind.flat number z behind.quiet) quiets mine);
   }

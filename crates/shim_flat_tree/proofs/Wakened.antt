@@ -1,5 +1,5 @@
 -- What is to be looked at again, where not all of it is listed: what isn't tells of nothing but a quiet step.
-use Rattle.std.proofs.Common.{◌≡◌, ◌⊎◌, ◌<◌, ◌+◌, inl, inr, ℕ, zero, suc, Bool, true, Some, List, [], ◌∷◌, length, slice_set, refl, sym, ap, subst, ◌∙◌}
+use Rattle.std.proofs.Common.{arith, ◌≡◌, ◌⊎◌, ◌<◌, ◌≤◌, ◌+◌, inl, inr, ℕ, zero, suc, Bool, true, Some, List, [], ◌∷◌, length, slice_set, refl, sym, ap, subst, ◌∙◌}
 use Rattle.std.specs.Prelude.{slice_get}
 use Rattle.std.proofs.lemmas.List.{length-set}
 use Rattle.shim_base.proofs.Facts.{some_same, none_some}
@@ -8,6 +8,7 @@ use Rattle.shim_laws_records.specs.Seen.{ends}
 use Rattle.shim_records.specs.Members.{IsAmong}
 use Rattle.shim_records.specs.Pairs.{up_in}
 use Rattle.shim_records.specs.Ways.{IsAbove}
+use Rattle.shim_records.proofs.Reaching.{among_more}
 use Rattle.shim_laws_keeping.specs.Flats.{FlatView, HasProcess}
 use Rattle.shim_laws_waking.specs.Awake.{is_listed}
 use Rattle.shim_laws_waking.specs.Looks.{IsIdle, has_ended}
@@ -53,6 +54,10 @@ module _ {S : Type 0} (o : Ops S) (v : FlatView S) (number : ℕ) where
   }
   quiet_listed code.Awake awake quiet awakes quiets is put within = record { kept = λ i e. ap (λ z. is_listed z i) put.1 ∙ e; mine = λ l q. absurd (is q.first l q.has q.stands); as_many = ap length put.1 }
 
+-- where more forks above are listed, fewer are
+pub fewer_wakened : {S : Type 0} (o : Ops S) (v : FlatView S) (m n number : ℕ) (old new : List Bool) → m ≤ n → Wakens o v n number old new → Wakens o v m number old new
+fewer_wakened o v m n number old new less w = record { kept = w.kept; mine = w.mine; above = λ i x. w.above i (among_more (up_in v.records) (n + 1) (omega (arith, less)) x); as_many = w.as_many }
+
 -- one that has ended belongs in no list
 pub ended_nowhere : {S : Type 0} (o : Ops S) (v : FlatView S) (i f : ℕ) (l : S) → HasProcess v i f l ends → ListingIs o v i code.Nowhere
 ended_nowhere o v i f l has = (has_ended f l has, λ g m lived stop. absurd (let e = sym has.stands_so ∙ lived.stands_so in cc))
@@ -90,14 +95,9 @@ module _ {S : Type 0} (o : Ops S) (n number : ℕ) (before behind : FlatView S) 
   pub one_suffices : TouchesAbove n number before behind → Suffices o before behind now
   one_suffices touches = record { again = again; wakes = wake_list n number before behind again mine above touches; to_look = to_look }
 
-module _ {S : Type 0} (o : Ops S) (number : ℕ) (before behind : FlatView S) (old now : List Bool) (w : Wakens o behind 4294967295 number old now) (within : number < length now) where
-  pub forked_suffices : (first count : ℕ) → ((b : ℕ) → b < count → is_listed now (first + b) ≡ true) → TouchesForking number first count before behind → Suffices o before behind now
-  forked_suffices first count new touches = record {
-    again = again o 4294967295 number before behind old now w within;
-    wakes = wake_forked number before behind (again o 4294967295 number before behind old now w within) (mine o 4294967295 number before behind old now w within) (above o 4294967295 number before behind old now w within) first count
-        (λ b less. more o 4294967295 number before behind old now w within (first + b) (new b less)) touches;
-    to_look = to_look o 4294967295 number before behind old now w within;
-  }
+  -- and so it is where the process forked, and its new children are listed, too
+  pub forked_suffices : (first count : ℕ) → ((b : ℕ) → b < count → is_listed now (first + b) ≡ true) → TouchesForking n number first count before behind → Suffices o before behind now
+  forked_suffices first count new touches = record { again = again; wakes = wake_forked n number before behind again mine above first count (λ b less. more (first + b) (new b less)) touches; to_look = to_look }
 
 -- ---- several of them
 

@@ -54,11 +54,18 @@ impl<L: Local> FlatTree<L> {
     {
         let event = Event::Own(self.flat.path(number).copy()?);
         self.output.reserve(1)?;
-        let byte = self.flat.put_here(number);
+        let (byte, arrival) = self.flat.put_here(number);
         tell_byte(&mut self.output, byte);
         count_steps(&mut self.own, number, 1);
         self.taken += 1;
-        wake(&self.flat, number, &mut self.awake, &mut self.quiet);
+        wake_as(
+            &self.flat,
+            number,
+            arrival.listing,
+            arrival.forks,
+            &mut self.awake,
+            &mut self.quiet,
+        );
         Ok(event)
     }
 
@@ -76,7 +83,13 @@ impl<L: Local> FlatTree<L> {
         tell_catch(&mut self.logs, path, thrown);
         count_steps(&mut self.own, number, 1);
         self.taken += 1;
-        wake(&self.flat, number, &mut self.awake, &mut self.quiet);
+        wake(
+            &self.flat,
+            number,
+            u32::MAX,
+            &mut self.awake,
+            &mut self.quiet,
+        );
         Ok(event)
     }
 
@@ -97,7 +110,13 @@ impl<L: Local> FlatTree<L> {
         });
         count_steps(&mut self.own, number, 1);
         self.taken += 1;
-        wake(&self.flat, number, &mut self.awake, &mut self.quiet);
+        wake(
+            &self.flat,
+            number,
+            u32::MAX,
+            &mut self.awake,
+            &mut self.quiet,
+        );
         Ok(event)
     }
 

@@ -70,11 +70,11 @@ impl<L: Local> FlatTree<L> {
         let mut gathered = past_of(alloc, &self.flat, self.own.as_slice(), first, count)?;
         self.logs.reserve(1)?;
         self.past.append(&mut gathered)?;
-        let outcome = self.flat.close_here(number);
+        let (outcome, forks) = self.flat.close_here(number);
         tell_close(&mut self.logs, path, outcome);
         self.events += 1;
         self.taken += 1;
-        wake(&self.flat, number, &mut self.awake, &mut self.quiet);
+        wake(&self.flat, number, forks, &mut self.awake, &mut self.quiet);
         Ok(event)
     }
 }

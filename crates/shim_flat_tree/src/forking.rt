@@ -103,7 +103,8 @@ impl<L: Local> FlatTree<L> {
         Ok(())
     }
 
-    // The process forks so. Its children's counts begin at 0, and they are listed, as it is with all above.
+    // The process forks so. Its children's counts begin at 0, and they are listed, as it is with the forks
+    // above that have other counts.
     fn put_fork(&mut self, number: u32, fork: Fork<L>) -> Result<(), NoMemory>
         requires few { steps (tree_in L.ops self.old) < 4000000 }
         requires its { fork.number ≡ number }
@@ -113,14 +114,14 @@ impl<L: Local> FlatTree<L> {
         ensures err { OnErr result (StaysAs L.ops self.old self.new) }
     {
         let alloc = *self.output.allocator();
-        let outcome = self.flat.put_fork(alloc, fork)?;
+        let (outcome, forks) = self.flat.put_fork(alloc, fork)?;
         let (first, count) = children_of(outcome);
         begin_counts(&mut self.own, first, count);
         list_block(&mut self.awake, first, count);
         list_block(&mut self.quiet, first, count);
         count_steps(&mut self.own, number, 1);
         self.taken += 1;
-        wake(&self.flat, number, &mut self.awake, &mut self.quiet);
+        wake(&self.flat, number, forks, &mut self.awake, &mut self.quiet);
         Ok(())
     }
 }

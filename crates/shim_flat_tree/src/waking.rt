@@ -43,21 +43,23 @@ pub(crate) fn wake_as<L: Local>(
     flat.above(number, forks as u64 + 1, awake);
 }
 
-/// The process with this number has changed, and perhaps all forks above it: these are looked at again, and
-/// so is it, or it is listed as standing before a quiet step. It takes no memory.
+/// The process with this number has changed, and with it at most the counts of so many forks above it: it is
+/// put in the list in which it belongs, and what can happen at these forks and at the next one is looked at
+/// again. It takes no memory.
 pub(crate) fn wake<L: Local>(
     flat: &Flat<L>,
     number: u32,
+    forks: u32,
     awake: &mut Worklist,
     quiet: &mut Worklist,
 )
     requires used { IsInUse flat.now number }
     requires awakes { IsForAll flat.now awake.old }
     requires quiets { IsForAll flat.now quiet.old }
-    ensures awake { Wakens L.ops flat.now 4294967295 number awake.old awake.new }
+    ensures awake { Wakens L.ops flat.now forks number awake.old awake.new }
     ensures quiet { ListsQuiet L.ops flat.now number quiet.old quiet.new }
 {
-    wake_as(flat, number, flat.listing(number), u32::MAX, awake, quiet);
+    wake_as(flat, number, flat.listing(number), forks, awake, quiet);
 }
 
 /// The process with this number did so many steps of its own more.

@@ -22,6 +22,6 @@ pub(crate) fn wake_each<L: Local>(
     ensures quiet { ListsEachQuiet L.ops flat.now numbers.now quiet.old quiet.new }
 {
     for place in 0..numbers.len() {
-        wake(flat, numbers[place], awake, quiet);
+        wake(flat, numbers[place], u32::MAX, awake, quiet);
     }
 }
