@@ -50,11 +50,8 @@ impl StepSums {
         if steps == 0 {
             return Ok(());
         }
-        if let Some(sum) = self.kept.get_mut(path) {
-            *sum += steps;
-            return Ok(());
-        }
-        self.kept.insert(path.copy()?, steps)?;
+        let sum = self.kept.entry(path.copy()?)?.or_insert(0);
+        *sum += steps;
         Ok(())
     }
 
