@@ -1,5 +1,5 @@
 -- A net whose standing isn't Running has come to an end.
-use Rattle.std.proofs.Common.{◌≡◌, ◌≤◌, ◌⊎◌, ℕ, List, [], inl, inr, length, map, refl, sym, subst, arith}
+use Rattle.std.proofs.Common.{◌≡◌, ◌≤◌, ◌⊎◌, List, [], inl, inr, length, map, refl, sym, subst, arith}
 use Rattle.std.specs.List.{Any}
 use Rattle.shim_base.proofs.Facts.{no_items}
 use Rattle.shim_local.specs.Process.{Ops}
@@ -17,6 +17,8 @@ use Rattle.shim_net.specs.Holding.{AreHeld}
 use Rattle.shim_net.specs.Standings.{StandsAs, IsQuietNet, IsSpentNet}
 use Rattle.shim_net.specs.declared.standing.Standing.{Standing}
 use Rattle.shim_net.specs.declared.standing.Standing.TheVariants.{Running, Quiet, Spent}
+use Rattle.shim_net.specs.Progress.{CanGive, HasSettled}
+use Rattle.shim_net.proofs.Progress.{can_give}
 
 module _ {S : Type 0} (o : Ops S) (n : NetView S) (w : IsNet o n) (stands : IsQuietNet o n ⊎ IsSpentNet o n) where
   came : (IsQuietNet o n ⊎ IsSpentNet o n) → IsQuiescent o n.tree ⊎ ((steps n.tree ≡ n.budget) × (IsQuiescent o n.tree → ⊥))
@@ -50,6 +52,10 @@ pub stopped : {S : Type 0} (o : Ops S) (n : NetView S) (s : Standing) → Stands
 stopped o n Running h other = absurd (other refl)
 stopped o n Quiet h other = inl h
 stopped o n Spent h other = inr h
+
+-- so does one that has settled with nothing out, and can give nothing out
+pub has_stopped : {S : Type 0} (o : Ops S) (n : NetView S) → IsNet o n → n.grants ≡ [] → HasSettled o n → (CanGive o n → ⊥) → (s : Standing) → StandsAs o n s → IsQuietNet o n ⊎ IsSpentNet o n
+has_stopped o n w none end cannot s h = stopped o n s h (λ running. let run = subst (StandsAs o n) running h in cannot (can_give o n w none end run.0 run.1))
 
 -- v is the net as the code holds it, and n as its contract names it
 module _ {S : Type 0} (o : Ops S) (v n : NetView S) (same : v ≡ n) where

@@ -1,7 +1,6 @@
 -- A process at home does quiet steps in place.
-use Rattle.std.proofs.Common.{◌≡◌, ◌≤◌, ◌+◌, ◌-◌, ℕ, zero, suc, Some, List, [], ◌∷◌, ◌++◌, refl, sym, ap, subst, ◌∙◌, arith}
+use Rattle.std.proofs.Common.{◌≡◌, ◌≤◌, ◌+◌, ℕ, zero, suc, Some, List, refl, sym, ap, subst, ◌∙◌, arith}
 use Rattle.std.specs.Prelude.{min}
-use Rattle.shim_base.specs.Paths.{Path}
 use Rattle.shim_base.proofs.Facts.{some_same}
 use Rattle.shim_local.specs.Process.{Ops}
 use Rattle.shim_local.specs.Quiets.{QuietSteps}
@@ -15,7 +14,7 @@ use Rattle.shim_laws_replay.specs.Journals.{quiet_steps}
 use Rattle.shim_laws_replay.proofs.Entries.{pieces_are_entries}
 use Rattle.shim_net.specs.Nets.{NetView, IsNet, reserved_in}
 use Rattle.shim_net.specs.Granting.{IsAtHome}
-use Rattle.shim_net.specs.Stepping.{IsHomeNumber, StepsInPlace, left_of}
+use Rattle.shim_net.specs.Stepping.{StepsInPlace, left_of}
 use Rattle.shim_net.specs.Taking.{with_piece}
 use Rattle.shim_net.proofs.Closing.{with_more}
 use Rattle.shim_net.proofs.Keeping.{tree_sound, stepped}

@@ -135,6 +135,14 @@ module _ {S : Type 0} (o : Ops S) where
         let one = some_used s.process s.last quiet.taken (min most (left_of before)) quiet.short s.home.grantable.stop (omega (arith, some, left)) s.chain s.fewer whole in
         omega (arith, all, one)
 
+    pub stepped_could : CanGive o before
+    stepped_could =
+        let left = s.left in
+        record {
+          left = omega (arith, left);
+          some = λ none. let x = none s.process s.home.grantable in s.home.free x.0 x.1 x.2 (ap (λ (g : OpenGrant S). o.path g.start) x.3 ∙ x.4);
+        }
+
   -- where something could be given out, something is
   pub gave_none : (before after_it : NetView S) → GivesNone o before after_it → CanGive o before → ⊥
   gave_none before after_it h can = elim h.1 [ inl full ↦ absurd (omega (arith, full, can.left)) | inr none ↦ can.some none ]

@@ -4,6 +4,7 @@
 mod absorb;
 mod entry;
 mod finish;
+mod gate;
 mod grant;
 mod hints;
 mod named;
@@ -17,5 +18,6 @@ mod stepping;
 
 pub use absorb::Absorbed;
 pub use entry::Entry;
+pub use gate::{Gate, NoOpGate};
 pub use net::Net;
 pub use standing::Standing;

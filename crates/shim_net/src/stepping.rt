@@ -7,6 +7,7 @@ ghost use Rattle.shim_net.specs.Stepping.{IsNextHome, StepsHome};
 ghost use Rattle.shim_net.specs.Progress.{GoesOn, CanGive};
 
 use crate::entry::Entry;
+use crate::gate::{Gate, NoOpGate};
 use crate::net::{Net, left_in};
 use shim_base::{NoMemory, Path};
 use shim_local::{Local, Quiet};
@@ -24,9 +25,9 @@ fn add_steps(journal: &mut Vec<Entry>, path: Path, steps: u64)
 }
 
 impl<L: Local> Net<L> {
-    /// The number of a process that stands before a quiet step and isn't out: the one that `step_here` or
-    /// `grant` would take next. `None` exactly where there is none, or nothing is left of the budget. It takes
-    /// no memory.
+    /// The number of a process that stands before a quiet step and isn't out: the one that `step_here`,
+    /// `enter_and_step` or `grant` would take next. `None` exactly where there is none, or nothing is left of the
+    /// budget. It takes no memory.
     pub fn next_home(&mut self) -> Option<u64>
         ensures { IsNextHome L.ops self.old self.new result }
     {
@@ -46,6 +47,19 @@ impl<L: Local> Net<L> {
         ensures ok { IfOk result (λ quiet. StepsHome L.ops self.old self.new most quiet) }
         ensures err { OnErr result (self.new ≡ self.old) }
     {
+        self.enter_and_step(most, &NoOpGate::new())
+    }
+
+    /// Does as `step_here` does, behind the gate, which is entered with the number of the process that is next.
+    pub fn enter_and_step<G: Gate>(
+        &mut self,
+        most: u64,
+        gate: &G,
+    ) -> Result<Option<Quiet>, NoMemory>
+        requires most { 1 ≤ most }
+        ensures ok { IfOk result (λ quiet. StepsHome L.ops self.old self.new most quiet) }
+        ensures err { OnErr result (self.new ≡ self.old) }
+    {
         let left = left_in(&self.tree, self.budget, self.reserved);
         if left == 0 {
             return Ok(None);
@@ -56,6 +70,7 @@ impl<L: Local> Net<L> {
         // with room for an entry of each open grant behind it
         self.journal.reserve(self.grants.len() + 1)?;
         let path = self.tree.path(number).copy()?;
+        gate.enter(number as u64, L::COMPILED);
         let quiet = self.tree.step_here(number, most.min(left));
         add_steps(&mut self.journal, path, quiet.taken);
         Ok(Some(quiet))

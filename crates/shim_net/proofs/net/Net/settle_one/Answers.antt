@@ -11,7 +11,7 @@ use Rattle.shim_net.specs.Entries.{entry_of}
 use Rattle.shim_net.specs.Nets.{NetView, reserved_in}
 use Rattle.shim_net.proofs.Holding.{same_net, still_held, passed_held}
 use Rattle.shim_net.proofs.Keeping.{happened}
-use Rattle.shim_net.proofs.Settling.{rests_but_for_quiet, settled_none, settled_one}
+use Rattle.shim_net.proofs.Settling.{settled_none, settled_one}
 use Rattle.shim_net.proofs.net.Net.settle_one.Goals as goal
 
 pub invariant_of-self-in_err-settle_one : goal.invariant_of-self-in_err-settle_one

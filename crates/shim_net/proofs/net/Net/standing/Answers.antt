@@ -1,7 +1,5 @@
-use Rattle.std.proofs.Common.{rules, ◌≡◌, true, length, sym, ap, subst, ◌∙◌}
-use Rattle.shim_semantics.specs.Trees.{steps}
+use Rattle.std.proofs.Common.{rules, ◌≡◌, length, sym, ◌∙◌}
 use Rattle.shim_semantics.proofs.HowMany.{clash}
-use Rattle.shim_net.specs.Nets.{NetView}
 use Rattle.shim_net.proofs.Ends.{is_spent, is_neither}
 use Rattle.shim_net.proofs.Holding.{none_held}
 use Rattle.shim_net.proofs.net.Net.standing.Goals as goal

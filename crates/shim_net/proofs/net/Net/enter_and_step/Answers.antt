@@ -11,7 +11,7 @@ use Rattle.shim_net.specs.Taking.{with_piece}
 use Rattle.shim_net.proofs.Granting.{gives_none}
 use Rattle.shim_net.proofs.Holding.{same_net, still_held, passed_held, passed_home, none_home, is_home}
 use Rattle.shim_net.proofs.InPlace.{keeps_steps, does_steps}
-use Rattle.shim_net.proofs.net.Net.step_here.Goals as goal
+use Rattle.shim_net.proofs.net.Net.enter_and_step.Goals as goal
 
 pub returns-in_default-clause-ok : goal.returns-in_default-clause-ok
 returns-in_default-clause-ok g c =
