@@ -1,6 +1,6 @@
 -- What each call on a net makes of it, as a step of a run in rounds.
-use Rattle.std.proofs.Common.{◌≡◌, ◌≤◌, ◌<◌, ◌+◌, ◌⊎◌, inl, inr, ℕ, Bool, false, Some, Result, Ok, Err, IfOk, OnOk, List, [], ◌∷◌, ◌++◌, length, refl, sym, ap, subst, ◌∙◌, arith}
-use Rattle.std.specs.List.{All}
+use Rattle.std.proofs.Common.{◌≡◌, ◌≤◌, ◌<◌, ◌+◌, ◌⊎◌, inl, inr, ℕ, Bool, true, false, Option, Some, None, Result, Ok, Err, IfOk, OnOk, List, [], ◌∷◌, ◌++◌, length, sym, ap, subst, ◌∙◌, arith}
+use Rattle.std.specs.Option.{is_some}
 use Rattle.std.proofs.lemmas.List.{append-nil, length_push}
 use Rattle.std.proofs.lemmas.List.Elements.{All-nil, All-push}
 use Rattle.shim_local.specs.Process.{Ops, AtQuiet}
@@ -13,7 +13,7 @@ use Rattle.shim_net.specs.Taking.{Takes}
 use Rattle.shim_net.specs.Settling.{Settles}
 use Rattle.shim_net.specs.Progress.{GoesOn, CanGive}
 use Rattle.shim_net.proofs.Progress.{closed_on, closed_all, some_used, settled_on, settled_same}
-use Rattle.shim_workers.specs.Progress.{HasSteps, HaveSteps, AreBelow}
+use Rattle.shim_workers.specs.Progress.{HasSteps, HaveSteps, AreBelow, StepsOn}
 
 -- with more steps or grants than before, and in the end no grant, there are more steps
 pub more_steps : {S : Type 0} (o : Ops S) (a b c : NetView S) → a.grants ≡ [] → steps a.tree + length a.grants < steps b.tree + length b.grants → GoesOn o b c → c.grants ≡ [] → steps a.tree < steps c.tree
@@ -27,6 +27,15 @@ none_below slot grants none = subst (AreBelow slot) (sym none) (All-nil (λ g. g
 
 pub none_have : {S : Type 0} (o : Ops S) (grants : List (OpenGrant S)) → grants ≡ [] → HaveSteps o grants
 none_have o grants none = subst (HaveSteps o) (sym none) (All-nil (HasSteps o))
+
+-- a piece in place that answers how many steps it did has done some, and one that doesn't found nobody
+pub did_some : {S : Type 0} (o : Ops S) (before after_it : NetView S) (taken : Option ℕ) → StepsOn o before after_it taken → is_some taken ≡ true → CanGive o before × (steps before.tree < steps after_it.tree)
+did_some o before after_it None h some = absurd (cc)
+did_some o before after_it (Some n) h some = h
+
+pub did_none : {S : Type 0} (o : Ops S) (before after_it : NetView S) (taken : Option ℕ) → StepsOn o before after_it taken → is_some taken ≡ false → GivesNone o before after_it
+did_none o before after_it None h none = h
+did_none o before after_it (Some n) h none = absurd (cc)
 
 -- no grant has a slot above all of them
 pub fresh : {S : Type 0} (slot round : ℕ) (grants : List (OpenGrant S)) → AreBelow slot grants → IsOpen slot round grants → ⊥

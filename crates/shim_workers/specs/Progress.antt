@@ -1,8 +1,11 @@
--- What is asked of the grants of a net while it is run in rounds.
-use Rattle.std.specs.Prelude.{◌≡◌, ◌≤◌, ◌<◌, ℕ, List}
+-- What is asked of the grants of a net while it is run in rounds, and what a piece in place does.
+use Rattle.std.specs.Prelude.{◌≡◌, ◌≤◌, ◌<◌, ℕ, Option, Some, None, List}
 use Rattle.std.specs.List.{All}
 use Rattle.shim_local.specs.Process.{Ops, AtQuiet}
-use Rattle.shim_net.specs.Nets.{OpenGrant}
+use Rattle.shim_semantics.specs.Trees.{steps}
+use Rattle.shim_net.specs.Nets.{OpenGrant, NetView}
+use Rattle.shim_net.specs.Granting.{GivesNone}
+use Rattle.shim_net.specs.Progress.{CanGive}
 
 -- some step was granted to a process that stood before a quiet step
 pub record HasSteps {S : Type 0} (o : Ops S) (g : OpenGrant S) : Type 0 where
@@ -15,3 +18,8 @@ HaveSteps o grants = All (HasSteps o) grants
 -- the grants have slots below this one
 abbrev pub AreBelow : {S : Type 0} → ℕ → List (OpenGrant S) → Type 0
 AreBelow slot grants = All (λ g. g.slot < slot) grants
+
+-- a process that could be given out did steps in place, or there was none
+abbrev pub StepsOn : {S : Type 0} → Ops S → NetView S → NetView S → Option ℕ → Type 0
+StepsOn o before after None = GivesNone o before after
+StepsOn o before after (Some taken) = CanGive o before × (steps before.tree < steps after.tree)

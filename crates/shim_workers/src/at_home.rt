@@ -3,7 +3,6 @@ ghost use Rattle.std.specs.Prelude.{◌≡◌, ◌≤◌, ◌<◌};
 ghost use Rattle.shim_board.specs.Chairs.{StandsAs, slots_of};
 ghost use Rattle.shim_workers.specs.Workers.{HasTurn, SameName};
 
-use crate::gate::Gate;
 use crate::handing_out::hand_out_some;
 use crate::in_place::step_next;
 use crate::lengths::{LONGEST, longer};
@@ -11,7 +10,7 @@ use crate::load::{NetBoard, NetChair};
 use crate::pool::Pool;
 use shim_base::NoMemory;
 use shim_local::Local;
-use shim_net::Net;
+use shim_net::{Gate, Net};
 
 /// How many processes run in place in a turn, before others may bring back what they did.
 const RUNS_IN_A_TURN: u64 = 256;

@@ -5,7 +5,6 @@ ghost use Rattle.shim_net.specs.Nets.{IsNet};
 ghost use Rattle.shim_net.specs.Standings.{IsQuietNet, IsSpentNet};
 ghost use Rattle.shim_workers.specs.Workers.{HasTurn};
 
-use crate::gate::Gate;
 use crate::lengths::{LONGEST, Lengths};
 use crate::load::NetChair;
 use crate::pool::Pool;
@@ -14,7 +13,7 @@ use crate::worker::{SLOTS_EACH, run_worker};
 use shim_base::{List, NoMemory};
 use shim_board::Board;
 use shim_local::Local;
-use shim_net::Net;
+use shim_net::{Gate, Net};
 use std::alloc::Global;
 use std::sync::Wait;
 use std::thread;

@@ -1,9 +1,9 @@
 // The pieces of work of a round, dealt out to jobs. A job is what one thread does of a round.
 ghost use Rattle.std.specs.Prelude.{◌≤◌, ◌+◌, vec_len, vec_capacity};
 
-use crate::gate::Gate;
 use shim_base::NoMemory;
 use shim_local::{Finished, Local, Parcel, work};
+use shim_net::Gate;
 use std::alloc::Global;
 use std::thread;
 use std::thread::Threads;

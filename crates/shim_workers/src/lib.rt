@@ -5,7 +5,6 @@
 mod at_home;
 mod collecting;
 mod driving;
-mod gate;
 mod giving;
 mod handing_out;
 mod in_place;
@@ -19,6 +18,6 @@ mod turns;
 mod worker;
 
 pub use driving::drive;
-pub use gate::{Gate, NoOpGate};
 pub use load::Load;
+pub use shim_net::{Gate, NoOpGate};
 pub use turns::rounds;

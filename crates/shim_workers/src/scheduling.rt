@@ -5,12 +5,11 @@ ghost use Rattle.shim_workers.specs.Workers.{HasTurn, IsNetOf, SameName};
 
 use crate::at_home::run_home;
 use crate::collecting::collect_all;
-use crate::gate::Gate;
 use crate::load::{NetBoard, NetChair};
 use crate::pool::Pool;
 use shim_base::NoMemory;
 use shim_local::Local;
-use shim_net::{Net, Standing};
+use shim_net::{Gate, Net, Standing};
 
 // Takes back what was done, does all that is no process's work, and lets the processes at home go on. False where
 // there was nothing to do.

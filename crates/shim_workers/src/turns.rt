@@ -5,14 +5,13 @@ ghost use Rattle.shim_net.specs.Nets.{IsNet};
 ghost use Rattle.shim_net.specs.Standings.{IsQuietNet, IsSpentNet};
 ghost use Rattle.shim_net.specs.Progress.{GoesOn, HasSettled, CanGive};
 
-use crate::gate::Gate;
 use crate::giving::give_all;
-use crate::in_place::step_in_place;
+use crate::in_place::step_next;
 use crate::lengths::longer;
 use crate::taking::take_all;
 use shim_base::NoMemory;
 use shim_local::Local;
-use shim_net::{Net, Standing};
+use shim_net::{Gate, Net, Standing};
 use std::alloc::Global;
 use std::thread::Threads;
 
@@ -40,7 +39,7 @@ fn settle_all<L: Local>(net: &mut Net<L>) -> Result<u64, NoMemory>
 }
 
 // Gives out a piece of each process that has quiet steps to do, has them done on at most as many threads
-// as there are workers, and takes them back. One worker gives nothing out: a process does its piece in place.
+// as there are workers, and takes them back.
 fn turn<L: Local, G: Gate, R: Threads + Sync>(
     rt: &R,
     alloc: Global,
@@ -58,9 +57,6 @@ fn turn<L: Local, G: Gate, R: Threads + Sync>(
     ensures home { OnOk result (net.new.grants ≡ []) }
     ensures more { OnOk result (steps net.old.tree < steps net.new.tree) }
 {
-    if workers == 1 {
-        return step_in_place(net, most, gate);
-    }
     let jobs = give_all(alloc, net, workers, most, round)?;
     for one in jobs.do_all(rt, gate)? {
         take_all(net, one)?;
@@ -83,11 +79,30 @@ fn next_most(first: u64, most: u64, events: u64) -> u64
     if events > 0 { first } else { longer(most) }
 }
 
+// Runs a net by one worker, which gives nothing out: while a process is at home and steps are left, the one that
+// is next does its piece where it stands, and all other events are done behind it.
+fn run_alone<L: Local, G: Gate>(net: &mut Net<L>, quantum: u64, gate: &G) -> Result<(), NoMemory>
+    requires quantum { (1 ≤ quantum) × (quantum ≤ 10000) }
+    requires home { net.old.grants ≡ [] }
+    requires settled { HasSettled L.ops net.old }
+    ensures goes_on { OnOk result (GoesOn L.ops net.old net.new) }
+    ensures stands { OnOk result (IsQuietNet L.ops net.new ⊎ IsSpentNet L.ops net.new) }
+    ensures keeps { OnOk result (IsNet L.ops net.new) }
+{
+    let mut most = quantum;
+    while step_next(net, most, gate)?.is_some() {
+        let events = settle_all(net)?;
+        most = next_most(quantum, most, events);
+    }
+    let _standing = net.standing(); // its clauses tell that it has come to its end
+    Ok(())
+}
+
 /// Runs a net in rounds until no event is enabled in it or its budget is spent. In each round a piece of
 /// work is given out of each process that has quiet steps to do, of at most `quantum` steps at first; at
 /// most as many threads as there are workers do the pieces, each behind the gate, and they are taken in
-/// one after another. Pieces grow while nothing but quiet steps happens. One worker gives nothing out: in
-/// each round one process does its piece in place.
+/// one after another. Pieces grow while nothing but quiet steps happens. One worker gives nothing out: one
+/// process after another does its piece in place.
 pub fn rounds<L: Local, G: Gate, R: Threads + Sync>(
     rt: &R,
     alloc: Global,
@@ -106,6 +121,10 @@ pub fn rounds<L: Local, G: Gate, R: Threads + Sync>(
     let mut net = net;
     net.redo_all()?;
     settle_all(&mut net)?;
+    if workers == 1 {
+        run_alone(&mut net, quantum, gate)?;
+        return Ok(net);
+    }
     let mut most = quantum;
     let mut round = 0u64;
     while is_running(&net) {

@@ -3,11 +3,11 @@ ghost use Rattle.std.specs.Prelude.{◌≡◌, ◌≤◌, ◌<◌};
 ghost use Rattle.shim_board.specs.Chairs.{HasSlot, StandsAs, slots_of};
 ghost use Rattle.shim_workers.specs.Workers.{HasTurn};
 
-use crate::gate::Gate;
 use crate::load::{Load, NetBoard, NetChair};
 use crate::pool::Pool;
 use crate::scheduling::schedule;
 use shim_local::{Local, work};
+use shim_net::Gate;
 use std::sync::Wait;
 
 /// How many slots a board has for each worker: so many pieces can wait while it is at one.
