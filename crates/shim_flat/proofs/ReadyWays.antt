@@ -5,7 +5,7 @@ use Rattle.shim_base.specs.Paths.{NamedChannel}
 use Rattle.shim_laws_records.specs.Counts.{live_reading}
 use Rattle.shim_records.specs.Pairs.{reading_of, rest_of}
 use Rattle.shim_records.specs.Fresh.{channels}
-use Rattle.shim_records.specs.Ways.{IsUpdatedAbove, ReachesTo}
+use Rattle.shim_records.specs.Ways.{IsUpdatedAbove, CountsMovedWithin}
 use Rattle.shim_records.specs.declared.pair.Reading.{Reading}
 use Rattle.shim_records.specs.declared.record.Record.{Record}
 use Rattle.shim_records.proofs.Reaching.{one_alone}
@@ -28,7 +28,7 @@ one_way x chans i start now next d was is h e u v way = record {
 }
 
 -- of these ways one led furthest
-pub one_further : (n m k x : ℕ) (start now next : List Record) (d : NamedChannel) (was is : Reading) → n ≤ k → m ≤ k → TouchesRecords n x start now → IsUpdatedAbove d.channel 4294967295 x was is now next → ReachesTo d.channel m x now next → TouchesRecords k x start next
+pub one_further : (n m k x : ℕ) (start now next : List Record) (d : NamedChannel) (was is : Reading) → n ≤ k → m ≤ k → TouchesRecords n x start now → IsUpdatedAbove d.channel 4294967295 x was is now next → CountsMovedWithin d.channel m x now next → TouchesRecords k x start next
 one_further n m k x start now next d was is less more so_far way reaches =
     touches_on k x start now next (touches_more n k x start now less so_far)
     (touches_more m k x now next more (counts_reach m x now next way.1.rest way.1.labels (one_alone d.channel m x now next way.1 reaches)))

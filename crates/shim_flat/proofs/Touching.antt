@@ -13,7 +13,7 @@ use Rattle.shim_laws_records.specs.Recounting.{Recounted, all_the_way as all_rea
 use Rattle.shim_laws_records.proofs.SameTrees.{same_or_not}
 use Rattle.shim_local.specs.Process.{Ops}
 use Rattle.shim_records.specs.Pairs.{up_in, up_at, rest_of, counts_in, counts_at, leasts_in, least_at}
-use Rattle.shim_records.specs.Ways.{IsAbove, its_fork, further, MovesUpTo, IsUpdatedAbove}
+use Rattle.shim_records.specs.Ways.{IsAbove, its_fork, further, AllCountsMovedWithin, IsUpdatedAbove}
 use Rattle.shim_records.specs.Labels.{IsLoweredAbove}
 use Rattle.shim_records.specs.Recounting.{IsRecounted}
 use Rattle.shim_records.specs.Leaving.{HasLeft, alone, lost, below}
@@ -132,7 +132,7 @@ counts_above c n x was is before behind way = record {
 }
 
 -- where it is told how far the ways led
-pub counts_reach : (m x : ℕ) (before behind : List Record) → map rest_of behind ≡ map rest_of before → ((c : Channel) (i : ℕ) → leasts_in c behind i ≡ leasts_in c before i) → MovesUpTo m x before behind → TouchesRecords m x before behind
+pub counts_reach : (m x : ℕ) (before behind : List Record) → map rest_of behind ≡ map rest_of before → ((c : Channel) (i : ℕ) → leasts_in c behind i ≡ leasts_in c before i) → AllCountsMovedWithin m x before behind → TouchesRecords m x before behind
 counts_reach m x before behind same labels moves = record {
   parents = rest_parents before behind same;
   as_many = rest_long before behind same;

@@ -21,8 +21,8 @@ pub fn looks_decide<L: Local>()
     ensures { LooksDecide L.ops }
 {}
 
-/// So a list of numbers at which events may be enabled stays one, where what has changed is listed again, and
-/// what tells of nothing is dropped.
+/// So a list of numbers at which events may be enabled stays one, where of what has changed and its parents all
+/// is listed again that tells of more than a quiet step; what tells of no more may be dropped.
 pub fn listing_stays<L: Local>()
     ensures { ListingStays L.ops }
 {}

@@ -3,7 +3,7 @@ use Rattle.std.proofs.Common.{◌≡◌, ◌≤◌, ℕ, zero, suc, ◌+◌, Boo
 use Rattle.shim_base.specs.Paths.{Channel, same_channel}
 use Rattle.shim_base.proofs.SamePaths.{same_channel_is}
 use Rattle.shim_records.specs.Pairs.{up_in}
-use Rattle.shim_records.specs.Ways.{IsAbove, its_fork, further, ReachesTo, MovesUpTo, OnlyCounts, MovesParent}
+use Rattle.shim_records.specs.Ways.{IsAbove, its_fork, further, CountsMovedWithin, AllCountsMovedWithin, OnlyCounts, MovesParent}
 use Rattle.shim_records.specs.declared.record.Record.{Record}
 use Rattle.shim_records.specs.declared.upward.CountChange.{CountChange}
 use Rattle.shim_records.proofs.WholeWay.{same_ups}
@@ -22,13 +22,13 @@ module _ (up : ℕ → Option ℕ) where
   one_above k (further n i m j e w) h = further (suc n) i m k e (one_above k w h)
 
 -- no counts are moved but those of the first so many
-pub farther : (c : Channel) (n m x : ℕ) (before behind : List Record) → n ≤ m → ReachesTo c n x before behind → ReachesTo c m x before behind
+pub farther : (c : Channel) (n m x : ℕ) (before behind : List Record) → n ≤ m → CountsMovedWithin c n x before behind → CountsMovedWithin c m x before behind
 farther c n m x before behind less h i out = h i (λ w. out (among_more (up_in before) m less w))
 
 module _ (c : Channel) (x : ℕ) (start : List Record) where
   -- where the way has led through so many forks, and is to go on from a record
   pub record Led (walked : ℕ) (now : List Record) (at : ℕ) : Type 0 where
-    pub reached : ReachesTo c walked x start now
+    pub reached : CountsMovedWithin c walked x start now
     pub next : (i : ℕ) → up_in start at ≡ Some i → IsAbove (up_in start) (suc walked) x i
 
   pub at_start : Led 0 start x
@@ -42,7 +42,7 @@ module _ (c : Channel) (x : ℕ) (start : List Record) where
     one_more = omega arith
 
     -- one fork more
-    pub led_to : (next : Option CountChange) (behind : List Record) → MovesParent c now here next behind → ReachesTo c (walked + 1) x start behind
+    pub led_to : (next : Option CountChange) (behind : List Record) → MovesParent c now here next behind → CountsMovedWithin c (walked + 1) x start behind
     led_to next behind moves i out =
         moves.others i (λ e. out (subst (λ n. IsAbove (up_in start) n x i) one_more (led.next i (its_parent i e)))) ∙ led.reached i (λ w. out (among_more (up_in start) (walked + 1) (omega arith) w))
 
@@ -53,14 +53,14 @@ module _ (c : Channel) (x : ℕ) (start : List Record) where
     }
 
 -- a way moves the counts for its own channel alone
-pub one_alone : (c : Channel) (n x : ℕ) (before behind : List Record) → OnlyCounts c before behind → ReachesTo c n x before behind → MovesUpTo n x before behind
+pub one_alone : (c : Channel) (n x : ℕ) (before behind : List Record) → OnlyCounts c before behind → CountsMovedWithin c n x before behind → AllCountsMovedWithin n x before behind
 one_alone c n x before behind only reaches d = on (same_channel c d) refl
   where
-    on : (b : Bool) → same_channel c d ≡ b → ReachesTo d n x before behind
-    on true e = subst (λ z. ReachesTo z n x before behind) (same_channel_is c d e) reaches
+    on : (b : Bool) → same_channel c d ≡ b → CountsMovedWithin d n x before behind
+    on true e = subst (λ z. CountsMovedWithin z n x before behind) (same_channel_is c d e) reaches
     on false e = λ i out. only.elsewhere d e i
 
 -- of several ways one after the other the one that led furthest
-pub both_ways : (n m k x : ℕ) (start now behind : List Record) → up_in now ≡ up_in start → n ≤ k → m ≤ k → MovesUpTo n x start now → MovesUpTo m x now behind → MovesUpTo k x start behind
+pub both_ways : (n m k x : ℕ) (start now behind : List Record) → up_in now ≡ up_in start → n ≤ k → m ≤ k → AllCountsMovedWithin n x start now → AllCountsMovedWithin m x now behind → AllCountsMovedWithin k x start behind
 both_ways n m k x start now behind same less more first then c =
     λ i out. then c i (λ w. out (among_more (up_in start) k more (subst (λ u. IsAbove u m x i) same w))) ∙ first c i (λ w. out (among_more (up_in start) k less w))

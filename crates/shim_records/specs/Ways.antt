@@ -8,18 +8,22 @@ use Rattle.shim_records.specs.declared.upward.CountChange.{CountChange}
 use Rattle.shim_records.specs.declared.pair.Reading.{Reading}
 use Rattle.shim_records.specs.declared.record.Record.{Record}
 
--- the second number is that of one of the first n forks above the first one, by what children know of their forks
+-- `IsAbove up n i j`: j is the number of one of the first n forks above i, by what children know of their forks.
 pub data IsAbove (up : ℕ → Option ℕ) : ℕ → ℕ → ℕ → Type 0 where
   its_fork : (n i j : ℕ) → up i ≡ Some j → IsAbove up (suc n) i j
   further : (n i j k : ℕ) → up i ≡ Some j → IsAbove up n j k → IsAbove up (suc n) i k
 
--- of all records those of the first n forks above this one alone have other counts for the channel
-abbrev pub ReachesTo : Channel → ℕ → ℕ → List Record → List Record → Type 0
-ReachesTo c n x before behind = (i : ℕ) → (IsAbove (up_in before) n x i → ⊥) → counts_in c behind i ≡ counts_in c before i
+-- so many forks are all: no process has more forks above it than the longest path has pairs
+abbrev pub most_forks : ℕ
+most_forks = 4294967295
 
--- and so it is with the counts for each channel
-abbrev pub MovesUpTo : ℕ → ℕ → List Record → List Record → Type 0
-MovesUpTo n x before behind = (c : Channel) → ReachesTo c n x before behind
+-- no record but the first n forks above this one may have other counts for the channel
+abbrev pub CountsMovedWithin : Channel → ℕ → ℕ → List Record → List Record → Type 0
+CountsMovedWithin c n x before behind = (i : ℕ) → (IsAbove (up_in before) n x i → ⊥) → counts_in c behind i ≡ counts_in c before i
+
+-- nor for any channel
+abbrev pub AllCountsMovedWithin : ℕ → ℕ → List Record → List Record → Type 0
+AllCountsMovedWithin n x before behind = (c : Channel) → CountsMovedWithin c n x before behind
 
 -- the counts for the channel alone have changed, of whatever records
 pub record OnlyCounts (c : Channel) (before behind : List Record) : Type 0 where

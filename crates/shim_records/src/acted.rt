@@ -1,7 +1,7 @@
 // The counts above a process that has done anything by itself, brought up to date for all channels.
 ghost use Rattle.std.specs.Prelude.{◌≡◌, ◌≤◌, true, false, length};
 ghost use Rattle.shim_records.specs.Pairs.{reading_of, AreOrdered};
-ghost use Rattle.shim_records.specs.Ways.{MovesUpTo};
+ghost use Rattle.shim_records.specs.Ways.{AllCountsMovedWithin};
 ghost use Rattle.shim_records.specs.Acted.{Earlier, sort_of, UpdatesForOne, AllUpdated};
 ghost use Rattle.shim_laws_records.specs.Sufficing.{read_leaf};
 
@@ -53,8 +53,8 @@ pub(crate) fn is_first<L: Local>(process: &L, c: &Chan, place: usize) -> bool
     true
 }
 
-// Goes the way up for the channel, if the process shares it and it stands at no place before. It answers how
-// many forks the way led to.
+// Goes the way up for the channel, if the process shares it and it stands at no place before. The answer is a
+// number of forks beyond which no counts have changed, perhaps more than need be.
 fn update_for_one<L: Local>(
     process: &L,
     status: Status,
@@ -66,7 +66,7 @@ fn update_for_one<L: Local>(
 ) -> u32
     requires { AreOrdered records.old.items }
     ensures counts { UpdatesForOne L.ops process.now (sort_of status) forks at c.now.channel place records.old.items records.new.items }
-    ensures reaches { MovesUpTo result at records.old.items records.new.items }
+    ensures reaches { AllCountsMovedWithin result at records.old.items records.new.items }
     ensures most { result ≤ forks }
 {
     if !process.shares(c) {
@@ -84,8 +84,8 @@ fn update_for_one<L: Local>(
 }
 
 /// Brings the counts above a process up to date that has done anything by itself, and of which this came, for
-/// each channel that it was given and shares. It has no children. It answers how many forks the longest of
-/// these ways led to.
+/// each channel that it was given and shares. It has no children. The answer is a number of forks beyond
+/// which no counts have changed, perhaps more than need be.
 pub fn update_all_counts<L: Local>(
     process: &L,
     status: Status,
@@ -96,7 +96,7 @@ pub fn update_all_counts<L: Local>(
     requires ordered { AreOrdered records.old.items }
     requires few { length (L.ops.given process.now) ≤ 18446744073709551615 }
     ensures counts { AllUpdated L.ops process.now (sort_of status) forks at records.old.items records.new.items }
-    ensures reaches { MovesUpTo result at records.old.items records.new.items }
+    ensures reaches { AllCountsMovedWithin result at records.old.items records.new.items }
     ensures most { result ≤ forks }
 {
     let mut furthest = 0;

@@ -1,7 +1,7 @@
 // Counts brought up to date on the way up.
 ghost use Rattle.std.specs.Prelude.{◌≡◌, ◌≤◌, true, false};
 ghost use Rattle.shim_records.specs.Pairs.{AreOrdered};
-ghost use Rattle.shim_records.specs.Ways.{StepsUp, IsUpdatedAbove, ReachesTo};
+ghost use Rattle.shim_records.specs.Ways.{StepsUp, IsUpdatedAbove, CountsMovedWithin};
 
 use crate::pair::{Reading, has_all, live_reading, move_pair, place_in};
 use crate::record::Record;
@@ -51,8 +51,8 @@ fn step_up(records: &mut Vec<Record>, c: &Chan, here: CountChange) -> Option<Cou
 }
 
 /// Brings the counts for a channel up to date, from a record of which was read `was` and is read `is`,
-/// through at most so many forks: as far up as a fork is read otherwise than before. It answers how many
-/// forks the way led to.
+/// through at most so many forks: as far up as a fork is read otherwise than before. The answer is a number
+/// of forks beyond which no counts have changed, perhaps more than need be.
 pub fn update_counts_above(
     records: &mut Vec<Record>,
     at: usize,
@@ -63,7 +63,7 @@ pub fn update_counts_above(
 ) -> u32
     requires { AreOrdered records.old.items }
     ensures counts { IsUpdatedAbove c.now.channel forks at was is records.old.items records.new.items }
-    ensures reaches { ReachesTo c.now.channel result at records.old.items records.new.items }
+    ensures reaches { CountsMovedWithin c.now.channel result at records.old.items records.new.items }
     ensures most { result ≤ forks }
 {
     let mut here = CountChange { at, was, is };
