@@ -23,7 +23,7 @@ use Rattle.shim_laws_meetings.specs.Values.{IsValueAmong, carried, nobody}
 use Rattle.shim_laws_records.proofs.SameTrees.{same_or_not}
 use Rattle.shim_laws_meetings.proofs.Meets.{one_keeps}
 use Rattle.shim_flat.specs.Stepping.{IsLive}
-use Rattle.shim_flat.specs.Meeting.{WaitsAt, GoesOff}
+use Rattle.shim_flat.specs.Meeting.{WaitsAt, LeavesChannel}
 use Rattle.shim_flat.proofs.HereSteps.{read_set}
 
 -- the first of what is left of a list
@@ -76,7 +76,7 @@ module _ {S : Type 0} (o : Ops S) (s : S) (c : Channel) (n x : ℕ) where
       ready = record { joining = true; readiness = true; failing = false }
 
   -- at another one
-  pub stands_elsewhere : (d : NamedChannel) (was is : Reading) (before between behind : List Record) → o.stop s ≡ AtNext d → false ≡ same_channel c d.channel → GoesOff c n x before between
+  pub stands_elsewhere : (d : NamedChannel) (was is : Reading) (before between behind : List Record) → o.stop s ≡ AtNext d → false ≡ same_channel c d.channel → LeavesChannel c n x before between
       → reading_of was ≡ live_reading false → reading_of is ≡ live_reading true → IsUpdatedAbove d.channel n x was is between behind → MovesOn o s c n x before behind
   stands_elsewhere d was is before between behind stop far off u v way = record {
     between = between;
@@ -89,7 +89,7 @@ module _ {S : Type 0} (o : Ops S) (s : S) (c : Channel) (n x : ℕ) where
   }
 
   -- or at none
-  pub stands_nowhere : (before behind : List Record) → ((e : Channel) → is_next (o.stop s) e ≡ false) → GoesOff c n x before behind → MovesOn o s c n x before behind
+  pub stands_nowhere : (before behind : List Record) → ((e : Channel) → is_next (o.stop s) e ≡ false) → LeavesChannel c n x before behind → MovesOn o s c n x before behind
   stands_nowhere before behind none off = record {
     between = behind;
     was = off.0;

@@ -23,7 +23,7 @@ use Rattle.shim_laws_keeping.specs.Flats.{FlatView, HasProcess, IsKept}
 use Rattle.shim_laws_keeping.specs.Moves.{AdvancesBy}
 use Rattle.shim_laws_keeping.specs.Arriving.{Arrives, nowhere, there}
 use Rattle.shim_laws_keeping.proofs.Steps.{advanced}
-use Rattle.shim_flat.specs.Stepping.{HasBecome, LivesAt, IsLive, IsBeforeQuiet, StepsHere, stepped, QuietlyReaches, is_live}
+use Rattle.shim_flat.specs.Stepping.{HasBecome, LivesAt, IsLive, IsBeforeQuiet, StepsHere, QuietlyReaches, is_live}
 
 -- one value behind none
 pub one_pushed : {A : Type 0} (new old : List A) (x : A) → new ≡ old ++ x ∷ [] → old ≡ [] → new ≡ x ∷ []
@@ -119,7 +119,16 @@ module _ {S : Type 0} (o : Ops S) where
         (b.first, subst (λ z. HasProcess (record { states = slice_set states x last; records = behind }) x b.first z lives) (sym (read_set states x l last now is read_then)) b.mine)
 
     pub steps_here : StepsHere o x n (record { states = states; records = rs }) (record { states = slice_set states x last; records = behind })
-    steps_here = stepped before.0 l last its stop taken (has_become states rs behind x before.0 l last its arrives) advances
+    steps_here = record {
+      first = before.0;
+      process = l;
+      last = last;
+      has = its;
+      stood = stop;
+      chain = taken;
+      becomes = has_become states rs behind x before.0 l last its arrives;
+      advances = advances;
+    }
 
     pub still_kept : IsKept o (record { states = states; records = rs }) → IsKept o (record { states = slice_set states x last; records = behind })
     still_kept h = let w = advances h.0 (tree_of o h.1) h.2 in (h.0, w.0.root, w.2)
@@ -142,7 +151,16 @@ module _ {S : Type 0} (o : Ops S) where
         (b.first, subst (λ z. HasProcess (record { states = slice_set states x last; records = behind }) x b.first z lives) (sym (read_set states x comes.process last now comes.has.state_is read_then)) b.mine)
 
     pub steps_elsewhere : StepsHere o x n (record { states = states; records = rs }) (record { states = slice_set states x last; records = behind })
-    steps_elsewhere = stepped comes.first comes.process last comes.has comes.stands comes.chain (has_become states rs behind x comes.first comes.process last comes.has arrives_elsewhere) moves_on
+    steps_elsewhere = record {
+      first = comes.first;
+      process = comes.process;
+      last = last;
+      has = comes.has;
+      stood = comes.stands;
+      chain = comes.chain;
+      becomes = has_become states rs behind x comes.first comes.process last comes.has arrives_elsewhere;
+      advances = moves_on;
+    }
 
     pub kept_elsewhere : IsKept o (record { states = states; records = rs }) → IsKept o (record { states = slice_set states x last; records = behind })
     kept_elsewhere h = let w = moves_on h.0 (tree_of o h.1) h.2 in (h.0, w.0.root, w.2)

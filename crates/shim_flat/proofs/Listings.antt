@@ -1,5 +1,5 @@
 -- In which list a process belongs.
-use Rattle.std.proofs.Common.{◌≡◌, ◌≢◌, ◌⊎◌, ℕ, Some, length, get_or, inl, inr, refl, sym, ap, ◌∙◌}
+use Rattle.std.proofs.Common.{◌≡◌, ◌≢◌, ◌⊎◌, ℕ, false, Some, length, get_or, inl, inr, refl, sym, ap, ◌∙◌}
 use Rattle.std.specs.Prelude.{slice_get}
 use Rattle.std.specs.Option.{option_map}
 use Rattle.std.proofs.lemmas.Option.{slice_get_read, slice_get_within}
@@ -17,7 +17,7 @@ use Rattle.shim_laws_keeping.specs.Flats.{FlatView, HasProcess}
 use Rattle.shim_laws_waking.specs.Looks.{IsIdle}
 use Rattle.shim_laws_waking.proofs.PairsFound.{record_of}
 use Rattle.shim_flat.specs.Reading.{IsInUse}
-use Rattle.shim_flat.specs.Listing.{NotBeforeQuiet}
+use Rattle.shim_flat.specs.Stepping.{IsBeforeQuiet}
 use Rattle.shim_flat.proofs.DueFacts.{at_rest, live_process}
 
 -- what came of it isn't that it lives
@@ -34,7 +34,7 @@ next_alone d e = absurd cc
 
 module _ {S : Type 0} (o : Ops S) (v : FlatView S) (i : ℕ) where
   -- a live process stands at one thing alone
-  pub stands_else : (f : ℕ) (l : S) → HasProcess v i f l lives → o.stop l ≢ AtQuiet → NotBeforeQuiet o v i
+  pub stands_else : (f : ℕ) (l : S) → HasProcess v i f l lives → o.stop l ≢ AtQuiet → IsBeforeQuiet o i v false
   stands_else f l has other g s h e = other (ap o.stop (some_same l s (sym has.state_is ∙ h.state_is)) ∙ e)
 
   -- ---- by its record
@@ -44,16 +44,16 @@ module _ {S : Type 0} (o : Ops S) (v : FlatView S) (i : ℕ) where
     there = let w = record_of v.records i used.0 used.2 used.3.stands_so in slice_get_read v.records (length v.records) i r refl (slice_get_within v.records i w.0 w.1) read
 
     -- who doesn't live stands before nothing
-    lives_not : r.status ≢ code.Live → NotBeforeQuiet o v i
+    lives_not : r.status ≢ code.Live → IsBeforeQuiet o i v false
     lives_not other f l has e = not_alive r.first f r.status other (some_same (stands_of r) (used_by f lives) (sym (map_get stands_of v.records i ∙ ap (option_map stands_of) there) ∙ has.stands_so))
 
-    pub is_fork : (n : ℕ) → r.status ≡ code.Forked n → NotBeforeQuiet o v i
+    pub is_fork : (n : ℕ) → r.status ≡ code.Forked n → IsBeforeQuiet o i v false
     is_fork n e = lives_not (λ h. forked_alone n (sym e ∙ h))
       where
         forked_alone : (n : ℕ) → code.Forked n ≢ code.Live
         forked_alone n e = absurd cc
 
-    pub rests : (r.status ≡ code.Free) ⊎ ((r.status ≡ code.Ended) ⊎ ((x : ℕ) × (r.status ≡ code.Dead x))) → IsIdle o v i × NotBeforeQuiet o v i
+    pub rests : (r.status ≡ code.Free) ⊎ ((r.status ≡ code.Ended) ⊎ ((x : ℕ) × (r.status ≡ code.Dead x))) → IsIdle o v i × IsBeforeQuiet o i v false
     rests h = (at_rest o v i r (slice_get_within v.states i used.1 used.3.state_is) there h, lives_not (at_rest_alone r.status h))
       where
         at_rest_alone : (k : Status) → (k ≡ code.Free) ⊎ ((k ≡ code.Ended) ⊎ ((x : ℕ) × (k ≡ code.Dead x))) → k ≢ code.Live

@@ -17,5 +17,5 @@ WaitsAt {S} o c i v true = (f : ℕ) × (l : S) × (d : NamedChannel) × HasProc
 WaitsAt {S} o c i v false = (f : ℕ) (l : S) → HasProcess v i f l lives → is_next (o.stop l) c ≡ false
 
 -- a live process stands at the channel no more: the way up was walked from the record x, through at most n forks
-abbrev pub GoesOff : Channel → ℕ → ℕ → List Record → List Record → Type 0
-GoesOff c n x before behind = (was : Reading) × (is : Reading) × (reading_of was ≡ live_reading true) × (reading_of is ≡ live_reading false) × IsUpdatedAbove c n x was is before behind
+abbrev pub LeavesChannel : Channel → ℕ → ℕ → List Record → List Record → Type 0
+LeavesChannel c n x before behind = (was : Reading) × (is : Reading) × (reading_of was ≡ live_reading true) × (reading_of is ≡ live_reading false) × IsUpdatedAbove c n x was is before behind

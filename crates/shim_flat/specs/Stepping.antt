@@ -27,11 +27,16 @@ abbrev pub IsBeforeQuiet : {S : Type 0} → Ops S → ℕ → FlatView S → Boo
 IsBeforeQuiet {S} o i v true = LivesAt o v i AtQuiet
 IsBeforeQuiet {S} o i v false = (f : ℕ) (l : S) → HasProcess v i f l lives → o.stop l ≢ AtQuiet
 
--- The process with this number did so many quiet steps; or it doesn't live, or stands at something else, and nothing has changed.
-pub data StepsHere {S : Type 0} (o : Ops S) (number taken : ℕ) (before behind : FlatView S) : Type 0 where
-  stands_else : taken ≡ 0 → behind ≡ before → IsBeforeQuiet o number before false → StepsHere o number taken before behind
-  stepped : (f : ℕ) (l last : S) → HasProcess before number f l lives → o.stop l ≡ AtQuiet → QuietSteps o taken l last → HasBecome number last lives before behind
-      → AdvancesBy o (o.path l) taken before behind → StepsHere o number taken before behind
+-- The process with this number lived and stood before a quiet step, it did so many, no other process has changed, and the tree moves by these.
+pub record StepsHere {S : Type 0} (o : Ops S) (number taken : ℕ) (before behind : FlatView S) : Type 0 where
+  pub first : ℕ
+  pub process : S
+  pub last : S
+  pub has : HasProcess before number first process lives
+  pub stood : o.stop process ≡ AtQuiet
+  pub chain : QuietSteps o taken process last
+  pub becomes : HasBecome number last lives before behind
+  pub advances : AdvancesBy o (o.path process) taken before behind
 
 -- The process with this number lives, stands before a quiet step, and comes to this state by so many.
 pub record QuietlyReaches {S : Type 0} (o : Ops S) (v : FlatView S) (number taken : ℕ) (last : S) : Type 0 where

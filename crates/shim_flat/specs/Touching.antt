@@ -4,7 +4,7 @@ use Rattle.std.specs.Option.{option_map}
 use Rattle.shim_base.specs.Paths.{Channel}
 use Rattle.shim_laws_records.specs.Seen.{Sort}
 use Rattle.shim_records.specs.Pairs.{up_in, rest_of, counts_in, leasts_in}
-use Rattle.shim_records.specs.Ways.{IsAbove}
+use Rattle.shim_records.specs.Ways.{IsAbove, most_forks}
 use Rattle.shim_records.specs.declared.record.Record.{Record}
 use Rattle.shim_laws_keeping.specs.Flats.{FlatView, HasProcess}
 use Rattle.shim_laws_waking.specs.Waking.{IsAsBefore}
@@ -21,11 +21,11 @@ pub record TouchesForking {S : Type 0} (n number first count : ℕ) (before behi
   pub born : (b : ℕ) → b < count → up_in behind.records (first + b) ≡ Some number
   pub no_more : (m : ℕ) → length before.records ≤ m → first + count ≤ m → length behind.records ≤ m
 
--- Whatever record isn't as before is that with one of these numbers, or that of a fork above one of them; and each knows the parent that it knew. No process has more forks above it than the longest path has pairs, 4294967295.
+-- Whatever record isn't as before is that with one of these numbers, or that of a fork above one of them; and each knows the parent that it knew.
 pub record TouchesEach {S : Type 0} (numbers : List ℕ) (before behind : FlatView S) : Type 0 where
   pub parents : (i : ℕ) → up_in behind.records i ≡ up_in before.records i
   pub as_many : length behind.records ≡ length before.records
-  pub others : (i : ℕ) → ((m at : ℕ) → slice_get numbers at ≡ Some m → (i ≢ m) × (IsAbove (up_in before.records) 4294967295 m i → ⊥)) → IsAsBefore before behind i
+  pub others : (i : ℕ) → ((m at : ℕ) → slice_get numbers at ≡ Some m → (i ≢ m) × (IsAbove (up_in before.records) most_forks m i → ⊥)) → IsAsBefore before behind i
 
 -- What was listed is, and so are the first n forks above the number, and nothing else.
 pub record ListsAbove {S : Type 0} (v : FlatView S) (n number : ℕ) (old new : List Bool) : Type 0 where
@@ -42,7 +42,7 @@ pub record SaysAsBefore (before behind : List Record) (i : ℕ) : Type 0 where
   pub counts : (c : Channel) → counts_in c behind i ≡ counts_in c before i
   pub labels : (c : Channel) → leasts_in c behind i ≡ leasts_in c before i
 
--- Whatever record doesn't is that with the number x, or that of one of the first n forks above it; and each knows the parent that it knew.
+-- Whatever record says anything else is that with the number x, or that of one of the first n forks above it; and each knows the parent that it knew.
 pub record TouchesRecords (n x : ℕ) (before behind : List Record) : Type 0 where
   pub parents : (i : ℕ) → up_in behind i ≡ up_in before i
   pub as_many : length behind ≡ length before
@@ -52,5 +52,5 @@ pub record TouchesRecords (n x : ℕ) (before behind : List Record) : Type 0 whe
 
 -- Whatever record isn't as before is that with the number x, or that of a fork above it; and no other state has changed.
 pub record TouchesOne {S : Type 0} (x : ℕ) (before behind : FlatView S) : Type 0 where
-  pub records : TouchesRecords 4294967295 x before.records behind.records
+  pub records : TouchesRecords most_forks x before.records behind.records
   pub states : (i : ℕ) → i ≢ x → slice_get behind.states i ≡ slice_get before.states i

@@ -5,6 +5,7 @@ ghost use Rattle.shim_local.specs.Process.{AtPut, AtFinish, AtThrow, AtTrap};
 ghost use Rattle.shim_semantics.specs.Nodes.{death};
 ghost use Rattle.shim_semantics.specs.Acts.{nothing, putting, trapping};
 ghost use Rattle.shim_laws_records.specs.Seen.{lives, ends, dies};
+ghost use Rattle.shim_records.specs.Ways.{most_forks};
 ghost use Rattle.shim_flat.specs.Stepping.{LivesAt};
 ghost use Rattle.shim_flat.specs.Acting.{IsTrappedAt, ActsHere, sort_by, told_of};
 ghost use Rattle.shim_flat.specs.Listing.{ListingIs};
@@ -42,7 +43,7 @@ impl<L: Local> Flat<L> {
     /// it: a handler of its own catches it, or the process dies.
     pub fn throw_here(&mut self, number: u32, label: u32) -> Thrown
         requires { LivesAt L.ops self.old number (AtThrow label) }
-        ensures { ActsHere L.ops 4294967295 number (AtThrow label) (sort_by label result) (told_of result) self.old self.new }
+        ensures { ActsHere L.ops most_forks number (AtThrow label) (sort_by label result) (told_of result) self.old self.new }
     {
         let at = number as usize;
         if label < self.states[at].base() {
@@ -58,7 +59,7 @@ impl<L: Local> Flat<L> {
     /// The process with this number, which lives and stands trapped, dies of the trap.
     pub fn trap_here(&mut self, number: u32)
         requires { IsTrappedAt L.ops self.old number }
-        ensures { (kind : TrapView) (line : ℕ) → LivesAt L.ops self.old number (AtTrap kind line) → ActsHere L.ops 4294967295 number (AtTrap kind line) (dies (death 0)) (trapping kind line) self.old self.new }
+        ensures { (kind : TrapView) (line : ℕ) → LivesAt L.ops self.old number (AtTrap kind line) → ActsHere L.ops most_forks number (AtTrap kind line) (dies (death 0)) (trapping kind line) self.old self.new }
     {
         let at = number as usize;
         leave_tree(&self.states[at], Status::Dead(0), &mut self.records, at);

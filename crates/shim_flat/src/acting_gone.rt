@@ -42,5 +42,6 @@ pub(crate) fn leave_tree<L: Local>(
     let labelled = take_label(process, status, records, at);
     let counted = update_all_counts(process, status, records, at, u32::MAX);
     leave(records, at);
+    // its fork has one less that goes on
     labelled.max(counted).max(1)
 }

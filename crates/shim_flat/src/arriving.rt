@@ -20,7 +20,7 @@ pub struct Arrival {
 }
 
 /// Brings the counts above a live process up to date that has changed, where it stands at a channel now and
-/// stood at none before.
+/// stood at none before. It answers where the process has come.
 pub(crate) fn arrive<L: Local>(process: &L, records: &mut Vec<Record>, at: usize) -> Arrival
     requires { AreOrdered records.old.items }
     ensures arrives { Arrives L.ops process.now 4294967295 at records.old.items records.new.items }

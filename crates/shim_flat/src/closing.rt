@@ -226,6 +226,7 @@ fn close_record<L: Local>(
     leave_if(records, at, status);
     let counted = update_all_counts(&states[at], status, records, at, u32::MAX);
     let labelled = recount_if(states, records, at, label);
+    // where the process has left, its fork has one less that goes on, though no child may have died
     labelled.max(counted).max(1)
 }
 

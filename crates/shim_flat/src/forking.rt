@@ -51,6 +51,14 @@ impl<L> Fork<L> {
     }
 }
 
+// Where a fork's children were put: the number of the first one, and how many forks above have other counts, at
+// most.
+#[derive(Clone, Copy)]
+struct PutChildren {
+    first: u32,
+    forks: u32,
+}
+
 // A fork whose children have to be put: the number of the process, how it stands then, and its children.
 struct Parted<L> {
     number: u32,
@@ -104,7 +112,7 @@ fn child_records<L: Local>(
     Ok(records)
 }
 
-// The pair's channel behind others, if a fork with its counts is ready.
+// Puts the pair's channel behind the others, if a fork with its counts is ready.
 fn add_ready(pair: &Pair, chans: &mut Vec<Chan>) -> Result<(), NoMemory>
     ensures { OnOk result (channels chans.new.items ≡ channels chans.old.items ++ cond (all_there (tally pair.now)) (pair.now.chan.channel ∷ []) []) }
 {
@@ -125,8 +133,8 @@ fn ready(alloc: Global, pairs: &[Pair]) -> Result<Vec<Chan>, NoMemory>
     Ok(chans)
 }
 
-// Goes the way up from the record for each of these channels, of a process that wasn't ready on it and is. It
-// answers how many forks the longest of these ways led to.
+// Goes the way up from the record for each of these channels, of a process that wasn't ready on it and is. The
+// answer is a number of forks beyond which no counts have changed, perhaps more than need be.
 fn update_ready(records: &mut Vec<Record>, at: usize, chans: &[Chan]) -> u32
     requires { AreOrdered records.old.items }
     ensures ways { EachUpdatedAbove 4294967295 at (channels chans.now) records.old.items records.new.items }
@@ -201,21 +209,20 @@ fn note_fork(parent: &mut Record, first: u32, count: u32, pairs: Vec<Pair>)
 }
 
 // Puts the fork's children from the hint's number on, if the records there are free, or behind all others,
-// and brings the counts above up to date; the number of the first one, and how many forks above have other
-// counts, at most. Want of memory changes nothing.
+// and brings the counts above up to date. Want of memory changes nothing.
 fn put_fork<L: Local>(
     alloc: Global,
     states: &mut Vec<L>,
     records: &mut Vec<Record>,
     fork: Parted<L>,
     hint: Option<u32>,
-) -> Result<(u32, u32), NoMemory>
+) -> Result<PutChildren, NoMemory>
     requires inside { fork.number < vec_len records.old }
     requires beside { length states.old.items ≡ length records.old.items }
     requires ordered { AreOrdered records.old.items }
-    ensures ok { IfOk result (λ put. ForksAt L.ops fork.number put.0 fork.parent fork.children.items (record { states = states.old.items; records = records.old.items }) (record { states = states.new.items; records = records.new.items })) }
-    ensures fits { IfOk result (λ put. put.0 + length fork.children.items ≤ 4294967295) }
-    ensures touches { IfOk result (λ put. TouchesForking put.1 fork.number put.0 (length fork.children.items) (record { states = states.old.items; records = records.old.items }) (record { states = states.new.items; records = records.new.items })) }
+    ensures ok { IfOk result (λ put. ForksAt L.ops fork.number put.first fork.parent fork.children.items (record { states = states.old.items; records = records.old.items }) (record { states = states.new.items; records = records.new.items })) }
+    ensures fits { IfOk result (λ put. put.first + length fork.children.items ≤ 4294967295) }
+    ensures touches { IfOk result (λ put. TouchesForking put.forks fork.number put.first (length fork.children.items) (record { states = states.old.items; records = records.old.items }) (record { states = states.new.items; records = records.new.items })) }
     ensures err { OnErr result ((states.new.items ≡ states.old.items) × (records.new.items ≡ records.old.items)) }
 {
     let Parted {
@@ -238,7 +245,7 @@ fn put_fork<L: Local>(
     note_fork(&mut records[at], first, count, pairs);
     put_block(records, first as usize, born);
     let forks = update_ready(records, at, chans.as_slice());
-    Ok((first, forks))
+    Ok(PutChildren { first, forks })
 }
 
 impl<L: Local> Flat<L> {
@@ -307,8 +314,8 @@ impl<L: Local> Flat<L> {
             parent,
             children,
         };
-        let (first, forks) = put_fork(alloc, &mut self.states, &mut self.records, fork, hint)?;
-        self.free.put(count, first);
-        Ok((ForkOutcome::Forked(first, count), forks))
+        let put = put_fork(alloc, &mut self.states, &mut self.records, fork, hint)?;
+        self.free.put(count, put.first);
+        Ok((ForkOutcome::Forked(put.first, count), put.forks))
     }
 }

@@ -19,7 +19,7 @@ pub enum Listing {
     Nowhere,
     /// A quiet step comes next.
     Quiet,
-    /// Anything else may be due.
+    /// Anything else may be due. This may be said too often, where nothing is.
     Awake,
 }
 

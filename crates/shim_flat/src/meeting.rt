@@ -6,7 +6,7 @@ ghost use Rattle.shim_laws_meetings.specs.Receiving.{MovesOn};
 ghost use Rattle.shim_laws_meetings.specs.Sharers.{ListsSharers};
 ghost use Rattle.shim_laws_meetings.specs.Meetings.{IsEnabled, Declares, HasValue, ReceivesOne, ReceiveAll, AllReceived};
 ghost use Rattle.shim_laws_meetings.specs.Values.{IsValueAmong};
-ghost use Rattle.shim_flat.specs.Meeting.{WaitsAt, GoesOff};
+ghost use Rattle.shim_flat.specs.Meeting.{WaitsAt, LeavesChannel};
 ghost use Rattle.shim_flat.specs.Touching.{TouchesEach, TouchesOne};
 ghost use Rattle.shim_flat.specs.Changing.{ChangesEach};
 
@@ -17,9 +17,9 @@ use shim_local::{Local, Stop};
 use shim_records::{Record, live_reading, stands_at, update_counts_above};
 
 // Brings the counts above a process up to date that stood at the channel and stands there no more.
-fn go_off(c: &Chan, records: &mut Vec<Record>, at: usize)
+fn leave_channel(c: &Chan, records: &mut Vec<Record>, at: usize)
     requires { AreOrdered records.old.items }
-    ensures { GoesOff c.now.channel 4294967295 at records.old.items records.new.items }
+    ensures { LeavesChannel c.now.channel 4294967295 at records.old.items records.new.items }
 {
     update_counts_above(
         records,
@@ -41,7 +41,7 @@ fn move_on<L: Local>(process: &L, c: &Chan, records: &mut Vec<Record>, at: usize
             if *c == *chan {
                 return;
             }
-            go_off(c, records, at);
+            leave_channel(c, records, at);
             update_counts_above(
                 records,
                 at,
@@ -56,7 +56,7 @@ fn move_on<L: Local>(process: &L, c: &Chan, records: &mut Vec<Record>, at: usize
         | Stop::Fork
         | Stop::Finish
         | Stop::Throw(_)
-        | Stop::Trapped(_, _) => go_off(c, records, at),
+        | Stop::Trapped(_, _) => leave_channel(c, records, at),
     }
 }
 

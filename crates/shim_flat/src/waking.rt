@@ -9,7 +9,7 @@ use shim_records::Worklist;
 
 impl<L: Local> Flat<L> {
     /// Lists the first so many forks above a process in use. It takes no memory.
-    pub fn above(&self, number: u32, forks: u64, list: &mut Worklist)
+    pub fn list_above(&self, number: u32, forks: u64, list: &mut Worklist)
         requires used { IsInUse self.now number }
         requires room { IsForAll self.now list.old }
         ensures { ListsAbove self.now forks number list.old list.new }

@@ -1,5 +1,4 @@
 use Rattle.std.proofs.Common.{sym}
-use Rattle.shim_laws_waking.specs.Looks.{is_quiet}
 use Rattle.shim_laws_keeping.specs.Arriving.{there}
 use Rattle.shim_records.proofs.Reaching.{one_alone}
 use Rattle.shim_flat.proofs.Touching.{counts_reach}
@@ -19,4 +18,4 @@ pub returns-in-Next-clause-listing : goal.returns-in-Next-clause-listing
 returns-in-Next-clause-listing g c v i f has = c.listing_at.ensures v i f has (sym c.in-Next.ensures)
 
 pub returns-in-Quiet-clause-listing : goal.returns-in-Quiet-clause-listing
-returns-in-Quiet-clause-listing g c v i f has = is_quiet f c.args.process.now has (sym c.in-Quiet.ensures)
+returns-in-Quiet-clause-listing g c v i f has = (f, c.args.process.now, has, sym c.in-Quiet.ensures)

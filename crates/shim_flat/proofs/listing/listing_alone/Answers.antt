@@ -1,9 +1,8 @@
 use Rattle.std.proofs.Common.{sym}
-use Rattle.shim_laws_waking.specs.Looks.{is_quiet}
 use Rattle.shim_flat.proofs.listing.listing_alone.Goals as goal
 
 pub returns-in-Quiet : goal.returns-in-Quiet
-returns-in-Quiet g c v i f has = is_quiet f c.args.process.now has (sym c.in-Quiet.ensures)
+returns-in-Quiet g c v i f has = (f, c.args.process.now, has, sym c.in-Quiet.ensures)
 
 pub returns-in-Next : goal.returns-in-Next
 returns-in-Next g c v i f has = c.listing_at.ensures v i f has (sym c.in-Next.ensures)

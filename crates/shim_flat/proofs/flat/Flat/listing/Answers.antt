@@ -1,8 +1,9 @@
-use Rattle.std.proofs.Common.{sym, subst}
+use Rattle.std.proofs.Common.{false, sym, subst}
 use Rattle.shim_laws_waking.specs.Looks.{IsIdle}
 use Rattle.shim_laws_keeping.specs.Flats.{FlatView}
 use Rattle.shim_flat.specs.Reading.{IsInUse}
-use Rattle.shim_flat.specs.Listing.{NotBeforeQuiet, ListingIs}
+use Rattle.shim_flat.specs.Listing.{ListingIs}
+use Rattle.shim_flat.specs.Stepping.{IsBeforeQuiet}
 use Rattle.shim_flat.proofs.Listings.{rests, is_fork, lives_there}
 use Rattle.shim_flat.proofs.flat.Flat.listing.Goals as goal
 
@@ -11,7 +12,7 @@ returns-in-Free g c =
     let v = c.self.inside in
     let w : FlatView g.row.L.Denot = record { states = v.states.items; records = v.records.items } in
     let used = subst (λ z. IsInUse z c.args.number) (sym c.self.view_is) c.requires in
-    subst (λ z. IsIdle g.L.Local.ops z c.args.number × NotBeforeQuiet g.L.Local.ops z c.args.number) c.self.view_is
+    subst (λ z. IsIdle g.L.Local.ops z c.args.number × IsBeforeQuiet g.L.Local.ops c.args.number z false) c.self.view_is
     (rests g.L.Local.ops w c.args.number used c.index.result.now c.index.ensures c.in-Free.is)
 
 pub returns-in-Live : goal.returns-in-Live
@@ -27,5 +28,5 @@ returns-in-Forked g c =
     let v = c.self.inside in
     let w : FlatView g.row.L.Denot = record { states = v.states.items; records = v.records.items } in
     let used = subst (λ z. IsInUse z c.args.number) (sym c.self.view_is) c.requires in
-    subst (λ z. NotBeforeQuiet g.L.Local.ops z c.args.number) c.self.view_is
+    subst (λ z. IsBeforeQuiet g.L.Local.ops c.args.number z false) c.self.view_is
     (is_fork g.L.Local.ops w c.args.number used c.index.result.now c.index.ensures c.in-Forked.field-0 c.in-Forked.is)

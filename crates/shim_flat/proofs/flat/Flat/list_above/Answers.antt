@@ -3,7 +3,7 @@ use Rattle.shim_records.specs.Pairs.{up_in}
 use Rattle.shim_laws_keeping.specs.Flats.{IsKept}
 use Rattle.shim_flat.specs.Reading.{ParentIs}
 use Rattle.shim_flat.proofs.Parents.{parent_is_up, fork_in_use, listing_begins, listing_goes, listing_ends, listing_tops}
-use Rattle.shim_flat.proofs.flat.Flat.above.Goals as goal
+use Rattle.shim_flat.proofs.flat.Flat.list_above.Goals as goal
 
 pub loop-walked-init : goal.loop-walked-init
 loop-walked-init g c = listing_begins g.L.Local.ops c.args.self.now c.args.number c.args.list.now c.requires.used
