@@ -28,7 +28,7 @@ use Rattle.shim_flat.specs.declared.acting.Thrown.TheVariants as thrown
 use Rattle.shim_flat_tree.specs.FlatTrees.{FlatTreeView, tree_in, IsHeld, KeepsTree}
 use Rattle.shim_flat_tree.specs.Holding.{HappensIn}
 use Rattle.shim_flat_tree.specs.Settling.{StaysAs}
-use Rattle.shim_flat_tree.specs.Waking.{HasCounted, Wakens, ListsQuiet}
+use Rattle.shim_flat_tree.specs.Waking.{HasCounted, ListsAwake, ListsQuiet}
 use Rattle.shim_flat_tree.proofs.Advanced.{stands_there}
 use Rattle.shim_flat_tree.proofs.Events as events
 use Rattle.shim_flat_tree.proofs.OneMoved.{same_held, one_moved, other_stop_free, for_all_behind}
@@ -120,7 +120,7 @@ module _ {S : Type 0} (o : Ops S) (law : LocalLaws o) where
       flags : (i : ℕ) → i ≢ number → is_listed behind.held i ≡ is_listed before.held i
       flags i far = ap (λ z. is_listed z i) held
 
-      pub acted_keeps : steps (tree_in o before) < 4000000 → Wakens o behind.flat n number before.awake behind.awake → ListsQuiet o behind.flat number before.quiet behind.quiet → length behind.own ≡ length before.own → KeepsTree o behind
+      pub acted_keeps : steps (tree_in o before) < 4000000 → ListsAwake o behind.flat n number before.awake behind.awake → ListsQuiet o behind.flat number before.quiet behind.quiet → length behind.own ≡ length before.own → KeepsTree o behind
       acted_keeps few awake quiet owns =
           let more = h.counts in
           one_moved o law before behind kept number a.first a.process (state a.left) lives k a.has a.becomes flags (ap (λ z. is_listed z number) held ∙ free) n h.shows (omega (arith, few, more)) a.touches awake quiet owns (ap length held)
@@ -134,7 +134,7 @@ module _ {S : Type 0} (o : Ops S) (law : LocalLaws o) where
 
     -- so the type keeps what it kept, and the event has happened
     pub own_done : event_at_stop stop (o.path a.process) ≡ Own (o.path a.process) → stop ≢ AtQuiet → HasTold → HasCounted number 1 before.own behind.own → behind.events ≡ before.events → behind.held ≡ before.held → steps (tree_in o before) < 4000000
-        → Wakens o behind.flat n number before.awake behind.awake → ListsQuiet o behind.flat number before.quiet behind.quiet
+        → ListsAwake o behind.flat n number before.awake behind.awake → ListsQuiet o behind.flat number before.quiet behind.quiet
         → KeepsTree o behind × HappensIn o before behind (Own (o.path a.process)) × (steps (tree_in o behind) ≡ steps (tree_in o before) + 1)
     own_done own other told counted same held few awake quiet =
         let h = own_happens own told counted same in (
@@ -144,7 +144,7 @@ module _ {S : Type 0} (o : Ops S) (law : LocalLaws o) where
         )
 
     pub end_done : event_at_stop stop (o.path a.process) ≡ End (o.path a.process) → stop ≢ AtQuiet → HasTold → behind.own ≡ before.own → behind.events ≡ before.events + 1 → behind.held ≡ before.held → steps (tree_in o before) < 4000000
-        → Wakens o behind.flat n number before.awake behind.awake → ListsQuiet o behind.flat number before.quiet behind.quiet
+        → ListsAwake o behind.flat n number before.awake behind.awake → ListsQuiet o behind.flat number before.quiet behind.quiet
         → KeepsTree o behind × HappensIn o before behind (End (o.path a.process)) × (steps (tree_in o behind) ≡ steps (tree_in o before) + 1)
     end_done end other told same more held few awake quiet =
         let h = end_happens end told same more in (

@@ -20,7 +20,7 @@ use Rattle.shim_flat.specs.declared.closing.CloseOutcome.TheVariants.{GoesOn, Th
 use Rattle.shim_flat.specs.Reading.{IsInUse, IsForAll}
 use Rattle.shim_flat_tree.specs.FlatTrees.{FlatTreeView, tree_in, path_at, counts_from, IsQuietAt, KeepsTree}
 use Rattle.shim_flat_tree.specs.PastCounts.{only_block}
-use Rattle.shim_flat_tree.specs.Waking.{Wakens, ListsQuiet}
+use Rattle.shim_flat_tree.specs.Waking.{ListsAwake, ListsQuiet}
 use Rattle.shim_flat_tree.proofs.Wakened.{one_suffices}
 use Rattle.shim_flat_tree.proofs.Events as events
 use Rattle.shim_flat_tree.proofs.OneMoved.{still_for_all, keeps_on}
@@ -114,7 +114,7 @@ module _ {S : Type 0} (o : Ops S) (law : LocalLaws o) (before behind : FlatTreeV
   stay : (i : ℕ) (l : S) → IsQuietAt o before.flat i l → is_listed before.held i ≡ true → IsQuietAt o behind.flat i l
   stay i l q flag = quiet_stays o law before behind kept (Close (o.path h.process)) happened.leads no_step happened.shows lived i l q
 
-  module _ (few : steps (tree_in o before) < 4000000) (above : Wakens o behind.flat m number before.awake behind.awake) (mine : ListsQuiet o behind.flat number before.quiet behind.quiet) where
+  module _ (few : steps (tree_in o before) < 4000000) (above : ListsAwake o behind.flat m number before.awake behind.awake) (mine : ListsQuiet o behind.flat number before.quiet behind.quiet) where
     quiet_listed : (i : ℕ) (l : S) → IsQuietAt o behind.flat i l → (is_listed behind.quiet i ≡ true) ⊎ IsQuietAt o before.flat i l
     quiet_listed i l q = elim (h.becomes.only i q.first l lives q.has) [
       | inl w ↦ inl (ap (is_listed behind.quiet) w.0 ∙ mine.mine l (subst (λ z. IsQuietAt o behind.flat z l) w.0 q))

@@ -30,8 +30,10 @@ use Rattle.shim_flat.specs.Reading.{IsInUse, IsForAll}
 use Rattle.shim_flat.proofs.Parents.{there_is, use_within}
 use Rattle.shim_flat_tree.specs.FlatTrees.{FlatTreeView, tree_in, path_at, entry, counts_from, IsQuietAt, KeepsTree}
 use Rattle.shim_flat_tree.specs.Room.{HasRoomFor, block_of}
-use Rattle.shim_flat_tree.specs.Waking.{HasCounted, Wakens, ListsQuiet}
-use Rattle.shim_flat_tree.proofs.Wakened.{forked_suffices, fewer_wakened}
+use Rattle.shim_flat_tree.specs.Waking.{HasCounted, ListsAwake, ListsQuiet}
+use Rattle.shim_flat_tree.proofs.Wakened.{forked_suffices}
+use Rattle.shim_records.specs.Pairs.{up_in}
+use Rattle.shim_records.proofs.Reaching.{among_more}
 use Rattle.shim_flat_tree.proofs.Acted.{HasTold, one_may_be_counted, no_quiet_step, own_done}
 use Rattle.shim_flat_tree.proofs.Blocks.{in_block_or_not, block_is, outside_is, block_long, ListsBlock, block_listed}
 use Rattle.shim_flat_tree.proofs.Counts.{more, fresh}
@@ -159,7 +161,7 @@ module _ {S : Type 0} (o : Ops S) (law : LocalLaws o) (before behind : FlatTreeV
           not_quiet (ap o.stop (one_state before.flat.states (stands before.flat) number h.was_first q.first h.was l lives lives h.lived mine) ∙ q.stands)
 
   module _ (few : steps (tree_in o before) < 4000000) (end : ℕ) (most : length behind.flat.records ≤ end) (room : HasRoomFor end before) (awake quiet : List Bool) (awakes : ListsBlock first count before.awake awake) (quiets : ListsBlock first count before.quiet quiet)
-      (above : Wakens o behind.flat m number awake behind.awake) (mine : ListsQuiet o behind.flat number quiet behind.quiet) where
+      (above : ListsAwake o behind.flat m number awake behind.awake) (mine : ListsQuiet o behind.flat number quiet behind.quiet) where
     quiet_listed : (i : ℕ) (l : S) → IsQuietAt o behind.flat i l → (is_listed behind.quiet i ≡ true) ⊎ IsQuietAt o before.flat i l
     quiet_listed i l q = elim (h.becomes.only i q.first l lives q.has) [
       | inl w ↦ absurd (let e = w.2 in cc)
@@ -198,9 +200,9 @@ module _ {S : Type 0} (o : Ops S) (law : LocalLaws o) (before behind : FlatTreeV
 
 -- ---- a fork that trapped
 
-module _ {S : Type 0} (o : Ops S) (number : ℕ) (before behind : FlatView S) (h : HasTrappedHere o number before behind) where
+module _ {S : Type 0} (o : Ops S) (m number : ℕ) (before behind : FlatView S) (h : HasTrappedHere o number before behind) where
   -- it is a step that its process did by itself
-  pub traps_act : ActsHere o 0 number AtFork lives nothing before behind
+  pub traps_act : ActsHere o m number AtFork lives nothing before behind
   traps_act = record {
     first = h.first;
     process = h.was;
@@ -211,7 +213,7 @@ module _ {S : Type 0} (o : Ops S) (number : ℕ) (before behind : FlatView S) (h
     came = refl;
     becomes = subst (λ z. HasBecome number h.is lives before z) (sym h.behind_is) become;
     moves = h.moves;
-    touches = h.touches;
+    touches = record { others = λ i f s k has far out. h.touches.others i f s k has far (λ w. out (among_more (up_in behind.records) m (omega arith) w)); no_more = h.touches.no_more };
   }
     where
       become : HasBecome number h.is lives before (record { states = slice_set before.states number h.is; records = before.records })
@@ -222,10 +224,10 @@ module _ {S : Type 0} (o : Ops S) (number : ℕ) (before behind : FlatView S) (h
         only = λ j g t x far w. record { state_is = sym (set_elsewhere before.states number j h.is far) ∙ w.state_is; stands_so = w.stands_so };
       }
 
-module _ {S : Type 0} (o : Ops S) (law : LocalLaws o) (before behind : FlatTreeView S) (kept : KeepsTree o before) (number : ℕ) (h : HasTrappedHere o number before.flat behind.flat) (one : OneOwnStep before behind) (c : HasCounted number 1 before.own behind.own)
-    (few : steps (tree_in o before) < 4000000) (above : Wakens o behind.flat 0 number before.awake behind.awake) (mine : ListsQuiet o behind.flat number before.quiet behind.quiet) where
-  acts : ActsHere o 0 number AtFork lives nothing before.flat behind.flat
-  acts = traps_act o number before.flat behind.flat h
+module _ {S : Type 0} (o : Ops S) (law : LocalLaws o) (before behind : FlatTreeView S) (kept : KeepsTree o before) (m number : ℕ) (h : HasTrappedHere o number before.flat behind.flat) (one : OneOwnStep before behind) (c : HasCounted number 1 before.own behind.own)
+    (few : steps (tree_in o before) < 4000000) (above : ListsAwake o behind.flat m number before.awake behind.awake) (mine : ListsQuiet o behind.flat number before.quiet behind.quiet) where
+  acts : ActsHere o m number AtFork lives nothing before.flat behind.flat
+  acts = traps_act o m number before.flat behind.flat h
 
   other : AtFork ≢ AtQuiet
   other e = absurd cc
@@ -233,8 +235,8 @@ module _ {S : Type 0} (o : Ops S) (law : LocalLaws o) (before behind : FlatTreeV
   pub traps_go : Goes o before behind (Own (o.path h.was))
   unfolding acts traps_act
   traps_go =
-      let told : HasTold o law before behind kept 0 number AtFork lives nothing acts = record { output = one.output ∙ sym (append-nil before.output); histories = one.histories; logs = one.logs; past = one.past } in
-      let w = own_done o law before behind kept 0 number AtFork lives nothing acts refl other told c one.events one.held few above mine in
+      let told : HasTold o law before behind kept m number AtFork lives nothing acts = record { output = one.output ∙ sym (append-nil before.output); histories = one.histories; logs = one.logs; past = one.past } in
+      let w = own_done o law before behind kept m number AtFork lives nothing acts refl other told c one.events one.held few above mine in
       record { keeps = w.0; happens = w.1; steps_are = w.2 }
 
 -- ---- either way
@@ -265,14 +267,14 @@ module _ {S : Type 0} (o : Ops S) (law : LocalLaws o) (before : FlatTreeView S) 
   pub still_used : (r : ForkOutcome) → ForksHere o m number before.flat now r → IsInUse now number
   unfolding traps_act
   still_used (outcome.Forked first count) h = (first, h.is, _, h.becomes.parent)
-  still_used outcome.Trapped h = let a = traps_act o number before.flat now h in (a.becomes.first, h.is, lives, a.becomes.mine)
+  still_used outcome.Trapped h = let a = traps_act o m number before.flat now h in (a.becomes.first, h.is, lives, a.becomes.mine)
 
   -- whoever has a record has room in lists that are long enough
   pub has_room : {A : Type 0} (end : ℕ) (xs ys : List A) → length now.records ≤ end → end ≤ length xs → length ys ≡ length xs → IsForAll now ys
   has_room end xs ys most fits same i u = let w = use_within o now i u in omega (arith, w, most, fits, same)
 
 module _ {S : Type 0} (o : Ops S) (law : LocalLaws o) (before behind : FlatTreeView S) (kept : KeepsTree o before) (m number : ℕ) (own : List ℕ) (c : HasCounted number 1 own behind.own) (one : OneOwnStep before behind) (few : steps (tree_in o before) < 4000000) (end : ℕ) (most : length behind.flat.records ≤ end)
-    (room : HasRoomFor end before) (awake quiet : List Bool) (above : Wakens o behind.flat m number awake behind.awake) (mine : ListsQuiet o behind.flat number quiet behind.quiet) where
+    (room : HasRoomFor end before) (awake quiet : List Bool) (above : ListsAwake o behind.flat m number awake behind.awake) (mine : ListsQuiet o behind.flat number quiet behind.quiet) where
   -- what the process was that forked
   pub record Forks : Type 0 where
     pub first : ℕ
@@ -298,5 +300,5 @@ module _ {S : Type 0} (o : Ops S) (law : LocalLaws o) (before behind : FlatTreeV
     first = h.first;
     was = h.was;
     lived = h.lived;
-    goes = traps_go o law before behind kept number h one (subst (λ z. HasCounted number 1 z behind.own) zeros c) few (subst (λ z. Wakens o behind.flat 0 number z behind.awake) awakes (fewer_wakened o behind.flat 0 m number awake behind.awake (omega arith) above)) (subst (λ z. ListsQuiet o behind.flat number z behind.quiet) quiets mine);
+    goes = traps_go o law before behind kept m number h one (subst (λ z. HasCounted number 1 z behind.own) zeros c) few (subst (λ z. ListsAwake o behind.flat m number z behind.awake) awakes above) (subst (λ z. ListsQuiet o behind.flat number z behind.quiet) quiets mine);
   }

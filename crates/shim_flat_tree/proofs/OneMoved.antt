@@ -16,7 +16,7 @@ use Rattle.shim_flat.specs.Stepping.{HasBecome}
 use Rattle.shim_flat.specs.Touching.{TouchesAbove}
 use Rattle.shim_flat_tree.specs.FlatTrees.{FlatTreeView, tree_in, IsQuietAt, IsHeld, KeepsTree, QuietAreListed}
 use Rattle.shim_flat_tree.specs.Holding.{SameHeld}
-use Rattle.shim_flat_tree.specs.Waking.{Wakens, ListsQuiet}
+use Rattle.shim_flat_tree.specs.Waking.{ListsAwake, ListsQuiet}
 use Rattle.shim_flat_tree.proofs.Wakened.{Suffices, one_suffices}
 
 -- as long a list has an item for the same numbers
@@ -98,7 +98,7 @@ module _ {S : Type 0} (o : Ops S) (law : LocalLaws o) (before behind : FlatTreeV
     ]
 
     module _ (n : ℕ) (shows : Keeps o [] behind.flat (tree_in o behind).root) (few : steps (tree_in o behind) ≤ 4000000) (touches : TouchesAbove n number before.flat behind.flat)
-        (awake : Wakens o behind.flat n number before.awake behind.awake) (quiet : ListsQuiet o behind.flat number before.quiet behind.quiet)
+        (awake : ListsAwake o behind.flat n number before.awake behind.awake) (quiet : ListsQuiet o behind.flat number before.quiet behind.quiet)
         (owns : length behind.own ≡ length before.own) (helds : length behind.held ≡ length before.held) where
       lists : QuietAreListed o behind.flat behind.quiet behind.held
       lists i t q = elim (same_or_not i number) [

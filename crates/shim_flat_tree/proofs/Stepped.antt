@@ -14,11 +14,11 @@ use Rattle.shim_laws_keeping.specs.Flats.{FlatView, stands}
 use Rattle.shim_laws_keeping.specs.Moves.{AdvancesBy}
 use Rattle.shim_laws_waking.specs.Awake.{is_listed}
 use Rattle.shim_flat.specs.Reading.{IsInUse, IsForAll}
-use Rattle.shim_flat.specs.Stepping.{HasBecome, IsBeforeQuiet, StepsHere, stands_else, stepped}
+use Rattle.shim_flat.specs.Stepping.{HasBecome, IsBeforeQuiet, StepsHere}
 use Rattle.shim_flat.specs.Touching.{TouchesAbove}
 use Rattle.shim_flat_tree.specs.FlatTrees.{FlatTreeView, tree_in, IsQuietAt, IsHeld, KeepsTree}
 use Rattle.shim_flat_tree.specs.Holding.{Releases, StepsIn}
-use Rattle.shim_flat_tree.specs.Waking.{HasCounted, Wakens, ListsQuiet}
+use Rattle.shim_flat_tree.specs.Waking.{HasCounted, ListsAwake, ListsQuiet}
 use Rattle.shim_flat_tree.proofs.Advanced.{Advanced, grantable, steps_on}
 use Rattle.shim_flat_tree.proofs.OneMoved.{for_all_behind, others_held, isnt_held, same_held, one_moved}
 use Rattle.shim_flat_tree.proofs.OwnCounts.{count_is_few, counts_more, as_many_counts}
@@ -39,13 +39,12 @@ pub record DoesSteps {S : Type 0} (o : Ops S) (before behind : FlatView S) (numb
   pub advances : AdvancesBy o (o.path l) n before behind
 
 pub does_steps : {S : Type 0} (o : Ops S) (before behind : FlatView S) (number n : ℕ) (l : S) → IsQuietAt o before number l → StepsHere o number n before behind → DoesSteps o before behind number n l
-does_steps o before behind number n l q (stands_else none same other) = absurd (other q.first l q.has q.stands)
-does_steps o before behind number n l q (stepped f k last has stop chain becomes advances) =
-    let e : k ≡ l = one_state before.states (stands before) number f q.first k l lives lives has q.has in record {
-      last = last;
-      chain = subst (λ z. QuietSteps o n z last) e chain;
-      becomes = becomes;
-      advances = subst (λ z. AdvancesBy o (o.path z) n before behind) e advances;
+does_steps o before behind number n l q h =
+    let e : h.process ≡ l = one_state before.states (stands before) number h.first q.first h.process l lives lives h.has q.has in record {
+      last = h.last;
+      chain = subst (λ z. QuietSteps o n z h.last) e h.chain;
+      becomes = h.becomes;
+      advances = subst (λ z. AdvancesBy o (o.path z) n before behind) e h.advances;
     }
 
 module _ {S : Type 0} (o : Ops S) where
@@ -69,7 +68,7 @@ module _ {S : Type 0} (o : Ops S) (law : LocalLaws o) (before behind : FlatTreeV
     pub advanced_by : Advanced o law before behind n l d.last
     advanced_by = steps_on o law before behind number n l d.last kept.shows q d.chain d.advances told.output told.histories told.logs (counts_more o before behind number q.first l d.last lives lives q.has d.becomes path told.past n counted) told.events
 
-    pub steps_keep : (forks : ℕ) → steps (tree_in o before) + n ≤ 4000000 → TouchesAbove forks number before.flat behind.flat → Wakens o behind.flat forks number before.awake behind.awake → ListsQuiet o behind.flat number before.quiet behind.quiet → length behind.held ≡ length before.held → KeepsTree o behind
+    pub steps_keep : (forks : ℕ) → steps (tree_in o before) + n ≤ 4000000 → TouchesAbove forks number before.flat behind.flat → ListsAwake o behind.flat forks number before.awake behind.awake → ListsQuiet o behind.flat number before.quiet behind.quiet → length behind.held ≡ length before.held → KeepsTree o behind
     steps_keep forks few touches awake quiet helds =
         let a = advanced_by in
         let all = a.counts in

@@ -8,10 +8,9 @@ use Rattle.shim_laws_records.specs.Seen.{ends}
 use Rattle.shim_records.specs.Members.{IsAmong}
 use Rattle.shim_records.specs.Pairs.{up_in}
 use Rattle.shim_records.specs.Ways.{IsAbove}
-use Rattle.shim_records.proofs.Reaching.{among_more}
 use Rattle.shim_laws_keeping.specs.Flats.{FlatView, HasProcess}
 use Rattle.shim_laws_waking.specs.Awake.{is_listed}
-use Rattle.shim_laws_waking.specs.Looks.{IsIdle, has_ended}
+use Rattle.shim_laws_waking.specs.Looks.{IsIdle, has_ended, is_quiet}
 use Rattle.shim_laws_waking.specs.Waking.{Wakes}
 use Rattle.shim_flat.specs.Listing.{ListingIs}
 use Rattle.shim_flat.specs.Touching.{TouchesAbove, TouchesForking, TouchesEach, ListsAbove}
@@ -20,43 +19,46 @@ use Rattle.shim_flat.specs.declared.listing.Listing.TheVariants as code
 use Rattle.shim_flat.proofs.Above.{wake_list, wake_forked, wake_each}
 use Rattle.shim_flat.proofs.Parents.{still_listed, now_listed, only_listed, as_long}
 use Rattle.shim_flat_tree.specs.Several.{ListsEach}
-use Rattle.shim_flat_tree.specs.Waking.{IsPutIn, Wakens, ListsQuiet}
+use Rattle.shim_flat_tree.specs.Waking.{IsPutIn, ListsAwake, ListsQuiet}
 
 -- ---- a number is put in the list in which it belongs, and the forks above are listed
 
 module _ {S : Type 0} (o : Ops S) (v : FlatView S) (number : ℕ) where
-  pub wakens : (n : ℕ) (listing : Listing) (awake quiet awakes quiets now : List Bool) → ListingIs o v number listing → IsPutIn listing number awake quiet awakes quiets → number < length awake → ListsAbove v (n + 1) number awakes now → Wakens o v n number awake now
-  wakens n code.Nowhere awake quiet awakes quiets now is put within lists = record {
+  pub awake_listed : (n : ℕ) (listing : Listing) (awake quiet awakes quiets now : List Bool) → ListingIs o v number listing → IsPutIn listing number awake quiet awakes quiets → number < length awake → ListsAbove v (n + 1) number awakes now → ListsAwake o v n number awake now
+  awake_listed n code.Nowhere awake quiet awakes quiets now is put within lists = record {
     kept = λ i e. lists.kept i (ap (λ z. is_listed z i) put.0 ∙ e);
     mine = inr is.0;
     above = lists.above;
+    only = λ i e. elim (lists.only i e) [ inl y ↦ inl (ap (λ z. is_listed z i) (sym put.0) ∙ y) | inr w ↦ inr (inr w) ];
     as_many = lists.as_many ∙ ap length put.0;
   }
-  wakens n code.Quiet awake quiet awakes quiets now is put within lists = record {
+  awake_listed n code.Quiet awake quiet awakes quiets now is put within lists = record {
     kept = λ i e. lists.kept i (ap (λ z. is_listed z i) put.0 ∙ e);
-    mine = inr is;
+    mine = inr (is_quiet is.0 is.1 is.2 is.3);
     above = lists.above;
+    only = λ i e. elim (lists.only i e) [ inl y ↦ inl (ap (λ z. is_listed z i) (sym put.0) ∙ y) | inr w ↦ inr (inr w) ];
     as_many = lists.as_many ∙ ap length put.0;
   }
-  wakens n code.Awake awake quiet awakes quiets now is put within lists = record {
+  awake_listed n code.Awake awake quiet awakes quiets now is put within lists = record {
     kept = λ i e. lists.kept i (still_listed awake awakes number put.0 i e);
     mine = inl (lists.kept number (now_listed awake awakes number put.0 within));
     above = lists.above;
+    only = λ i e. elim (lists.only i e) [
+      | inl y ↦ elim (only_listed awake awakes number put.0 i y) [ inl z ↦ inl z | inr same ↦ inr (inl same) ]
+      | inr w ↦ inr (inr w)
+    ];
     as_many = lists.as_many ∙ as_long awake awakes number put.0;
   }
 
   pub quiet_listed : (listing : Listing) (awake quiet awakes quiets : List Bool) → ListingIs o v number listing → IsPutIn listing number awake quiet awakes quiets → number < length quiet → ListsQuiet o v number quiet quiets
-  quiet_listed code.Nowhere awake quiet awakes quiets is put within = record { kept = λ i e. ap (λ z. is_listed z i) put.1 ∙ e; mine = λ l q. absurd (is.1 q.first l q.has q.stands); as_many = ap length put.1 }
+  quiet_listed code.Nowhere awake quiet awakes quiets is put within = record { kept = λ i e. ap (λ z. is_listed z i) put.1 ∙ e; mine = λ l q. absurd (is.1 q.first l q.has q.stands); only = λ i e. inl (ap (λ z. is_listed z i) (sym put.1) ∙ e); as_many = ap length put.1 }
   quiet_listed code.Quiet awake quiet awakes quiets is put within = record {
     kept = still_listed quiet quiets number put.1;
     mine = λ l q. now_listed quiet quiets number put.1 within;
+    only = only_listed quiet quiets number put.1;
     as_many = as_long quiet quiets number put.1;
   }
-  quiet_listed code.Awake awake quiet awakes quiets is put within = record { kept = λ i e. ap (λ z. is_listed z i) put.1 ∙ e; mine = λ l q. absurd (is q.first l q.has q.stands); as_many = ap length put.1 }
-
--- where more forks above are listed, fewer are
-pub fewer_wakened : {S : Type 0} (o : Ops S) (v : FlatView S) (m n number : ℕ) (old new : List Bool) → m ≤ n → Wakens o v n number old new → Wakens o v m number old new
-fewer_wakened o v m n number old new less w = record { kept = w.kept; mine = w.mine; above = λ i x. w.above i (among_more (up_in v.records) (n + 1) (omega (arith, less)) x); as_many = w.as_many }
+  quiet_listed code.Awake awake quiet awakes quiets is put within = record { kept = λ i e. ap (λ z. is_listed z i) put.1 ∙ e; mine = λ l q. absurd (is q.first l q.has q.stands); only = λ i e. inl (ap (λ z. is_listed z i) (sym put.1) ∙ e); as_many = ap length put.1 }
 
 -- one that has ended belongs in no list
 pub ended_nowhere : {S : Type 0} (o : Ops S) (v : FlatView S) (i f : ℕ) (l : S) → HasProcess v i f l ends → ListingIs o v i code.Nowhere
@@ -76,7 +78,7 @@ pub record Suffices {S : Type 0} (o : Ops S) (before behind : FlatView S) (now :
   pub wakes : Wakes before behind (is_listed again)
   pub to_look : (i : ℕ) → is_listed again i ≡ true → (is_listed now i ≡ true) ⊎ IsIdle o behind i
 
-module _ {S : Type 0} (o : Ops S) (n number : ℕ) (before behind : FlatView S) (old now : List Bool) (w : Wakens o behind n number old now) (within : number < length now) where
+module _ {S : Type 0} (o : Ops S) (n number : ℕ) (before behind : FlatView S) (old now : List Bool) (w : ListsAwake o behind n number old now) (within : number < length now) where
   abbrev again : List Bool
   again = slice_set now number true
 

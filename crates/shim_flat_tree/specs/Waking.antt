@@ -11,23 +11,25 @@ use Rattle.shim_flat.specs.declared.listing.Listing.{Listing}
 use Rattle.shim_flat.specs.declared.listing.Listing.TheVariants as code
 use Rattle.shim_flat_tree.specs.FlatTrees.{IsQuietAt, QuietAreListed}
 
--- the number is in the list in which it belongs, and no other flag has changed
+-- the number is added to that list, or to none; no other flag has changed
 abbrev pub IsPutIn : Listing → ℕ → List Bool → List Bool → List Bool → List Bool → Type 0
 IsPutIn code.Nowhere number awake quiet awakes quiets = (awakes ≡ awake) × (quiets ≡ quiet)
 IsPutIn code.Quiet number awake quiet awakes quiets = (awakes ≡ awake) × Adds number quiet quiets
 IsPutIn code.Awake number awake quiet awakes quiets = Adds number awake awakes × (quiets ≡ quiet)
 
--- What was listed is, and so are this number, unless it tells of nothing but a quiet step, the first n forks above it, and the next one.
-pub record Wakens {S : Type 0} (o : Ops S) (v : FlatView S) (n number : ℕ) (old new : List Bool) : Type 0 where
+-- What was listed is, so are the first n + 1 forks above this number, and so is the number itself unless its record tells of nothing but a quiet step. Nothing else is.
+pub record ListsAwake {S : Type 0} (o : Ops S) (v : FlatView S) (n number : ℕ) (old new : List Bool) : Type 0 where
   pub kept : (i : ℕ) → is_listed old i ≡ true → is_listed new i ≡ true
   pub mine : (is_listed new number ≡ true) ⊎ IsIdle o v number
   pub above : (i : ℕ) → IsAbove (up_in v.records) (n + 1) number i → is_listed new i ≡ true
+  pub only : (i : ℕ) → is_listed new i ≡ true → (is_listed old i ≡ true) ⊎ ((i ≡ number) ⊎ IsAbove (up_in v.records) (n + 1) number i)
   pub as_many : length new ≡ length old
 
--- what was listed is, and so is this number, if its process stands before a quiet step
+-- what was listed is, and so is this number, if its process stands before a quiet step, and nothing else
 pub record ListsQuiet {S : Type 0} (o : Ops S) (v : FlatView S) (number : ℕ) (old new : List Bool) : Type 0 where
   pub kept : (i : ℕ) → is_listed old i ≡ true → is_listed new i ≡ true
   pub mine : (l : S) → IsQuietAt o v number l → is_listed new number ≡ true
+  pub only : (i : ℕ) → is_listed new i ≡ true → (is_listed old i ≡ true) ⊎ (i ≡ number)
   pub as_many : length new ≡ length old
 
 -- the count of this number is so much greater now

@@ -14,7 +14,7 @@ ghost use Rattle.shim_flat_tree.specs.Settling.{StaysAs};
 use crate::flat_tree::FlatTree;
 use crate::waking::{count_steps, wake, wake_as};
 use shim_base::{NoMemory, Path, Trap};
-use shim_flat::{Listing, Thrown};
+use shim_flat::{Arrival, Listing, Thrown};
 use shim_local::{Local, Log, LogWhat};
 use shim_tree::Event;
 
@@ -61,8 +61,7 @@ impl<L: Local> FlatTree<L> {
         wake_as(
             &self.flat,
             number,
-            arrival.listing,
-            arrival.forks,
+            arrival,
             &mut self.awake,
             &mut self.quiet,
         );
@@ -134,8 +133,10 @@ impl<L: Local> FlatTree<L> {
         wake_as(
             &self.flat,
             number,
-            Listing::Nowhere,
-            forks,
+            Arrival {
+                listing: Listing::Nowhere,
+                forks,
+            },
             &mut self.awake,
             &mut self.quiet,
         );

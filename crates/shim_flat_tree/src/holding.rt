@@ -92,8 +92,7 @@ impl<L: Local> FlatTree<L> {
         wake_as(
             &self.flat,
             number,
-            arrival.listing,
-            arrival.forks,
+            arrival,
             &mut self.awake,
             &mut self.quiet,
         );
@@ -112,8 +111,7 @@ impl<L: Local> FlatTree<L> {
         wake_as(
             &self.flat,
             number,
-            arrival.listing,
-            arrival.forks,
+            arrival,
             &mut self.awake,
             &mut self.quiet,
         );

@@ -2,9 +2,9 @@
 ghost use Rattle.std.specs.Prelude.{◌≡◌, ◌≤◌, ◌<◌, ◌+◌, ℕ, Some, length, vec_len, slice_get};
 ghost use Rattle.shim_flat.specs.Listing.{ListingIs};
 ghost use Rattle.shim_flat.specs.Reading.{IsInUse, IsForAll};
-ghost use Rattle.shim_flat_tree.specs.Waking.{IsPutIn, Wakens, ListsQuiet, HasCounted};
+ghost use Rattle.shim_flat_tree.specs.Waking.{IsPutIn, ListsAwake, ListsQuiet, HasCounted};
 
-use shim_flat::{Flat, Listing};
+use shim_flat::{Arrival, Flat, Listing};
 use shim_local::Local;
 use shim_records::Worklist;
 
@@ -21,30 +21,29 @@ fn put_in(number: u32, listing: Listing, awake: &mut Worklist, quiet: &mut Workl
     }
 }
 
-/// The process with this number, which belongs in this list, has changed, and with it at most the counts of
-/// so many forks above it: what can happen at it, at these, and at the next one is looked at again, unless
-/// that is a quiet step, as which it is listed. It takes no memory.
+/// The process with this number has come there, and with it at most the counts of so many forks above it have
+/// changed: it is put in the list in which it belongs, if in any, and these forks and the next one are listed
+/// to be looked at again. It takes no memory.
 pub(crate) fn wake_as<L: Local>(
     flat: &Flat<L>,
     number: u32,
-    listing: Listing,
-    forks: u32,
+    arrival: Arrival,
     awake: &mut Worklist,
     quiet: &mut Worklist,
 )
     requires used { IsInUse flat.now number }
-    requires listing { ListingIs L.ops flat.now number listing }
+    requires listing { ListingIs L.ops flat.now number arrival.listing }
     requires awakes { IsForAll flat.now awake.old }
     requires quiets { IsForAll flat.now quiet.old }
-    ensures awake { Wakens L.ops flat.now forks number awake.old awake.new }
+    ensures awake { ListsAwake L.ops flat.now arrival.forks number awake.old awake.new }
     ensures quiet { ListsQuiet L.ops flat.now number quiet.old quiet.new }
 {
-    put_in(number, listing, awake, quiet);
-    flat.above(number, forks as u64 + 1, awake);
+    put_in(number, arrival.listing, awake, quiet);
+    flat.list_above(number, arrival.forks as u64 + 1, awake);
 }
 
 /// The process with this number has changed, and with it at most the counts of so many forks above it: it is
-/// put in the list in which it belongs, and what can happen at these forks and at the next one is looked at
+/// put in the list in which it belongs, if in any, and these forks and the next one are listed to be looked at
 /// again. It takes no memory.
 pub(crate) fn wake<L: Local>(
     flat: &Flat<L>,
@@ -56,10 +55,11 @@ pub(crate) fn wake<L: Local>(
     requires used { IsInUse flat.now number }
     requires awakes { IsForAll flat.now awake.old }
     requires quiets { IsForAll flat.now quiet.old }
-    ensures awake { Wakens L.ops flat.now forks number awake.old awake.new }
+    ensures awake { ListsAwake L.ops flat.now forks number awake.old awake.new }
     ensures quiet { ListsQuiet L.ops flat.now number quiet.old quiet.new }
 {
-    wake_as(flat, number, flat.listing(number), forks, awake, quiet);
+    let listing = flat.listing(number);
+    wake_as(flat, number, Arrival { listing, forks }, awake, quiet);
 }
 
 /// The process with this number did so many steps of its own more.

@@ -7,8 +7,8 @@ use shim_flat::Flat;
 use shim_local::Local;
 use shim_records::Worklist;
 
-/// The processes with these numbers have changed, and perhaps all forks above them: what can happen at each is
-/// looked at again. It takes no memory.
+/// The processes with these numbers have changed, and perhaps all forks above them: each is put in the list in
+/// which it belongs, if in any, and all forks above are listed to be looked at again. It takes no memory.
 pub(crate) fn wake_each<L: Local>(
     flat: &Flat<L>,
     numbers: &[u32],
