@@ -6,7 +6,8 @@ use Rattle.std.proofs.lemmas.Option.{slice_get_read, slice_get_within}
 use Rattle.shim_base.proofs.Facts.{some_same}
 use Rattle.shim_base.specs.Paths.{NamedChannel}
 use Rattle.shim_local.specs.Process.{Ops, AtQuiet, AtNext}
-use Rattle.shim_laws_records.specs.Seen.{lives}
+use Rattle.shim_semantics.specs.Nodes.{Death}
+use Rattle.shim_laws_records.specs.Seen.{lives, dies}
 use Rattle.shim_laws_records.specs.Agrees.{used as used_by}
 use Rattle.shim_records.specs.Pairs.{stands_of, stands_by}
 use Rattle.shim_records.specs.declared.record.Record.{Record}
@@ -14,7 +15,7 @@ use Rattle.shim_records.specs.declared.record.Status.{Status}
 use Rattle.shim_records.specs.declared.record.Status.TheVariants as code
 use Rattle.shim_records.proofs.Showing.{map_get}
 use Rattle.shim_laws_keeping.specs.Flats.{FlatView, HasProcess}
-use Rattle.shim_laws_waking.specs.Looks.{IsIdle}
+use Rattle.shim_laws_waking.specs.Looks.{IsIdle, has_died}
 use Rattle.shim_laws_waking.proofs.PairsFound.{record_of}
 use Rattle.shim_flat.specs.Reading.{IsInUse}
 use Rattle.shim_flat.specs.Stepping.{IsBeforeQuiet}
@@ -36,6 +37,10 @@ module _ {S : Type 0} (o : Ops S) (v : FlatView S) (i : ℕ) where
   -- a live process stands at one thing alone
   pub stands_else : (f : ℕ) (l : S) → HasProcess v i f l lives → o.stop l ≢ AtQuiet → IsBeforeQuiet o i v false
   stands_else f l has other g s h e = other (ap o.stop (some_same l s (sym has.state_is ∙ h.state_is)) ∙ e)
+
+  -- one that has died belongs in no list
+  pub died_nowhere : (f : ℕ) (l : S) (d : Death) → HasProcess v i f l (dies d) → IsIdle o v i × IsBeforeQuiet o i v false
+  died_nowhere f l d has = (has_died f l d has, λ g m lived stop. absurd (let e = sym has.stands_so ∙ lived.stands_so in cc))
 
   -- ---- by its record
 

@@ -13,6 +13,7 @@ ghost use Rattle.shim_flat.specs.Listing.{ListingIs};
 use crate::acting_gone::leave_tree;
 use crate::arriving::{Arrival, arrive};
 use crate::flat::Flat;
+use crate::listing::Listing;
 use shim_local::Local;
 use shim_records::Status;
 
@@ -40,20 +41,25 @@ impl<L: Local> Flat<L> {
     }
 
     /// The process with this number, which lives and stands at a throw of the exception of this label, throws
-    /// it: a handler of its own catches it, or the process dies.
-    pub fn throw_here(&mut self, number: u32, label: u32) -> Thrown
+    /// it: a handler of its own catches it, or the process dies. The answer says where it has come, too.
+    pub fn throw_here(&mut self, number: u32, label: u32) -> (Thrown, Arrival)
         requires { LivesAt L.ops self.old number (AtThrow label) }
-        ensures { ActsHere L.ops most_forks number (AtThrow label) (sort_by label result) (told_of result) self.old self.new }
+        ensures acts { ActsHere L.ops result.1.forks number (AtThrow label) (sort_by label result.0) (told_of result.0) self.old self.new }
+        ensures listing { ListingIs L.ops self.new number result.1.listing }
     {
         let at = number as usize;
         if label < self.states[at].base() {
-            leave_tree(&self.states[at], Status::Dead(label), &mut self.records, at);
-            return Thrown::Died;
+            let forks = leave_tree(&self.states[at], Status::Dead(label), &mut self.records, at);
+            let gone = Arrival {
+                listing: Listing::Nowhere,
+                forks,
+            };
+            return (Thrown::Died, gone);
         }
         let (name, line) = self.states[at].handler(label);
         self.states[at].unwind(label);
-        arrive(&self.states[at], &mut self.records, at);
-        Thrown::Caught(name, line)
+        let arrival = arrive(&self.states[at], &mut self.records, at);
+        (Thrown::Caught(name, line), arrival)
     }
 
     /// The process with this number, which lives and stands trapped, dies of the trap.

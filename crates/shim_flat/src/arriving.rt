@@ -11,7 +11,7 @@ use crate::listing::{Listing, listing_at};
 use shim_local::{Local, Stop};
 use shim_records::{Record, live_reading, update_counts_above};
 
-/// Where a live process has come: in which list it belongs now, and how many forks above it have other counts,
+/// Where a process has come: in which list it belongs now, and how many forks above it have other counts,
 /// at most.
 #[derive(Clone, Copy, Debug, PartialEq, Eq)]
 pub struct Arrival {

@@ -78,14 +78,14 @@ impl<L: Local> FlatTree<L> {
         let path = self.flat.path(number).copy()?;
         let event = Event::Own(path.copy()?);
         self.logs.reserve(1)?;
-        let thrown = self.flat.throw_here(number, label);
+        let (thrown, arrival) = self.flat.throw_here(number, label);
         tell_catch(&mut self.logs, path, thrown);
         count_steps(&mut self.own, number, 1);
         self.taken += 1;
-        wake(
+        wake_as(
             &self.flat,
             number,
-            u32::MAX,
+            arrival,
             &mut self.awake,
             &mut self.quiet,
         );

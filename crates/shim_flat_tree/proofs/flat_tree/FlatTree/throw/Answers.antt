@@ -14,7 +14,7 @@ pub count_steps-requires-clause-within : goal.count_steps-requires-clause-within
 count_steps-requires-clause-within g c =
     let o = g.L.Local.ops in
     let n = c.args.number in
-    let a = c.throw_here-thrown.ensures in
+    let a = c.throw_here-thrown.ensures.acts in
     subst (λ z. n < z) (sym c.self.inside.own.ok.0) (c.self.invariant.0.owns n (a.first, a.process, lives, a.has))
 
 pub count_steps-requires-clause-few : goal.count_steps-requires-clause-few
@@ -25,30 +25,30 @@ count_steps-requires-clause-few g c count e =
     let v = view_of w.begun.value w.flat w.output.items w.histories (logged w.logs.items) w.own.items w.past.items w.events w.awake w.quiet w.held.items in
     let n = c.args.number in
     let few = subst (λ z. steps (tree_in o z) < 4000000) (sym c.self.view_is) c.requires.few in
-    let a = c.throw_here-thrown.ensures in
+    let a = c.throw_here-thrown.ensures.acts in
     one_may_be_counted o law v n a.first a.process lives a.has few count e
 
-pub wake-requires-clause-awakes : goal.wake-requires-clause-awakes
-wake-requires-clause-awakes g c κs within =
+pub wake_as-requires-clause-awakes : goal.wake_as-requires-clause-awakes
+wake_as-requires-clause-awakes g c κs within =
     let o = g.L.Local.ops in
     let law = (g.met.L.Local g.world.𝓛 g.world.𝓜 g.world.𝓡 ((λ s x. x), (λ x. x), (λ x. x), λ x. x)).laws in
     let w = c.self.inside in
     let v = view_of w.begun.value w.flat w.output.items w.histories (logged w.logs.items) w.own.items w.past.items w.events w.awake w.quiet w.held.items in
     let n = c.args.number in
-    let a = c.throw_here-thrown.ensures in
+    let a = c.throw_here-thrown.ensures.acts in
     let x = view_of w.begun.value c.throw_here-thrown.new.self w.output.items w.histories (logged w.logs.items) w.own.items w.past.items w.events w.awake w.quiet w.held.items in
-    still_for_all o law v x c.self.invariant.0 4294967295 n (AtThrow c.args.label) (sort_by c.args.label c.throw_here-thrown.result) (told_of c.throw_here-thrown.result) a w.awake c.self.invariant.0.awakes
+    still_for_all o law v x c.self.invariant.0 c.throw_here-thrown.result.1.forks n (AtThrow c.args.label) (sort_by c.args.label c.throw_here-thrown.result.0) (told_of c.throw_here-thrown.result.0) a w.awake c.self.invariant.0.awakes
 
-pub wake-requires-clause-quiets : goal.wake-requires-clause-quiets
-wake-requires-clause-quiets g c κs within =
+pub wake_as-requires-clause-quiets : goal.wake_as-requires-clause-quiets
+wake_as-requires-clause-quiets g c κs within =
     let o = g.L.Local.ops in
     let law = (g.met.L.Local g.world.𝓛 g.world.𝓜 g.world.𝓡 ((λ s x. x), (λ x. x), (λ x. x), λ x. x)).laws in
     let w = c.self.inside in
     let v = view_of w.begun.value w.flat w.output.items w.histories (logged w.logs.items) w.own.items w.past.items w.events w.awake w.quiet w.held.items in
     let n = c.args.number in
-    let a = c.throw_here-thrown.ensures in
+    let a = c.throw_here-thrown.ensures.acts in
     let x = view_of w.begun.value c.throw_here-thrown.new.self w.output.items w.histories (logged w.logs.items) w.own.items w.past.items w.events w.awake w.quiet w.held.items in
-    still_for_all o law v x c.self.invariant.0 4294967295 n (AtThrow c.args.label) (sort_by c.args.label c.throw_here-thrown.result) (told_of c.throw_here-thrown.result) a w.quiet c.self.invariant.0.quiets
+    still_for_all o law v x c.self.invariant.0 c.throw_here-thrown.result.1.forks n (AtThrow c.args.label) (sort_by c.args.label c.throw_here-thrown.result.0) (told_of c.throw_here-thrown.result.0) a w.quiet c.self.invariant.0.quiets
 
 pub invariant_of-self-2 : goal.invariant_of-self-2
 invariant_of-self-2 g c =
@@ -58,16 +58,16 @@ invariant_of-self-2 g c =
     let v = view_of w.begun.value w.flat w.output.items w.histories (logged w.logs.items) w.own.items w.past.items w.events w.awake w.quiet w.held.items in
     let n = c.args.number in
     let few = subst (λ z. steps (tree_in o z) < 4000000) (sym c.self.view_is) c.requires.few in
-    let a = c.throw_here-thrown.ensures in
-    let u = view_of w.begun.value c.throw_here-thrown.new.self w.output.items w.histories (logged c.tell_catch.new.logs.items) c.count_steps.new.own.items w.past.items w.events c.wake.new.awake c.wake.new.quiet w.held.items in
+    let a = c.throw_here-thrown.ensures.acts in
+    let u = view_of w.begun.value c.throw_here-thrown.new.self w.output.items w.histories (logged c.tell_catch.new.logs.items) c.count_steps.new.own.items w.past.items w.events c.wake_as.new.awake c.wake_as.new.quiet w.held.items in
     let at_path = c.in_ok-path.ensures ∙ c.path.ensures a.process a.has.state_is in
-    let told : HasTold o law v u c.self.invariant.0 4294967295 n (AtThrow c.args.label) (sort_by c.args.label c.throw_here-thrown.result) (told_of c.throw_here-thrown.result) a = record {
-      output = throw_puts_none w.output.items c.throw_here-thrown.result;
+    let told : HasTold o law v u c.self.invariant.0 c.throw_here-thrown.result.1.forks n (AtThrow c.args.label) (sort_by c.args.label c.throw_here-thrown.result.0) (told_of c.throw_here-thrown.result.0) a = record {
+      output = throw_puts_none w.output.items c.throw_here-thrown.result.0;
       histories = refl;
-      logs = c.tell_catch.ensures ∙ (λ j. with_logs (logged (c.in_ok-reserve.ensures.items j)) (at_path j) (told_of c.throw_here-thrown.result).logs);
+      logs = c.tell_catch.ensures ∙ (λ j. with_logs (logged (c.in_ok-reserve.ensures.items j)) (at_path j) (told_of c.throw_here-thrown.result.0).logs);
       past = refl;
     } in
-    let r = own_done o law v u c.self.invariant.0 4294967295 n (AtThrow c.args.label) (sort_by c.args.label c.throw_here-thrown.result) (told_of c.throw_here-thrown.result) a refl (λ e. absurd cc) told c.count_steps.ensures refl refl few c.wake.ensures.awake c.wake.ensures.quiet in
+    let r = own_done o law v u c.self.invariant.0 c.throw_here-thrown.result.1.forks n (AtThrow c.args.label) (sort_by c.args.label c.throw_here-thrown.result.0) (told_of c.throw_here-thrown.result.0) a refl (λ e. absurd cc) told c.count_steps.ensures refl refl few c.wake_as.ensures.awake c.wake_as.ensures.quiet in
     (r.0, ap (λ z. z + 1) c.self.invariant.1 ∙ sym r.2)
 
 pub returns-clause-ok : goal.returns-clause-ok
@@ -78,15 +78,15 @@ returns-clause-ok g c =
     let v = view_of w.begun.value w.flat w.output.items w.histories (logged w.logs.items) w.own.items w.past.items w.events w.awake w.quiet w.held.items in
     let n = c.args.number in
     let few = subst (λ z. steps (tree_in o z) < 4000000) (sym c.self.view_is) c.requires.few in
-    let a = c.throw_here-thrown.ensures in
-    let u = view_of w.begun.value c.throw_here-thrown.new.self w.output.items w.histories (logged c.tell_catch.new.logs.items) c.count_steps.new.own.items w.past.items w.events c.wake.new.awake c.wake.new.quiet w.held.items in
+    let a = c.throw_here-thrown.ensures.acts in
+    let u = view_of w.begun.value c.throw_here-thrown.new.self w.output.items w.histories (logged c.tell_catch.new.logs.items) c.count_steps.new.own.items w.past.items w.events c.wake_as.new.awake c.wake_as.new.quiet w.held.items in
     let at_path = c.in_ok-path.ensures ∙ c.path.ensures a.process a.has.state_is in
-    let told : HasTold o law v u c.self.invariant.0 4294967295 n (AtThrow c.args.label) (sort_by c.args.label c.throw_here-thrown.result) (told_of c.throw_here-thrown.result) a = record {
-      output = throw_puts_none w.output.items c.throw_here-thrown.result;
+    let told : HasTold o law v u c.self.invariant.0 c.throw_here-thrown.result.1.forks n (AtThrow c.args.label) (sort_by c.args.label c.throw_here-thrown.result.0) (told_of c.throw_here-thrown.result.0) a = record {
+      output = throw_puts_none w.output.items c.throw_here-thrown.result.0;
       histories = refl;
-      logs = c.tell_catch.ensures ∙ (λ j. with_logs (logged (c.in_ok-reserve.ensures.items j)) (at_path j) (told_of c.throw_here-thrown.result).logs);
+      logs = c.tell_catch.ensures ∙ (λ j. with_logs (logged (c.in_ok-reserve.ensures.items j)) (at_path j) (told_of c.throw_here-thrown.result.0).logs);
       past = refl;
     } in
-    let r = own_done o law v u c.self.invariant.0 4294967295 n (AtThrow c.args.label) (sort_by c.args.label c.throw_here-thrown.result) (told_of c.throw_here-thrown.result) a refl (λ e. absurd cc) told c.count_steps.ensures refl refl few c.wake.ensures.awake c.wake.ensures.quiet in
+    let r = own_done o law v u c.self.invariant.0 c.throw_here-thrown.result.1.forks n (AtThrow c.args.label) (sort_by c.args.label c.throw_here-thrown.result.0) (told_of c.throw_here-thrown.result.0) a refl (λ e. absurd cc) told c.count_steps.ensures refl refl few c.wake_as.ensures.awake c.wake_as.ensures.quiet in
     let path = c.in_ok-copy.ensures ∙ at_path in
     subst (λ z. HappensIn o z u (Own c.in_ok-copy.field-0)) c.self.view_is (subst (λ z. HappensIn o v u (Own z)) (sym path) r.1)
