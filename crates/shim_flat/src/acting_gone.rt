@@ -1,6 +1,7 @@
 // A live process ends or dies.
 ghost use Rattle.std.specs.Prelude.{◌≡◌, ◌≤◌, ◌<◌, length, vec_len};
 ghost use Rattle.shim_records.specs.Pairs.{AreOrdered};
+ghost use Rattle.shim_records.specs.Ways.{most_forks};
 ghost use Rattle.shim_laws_keeping.specs.Acting.{TakesIn, Leaves};
 ghost use Rattle.shim_flat.specs.Touching.{TouchesRecords};
 
@@ -12,7 +13,7 @@ use shim_records::{Record, Status, leave, lower_all_labels, update_all_counts};
 fn take_label<L: Local>(process: &L, status: Status, records: &mut Vec<Record>, at: usize) -> u32
     requires ordered { AreOrdered records.old.items }
     requires few { length (L.ops.given process.now) ≤ 18446744073709551615 }
-    ensures takes { TakesIn L.ops process.now status 4294967295 at records.old.items records.new.items }
+    ensures takes { TakesIn L.ops process.now status most_forks at records.old.items records.new.items }
     ensures touches { TouchesRecords result at records.old.items records.new.items }
 {
     match status {
@@ -35,7 +36,7 @@ pub(crate) fn leave_tree<L: Local>(
     requires within { at < vec_len records.old }
     requires ordered { AreOrdered records.old.items }
     requires few { length (L.ops.given process.now) ≤ 18446744073709551615 }
-    ensures leaves { Leaves L.ops process.now status 4294967295 at records.old.items records.new.items }
+    ensures leaves { Leaves L.ops process.now status most_forks at records.old.items records.new.items }
     ensures touches { TouchesRecords result at records.old.items records.new.items }
 {
     records[at].status = status;

@@ -9,6 +9,7 @@ ghost use Rattle.shim_records.specs.Acted.{sort_of};
 ghost use Rattle.shim_records.specs.Pairs.{stands_of, stands_by, AreOrdered};
 ghost use Rattle.shim_records.specs.declared.record.Record.{Record};
 ghost use Rattle.shim_records.specs.declared.record.Status.TheVariants.{Free};
+ghost use Rattle.shim_records.specs.Ways.{most_forks};
 ghost use Rattle.shim_laws_closes.specs.Closing.{AreFreed, HasCome, LeavesIf, GivenRecounted, RecountedIf};
 ghost use Rattle.shim_flat.specs.Closing.{CanClose, thrown_by, ClosesHere, sort_left, HasJoined, TakesBack, ClosesRecord};
 ghost use Rattle.shim_flat.specs.Touching.{TouchesRecords};
@@ -193,7 +194,7 @@ fn recount_if<L: Local>(
     requires ordered { AreOrdered records.old.items }
     requires few { (s : L) → slice_get states.now at ≡ Some s → length (L.ops.given s) ≤ 18446744073709551615 }
     requires inside { at < length states.now }
-    ensures recounts { (s : L) → slice_get states.now at ≡ Some s → RecountedIf (option_map death label) L.ops states.now s 4294967295 at records.old.items records.new.items }
+    ensures recounts { (s : L) → slice_get states.now at ≡ Some s → RecountedIf (option_map death label) L.ops states.now s most_forks at records.old.items records.new.items }
     ensures touches { TouchesRecords result at records.old.items records.new.items }
 {
     match label {

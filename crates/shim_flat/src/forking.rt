@@ -7,6 +7,7 @@ ghost use Rattle.shim_laws_records.specs.Counts.{all_there};
 ghost use Rattle.shim_records.specs.Pairs.{tally, reading_of, stands_of, AreOrdered};
 ghost use Rattle.shim_records.specs.Fresh.{channels};
 ghost use Rattle.shim_records.specs.Blocks.{with_block};
+ghost use Rattle.shim_records.specs.Ways.{most_forks};
 ghost use Rattle.shim_laws_forks.specs.Forking.{IsOfChild, IsWithin, AreOfChildren, ready_chans, EachUpdatedAbove, ForksAt};
 ghost use Rattle.shim_flat.specs.Forking.{ForksHere, ForkedTo, ForkComesTo, how_many, IsFreeBlock};
 ghost use Rattle.shim_flat.specs.Stepping.{LivesAt};
@@ -137,7 +138,7 @@ fn ready(alloc: Global, pairs: &[Pair]) -> Result<Vec<Chan>, NoMemory>
 // answer is a number of forks beyond which no counts have changed, perhaps more than need be.
 fn update_ready(records: &mut Vec<Record>, at: usize, chans: &[Chan]) -> u32
     requires { AreOrdered records.old.items }
-    ensures ways { EachUpdatedAbove 4294967295 at (channels chans.now) records.old.items records.new.items }
+    ensures ways { EachUpdatedAbove most_forks at (channels chans.now) records.old.items records.new.items }
     ensures touches { TouchesRecords result at records.old.items records.new.items }
 {
     let mut furthest: u32 = 0;

@@ -1,6 +1,7 @@
 // A meeting, one process after the other.
 ghost use Rattle.shim_semantics.specs.Trees.{Meet};
 ghost use Rattle.shim_records.specs.Pairs.{AreOrdered};
+ghost use Rattle.shim_records.specs.Ways.{most_forks};
 ghost use Rattle.shim_laws_keeping.specs.Moves.{MovesBy};
 ghost use Rattle.shim_laws_meetings.specs.Receiving.{MovesOn};
 ghost use Rattle.shim_laws_meetings.specs.Sharers.{ListsSharers};
@@ -19,7 +20,7 @@ use shim_records::{Record, live_reading, stands_at, update_counts_above};
 // Brings the counts above a process up to date that stood at the channel and stands there no more.
 fn leave_channel(c: &Chan, records: &mut Vec<Record>, at: usize)
     requires { AreOrdered records.old.items }
-    ensures { LeavesChannel c.now.channel 4294967295 at records.old.items records.new.items }
+    ensures { LeavesChannel c.now.channel most_forks at records.old.items records.new.items }
 {
     update_counts_above(
         records,
@@ -34,7 +35,7 @@ fn leave_channel(c: &Chan, records: &mut Vec<Record>, at: usize)
 // Brings the counts above a process up to date that stood at the channel and has received there.
 fn move_on<L: Local>(process: &L, c: &Chan, records: &mut Vec<Record>, at: usize)
     requires { AreOrdered records.old.items }
-    ensures { MovesOn L.ops process.now c.now.channel 4294967295 at records.old.items records.new.items }
+    ensures { MovesOn L.ops process.now c.now.channel most_forks at records.old.items records.new.items }
 {
     match process.stop() {
         Stop::Next(chan) => {
