@@ -9,6 +9,7 @@ use crate::any_net::{Flat, Plain};
 use crate::ends::same_end;
 use crate::entries::same_entries;
 use crate::leading::{Led, give_back, lead};
+use crate::noting::NotingGate;
 use crate::pieces::{Change, Done, Piece, came_alike, changed, do_both, is_same_piece, unused};
 use crate::seen::Seen;
 use shim_base::{Chan, NoMemory, Path};
@@ -267,18 +268,21 @@ impl<L: Local> Both<L> {
         Ok(Verdict::Same)
     }
 
-    /// A process does up to so many steps in place, which are at least 1; in the plain net it is given out.
+    /// A process does up to so many steps in place, which are at least 1, behind a gate that is entered with its
+    /// number; in the plain net it is given out.
     pub fn step_here(&mut self, most: u64) -> Result<Verdict, NoMemory> {
         let left = self.left();
         let home = self.flat.next_home();
-        match self.flat.step_here(most.max(1))? {
+        let gate = NotingGate::new();
+        match self.flat.enter_and_step(most.max(1), &gate)? {
             None => {
                 let numbers = self.next_numbers();
                 let parcel = Plain::give(&mut self.plain, 1, numbers.0, numbers.1)?;
-                Ok(same_or(home.is_none() && parcel.is_none(), Difference::Stepped))
+                let none = home.is_none() && gate.last().is_none();
+                Ok(same_or(none && parcel.is_none(), Difference::Stepped))
             }
             Some(quiet) => {
-                if home.is_none() {
+                if home.is_none() || gate.last() != home {
                     return Ok(Verdict::Differ(Difference::Stepped));
                 }
                 self.step_plain(quiet, most, left)

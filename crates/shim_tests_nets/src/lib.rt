@@ -12,6 +12,8 @@ mod entries;
 #[cfg(test)]
 mod leading;
 #[cfg(test)]
+mod noting;
+#[cfg(test)]
 mod pieces;
 #[cfg(test)]
 mod program_rows;
