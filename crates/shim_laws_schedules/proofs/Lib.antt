@@ -36,3 +36,5 @@ pub mod PoisonSpares
 pub mod Threw
 pub mod Thrown
 pub mod CatchLogs
+pub mod Distinct
+pub mod ListedOnce

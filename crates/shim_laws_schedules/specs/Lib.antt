@@ -5,3 +5,4 @@ pub mod Orders
 pub mod Rounds
 pub mod Laws
 pub mod Throws
+pub mod ListedOnce

@@ -1,6 +1,7 @@
-// Laws of meetings and of poisons, and of every order of events.
+// Laws of meetings and of poisons, of every order of events, and that the walk lists each event once.
 ghost use Rattle.shim_laws_schedules.specs.ChangingPlaces.{MeetsWhereAllWait, MeetingsChangePlaces, PoisonsChangePlaces};
 ghost use Rattle.shim_laws_schedules.specs.Laws.{EventsCommute, RunsAgree, RoundsLead};
+ghost use Rattle.shim_laws_schedules.specs.ListedOnce.{ListsOnce};
 ghost use Rattle.shim_laws_schedules.specs.Throws.{CatchesAreLogged, ThrownWhereCaught};
 
 use shim_local::Local;
@@ -46,4 +47,10 @@ pub fn rounds<L: Local>()
 pub fn thrown<L: Local>()
     ensures caught { ThrownWhereCaught L.ops }
     ensures logged { CatchesAreLogged L.ops }
+{}
+
+/// In a tree whose states are sound and whose paths are as forks make them, the walk from the root lists
+/// no event twice.
+pub fn walk_lists_once<L: Local>()
+    ensures { ListsOnce L.ops }
 {}

@@ -4,5 +4,6 @@
 //! its start (`shim_semantics::laws::holders`). The walk is the order in which `Tree::enabled` lists events.
 #![tactic(auto)]
 
-/// Whatever the order of events: they may change places, runs agree, and what is caught was thrown.
+/// Whatever the order of events: they may change places, runs agree, and what is caught was thrown. The walk
+/// lists no event twice.
 pub mod laws;
