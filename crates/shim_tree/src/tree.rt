@@ -7,6 +7,7 @@ ghost use Rattle.shim_semantics.specs.Walks as walks;
 ghost use Rattle.shim_semantics.specs.Endings as endings;
 ghost use Rattle.shim_semantics.specs.Sound.{SharesItsOwn, IsSound};
 ghost use Rattle.shim_semantics.specs.Listing.{AreEnabled};
+ghost use Rattle.shim_laws_schedules.specs.ListedOnce.{StandOnce};
 ghost use Rattle.shim_tree.specs.NodeStatus.{event_of};
 ghost use Rattle.shim_semantics.specs.Nodes.{source, value_of};
 ghost use Rattle.shim_semantics.specs.Places.{led_to, has_path};
@@ -85,10 +86,11 @@ impl<L: Local> Tree<L> {
         })
     }
 
-    /// All enabled events, in the order of the walk from the root.
+    /// All enabled events, each once, in the order of the walk from the root.
     pub fn enabled(&self) -> Result<List<Event>, NoMemory>
         ensures walk { IfOk result (λ events. map event_of events ≡ walks.walk L.ops self.now.root) }
         ensures exactly { IfOk result (λ events. AreEnabled L.ops self.now (map event_of events)) }
+        ensures once { IfOk result (λ events. StandOnce (map event_of events)) }
     {
         listing::enabled(*self.output.allocator(), &self.root, &self.status)
     }
