@@ -190,7 +190,7 @@ module _ (stream : Stream) where
 
   -- what comes back
 
-  -- this stream comes back
+  -- the stream is back with these children, by what the process itself has
   abbrev comes_back : List LocalState → Option ℕ → Bool → Bool
   comes_back ks at holds = held stream (input_back ks at) (output_back ks holds)
 

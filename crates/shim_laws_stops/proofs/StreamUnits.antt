@@ -1,5 +1,5 @@
 -- A unit that is called or forked takes a stream where the one that hands it on does, and one of all branches at most.
-use Rattle.std.proofs.Common.{◌≡◌, ◌∙◌, inl, inr, ℕ, zero, suc, Bool, true, false, not, ◌&&◌, ◌||◌, List, [], ◌∷◌, length, Option, Some, None, slice_get, refl, sym, ap, subst}
+use Rattle.std.proofs.Common.{◌≡◌, ◌∙◌, inl, inr, ℕ, zero, suc, Bool, true, false, not, ◌||◌, List, [], ◌∷◌, length, Option, Some, None, slice_get, refl, sym, ap, subst}
 use Rattle.std.proofs.lemmas.Bool.{and_parts, true≢false}
 use Rattle.shim_syntax.specs.declared.tree.Sort.{Sort}
 use Rattle.shim_syntax.specs.declared.tree.Sort.TheVariants.{Value, Input, Output}
@@ -123,9 +123,7 @@ module _ (stream : Stream) where
       let u : UnitOf = unit_at program n in
       param_takes u.params x (stream_param u.params u.slots x (and_parts (slots_right u.params u.slots) (all_scoped program u u.body (upto (length u.params))) (units n)).0 h)
 
-  -- what is given for it is the stream of the unit around it
-
-  -- one of these references is a slot that holds the stream
+  -- what is given for it is the stream of the unit around it: one of these references is a slot that holds the stream
   pub record GivesStream (u : UnitOf) (args : List Arg) : Type 0 where
     pub slot : ℕ
     pub among : Among (references args) slot

@@ -54,7 +54,7 @@ abbrev pub branches_read : List UBranch → List ℕ
 branches_read [] = []
 branches_read (b ∷ branches) = arguments_read b.call.args ++ branches_read branches
 
--- The variables that a process may read or store in at this statement, at the test of a loop. A declaration's own one isn't among them.
+-- The variables that a process which stands at this statement may read or store in; at a loop it stands at the test. What a declaration declares isn't among them.
 abbrev pub variables_at : UWhat-F UWhat UStmt → List ℕ
 variables_at (UWhat-F.Declare t x e) = variables_in_option e
 variables_at (UWhat-F.Assign x e) = x ∷ variables_in e

@@ -19,12 +19,12 @@ pub fn what_is_thrown_is_in_force()
     ensures { (form : Form) → IsAcceptedForm form → AllInForce form }
 {}
 
-/// In the units of an accepted program each variable that a statement stores in, waits at, gives to a
-/// call or a branch or reads in one of its expressions is in scope there: it is a parameter of its unit,
-/// or its declaration stands before in the same block or in one around it. It holds what is asked for: a
-/// number, the input at a `get`, or the output at a `put`.
-/// Each call and each branch has one argument for each parameter, of its kind, and is given no slot by
-/// reference twice; no two branches of a fork are given one slot by reference, and each fork has a branch.
+/// In the units of an accepted program each variable that a statement stores in, waits at, reads in an
+/// expression or gives to a call or a branch is in scope there: it is a parameter of its unit, or its
+/// declaration stands before in the same block or in one around it. It holds what is asked for: a number,
+/// the input at a `get`, or the output at a `put`. Each call and each branch has one argument for each
+/// parameter, of its kind, and is given no slot by reference twice; no two branches of a fork are given one
+/// slot by reference, and each fork has a branch.
 pub fn what_is_named_is_in_scope()
     ensures { (form : Form) → IsAcceptedForm form → AllInScope form }
 {}
@@ -42,10 +42,10 @@ pub fn nexts_have_locations()
     ensures { (program : Form) (input : List ℕ) (t : Tree LocalState) → IsAcceptedForm program → IsReached program input t → NextsHaveLocations t }
 {}
 
-/// In each such tree each variable that may be read or stored in at the statement at which a live process
-/// stands has a location: in an expression of the statement, the test of a loop among them, or of an
-/// argument, as an argument that is given as a copy, as the target of an assignment or a `get`, and as that
-/// of a `next`. A declaration gives its own variable a location.
+/// In each such tree each variable that the statement at which a live process stands may read or store in
+/// has a location: in its expressions, of which a loop's is its test, and in those of its arguments; as
+/// an argument that is given as a copy; and as the target of an assignment, a `next` or a `get`. What a
+/// declaration declares isn't among them: it gets its location there.
 pub fn variables_have_locations()
     ensures { (program : Form) (input : List ℕ) (t : Tree LocalState) → IsAcceptedForm program → IsReached program input t → VariablesHaveLocations t }
 {}
