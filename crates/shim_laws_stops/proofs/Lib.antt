@@ -14,6 +14,7 @@ pub mod ScopeSteps
 pub mod ScopeLists
 pub mod ScopeLifting
 pub mod ScopeExprs
+pub mod ScopeReads
 pub mod ScopeCalls
 pub mod ScopeParts
 pub mod ScopeBinding
@@ -26,9 +27,9 @@ pub mod LocationSteps
 pub mod MainStreams
 pub mod LocationForks
 pub mod NamedHave
-pub mod OutputUnits
-pub mod OutputSteps
-pub mod OutputForks
+pub mod StreamUnits
+pub mod StreamSteps
+pub mod StreamForks
 pub mod Settled
 pub mod EndsAre
 pub mod Reached

@@ -1,5 +1,5 @@
 -- A process has the locations of what it names after each of its steps that isn't a fork.
-use Rattle.std.proofs.Common.{◌≡◌, ◌∙◌, inl, inr, ℕ, ◌+◌, ℤ, pos, Bool, true, ◌||◌, List, [], ◌∷◌, ◌++◌, length, take, Option, Some, None, Result, Ok, Err, cond, refl, sym, ap, subst, arith, length-append}
+use Rattle.std.proofs.Common.{◌≡◌, ◌∙◌, inl, inr, ℕ, ◌+◌, ℤ, pos, Bool, true, ◌&&◌, ◌||◌, List, [], ◌∷◌, ◌++◌, length, take, Option, Some, None, Result, Ok, Err, cond, refl, sym, ap, subst, arith, length-append}
 use Rattle.std.proofs.lemmas.Bool.{and_parts}
 use Rattle.std.proofs.lemmas.List.{take-append-le, take_all}
 use Rattle.shim_base.specs.declared.types.Ty.{Ty}
@@ -31,8 +31,8 @@ use Rattle.shim_laws_sources.proofs.AtPlaces.{at_before}
 use Rattle.shim_process.proofs.CallSlots.{called_slot, given_many}
 use Rattle.shim_process.proofs.FittingFrames.{installed_fits}
 use Rattle.shim_process.proofs.FittingItems.{fits_layer, fits_out}
-use Rattle.shim_base.proofs.Facts.{choose}
-use Rattle.shim_laws_stops.specs.InScope.{all_scoped, arguments_right, references, distinct, call_right, Scoped, scoped}
+use Rattle.shim_base.proofs.Facts.{choose, second_holds}
+use Rattle.shim_laws_stops.specs.InScope.{reads_right, option_right, all_scoped, arguments_right, references, distinct, call_right, Scoped, scoped}
 use Rattle.shim_laws_stops.specs.FrameLocations.{HasLocation, scoped_kind, item_right, ItemsScoped, next_declares, FrameScoped, FramesScoped, HasLocations}
 use Rattle.shim_laws_stops.specs.Named.{IsThere}
 use Rattle.shim_laws_stops.proofs.Among.{Among, none_among, among_cases}
@@ -97,18 +97,19 @@ module _ (l : LocalState) where
   what_asks (UWhat-F.Get x i) n s k xs h has fit self rest = refl
   what_asks (UWhat-F.If e a b) n s k xs h has fit self rest =
       let next : Successor → List Item = behind (UWhat-F.If e a b) n s k in
+      let w = and_parts (all_scoped l.program (unit_of l) a xs) (all_scoped l.program (unit_of l) b xs) (second_holds (reads_right (unit_of l) xs e) (all_scoped l.program (unit_of l) a xs && all_scoped l.program (unit_of l) b xs) h) in
       action_scoped l [] next (λ v. Go (cond (is_zero v) Second First)) (value e (env_of l.locations l.frame.slots))
       (λ v is. choose (λ (z : Successor). ItemsScoped l.program (unit_of l) (Has l) [] (next z)) (is_zero v) Second First
-      (body_scoped l.program (unit_of l) (Has l) b (n + 1 + numbering.size_all a) xs [] k (and_parts (all_scoped l.program (unit_of l) a xs) (all_scoped l.program (unit_of l) b xs) h).1 (λ x i. inl (has x i)) rest)
-      (body_scoped l.program (unit_of l) (Has l) a (n + 1) xs [] k (and_parts (all_scoped l.program (unit_of l) a xs) (all_scoped l.program (unit_of l) b xs) h).0 (λ x i. inl (has x i)) rest))
+      (body_scoped l.program (unit_of l) (Has l) b (n + 1 + numbering.size_all a) xs [] k w.1 (λ x i. inl (has x i)) rest)
+      (body_scoped l.program (unit_of l) (Has l) a (n + 1) xs [] k w.0 (λ x i. inl (has x i)) rest))
   what_asks (UWhat-F.While e a) n s k xs h has fit self rest =
       let next : Successor → List Item = behind (UWhat-F.While e a) n s k in
       action_scoped l [] next (λ v. Go (cond (is_zero v) On First)) (value e (env_of l.locations l.frame.slots))
       (λ v is. choose (λ (z : Successor). ItemsScoped l.program (unit_of l) (Has l) [] (next z)) (is_zero v) On First rest
-      (body_scoped l.program (unit_of l) (Has l) a (n + 1) xs [] (Do n s ∷ k) h (λ x i. inl (has x i)) self))
+      (body_scoped l.program (unit_of l) (Has l) a (n + 1) xs [] (Do n s ∷ k) (second_holds (reads_right (unit_of l) xs e) (all_scoped l.program (unit_of l) a xs) h) (λ x i. inl (has x i)) self))
   what_asks (UWhat-F.For a e st b) n s k xs h has fit self rest =
       let next : Successor → List Item = behind (UWhat-F.For a e st b) n s k in
-      let w = and_parts (all_scoped l.program (unit_of l) st xs) (all_scoped l.program (unit_of l) b xs) h in
+      let w = and_parts (all_scoped l.program (unit_of l) st xs) (all_scoped l.program (unit_of l) b xs) (second_holds (option_right (unit_of l) xs e) (all_scoped l.program (unit_of l) st xs && all_scoped l.program (unit_of l) b xs) h) in
       action_scoped l [] next (λ v. Go (cond (is_zero v) On First)) (value_or (pos 1) e (env_of l.locations l.frame.slots))
       (λ v is. choose (λ (z : Successor). ItemsScoped l.program (unit_of l) (Has l) [] (next z)) (is_zero v) On First rest
       (body_scoped l.program (unit_of l) (Has l) b (n + 1) xs [] (items_all st (n + 1 + numbering.size_all b) ++ Do n s ∷ k) w.1 (λ x i. inl (has x i))

@@ -1,5 +1,5 @@
--- A process that has the locations of what it names has them for each `next` and each argument, and a branch at each fork.
-use Rattle.std.proofs.Common.{◌≡◌, ℕ, true, List, [], ◌∷◌, Some, slice_get, subst}
+-- A process that has the locations of what it names has them for each `next`, for what it reads or stores in and for each argument, and a branch at each fork.
+use Rattle.std.proofs.Common.{◌≡◌, ℕ, true, ◌&&◌, inl, inr, List, [], ◌∷◌, Some, slice_get, refl, subst}
 use Rattle.std.proofs.lemmas.Bool.{and_parts}
 use Rattle.shim_units.specs.declared.unit.Unit.{Unit as UnitOf}
 use Rattle.shim_scopes.specs.declared.tree.UParam.{UParam}
@@ -11,11 +11,11 @@ use Rattle.shim_units.specs.declared.unit.UStmt.{UStmt}
 use Rattle.shim_units.specs.declared.unit.UWhat.{UWhat, UWhat-F, out-UWhat}
 use Rattle.shim_process.specs.LocalState.{LocalState, unit_at}
 use Rattle.shim_process.specs.Todo.{Item, Do, Leave, next_stmt}
-use Rattle.shim_base.proofs.Facts.{some_same, none_some, second_holds, first_holds}
-use Rattle.shim_laws_stops.specs.InScope.{is_number, same_kind, has_number, argument_right, arguments_right, references, distinct, call_right, all_calls_right, are_some, branches_apart}
+use Rattle.shim_base.proofs.Facts.{some_same, none_some, both_hold, first_holds, second_holds}
+use Rattle.shim_laws_stops.specs.InScope.{is_number, same_kind, has_number, has_input, has_output, variables_in, variables_in_option, have_numbers, reads_right, option_right, argument_right, arguments_right, references, distinct, call_right, all_calls_right, are_some, branches_apart}
 use Rattle.shim_laws_stops.specs.FrameLocations.{item_right, ItemsScoped, FrameScoped, HasLocations}
-use Rattle.shim_laws_stops.specs.Named.{StandsAt, HasItsLocation, IsNextOf, next, next_assign, assign_next, ArgumentHasLocation, AllHaveLocations, CallHasLocations, BranchesHaveLocations}
-use Rattle.shim_laws_stops.proofs.Among.{Among}
+use Rattle.shim_laws_stops.specs.Named.{StandsAt, HasItsLocation, IsNextOf, next, next_assign, assign_next, arguments_read, branches_read, variables_at, ArgumentHasLocation, AllHaveLocations, CallHasLocations, BranchesHaveLocations}
+use Rattle.shim_laws_stops.proofs.Among.{Among, none_among, among_cases, among_either}
 use Rattle.shim_laws_stops.proofs.ScopeEntries.{number_of_kind}
 use Rattle.shim_laws_stops.proofs.ScopeFrames.{inner_scoped}
 use Rattle.shim_laws_stops.proofs.LocationSteps.{Has}
@@ -46,9 +46,16 @@ module _ (l : LocalState) where
   a_number : (xs : List ℕ) (x : ℕ) → ((y : ℕ) → Among xs y → Has l y) → has_number u xs x ≡ true → HasItsLocation l x
   a_number xs x has h = let w = and_parts _ (is_number (slice_get u.slots x)) h in has x w.0 w.1
 
+  -- each of these that are read
+  read_has : (xs ys : List ℕ) (x : ℕ) → ((y : ℕ) → Among xs y → Has l y) → have_numbers u xs ys ≡ true → Among ys x → HasItsLocation l x
+  read_has xs [] x has h a = none_among x a
+  read_has xs (y ∷ ys) x has h a =
+      let w = and_parts (has_number u xs y) (have_numbers u xs ys) h in
+      elim (among_cases y ys x a) [ inl e ↦ subst (HasItsLocation l) e (a_number xs y has w.0) | inr b ↦ read_has xs ys x has w.1 b ]
+
   pub next_has : {w : UWhat-F UWhat UStmt} (x : ℕ) → IsNextOf x w → IsRight l w → HasItsLocation l x
   next_has x next r = a_number r.slots x r.has r.right
-  next_has x (next_assign e) r = a_number r.slots x r.has r.right
+  next_has x (next_assign e) r = a_number r.slots x r.has (first_holds (has_number u r.slots x) (reads_right u r.slots e) r.right)
   next_has x (assign_next y) r = a_number r.slots x r.has (second_holds (has_number u r.slots y) (has_number u r.slots x) r.right)
 
   argument_has : (xs : List ℕ) (p : UParam) (a : Arg) → ((y : ℕ) → Among xs y → Has l y) → argument_right u xs p a ≡ true → ArgumentHasLocation l p a
@@ -72,6 +79,55 @@ module _ (l : LocalState) where
   branches_have xs (b ∷ bs) has h =
       let w = and_parts (call_right l.program u xs b.call) (all_calls_right l.program u xs bs) h in
       (call_has xs b.call has w.0, branches_have xs bs has w.1)
+
+  -- what is read has its location
+
+  arguments_read_there : (xs : List ℕ) (ps : List UParam) (args : List Arg) (x : ℕ) → ((y : ℕ) → Among xs y → Has l y) → arguments_right u xs ps args ≡ true → Among (arguments_read args) x → HasItsLocation l x
+  arguments_read_there xs [] [] x has h a = none_among x a
+  arguments_read_there xs [] (b ∷ rest) x has h a = absurd (cc h)
+  arguments_read_there xs (p ∷ ps) [] x has h a = absurd (cc h)
+  arguments_read_there xs (p ∷ ps) (Ref y ∷ rest) x has h a = arguments_read_there xs ps rest x has (second_holds (argument_right u xs p (Ref y)) (arguments_right u xs ps rest) h) a
+  arguments_read_there xs (p ∷ ps) (Pass y ∷ rest) x has h a =
+      let w = and_parts (argument_right u xs p (Pass y)) (arguments_right u xs ps rest) h in
+      elim (among_cases y (arguments_read rest) x a) [
+        | inl e ↦ subst (HasItsLocation l) e (a_number xs y has (second_holds (is_number (Some p.sort)) (has_number u xs y) w.0))
+        | inr b ↦ arguments_read_there xs ps rest x has w.1 b
+      ]
+  arguments_read_there xs (p ∷ ps) (Fresh e ∷ rest) x has h a =
+      let w = and_parts (argument_right u xs p (Fresh e)) (arguments_right u xs ps rest) h in
+      elim (among_either (variables_in e) (arguments_read rest) x a) [
+        | inl b ↦ read_has xs (variables_in e) x has (second_holds (is_number (Some p.sort)) (reads_right u xs e) w.0) b
+        | inr b ↦ arguments_read_there xs ps rest x has w.1 b
+      ]
+
+  call_reads_there : (xs : List ℕ) (c : UCall) (x : ℕ) → ((y : ℕ) → Among xs y → Has l y) → call_right l.program u xs c ≡ true → Among (arguments_read c.args) x → HasItsLocation l x
+  call_reads_there xs c x has h a = arguments_read_there xs (unit_at l.program c.unit).params c.args x has (first_holds (arguments_right u xs (unit_at l.program c.unit).params c.args) (distinct (references c.args)) h) a
+
+  branches_read_there : (xs : List ℕ) (bs : List UBranch) (x : ℕ) → ((y : ℕ) → Among xs y → Has l y) → all_calls_right l.program u xs bs ≡ true → Among (branches_read bs) x → HasItsLocation l x
+  branches_read_there xs [] x has h a = none_among x a
+  branches_read_there xs (b ∷ bs) x has h a =
+      let w = and_parts (call_right l.program u xs b.call) (all_calls_right l.program u xs bs) h in
+      elim (among_either (arguments_read b.call.args) (branches_read bs) x a) [ inl c ↦ call_reads_there xs b.call x has w.0 c | inr c ↦ branches_read_there xs bs x has w.1 c ]
+
+  pub variables_there : (w : UWhat-F UWhat UStmt) (x : ℕ) → IsRight l w → Among (variables_at w) x → HasItsLocation l x
+  variables_there (UWhat-F.Declare t y e) x r a = read_has r.slots (variables_in_option e) x r.has r.right a
+  variables_there (UWhat-F.Assign y e) x r a = read_has r.slots (y ∷ variables_in e) x r.has r.right a
+  variables_there (UWhat-F.Next y) x r a = elim (among_cases y [] x a) [ inl e ↦ subst (HasItsLocation l) e (a_number r.slots y r.has r.right) | inr b ↦ none_among x b ]
+  variables_there (UWhat-F.NextAssign y e) x r a = read_has r.slots (y ∷ variables_in e) x r.has r.right a
+  variables_there (UWhat-F.AssignNext y z) x r a =
+      let w = and_parts (has_number u r.slots y) (has_number u r.slots z) r.right in
+      read_has r.slots (y ∷ z ∷ []) x r.has (both_hold (has_number u r.slots y) (has_number u r.slots z && true) w.0 (both_hold (has_number u r.slots z) true w.1 refl)) a
+  variables_there (UWhat-F.Get y i) x r a =
+      elim (among_cases y [] x a) [ inl e ↦ subst (HasItsLocation l) e (a_number r.slots y r.has (first_holds (has_number u r.slots y) (has_input u r.slots i) r.right)) | inr b ↦ none_among x b ]
+  variables_there (UWhat-F.Put o e) x r a = read_has r.slots (variables_in e) x r.has (second_holds (has_output u r.slots o) (reads_right u r.slots e) r.right) a
+  variables_there (UWhat-F.If e first other) x r a = read_has r.slots (variables_in e) x r.has (first_holds (reads_right u r.slots e) _ r.right) a
+  variables_there (UWhat-F.While e body) x r a = read_has r.slots (variables_in e) x r.has (first_holds (reads_right u r.slots e) _ r.right) a
+  variables_there (UWhat-F.For first test step body) x r a = read_has r.slots (variables_in_option test) x r.has (first_holds (option_right u r.slots test) _ r.right) a
+  variables_there (UWhat-F.Block body) x r a = none_among x a
+  variables_there (UWhat-F.Call c) x r a = call_reads_there r.slots c x r.has r.right a
+  variables_there (UWhat-F.Try body y handler) x r a = none_among x a
+  variables_there (UWhat-F.Throw y) x r a = none_among x a
+  variables_there (UWhat-F.Par bs) x r a = branches_read_there r.slots bs x r.has (second_holds (branches_apart bs) (all_calls_right l.program u r.slots bs) (second_holds (are_some bs) _ r.right)) a
 
   pub at_call : (c : UCall) → IsRight l (UWhat-F.Call c) → CallHasLocations l c
   at_call c r = call_has r.slots c r.has r.right

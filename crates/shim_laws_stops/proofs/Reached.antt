@@ -26,20 +26,20 @@ use Rattle.shim_process.proofs.CallSlots.{own_slot, from_number}
 use Rattle.shim_laws_sources.proofs.Units.{units_use_slots_of_their_own}
 use Rattle.shim_laws_stops.specs.FrameLabels.{AreLabels, HasLabels}
 use Rattle.shim_laws_stops.specs.FrameLocations.{HasLocations}
-use Rattle.shim_laws_stops.specs.Named.{IsLive, NextsHaveLocations, ForksHaveBranches, ArgumentsHaveLocations}
+use Rattle.shim_laws_stops.specs.Named.{IsLive, NextsHaveLocations, VariablesHaveLocations, ForksHaveBranches, ArgumentsHaveLocations}
 use Rattle.shim_laws_stops.specs.Ends.{EndsHaveNothingLeft}
 use Rattle.shim_laws_stops.specs.SettledFrames.{IsSettled}
-use Rattle.shim_laws_stops.specs.Outputs.{PutsHaveOutput}
-use Rattle.shim_laws_stops.specs.OutputHolders.{HoldsOutput}
+use Rattle.shim_laws_stops.specs.Streams.{PutsHaveOutput, GetsHaveInput}
+use Rattle.shim_laws_stops.specs.StreamHolders.{Stream, TheInput, TheOutput, HoldsStream}
 use Rattle.shim_laws_stops.specs.Thrown.{ThrownHavePlaces}
-use Rattle.shim_laws_stops.proofs.EndsAre.{end_has_nothing_left, put_holds}
-use Rattle.shim_laws_stops.proofs.OutputForks.{KeepsOutput, output_relates, live_holds}
-use Rattle.shim_laws_stops.proofs.OutputUnits.{main_one}
+use Rattle.shim_laws_stops.proofs.EndsAre.{end_has_nothing_left, put_holds, get_holds}
+use Rattle.shim_laws_stops.proofs.StreamForks.{begun_held, KeepsStream, stream_relates, live_holds}
+use Rattle.shim_laws_stops.proofs.StreamUnits.{main_one}
 use Rattle.shim_laws_stops.proofs.Settled.{begins_settled, KeepsSettled, settled_relates, live_settled}
 use Rattle.shim_laws_stops.proofs.KnownLabels.{PassesOn}
 use Rattle.shim_laws_stops.proofs.LocationForks.{KeepsLocations, locations_relate, live_has}
 use Rattle.shim_laws_stops.proofs.MainStreams.{main_streams, no_number}
-use Rattle.shim_laws_stops.proofs.NamedHave.{stands_right, next_has, at_call, at_fork, some_branch}
+use Rattle.shim_laws_stops.proofs.NamedHave.{stands_right, next_has, variables_there, at_call, at_fork, some_branch}
 use Rattle.shim_laws_stops.proofs.ScopeEntries.{empties_many, entered_scoped}
 use Rattle.shim_laws_stops.proofs.ScopeUnits.{all_in_scope}
 use Rattle.shim_laws_stops.proofs.LabelSteps.{entered_labels}
@@ -126,6 +126,9 @@ live_locations program input t kept h l live = live_has live.0 t.root l (reached
 pub nexts_have_locations : (program : Form) (input : List ℕ) (t : Tree LocalState) → IsAcceptedForm program → IsReached program input t → NextsHaveLocations t
 nexts_have_locations program input t kept h l w x live at is = next_has l x is (stands_right l w (live_locations program input t kept h l live) at)
 
+pub variables_have_locations : (program : Form) (input : List ℕ) (t : Tree LocalState) → IsAcceptedForm program → IsReached program input t → VariablesHaveLocations t
+variables_have_locations program input t kept h l w x live at named = variables_there l w x (stands_right l w (live_locations program input t kept h l live) at) named
+
 pub forks_have_branches : (program : Form) (input : List ℕ) (t : Tree LocalState) → IsAcceptedForm program → IsReached program input t → ForksHaveBranches t
 forks_have_branches program input t kept h l bs live at none = some_branch l bs (stands_right l (UWhat-F.Par bs) (live_locations program input t kept h l live) at) none
 
@@ -135,18 +138,25 @@ arguments_have_locations program input t kept h = record {
   calls = λ l c live at. at_call l c (stands_right l (UWhat-F.Call c) (live_locations program input t kept h l live) at);
 }
 
--- the output
+-- the streams
 
-root_output : (program : Form) (input : List ℕ) → IsAcceptedForm program → HoldsOutput (root program input)
+root_stream : (stream : Stream) (program : Form) (input : List ℕ) → IsAcceptedForm program → HoldsStream stream (root program input)
 unfolding root
-root_output program input kept = record { named = root_locations program input kept; taking = main_one program (all_in_scope program kept) (main_streams program kept); holds = λ t. t }
+root_stream stream program input kept = record {
+  named = root_locations program input kept;
+  taking = main_one stream program (all_in_scope program kept) (main_streams program kept);
+  holds = λ t. begun_held stream (unit_at program program.main).params t;
+}
 
 -- each live process has it where it should
-live_output : (program : Form) (input : List ℕ) (t : Tree LocalState) → IsAcceptedForm program → IsReached program input t → (l : LocalState) → IsLive t l → HoldsOutput l
-live_output program input t kept h l live = live_holds live.0 t.root l (reached_related KeepsOutput output_relates program input t kept h (root_output program input kept)).0 live.1
+live_stream : (stream : Stream) (program : Form) (input : List ℕ) (t : Tree LocalState) → IsAcceptedForm program → IsReached program input t → (l : LocalState) → IsLive t l → HoldsStream stream l
+live_stream stream program input t kept h l live = live_holds stream live.0 t.root l (reached_related (KeepsStream stream) (stream_relates stream) program input t kept h (root_stream stream program input kept)).0 live.1
 
 pub puts_have_output : (program : Form) (input : List ℕ) (t : Tree LocalState) → IsAcceptedForm program → IsReached program input t → PutsHaveOutput t
-puts_have_output program input t kept h l o e live at = put_holds l o e (live_output program input t kept h l live) at
+puts_have_output program input t kept h l o e live at = put_holds l o e (live_stream TheOutput program input t kept h l live) at
+
+pub gets_have_input : (program : Form) (input : List ℕ) (t : Tree LocalState) → IsAcceptedForm program → IsReached program input t → GetsHaveInput t
+gets_have_input program input t kept h l x i live at = get_holds l x i (live_stream TheInput program input t kept h l live) at
 
 -- ends
 
@@ -156,4 +166,4 @@ root_settled program input = begins_settled (root program input) (unit_at progra
 
 pub ends_have_nothing_left : (program : Form) (input : List ℕ) (t : Tree LocalState) → IsAcceptedForm program → IsReached program input t → EndsHaveNothingLeft t
 ends_have_nothing_left program input t kept h l live stands =
-    end_has_nothing_left l (live_output program input t kept h l live) (live_settled live.0 t.root l (reached_related KeepsSettled settled_relates program input t kept h (root_settled program input)) live.1) stands
+    end_has_nothing_left l (live_stream TheOutput program input t kept h l live) (live_settled live.0 t.root l (reached_related KeepsSettled settled_relates program input t kept h (root_settled program input)) live.1) stands

@@ -30,9 +30,9 @@ use Rattle.shim_units.specs.Uses.{names_in, names_in_option, arg_uses, args_uses
 use Rattle.shim_process.specs.LocalState.{unit_at}
 use Rattle.shim_laws_binding.specs.LexicalScope.{Pairwise, BindsExpr}
 use Rattle.shim_laws_binding.proofs.Bound.{is_bound, asked}
-use Rattle.shim_laws_binding.proofs.Growth.{Grows}
+use Rattle.shim_laws_binding.proofs.Growth.{IsGrown, Grows}
 use Rattle.shim_laws_binding.proofs.Known.{function_stands_at}
-use Rattle.shim_laws_binding.proofs.Lists.{each_of_both, neither}
+use Rattle.shim_laws_binding.proofs.Lists.{Each, each_of_both, each_of_second, neither}
 use Rattle.shim_laws_binding.proofs.NamedParts.{same_known, known_grown}
 use Rattle.shim_laws_binding.proofs.ScopeExprs.{slot_is_innermost, expr_placed, option_placed, exprs_placed}
 use Rattle.shim_laws_sources.proofs.Lists.{at_length, each_weaker}
@@ -40,8 +40,8 @@ use Rattle.shim_laws_sources.proofs.SortedBinding.{GoesOn, as_it_was, goes_twice
 use Rattle.shim_scopes.proofs.Refusals.{passed, first_ok, bound}
 use Rattle.shim_laws_stops.specs.InScope.{is_number}
 use Rattle.shim_laws_stops.proofs.Among.{Among}
-use Rattle.shim_laws_stops.proofs.ScopeLifting.{OnlyNames}
-use Rattle.shim_laws_stops.proofs.ScopeExprs.{slots, slot_among, only_none, only_both, expr_names, option_names, bare_named, IsPlaced, ArePlaced, number_bound, output_bound, arg_suits, arg_names}
+use Rattle.shim_laws_stops.proofs.ScopeLifting.{OnlyNames, ReadsNumbers}
+use Rattle.shim_laws_stops.proofs.ScopeExprs.{slots, slot_among, only_none, only_both, bare_named, IsPlaced, ArePlaced, number_bound, input_bound, output_bound, IsNumber, placed_numbers, number_behind, expr_reads, option_reads, arg_suits, arg_names}
 use Rattle.shim_laws_stops.proofs.ScopeCalls.{ArgsSuit, CallSuits}
 use Rattle.shim_laws_stops.proofs.ScopeParts.{BodyIn, WhatIn, StmtIn, part_declare, part_next, part_assign_next, part_get, part_put, part_throw, part_call, part_if, part_while, part_for, part_block, part_try}
 
@@ -195,11 +195,12 @@ module _ (w : Whole) (form : Form) (fs : List RFunction) (headers : HeadersSuit 
       let q = passed line UnknownName o _ r h in
       stays what_right a t b r (so (asked line UnknownName o _ r h) (asked line WrongKind p _ r q)) (passed line WrongKind p _ r q)
 
-  expr_only : (ls : List Local) (e : Expr) → unknown_in ls e ≡ None → OnlyNames (slots ls) (names_in (placed ls e))
-  expr_only ls e h = expr_names (expr_placed ls ls (same_known ls) e h)
+  -- an expression of which no name is unknown or a stream
+  expr_right : (ls : List Local) (lo : ℕ) (all : List Sort) (e : Expr) → ArePlaced lo all ls → unknown_in ls e ≡ None → stream_in ls e ≡ None → ReadsNumbers (slots ls) all (names_in (placed ls e))
+  expr_right ls lo all e are h none = expr_reads ls ls lo all are (λ x k. k) (expr_placed ls ls (same_known ls) e h) none
 
-  option_only : (ls : List Local) (e : Option Expr) → unknown_in_option ls e ≡ None → OnlyNames (slots ls) (names_in_option (placed_option ls e))
-  option_only ls e h = option_names (option_placed ls ls (same_known ls) e h)
+  option_right : (ls : List Local) (lo : ℕ) (all : List Sort) (e : Option Expr) → ArePlaced lo all ls → unknown_in_option ls e ≡ None → stream_in_option ls e ≡ None → ReadsNumbers (slots ls) all (names_in_option (placed_option ls e))
+  option_right ls lo all e are h none = option_reads ls ls lo all are (λ x k. k) (option_placed ls ls (same_known ls) e h) none
 
   is_around : (ls : List Local) (x : List ℕ) → unknown ls x ≡ None → Among (slots ls) (slot_of ls x)
   is_around ls x h = slot_among x ls (slot_of ls x) (slot_is_innermost x ls h)
@@ -217,6 +218,7 @@ module _ (w : Whole) (form : Form) (fs : List RFunction) (headers : HeadersSuit 
       let none = asked line UnknownName (unknown_in_option v e) _ r h in
       let p = passed line UnknownName (unknown_in_option v e) _ r h in
       let q = passed line Twice (declared_in b.own x) _ r p in
+      let kind = asked line WrongKind (stream_in_option v e) _ r q in
       let s = passed line WrongKind (stream_in_option v e) _ r q in
       let slot : ℕ = length b.slots in
       let long : length (b.slots ++ Value ty ∷ []) ≡ length b.slots + 1 = length-append b.slots (Value ty ∷ []) in
@@ -226,18 +228,18 @@ module _ (w : Whole) (form : Form) (fs : List RFunction) (headers : HeadersSuit 
         own = refl;
         placed = λ all on. (record { sort = declared_at b.slots ty all on; below = omega (arith, long) }, tt);
         tree = λ all on are.
-            part_declare form fs (slots v) slot (length (b.slots ++ Value ty ∷ [])) all ty (placed_option v e) (omega (arith, long)) (ap is_number (declared_at b.slots ty all on)) (option_only v e none);
+            part_declare form fs (slots v) slot (length (b.slots ++ Value ty ∷ [])) all ty (placed_option v e) (omega (arith, long)) (ap is_number (declared_at b.slots ty all on)) (option_right v slot all e are none kind);
       })
 
   pub store_scopes : (g : ℕ → UExpr → RWhat) (x : List ℕ) (e : Expr)
-      → ((around : List ℕ) (lo : ℕ) (all : List Sort) (y : ℕ) (a : UExpr) → Among around y → is_number (slice_get all y) ≡ true → OnlyNames around (names_in a) → WhatIn form fs around lo lo all [] (g y a)) → WhatScopes (bind_store g x e)
+      → ((around : List ℕ) (lo : ℕ) (all : List Sort) (y : ℕ) (a : UExpr) → Among around y → is_number (slice_get all y) ≡ true → ReadsNumbers around all (names_in a) → WhatIn form fs around lo lo all [] (g y a)) → WhatScopes (bind_store g x e)
   store_scopes g x e so line a b r h =
       let v : List Local = visible a b in
       two_asked line (unknown_in_both v x e) (option_or (no_number v x) (stream_in v e)) a (g (slot_of v x) (placed v e)) b r
       (λ none kinds all are.
       let both = neither (unknown v x) (unknown_in v e) none in
       let kind = neither (no_number v x) (stream_in v e) kinds in
-      so (slots v) (length b.slots) all (slot_of v x) (placed v e) (is_around v x both.0) (a_number v (length b.slots) all x are both.0 kind.0) (expr_only v e both.1))
+      so (slots v) (length b.slots) all (slot_of v x) (placed v e) (is_around v x both.0) (a_number v (length b.slots) all x are both.0 kind.0) (expr_right v (length b.slots) all e are both.1 kind.1))
       h
 
   pub next_scopes : (x : List ℕ) → WhatScopes (bind_next x)
@@ -263,7 +265,8 @@ module _ (w : Whole) (form : Form) (fs : List RFunction) (headers : HeadersSuit 
       (λ none kinds all are.
       let both = neither (unknown v x) (unknown v y) none in
       let kind = neither (no_number v x) (no_input v y) kinds in
-      part_get form fs (slots v) (length b.slots) all (slot_of v x) (slot_of v y) (is_around v x both.0) (a_number v (length b.slots) all x are both.0 kind.0) (is_around v y both.1))
+      part_get form fs (slots v) (length b.slots) all (slot_of v x) (slot_of v y) (is_around v x both.0) (a_number v (length b.slots) all x are both.0 kind.0) (is_around v y both.1)
+      (input_bound v (length b.slots) all y (slot_of v y) are (slot_is_innermost y v both.1) kind.1))
       h
 
   pub put_scopes : (x : List ℕ) (e : Expr) → WhatScopes (bind_put x e)
@@ -273,7 +276,7 @@ module _ (w : Whole) (form : Form) (fs : List RFunction) (headers : HeadersSuit 
       (λ none kinds all are.
       let both = neither (unknown v x) (unknown_in v e) none in
       let kind = neither (no_output v x) (stream_in v e) kinds in
-      part_put form fs (slots v) (length b.slots) all (slot_of v x) (placed v e) (is_around v x both.0) (output_bound v (length b.slots) all x (slot_of v x) are (slot_is_innermost x v both.0) kind.0) (expr_only v e both.1))
+      part_put form fs (slots v) (length b.slots) all (slot_of v x) (placed v e) (is_around v x both.0) (output_bound v (length b.slots) all x (slot_of v x) are (slot_is_innermost x v both.0) kind.0) (expr_right v (length b.slots) all e are both.1 kind.1))
       h
 
   pub throw_scopes : (x : List ℕ) → WhatScopes (bind_throw x)
@@ -285,12 +288,13 @@ module _ (w : Whole) (form : Form) (fs : List RFunction) (headers : HeadersSuit 
   call_scopes c line = called_scopes what_right to.Call c line (λ ls lo all d are suits params. part_call form fs (slots ls) lo all d suits params)
 
   -- the test of an `if` or a `while`
-  test_only : (e : Expr) (line : ℕ) (a : Around) (b : Before) (t : UExpr) → bind_test e line a b ≡ Ok t → OnlyNames (slots (visible a b)) (names_in t)
-  test_only e line a b t h =
+  test_right : (e : Expr) (line : ℕ) (a : Around) (b : Before) (t : UExpr) (all : List Sort) → ArePlaced (length b.slots) all (visible a b) → bind_test e line a b ≡ Ok t → ReadsNumbers (slots (visible a b)) all (names_in t)
+  test_right e line a b t all are h =
       let v : List Local = visible a b in
-      let p = passed line WrongKind (stream_in v e) _ t (passed line UnknownName (unknown_in v e) _ t h) in
+      let k = passed line UnknownName (unknown_in v e) _ t h in
+      let p = passed line WrongKind (stream_in v e) _ t k in
       let same : placed v e ≡ t = cc p in
-      subst (λ (x : UExpr). OnlyNames (slots v) (names_in x)) same (expr_only v e (asked line UnknownName (unknown_in v e) _ t h))
+      subst (λ (x : UExpr). ReadsNumbers (slots v) all (names_in x)) same (expr_right v (length b.slots) all e are (asked line UnknownName (unknown_in v e) _ t h) (asked line WrongKind (stream_in v e) _ t k))
 
   -- what a statement with blocks comes to
   from_blocks : (a : Around) (old new : Before) (t : RWhat) (r : BoundTo RWhat) → bound t new ≡ Ok r → GoesOn old.slots new.slots → new.own ≡ old.own
@@ -313,7 +317,7 @@ module _ (w : Whole) (form : Form) (fs : List RFunction) (headers : HeadersSuit 
       let n = block_scoped body_right h l a p.0.before q.0 q.1 in
       from_blocks a b q.0.before (to.If t.0 p.0.tree q.0.tree) r q.2 (goes_twice b.slots p.0.before.slots q.0.before.slots m.slots_on n.slots_on) (n.own ∙ m.own)
       (λ all on are.
-      part_if form fs (slots (visible a b)) (length b.slots) (length p.0.before.slots) (length q.0.before.slots) all m.top n.top t.0 p.0.tree q.0.tree (test_only e line a b t.0 t.1)
+      part_if form fs (slots (visible a b)) (length b.slots) (length p.0.before.slots) (length q.0.before.slots) all m.top n.top t.0 p.0.tree q.0.tree (test_right e line a b t.0 all are t.1)
       (m.tree all (goes_twice p.0.before.slots q.0.before.slots all n.slots_on on) are)
       (second_block a b p.0.before all n.top (length q.0.before.slots) q.0.tree m.own (n.tree all on (still_placed a b p.0.before all m.own m.slots_on are))))
 
@@ -323,7 +327,7 @@ module _ (w : Whole) (form : Form) (fs : List RFunction) (headers : HeadersSuit 
       let p = first_ok (bind_block f a b) _ r t.2 in
       let m = block_scoped body_right f k a b p.0 p.1 in
       from_blocks a b p.0.before (to.While t.0 p.0.tree) r p.2 m.slots_on m.own
-      (λ all on are. part_while form fs (slots (visible a b)) (length b.slots) (length p.0.before.slots) all m.top t.0 p.0.tree (test_only e line a b t.0 t.1) (m.tree all on are))
+      (λ all on are. part_while form fs (slots (visible a b)) (length b.slots) (length p.0.before.slots) all m.top t.0 p.0.tree (test_right e line a b t.0 all are t.1) (m.tree all on are))
 
   pub inner_scopes : (f : Bind (List RStmt)) → Scopes body_right f → Scopes what_right (on_tree to.Block (bind_block f))
   inner_scopes f k a b r is =
@@ -365,6 +369,17 @@ module _ (w : Whole) (form : Form) (fs : List RFunction) (headers : HeadersSuit 
   abbrev pub KeepsOwn : Bind (List RStmt) → Type 0
   KeepsOwn f = (a : Around) (b : Before) (r : BoundTo (List RStmt)) → f a b ≡ Ok r → r.before.own ≡ b.own
 
+  same_behind : (xs ys zs : List Local) → xs ++ ys ≡ xs ++ zs → ys ≡ zs
+  same_behind [] ys zs e = e
+  same_behind (x ∷ xs) ys zs e = same_behind xs ys zs (cc e)
+
+  -- what is no stream with what is sure to be declared is none behind all that was, of numbers
+  number_grown : (ls : List Local) (ds : Declarations) (ts : Texts) (a : Around) (b c : Before) (more : List Local) → IsGrown w.names ls ds ts b c → c.own ≡ b.own ++ more → b.own ≡ [] → Each IsNumber more → (x : List ℕ) → no_number (a.outer ++ ls) x ≡ None → no_number (visible a c) x ≡ None
+  number_grown ls ds ts a b c more g own none numbers x e =
+      let whole : visible a c ≡ (a.outer ++ ls) ++ g.own.more = ap (λ l. a.outer ++ l) g.own.whole ∙ ap (λ l. a.outer ++ (l ++ (ls ++ g.own.more))) none ∙ sym (append_assoc a.outer ls g.own.more) in
+      let same : more ≡ ls ++ g.own.more = same_behind b.own more (ls ++ g.own.more) (sym own ∙ g.own.whole) in
+      subst (λ (v : List Local). no_number v x ≡ None) (sym whole) (number_behind (a.outer ++ ls) g.own.more (each_of_second IsNumber ls g.own.more (subst (Each IsNumber) same numbers)) x e)
+
   -- what binding of a `for` comes to, with the slots that it added
   abbrev ForScopes : Around → Before → BoundTo RWhat → Type 0
   ForScopes a b r = (GoesOn b.slots r.before.slots) × ((all : List Sort) → GoesOn r.before.slots all → ArePlaced (length b.slots) all (visible a b) → what_right (slots (visible a b)) (length b.slots) (length r.before.slots) all [] r.tree)
@@ -373,9 +388,9 @@ module _ (w : Whole) (form : Form) (fs : List RFunction) (headers : HeadersSuit 
   for_answer a old new t r e h = subst (ForScopes a old) (sym (is_bound t new r e)) h
 
   parts_scope : (declares : ℕ → List Local) (test : Option Expr) (ds : Declarations) (ts : Texts) (f g h : Bind (List RStmt)) → Grows w.names declares ds ts f → Scopes body_right f → Scopes body_right g → KeepsOwn g → Scopes body_right h
-      → (a : Around) (b : Before) (r : BoundTo RWhat) → b.own ≡ [] → unknown_in_option (a.outer ++ declares (length b.slots)) test ≡ None → bind_parts test f g h a b ≡ Ok r
-      → ForScopes a b r
-  parts_scope declares test ds ts f g h grows j k keeps l a b r none known is =
+      → (a : Around) (b : Before) (r : BoundTo RWhat) → b.own ≡ [] → unknown_in_option (a.outer ++ declares (length b.slots)) test ≡ None → stream_in_option (a.outer ++ declares (length b.slots)) test ≡ None
+      → bind_parts test f g h a b ≡ Ok r → ForScopes a b r
+  parts_scope declares test ds ts f g h grows j k keeps l a b r none known kind is =
       let p = first_ok (f a b) _ r is in
       let q = first_ok (g a p.0.before) _ r p.2 in
       let s = first_ok (bind_block h a q.0.before) _ r q.2 in
@@ -387,19 +402,23 @@ module _ (w : Whole) (form : Form) (fs : List RFunction) (headers : HeadersSuit 
       let tested : Option UExpr = placed_option (visible a p.0.before) test in
       let top : List ℕ = slots m.more in
       let here : slots (visible a p.0.before) ≡ slots (visible a b) ++ slots m.more = behind_slots a b p.0.before m.more m.own in
-      let named : OnlyNames (slots (visible a b) ++ slots m.more) (names_in_option (placed_option (visible a p.0.before) test)) =
-      subst (λ ls. OnlyNames ls (names_in_option (placed_option (visible a p.0.before) test))) here
-      (option_names (option_placed (a.outer ++ declares (length b.slots)) (visible a p.0.before) (known_grown w.names (declares (length b.slots)) ds ts a b p.0.before (grows a b p.0 p.1) none) test known)) in
+      let grown : IsGrown w.names (declares (length b.slots)) ds ts b p.0.before = grows a b p.0 p.1 in
       let rest : GoesOn p.0.before.slots s.0.before.slots = goes_twice p.0.before.slots q.0.before.slots s.0.before.slots n.slots_on o.slots_on in
       let tree : (all : List Sort) → GoesOn s.0.before.slots all → ArePlaced (length b.slots) all (visible a b) → what_right (slots (visible a b)) (length b.slots) (length s.0.before.slots) all [] (to.For p.0.tree tested q.0.tree s.0.tree) =
       λ all on are.
       let later : GoesOn p.0.before.slots all = goes_twice p.0.before.slots s.0.before.slots all rest on in
       let last : GoesOn q.0.before.slots all = goes_twice q.0.before.slots s.0.before.slots all o.slots_on on in
       let there : ArePlaced (length p.0.before.slots) all (visible a p.0.before) = behind_placed a b p.0.before m.more all m.own m.slots_on are (m.placed all later) in
+      let first = m.tree all later are in
+      let numbers = placed_numbers (length p.0.before.slots) all m.more (m.placed all later) (λ y i. first.facts.numbers y (first.tops y i)) in
+      let named : ReadsNumbers (slots (visible a b) ++ slots m.more) all (names_in_option (placed_option (visible a p.0.before) test)) =
+      subst (λ ls. ReadsNumbers ls all (names_in_option (placed_option (visible a p.0.before) test))) here
+      (option_reads (a.outer ++ declares (length b.slots)) (visible a p.0.before) (length p.0.before.slots) all there (number_grown (declares (length b.slots)) ds ts a b p.0.before m.more grown m.own none numbers)
+      (option_placed (a.outer ++ declares (length b.slots)) (visible a p.0.before) (known_grown w.names (declares (length b.slots)) ds ts a b p.0.before grown none) test known) kind) in
       let step = n.tree all last there in
       let body = o.tree all on (still_placed a p.0.before q.0.before all own n.slots_on there) in
       part_for form fs (slots (visible a b)) (length b.slots) (length p.0.before.slots) (length q.0.before.slots) (length s.0.before.slots) all (slots m.more) o.top p.0.tree tested q.0.tree s.0.tree
-      (m.tree all later are) named
+      first named
       (subst (λ ls. body_right ls (length p.0.before.slots) (length q.0.before.slots) all [] q.0.tree) here (subst (λ ls. body_right (slots (visible a p.0.before)) (length p.0.before.slots) (length q.0.before.slots) all (slots ls) q.0.tree) nothing step))
       (subst (λ ls. body_right ls (length q.0.before.slots) (length s.0.before.slots) all o.top s.0.tree) here (second_block a p.0.before q.0.before all o.top (length s.0.before.slots) s.0.tree own body)) in
       for_answer a b s.0.before (to.For p.0.tree tested q.0.tree s.0.tree) r s.2 (goes_twice b.slots p.0.before.slots s.0.before.slots m.slots_on rest, tree)
@@ -408,8 +427,9 @@ module _ (w : Whole) (form : Form) (fs : List RFunction) (headers : HeadersSuit 
   for_scopes declares test ds ts f g h grows j k keeps l line a b r is =
       let p = first_ok (bind_first_test declares test line a b) _ r is in
       let known = asked line UnknownName (unknown_in_option (visible a b ++ declares (length b.slots)) test) _ p.0 p.1 in
+      let kind = asked line WrongKind (stream_in_option (visible a b ++ declares (length b.slots)) test) _ p.0 (passed line UnknownName (unknown_in_option (visible a b ++ declares (length b.slots)) test) _ p.0 p.1) in
       let q = first_ok (bind_parts test f g h (within a b) (opened b)) _ r p.2 in
-      let m = parts_scope declares test ds ts f g h grows j k keeps l (within a b) (opened b) q.0 refl known q.1 in
+      let m = parts_scope declares test ds ts f g h grows j k keeps l (within a b) (opened b) q.0 refl known kind q.1 in
       let same : visible (within a b) (opened b) ≡ visible a b = append-nil (visible a b) in
       from_blocks a b (closed b q.0.before) q.0.tree r q.2 m.0 refl
       (λ all on are. subst (λ ls. what_right (slots ls) (length b.slots) (length q.0.before.slots) all [] q.0.tree) same (m.1 all on (subst (ArePlaced (length b.slots) all) (sym same) are)))

@@ -16,18 +16,19 @@ use Rattle.shim_units.specs.declared.unit.UCall.{UCall}
 use Rattle.shim_units.specs.declared.slot_map.SlotMap.{SlotMap}
 use Rattle.shim_units.specs.Calls.{lends, lends_first, behind_first, params_at, bare, given}
 use Rattle.shim_units.specs.Captures.{captures, taken_of, declares, writes, names, is_reference}
-use Rattle.shim_units.specs.Moving.{slot_index_of, by_mode, arg_of, args_of, moved_call}
+use Rattle.shim_units.specs.Moving.{slot_index_of, by_mode, moved, arg_of, args_of, moved_call}
 use Rattle.shim_units.specs.Rule.{is_bare, stands_in, GivesOnce, IsDisjointFromAll, ArePairwiseDisjoint}
 use Rattle.shim_units.specs.Uses.{used, names_in, arg_uses, args_uses, call_uses, lent_uses}
 use Rattle.shim_units.specs.Lifting.{is_among, sort_of, sort_or_bool}
 use Rattle.shim_process.specs.LocalState.{unit_at}
 use Rattle.shim_laws_sources.proofs.Placing.{some_first, some_second}
 use Rattle.shim_base.proofs.Facts.{both_hold, either_holds}
-use Rattle.shim_laws_stops.specs.InScope.{is_number, same_kind, has_number, argument_right, arguments_right, references, distinct, call_right, are_apart, apart_from_all, branches_apart}
+use Rattle.shim_laws_stops.specs.InScope.{is_number, same_kind, has_number, reads_right, argument_right, arguments_right, references, distinct, call_right, are_apart, apart_from_all, branches_apart}
 use Rattle.shim_laws_stops.proofs.Among.{Among, none_among, first_of, among_cases}
 use Rattle.shim_laws_stops.proofs.ScopeExprs.{ArgSuits}
 use Rattle.shim_laws_stops.proofs.ScopeLists.{Names, names_first, names_second, writes_names, once_more, at_place_of, same_place, apart_of}
 use Rattle.shim_laws_stops.proofs.ScopeLifting.{OnlyNames, IsAround, number_there, kind_there}
+use Rattle.shim_laws_stops.proofs.ScopeReads.{reads_moved}
 
 -- an argument for each parameter, of its kind; one that is a variable alone names it
 abbrev pub ArgsSuit : List Sort → List UParam → List UExpr → Type 0
@@ -52,21 +53,24 @@ module _ (all : List Sort) (f : RFunction) (same : f.slots ≡ all) (w : SlotMap
   sort_here : (y : ℕ) → Among w.slots y → slice_get u.slots (slot_index_of w.slots y) ≡ Some (sort_or_bool (slice_get all y))
   sort_here y h = ap (λ l. slice_get l (slot_index_of w.slots y)) is ∙ at_place_of (sort_of f) w.slots y h ∙ ap (λ (l : List Sort). Some (sort_or_bool (slice_get l y))) same
 
-  bare_right : (b : Bool) (p : UParam) (x : ℕ) (a : UExpr) → ArgSuits b all p a → bare a ≡ Some x → IsHere x → argument_right u xs p (by_mode b (slot_index_of w.slots x)) ≡ true
-  bare_right true p x a (y, e, kind) b h =
+  number_here : (y : ℕ) → IsHere y → is_number (slice_get all y) ≡ true → has_number u xs (slot_index_of w.slots y) ≡ true
+  number_here y h number =
+      let i : ℕ = slot_index_of w.slots y in
+      both_hold (is_among xs i) (is_number (slice_get u.slots i)) h.known (ap is_number (sort_here y h.there) ∙ number_there (slice_get all y) number)
+
+  bare_right : (b : Bool) (p : UParam) (x : ℕ) (a : UExpr) → ArgSuits b all p a → bare a ≡ Some x → Names (arg_uses b a) x → IsHere x → argument_right u xs p (by_mode b (slot_index_of w.slots x)) ≡ true
+  bare_right true p x a (y, e, kind) b n h =
       let i : ℕ = slot_index_of w.slots x in
       let one : y ≡ x = cc (sym e ∙ b) in
       both_hold (is_among xs i) (same_kind p.sort (slice_get u.slots i)) h.known
       (ap (same_kind p.sort) (sort_here x h.there) ∙ kind_there p.sort (slice_get all x) (subst (λ z. same_kind p.sort (slice_get all z) ≡ true) one kind))
-  bare_right false p x a (number, others) b h =
-      let i : ℕ = slot_index_of w.slots x in
-      both_hold (is_number (Some p.sort)) (has_number u xs i) number
-      (both_hold (is_among xs i) (is_number (slice_get u.slots i)) h.known (ap is_number (sort_here x h.there) ∙ number_there (slice_get all x) (others x b)))
+  bare_right false p x a (number, others) b n h = both_hold (is_number (Some p.sort)) (has_number u xs (slot_index_of w.slots x)) number (number_here x h (others x n))
 
-  arg_right : (b : Bool) (p : UParam) (a : UExpr) (o : Option ℕ) → bare a ≡ o → ArgSuits b all p a → ((x : ℕ) → bare a ≡ Some x → IsHere x) → argument_right u xs p (arg_of w.slots b o a) ≡ true
-  arg_right true p a None e (y, k, kind) h = absurd (cc (sym e ∙ k))
-  arg_right false p a None e suits h = suits.0
-  arg_right b p a (Some x) e suits h = bare_right b p x a suits e (h x e)
+  -- an argument is right where all that it names is here
+  arg_right : (b : Bool) (p : UParam) (a : UExpr) (o : Option ℕ) → bare a ≡ o → ArgSuits b all p a → ((x : ℕ) → bare a ≡ Some x → Names (arg_uses b a) x) → ((x : ℕ) → Names (arg_uses b a) x → IsHere x) → argument_right u xs p (arg_of w.slots b o a) ≡ true
+  arg_right true p a None e (y, k, kind) named h = absurd (cc (sym e ∙ k))
+  arg_right false p a None e (number, others) named h = both_hold (is_number (Some p.sort)) (reads_right u xs (moved w.slots a)) number (reads_moved w.slots u xs a (λ y n. number_here y (h y n) (others y n)))
+  arg_right b p a (Some x) e suits named h = bare_right b p x a suits e (named x e) (h x (named x e))
 
   -- a variable alone is named by its argument
   named_alone : (b : Bool) (a : UExpr) (o : Option ℕ) (x : ℕ) → bare a ≡ o → ((y : ℕ) → bare a ≡ Some y → Names (names_in a) y) → bare a ≡ Some x → Names (arg_uses b a) x
@@ -82,7 +86,7 @@ module _ (all : List Sort) (f : RFunction) (same : f.slots ≡ all) (w : SlotMap
   args_right (p ∷ ps) [] s h = absurd s
   args_right (p ∷ ps) (a ∷ rest) s h =
       both_hold _ _
-      (arg_right (lends p) p a (bare a) refl s.0 (λ x e. h x (names_first (arg_uses (lends p) a) (args_uses ps rest) x (named_alone (lends p) a (bare a) x refl s.1 e))))
+      (arg_right (lends p) p a (bare a) refl s.0 (λ x e. named_alone (lends p) a (bare a) x refl s.1 e) (λ x n. h x (names_first (arg_uses (lends p) a) (args_uses ps rest) x n)))
       (args_right ps rest s.2 (λ y n. h y (names_second (arg_uses (lends p) a) (args_uses ps rest) y n)))
 
 -- what is given by reference

@@ -78,7 +78,7 @@ module _ (u : UnitOf) (xs : Locations) (slots : List ℕ) (ss : List ℕ) (has :
       let w = from_value (λ one. on_value (λ others. Ok (one ∷ others)) (arguments xs slots ps rest)) (on_value (λ n. Ok (ByValue (type_of p.sort) p.name n)) (value v (env_of xs slots))) given e in
       let a = from_value (λ n. Ok (ByValue (type_of p.sort) p.name n)) (value v (env_of xs slots)) w.0 w.1 in
       let o = from_value (λ others. Ok (w.0 ∷ others)) (arguments xs slots ps rest) given w.2 in
-      let r = and_parts (is_number (Some p.sort)) (arguments_right u ss ps rest) right in
+      let r = and_parts (argument_right u ss p (Fresh v)) (arguments_right u ss ps rest) right in
       let one : ByValue (type_of p.sort) p.name a.0 ≡ w.0 = ok_same (ByValue (type_of p.sort) p.name a.0) w.0 a.2 in
       subst (GivenThere xs (p ∷ ps)) (ok_same (w.0 ∷ o.0) given o.2)
       (λ number. subst (OneThere xs) one tt, given_there ps rest o.0 o.1 r.1)

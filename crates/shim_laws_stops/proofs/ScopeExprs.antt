@@ -1,7 +1,10 @@
 -- What expressions and arguments name is around them, and of the kind that is asked for.
-use Rattle.std.proofs.Common.{ℕ, ℤ, ◌<◌, ◌≡◌, ◌∙◌, Bool, true, false, ◌&&◌, ◌||◌, inl, inr, List, [], ◌∷◌, ◌++◌, Option, Some, None, map, nat_eq, eqb-true, slice_get, refl, sym, ap, subst}
-use Rattle.std.specs.Option.{option_map}
-use Rattle.std.specs.Prelude.{}
+use Rattle.std.proofs.Common.{ℕ, ℤ, ◌<◌, ◌≡◌, ◌∙◌, Bool, true, false, ◌&&◌, ◌||◌, inl, inr, List, [], ◌∷◌, ◌++◌, Option, Some, None, map, reverse, nat_eq, eqb-true, slice_get, refl, sym, ap, subst}
+use Rattle.std.specs.List.{find}
+use Rattle.std.specs.Option.{option_map, option_or}
+use Rattle.std.specs.Str.{bytes_eq}
+use Rattle.std.proofs.lemmas.List.{reverse-append}
+use Rattle.std.proofs.lemmas.List.Folds.{find-append}
 use Rattle.shim_base.specs.declared.operators.BinOp.{BinOp}
 use Rattle.shim_base.specs.declared.operators.UnOp.{UnOp}
 use Rattle.shim_syntax.specs.declared.tree.Expr.{Expr, Expr-F, fold-roll-Expr, roll-Expr}
@@ -15,7 +18,7 @@ use Rattle.shim_scopes.specs.declared.tree.UExpr.{UExpr, UExpr-F, fold-roll-UExp
 use Rattle.shim_scopes.specs.declared.tree.UExpr.TheVariants as u
 use Rattle.shim_scopes.specs.declared.tree.UParam.{UParam}
 use Rattle.shim_scopes.specs.Binding as scopes
-use Rattle.shim_scopes.specs.Binding.{binding_of, if_bound, if_stream, unless_output, unknown, no_number, no_output, stream_step, stream_in, slot_of}
+use Rattle.shim_scopes.specs.Binding.{binding_of, if_bound, if_stream, unless_input, unless_output, unknown, no_number, no_input, no_output, stream_step, stream_in, stream_in_option, slot_of}
 use Rattle.shim_scopes.specs.Calls as sc
 use Rattle.shim_scopes.specs.Calls.{same_type, same_sort, if_false, wrong_ref, wrong_by, wrong_arg}
 use Rattle.shim_units.specs.declared.found.How.TheVariants.{Named, Written}
@@ -25,12 +28,12 @@ use Rattle.shim_units.specs.Uses.{used, names_step, names_in, names_in_option, l
 use Rattle.shim_laws_binding.specs.Innermost.{local_name, IsSlotOfInnermost}
 use Rattle.shim_laws_binding.specs.LexicalScope as is
 use Rattle.shim_laws_binding.specs.LexicalScope.{BindsExpr, BindsOption}
-use Rattle.shim_laws_binding.proofs.InnermostLemmas.{innermost_found}
-use Rattle.shim_laws_binding.proofs.Lists.{Each, at_place}
-use Rattle.shim_laws_stops.specs.InScope.{is_number, is_output_at, same_kind}
+use Rattle.shim_laws_binding.proofs.InnermostLemmas.{found, Found, is_found, innermost_found}
+use Rattle.shim_laws_binding.proofs.Lists.{Each, at_place, neither}
+use Rattle.shim_laws_stops.specs.InScope.{is_number, is_input_at, is_output_at, same_kind}
 use Rattle.shim_laws_stops.proofs.Among.{Among, none_among, first_of, among_behind, among_cases}
 use Rattle.shim_laws_stops.proofs.ScopeLists.{Names, names_either, declares_either}
-use Rattle.shim_laws_stops.proofs.ScopeLifting.{OnlyNames, IsAround}
+use Rattle.shim_laws_stops.proofs.ScopeLifting.{OnlyNames, ReadsNumbers, IsAround}
 
 -- the slots of declarations
 abbrev pub slots : List Local → List ℕ
@@ -45,8 +48,11 @@ slot_among x ls n i = subst (λ l. Among (slots l) n) (sym i.1.whole) (stands_am
 
 -- names
 
+none_named : {A : Type 0} (y : ℕ) → Names [] y → A
+none_named y h = absurd (cc h)
+
 pub only_none : (around : List ℕ) → OnlyNames around []
-only_none around = record { among = λ y h. absurd (cc h); none = λ y h. cc h }
+only_none around = record { among = λ y h. none_named y h; none = λ y h. cc h }
 
 pub only_both : (around : List ℕ) (us vs : List Use) → OnlyNames around us → OnlyNames around vs → OnlyNames around (us ++ vs)
 only_both around us vs a b = record {
@@ -80,15 +86,15 @@ names_number : (n : ℤ) → names_in (u.Number n) ≡ []
 unfolding names_in roll-UExpr denote.Hole.Carrier.roll
 names_number n = fold-roll-UExpr (List Use) names_step (UExpr-F.Number n)
 
-names_variable : (x : ℕ) → names_in (u.Var x) ≡ used Named x ∷ []
+pub names_variable : (x : ℕ) → names_in (u.Var x) ≡ used Named x ∷ []
 unfolding names_in roll-UExpr denote.Hole.Carrier.roll
 names_variable x = fold-roll-UExpr (List Use) names_step (UExpr-F.Var x)
 
-names_unary : (op : UnOp) (a : UExpr) → names_in (u.Unary op a) ≡ names_in a
+pub names_unary : (op : UnOp) (a : UExpr) → names_in (u.Unary op a) ≡ names_in a
 unfolding names_in roll-UExpr denote.Hole.Carrier.roll
 names_unary op a = fold-roll-UExpr (List Use) names_step (UExpr-F.Unary op a)
 
-names_binary : (op : BinOp) (a b : UExpr) → names_in (u.Binary op a b) ≡ names_in a ++ names_in b
+pub names_binary : (op : BinOp) (a b : UExpr) → names_in (u.Binary op a b) ≡ names_in a ++ names_in b
 unfolding names_in roll-UExpr denote.Hole.Carrier.roll
 names_binary op a b = fold-roll-UExpr (List Use) names_step (UExpr-F.Binary op a b)
 
@@ -128,15 +134,19 @@ stream_variable : (ls : List Local) (x : List ℕ) → stream_in ls (e.Var x) �
 unfolding stream_in roll-Expr denote.Hole.Carrier.roll
 stream_variable ls x = fold-roll-Expr (Option (List ℕ)) (stream_step ls) (Expr-F.Var x)
 
+stream_unary : (ls : List Local) (op : UnOp) (a : Expr) → stream_in ls (e.Unary op a) ≡ stream_in ls a
+unfolding stream_in roll-Expr denote.Hole.Carrier.roll
+stream_unary ls op a = fold-roll-Expr (Option (List ℕ)) (stream_step ls) (Expr-F.Unary op a)
+
+stream_binary : (ls : List Local) (op : BinOp) (a b : Expr) → stream_in ls (e.Binary op a b) ≡ option_or (stream_in ls a) (stream_in ls b)
+unfolding stream_in roll-Expr denote.Hole.Carrier.roll
+stream_binary ls op a b = fold-roll-Expr (Option (List ℕ)) (stream_step ls) (Expr-F.Binary op a b)
+
 pub expr_names : {ls : List Local} {a : Expr} {r : UExpr} → BindsExpr ls a r → OnlyNames (slots ls) (names_in r)
 expr_names {ls = ls} (is.number {n = n}) = subst (OnlyNames (slots ls)) (sym (names_number n)) (only_none (slots ls))
 expr_names {ls = ls} (is.variable {x = x} {slot = slot} i) = subst (OnlyNames (slots ls)) (sym (names_variable slot)) (only_named (slots ls) slot (slot_among x ls slot i))
 expr_names {ls = ls} (is.unary {op = op} {r = r} h) = subst (OnlyNames (slots ls)) (sym (names_unary op r)) (expr_names h)
 expr_names {ls = ls} (is.binary {op = op} {r = r} {s = s} h k) = subst (OnlyNames (slots ls)) (sym (names_binary op r s)) (only_both (slots ls) (names_in r) (names_in s) (expr_names h) (expr_names k))
-
-pub option_names : {ls : List Local} {a : Option Expr} {r : Option UExpr} → BindsOption ls a r → OnlyNames (slots ls) (names_in_option r)
-option_names {ls = ls} is.missing = only_none (slots ls)
-option_names (is.given h) = expr_names h
 
 -- what an expression is, where it is a variable alone
 
@@ -199,6 +209,11 @@ not_stream x (Value t) h = refl
 not_stream x Input h = absurd (cc h)
 not_stream x Output h = absurd (cc h)
 
+is_input : (x : List ℕ) (s : Sort) → unless_input x s ≡ None → is_input_at (Some s) ≡ true
+is_input x (Value t) h = absurd (cc h)
+is_input x Input h = refl
+is_input x Output h = absurd (cc h)
+
 is_output : (x : List ℕ) (s : Sort) → unless_output x s ≡ None → is_output_at (Some s) ≡ true
 is_output x (Value t) h = absurd (cc h)
 is_output x Input h = absurd (cc h)
@@ -213,17 +228,69 @@ number_bound ls lo all x slot h i none =
     let b = its_binding ls lo all x slot h i in
     ap is_number b.at ∙ not_stream x b.bound.sort (bound_if if_stream x (binding_of x ls) b.bound b.binding none)
 
+pub input_bound : (ls : List Local) (lo : ℕ) (all : List Sort) (x : List ℕ) (slot : ℕ) → ArePlaced lo all ls → IsSlotOfInnermost x ls slot → no_input ls x ≡ None → is_input_at (slice_get all slot) ≡ true
+input_bound ls lo all x slot h i none =
+    let b = its_binding ls lo all x slot h i in
+    ap is_input_at b.at ∙ is_input x b.bound.sort (bound_if unless_input x (binding_of x ls) b.bound b.binding none)
+
 pub output_bound : (ls : List Local) (lo : ℕ) (all : List Sort) (x : List ℕ) (slot : ℕ) → ArePlaced lo all ls → IsSlotOfInnermost x ls slot → no_output ls x ≡ None → is_output_at (slice_get all slot) ≡ true
 output_bound ls lo all x slot h i none =
     let b = its_binding ls lo all x slot h i in
     ap is_output_at b.at ∙ is_output x b.bound.sort (bound_if unless_output x (binding_of x ls) b.bound b.binding none)
+
+-- what is no stream among some declarations is none behind further ones, of numbers
+
+abbrev pub IsNumber : Local → Type 0
+IsNumber l = is_number (Some l.bound.sort) ≡ true
+
+pub placed_numbers : (lo : ℕ) (all : List Sort) (ls : List Local) → ArePlaced lo all ls → ((y : ℕ) → Among (slots ls) y → is_number (slice_get all y) ≡ true) → Each IsNumber ls
+placed_numbers lo all [] h f = tt
+placed_numbers lo all (l ∷ ls) h f =
+    (ap is_number (sym h.0.sort) ∙ f l.bound.slot (first_of l.bound.slot (slots ls)), placed_numbers lo all ls h.1 (λ y a. f y (among_behind l.bound.slot (slots ls) y a)))
+
+number_not_stream : (x : List ℕ) (s : Sort) → is_number (Some s) ≡ true → if_stream x s ≡ None
+number_not_stream x (Value t) h = refl
+number_not_stream x Input h = absurd (cc h)
+number_not_stream x Output h = absurd (cc h)
+
+abbrev stream_found : List ℕ → Option Local → Option (List ℕ)
+stream_found x o = if_bound if_stream x (option_map (λ (l : Local). l.bound) o)
+
+number_by : (x : List ℕ) (ls more : List Local) (o : Option Local) → Found local_name x more o → Each IsNumber more → no_number ls x ≡ None → stream_found x (option_or o (found local_name x ls)) ≡ None
+number_by x ls more None f h e = e
+number_by x ls more (Some l) f h e = number_not_stream x l.bound.sort (at_place IsNumber more f.outer l f.inner f.whole h)
+
+found_both : (x : List ℕ) (ls more : List Local) → found local_name x (ls ++ more) ≡ option_or (found local_name x more) (found local_name x ls)
+found_both x ls more = ap (find (λ (l : Local). bytes_eq l.name x)) (reverse-append ls more) ∙ find-append (λ (l : Local). bytes_eq l.name x) (reverse more) (reverse ls)
+
+pub number_behind : (ls more : List Local) → Each IsNumber more → (x : List ℕ) → no_number ls x ≡ None → no_number (ls ++ more) x ≡ None
+number_behind ls more h x e = ap (stream_found x) (found_both x ls more) ∙ number_by x ls more (found local_name x more) (is_found local_name x more) h e
+
+-- the variables of an expression are numbers, where what is one among the declarations `asked` is one among those around
+module _ (asked ls : List Local) (lo : ℕ) (all : List Sort) (placed : ArePlaced lo all ls) (further : (x : List ℕ) → no_number asked x ≡ None → no_number ls x ≡ None) where
+  pub expr_numbers : {a : Expr} {r : UExpr} → BindsExpr ls a r → stream_in asked a ≡ None → (y : ℕ) → Names (names_in r) y → is_number (slice_get all y) ≡ true
+  expr_numbers (is.number {n = n}) h y k = none_named y (subst (λ us. Names us y) (names_number n) k)
+  expr_numbers (is.variable {x = x} {slot = slot} i) h y k =
+      let same : slot ≡ y = named_is (nat_eq slot y) slot y (eqb-true slot y) (subst (λ us. Names us y) (names_variable slot) k) in
+      subst (λ z. is_number (slice_get all z) ≡ true) same (number_bound ls lo all x slot placed i (further x (sym (stream_variable asked x) ∙ h)))
+  expr_numbers (is.unary {op = op} {a = a} {r = r} i) h y k = expr_numbers i (sym (stream_unary asked op a) ∙ h) y (subst (λ us. Names us y) (names_unary op r) k)
+  expr_numbers (is.binary {op = op} {a = a} {b = b} {r = r} {s = s} i j) h y k =
+      let none = neither (stream_in asked a) (stream_in asked b) (sym (stream_binary asked op a b) ∙ h) in
+      elim (names_either (names_in r) (names_in s) y (subst (λ us. Names us y) (names_binary op r s) k)) [ inl m ↦ expr_numbers i none.0 y m | inr m ↦ expr_numbers j none.1 y m ]
+
+  pub expr_reads : {a : Expr} {r : UExpr} → BindsExpr ls a r → stream_in asked a ≡ None → ReadsNumbers (slots ls) all (names_in r)
+  expr_reads i h = record { names = expr_names i; numbers = expr_numbers i h }
+
+  pub option_reads : {a : Option Expr} {r : Option UExpr} → BindsOption ls a r → stream_in_option asked a ≡ None → ReadsNumbers (slots ls) all (names_in_option r)
+  option_reads is.missing h = record { names = only_none (slots ls); numbers = λ y k. none_named y k }
+  option_reads (is.given i) h = expr_reads i h
 
 -- arguments
 
 -- the argument is of the kind that the parameter asks for
 abbrev pub ArgSuits : Bool → List Sort → UParam → UExpr → Type 0
 ArgSuits true all p a = (x : ℕ) × (bare a ≡ Some x) × (same_kind p.sort (slice_get all x) ≡ true)
-ArgSuits false all p a = (is_number (Some p.sort) ≡ true) × ((x : ℕ) → bare a ≡ Some x → is_number (slice_get all x) ≡ true)
+ArgSuits false all p a = (is_number (Some p.sort) ≡ true) × ((x : ℕ) → Names (names_in a) x → is_number (slice_get all x) ≡ true)
 
 same_sorts : (s r : Sort) → same_sort s r ≡ true → same_kind s (Some r) ≡ true
 same_sorts (Value a) (Value b) h = refl
@@ -262,17 +329,10 @@ module _ (ls : List Local) (lo : ℕ) (all : List Sort) (placed : ArePlaced lo a
   lent_suits (is.unary {op = op} {a = a} k) p q same h = no_name ls p (scopes.bare (e.Unary op a)) (name_unary op a) h
   lent_suits (is.binary {op = op} {a = a} {b = b} k l) p q same h = no_name ls p (scopes.bare (e.Binary op a b)) (name_binary op a b) h
 
-  bare_number_there : {a : Expr} {r : UExpr} → BindsExpr ls a r → stream_in ls a ≡ None → (x : ℕ) → bare r ≡ Some x → is_number (slice_get all x) ≡ true
-  bare_number_there (is.number {n = n}) h x e = absurd (none_is (u.Number n) x (bare_number n) e)
-  bare_number_there (is.variable {x = y} {slot = slot} i) h x e =
-      subst (λ z. is_number (slice_get all z) ≡ true) (some_is (u.Var slot) slot x (bare_variable slot) e) (number_bound ls lo all y slot placed i (sym (stream_variable ls y) ∙ h))
-  bare_number_there (is.unary {op = op} {r = r} k) h x e = absurd (none_is (u.Unary op r) x (bare_unary op r) e)
-  bare_number_there (is.binary {op = op} {r = r} {s = s} k l) h x e = absurd (none_is (u.Binary op r s) x (bare_binary op r s) e)
-
   -- by the mode of the parameter
   by_mode : (b : Bool) (a : Expr) (r : UExpr) (p : Param) (q : UParam) → BindsExpr ls a r → q.sort ≡ p.sort → (b ≡ false → is_number (Some q.sort) ≡ true) → wrong_by b ls p a ≡ None → ArgSuits (b || is_stream q.sort) all q r
   by_mode true a r p q k same f h = lent_suits k p q same h
-  by_mode false a r p q k same f h = subst (λ c. ArgSuits c all q r) (sym (no_stream q.sort (f refl))) (f refl, bare_number_there k h)
+  by_mode false a r p q k same f h = subst (λ c. ArgSuits c all q r) (sym (no_stream q.sort (f refl))) (f refl, expr_numbers ls ls lo all placed (λ x none. none) k h)
     where
       no_stream : (s : Sort) → is_number (Some s) ≡ true → is_stream s ≡ false
       no_stream (Value t) h = refl

@@ -1,5 +1,5 @@
 -- What a unit has still to do names what has its location, wherever it goes from there.
-use Rattle.std.proofs.Common.{◌≡◌, ◌∙◌, ◌⊎◌, ℕ, zero, suc, ◌+◌, true, inl, inr, List, [], ◌∷◌, ◌++◌, take, map, Some, refl, sym, ap, subst, append_assoc}
+use Rattle.std.proofs.Common.{◌≡◌, ◌∙◌, ◌⊎◌, ℕ, zero, suc, ◌+◌, true, ◌&&◌, inl, inr, List, [], ◌∷◌, ◌++◌, take, map, Some, refl, sym, ap, subst, append_assoc}
 use Rattle.std.proofs.lemmas.Bool.{and_parts}
 use Rattle.std.specs.Prelude.{slice_get}
 use Rattle.shim_units.specs.declared.form.Form.{Form}
@@ -10,8 +10,8 @@ use Rattle.shim_units.specs.Numbering as numbering
 use Rattle.shim_process.specs.Todo.{Item, Do, Leave, On, Second, what_items, items, items_all, follow_what, followed}
 use Rattle.shim_process.specs.LocalState.{ExceptionPlace}
 use Rattle.shim_process.proofs.TodoItems.{items_what, items_roll, line_of}
-use Rattle.shim_base.proofs.Facts.{some_same}
-use Rattle.shim_laws_stops.specs.InScope.{Scoped, what_scoped, scoped, all_scoped}
+use Rattle.shim_base.proofs.Facts.{some_same, second_holds}
+use Rattle.shim_laws_stops.specs.InScope.{reads_right, Scoped, what_scoped, scoped, all_scoped}
 use Rattle.shim_laws_stops.specs.FrameLocations.{scoped_kind, item_right, ItemScoped, ItemsScoped, next_declares, PlacesScoped}
 use Rattle.shim_laws_stops.proofs.Among.{Among, none_among, among_first, among_second, among_either}
 use Rattle.shim_laws_stops.proofs.ScopeSteps.{what_in, declared_in}
@@ -177,7 +177,9 @@ module _ (p : Form) (u : UnitOf) where
         subst (ItemsScoped p u A []) (sym (goes_on p 0 (out-UWhat s.what) n s k)) (subst (λ top. ItemsScoped p u A (top ++ []) k) none h.1)
 
     second_follows : (x : UWhat-F UWhat UStmt) (n : ℕ) (s : UStmt) (k : List Item) (xs : List ℕ) → item_right p u x xs ≡ true → Known [] xs → ItemsScoped p u A [] k → ItemsScoped p u A [] (follow_what x Second n s k)
-    second_follows (UWhat-F.If e a b) n s k xs h known rest = body_scoped b (n + 1 + numbering.size_all a) xs [] k (and_parts (all_scoped p u a xs) (all_scoped p u b xs) h).1 known rest
+    second_follows (UWhat-F.If e a b) n s k xs h known rest =
+        let w = second_holds (reads_right u xs e) (all_scoped p u a xs && all_scoped p u b xs) h in
+        body_scoped b (n + 1 + numbering.size_all a) xs [] k (and_parts (all_scoped p u a xs) (all_scoped p u b xs) w).1 known rest
     second_follows (UWhat-F.Try a t b) n s k xs h known rest = body_scoped b (n + 1 + numbering.size_all a) xs [] k (and_parts (all_scoped p u a xs) (all_scoped p u b xs) h).1 known rest
     second_follows _ n s k xs h known rest = rest
 

@@ -102,6 +102,11 @@ pub record OnlyNames (around : List ℕ) (us : List Use) : Type 0 where
   pub among : (y : ℕ) → Names us y → Among around y
   pub none : (y : ℕ) → Declares us y → ⊥
 
+-- names alone, of numbers, as those of an expression
+pub record ReadsNumbers (around : List ℕ) (all : List Sort) (us : List Use) : Type 0 where
+  pub names : OnlyNames around us
+  pub numbers : (y : ℕ) → Names us y → is_number (slice_get all y) ≡ true
+
 pub named_facts : (around : List ℕ) (lo hi : ℕ) (all : List Sort) (ns us : List Use) (ds : List ℕ) → OnlyNames around ns → Facts around lo hi all us ds → Facts around lo hi all (ns ++ us) ds
 named_facts around lo hi all ns us ds n f = record {
   grows = f.grows;
@@ -123,6 +128,10 @@ stands_named around ns us ds w xs s = record {
   own = s.own;
   once = s.once;
 }
+
+-- what some of the names alone are, where the part stands
+pub stands_some : (around : List ℕ) (ns us : List Use) (ds : List ℕ) (w : SlotMap) (xs : List ℕ) → ((y : ℕ) → Names ns y → Names us y) → Stands around us ds w xs → Stands around ns [] w xs
+stands_some around ns us ds w xs f s = record { there = λ y h k. s.there y h (f y k); known = λ y h k. s.known y h (f y k); own = λ y h. none_among y h; once = s.once }
 
 -- the places of two parts
 pub obeys_first : (sorts : List Sort) (ps qs : List Place) → Obey sorts (ps ++ qs) → Obey sorts ps
@@ -164,12 +173,17 @@ module _ (form : Form) (fs : List RFunction) where
     units = λ context w n u xs lies s o stand. h.units context w n u xs lies s o stand;
   }
 
-  -- behind names alone
-  pub after_names : {T : Type 0} (check : UnitOf → T → Scoped) (around : List ℕ) (all : List Sort) (top : List ℕ) (ns us : List Use) (ds : List ℕ) (ps : List Place) (f : Lifts T)
-      → LiftsScoped check around all top us ds ps f → LiftsScoped check around all top (ns ++ us) ds ps f
-  after_names check around all top ns us ds ps f h = record {
-    tree = λ context w n u xs lies s o stand. h.tree context w n u xs lies (stands_named around ns us ds w xs s) o stand;
-    declared = h.declared;
+  -- behind what is read first, which puts nothing into scope
+  pub after_reads : {S T : Type 0} (check : UnitOf → S → Scoped) (better : UnitOf → T → Scoped) (around : List ℕ) (all : List Sort) (top : List ℕ) (ns us : List Use) (ds : List ℕ) (ps : List Place) (g : SlotMap → S → T) (f : Lifts S) (reads : SlotMap → UnitOf → List ℕ → Bool)
+      → ((u : UnitOf) (w : SlotMap) (s : S) (xs : List ℕ) → (better u (g w s)).right xs ≡ (reads w u xs && (check u s).right xs))
+      → ((context : LiftContext) (w : SlotMap) (u : UnitOf) (xs : List ℕ) → Lies all context w u → Stands around ns [] w xs → reads w u xs ≡ true)
+      → LiftsScoped check around all top us ds ps f → LiftsScoped better around all [] (ns ++ us) ds ps (λ context w n. on_tree (g w) (f context w n))
+  after_reads check better around all top ns us ds ps g f reads same first h = record {
+    tree = λ context w n u xs lies s o stand.
+        same u w (f context w n).tree xs
+        ∙ both_hold (reads w u xs) ((check u (f context w n).tree).right xs) (first context w u xs lies (stands_some around ns (ns ++ us) ds w xs (λ y k. names_first ns us y k) s))
+        (h.tree context w n u xs lies (stands_named around ns us ds w xs s) o stand);
+    declared = λ context w n u y a. none_among y a;
     units = λ context w n u xs lies s o stand. h.units context w n u xs lies (stands_named around ns us ds w xs s) o stand;
   }
 

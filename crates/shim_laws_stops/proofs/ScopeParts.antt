@@ -33,13 +33,18 @@ use Rattle.shim_units.proofs.PartSteps.{branch_what_part, what_part}
 use Rattle.shim_process.specs.LocalState.{unit_at}
 use Rattle.shim_laws_sources.proofs.Placing.{declares_it}
 use Rattle.shim_base.proofs.Facts.{both_hold, either_holds}
-use Rattle.shim_laws_stops.specs.InScope.{is_number, is_output_at, has_number, has_output, call_right, all_calls_right, branches_apart, Scoped, declares_none, scoped, all_scoped}
+use Rattle.shim_laws_stops.specs.InScope.{is_number, is_input_at, is_output_at, has_number, has_input, has_output, reads_right, option_right, call_right, all_calls_right, branches_apart, Scoped, declares_none, scoped, all_scoped}
 use Rattle.shim_laws_stops.proofs.Among.{Among, none_among, first_of, among_cases, among_first, among_second, among_either, was_among}
 use Rattle.shim_laws_stops.proofs.ScopeLists.{Names, Declares, names_first, names_second, at_place_of}
 use Rattle.shim_laws_stops.proofs.ScopeSteps.{what_in, declared_in, all_in, in_line, in_declare, in_assign, in_next, in_next_assign, in_assign_next, in_get, in_put, in_if, in_while, in_for, in_block, in_call, in_try, in_throw, in_par}
 use Rattle.shim_laws_stops.proofs.ScopeExprs.{only_both, only_named, only_written, only_none}
-use Rattle.shim_laws_stops.proofs.ScopeLifting.{Facts, Stands, no_facts, both_facts, OnlyNames, named_facts, Lies, LiftsScoped, on_it, after_names, two, IsAround, number_there, block_branch, referred}
+use Rattle.shim_laws_stops.proofs.ScopeLifting.{Facts, Stands, no_facts, both_facts, OnlyNames, ReadsNumbers, named_facts, stands_some, Lies, LiftsScoped, on_it, after_reads, two, IsAround, number_there, block_branch, referred}
+use Rattle.shim_laws_stops.proofs.ScopeReads.{AreRight, reads_moved, option_moved}
 use Rattle.shim_laws_stops.proofs.ScopeCalls.{CallSuits, moved_right, RefersTo, Refer, call_refers, all_apart}
+
+input_there : (o : Option Sort) → is_input_at o ≡ true → is_input_at (Some (sort_or_bool o)) ≡ true
+input_there None h = absurd (cc h)
+input_there (Some s) h = h
 
 output_there : (o : Option Sort) → is_output_at o ≡ true → is_output_at (Some (sort_or_bool o)) ≡ true
 output_there None h = absurd (cc h)
@@ -136,9 +141,18 @@ module _ (form : Form) (fs : List RFunction) where
     number_here h =
         both_hold (is_among xs (slot_index_of w.slots x)) (is_number (slice_get v.slots (slot_index_of w.slots x))) (s.known x a n) (ap is_number sort_here ∙ number_there (slice_get all x) h)
 
+    input_here : is_input_at (slice_get all x) ≡ true → has_input v xs (slot_index_of w.slots x) ≡ true
+    input_here h =
+        both_hold (is_among xs (slot_index_of w.slots x)) (is_input_at (slice_get v.slots (slot_index_of w.slots x))) (s.known x a n) (ap is_input_at sort_here ∙ input_there (slice_get all x) h)
+
     output_here : is_output_at (slice_get all x) ≡ true → has_output v xs (slot_index_of w.slots x) ≡ true
     output_here h =
         both_hold (is_among xs (slot_index_of w.slots x)) (is_output_at (slice_get v.slots (slot_index_of w.slots x))) (s.known x a n) (ap is_output_at sort_here ∙ output_there (slice_get all x) h)
+
+  -- what is read among these uses is right
+  read_here : (around : List ℕ) (all : List Sort) (ns us : List Use) (ds : List ℕ) → ReadsNumbers around all ns → ((y : ℕ) → Names ns y → Names us y) → (context : LiftContext) (w : SlotMap) (v : UnitOf) (xs : List ℕ) → Lies form fs all context w v → Stands around us ds w xs
+      → AreRight w.slots v xs ns
+  read_here around all ns us ds r f context w v xs lies s y n = number_here around all ns context w v xs lies (stands_some around ns us ds w xs f s) y (r.names.among y n) n (r.numbers y n)
 
   first_named : (x : ℕ) (us : List Use) → Names (used Named x ∷ us) x
   first_named x us = names_first (used Named x ∷ []) us x (first_of x [])
@@ -170,13 +184,15 @@ module _ (form : Form) (fs : List RFunction) where
       one : (y : ℕ) → Among (lo ∷ []) y → lo ≡ y
       one y h = elim (among_cases lo [] y h) [ inl e ↦ e | inr k ↦ none_among y k ]
 
-  pub part_declare : (around : List ℕ) (lo hi : ℕ) (all : List Sort) (ty : Ty) (e : Option UExpr) → lo < hi → is_number (slice_get all lo) ≡ true → OnlyNames around (names_in_option e) → WhatIn around lo hi all (lo ∷ []) (r.Declare ty lo e)
+  pub part_declare : (around : List ℕ) (lo hi : ℕ) (all : List Sort) (ty : Ty) (e : Option UExpr) → lo < hi → is_number (slice_get all lo) ≡ true → ReadsNumbers around all (names_in_option e) → WhatIn around lo hi all (lo ∷ []) (r.Declare ty lo e)
   unfolding roll-RWhat denote.Hole.Carrier.roll
   part_declare around lo hi all ty e less number n line = at_part around lo hi all (lo ∷ []) line (RWhat-F.Declare ty lo e) (record {
-    facts = declare_facts around lo hi all (names_in_option e) less number n;
+    facts = declare_facts around lo hi all (names_in_option e) less number n.names;
     tops = λ y a. a;
     lifts = record {
-      tree = λ context w i v xs lies s o stand. right_of _ _ xs (in_declare form v ty (slot_index_of w.slots lo) (moved_option w.slots e));
+      tree = λ context w i v xs lies s o stand.
+          right_of _ _ xs (in_declare form v ty (slot_index_of w.slots lo) (moved_option w.slots e))
+          ∙ option_moved w.slots v xs e (read_here around all (names_in_option e) (used Declared lo ∷ names_in_option e) (lo ∷ []) n (λ y k. names_second (used Declared lo ∷ []) (names_in_option e) y k) context w v xs lies s);
       declared = λ context w i v y a.
           subst (λ (c : Scoped). Among c.declares (slot_index_of w.slots y)) (sym (in_declare form v ty (slot_index_of w.slots lo) (moved_option w.slots e)))
           (subst (λ z. Among (slot_index_of w.slots lo ∷ []) (slot_index_of w.slots z)) (only_one lo y a) (first_of (slot_index_of w.slots lo) []));
@@ -187,12 +203,14 @@ module _ (form : Form) (fs : List RFunction) where
       only_one : (lo y : ℕ) → Among (lo ∷ []) y → lo ≡ y
       only_one lo y h = elim (among_cases lo [] y h) [ inl e ↦ e | inr k ↦ none_among y k ]
 
-  pub part_assign : (around : List ℕ) (lo : ℕ) (all : List Sort) (x : ℕ) (e : UExpr) → Among around x → is_number (slice_get all x) ≡ true → OnlyNames around (names_in e) → WhatIn around lo lo all [] (r.Assign x e)
+  pub part_assign : (around : List ℕ) (lo : ℕ) (all : List Sort) (x : ℕ) (e : UExpr) → Among around x → is_number (slice_get all x) ≡ true → ReadsNumbers around all (names_in e) → WhatIn around lo lo all [] (r.Assign x e)
   unfolding roll-RWhat denote.Hole.Carrier.roll
   part_assign around lo all x e a number n line =
       let us : List Use = used Written x ∷ names_in e in
-      at_part around lo lo all [] line (RWhat-F.Assign x e) (plain around lo all us [] (λ context w. u.Assign (slot_index_of w.slots x) (moved w.slots e)) (only_both around (used Written x ∷ []) (names_in e) (only_written around x a) n)
-      (λ context w v xs lies s o. right_of _ _ xs (in_assign form v (slot_index_of w.slots x) (moved w.slots e)) ∙ number_here around all us context w v xs lies s x a (first_written x (names_in e)) number))
+      at_part around lo lo all [] line (RWhat-F.Assign x e) (plain around lo all us [] (λ context w. u.Assign (slot_index_of w.slots x) (moved w.slots e)) (only_both around (used Written x ∷ []) (names_in e) (only_written around x a) n.names)
+      (λ context w v xs lies s o. right_of _ _ xs (in_assign form v (slot_index_of w.slots x) (moved w.slots e))
+      ∙ both_hold (has_number v xs (slot_index_of w.slots x)) (reads_right v xs (moved w.slots e)) (number_here around all us context w v xs lies s x a (first_written x (names_in e)) number)
+      (reads_moved w.slots v xs e (read_here around all (names_in e) us [] n (λ y k. names_second (used Written x ∷ []) (names_in e) y k) context w v xs lies s))))
 
   pub part_next : (around : List ℕ) (lo : ℕ) (all : List Sort) (x : ℕ) → Among around x → is_number (slice_get all x) ≡ true → WhatIn around lo lo all [] (r.Next x)
   unfolding roll-RWhat denote.Hole.Carrier.roll
@@ -201,12 +219,14 @@ module _ (form : Form) (fs : List RFunction) where
       at_part around lo lo all [] line (RWhat-F.Next x) (plain around lo all us [] (λ context w. u.Next (slot_index_of w.slots x)) (only_named around x a)
       (λ context w v xs lies s o. right_of _ _ xs (in_next form v (slot_index_of w.slots x)) ∙ number_here around all us context w v xs lies s x a (first_named x []) number))
 
-  pub part_next_assign : (around : List ℕ) (lo : ℕ) (all : List Sort) (x : ℕ) (e : UExpr) → Among around x → is_number (slice_get all x) ≡ true → OnlyNames around (names_in e) → WhatIn around lo lo all [] (r.NextAssign x e)
+  pub part_next_assign : (around : List ℕ) (lo : ℕ) (all : List Sort) (x : ℕ) (e : UExpr) → Among around x → is_number (slice_get all x) ≡ true → ReadsNumbers around all (names_in e) → WhatIn around lo lo all [] (r.NextAssign x e)
   unfolding roll-RWhat denote.Hole.Carrier.roll
   part_next_assign around lo all x e a number n line =
       let us : List Use = used Written x ∷ names_in e in
-      at_part around lo lo all [] line (RWhat-F.NextAssign x e) (plain around lo all us [] (λ context w. u.NextAssign (slot_index_of w.slots x) (moved w.slots e)) (only_both around (used Written x ∷ []) (names_in e) (only_written around x a) n)
-      (λ context w v xs lies s o. right_of _ _ xs (in_next_assign form v (slot_index_of w.slots x) (moved w.slots e)) ∙ number_here around all us context w v xs lies s x a (first_written x (names_in e)) number))
+      at_part around lo lo all [] line (RWhat-F.NextAssign x e) (plain around lo all us [] (λ context w. u.NextAssign (slot_index_of w.slots x) (moved w.slots e)) (only_both around (used Written x ∷ []) (names_in e) (only_written around x a) n.names)
+      (λ context w v xs lies s o. right_of _ _ xs (in_next_assign form v (slot_index_of w.slots x) (moved w.slots e))
+      ∙ both_hold (has_number v xs (slot_index_of w.slots x)) (reads_right v xs (moved w.slots e)) (number_here around all us context w v xs lies s x a (first_written x (names_in e)) number)
+      (reads_moved w.slots v xs e (read_here around all (names_in e) us [] n (λ y k. names_second (used Written x ∷ []) (names_in e) y k) context w v xs lies s))))
 
   pub part_assign_next : (around : List ℕ) (lo : ℕ) (all : List Sort) (x y : ℕ) → Among around x → is_number (slice_get all x) ≡ true → Among around y → is_number (slice_get all y) ≡ true → WhatIn around lo lo all [] (r.AssignNext x y)
   unfolding roll-RWhat denote.Hole.Carrier.roll
@@ -218,20 +238,24 @@ module _ (form : Form) (fs : List RFunction) where
       ∙ both_hold (has_number v xs (slot_index_of w.slots x)) (has_number v xs (slot_index_of w.slots y)) (number_here around all us context w v xs lies s x a (first_written x (used Named y ∷ [])) number)
       (number_here around all us context w v xs lies s y b (names_second (used Written x ∷ []) (used Named y ∷ []) y (first_named y [])) other)))
 
-  pub part_get : (around : List ℕ) (lo : ℕ) (all : List Sort) (x y : ℕ) → Among around x → is_number (slice_get all x) ≡ true → Among around y → WhatIn around lo lo all [] (r.Get x y)
+  pub part_get : (around : List ℕ) (lo : ℕ) (all : List Sort) (x y : ℕ) → Among around x → is_number (slice_get all x) ≡ true → Among around y → is_input_at (slice_get all y) ≡ true → WhatIn around lo lo all [] (r.Get x y)
   unfolding roll-RWhat denote.Hole.Carrier.roll
-  part_get around lo all x y a number b line =
+  part_get around lo all x y a number b input line =
       let us : List Use = used Written x ∷ (used Named y ∷ []) in
       at_part around lo lo all [] line (RWhat-F.Get x y) (plain around lo all us [] (λ context w. u.Get (slot_index_of w.slots x) (slot_index_of w.slots y))
       (only_both around (used Written x ∷ []) (used Named y ∷ []) (only_written around x a) (only_named around y b))
-      (λ context w v xs lies s o. right_of _ _ xs (in_get form v (slot_index_of w.slots x) (slot_index_of w.slots y)) ∙ number_here around all us context w v xs lies s x a (first_written x (used Named y ∷ [])) number))
+      (λ context w v xs lies s o. right_of _ _ xs (in_get form v (slot_index_of w.slots x) (slot_index_of w.slots y))
+      ∙ both_hold (has_number v xs (slot_index_of w.slots x)) (has_input v xs (slot_index_of w.slots y)) (number_here around all us context w v xs lies s x a (first_written x (used Named y ∷ [])) number)
+      (input_here around all us context w v xs lies s y b (names_second (used Written x ∷ []) (used Named y ∷ []) y (first_named y [])) input)))
 
-  pub part_put : (around : List ℕ) (lo : ℕ) (all : List Sort) (x : ℕ) (e : UExpr) → Among around x → is_output_at (slice_get all x) ≡ true → OnlyNames around (names_in e) → WhatIn around lo lo all [] (r.Put x e)
+  pub part_put : (around : List ℕ) (lo : ℕ) (all : List Sort) (x : ℕ) (e : UExpr) → Among around x → is_output_at (slice_get all x) ≡ true → ReadsNumbers around all (names_in e) → WhatIn around lo lo all [] (r.Put x e)
   unfolding roll-RWhat denote.Hole.Carrier.roll
   part_put around lo all x e a output n line =
       let us : List Use = used Named x ∷ names_in e in
-      at_part around lo lo all [] line (RWhat-F.Put x e) (plain around lo all us [] (λ context w. u.Put (slot_index_of w.slots x) (moved w.slots e)) (only_both around (used Named x ∷ []) (names_in e) (only_named around x a) n)
-      (λ context w v xs lies s o. right_of _ _ xs (in_put form v (slot_index_of w.slots x) (moved w.slots e)) ∙ output_here around all us context w v xs lies s x a (first_named x (names_in e)) output))
+      at_part around lo lo all [] line (RWhat-F.Put x e) (plain around lo all us [] (λ context w. u.Put (slot_index_of w.slots x) (moved w.slots e)) (only_both around (used Named x ∷ []) (names_in e) (only_named around x a) n.names)
+      (λ context w v xs lies s o. right_of _ _ xs (in_put form v (slot_index_of w.slots x) (moved w.slots e))
+      ∙ both_hold (has_output v xs (slot_index_of w.slots x)) (reads_right v xs (moved w.slots e)) (output_here around all us context w v xs lies s x a (first_named x (names_in e)) output)
+      (reads_moved w.slots v xs e (read_here around all (names_in e) us [] n (λ y k. names_second (used Named x ∷ []) (names_in e) y k) context w v xs lies s))))
 
   pub part_throw : (around : List ℕ) (lo : ℕ) (all : List Sort) (x : ℕ) → WhatIn around lo lo all [] (r.Throw x)
   unfolding roll-RWhat denote.Hole.Carrier.roll
@@ -297,12 +321,15 @@ module _ (form : Form) (fs : List RFunction) where
     lifts = on_it form fs check better around all top [] us ds ps g f same (λ v w s y declared i. none_among y i) h.lifts;
   }
 
-  pub behind_names : {T : Type 0} (check : UnitOf → T → Scoped) (around : List ℕ) (lo hi : ℕ) (all : List Sort) (top : List ℕ) (ns us : List Use) (ds : List ℕ) (ps : List Place) (f : Lifts T)
-      → OnlyNames around ns → InScope check around lo hi all top us ds ps f → InScope check around lo hi all top (ns ++ us) ds ps f
-  behind_names check around lo hi all top ns us ds ps f n h = record {
-    facts = named_facts around lo hi all ns us ds n h.facts;
-    tops = h.tops;
-    lifts = after_names form fs check around all top ns us ds ps f h.lifts;
+  -- something around one, which reads first, and declares nothing
+  pub behind_reads : {S T : Type 0} (check : UnitOf → S → Scoped) (better : UnitOf → T → Scoped) (around : List ℕ) (lo hi : ℕ) (all : List Sort) (top : List ℕ) (ns us : List Use) (ds : List ℕ) (ps : List Place) (g : SlotMap → S → T) (f : Lifts S) (reads : SlotMap → UnitOf → List ℕ → Bool)
+      → ((v : UnitOf) (w : SlotMap) (s : S) (xs : List ℕ) → (better v (g w s)).right xs ≡ (reads w v xs && (check v s).right xs))
+      → ReadsNumbers around all ns → ((w : SlotMap) (v : UnitOf) (xs : List ℕ) → AreRight w.slots v xs ns → reads w v xs ≡ true)
+      → InScope check around lo hi all top us ds ps f → InScope better around lo hi all [] (ns ++ us) ds ps (λ context w n. on_tree (g w) (f context w n))
+  behind_reads check better around lo hi all top ns us ds ps g f reads same n first h = record {
+    facts = named_facts around lo hi all ns us ds n.names h.facts;
+    tops = λ y i. none_among y i;
+    lifts = after_reads form fs check better around all top ns us ds ps g f reads same (λ context w v xs lies s. first w v xs (read_here around all ns ns [] n (λ y k. k) context w v xs lies s)) h.lifts;
   }
 
   pub no_stmts : (around : List ℕ) (lo : ℕ) (all : List Sort) → BodyIn around lo lo all [] []
@@ -326,42 +353,49 @@ module _ (form : Form) (fs : List RFunction) where
       ])
       h k
 
-  pub part_if : (around : List ℕ) (lo mi hi : ℕ) (all : List Sort) (top more : List ℕ) (e : UExpr) (a b : List RStmt) → OnlyNames around (names_in e) → BodyIn around lo mi all top a → BodyIn around mi hi all more b → WhatIn around lo hi all [] (r.If e a b)
+  abbrev pair_in : UnitOf → List UStmt × List UStmt → Scoped
+  pair_in v x = declares_none (λ xs. all_scoped form v x.0 xs && all_scoped form v x.1 xs)
+
+  pub part_if : (around : List ℕ) (lo mi hi : ℕ) (all : List Sort) (top more : List ℕ) (e : UExpr) (a b : List RStmt) → ReadsNumbers around all (names_in e) → BodyIn around lo mi all top a → BodyIn around mi hi all more b → WhatIn around lo hi all [] (r.If e a b)
   unfolding roll-RWhat denote.Hole.Carrier.roll
   part_if around lo mi hi all top more e a b n h k line =
       let us : List Use = all_uses fs (parts a) in
       let vs : List Use = all_uses fs (parts b) in
+      let f : Lifts (List UStmt × List UStmt) = λ context w i. lift_two (λ x y. (x, y)) (lift_all (parts a)) (lift_all (parts b)) context w i in
       at_part around lo hi all [] line (RWhat-F.If e a b)
-      (behind_names (what_in form) around lo hi all [] (names_in e) (us ++ vs) (all_declares (parts a) ++ all_declares (parts b)) (all_places fs (parts a) ++ all_places fs (parts b))
-      (λ context w i. lift_two (λ x y. u.If (moved w.slots e) x y) (lift_all (parts a)) (lift_all (parts b)) context w i) n
-      (blocks around lo mi hi all (all_in form) (all_in form) (what_in form) top more us vs (all_declares (parts a)) (all_declares (parts b)) (all_places fs (parts a)) (all_places fs (parts b)) (λ w x y. u.If (moved w.slots e) x y) (lift_all (parts a)) (lift_all (parts b))
-      (λ v w x y xs. right_of _ _ xs (in_if form v (moved w.slots e) x y)) h k))
+      (behind_reads pair_in (what_in form) around lo hi all [] (names_in e) (us ++ vs) (all_declares (parts a) ++ all_declares (parts b)) (all_places fs (parts a) ++ all_places fs (parts b))
+      (λ w x. u.If (moved w.slots e) x.0 x.1) f (λ w v xs. reads_right v xs (moved w.slots e)) (λ v w x xs. right_of _ _ xs (in_if form v (moved w.slots e) x.0 x.1)) n (λ w v xs h. reads_moved w.slots v xs e h)
+      (blocks around lo mi hi all (all_in form) (all_in form) pair_in top more us vs (all_declares (parts a)) (all_declares (parts b)) (all_places fs (parts a)) (all_places fs (parts b)) (λ w x y. (x, y)) (lift_all (parts a)) (lift_all (parts b)) (λ v w x y xs. refl) h k))
 
-  pub part_while : (around : List ℕ) (lo hi : ℕ) (all : List Sort) (top : List ℕ) (e : UExpr) (body : List RStmt) → OnlyNames around (names_in e) → BodyIn around lo hi all top body → WhatIn around lo hi all [] (r.While e body)
+  pub part_while : (around : List ℕ) (lo hi : ℕ) (all : List Sort) (top : List ℕ) (e : UExpr) (body : List RStmt) → ReadsNumbers around all (names_in e) → BodyIn around lo hi all top body → WhatIn around lo hi all [] (r.While e body)
   unfolding roll-RWhat denote.Hole.Carrier.roll
   part_while around lo hi all top e body n h line =
       at_part around lo hi all [] line (RWhat-F.While e body)
-      (behind_names (what_in form) around lo hi all [] (names_in e) (all_uses fs (parts body)) (all_declares (parts body)) (all_places fs (parts body)) (λ context w i. on_tree (λ s. u.While (moved w.slots e) s) (lift_all (parts body) context w i)) n
-      (enclosed (all_in form) (what_in form) around lo hi all top (all_uses fs (parts body)) (all_declares (parts body)) (all_places fs (parts body)) (λ w s. u.While (moved w.slots e) s) (lift_all (parts body)) (λ v w s xs. right_of _ _ xs (in_while form v (moved w.slots e) s)) h))
+      (behind_reads (all_in form) (what_in form) around lo hi all top (names_in e) (all_uses fs (parts body)) (all_declares (parts body)) (all_places fs (parts body)) (λ w s. u.While (moved w.slots e) s) (lift_all (parts body))
+      (λ w v xs. reads_right v xs (moved w.slots e)) (λ v w s xs. right_of _ _ xs (in_while form v (moved w.slots e) s)) n (λ w v xs h. reads_moved w.slots v xs e h) h)
 
-  abbrev pair_in : UnitOf → List UStmt × List UStmt → Scoped
-  pair_in v x = declares_none (λ xs. all_scoped form v x.0 xs && all_scoped form v x.1 xs)
+  -- the test of a loop, and its step and its body
+  abbrev loop_in : UnitOf → Option UExpr × List UStmt × List UStmt → Scoped
+  loop_in v x = declares_none (λ xs. option_right v xs x.0 && (all_scoped form v x.1 xs && all_scoped form v x.2 xs))
 
   -- the step declares nothing
-  pub part_for : (around : List ℕ) (lo mi ni hi : ℕ) (all : List Sort) (top more : List ℕ) (a : List RStmt) (test : Option UExpr) (b c : List RStmt) → BodyIn around lo mi all top a → OnlyNames (around ++ top) (names_in_option test)
+  pub part_for : (around : List ℕ) (lo mi ni hi : ℕ) (all : List Sort) (top more : List ℕ) (a : List RStmt) (test : Option UExpr) (b c : List RStmt) → BodyIn around lo mi all top a → ReadsNumbers (around ++ top) all (names_in_option test)
       → BodyIn (around ++ top) mi ni all [] b → BodyIn (around ++ top) ni hi all more c → WhatIn around lo hi all [] (r.For a test b c)
   unfolding roll-RWhat denote.Hole.Carrier.roll
   part_for around lo mi ni hi all top more a test b c h n k l line =
       let us : List Use = all_uses fs (parts a) in
       let vs : List Use = all_uses fs (parts b) in
       let os : List Use = all_uses fs (parts c) in
-      let g : SlotMap → List UStmt → List UStmt × List UStmt → UWhat = λ w x y. u.For x (moved_option w.slots test) y.0 y.1 in
+      let g : SlotMap → List UStmt → Option UExpr × List UStmt × List UStmt → UWhat = λ w x y. u.For x y.0 y.1 y.2 in
+      let m : SlotMap → List UStmt × List UStmt → Option UExpr × List UStmt × List UStmt = λ w x. (moved_option w.slots test, x.0, x.1) in
       let f : Lifts (List UStmt × List UStmt) = λ context w i. lift_two (λ x y. (x, y)) (lift_all (parts b)) (lift_all (parts c)) context w i in
+      let o : Lifts (Option UExpr × List UStmt × List UStmt) = λ context w i. on_tree (m w) (f context w i) in
       at_part around lo hi all [] line (RWhat-F.For a test b c)
-      (sequence around lo mi hi all (all_in form) pair_in (what_in form) top [] [] us (names_in_option test ++ (vs ++ os)) (all_declares (parts a)) (all_declares (parts b) ++ all_declares (parts c)) (all_places fs (parts a)) (all_places fs (parts b) ++ all_places fs (parts c))
-      g (lift_all (parts a)) f
-      (λ v w x y xs. right_of _ _ xs (in_for form v x (moved_option w.slots test) y.0 y.1)) (λ v w x y z declared others i. none_among z i) (λ y i. none_among y i) h
-      (behind_names pair_in (around ++ top) mi hi all [] (names_in_option test) (vs ++ os) (all_declares (parts b) ++ all_declares (parts c)) (all_places fs (parts b) ++ all_places fs (parts c)) f n
+      (sequence around lo mi hi all (all_in form) loop_in (what_in form) top [] [] us (names_in_option test ++ (vs ++ os)) (all_declares (parts a)) (all_declares (parts b) ++ all_declares (parts c)) (all_places fs (parts a)) (all_places fs (parts b) ++ all_places fs (parts c))
+      g (lift_all (parts a)) o
+      (λ v w x y xs. right_of _ _ xs (in_for form v x y.0 y.1 y.2)) (λ v w x y z declared others i. none_among z i) (λ y i. none_among y i) h
+      (behind_reads pair_in loop_in (around ++ top) mi hi all [] (names_in_option test) (vs ++ os) (all_declares (parts b) ++ all_declares (parts c)) (all_places fs (parts b) ++ all_places fs (parts c)) m f
+      (λ w v xs. option_right v xs (moved_option w.slots test)) (λ v w x xs. refl) n (λ w v xs h. option_moved w.slots v xs test h)
       (blocks (around ++ top) mi ni hi all (all_in form) (all_in form) pair_in [] more vs os (all_declares (parts b)) (all_declares (parts c)) (all_places fs (parts b)) (all_places fs (parts c)) (λ w x y. (x, y)) (lift_all (parts b)) (lift_all (parts c)) (λ v w x y xs. refl) k l)))
 
   pub part_block : (around : List ℕ) (lo hi : ℕ) (all : List Sort) (top : List ℕ) (body : List RStmt) → BodyIn around lo hi all top body → WhatIn around lo hi all [] (r.Block body)

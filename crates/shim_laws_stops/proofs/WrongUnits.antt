@@ -3,6 +3,7 @@ use Rattle.std.proofs.Common.{◌≡◌, ◌∙◌, ℕ, true, false, ◌&&◌, 
 use Rattle.shim_base.specs.declared.types.Ty.TheVariants as ty
 use Rattle.shim_syntax.specs.declared.tree.Sort.{Sort}
 use Rattle.shim_syntax.specs.declared.tree.Sort.TheVariants.{Value, Output}
+use Rattle.shim_scopes.specs.declared.tree.UExpr.TheVariants as to
 use Rattle.shim_scopes.specs.declared.tree.UParam.{UParam}
 use Rattle.shim_units.specs.declared.form.Form.{Form}
 use Rattle.shim_units.specs.declared.unit.Unit.{Unit as UnitOf}
@@ -10,11 +11,12 @@ use Rattle.shim_units.specs.declared.unit.Arg.{Arg}
 use Rattle.shim_units.specs.declared.unit.Arg.TheVariants.{Ref}
 use Rattle.shim_units.specs.declared.unit.UBranch.{UBranch}
 use Rattle.shim_units.specs.declared.unit.UCall.{UCall}
-use Rattle.shim_units.specs.declared.unit.UWhat.TheVariants.{Next, Throw}
+use Rattle.shim_units.specs.declared.unit.UWhat.TheVariants.{Next, Throw, While}
 use Rattle.shim_process.specs.LocalState.{unit_at}
 use Rattle.shim_laws_stops.specs.InForce.{hands_on, throws}
-use Rattle.shim_laws_stops.specs.InScope.{Scoped, argument_right, arguments_right, references, distinct, branches_apart, unit_scoped}
-use Rattle.shim_laws_stops.proofs.ScopeSteps.{in_line, in_next}
+use Rattle.shim_laws_stops.specs.InScope.{has_input, have_numbers, reads_right, Scoped, scoped, argument_right, arguments_right, references, distinct, branches_apart, unit_scoped}
+use Rattle.shim_laws_stops.proofs.ScopeReads.{variables_variable}
+use Rattle.shim_laws_stops.proofs.ScopeSteps.{in_line, in_next, in_while}
 use Rattle.shim_laws_stops.proofs.ThrowSteps.{throws_line, throws_throw}
 
 abbrev param : Sort → UParam
@@ -66,6 +68,17 @@ module _ (program : Form) where
   -- the output given for a number
   pub as_number : (u : UnitOf) (xs : List ℕ) → argument_right (record u { slots = Output ∷ [] }) (0 ∷ xs) (param (Value ty.Int32)) (Ref 0) ≡ false
   as_number u xs = refl
+
+  -- a variable read that isn't in scope, in a test, and a stream read
+  pub read_elsewhere : (u : UnitOf) → (scoped program u (record { line = 1; what = While (to.Var 0) [] })).right [] ≡ false
+  read_elsewhere u = ap (λ (z : Scoped). z.right []) (in_line program u 1 (While (to.Var 0) []) ∙ in_while program u (to.Var 0) []) ∙ ap (λ ys. have_numbers u [] ys && true) (variables_variable 0)
+
+  pub read_stream : (u : UnitOf) → reads_right (record u { slots = Output ∷ [] }) (0 ∷ []) (to.Var 0) ≡ false
+  read_stream u = ap (have_numbers (record u { slots = Output ∷ [] }) (0 ∷ [])) (variables_variable 0)
+
+  -- the output at a `get`
+  pub got_from_output : (u : UnitOf) → has_input (record u { slots = Output ∷ [] }) (0 ∷ []) 0 ≡ false
+  got_from_output u = refl
 
   -- an exception thrown that isn't in force: the unit is given one, which has number 0
   pub thrown_in_force : throws program (record { line = 1; what = Throw 0 }) (0 ∷ []) ≡ true

@@ -11,7 +11,7 @@ use Rattle.shim_process.specs.LocalState.{LocalState, Frame, ExceptionPlace, uni
 use Rattle.shim_process.specs.OwnSlots.{is_own_slot, UsesOwnSlots}
 use Rattle.shim_process.specs.FittingFrames.{FrameFits}
 use Rattle.shim_laws_stops.specs.Named.{IsThere}
-use Rattle.shim_laws_stops.specs.InScope.{is_number, Scoped, what_scoped, scoped, all_scoped, AllInScope}
+use Rattle.shim_laws_stops.specs.InScope.{is_number, option_right, Scoped, what_scoped, scoped, all_scoped, AllInScope}
 
 -- the slot has a location, where it holds a number
 abbrev pub HasLocation : UnitOf → Locations → List ℕ → ℕ → Type 0
@@ -22,7 +22,7 @@ abbrev pub scoped_kind : Form → UnitOf → UWhat-F UWhat UStmt → Scoped
 scoped_kind program u w = what_scoped program u (map-UWhat UWhat UStmt Scoped Scoped (fold-UWhat Scoped Scoped (what_scoped program u) (λ s. s.what)) (scoped program u) w)
 
 abbrev pub item_right : Form → UnitOf → UWhat-F UWhat UStmt → List ℕ → Bool
-item_right program u (UWhat-F.For first test step body) xs = all_scoped program u step xs && all_scoped program u body xs
+item_right program u (UWhat-F.For first test step body) xs = option_right u xs test && (all_scoped program u step xs && all_scoped program u body xs)
 item_right program u w xs = (scoped_kind program u w).right xs
 
 -- the statement names what is in scope, and each of that has what is asked, or one of these statements before it declares it

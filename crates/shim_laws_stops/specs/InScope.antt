@@ -1,7 +1,8 @@
--- What binding gives the units of a program: what a statement names is in scope and of the kind that is asked for, an argument is given by reference once, and a fork has a branch.
+-- What binding gives the units of a program: what a statement names, in its expressions, too, is in scope and of the kind that is asked for, an argument is given by reference once, and a fork has a branch.
 use Rattle.std.specs.Prelude.{◌≡◌, ℕ, Bool, true, false, not, ◌&&◌, List, [], ◌∷◌, ◌++◌, Option, Some, None, length, map, slice_get}
 use Rattle.shim_syntax.specs.declared.tree.Sort.{Sort}
 use Rattle.shim_syntax.specs.declared.tree.Sort.TheVariants.{Value, Input, Output}
+use Rattle.shim_scopes.specs.declared.tree.UExpr.{UExpr, UExpr-F, fold-UExpr}
 use Rattle.shim_scopes.specs.declared.tree.UParam.{UParam}
 use Rattle.shim_units.specs.declared.form.Form.{Form}
 use Rattle.shim_units.specs.declared.unit.Unit.{Unit as UnitOf}
@@ -45,15 +46,46 @@ same_kind Output o = is_output_at o
 abbrev pub has_number : UnitOf → List ℕ → ℕ → Bool
 has_number u xs x = is_among xs x && is_number (slice_get u.slots x)
 
+abbrev pub has_input : UnitOf → List ℕ → ℕ → Bool
+has_input u xs x = is_among xs x && is_input_at (slice_get u.slots x)
+
 abbrev pub has_output : UnitOf → List ℕ → ℕ → Bool
 has_output u xs x = is_among xs x && is_output_at (slice_get u.slots x)
+
+-- expressions
+
+abbrev pub variables_step : UExpr-F (List ℕ) → List ℕ
+variables_step (UExpr-F.Number n) = []
+variables_step (UExpr-F.Var x) = x ∷ []
+variables_step (UExpr-F.Unary op a) = a
+variables_step (UExpr-F.Binary op a b) = a ++ b
+
+-- the variables that the expression reads
+unfoldable pub variables_in : UExpr → List ℕ
+variables_in = fold-UExpr (List ℕ) variables_step
+
+abbrev pub variables_in_option : Option UExpr → List ℕ
+variables_in_option None = []
+variables_in_option (Some e) = variables_in e
+
+-- each of the second list is among the first, and holds a number
+abbrev pub have_numbers : UnitOf → List ℕ → List ℕ → Bool
+have_numbers u xs [] = true
+have_numbers u xs (y ∷ ys) = has_number u xs y && have_numbers u xs ys
+
+-- so is each variable that the expression reads
+abbrev pub reads_right : UnitOf → List ℕ → UExpr → Bool
+reads_right u xs e = have_numbers u xs (variables_in e)
+
+abbrev pub option_right : UnitOf → List ℕ → Option UExpr → Bool
+option_right u xs e = have_numbers u xs (variables_in_option e)
 
 -- arguments
 
 abbrev pub argument_right : UnitOf → List ℕ → UParam → Arg → Bool
 argument_right u xs p (Ref x) = is_among xs x && same_kind p.sort (slice_get u.slots x)
 argument_right u xs p (Pass x) = is_number (Some p.sort) && has_number u xs x
-argument_right u xs p (Fresh e) = is_number (Some p.sort)
+argument_right u xs p (Fresh e) = is_number (Some p.sort) && reads_right u xs e
 
 abbrev pub arguments_right : UnitOf → List ℕ → List UParam → List Arg → Bool
 arguments_right u xs [] [] = true
@@ -117,17 +149,17 @@ abbrev pub declares_none : (List ℕ → Bool) → Scoped
 declares_none right = record { right = right; declares = [] }
 
 abbrev pub what_scoped : Form → UnitOf → UWhat-F Scoped Scoped → Scoped
-what_scoped program u (UWhat-F.Declare t x e) = record { right = λ xs. true; declares = x ∷ [] }
-what_scoped program u (UWhat-F.Assign x e) = declares_none (λ xs. has_number u xs x)
+what_scoped program u (UWhat-F.Declare t x e) = record { right = λ xs. option_right u xs e; declares = x ∷ [] }
+what_scoped program u (UWhat-F.Assign x e) = declares_none (λ xs. has_number u xs x && reads_right u xs e)
 what_scoped program u (UWhat-F.Next x) = declares_none (λ xs. has_number u xs x)
-what_scoped program u (UWhat-F.NextAssign x e) = declares_none (λ xs. has_number u xs x)
+what_scoped program u (UWhat-F.NextAssign x e) = declares_none (λ xs. has_number u xs x && reads_right u xs e)
 what_scoped program u (UWhat-F.AssignNext x y) = declares_none (λ xs. has_number u xs x && has_number u xs y)
-what_scoped program u (UWhat-F.Get x i) = declares_none (λ xs. has_number u xs x)
-what_scoped program u (UWhat-F.Put o e) = declares_none (λ xs. has_output u xs o)
-what_scoped program u (UWhat-F.If e first second) = declares_none (λ xs. all_right first xs && all_right second xs)
-what_scoped program u (UWhat-F.While e body) = declares_none (λ xs. all_right body xs)
+what_scoped program u (UWhat-F.Get x i) = declares_none (λ xs. has_number u xs x && has_input u xs i)
+what_scoped program u (UWhat-F.Put o e) = declares_none (λ xs. has_output u xs o && reads_right u xs e)
+what_scoped program u (UWhat-F.If e first second) = declares_none (λ xs. reads_right u xs e && (all_right first xs && all_right second xs))
+what_scoped program u (UWhat-F.While e body) = declares_none (λ xs. reads_right u xs e && all_right body xs)
 what_scoped program u (UWhat-F.For first test step body) =
-    declares_none (λ xs. all_right first xs && (all_right step (all_declare first ++ xs) && all_right body (all_declare first ++ xs)))
+    declares_none (λ xs. all_right first xs && (option_right u (all_declare first ++ xs) test && (all_right step (all_declare first ++ xs) && all_right body (all_declare first ++ xs))))
 what_scoped program u (UWhat-F.Block body) = declares_none (λ xs. all_right body xs)
 what_scoped program u (UWhat-F.Call c) = declares_none (λ xs. call_right program u xs c)
 what_scoped program u (UWhat-F.Try body x handler) = declares_none (λ xs. all_right body xs && all_right handler xs)

@@ -2,10 +2,10 @@
 pub mod InForce
 pub mod InScope
 pub mod Named
-pub mod Outputs
+pub mod Streams
 pub mod Thrown
 pub mod Ends
 pub mod FrameLabels
 pub mod FrameLocations
-pub mod OutputHolders
+pub mod StreamHolders
 pub mod SettledFrames

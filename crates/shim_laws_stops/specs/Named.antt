@@ -1,5 +1,5 @@
--- That the variables at which a process waits and those that it hands on have locations, and that a fork has a branch.
-use Rattle.std.specs.Prelude.{◌≡◌, ℕ, true, List, [], ◌∷◌, Option, Some}
+-- That the variables at which a process waits, those that it reads or stores in and those that it hands on have locations, and that a fork has a branch.
+use Rattle.std.specs.Prelude.{◌≡◌, ℕ, true, List, [], ◌∷◌, ◌++◌, Option, Some}
 use Rattle.shim_semantics.specs.Nodes.{Live}
 use Rattle.shim_semantics.specs.Places.{at}
 use Rattle.shim_semantics.specs.Trees.{Tree}
@@ -11,10 +11,11 @@ use Rattle.shim_units.specs.declared.unit.UBranch.{UBranch}
 use Rattle.shim_units.specs.declared.unit.UCall.{UCall}
 use Rattle.shim_units.specs.declared.unit.UStmt.{UStmt}
 use Rattle.shim_units.specs.declared.unit.UWhat.{UWhat, UWhat-F, out-UWhat}
+use Rattle.shim_units.specs.Lifting.{is_among}
 use Rattle.shim_process.specs.Locations.{Location}
 use Rattle.shim_process.specs.Todo.{next_stmt}
 use Rattle.shim_process.specs.LocalState.{LocalState, unit_at, location_of}
-use Rattle.shim_laws_stops.specs.InScope.{is_number}
+use Rattle.shim_laws_stops.specs.InScope.{is_number, variables_in, variables_in_option}
 
 -- there is a location
 abbrev pub IsThere : Option Location → Type 0
@@ -41,6 +42,37 @@ pub data IsNextOf (x : ℕ) : UWhat-F UWhat UStmt → Type 0 where
 -- each `next` at which a live process stands has a location
 abbrev pub NextsHaveLocations : Tree LocalState → Type 0
 NextsHaveLocations t = (l : LocalState) (w : UWhat-F UWhat UStmt) (x : ℕ) → IsLive t l → StandsAt l w → IsNextOf x w → HasItsLocation l x
+
+-- the variables whose values arguments take: those of their expressions, and each that is given as a copy
+abbrev pub arguments_read : List Arg → List ℕ
+arguments_read [] = []
+arguments_read (Ref x ∷ rest) = arguments_read rest
+arguments_read (Pass x ∷ rest) = x ∷ arguments_read rest
+arguments_read (Fresh e ∷ rest) = variables_in e ++ arguments_read rest
+
+abbrev pub branches_read : List UBranch → List ℕ
+branches_read [] = []
+branches_read (b ∷ branches) = arguments_read b.call.args ++ branches_read branches
+
+-- The variables that a process which stands at this statement may read or store in; at a loop it stands at the test. What a declaration declares isn't among them.
+abbrev pub variables_at : UWhat-F UWhat UStmt → List ℕ
+variables_at (UWhat-F.Declare t x e) = variables_in_option e
+variables_at (UWhat-F.Assign x e) = x ∷ variables_in e
+variables_at (UWhat-F.Next x) = x ∷ []
+variables_at (UWhat-F.NextAssign x e) = x ∷ variables_in e
+variables_at (UWhat-F.AssignNext x y) = x ∷ y ∷ []
+variables_at (UWhat-F.Get x i) = x ∷ []
+variables_at (UWhat-F.Put o e) = variables_in e
+variables_at (UWhat-F.If e first second) = variables_in e
+variables_at (UWhat-F.While e body) = variables_in e
+variables_at (UWhat-F.For first test step body) = variables_in_option test
+variables_at (UWhat-F.Call c) = arguments_read c.args
+variables_at (UWhat-F.Par branches) = branches_read branches
+variables_at _ = []
+
+-- each variable that is read or stored in at the statement at which a live process stands has a location
+abbrev pub VariablesHaveLocations : Tree LocalState → Type 0
+VariablesHaveLocations t = (l : LocalState) (w : UWhat-F UWhat UStmt) (x : ℕ) → IsLive t l → StandsAt l w → is_among (variables_at w) x ≡ true → HasItsLocation l x
 
 -- each fork at which one stands has a branch
 abbrev pub ForksHaveBranches : Tree LocalState → Type 0

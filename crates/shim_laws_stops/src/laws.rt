@@ -8,8 +8,8 @@ ghost use Rattle.shim_laws_sources.specs.Sources.{IsReached};
 ghost use Rattle.shim_laws_stops.specs.InForce.{AllInForce};
 ghost use Rattle.shim_laws_stops.specs.InScope.{AllInScope};
 ghost use Rattle.shim_laws_stops.specs.Ends.{EndsHaveNothingLeft};
-ghost use Rattle.shim_laws_stops.specs.Outputs.{PutsHaveOutput};
-ghost use Rattle.shim_laws_stops.specs.Named.{ArgumentsHaveLocations, ForksHaveBranches, NextsHaveLocations};
+ghost use Rattle.shim_laws_stops.specs.Streams.{GetsHaveInput, PutsHaveOutput};
+ghost use Rattle.shim_laws_stops.specs.Named.{ArgumentsHaveLocations, ForksHaveBranches, NextsHaveLocations, VariablesHaveLocations};
 ghost use Rattle.shim_laws_stops.specs.Thrown.{ThrownHavePlaces};
 
 /// In the units of an accepted program each exception that a statement throws or hands on is in force
@@ -19,11 +19,12 @@ pub fn what_is_thrown_is_in_force()
     ensures { (form : Form) → IsAcceptedForm form → AllInForce form }
 {}
 
-/// In the units of an accepted program each variable that a statement stores in, waits at or gives to a
-/// call or a branch is in scope there: it is a parameter of its unit, or its declaration stands before in
-/// the same block or in one around it. It holds what is asked for: a number, or the output at a `put`.
-/// Each call and each branch has one argument for each parameter, of its kind, and is given no slot by
-/// reference twice; no two branches of a fork are given one slot by reference, and each fork has a branch.
+/// In the units of an accepted program each variable that a statement stores in, waits at, reads in an
+/// expression or gives to a call or a branch is in scope there: it is a parameter of its unit, or its
+/// declaration stands before in the same block or in one around it. It holds what is asked for: a number,
+/// the input at a `get`, or the output at a `put`. Each call and each branch has one argument for each
+/// parameter, of its kind, and is given no slot by reference twice; no two branches of a fork are given one
+/// slot by reference, and each fork has a branch.
 pub fn what_is_named_is_in_scope()
     ensures { (form : Form) → IsAcceptedForm form → AllInScope form }
 {}
@@ -41,6 +42,14 @@ pub fn nexts_have_locations()
     ensures { (program : Form) (input : List ℕ) (t : Tree LocalState) → IsAcceptedForm program → IsReached program input t → NextsHaveLocations t }
 {}
 
+/// In each such tree each variable that the statement at which a live process stands may read or store in
+/// has a location: in its expressions, of which a loop's is its test, and in those of its arguments; as
+/// an argument that is given as a copy; and as the target of an assignment, a `next` or a `get`. What a
+/// declaration declares isn't among them: it gets its location there.
+pub fn variables_have_locations()
+    ensures { (program : Form) (input : List ℕ) (t : Tree LocalState) → IsAcceptedForm program → IsReached program input t → VariablesHaveLocations t }
+{}
+
 /// In each such tree each fork at which a live process stands has a branch.
 pub fn forks_have_branches()
     ensures { (program : Form) (input : List ℕ) (t : Tree LocalState) → IsAcceptedForm program → IsReached program input t → ForksHaveBranches t }
@@ -55,6 +64,11 @@ pub fn arguments_have_locations()
 /// In each such tree each live process that stands at a `put` has the output.
 pub fn puts_have_output()
     ensures { (program : Form) (input : List ℕ) (t : Tree LocalState) → IsAcceptedForm program → IsReached program input t → PutsHaveOutput t }
+{}
+
+/// In each such tree each live process that stands at a `get` has the input.
+pub fn gets_have_input()
+    ensures { (program : Form) (input : List ℕ) (t : Tree LocalState) → IsAcceptedForm program → IsReached program input t → GetsHaveInput t }
 {}
 
 /// In each such tree a live process stands at its end only where nothing is left to do, in any unit that
