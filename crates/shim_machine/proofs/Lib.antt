@@ -17,3 +17,5 @@ pub mod Forking
 pub mod Joining
 pub mod Heights
 pub mod Room
+pub mod MarkPlaces
+pub mod SamePlaces

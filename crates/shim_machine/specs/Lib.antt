@@ -7,3 +7,4 @@ pub mod MarkStops
 pub mod Unwinds
 pub mod Forking
 pub mod StackHeights
+pub mod SamePlaces

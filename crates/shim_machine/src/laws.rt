@@ -5,13 +5,14 @@ ghost use Rattle.shim_local.specs.Process.{AtFork, AtNext, AtPut};
 ghost use Rattle.shim_scopes.specs.declared.tree.UExpr.{UExpr};
 ghost use Rattle.shim_scopes.specs.declared.tree.UParam.{UParam};
 ghost use Rattle.shim_units.specs.Numbering.{size_all};
+ghost use Rattle.shim_units.specs.declared.form.Form.{Form};
 ghost use Rattle.shim_units.specs.declared.unit.Arg.{Arg};
 ghost use Rattle.shim_units.specs.declared.unit.UStmt.{UStmt};
 ghost use Rattle.shim_process.specs.Arguments.{arguments};
 ghost use Rattle.shim_process.specs.Todo.{Item, Successor, followed, items_all};
 ghost use Rattle.shim_process.specs.LocalState.{ExceptionPlace, LocalState};
 ghost use Rattle.shim_process.specs.Ends.{gone};
-ghost use Rattle.shim_process.specs.Steps.{line_of, next_action};
+ghost use Rattle.shim_process.specs.Steps.{done, line_of, next_action};
 ghost use Rattle.shim_walk_frames.specs.Pieces.{left_all};
 ghost use Rattle.shim_code.specs.declared.machine_instr.MachineInstr.{MachineInstr};
 ghost use Rattle.shim_code.specs.declared.machine_instr.Mark.{Mark as MarkOf};
@@ -28,6 +29,7 @@ ghost use Rattle.shim_machine.specs.StackHeights.{HasHeight, height_after, heigh
 ghost use Rattle.shim_machine.specs.MarkStops.{place_stop};
 ghost use Rattle.shim_machine.specs.Leads.{Gathers, Runs};
 ghost use Rattle.shim_machine.specs.Comes.{AreOf, AreShort, Comes, ComesFrom, Does, DoesPut, IsEnd, MeetsAt, NextSuits, room, step_room};
+ghost use Rattle.shim_machine.specs.SamePlaces.{ComesTo, DoesTo, GoOnAlike};
 
 /// The code of an expression gives its value, or its trap, wherever it stands.
 pub fn expressions()
@@ -125,4 +127,25 @@ pub fn each_place_has_its_height()
 /// one more has, for each of them.
 pub fn room_is_a_product()
     ensures { (most callers : ℕ) → room most callers ≡ (callers + 1) * (most + 1) }
+{}
+
+/// In the code of a program a state tells the place of its process: all that stand for one state stand at
+/// one mark, or at the end of the unit. The places of their handlers and callers lead to the same marks;
+/// the places themselves may differ, since a jump to a mark stands for the mark. A process that runs meets
+/// the premises where it keeps `StandsFor` of its own places over `codes_of` its program.
+pub fn a_state_tells_its_place()
+    ensures { (codes : Codes) (program : Form) (l : LocalState) (pc pc' : ℕ) (handlers handlers' : List ℕ) (back back' : List ReturnPlace) → AreOf codes program → StandsFor codes pc handlers back l → StandsFor codes pc' handlers' back' l → (pc ≡ pc') × GoOnAlike codes l handlers back handlers' back' }
+{}
+
+/// Where the machine comes to a state, it comes to the place at which any process stands that is in that
+/// state and has its places in the code, and goes on from there alike. So it is of all that `Comes` says.
+pub fn the_machine_comes_to_the_place()
+    ensures { (codes : Codes) (program : Form) (bound : ℕ) (m : Machine) (l : LocalState) (pc : ℕ) (handlers : List ℕ) (back : List ReturnPlace) → AreOf codes program → Comes codes bound m l → StandsFor codes pc handlers back l → ComesTo codes bound m pc handlers back l }
+{}
+
+/// From the mark of a state one step of the machine comes to the place at which a process stands that has
+/// taken the step that the definition says, and has its places in the code then, or it traps as the process
+/// does. The machine may have begun with handlers and callers of its own.
+pub fn one_step_comes_to_the_place()
+    ensures { (codes : Codes) (most : ℕ) (l : LocalState) (pc pc' : ℕ) (handlers handlers' : List ℕ) (back back' : List ReturnPlace) → AreOf codes l.program → AreShort codes most → NextSuits l.frame.todo l → StandsFor codes pc handlers back l → StandsFor codes pc' handlers' back' (done (next_action l) l) → DoesTo codes (step_room most (length l.callers)) (machine (pc + 1) handlers back (line_of l.frame.todo) l) (next_action l) pc' handlers' back' l }
 {}

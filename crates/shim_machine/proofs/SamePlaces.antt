@@ -1,0 +1,136 @@
+-- Of two machines that stand for one state, each place leads where the other's does.
+use Rattle.std.proofs.Common.{◌≡◌, ℕ, suc, ◌+◌, ◌-◌, false, true, List, [], ◌∷◌, length, Some, refl, sym, ap, ◌∙◌, subst, arith}
+use Rattle.std.specs.Prelude.{Bool as TruthValue}
+use Rattle.shim_units.specs.declared.form.Form.{Form}
+use Rattle.shim_units.specs.declared.unit.UStmt.{UStmt}
+use Rattle.shim_units.specs.declared.unit.UWhat.{UWhat, UWhat-F, out-UWhat}
+use Rattle.shim_process.specs.Todo.{Item, Do, Leave}
+use Rattle.shim_process.specs.LocalState.{ExceptionPlace, Frame, LocalState}
+use Rattle.shim_process.specs.Steps.{Action, Trapped, Wait, done, line_of, next_action}
+use Rattle.shim_code.specs.declared.instr.MarkKind.{MarkKind}
+use Rattle.shim_code.specs.declared.instr.MarkKind.TheVariants as kind
+use Rattle.shim_code.specs.declared.machine_instr.MachineInstr.TheVariants.{End}
+use Rattle.shim_code.specs.MachineCode.{machine_unit}
+use Rattle.shim_machine.specs.Machine.{At, CodedUnit, Codes, Machine, ReturnPlace, fetch, machine, resting}
+use Rattle.shim_machine.specs.Stands.{AtHalf, AtMark, Handles, HasAt, HasHalves, Here, Returns, Stands, StandsFor, at_do, at_end, at_half, half_what, mark, stands_back, stands_do, stands_end, stands_jump, stands_leave}
+use Rattle.shim_machine.specs.Comes.{AreOf, AreShort, Comes, Does, NextSuits, step_room}
+use Rattle.shim_machine.specs.SamePlaces.{AllLeadAlike, ComesTo, DoesTo, GoOnAlike, LeadAlike, LeadsTo, ReturnAlike, is_end, is_mark, past_block, past_jump}
+use Rattle.shim_machine.proofs.MarkPlaces.{end_once, mark_once}
+use Rattle.shim_machine.proofs.OneStep.{one_step}
+
+-- the mark at a place has this number and half; where nothing is to be done, the end stands there
+record MarkAt (u : CodedUnit) (pc n : ℕ) (h : TruthValue) : Type 0 where
+  pub kind : MarkKind
+  pub line : ℕ
+  pub is : fetch u pc ≡ Some (mark kind line n h)
+
+abbrev TellsAt : CodedUnit → ℕ → List Item → TruthValue → Type 0
+TellsAt u pc [] h = (n : ℕ) × (fetch u pc ≡ Some (End n))
+TellsAt u pc (Do n s ∷ k) h = MarkAt u pc n h
+TellsAt u pc (Leave ∷ k) h = ⊥
+
+at_mark_tells : (u : CodedUnit) (pc : ℕ) (k : List Item) → AtMark u pc k → TellsAt u pc k false
+at_mark_tells u _ _ (at_end pc n h) = (n, h)
+at_mark_tells u _ _ (at_do pc n stop s k has rest) = record { kind = has.kind; line = s.line; is = has.marked }
+
+-- the second mark of a statement has the number of the first
+half_is : (u : CodedUnit) (x : UWhat-F UWhat UStmt) (pc n line : ℕ) → HasHalves x → HasAt u (n + 1) pc (half_what x line pc) → MarkAt u pc n true
+half_is u (UWhat-F.NextAssign x e) pc n line h has = let z : n + 1 - 1 ≡ n = omega arith in record { kind = kind.Next; line = line; is = has.0 ∙ ap (λ m. Some (mark kind.Next line m true)) z }
+half_is u (UWhat-F.AssignNext x y) pc n line h has = let z : n + 1 - 1 ≡ n = omega arith in record { kind = kind.Quiet; line = line; is = has.0 ∙ ap (λ m. Some (mark kind.Quiet line m true)) z }
+half_is u x pc n line h has = absurd h
+
+at_half_tells : (u : CodedUnit) (pc : ℕ) (k : List Item) → AtHalf u pc k → TellsAt u pc k true
+at_half_tells u _ _ (at_half pc n stop s k ih has rest) = half_is u (out-UWhat s.what) pc n s.line ih has.0
+
+here_tells : (u : CodedUnit) (pc : ℕ) (k : List Item) (h : TruthValue) → Here u pc k h → TellsAt u pc k h
+here_tells u pc k false = at_mark_tells u pc k
+here_tells u pc k true = at_half_tells u pc k
+
+-- what is to be done behind ends of `try` blocks, and how many these are
+abbrev behind_blocks : List Item → List Item
+behind_blocks [] = []
+behind_blocks (Leave ∷ k) = behind_blocks k
+behind_blocks (Do n s ∷ k) = Do n s ∷ k
+
+abbrev blocks_of : List Item → ℕ
+blocks_of [] = 0
+blocks_of (Leave ∷ k) = suc (blocks_of k)
+blocks_of (Do n s ∷ k) = 0
+
+-- where such a place leads
+record Leading (u : CodedUnit) (pc : ℕ) (k : List Item) : Type 0 where
+  pub to : ℕ
+  pub leads : LeadsTo u pc (blocks_of k) to
+  pub at : AtMark u to (behind_blocks k)
+
+leading : (u : CodedUnit) (pc : ℕ) (k : List Item) → Stands u pc k → Leading u pc k
+leading u _ _ (stands_end pc n h) = record { to = pc; leads = is_end pc n h; at = at_end pc n h }
+leading u _ _ (stands_do pc n stop s k has rest) = record { to = pc; leads = is_mark pc _ has.marked; at = at_do pc n stop s k has rest }
+leading u _ _ (stands_leave pc k h rest) = let l = leading u (pc + 1) k rest in record { to = l.to; leads = past_block pc (blocks_of k) l.to h l.leads; at = l.at }
+leading u _ _ (stands_jump pc t k h lt rest) = let l = leading u t k rest in record { to = l.to; leads = past_jump pc t (blocks_of k) l.to h l.leads; at = l.at }
+leading u _ _ (stands_back pc t n stop s k h has rest) = record { to = t; leads = past_jump pc t 0 t h (is_mark t _ has.marked); at = at_do t n stop s k has rest }
+
+module _ (u : CodedUnit) (e : u.code ≡ machine_unit u.units u.body) where
+  told_once : (a b : ℕ) (k : List Item) (h : TruthValue) → TellsAt u a k h → TellsAt u b k h → a ≡ b
+  told_once a b [] h ha hb = end_once u e a b ha.0 hb.0 ha.1 hb.1
+  told_once a b (Do n s ∷ k) h ha hb = mark_once u e a b _ _ ha.is hb.is refl refl
+  told_once a b (Leave ∷ k) h ha hb = absurd ha
+
+  here_once : (a b : ℕ) (k : List Item) (h : TruthValue) → Here u a k h → Here u b k h → a ≡ b
+  here_once a b k h ha hb = told_once a b k h (here_tells u a k h ha) (here_tells u b k h hb)
+
+  lead_alike : (a b : ℕ) (k : List Item) → Stands u a k → Stands u b k → LeadAlike u a b
+  lead_alike a b k ha hb =
+      let la = leading u a k ha in
+      let lb = leading u b k hb in
+      let same : lb.to ≡ la.to = here_once lb.to la.to (behind_blocks k) false lb.at la.at in
+      record { blocks = blocks_of k; to = la.to; first = la.leads; second = subst (LeadsTo u b (blocks_of k)) same lb.leads }
+
+  handlers_alike : (xs ys : List ℕ) (places : List ExceptionPlace) → Handles u xs places → Handles u ys places → AllLeadAlike u xs ys
+  handlers_alike [] [] [] ha hb = tt
+  handlers_alike (x ∷ xs) (y ∷ ys) (p ∷ places) ha hb = (lead_alike x y _ ha.1.0 hb.1.0, handlers_alike xs ys places ha.1.1 hb.1.1)
+  handlers_alike [] (y ∷ ys) [] ha hb = absurd hb
+  handlers_alike (x ∷ xs) ys [] ha hb = absurd ha
+  handlers_alike [] ys (p ∷ places) ha hb = absurd ha
+  handlers_alike (x ∷ xs) [] (p ∷ places) ha hb = absurd hb
+
+abbrev HasCodes : Codes → Type 0
+HasCodes codes = (n : ℕ) → (codes n).code ≡ machine_unit (codes n).units (codes n).body
+
+has_codes : (codes : Codes) (program : Form) → AreOf codes program → HasCodes codes
+has_codes codes program of n = subst (λ u. u.code ≡ machine_unit u.units u.body) (sym (of n)) refl
+
+returns_alike : (codes : Codes) → HasCodes codes → (xs ys : List ReturnPlace) (callers : List Frame) → Returns codes xs callers → Returns codes ys callers → ReturnAlike codes callers xs ys
+returns_alike codes e [] [] [] ha hb = tt
+returns_alike codes e (x ∷ xs) (y ∷ ys) (f ∷ callers) ha hb =
+    let u = codes f.unit in
+    (lead_alike u (e f.unit) x.place y.place _ ha.0.behind hb.0.behind, (handlers_alike u (e f.unit) x.handlers y.handlers f.places ha.0.handles hb.0.handles, returns_alike codes e xs ys callers ha.1 hb.1))
+returns_alike codes e [] (y ∷ ys) [] ha hb = absurd hb
+returns_alike codes e (x ∷ xs) ys [] ha hb = absurd ha
+returns_alike codes e [] ys (f ∷ callers) ha hb = absurd ha
+returns_alike codes e (x ∷ xs) [] (f ∷ callers) ha hb = absurd hb
+
+pub go_on_alike : (codes : Codes) (program : Form) (l : LocalState) (pc pc' : ℕ) (handlers handlers' : List ℕ) (back back' : List ReturnPlace) → AreOf codes program → StandsFor codes pc handlers back l → StandsFor codes pc' handlers' back' l → (pc ≡ pc') × GoOnAlike codes l handlers back handlers' back'
+go_on_alike codes program l pc pc' handlers handlers' back back' of a b =
+    let has = has_codes codes program of in
+    let u = codes l.frame.unit in
+    let e = has l.frame.unit in (
+      here_once u e pc pc' l.frame.todo l.frame.halfway a.here b.here,
+      record { caught = handlers_alike u e handlers handlers' l.frame.places a.handles b.handles; returned = returns_alike codes has back back' l.callers a.returns b.returns },
+    )
+
+pub comes_to : (codes : Codes) (program : Form) (bound : ℕ) (m : Machine) (l : LocalState) (pc : ℕ) (handlers : List ℕ) (back : List ReturnPlace) → AreOf codes program → Comes codes bound m l → StandsFor codes pc handlers back l → ComesTo codes bound m pc handlers back l
+comes_to codes program bound m l pc handlers back of c st =
+    let same = go_on_alike codes program l c.pc pc c.handlers handlers c.back back of c.stands st in
+    record { own_handlers = c.handlers; own_back = c.back; count = c.count; within = c.within; comes = c.comes ∙ ap (λ p. At (resting p c.handlers c.back l)) same.0; alike = same.1 }
+
+does_to : (codes : Codes) (program : Form) (bound : ℕ) (m : Machine) (a : Action) (l : LocalState) (pc : ℕ) (handlers : List ℕ) (back : List ReturnPlace) → AreOf codes program → Does codes bound m a l → StandsFor codes pc handlers back (done a l) → DoesTo codes bound m a pc handlers back l
+does_to codes program bound m Wait l pc handlers back of d st = tt
+does_to codes program bound m (Trapped t) l pc handlers back of d st = d
+does_to codes program bound m a l pc handlers back of d st = comes_to codes program bound m (done a l) pc handlers back of d st
+
+pub one_step_to : (codes : Codes) (most : ℕ) (l : LocalState) (pc pc' : ℕ) (handlers handlers' : List ℕ) (back back' : List ReturnPlace) → AreOf codes l.program → AreShort codes most → NextSuits l.frame.todo l → StandsFor codes pc handlers back l → StandsFor codes pc' handlers' back' (done (next_action l) l)
+    → DoesTo codes (step_room most (length l.callers)) (machine (pc + 1) handlers back (line_of l.frame.todo) l) (next_action l) pc' handlers' back' l
+one_step_to codes most l pc pc' handlers handlers' back back' of short suits st st' =
+    let m = machine (pc + 1) handlers back (line_of l.frame.todo) l in
+    does_to codes l.program (step_room most (length l.callers)) m (next_action l) l pc' handlers' back' of (one_step codes most l pc handlers back of short suits st) st'
