@@ -1,13 +1,16 @@
-# Use: `make shim` proves what the program stands on and leaves ./shim, a binary of its own;
+# Use: `make shim` proves what the program stands on, as many crates at once as there are processors or as JOBS
+# says, and leaves ./shim, a binary of its own;
 # `make try FILE=PATH` runs a file without any proof, by the kit's trial run, and `MODE=code` takes another
 # mode; `make check` is the merge gate; `make install PREFIX=/usr/local` puts shim into PREFIX/bin.
 PREFIX ?= /usr/local
+JOBS ?= $(shell nproc)
 MODE = run
 
 .PHONY: shim try check install
 
+# What the first command proves is kept, so the second one compiles, links and runs.
 shim:
-	cd crates/shim_main && rt run -- run data/puts_a.shim
+	cd crates/shim_main && rt all check --jobs $(JOBS) && rt run -- run data/puts_a.shim
 	cp crates/shim_main/out/shim_main shim.new && mv shim.new shim
 
 # The file goes to the trial run as a copy called source.shim, so any path will do.
