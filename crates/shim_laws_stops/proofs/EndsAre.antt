@@ -20,7 +20,7 @@ use Rattle.shim_laws_stops.specs.Named.{StandsAt, next, next_assign, assign_next
 use Rattle.shim_laws_stops.specs.StreamHolders.{Stream, TheInput, TheOutput, is_at, is_there, has_stream, waiting_units, HoldsStream}
 use Rattle.shim_laws_stops.specs.Ends.{HasNothingLeft}
 use Rattle.shim_laws_stops.specs.SettledFrames.{StartsRight, IsSettled}
-use Rattle.shim_laws_stops.proofs.NamedHave.{stands_right, next_has, some_branch}
+use Rattle.shim_laws_stops.proofs.NamedHave.{location_there, stands_right, next_has, some_branch}
 use Rattle.shim_laws_stops.proofs.StreamSteps.{takes_first}
 use Rattle.shim_laws_stops.proofs.StreamUnits.{slot_takes}
 
@@ -70,9 +70,9 @@ next_or_half true o h e = there_no_end o h e
 next_or_half false o h e = cc e
 
 what_no_end : (l : LocalState) (w : UWhat-F UWhat UStmt) → HoldsStream TheOutput l → StandsAt l w → what_stop w (statement_view l) ≡ AtFinish → ⊥
-what_no_end l (UWhat-F.Next x) h at e = there_no_end (location_of l.locations l.frame.slots x) (next_has l x next (stands_right l (UWhat-F.Next x) h.named at)) e
-what_no_end l (UWhat-F.NextAssign x v) h at e = next_or_half l.frame.halfway (location_of l.locations l.frame.slots x) (next_has l x (next_assign v) (stands_right l (UWhat-F.NextAssign x v) h.named at)) e
-what_no_end l (UWhat-F.AssignNext y x) h at e = half_or_next l.frame.halfway (location_of l.locations l.frame.slots x) (next_has l x (assign_next y) (stands_right l (UWhat-F.AssignNext y x) h.named at)) e
+what_no_end l (UWhat-F.Next x) h at e = there_no_end (location_of l.locations l.frame.slots x) (location_there l x (next_has l x next (stands_right l (UWhat-F.Next x) h.named at))) e
+what_no_end l (UWhat-F.NextAssign x v) h at e = next_or_half l.frame.halfway (location_of l.locations l.frame.slots x) (location_there l x (next_has l x (next_assign v) (stands_right l (UWhat-F.NextAssign x v) h.named at))) e
+what_no_end l (UWhat-F.AssignNext y x) h at e = half_or_next l.frame.halfway (location_of l.locations l.frame.slots x) (location_there l x (next_has l x (assign_next y) (stands_right l (UWhat-F.AssignNext y x) h.named at))) e
 what_no_end l (UWhat-F.Put o v) h at e = put_no_end l.holds_output (put_holds l o v h at) e
 what_no_end l (UWhat-F.Par bs) h at e = fork_no_end bs (some_branch l bs (stands_right l (UWhat-F.Par bs) h.named at)) e
 what_no_end l (UWhat-F.Throw x) h at e = cc e

@@ -3,12 +3,10 @@ use Rattle.std.proofs.Common.{◌≡◌, ◌∙◌, ◌≤◌, ◌<◌, inl, inr
 use Rattle.std.proofs.lemmas.Bool.{and_parts}
 use Rattle.std.proofs.lemmas.List.{length-drop}
 use Rattle.shim_base.specs.Paths.{Path}
-use Rattle.shim_syntax.specs.declared.tree.Sort.{Sort}
 use Rattle.shim_local.specs.Process.{StopView, AtPut, AtFork}
 use Rattle.shim_local.specs.Laws.{Forks}
 use Rattle.shim_semantics.specs.Nodes.{Node, Nodes, Live, Forked, Ended, Dead, no_node, node_and, all_live, states}
 use Rattle.shim_semantics.specs.Places.{at, child_at}
-use Rattle.shim_scopes.specs.declared.tree.UParam.{UParam}
 use Rattle.shim_units.specs.declared.form.Form.{Form}
 use Rattle.shim_units.specs.declared.unit.Unit.{Unit as UnitOf}
 use Rattle.shim_units.specs.declared.unit.UBranch.{UBranch}
@@ -34,12 +32,12 @@ use Rattle.shim_process.proofs.ForkParts.{Parts, parts_of}
 use Rattle.shim_laws_sources.proofs.LendingPlaces.{lent_onward}
 use Rattle.shim_laws_sources.proofs.WholeJoins.{all_onward}
 use Rattle.shim_base.proofs.Facts.{choose, some_same, none_some}
-use Rattle.shim_laws_stops.specs.InScope.{same_kind, arguments_right, references, distinct, call_right, all_calls_right, are_some, branches_apart, slots_right, Scoped, all_scoped}
+use Rattle.shim_laws_stops.specs.InScope.{arguments_right, references, distinct, call_right, all_calls_right, are_some, branches_apart, slots_right, Scoped, all_scoped}
 use Rattle.shim_laws_stops.specs.FrameLocations.{scoped_kind, item_right, ItemScoped, ItemsScoped, next_declares, FrameScoped, HasLocations}
 use Rattle.shim_laws_stops.proofs.Among.{Among, none_among}
 use Rattle.shim_laws_stops.proofs.ScopeItems.{scoped_out}
 use Rattle.shim_laws_stops.proofs.ScopeFrames.{Covers, covers_same, covers_both, covers_onward, inner_scoped, unwind_has}
-use Rattle.shim_laws_stops.proofs.ScopeEntries.{GivenThere, given_covered, given_there, HasFrom, has_less, branch_params, empties_many, entered_scoped}
+use Rattle.shim_laws_stops.proofs.ScopeEntries.{GivenThere, given_covered, given_there, HasFrom, has_less, branch_params, empties_many, numbers_many, params_fit, entered_scoped}
 use Rattle.shim_laws_stops.proofs.ScopeUnits.{get_below}
 use Rattle.shim_laws_stops.proofs.LocationSteps.{Has, covered_has, gone_on_has, quiet_has, put_has, receive_has, fork_trapped_has}
 
@@ -108,11 +106,6 @@ module _ (l : LocalState) where
 
 -- a child
 
-params_fit : (ps : List UParam) (ss : List Sort) → slots_right ps ss ≡ true → length ps ≤ length ss
-params_fit [] ss h = omega arith
-params_fit (p ∷ ps) [] h = absurd (cc h)
-params_fit (p ∷ ps) (s ∷ ss) h = let w = params_fit ps ss (and_parts (same_kind p.sort (Some s)) (slots_right ps ss) h).1 in omega (arith, w)
-
 abbrev below : LocalState → ℕ → Path
 below l i = l.path ++ (l.forks, i) ∷ []
 
@@ -132,7 +125,7 @@ child_has l i b given h there many =
     record {
       own = h.own;
       units = h.units;
-      frames = entered_scoped l.program b.call.unit ys (numbers_from 0 v.slots) (passed_labels (statement_view l) b.call.throws) 0 0 h.own h.units
+      frames = entered_scoped l.program b.call.unit ys (numbers_from 0 v.slots) (passed_labels (statement_view l) b.call.throws) 0 0 h.own h.units (numbers_many 0 v.slots)
           (λ j p e n.
           let k = branch_params (below l i) l.locations ys 0 0 v.params given there from j p e n in
           let low = get_below v.params j p e in

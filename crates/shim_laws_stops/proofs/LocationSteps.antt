@@ -39,7 +39,7 @@ use Rattle.shim_laws_stops.proofs.Among.{Among, none_among, among_cases}
 use Rattle.shim_laws_stops.proofs.ThrowItems.{goes_on}
 use Rattle.shim_laws_stops.proofs.ScopeItems.{scoped_out, more_known, body_scoped, places_more}
 use Rattle.shim_laws_stops.proofs.ScopeFrames.{Covers, covers_set, set_there, has_covered, frames_covered, rest_of, went_on_scoped, inner_scoped, waiting, framed, frames_on, settled_has, gone_has}
-use Rattle.shim_laws_stops.proofs.ScopeEntries.{GivenThere, given_there, has_behind, has_less, call_params, call_room, empties_many, entered_scoped}
+use Rattle.shim_laws_stops.proofs.ScopeEntries.{GivenThere, given_there, has_behind, has_less, call_params, call_room, call_many, empties_many, entered_scoped}
 
 -- what is asked of the locations of the unit in which the process is
 abbrev pub Has : LocalState → ℕ → Type 0
@@ -171,7 +171,7 @@ gone_on_has l h none =
 half_has : (l : LocalState) → HasLocations l → HasLocations (record l { frame = half l.frame })
 half_has l h =
     let f : FrameScoped l.program l.locations l.frame = inner_scoped l.program l.locations l.frame l.callers h.frames in
-    let g : FrameScoped l.program l.locations (half l.frame) = record { fit = record { todo = f.fit.todo; places = f.fit.places; slots = f.fit.slots }; todo = f.todo; places = f.places; room = f.room } in
+    let g : FrameScoped l.program l.locations (half l.frame) = record { fit = record { todo = f.fit.todo; places = f.fit.places; slots = f.fit.slots }; slots = f.slots; todo = f.todo; places = f.places; room = f.room } in
     record { own = h.own; units = h.units; frames = framed l.program l.locations (half l.frame) l.callers g (waiting l.program l.locations l.frame l.callers h.frames) }
 
 trapped_has : (kind : Trap) (line : ℕ) (l : LocalState) → HasLocations l → HasLocations (trapped kind line l)
@@ -220,7 +220,7 @@ called_has unit given labels l h none there many =
     (has_less ys (length xs) passed (empties (declared_slots u)) (has_behind xs more)) in
     let front : take (length l.locations) (l.locations ++ (call_locations l.path l.locations l.made given ++ empties (declared_slots (unit_at l.program unit)))) ≡ l.locations = take-append-le (length xs) xs more (omega arith) ∙ take_all (length xs) xs (omega arith) in
     settled_has (l.frame ∷ l.callers) f m h.own h.units (
-      entered_scoped l.program unit ys slots labels (length l.locations) (l.frame.outer + length l.frame.places) h.own h.units params
+      entered_scoped l.program unit ys slots labels (length l.locations) (l.frame.outer + length l.frame.places) h.own h.units (call_many (length l.locations) given l.program unit h.units many) params
           (λ x own. (called_slot (length xs) u given x many own, let k = call_room (length xs) l.path xs l.made given u x many own in omega (arith, k, long))),
       omega (arith, long),
       none,
@@ -232,7 +232,7 @@ installed_has x name l h none next =
     let f : FrameScoped l.program l.locations l.frame = inner_scoped l.program l.locations l.frame l.callers h.frames in
     let e : ExceptionPlace = record { exception = x; name = name; line = line_of l.frame.todo; todo = l.frame.todo } in
     let k : LocalState = record l { frame = installed x name l.frame } in
-    gone_has First k h.own h.units (installed_fits l.program 0 x name l.frame f.fit) (record { places = places_more l.program (unit_of l) (Has l) l.frame.places e f.places f.todo none; room = f.room }) next (waiting l.program l.locations l.frame l.callers h.frames)
+    gone_has First k h.own h.units (installed_fits l.program 0 x name l.frame f.fit) (record { slots = f.slots; places = places_more l.program (unit_of l) (Has l) l.frame.places e f.places f.todo none; room = f.room }) next (waiting l.program l.locations l.frame l.callers h.frames)
 
 done_has : (d : Action) (l : LocalState) → HasLocations l → ActionScoped l (next_declares l.program (unit_of l) l.frame.todo) (λ successor. followed successor l.frame.todo) d → HasLocations (done d l)
 done_has (Go successor) l h next =

@@ -40,7 +40,7 @@ use Rattle.shim_laws_stops.proofs.KnownLabels.{PassesOn}
 use Rattle.shim_laws_stops.proofs.LocationForks.{KeepsLocations, locations_relate, live_has}
 use Rattle.shim_laws_stops.proofs.MainStreams.{main_streams, no_number}
 use Rattle.shim_laws_stops.proofs.NamedHave.{stands_right, next_has, variables_there, at_call, at_fork, some_branch}
-use Rattle.shim_laws_stops.proofs.ScopeEntries.{empties_many, entered_scoped}
+use Rattle.shim_laws_stops.proofs.ScopeEntries.{empties_many, numbers_many, entered_scoped}
 use Rattle.shim_laws_stops.proofs.ScopeUnits.{all_in_scope}
 use Rattle.shim_laws_stops.proofs.LabelSteps.{entered_labels}
 use Rattle.shim_laws_stops.proofs.LabelForks.{KeepsLabels, labels_relate, live_has_labels}
@@ -109,7 +109,7 @@ root_locations program input kept =
     record {
       own = units_use_slots_of_their_own program kept;
       units = all_in_scope program kept;
-      frames = entered_scoped program program.main ys (numbers_from 0 u.slots) (labels_from 1 program.main_throws) 0 0 (units_use_slots_of_their_own program kept) (all_in_scope program kept)
+      frames = entered_scoped program program.main ys (numbers_from 0 u.slots) (labels_from 1 program.main_throws) 0 0 (units_use_slots_of_their_own program kept) (all_in_scope program kept) (numbers_many 0 u.slots)
           (λ i p e number. absurd (no_number u.params false false i p (main_streams program kept) e number))
           (λ x own.
           let w = own_slot u x own in

@@ -17,7 +17,7 @@ use Rattle.shim_units.specs.Units.{upto}
 use Rattle.shim_process.specs.Values.{value}
 use Rattle.shim_process.specs.Locations.{Location, Locations, Copy, at_number, kept, moved, lend_at, with_kept, with_moved}
 use Rattle.shim_process.specs.LocalState.{number_of, unit_at, env_of, type_of}
-use Rattle.shim_process.specs.Arguments.{Argument, ByReference, ByCopy, ByValue, on_value, arguments, copied, new_location, call_locations, branch_locations, declared_slots, empties, call_slots, entered}
+use Rattle.shim_process.specs.Arguments.{Argument, ByReference, ByCopy, ByValue, on_value, arguments, copied, new_location, call_locations, branch_locations, declared_slots, empties, numbers_from, call_slots, entered}
 use Rattle.shim_process.specs.Todo.{items_all}
 use Rattle.shim_process.proofs.ForkLending.{from_value, ok_same}
 use Rattle.shim_process.specs.OwnSlots.{is_own_slot, UsesOwnSlots}
@@ -201,6 +201,32 @@ call_room first home xs serial given u x many own =
     let c : length (declared_slots u) ≡ length u.slots - length u.params = length-drop (length u.params) u.slots in
     slot_under first home xs serial given (declared_slots u) x (omega (arith, many, a)) (omega (arith, many, a, b, c))
 
+-- numbers of slots
+
+pub numbers_many : (first : ℕ) (ss : List Sort) → length (numbers_from first ss) ≡ length ss
+numbers_many first [] = refl
+numbers_many first (s ∷ ss) = ap suc (numbers_many (first + 1) ss)
+
+slots_many : (first : ℕ) (given : List Argument) (ss : List Sort) → length (call_slots first given ss) ≡ length given + length ss
+slots_many first [] ss = let w = numbers_many first ss in omega (arith, w)
+slots_many first (ByReference n ∷ given) ss = let w = slots_many first given ss in omega (arith, w)
+slots_many first (ByCopy t n ∷ given) ss = let w = slots_many (first + 1) given ss in omega (arith, w)
+slots_many first (ByValue t name v ∷ given) ss = let w = slots_many (first + 1) given ss in omega (arith, w)
+
+pub params_fit : (ps : List UParam) (ss : List Sort) → slots_right ps ss ≡ true → length ps ≤ length ss
+params_fit [] ss h = omega arith
+params_fit (p ∷ ps) [] h = absurd (cc h)
+params_fit (p ∷ ps) (s ∷ ss) h = let w = params_fit ps ss (and_parts (same_kind p.sort (Some s)) (slots_right ps ss) h).1 in omega (arith, w)
+
+-- a called unit has as many as it has slots
+pub call_many : (first : ℕ) (given : List Argument) (program : Form) (unit : ℕ) → AllInScope program → length given ≡ length (unit_at program unit).params → length (call_slots first given (declared_slots (unit_at program unit))) ≡ length (unit_at program unit).slots
+call_many first given program unit units many =
+    let u : UnitOf = unit_at program unit in
+    let a : length (call_slots first given (declared_slots u)) ≡ length given + length (declared_slots u) = slots_many first given (declared_slots u) in
+    let b : length (declared_slots u) ≡ length u.slots - length u.params = length-drop (length u.params) u.slots in
+    let c = params_fit u.params u.slots (and_parts (slots_right u.params u.slots) (all_scoped program u u.body (upto (length u.params))) (units unit)).0 in
+    omega (arith, a, b, c, many)
+
 -- a unit at its first statement
 
 kinds_back : (ps : List UParam) (ss : List Sort) (i : ℕ) → slots_right ps ss ≡ true → i < length ps → (p : UParam) × (slice_get ps i ≡ Some p) × (is_number (slice_get ss i) ≡ true → is_number (Some p.sort) ≡ true)
@@ -218,9 +244,9 @@ kinds_back (p ∷ ps) (s ∷ ss) zero h below = (p, refl, λ number. back p.sort
     back Output Output h k = absurd (cc h)
 kinds_back (p ∷ ps) (s ∷ ss) (suc i) h below = kinds_back ps ss i (and_parts (same_kind p.sort (Some s)) (slots_right ps ss) h).1 (omega (arith, below))
 
-pub entered_scoped : (program : Form) (unit : ℕ) (ys : Locations) (slots labels : List ℕ) (floor outer : ℕ) → UsesOwnSlots program → AllInScope program → ParamsThere ys slots (unit_at program unit).params
+pub entered_scoped : (program : Form) (unit : ℕ) (ys : Locations) (slots labels : List ℕ) (floor outer : ℕ) → UsesOwnSlots program → AllInScope program → length slots ≡ length (unit_at program unit).slots → ParamsThere ys slots (unit_at program unit).params
     → ((x : ℕ) → is_own_slot (unit_at program unit) x ≡ true → (floor ≤ number_of slots x) × (number_of slots x < length ys)) → FrameScoped program ys (entered (unit_at program unit) unit slots labels floor outer)
-entered_scoped program unit ys slots labels floor outer own units params room =
+entered_scoped program unit ys slots labels floor outer own units many params room =
     let u : UnitOf = unit_at program unit in
     let right = and_parts (slots_right u.params u.slots) (all_scoped program u u.body (upto (length u.params))) (units unit) in
     let has : (x : ℕ) → Among (upto (length u.params)) x → HasLocation u ys slots x = λ x a number.
@@ -228,6 +254,7 @@ entered_scoped program unit ys slots labels floor outer own units params room =
     params x k.0 k.1 (k.2 number) in
     record {
       fit = record { todo = body_fits program u u.body 0 (own unit); places = tt; slots = λ x o. ((room x o).0, omega arith) };
+      slots = many;
       todo = subst (ItemsScoped program u (HasLocation u ys slots) []) (append-nil (items_all u.body 0))
           (body_scoped program u (HasLocation u ys slots) u.body 0 (upto (length u.params)) [] [] right.1 (λ x a. inl (has x a)) tt);
       places = tt;

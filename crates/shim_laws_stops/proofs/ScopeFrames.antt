@@ -83,6 +83,7 @@ frame_covered program xs ys f c h =
     let has : (x : ℕ) → HasLocation (unit_at program f.unit) xs f.slots x → HasLocation (unit_at program f.unit) ys f.slots x = λ x g. has_covered (unit_at program f.unit) xs ys f.slots x c g in
     record {
       fit = h.fit;
+      slots = h.slots;
       todo = more_known program u (HasLocation u xs f.slots) (HasLocation u ys f.slots) [] [] f.todo has (λ x a. none_among x a) h.todo;
       places = places_known program u (HasLocation u xs f.slots) (HasLocation u ys f.slots) f.places has h.places;
       room = λ x own. let k = h.room x own in let long = c.long in omega (arith, k, long);
@@ -102,26 +103,27 @@ pub record GoesOn (program : Form) (xs : Locations) (f g : Frame) : Type 0 where
 
 -- all but what is to be done
 pub record Rest (program : Form) (xs : Locations) (f : Frame) : Type 0 where
+  pub slots : length f.slots ≡ length (unit_at program f.unit).slots
   pub places : PlacesScoped program (unit_at program f.unit) (HasLocation (unit_at program f.unit) xs f.slots) f.places
   pub room : (x : ℕ) → is_own_slot (unit_at program f.unit) x ≡ true → number_of f.slots x < length xs
 
-past_scoped : (program : Form) (xs : Locations) (k : List Item) (places : List ExceptionPlace) (f : Frame) → FrameFits program 0 (past_ends k places f)
+past_scoped : (program : Form) (xs : Locations) (k : List Item) (places : List ExceptionPlace) (f : Frame) → FrameFits program 0 (past_ends k places f) → length f.slots ≡ length (unit_at program f.unit).slots
     → ItemsScoped program (unit_at program f.unit) (HasLocation (unit_at program f.unit) xs f.slots) [] k → PlacesScoped program (unit_at program f.unit) (HasLocation (unit_at program f.unit) xs f.slots) places
     → ((x : ℕ) → is_own_slot (unit_at program f.unit) x ≡ true → number_of f.slots x < length xs) → GoesOn program xs f (past_ends k places f)
-past_scoped program xs [] places f fit h p room = record { floor = refl; scoped = record { fit = fit; todo = tt; places = p; room = room } }
-past_scoped program xs (Leave ∷ k) places f fit h p room =
-    past_scoped program xs k (without_last places) f fit h (places_taken program (unit_at program f.unit) (HasLocation (unit_at program f.unit) xs f.slots) (length places - 1) places p) room
-past_scoped program xs (Do n s ∷ k) places f fit h p room = record { floor = refl; scoped = record { fit = fit; todo = h; places = p; room = room } }
+past_scoped program xs [] places f fit many h p room = record { floor = refl; scoped = record { fit = fit; slots = many; todo = tt; places = p; room = room } }
+past_scoped program xs (Leave ∷ k) places f fit many h p room =
+    past_scoped program xs k (without_last places) f fit many h (places_taken program (unit_at program f.unit) (HasLocation (unit_at program f.unit) xs f.slots) (length places - 1) places p) room
+past_scoped program xs (Do n s ∷ k) places f fit many h p room = record { floor = refl; scoped = record { fit = fit; slots = many; todo = h; places = p; room = room } }
 
 pub went_scoped : (program : Form) (xs : Locations) (successor : Successor) (f : Frame) → FrameFits program 0 f → Rest program xs f
     → ItemsScoped program (unit_at program f.unit) (HasLocation (unit_at program f.unit) xs f.slots) [] (followed successor f.todo) → GoesOn program xs f (went successor f)
 unfolding went
 went_scoped program xs successor f fit rest h =
-    let w = past_scoped program xs (followed successor f.todo) f.places (record f { halfway = false }) (went_fits program 0 successor f fit).fit h rest.places rest.room in
+    let w = past_scoped program xs (followed successor f.todo) f.places (record f { halfway = false }) (went_fits program 0 successor f fit).fit rest.slots h rest.places rest.room in
     record { floor = w.floor; scoped = w.scoped }
 
 pub rest_of : (program : Form) (xs : Locations) (f : Frame) → FrameScoped program xs f → Rest program xs f
-rest_of program xs f h = record { places = h.places; room = h.room }
+rest_of program xs f h = record { slots = h.slots; places = h.places; room = h.room }
 
 pub went_on_scoped : (program : Form) (xs : Locations) (f : Frame) → FrameScoped program xs f → next_declares program (unit_at program f.unit) f.todo ≡ [] → GoesOn program xs f (went On f)
 went_on_scoped program xs f h none =
@@ -139,7 +141,7 @@ handling_scoped program xs i f (Some e) is h =
       places = fitting_items.places_take program (unit_at program f.unit) i f.places h.fit.places;
       slots = h.fit.slots;
     } in
-    let w = went_scoped program xs Second g fit (record { places = places_taken program (unit_at program f.unit) (HasLocation (unit_at program f.unit) xs f.slots) i f.places h.places; room = h.room })
+    let w = went_scoped program xs Second g fit (record { slots = h.slots; places = places_taken program (unit_at program f.unit) (HasLocation (unit_at program f.unit) xs f.slots) i f.places h.places; room = h.room })
     (second_scoped program (unit_at program f.unit) (HasLocation (unit_at program f.unit) xs f.slots) e.todo at.1 at.0) in
     record { floor = w.floor; scoped = w.scoped }
 

@@ -1,5 +1,5 @@
--- Units and calls as wrong liftings would make them: the definitions of the laws refuse each of them.
-use Rattle.std.proofs.Common.{◌≡◌, ◌∙◌, ℕ, true, false, ◌&&◌, nat_eq, List, [], ◌∷◌, refl, ap}
+-- Units and calls as wrong liftings would make them, and a frame with too few numbers: the definitions of the laws refuse each of them.
+use Rattle.std.proofs.Common.{◌≡◌, ◌∙◌, ℕ, true, false, ◌&&◌, nat_eq, List, [], ◌∷◌, Some, slice_get, refl, sym, ap}
 use Rattle.shim_base.specs.declared.types.Ty.TheVariants as ty
 use Rattle.shim_syntax.specs.declared.tree.Sort.{Sort}
 use Rattle.shim_syntax.specs.declared.tree.Sort.TheVariants.{Value, Output}
@@ -12,9 +12,11 @@ use Rattle.shim_units.specs.declared.unit.Arg.TheVariants.{Ref}
 use Rattle.shim_units.specs.declared.unit.UBranch.{UBranch}
 use Rattle.shim_units.specs.declared.unit.UCall.{UCall}
 use Rattle.shim_units.specs.declared.unit.UWhat.TheVariants.{Next, Throw, While}
-use Rattle.shim_process.specs.LocalState.{unit_at}
+use Rattle.shim_process.specs.Locations.{Location, at_number}
+use Rattle.shim_process.specs.LocalState.{LocalState, unit_at, number_of, location_of}
 use Rattle.shim_laws_stops.specs.InForce.{hands_on, throws}
 use Rattle.shim_laws_stops.specs.InScope.{has_input, have_numbers, reads_right, Scoped, scoped, argument_right, arguments_right, references, distinct, branches_apart, unit_scoped}
+use Rattle.shim_laws_stops.specs.Named.{IsThere, HasItsLocation}
 use Rattle.shim_laws_stops.proofs.ScopeReads.{variables_variable}
 use Rattle.shim_laws_stops.proofs.ScopeSteps.{in_line, in_next, in_while}
 use Rattle.shim_laws_stops.proofs.ThrowSteps.{throws_line, throws_throw}
@@ -97,3 +99,11 @@ module _ (program : Form) where
   -- under another number that is in force it isn't noticed: both are alike to the definition
   pub passed_as_another : hands_on program (call [] (0 ∷ [])) (1 ∷ 0 ∷ []) ≡ hands_on program (call [] (1 ∷ [])) (1 ∷ 0 ∷ [])
   passed_as_another = refl
+
+-- a frame that has a number for its first slot alone: the look-up of the second slot finds location 0, which is the first one's, and yet the second has no location
+pub found_by_default : (x : Location) → IsThere (location_of (Some x ∷ []) (0 ∷ []) 1)
+unfolding number_of at_number
+found_by_default x = (x, refl)
+
+pub past_the_frame : (l : LocalState) → l.frame.slots ≡ 0 ∷ [] → HasItsLocation l 1 → ⊥
+past_the_frame l slots h = cc (sym (ap (λ numbers. slice_get numbers 1) slots) ∙ h.1)

@@ -50,6 +50,8 @@ PlacesScoped program u Has (p ∷ places) = ItemsScoped program u Has [] p.todo 
 
 pub record FrameScoped (program : Form) (locations : Locations) (f : Frame) : Type 0 where
   pub fit : FrameFits program 0 f
+  -- it has one number for each slot of its unit
+  pub slots : length f.slots ≡ length (unit_at program f.unit).slots
   pub todo : ItemsScoped program (unit_at program f.unit) (HasLocation (unit_at program f.unit) locations f.slots) [] f.todo
   pub places : PlacesScoped program (unit_at program f.unit) (HasLocation (unit_at program f.unit) locations f.slots) f.places
   -- there is room for the locations of its own variables

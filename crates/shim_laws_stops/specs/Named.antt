@@ -1,5 +1,5 @@
 -- That the variables at which a process waits, those that it reads or stores in and those that it hands on have locations, and that a fork has a branch.
-use Rattle.std.specs.Prelude.{◌≡◌, ℕ, true, List, [], ◌∷◌, ◌++◌, Option, Some}
+use Rattle.std.specs.Prelude.{◌≡◌, ℕ, true, List, [], ◌∷◌, ◌++◌, Option, Some, slice_get}
 use Rattle.shim_semantics.specs.Nodes.{Live}
 use Rattle.shim_semantics.specs.Places.{at}
 use Rattle.shim_semantics.specs.Trees.{Tree}
@@ -12,9 +12,9 @@ use Rattle.shim_units.specs.declared.unit.UCall.{UCall}
 use Rattle.shim_units.specs.declared.unit.UStmt.{UStmt}
 use Rattle.shim_units.specs.declared.unit.UWhat.{UWhat, UWhat-F, out-UWhat}
 use Rattle.shim_units.specs.Lifting.{is_among}
-use Rattle.shim_process.specs.Locations.{Location}
+use Rattle.shim_process.specs.Locations.{Location, at_number}
 use Rattle.shim_process.specs.Todo.{next_stmt}
-use Rattle.shim_process.specs.LocalState.{LocalState, unit_at, location_of}
+use Rattle.shim_process.specs.LocalState.{LocalState, unit_at}
 use Rattle.shim_laws_stops.specs.InScope.{is_number, variables_in, variables_in_option}
 
 -- there is a location
@@ -25,9 +25,9 @@ IsThere o = (x : Location) × (o ≡ Some x)
 abbrev pub StandsAt : LocalState → UWhat-F UWhat UStmt → Type 0
 StandsAt l w = (s : UStmt) × (next_stmt l.frame.todo ≡ Some s) × (out-UWhat s.what ≡ w)
 
--- the variable of this slot has a location
+-- the variable of this slot has a location: the frame in which the process is has a number for the slot, and the location of that number is there
 abbrev pub HasItsLocation : LocalState → ℕ → Type 0
-HasItsLocation l x = IsThere (location_of l.locations l.frame.slots x)
+HasItsLocation l x = (n : ℕ) × (slice_get l.frame.slots x ≡ Some n) × IsThere (at_number l.locations n)
 
 -- a live process of the tree
 abbrev pub IsLive : Tree LocalState → LocalState → Type 0

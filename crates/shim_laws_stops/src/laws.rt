@@ -37,7 +37,8 @@ pub fn thrown_exceptions_have_places()
 {}
 
 /// In each tree that a run of an accepted program reaches the variable of each `next` at which a live
-/// process stands has a location.
+/// process stands has a location: the frame in which the process is has a number for the variable's slot,
+/// and the location of that number is there. So it is meant in the next laws, too.
 pub fn nexts_have_locations()
     ensures { (program : Form) (input : List ℕ) (t : Tree LocalState) → IsAcceptedForm program → IsReached program input t → NextsHaveLocations t }
 {}
