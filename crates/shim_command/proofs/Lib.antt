@@ -2,5 +2,6 @@
 pub mod Arguments
 pub mod Fits
 pub mod Given
+pub mod ModeWords
 pub mod Numbers
 pub mod Taken

@@ -6,7 +6,7 @@ use Rattle.std.specs.Str.Parse.{ParsesUnsigned}
 use Rattle.clap.specs.Matches.{ReadsOne}
 use Rattle.clap.specs.Words.{Row, Text}
 use Rattle.shim_command.specs.declared.job.Job.{Job}
-use Rattle.shim_command.specs.declared.job.Mode.{Mode}
+use Rattle.shim_command.specs.declared.mode.Mode.{Mode}
 use Rattle.shim_command.specs.declared.job.WordsFault.{WordsFault}
 use Rattle.shim_command.proofs.Taken.{of_job}
 use Rattle.shim_command.specs.Jobs.{FitAll, Gives, IsNumber, IsWithin, job_in, job_with, numbered}

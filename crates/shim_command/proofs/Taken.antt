@@ -6,9 +6,10 @@ use Rattle.clap.specs.Words.{Row, Text, fault_of, is_simple, is_simple_and_free,
 use Rattle.clap.specs.declared.error.Error.{Error}
 use Rattle.clap.specs.declared.error.kind.ErrorKind.{ErrorKind}
 use Rattle.shim_command.specs.Command.{arguments, shim_app}
-use Rattle.shim_command.specs.Jobs.{Gives, IsFaultOf, job, job_in, job_of, job_with, mode_named, suits, where_faultless, word_in}
+use Rattle.shim_command.specs.Modes.{mode_named}
+use Rattle.shim_command.specs.Jobs.{Gives, IsFaultOf, job, job_in, job_of, job_with, suits, where_faultless, word_in}
 use Rattle.shim_command.specs.declared.job.Job.{Job}
-use Rattle.shim_command.specs.declared.job.Mode.{Mode}
+use Rattle.shim_command.specs.declared.mode.Mode.{Mode}
 use Rattle.shim_command.specs.declared.job.WordsFault.{WordsFault}
 use Rattle.shim_command.specs.declared.job.WordsFault.TheVariants.{Refused, NoMemory}
 
@@ -50,7 +51,7 @@ of_suiting P job found false holds is = cc
 of_mode : (P : Job → Type 0) (mode : Option Mode) (rows : List Row) → ((mode : Mode) → P (job_with mode rows)) → (found : Job)
     → job_of mode rows ≡ Some found → P found
 of_mode P None rows each found is = cc
-of_mode P (Some mode) rows each found is = of_suiting P (job_with mode rows) found (suits mode (job_with mode rows)) (each mode) is
+of_mode P (Some mode) rows each found is = of_suiting P (job_with mode rows) found (suits (job_with mode rows)) (each mode) is
 
 -- what holds of the job of each mode, with what was found, holds of the job
 pub of_job : (P : Job → Type 0) (rows : List Row) → ((mode : Mode) → P (job_with mode rows)) → (found : Job) → job_in rows ≡ Some found → P found

@@ -1,5 +1,5 @@
 -- What words ask for.
-use Rattle.std.specs.Prelude.{ℕ, ◌≡◌, ◌≢◌, ◌≤◌, Bool, true, List, [], ◌∷◌, map, Option, Some, None, Result, Ok, Err, is_some, if◌then◌else◌, unwrap_or, bytes_eq, codes, string_bytes, String}
+use Rattle.std.specs.Prelude.{ℕ, ◌≡◌, ◌≢◌, ◌≤◌, Bool, true, List, [], ◌∷◌, map, Option, Some, None, Result, Ok, Err, is_some, if◌then◌else◌, unwrap_or, codes, string_bytes, String}
 use Rattle.std.specs.Option.{option_map_or}
 use Rattle.std.specs.Str.Parse.{digits_value, without_leading_plus}
 use Rattle.std.specs.declared.alloc.Global.{Global}
@@ -8,25 +8,18 @@ use Rattle.clap.specs.Values.{IsUnsignedIn}
 use Rattle.clap.specs.declared.error.kind.ErrorKind.{ErrorKind}
 use Rattle.clap.specs.declared.error.kind.ErrorKind.TheVariants.{OutOfMemory}
 use Rattle.shim_generator.specs.Kinds.{kind_named}
-use Rattle.shim_command.specs.declared.job.Mode.{Mode}
-use Rattle.shim_command.specs.declared.job.Mode.TheVariants.{Run, Reference, Check, Code, Gen}
+use Rattle.shim_command.specs.declared.mode.Mode.{Mode}
+use Rattle.shim_command.specs.declared.mode.Origin.{Origin}
+use Rattle.shim_command.specs.declared.mode.Origin.TheVariants.{Stored, Generated}
 use Rattle.shim_command.specs.declared.job.Job.{Job}
 use Rattle.shim_command.specs.declared.job.WordsFault.{WordsFault}
 use Rattle.shim_command.specs.declared.job.WordsFault.TheVariants.{Refused, NoMemory}
 use Rattle.shim_command.specs.Command.{shim_app}
+use Rattle.shim_command.specs.Modes.{mode_named, row_of}
 
 -- the bytes of each word
 abbrev pub texts_of : List (String Global) → List Text
 texts_of words = map string_bytes words
-
--- the mode that a word names
-unfoldable pub mode_named : Text → Option Mode
-mode_named word =
-    if bytes_eq word (codes "run") then Some Run
-    else (if bytes_eq word (codes "ref") then Some Reference
-    else (if bytes_eq word (codes "check") then Some Check
-    else (if bytes_eq word (codes "code") then Some Code
-    else (if bytes_eq word (codes "gen") then Some Gen else None))))
 
 -- the word that was found for an argument that has to be there
 abbrev pub word_in : List Row → Text → Text
@@ -52,16 +45,17 @@ job_with mode rows = record {
   size = number_in rows (codes "size") 1000;
 }
 
--- whether a mode takes what was found: to `gen` FILE names a kind
-abbrev pub suits : Mode → Job → Bool
-suits Run job = true
-suits Reference job = true
-suits Check job = true
-suits Code job = true
-suits Gen job = is_some (kind_named job.file)
+-- whether a job has its source so: one that is generated is of a kind that FILE names
+abbrev pub has_origin : Origin → Job → Bool
+has_origin Stored job = true
+has_origin Generated job = is_some (kind_named job.file)
+
+-- whether the mode takes what was found
+abbrev pub suits : Job → Bool
+suits job = has_origin (row_of job.mode).origin job
 
 abbrev pub where_it_suits : Job → Option Job
-where_it_suits job = if suits job.mode job then Some job else None
+where_it_suits job = if suits job then Some job else None
 
 abbrev pub job_of : Option Mode → List Row → Option Job
 job_of (Some mode) rows = where_it_suits (job_with mode rows)

@@ -1,15 +1,6 @@
 // What the words ask for, and why they may ask for nothing.
+use crate::mode::Mode;
 use shim_base::{List, NoMemory};
-
-/// What is done with a source.
-#[derive(Clone, Copy, Debug, PartialEq, Eq)]
-pub enum Mode {
-    Run,
-    Reference,
-    Check,
-    Code,
-    Gen,
-}
 
 /// What the words ask for. An option that was not given has its default.
 #[derive(Debug, Drop)]

@@ -3,8 +3,11 @@
 
 mod command;
 mod job;
+pub mod laws;
+mod mode;
 mod words;
 
-pub use job::{Job, Mode, WordsFault};
+pub use job::{Job, WordsFault};
+pub use mode::{Beside, Course, Mode, ModeRow, Origin, Showing, Task, Telling};
 pub use shim_generator::Kind;
 pub use words::read_words;

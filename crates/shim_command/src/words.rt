@@ -2,30 +2,16 @@
 ghost use Rattle.std.specs.Prelude.{◌≡◌, ℕ, IfOk, Some, codes, option_map};
 ghost use Rattle.clap.specs.Words.{first_of, found_of, kind_of, matches_of, one_of, rows_of};
 ghost use Rattle.shim_command.specs.Command.{shim_app};
-ghost use Rattle.shim_command.specs.Jobs.{FitAll, Gives, IsFaultOf, IsNumber, IsWithin, job, job_in, job_with, mode_named, number_in, suits, texts_of, word_in};
+ghost use Rattle.shim_command.specs.Jobs.{FitAll, Gives, IsFaultOf, IsNumber, IsWithin, job, job_in, job_with, number_in, suits, texts_of, word_in};
 
 use crate::command::command;
-use crate::job::{Job, Mode, WordsFault};
+use crate::job::{Job, WordsFault};
+use crate::mode::{Mode, Origin};
 use clap::error::ErrorKind;
 use clap::{ArgMatches, Error};
 use shim_base::{List, NoMemory};
 use shim_generator::Kind;
 use std::alloc::Global;
-
-// The mode that a word names.
-#[tactic(auto, unfolding(crate::specs::Jobs::mode_named))]
-fn mode_named(word: &str) -> Option<Mode>
-    ensures { result ≡ mode_named word.now }
-{
-    match word {
-        "run" => Some(Mode::Run),
-        "ref" => Some(Mode::Reference),
-        "check" => Some(Mode::Check),
-        "code" => Some(Mode::Code),
-        "gen" => Some(Mode::Gen),
-        _ => None,
-    }
-}
 
 // The word of an argument that has to be there. Where `clap` finds no fault it has one.
 fn word_in<'a>(matches: &ArgMatches<'a>, name: &str) -> &'a str
@@ -76,13 +62,13 @@ fn job_with(alloc: Global, mode: Mode, matches: &ArgMatches<'_>) -> Result<Job, 
     })
 }
 
-// Whether the mode takes what was found: to `gen` FILE names a kind.
+// Whether the mode takes what was found: where its source is generated, FILE names a kind.
 fn suits(job: &Job) -> bool
-    ensures { result ≡ suits job.now.mode job.now }
+    ensures { result ≡ suits job.now }
 {
-    match job.mode {
-        Mode::Run | Mode::Reference | Mode::Check | Mode::Code => true,
-        Mode::Gen => Kind::named(job.file.as_slice()).is_some(),
+    match job.mode.row().origin {
+        Origin::Stored => true,
+        Origin::Generated => Kind::named(job.file.as_slice()).is_some(),
     }
 }
 
@@ -91,7 +77,7 @@ fn job_in(alloc: Global, matches: &ArgMatches<'_>) -> Result<Job, WordsFault>
     requires { FitAll (rows_of (found_of matches.now)) }
     ensures { Gives (job_in (rows_of (found_of matches.now))) result }
 {
-    let mode = match mode_named(word_in(matches, "MODE")) {
+    let mode = match Mode::named(word_in(matches, "MODE")) {
         Some(mode) => mode,
         None => return Err(WordsFault::Refused),
     };
@@ -114,8 +100,8 @@ fn fault_of(error: &Error) -> WordsFault
 }
 
 /// Reads the words, the first of which is the program's own name. `Refused` comes exactly where they
-/// have no job: `clap` finds a fault in them, or MODE names no mode, or it is `gen` and FILE names no
-/// kind. A job has what `clap` finds in the words for each argument, with a default for an option that is
+/// have no job: `clap` finds a fault in them, or MODE names no mode, or its source is generated and FILE
+/// names no kind. A job has what `clap` finds in the words for each argument, with a default for an option that is
 /// absent; its numbers are in their ranges, and FILE is one that was found. Want of memory may come in
 /// place of both.
 pub fn read_words(alloc: Global, words: &[String]) -> Result<Job, WordsFault>

@@ -20,7 +20,8 @@ pub struct Program {
     pub text: &'static str,
 }
 
-fn files_of(alloc: Global, program: Program) -> Result<MemFiles, NoMemory> {
+/// The files of a program.
+pub fn files_of(alloc: Global, program: Program) -> Result<MemFiles, NoMemory> {
     let source = List::from_slice(alloc, program.source.as_bytes())?;
     let input = List::from_slice(alloc, program.input.as_bytes())?;
     let mut files = List::new(alloc);
@@ -29,7 +30,8 @@ fn files_of(alloc: Global, program: Program) -> Result<MemFiles, NoMemory> {
     Ok(MemFiles::new(alloc, files, List::new(alloc)))
 }
 
-fn words_of(alloc: Global, line: &str) -> Result<Vec<String>, NoMemory> {
+/// The words of a line.
+pub fn words_of(alloc: Global, line: &str) -> Result<Vec<String>, NoMemory> {
     let mut words = Vec::new(alloc);
     for word in line.split(' ') {
         words.push(String::from_str(alloc, word)?)?;

@@ -9,10 +9,12 @@ use Rattle.shim_front_end.specs.declared.SourceFault.TheVariants.{Parse, Scope, 
 use Rattle.shim_front_end.specs.FrontEnd.{IsAnswerTo}
 use Rattle.shim_front_end.specs.Source.{Source}
 use Rattle.shim_reference.specs.Reference.{reference_of}
-use Rattle.shim_tool.specs.RunEnds.{Execution, Course, IsEnd, by_first_events, end_of, status_of_outcome}
-use Rattle.shim_tool.specs.Modes.{Deed, runs}
+use Rattle.shim_command.specs.declared.mode.Course.{Course}
+use Rattle.shim_command.specs.declared.mode.Course.TheVariants.{ByFirstEvents}
+use Rattle.shim_tool.specs.RunEnds.{Execution, IsEnd, end_of, status_of_outcome}
+use Rattle.shim_tool.specs.Modes.{runs}
 use Rattle.shim_tool.proofs.NetEnds.{meaning_end}
-use Rattle.shim_tool.specs.Answer.{Answer, AnswersUnits, AnswersSource, refused}
+use Rattle.shim_tool.specs.Answer.{AnswersUnits, OfBytes}
 
 -- what a program means is what it means under other names for it and its input
 reference_is : (source program : Source) (input bytes : List ℕ) (budget : ℕ) (e : Ended) → program ≡ source → bytes ≡ input → e ≡ reference_of program bytes budget
@@ -27,7 +29,7 @@ if_ok_weaker (Err e) P Q f p = tt
 
 -- a source and an input of which there are more owners are run as themselves
 pub reference_was : {E : Type 0} (r : Result Ended E) (source program : Source) (input bytes : List ℕ) (budget : ℕ) → program ≡ source → bytes ≡ input
-    → IfOk r (λ end. end ≡ reference_of program bytes budget) → IfOk r (IsEnd by_first_events (record { source = source; input = input; budget = budget }))
+    → IfOk r (λ end. end ≡ reference_of program bytes budget) → IfOk r (IsEnd ByFirstEvents (record { source = source; input = input; budget = budget }))
 reference_was (Ok e) source program input bytes budget same read is =
     meaning_end (record { source = source; input = input; budget = budget }) e (reference_is source program input bytes budget e same read is)
 reference_was (Err e) source program input bytes budget same read is = tt
@@ -40,22 +42,21 @@ answers_run course text_of s t input budget e status text same end told written 
     subst (λ (b : Source). AnswersUnits (runs course text_of) (record { source = b; input = input; budget = budget }) (record { status = status; text = text })) same
     (e, end, (λ i. record { status = told i; text = written i }))
 
--- an accepted program is answered with what is done with it
-pub of_accepted : (deed : Deed) (as_run : Source → Execution) (bytes : List ℕ) (source : Source) (answer : Answer) → IsAnswerTo bytes (Ok source) → AnswersUnits deed (as_run source) answer
-    → AnswersSource deed as_run bytes answer
-of_accepted deed as_run bytes source answer (p, text, is) units = inl (p, text, inl (source, is, units))
+-- of an accepted program comes what comes of its source
+pub of_accepted : {A : Type 0} (OfSource : Source → A → Type 0) (OfFault : SourceFault → A → Type 0) (bytes : List ℕ) (source : Source) (a : A) → IsAnswerTo bytes (Ok source) → OfSource source a → OfBytes OfSource OfFault bytes a
+of_accepted OfSource OfFault bytes source a (p, text, is) comes = inl (p, text, inl (source, is, comes))
 
--- a source that is refused is answered with the line of its fault
-pub of_refused : (deed : Deed) (as_run : Source → Execution) (bytes : List ℕ) (fault : SourceFault) (answer : Answer)
+-- and of a source that is refused what comes of its fault
+pub of_refused : {A : Type 0} (OfSource : Source → A → Type 0) (OfFault : SourceFault → A → Type 0) (bytes : List ℕ) (fault : SourceFault) (a : A)
     → (fault ≡ Parse parse.NoMemory → ⊥) → (fault ≡ Scope scope.NoMemory → ⊥) → (fault ≡ Share share.NoMemory → ⊥)
-    → IsAnswerTo bytes (Err fault) → answer ≡ refused fault → AnswersSource deed as_run bytes answer
-of_refused deed as_run bytes (Parse (parse.Lex x)) answer a b c is told = inr (parse.Lex x, is, told)
-of_refused deed as_run bytes (Parse (parse.Unexpected at line)) answer a b c is told = inr (parse.Unexpected at line, is, told)
-of_refused deed as_run bytes (Parse (parse.TooDeep line)) answer a b c is told = inr (parse.TooDeep line, is, told)
-of_refused deed as_run bytes (Parse (parse.TooMany what line)) answer a b c is told = inr (parse.TooMany what line, is, told)
-of_refused deed as_run bytes (Parse parse.NoMemory) answer a b c is told = absurd (a refl)
-of_refused deed as_run bytes (Scope (scope.Refused line kind name)) answer a b c (p, text, is) told = inl (p, text, inr (Scope (scope.Refused line kind name), is, told))
-of_refused deed as_run bytes (Scope scope.NoMemory) answer a b c is told = absurd (b refl)
-of_refused deed as_run bytes (Share (share.TwoWriters line name first second)) answer a b c (p, text, is) told = inl (p, text, inr (Share (share.TwoWriters line name first second), is, told))
-of_refused deed as_run bytes (Share (share.Alias line name)) answer a b c (p, text, is) told = inl (p, text, inr (Share (share.Alias line name), is, told))
-of_refused deed as_run bytes (Share share.NoMemory) answer a b c is told = absurd (c refl)
+    → IsAnswerTo bytes (Err fault) → OfFault fault a → OfBytes OfSource OfFault bytes a
+of_refused OfSource OfFault bytes (Parse (parse.Lex e)) a x y z is comes = inr (parse.Lex e, is, comes)
+of_refused OfSource OfFault bytes (Parse (parse.Unexpected at line)) a x y z is comes = inr (parse.Unexpected at line, is, comes)
+of_refused OfSource OfFault bytes (Parse (parse.TooDeep line)) a x y z is comes = inr (parse.TooDeep line, is, comes)
+of_refused OfSource OfFault bytes (Parse (parse.TooMany what line)) a x y z is comes = inr (parse.TooMany what line, is, comes)
+of_refused OfSource OfFault bytes (Parse parse.NoMemory) a x y z is comes = absurd (x refl)
+of_refused OfSource OfFault bytes (Scope (scope.Refused line kind name)) a x y z (p, text, is) comes = inl (p, text, inr (Scope (scope.Refused line kind name), is, comes))
+of_refused OfSource OfFault bytes (Scope scope.NoMemory) a x y z is comes = absurd (y refl)
+of_refused OfSource OfFault bytes (Share (share.TwoWriters line name first second)) a x y z (p, text, is) comes = inl (p, text, inr (Share (share.TwoWriters line name first second), is, comes))
+of_refused OfSource OfFault bytes (Share (share.Alias line name)) a x y z (p, text, is) comes = inl (p, text, inr (Share (share.Alias line name), is, comes))
+of_refused OfSource OfFault bytes (Share share.NoMemory) a x y z is comes = absurd (z refl)

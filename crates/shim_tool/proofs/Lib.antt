@@ -7,6 +7,8 @@ pub mod NetEnds
 pub mod Outcomes
 pub mod Reached
 pub mod RowLemmas
-pub mod Joins
 pub mod Sights
 pub mod FunctionUnits
+pub mod ReadsOn
+pub mod Preparing
+pub mod Beginnings

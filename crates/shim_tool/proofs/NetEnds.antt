@@ -17,7 +17,8 @@ use Rattle.shim_laws_replay.specs.Told.{IsToldAs}
 use Rattle.shim_reference.specs.Naming.{named}
 use Rattle.shim_reference.specs.Reference.{meaning_of, reference_of}
 use Rattle.shim_net.specs.Nets.{NetView}
-use Rattle.shim_tool.specs.RunEnds.{Execution, tree_of, end_of, read_off, status_of, status_of_outcome, IsEnd, as_meant, stopped, IsStoppedAt, by_first_events, in_some_order}
+use Rattle.shim_tool.specs.RunEnds.{Execution, tree_of, end_of, read_off, status_of, status_of_outcome, IsEnd, as_meant, stopped, IsStoppedAt}
+use Rattle.shim_command.specs.declared.mode.Course.TheVariants.{ByFirstEvents, InSomeOrder}
 use Rattle.shim_tool.proofs.Causes.{status_named, tells_spent}
 
 -- an outcome is that of a run that was stopped, or has another status
@@ -32,11 +33,11 @@ spent_or_not Spent = inl refl
 abbrev meant : Execution → Tree LocalState
 meant x = meaning process_ops x.budget (start (root x.source x.input))
 
-tree_is : (x : Execution) → tree_of x ≡ meant x
+pub tree_is : (x : Execution) → tree_of x ≡ meant x
 unfolding tree_of meaning_of
 tree_is x = refl
 
-end_is : (x : Execution) → end_of x ≡ read_off x (meant x)
+pub end_is : (x : Execution) → end_of x ≡ read_off x (meant x)
 unfolding end_of reference_of meaning_of
 end_is x = refl
 
@@ -45,7 +46,7 @@ status_is x = ap (λ (e : Ended). status_of_outcome e.outcome) (end_is x) ∙ st
 
 -- a tree at which a schedule has ended gives what a run may come to
 pub net_end : (x : Execution) (t : Tree LocalState) → UsesOwnSlots x.source → AgreesWithMeaning process_ops (root x.source x.input) x.budget t → IsToldAs process_ops (root x.source x.input) x.budget t
-    → IsEnd in_some_order x (read_off x t)
+    → IsEnd InSomeOrder x (read_off x t)
 net_end x t own agrees told = by_outcome (spent_or_not (ended process_ops (meant x)).outcome)
   where
     goes_on : status_of x ≡ 4 → IsQuiescent process_ops t → ⊥
@@ -53,7 +54,7 @@ net_end x t own agrees told = by_outcome (spent_or_not (ended process_ops (meant
         let P : Tree LocalState → Type 0 = λ u. IsQuiescent process_ops u in
         tells_spent.only x own four (subst P (sym (tree_is x)) (agrees.alike.rests.0 q))
 
-    by_outcome : ((ended process_ops (meant x)).outcome ≡ Spent) ⊎ (((ended process_ops (meant x)).outcome ≢ Spent) × (status_of_outcome (ended process_ops (meant x)).outcome ≢ 4)) → IsEnd in_some_order x (read_off x t)
+    by_outcome : ((ended process_ops (meant x)).outcome ≡ Spent) ⊎ (((ended process_ops (meant x)).outcome ≢ Spent) × (status_of_outcome (ended process_ops (meant x)).outcome ≢ 4)) → IsEnd InSomeOrder x (read_off x t)
     by_outcome (inl spent) =
         let four : status_of x ≡ 4 = status_is x ∙ ap status_of_outcome spent in
         let here = told.spent.1 spent in
@@ -62,10 +63,10 @@ net_end x t own agrees told = by_outcome (spent_or_not (ended process_ops (meant
     by_outcome (inr (other, apart)) = as_meant (λ four. apart (sym (status_is x) ∙ four)) (ap (named x.source.main_throws) (told.same other) ∙ sym (end_is x))
 
 -- and the meaning is what a run by first events comes to
-pub meaning_end : (x : Execution) (e : Ended) → e ≡ end_of x → IsEnd by_first_events x e
+pub meaning_end : (x : Execution) (e : Ended) → e ≡ end_of x → IsEnd ByFirstEvents x e
 meaning_end x e is = by_outcome (spent_or_not (end_of x).outcome)
   where
-    by_outcome : ((end_of x).outcome ≡ Spent) ⊎ (((end_of x).outcome ≢ Spent) × (status_of_outcome (end_of x).outcome ≢ 4)) → IsEnd by_first_events x e
+    by_outcome : ((end_of x).outcome ≡ Spent) ⊎ (((end_of x).outcome ≢ Spent) × (status_of_outcome (end_of x).outcome ≢ 4)) → IsEnd ByFirstEvents x e
     by_outcome (inl spent) = stopped (ap status_of_outcome spent) is (ap (λ (y : Ended). status_of_outcome y.outcome) is ∙ ap status_of_outcome spent)
     by_outcome (inr (other, apart)) = as_meant apart is
 
@@ -76,12 +77,12 @@ own_slots l program input s is = subst UsesOwnSlots (ap (λ (m : LocalState). m.
 
 -- a net of this root and this budget gives its end
 pub net_ended : (source : LocalState) (x : Execution) (n : NetView LocalState) (e : Ended) → Sound source → source ≡ root x.source x.input → n.root ≡ source → n.budget ≡ x.budget
-    → AgreesWithMeaning process_ops n.root n.budget n.tree → IsToldAs process_ops n.root n.budget n.tree → e ≡ read_off x n.tree → IsEnd in_some_order x e
+    → AgreesWithMeaning process_ops n.root n.budget n.tree → IsToldAs process_ops n.root n.budget n.tree → e ≡ read_off x n.tree → IsEnd InSomeOrder x e
 net_ended source x n e sound is same within agrees told read =
     let A : LocalState → ℕ → Type 0 = λ r b. AgreesWithMeaning process_ops r b n.tree in
     let T : LocalState → ℕ → Type 0 = λ r b. IsToldAs process_ops r b n.tree in
     let from = same ∙ is in
-    let E : Ended → Type 0 = λ y. IsEnd in_some_order x y in
+    let E : Ended → Type 0 = λ y. IsEnd InSomeOrder x y in
     subst E (sym read) (net_end x n.tree (own_slots source x.source x.input sound is) (subst (λ b. A (root x.source x.input) b) within (subst (λ r. A r n.budget) from agrees))
     (subst (λ b. T (root x.source x.input) b) within (subst (λ r. T r n.budget) from told)))
 

@@ -19,7 +19,7 @@ pub data Outcome (deed : Deed) (as_run : Source → Execution) (bytes : List ℕ
       → answer ≡ record { status = 5; text = line } → Outcome deed as_run bytes answer
 
 -- the source of a text is one
-one_source : (bytes : List ℕ) (program : Program) (source : Source) → IsOnlyText bytes program → checked program ≡ Ok source → (other : Source) → IsSource bytes other → other ≡ source
+pub one_source : (bytes : List ℕ) (program : Program) (source : Source) → IsOnlyText bytes program → checked program ≡ Ok source → (other : Source) → IsSource bytes other → other ≡ source
 one_source bytes program source text units other h =
     let P : Program → Type 0 = λ q. checked q ≡ Ok other in
     let there : checked program ≡ Ok other = subst P (text.only h.program h.text) h.units in
@@ -41,7 +41,7 @@ never_refused bytes program source text units line (inl (other, is, r, refused, 
 never_refused bytes program source text units line (inr (fault, is, same)) = text.faultless fault is
 
 -- the text of a program with a fault is no source
-no_acceptance : (bytes : List ℕ) (program : Program) (r : SourceFault) → IsOnlyText bytes program → checked program ≡ Err r → IsNoSource bytes
+pub no_acceptance : (bytes : List ℕ) (program : Program) (r : SourceFault) → IsOnlyText bytes program → checked program ≡ Err r → IsNoSource bytes
 no_acceptance bytes program r text refused source h =
     let P : Program → Type 0 = λ q. checked q ≡ Ok source in
     accepted_or_refused program source r (subst P (text.only h.program h.text) h.units) refused

@@ -8,20 +8,24 @@ use Rattle.shim_front_end.specs.Source.{Source, IsSource}
 use Rattle.shim_command.specs.declared.job.Job.{Job}
 use Rattle.shim_tool.specs.Moments.{FilesAt, SinkAt}
 use Rattle.shim_local.specs.declared.Ended.{Ended}
-use Rattle.shim_tool.specs.RunEnds.{Execution, Course, by_first_events, in_some_order, status_of, status_of_outcome, end_of, printed_steps, IsReachedIn, IsSpent, IsStoppedEnd, as_meant, stopped}
+use Rattle.shim_command.specs.declared.mode.Course.{Course}
+use Rattle.shim_command.specs.declared.mode.Course.TheVariants.{ByFirstEvents, InSomeOrder}
+use Rattle.shim_tool.specs.RunEnds.{Execution, status_of, status_of_outcome, end_of, printed_steps, read_off, IsBeginning, IsReachedIn, IsSpent, IsStoppedAt, IsStoppedEnd, as_meant, stopped}
 use Rattle.shim_tool.specs.Modes.{Deed, Reading, runs, tells, deed_of, reads_of, source_text}
 use Rattle.shim_tool.specs.Reads.{AreContents, HoldsAll, HoldsUpTo, Holds, OneReadFailed, Saw, all, longer_file, unread_file}
-use Rattle.shim_tool.specs.Answer.{Answer, Answers, AnswersGathered, AnswersUnits, FailedGrew, MayAnswer, IsNoSource, IsStoppedBy, gathered, status_by, text_by, text_with, longer_line, memory_line, usage_line}
+use Rattle.shim_tool.specs.Answer.{Answer, Answers, AnswersSaw, AnswersUnits, FailedGrew, MayAnswer, IsNoSource, IsStoppedBy, status_by, text_by, text_with, longer_line, memory_line, usage_line}
 use Rattle.shim_tool.specs.Call.{Ran, Writes}
-use Rattle.shim_tool.specs.Rows.{Came, Comes, ComesUnlessUnread, WasRead, EndsBy, IsReached, IsRefusal, execution, CameStopped, EndRow, SpentRow, CountRow, RefusedRow, FileCause, FileRow, SinkRow, MemoryRow, WordsRow, FilesRow, IsComplete}
+use Rattle.shim_tool.specs.Rows.{Came, Comes, ComesUnlessUnread, WasRead, EndsBy, IsReached, IsRefusal, execution, CameStopped, EndRow, SpentRow, CountRow, BeginningRow, RefusedRow, FileCause, FileRow, SinkRow, MemoryRow, WordsRow, FilesRow, IsComplete}
 use Rattle.shim_process.specs.OwnSlots.{UsesOwnSlots}
+use Rattle.shim_process.specs.LocalState.{LocalState}
 use Rattle.shim_process.specs.Ops.{process_ops}
+use Rattle.shim_semantics.specs.Trees.{Tree}
+use Rattle.shim_tool.proofs.Beginnings.{stopped_tree}
 use Rattle.shim_tool.proofs.Causes.{Tells, tells_spent, printed, spent_counts}
 use Rattle.shim_tool.proofs.Reached.{is_reached, is_reached_whole}
 use Rattle.shim_tool.proofs.SourceSlots.{source_uses_own_slots}
 use Rattle.shim_tool.proofs.Outcomes.{Outcome, does, refuses, outcome}
-use Rattle.shim_tool.proofs.Joins.{looks_grew}
-use Rattle.shim_tool.proofs.Sights.{WasSeen, was_seen, same_contents, none_failed, none_too_long, not_all_read, one_too_long}
+use Rattle.shim_tool.proofs.Sights.{WasSeen, looks_grew, was_seen, same_contents, none_failed, none_too_long, not_all_read, one_too_long}
 
 -- What came of an answer: it was written, or memory was wanted, or the sink failed.
 pub data Wrote (ask : Option Job) (before now : FilesAt) (ob on : SinkAt) (result : ℕ) : Type 0 where
@@ -47,7 +51,7 @@ ran_job ask job before now ob on result ran asks =
 abbrev OutcomeOf : Job → List (List ℕ) → Answer → Type 0
 OutcomeOf job contents answer = Outcome (deed_of job) (execution job contents) (source_text job contents) answer
 
-answered_source : (job : Job) (contents : List (List ℕ)) (answer : Answer) → AnswersGathered job (gathered job (all contents)) answer → OutcomeOf job contents answer
+answered_source : (job : Job) (contents : List (List ℕ)) (answer : Answer) → AnswersSaw job (all contents) answer → OutcomeOf job contents answer
 answered_source job contents answer is = outcome (deed_of job) (execution job contents) (source_text job contents) answer is
 
 -- What came of a job whose files are told and short enough: its source was answered, or a read failed, or memory was wanted, or the sink failed.
@@ -60,10 +64,10 @@ pub data CameOf (job : Job) (contents : List (List ℕ)) (before now : FilesAt) 
 came_of : (ask : Option Job) (job : Job) (contents : List (List ℕ)) (before now : FilesAt) (ob on : SinkAt) (result : ℕ) → Ran ask before now ob on result →
     ask ≡ Some job → HoldsAll before.held (reads_of job) contents → CameOf job contents before now ob on result
 came_of ask job contents before now ob on result ran asks h = by_wrote (ran_job ask job before now ob on result ran asks) where
-  by_saw : (answer : Answer) (saw : Saw) → WasSeen (reads_of job) before now saw → AnswersGathered job (gathered job saw) answer → Came answer.status answer.text ob on result
+  by_saw : (answer : Answer) (saw : Saw) → WasSeen (reads_of job) before now saw → AnswersSaw job saw answer → Came answer.status answer.text ob on result
       → CameOf job contents before now ob on result
   by_saw answer (all read) (are, same) is came =
-      let P : List (List ℕ) → Type 0 = λ cs. AnswersGathered job (gathered job (all cs)) answer in
+      let P : List (List ℕ) → Type 0 = λ cs. AnswersSaw job (all cs) answer in
       of_source answer (answered_source job contents answer (subst P (same_contents before.held (reads_of job) read contents are h) is)) came
   by_saw answer (unread_file r) (comes, read) is came = unreadable (came.0 ∙ ap (λ (a : Answer). a.status) is) (r, comes, read)
   by_saw answer (longer_file r) (comes, same, long) is came = absurd (none_too_long before.held (reads_of job) contents r h comes long)
@@ -113,8 +117,8 @@ stopped_answered (tells text) x answer is four = absurd (omega (arith, four))
 
 -- the counts of a stopped run add up to the budget
 stopped_counts : (course : Course) (x : Execution) (e : Ended) → UsesOwnSlots x.source → status_of x ≡ 4 → IsStoppedEnd course x e → printed_steps e ≡ x.budget
-stopped_counts by_first_events x e own four same = ap printed_steps same ∙ spent_counts x own four
-stopped_counts in_some_order x e own four (t, at, same) = ap printed_steps same ∙ (printed process_ops x.source.main_throws t ∙ at.counted)
+stopped_counts ByFirstEvents x e own four same = ap printed_steps same ∙ spent_counts x own four
+stopped_counts InSomeOrder x e own four (t, at, same) = ap printed_steps same ∙ (printed process_ops x.source.main_throws t ∙ at.counted)
 
 deed_counts : (deed : Deed) (x : Execution) (e : Ended) → UsesOwnSlots x.source → status_by deed x ≡ 4 → IsStoppedBy deed x e → printed_steps e ≡ x.budget
 deed_counts (runs course text) x e own four may = stopped_counts course x e own four may
@@ -149,7 +153,7 @@ ended_so status few apart ask before now ob on result ran came_so = by_wrote ask
       (same, job, contents, source, answer, record { asked = refl; read = are }, has, told, sym came.0 ∙ ends, came.1)
   by_source job contents answer same are (refuses line why only none is) came ends = absurd (let e : answer.status ≡ 5 = ap (λ (a : Answer). a.status) is in omega (arith, e, came.0, ends, few))
 
-  by_saw : (job : Job) (answer : Answer) (saw : Saw) → WasSeen (reads_of job) before now saw → AnswersGathered job (gathered job saw) answer → Came answer.status answer.text ob on result → result ≡ status
+  by_saw : (job : Job) (answer : Answer) (saw : Saw) → WasSeen (reads_of job) before now saw → AnswersSaw job saw answer → Came answer.status answer.text ob on result → result ≡ status
       → EndedSo status before now ob on (Some job)
   by_saw job answer (all contents) (are, same) is came ends = by_source job contents answer same are (answered_source job contents answer is) came ends
   by_saw job answer (unread_file r) seen is came ends = absurd (let e : answer.status ≡ 6 = ap (λ (a : Answer). a.status) is in omega (arith, e, came.0, ends, few))
@@ -254,6 +258,25 @@ count_row ask before now ob on result ran is = counts (ended_so 4 (omega arith) 
       let own : UsesOwnSlots source = source_uses_own_slots (source_text job contents) source has in
       (job, contents, source, read, has, deed_spent deed x own four, s.0, s.1, deed_counts deed x s.0 own four s.1, taken ∙ ap (λ (t : List ℕ). then_bytes ob.taken t) s.2)
 
+-- what is told of a deed that was stopped is read off a tree whose beginning is the meaning's
+deed_begins : (deed : Deed) (x : Execution) (e : Ended) → UsesOwnSlots x.source → status_by deed x ≡ 4 → IsStoppedBy deed x e
+    → (t : Tree LocalState) × IsStoppedAt x t × IsBeginning x t × (e ≡ read_off x t)
+deed_begins (runs course text) x e own four may = stopped_tree course x e own four may
+deed_begins (tells text) x e own four may = absurd may
+
+pub beginning_row : (ask : Option Job) (before now : FilesAt) (ob on : SinkAt) (result : ℕ) → Ran ask before now ob on result → BeginningRow ask before ob on result
+beginning_row ask before now ob on result ran is = begins (ended_so 4 (omega arith) (λ e. omega (arith, e)) ask before now ob on result ran is) where
+  begins : EndedSo 4 before now ob on ask → (job : Job) × (contents : List (List ℕ)) × (source : Source) × WasRead ask job before contents × IsSource (source_text job contents) source
+      × (t : Tree LocalState) × IsStoppedAt (execution job contents source) t × IsBeginning (execution job contents source) t
+      × (on.taken ≡ then_bytes ob.taken (text_with (deed_of job) (execution job contents source) (read_off (execution job contents source) t)))
+  begins (same, job, contents, source, answer, read, has, told, ends, taken) =
+      let deed = deed_of job in
+      let x = execution job contents source in
+      let four : status_by deed x ≡ 4 = sym (status_answered deed x answer told) ∙ ends in
+      let s = stopped_answered deed x answer told four in
+      let b = deed_begins deed x s.0 (source_uses_own_slots (source_text job contents) source has) four s.1 in
+      (job, contents, source, read, has, b.0, b.1, b.2, taken ∙ ap (λ (t : List ℕ). then_bytes ob.taken t) (s.2 ∙ ap (λ (y : Ended). text_with deed x y) b.3))
+
 -- what is told where a source was refused
 abbrev RefusedSo : FilesAt → FilesAt → SinkAt → SinkAt → Option Job → Type 0
 RefusedSo before now ob on a = (now.failed ≡ before.failed) × (job : Job) × (contents : List (List ℕ)) × (line : List ℕ) × WasRead a job before contents × IsNoSource (source_text job contents)
@@ -286,7 +309,7 @@ refused_row ask before now ob on result ran = record {
   by_source job contents answer same are (refuses line why only none is) came five =
       (same, job, contents, line, record { asked = refl; read = are }, none, why, came.1 ∙ ap (λ (a : Answer). then_bytes ob.taken a.text) is)
 
-  by_saw : (job : Job) (answer : Answer) (saw : Saw) → WasSeen (reads_of job) before now saw → AnswersGathered job (gathered job saw) answer → Came answer.status answer.text ob on result → result ≡ 5
+  by_saw : (job : Job) (answer : Answer) (saw : Saw) → WasSeen (reads_of job) before now saw → AnswersSaw job saw answer → Came answer.status answer.text ob on result → result ≡ 5
       → RefusedSo before now ob on (Some job)
   by_saw job answer (all contents) (are, same) is came five = by_source job contents answer same are (answered_source job contents answer is) came five
   by_saw job answer (unread_file r) seen is came five = absurd (let e : answer.status ≡ 6 = ap (λ (a : Answer). a.status) is in omega (arith, e, came.0, five))
@@ -313,7 +336,7 @@ file_row ask before now ob on result ran = record {
       absurd (let e : answer.status ≡ status_by (deed_of job) x = status_answered (deed_of job) x answer told in omega (arith, e, came.0, six, deed_below (deed_of job) x))
   by_source job contents answer (refuses line why only none is) came six = absurd (let e : answer.status ≡ 5 = ap (λ (a : Answer). a.status) is in omega (arith, e, came.0, six))
 
-  by_saw : (job : Job) (answer : Answer) (saw : Saw) → WasSeen (reads_of job) before now saw → AnswersGathered job (gathered job saw) answer → Came answer.status answer.text ob on result → result ≡ 6
+  by_saw : (job : Job) (answer : Answer) (saw : Saw) → WasSeen (reads_of job) before now saw → AnswersSaw job saw answer → Came answer.status answer.text ob on result → result ≡ 6
       → FileCause (Some job) before now ob on
   by_saw job answer (all contents) (are, same) is came six = by_source job contents answer (answered_source job contents answer is) came six
   by_saw job answer (unread_file r) (comes, read) is came six = (job, r, refl, comes, inl (read, came.1 ∙ ap (λ (a : Answer). then_bytes ob.taken a.text) is))
@@ -326,7 +349,7 @@ file_row ask before now ob on result ran = record {
   by_wrote (Some job) (answered answer (saw, looks, is) came) six = by_saw job answer saw (was_seen (reads_of job) before now saw looks) is came six
 
   when_saw : (job : Job) (r : Reading) (bytes : List ℕ) (answer : Answer) (saw : Saw) → HoldsUpTo before.held (reads_of job) r → Holds before.held r.name bytes → r.limit < length bytes
-      → WasSeen (reads_of job) before now saw → AnswersGathered job (gathered job saw) answer → Came answer.status answer.text ob on result
+      → WasSeen (reads_of job) before now saw → AnswersSaw job saw answer → Came answer.status answer.text ob on result
       → ComesUnlessUnread 6 (longer_line r.name r.limit) job before now ob on result
   when_saw job r bytes answer (all contents) up h over (are, same) is came = absurd (not_all_read before.held (reads_of job) contents r bytes up h over are)
   when_saw job r bytes answer (unread_file q) up h over (comes, read) is came = inr (came.0 ∙ ap (λ (a : Answer). a.status) is, (q, comes, read))
@@ -351,7 +374,7 @@ status_below (Some job) before now answer (saw, looks, is) = by_saw saw is where
       omega (arith, e, deed_below (deed_of job) x)
   by_source contents (refuses line why only none same) = let e : answer.status ≡ 5 = ap (λ (a : Answer). a.status) same in omega (arith, e)
 
-  by_saw : (saw : Saw) → AnswersGathered job (gathered job saw) answer → answer.status < 7
+  by_saw : (saw : Saw) → AnswersSaw job saw answer → answer.status < 7
   by_saw (all contents) told = by_source contents (answered_source job contents answer told)
   by_saw (unread_file r) told = let e : answer.status ≡ 6 = ap (λ (a : Answer). a.status) told in omega (arith, e)
   by_saw (longer_file r) told = let e : answer.status ≡ 6 = ap (λ (a : Answer). a.status) told in omega (arith, e)
@@ -403,7 +426,7 @@ words_row ask before now ob on result ran = record {
   by_source job contents answer (does source has told only free) two = deed_not_two (deed_of job) (execution job contents source) (sym (status_answered (deed_of job) (execution job contents source) answer told) ∙ two)
   by_source job contents answer (refuses line why only none is) two = let e : answer.status ≡ 5 = ap (λ (a : Answer). a.status) is in omega (arith, e, two)
 
-  by_saw : (job : Job) (answer : Answer) (saw : Saw) → AnswersGathered job (gathered job saw) answer → answer.status ≡ 2 → ⊥
+  by_saw : (job : Job) (answer : Answer) (saw : Saw) → AnswersSaw job saw answer → answer.status ≡ 2 → ⊥
   by_saw job answer (all contents) is two = by_source job contents answer (answered_source job contents answer is) two
   by_saw job answer (unread_file r) is two = let e : answer.status ≡ 6 = ap (λ (a : Answer). a.status) is in omega (arith, e, two)
   by_saw job answer (longer_file r) is two = let e : answer.status ≡ 6 = ap (λ (a : Answer). a.status) is in omega (arith, e, two)

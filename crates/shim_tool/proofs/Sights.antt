@@ -3,7 +3,7 @@ use Rattle.std.proofs.Common.{ℕ, ◌≡◌, ◌<◌, ◌≤◌, ◌++◌, List
 use Rattle.shim_edge.specs.Files.{file_of, IsHeld}
 use Rattle.shim_tool.specs.Moments.{FilesAt, KeepsFiles}
 use Rattle.shim_tool.specs.Modes.{Reading}
-use Rattle.shim_tool.specs.Reads.{AreContents, ComesToRead, Holds, HoldsAll, HoldsUpTo, IsContent, IsTooLong, Looks, OneReadFailed, ReadFailed, Saw, all, longer_file, then_saw, unread_file, longer, unread, whole, Told}
+use Rattle.shim_tool.specs.Reads.{AreContents, ComesToRead, GrewByOneOf, Holds, HoldsAll, HoldsUpTo, IsContent, IsTooLong, Looks, OneReadFailed, ReadFailed, Saw, all, longer_file, then_saw, unread_file, longer, unread, whole, Told}
 
 -- the bytes that were read are those that the files hold
 held_bytes : (held : Told) (r : Reading) (bytes content : List ℕ) → Holds held r.name content → IsContent r held bytes → bytes ≡ content
@@ -110,3 +110,14 @@ one_too_long held (x ∷ xs) q r bytes (inl is) h over (inr (b, content, comes))
     absurd (omega (arith, its.0, size, over))
 one_too_long held (x ∷ xs) q r bytes (inr (c, holds, within, up)) h over (inl its) long = absurd (not_too_long held x c holds within (subst (λ (y : Reading). IsTooLong y held) its long))
 one_too_long held (x ∷ xs) q r bytes (inr (c, holds, within, up)) h over (inr (b, content, comes)) long = one_too_long held xs q r bytes up h over comes long
+
+-- where a read failed its name was added, and else the names are as they were
+grew_later : (r : Reading) (rs : List Reading) (before between now : FilesAt) → between.failed ≡ before.failed → GrewByOneOf rs between now → GrewByOneOf (r ∷ rs) before now
+grew_later r rs before between now same (inl e) = inl (e ∙ same)
+grew_later r rs before between now same (inr (x, among, e)) = inr (x, inr among, e ∙ ap (λ (l : List (List ℕ)). l ++ x.name ∷ []) same)
+
+pub looks_grew : (rs : List Reading) (before now : FilesAt) (saw : Saw) → Looks rs before now saw → GrewByOneOf rs before now
+looks_grew [] before now saw (is, none) = inl (ap (λ (f : FilesAt). f.failed) is)
+looks_grew (r ∷ rs) before now saw (between, unread, keeps, sees, on) = inr (r, inl refl, ap (λ (f : FilesAt). f.failed) on.0 ∙ sees.0)
+looks_grew (r ∷ rs) before now saw (between, longer, keeps, sees, on) = inl (ap (λ (f : FilesAt). f.failed) on.0 ∙ sees.0)
+looks_grew (r ∷ rs) before now saw (between, whole b, keeps, sees, on) = grew_later r rs before between now sees.0 (looks_grew rs between now on.0 on.1)

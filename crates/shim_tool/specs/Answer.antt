@@ -1,5 +1,5 @@
 -- What the tool answers, from what it was asked and what it saw.
-use Rattle.std.specs.Prelude.{ℕ, ◌≡◌, ◌≤◌, ◌⊎◌, List, ◌++◌, length, Option, Some, None, Ok, Err, codes, decimal}
+use Rattle.std.specs.Prelude.{ℕ, ◌≡◌, ◌⊎◌, List, ◌++◌, Option, Some, None, Ok, Err, codes, decimal}
 use Rattle.shim_syntax.specs.declared.Program.{Program}
 use Rattle.shim_parser.specs.declared.ParseFault.{ParseFault}
 use Rattle.shim_front_end.specs.declared.SourceFault.{SourceFault}
@@ -11,7 +11,7 @@ use Rattle.shim_command.specs.declared.job.Job.{Job}
 use Rattle.shim_tool.specs.Moments.{FilesAt}
 use Rattle.shim_local.specs.declared.Ended.{Ended}
 use Rattle.shim_tool.specs.RunEnds.{Execution, end_of, status_of, status_of_outcome, IsEnd, IsStoppedEnd}
-use Rattle.shim_tool.specs.Modes.{Deed, runs, tells, deed_of, executed, reads_of, second, source_limit, source_text}
+use Rattle.shim_tool.specs.Modes.{Deed, runs, tells, deed_of, executed, reads_of, second, source_text}
 use Rattle.shim_tool.specs.Reads.{GrewByOneOf, Looks, Saw, all, longer_file, unread_file}
 
 -- a status and the text that goes with it
@@ -74,49 +74,31 @@ abbrev pub AnswersUnits : Deed → Execution → Answer → Type 0
 AnswersUnits (runs course text) x answer = (e : Ended) × IsEnd course x e × (answer ≡ record { status = status_of_outcome e.outcome; text = text x.source e })
 AnswersUnits (tells text) x answer = answer ≡ record { status = 0; text = text x.source }
 
--- a program that is accepted is answered as its units, and another with the line of its first fault
-abbrev pub AnswersProgram : Deed → (Source → Execution) → Program → Answer → Type 0
-AnswersProgram deed as_run program answer =
-    ((source : Source) × (checked program ≡ Ok source) × AnswersUnits deed (as_run source) answer)
-    ⊎ ((fault : SourceFault) × (checked program ≡ Err fault) × (answer ≡ refused fault))
+-- What comes of a program: this of its source, where it is accepted, and else that of its first fault.
+abbrev pub OfProgram : {A : Type 0} → (Source → A → Type 0) → (SourceFault → A → Type 0) → Program → A → Type 0
+OfProgram OfSource OfFault program a =
+    ((source : Source) × (checked program ≡ Ok source) × OfSource source a)
+    ⊎ ((fault : SourceFault) × (checked program ≡ Err fault) × OfFault fault a)
 
--- the text of a program is answered as the program, and other bytes with the line of their fault
+-- What comes of bytes: of the text of a program what comes of that, and of other bytes what comes of their fault.
+abbrev pub OfBytes : {A : Type 0} → (Source → A → Type 0) → (SourceFault → A → Type 0) → List ℕ → A → Type 0
+OfBytes OfSource OfFault bytes a =
+    ((program : Program) × IsOnlyText bytes program × OfProgram OfSource OfFault program a)
+    ⊎ ((fault : ParseFault) × IsOnlyFault bytes fault × OfFault (Parse fault) a)
+
+-- a source is answered as its units, and other bytes with the line of their first fault
 abbrev pub AnswersSource : Deed → (Source → Execution) → List ℕ → Answer → Type 0
-AnswersSource deed as_run bytes answer =
-    ((program : Program) × IsOnlyText bytes program × AnswersProgram deed as_run program answer)
-    ⊎ ((fault : ParseFault) × IsOnlyFault bytes fault × (answer ≡ refused (Parse fault)))
+AnswersSource deed as_run bytes answer = OfBytes (λ source a. AnswersUnits deed (as_run source) a) (λ fault a. a ≡ refused fault) bytes answer
 
--- what a job has to go on with: the text of its source, and an input; or the name of a file that couldn't be read, or is too long
-pub data Gathered : Type 0 where
-  texts : List ℕ → List ℕ → Gathered
-  unread_name : List ℕ → Gathered
-  longer_name : List ℕ → ℕ → Gathered
-
--- what was seen of its files gives a job this
-abbrev pub gathered : Job → Saw → Gathered
-gathered job (all contents) = texts (source_text job contents) (second contents)
-gathered job (unread_file r) = unread_name r.name
-gathered job (longer_file r) = longer_name r.name r.limit
-
--- the text of the source is no longer than a source may be
-abbrev pub IsShort : Gathered → Type 0
-IsShort (texts source input) = length source ≤ source_limit
-IsShort (unread_name name) = Unit {0}
-IsShort (longer_name name limit) = Unit {0}
-
--- the files of a job were read, and gave this
-abbrev pub Gathers : Job → FilesAt → FilesAt → Gathered → Type 0
-Gathers job before now found = (saw : Saw) × Looks (reads_of job) before now saw × (found ≡ gathered job saw)
-
--- the answer to what a job has to go on with
-abbrev pub AnswersGathered : Job → Gathered → Answer → Type 0
-AnswersGathered job (texts source input) answer = AnswersSource (deed_of job) (executed job input) source answer
-AnswersGathered job (unread_name name) answer = answer ≡ file_failed name
-AnswersGathered job (longer_name name limit) answer = answer ≡ file_too_long name limit
+-- the answer to what was seen of the files of a job
+abbrev pub AnswersSaw : Job → Saw → Answer → Type 0
+AnswersSaw job (all contents) answer = AnswersSource (deed_of job) (executed job (second contents)) (source_text job contents) answer
+AnswersSaw job (unread_file r) answer = answer ≡ file_failed r.name
+AnswersSaw job (longer_file r) answer = answer ≡ file_too_long r.name r.limit
 
 -- the files of a job are read, and what was seen of them is answered
 abbrev pub AnswersJob : Job → FilesAt → FilesAt → Answer → Type 0
-AnswersJob job before now answer = (saw : Saw) × Looks (reads_of job) before now saw × AnswersGathered job (gathered job saw) answer
+AnswersJob job before now answer = (saw : Saw) × Looks (reads_of job) before now saw × AnswersSaw job saw answer
 
 -- an answer that is no want of memory
 abbrev pub Answers : Option Job → FilesAt → FilesAt → Answer → Type 0

@@ -4,8 +4,9 @@ pub mod Modes
 pub mod Moments
 pub mod Reads
 pub mod Answer
-pub mod Gathering
 pub mod Call
 pub mod Rows
 pub mod AnswerView
 pub mod Views
+pub mod Prepared
+pub mod PreparedView

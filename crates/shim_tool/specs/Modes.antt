@@ -1,18 +1,28 @@
--- What each mode reads, and what it does with a source. No other definition asks for the mode.
-use Rattle.std.specs.Prelude.{ℕ, ◌+◌, Bool, true, false, List, [], ◌∷◌, ◌++◌, Option, Some, None, if◌then◌else◌, nat_eq, codes, decimal}
+-- What the files of a job are, and what is done with its source, as the row of its mode says.
+use Rattle.std.specs.Prelude.{ℕ, ◌+◌, List, [], ◌∷◌, ◌++◌, Option, Some, None, if◌then◌else◌, nat_eq, codes, decimal}
 use Rattle.shim_generator.specs.declared.kind.Kind.{Kind}
 use Rattle.shim_generator.specs.Kinds.{kind_named}
 use Rattle.shim_generator.specs.Sources.{generated}
 use Rattle.shim_command.specs.declared.job.Job.{Job}
-use Rattle.shim_command.specs.declared.job.Mode.{Mode}
-use Rattle.shim_command.specs.declared.job.Mode.TheVariants.{Run, Reference, Check, Code, Gen}
+use Rattle.shim_command.specs.declared.mode.Beside.{Beside}
+use Rattle.shim_command.specs.declared.mode.Beside.TheVariants.{Nothing, Input}
+use Rattle.shim_command.specs.declared.mode.Course.{Course}
+use Rattle.shim_command.specs.declared.mode.Origin.{Origin}
+use Rattle.shim_command.specs.declared.mode.Origin.TheVariants.{Stored, Generated}
+use Rattle.shim_command.specs.declared.mode.Showing.{Showing}
+use Rattle.shim_command.specs.declared.mode.Showing.TheVariants.{Report, Summary}
+use Rattle.shim_command.specs.declared.mode.Task.{Task}
+use Rattle.shim_command.specs.declared.mode.Task.TheVariants.{Runs, Tells}
+use Rattle.shim_command.specs.declared.mode.Telling.{Telling}
+use Rattle.shim_command.specs.declared.mode.Telling.TheVariants.{Functions, Instructions}
+use Rattle.shim_command.specs.Modes.{row_of}
 use Rattle.shim_units.specs.declared.unit.Unit.{Unit as UnitOf}
 use Rattle.shim_front_end.specs.Source.{Source}
 use Rattle.shim_code.specs.Listing.{listing}
 use Rattle.shim_code.specs.Programs.{code_units}
 use Rattle.shim_report.specs.Summary.{summary}
 use Rattle.shim_local.specs.declared.Ended.{Ended}
-use Rattle.shim_tool.specs.RunEnds.{Execution, Course, by_first_events, in_some_order, report_of}
+use Rattle.shim_tool.specs.RunEnds.{Execution, report_of}
 
 -- a file that is read, and the most bytes that it may have
 pub record Reading : Type 0 where
@@ -27,36 +37,27 @@ source_limit = 1048576
 abbrev pub input_limit : ℕ
 input_limit = 16777216
 
--- whether a mode makes its source, and reads none
-abbrev pub makes_source : Mode → Bool
-makes_source Gen = true
-makes_source Run = false
-makes_source Reference = false
-makes_source Check = false
-makes_source Code = false
-
--- whether a mode gives its source an input
-abbrev pub takes_input : Mode → Bool
-takes_input Run = true
-takes_input Reference = true
-takes_input Check = false
-takes_input Code = false
-takes_input Gen = false
-
 -- an input that was named is read; where none is, there is nothing to read
 abbrev pub input_readings : Option (List ℕ) → List Reading
 input_readings None = []
 input_readings (Some name) = record { name = name; limit = input_limit } ∷ []
 
-abbrev pub inputs_of : Job → List Reading
-inputs_of job = if takes_input job.mode then input_readings job.input else []
-
 abbrev pub source_reading : Job → Reading
 source_reading job = record { name = job.file; limit = source_limit }
 
+-- a source is read from its file, or is generated
+abbrev pub source_readings : Origin → Job → List Reading
+source_readings Stored job = source_reading job ∷ []
+source_readings Generated job = []
+
+-- what is read beside it
+abbrev pub readings_beside : Beside → Job → List Reading
+readings_beside Nothing job = []
+readings_beside Input job = input_readings job.input
+
 -- the files that a job reads, in their order
 abbrev pub reads_of : Job → List Reading
-reads_of job = if makes_source job.mode then [] else (source_reading job ∷ inputs_of job)
+reads_of job = source_readings (row_of job.mode).origin job ++ readings_beside (row_of job.mode).beside job
 
 -- the first of the contents; a file that wasn't there to be read is as an empty one
 abbrev pub first : List (List ℕ) → List ℕ
@@ -75,9 +76,13 @@ made (Some kind) size = generated kind size
 abbrev pub made_text : Job → List ℕ
 made_text job = made (kind_named job.file) job.size
 
+abbrev pub text_from : Origin → Job → List ℕ → List ℕ
+text_from Stored job content = content
+text_from Generated job content = made_text job
+
 -- the text of a job's source, from the contents of its files
 abbrev pub source_text : Job → List (List ℕ) → List ℕ
-source_text job contents = if makes_source job.mode then made_text job else first contents
+source_text job contents = text_from (row_of job.mode).origin job (first contents)
 
 -- how a source is run for a job, with this input
 abbrev pub executed : Job → List ℕ → Source → Execution
@@ -100,17 +105,24 @@ code_text source = listing (code_units source.units)
 abbrev pub summary_of : Job → Source → Ended → List ℕ
 summary_of job source e = summary job.file job.size source.names e
 
--- what is done with a source that is accepted: it is run so, and this text tells how that ended; or this is told of the source, and nothing is run
+-- A task with the functions that give its text, which is what is done with a source that is accepted: it is run so, and this text tells how that ended; or this is told of the source, and nothing is run
 pub data Deed : Type 0 where
   runs : Course → (Source → Ended → List ℕ) → Deed
   tells : (Source → List ℕ) → Deed
 
-abbrev pub deed_by : Mode → Job → Deed
-deed_by Run job = runs in_some_order report_of
-deed_by Reference job = runs by_first_events report_of
-deed_by Check job = tells accepted_line
-deed_by Code job = tells code_text
-deed_by Gen job = runs in_some_order (summary_of job)
+-- what is told of a source
+abbrev pub telling_of : Telling → Source → List ℕ
+telling_of Functions = accepted_line
+telling_of Instructions = code_text
+
+-- what is told of a run of a job's source
+abbrev pub showing_of : Showing → Job → Source → Ended → List ℕ
+showing_of Report job = report_of
+showing_of Summary job = summary_of job
+
+abbrev pub deed_by : Task → Job → Deed
+deed_by (Tells telling) job = tells (telling_of telling)
+deed_by (Runs course showing) job = runs course (showing_of showing job)
 
 abbrev pub deed_of : Job → Deed
-deed_of job = deed_by job.mode job
+deed_of job = deed_by (row_of job.mode).task job

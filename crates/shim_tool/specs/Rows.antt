@@ -13,7 +13,9 @@ use Rattle.shim_report.specs.Refusal.{refusal}
 use Rattle.shim_command.specs.declared.job.Job.{Job}
 use Rattle.shim_tool.specs.Moments.{FilesAt, SinkAt}
 use Rattle.shim_local.specs.declared.Ended.{Ended}
-use Rattle.shim_tool.specs.RunEnds.{Execution, printed_steps, IsReachedIn, IsSpent}
+use Rattle.shim_process.specs.LocalState.{LocalState}
+use Rattle.shim_semantics.specs.Trees.{Tree}
+use Rattle.shim_tool.specs.RunEnds.{Execution, printed_steps, read_off, IsBeginning, IsReachedIn, IsSpent, IsStoppedAt}
 use Rattle.shim_tool.specs.Modes.{Deed, Reading, runs, tells, deed_of, executed, reads_of, second, source_text}
 use Rattle.shim_tool.specs.Reads.{AreContents, ComesToRead, Holds, HoldsAll, HoldsUpTo, IsTooLong, OneReadFailed, ReadFailed}
 use Rattle.shim_tool.specs.Answer.{Answer, AnswersUnits, MayAnswer, FailedGrew, IsNoSource, IsStoppedBy, status_by, text_by, text_with, usage_line, failed_line, longer_line, memory_line}
@@ -80,6 +82,12 @@ abbrev pub CountRow : Option Job → FilesAt → SinkAt → SinkAt → ℕ → T
 CountRow ask before out_before out_now result = result ≡ 4 → (job : Job) × (contents : List (List ℕ)) × (source : Source) × WasRead ask job before contents
     × IsSource (source_text job contents) source × IsReachedIn job.budget (execution job contents source) × (e : Ended) × IsStoppedBy (deed_of job) (execution job contents source) e
     × (printed_steps e ≡ job.budget) × (out_now.taken ≡ then_bytes out_before.taken (text_with (deed_of job) (execution job contents source) e))
+
+-- 4: the tree that is told is one at which a run is stopped, and what was put and met in it is a prefix of what the meaning gives in as many rounds as the budget has events
+abbrev pub BeginningRow : Option Job → FilesAt → SinkAt → SinkAt → ℕ → Type 0
+BeginningRow ask before out_before out_now result = result ≡ 4 → (job : Job) × (contents : List (List ℕ)) × (source : Source) × WasRead ask job before contents
+    × IsSource (source_text job contents) source × (t : Tree LocalState) × IsStoppedAt (execution job contents source) t × IsBeginning (execution job contents source) t
+    × (out_now.taken ≡ then_bytes out_before.taken (text_with (deed_of job) (execution job contents source) (read_off (execution job contents source) t)))
 
 -- 2: exactly where the words ask for nothing
 pub record WordsRow (ask : Option Job) (out_before out_now : SinkAt) (result : ℕ) : Type 0 where

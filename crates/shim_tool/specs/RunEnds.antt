@@ -1,5 +1,7 @@
 -- What a run of a source comes to. Its meaning is the run from its root that always does the first event that is enabled.
-use Rattle.std.specs.Prelude.{◌≡◌, ◌≢◌, ℕ, ◌+◌, IsTrue, Some, List, length, map}
+use Rattle.std.specs.Prelude.{◌≡◌, ◌≢◌, ◌⊎◌, ℕ, ◌+◌, IsTrue, Some, List, length, map}
+use Rattle.std.specs.FinMap as finite
+use Rattle.shim_base.specs.Paths.{Channel}
 use Rattle.shim_local.specs.declared.Ended.{Ended}
 use Rattle.shim_local.specs.declared.Outcome.{Outcome}
 use Rattle.shim_local.specs.declared.Outcome.TheVariants.{Done, Uncaught, Trapped, Blocked, Spent}
@@ -9,11 +11,16 @@ use Rattle.shim_process.specs.Ops.{process_ops}
 use Rattle.shim_report.specs.Report.{report}
 use Rattle.shim_semantics.specs.Nodes.{has_ended, is_dead, goes}
 use Rattle.shim_semantics.specs.Systems.{run}
-use Rattle.shim_semantics.specs.Trees.{Tree, Event, after, start, steps, sum, IsQuiescent}
+use Rattle.shim_semantics.specs.Trees.{Tree, Met, Event, after, start, steps, sum, IsQuiescent}
+use Rattle.shim_laws_schedules.specs.Orders.{IsPrefix}
+use Rattle.shim_laws_schedules.specs.Rounds.{rounds}
+use Rattle.shim_laws_schedules.specs.Laws.{IsPrefixOf}
 use Rattle.shim_semantics.specs.Endings.{ended}
 use Rattle.shim_reference.specs.Naming.{named}
 use Rattle.shim_reference.specs.Reference.{meaning_of, reference_of}
 use Rattle.shim_front_end.specs.Source.{Source}
+use Rattle.shim_command.specs.declared.mode.Course.{Course}
+use Rattle.shim_command.specs.declared.mode.Course.TheVariants.{ByFirstEvents, InSomeOrder}
 
 -- an accepted source with the bytes that it reads, and the most events of its run
 pub record Execution : Type 0 where
@@ -76,23 +83,29 @@ IsReachedIn n x = LeadsTo n x (tree_of x)
 abbrev pub printed_steps : Ended → ℕ
 printed_steps e = sum (map (λ s. s.count) e.own) + e.events
 
--- which run of a source is done
-pub data Course : Type 0 where
-  -- the meaning itself: each time the first event that is enabled
-  by_first_events : Course
-  -- some run, whichever events the workers do first
-  in_some_order : Course
-
 -- a run is stopped at this tree: just as many events as the budget has lead to it, and something can still happen in it
 pub record IsStoppedAt (x : Execution) (t : Tree LocalState) : Type 0 where
   pub reached : LeadsTo x.budget x t
   pub counted : steps t ≡ x.budget
   pub goes_on : IsQuiescent process_ops t → ⊥
 
+-- what was put and met in the tree is a prefix of what is put and met in as many rounds as the budget has events
+abbrev pub IsBeginning : Execution → Tree LocalState → Type 0
+IsBeginning x t = IsPrefixOf t (rounds process_ops x.budget (start (root x.source x.input)))
+
+-- one of the lists is a prefix of the other
+abbrev pub AreComparable : {A : Type 0} → List A → List A → Type 0
+AreComparable xs ys = IsPrefix xs ys ⊎ IsPrefix ys xs
+
+-- the outputs of two trees are comparable, and so are the histories of each channel, which have one name
+pub record BeginAlike (t u : Tree LocalState) : Type 0 where
+  pub output : AreComparable t.output u.output
+  pub histories : (c : Channel) (h k : Met) → finite.get t.histories c ≡ Some h → finite.get u.histories c ≡ Some k → (h.name ≡ k.name) × AreComparable h.values k.values
+
 -- this may be read off a run that is stopped: of the meaning its own tree, and of another run a tree at which that is stopped
 abbrev pub IsStoppedEnd : Course → Execution → Ended → Type 0
-IsStoppedEnd by_first_events x e = e ≡ end_of x
-IsStoppedEnd in_some_order x e = (t : Tree LocalState) × IsStoppedAt x t × (e ≡ read_off x t)
+IsStoppedEnd ByFirstEvents x e = e ≡ end_of x
+IsStoppedEnd InSomeOrder x e = (t : Tree LocalState) × IsStoppedAt x t × (e ≡ read_off x t)
 
 -- What a run comes to: what the meaning comes to, whatever the order of its events, unless the meaning is stopped by the budget. Then this run is stopped, too, and told so.
 pub data IsEnd (course : Course) (x : Execution) (e : Ended) : Type 0 where

@@ -1,14 +1,16 @@
--- Answers and what was seen of files, as the definitions name them.
+-- Answers, what was seen of files, and what a call comes to, as the definitions name them.
 use Rattle.shim_edge.specs.declared.files.Got.{Got}
 use Rattle.shim_edge.specs.declared.files.Got.TheVariants.{Whole as GotWhole, Longer as GotLonger}
 use Rattle.shim_tool.specs.declared.answer.Answer.{Answer as Made}
-use Rattle.shim_tool.specs.declared.reads.Found.{Found}
-use Rattle.shim_tool.specs.declared.reads.Found.TheVariants.{Unread, Longer, Whole}
-use Rattle.shim_tool.specs.declared.reads.Gathered.{Gathered as Kept}
-use Rattle.shim_tool.specs.declared.reads.Gathered.TheVariants.{Texts, Unread as UnreadFile, Longer as LongerFile}
+use Rattle.shim_tool.specs.declared.files.FileToRead.{FileToRead}
+use Rattle.shim_tool.specs.declared.files.FilesRead.{FilesRead}
+use Rattle.shim_tool.specs.declared.files.FilesRead.TheVariants.{All, Failed, TooLong}
+use Rattle.shim_tool.specs.declared.files.Found.{Found}
+use Rattle.shim_tool.specs.declared.files.Found.TheVariants.{Unread, Longer, Whole}
 use Rattle.shim_tool.specs.AnswerView.{code_of}
-use Rattle.shim_tool.specs.Reads.{Seen, unread, longer, whole}
-use Rattle.shim_tool.specs.Answer.{Answer, Gathered, texts, unread_name, longer_name}
+use Rattle.shim_tool.specs.Modes.{Reading}
+use Rattle.shim_tool.specs.Reads.{Saw, Seen, all, longer, longer_file, unread, unread_file, whole}
+use Rattle.shim_tool.specs.Answer.{Answer}
 
 abbrev pub answer_view : Made → Answer
 answer_view made = record { status = code_of made.status; text = made.text }
@@ -22,7 +24,10 @@ abbrev pub seen_of : Got → Seen
 seen_of (GotWhole bytes) = whole bytes
 seen_of GotLonger = longer
 
-abbrev pub gathered_view : Kept → Gathered
-gathered_view (Texts source input) = texts source input
-gathered_view (UnreadFile name) = unread_name name.now
-gathered_view (LongerFile name limit) = longer_name name.now limit
+abbrev pub reading_view : FileToRead → Reading
+reading_view file = record { name = file.name.now; limit = file.limit }
+
+abbrev pub read_view : FilesRead → Saw
+read_view (All contents) = all contents
+read_view (Failed file) = unread_file (reading_view file)
+read_view (TooLong file) = longer_file (reading_view file)

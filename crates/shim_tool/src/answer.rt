@@ -14,9 +14,9 @@ use std::alloc::Global;
 
 /// A status, and the text that is written with it.
 #[derive(Drop)]
-pub(crate) struct Answer {
-    pub(crate) status: Status,
-    pub(crate) text: List<u8>,
+pub struct Answer {
+    pub status: Status,
+    pub text: List<u8>,
 }
 
 /// The answer to words that ask for nothing.

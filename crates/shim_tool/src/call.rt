@@ -1,73 +1,26 @@
 // The call that does all that the program does.
-ghost use Rattle.std.specs.Prelude.{◌≡◌, IfOk};
-ghost use Rattle.shim_command.specs.Jobs.{job, texts_of, IsWithin};
+ghost use Rattle.std.specs.Prelude.{IfOk};
+ghost use Rattle.shim_command.specs.Jobs.{job, texts_of};
 ghost use Rattle.shim_tool.specs.Moments.{files_at, sink_at, KeepsFiles};
-ghost use Rattle.shim_tool.specs.Modes.{reads_of};
-ghost use Rattle.shim_tool.specs.Reads.{GrewByOneOf};
 ghost use Rattle.shim_tool.specs.Answer as answers;
 ghost use Rattle.shim_tool.specs.Call.{Ran, Writes};
 ghost use Rattle.shim_tool.specs.RunEnds.{IsDone, IsFailed, IsBlocked};
-ghost use Rattle.shim_tool.specs.Rows.{EndRow, SpentRow, CountRow, WordsRow, RefusedRow, FileRow, SinkRow, MemoryRow, FilesRow, IsComplete};
+ghost use Rattle.shim_tool.specs.Rows.{EndRow, SpentRow, CountRow, BeginningRow, WordsRow, RefusedRow, FileRow, SinkRow, MemoryRow, FilesRow, IsComplete};
 ghost use Rattle.shim_tool.specs.AnswerView.{code_of};
-ghost use Rattle.shim_tool.specs.Views.{answer_view, gathered_view};
+ghost use Rattle.shim_tool.specs.Views.{answer_view};
 
-use crate::answer::{Answer, file_failed, file_too_long, usage};
-use crate::execute::answer_source;
-use crate::reads::{Gathered, gather};
+use crate::answer::Answer;
+use crate::execute::answer_run;
+use crate::prepared::{Prepared, prepare};
 use crate::status::Status;
 use shim_base::NoMemory;
-use shim_command::{Job, WordsFault, read_words};
 use shim_edge::{Files, Sink, write_all};
 use shim_workers::Gate;
 use std::alloc::Global;
 use std::sync::Wait;
 use std::thread::Threads;
 
-// Answers to what was gathered for a job.
-fn answer_gathered<G: Gate, R: Threads + Wait + Sync>(
-    rt: &R,
-    alloc: Global,
-    job: &Job,
-    gathered: Gathered<'_>,
-    gate: &G,
-) -> Result<Answer, NoMemory>
-    requires short { answers.IsShort (gathered_view gathered) }
-    requires within { IsWithin job.now }
-    ensures { IfOk result (λ a. answers.AnswersGathered job.now (gathered_view gathered.entry) (answer_view a)) }
-{
-    match gathered {
-        Gathered::Texts(source, input) => answer_source(
-            rt,
-            alloc,
-            job,
-            source.as_slice(),
-            input,
-            gate,
-        ),
-        Gathered::Unread(name) => file_failed(alloc, name),
-        Gathered::Longer(name, limit) => file_too_long(alloc, name, limit),
-    }
-}
-
-// Reads the files of a job, and answers.
-fn answer_job<F: Files, G: Gate, R: Threads + Wait + Sync>(
-    rt: &R,
-    alloc: Global,
-    job: &Job,
-    files: &mut F,
-    gate: &G,
-) -> Result<Answer, NoMemory>
-    requires within { IsWithin job.now }
-    ensures answers { IfOk result (λ a. answers.AnswersJob job.now (files_at F.held F.sound F.failed files.old)
-        (files_at F.held F.sound F.failed files.new) (answer_view a)) }
-    ensures grew { GrewByOneOf (reads_of job.now) (files_at F.held F.sound F.failed files.old)
-        (files_at F.held F.sound F.failed files.new) }
-    ensures kept { KeepsFiles (files_at F.held F.sound F.failed files.old) (files_at F.held F.sound F.failed files.new) }
-{
-    let gathered = gather(alloc, job, files)?;
-    answer_gathered(rt, alloc, job, gathered, gate)
-}
-
+// Answers words: a run that was left to be done is done by workers, for whom the call waits.
 fn answer<F: Files, G: Gate, R: Threads + Wait + Sync>(
     rt: &R,
     alloc: Global,
@@ -81,10 +34,9 @@ fn answer<F: Files, G: Gate, R: Threads + Wait + Sync>(
         (files_at F.held F.sound F.failed files.new) }
     ensures kept { KeepsFiles (files_at F.held F.sound F.failed files.old) (files_at F.held F.sound F.failed files.new) }
 {
-    match read_words(alloc, words) {
-        Ok(job) => answer_job(rt, alloc, &job, files, gate),
-        Err(WordsFault::Refused) => usage(alloc),
-        Err(WordsFault::NoMemory) => Err(NoMemory),
+    match prepare(alloc, words, files)? {
+        Prepared::Answered(answer) => Ok(answer),
+        Prepared::ToRun(run) => answer_run(rt, alloc, run, gate),
     }
 }
 
@@ -126,9 +78,9 @@ fn run_tool<F: Files, K: Sink, G: Gate, R: Threads + Wait + Sync>(
     }
 }
 
-/// Does all that the program does: reads the words, of which the first is the program's own name,
-/// then the file and the input, as far as the mode has them, does what the mode says, and writes the
-/// answer. No byte is written before the whole text is there.
+/// Does all that the program does: what `prepare` does, then the run that is left to be done, if one is,
+/// and writes the answer. No byte is written before the whole text is there. What needs no thread is in
+/// `prepare`, whose type says so; no clause says of this call where it waits, or that it returns.
 ///
 /// The processes of a run do their work piece by piece, each piece behind the gate, on at most as many
 /// threads as the words ask for. Whatever their number and the order of events, the run ends as its meaning
@@ -175,6 +127,10 @@ pub fn shim<F: Files, K: Sink, G: Gate, R: Threads + Wait + Sync>(
         (sink_at K.taken K.faults out.new) result }
     // Then the own steps and the events that a report prints add up to the budget.
     ensures counts { CountRow (job (texts_of words.now)) (files_at F.held F.sound F.failed files.old)
+        (sink_at K.taken K.faults out.old) (sink_at K.taken K.faults out.new) result }
+    // In the tree that is told what was put, and what each channel gave, are prefixes of what the meaning
+    // gives in as many rounds as the budget has events.
+    ensures beginning { BeginningRow (job (texts_of words.now)) (files_at F.held F.sound F.failed files.old)
         (sink_at K.taken K.faults out.old) (sink_at K.taken K.faults out.new) result }
     // 5: exactly where the file is no source, with the line of the cause.
     ensures refused { RefusedRow (job (texts_of words.now)) (files_at F.held F.sound F.failed files.old)

@@ -1,20 +1,18 @@
-// From the text of a source to the answer.
-ghost use Rattle.std.specs.Prelude.{◌≡◌, ◌≤◌, length, IfOk};
+// What is told of a source, run or not.
+ghost use Rattle.std.specs.Prelude.{◌≡◌, IfOk};
 ghost use Rattle.shim_command.specs.Jobs.{IsWithin};
-ghost use Rattle.shim_report.specs.Report.{report};
-ghost use Rattle.shim_report.specs.Summary.{summary};
-ghost use Rattle.shim_tool.specs.Answer.{AnswersUnits, AnswersSource};
-ghost use Rattle.shim_tool.specs.Modes.{accepted_line, code_text, deed_of, executed, functions_from, runs, summary_of};
-ghost use Rattle.shim_tool.specs.RunEnds as run_ends;
-ghost use Rattle.shim_tool.specs.RunEnds.{IsEnd, by_first_events, in_some_order};
+ghost use Rattle.shim_command.specs.declared.mode.Course.TheVariants as courses;
+ghost use Rattle.shim_tool.specs.Answer.{AnswersUnits};
+ghost use Rattle.shim_tool.specs.Modes.{accepted_line, code_text, executed, functions_from, runs, showing_of, telling_of};
+ghost use Rattle.shim_tool.specs.RunEnds.{IsEnd};
 ghost use Rattle.shim_tool.specs.Views.{answer_view};
 
-use crate::answer::{Answer, refused};
+use crate::answer::Answer;
+use crate::prepared::PreparedRun;
 use crate::status::Status;
 use shim_base::{List, NoMemory, Shared, push_decimal};
 use shim_code::{compile, listing};
-use shim_command::{Job, Mode};
-use shim_front_end::read_source;
+use shim_command::{Job, Showing, Telling};
 use shim_net::Net;
 use shim_reference::{named, reference};
 use shim_report::{Ended, summary, text};
@@ -37,7 +35,7 @@ fn end_of_code<G: Gate, R: Threads + Wait + Sync>(
     gate: &G,
 ) -> Result<Ended, NoMemory>
     requires within { IsWithin job.now }
-    ensures { IfOk result (IsEnd in_some_order (executed job.now input source.now)) }
+    ensures { IfOk result (IsEnd courses.InSomeOrder (executed job.now input source.now)) }
 {
     let input = Shared::new(alloc, input)?;
     let code = Shared::new(alloc, compile(alloc, source)?)?;
@@ -55,84 +53,68 @@ fn end_of_syntax(
     input: List<u8>,
 ) -> Result<Ended, NoMemory>
     requires within { IsWithin job.now }
-    ensures { IfOk result (IsEnd by_first_events (executed job.now input source.now)) }
+    ensures { IfOk result (IsEnd courses.ByFirstEvents (executed job.now input source.now)) }
 {
     let input = Shared::new(alloc, input)?;
     reference(alloc, source.share()?, input, job.budget)
 }
 
-// The report of a run of this source.
-fn report_of(alloc: Global, source: &Accepted, end: &Ended) -> Result<List<u8>, NoMemory>
-    ensures { IfOk result (λ text. text ≡ report source.now.names end.now) }
-{
-    text(alloc, end, source.names())
-}
-
-// The summary of a run of a source that was made for this job.
-fn summary_of(
+// What is told of a run of this source for a job.
+fn shown(
     alloc: Global,
     job: &Job,
+    showing: Showing,
     source: &Accepted,
     end: &Ended,
 ) -> Result<List<u8>, NoMemory>
-    ensures { IfOk result (λ text. text ≡ summary job.now.file job.now.size source.now.names end.now) }
+    ensures { IfOk result (λ text. text ≡ showing_of showing job.now source.now end.now) }
 {
-    summary(alloc, job.file.as_slice(), job.size, end, source.names())
+    match showing {
+        Showing::Report => text(alloc, end, source.names()),
+        Showing::Summary => summary(alloc, job.file.as_slice(), job.size, end, source.names()),
+    }
 }
 
-// Runs a source, and reports the end.
-fn answer_run<G: Gate, R: Threads + Wait + Sync>(
+/// Does a run that was left to be done, its processes on at most as many threads as the job has workers,
+/// and tells how it ended.
+pub(crate) fn answer_run<G: Gate, R: Threads + Wait + Sync>(
     rt: &R,
     alloc: Global,
-    job: &Job,
-    source: &Accepted,
-    input: List<u8>,
+    run: PreparedRun,
     gate: &G,
 ) -> Result<Answer, NoMemory>
-    requires within { IsWithin job.now }
-    ensures { IfOk result (λ a. AnswersUnits (runs in_some_order run_ends.report_of) (executed job.now input source.now) (answer_view a)) }
+    requires within { IsWithin run.job }
+    ensures { IfOk result (λ a. AnswersUnits (runs courses.InSomeOrder (showing_of run.showing run.job)) (executed run.job run.input run.source) (answer_view a)) }
 {
-    let end = end_of_code(rt, alloc, job, source, input, gate)?;
+    let PreparedRun {
+        job,
+        showing,
+        source,
+        input,
+    } = run;
+    let end = end_of_code(rt, alloc, &job, &source, input, gate)?;
     Ok(Answer {
         status: Status::of(end.outcome),
-        text: report_of(alloc, source, &end)?,
+        text: shown(alloc, &job, showing, &source, &end)?,
     })
 }
 
-// Reports what a source means.
-fn answer_reference(
+/// Tells what a source means.
+pub(crate) fn answer_reference(
     alloc: Global,
     job: &Job,
+    showing: Showing,
     source: Accepted,
     input: List<u8>,
 ) -> Result<Answer, NoMemory>
     requires within { IsWithin job.now }
-    ensures { IfOk result (λ a. AnswersUnits (runs by_first_events run_ends.report_of) (executed job.now input source) (answer_view a)) }
+    ensures { IfOk result (λ a. AnswersUnits (runs courses.ByFirstEvents (showing_of showing job.now)) (executed job.now input source) (answer_view a)) }
 {
     let source = Shared::new(alloc, source)?;
     let end = end_of_syntax(alloc, job, &source, input)?;
     Ok(Answer {
         status: Status::of(end.outcome),
-        text: report_of(alloc, &source, &end)?,
-    })
-}
-
-// Runs a source that was made for this job, and sums the end up.
-fn answer_made<G: Gate, R: Threads + Wait + Sync>(
-    rt: &R,
-    alloc: Global,
-    job: &Job,
-    source: &Accepted,
-    input: List<u8>,
-    gate: &G,
-) -> Result<Answer, NoMemory>
-    requires within { IsWithin job.now }
-    ensures { IfOk result (λ a. AnswersUnits (runs in_some_order (summary_of job.now)) (executed job.now input source.now) (answer_view a)) }
-{
-    let end = end_of_code(rt, alloc, job, source, input, gate)?;
-    Ok(Answer {
-        status: Status::of(end.outcome),
-        text: summary_of(alloc, job, source, &end)?,
+        text: shown(alloc, job, showing, &source, &end)?,
     })
 }
 
@@ -173,42 +155,16 @@ fn answer_code(alloc: Global, source: &Accepted) -> Result<Answer, NoMemory>
     })
 }
 
-// Does with a source what the mode says.
-fn answer_units<G: Gate, R: Threads + Wait + Sync>(
-    rt: &R,
+/// Tells something of a source that isn't run.
+pub(crate) fn answer_telling(
     alloc: Global,
-    job: &Job,
-    source: Accepted,
-    input: List<u8>,
-    gate: &G,
+    telling: Telling,
+    source: &Accepted,
 ) -> Result<Answer, NoMemory>
-    requires within { IsWithin job.now }
-    ensures { IfOk result (λ a. AnswersUnits (deed_of job.now) (executed job.now input source) (answer_view a)) }
+    ensures { IfOk result (λ a. answer_view a ≡ record { status = 0; text = telling_of telling source.now }) }
 {
-    match job.mode {
-        Mode::Run => answer_run(rt, alloc, job, &source, input, gate),
-        Mode::Reference => answer_reference(alloc, job, source, input),
-        Mode::Check => answer_check(alloc, &source),
-        Mode::Code => answer_code(alloc, &source),
-        Mode::Gen => answer_made(rt, alloc, job, &source, input, gate),
-    }
-}
-
-/// Answers to the text of a job's source, which has at most 1,048,576 bytes.
-pub(crate) fn answer_source<G: Gate, R: Threads + Wait + Sync>(
-    rt: &R,
-    alloc: Global,
-    job: &Job,
-    bytes: &[u8],
-    input: List<u8>,
-    gate: &G,
-) -> Result<Answer, NoMemory>
-    requires short { length bytes.now ≤ 1048576 }
-    requires within { IsWithin job.now }
-    ensures { IfOk result (λ a. AnswersSource (deed_of job.now) (executed job.now input) bytes.now (answer_view a)) }
-{
-    match read_source(alloc, bytes) {
-        Ok(source) => answer_units(rt, alloc, job, source, input, gate),
-        Err(fault) => refused(alloc, fault),
+    match telling {
+        Telling::Functions => answer_check(alloc, source),
+        Telling::Instructions => answer_code(alloc, source),
     }
 }

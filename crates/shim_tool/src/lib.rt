@@ -4,13 +4,17 @@
 mod answer;
 mod call;
 mod execute;
+mod files;
 pub mod laws;
-mod reads;
+mod prepared;
 mod status;
 /// The two kinds of process that are run, tied.
 pub mod tied;
 
+pub use answer::Answer;
 pub use call::{shim, write_no_memory};
-pub use shim_command::{Job, Kind, Mode, WordsFault, read_words};
+pub use prepared::{Prepared, PreparedRun, prepare};
+pub use shim_command::{Job, Kind, Mode, Showing, WordsFault, read_words};
 pub use shim_generator::generate;
 pub use shim_workers::{Gate, NoOpGate};
+pub use status::Status;

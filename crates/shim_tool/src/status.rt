@@ -5,8 +5,9 @@ ghost use Rattle.shim_tool.specs.RunEnds.{status_of_outcome};
 
 use shim_local::Outcome;
 
+/// How a call ended, which is what the program tells by its status.
 #[derive(Clone, Copy, Debug, PartialEq, Eq)]
-pub(crate) enum Status {
+pub enum Status {
     Done,
     /// The run ended by an exception that nobody caught, or by a trap.
     Failed,
@@ -33,7 +34,7 @@ impl Status {
     }
 
     /// The number that the program ends with.
-    pub(crate) fn code(self) -> u8
+    pub fn code(self) -> u8
         ensures { result ≡ code_of self }
     {
         match self {

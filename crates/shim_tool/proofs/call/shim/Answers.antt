@@ -1,6 +1,6 @@
 use Rattle.std.proofs.Common.{arith}
 use Rattle.shim_tool.proofs.Causes.{tells_done, tells_failed, tells_blocked}
-use Rattle.shim_tool.proofs.RowLemmas.{end_row, spent_row, count_row, words_row, refused_row, file_row, sink_row, memory_row, files_row, complete}
+use Rattle.shim_tool.proofs.RowLemmas.{end_row, spent_row, count_row, beginning_row, words_row, refused_row, file_row, sink_row, memory_row, files_row, complete}
 use Rattle.shim_tool.proofs.call.shim.Goals as goal
 
 pub returns-clause-done : goal.returns-clause-done
@@ -17,6 +17,9 @@ returns-clause-spent g c = spent_row _ _ _ _ _ _ c.run_tool-status.ensures
 
 pub returns-clause-counts : goal.returns-clause-counts
 returns-clause-counts g c = count_row _ _ _ _ _ _ c.run_tool-status.ensures
+
+pub returns-clause-beginning : goal.returns-clause-beginning
+returns-clause-beginning g c = beginning_row _ _ _ _ _ _ c.run_tool-status.ensures
 
 pub returns-clause-words : goal.returns-clause-words
 returns-clause-words g c = words_row _ _ _ _ _ _ c.run_tool-status.ensures

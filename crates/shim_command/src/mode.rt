@@ -1,0 +1,153 @@
+// The modes. What each of them is called, reads and does stands in one row, and no other function asks for
+// the mode.
+ghost use Rattle.std.specs.Prelude.{◌≡◌};
+ghost use Rattle.shim_command.specs.Modes.{mode_named, named_among, row_of, row_view};
+ghost use Rattle.shim_command.specs.declared.mode.Beside.TheVariants as besides;
+ghost use Rattle.shim_command.specs.declared.mode.Origin.TheVariants as origins;
+
+/// What the word MODE asks for.
+#[derive(Clone, Copy, Debug, PartialEq, Eq)]
+pub enum Mode {
+    Run,
+    Reference,
+    Check,
+    Code,
+    Gen,
+}
+
+/// Where the text of a source comes from.
+#[derive(Clone, Copy, Debug, PartialEq, Eq)]
+pub enum Origin {
+    /// FILE is the name of its file.
+    Stored,
+    /// FILE is the word of a kind, of which a text is generated.
+    Generated,
+}
+
+/// What is read beside the source.
+#[derive(Clone, Copy, Debug, PartialEq, Eq)]
+pub enum Beside {
+    Nothing,
+    /// The bytes that the run takes in, where an option names their file.
+    Input,
+}
+
+/// What is told of a source that isn't run.
+#[derive(Clone, Copy, Debug, PartialEq, Eq)]
+pub enum Telling {
+    /// How many functions it has.
+    Functions,
+    /// The instructions that it is compiled to.
+    Instructions,
+}
+
+/// Which run of a source is done.
+#[derive(Clone, Copy, Debug, PartialEq, Eq)]
+pub enum Course {
+    /// The meaning itself: each time the first event that is enabled.
+    ByFirstEvents,
+    /// Some run, whichever events the workers do first.
+    InSomeOrder,
+}
+
+/// What is told of a run.
+#[derive(Clone, Copy, Debug, PartialEq, Eq)]
+pub enum Showing {
+    Report,
+    Summary,
+}
+
+/// What is done with a source that is accepted.
+#[derive(Clone, Copy, Debug, PartialEq, Eq)]
+pub enum Task {
+    /// Something is told of it, and nothing is run.
+    Tells(Telling),
+    /// It is run, and something is told of how that ended.
+    Runs(Course, Showing),
+}
+
+/// What a mode is.
+#[derive(Clone, Copy, Debug)]
+pub struct ModeRow {
+    /// The word that asks for it.
+    pub word: &'static str,
+    pub origin: Origin,
+    pub beside: Beside,
+    pub task: Task,
+}
+
+/// All modes, in the order in which a word is looked up.
+const MODES: [Mode; 5] = [
+    Mode::Run,
+    Mode::Reference,
+    Mode::Check,
+    Mode::Code,
+    Mode::Gen,
+];
+
+// The row of a mode whose source is read from its file.
+fn stored(word: &'static str, beside: Beside, task: Task) -> ModeRow
+    ensures { row_view result ≡ record { word = word.entry.now; origin = origins.Stored; beside = beside; task = task } }
+{
+    ModeRow {
+        word,
+        origin: Origin::Stored,
+        beside,
+        task,
+    }
+}
+
+// The row of a mode whose source is generated, and which reads nothing.
+fn generated(word: &'static str, task: Task) -> ModeRow
+    ensures { row_view result ≡ record { word = word.entry.now; origin = origins.Generated; beside = besides.Nothing; task = task } }
+{
+    ModeRow {
+        word,
+        origin: Origin::Generated,
+        beside: Beside::Nothing,
+        task,
+    }
+}
+
+impl Mode {
+    /// The row of the mode in the table of modes.
+    pub fn row(self) -> ModeRow
+        ensures { row_view result ≡ row_of self }
+    {
+        match self {
+            Mode::Run => stored(
+                "run",
+                Beside::Input,
+                Task::Runs(Course::InSomeOrder, Showing::Report),
+            ),
+            Mode::Reference => stored(
+                "ref",
+                Beside::Input,
+                Task::Runs(Course::ByFirstEvents, Showing::Report),
+            ),
+            Mode::Check => stored("check", Beside::Nothing, Task::Tells(Telling::Functions)),
+            Mode::Code => stored("code", Beside::Nothing, Task::Tells(Telling::Instructions)),
+            Mode::Gen => generated("gen", Task::Runs(Course::InSomeOrder, Showing::Summary)),
+        }
+    }
+
+    /// The mode that a word asks for.
+    #[tactic(auto, unfolding(crate::specs::Modes::mode_named))]
+    pub fn named(word: &str) -> Option<Mode>
+        ensures { result ≡ mode_named word.now }
+    {
+        named_among(&MODES, word)
+    }
+}
+
+// The first of these modes that a word asks for.
+fn named_among(modes: &[Mode], word: &str) -> Option<Mode>
+    ensures { result ≡ named_among modes.now word.now }
+{
+    for mode in modes {
+        if word == mode.row().word {
+            return Some(*mode);
+        }
+    }
+    None
+}

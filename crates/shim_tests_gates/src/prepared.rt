@@ -1,0 +1,93 @@
+// What is answered without a runtime, so that no thread is started and nothing is waited for.
+use crate::calls::{Program, files_of, words_of};
+use shim_base::NoMemory;
+use shim_tool::{Prepared, prepare};
+use std::alloc::Global;
+use std::process::Abort;
+use std::str;
+use std::test::Fail;
+
+const PUTS_A: &str = "void main(ostream &o) { put o, 65; }";
+
+const USAGE: &str =
+    "usage: shim MODE FILE [--input FILE] [--workers N] [--budget B] [--quantum Q] [--size N]\n";
+
+// A status and a text that words come to by themselves, or that they leave a run. No runtime is given.
+fn prepared(
+    alloc: Global,
+    source: &'static str,
+    words: &str,
+) -> Result<Option<(u8, String)>, NoMemory> {
+    let program = Program {
+        source,
+        input: "",
+        text: "",
+    };
+    let mut files = files_of(alloc, program)?;
+    match prepare(alloc, words_of(alloc, words)?.as_slice(), &mut files)? {
+        Prepared::Answered(answer) => {
+            let text = str::from_utf8(answer.text.as_slice()).unwrap_or("");
+            Ok(Some((answer.status.code(), String::from_str(alloc, text)?)))
+        }
+        Prepared::ToRun(_) => Ok(None),
+    }
+}
+
+fn expect(
+    rt: &impl Abort,
+    alloc: Global,
+    cases: &[(&'static str, &str, u8, &str)],
+) -> Result<(), Fail> {
+    for case in cases {
+        let (status, text) = prepared(alloc, case.0, case.1)?.unwrap_or((99, String::new(alloc)));
+        assert_eq!(rt; status, case.2, "not {}", case.1);
+        assert_eq!(rt; text.as_str(), case.3, "not {}", case.1);
+    }
+    Ok(())
+}
+
+#[test]
+fn all_but_runs_by_workers_is_answered_without_a_runtime(rt: HostRuntime) -> Result<(), Fail> {
+    expect(
+        &rt,
+        rt.alloc(),
+        &[
+            (
+                "void main() {",
+                "shim check p.shim",
+                5,
+                "refused 1 unexpected 13\n",
+            ),
+            (
+                "void main() { x = 1; }",
+                "shim run p.shim",
+                5,
+                "refused 1 unknown name x\n",
+            ),
+            (PUTS_A, "shim run q.shim", 6, "file failed q.shim\n"),
+            (PUTS_A, "shim run p.shim --input q", 6, "file failed q\n"),
+            (PUTS_A, "shim", 2, USAGE),
+            (PUTS_A, "shim check p.shim", 0, "accepted 1\n"),
+            (
+                "void main() { }",
+                "shim code p.shim",
+                0,
+                "unit main\n0 end\n",
+            ),
+            (PUTS_A, "shim ref p.shim", 0, "output 1 41\nend done 2\n"),
+        ],
+    )
+}
+
+#[test]
+fn runs_by_workers_are_left_to_be_done(rt: HostRuntime) -> Result<(), Fail> {
+    let alloc = rt.alloc();
+    for words in [
+        "shim run p.shim",
+        "shim run p.shim --input i",
+        "shim gen pipe --size 3",
+    ] {
+        assert!(rt; prepared(alloc, PUTS_A, words)?.is_none(), "{words}");
+    }
+    Ok(())
+}

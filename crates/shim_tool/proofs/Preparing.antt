@@ -1,0 +1,155 @@
+-- What a call comes to before any thread is wanted, and what the answer is when a run that was left is done.
+use Rattle.std.proofs.Common.{◌≡◌, ◌≤◌, ◌⊎◌, ◌++◌, ℕ, List, [], ◌∷◌, length, Option, Some, None, inl, inr, refl, sym, ap, ◌∙◌, subst}
+use Rattle.shim_front_end.specs.Source.{Source, IsSource}
+use Rattle.shim_command.specs.declared.job.Job.{Job}
+use Rattle.shim_command.specs.declared.mode.Course.TheVariants.{ByFirstEvents, InSomeOrder}
+use Rattle.shim_command.specs.declared.mode.Origin.{Origin}
+use Rattle.shim_command.specs.declared.mode.Origin.TheVariants.{Stored, Generated}
+use Rattle.shim_command.specs.declared.mode.Showing.{Showing}
+use Rattle.shim_command.specs.declared.mode.Task.{Task}
+use Rattle.shim_command.specs.declared.mode.Task.TheVariants.{Runs, Tells}
+use Rattle.shim_command.specs.declared.mode.Telling.{Telling}
+use Rattle.shim_command.specs.Jobs.{IsWithin}
+use Rattle.shim_command.specs.Modes.{row_of}
+use Rattle.shim_tool.specs.declared.prepared.PreparedRun.{PreparedRun}
+use Rattle.shim_tool.specs.Moments.{FilesAt}
+use Rattle.shim_tool.specs.Modes.{Reading, deed_by, deed_of, executed, first, readings_beside, reads_of, runs, second, showing_of, source_readings, source_text, telling_of}
+use Rattle.shim_tool.specs.Reads.{AreContents, HoldsAll, Looks, OneReadFailed, Saw, Told, all, longer_file, unread_file}
+use Rattle.shim_tool.specs.Answer.{Answer, Answers, AnswersJob, AnswersSaw, AnswersSource, AnswersUnits}
+use Rattle.shim_tool.specs.Rows.{WasRead}
+use Rattle.shim_tool.specs.Prepared.{Completes, IsForWorkers, IsPreparedWithin, Prepared, Prepares, PreparesJob, PreparesSaw, PreparesSource, PreparesUnits, RunRow, answered, to_run}
+use Rattle.shim_tool.proofs.Outcomes.{no_acceptance, one_source}
+use Rattle.shim_tool.proofs.Sights.{WasSeen, none_too_long, same_contents, was_seen}
+
+-- a source of which something is told
+pub told_units : (job : Job) (input : List ℕ) (source : Source) (telling : Telling) (answer : Answer) → (row_of job.mode).task ≡ Tells telling
+    → answer ≡ record { status = 0; text = telling_of telling source } → PreparesUnits job input source (answered answer)
+told_units job input source telling answer task is = (
+  λ showing other. absurd (cc (task, other)),
+  subst (λ (t : Task). AnswersUnits (deed_by t job) (executed job input source) answer) (sym task) is,
+)
+
+-- and one whose meaning is
+pub meant_units : (job : Job) (input : List ℕ) (source : Source) (showing : Showing) (answer : Answer) → (row_of job.mode).task ≡ Runs ByFirstEvents showing
+    → AnswersUnits (runs ByFirstEvents (showing_of showing job)) (executed job input source) answer → PreparesUnits job input source (answered answer)
+meant_units job input source showing answer task is = (
+  λ other workers. absurd (cc (task, workers)),
+  subst (λ (t : Task). AnswersUnits (deed_by t job) (executed job input source) answer) (sym task) is,
+)
+
+-- what was prepared of a source, and then done, is answered
+completed_units : (job : Job) (input : List ℕ) (source : Source) (p : Prepared) (answer : Answer) → PreparesUnits job input source p → Completes p answer
+    → AnswersUnits (deed_of job) (executed job input source) answer
+completed_units job input source (answered made) answer (none, told) same = subst (λ (a : Answer). AnswersUnits (deed_of job) (executed job input source) a) (sym same) told
+completed_units job input source (to_run r) answer (task, is) told =
+    let P : PreparedRun → Type 0 = λ q. AnswersUnits (runs InSomeOrder (showing_of q.showing q.job)) (executed q.job q.input q.source) answer in
+    subst (λ (t : Task). AnswersUnits (deed_by t job) (executed job input source) answer) (sym task) (subst P is told)
+
+completed_answer : (p : Prepared) (made answer : Answer) → p ≡ answered made → Completes p answer → answer ≡ made
+completed_answer p made answer is done = let P : Prepared → Type 0 = λ q. Completes q answer in subst P is done
+
+completed_source : (job : Job) (input bytes : List ℕ) (p : Prepared) (answer : Answer) → PreparesSource job input bytes p → Completes p answer
+    → AnswersSource (deed_of job) (executed job input) bytes answer
+completed_source job input bytes p answer (inl (program, text, inl (source, units, prepared))) done = inl (program, text, inl (source, units, completed_units job input source p answer prepared done))
+completed_source job input bytes p answer (inl (program, text, inr (fault, refused, is))) done = inl (program, text, inr (fault, refused, completed_answer p _ answer is done))
+completed_source job input bytes p answer (inr (fault, only, is)) done = inr (fault, only, completed_answer p _ answer is done)
+
+completed_saw : (job : Job) (saw : Saw) (p : Prepared) (answer : Answer) → PreparesSaw job saw p → Completes p answer → AnswersSaw job saw answer
+completed_saw job (all contents) p answer prepared done = completed_source job (second contents) (source_text job contents) p answer prepared done
+completed_saw job (unread_file r) p answer is done = completed_answer p _ answer is done
+completed_saw job (longer_file r) p answer is done = completed_answer p _ answer is done
+
+-- what was prepared and then done is answered
+pub completed : (ask : Option Job) (before now : FilesAt) (p : Prepared) (answer : Answer) → Prepares ask before now p → Completes p answer → Answers ask before now answer
+completed None before now p answer (same, is) done = (same, completed_answer p _ answer is done)
+completed (Some job) before now p answer (saw, looks, prepared) done = (saw, looks, completed_saw job saw p answer prepared done)
+
+-- the first of the contents that were read is no longer than a source, where that is read
+pub first_short : (held : Told) (origin : Origin) (job : Job) (rest : List Reading) (contents : List (List ℕ)) → AreContents held (source_readings origin job ++ rest) contents → origin ≡ Stored
+    → length (first contents) ≤ 1048576
+first_short held Stored job rest [] are is = absurd are
+first_short held Stored job rest (c ∷ cs) are is = are.0.0
+first_short held Generated job rest contents are is = absurd (cc is)
+
+pub read_short : (job : Job) (before now : FilesAt) (contents : List (List ℕ)) → Looks (reads_of job) before now (all contents) → (row_of job.mode).origin ≡ Stored → length (first contents) ≤ 1048576
+read_short job before now contents looks is =
+    first_short before.held (row_of job.mode).origin job (readings_beside (row_of job.mode).beside job) contents (was_seen (reads_of job) before now (all contents) looks).0 is
+
+-- the run that was left
+abbrev RunOf : Job → Showing → Source → List (List ℕ) → PreparedRun
+RunOf job showing source contents = record { job = job; showing = showing; source = source; input = second contents }
+
+-- where a run was left
+abbrev LeftSo : Option Job → FilesAt → FilesAt → PreparedRun → Type 0
+LeftSo ask before now r = (now.failed ≡ before.failed) × (job : Job) × (contents : List (List ℕ)) × (source : Source) × WasRead ask job before contents
+    × IsSource (source_text job contents) source × IsForWorkers job r.showing × (r ≡ RunOf job r.showing source contents)
+
+left_source : (job : Job) (before now : FilesAt) (contents : List (List ℕ)) (r : PreparedRun) → now.failed ≡ before.failed → AreContents before.held (reads_of job) contents
+    → PreparesSource job (second contents) (source_text job contents) (to_run r) → LeftSo (Some job) before now r
+left_source job before now contents r same are (inl (program, text, inl (source, units, (task, is)))) =
+    (same, job, contents, source, record { asked = refl; read = are }, record { program = program; text = text.text; units = units }, task, is)
+left_source job before now contents r same are (inl (program, text, inr (fault, refused, is))) = absurd (cc is)
+left_source job before now contents r same are (inr (fault, only, is)) = absurd (cc is)
+
+left_saw : (job : Job) (before now : FilesAt) (saw : Saw) (r : PreparedRun) → WasSeen (reads_of job) before now saw → PreparesSaw job saw (to_run r) → LeftSo (Some job) before now r
+left_saw job before now (all contents) r (are, same) prepared = left_source job before now contents r same are prepared
+left_saw job before now (unread_file q) r seen is = absurd (cc is)
+left_saw job before now (longer_file q) r seen is = absurd (cc is)
+
+left : (ask : Option Job) (before now : FilesAt) (r : PreparedRun) → Prepares ask before now (to_run r) → LeftSo ask before now r
+left None before now r (same, is) = absurd (cc is)
+left (Some job) before now r (saw, looks, prepared) = left_saw job before now saw r (was_seen (reads_of job) before now saw looks) prepared
+
+-- a source that workers run is left to them
+module _ (job : Job) (contents : List (List ℕ)) (source : Source) (showing : Showing) (has : IsSource (source_text job contents) source) (task : IsForWorkers job showing) where
+  run_of_units : (p : Prepared) → PreparesUnits job (second contents) source p → p ≡ to_run (RunOf job showing source contents)
+  run_of_units (answered made) (none, told) = absurd (none showing task)
+  run_of_units (to_run r) (other, is) =
+      let same : r.showing ≡ showing = cc (other, task) in
+      ap to_run is ∙ ap (λ (s : Showing). to_run (RunOf job s source contents)) same
+
+  run_of_source : (p : Prepared) → PreparesSource job (second contents) (source_text job contents) p → p ≡ to_run (RunOf job showing source contents)
+  run_of_source p (inl (program, text, inl (other, units, prepared))) =
+      let same : source ≡ other = one_source (source_text job contents) program other text units source has in
+      run_of_units p (subst (λ (s : Source). PreparesUnits job (second contents) s p) (sym same) prepared)
+  run_of_source p (inl (program, text, inr (fault, refused, is))) = absurd (no_acceptance (source_text job contents) program fault text refused source has)
+  run_of_source p (inr (fault, only, is)) = absurd (only.textless has.program has.text)
+
+  run_of_saw : (before now : FilesAt) (p : Prepared) (saw : Saw) → HoldsAll before.held (reads_of job) contents → WasSeen (reads_of job) before now saw → PreparesSaw job saw p
+      → (p ≡ to_run (RunOf job showing source contents)) ⊎ OneReadFailed (reads_of job) before now
+  run_of_saw before now p (all read) h (are, same) prepared =
+      let P : List (List ℕ) → Type 0 = λ cs. PreparesSaw job (all cs) p in
+      inl (run_of_source p (subst P (same_contents before.held (reads_of job) read contents are h) prepared))
+  run_of_saw before now p (unread_file r) h (comes, read) is = inr (r, comes, read)
+  run_of_saw before now p (longer_file r) h (comes, same, long) is = absurd (none_too_long before.held (reads_of job) contents r h comes long)
+
+  run_of : (before now : FilesAt) (p : Prepared) → HoldsAll before.held (reads_of job) contents → Prepares (Some job) before now p
+      → (p ≡ to_run (RunOf job showing source contents)) ⊎ OneReadFailed (reads_of job) before now
+  run_of before now p h (saw, looks, prepared) = run_of_saw before now p saw h (was_seen (reads_of job) before now saw looks) prepared
+
+pub run_row : (ask : Option Job) (before now : FilesAt) (p : Prepared) → Prepares ask before now p → RunRow ask before now p
+run_row ask before now p prepared = record {
+  only = λ r is. left ask before now r (subst (λ (q : Prepared). Prepares ask before now q) is prepared);
+  when = λ job contents source showing asks h has task. run_of job contents source showing has task before now p h (subst (λ (a : Option Job). Prepares a before now p) asks prepared);
+}
+
+-- the numbers of a run that is left are those of the job
+within_units : (job : Job) (input : List ℕ) (source : Source) (p : Prepared) → IsWithin job → PreparesUnits job input source p → IsPreparedWithin p
+within_units job input source (answered made) within prepared = tt
+within_units job input source (to_run r) within (task, is) = subst (λ (q : PreparedRun). IsWithin q.job) (sym is) within
+
+within_answer : (p : Prepared) (made : Answer) → p ≡ answered made → IsPreparedWithin p
+within_answer p made is = subst IsPreparedWithin (sym is) tt
+
+within_source : (job : Job) (input bytes : List ℕ) (p : Prepared) → IsWithin job → PreparesSource job input bytes p → IsPreparedWithin p
+within_source job input bytes p within (inl (program, text, inl (source, units, prepared))) = within_units job input source p within prepared
+within_source job input bytes p within (inl (program, text, inr (fault, refused, is))) = within_answer p _ is
+within_source job input bytes p within (inr (fault, only, is)) = within_answer p _ is
+
+within_saw : (job : Job) (saw : Saw) (p : Prepared) → IsWithin job → PreparesSaw job saw p → IsPreparedWithin p
+within_saw job (all contents) p within prepared = within_source job (second contents) (source_text job contents) p within prepared
+within_saw job (unread_file r) p within is = within_answer p _ is
+within_saw job (longer_file r) p within is = within_answer p _ is
+
+pub prepared_within : (job : Job) (before now : FilesAt) (p : Prepared) → IsWithin job → PreparesJob job before now p → IsPreparedWithin p
+prepared_within job before now p within (saw, looks, prepared) = within_saw job saw p within prepared

@@ -1,0 +1,63 @@
+-- What a call comes to before any thread is wanted: an answer, or a run that workers are to do.
+use Rattle.std.specs.Prelude.{ℕ, ◌≡◌, ◌⊎◌, List, Option, Some, None}
+use Rattle.shim_front_end.specs.Source.{Source, IsSource}
+use Rattle.shim_command.specs.declared.job.Job.{Job}
+use Rattle.shim_command.specs.declared.mode.Course.TheVariants.{InSomeOrder}
+use Rattle.shim_command.specs.declared.mode.Showing.{Showing}
+use Rattle.shim_command.specs.declared.mode.Task.TheVariants.{Runs}
+use Rattle.shim_command.specs.Jobs.{IsWithin}
+use Rattle.shim_command.specs.Modes.{row_of}
+use Rattle.shim_tool.specs.declared.prepared.PreparedRun.{PreparedRun}
+use Rattle.shim_tool.specs.Moments.{FilesAt}
+use Rattle.shim_tool.specs.Modes.{deed_of, executed, reads_of, runs, second, showing_of, source_text}
+use Rattle.shim_tool.specs.Reads.{HoldsAll, Looks, OneReadFailed, Saw, all, longer_file, unread_file}
+use Rattle.shim_tool.specs.Answer.{Answer, AnswersUnits, OfBytes, file_failed, file_too_long, refused, usage}
+use Rattle.shim_tool.specs.Rows.{WasRead}
+
+pub data Prepared : Type 0 where
+  answered : Answer → Prepared
+  to_run : PreparedRun → Prepared
+
+-- the source of the job is run by workers, and this is told of how that ended
+abbrev pub IsForWorkers : Job → Showing → Type 0
+IsForWorkers job showing = (row_of job.mode).task ≡ Runs InSomeOrder showing
+
+-- a source is kept to be run, with its input, where workers run it, and is answered where they don't
+abbrev pub PreparesUnits : Job → List ℕ → Source → Prepared → Type 0
+PreparesUnits job input source (answered answer) = ((showing : Showing) → IsForWorkers job showing → ⊥) × AnswersUnits (deed_of job) (executed job input source) answer
+PreparesUnits job input source (to_run r) = IsForWorkers job r.showing × (r ≡ record { job = job; showing = r.showing; source = source; input = input })
+
+-- bytes that are no source are answered with the line of their first fault
+abbrev pub PreparesSource : Job → List ℕ → List ℕ → Prepared → Type 0
+PreparesSource job input bytes p = OfBytes (λ source q. PreparesUnits job input source q) (λ fault q. q ≡ answered (refused fault)) bytes p
+
+-- what comes of what was seen of the files of a job
+abbrev pub PreparesSaw : Job → Saw → Prepared → Type 0
+PreparesSaw job (all contents) p = PreparesSource job (second contents) (source_text job contents) p
+PreparesSaw job (unread_file r) p = p ≡ answered (file_failed r.name)
+PreparesSaw job (longer_file r) p = p ≡ answered (file_too_long r.name r.limit)
+
+abbrev pub PreparesJob : Job → FilesAt → FilesAt → Prepared → Type 0
+PreparesJob job before now p = (saw : Saw) × Looks (reads_of job) before now saw × PreparesSaw job saw p
+
+abbrev pub Prepares : Option Job → FilesAt → FilesAt → Prepared → Type 0
+Prepares None before now p = (now.failed ≡ before.failed) × (p ≡ answered usage)
+Prepares (Some job) before now p = PreparesJob job before now p
+
+-- the answer that was prepared, or one to the run that was left
+abbrev pub Completes : Prepared → Answer → Type 0
+Completes (answered made) answer = answer ≡ made
+Completes (to_run r) answer = AnswersUnits (runs InSomeOrder (showing_of r.showing r.job)) (executed r.job r.input r.source) answer
+
+-- the numbers of the job are in their ranges
+abbrev pub IsPreparedWithin : Prepared → Type 0
+IsPreparedWithin (answered answer) = Unit {0}
+IsPreparedWithin (to_run r) = IsWithin r.job
+
+-- A run is to be done exactly where the words have a job whose source workers run, and the job's text is a source. The run is of that source, with the input that was read.
+pub record RunRow (ask : Option Job) (before now : FilesAt) (p : Prepared) : Type 0 where
+  pub only : (r : PreparedRun) → p ≡ to_run r → (now.failed ≡ before.failed) × (job : Job) × (contents : List (List ℕ)) × (source : Source) × WasRead ask job before contents
+      × IsSource (source_text job contents) source × IsForWorkers job r.showing × (r ≡ record { job = job; showing = r.showing; source = source; input = second contents })
+  pub when : (job : Job) (contents : List (List ℕ)) (source : Source) (showing : Showing) → ask ≡ Some job → HoldsAll before.held (reads_of job) contents
+      → IsSource (source_text job contents) source → IsForWorkers job showing
+      → (p ≡ to_run (record { job = job; showing = showing; source = source; input = second contents })) ⊎ OneReadFailed (reads_of job) before now

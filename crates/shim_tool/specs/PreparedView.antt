@@ -1,0 +1,9 @@
+-- What a call comes to, as the definition names it.
+use Rattle.shim_tool.specs.declared.prepared.Prepared.{Prepared as Made}
+use Rattle.shim_tool.specs.declared.prepared.Prepared.TheVariants.{Answered, ToRun}
+use Rattle.shim_tool.specs.Prepared.{Prepared, answered, to_run}
+use Rattle.shim_tool.specs.Views.{answer_view}
+
+abbrev pub prepared_view : Made → Prepared
+prepared_view (Answered answer) = answered (answer_view answer)
+prepared_view (ToRun run) = to_run run

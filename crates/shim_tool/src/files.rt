@@ -1,0 +1,175 @@
+// The files that a job reads, one after the other.
+ghost use Rattle.std.specs.Prelude.{◌≡◌, ◌≤◌, ◌++◌, IfOk, OnErr, OnOk, length, map};
+ghost use Rattle.shim_command.specs.Modes.{row_of};
+ghost use Rattle.shim_tool.specs.Moments.{files_at, KeepsFiles};
+ghost use Rattle.shim_tool.specs.Modes as modes;
+ghost use Rattle.shim_tool.specs.Reads.{Looks, Sees};
+ghost use Rattle.shim_tool.specs.Views.{found_view, read_view, reading_view, seen_of};
+
+use shim_base::{List, NoMemory};
+use shim_command::{Beside, Job, Origin};
+use shim_edge::{FileFault, Files, Got};
+use std::alloc::Global;
+
+/// The most bytes that a source has.
+const SOURCE_LIMIT: usize = 1048576;
+
+/// The most bytes that an input has.
+const INPUT_LIMIT: usize = 16777216;
+
+/// A file that is read, and the most bytes that it may have.
+#[derive(Clone, Copy, Drop)]
+pub(crate) struct FileToRead<'a> {
+    pub(crate) name: &'a [u8],
+    pub(crate) limit: usize,
+}
+
+/// What came of reading files up to the first that can't be had.
+#[derive(Drop)]
+pub(crate) enum FilesRead<'a> {
+    /// The contents of all of them.
+    All(List<List<u8>>),
+    /// This one couldn't be read.
+    Failed(FileToRead<'a>),
+    /// This one has more bytes than it may have.
+    TooLong(FileToRead<'a>),
+}
+
+// What was seen of a file.
+#[derive(Drop)]
+enum Found {
+    Unread,
+    Longer,
+    Whole(List<u8>),
+}
+
+impl From<Got> for Found {
+    ghost use Rattle.std.specs.Prelude.{◌≡◌};
+    ghost use Rattle.shim_tool.specs.Views.{found_view, seen_of};
+
+    ghost from_gives = { λ got found. found_view found ≡ seen_of got };
+
+    fn from(got: Got) -> Found {
+        match got {
+            Got::Whole(bytes) => Found::Whole(bytes),
+            Got::Longer => Found::Longer,
+        }
+    }
+}
+
+// Lists the file of a job's source, if it has one.
+fn list_source<'a>(
+    files: &mut List<FileToRead<'a>>,
+    origin: Origin,
+    job: &'a Job,
+) -> Result<(), NoMemory>
+    ensures { OnOk result (map reading_view files.new ≡ map reading_view files.old ++ modes.source_readings origin job.now) }
+{
+    match origin {
+        Origin::Stored => files.push(FileToRead {
+            name: job.file.as_slice(),
+            limit: SOURCE_LIMIT,
+        }),
+        Origin::Generated => Ok(()),
+    }
+}
+
+// Lists the file of a job's input, if one is named.
+fn list_input<'a>(files: &mut List<FileToRead<'a>>, job: &'a Job) -> Result<(), NoMemory>
+    ensures { OnOk result (map reading_view files.new ≡ map reading_view files.old ++ modes.input_readings job.now.input) }
+{
+    match &job.input {
+        Some(name) => files.push(FileToRead {
+            name: name.as_slice(),
+            limit: INPUT_LIMIT,
+        }),
+        None => Ok(()),
+    }
+}
+
+// Lists what a job reads beside its source.
+fn list_beside<'a>(
+    files: &mut List<FileToRead<'a>>,
+    beside: Beside,
+    job: &'a Job,
+) -> Result<(), NoMemory>
+    ensures { OnOk result (map reading_view files.new ≡ map reading_view files.old ++ modes.readings_beside beside job.now) }
+{
+    match beside {
+        Beside::Nothing => Ok(()),
+        Beside::Input => list_input(files, job),
+    }
+}
+
+// The files that a job reads, in their order.
+fn files_of<'a>(alloc: Global, job: &'a Job) -> Result<List<FileToRead<'a>>, NoMemory>
+    ensures { IfOk result (λ files. map reading_view files ≡ modes.reads_of job.now) }
+{
+    let row = job.mode.row();
+    let mut files = List::new(alloc);
+    list_source(&mut files, row.origin, job)?;
+    list_beside(&mut files, row.beside, job)?;
+    Ok(files)
+}
+
+// Reads a file, and says what was seen.
+fn look<F: Files>(alloc: Global, file: FileToRead<'_>, files: &mut F) -> Result<Found, NoMemory>
+    ensures found { IfOk result (λ found. Sees (reading_view file.entry) (files_at F.held F.sound F.failed files.old)
+        (files_at F.held F.sound F.failed files.new) (found_view found)) }
+    ensures same { OnErr result (F.failed files.new ≡ F.failed files.old) }
+    ensures kept { KeepsFiles (files_at F.held F.sound F.failed files.old) (files_at F.held F.sound F.failed files.new) }
+{
+    match files.read(alloc, file.name, file.limit) {
+        Ok(got) => Ok(Found::from(got)),
+        Err(FileFault::Failed) => Ok(Found::Unread),
+        Err(FileFault::NoMemory) => Err(NoMemory),
+    }
+}
+
+// Reads files in their order, up to the first that can't be had.
+fn read_all<'a, F: Files>(
+    alloc: Global,
+    to_read: &[FileToRead<'a>],
+    files: &mut F,
+) -> Result<FilesRead<'a>, NoMemory>
+    ensures seen { IfOk result (λ read. Looks (map reading_view to_read.now) (files_at F.held F.sound F.failed files.old)
+        (files_at F.held F.sound F.failed files.new) (read_view read)) }
+    ensures same { OnErr result (F.failed files.new ≡ F.failed files.old) }
+    ensures kept { KeepsFiles (files_at F.held F.sound F.failed files.old) (files_at F.held F.sound F.failed files.new) }
+{
+    let mut contents = List::new(alloc);
+    for file in to_read {
+        match look(alloc, *file, files)? {
+            Found::Whole(bytes) => contents.push(bytes)?,
+            Found::Unread => return Ok(FilesRead::Failed(*file)),
+            Found::Longer => return Ok(FilesRead::TooLong(*file)),
+        }
+    }
+    Ok(FilesRead::All(contents))
+}
+
+/// Reads the files of a job in their order, up to the first that can't be had. A read that failed adds
+/// its name to the failed ones; no memory is wanted behind it.
+pub(crate) fn read_files<'a, F: Files>(
+    alloc: Global,
+    job: &'a Job,
+    files: &mut F,
+) -> Result<FilesRead<'a>, NoMemory>
+    ensures seen { IfOk result (λ read. Looks (modes.reads_of job.now) (files_at F.held F.sound F.failed files.old)
+        (files_at F.held F.sound F.failed files.new) (read_view read)) }
+    ensures same { OnErr result (F.failed files.new ≡ F.failed files.old) }
+    ensures kept { KeepsFiles (files_at F.held F.sound F.failed files.old) (files_at F.held F.sound F.failed files.new) }
+{
+    let to_read = files_of(alloc, job)?;
+    read_all(alloc, to_read.as_slice(), files)
+}
+
+/// The first two of the contents that were read; what isn't there is empty.
+pub(crate) fn first_two(alloc: Global, contents: List<List<u8>>) -> (List<u8>, List<u8>)
+    ensures { result ≡ (modes.first contents, modes.second contents) }
+{
+    let mut contents = contents.into_vec().into_iter();
+    let first = contents.next().unwrap_or(List::new(alloc));
+    let second = contents.next().unwrap_or(List::new(alloc));
+    (first, second)
+}

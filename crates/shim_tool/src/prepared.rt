@@ -1,0 +1,162 @@
+// What is done without a thread: the words, the files, each refusal, and what is told of a source that
+// workers don't run.
+ghost use Rattle.std.specs.Prelude.{◌≡◌, ◌≤◌, IfOk, length};
+ghost use Rattle.shim_command.specs.Jobs.{IsWithin, job, texts_of};
+ghost use Rattle.shim_tool.specs.Moments.{files_at, KeepsFiles};
+ghost use Rattle.shim_command.specs.Modes.{row_of};
+ghost use Rattle.shim_command.specs.declared.mode.Origin.TheVariants as origins;
+ghost use Rattle.shim_tool.specs.Modes.{first, made_text, reads_of, text_from};
+ghost use Rattle.shim_tool.specs.Reads.{GrewByOneOf, all};
+ghost use Rattle.shim_tool.specs.Answer.{FailedGrew};
+ghost use Rattle.shim_tool.specs.Prepared as prepares;
+ghost use Rattle.shim_tool.specs.PreparedView.{prepared_view};
+
+use crate::answer::{Answer, file_failed, file_too_long, refused, usage};
+use crate::execute::{answer_reference, answer_telling};
+use crate::files::{FilesRead, first_two, read_files};
+use shim_base::{List, NoMemory};
+use shim_command::{Course, Job, Kind, Origin, Showing, Task, WordsFault, read_words};
+use shim_edge::Files;
+use shim_front_end::read_source;
+use shim_generator::generate;
+use shim_sharing::Accepted;
+use std::alloc::Global;
+
+/// A run that workers are to do: of an accepted source that reads these bytes, for a job.
+#[derive(Drop)]
+pub struct PreparedRun {
+    pub job: Job,
+    /// What is told of how the run ended.
+    pub showing: Showing,
+    pub source: Accepted,
+    pub input: List<u8>,
+}
+
+/// What a call comes to before any thread is wanted.
+#[derive(Drop)]
+pub enum Prepared {
+    Answered(Answer),
+    ToRun(PreparedRun),
+}
+
+// Answers a source, or keeps it to be run where workers run it.
+fn prepare_units(
+    alloc: Global,
+    job: Job,
+    source: Accepted,
+    input: List<u8>,
+) -> Result<Prepared, NoMemory>
+    requires within { IsWithin job }
+    ensures { IfOk result (λ p. prepares.PreparesUnits job input source (prepared_view p)) }
+{
+    match job.mode.row().task {
+        Task::Tells(telling) => Ok(Prepared::Answered(answer_telling(alloc, telling, &source)?)),
+        Task::Runs(Course::ByFirstEvents, showing) => Ok(Prepared::Answered(answer_reference(
+            alloc, &job, showing, source, input,
+        )?)),
+        Task::Runs(Course::InSomeOrder, showing) => Ok(Prepared::ToRun(PreparedRun {
+            job,
+            showing,
+            source,
+            input,
+        })),
+    }
+}
+
+// Reads the text of a job's source, which has at most 1,048,576 bytes.
+fn prepare_source(
+    alloc: Global,
+    job: Job,
+    bytes: &[u8],
+    input: List<u8>,
+) -> Result<Prepared, NoMemory>
+    requires short { length bytes.now ≤ 1048576 }
+    requires within { IsWithin job }
+    ensures { IfOk result (λ p. prepares.PreparesSource job input bytes.now (prepared_view p)) }
+{
+    match read_source(alloc, bytes) {
+        Ok(source) => prepare_units(alloc, job, source, input),
+        Err(fault) => Ok(Prepared::Answered(refused(alloc, fault)?)),
+    }
+}
+
+// The text that is generated for a job, of the kind that FILE names.
+fn generated_text(alloc: Global, job: &Job) -> Result<List<u8>, NoMemory>
+    ensures text { IfOk result (λ text. text ≡ made_text job.now) }
+    ensures short { IfOk result (λ text. length text ≤ 1048576) }
+{
+    match Kind::named(job.file.as_slice()) {
+        Some(kind) => generate(alloc, kind, job.size),
+        None => Ok(List::new(alloc)),
+    }
+}
+
+// The text of a job's source: that which was read first, or one that is generated.
+fn source_of(alloc: Global, job: &Job, first: List<u8>) -> Result<List<u8>, NoMemory>
+    requires { (row_of job.now.mode).origin ≡ origins.Stored → length first ≤ 1048576 }
+    ensures text { IfOk result (λ text. text ≡ text_from (row_of job.now.mode).origin job.now first) }
+    ensures short { IfOk result (λ text. length text ≤ 1048576) }
+{
+    match job.mode.row().origin {
+        Origin::Stored => Ok(first),
+        Origin::Generated => generated_text(alloc, job),
+    }
+}
+
+// Goes on with the contents of all files of a job.
+fn prepare_contents(alloc: Global, job: Job, contents: List<List<u8>>) -> Result<Prepared, NoMemory>
+    requires within { IsWithin job }
+    requires short { (row_of job.mode).origin ≡ origins.Stored → length (first contents) ≤ 1048576 }
+    ensures { IfOk result (λ p. prepares.PreparesSaw job (all contents) (prepared_view p)) }
+{
+    let (first, input) = first_two(alloc, contents);
+    let text = source_of(alloc, &job, first)?;
+    prepare_source(alloc, job, text.as_slice(), input)
+}
+
+// Reads the files of a job, and goes on with them.
+fn prepare_job<F: Files>(alloc: Global, job: Job, files: &mut F) -> Result<Prepared, NoMemory>
+    requires within { IsWithin job }
+    ensures prepared { IfOk result (λ p. prepares.PreparesJob job (files_at F.held F.sound F.failed files.old)
+        (files_at F.held F.sound F.failed files.new) (prepared_view p)) }
+    ensures grew { GrewByOneOf (reads_of job) (files_at F.held F.sound F.failed files.old)
+        (files_at F.held F.sound F.failed files.new) }
+    ensures kept { KeepsFiles (files_at F.held F.sound F.failed files.old) (files_at F.held F.sound F.failed files.new) }
+{
+    match read_files(alloc, &job, files)? {
+        FilesRead::All(contents) => prepare_contents(alloc, job, contents),
+        FilesRead::Failed(file) => Ok(Prepared::Answered(file_failed(alloc, file.name)?)),
+        FilesRead::TooLong(file) => Ok(Prepared::Answered(file_too_long(
+            alloc, file.name, file.limit,
+        )?)),
+    }
+}
+
+/// Does what needs no thread: reads the words, of which the first is the program's own name, then the
+/// files that the mode reads, and then the source; answers what is refused on the way, and what is told of
+/// a source that workers don't run. It starts no thread, waits for nothing, and returns.
+///
+/// A run is left to be done exactly where the mode has its sources run by workers and the text is a
+/// source, which is left with its input. "Exactly where" is said of told files, within their limits; of other
+/// files, that there is such a source. A read that failed may come in place of both, and so may want of
+/// memory, which is `Err`.
+pub fn prepare<F: Files>(
+    alloc: Global,
+    words: &[String],
+    files: &mut F,
+) -> Result<Prepared, NoMemory>
+    ensures prepared { IfOk result (λ p. prepares.Prepares (job (texts_of words.now)) (files_at F.held F.sound F.failed files.old)
+        (files_at F.held F.sound F.failed files.new) (prepared_view p)) }
+    ensures run { IfOk result (λ p. prepares.RunRow (job (texts_of words.now)) (files_at F.held F.sound F.failed files.old)
+        (files_at F.held F.sound F.failed files.new) (prepared_view p)) }
+    ensures within { IfOk result (λ p. prepares.IsPreparedWithin (prepared_view p)) }
+    ensures grew { FailedGrew (job (texts_of words.now)) (files_at F.held F.sound F.failed files.old)
+        (files_at F.held F.sound F.failed files.new) }
+    ensures kept { KeepsFiles (files_at F.held F.sound F.failed files.old) (files_at F.held F.sound F.failed files.new) }
+{
+    match read_words(alloc, words) {
+        Ok(job) => prepare_job(alloc, job, files),
+        Err(WordsFault::Refused) => Ok(Prepared::Answered(usage(alloc)?)),
+        Err(WordsFault::NoMemory) => Err(NoMemory),
+    }
+}
