@@ -9,6 +9,7 @@ use Rattle.shim_process.specs.OwnSlots.{UsesOwnSlots}
 use Rattle.shim_process.specs.Ops.{process_ops}
 use Rattle.shim_process.proofs.AllLaws.{process_laws}
 use Rattle.shim_process.proofs.PlaceRoot.{root_sound}
+use Rattle.shim_base.proofs.Facts.{some_same}
 use Rattle.shim_local.specs.Process.{Ops}
 use Rattle.shim_semantics.specs.Trees.{Tree, Event, Met, after, start}
 use Rattle.shim_semantics.specs.Walks.{walk}
@@ -49,7 +50,7 @@ stopped_tree InSomeOrder x e own four (t, at, is) = (t, at, begins_by x t own at
 both_begin : {A : Type 0} (xs ys zs : List A) → IsPrefix xs zs → IsPrefix ys zs → AreComparable xs ys
 both_begin [] ys zs one other = inl (ys, refl)
 both_begin (x ∷ xs) [] zs one other = inr (x ∷ xs, refl)
-both_begin (x ∷ xs) (y ∷ ys) zs (more, one) (rest, other) = on (both_begin xs ys) zs one other where
+both_begin {A = A} (x ∷ xs) (y ∷ ys) zs (more, one) (rest, other) = on (both_begin xs ys) zs one other where
   longer : x ≡ y → AreComparable xs ys → AreComparable (x ∷ xs) (y ∷ ys)
   longer same (inl (between, is)) = inl (between, λ i. same i ∷ is i)
   longer same (inr (between, is)) = inr (between, λ i. sym same i ∷ is i)
@@ -66,25 +67,24 @@ both_begin (x ∷ xs) (y ∷ ys) zs (more, one) (rest, other) = on (both_begin x
 met : (w : Option Met) (h k : Met) (more rest : List ℤ) → w ≡ Some (record { name = h.name; values = h.values ++ more }) → w ≡ Some (record { name = k.name; values = k.values ++ rest })
     → (h.name ≡ k.name) × AreComparable h.values k.values
 met w h k more rest one other =
-    let named : h.name ≡ k.name = cc (one, other) in
-    let valued : k.values ++ rest ≡ h.values ++ more = cc (one, other) in
-    (named, both_begin h.values k.values (h.values ++ more) (more, refl) (rest, valued))
+    let same = some_same (record { name = h.name; values = h.values ++ more }) (record { name = k.name; values = k.values ++ rest }) (sym one ∙ other) in
+    (ap (λ (m : Met). m.name) same, both_begin h.values k.values (h.values ++ more) (more, refl) (rest, sym (ap (λ (m : Met). m.values) same)))
 
 module _ {S : Type 0} (o : Ops S) where
   -- the events that still happen take nothing back, nor does a round
   done_longer : (es : List Event) (t : Tree S) → IsPrefixOf t (do_all (after o) es t)
-  done_longer [] t = longer_same o t
+  done_longer [] t = longer_same t
   done_longer (e ∷ es) t = by_event (done_longer es) (after o e t) refl where
     by_event : ((u : Tree S) → IsPrefixOf u (do_all (after o) es u)) → (x : Option (Tree S)) → after o e t ≡ x → IsPrefixOf t (do_all (after o) es (or_same t x))
     by_event later None is = later t
-    by_event later (Some u) is = longer_further o t u (do_all (after o) es u) (event_longer o e t u is) (later u)
+    by_event later (Some u) is = longer_further t u (do_all (after o) es u) (event_longer o e t u is) (later u)
 
   -- more rounds put and meet more
   later_longer : (m : ℕ) (t : Tree S) → IsPrefixOf t (rounds_of (after o) (λ z. walk o z.root) m t)
-  later_longer zero t = longer_same o t
+  later_longer zero t = longer_same t
   later_longer (suc m) t =
       let next = round_of (after o) (λ z. walk o z.root) t in
-      longer_further o t next (rounds_of (after o) (λ z. walk o z.root) m next) (done_longer (walk o t.root) t) (later_longer m next)
+      longer_further t next (rounds_of (after o) (λ z. walk o z.root) m next) (done_longer (walk o t.root) t) (later_longer m next)
 
   more_longer : (n m : ℕ) (t : Tree S) → n ≤ m → IsPrefixOf (rounds_of (after o) (λ z. walk o z.root) n t) (rounds_of (after o) (λ z. walk o z.root) m t)
   more_longer zero m t few = later_longer m t
@@ -99,7 +99,7 @@ begins_longer : (x y : Execution) (t : Tree LocalState) → x.source ≡ y.sourc
 begins_longer x y t source input few begins =
     let there : IsPrefixOf t (rounds process_ops x.budget (start (root y.source y.input))) =
     subst (λ (l : LocalState). IsPrefixOf t (rounds process_ops x.budget (start l))) (λ i. root (source i) (input i)) begins in
-    longer_further process_ops t _ _ there (rounds_longer process_ops x.budget y.budget (start (root y.source y.input)) few)
+    longer_further t _ _ there (rounds_longer process_ops x.budget y.budget (start (root y.source y.input)) few)
 
 both_alike : (y : Execution) (t u : Tree LocalState) → IsBeginning y t → IsBeginning y u → BeginAlike t u
 both_alike y t u one other = record {

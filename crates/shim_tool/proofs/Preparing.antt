@@ -2,40 +2,28 @@
 use Rattle.std.proofs.Common.{◌≡◌, ◌≤◌, ◌⊎◌, ◌++◌, ℕ, List, [], ◌∷◌, length, Option, Some, None, inl, inr, refl, sym, ap, ◌∙◌, subst}
 use Rattle.shim_front_end.specs.Source.{Source, IsSource}
 use Rattle.shim_command.specs.declared.job.Job.{Job}
-use Rattle.shim_command.specs.declared.mode.Course.TheVariants.{ByFirstEvents, InSomeOrder}
+use Rattle.shim_command.specs.declared.mode.Course.TheVariants.{InSomeOrder}
 use Rattle.shim_command.specs.declared.mode.Origin.{Origin}
 use Rattle.shim_command.specs.declared.mode.Origin.TheVariants.{Stored, Generated}
 use Rattle.shim_command.specs.declared.mode.Showing.{Showing}
 use Rattle.shim_command.specs.declared.mode.Task.{Task}
-use Rattle.shim_command.specs.declared.mode.Task.TheVariants.{Runs, Tells}
-use Rattle.shim_command.specs.declared.mode.Telling.{Telling}
+use Rattle.shim_command.specs.declared.mode.Task.TheVariants.{Runs}
 use Rattle.shim_command.specs.Jobs.{IsWithin}
 use Rattle.shim_command.specs.Modes.{row_of}
+use Rattle.shim_tool.specs.declared.answer.Answer.{Answer as MadeAnswer}
+use Rattle.shim_tool.specs.declared.prepared.Prepared.{Prepared as MadePrepared}
+use Rattle.shim_tool.specs.declared.prepared.Prepared.TheVariants.{Answered, ToRun}
 use Rattle.shim_tool.specs.declared.prepared.PreparedRun.{PreparedRun}
 use Rattle.shim_tool.specs.Moments.{FilesAt}
-use Rattle.shim_tool.specs.Modes.{Reading, deed_by, deed_of, executed, first, readings_beside, reads_of, runs, second, showing_of, source_readings, source_text, telling_of}
+use Rattle.shim_tool.specs.Modes.{Reading, deed_by, deed_of, executed, first, readings_beside, reads_of, runs, second, showing_of, source_readings, source_text}
 use Rattle.shim_tool.specs.Reads.{AreContents, HoldsAll, Looks, OneReadFailed, Saw, Told, all, longer_file, unread_file}
 use Rattle.shim_tool.specs.Answer.{Answer, Answers, AnswersJob, AnswersSaw, AnswersSource, AnswersUnits}
 use Rattle.shim_tool.specs.Rows.{WasRead}
 use Rattle.shim_tool.specs.Prepared.{Completes, IsForWorkers, IsPreparedWithin, Prepared, Prepares, PreparesJob, PreparesSaw, PreparesSource, PreparesUnits, RunRow, answered, to_run}
+use Rattle.shim_tool.specs.PreparedView.{prepared_view}
+use Rattle.shim_tool.specs.Views.{answer_view}
 use Rattle.shim_tool.proofs.Outcomes.{no_acceptance, one_source}
 use Rattle.shim_tool.proofs.Sights.{WasSeen, none_too_long, same_contents, was_seen}
-
--- a source of which something is told
-pub told_units : (job : Job) (input : List ℕ) (source : Source) (telling : Telling) (answer : Answer) → (row_of job.mode).task ≡ Tells telling
-    → answer ≡ record { status = 0; text = telling_of telling source } → PreparesUnits job input source (answered answer)
-told_units job input source telling answer task is = (
-  λ showing other. absurd (cc (task, other)),
-  subst (λ (t : Task). AnswersUnits (deed_by t job) (executed job input source) answer) (sym task) is,
-)
-
--- and one whose meaning is
-pub meant_units : (job : Job) (input : List ℕ) (source : Source) (showing : Showing) (answer : Answer) → (row_of job.mode).task ≡ Runs ByFirstEvents showing
-    → AnswersUnits (runs ByFirstEvents (showing_of showing job)) (executed job input source) answer → PreparesUnits job input source (answered answer)
-meant_units job input source showing answer task is = (
-  λ other workers. absurd (cc (task, workers)),
-  subst (λ (t : Task). AnswersUnits (deed_by t job) (executed job input source) answer) (sym task) is,
-)
 
 -- what was prepared of a source, and then done, is answered
 completed_units : (job : Job) (input : List ℕ) (source : Source) (p : Prepared) (answer : Answer) → PreparesUnits job input source p → Completes p answer
@@ -133,6 +121,9 @@ run_row ask before now p prepared = record {
   when = λ job contents source showing asks h has task. run_of job contents source showing has task before now p h (subst (λ (a : Option Job). Prepares a before now p) asks prepared);
 }
 
+pub run_row_asked : (ask : Option Job) (job : Job) (before now : FilesAt) (p : Prepared) → ask ≡ Some job → PreparesJob job before now p → RunRow ask before now p
+run_row_asked ask job before now p asked prepared = run_row ask before now p (subst (λ (a : Option Job). Prepares a before now p) (sym asked) prepared)
+
 -- the numbers of a run that is left are those of the job
 within_units : (job : Job) (input : List ℕ) (source : Source) (p : Prepared) → IsWithin job → PreparesUnits job input source p → IsPreparedWithin p
 within_units job input source (answered made) within prepared = tt
@@ -153,3 +144,10 @@ within_saw job (longer_file r) p within is = within_answer p _ is
 
 pub prepared_within : (job : Job) (before now : FilesAt) (p : Prepared) → IsWithin job → PreparesJob job before now p → IsPreparedWithin p
 prepared_within job before now p within (saw, looks, prepared) = within_saw job saw p within prepared
+
+-- an answer that was made is the answer, and so is what is told of a run that was left
+pub answered_done : (p : MadePrepared) (made : MadeAnswer) → p ≡ Answered made → Completes (prepared_view p) (answer_view made)
+answered_done p made is = subst (λ (q : MadePrepared). Completes (prepared_view q) (answer_view made)) (sym is) refl
+
+pub left_done : (p : MadePrepared) (r : PreparedRun) (answer : Answer) → p ≡ ToRun r → AnswersUnits (runs InSomeOrder (showing_of r.showing r.job)) (executed r.job r.input r.source) answer → Completes (prepared_view p) answer
+left_done p r answer is done = subst (λ (q : MadePrepared). Completes (prepared_view q) answer) (sym is) done

@@ -1,0 +1,8 @@
+use Rattle.shim_tool.proofs.Sights.{looks_grew}
+use Rattle.shim_tool.proofs.prepared.prepare_job.Goals as goal
+
+pub returns-in_err-file_failed-in-Failed-clause-grew : goal.returns-in_err-file_failed-in-Failed-clause-grew
+returns-in_err-file_failed-in-Failed-clause-grew g c = looks_grew _ _ _ _ c.in_ok-contents.ensures.seen
+
+pub returns-in_ok-file_failed-in-Failed-clause-grew : goal.returns-in_ok-file_failed-in-Failed-clause-grew
+returns-in_ok-file_failed-in-Failed-clause-grew g c = looks_grew _ _ _ _ c.in_ok-contents.ensures.seen
