@@ -6,7 +6,8 @@ pub mod UnitCodes
 pub mod Gathering
 pub mod Making
 pub mod Behind
-pub mod BehindPuts
+pub mod LeadingOn
+pub mod PutSteps
 pub mod Asking
 pub mod Passing
 pub mod GoingOn

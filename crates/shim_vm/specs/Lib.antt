@@ -2,6 +2,7 @@
 pub mod Computing
 pub mod Gathering
 pub mod Actions
+pub mod Putting
 pub mod Places
 pub mod Landing
 pub mod Stretching
