@@ -1,5 +1,5 @@
 -- A run that is stopped: what was put and met in its tree begins what the meaning gives in as many rounds.
-use Rattle.std.proofs.Common.{◌≡◌, ◌≤◌, ◌⊎◌, arith, ℕ, zero, suc, ℤ, Option, Some, None, List, [], ◌∷◌, ◌++◌, inl, inr, length, refl, sym, ap, ◌∙◌, subst}
+use Rattle.std.proofs.Common.{◌≡◌, ◌≤◌, ◌⊎◌, arith, ℕ, zero, suc, ℤ, Option, Some, None, List, [], ◌∷◌, ◌++◌, inl, inr, refl, sym, ap, ◌∙◌, subst}
 use Rattle.shim_command.specs.declared.mode.Course.{Course}
 use Rattle.shim_command.specs.declared.mode.Course.TheVariants.{ByFirstEvents, InSomeOrder}
 use Rattle.shim_local.specs.declared.Ended.{Ended}
@@ -21,7 +21,7 @@ use Rattle.shim_laws_schedules.proofs.EveryPair.{events_commute}
 use Rattle.shim_laws_schedules.proofs.Longer.{event_longer, longer_further, longer_same}
 use Rattle.shim_laws_schedules.proofs.Orders.{rounds_lead}
 use Rattle.shim_reference.proofs.RootChannels.{main_shares_its_own}
-use Rattle.shim_tool.specs.RunEnds.{AreComparable, BeginAlike, Execution, IsBeginning, IsStoppedAt, IsStoppedEnd, LeadsTo, end_of, read_off, status_of, tree_of}
+use Rattle.shim_tool.specs.RunEnds.{AreComparable, BeginAlike, Execution, IsBeginning, IsStoppedAt, IsStoppedEnd, LeadsTo, read_off, status_of, tree_of}
 use Rattle.shim_tool.proofs.Causes.{spent_steps, tells_spent}
 use Rattle.shim_tool.proofs.NetEnds.{end_is, tree_is}
 use Rattle.shim_tool.proofs.Reached.{is_reached_whole}

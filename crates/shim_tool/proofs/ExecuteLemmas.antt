@@ -11,7 +11,7 @@ use Rattle.shim_front_end.specs.Source.{Source}
 use Rattle.shim_reference.specs.Reference.{reference_of}
 use Rattle.shim_command.specs.declared.mode.Course.{Course}
 use Rattle.shim_command.specs.declared.mode.Course.TheVariants.{ByFirstEvents}
-use Rattle.shim_tool.specs.RunEnds.{Execution, IsEnd, end_of, status_of_outcome}
+use Rattle.shim_tool.specs.RunEnds.{IsEnd, end_of, status_of_outcome}
 use Rattle.shim_tool.specs.Modes.{runs}
 use Rattle.shim_tool.proofs.NetEnds.{meaning_end}
 use Rattle.shim_tool.specs.Answer.{AnswersUnits, OfBytes}

@@ -17,7 +17,7 @@ use Rattle.shim_laws_replay.specs.Told.{IsToldAs}
 use Rattle.shim_reference.specs.Naming.{named}
 use Rattle.shim_reference.specs.Reference.{meaning_of, reference_of}
 use Rattle.shim_net.specs.Nets.{NetView}
-use Rattle.shim_tool.specs.RunEnds.{Execution, tree_of, end_of, read_off, status_of, status_of_outcome, IsEnd, as_meant, stopped, IsStoppedAt}
+use Rattle.shim_tool.specs.RunEnds.{Execution, tree_of, end_of, read_off, status_of, status_of_outcome, IsEnd, as_meant, stopped}
 use Rattle.shim_command.specs.declared.mode.Course.TheVariants.{ByFirstEvents, InSomeOrder}
 use Rattle.shim_tool.proofs.Causes.{status_named, tells_spent}
 

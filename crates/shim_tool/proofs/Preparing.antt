@@ -7,7 +7,6 @@ use Rattle.shim_command.specs.declared.mode.Origin.{Origin}
 use Rattle.shim_command.specs.declared.mode.Origin.TheVariants.{Stored, Generated}
 use Rattle.shim_command.specs.declared.mode.Showing.{Showing}
 use Rattle.shim_command.specs.declared.mode.Task.{Task}
-use Rattle.shim_command.specs.declared.mode.Task.TheVariants.{Runs}
 use Rattle.shim_command.specs.Jobs.{IsWithin}
 use Rattle.shim_command.specs.Modes.{row_of}
 use Rattle.shim_tool.specs.declared.answer.Answer.{Answer as MadeAnswer}
@@ -17,7 +16,7 @@ use Rattle.shim_tool.specs.declared.prepared.PreparedRun.{PreparedRun}
 use Rattle.shim_tool.specs.Moments.{FilesAt}
 use Rattle.shim_tool.specs.Modes.{Reading, deed_by, deed_of, executed, first, readings_beside, reads_of, runs, second, showing_of, source_readings, source_text}
 use Rattle.shim_tool.specs.Reads.{AreContents, HoldsAll, Looks, OneReadFailed, Saw, Told, all, longer_file, unread_file}
-use Rattle.shim_tool.specs.Answer.{Answer, Answers, AnswersJob, AnswersSaw, AnswersSource, AnswersUnits}
+use Rattle.shim_tool.specs.Answer.{Answer, Answers, AnswersSaw, AnswersSource, AnswersUnits}
 use Rattle.shim_tool.specs.Rows.{WasRead}
 use Rattle.shim_tool.specs.Prepared.{Completes, IsForWorkers, IsPreparedWithin, Prepared, Prepares, PreparesJob, PreparesSaw, PreparesSource, PreparesUnits, RunRow, answered, to_run}
 use Rattle.shim_tool.specs.PreparedView.{prepared_view}

@@ -1,5 +1,5 @@
 -- Files that are listed, of which some were read.
-use Rattle.std.proofs.Common.{ℕ, ◌≡◌, ◌≤◌, ◌<◌, ◌+◌, ◌++◌, List, [], ◌∷◌, drop, length, map, slice_index_or, refl, sym, ◌∙◌, subst, ap, arith}
+use Rattle.std.proofs.Common.{ℕ, ◌≡◌, ◌≤◌, ◌<◌, ◌+◌, ◌++◌, List, [], ◌∷◌, drop, length, map, slice_index_or, refl, sym, ◌∙◌, subst, ap}
 use Rattle.std.proofs.lemmas.List.{drop_all, drop_more}
 use Rattle.shim_tool.specs.declared.files.FileToRead.{FileToRead}
 use Rattle.shim_tool.specs.declared.files.Found.{Found}

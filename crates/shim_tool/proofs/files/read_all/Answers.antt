@@ -1,4 +1,4 @@
-use Rattle.std.proofs.Common.{rules, arith, ◌≤◌, length}
+use Rattle.std.proofs.Common.{rules, ◌≤◌, length}
 use Rattle.shim_tool.proofs.ReadsOn.{all_read, one_longer, one_read, one_unread}
 use Rattle.shim_tool.proofs.files.read_all.Goals as goal
 
