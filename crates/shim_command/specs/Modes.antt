@@ -5,8 +5,8 @@ use Rattle.shim_command.specs.declared.mode.Mode.{Mode}
 use Rattle.shim_command.specs.declared.mode.Mode.TheVariants.{Run, Reference, Check, Code, Gen}
 use Rattle.shim_command.specs.declared.mode.Origin.{Origin}
 use Rattle.shim_command.specs.declared.mode.Origin.TheVariants.{Stored, Generated}
-use Rattle.shim_command.specs.declared.mode.Beside.{Beside}
-use Rattle.shim_command.specs.declared.mode.Beside.TheVariants.{Nothing, Input}
+use Rattle.shim_command.specs.declared.mode.Extra.{Extra}
+use Rattle.shim_command.specs.declared.mode.Extra.TheVariants.{Nothing, Input}
 use Rattle.shim_command.specs.declared.mode.Telling.TheVariants.{Functions, Instructions}
 use Rattle.shim_command.specs.declared.mode.Course.TheVariants.{ByFirstEvents, InSomeOrder}
 use Rattle.shim_command.specs.declared.mode.Showing.TheVariants.{Report, Summary}
@@ -20,7 +20,7 @@ pub record ModeRow : Type 0 where
   -- where the text of its source comes from
   pub origin : Origin
   -- what is read beside the source
-  pub beside : Beside
+  pub beside : Extra
   -- what is done with a source that is accepted
   pub task : Task
 

@@ -2,7 +2,7 @@
 // the mode.
 ghost use Rattle.std.specs.Prelude.{◌≡◌};
 ghost use Rattle.shim_command.specs.Modes.{mode_named, named_among, row_of, row_view};
-ghost use Rattle.shim_command.specs.declared.mode.Beside.TheVariants as besides;
+ghost use Rattle.shim_command.specs.declared.mode.Extra.TheVariants as besides;
 ghost use Rattle.shim_command.specs.declared.mode.Origin.TheVariants as origins;
 
 /// What the word MODE asks for.
@@ -26,7 +26,7 @@ pub enum Origin {
 
 /// What is read beside the source.
 #[derive(Clone, Copy, Debug, PartialEq, Eq)]
-pub enum Beside {
+pub enum Extra {
     Nothing,
     /// The bytes that the run takes in, where an option names their file.
     Input,
@@ -72,7 +72,7 @@ pub struct ModeRow {
     /// The word that asks for it.
     pub word: &'static str,
     pub origin: Origin,
-    pub beside: Beside,
+    pub beside: Extra,
     pub task: Task,
 }
 
@@ -86,7 +86,7 @@ const MODES: [Mode; 5] = [
 ];
 
 // The row of a mode whose source is read from its file.
-fn stored(word: &'static str, beside: Beside, task: Task) -> ModeRow
+fn stored(word: &'static str, beside: Extra, task: Task) -> ModeRow
     ensures { row_view result ≡ record { word = word.entry.now; origin = origins.Stored; beside = beside; task = task } }
 {
     ModeRow {
@@ -104,7 +104,7 @@ fn generated(word: &'static str, task: Task) -> ModeRow
     ModeRow {
         word,
         origin: Origin::Generated,
-        beside: Beside::Nothing,
+        beside: Extra::Nothing,
         task,
     }
 }
@@ -117,16 +117,16 @@ impl Mode {
         match self {
             Mode::Run => stored(
                 "run",
-                Beside::Input,
+                Extra::Input,
                 Task::Runs(Course::InSomeOrder, Showing::Report),
             ),
             Mode::Reference => stored(
                 "ref",
-                Beside::Input,
+                Extra::Input,
                 Task::Runs(Course::ByFirstEvents, Showing::Report),
             ),
-            Mode::Check => stored("check", Beside::Nothing, Task::Tells(Telling::Functions)),
-            Mode::Code => stored("code", Beside::Nothing, Task::Tells(Telling::Instructions)),
+            Mode::Check => stored("check", Extra::Nothing, Task::Tells(Telling::Functions)),
+            Mode::Code => stored("code", Extra::Nothing, Task::Tells(Telling::Instructions)),
             Mode::Gen => generated("gen", Task::Runs(Course::InSomeOrder, Showing::Summary)),
         }
     }

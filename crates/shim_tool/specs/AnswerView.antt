@@ -1,9 +1,9 @@
 -- Answers that were made, as the definitions name them.
 use Rattle.std.specs.Prelude.{ℕ}
-use Rattle.shim_tool.specs.declared.status.Status.{Status}
-use Rattle.shim_tool.specs.declared.status.Status.TheVariants.{Done, Failed, Usage, Blocked, Spent, Refused, FileFault, SinkFault, NoMemory}
+use Rattle.shim_tool.specs.declared.status.ExitStatus.{ExitStatus}
+use Rattle.shim_tool.specs.declared.status.ExitStatus.TheVariants.{Done, Failed, Usage, Blocked, Spent, Refused, FileFault, SinkFault, NoMemory}
 
-abbrev pub code_of : Status → ℕ
+abbrev pub code_of : ExitStatus → ℕ
 code_of Done = 0
 code_of Failed = 1
 code_of Usage = 2

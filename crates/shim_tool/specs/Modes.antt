@@ -4,8 +4,8 @@ use Rattle.shim_generator.specs.declared.kind.Kind.{Kind}
 use Rattle.shim_generator.specs.Kinds.{kind_named}
 use Rattle.shim_generator.specs.Sources.{generated}
 use Rattle.shim_command.specs.declared.job.Job.{Job}
-use Rattle.shim_command.specs.declared.mode.Beside.{Beside}
-use Rattle.shim_command.specs.declared.mode.Beside.TheVariants.{Nothing, Input}
+use Rattle.shim_command.specs.declared.mode.Extra.{Extra}
+use Rattle.shim_command.specs.declared.mode.Extra.TheVariants.{Nothing, Input}
 use Rattle.shim_command.specs.declared.mode.Course.{Course}
 use Rattle.shim_command.specs.declared.mode.Origin.{Origin}
 use Rattle.shim_command.specs.declared.mode.Origin.TheVariants.{Stored, Generated}
@@ -51,7 +51,7 @@ source_readings Stored job = source_reading job ∷ []
 source_readings Generated job = []
 
 -- what is read beside it
-abbrev pub readings_beside : Beside → Job → List Reading
+abbrev pub readings_beside : Extra → Job → List Reading
 readings_beside Nothing job = []
 readings_beside Input job = input_readings job.input
 

@@ -7,7 +7,7 @@ ghost use Rattle.shim_front_end.specs.declared.SourceFault.TheVariants as faults
 ghost use Rattle.shim_tool.specs.Answer as answers;
 ghost use Rattle.shim_tool.specs.Views.{answer_view};
 
-use crate::status::Status;
+use crate::status::ExitStatus;
 use shim_base::{List, NoMemory, push_decimal};
 use shim_report::{SourceFault, fault_text};
 use std::alloc::Global;
@@ -15,7 +15,7 @@ use std::alloc::Global;
 /// A status, and the text that is written with it.
 #[derive(Drop)]
 pub struct Answer {
-    pub status: Status,
+    pub status: ExitStatus,
     pub text: List<u8>,
 }
 
@@ -27,7 +27,7 @@ pub(crate) fn usage(alloc: Global) -> Result<Answer, NoMemory>
     let line =
         "usage: shim MODE FILE [--input FILE] [--workers N] [--budget B] [--quantum Q] [--size N]\n";
     Ok(Answer {
-        status: Status::Usage,
+        status: ExitStatus::Usage,
         text: List::from_slice(alloc, line.as_bytes())?,
     })
 }
@@ -38,7 +38,7 @@ pub(crate) fn refused(alloc: Global, fault: SourceFault) -> Result<Answer, NoMem
         × (fault ≢ faults.Share share_faults.NoMemory) × (answer_view a ≡ answers.refused fault)) }
 {
     Ok(Answer {
-        status: Status::Refused,
+        status: ExitStatus::Refused,
         text: fault_text(alloc, &fault)?,
     })
 }
@@ -53,7 +53,7 @@ pub(crate) fn file_failed(alloc: Global, name: &[u8]) -> Result<Answer, NoMemory
     text.extend_from_slice(name)?;
     text.extend_from_slice(b"\n")?;
     Ok(Answer {
-        status: Status::FileFault,
+        status: ExitStatus::FileFault,
         text,
     })
 }
@@ -70,7 +70,7 @@ pub(crate) fn file_too_long(alloc: Global, name: &[u8], limit: usize) -> Result<
     push_decimal(&mut text, limit as u64)?;
     text.extend_from_slice(b"\n")?;
     Ok(Answer {
-        status: Status::FileFault,
+        status: ExitStatus::FileFault,
         text,
     })
 }

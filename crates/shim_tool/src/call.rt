@@ -12,7 +12,7 @@ ghost use Rattle.shim_tool.specs.Views.{answer_view};
 use crate::answer::Answer;
 use crate::execute::answer_run;
 use crate::prepared::{Prepared, prepare};
-use crate::status::Status;
+use crate::status::ExitStatus;
 use shim_base::NoMemory;
 use shim_edge::{Files, Sink, write_all};
 use shim_workers::Gate;
@@ -41,13 +41,13 @@ fn answer<F: Files, G: Gate, R: Threads + Wait + Sync>(
 }
 
 // Writes an answer, and gives the status that stands then.
-fn written<K: Sink>(out: &mut K, status: Status, text: &[u8]) -> u8
+fn written<K: Sink>(out: &mut K, status: ExitStatus, text: &[u8]) -> u8
     ensures { Writes (sink_at K.taken K.faults out.old) (sink_at K.taken K.faults out.new)
         (record { status = code_of status; text = text.now }) result }
 {
     match write_all(out, text) {
         Ok(()) => status.code(),
-        Err(_) => Status::SinkFault.code(),
+        Err(_) => ExitStatus::SinkFault.code(),
     }
 }
 
@@ -57,7 +57,7 @@ fn written<K: Sink>(out: &mut K, status: Status, text: &[u8]) -> u8
 pub fn write_no_memory<K: Sink>(out: &mut K) -> u8
     ensures { Writes (sink_at K.taken K.faults out.old) (sink_at K.taken K.faults out.new) answers.no_memory result }
 {
-    written(out, Status::NoMemory, b"no memory\n")
+    written(out, ExitStatus::NoMemory, b"no memory\n")
 }
 
 fn run_tool<F: Files, K: Sink, G: Gate, R: Threads + Wait + Sync>(

@@ -9,7 +9,7 @@ ghost use Rattle.shim_tool.specs.Views.{answer_view};
 
 use crate::answer::Answer;
 use crate::prepared::PreparedRun;
-use crate::status::Status;
+use crate::status::ExitStatus;
 use shim_base::{List, NoMemory, Shared, push_decimal};
 use shim_code::{compile, listing};
 use shim_command::{Job, Showing, Telling};
@@ -94,7 +94,7 @@ pub(crate) fn answer_run<G: Gate, R: Threads + Wait + Sync>(
     } = run;
     let end = end_of_code(rt, alloc, &job, &source, input, gate)?;
     Ok(Answer {
-        status: Status::of(end.outcome),
+        status: ExitStatus::of(end.outcome),
         text: shown(alloc, &job, showing, &source, &end)?,
     })
 }
@@ -113,7 +113,7 @@ pub(crate) fn answer_reference(
     let source = Shared::new(alloc, source)?;
     let end = end_of_syntax(alloc, job, &source, input)?;
     Ok(Answer {
-        status: Status::of(end.outcome),
+        status: ExitStatus::of(end.outcome),
         text: shown(alloc, job, showing, &source, &end)?,
     })
 }
@@ -140,7 +140,7 @@ fn answer_check(alloc: Global, source: &Accepted) -> Result<Answer, NoMemory>
     push_decimal(&mut text, function_count(source.units()) as u64)?;
     text.extend_from_slice(b"\n")?;
     Ok(Answer {
-        status: Status::Done,
+        status: ExitStatus::Done,
         text,
     })
 }
@@ -150,7 +150,7 @@ fn answer_code(alloc: Global, source: &Accepted) -> Result<Answer, NoMemory>
     ensures { IfOk result (λ a. answer_view a ≡ record { status = 0; text = code_text source.now }) }
 {
     Ok(Answer {
-        status: Status::Done,
+        status: ExitStatus::Done,
         text: listing(alloc, source)?,
     })
 }

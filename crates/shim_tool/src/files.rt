@@ -7,7 +7,7 @@ ghost use Rattle.shim_tool.specs.Reads.{Looks, Sees};
 ghost use Rattle.shim_tool.specs.Views.{found_view, read_view, reading_view, seen_of};
 
 use shim_base::{List, NoMemory};
-use shim_command::{Beside, Job, Origin};
+use shim_command::{Extra, Job, Origin};
 use shim_edge::{FileFault, Files, Got};
 use std::alloc::Global;
 
@@ -90,14 +90,14 @@ fn list_input<'a>(files: &mut List<FileToRead<'a>>, job: &'a Job) -> Result<(), 
 // Lists what a job reads beside its source.
 fn list_beside<'a>(
     files: &mut List<FileToRead<'a>>,
-    beside: Beside,
+    beside: Extra,
     job: &'a Job,
 ) -> Result<(), NoMemory>
     ensures { OnOk result (map reading_view files.new ≡ map reading_view files.old ++ modes.readings_beside beside job.now) }
 {
     match beside {
-        Beside::Nothing => Ok(()),
-        Beside::Input => list_input(files, job),
+        Extra::Nothing => Ok(()),
+        Extra::Input => list_input(files, job),
     }
 }
 

@@ -17,4 +17,4 @@ pub use prepared::{Prepared, PreparedRun, prepare};
 pub use shim_command::{Job, Kind, Mode, Showing, WordsFault, read_words};
 pub use shim_generator::generate;
 pub use shim_workers::{Gate, NoOpGate};
-pub use status::Status;
+pub use status::ExitStatus;

@@ -7,7 +7,7 @@ use shim_local::Outcome;
 
 /// How a call ended, which is what the program tells by its status.
 #[derive(Clone, Copy, Debug, PartialEq, Eq)]
-pub enum Status {
+pub enum ExitStatus {
     Done,
     /// The run ended by an exception that nobody caught, or by a trap.
     Failed,
@@ -20,16 +20,16 @@ pub enum Status {
     NoMemory,
 }
 
-impl Status {
+impl ExitStatus {
     /// The status that tells how a run ended.
-    pub(crate) fn of(outcome: Outcome) -> Status
+    pub(crate) fn of(outcome: Outcome) -> ExitStatus
         ensures { code_of result ≡ status_of_outcome outcome }
     {
         match outcome {
-            Outcome::Done => Status::Done,
-            Outcome::Uncaught(_) | Outcome::Trapped => Status::Failed,
-            Outcome::Blocked => Status::Blocked,
-            Outcome::Spent => Status::Spent,
+            Outcome::Done => ExitStatus::Done,
+            Outcome::Uncaught(_) | Outcome::Trapped => ExitStatus::Failed,
+            Outcome::Blocked => ExitStatus::Blocked,
+            Outcome::Spent => ExitStatus::Spent,
         }
     }
 
@@ -38,15 +38,15 @@ impl Status {
         ensures { result ≡ code_of self }
     {
         match self {
-            Status::Done => 0,
-            Status::Failed => 1,
-            Status::Usage => 2,
-            Status::Blocked => 3,
-            Status::Spent => 4,
-            Status::Refused => 5,
-            Status::FileFault => 6,
-            Status::SinkFault => 7,
-            Status::NoMemory => 8,
+            ExitStatus::Done => 0,
+            ExitStatus::Failed => 1,
+            ExitStatus::Usage => 2,
+            ExitStatus::Blocked => 3,
+            ExitStatus::Spent => 4,
+            ExitStatus::Refused => 5,
+            ExitStatus::FileFault => 6,
+            ExitStatus::SinkFault => 7,
+            ExitStatus::NoMemory => 8,
         }
     }
 }
