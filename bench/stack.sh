@@ -1,6 +1,6 @@
 #!/usr/bin/env bash
-# The least stack, in KiB, with which each of some sources that are nested to the limit ends as it
-# does with 8 MiB, in each of ten tries, to 32 KiB. Wants awk.
+# The least stack, in KiB, with which each of some sources that are nested to the limit, or have as many
+# operators as an expression may, ends as it does with 8 MiB, in each of ten tries, to 32 KiB. Wants awk.
 # Use: make shim && bench/stack.sh
 set -u
 cd "$(dirname "$0")/.."
@@ -18,6 +18,7 @@ source_of() {
   elses) printf 'void main() { if (1) ; %s; }' "$(many 'else if (1) ; ' 61)" ;;
   branches) printf 'void main() { %s%s }' "$(many '{} par { ' 62)" "$(many '}' 62)" ;;
   tries) printf 'void main() { %s%s }' "$(many 'try { ' 62)" "$(many '} catch (T) { } ' 62)" ;;
+  ands) printf 'void main(ostream o) { put o, 1%s; }' "$(many ' && 1' 256)" ;;
   meeting) cat examples/meeting.shim ;;
   esac
 }
@@ -30,7 +31,7 @@ holds() {
   done
 }
 
-for shape in parentheses blocks signs ifs elses branches tries meeting; do
+for shape in parentheses blocks signs ifs elses branches tries ands meeting; do
   file=$folder/$shape.shim
   source_of $shape > "$file"
   (set +e; ulimit -s 8192; ./shim run "$file" > "$folder/ample"; echo $? >> "$folder/ample")

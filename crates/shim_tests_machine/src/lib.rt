@@ -10,4 +10,6 @@ mod expect;
 #[cfg(test)]
 mod instruction_tests;
 #[cfg(test)]
+mod place_tests;
+#[cfg(test)]
 mod trap_tests;
