@@ -4,7 +4,7 @@ use Rattle.std.specs.Int.{int_div_euclid, int_rem_euclid}
 use Rattle.std.proofs.lemmas.Int.{ints}
 use Rattle.std.proofs.Math.Nat.{mod-add-div'}
 use Rattle.shim_base.specs.declared.types.Ty.{Ty}
-use Rattle.shim_base.specs.declared.types.Ty.TheVariants.{Bool, Int8, Int16, Int32, Uint8, Uint16, Uint32}
+use Rattle.shim_base.specs.declared.types.Ty.TheVariants.{Bool, Int8, Int16, Int32, Uint8, Uint16, Uint32, Int64}
 use Rattle.shim_base.specs.Value.{DiffersByMultiple, size, stored}
 
 -- a number is its remainder and the quotient's multiple of the divisor
@@ -31,3 +31,4 @@ stored_differs Int32 v n kept other = differs Int32 v (negsuc 2147483647) n 4294
 stored_differs Uint8 v n kept other = differs Uint8 v (pos 0) n 256 (lit< tt) refl kept
 stored_differs Uint16 v n kept other = differs Uint16 v (pos 0) n 65536 (lit< tt) refl kept
 stored_differs Uint32 v n kept other = differs Uint32 v (pos 0) n 4294967296 (lit< tt) refl kept
+stored_differs Int64 v n kept other = differs Int64 v (negsuc 9223372036854775807) n 18446744073709551616 (lit< tt) refl kept

@@ -2,7 +2,7 @@
 use Rattle.std.specs.Prelude.{◌≡◌, zero, ℤ, pos, negsuc, ◌+ℤ◌, ◌-ℤ◌, ◌*ℤ◌, ◌≤ℤ◌, ◌<ℤ◌}
 use Rattle.std.specs.Int.{int_rem_euclid}
 use Rattle.shim_base.specs.declared.types.Ty.{Ty}
-use Rattle.shim_base.specs.declared.types.Ty.TheVariants.{Bool, Int8, Int16, Int32, Uint8, Uint16, Uint32}
+use Rattle.shim_base.specs.declared.types.Ty.TheVariants.{Bool, Int8, Int16, Int32, Uint8, Uint16, Uint32, Int64}
 
 -- the least number of the type
 abbrev pub least : Ty → ℤ
@@ -13,6 +13,7 @@ least Int32 = negsuc 2147483647
 least Uint8 = pos 0
 least Uint16 = pos 0
 least Uint32 = pos 0
+least Int64 = negsuc 9223372036854775807
 
 -- how many numbers the type has
 abbrev pub size : Ty → ℤ
@@ -23,6 +24,7 @@ size Int32 = pos 4294967296
 size Uint8 = pos 256
 size Uint16 = pos 65536
 size Uint32 = pos 4294967296
+size Int64 = pos 18446744073709551616
 
 -- the number lies in the type's range
 abbrev pub FitsType : Ty → ℤ → Type 0

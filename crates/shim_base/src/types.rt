@@ -13,6 +13,8 @@ pub enum Ty {
     Uint8,
     Uint16,
     Uint32,
+    /// In version 2 of the text alone.
+    Int64,
 }
 
 /// What a variable of the type keeps of the number: the number modulo 2 to the type's width, in the
@@ -30,6 +32,7 @@ pub fn store(ty: Ty, v: i64) -> i64
         Ty::Uint8 => v.rem_euclid(256),
         Ty::Uint16 => v.rem_euclid(65536),
         Ty::Uint32 => v.rem_euclid(4294967296),
+        Ty::Int64 => v,
     }
 }
 

@@ -6,13 +6,13 @@ use Rattle.shim_base.specs.declared.token.Sign.TheVariants as g
 use Rattle.shim_syntax.specs.declared.limits.Many.{Many}
 use Rattle.shim_syntax.specs.declared.limits.Many.TheVariants as many
 use Rattle.shim_syntax.specs.declared.tree.Sort.TheVariants.{Value}
-use Rattle.shim_syntax.specs.Terminals.{Terminal, Name, Sort, Key, Sign, End}
+use Rattle.shim_syntax.specs.Terminals.{Terminal, Name, Sort, Key, Sign, End, is_shim, is_two}
 use Rattle.shim_syntax.specs.Limits.{Nesting, Count}
 use Rattle.shim_syntax.specs.Grammar.{Counts, at_level, new_expression, behind_body}
 use Rattle.shim_grammar.specs.declared.punctuation.Punctuation.{Punctuation}
 use Rattle.shim_grammar.specs.declared.punctuation.Punctuation.TheVariants as punctuation
 use Rattle.shim_grammar.specs.Machine as m
-use Rattle.shim_grammar.specs.Machine.{Fixed, Word, Operand, Inside, Expression, Operators, Arguments, MoreArguments, Argument, Declarations, AfterDeclared, MoreDeclarations, Declaration, AfterDeclaration, Statement, Body, Block, AfterWord, AfterEqual, AfterNext, First, Test, Step, Else, AfterBody, Pars, Branch, Parameters, AfterSort, Throws, MoreParameters, Parameter, Thrown, MoreThrows, Functions, Stack, Ask, Want, ask, go, wants}
+use Rattle.shim_grammar.specs.Machine.{Fixed, Word, Operand, Inside, Expression, Operators, Arguments, MoreArguments, Argument, Declarations, AfterDeclared, MoreDeclarations, Declaration, AfterDeclaration, Statement, Body, Block, AfterWord, AfterEqual, AfterNext, First, Test, Step, Else, AfterBody, Pars, Branch, Parameters, AfterSort, Throws, MoreParameters, Parameter, Thrown, MoreThrows, Functions, Stack, Ask, Want, ask, go, wants, Source, Version}
 
 abbrev pub NumbersAlone : List Ask → Type 0
 NumbersAlone [] = Unit {0}
@@ -219,6 +219,14 @@ functions_asks (End p) n k w = tt
 functions_asks (Key k.Void p) n k w = (many.Functions, refl, tt)
 functions_asks _ n k w = tt
 
+source_by : (x : Terminal) (k : Stack) (w : Counts) (b : Bool) → is_shim x ≡ b → NoLevel (m.source x k w)
+source_by x k w true e = rw e tt
+source_by x k w false e = rw e (functions_asks x 0 k w)
+
+version_by : (x : Terminal) (k : Stack) (w : Counts) (b : Bool) → is_two x ≡ b → NoLevel (m.version x k w)
+version_by x k w true e = rw e tt
+version_by x k w false e = rw e tt
+
 pub level_first : (k : Stack) (x : Terminal) (w : Counts) → IfSome (wants k x w) (λ n. LevelFirst n.asks)
 level_first [] x w = tt
 level_first (Fixed f ∷ k) x w = one _ (fixed_asks f x k w)
@@ -256,3 +264,5 @@ level_first (Parameter n ∷ k) x w = one _ (parameter_asks x n k w)
 level_first (Thrown n ∷ k) x w = one _ (thrown_asks x n k w)
 level_first (MoreThrows n ∷ k) x w = one _ (more_throws_asks x n k w)
 level_first (Functions n ∷ k) x w = one _ (functions_asks x n k w)
+level_first (Source ∷ k) x w = one _ (source_by x k w (is_shim x) refl)
+level_first (Version ∷ k) x w = one _ (version_by x k w (is_two x) refl)

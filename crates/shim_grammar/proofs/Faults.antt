@@ -4,9 +4,9 @@ use Rattle.shim_syntax.specs.Terminals.{Terminal, place_of}
 use Rattle.shim_syntax.specs.Limits.{limits}
 use Rattle.shim_syntax.specs.Grammar.{nothing_read}
 use Rattle.shim_syntax.specs.Text.{IsFault}
-use Rattle.shim_grammar.specs.Machine.{Functions, At, Cause, run}
+use Rattle.shim_grammar.specs.Machine.{Source, At, Cause, run}
 use Rattle.shim_grammar.proofs.Goes.{sound, finish, finishes}
 use Rattle.shim_grammar.proofs.Place.{fault_of, stops as stops_from}
 
-pub stops : (cause : Cause) (s : List Terminal) (x : Terminal) (behind : List Terminal) → run limits s (Functions 0 ∷ []) nothing_read ≡ At cause (x ∷ behind) → IsFault (fault_of cause x) (place_of x) s
+pub stops : (cause : Cause) (s : List Terminal) (x : Terminal) (behind : List Terminal) → run limits s (Source ∷ []) nothing_read ≡ At cause (x ∷ behind) → IsFault (fault_of cause x) (place_of x) s
 stops cause s x behind e = stops_from sound finish finishes cause s x behind e

@@ -12,12 +12,13 @@ use Rattle.shim_syntax.specs.declared.tree.Stmt.{Stmt}
 use Rattle.shim_syntax.specs.declared.tree.Branch.{Branch as BranchTree}
 use Rattle.shim_syntax.specs.declared.tree.Param.{Param}
 use Rattle.shim_syntax.specs.declared.tree.Function.{Function}
-use Rattle.shim_syntax.specs.Terminals.{Terminal, Name, Sort, Key, Sign, first}
+use Rattle.shim_syntax.specs.declared.tree.Program.{Program as ProgramTree}
+use Rattle.shim_syntax.specs.Terminals.{Terminal, Name, Sort, Key, Sign, first, is_two}
 use Rattle.shim_syntax.specs.Limits.{Limit, Nesting, Count, Limits}
-use Rattle.shim_syntax.specs.Grammar.{Counts, with_local, new_expression, at_level, behind_body, as_branch, is_else, is_par, IsExpr, IsWhole, IsArguments, IsMoreArguments, IsDeclared, IsDeclarations, IsFirst, IsTest, IsStep, IsBlock, IsStmt, IsBody, IsPlain, IsBranches, IsBranch, IsParam, IsParams, IsMoreParams, IsThrows, IsMoreThrows, IsFunctions}
+use Rattle.shim_syntax.specs.Grammar.{Counts, with_local, new_expression, at_level, behind_body, as_branch, is_else, is_par, IsExpr, IsWhole, IsArguments, IsMoreArguments, IsDeclared, IsDeclarations, IsFirst, IsTest, IsStep, IsBlock, IsStmt, IsBody, IsPlain, IsBranches, IsBranch, IsParam, IsParams, IsMoreParams, IsThrows, IsMoreThrows, IsFunctions, IsProgram}
 use Rattle.shim_grammar.specs.declared.punctuation.Punctuation.{Punctuation}
 use Rattle.shim_grammar.specs.declared.punctuation.Punctuation.TheVariants as punctuation
-use Rattle.shim_grammar.specs.Machine.{Symbol, Fixed, Word, Operand, Inside, Expression, Operators, Arguments, MoreArguments, Argument, Declarations, AfterDeclared, MoreDeclarations, Declaration, AfterDeclaration, Statement, Body, Block, AfterWord, AfterEqual, AfterNext, First, Test, Step as StepOfFor, Else, AfterBody, Pars, Branch, Parameters, AfterSort, Throws, MoreParameters, Parameter, Thrown, MoreThrows, Functions, Stack, Ask, Want}
+use Rattle.shim_grammar.specs.Machine.{Symbol, Fixed, Word, Operand, Inside, Expression, Operators, Arguments, MoreArguments, Argument, Declarations, AfterDeclared, MoreDeclarations, Declaration, AfterDeclaration, Statement, Body, Block, AfterWord, AfterEqual, AfterNext, First, Test, Step as StepOfFor, Else, AfterBody, Pars, Branch, Parameters, AfterSort, Throws, MoreParameters, Parameter, Thrown, MoreThrows, Functions, Stack, Ask, Want, Source, Version}
 
 abbrev pub terminal_of : Punctuation → Place → Terminal
 terminal_of punctuation.LeftParen p = Sign g.LeftParen p
@@ -72,6 +73,8 @@ Gives c Throws w v s r = (xs : List (List ℕ)) × IsThrows c s r xs × (w ≡ v
 Gives c (Thrown n) w v s r = (x : List ℕ) × (p : Place) × (q : List Terminal) × (xs : List (List ℕ)) × (s ≡ Name x p ∷ q) × (c s (Count many.Throws) n ≡ true) × IsMoreThrows c n q r xs × (w ≡ v)
 Gives c (MoreThrows n) w v s r = (xs : List (List ℕ)) × IsMoreThrows c n s r xs × (w ≡ v)
 Gives c (Functions n) w v s r = (fs : List Function) × IsFunctions c n w s r fs
+Gives c Source w v s r = (p : ProgramTree) × IsProgram c w s r p
+Gives c Version w v s r = (x : Terminal) × (is_two x ≡ true) × (s ≡ x ∷ r) × (w ≡ v)
 
 -- the terminals give what the stack still wants
 abbrev pub Takes : Limits → Stack → Counts → List Terminal → Type 0

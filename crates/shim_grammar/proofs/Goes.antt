@@ -10,7 +10,7 @@ use Rattle.shim_syntax.specs.Limits.{Limits}
 use Rattle.shim_syntax.specs.Grammar as is
 use Rattle.shim_syntax.specs.Grammar.{Counts, new_function, with_local, new_expression, with_operator, at_level, new_body, behind_body, is_else, is_par}
 use Rattle.shim_grammar.specs.declared.punctuation.Punctuation.TheVariants as punctuation
-use Rattle.shim_grammar.specs.Machine.{Symbol, Fixed, Word, Operand, Inside, Expression, Operators, Arguments, MoreArguments, Argument, Declarations, AfterDeclared, MoreDeclarations, Declaration, AfterDeclaration, Statement, Body, Block, AfterWord, AfterEqual, AfterNext, First, Test, Else, AfterBody, Pars, Branch, Parameters, AfterSort, Throws, MoreParameters, Parameter, Thrown, MoreThrows, Functions, Stack, wants}
+use Rattle.shim_grammar.specs.Machine.{Symbol, Fixed, Word, Operand, Inside, Expression, Operators, Arguments, MoreArguments, Argument, Declarations, AfterDeclared, MoreDeclarations, Declaration, AfterDeclaration, Statement, Body, Block, AfterWord, AfterEqual, AfterNext, First, Test, Else, AfterBody, Pars, Branch, Parameters, AfterSort, Throws, MoreParameters, Parameter, Thrown, MoreThrows, Functions, Stack, wants, Source, Version}
 use Rattle.shim_grammar.specs.Machine.{Step as StepOfFor}
 use Rattle.shim_grammar.proofs.Gives.{terminal_of, Gives, Takes, Step, Free}
 use Rattle.shim_grammar.proofs.Joins.{lift}
@@ -56,6 +56,8 @@ sound c (Parameter n ∷ k) x w = f.parameter_sound c x n k w
 sound c (Thrown n ∷ k) x w = f.thrown_sound c x n k w
 sound c (MoreThrows n ∷ k) x w = f.more_throws_sound c x n k w
 sound c (Functions n ∷ k) x w = f.functions_sound c x n k w
+sound c (Source ∷ k) x w = f.source_sound c x k w
+sound c (Version ∷ k) x w = f.version_sound c x k w
 
 -- terminals that give what a stack still wants
 abbrev pub finish : Stack → List Terminal
@@ -95,6 +97,8 @@ finish (Parameter n ∷ k) = Sort (Value ty.Bool) start ∷ Name [] start ∷ Si
 finish (Thrown n ∷ k) = Name [] start ∷ Sign g.LeftBrace start ∷ finish k
 finish (MoreThrows n ∷ k) = Sign g.LeftBrace start ∷ finish k
 finish (Functions n ∷ k) = End start ∷ finish k
+finish (Source ∷ k) = End start ∷ finish k
+finish (Version ∷ k) = Number (pos 2) start ∷ finish k
 
 -- a symbol that falls through begins as what stands below it
 pub no_else : (k : Stack) → is_else (first (finish k)) ≡ false
@@ -174,6 +178,8 @@ finish_gives c (Parameter n) k w f = (_, _, _, f _ _ n (omega arith), is.param, 
 finish_gives c (Thrown n) k w f = ([], start, _, _, refl, f _ _ n (omega arith), is.throws_end, refl)
 finish_gives c (MoreThrows n) k w f = (_, is.throws_end, refl)
 finish_gives c (Functions n) k w f = (_, is.program_end)
+finish_gives c Source k w f = (_, is.version_1 is.program_end)
+finish_gives c Version k w f = (_, refl, refl, refl)
 
 pub finishes : (c : Limits) (k : Stack) (w : Counts) → Free c (finish k) → Takes c k w (finish k)
 finishes c [] w f = refl

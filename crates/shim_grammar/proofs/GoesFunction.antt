@@ -1,5 +1,5 @@
 -- What the machine takes may go on: parameters, what is thrown, and functions.
-use Rattle.std.proofs.Common.{◌≡◌, ℕ, suc, List, ◌∷◌, true, refl, sym, ◌∙◌, subst}
+use Rattle.std.proofs.Common.{◌≡◌, ℕ, suc, List, ◌∷◌, Bool, true, false, refl, sym, ◌∙◌, subst}
 use Rattle.shim_base.specs.declared.token.Keyword.TheVariants as key
 use Rattle.shim_base.specs.declared.token.Sign.TheVariants as g
 use Rattle.shim_base.specs.Tokens.{Place}
@@ -7,13 +7,13 @@ use Rattle.shim_syntax.specs.declared.limits.Many.TheVariants as many
 use Rattle.shim_syntax.specs.declared.tree.Stmt.{Stmt}
 use Rattle.shim_syntax.specs.declared.tree.Param.{Param}
 use Rattle.shim_syntax.specs.declared.tree.Function.{Function}
-use Rattle.shim_syntax.specs.Terminals.{Terminal, Name, Sort, Key, Sign, End}
+use Rattle.shim_syntax.specs.Terminals.{Terminal, Name, Sort, Key, Sign, End, is_shim, is_two}
 use Rattle.shim_syntax.specs.Limits.{Count, Limits}
 use Rattle.shim_syntax.specs.Grammar as is
 use Rattle.shim_syntax.specs.Grammar.{Counts, new_function, IsParam, IsParams, IsThrows, IsBlock, IsFunctions}
 use Rattle.shim_grammar.specs.declared.punctuation.Punctuation.TheVariants as punctuation
 use Rattle.shim_grammar.specs.Machine as machine
-use Rattle.shim_grammar.specs.Machine.{Fixed, Word, Block, Parameters, AfterSort, Throws, MoreParameters, Parameter, Thrown, MoreThrows, Functions, Stack}
+use Rattle.shim_grammar.specs.Machine.{Fixed, Word, Block, Parameters, AfterSort, Throws, MoreParameters, Parameter, Thrown, MoreThrows, Functions, Stack, Source, Version}
 use Rattle.shim_grammar.proofs.Gives.{Takes, Step}
 use Rattle.shim_grammar.proofs.Takes.{leads_on, fixed_then, word_then}
 
@@ -84,3 +84,29 @@ pub functions_sound : (c : Limits) (x : Terminal) (n : ℕ) (k : Stack) (w : Cou
 functions_sound c (End p) n k w = λ s h t. (s, w, (_, is.program_end), t)
 functions_sound c (Key key.Void p) n k w = λ s h t. functions_give c p n k w s t h.0
 functions_sound c _ n k w = tt
+
+-- what holds behind the number of the version holds from it on
+version_then : (c : Limits) (k : Stack) (w : Counts) (P : List Terminal → Type 0) → ((y : Terminal) (r : List Terminal) → is_two y ≡ true → Takes c k w r → P (y ∷ r)) → (s : List Terminal)
+    → Takes c (Version ∷ k) w s → P s
+version_then c k w P g s (r, v, (y, two, e, i), t) = subst P (sym e) (g y r two (subst (λ a. Takes c k a r) (sym i) t))
+
+shim_gives : (c : Limits) (x : Terminal) (k : Stack) (w : Counts) (s : List Terminal) → is_shim x ≡ true → Takes c (Version ∷ Fixed punctuation.Semicolon ∷ Functions 0 ∷ k) w s → Takes c (Source ∷ k) w (x ∷ s)
+shim_gives c x k w s shim =
+    version_then c (Fixed punctuation.Semicolon ∷ Functions 0 ∷ k) w (λ s. Takes c (Source ∷ k) w (x ∷ s)) (λ y r two.
+    fixed_then c (Functions 0 ∷ k) w (λ s. Takes c (Source ∷ k) w (x ∷ y ∷ s)) punctuation.Semicolon (λ p q t. (t.0, t.1, (_, is.version_2 shim two t.2.1), t.3)) r) s
+
+source_by : (c : Limits) (x : Terminal) (k : Stack) (w : Counts) (b : Bool) → is_shim x ≡ b → Step c x (Source ∷ k) w (machine.source x k w)
+source_by c x k w true e = rw e (λ s h t. shim_gives c x k w s e t)
+source_by c x k w false e =
+    rw e (leads_on c x (λ s. Takes c (Functions 0 ∷ k) w (x ∷ s)) (λ s. Takes c (Source ∷ k) w (x ∷ s)) (machine.functions x 0 k w) (functions_sound c x 0 k w)
+    (λ s t. (t.0, t.1, (_, is.version_1 t.2.1), t.3)))
+
+pub source_sound : (c : Limits) (x : Terminal) (k : Stack) (w : Counts) → Step c x (Source ∷ k) w (machine.source x k w)
+source_sound c x k w = source_by c x k w (is_shim x) refl
+
+version_by : (c : Limits) (x : Terminal) (k : Stack) (w : Counts) (b : Bool) → is_two x ≡ b → Step c x (Version ∷ k) w (machine.version x k w)
+version_by c x k w true e = rw e (λ s h t. (s, w, (x, e, refl, refl), t))
+version_by c x k w false e = rw e tt
+
+pub version_sound : (c : Limits) (x : Terminal) (k : Stack) (w : Counts) → Step c x (Version ∷ k) w (machine.version x k w)
+version_sound c x k w = version_by c x k w (is_two x) refl

@@ -1,5 +1,5 @@
 -- A text is that of one program at most.
-use Rattle.std.proofs.Common.{◌≡◌, ℕ, List, ◌∷◌, Option, refl, sym, ◌∙◌, ap, subst}
+use Rattle.std.proofs.Common.{◌≡◌, ℕ, List, ◌∷◌, true, Option, refl, sym, ◌∙◌, ap, subst}
 use Rattle.shim_base.specs.declared.token.Keyword.{Keyword}
 use Rattle.shim_base.specs.declared.token.Sign.{Sign as SignOf}
 use Rattle.shim_base.specs.Tokens.{Token, Place, Fault, start, after}
@@ -8,10 +8,10 @@ use Rattle.shim_syntax.specs.declared.tree.Stmt.{Stmt}
 use Rattle.shim_syntax.specs.declared.tree.Param.{Param}
 use Rattle.shim_syntax.specs.declared.tree.Function.{Function}
 use Rattle.shim_syntax.specs.declared.tree.Program.{Program}
-use Rattle.shim_syntax.specs.Terminals.{Terminal, Key, Sign, End, IsRead, of_tokens, of_end}
+use Rattle.shim_syntax.specs.Terminals.{Terminal, Key, Sign, End, IsRead, of_tokens, of_end, in_version, is_shim}
 use Rattle.shim_syntax.specs.Limits.{Limits, limits}
 use Rattle.shim_syntax.specs.Grammar as is
-use Rattle.shim_syntax.specs.Grammar.{Counts, IsBlock, IsParam, IsParams, IsMoreParams, IsThrows, IsMoreThrows, IsFunction, IsFunctions, Derives}
+use Rattle.shim_syntax.specs.Grammar.{Counts, IsBlock, IsParam, IsParams, IsMoreParams, IsThrows, IsMoreThrows, IsFunction, IsFunctions, IsProgram, Derives}
 use Rattle.shim_syntax.specs.Text.{IsText}
 use Rattle.shim_grammar.proofs.OnceStmt.{block_once, same_more}
 
@@ -83,16 +83,25 @@ program_once is.program_end (is.another_function h a b) = absurd (no_end a)
 program_once (is.another_function h a b) is.program_end = absurd (no_end a)
 program_once (is.another_function h a b) (is.another_function h' a' b') = let p = function_once a a' in same_more p.1 (program_once b (at_functions p.0 b'))
 
+no_shim : {c : Limits} {n : ℕ} {v : Counts} {x : Terminal} {s r : List Terminal} {fs : List Function} → IsFunctions c n v (x ∷ s) r fs → is_shim x ≡ true → ⊥
+no_shim is.program_end e = absurd (cc)
+no_shim (is.another_function h (is.function a t b) f) e = absurd (cc)
+
+pub source_once : {c d : Limits} {v v' : Counts} {s r r' : List Terminal} {p q : Program} → IsProgram c v s r p → IsProgram d v' s r' q → p ≡ q
+source_once (is.version_1 d) (is.version_1 d') = ap (λ (fs : List Function). let p : Program = record { version = 1; functions = fs } in p) (program_once d d')
+source_once (is.version_1 d) (is.version_2 shim two d') = absurd (no_shim d shim)
+source_once (is.version_2 shim two d) (is.version_1 d') = absurd (no_shim d' shim)
+source_once (is.version_2 shim two d) (is.version_2 shim' two' d') = ap (λ (fs : List Function). let p : Program = record { version = 2; functions = fs } in p) (program_once d d')
+
 -- the bytes are cut into the same terminals
 pub read_once : (bytes : List ℕ) (ts us : List Terminal) → IsRead bytes ts → IsRead bytes us → ts ≡ us
 read_once bytes ts us h i =
     let same = cuts_once start bytes h.tokens i.tokens h.end i.end h.cut i.cut in
-    let P : List Token → List Terminal = λ l. of_tokens l (of_end (after start bytes) h.end) in
-    let Q : Option Fault → List Terminal = λ e. of_tokens i.tokens (of_end (after start bytes) e) in
+    let P : List Token → List Terminal = λ l. in_version (of_tokens l (of_end (after start bytes) h.end)) in
+    let Q : Option Fault → List Terminal = λ e. in_version (of_tokens i.tokens (of_end (after start bytes) e)) in
     h.are ∙ ap P same.tokens_are ∙ ap Q same.end_is ∙ sym i.are
 
 pub one_program : (bytes : List ℕ) (p q : Program) → IsText bytes p → IsText bytes q → p ≡ q
 one_program bytes p q h i =
-    let P : List Terminal → Type 0 = λ l. Derives limits l q.functions in
-    let F : List Function → Program = λ fs. record { functions = fs } in
-    ap F (program_once h.derives (subst P (sym (read_once bytes h.terminals i.terminals h.read i.read)) i.derives))
+    let P : List Terminal → Type 0 = λ l. Derives limits l q in
+    source_once h.derives (subst P (sym (read_once bytes h.terminals i.terminals h.read i.read)) i.derives)

@@ -1,18 +1,18 @@
 -- What a terminal asks of the limits: behind the first number all is within them, so that at one terminal one number at most is refused.
-use Rattle.std.proofs.Common.{ℕ, List, [], ◌∷◌, Bool, true, false, Option, Some, None, refl}
+use Rattle.std.proofs.Common.{◌≡◌, ℕ, List, [], ◌∷◌, Bool, true, false, Option, Some, None, refl}
 use Rattle.std.specs.Prelude.{IfSome, if◌then◌else◌}
 use Rattle.shim_base.specs.declared.token.Keyword.TheVariants as k
 use Rattle.shim_base.specs.declared.token.Sign.TheVariants as g
 use Rattle.shim_syntax.specs.declared.limits.Many.{Many}
 use Rattle.shim_syntax.specs.declared.limits.Many.TheVariants as many
 use Rattle.shim_syntax.specs.declared.tree.Sort.TheVariants.{Value}
-use Rattle.shim_syntax.specs.Terminals.{Terminal, Name, Sort, Key, Sign, End}
+use Rattle.shim_syntax.specs.Terminals.{Terminal, Name, Sort, Key, Sign, End, is_shim, is_two}
 use Rattle.shim_syntax.specs.Limits.{Limit, Nesting, Count, limits}
 use Rattle.shim_syntax.specs.Grammar.{Counts, at_level, new_expression, behind_body}
 use Rattle.shim_grammar.specs.declared.punctuation.Punctuation.{Punctuation}
 use Rattle.shim_grammar.specs.declared.punctuation.Punctuation.TheVariants as punctuation
 use Rattle.shim_grammar.specs.Machine as m
-use Rattle.shim_grammar.specs.Machine.{Fixed, Word, Operand, Inside, Expression, Operators, Arguments, MoreArguments, Argument, Declarations, AfterDeclared, MoreDeclarations, Declaration, AfterDeclaration, Statement, Body, Block, AfterWord, AfterEqual, AfterNext, First, Test, Step, Else, AfterBody, Pars, Branch, Parameters, AfterSort, Throws, MoreParameters, Parameter, Thrown, MoreThrows, Functions, Stack, Ask, Want, ask, wants}
+use Rattle.shim_grammar.specs.Machine.{Fixed, Word, Operand, Inside, Expression, Operators, Arguments, MoreArguments, Argument, Declarations, AfterDeclared, MoreDeclarations, Declaration, AfterDeclaration, Statement, Body, Block, AfterWord, AfterEqual, AfterNext, First, Test, Step, Else, AfterBody, Pars, Branch, Parameters, AfterSort, Throws, MoreParameters, Parameter, Thrown, MoreThrows, Functions, Stack, Ask, Want, ask, wants, Source, Version}
 use Rattle.shim_grammar.proofs.Gives.{Allowed}
 
 -- the first where the limit is that on levels, the second where it is one on a number
@@ -218,6 +218,14 @@ functions_one (End p) n k w = tt
 functions_one (Key k.Void p) n k w = tt
 functions_one _ n k w = tt
 
+source_by : (x : Terminal) (k : Stack) (w : Counts) (b : Bool) → is_shim x ≡ b → Single (m.source x k w)
+source_by x k w true e = rw e tt
+source_by x k w false e = rw e (functions_one x 0 k w)
+
+version_by : (x : Terminal) (k : Stack) (w : Counts) (b : Bool) → is_two x ≡ b → Single (m.version x k w)
+version_by x k w true e = rw e tt
+version_by x k w false e = rw e tt
+
 pub one_number : (k : Stack) (x : Terminal) (w : Counts) → IfSome (wants k x w) (λ n. OneNumber n.asks)
 one_number [] x w = tt
 one_number (Fixed f ∷ k) x w = fixed_one f x k w
@@ -255,3 +263,5 @@ one_number (Parameter n ∷ k) x w = parameter_one x n k w
 one_number (Thrown n ∷ k) x w = thrown_one x n k w
 one_number (MoreThrows n ∷ k) x w = more_throws_one x n k w
 one_number (Functions n ∷ k) x w = functions_one x n k w
+one_number (Source ∷ k) x w = source_by x k w (is_shim x) refl
+one_number (Version ∷ k) x w = version_by x k w (is_two x) refl

@@ -9,7 +9,7 @@ use Rattle.shim_syntax.specs.Text.{Begins}
 use Rattle.shim_grammar.specs.declared.punctuation.Punctuation.{Punctuation}
 use Rattle.shim_grammar.specs.declared.punctuation.Punctuation.TheVariants as punctuation
 use Rattle.shim_grammar.specs.Machine as m
-use Rattle.shim_grammar.specs.Machine.{Functions, Stack, Want, At, Cause, Unwanted, Past, Whole, run, wants}
+use Rattle.shim_grammar.specs.Machine.{Source, Stack, Want, At, Cause, Unwanted, Past, Whole, run, wants}
 use Rattle.shim_grammar.proofs.Gives.{Allowed}
 use Rattle.shim_grammar.proofs.Runs.{run_on}
 use Rattle.shim_grammar.proofs.RunsStmt.{program_runs}
@@ -37,11 +37,11 @@ module _ (c d : Limits) (more : List Terminal) (pass : (x : Terminal) (b : List 
   up_to (x ∷ b) k w e = up_to_step x b (wants k x w) e (up_to b)
 
 -- terminals that begin a program go through
-pub runs_through : (c : Limits) → Plain c → (b : List Terminal) → Begins c b → run c b (Functions 0 ∷ []) nothing_read ≡ Whole
+pub runs_through : (c : Limits) → Plain c → (b : List Terminal) → Begins c b → run c b (Source ∷ []) nothing_read ≡ Whole
 runs_through c p b (more, fs, d) =
     up_to (until more c) c more
     (λ x t limit n h. sym (until_same c p more (x ∷ t) (x ∷ t ++ more) limit n (omega (arith, length-append t more))) ∙ h)
-    b (Functions 0 ∷ []) nothing_read (program_runs d)
+    b (Source ∷ []) nothing_read (program_runs d)
 
 -- where the terminals before x go through, the run halts at x, or goes through with it
 module _ (c : Limits) (p : Plain c) (x : Terminal) (s : List Terminal) where

@@ -6,12 +6,12 @@ use Rattle.std.proofs.lemmas.Bool.Decides.{leb_tells}
 use Rattle.std.specs.Prelude.{IfSome, ◌||◌, nat_le, not}
 use Rattle.shim_syntax.specs.declared.limits.Many.{Many}
 use Rattle.shim_syntax.specs.declared.limits.Many.TheVariants as many
-use Rattle.shim_syntax.specs.declared.tree.Function.{Function}
+use Rattle.shim_syntax.specs.declared.tree.Program.{Program as ProgramTree}
 use Rattle.shim_syntax.specs.Terminals.{Terminal, Name, Number, Sort, Key, Sign, End, Broken, place_of}
 use Rattle.shim_syntax.specs.Limits.{Limit, Nesting, Count, Limits, limits, no_limits, nesting_alone, nesting_and, is_same, until}
-use Rattle.shim_syntax.specs.Grammar.{Counts, nothing_read, IsFunctions, Derives}
+use Rattle.shim_syntax.specs.Grammar.{Counts, nothing_read, IsProgram, Derives}
 use Rattle.shim_syntax.specs.Text.{Begins, Fault, Lexical, Unexpected, TooDeep, TooMany, IsFault, Cause as CauseOf}
-use Rattle.shim_grammar.specs.Machine.{Functions, Stack, Want, At, Cause, Unwanted, Past, Whole, run, wants}
+use Rattle.shim_grammar.specs.Machine.{Source, Stack, Want, At, Cause, Unwanted, Past, Whole, run, wants}
 use Rattle.shim_grammar.proofs.Gives.{Takes, Step, Free}
 use Rattle.shim_grammar.proofs.Runs.{run_on}
 use Rattle.shim_grammar.proofs.RunsStmt.{program_runs}
@@ -105,18 +105,18 @@ module _ (c d : Limits) (f : Cause) (x : Terminal) (s : List Terminal) (wanted :
   taken (y ∷ r) k w e = taken_there y r (wants k y w) e (taken r)
 
 -- within the limits the terminals up to and with x begin no program
-ends : (c : Limits) → Plain c → (f : Cause) (b : List Terminal) (x : Terminal) (s : List Terminal) → run c (b ++ x ∷ s) (Functions 0 ∷ []) nothing_read ≡ At f (x ∷ s) → Begins c (b ++ x ∷ []) → ⊥
+ends : (c : Limits) → Plain c → (f : Cause) (b : List Terminal) (x : Terminal) (s : List Terminal) → run c (b ++ x ∷ s) (Source ∷ []) nothing_read ≡ At f (x ∷ s) → Begins c (b ++ x ∷ []) → ⊥
 ends c p f b x s e (more, fs, d) =
     let d' = rw append_assoc at d in
     let e' = same_place c (until more c) f x s more
     (λ r limit n. until_same c p more (r ++ x ∷ s) (r ++ x ∷ more) limit n (omega (arith, length-append r (x ∷ more))))
-    b (Functions 0 ∷ []) nothing_read e in
+    b (Source ∷ []) nothing_read e in
     let w : Whole ≡ At f (x ∷ more) = sym (program_runs d') ∙ e' in
     cc
 
 -- a run that halts at a terminal reads no program
-pub none_derived : (c : Limits) (cause : Cause) (s : List Terminal) (x : Terminal) (behind : List Terminal) → run c s (Functions 0 ∷ []) nothing_read ≡ At cause (x ∷ behind)
-    → (fs : List Function) → Derives c s fs → ⊥
+pub none_derived : (c : Limits) (cause : Cause) (s : List Terminal) (x : Terminal) (behind : List Terminal) → run c s (Source ∷ []) nothing_read ≡ At cause (x ∷ behind)
+    → (p : ProgramTree) → Derives c s p → ⊥
 none_derived c f s x behind e fs d = let w : Whole ≡ At f (x ∷ behind) = sym (program_runs d) ∙ e in cc
 
 pub limits_plain : Plain limits
@@ -201,20 +201,20 @@ module _ (sound : (c : Limits) (k : Stack) (x : Terminal) (w : Counts) → Step 
   viable c p [] k w = viable_here c k w []
   viable c p (x ∷ s) k w = viable_step c p k x w s (wants k x w) (λ d. sound d k x w) (viable c p s)
 
-  begins_of : (c : Limits) (s at : List Terminal) → (v : Viable c (Functions 0 ∷ []) nothing_read s at) → Begins c v.before
-  begins_of c s at v = (v.more, v.takes.2.0, subst (λ u. IsFunctions (until v.more c) 0 nothing_read (v.before ++ v.more) u v.takes.2.0) v.takes.3 v.takes.2.1)
+  begins_of : (c : Limits) (s at : List Terminal) → (v : Viable c (Source ∷ []) nothing_read s at) → Begins c v.before
+  begins_of c s at v = (v.more, v.takes.2.0, subst (λ u. IsProgram (until v.more c) nothing_read (v.before ++ v.more) u v.takes.2.0) v.takes.3 v.takes.2.1)
 
-  pub begins_whole : (c : Limits) → Plain c → (s : List Terminal) → run c s (Functions 0 ∷ []) nothing_read ≡ Whole → Begins c s
+  pub begins_whole : (c : Limits) → Plain c → (s : List Terminal) → run c s (Source ∷ []) nothing_read ≡ Whole → Begins c s
   begins_whole c p s e =
-      let v = viable c p s (Functions 0 ∷ []) nothing_read in
+      let v = viable c p s (Source ∷ []) nothing_read in
       let w : s ≡ v.before = v.whole ∙ ap (λ h. v.before ++ left_of h) e ∙ append-nil v.before in
       subst (λ u. Begins c u) (sym w) (begins_of c s _ v)
 
-  unexpected : (b : List Terminal) (x : Terminal) (s : List Terminal) → run limits (b ++ x ∷ s) (Functions 0 ∷ []) nothing_read ≡ At Unwanted (x ∷ s) → Begins no_limits (b ++ x ∷ []) → ⊥
+  unexpected : (b : List Terminal) (x : Terminal) (s : List Terminal) → run limits (b ++ x ∷ s) (Source ∷ []) nothing_read ≡ At Unwanted (x ∷ s) → Begins no_limits (b ++ x ∷ []) → ⊥
   unexpected b x s e = ends no_limits no_limits_plain Unwanted b x s
-      (looser limits no_limits Unwanted (x ∷ s) (λ u limit n h. refl) (λ u limit n h. absurd (cc)) (b ++ x ∷ s) (Functions 0 ∷ []) nothing_read e)
+      (looser limits no_limits Unwanted (x ∷ s) (λ u limit n h. refl) (λ u limit n h. absurd (cc)) (b ++ x ∷ s) (Source ∷ []) nothing_read e)
 
-  pub cause : (f : Cause) (b : List Terminal) (x : Terminal) (s : List Terminal) → run limits (b ++ x ∷ s) (Functions 0 ∷ []) nothing_read ≡ At f (x ∷ s) → CauseOf (fault_of f x) b x
+  pub cause : (f : Cause) (b : List Terminal) (x : Terminal) (s : List Terminal) → run limits (b ++ x ∷ s) (Source ∷ []) nothing_read ≡ At f (x ∷ s) → CauseOf (fault_of f x) b x
   cause Unwanted b (Broken kind p) s e = refl
   cause Unwanted b (Name y p) s e = (λ kind q h. absurd (cc), unexpected b (Name y p) s e)
   cause Unwanted b (Number n p) s e = (λ kind q h. absurd (cc), unexpected b (Number n p) s e)
@@ -224,20 +224,20 @@ module _ (sound : (c : Limits) (k : Stack) (x : Terminal) (w : Counts) → Step 
   cause Unwanted b (End p) s e = (λ kind q h. absurd (cc), unexpected b (End p) s e)
   cause (Past Nesting) b x s e = (
     begins_whole no_limits no_limits_plain (b ++ x ∷ [])
-        (taken limits no_limits (Past Nesting) x s (λ g. cc) (λ u v limit n h. refl) (λ v limit n g. refl) (λ v what n. refl) b (Functions 0 ∷ []) nothing_read e),
+        (taken limits no_limits (Past Nesting) x s (λ g. cc) (λ u v limit n h. refl) (λ v limit n g. refl) (λ v what n. refl) b (Source ∷ []) nothing_read e),
     ends nesting_alone nesting_plain (Past Nesting) b x s
-        (looser limits nesting_alone (Past Nesting) (x ∷ s) (λ u. nesting_passes u u) nesting_same (b ++ x ∷ s) (Functions 0 ∷ []) nothing_read e),
+        (looser limits nesting_alone (Past Nesting) (x ∷ s) (λ u. nesting_passes u u) nesting_same (b ++ x ∷ s) (Source ∷ []) nothing_read e),
   )
   cause (Past (Count what)) b x s e = (
     begins_whole nesting_alone nesting_plain (b ++ x ∷ [])
-        (taken limits nesting_alone (Past (Count what)) x s (λ g. cc) nesting_passes (nesting_no_number what) (λ v other n. refl) b (Functions 0 ∷ []) nothing_read e),
+        (taken limits nesting_alone (Past (Count what)) x s (λ g. cc) nesting_passes (nesting_no_number what) (λ v other n. refl) b (Source ∷ []) nothing_read e),
     ends (nesting_and what) (nesting_and_plain what) (Past (Count what)) b x s
-        (looser limits (nesting_and what) (Past (Count what)) (x ∷ s) (λ u. nesting_and_passes what u u) (nesting_and_same what) (b ++ x ∷ s) (Functions 0 ∷ []) nothing_read e),
+        (looser limits (nesting_and what) (Past (Count what)) (x ∷ s) (λ u. nesting_and_passes what u u) (nesting_and_same what) (b ++ x ∷ s) (Source ∷ []) nothing_read e),
   )
 
-  pub stops : (f : Cause) (s : List Terminal) (x : Terminal) (behind : List Terminal) → run limits s (Functions 0 ∷ []) nothing_read ≡ At f (x ∷ behind) → IsFault (fault_of f x) (place_of x) s
+  pub stops : (f : Cause) (s : List Terminal) (x : Terminal) (behind : List Terminal) → run limits s (Source ∷ []) nothing_read ≡ At f (x ∷ behind) → IsFault (fault_of f x) (place_of x) s
   stops f s x behind e =
-      let v = viable limits limits_plain s (Functions 0 ∷ []) nothing_read in
+      let v = viable limits limits_plain s (Source ∷ []) nothing_read in
       let w : s ≡ v.before ++ x ∷ behind = v.whole ∙ ap (λ h. v.before ++ left_of h) e in
       record {
         before = v.before;
@@ -246,5 +246,5 @@ module _ (sound : (c : Limits) (k : Stack) (x : Terminal) (w : Counts) → Step 
         whole = w;
         place_is = refl;
         begins = begins_of limits s _ v;
-        cause = cause f v.before x behind (subst (λ u. run limits u (Functions 0 ∷ []) nothing_read ≡ At f (x ∷ behind)) w e);
+        cause = cause f v.before x behind (subst (λ u. run limits u (Source ∷ []) nothing_read ≡ At f (x ∷ behind)) w e);
       }

@@ -1,5 +1,5 @@
 -- The machine runs through what the grammar derives: declarations, statements and functions.
-use Rattle.std.proofs.Common.{◌≡◌, ℕ, suc, List, [], ◌∷◌, true, false, Option, refl, ◌∙◌}
+use Rattle.std.proofs.Common.{◌≡◌, ℕ, suc, List, [], ◌∷◌, true, false, Option, Some, None, refl, ap, ◌∙◌}
 use Rattle.shim_base.specs.Tokens.{Place}
 use Rattle.shim_base.specs.declared.token.Sign.TheVariants as g
 use Rattle.shim_base.specs.declared.types.Ty.{Ty}
@@ -9,12 +9,13 @@ use Rattle.shim_syntax.specs.declared.tree.Stmt.{Stmt}
 use Rattle.shim_syntax.specs.declared.tree.Branch.{Branch as BranchTree}
 use Rattle.shim_syntax.specs.declared.tree.Param.{Param}
 use Rattle.shim_syntax.specs.declared.tree.Function.{Function}
-use Rattle.shim_syntax.specs.Terminals.{Terminal, Sign, first}
+use Rattle.shim_syntax.specs.declared.tree.Program.{Program as ProgramTree}
+use Rattle.shim_syntax.specs.Terminals.{Terminal, Sign, first, is_shim, is_two}
 use Rattle.shim_syntax.specs.Limits.{Nesting, Count, Limits}
 use Rattle.shim_syntax.specs.Grammar as is
 use Rattle.shim_syntax.specs.Grammar.{Counts, nothing_read, new_function, with_local, new_body, at_level, behind_body, as_branch, is_else, is_par, IsDeclared, IsDeclarations, IsFirst, IsStep, IsBlock, IsStmt, IsBody, IsPlain, IsBranches, IsBranch, IsParam, IsParams, IsMoreParams, IsThrows, IsMoreThrows, IsFunction, IsFunctions, Derives}
 use Rattle.shim_grammar.specs.declared.punctuation.Punctuation.TheVariants as punctuation
-use Rattle.shim_grammar.specs.Machine.{Fixed, Word, Declarations, MoreDeclarations, Declaration, Statement, Body, Block, First, Test, Step, Else, AfterBody, Pars, Branch, Parameters, Throws, MoreParameters, Parameter, MoreThrows, Functions, Stack, Halt, Whole, statement, run}
+use Rattle.shim_grammar.specs.Machine.{Fixed, Word, Declarations, MoreDeclarations, Declaration, Statement, Body, Block, First, Test, Step, Else, AfterBody, Pars, Branch, Parameters, Throws, MoreParameters, Parameter, MoreThrows, Functions, Stack, Want, Halt, At, Unwanted, judge, wants, go, Whole, statement, run, Source, Version}
 use Rattle.shim_grammar.proofs.Runs.{run_on, asked, is_left_brace, is_right_brace, else_skips, pars_skips, after_body_skips, block_skips, body_skips, whole_runs, arguments_runs, equal_runs, test_runs}
 
 pub declared_runs : {c : Limits} {l : ℕ} {w : Counts} {s r : List Terminal} {x : List ℕ} {p : Place} {value : Option Expr} (v : Counts) → IsDeclared c l v w s (Sign g.Semicolon p ∷ r) x value
@@ -189,6 +190,28 @@ pub functions_runs : {c : Limits} {n : ℕ} {v : Counts} {s r : List Terminal} {
 functions_runs {v = v} is.program_end = (v, refl)
 functions_runs {n = n} (is.another_function h d t) = let e = functions_runs t in (e.0, function_runs d n h [] ∙ e.1)
 
+-- functions begin as a source of version 1 does
+source_begins : {c : Limits} {v : Counts} {s r : List Terminal} {fs : List Function} → IsFunctions c 0 v s r fs → run c s (Source ∷ []) v ≡ run c s (Functions 0 ∷ []) v
+source_begins is.program_end = refl
+source_begins (is.another_function h (is.function ps ts b) t) = refl
+
+-- what is wanted of a header is taken
+after : Limits → Terminal → List Terminal → Option Want → Halt
+after c x s o = elim o [ None ↦ At Unwanted (x ∷ s) | Some n ↦ judge c (x ∷ s) n.asks (run c s n.stack n.counts) ]
+
+shim_wanted : (x : Terminal) (k : Stack) (w : Counts) → is_shim x ≡ true → wants (Source ∷ k) x w ≡ go (Version ∷ Fixed punctuation.Semicolon ∷ Functions 0 ∷ k) w
+shim_wanted x k w e = rw e refl
+
+two_wanted : (x : Terminal) (k : Stack) (w : Counts) → is_two x ≡ true → wants (Version ∷ k) x w ≡ go k w
+two_wanted x k w e = rw e refl
+
+header_runs : (c : Limits) (x y : Terminal) (p : Place) (s : List Terminal) (w : Counts) → is_shim x ≡ true → is_two y ≡ true
+    → run c (x ∷ y ∷ Sign g.Semicolon p ∷ s) (Source ∷ []) w ≡ run c s (Functions 0 ∷ []) w
+unfolding after
+header_runs c x y p s w shim two =
+    ap (after c x (y ∷ Sign g.Semicolon p ∷ s)) (shim_wanted x [] w shim) ∙ ap (after c y (Sign g.Semicolon p ∷ s)) (two_wanted y (Fixed punctuation.Semicolon ∷ Functions 0 ∷ []) w two)
+
 -- the terminals of a program are all taken
-pub program_runs : {c : Limits} {s : List Terminal} {fs : List Function} → Derives c s fs → run c s (Functions 0 ∷ []) nothing_read ≡ Whole
-program_runs d = (functions_runs d).1
+pub program_runs : {c : Limits} {s : List Terminal} {p : ProgramTree} → Derives c s p → run c s (Source ∷ []) nothing_read ≡ Whole
+program_runs (is.version_1 d) = source_begins d ∙ (functions_runs d).1
+program_runs {c = c} (is.version_2 {x = x} {y = y} {p = p} {s = s} shim two d) = header_runs c x y p s nothing_read shim two ∙ (functions_runs d).1

@@ -6,7 +6,7 @@ use Rattle.shim_base.specs.declared.token.Sign.{Sign as SignOf}
 use Rattle.shim_base.specs.declared.token.Sign.TheVariants as g
 use Rattle.shim_syntax.specs.declared.limits.Many.TheVariants as m
 use Rattle.shim_syntax.specs.declared.tree.Sort.TheVariants.{Value}
-use Rattle.shim_syntax.specs.Terminals.{Terminal, Name, Number, Sort, Key, Sign, End}
+use Rattle.shim_syntax.specs.Terminals.{Terminal, Name, Number, Sort, Key, Sign, End, is_shim, is_two}
 use Rattle.shim_syntax.specs.Limits.{Limit, Nesting, Count, Limits}
 use Rattle.shim_syntax.specs.Grammar.{Counts, new_function, with_local, new_expression, with_operator, at_level, new_body, behind_body, as_branch}
 use Rattle.shim_grammar.specs.declared.punctuation.Punctuation.{Punctuation}
@@ -30,6 +30,8 @@ pub data Symbol : Type 0 where
   -- behind so many branches; the branch of that number
   Pars Branch : ℕ → ℕ → Symbol
   Parameters AfterSort Throws : Symbol
+  -- a whole program; the number of its version
+  Source Version : Symbol
   MoreParameters Parameter Thrown MoreThrows Functions : ℕ → Symbol
 
 abbrev pub Stack : Type 0
@@ -254,6 +256,13 @@ functions (End p) n k w = go k w
 functions (Key k.Void p) n k w = ask (Count m.Functions) (suc n) (go (Word ∷ Fixed punctuation.LeftParen ∷ Parameters ∷ Throws ∷ Block 1 ∷ Functions (suc n) ∷ k) (new_function w))
 functions _ n k w = None
 
+-- `shim` begins a text of version 2
+abbrev pub source : Terminal → Stack → Counts → Option Want
+source x k w = if is_shim x then go (Version ∷ Fixed punctuation.Semicolon ∷ Functions 0 ∷ k) w else functions x 0 k w
+
+abbrev pub version : Terminal → Stack → Counts → Option Want
+version x k w = if is_two x then go k w else None
+
 abbrev pub wants : Stack → Terminal → Counts → Option Want
 wants [] x w = None
 wants (Fixed f ∷ k) x w = fixed f x k w
@@ -291,6 +300,8 @@ wants (Parameter n ∷ k) x w = parameter x n k w
 wants (Thrown n ∷ k) x w = thrown x n k w
 wants (MoreThrows n ∷ k) x w = more_throws x n k w
 wants (Functions n ∷ k) x w = functions x n k w
+wants (Source ∷ k) x w = source x k w
+wants (Version ∷ k) x w = version x k w
 
 -- why the machine halts at a terminal: nothing wants it, or a limit is passed
 pub data Cause : Type 0 where

@@ -1,7 +1,8 @@
 // Laws of the grammar.
-ghost use Rattle.std.specs.Prelude.{ℕ, List, ◌≡◌};
+ghost use Rattle.std.specs.Prelude.{ℕ, List, ◌≡◌, ◌⊎◌, true, false};
 ghost use Rattle.shim_base.specs.Tokens.{Place};
 ghost use Rattle.shim_syntax.specs.declared.tree.Program.{Program};
+ghost use Rattle.shim_syntax.specs.Terminals.{begins_two};
 ghost use Rattle.shim_syntax.specs.Text.{IsText, Fault, HasFault};
 
 /// A text is that of one program at most.
@@ -17,4 +18,10 @@ pub fn one_fault()
 /// No text is the text of a program and has a fault as well.
 pub fn never_both()
     ensures { (bytes : List ℕ) (p : Program) (f : Fault) (place : Place) → IsText bytes p → HasFault bytes f place → ⊥ }
+{}
+
+/// A text that begins with `shim`, a number of value 2 and `;` is that of a program of version 2, and any
+/// other is that of one of version 1.
+pub fn beginning_tells_the_version()
+    ensures { (bytes : List ℕ) (p : Program) (text : IsText bytes p) → ((begins_two text.terminals ≡ true) × (p.version ≡ 2)) ⊎ ((begins_two text.terminals ≡ false) × (p.version ≡ 1)) }
 {}

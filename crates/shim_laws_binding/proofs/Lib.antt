@@ -14,6 +14,7 @@ pub mod Known
 pub mod NamedFunctions
 pub mod OccurrenceSteps
 pub mod NamesRead
+pub mod NewWord
 pub mod ScopeExprs
 pub mod ScopeParts
 pub mod ScopeStmts

@@ -1,6 +1,8 @@
 -- What the grammar reads has the names of the terminals that are taken for it, in their order.
-use Rattle.std.proofs.Common.{ℕ, ◌≡◌, ◌∙◌, List, [], ◌∷◌, ◌++◌, Option, refl, sym, ap, append_assoc}
+use Rattle.std.proofs.Common.{ℕ, ◌≡◌, ◌∙◌, List, [], ◌∷◌, ◌++◌, true, Option, refl, sym, ap, append_assoc}
 use Rattle.std.proofs.lemmas.List.{append-nil}
+use Rattle.shim_base.specs.Tokens.{Place}
+use Rattle.shim_base.specs.declared.token.Sign.TheVariants.{Semicolon}
 use Rattle.shim_base.specs.declared.types.Ty.{Ty}
 use Rattle.shim_base.specs.declared.operators.UnOp.TheVariants.{Neg, Not, Flip}
 use Rattle.shim_syntax.specs.declared.tree.Expr.{Expr}
@@ -13,14 +15,14 @@ use Rattle.shim_syntax.specs.declared.tree.Call.{Call}
 use Rattle.shim_syntax.specs.declared.tree.Param.{Param}
 use Rattle.shim_syntax.specs.declared.tree.Function.{Function}
 use Rattle.shim_syntax.specs.declared.tree.Program.{Program}
-use Rattle.shim_syntax.specs.Terminals.{Terminal, Name}
+use Rattle.shim_syntax.specs.Terminals.{Terminal, Name, Sign, is_shim, is_two}
 use Rattle.shim_syntax.specs.Limits.{Limits}
 use Rattle.shim_syntax.specs.Text.{IsText}
 use Rattle.shim_syntax.specs.Grammar as is
-use Rattle.shim_syntax.specs.Grammar.{Counts, operator_of_sign, IsExpr, IsChain, IsArguments, IsMoreArguments, IsDeclared, IsDeclarations, IsFirst, IsTest, IsStep, IsBlock, IsStmt, IsBody, IsPlain, IsBranches, IsBranch, IsParam, IsParams, IsMoreParams, IsThrows, IsMoreThrows, IsFunction, IsFunctions}
+use Rattle.shim_syntax.specs.Grammar.{Counts, operator_of_sign, IsExpr, IsChain, IsArguments, IsMoreArguments, IsDeclared, IsDeclarations, IsFirst, IsTest, IsStep, IsBlock, IsStmt, IsBody, IsPlain, IsBranches, IsBranch, IsParam, IsParams, IsMoreParams, IsThrows, IsMoreThrows, IsFunction, IsFunctions, Derives}
 use Rattle.shim_syntax.specs.Names.{Texts, param_names}
 use Rattle.shim_syntax.specs.Occurrences.{in_expr, in_exprs, in_option, in_call, in_stmt, in_function, identifiers}
-use Rattle.shim_laws_binding.specs.TextNames.{names_among}
+use Rattle.shim_laws_binding.specs.TextNames.{names_among, of_functions}
 use Rattle.shim_laws_binding.proofs.OccurrenceSteps.{in_number, in_variable, in_unary, in_binary, in_what, in_branch, in_stmts, in_branches, in_one, in_single, in_declare, in_assign, in_next, in_next_assign, in_assign_next, in_get, in_put, in_if, in_while, in_for, in_block, in_called, in_try, in_throw, in_par, in_block_branch, in_call_branch}
 
 -- the terminals s begin with those of the names t, and r follows
@@ -188,5 +190,17 @@ functions_read : {c : Limits} {n : ℕ} {v : Counts} {s r : List Terminal} {fs :
 functions_read is.program_end = refl
 functions_read (is.another_function {s = s} {m = m} {r = r} {f = f} {fs = fs} h d t) = one_then (in_function f) (identifiers fs) s m r (function_read d) (functions_read t)
 
-pub identifiers_are_the_names_of_the_text : (bytes : List ℕ) (p : Program) (text : IsText bytes p) → identifiers p.functions ≡ names_among text.terminals
-identifiers_are_the_names_of_the_text bytes p text = sym (functions_read text.derives ∙ append-nil (identifiers p.functions))
+-- no function begins as version 2 does
+no_header : {c : Limits} {n : ℕ} {v : Counts} {s r : List Terminal} {fs : List Function} → IsFunctions c n v s r fs → of_functions s ≡ s
+no_header is.program_end = refl
+no_header (is.another_function h (is.function p t b) f) = refl
+
+header_passed : (x y : Terminal) (p : Place) (s : List Terminal) → is_shim x ≡ true → is_two y ≡ true → of_functions (x ∷ y ∷ Sign Semicolon p ∷ s) ≡ s
+header_passed x y p s shim two = rw (shim, two) refl
+
+program_read : {c : Limits} {ts : List Terminal} {p : Program} → Derives c ts p → names_among (of_functions ts) ≡ identifiers p.functions ++ []
+program_read (is.version_1 d) = ap names_among (no_header d) ∙ functions_read d
+program_read (is.version_2 {x = x} {y = y} {p = p} {s = s} shim two d) = ap names_among (header_passed x y p s shim two) ∙ functions_read d
+
+pub identifiers_are_the_names_of_the_text : (bytes : List ℕ) (p : Program) (text : IsText bytes p) → identifiers p.functions ≡ names_among (of_functions text.terminals)
+identifiers_are_the_names_of_the_text bytes p text = sym (program_read text.derives ∙ append-nil (identifiers p.functions))

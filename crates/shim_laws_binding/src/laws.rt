@@ -1,13 +1,17 @@
 // Laws of what binding comes to.
-ghost use Rattle.std.specs.Prelude.{ℕ, List, Ok, Some, None, ◌≡◌};
+ghost use Rattle.std.specs.Prelude.{ℕ, List, Ok, Some, None, true, false, ◌≡◌, ◌↔◌};
+ghost use Rattle.shim_base.specs.declared.types.Ty.{Ty};
 ghost use Rattle.shim_scopes.specs.declared.form.Form.{Form};
 ghost use Rattle.shim_scopes.specs.declared.scope.Handled.{Handled};
 ghost use Rattle.shim_scopes.specs.Binding.{exception_of};
+ghost use Rattle.shim_scopes.specs.Calls.{same_type};
 ghost use Rattle.shim_scopes.specs.Functions.{bind_program};
+ghost use Rattle.shim_syntax.specs.Distinct.{IsNew};
 ghost use Rattle.shim_syntax.specs.Occurrences.{identifiers};
+ghost use Rattle.shim_syntax.specs.Terminals.{new_word};
 ghost use Rattle.shim_syntax.specs.Text.{IsText};
 ghost use Rattle.shim_syntax.specs.declared.tree.Program.{Program};
-ghost use Rattle.shim_laws_binding.specs.TextNames.{names_among};
+ghost use Rattle.shim_laws_binding.specs.TextNames.{has_new_type, names_among, of_functions};
 ghost use Rattle.shim_laws_binding.specs.HandedOn.{AllHandOn};
 ghost use Rattle.shim_laws_binding.specs.Innermost.{HasNone, IsNumberOfInnermost, exception_name};
 ghost use Rattle.shim_laws_binding.specs.LexicalScope.{BindsProgram};
@@ -49,9 +53,25 @@ pub fn slots_are_in_text_order()
     ensures { (p : Program) (form : Form) → bind_program p ≡ Ok form → AreInTextOrder form.names p.functions form.functions }
 {}
 
-/// The identifiers of a program, one after another, are the names of its text in their order.
+/// The identifiers of a program, one after another, are the names of its text in their order. The word
+/// with which a text of version 2 begins is none of them.
 pub fn identifiers_are_the_names_of_the_text()
-    ensures { (bytes : List ℕ) (p : Program) (text : IsText bytes p) → identifiers p.functions ≡ names_among text.terminals }
+    ensures { (bytes : List ℕ) (p : Program) (text : IsText bytes p) → identifiers p.functions ≡ names_among (of_functions text.terminals) }
+{}
+
+/// In a text of version 2 the word of the type that this version adds is no identifier.
+pub fn new_word_is_no_identifier()
+    ensures { (bytes : List ℕ) (p : Program) → IsText bytes p → p.version ≡ 2 → IsNew new_word (identifiers p.functions) }
+{}
+
+/// In a text of version 1 nothing is the type that version 2 adds.
+pub fn version_1_has_no_new_type()
+    ensures { (bytes : List ℕ) (p : Program) (text : IsText bytes p) → p.version ≡ 1 → has_new_type text.terminals ≡ false }
+{}
+
+/// Where types are compared, two are the same exactly where they are equal.
+pub fn same_types_are_equal()
+    ensures { (a b : Ty) → (same_type a b ≡ true) ↔ (a ≡ b) }
 {}
 
 /// The number of an exception is that of the innermost one in force that has the name.

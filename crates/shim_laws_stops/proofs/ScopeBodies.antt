@@ -10,6 +10,7 @@ use Rattle.shim_syntax.specs.declared.tree.Call.{Call as CallOf}
 use Rattle.shim_syntax.specs.declared.tree.Expr.{Expr}
 use Rattle.shim_syntax.specs.declared.tree.Function.{Function}
 use Rattle.shim_syntax.specs.declared.tree.Param.{Param}
+use Rattle.shim_syntax.specs.declared.tree.Program.{Program}
 use Rattle.shim_syntax.specs.declared.tree.Sort.{Sort}
 use Rattle.shim_syntax.specs.declared.tree.Sort.TheVariants.{Value, Input, Output}
 use Rattle.shim_syntax.specs.declared.tree.Stmt.{Stmt, fold-roll-Stmt}
@@ -393,5 +394,6 @@ functions_text : (w : Whole) {n : ℕ} {v : Counts} {s r : List Terminal} {fs : 
 functions_text w is.program_end = tt
 functions_text w (is.another_function h d t) = (function_text w d, functions_text w t)
 
-pub program_text : (w : Whole) {ts : List Terminal} {fs : List Function} → Derives limits ts fs → Each (FunctionText w) fs
-program_text w d = functions_text w d
+pub program_text : (w : Whole) {ts : List Terminal} {p : Program} → Derives limits ts p → Each (FunctionText w) p.functions
+program_text w (is.version_1 d) = functions_text w d
+program_text w (is.version_2 shim two d) = functions_text w d

@@ -7,8 +7,9 @@ use Rattle.shim_lexer.specs.declared.LexFault.{LexFault}
 use Rattle.shim_lexer.specs.declared.Token.{Token as Given}
 use Rattle.shim_lexer.specs.Lexing.{Lexing, token_of, fault_of, behind, Finds, Answers}
 use Rattle.shim_parser.specs.declared.token.Token.{Token as Read}
+use Rattle.shim_parser.specs.Cutting.{IsCut}
 use Rattle.shim_parser.specs.TokenView.{token_view, token_views}
-use Rattle.shim_syntax.specs.Terminals.{Terminal, End, Broken, IsRead, of_token, of_tokens, of_end}
+use Rattle.shim_syntax.specs.Terminals.{Terminal, End, Broken, of_token, of_tokens, of_end}
 
 -- the text up to where the lexer stands is cut into the tokens, which are these terminals: each cutting of the rest is one of the text
 pub record IsCutTo (text : List ℕ) (terminals : List Terminal) (lexing : Lexing) : Type 0 where
@@ -40,7 +41,7 @@ map_append : (xs ys : List Token) → map of_token (xs ++ ys) ≡ map of_token x
 map_append [] ys = refl
 map_append (x ∷ xs) ys = ap (λ u. of_token x ∷ u) (map_append xs ys)
 
-ended : (text : List ℕ) (ts : List Terminal) (lexing : Lexing) (end : Option Fault) (c : IsCutTo text ts lexing) → Cuts start text (c.tokens ++ []) end → IsRead text (ts ++ of_end (after start text) end ∷ [])
+ended : (text : List ℕ) (ts : List Terminal) (lexing : Lexing) (end : Option Fault) (c : IsCutTo text ts lexing) → Cuts start text (c.tokens ++ []) end → IsCut text (ts ++ of_end (after start text) end ∷ [])
 ended text ts lexing end c d = record {
   tokens = c.tokens;
   end = end;
@@ -49,12 +50,12 @@ ended text ts lexing end c d = record {
 }
 
 -- where only spacing and comments are left, the end follows
-pub cut_whole : (text : List ℕ) (ts : List Terminal) (old new : Lexing) → IsCutTo text ts old → Answers old.fault old new (Ok None) → IsRead text (ts ++ End (after start text) ∷ [])
+pub cut_whole : (text : List ℕ) (ts : List Terminal) (old new : Lexing) → IsCutTo text ts old → Answers old.fault old new (Ok None) → IsCut text (ts ++ End (after start text) ∷ [])
 cut_whole text ts old new h a = ended text ts old None h (h.joins [] None (found_by text ts old new (Ok None) h a).found)
 
 -- where a fault stands, it ends the terminals
 pub cut_broken : (text : List ℕ) (ts : List Terminal) (old new : Lexing) (f : LexFault) → IsCutTo text ts old → Answers old.fault old new (Err f)
-    → IsRead text (ts ++ Broken f.kind (record { at = f.at; line = f.line }) ∷ [])
+    → IsCut text (ts ++ Broken f.kind (record { at = f.at; line = f.line }) ∷ [])
 cut_broken text ts old new f h a = ended text ts old (Some (fault_of f)) h (h.joins [] (Some (fault_of f)) (found_by text ts old new (Err f) h a).found)
 
 pub cut_more : (text : List ℕ) (ts us : List Terminal) (old new : Lexing) (t : Given) → IsCutTo text ts old → Answers old.fault old new (Ok (Some t)) → us ≡ ts ++ of_token (token_of text t) ∷ [] → IsCutTo text us new

@@ -18,7 +18,7 @@ use Rattle.shim_parser.specs.declared.terminal.Terminal as read
 use Rattle.shim_parser.specs.declared.terminal.Terminal.TheVariants as here
 use Rattle.shim_parser.specs.TerminalView.{terminal_view}
 use Rattle.shim_parser.specs.declared.fault.ParseFault.{ParseFault}
-use Rattle.shim_parser.specs.Functions.{is_void, is_end, IsParameters, IsThrowsHere, IsFunctionBehind, IsProgram}
+use Rattle.shim_parser.specs.Functions.{is_void, is_end, IsParameters, IsThrowsHere, IsFunctionBehind, AreAll}
 use Rattle.shim_parser.specs.Parts.{IsNameBefore}
 use Rattle.shim_parser.specs.Reading.{Reading, Fails, counted, is_last}
 use Rattle.shim_parser.proofs.Exits.{Leads, fails_as, fails_under}
@@ -74,7 +74,7 @@ end_is (End p) h = (refl, refl)
 end_is _ h = absurd (cc)
 
 module _ (a b : Reading) (n : ℕ) (fs : List Function) (c : FunctionsSoFar a b n fs) where
-  pub functions_read : is_end (first b.rest) ≡ true → (is_last (first b.rest) ≡ true → b.rest ≡ first b.rest ∷ []) → IsProgram a.counts b.counts a.rest b.rest fs
+  pub functions_read : is_end (first b.rest) ≡ true → (is_last (first b.rest) ≡ true → b.rest ≡ first b.rest ∷ []) → AreAll a.counts b.counts a.rest b.rest fs
   functions_read h l =
       let e = end_is (first b.rest) h in
       let s : b.rest ≡ End (place_of (first b.rest)) ∷ [] = l e.1 ∙ ap (λ u. u ∷ []) e.0 in (

@@ -15,5 +15,7 @@ pub mod NestedExits
 pub mod StatementExits
 pub mod FunctionExits
 pub mod FunctionsExits
+pub mod Versions
+pub mod SourceExits
 pub mod ParserExits
 pub mod ReadBack

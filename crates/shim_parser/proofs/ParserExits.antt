@@ -8,22 +8,22 @@ use Rattle.shim_base.specs.declared.token.Keyword.TheVariants as k
 use Rattle.shim_base.specs.declared.LexKind.{LexKind}
 use Rattle.shim_base.specs.Tokens as cut
 use Rattle.shim_base.specs.Tokens.{Token, Place, Spells, IsWithinLimits, is_name, Cuts, start, after}
-use Rattle.shim_syntax.specs.declared.tree.Function.{Function}
 use Rattle.shim_syntax.specs.declared.tree.Program.{Program}
-use Rattle.shim_syntax.specs.Terminals.{Terminal, Broken, IsRead, of_keyword, of_kind, of_tokens, of_end, first, place_of}
+use Rattle.shim_syntax.specs.Terminals.{Terminal, Broken, IsRead, of_keyword, of_kind, of_tokens, of_end, begins_two, first, place_of}
 use Rattle.shim_syntax.specs.Grammar.{nothing_read}
 use Rattle.shim_syntax.specs.Text as text
 use Rattle.shim_syntax.specs.Text.{Fault, IsText, IsFault, HasFault}
-use Rattle.shim_grammar.specs.Machine.{Functions, Cause, Unwanted, At}
+use Rattle.shim_grammar.specs.Machine.{Source, Cause, Unwanted, At}
 use Rattle.shim_grammar.proofs.Place.{fault_of}
 use Rattle.shim_grammar.proofs.Faults.{stops}
 use Rattle.shim_grammar.proofs.Once.{one_program}
 use Rattle.shim_grammar.proofs.Exact.{text_or_fault, one_fault}
 use Rattle.shim_parser.specs.declared.fault.ParseFault.{ParseFault}
 use Rattle.shim_parser.specs.declared.fault.ParseFault.TheVariants.{Lex, Unexpected, TooDeep, TooMany, NoMemory}
-use Rattle.shim_parser.specs.Functions.{IsProgram}
 use Rattle.shim_parser.specs.Parsing.{Tells, IsFaultOf, Answers, IsOnly}
 use Rattle.shim_parser.specs.Reading.{Reading, Named, Proper, is_last, Blames, Halts, Fails}
+use Rattle.shim_parser.specs.Sources.{IsSource}
+use Rattle.shim_parser.proofs.Versions.{proper_seen}
 
 -- the tokens of a text are proper terminals
 some_bytes : (bytes : List ℕ) → IsTrue (is_name bytes) → 1 ≤ length bytes
@@ -67,15 +67,17 @@ end_is_last p None = refl
 end_is_last p (Some fault) = refl
 
 pub proper : (bytes : List ℕ) (ts : List Terminal) → IsRead bytes ts → Proper ts
-proper bytes ts r = subst Proper (sym r.are) (proper_cut r.cut (of_end (after start bytes) r.end) (end_is_last (after start bytes) r.end))
+proper bytes ts r =
+    let cut = of_tokens r.tokens (of_end (after start bytes) r.end) in
+    subst Proper (sym r.are) (proper_seen (begins_two cut) cut (proper_cut r.cut (of_end (after start bytes) r.end) (end_is_last (after start bytes) r.end)))
 
 pub proper_some : (ts : List Terminal) → Proper ts → (r : List Terminal) × (ts ≡ first ts ∷ r)
 proper_some [] p = absurd p
 proper_some (t ∷ ts) p = (ts, refl)
 
 -- a program that was read
-pub text_is : (bytes : List ℕ) (ts : List Terminal) (b : Reading) (fs : List Function) → IsRead bytes ts → IsProgram nothing_read b.counts ts b.rest fs → IsText bytes (record { functions = fs })
-text_is bytes ts b fs r p = record { terminals = ts; read = r; derives = p.2 }
+pub text_is : (bytes : List ℕ) (ts : List Terminal) (b : Reading) (program : Program) → IsRead bytes ts → IsSource nothing_read b.counts ts b.rest program → IsText bytes program
+text_is bytes ts b program r p = record { terminals = ts; read = r; derives = p.2 }
 
 -- a fault at which the reading stopped
 not_broken : (x : Terminal) → ((kind : LexKind) (p : Place) → x ≡ Broken kind p → ⊥) → fault_of Unwanted x ≡ text.Unexpected
@@ -83,11 +85,11 @@ not_broken (Broken kind p) h = absurd (h kind p refl)
 not_broken _ h = refl
 
 module _ (bytes : List ℕ) (ts : List Terminal) (r : IsRead bytes ts) (new : Reading) (left : List Terminal) (e : new.rest ≡ first new.rest ∷ left) where
-  has_fault : (fault : ParseFault) → Halts (Functions 0 ∷ []) (record { rest = ts; counts = nothing_read }) new fault
+  has_fault : (fault : ParseFault) → Halts (Source ∷ []) (record { rest = ts; counts = nothing_read }) new fault
       → (cause : Cause) × Blames fault cause (first new.rest) × HasFault bytes (fault_of cause (first new.rest)) (place_of (first new.rest))
   has_fault fault h = (h.cause, h.blames, (ts, r, stops h.cause ts (first new.rest) left (h.halts [] ∙ ap (λ s. At h.cause s) e)))
 
-  pub fault_answers : (fault : ParseFault) → Fails (Functions 0 ∷ []) (record { rest = ts; counts = nothing_read }) new fault → Answers bytes (Err fault)
+  pub fault_answers : (fault : ParseFault) → Fails (Source ∷ []) (record { rest = ts; counts = nothing_read }) new fault → Answers bytes (Err fault)
   fault_answers NoMemory h = tt
   fault_answers (Lex f) h = let w = has_fault (Lex f) h in let x = first new.rest in
       (fault_of w.0 x, place_of x, w.2, (ap (λ c. fault_of c x) w.1.0 ∙ ap (λ t. fault_of Unwanted t) w.1.1, ap place_of w.1.1))

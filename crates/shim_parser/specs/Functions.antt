@@ -56,5 +56,5 @@ abbrev pub IsFunctionBehind : ℕ → Counts → Counts → List Terminal → Li
 IsFunctionBehind line v w s r f = (u : Counts) (at : ℕ) → v ≡ new_function u → IsFunction limits u w (Key Void (record { at = at; line = line }) ∷ s) r f
 
 -- all of a program's functions, before the end of the text, which is left
-abbrev pub IsProgram : Counts → Counts → List Terminal → List Terminal → List Function → Type 0
-IsProgram v w s r fs = (p : Place) × (r ≡ End p ∷ []) × IsFunctions limits 0 v s [] fs
+abbrev pub AreAll : Counts → Counts → List Terminal → List Terminal → List Function → Type 0
+AreAll v w s r fs = (p : Place) × (r ≡ End p ∷ []) × IsFunctions limits 0 v s [] fs

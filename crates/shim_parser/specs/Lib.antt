@@ -10,3 +10,5 @@ pub mod Headers
 pub mod OpeningView
 pub mod Statements
 pub mod Functions
+pub mod Cutting
+pub mod Sources

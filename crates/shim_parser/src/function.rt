@@ -6,7 +6,7 @@ ghost use Rattle.shim_grammar.specs.declared.punctuation.Punctuation.TheVariants
 ghost use Rattle.shim_syntax.specs.Terminals.{first};
 ghost use Rattle.shim_syntax.specs.Grammar as grammar;
 ghost use Rattle.shim_parser.specs.Functions as pieces;
-ghost use Rattle.shim_parser.specs.Functions.{IsParameter, IsParameters, IsThrown, IsThrowsHere, IsFunctionBehind, IsProgram};
+ghost use Rattle.shim_parser.specs.Functions.{IsParameter, IsParameters, IsThrown, IsThrowsHere, IsFunctionBehind, AreAll};
 ghost use Rattle.shim_parser.specs.Reading.{Reads};
 
 use crate::fault::ParseFault;
@@ -198,7 +198,7 @@ fn function(alloc: Global, tokens: &mut Reader, line: u32) -> Result<Function, P
 
 /// All functions, up to the end of the text.
 pub(crate) fn functions(alloc: Global, tokens: &mut Reader) -> Result<List<Function>, ParseFault>
-    ensures { Reads IsProgram (machine.Functions 0 ∷ []) result tokens.old tokens.new }
+    ensures { Reads AreAll (machine.Functions 0 ∷ []) result tokens.old tokens.new }
 {
     let mut all = List::new(alloc);
     let mut count = 0;

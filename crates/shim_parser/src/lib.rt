@@ -16,10 +16,12 @@ mod parser;
 mod parts;
 mod plain;
 mod reader;
+mod source;
 mod stmt;
 mod terminal;
 mod text;
 mod token;
+mod version_two;
 
 pub use fault::ParseFault;
 pub use parser::parse;

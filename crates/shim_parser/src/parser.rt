@@ -3,8 +3,8 @@ ghost use Rattle.std.specs.Prelude.{◌≤◌, length};
 ghost use Rattle.shim_parser.specs.Parsing.{Answers, IsOnly};
 
 use crate::fault::ParseFault;
-use crate::function::functions;
 use crate::reader::Reader;
+use crate::source::source;
 use crate::text::tokens_of;
 use shim_syntax::Program;
 use std::alloc::Global;
@@ -19,8 +19,8 @@ pub fn parse(alloc: Global, text: &[u8]) -> Result<Program, ParseFault>
 {
     let all = tokens_of(alloc, text)?;
     let mut tokens = Reader::new(&all);
-    match functions(alloc, &mut tokens) {
-        Ok(functions) => Ok(Program { functions }),
+    match source(alloc, &mut tokens) {
+        Ok(program) => Ok(program),
         Err(fault) => {
             tokens.some_left();
             Err(fault)

@@ -40,6 +40,7 @@ same_type ty.Int32 ty.Int32 = true
 same_type ty.Uint8 ty.Uint8 = true
 same_type ty.Uint16 ty.Uint16 = true
 same_type ty.Uint32 ty.Uint32 = true
+same_type ty.Int64 ty.Int64 = true
 same_type _ _ = false
 
 abbrev pub same_sort : Sort → Sort → Bool

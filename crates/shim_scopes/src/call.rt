@@ -61,6 +61,7 @@ fn is_same_type(a: Ty, b: Ty) -> bool
         Ty::Uint8 => matches!(b, Ty::Uint8),
         Ty::Uint16 => matches!(b, Ty::Uint16),
         Ty::Uint32 => matches!(b, Ty::Uint32),
+        Ty::Int64 => matches!(b, Ty::Int64),
     }
 }
 

@@ -11,6 +11,7 @@ use Rattle.shim_syntax.specs.declared.tree.BranchWhat.{BranchWhat, BranchWhat-F,
 use Rattle.shim_syntax.specs.declared.tree.BranchWhat.TheVariants as br
 use Rattle.shim_syntax.specs.declared.tree.Param.{Param}
 use Rattle.shim_syntax.specs.declared.tree.Function.{Function}
+use Rattle.shim_syntax.specs.declared.tree.Program.{Program}
 use Rattle.shim_syntax.specs.Terminals.{Terminal}
 use Rattle.shim_syntax.specs.Limits.{limits}
 use Rattle.shim_syntax.specs.Grammar as is
@@ -289,5 +290,6 @@ functions_read : {n : ℕ} {v : Counts} {s r : List Terminal} {fs : List Functio
 functions_read is.program_end = tt
 functions_read (is.another_function h d t) = (function_read d, functions_read t)
 
-pub program_read : {ts : List Terminal} {fs : List Function} → Derives limits ts fs → AreNarrow fs
-program_read d = functions_read d
+pub program_read : {ts : List Terminal} {p : Program} → Derives limits ts p → AreNarrow p.functions
+program_read (is.version_1 d) = functions_read d
+program_read (is.version_2 shim two d) = functions_read d

@@ -1,10 +1,10 @@
 -- A text has no more terminals than bytes, but for its end, and its program is no larger.
 use Rattle.std.proofs.Common.{ℕ, suc, ◌≡◌, ◌≤◌, List, [], ◌∷◌, ◌++◌, Option, length, ap, ◌∙◌, arith}
-use Rattle.std.proofs.lemmas.List.{length-append}
+use Rattle.std.proofs.lemmas.List.{length-append, length-map}
 use Rattle.shim_base.specs.Tokens.{Token, Place, Fault, Passes, spacing, line_comment, block_comment, Cuts, ended, passed, token, faulty, block_closer}
 use Rattle.shim_base.proofs.Cutting.{first_takes}
 use Rattle.shim_syntax.specs.declared.tree.Program.{Program}
-use Rattle.shim_syntax.specs.Terminals.{Terminal, of_tokens, IsRead}
+use Rattle.shim_syntax.specs.Terminals.{Terminal, of_tokens, of_version, IsRead}
 use Rattle.shim_syntax.specs.Text.{IsText}
 use Rattle.shim_syntax.specs.Sizes.{functions_size}
 use Rattle.shim_syntax.specs.ShortText.{HasText}
@@ -29,7 +29,7 @@ with_last (t ∷ tokens) last = omega (arith, with_last tokens last)
 
 terminals_read : (bytes : List ℕ) (ts : List Terminal) → IsRead bytes ts → length ts ≤ suc (length bytes)
 terminals_read bytes ts r =
-    let long : length ts ≡ suc (length r.tokens) = ap (λ (l : List Terminal). length l) r.are ∙ with_last r.tokens _ in
+    let long : length ts ≡ suc (length r.tokens) = ap (λ (l : List Terminal). length l) r.are ∙ length-map (of_tokens r.tokens _) (of_version _) ∙ with_last r.tokens _ in
     omega (arith, long, tokens_cut _ bytes r.tokens r.end r.cut)
 
 pub text_size : (bytes : List ℕ) (p : Program) → IsText bytes p → functions_size p.functions ≤ suc (length bytes)

@@ -18,7 +18,7 @@ use Rattle.shim_syntax.specs.Distinct.{IsNew, AreDistinct}
 abbrev Keeps : Adds → Type 0
 Keeps f = (known : Texts) → AreDistinct known → AreDistinct (f known)
 
-is_new_behind : (y x : List ℕ) (known : Texts) → IsNew y known → (x ≡ y → ⊥) → IsNew y (known ++ x ∷ [])
+pub is_new_behind : (y x : List ℕ) (known : Texts) → IsNew y known → (x ≡ y → ⊥) → IsNew y (known ++ x ∷ [])
 is_new_behind y x [] h other = (other, tt)
 is_new_behind y x (n ∷ ns) h other = (h.0, is_new_behind y x ns h.1 other)
 
@@ -30,7 +30,7 @@ not_found_by : (x n : List ℕ) (ns : Texts) → (find (λ m. bytes_eq m x) ns �
 not_found_by x n ns more (inl e) h = absurd (cc (e, h))
 not_found_by x n ns more (inr e) h = (λ same. absurd (cc (e, (bytes_eq-Decides n x).1 same)), more (rw e at h))
 
-not_found : (x : List ℕ) (ns : Texts) → find (λ m. bytes_eq m x) ns ≡ None → IsNew x ns
+pub not_found : (x : List ℕ) (ns : Texts) → find (λ m. bytes_eq m x) ns ≡ None → IsNew x ns
 not_found x [] h = tt
 not_found x (n ∷ ns) h = not_found_by x n ns (not_found x ns) (cases_Bool (bytes_eq n x)) h
 

@@ -42,7 +42,7 @@ IsBare l v w x = IsReadFrom (expr_shown x) l v w x
 pub record IsReadBack (n l : ℕ) (v w : Counts) (s r : List Terminal) (x : Expr) : Type 0 where
   pub deeper : v.deepest ≤ w.deepest
   pub within : v.deepest ≤ 64 → w.deepest ≤ 64
-  pub spelled : AreGood s → AreTokens (expr_pieces x) × AreGood r
+  pub spelled : (ver : Bool) → AreGood ver s → AreTokens ver (expr_pieces x) × AreGood ver r
   pub row_most : expr_row x ≤ 10
   pub bare : IsBare l v w x
   pub inside : nat_lt n (expr_row x) ≡ true → IsBare (suc l) v w x × (suc l ≤ w.deepest)
@@ -51,8 +51,8 @@ pub record IsReadBack (n l : ℕ) (v w : Counts) (s r : List Terminal) (x : Expr
 row_of : (x : Expr) (shown : ExprShown) → expr_shown x ≡ shown → expr_row x ≡ shown.row
 row_of x shown is = ap (λ (t : ExprShown). t.row) is
 
-pieces_of : (x : Expr) (shown : ExprShown) → expr_shown x ≡ shown → AreTokens shown.pieces → AreTokens (expr_pieces x)
-pieces_of x shown is h = let P : ExprShown → Type 0 = λ t. AreTokens t.pieces in subst P (sym is) h
+pieces_of : (ver : Bool) (x : Expr) (shown : ExprShown) → expr_shown x ≡ shown → AreTokens ver shown.pieces → AreTokens ver (expr_pieces x)
+pieces_of ver x shown is h = let P : ExprShown → Type 0 = λ t. AreTokens ver t.pieces in subst P (sym is) h
 
 bare_of : (x : Expr) (shown : ExprShown) (l : ℕ) (v w : Counts) → expr_shown x ≡ shown → IsReadFrom shown l v w x → IsBare l v w x
 bare_of x shown l v w is h = let P : ExprShown → Type 0 = λ t. IsReadFrom t l v w x in subst P (sym is) h
@@ -117,15 +117,15 @@ operand n l v w t q x kept k a s r room alike stand = by_row (nat_lt n (expr_row
       record { behind = read.behind; alike = read.alike; is = looser n (expr_row x) k a read.behind s r x (not_looser n (expr_row x) is) read.is }
 
 -- tokens with or without parentheses
-pub wrapped_tokens : (b : Bool) (ps : List Piece) → AreTokens ps → AreTokens (wrapped b ps)
-wrapped_tokens true ps h = (sign_spells g.LeftParen, tt, tokens_of_both ps (sign g.RightParen ∷ []) h (sign_spells g.RightParen, tt, tt))
-wrapped_tokens false ps h = h
+pub wrapped_tokens : (ver b : Bool) (ps : List Piece) → AreTokens ver ps → AreTokens ver (wrapped b ps)
+wrapped_tokens ver true ps h = (sign_spells g.LeftParen, tt, (λ place. refl), tokens_of_both ver ps (sign g.RightParen ∷ []) h (sign_spells g.RightParen, tt, (λ place. refl), tt))
+wrapped_tokens ver false ps h = h
 
 number_kept : (l : ℕ) (v : Counts) (n : ℤ) (p : Place) (r : List Terminal) → IsReadBack 0 l v v (Number n p ∷ r) r (e.Number n)
 number_kept l v n p r = record {
   deeper = omega arith;
   within = λ h. h;
-  spelled = λ good. (pieces_of (e.Number n) (record { row = 0; pieces = pr.number n ∷ [] }) (number_shown n) (good.0.0, good.0.1, tt), good.1);
+  spelled = λ ver good. (pieces_of ver (e.Number n) (record { row = 0; pieces = pr.number n ∷ [] }) (number_shown n) (good.0.0, good.0.1, (λ place. refl), tt), good.1);
   row_most = omega (arith, row);
   bare = bare_of (e.Number n) (record { row = 0; pieces = pr.number n ∷ [] }) l v v (number_shown n) read;
   inside = λ h. absurd (no_looser 0 (expr_row (e.Number n)) (omega (arith, row)) h);
@@ -140,7 +140,7 @@ variable_kept : (l : ℕ) (v : Counts) (x : List ℕ) (p : Place) (r : List Term
 variable_kept l v x p r = record {
   deeper = omega arith;
   within = λ h. h;
-  spelled = λ good. (pieces_of (e.Var x) (record { row = 0; pieces = pr.name x ∷ [] }) (variable_shown x) (good.0.0, good.0.1, tt), good.1);
+  spelled = λ ver good. (pieces_of ver (e.Var x) (record { row = 0; pieces = pr.name x ∷ [] }) (variable_shown x) (good.0.0, good.0.1, good.0.2, tt), good.1);
   row_most = omega (arith, row);
   bare = bare_of (e.Var x) (record { row = 0; pieces = pr.name x ∷ [] }) l v v (variable_shown x) read;
   inside = λ h. absurd (no_looser 0 (expr_row (e.Var x)) (omega (arith, row)) h);
@@ -159,7 +159,7 @@ parens_kept l v w p q s r x fits kept =
     record {
       deeper = omega (arith, deeper);
       within = λ h. kept.within (omega (arith, level, h));
-      spelled = λ good. let more = kept.spelled good.1 in (more.0, more.1.1);
+      spelled = λ ver good. let more = kept.spelled ver good.1 in (more.0, more.1.1);
       row_most = kept.row_most;
       bare = λ k a t m room alike stand. kept.bare k a t m (omega (arith, room)) alike stand;
       inside = λ h. (kept.bare, omega (arith, deeper));
@@ -180,10 +180,10 @@ unary_kept : (o : UnOp) (l : ℕ) (v w : Counts) (p : Place) (s r : List Termina
 unary_kept o l v w p s r x makes count fits kept = record {
   deeper = omega (arith, kept.deeper);
   within = λ h. kept.within (omega (arith, level_of (suc l) fits, h));
-  spelled = λ good.
-      let more = kept.spelled good.1 in
-      let all : AreTokens (sign (sign_of_unary o) ∷ wrapped (nat_lt 0 (expr_row x)) (expr_pieces x)) = (sign_spells (sign_of_unary o), tt, wrapped_tokens (nat_lt 0 (expr_row x)) (expr_pieces x) more.0) in
-      (pieces_of (e.Unary o x) shown (unary_shown o x) all, more.1);
+  spelled = λ ver good.
+      let more = kept.spelled ver good.1 in
+      let all : AreTokens ver (sign (sign_of_unary o) ∷ wrapped (nat_lt 0 (expr_row x)) (expr_pieces x)) = (sign_spells (sign_of_unary o), tt, (λ place. refl), wrapped_tokens ver (nat_lt 0 (expr_row x)) (expr_pieces x) more.0) in
+      (pieces_of ver (e.Unary o x) shown (unary_shown o x) all, more.1);
   row_most = omega (arith, row);
   bare = bare_of (e.Unary o x) shown l v w (unary_shown o x) read;
   inside = λ h. absurd (no_looser 0 (expr_row (e.Unary o x)) (omega (arith, row)) h);
@@ -232,14 +232,14 @@ binary_kept n l b v u o p t s m x z is count left right = record {
   row : expr_row (e.Binary (operator_of_sign o) x z) ≡ suc n
   row = row_of (e.Binary (operator_of_sign o) x z) shown (binary_shown o n x z is)
 
-  spelled : AreGood t → AreTokens (expr_pieces (e.Binary (operator_of_sign o) x z)) × AreGood m
-  spelled good =
-      let first = left.spelled good in
-      let second = right.spelled first.1.1 in
-      let tail : AreTokens (sign o ∷ wrapped (nat_lt n (expr_row z)) (expr_pieces z)) = (sign_spells o, tt, wrapped_tokens (nat_lt n (expr_row z)) (expr_pieces z) second.0) in
-      let front = wrapped_tokens (nat_lt (suc n) (expr_row x)) (expr_pieces x) first.0 in
-      let all = tokens_of_both (wrapped (nat_lt (suc n) (expr_row x)) (expr_pieces x)) (sign o ∷ wrapped (nat_lt n (expr_row z)) (expr_pieces z)) front tail in
-      (pieces_of (e.Binary (operator_of_sign o) x z) shown (binary_shown o n x z is) all, second.1)
+  spelled : (ver : Bool) → AreGood ver t → AreTokens ver (expr_pieces (e.Binary (operator_of_sign o) x z)) × AreGood ver m
+  spelled ver good =
+      let first = left.spelled ver good in
+      let second = right.spelled ver first.1.1 in
+      let tail : AreTokens ver (sign o ∷ wrapped (nat_lt n (expr_row z)) (expr_pieces z)) = (sign_spells o, tt, (λ place. refl), wrapped_tokens ver (nat_lt n (expr_row z)) (expr_pieces z) second.0) in
+      let front = wrapped_tokens ver (nat_lt (suc n) (expr_row x)) (expr_pieces x) first.0 in
+      let all = tokens_of_both ver (wrapped (nat_lt (suc n) (expr_row x)) (expr_pieces x)) (sign o ∷ wrapped (nat_lt n (expr_row z)) (expr_pieces z)) front tail in
+      (pieces_of ver (e.Binary (operator_of_sign o) x z) shown (binary_shown o n x z is) all, second.1)
 
   behind_left : (k : ℕ) (a : Counts) (s2 r2 : List Terminal) → k + u.deepest ≤ l + 64 → IsAlike b a →
       (q : List Terminal) × Stand (wrapped (nat_lt (suc n) (expr_row x)) (expr_pieces x)) s2 q × Stand (sign o ∷ wrapped (nat_lt n (expr_row z)) (expr_pieces z)) q r2 →

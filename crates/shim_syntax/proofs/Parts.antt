@@ -1,18 +1,23 @@
 -- Parts of a text that were read, each of which is read from its own pieces too.
-use Rattle.std.proofs.Common.{ℕ, suc, ◌+◌, ◌≤◌, ◌≡◌, true, List, [], ◌∷◌, ◌++◌, refl, sym, ap, subst, arith}
+use Rattle.std.proofs.Common.{ℕ, suc, ◌+◌, ◌≤◌, ◌≡◌, Bool, true, List, [], ◌∷◌, ◌++◌, refl, sym, ap, subst, arith}
 use Rattle.std.proofs.lemmas.List.{append_assoc}
 use Rattle.shim_base.specs.declared.Keyword.{Keyword}
 use Rattle.shim_base.specs.declared.Sign.{Sign as SignOf}
 use Rattle.shim_base.specs.declared.Sign.TheVariants as g
-use Rattle.shim_base.specs.Tokens.{Place, Spells, IsWithinLimits}
+use Rattle.shim_base.specs.declared.Keyword.TheVariants as kw
+use Rattle.shim_base.specs.declared.Ty.{Ty}
+use Rattle.shim_base.specs.declared.Ty.TheVariants.{Bool as BoolTy, Int8, Int16, Int32, Uint8, Uint16, Uint32, Int64}
+use Rattle.shim_base.specs.Tokens.{Place, Spells, IsWithinLimits, keyword_of}
+use Rattle.shim_syntax.specs.declared.tree.Sort.{Sort as SortOf}
+use Rattle.shim_syntax.specs.declared.tree.Sort.TheVariants.{Value, Input, Output}
 use Rattle.shim_syntax.specs.declared.tree.Expr.{Expr}
-use Rattle.shim_syntax.specs.Terminals.{Terminal, Name, of_kind}
+use Rattle.shim_syntax.specs.Terminals.{Terminal, Name, Sort}
 use Rattle.shim_syntax.specs.Limits.{Nesting, is_within, limits}
 use Rattle.shim_syntax.specs.Grammar.{Counts, at_level, new_expression, IsExpr, IsWhole, IsArguments, IsMoreArguments}
 use Rattle.shim_syntax.specs.Grammar as gr
-use Rattle.shim_syntax.specs.Printing.{Piece, key, sign, name, last, expr_row, expr_pieces, more_args_pieces, args_pieces}
-use Rattle.shim_syntax.proofs.Pieces.{AreTokens}
-use Rattle.shim_syntax.proofs.Standing.{Stand, nothing, piece, split, tokens_of_both, AreGood}
+use Rattle.shim_syntax.specs.Printing.{Piece, key, sign, type_piece, sort_piece, name, last, expr_row, expr_pieces, more_args_pieces, args_pieces}
+use Rattle.shim_syntax.proofs.Pieces.{AreTokens, IsSeen, shown_as}
+use Rattle.shim_syntax.proofs.Standing.{Stand, nothing, piece, split, tokens_of_both, AreGood, IsTypeOf, key_seen}
 use Rattle.shim_syntax.proofs.Shapes.{sign_spells, key_spells}
 use Rattle.shim_syntax.proofs.Expressions.{IsAlike, expr_kept, looser, level_is}
 
@@ -29,7 +34,7 @@ pub record IsDone (R : Reading) (k : ℕ) (w a : Counts) (t q : List Terminal) :
 pub record IsPart (l : ℕ) (v w : Counts) (s r : List Terminal) (ps : List Piece) (R : Reading) : Type 0 where
   pub deeper : v.deepest ≤ w.deepest
   pub within : v.deepest ≤ 64 → w.deepest ≤ 64
-  pub spelled : AreGood s → AreTokens ps × AreGood r
+  pub spelled : (ver : Bool) → AreGood ver s → AreTokens ver ps × AreGood ver r
   pub read : (k : ℕ) (a : Counts) (t q : List Terminal) → k + w.deepest ≤ l + 64 → IsAlike v a → Stand ps t q → IsDone R k w a t q
 
 -- one thing and then another
@@ -43,8 +48,8 @@ both {l = l} {v = v} {w = w} {s = s} {r = r} {ps = ps} {qs = qs} {R = R} {Q = Q}
   spelled = spelled;
   read = λ k a t q room alike stand. by_parts k a t q room alike (split ps qs t q stand);
 } where
-  spelled : AreGood s → AreTokens (ps ++ qs) × AreGood r
-  spelled good = let first = one.spelled good in let second = two.spelled first.1 in (tokens_of_both ps qs first.0 second.0, second.1)
+  spelled : (ver : Bool) → AreGood ver s → AreTokens ver (ps ++ qs) × AreGood ver r
+  spelled ver good = let first = one.spelled ver good in let second = two.spelled ver first.1 in (tokens_of_both ver ps qs first.0 second.0, second.1)
 
   by_parts : (k : ℕ) (a : Counts) (t q : List Terminal) → k + w.deepest ≤ l + 64 → IsAlike v a → (m : List Terminal) × Stand ps t m × Stand qs m q → IsDone (Both R Q) k w a t q
   by_parts k a t q room alike (m, first, second) =
@@ -55,13 +60,13 @@ both {l = l} {v = v} {w = w} {s = s} {r = r} {ps = ps} {qs = qs} {R = R} {Q = Q}
 
 -- a piece alone
 pub data IsPiece (p : Piece) : ℕ → Counts → Counts → List Terminal → List Terminal → Type 0 where
-  here : {k : ℕ} {a : Counts} {q : List Terminal} (place : Place) → IsPiece p k a a (of_kind p.kind p.text place ∷ q) q
+  here : {k : ℕ} {a : Counts} {q : List Terminal} (place : Place) → IsPiece p k a a (shown_as p place ∷ q) q
 
-pub front : {l : ℕ} {v : Counts} {x : Terminal} {r : List Terminal} (p : Piece) → Spells p.text p.kind → IsWithinLimits p.text p.kind → IsPart l v v (x ∷ r) r (p ∷ []) (IsPiece p)
-front {l = l} {v = v} p spells fits = record {
+pub front : {l : ℕ} {v : Counts} {x : Terminal} {r : List Terminal} (p : Piece) → Spells p.text p.kind → IsWithinLimits p.text p.kind → ((ver : Bool) → IsSeen ver p) → IsPart l v v (x ∷ r) r (p ∷ []) (IsPiece p)
+front {l = l} {v = v} p spells fits seen = record {
   deeper = omega arith;
   within = λ h. h;
-  spelled = λ good. ((spells, fits, tt), good.1);
+  spelled = λ ver good. ((spells, fits, seen ver, tt), good.1);
   read = read;
 } where
   read : (k : ℕ) (a : Counts) (t q : List Terminal) → k + v.deepest ≤ l + 64 → IsAlike v a → Stand (p ∷ []) t q → IsDone (IsPiece p) k v a t q
@@ -72,20 +77,66 @@ pub front_name : {l : ℕ} {v : Counts} {r : List Terminal} (x : List ℕ) (p : 
 front_name {l = l} {v = v} x p = record {
   deeper = omega arith;
   within = λ h. h;
-  spelled = λ good. ((good.0.0, good.0.1, tt), good.1);
+  spelled = λ ver good. ((good.0.0, good.0.1, good.0.2, tt), good.1);
   read = read;
 } where
   read : (k : ℕ) (a : Counts) (t q : List Terminal) → k + v.deepest ≤ l + 64 → IsAlike v a → Stand (name x ∷ []) t q → IsDone (IsPiece (name x)) k v a t q
   read k a _ q room alike (piece place nothing) = record { behind = a; alike = alike; is = here place }
 
 pub front_key : {l : ℕ} {v : Counts} {x : Terminal} {r : List Terminal} (word : Keyword) → IsPart l v v (x ∷ r) r (key word ∷ []) (IsPiece (key word))
-front_key word = front (key word) (key_spells word) tt
+front_key word = front (key word) (key_spells word) tt (λ ver place. key_seen ver word place)
 
 pub front_sign : {l : ℕ} {v : Counts} {x : Terminal} {r : List Terminal} (o : SignOf) → IsPart l v v (x ∷ r) r (sign o ∷ []) (IsPiece (sign o))
-front_sign o = front (sign o) (sign_spells o) tt
+front_sign o = front (sign o) (sign_spells o) tt (λ ver place. refl)
 
 pub front_last : {l : ℕ} {v : Counts} {x : Terminal} {r : List Terminal} (o : SignOf) → IsPart l v v (x ∷ r) r (last o ∷ []) (IsPiece (last o))
-front_last o = front (last o) (sign_spells o) tt
+front_last o = front (last o) (sign_spells o) tt (λ ver place. refl)
+
+-- the word of a type of that version is a token
+pub type_tokens : (ver : Bool) (ty : Ty) → IsTypeOf ver ty → AreTokens ver (type_piece ty ∷ [])
+unfolding keyword_of
+type_tokens ver BoolTy h = (key_spells kw.Bool, tt, (λ place. refl), tt)
+type_tokens ver Int8 h = (key_spells kw.Int8, tt, (λ place. refl), tt)
+type_tokens ver Int16 h = (key_spells kw.Int16, tt, (λ place. refl), tt)
+type_tokens ver Int32 h = (key_spells kw.Int32, tt, (λ place. refl), tt)
+type_tokens ver Uint8 h = (key_spells kw.Uint8, tt, (λ place. refl), tt)
+type_tokens ver Uint16 h = (key_spells kw.Uint16, tt, (λ place. refl), tt)
+type_tokens ver Uint32 h = (key_spells kw.Uint32, tt, (λ place. refl), tt)
+type_tokens ver Int64 h = ((refl, refl), omega arith, (λ place. rw h refl), tt)
+
+pub front_type : {l : ℕ} {v : Counts} {p : Place} {r : List Terminal} (ty : Ty) → IsPart l v v (Sort (Value ty) p ∷ r) r (type_piece ty ∷ []) (IsPiece (type_piece ty))
+front_type {l = l} {v = v} ty = record {
+  deeper = omega arith;
+  within = λ h. h;
+  spelled = λ ver good. (type_tokens ver ty good.0, good.1);
+  read = read;
+} where
+  read : (k : ℕ) (a : Counts) (t q : List Terminal) → k + v.deepest ≤ l + 64 → IsAlike v a → Stand (type_piece ty ∷ []) t q → IsDone (IsPiece (type_piece ty)) k v a t q
+  read k a _ q room alike (piece place nothing) = record { behind = a; alike = alike; is = here place }
+
+pub front_sort : {l : ℕ} {v : Counts} {p : Place} {r : List Terminal} (sort : SortOf) → IsPart l v v (Sort sort p ∷ r) r (sort_piece sort ∷ []) (IsPiece (sort_piece sort))
+front_sort (Value ty) = front_type ty
+front_sort Input = front_key kw.Istream
+front_sort Output = front_key kw.Ostream
+
+-- one thing and then another, which both stand behind one terminal
+pub both_behind : {l : ℕ} {v u w : Counts} {x : Terminal} {s m r : List Terminal} {ps qs : List Piece} {R Q : Reading} → IsPart l v u (x ∷ s) m ps R → IsPart l u w (x ∷ m) r qs Q
+    → IsPart l v w (x ∷ s) r (ps ++ qs) (Both R Q)
+both_behind {l = l} {v = v} {w = w} {x = x} {s = s} {r = r} {ps = ps} {qs = qs} {R = R} {Q = Q} one two = record {
+  deeper = omega (arith, one.deeper, two.deeper);
+  within = λ h. two.within (one.within h);
+  spelled = spelled;
+  read = λ k a t q room alike stand. by_parts k a t q room alike (split ps qs t q stand);
+} where
+  spelled : (ver : Bool) → AreGood ver (x ∷ s) → AreTokens ver (ps ++ qs) × AreGood ver r
+  spelled ver good = let first = one.spelled ver good in let second = two.spelled ver (good.0, first.1) in (tokens_of_both ver ps qs first.0 second.0, second.1)
+
+  by_parts : (k : ℕ) (a : Counts) (t q : List Terminal) → k + w.deepest ≤ l + 64 → IsAlike v a → (m : List Terminal) × Stand ps t m × Stand qs m q → IsDone (Both R Q) k w a t q
+  by_parts k a t q room alike (m, first, second) =
+      let deeper = two.deeper in
+      let here = one.read k a t m (omega (arith, room, deeper)) alike first in
+      let there = two.read k here.behind m q room here.alike second in
+      record { behind = there.behind; alike = there.alike; is = (here.behind, m, here.is, there.is) }
 
 -- what is read in one way is read in another
 pub mapped : {l : ℕ} {v w : Counts} {s r : List Terminal} {ps : List Piece} {R Q : Reading} → ((k : ℕ) (a b : Counts) (t q : List Terminal) → R k a b t q → Q k a b t q) → IsPart l v w s r ps R →

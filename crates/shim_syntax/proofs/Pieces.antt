@@ -11,6 +11,9 @@ use Rattle.shim_base.specs.Tokens.{is_spacing, is_digit, is_letter, is_name_byte
 use Rattle.shim_base.proofs.FirstToken.{both_true, entry-passes, letter-no_spacing, digit-no_spacing, no_empty_token}
 use Rattle.shim_base.proofs.Front.{no_comment_at, no_comment_second}
 use Rattle.shim_base.proofs.Cutting.{token_at}
+use Rattle.shim_base.specs.declared.Ty.TheVariants.{Int64}
+use Rattle.shim_syntax.specs.declared.tree.Sort.TheVariants.{Value}
+use Rattle.shim_syntax.specs.Terminals.{Terminal, Sort, of_kind, of_version}
 use Rattle.shim_syntax.specs.Printing.{Piece, text_of}
 
 -- a byte that isn't spacing
@@ -150,10 +153,18 @@ no_comment_before_space [] kind b rest space spells c = absurd (no_empty_token k
 no_comment_before_space (a ∷ []) kind b rest space spells c = no_comment_second a b rest (space-no_slash b space) (space-no_star b space) c
 no_comment_before_space (a ∷ d ∷ text) kind b rest space spells c = no_comment_at a (d ∷ (text ++ b ∷ rest)) (long-no_slash a d text kind spells) c
 
+-- the terminal that a piece stands for
+abbrev pub shown_as : Piece → Place → Terminal
+shown_as p place = if p.is_type then Sort (Value Int64) place else of_kind p.kind p.text place
+
+-- in that version it is seen so
+abbrev pub IsSeen : Bool → Piece → Type 0
+IsSeen ver p = (place : Place) → of_version ver (of_kind p.kind p.text place) ≡ shown_as p place
+
 -- each piece is a token of its kind, within the limits
-abbrev pub AreTokens : List Piece → Type 0
-AreTokens [] = Unit {0}
-AreTokens (p ∷ ps) = Spells p.text p.kind × IsWithinLimits p.text p.kind × AreTokens ps
+abbrev pub AreTokens : Bool → List Piece → Type 0
+AreTokens ver [] = Unit {0}
+AreTokens ver (p ∷ ps) = Spells p.text p.kind × IsWithinLimits p.text p.kind × IsSeen ver p × AreTokens ver ps
 
 -- what stands behind a piece
 abbrev pub behind : Piece → ℕ
@@ -172,13 +183,13 @@ behind-space true = refl
 behind-space false = refl
 
 -- the text of pieces is cut into their tokens
-pub pieces_are_cut : (place : Place) (ps : List Piece) → AreTokens ps → Cuts place (text_of ps) (tokens_of place ps) None
-pieces_are_cut place [] are = ended place
-pieces_are_cut place (p ∷ ps) are =
+pub pieces_are_cut : (ver : Bool) (place : Place) (ps : List Piece) → AreTokens ver ps → Cuts place (text_of ps) (tokens_of place ps) None
+pieces_are_cut ver place [] are = ended place
+pieces_are_cut ver place (p ∷ ps) are =
     let space = behind-space p.ends_line in
     let rest = text_of ps in
     let tokens = tokens_of (behind_piece place p) ps in
-    let more = pieces_are_cut (behind_piece place p) ps are.2 in
+    let more = pieces_are_cut ver (behind_piece place p) ps are.3 in
     let tail = passed (after place p.text) (behind p ∷ rest) (behind p ∷ []) rest tokens None (spacing (behind p) rest space) more in
     let no_comment = no_comment_before_space p.text p.kind (behind p) rest space are.0 in
     let first = first_before_space p.text p.kind (behind p) rest space are.0 in

@@ -1,9 +1,9 @@
 -- The canonical text of a text's program is a text of a program that is the same but for lines.
-use Rattle.std.proofs.Common.{ℕ, suc, ◌≤◌, ◌≡◌, true, List, [], ◌∷◌, ◌++◌, map, None, refl, sym, ap, subst, ◌∙◌, arith}
+use Rattle.std.proofs.Common.{ℕ, suc, ◌≤◌, ◌≡◌, Bool, true, false, List, [], ◌∷◌, ◌++◌, map, None, refl, sym, ap, subst, ◌∙◌, arith, ◌⊎◌, inl, inr}
 use Rattle.std.proofs.lemmas.List.{append_assoc}
 use Rattle.shim_base.specs.declared.Keyword.TheVariants as kw
 use Rattle.shim_base.specs.declared.Sign.TheVariants as g
-use Rattle.shim_base.specs.Tokens.{Place, start, after}
+use Rattle.shim_base.specs.Tokens.{Place, start, after, Spells, keyword_of}
 use Rattle.shim_syntax.specs.declared.limits.Many.TheVariants.{Functions as ManyFunctions}
 use Rattle.shim_syntax.specs.declared.tree.Sort.{Sort as SortOf}
 use Rattle.shim_syntax.specs.declared.tree.Sort.TheVariants.{Value, Input, Output}
@@ -11,17 +11,20 @@ use Rattle.shim_syntax.specs.declared.tree.Stmt.{Stmt}
 use Rattle.shim_syntax.specs.declared.tree.Param.{Param}
 use Rattle.shim_syntax.specs.declared.tree.Function.{Function}
 use Rattle.shim_syntax.specs.declared.tree.Program.{Program}
-use Rattle.shim_syntax.specs.Terminals.{Terminal, Name, Sort, End, of_tokens}
+use Rattle.std.specs.Prelude.{codes, pos}
+use Rattle.std.proofs.lemmas.Int.{ints}
+use Rattle.shim_base.specs.declared.TokenKind.TheVariants.{Word, Number as NumberKind}
+use Rattle.shim_syntax.specs.Terminals.{Terminal, Name, Sort, End, of_tokens, of_end, of_version, in_version, begins_two}
 use Rattle.shim_syntax.specs.Limits.{Count, is_within, limits}
-use Rattle.shim_syntax.specs.Grammar.{Counts, nothing_read, new_function, is_stream, IsParam, IsParams, IsMoreParams, IsThrows, IsMoreThrows, IsFunction, IsFunctions}
+use Rattle.shim_syntax.specs.Grammar.{Counts, nothing_read, new_function, is_stream, IsParam, IsParams, IsMoreParams, IsThrows, IsMoreThrows, IsFunction, IsFunctions, Derives}
 use Rattle.shim_syntax.specs.Grammar as gr
 use Rattle.shim_syntax.specs.Text.{IsText}
-use Rattle.shim_syntax.specs.Printing.{Piece, key, sign, name, last, key_of_sort, stmt_shown, all_pieces, param_pieces, params_pieces, more_params_pieces, throws_pieces, more_throws_pieces, function_pieces, functions_pieces, pieces, canonical}
+use Rattle.shim_syntax.specs.Printing.{Piece, piece_text, text_of, key, sign, name, two, last, sort_piece, stmt_shown, all_pieces, param_pieces, params_pieces, more_params_pieces, throws_pieces, more_throws_pieces, function_pieces, functions_pieces, pieces, canonical}
 use Rattle.shim_syntax.specs.Same.{function_without_lines, IsTextOfSame}
-use Rattle.shim_syntax.proofs.Pieces.{AreTokens, tokens_of, pieces_are_cut}
-use Rattle.shim_syntax.proofs.Standing.{Stand, nothing, split, pieces_stand, tokens_of_both, AreGood, cut_is_good}
+use Rattle.shim_syntax.proofs.Pieces.{AreTokens, tokens_of, behind_piece, pieces_are_cut}
+use Rattle.shim_syntax.proofs.Standing.{Stand, nothing, split, pieces_stand, tokens_of_both, AreGood, cut_is_good, header_seen}
 use Rattle.shim_syntax.proofs.Shapes.{sign_spells}
-use Rattle.shim_syntax.proofs.Parts.{Reading, IsPart, Both, both, IsPiece, here, front_name, front_key, front_sign, front_last, mapped, same_pieces}
+use Rattle.shim_syntax.proofs.Parts.{Reading, IsPart, Both, both, IsPiece, here, front_name, front_key, front_type, front_sort, front_sign, front_last, mapped, same_pieces}
 use Rattle.shim_syntax.proofs.Readings.{Block, own_piece, behind_terminal}
 use Rattle.shim_syntax.proofs.Simple.{IsSort, is_sort, sort_read}
 use Rattle.shim_syntax.proofs.Statements.{block_part}
@@ -46,7 +49,7 @@ abbrev MoreThrows : ℕ → List (List ℕ) → Reading
 MoreThrows n xs = IsSame (λ t q. IsMoreThrows limits n t q xs)
 
 -- a parameter with `&`
-by_reference : (sort : SortOf) (x : List ℕ) (k : ℕ) (a b : Counts) (t q : List Terminal) → Both (IsPiece (key (key_of_sort sort))) (Both (IsPiece (sign g.Amp)) (IsPiece (name x))) k a b t q →
+by_reference : (sort : SortOf) (x : List ℕ) (k : ℕ) (a b : Counts) (t q : List Terminal) → Both (IsPiece (sort_piece sort)) (Both (IsPiece (sign g.Amp)) (IsPiece (name x))) k a b t q →
     OneParam (record { sort = sort; by_ref = true; name = x }) k a b t q
 by_reference sort x k a b t q (c, m, word, rest) = behind_sort k a c b t m q (sort_read sort k a c t m word) rest where
   behind_sort : (k : ℕ) (a c b : Counts) (t m q : List Terminal) → IsSort sort k a c t m → Both (IsPiece (sign g.Amp)) (IsPiece (name x)) k c b m q →
@@ -54,7 +57,7 @@ by_reference sort x k a b t q (c, m, word, rest) = behind_sort k a c b t m q (so
   behind_sort k a _ _ _ _ q (is_sort i) (_, _, here j, here n) = uncounted gr.reference
 
 -- one without
-by_value : (sort : SortOf) (x : List ℕ) (k : ℕ) (a b : Counts) (t q : List Terminal) → Both (IsPiece (key (key_of_sort sort))) (IsPiece (name x)) k a b t q →
+by_value : (sort : SortOf) (x : List ℕ) (k : ℕ) (a b : Counts) (t q : List Terminal) → Both (IsPiece (sort_piece sort)) (IsPiece (name x)) k a b t q →
     OneParam (record { sort = sort; by_ref = is_stream sort; name = x }) k a b t q
 by_value sort x k a b t q (c, m, word, rest) = behind_sort k a c b t m q (sort_read sort k a c t m word) rest where
   behind_sort : (k : ℕ) (a c b : Counts) (t m q : List Terminal) → IsSort sort k a c t m → IsPiece (name x) k c b m q → OneParam (record { sort = sort; by_ref = is_stream sort; name = x }) k a b t q
@@ -63,13 +66,13 @@ by_value sort x k a b t q (c, m, word, rest) = behind_sort k a c b t m q (sort_r
 -- a stream is shown with `&`
 plain_param : (l : ℕ) (v : Counts) (p q : Place) (r : List Terminal) (sort : SortOf) (x : List ℕ) →
     IsPart l v v (Sort sort p ∷ Name x q ∷ r) r (param_pieces (record { sort = sort; by_ref = is_stream sort; name = x })) (OneParam (record { sort = sort; by_ref = is_stream sort; name = x }))
-plain_param l v p q r (Value ty) x = mapped (by_value (Value ty) x) (both (front_key (key_of_sort (Value ty))) (front_name x q))
-plain_param l v p q r Input x = mapped (by_reference Input x) (both (front_key (key_of_sort Input)) (both (own_piece (sign g.Amp) (sign_spells g.Amp) tt) (front_name x q)))
-plain_param l v p q r Output x = mapped (by_reference Output x) (both (front_key (key_of_sort Output)) (both (own_piece (sign g.Amp) (sign_spells g.Amp) tt) (front_name x q)))
+plain_param l v p q r (Value ty) x = mapped (by_value (Value ty) x) (both (front_type ty) (front_name x q))
+plain_param l v p q r Input x = mapped (by_reference Input x) (both (front_key kw.Istream) (both (own_piece (sign g.Amp) (sign_spells g.Amp) tt (λ ver place. refl)) (front_name x q)))
+plain_param l v p q r Output x = mapped (by_reference Output x) (both (front_key kw.Ostream) (both (own_piece (sign g.Amp) (sign_spells g.Amp) tt (λ ver place. refl)) (front_name x q)))
 
 param_part : {l : ℕ} {v : Counts} {s r : List Terminal} {x : Param} → IsParam s r x → IsPart l v v s r (param_pieces x) (OneParam x)
 param_part {l = l} {v = v} {r = r} (gr.param {sort = sort} {x = x} {p = p} {q = q}) = plain_param l v p q r sort x
-param_part (gr.reference {sort = sort} {x = x} {o = o}) = mapped (by_reference sort x) (both (front_key (key_of_sort sort)) (both (front_sign g.Amp) (front_name x o)))
+param_part (gr.reference {sort = sort} {x = x} {o = o}) = mapped (by_reference sort x) (both (front_sort sort) (both (front_sign g.Amp) (front_name x o)))
 
 more_params_part : (l n : ℕ) (v : Counts) (s r : List Terminal) (xs : List Param) → IsMoreParams limits n s r xs → IsPart l v v s r (more_params_pieces xs ++ sign g.RightParen ∷ []) (MoreParams n xs)
 more_params_part l n v _ r _ gr.params_end = mapped build (front_sign g.RightParen) where
@@ -149,19 +152,19 @@ record AreFunctionsRead (n : ℕ) (a : Counts) (t : List Terminal) (fs : List Fu
   are : IsFunctions limits n a t [] read
 
 record AreKept (n : ℕ) (v : Counts) (s : List Terminal) (fs : List Function) : Type 0 where
-  spelled : AreGood s → AreTokens (functions_pieces fs)
+  spelled : (ver : Bool) → AreGood ver s → AreTokens ver (functions_pieces fs)
   read : (a : Counts) (t : List Terminal) (p : Place) → a.operators ≡ v.operators → Stand (functions_pieces fs) t (End p ∷ []) → AreFunctionsRead n a t fs
 
 none_kept : (n : ℕ) (v : Counts) (s : List Terminal) → AreKept n v s []
-none_kept n v s = record { spelled = λ good. tt; read = read } where
+none_kept n v s = record { spelled = λ ver good. tt; read = read } where
   read : (a : Counts) (t : List Terminal) (p : Place) → a.operators ≡ v.operators → Stand [] t (End p ∷ []) → AreFunctionsRead n a t []
   read a _ p same nothing = record { read = []; same = refl; are = gr.program_end }
 
 one_kept : (n : ℕ) (v w : Counts) (s m : List Terminal) (f : Function) (fs : List Function) → is_within (Count ManyFunctions) (suc n) ≡ true → w.deepest ≤ 64 →
     IsPart 1 (new_function v) w s m (function_pieces f) (Parts f) → AreKept (suc n) w m fs → AreKept n v s (f ∷ fs)
 one_kept n v w s m f fs fits deep part more = record { spelled = spelled; read = λ a t p same stand. by_parts a t p same (split (function_pieces f) (functions_pieces fs) t (End p ∷ []) stand) } where
-  spelled : AreGood s → AreTokens (functions_pieces (f ∷ fs))
-  spelled good = let one = part.spelled good in tokens_of_both (function_pieces f) (functions_pieces fs) one.0 (more.spelled one.1)
+  spelled : (ver : Bool) → AreGood ver s → AreTokens ver (functions_pieces (f ∷ fs))
+  spelled ver good = let one = part.spelled ver good in tokens_of_both ver (function_pieces f) (functions_pieces fs) one.0 (more.spelled ver one.1)
 
   by_parts : (a : Counts) (t : List Terminal) (p : Place) → a.operators ≡ v.operators → (q : List Terminal) × Stand (function_pieces f) t q × Stand (functions_pieces fs) q (End p ∷ []) →
       AreFunctionsRead n a t (f ∷ fs)
@@ -182,25 +185,81 @@ functions_kept n v s r _ deep (gr.another_function {w = w} {m = m} {f = f} {fs =
     let still = part.within deep in
     one_kept n v w s m f fs fits still part (functions_kept (suc n) w m r fs still more)
 
+header_spells : Spells (codes "shim") Word
+unfolding keyword_of
+header_spells = (refl, refl)
+
+two_spells : Spells (codes "2") (NumberKind (pos 2))
+two_spells = (2, inl (refl, refl), refl)
+
+-- no function begins as version 2 does
+pub no_header : (n : ℕ) (v : Counts) (s r : List Terminal) (fs : List Function) → IsFunctions limits n v s r fs → begins_two s ≡ false
+no_header n v _ r _ gr.program_end = refl
+no_header n v _ r _ (gr.another_function fits (gr.function _ _ _) more) = refl
+
+-- what derives a program begins as its version does
+pub version_seen : (ts : List Terminal) (p : Program) → Derives limits ts p → ((begins_two ts ≡ true) × (p.version ≡ 2)) ⊎ ((begins_two ts ≡ false) × (p.version ≡ 1))
+version_seen ts _ (gr.version_1 {fs = fs} h) = inr (no_header 0 nothing_read ts [] fs h, refl)
+version_seen _ _ (gr.version_2 shim two_is h) = inl ((rw (shim, two_is) refl), refl)
+
+no_header_shown : (place : Place) (end : Place) (fs : List Function) → begins_two (of_tokens (tokens_of place (functions_pieces fs)) (End end)) ≡ false
+no_header_shown place end [] = refl
+no_header_shown place end (f ∷ fs) = refl
+
+-- the terminals of the canonical text
+shown_terminals : Bool → Program → List Terminal
+shown_terminals ver program = map (of_version ver) (of_tokens (tokens_of start (pieces program)) (End (after start (canonical program))))
+
+is_shown : (ver : Bool) (program : Program) (fs : List Function) → AreTokens ver (pieces program) → begins_two (of_tokens (tokens_of start (pieces program)) (End (after start (canonical program)))) ≡ ver
+    → Derives limits (shown_terminals ver program) (record { version = program.version; functions = fs }) → map function_without_lines fs ≡ map function_without_lines program.functions
+    → IsTextOfSame program (canonical program)
+unfolding shown_terminals
+is_shown ver program fs are header derives same =
+    let end = after start (canonical program) in
+    let tokens = tokens_of start (pieces program) in (
+      record { version = program.version; functions = fs },
+      record {
+        terminals = shown_terminals ver program;
+        read = record { tokens = tokens; end = None; cut = pieces_are_cut ver start (pieces program) are; are = ap (λ b. map (of_version b) (of_tokens tokens (End end))) (sym header) };
+        derives = derives;
+      },
+      ap (λ (l : List Function). let p : Program = record { version = program.version; functions = l } in p) (sym same),
+    )
+
+canonical_by : (ver : Bool) (ts : List Terminal) (program : Program) → begins_two ts ≡ ver → AreGood ver ts → Derives limits ts program → IsTextOfSame program (canonical program)
+unfolding shown_terminals
+canonical_by ver ts _ header good (gr.version_1 {fs = fs} h) =
+    let program : Program = record { version = 1; functions = fs } in
+    let kept = functions_kept 0 nothing_read ts [] fs (omega arith) h in
+    let end = after start (canonical program) in
+    let one : ver ≡ false = sym header ∙ no_header 0 nothing_read ts [] fs h in
+    let are = subst (λ b. AreTokens b (functions_pieces fs)) one (kept.spelled ver good) in
+    let read = kept.read nothing_read (map (of_version false) (of_tokens (tokens_of start (functions_pieces fs)) (End end))) end refl (pieces_stand false start (functions_pieces fs) (End end) refl are) in
+    is_shown false program read.read are (no_header_shown start end fs) (gr.version_1 read.are) read.same
+canonical_by ver _ _ header good (gr.version_2 {x = x} {y = y} {s = s} {fs = fs} shim two_is h) =
+    let program : Program = record { version = 2; functions = fs } in
+    let kept = functions_kept 0 nothing_read s [] fs (omega arith) h in
+    let end = after start (canonical program) in
+    let one : ver ≡ true = sym header ∙ (rw (shim, two_is) refl) in
+    let are = subst (λ b. AreTokens b (functions_pieces fs)) one (kept.spelled ver good.1.1.1) in
+    let place = behind_piece (behind_piece (behind_piece start (name (codes "shim"))) two) (last g.Semicolon) in
+    let read = kept.read nothing_read (map (of_version true) (of_tokens (tokens_of place (functions_pieces fs)) (End end))) end refl (pieces_stand true place (functions_pieces fs) (End end) refl are) in
+    is_shown true program read.read (header_spells, omega arith, (λ p. refl), (two_spells, omega (arith, ints), (λ p. refl), (sign_spells g.Semicolon, tt, (λ p. refl), are))) refl (gr.version_2 refl refl read.are) read.same
+
 -- the canonical text of a text's program is a text of the same program but for lines
 pub canonical_is_text : (bytes : List ℕ) (program : Program) → IsText bytes program → IsTextOfSame program (canonical program)
 canonical_is_text bytes program h =
     let cut = h.read in
-    let P : List Terminal → Type 0 = λ ts. AreGood ts in
-    let good : AreGood h.terminals = subst P (sym cut.are) (cut_is_good start bytes cut.tokens cut.end (after start bytes) cut.cut) in
-    let kept = functions_kept 0 nothing_read h.terminals [] program.functions (omega arith) h.derives in
-    let end = after start (canonical program) in
-    let tokens = tokens_of start (pieces program) in
-    let read = kept.read nothing_read (of_tokens tokens (End end)) end refl (pieces_stand start (pieces program) (End end)) in (
-      record { functions = read.read },
-      record {
-        terminals = of_tokens tokens (End end);
-        read = record { tokens = tokens; end = None; cut = pieces_are_cut start (pieces program) (kept.spelled good); are = refl };
-        derives = read.are;
-      },
-      ap (λ (l : List Function). let p : Program = record { functions = l } in p) (sym read.same),
-    )
+    let raw = of_tokens cut.tokens (of_end (after start bytes) cut.end) in
+    let ver = begins_two raw in
+    let good : AreGood ver (in_version raw) = cut_is_good ver start bytes cut.tokens cut.end (after start bytes) cut.cut in
+    canonical_by ver h.terminals program (ap begins_two cut.are ∙ header_seen ver raw) (subst (λ ts. AreGood ver ts) (sym cut.are) good) h.derives
 
 -- the same of a text that is the canonical one
 pub printed : (bytes : List ℕ) (program : Program) (text : List ℕ) → text ≡ canonical program → IsText bytes program → IsTextOfSame program text
 printed bytes program text is h = let P : List ℕ → Type 0 = λ t. IsTextOfSame program t in subst P (sym is) (canonical_is_text bytes program h)
+
+-- the text of two parts
+pub text_of_both : (ps qs : List Piece) → text_of (ps ++ qs) ≡ text_of ps ++ text_of qs
+text_of_both [] qs = refl
+text_of_both (p ∷ ps) qs = ap (λ l. piece_text p ++ l) (text_of_both ps qs) ∙ sym (append_assoc (piece_text p) (text_of ps) (text_of qs))

@@ -1,5 +1,5 @@
 -- How statements are read from their pieces, each for itself and in a block.
-use Rattle.std.proofs.Common.{ℕ, ◌+◌, ◌≤◌, ◌≡◌, true, false, List, [], ◌∷◌, ◌++◌, map, refl, sym, ap, subst, ◌∙◌, arith}
+use Rattle.std.proofs.Common.{ℕ, Bool, ◌+◌, ◌≤◌, ◌≡◌, true, false, List, [], ◌∷◌, ◌++◌, map, refl, sym, ap, subst, ◌∙◌, arith}
 use Rattle.std.proofs.lemmas.List.{append_assoc, map-append}
 use Rattle.shim_base.specs.declared.Keyword.TheVariants as kw
 use Rattle.shim_base.specs.declared.Sign.TheVariants as g
@@ -12,11 +12,12 @@ use Rattle.shim_syntax.specs.Grammar.{Counts, at_level, new_body, behind_body, i
 use Rattle.shim_syntax.specs.Grammar as gr
 use Rattle.shim_syntax.specs.Printing.{Piece, StmtShown, stmt_shown, branch_pieces, all_pieces, end_pieces, block_pieces, fork_pieces, simple, ended, key, last}
 use Rattle.shim_syntax.specs.Same.{stmt_without_lines}
+use Rattle.shim_syntax.proofs.Pieces.{IsSeen}
 use Rattle.shim_syntax.proofs.Standing.{Stand, nothing, piece}
 use Rattle.shim_syntax.proofs.Shapes.{sign_spells}
 use Rattle.shim_syntax.proofs.Expressions.{IsAlike}
 use Rattle.shim_syntax.proofs.StatementShapes.{AreSame, AreSameBranches, branch_without_lines}
-use Rattle.shim_syntax.proofs.Parts.{Reading, IsDone, IsPart, Both, both, IsPiece, here, mapped, same_pieces, at_own_level}
+use Rattle.shim_syntax.proofs.Parts.{Reading, IsDone, IsPart, Both, both, both_behind, IsPiece, here, mapped, same_pieces, at_own_level}
 
 -- a statement
 abbrev pub One : Stmt → Reading
@@ -96,11 +97,11 @@ block_begins gr.block_end = (refl, refl)
 block_begins (gr.stmt _ h _) = stmt_begins h
 
 -- a piece that the source doesn't have
-pub own_piece : {l : ℕ} {v : Counts} {r : List Terminal} (p : Piece) → Spells p.text p.kind → IsWithinLimits p.text p.kind → IsPart l v v r r (p ∷ []) (IsPiece p)
-own_piece {l = l} {v = v} p spells fits = record {
+pub own_piece : {l : ℕ} {v : Counts} {r : List Terminal} (p : Piece) → Spells p.text p.kind → IsWithinLimits p.text p.kind → ((ver : Bool) → IsSeen ver p) → IsPart l v v r r (p ∷ []) (IsPiece p)
+own_piece {l = l} {v = v} p spells fits seen = record {
   deeper = omega arith;
   within = λ h. h;
-  spelled = λ good. ((spells, fits, tt), good);
+  spelled = λ ver good. ((spells, fits, seen ver, tt), good);
   read = read;
 } where
   read : (k : ℕ) (a : Counts) (t q : List Terminal) → k + v.deepest ≤ l + 64 → IsAlike v a → Stand (p ∷ []) t q → IsDone (IsPiece p) k v a t q
@@ -108,14 +109,14 @@ own_piece {l = l} {v = v} p spells fits = record {
 
 -- a terminal that the pieces don't have
 pub behind_terminal : {l : ℕ} {v w : Counts} {x : Terminal} {s r : List Terminal} {ps : List Piece} {R : Reading} → IsPart l v w s r ps R → IsPart l v w (x ∷ s) r ps R
-behind_terminal part = record { deeper = part.deeper; within = part.within; spelled = λ good. part.spelled good.1; read = part.read }
+behind_terminal part = record { deeper = part.deeper; within = part.within; spelled = λ ver good. part.spelled ver good.1; read = part.read }
 
 -- a part behind which nothing that counts was read
 pub with_idle : {l : ℕ} {v u w : Counts} {s m r : List Terminal} {ps qs : List Piece} {R Q : Reading} → IsPart l v u s m ps R → IsPart l u w m r qs Q → IsAlike u w → IsPart l v w s r ps R
 with_idle one two alike = record {
   deeper = omega (arith, one.deeper, two.deeper);
   within = λ h. two.within (one.within h);
-  spelled = λ good. let first_part = one.spelled good in (first_part.0, (two.spelled first_part.1).1);
+  spelled = λ ver good. let first_part = one.spelled ver good in (first_part.0, (two.spelled ver first_part.1).1);
   read = λ k a t q room start stand.
       let deeper = two.deeper in
       let done = one.read k a t q (omega (arith, room, deeper)) start stand in
@@ -173,6 +174,18 @@ stmts_more xs ys one two = same_pieces (sym (all_of_both xs ys)) (mapped build (
         subst P (sym (append_assoc us vs zs)) (us_before c z (vs ++ zs) (vs_before c z zs more)),
   )
 
+-- the same where both stand behind one terminal
+pub stmts_more_behind : {l : ℕ} {v u w : Counts} {x : Terminal} {s m r : List Terminal} (xs ys : List Stmt) → IsStmtsPart l v u (x ∷ s) m xs → IsStmtsPart l u w (x ∷ m) r ys → IsStmtsPart l v w (x ∷ s) r (xs ++ ys)
+stmts_more_behind xs ys one two = same_pieces (sym (all_of_both xs ys)) (mapped build (both_behind one two)) where
+  build : (k : ℕ) (a b : Counts) (t q : List Terminal) → Both (Stmts xs) (Stmts ys) k a b t q → Stmts (xs ++ ys) k a b t q
+  build k a b t q (_, _, (us, us_same, us_before), (vs, vs_same, vs_before)) = (
+    us ++ vs,
+    same_both xs ys us vs us_same vs_same,
+    λ c z zs more.
+        let P : List Stmt → Type 0 = λ l. IsBlock limits k a c t z l in
+        subst P (sym (append_assoc us vs zs)) (us_before c z (vs ++ zs) (vs_before c z zs more)),
+  )
+
 -- statements and then the rest of a block
 pub stmts_block : {l : ℕ} {v u w : Counts} {s m r : List Terminal} (xs ys : List Stmt) → IsStmtsPart l v u s m xs → IsBlockPart l u w m r ys → IsBlockPart l v w s r (xs ++ ys)
 stmts_block xs ys one two =
@@ -215,7 +228,7 @@ close xs k a _ t q (_, _, (ys, same, before), here p) = (ys ++ [], ap (λ (l : L
 -- statements without braces, as a body
 pub braced : {l : ℕ} {v w : Counts} {s r : List Terminal} (xs : List Stmt) → IsStmtsPart l v w s r xs → IsBodyPart l v w s r xs
 braced xs part =
-    let block = mapped (close xs) (both part (own_piece (last g.RightBrace) (sign_spells g.RightBrace) tt)) in
-    mapped build (both (own_piece (last g.LeftBrace) (sign_spells g.LeftBrace) tt) (into_body block)) where
+    let block = mapped (close xs) (both part (own_piece (last g.RightBrace) (sign_spells g.RightBrace) tt (λ ver place. refl))) in
+    mapped build (both (own_piece (last g.LeftBrace) (sign_spells g.LeftBrace) tt (λ ver place. refl)) (into_body block)) where
       build : (k : ℕ) (a b : Counts) (t q : List Terminal) → Both (IsPiece (last g.LeftBrace)) (InBody (Block xs)) k a b t q → Body xs k a b t q
       build k a _ _ q (_, _, here p, in_body (ys, same, block)) = (ys, same, λ no_par. gr.body_block block no_par)

@@ -4,7 +4,7 @@ use Rattle.std.proofs.lemmas.List.{append_assoc}
 use Rattle.shim_base.specs.declared.Keyword.TheVariants as kw
 use Rattle.shim_base.specs.declared.Sign.TheVariants as g
 use Rattle.shim_base.specs.declared.Ty.{Ty}
-use Rattle.shim_base.specs.declared.Ty.TheVariants.{Bool as BoolTy, Int8, Int16, Int32, Uint8, Uint16, Uint32}
+use Rattle.shim_base.specs.declared.Ty.TheVariants.{Bool as BoolTy, Int8, Int16, Int32, Uint8, Uint16, Uint32, Int64}
 use Rattle.shim_base.specs.Tokens.{Place}
 use Rattle.shim_syntax.specs.declared.limits.Many.TheVariants.{Locals}
 use Rattle.shim_syntax.specs.declared.tree.Sort.{Sort as SortOf}
@@ -16,19 +16,18 @@ use Rattle.shim_syntax.specs.Terminals.{Terminal, Name, Sort, Key, Sign}
 use Rattle.shim_syntax.specs.Limits.{Count, Nesting, is_within, limits}
 use Rattle.shim_syntax.specs.Grammar.{Counts, at_level, with_local, IsWhole, IsArguments, IsDeclared, IsDeclarations, IsFirst, IsTest, IsStep}
 use Rattle.shim_syntax.specs.Grammar as gr
-use Rattle.shim_syntax.specs.Printing.{Piece, StmtShown, stmt_shown, simple, key, sign, name, last, key_of_type, key_of_sort, expr_pieces, args_pieces, first_value_pieces, test_pieces, part_pieces}
+use Rattle.shim_syntax.specs.Printing.{Piece, StmtShown, stmt_shown, simple, key, sign, name, last, type_piece, sort_piece, expr_pieces, args_pieces, first_value_pieces, test_pieces, part_pieces}
 use Rattle.shim_syntax.proofs.Standing.{Stand, nothing, piece}
-use Rattle.shim_syntax.proofs.Shapes.{key_spells}
 use Rattle.shim_syntax.proofs.Expressions.{IsAlike, level_of}
 use Rattle.shim_syntax.proofs.StatementShapes.{AreSame, other_line, declare_shown, assign_shown, next_shown, next_assign_shown, assign_next_shown, get_shown, put_shown, call_shown, throw_shown}
-use Rattle.shim_syntax.proofs.Parts.{Reading, IsDone, IsPart, Both, both, IsPiece, here, front_name, front_key, front_sign, front_last, mapped, same_pieces, from_level, at_own_level, Whole, whole_part, Arguments, args_part}
-use Rattle.shim_syntax.proofs.Readings.{One, IsStmtsPart, own_piece, behind_terminal, simple_pieces, one_stmt, stmts_more}
+use Rattle.shim_syntax.proofs.Parts.{Reading, IsDone, IsPart, Both, both, IsPiece, here, front_name, front_key, front_type, front_sign, front_last, mapped, same_pieces, from_level, at_own_level, Whole, whole_part, Arguments, args_part}
+use Rattle.shim_syntax.proofs.Readings.{One, IsStmtsPart, simple_pieces, one_stmt, stmts_more_behind}
 
 -- the word of a sort
 pub data IsSort (sort : SortOf) : ℕ → Counts → Counts → List Terminal → List Terminal → Type 0 where
   is_sort : {k : ℕ} {a : Counts} {q : List Terminal} (place : Place) → IsSort sort k a a (Sort sort place ∷ q) q
 
-type_read : (ty : Ty) (k : ℕ) (a b : Counts) (t q : List Terminal) → IsPiece (key (key_of_type ty)) k a b t q → IsSort (Value ty) k a b t q
+type_read : (ty : Ty) (k : ℕ) (a b : Counts) (t q : List Terminal) → IsPiece (type_piece ty) k a b t q → IsSort (Value ty) k a b t q
 type_read BoolTy k a _ _ q (here place) = is_sort place
 type_read Int8 k a _ _ q (here place) = is_sort place
 type_read Int16 k a _ _ q (here place) = is_sort place
@@ -36,8 +35,9 @@ type_read Int32 k a _ _ q (here place) = is_sort place
 type_read Uint8 k a _ _ q (here place) = is_sort place
 type_read Uint16 k a _ _ q (here place) = is_sort place
 type_read Uint32 k a _ _ q (here place) = is_sort place
+type_read Int64 k a _ _ q (here place) = is_sort place
 
-pub sort_read : (sort : SortOf) (k : ℕ) (a b : Counts) (t q : List Terminal) → IsPiece (key (key_of_sort sort)) k a b t q → IsSort sort k a b t q
+pub sort_read : (sort : SortOf) (k : ℕ) (a b : Counts) (t q : List Terminal) → IsPiece (sort_piece sort) k a b t q → IsSort sort k a b t q
 sort_read (Value ty) k a b t q h = type_read ty k a b t q h
 sort_read Input k a _ _ q (here place) = is_sort place
 sort_read Output k a _ _ q (here place) = is_sort place
@@ -50,7 +50,7 @@ local_part : {l : ℕ} {v : Counts} {r : List Terminal} (x : List ℕ) (p : Plac
 local_part {l = l} {v = v} x p fits = record {
   deeper = omega arith;
   within = λ h. h;
-  spelled = λ good. ((good.0.0, good.0.1, tt), good.1);
+  spelled = λ ver good. ((good.0.0, good.0.1, good.0.2, tt), good.1);
   read = read;
 } where
   read : (k : ℕ) (a : Counts) (t q : List Terminal) → k + v.deepest ≤ l + 64 → IsAlike v a → Stand (name x ∷ []) t q → IsDone (IsLocal x) k (with_local v) a t q
@@ -77,31 +77,32 @@ abbrev declare_stmt : ℕ → Ty → List ℕ → Option Expr → Stmt
 declare_stmt line ty x value = record { line = line; what = st.Declare ty x value }
 
 -- one declared name is a statement
-one_declared : {l : ℕ} {v w : Counts} {y : Terminal} {s r : List Terminal} (line : ℕ) (ty : Ty) (x : List ℕ) (value : Option Expr) → l ≤ v.deepest → IsDeclared limits l v w s (y ∷ r) x value →
-    IsStmtsPart l v w s r (declare_stmt line ty x value ∷ [])
+one_declared : {l : ℕ} {v w : Counts} {y : Terminal} {p : Place} {s r : List Terminal} (line : ℕ) (ty : Ty) (x : List ℕ) (value : Option Expr) → l ≤ v.deepest → IsDeclared limits l v w s (y ∷ r) x value →
+    IsStmtsPart l v w (Sort (Value ty) p ∷ s) r (declare_stmt line ty x value ∷ [])
 one_declared line ty x value some h =
     one_stmt (declare_stmt line ty x value) some
-    (same_pieces (simple_pieces (declare_stmt line ty x value) (key (key_of_type ty) ∷ name x ∷ first_value_pieces value) (declare_shown line ty x value))
-    (mapped build (both (own_piece (key (key_of_type ty)) (key_spells (key_of_type ty)) tt) (both (declared_part h) (front_last g.Semicolon))))) where
+    (same_pieces (simple_pieces (declare_stmt line ty x value) (type_piece ty ∷ name x ∷ first_value_pieces value) (declare_shown line ty x value))
+    (mapped build (both (front_type ty) (both (declared_part h) (front_last g.Semicolon))))) where
       behind_type : (k : ℕ) (a c b : Counts) (t m q : List Terminal) → IsSort (Value ty) k a c t m → Both (Declared x value) (IsPiece (last g.Semicolon)) k c b m q →
           One (declare_stmt line ty x value) k a b t q
       behind_type k a _ _ _ m q (is_sort place) (_, _, declared, here o) =
           (declare_stmt place.line ty x value, other_line place.line line (st.Declare ty x value), λ no_par no_else. gr.plain (gr.declare (gr.last_declared declared)))
 
-      build : (k : ℕ) (a b : Counts) (t q : List Terminal) → Both (IsPiece (key (key_of_type ty))) (Both (Declared x value) (IsPiece (last g.Semicolon))) k a b t q →
+      build : (k : ℕ) (a b : Counts) (t q : List Terminal) → Both (IsPiece (type_piece ty)) (Both (Declared x value) (IsPiece (last g.Semicolon))) k a b t q →
           One (declare_stmt line ty x value) k a b t q
       build k a b t q (c, m, word, rest) = behind_type k a c b t m q (type_read ty k a c t m word) rest
 
 -- the declarations behind a type
-declarations : (l line : ℕ) (ty : Ty) (v w : Counts) (s r : List Terminal) (xs : List Stmt) → l ≤ v.deepest → IsDeclarations limits l ty line v w s r xs → IsStmtsPart l v w s r xs
-declarations l line ty v w s r _ some (gr.last_declared {x = x} {value = value} h) = one_declared line ty x value some h
-declarations l line ty v w s r _ some (gr.declared {u = u} {m = m} {x = x} {value = value} {xs = xs} h more) =
-    let here_part = one_declared line ty x value some h in
-    stmts_more (declare_stmt line ty x value ∷ []) xs here_part (declarations l line ty u w m r xs (omega (arith, some, here_part.deeper)) more)
+declarations : (l line : ℕ) (ty : Ty) (v w : Counts) (p : Place) (s r : List Terminal) (xs : List Stmt) → l ≤ v.deepest → IsDeclarations limits l ty line v w s r xs
+    → IsStmtsPart l v w (Sort (Value ty) p ∷ s) r xs
+declarations l line ty v w p s r _ some (gr.last_declared {x = x} {value = value} h) = one_declared line ty x value some h
+declarations l line ty v w p s r _ some (gr.declared {u = u} {m = m} {x = x} {value = value} {xs = xs} h more) =
+    let here_part = one_declared {p = p} line ty x value some h in
+    stmts_more_behind (declare_stmt line ty x value ∷ []) xs here_part (declarations l line ty u w p m r xs (omega (arith, some, here_part.deeper)) more)
 
-pub declare_part : {l line : ℕ} {ty : Ty} {v w : Counts} {y : Terminal} {s r : List Terminal} {xs : List Stmt} → l ≤ v.deepest → IsDeclarations limits l ty line v w s r xs →
-    IsStmtsPart l v w (y ∷ s) r xs
-declare_part {l = l} {line = line} {ty = ty} {v = v} {w = w} {s = s} {r = r} {xs = xs} some h = behind_terminal (declarations l line ty v w s r xs some h)
+pub declare_part : {l line : ℕ} {ty : Ty} {v w : Counts} {p : Place} {s r : List Terminal} {xs : List Stmt} → l ≤ v.deepest → IsDeclarations limits l ty line v w s r xs →
+    IsStmtsPart l v w (Sort (Value ty) p ∷ s) r xs
+declare_part {l = l} {line = line} {ty = ty} {v = v} {w = w} {p = p} {s = s} {r = r} {xs = xs} some h = declarations l line ty v w p s r xs some h
 
 pub assign_part : {l : ℕ} {v w : Counts} {p e o : Place} {s r : List Terminal} {x : List ℕ} {value : Expr} (line : ℕ) → l ≤ v.deepest → IsWhole limits l v w s (Sign g.Semicolon o ∷ r) value →
     IsStmtsPart l v w (Name x p ∷ Sign g.Equal e ∷ s) r (record { line = line; what = st.Assign x value } ∷ [])
@@ -218,8 +219,8 @@ first_part gr.no_first = mapped build (front_sign g.Semicolon) where
   build : (k : ℕ) (a b : Counts) (t q : List Terminal) → IsPiece (sign g.Semicolon) k a b t q → First [] k a b t q
   build k a _ _ q (here p) = ([], refl, gr.no_first)
 first_part {l = l} (gr.first_declare {ty = ty} {p = p} {x = x} {value = value} fits h) =
-    let part = both (front_key (key_of_type ty)) (both (declared_part h) (front_sign g.Semicolon)) in
-    same_pieces (one_part (declare_stmt p.line ty x value) (key (key_of_type ty) ∷ name x ∷ first_value_pieces value) (sign g.Semicolon ∷ []) (declare_shown p.line ty x value))
+    let part = both (front_type ty) (both (declared_part h) (front_sign g.Semicolon)) in
+    same_pieces (one_part (declare_stmt p.line ty x value) (type_piece ty ∷ name x ∷ first_value_pieces value) (sign g.Semicolon ∷ []) (declare_shown p.line ty x value))
     (mapped build (from_level l (level_of l fits) (at_own_level (omega (arith, part.deeper)) part))) where
       behind_type : (k : ℕ) (a c b : Counts) (t m q : List Terminal) → is_within Nesting k ≡ true → IsSort (Value ty) k (at_level k a) c t m →
           Both (Declared x value) (IsPiece (sign g.Semicolon)) k c b m q →
@@ -228,7 +229,7 @@ first_part {l = l} (gr.first_declare {ty = ty} {p = p} {x = x} {value = value} f
           (declare_stmt place.line ty x value ∷ [], ap (λ (z : Stmt). z ∷ []) (other_line place.line p.line (st.Declare ty x value)), gr.first_declare level declared)
 
       build : (k : ℕ) (a b : Counts) (t q : List Terminal) →
-          (is_within Nesting k ≡ true) × Both (IsPiece (key (key_of_type ty))) (Both (Declared x value) (IsPiece (sign g.Semicolon))) k (at_level k a) b t q →
+          (is_within Nesting k ≡ true) × Both (IsPiece (type_piece ty)) (Both (Declared x value) (IsPiece (sign g.Semicolon))) k (at_level k a) b t q →
           First (declare_stmt p.line ty x value ∷ []) k a b t q
       build k a b t q (level, (c, m, word, rest)) = behind_type k a c b t m q level (type_read ty k (at_level k a) c t m word) rest
 first_part {l = l} (gr.first_assign {x = x} {p = p} {value = value} fits h) =

@@ -11,7 +11,7 @@ use Rattle.shim_syntax.specs.declared.tree.What.TheVariants as st
 use Rattle.shim_syntax.specs.declared.tree.Branch.{Branch, Branch-F, roll-Branch, fold-Branch, fold-roll-Branch}
 use Rattle.shim_syntax.specs.declared.tree.BranchWhat.{BranchWhat, BranchWhat-F, roll-BranchWhat, fold-BranchWhat, fold-roll-BranchWhat}
 use Rattle.shim_syntax.specs.declared.tree.BranchWhat.TheVariants as br
-use Rattle.shim_syntax.specs.Printing.{Piece, StmtShown, stmt_step, branch_step, stmt_shown, branch_pieces, key, sign, name, last, simple, ended, key_of_type, expr_pieces, first_value_pieces, test_pieces, call_pieces, block_pieces, else_pieces, part_pieces, fork_pieces}
+use Rattle.shim_syntax.specs.Printing.{Piece, StmtShown, stmt_step, branch_step, stmt_shown, branch_pieces, key, sign, name, last, simple, ended, type_piece, expr_pieces, first_value_pieces, test_pieces, call_pieces, block_pieces, else_pieces, part_pieces, fork_pieces}
 use Rattle.shim_syntax.specs.Same.{stmt_without_lines}
 
 -- what a statement does, as it shows
@@ -30,7 +30,7 @@ unfolding denote.Hole.Carrier.roll
 branch_is n w = fold-roll-Branch (List Piece) StmtShown (List Piece) StmtShown branch_step stmt_step (λ b. b.what) (λ s. s.what) (record { line = n; what = w })
 
 pub declare_shown : (n : ℕ) (ty : Ty) (x : List ℕ) (value : Option Expr) → stmt_shown (record { line = n; what = st.Declare ty x value }) ≡
-    simple (key (key_of_type ty) ∷ name x ∷ first_value_pieces value)
+    simple (type_piece ty ∷ name x ∷ first_value_pieces value)
 unfolding roll-What denote.Hole.Carrier.roll
 declare_shown n ty x value =
     stmt_is n (st.Declare ty x value)

@@ -83,7 +83,7 @@ no_stmts k a _ _ q (here p) = ([], refl, gr.block_end)
 
 -- the empty statement is none
 no_stmt : {l : ℕ} {v : Counts} {p : Place} {r : List Terminal} → IsStmtsPart l v v (Sign g.Semicolon p ∷ r) r []
-no_stmt {l = l} {v = v} = record { deeper = omega arith; within = λ h. h; spelled = λ good. (tt, good.1); read = read } where
+no_stmt {l = l} {v = v} = record { deeper = omega arith; within = λ h. h; spelled = λ ver good. (tt, good.1); read = read } where
   read : (k : ℕ) (a : Counts) (t q : List Terminal) → k + v.deepest ≤ l + 64 → IsAlike v a → Stand [] t q → IsDone (Stmts []) k v a t q
   read k a _ q room alike nothing = record { behind = a; alike = alike; is = ([], refl, λ c z zs more. more) }
 

@@ -19,7 +19,7 @@ use Rattle.std.proofs.lemmas.Slice.Eq.{bytes_eq-Decides}
 use Rattle.shim_syntax.specs.Names.{Texts, unless_there, with_name}
 use Rattle.shim_syntax.specs.Table.{IsIndex, against_key, number_at}
 
-abbrev is_name : List ℕ → List ℕ → Bool
+abbrev pub is_name : List ℕ → List ℕ → Bool
 is_name x n = bytes_eq n x
 
 -- ---- places in a list
@@ -39,10 +39,10 @@ at_the_end : (a n q m : ℕ) → a ≤ n → n ≤ a → m ≡ n + 1 → q ≡ c
 at_the_end a n q m h g l e = grind (arith, nat_tests)
 
 module _ (p : List ℕ → Bool) (xs : Texts) where
-  found_there : is_some (position p xs) ≡ true → find p xs ≡ Some (get_or xs (position_or_len p xs) [])
+  pub found_there : is_some (position p xs) ≡ true → find p xs ≡ Some (get_or xs (position_or_len p xs) [])
   found_there h = find_at p xs ∙ slice_get-get_or xs (position_or_len p xs) [] (within _ _ h)
 
-  found_nowhere : position p xs ≡ None → find p xs ≡ None
+  pub found_nowhere : position p xs ≡ None → find p xs ≡ None
   found_nowhere h = find_at p xs ∙ slice_get_past xs (position_or_len p xs) (past _ _ h)
 
   place_with : (y : List ℕ) (b : Bool) → p y ≡ b → position_or_len p (xs ++ y ∷ []) ≡ cond (nat_eq (position_or_len p xs) (length xs)) (length xs + cond b 0 1) (position_or_len p xs)

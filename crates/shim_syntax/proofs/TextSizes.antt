@@ -10,6 +10,7 @@ use Rattle.shim_syntax.specs.declared.tree.Branch.{Branch}
 use Rattle.shim_syntax.specs.declared.tree.BranchWhat.TheVariants as br
 use Rattle.shim_syntax.specs.declared.tree.Param.{Param}
 use Rattle.shim_syntax.specs.declared.tree.Function.{Function}
+use Rattle.shim_syntax.specs.declared.tree.Program.{Program}
 use Rattle.shim_syntax.specs.Terminals.{Terminal}
 use Rattle.shim_syntax.specs.Limits.{Limits}
 use Rattle.shim_syntax.specs.Grammar as is
@@ -145,5 +146,6 @@ functions_read is.program_end = omega arith
 functions_read (is.another_function h d t) = omega (arith, function_read d, functions_read t)
 
 -- a program is no larger than its terminals
-pub program_read : {c : Limits} {ts : List Terminal} {fs : List Function} → Derives c ts fs → functions_size fs ≤ length ts
-program_read d = omega (arith, functions_read d)
+pub program_read : {c : Limits} {ts : List Terminal} {p : Program} → Derives c ts p → functions_size p.functions ≤ length ts
+program_read (is.version_1 d) = omega (arith, functions_read d)
+program_read (is.version_2 shim two d) = omega (arith, functions_read d)

@@ -20,7 +20,8 @@ use Rattle.shim_syntax.specs.declared.tree.Branch.{Branch}
 use Rattle.shim_syntax.specs.declared.tree.BranchWhat.TheVariants as br
 use Rattle.shim_syntax.specs.declared.tree.Param.{Param}
 use Rattle.shim_syntax.specs.declared.tree.Function.{Function}
-use Rattle.shim_syntax.specs.Terminals.{Terminal, Name, Number, Sort, Key, Sign, End, first}
+use Rattle.shim_syntax.specs.declared.tree.Program.{Program}
+use Rattle.shim_syntax.specs.Terminals.{Terminal, Name, Number, Sort, Key, Sign, End, first, is_shim, is_two}
 use Rattle.shim_syntax.specs.Limits.{Limits, Nesting, Count}
 
 -- what is counted as the terminals are read
@@ -313,6 +314,12 @@ pub data IsFunctions (c : Limits) : ℕ → Counts → List Terminal → List Te
   another_function : {n : ℕ} {v w : Counts} {s m r : List Terminal} {f : Function} {fs : List Function} → c s (Count Functions) (suc n) ≡ true → IsFunction c v w s m f
       → IsFunctions c (suc n) w m r fs → IsFunctions c n v s r (f ∷ fs)
 
--- the terminals, with the end of the text, derive a program of these functions
-abbrev pub Derives : Limits → List Terminal → List Function → Type 0
-Derives c ts fs = IsFunctions c 0 nothing_read ts [] fs
+-- A program, up to the end of the text and with it. Version 2 stands behind a header.
+pub data IsProgram (c : Limits) : Counts → List Terminal → List Terminal → Program → Type 0 where
+  version_1 : {v : Counts} {s r : List Terminal} {fs : List Function} → IsFunctions c 0 v s r fs → IsProgram c v s r (record { version = 1; functions = fs })
+  version_2 : {v : Counts} {x y : Terminal} {p : Place} {s r : List Terminal} {fs : List Function} → is_shim x ≡ true → is_two y ≡ true → IsFunctions c 0 v s r fs
+      → IsProgram c v (x ∷ y ∷ Sign g.Semicolon p ∷ s) r (record { version = 2; functions = fs })
+
+-- the terminals, with the end of the text, derive the program
+abbrev pub Derives : Limits → List Terminal → Program → Type 0
+Derives c ts p = IsProgram c nothing_read ts [] p

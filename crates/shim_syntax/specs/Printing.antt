@@ -1,5 +1,5 @@
 -- The canonical text of a program. It is made of pieces: tokens, behind each of which a line ends or a space stands.
-use Rattle.std.specs.Prelude.{ℕ, ℤ, List, [], ◌∷◌, ◌++◌, map, flat_map, Option, Some, None, Bool, true, false, if◌then◌else◌, nat_lt, nat_le, codes}
+use Rattle.std.specs.Prelude.{ℕ, ℤ, pos, ◌==◌, List, [], ◌∷◌, ◌++◌, map, flat_map, Option, Some, None, Bool, true, false, if◌then◌else◌, nat_lt, nat_le, codes}
 use Rattle.std.specs.Fmt.{signed_decimal}
 use Rattle.shim_base.specs.declared.token.TokenKind.{TokenKind}
 use Rattle.shim_base.specs.declared.token.TokenKind.TheVariants.{Word, Key, Number, Sign}
@@ -8,7 +8,7 @@ use Rattle.shim_base.specs.declared.token.Keyword.TheVariants as k
 use Rattle.shim_base.specs.declared.token.Sign.{Sign as SignOf}
 use Rattle.shim_base.specs.declared.token.Sign.TheVariants as g
 use Rattle.shim_base.specs.declared.types.Ty.{Ty}
-use Rattle.shim_base.specs.declared.types.Ty.TheVariants.{Bool as BoolTy, Int8, Int16, Int32, Uint8, Uint16, Uint32}
+use Rattle.shim_base.specs.declared.types.Ty.TheVariants.{Bool as BoolTy, Int8, Int16, Int32, Uint8, Uint16, Uint32, Int64}
 use Rattle.shim_base.specs.declared.operators.BinOp.{BinOp}
 use Rattle.shim_base.specs.declared.operators.BinOp.TheVariants as op
 use Rattle.shim_base.specs.declared.operators.UnOp.{UnOp}
@@ -30,6 +30,8 @@ pub record Piece : Type 0 where
   pub text : List ℕ
   -- whether a line ends behind it
   pub ends_line : Bool
+  -- whether it is a word that is a type in version 2 alone
+  pub is_type : Bool
 
 -- a piece, with the line feed or the space behind it
 abbrev pub piece_text : Piece → List ℕ
@@ -95,21 +97,21 @@ sign_text g.Less = codes "<"
 sign_text g.Greater = codes ">"
 
 abbrev pub key : Keyword → Piece
-key word = record { kind = Key word; text = key_text word; ends_line = false }
+key word = record { kind = Key word; text = key_text word; ends_line = false; is_type = false }
 
 abbrev pub sign : SignOf → Piece
-sign s = record { kind = Sign s; text = sign_text s; ends_line = false }
+sign s = record { kind = Sign s; text = sign_text s; ends_line = false; is_type = false }
 
 abbrev pub name : List ℕ → Piece
-name x = record { kind = Word; text = x; ends_line = false }
+name x = record { kind = Word; text = x; ends_line = false; is_type = false }
 
 -- No text has a number below 0; one would be shown with its sign.
 abbrev pub number : ℤ → Piece
-number n = record { kind = Number n; text = signed_decimal n; ends_line = false }
+number n = record { kind = Number n; text = signed_decimal n; ends_line = false; is_type = false }
 
 -- a sign behind which a line ends
 abbrev pub last : SignOf → Piece
-last s = record { kind = Sign s; text = sign_text s; ends_line = true }
+last s = record { kind = Sign s; text = sign_text s; ends_line = true; is_type = false }
 
 -- the row of an operator with two operands, from the one that binds tightest
 abbrev pub row_of_operator : BinOp → ℕ
@@ -157,19 +159,20 @@ sign_of_unary Neg = g.Minus
 sign_of_unary Not = g.Bang
 sign_of_unary Flip = g.Tilde
 
-abbrev pub key_of_type : Ty → Keyword
-key_of_type BoolTy = k.Bool
-key_of_type Int8 = k.Int8
-key_of_type Int16 = k.Int16
-key_of_type Int32 = k.Int32
-key_of_type Uint8 = k.Uint8
-key_of_type Uint16 = k.Uint16
-key_of_type Uint32 = k.Uint32
+abbrev pub type_piece : Ty → Piece
+type_piece Int64 = record { kind = Word; text = codes "int64"; ends_line = false; is_type = true }
+type_piece BoolTy = key k.Bool
+type_piece Int8 = key k.Int8
+type_piece Int16 = key k.Int16
+type_piece Int32 = key k.Int32
+type_piece Uint8 = key k.Uint8
+type_piece Uint16 = key k.Uint16
+type_piece Uint32 = key k.Uint32
 
-abbrev pub key_of_sort : Sort → Keyword
-key_of_sort (Value ty) = key_of_type ty
-key_of_sort Input = k.Istream
-key_of_sort Output = k.Ostream
+abbrev pub sort_piece : Sort → Piece
+sort_piece (Value ty) = type_piece ty
+sort_piece Input = key k.Istream
+sort_piece Output = key k.Ostream
 
 -- the row of an expression's outermost operator where it has two operands, and else 0; and the pieces
 pub record ExprShown : Type 0 where
@@ -267,7 +270,7 @@ abbrev pub ended : List Piece → StmtShown
 ended ps = record { pieces = ps; semicolon = false }
 
 abbrev pub stmt_step : What-F (List Piece) StmtShown (List Piece) StmtShown → StmtShown
-stmt_step (What-F.Declare ty x value) = simple (key (key_of_type ty) ∷ name x ∷ first_value_pieces value)
+stmt_step (What-F.Declare ty x value) = simple (type_piece ty ∷ name x ∷ first_value_pieces value)
 stmt_step (What-F.Assign x value) = simple (name x ∷ sign g.Equal ∷ expr_pieces value)
 stmt_step (What-F.Next x) = simple (key k.Next ∷ name x ∷ [])
 stmt_step (What-F.NextAssign x value) = simple (key k.Next ∷ name x ∷ sign g.Equal ∷ expr_pieces value)
@@ -295,7 +298,7 @@ reference_pieces true = sign g.Amp ∷ []
 reference_pieces false = []
 
 abbrev pub param_pieces : Param → List Piece
-param_pieces p = key (key_of_sort p.sort) ∷ (reference_pieces p.by_ref ++ name p.name ∷ [])
+param_pieces p = sort_piece p.sort ∷ (reference_pieces p.by_ref ++ name p.name ∷ [])
 
 abbrev pub more_params_pieces : List Param → List Piece
 more_params_pieces [] = []
@@ -321,8 +324,14 @@ abbrev pub functions_pieces : List Function → List Piece
 functions_pieces [] = []
 functions_pieces (f ∷ fs) = function_pieces f ++ functions_pieces fs
 
+abbrev pub two : Piece
+two = record { kind = Number (pos 2); text = codes "2"; ends_line = false; is_type = false }
+
+abbrev pub header_pieces : ℕ → List Piece
+header_pieces version = if version == 2 then name (codes "shim") ∷ two ∷ last g.Semicolon ∷ [] else []
+
 abbrev pub pieces : Program → List Piece
-pieces program = functions_pieces program.functions
+pieces program = header_pieces program.version ++ functions_pieces program.functions
 
 abbrev pub canonical : Program → List ℕ
 canonical program = text_of (pieces program)

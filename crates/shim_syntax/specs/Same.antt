@@ -19,7 +19,7 @@ abbrev pub function_without_lines : Function → Function
 function_without_lines f = record { line = 0; name = f.name; params = f.params; throws = f.throws; body = map stmt_without_lines f.body }
 
 abbrev pub without_lines : Program → Program
-without_lines p = record { functions = map function_without_lines p.functions }
+without_lines p = record { version = p.version; functions = map function_without_lines p.functions }
 
 -- two programs that differ in lines alone
 abbrev pub Same : Program → Program → Type 0

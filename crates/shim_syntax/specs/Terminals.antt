@@ -1,12 +1,15 @@
 -- What the grammar sees of a token: its kind, the name or the number that it is, and where it stands.
-use Rattle.std.specs.Prelude.{ℕ, ℤ, pos, ◌≡◌, List, [], ◌∷◌, Option, Some, None}
+use Rattle.std.specs.Prelude.{ℕ, ℤ, pos, ◌≡◌, List, [], ◌∷◌, Option, Some, None, Bool, true, false, ◌&&◌, if◌then◌else◌, map, codes}
+use Rattle.std.specs.Ordering.{int_eq}
+use Rattle.std.specs.Str.{bytes_eq}
 use Rattle.shim_base.specs.declared.token.TokenKind.{TokenKind}
 use Rattle.shim_base.specs.declared.token.TokenKind.TheVariants.{Word, Key as KeyKind, Number as NumberKind, Sign as SignKind}
 use Rattle.shim_base.specs.declared.token.LexKind.{LexKind}
 use Rattle.shim_base.specs.declared.token.Keyword.{Keyword}
 use Rattle.shim_base.specs.declared.token.Keyword.TheVariants as k
 use Rattle.shim_base.specs.declared.token.Sign.{Sign as SignOf}
-use Rattle.shim_base.specs.declared.types.Ty.TheVariants.{Bool as BoolTy, Int8, Int16, Int32, Uint8, Uint16, Uint32}
+use Rattle.shim_base.specs.declared.token.Sign.TheVariants as g
+use Rattle.shim_base.specs.declared.types.Ty.TheVariants.{Bool as BoolTy, Int8, Int16, Int32, Uint8, Uint16, Uint32, Int64}
 use Rattle.shim_base.specs.Tokens.{Token, Place, Fault, Cuts, start, after}
 use Rattle.shim_syntax.specs.declared.tree.Sort.{Sort as SortOf}
 use Rattle.shim_syntax.specs.declared.tree.Sort.TheVariants.{Value, Input, Output}
@@ -59,12 +62,22 @@ abbrev pub of_tokens : List Token → Terminal → List Terminal
 of_tokens [] last = last ∷ []
 of_tokens (t ∷ tokens) last = of_token t ∷ of_tokens tokens last
 
--- The bytes are cut into these: the tokens, and then the end of the text or the fault that ends the cutting.
-pub record IsRead (bytes : List ℕ) (ts : List Terminal) : Type 0 where
-  pub tokens : List Token
-  pub end : Option Fault
-  pub cut : Cuts start bytes tokens end
-  pub are : ts ≡ of_tokens tokens (of_end (after start bytes) end)
+-- the word that is a type in version 2
+abbrev pub new_word : List ℕ
+new_word = codes "int64"
+
+abbrev pub of_word : Bool → List ℕ → Place → Terminal
+of_word two x p = if two && bytes_eq x new_word then Sort (Value Int64) p else Name x p
+
+-- a terminal as it is seen in version 1 or 2
+abbrev pub of_version : Bool → Terminal → Terminal
+of_version two (Name x p) = of_word two x p
+of_version two (Number n p) = Number n p
+of_version two (Sort sort p) = Sort sort p
+of_version two (Key key p) = Key key p
+of_version two (Sign sign p) = Sign sign p
+of_version two (End p) = End p
+of_version two (Broken kind p) = Broken kind p
 
 abbrev pub place_of : Terminal → Place
 place_of (Name text p) = p
@@ -79,3 +92,33 @@ place_of (Broken kind p) = p
 abbrev pub first : List Terminal → Terminal
 first [] = End start
 first (t ∷ ts) = t
+
+abbrev pub rest : List Terminal → List Terminal
+rest [] = []
+rest (t ∷ ts) = ts
+
+abbrev pub is_shim : Terminal → Bool
+is_shim (Name x p) = bytes_eq x (codes "shim")
+is_shim _ = false
+
+abbrev pub is_two : Terminal → Bool
+is_two (Number n p) = int_eq n (pos 2)
+is_two _ = false
+
+abbrev pub is_semicolon : Terminal → Bool
+is_semicolon (Sign g.Semicolon p) = true
+is_semicolon _ = false
+
+-- a text of version 2 begins with `shim`, a number of value 2 and `;`
+abbrev pub begins_two : List Terminal → Bool
+begins_two ts = is_shim (first ts) && (is_two (first (rest ts)) && is_semicolon (first (rest (rest ts))))
+
+abbrev pub in_version : List Terminal → List Terminal
+in_version ts = map (of_version (begins_two ts)) ts
+
+-- The bytes are cut into these: the tokens, and then the end of the text or the fault that ends the cutting.
+pub record IsRead (bytes : List ℕ) (ts : List Terminal) : Type 0 where
+  pub tokens : List Token
+  pub end : Option Fault
+  pub cut : Cuts start bytes tokens end
+  pub are : ts ≡ in_version (of_tokens tokens (of_end (after start bytes) end))

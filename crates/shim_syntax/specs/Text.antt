@@ -3,7 +3,6 @@ use Rattle.std.specs.Prelude.{ℕ, ◌≡◌, List, [], ◌∷◌, ◌++◌}
 use Rattle.shim_base.specs.declared.token.LexKind.{LexKind}
 use Rattle.shim_base.specs.Tokens.{Place}
 use Rattle.shim_syntax.specs.declared.limits.Many.{Many}
-use Rattle.shim_syntax.specs.declared.tree.Function.{Function}
 use Rattle.shim_syntax.specs.declared.tree.Program.{Program}
 use Rattle.shim_syntax.specs.Terminals.{Terminal, Broken, IsRead, place_of}
 use Rattle.shim_syntax.specs.Limits.{Limits, limits, no_limits, nesting_alone, nesting_and, until}
@@ -13,11 +12,11 @@ use Rattle.shim_syntax.specs.Grammar.{Derives}
 pub record IsText (bytes : List ℕ) (program : Program) : Type 0 where
   pub terminals : List Terminal
   pub read : IsRead bytes terminals
-  pub derives : Derives limits terminals program.functions
+  pub derives : Derives limits terminals program
 
--- Some terminals that continue these derive a program, in which nothing that begins in these passes a limit.
+-- Some terminals that continue these derive a program, in which nothing that begins in these passes a limit. They may continue a text of either version: the first three terminals tell which it is, and none of these is a name that version 2 sees otherwise.
 abbrev pub Begins : Limits → List Terminal → Type 0
-Begins c ts = (more : List Terminal) × (fs : List Function) × Derives (until more c) (ts ++ more) fs
+Begins c ts = (more : List Terminal) × (program : Program) × Derives (until more c) (ts ++ more) program
 
 -- why a terminal can't follow those before it
 pub data Fault : Type 0 where

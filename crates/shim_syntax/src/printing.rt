@@ -1,6 +1,6 @@
 // The canonical text of a program.
 ghost use Rattle.std.specs.Prelude.{◌≡◌, ℕ, List as ListOf, ◌++◌, OnOk, IfOk};
-ghost use Rattle.shim_syntax.specs.Printing.{text_of, canonical, function_pieces, functions_pieces, params_pieces, more_params_pieces, param_pieces, throws_pieces, more_throws_pieces};
+ghost use Rattle.shim_syntax.specs.Printing.{text_of, canonical, header_pieces, function_pieces, functions_pieces, params_pieces, more_params_pieces, param_pieces, throws_pieces, more_throws_pieces};
 ghost use Rattle.shim_syntax.specs.Same.{IsTextOfSame};
 ghost use Rattle.shim_syntax.specs.Text.{IsText};
 
@@ -22,8 +22,19 @@ pub fn print(alloc: Global, program: &Program) -> Result<List<u8>, NoMemory>
     ensures again { (bytes : ListOf ℕ) → IsText bytes program.now → IfOk result (λ text. IsTextOfSame program.now text) }
 {
     let mut text = List::new(alloc);
+    push_header(&mut text, program.version)?;
     push_functions(&mut text, program.functions.as_slice())?;
     Ok(text)
+}
+
+// A text of version 1 has no header.
+fn push_header(text: &mut List<u8>, version: u32) -> Result<(), NoMemory>
+    ensures { OnOk result (text.new ≡ text.old ++ text_of (header_pieces version)) }
+{
+    if version == 2 {
+        text.extend_from_slice(b"shim 2 ;\n")?;
+    }
+    Ok(())
 }
 
 fn push_functions(text: &mut List<u8>, functions: &[Function]) -> Result<(), NoMemory>

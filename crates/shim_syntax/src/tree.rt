@@ -4,6 +4,8 @@ use shim_base::{BinOp, Boxed, List, Name, Ty, UnOp};
 /// A whole source.
 #[derive(Debug, Drop, PartialEq, Eq)]
 pub struct Program {
+    /// The version of the text: 1 or 2.
+    pub version: u32,
     pub functions: List<Function>,
 }
 

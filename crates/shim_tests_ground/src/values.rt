@@ -90,6 +90,8 @@ fn a_store_keeps_a_number_modulo_the_size_of_its_type(rt: HostRuntime) {
         (Ty::Uint32, -1, 4294967295),
         (Ty::Uint32, i64::MIN, 0),
         (Ty::Uint32, i64::MAX, 4294967295),
+        (Ty::Int64, i64::MIN, i64::MIN),
+        (Ty::Int64, i64::MAX, i64::MAX),
     ];
     expect_kept(&rt, &rows);
 }

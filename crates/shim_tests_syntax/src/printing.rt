@@ -37,6 +37,7 @@ fn function(alloc: Global, body: List<Stmt>) -> Result<Function, NoMemory> {
 fn assigned(alloc: Global, value: Expr) -> Result<Program, NoMemory> {
     let function = function(alloc, assignment(alloc, value)?)?;
     Ok(Program {
+        version: 1,
         functions: one(alloc, function)?,
     })
 }

@@ -32,8 +32,8 @@ fn with_letters(alloc: Global, text: String, letters: &str) -> Result<String, Fa
     Ok(text)
 }
 
-// The tree of a program as `{:?}` prints it, in short form: a statement and a branch is its line and what it
-// does, lists are in brackets, boxes aren't shown, and names are their letters.
+// The tree of a program as `{:?}` prints it, in short form: version 1 isn't shown, a statement and a branch is
+// its line and what it does, lists are in brackets, boxes aren't shown, and names are their letters.
 fn shown(alloc: Global, program: &Program) -> Result<String, Fail> {
     let text = format!(in alloc; "{program:?}")?;
     let text = shorter(
@@ -43,7 +43,8 @@ fn shown(alloc: Global, program: &Program) -> Result<String, Fail> {
             (" }", ""),
             ("List { items: ", ""),
             ("Boxed { inner: ", ""),
-            ("Program { functions: ", ""),
+            ("Program { version: 1, functions: ", ""),
+            ("Program { version: 2, functions: ", "version 2 "),
             ("Function { line: ", ""),
             ("Stmt { line: ", ""),
             ("Branch { line: ", ""),

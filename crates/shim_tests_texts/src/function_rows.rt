@@ -59,3 +59,23 @@ fn each_type_has_its_word(rt: HostRuntime) -> Result<(), Fail> {
         ],
     )
 }
+
+#[test]
+fn a_text_of_version_2_has_int64(rt: HostRuntime) -> Result<(), Fail> {
+    expect_programs(
+        &rt,
+        rt.alloc(),
+        &[
+            ("shim 2;", "version 2 []"),
+            (
+                "shim 2;\nvoid f(int64 a, int64 &b) { int64 x = 1, y; }",
+                "version 2 [2 f params [Value(Int64) a, Value(Int64) & b] throws [] \
+                    body [2 Declare(Int64, x, Some(Number(1))), 2 Declare(Int64, y, None)]]",
+            ),
+            (
+                "// a remark\nshim /* another\none */ 0X02\n; void f() { }",
+                "version 2 [4 f params [] throws [] body []]",
+            ),
+        ],
+    )
+}

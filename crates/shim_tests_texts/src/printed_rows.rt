@@ -168,3 +168,23 @@ fn whole_programs_have_their_texts(rt: HostRuntime) -> Result<(), Fail> {
         ],
     )
 }
+
+#[test]
+fn a_text_has_the_first_line_and_the_types_of_its_version(rt: HostRuntime) -> Result<(), Fail> {
+    expect_programs(
+        &rt,
+        rt.alloc(),
+        &[
+            ("shim 02;", "shim 2 ;\n"),
+            (
+                "shim 2;\nvoid f(int64 a,int64&b){int64 x=1,y;int z;for(int64 k=0;;){}}",
+                "shim 2 ;\nvoid f ( int64 a , int64 & b ) {\n\
+                    int64 x = 1 ;\nint64 y ;\nint32 z ;\nfor ( int64 k = 0 ; ; ) {\n}\n}\n",
+            ),
+            (
+                "void int64() { int int64; int64 = 1; }",
+                "void int64 ( ) {\nint32 int64 ;\nint64 = 1 ;\n}\n",
+            ),
+        ],
+    )
+}

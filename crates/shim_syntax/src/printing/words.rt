@@ -1,7 +1,7 @@
 // The tokens of the canonical text, each with the space behind it.
 ghost use Rattle.std.specs.Prelude.{◌≡◌, ◌∷◌, [], ◌++◌, OnOk};
 ghost use Rattle.std.specs.Fmt.{signed_decimal};
-ghost use Rattle.shim_syntax.specs.Printing.{key, key_text, key_of_type, key_of_sort, name, number, row_of_operator, sign_of_operator, sign_of_unary, sign_text, text_of};
+ghost use Rattle.shim_syntax.specs.Printing.{type_piece, sort_piece, name, number, row_of_operator, sign_of_operator, sign_of_unary, sign_text, text_of};
 
 use crate::tree::Sort;
 use shim_base::{BinOp, List, Name, NoMemory, Ty, UnOp, push_decimal};
@@ -27,7 +27,7 @@ pub(super) fn push_number(text: &mut List<u8>, number: i64) -> Result<(), NoMemo
 }
 
 pub(super) fn push_sort(text: &mut List<u8>, sort: Sort) -> Result<(), NoMemory>
-    ensures { OnOk result (text.new ≡ text.old ++ text_of (key (key_of_sort sort) ∷ [])) }
+    ensures { OnOk result (text.new ≡ text.old ++ text_of (sort_piece sort ∷ [])) }
 {
     match sort {
         Sort::Value(ty) => push_type(text, ty),
@@ -37,14 +37,14 @@ pub(super) fn push_sort(text: &mut List<u8>, sort: Sort) -> Result<(), NoMemory>
 }
 
 pub(super) fn push_type(text: &mut List<u8>, ty: Ty) -> Result<(), NoMemory>
-    ensures { OnOk result (text.new ≡ text.old ++ text_of (key (key_of_type ty) ∷ [])) }
+    ensures { OnOk result (text.new ≡ text.old ++ text_of (type_piece ty ∷ [])) }
 {
     text.extend_from_slice(type_word(ty))?;
     text.push(b' ')
 }
 
 fn type_word(ty: Ty) -> &'static [u8]
-    ensures { result.now ≡ key_text (key_of_type ty) }
+    ensures { result.now ≡ (type_piece ty).text }
 {
     match ty {
         Ty::Bool => b"bool",
@@ -54,6 +54,7 @@ fn type_word(ty: Ty) -> &'static [u8]
         Ty::Uint8 => b"uint8",
         Ty::Uint16 => b"uint16",
         Ty::Uint32 => b"uint32",
+        Ty::Int64 => b"int64",
     }
 }
 

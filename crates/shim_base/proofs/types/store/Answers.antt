@@ -20,3 +20,6 @@ returns-in-Uint16-clause-modulo c = stored_differs c.args.ty c.args.v _ (search 
 
 pub returns-in-Uint32-clause-modulo : goal.returns-in-Uint32-clause-modulo
 returns-in-Uint32-clause-modulo c = stored_differs c.args.ty c.args.v _ (search rules)
+
+pub returns-in-Int64-clause-modulo : goal.returns-in-Int64-clause-modulo
+returns-in-Int64-clause-modulo c = stored_differs c.args.ty c.args.v _ (search rules)

@@ -1,23 +1,26 @@
-use Rattle.std.proofs.Common.{◌+◌, [], ◌∷◌, ◌++◌, length, Option, Ok, sym, ◌∙◌, ap, subst, ◌≡◌, arith}
-use Rattle.shim_base.specs.Tokens.{start, after}
-use Rattle.shim_lexer.specs.declared.Token.{Token as Given}
-use Rattle.shim_lexer.specs.Lexing.{Answers}
-use Rattle.shim_syntax.specs.Terminals.{IsRead, End}
+use Rattle.std.proofs.Common.{◌≡◌, ◌∙◌, length, map, true, sym, ap, subst, rules}
+use Rattle.std.specs.Global.{Vec}
+use Rattle.std.proofs.lemmas.List.{with_items_is}
+use Rattle.shim_syntax.specs.Terminals.{IsRead, begins_two, of_version}
+use Rattle.shim_parser.specs.declared.token.Token.{Token}
 use Rattle.shim_parser.specs.TokenView.{token_views}
-use Rattle.shim_parser.proofs.CutSteps.{cut_whole, cut_broken, cut_more, views_push}
+use Rattle.shim_parser.proofs.Versions.{read_as_1, read_as_2}
 use Rattle.shim_parser.proofs.text.tokens_of.Goals as goal
+use Rattle.shim_parser.proofs.text.tokens_of.Goals.{then-begins_two, else-begins_two}
 
-pub tokens-preserved : goal.tokens-preserved
-tokens-preserved c = cut_more c.args.text.now (token_views c.tokens.tokens.items) _ c.tokens.lexer c.next.new.self c.in-Ok-Some.token c.tokens.invariant
-    (let P : Option Given → Type 0 = λ n. Answers c.tokens.lexer.fault c.tokens.lexer c.next.new.self (Ok n) in subst P c.in-Ok-Some.field-0-is c.in-Ok-Some.ensures)
-    (views_push c.tokens.tokens.items c.push.new.self.items _ c.in_ok-push-in-Ok-Some.ensures.items ∙ ap (λ u. token_views c.tokens.tokens.items ++ u ∷ []) (c.terminal_of.ensures _))
-
-pub returns-in-Ok-None : goal.returns-in-Ok-None
-returns-in-Ok-None c = subst (λ u. IsRead c.args.text.now u) (sym (views_push c.tokens.tokens.items _ _ c.in_ok-push-in-Ok-None.ensures.items ∙ ap (λ n. token_views c.tokens.tokens.items ++ End (record { at = length c.args.text.now; line = 1 + n }) ∷ []) c.line_feeds.ensures.is
-    ∙ ap (λ n. token_views c.tokens.tokens.items ++ End (record { at = n; line = (after start c.args.text.now).line }) ∷ []) (let z : length c.args.text.now ≡ 0 + length c.args.text.now = omega arith in z)))
-    (cut_whole c.args.text.now (token_views c.tokens.tokens.items) c.tokens.lexer c.next.new.self c.tokens.invariant
-    (let P : Option Given → Type 0 = λ n. Answers c.tokens.lexer.fault c.tokens.lexer c.next.new.self (Ok n) in subst P c.in-Ok-None.field-0-is c.in-Ok-None.ensures))
-
-pub returns-in-Err : goal.returns-in-Err
-returns-in-Err c = subst (λ u. IsRead c.args.text.now u) (sym (views_push c.tokens.tokens.items _ _ c.in_ok-push-in-Err.ensures.items))
-    (cut_broken c.args.text.now (token_views c.tokens.tokens.items) c.tokens.lexer c.next.new.self c.in-Err.fault c.tokens.invariant c.in-Err.ensures)
+pub returns : goal.returns
+returns c =
+    let text = c.args.text.now in
+    let cut = token_views c.in_ok-tokens.tokens.items in
+    let seen = token_views c.if-begins_two.tokens.items in
+    let begins : begins_two cut ≡ c.begins_two.result = ap (λ l. begins_two (token_views l)) (sym c.deref.ensures.value) ∙ sym c.begins_two.ensures in
+    elim c.if-begins_two.branch [
+      | then-begins_two w ↦
+          let long : length w.see_types.new.tokens ≡ c.in_ok-tokens.tokens.len = search rules in
+          let is : seen ≡ token_views w.see_types.new.tokens =
+          ap (λ (v : Vec Token). token_views v.items) w.tokens-is ∙ ap token_views (with_items_is c.in_ok-tokens.tokens w.see_types.new.tokens long) in
+          read_as_2 text cut seen c.in_ok-tokens.ensures (begins ∙ w.if-begins_two.true) (is ∙ w.see_types.ensures ∙ ap (λ l. map (of_version true) (token_views l)) w.deref_mut.ensures.value)
+      | else-begins_two w ↦
+          let is : cut ≡ seen = ap (λ (v : Vec Token). token_views v.items) (sym w.tokens-is) in
+          subst (λ u. IsRead text u) is (read_as_1 text cut c.in_ok-tokens.ensures (begins ∙ w.if-begins_two.false))
+    ]

@@ -1,7 +1,7 @@
 use Rattle.std.proofs.Common.{◌-◌, length}
 use Rattle.shim_parser.specs.TokenView.{token_views}
 use Rattle.shim_parser.proofs.CutSteps.{IsCutTo}
-use Rattle.shim_parser.proofs.text.tokens_of.Given as goal
+use Rattle.shim_parser.proofs.text.cut.Given as goal
 
 abbrev pub invariant-tokens : goal.invariant-tokens
 invariant-tokens l = IsCutTo l.text (token_views l.tokens.items) l.lexer

@@ -1,0 +1,23 @@
+-- The lemmas of this crate.
+pub mod Layers
+pub mod RenamedSteps
+pub mod Derivations
+pub mod Respelling
+pub mod TextInVersion2
+pub mod NewNames
+pub mod LeastNumber
+pub mod SomeProgram
+pub mod Around
+pub mod Names
+pub mod ExprSteps
+pub mod Exprs
+pub mod Statements
+pub mod Calls
+pub mod Bodies
+pub mod Identifiers
+pub mod Functions
+pub mod Lifting
+pub mod Agreeing
+pub mod Swapping
+pub mod OneProgram
+pub mod Up

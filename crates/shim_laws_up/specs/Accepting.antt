@@ -1,0 +1,23 @@
+-- What it is that a program is accepted in version 2.
+use Rattle.std.specs.Prelude.{◌≡◌, ℕ, List, Ok}
+use Rattle.shim_syntax.specs.Occurrences.{identifiers}
+use Rattle.shim_syntax.specs.Text.{IsText}
+use Rattle.shim_up.specs.Up.{IsLeastNew, numbered, replaced}
+use Rattle.shim_syntax.specs.declared.tree.Program.{Program}
+use Rattle.shim_scopes.specs.declared.form.Form.{Form as Resolved}
+use Rattle.shim_scopes.specs.Functions.{bind_program}
+use Rattle.shim_units.specs.Rule.{Obeys}
+use Rattle.shim_units.specs.Units.{lifted}
+use Rattle.shim_laws_up.specs.Around.{form_renamed}
+use Rattle.shim_laws_up.specs.Titles.{AreAlike}
+
+-- The second program has a text and version 2, it is bound and obeys the sharing rule. Where the first has this form, the second has the form whose list of names has the least new name for the new word, and the units of the two differ in their titles and in that entry alone.
+pub record IsAcceptedInVersion2 (p q : Program) (form : Resolved) : Type 0 where
+  pub bytes : List ℕ
+  pub text : IsText bytes q
+  pub version : q.version ≡ 2
+  pub number : ℕ
+  pub least : IsLeastNew (identifiers p.functions) number
+  pub bound : bind_program q ≡ Ok (form_renamed (replaced (numbered number)) form)
+  pub obeys : Obeys (form_renamed (replaced (numbered number)) form)
+  pub alike : AreAlike (replaced (numbered number)) (lifted form) (lifted (form_renamed (replaced (numbered number)) form))
