@@ -184,6 +184,7 @@ done
 unwritten
 unwritten check p.shim
 unwritten code p.shim
+unwritten up p.shim
 unwritten gen storm --size 10
 unwritten gen ring
 

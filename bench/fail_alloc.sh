@@ -103,7 +103,7 @@ refuse_all() { # QUIET WORDS..
 
 if [ $# -gt 0 ]; then
   quiet=10
-  case " $* " in *" --workers 1 "* | *" --workers=1 "* | " ref "* | " check "* | " code "*) quiet=1 ;; esac
+  case " $* " in *" --workers 1 "* | *" --workers=1 "* | " ref "* | " check "* | " code "* | " up "*) quiet=1 ;; esac
   refuse_all $quiet "$@"
   exit 0
 fi
@@ -157,6 +157,7 @@ for source in meeting poison filter; do
   refuse_all 1 ref $source.shim --input bytes
   refuse_all 1 check $source.shim
   refuse_all 1 code $source.shim
+  refuse_all 1 up $source.shim
 done
 refuse_all 1 check refused.shim
 refuse_all 1 check nowhere.shim

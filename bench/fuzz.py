@@ -2,13 +2,14 @@
 """Gives ./shim texts that were changed at random, and looks whether each answer is one that it may give.
 
 The texts are those of crates/shim_conformance and of examples/, and programs of bench/made.py: their bytes flipped, their
-tokens swapped, doubled, deleted, exchanged or nested deeper, their statements moved, their numbers put to limits. Each is
-checked, listed, run by some number of workers and pieces, and run by `ref`, with a limit of time and of memory, and
+tokens swapped, doubled, deleted, exchanged or nested deeper, their statements moved, their numbers put to limits, the header
+of version 2 put before them or taken off. Each is checked, listed, written in version 2, run by some number of workers
+and pieces, and run by `ref`, with a limit of time and of memory, and
 
 - each call ends by itself with a status from 0 to 8, its text is of the form that docs/FORMATS.md has for that status and
   mode, and nothing comes on standard error;
 - where the text is refused, the line is that of bench/grammar.py, or one of a text that is a program, the same in every
-  mode; `check` counts the functions as bench/grammar.py does;
+  mode; `check` counts the functions as bench/grammar.py does, and `up` writes the text of bench/canonical.py;
 - `run` and `ref` have the same status, and the same text but where the budget stopped them; then the counts add up to it.
 
 The same numbers make the same texts and words. Prints how many calls had each status, the longest time and the most
@@ -29,6 +30,7 @@ import sys
 import tempfile
 import time
 
+import canonical
 import grammar
 import made
 
@@ -45,7 +47,8 @@ NUMBERS = (
     "4611686018427387904 9223372036854775807 9223372036854775808 18446744073709551615 0x7fffffffffffffff 0xFFFFFFFFFFFFFFFF "
     "0X0 0x 00000000000000000000000000000001 1e9 1.5"
 ).split()
-WORDS = sorted(grammar.KEYWORDS) + list(grammar.TIGHTNESS) + list("(){},;=!~") + ["a", "b", "c", "o", "T", "main", "f"]
+WORDS = sorted(grammar.KEYWORDS) + list(grammar.TIGHTNESS) + list("(){},;=!~") + "a b c o T main f int64 shim 2".split()
+HEADER = b"shim 2; "
 PIECES = [
     "{ } par { }", "next a;", "throw T;", "try { throw T; } catch (T) { }", "while (1) { }", "while (1) next a;", "int z; z = 1 / z;",
     "for (int q = 0; q < 3; q = q + 1) ;", "{ next a; } par { next a; }", "{ throw T; } par { next a; }", "main();", "f(1);",
@@ -240,10 +243,15 @@ class Changer:
 
     def type(self, text):
         tokens = self.tokens(text)
-        at = self.at_token(tokens, lambda token: token.decode("latin-1") in grammar.TYPES)
+        types = grammar.TYPES if text.startswith(b"shim") else grammar.OLD_TYPES
+        at = self.at_token(tokens, lambda token: token.decode("latin-1") in types)
         if at is not None:
-            tokens[at] = self.dice.choice(sorted(grammar.TYPES)).encode()
+            tokens[at] = self.dice.choice(sorted(types)).encode()
         return b"".join(tokens)
+
+    def version(self, text):
+        """A text of version 1 becomes one of version 2, or the other way round."""
+        return text[len(HEADER) :] if text.startswith(HEADER) else HEADER + text
 
     def by_reference(self, text):
         """A parameter that was by value goes by reference, or the other way round."""
@@ -328,8 +336,8 @@ class Changer:
 
     ROUGH = [flip, put_bytes, cut, cut_head, delete_span, double_span, splice, swap_tokens, delete_token, double_token, other_token,
              long_name, many_functions, any_number, name, nest, statements]
-    GENTLE = [number, number, name, rename_all, operator, operator, type, by_reference, statement, statement, statement, statements,
-              statements, nest, nest, spacing]
+    GENTLE = [number, number, name, rename_all, operator, operator, type, version, by_reference, statement, statement, statement,
+              statements, statements, nest, nest, spacing]
 
 
 class Job:
@@ -342,7 +350,7 @@ class Job:
         self.input = dice.choice(INPUTS)
         self.budget = dice.choice([1, 7, 50, 300, 2000, 2000, 10000, 10000])
         fed = ["--input", "i", "--budget", str(self.budget)]
-        self.calls = [["check", "p"], ["code", "p"], ["ref", "p"] + fed]
+        self.calls = [["check", "p"], ["code", "p"], ["up", "p"], ["ref", "p"] + fed]
         for _ in range(2):
             workers, quantum = dice.choice([1, 2, 3, 4, 16]), dice.choice([1, 2, 7, 64, 10000])
             self.calls.append(["run", "p"] + fed + ["--workers", str(workers), "--quantum", str(quantum)])
@@ -430,6 +438,8 @@ def wrong_form(answer, budget):
         return None if status == 0 and re.fullmatch(r"accepted \d+\n", text) else "no count of functions"
     if mode == "code":
         return None if status == 0 and LISTING.fullmatch(text) else "no listing"
+    if mode == "up":
+        return None if status == 0 and text.startswith("shim 2 ;\n") else "no text of version 2"
     report = REPORT.fullmatch(text)
     if not report:
         return "no report"
@@ -473,6 +483,8 @@ def wrong(job, answers):
             return "a fault of a text that is a program", answer
         if answer.words[0] == "check" and answer.status == 0 and text != "accepted %d\n" % parser.functions:
             return "another count than %d" % parser.functions, answer
+        if answer.words[0] == "up" and answer.status == 0 and text != canonical.up(job.text):
+            return "another text than that of bench/canonical.py", answer
         if (answer.status == 5) != (full[0].status == 5) or answer.status == 5 and text != full[0].text.decode():
             return "another answer than that of " + full[0].words[0], answer
     runs = [answer for answer in full if answer.words[0] in ("run", "ref")]
@@ -541,7 +553,7 @@ def main():
     calls = sum(counts.values())
     print("%d texts of seed %d from number %d, %d bytes on the average; %d calls in %.0f s"
           % (given.texts, given.seed, given.first, lengths / max(1, given.texts), calls, time.monotonic() - begin))
-    for mode in ("check", "code", "ref", "run"):
+    for mode in ("check", "code", "up", "ref", "run"):
         statuses = ", ".join("%d with status %d" % (counts[key], key[1]) for key in sorted(counts) if key[0] == mode)
         print("%s: %s; longest %.2f s (text %d), most memory %.1f MiB (text %d)"
               % (mode, statuses, *longest[mode], most[mode][0] / 1024, most[mode][1]))

@@ -1,15 +1,18 @@
 #!/usr/bin/env python3
 """The first fault of a text, by the grammar and the limits of docs/LANGUAGE.md, in Python and with nothing of ./shim.
 
-`first_fault` gives the line that refuses a text, or None for a text that is a program, whose names nobody looked at.
+`first_fault` gives the line that refuses a text of either version, or None for a text that is a program, whose names
+nobody looked at.
 As a command it prints a case of crates/shim_conformance for each beginning of a source whose last byte ends its `main`.
 Use: python3 bench/grammar.py TITLE SOURCE > crates/shim_conformance/data/prefixes.cases
 """
 import re
 import sys
 
-TYPES = set("bool int int8 int16 int32 uint8 uint16 uint32".split())
-KEYWORDS = TYPES | set("void throws istream ostream next get put if else while for try catch throw par true false".split())
+NEW_TYPE = "int64"  # a type in version 2, and a name in version 1
+OLD_TYPES = set("bool int int8 int16 int32 uint8 uint16 uint32".split())
+TYPES = OLD_TYPES | {NEW_TYPE}
+KEYWORDS = OLD_TYPES | set("void throws istream ostream next get put if else while for try catch throw par true false".split())
 SKIPPED = re.compile(rb"(?:[\t-\r ]|//[^\n]*|/\*.*?\*/)*", re.DOTALL)
 TOKEN = re.compile(
     rb"(?P<name>[A-Za-z_][A-Za-z0-9_]*)|(?P<number>0[xX][0-9A-Fa-f]+|[0-9]+)"
@@ -32,6 +35,7 @@ class Parser:
     def __init__(self, text):
         self.text = text
         self.past = 0  # where the current token ends
+        self.version = 1
         self.locals = 0
         self.operators = 0
         self.functions = 0
@@ -42,7 +46,7 @@ class Parser:
         raise Fault("refused %d %s" % (1 + self.text.count(b"\n", 0, at), what % at if "%d" in what else what))
 
     def take_token(self):
-        """Goes on to the next token: `kind` is its word or sign, or `name`, `number` or `end`."""
+        """Goes on to the next token: `kind` is its word or sign, or `name`, `number` or `end`; `value` a name or a number."""
         at = SKIPPED.match(self.text, self.past).end()
         self.at = at
         if at == len(self.text):
@@ -56,13 +60,14 @@ class Parser:
         word = found.group().decode()
         self.past = found.end()
         if found.lastgroup == "number":
-            if int(word, 16 if word[:2] in ("0x", "0X") else 10) >= 1 << 63:
+            self.value = int(word, 16 if word[:2] in ("0x", "0X") else 10)
+            if self.value >= 1 << 63:
                 self.refuse("big number %d")
             self.kind = "number"
-        elif found.lastgroup == "name" and word not in KEYWORDS:
+        elif found.lastgroup == "name" and word not in KEYWORDS and not (self.version == 2 and word == NEW_TYPE):
             if len(word) > 64:
                 self.refuse("long name %d")
-            self.kind = "name"
+            self.kind, self.value = "name", word
         else:
             self.kind = word
 
@@ -89,12 +94,24 @@ class Parser:
             self.refuse("too many " + what)
 
     def program(self):
+        self.header()
         while self.kind != "end":
             if self.kind != "void":
                 self.unexpected()
             self.functions += 1
             self.at_most(1024, self.functions, "functions")
             self.function()
+
+    def header(self):
+        """What a text of version 2 begins with. No program of version 1 begins with the word `shim`."""
+        if self.kind != "name" or self.value != "shim":
+            return
+        self.take_token()
+        if self.kind != "number" or self.value != 2:
+            self.unexpected()
+        self.take_token()
+        self.version = 2
+        self.take(";")
 
     def function(self):
         self.locals = 0

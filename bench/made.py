@@ -2,7 +2,8 @@
 """Prints a program, another one for each number: forks in forks, meetings, exceptions, loops and output at random.
 
 A branch assigns only to variables that no branch beside it assigns to, so most of these are accepted; each ends within
-some thousand steps, or blocks. Use: bench/made.py NUMBER
+some thousand steps, or blocks. Of four numbers one makes a program of version 2, and one a program of version 1 with a
+variable `int64`. Use: bench/made.py NUMBER
 """
 import random
 import sys
@@ -15,6 +16,8 @@ OPERATORS = ["+", "-", "*", "^", "&", "|", "<", "==", "&&", "||"]
 class Maker:
     def __init__(self, seed):
         self.random = random.Random(seed)
+        self.two = seed % 4 == 3
+        self.names = ["int64"] + NAMES[1:] if seed % 4 == 1 else NAMES
         self.left = 60  # statements that may still come
         self.counters = 0
 
@@ -23,7 +26,7 @@ class Maker:
         if kind == 0:
             return str(self.random.randrange(-9, 200))
         if kind == 1:
-            return self.random.choice(NAMES)
+            return self.random.choice(self.names)
         left, right = self.expression(depth + 1), self.expression(depth + 1)
         if kind == 2:
             return f"({left} {self.random.choice(OPERATORS)} {right})"
@@ -75,13 +78,15 @@ class Maker:
             return f"try {{ {body} }} catch ({name}) {{ {handler} }}"
         if kind == "throw" and caught:
             return f"if ({self.expression()}) throw {self.random.choice(caught)};"
-        return f"next {self.random.choice(NAMES)};"
+        return f"next {self.random.choice(self.names)};"
 
     def program(self):
-        declarations = " ".join(f"{self.random.choice(TYPES)} {name};" for name in NAMES)
-        body = " ".join(self.statement(NAMES, True, [], 0, 0) for _ in range(self.random.randrange(3, 8)))
-        ends = " ".join(f"put o, {name};" for name in NAMES)
-        return f"void main(ostream &o) {{ {declarations} {body} {ends} }}\n"
+        types = TYPES + ["int64"] * 3 if self.two else TYPES
+        declarations = " ".join(f"{self.random.choice(types)} {name};" for name in self.names)
+        body = " ".join(self.statement(self.names, True, [], 0, 0) for _ in range(self.random.randrange(3, 8)))
+        ends = " ".join(f"put o, {name};" for name in self.names)
+        header = "shim 2; " if self.two else ""
+        return f"{header}void main(ostream &o) {{ {declarations} {body} {ends} }}\n"
 
 
 if __name__ == "__main__":

@@ -99,6 +99,7 @@ climb() { # WORDS..
 
 climb check filter.shim
 climb code filter.shim
+climb up filter.shim
 climb ref filter.shim --input bytes
 climb check blocks.shim
 climb check long.shim

@@ -2,9 +2,11 @@
 # Lets ./shim read and bind sources of 1/2 and 1 MiB of five shapes, whose main does nothing, and lets gcc check C text of
 # the same size and shape, in turn: ordinary functions, deep nesting, long sums, many names, and many calls. Prints the
 # least time of each over some rounds, and their ratio. Wants gcc and awk.
-# Use: make shim && bench/reading.sh [ROUNDS]
+# BEFORE names another build, which is then measured in turn with this one. SHIM is ./shim where nothing is said.
+# Use: make shim && [BEFORE=PATH] bench/reading.sh [ROUNDS]
 set -eu
 cd "$(dirname "$0")/.."
+shim=${SHIM:-./shim}
 rounds=${1:-5}
 room=$(mktemp -d)
 trap 'rm -rf "$room"' EXIT
@@ -27,30 +29,35 @@ repeat() { # TEXT TIMES
   awk -v text="$1" -v times="$2" 'BEGIN { while (times-- > 0) printf "%s", text }'
 }
 
-least() { # COMMAND..
-  local best=
-  for _ in $(seq "$rounds"); do
-    local begin end took
-    begin=$(date +%s%N)
-    "$@" > "$room/out" 2>&1 || true
-    end=$(date +%s%N)
-    took=$((end - begin))
-    if [ -z "$best" ] || [ "$took" -lt "$best" ]; then best=$took; fi
-  done
-  echo "$best"
+nanoseconds() { # COMMAND..
+  local begin end
+  begin=$(date +%s%N)
+  "$@" > "$room/out" 2>&1 || true
+  end=$(date +%s%N)
+  echo $((end - begin))
+}
+
+lesser() { # TIME [TIME]
+  if [ -z "${2:-}" ] || [ "$1" -lt "$2" ]; then echo "$1"; else echo "$2"; fi
 }
 
 compare() { # NAME SHIM-BODY C-BODY
-  local size shim gcc
+  local size here gcc before
   for size in 524288 1048576; do
     text "$size" 'void f@(int n, int &r) { int a; int b; ' "$2" 'void main() { }' > "$room/source.shim"
     text "$size" 'void f@(int n, int *r) { int a, b = 0; ' "$3" 'void main() { }' > "$room/source.c"
-    shim=$(least ./shim run "$room/source.shim")
-    grep -q '^end done 1$' "$room/out" || { cat "$room/out"; exit 1; }
-    gcc=$(least gcc -w -fsyntax-only "$room/source.c")
-    ! grep -q 'error' "$room/out" || { head -n 5 "$room/out"; exit 1; }
-    awk -v name="$1" -v size="$size" -v shim="$shim" -v gcc="$gcc" 'BEGIN {
-      printf "%-9s %7d bytes: shim %.3f s, gcc -fsyntax-only %.3f s, ratio %.2f\n", name, size, shim / 1e9, gcc / 1e9, shim / gcc
+    here='' gcc='' before=''
+    for _ in $(seq "$rounds"); do
+      here=$(lesser "$(nanoseconds "$shim" run "$room/source.shim")" "$here")
+      grep -q '^end done 1$' "$room/out" || { cat "$room/out"; exit 1; }
+      [ -z "${BEFORE:-}" ] || before=$(lesser "$(nanoseconds "$BEFORE" run "$room/source.shim")" "$before")
+      gcc=$(lesser "$(nanoseconds gcc -w -fsyntax-only "$room/source.c")" "$gcc")
+      ! grep -q 'error' "$room/out" || { head -n 5 "$room/out"; exit 1; }
+    done
+    awk -v name="$1" -v size="$size" -v here="$here" -v gcc="$gcc" -v before="$before" 'BEGIN {
+      printf "%-9s %7d bytes: shim %.3f s, gcc -fsyntax-only %.3f s, ratio %.2f", name, size, here / 1e9, gcc / 1e9, here / gcc
+      if (before != "") printf "; the other build %.3f s, ratio %.2f", before / 1e9, here / before
+      printf "\n"
     }'
   done
 }

@@ -13,6 +13,7 @@ pub enum Mode {
     Check,
     Code,
     Gen,
+    Up,
 }
 
 /// Where the text of a source comes from.
@@ -39,6 +40,8 @@ pub enum Telling {
     Functions,
     /// The instructions that it is compiled to.
     Instructions,
+    /// The text of its program in version 2.
+    Version2,
 }
 
 /// Which run of a source is done.
@@ -77,12 +80,13 @@ pub struct ModeRow {
 }
 
 /// All modes, in the order in which a word is looked up.
-const MODES: [Mode; 5] = [
+const MODES: [Mode; 6] = [
     Mode::Run,
     Mode::Reference,
     Mode::Check,
     Mode::Code,
     Mode::Gen,
+    Mode::Up,
 ];
 
 // The row of a mode whose source is read from its file.
@@ -128,6 +132,7 @@ impl Mode {
             Mode::Check => stored("check", Extra::Nothing, Task::Tells(Telling::Functions)),
             Mode::Code => stored("code", Extra::Nothing, Task::Tells(Telling::Instructions)),
             Mode::Gen => generated("gen", Task::Runs(Course::InSomeOrder, Showing::Summary)),
+            Mode::Up => stored("up", Extra::Nothing, Task::Tells(Telling::Version2)),
         }
     }
 

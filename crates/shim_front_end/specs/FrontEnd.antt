@@ -28,12 +28,25 @@ pub record IsOnlyFault (bytes : List ℕ) (fault : ParseFault) : Type 0 where
 abbrev pub ComesTo : List ℕ → Result Form SourceFault → Type 0
 ComesTo bytes meant = (program : Program) × IsOnlyText bytes program × (checked program ≡ meant)
 
--- Its accepted program, or its one fault: that of a text which is no program's, or the first that is refused in the program of the text. Want of memory says nothing.
+-- the bytes are the text of one program alone, which is accepted
+abbrev pub IsOnlyAccepted : List ℕ → Program → Type 0
+IsOnlyAccepted bytes program = IsOnlyText bytes program × (form : Form) × (checked program ≡ Ok form)
+
+-- Its one fault: that of a text which is no program's, or the first that is refused in the program of the text. Want of memory says nothing.
+abbrev pub IsFirstFault : List ℕ → SourceFault → Type 0
+IsFirstFault bytes (Parse parse.NoMemory) = Unit {0}
+IsFirstFault bytes (Parse fault) = IsOnlyFault bytes fault
+IsFirstFault bytes (Scope scope.NoMemory) = Unit {0}
+IsFirstFault bytes (Scope fault) = ComesTo bytes (Err (Scope fault))
+IsFirstFault bytes (Share share.NoMemory) = Unit {0}
+IsFirstFault bytes (Share fault) = ComesTo bytes (Err (Share fault))
+
+-- the units of its accepted program, or its first fault
 abbrev pub IsAnswerTo : List ℕ → Result Form SourceFault → Type 0
 IsAnswerTo bytes (Ok source) = ComesTo bytes (Ok source)
-IsAnswerTo bytes (Err (Parse parse.NoMemory)) = Unit {0}
-IsAnswerTo bytes (Err (Parse fault)) = IsOnlyFault bytes fault
-IsAnswerTo bytes (Err (Scope scope.NoMemory)) = Unit {0}
-IsAnswerTo bytes (Err (Scope fault)) = ComesTo bytes (Err (Scope fault))
-IsAnswerTo bytes (Err (Share share.NoMemory)) = Unit {0}
-IsAnswerTo bytes (Err (Share fault)) = ComesTo bytes (Err (Share fault))
+IsAnswerTo bytes (Err fault) = IsFirstFault bytes fault
+
+-- its accepted program, or its first fault
+abbrev pub IsProgramAnswerTo : List ℕ → Result Program SourceFault → Type 0
+IsProgramAnswerTo bytes (Ok program) = IsOnlyAccepted bytes program
+IsProgramAnswerTo bytes (Err fault) = IsFirstFault bytes fault

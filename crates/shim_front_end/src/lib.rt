@@ -5,4 +5,4 @@ mod fault;
 mod read;
 
 pub use fault::SourceFault;
-pub use read::read_source;
+pub use read::{read_program, read_source};

@@ -70,6 +70,12 @@ fn all_but_runs_by_workers_is_answered_without_a_runtime(rt: HostRuntime) -> Res
             (PUTS_A, "shim check p.shim", 0, "accepted 1\n"),
             (
                 "void main() { }",
+                "shim up p.shim",
+                0,
+                "shim 2 ;\nvoid main ( ) {\n}\n",
+            ),
+            (
+                "void main() { }",
                 "shim code p.shim",
                 0,
                 "unit main\n0 end\n",

@@ -4,17 +4,17 @@ use Rattle.shim_local.specs.declared.Ended.{Ended}
 use Rattle.shim_parser.specs.declared.ParseFault.TheVariants as parse
 use Rattle.shim_scopes.specs.declared.ScopeFault.TheVariants as scope
 use Rattle.shim_sharing.specs.declared.ShareFault.TheVariants as share
+use Rattle.shim_syntax.specs.declared.Program.{Program}
 use Rattle.shim_front_end.specs.declared.SourceFault.{SourceFault}
 use Rattle.shim_front_end.specs.declared.SourceFault.TheVariants.{Parse, Scope, Share}
-use Rattle.shim_front_end.specs.FrontEnd.{IsAnswerTo}
+use Rattle.shim_front_end.specs.FrontEnd.{IsAnswerTo, IsFirstFault, IsProgramAnswerTo}
 use Rattle.shim_front_end.specs.Source.{Source}
 use Rattle.shim_reference.specs.Reference.{reference_of}
 use Rattle.shim_command.specs.declared.mode.Course.{Course}
 use Rattle.shim_command.specs.declared.mode.Course.TheVariants.{ByFirstEvents}
 use Rattle.shim_tool.specs.RunEnds.{IsEnd, end_of, status_of_outcome}
-use Rattle.shim_tool.specs.Modes.{runs}
 use Rattle.shim_tool.proofs.NetEnds.{meaning_end}
-use Rattle.shim_tool.specs.Answer.{AnswersUnits, OfBytes}
+use Rattle.shim_tool.specs.Answer.{AnswersRun, OfBytes}
 
 -- what a program means is what it means under other names for it and its input
 reference_is : (source program : Source) (input bytes : List ℕ) (budget : ℕ) (e : Ended) → program ≡ source → bytes ≡ input → e ≡ reference_of program bytes budget
@@ -37,19 +37,24 @@ reference_was (Err e) source program input bytes budget same read is = tt
 -- a run's status and text answer its source
 pub answers_run : (course : Course) (text_of : Source → Ended → List ℕ) (s t : Source) (input : List ℕ) (budget : ℕ) (e : Ended) (status : ℕ) (text : List ℕ) → s ≡ t
     → IsEnd course (record { source = s; input = input; budget = budget }) e → status ≡ status_of_outcome e.outcome → text ≡ text_of s e
-    → AnswersUnits (runs course text_of) (record { source = t; input = input; budget = budget }) (record { status = status; text = text })
+    → AnswersRun course text_of (record { source = t; input = input; budget = budget }) (record { status = status; text = text })
 answers_run course text_of s t input budget e status text same end told written =
-    subst (λ (b : Source). AnswersUnits (runs course text_of) (record { source = b; input = input; budget = budget }) (record { status = status; text = text })) same
+    subst (λ (b : Source). AnswersRun course text_of (record { source = b; input = input; budget = budget }) (record { status = status; text = text })) same
     (e, end, (λ i. record { status = told i; text = written i }))
 
 -- of an accepted program comes what comes of its source
-pub of_accepted : {A : Type 0} (OfSource : Source → A → Type 0) (OfFault : SourceFault → A → Type 0) (bytes : List ℕ) (source : Source) (a : A) → IsAnswerTo bytes (Ok source) → OfSource source a → OfBytes OfSource OfFault bytes a
-of_accepted OfSource OfFault bytes source a (p, text, is) comes = inl (p, text, inl (source, is, comes))
+pub of_accepted : {A : Type 0} (OfSource : Program → Source → A → Type 0) (OfFault : SourceFault → A → Type 0) (bytes : List ℕ) (source : Source) (a : A)
+    → IsAnswerTo bytes (Ok source) → ((program : Program) → OfSource program source a) → OfBytes OfSource OfFault bytes a
+of_accepted OfSource OfFault bytes source a (p, text, is) comes = inl (p, text, inl (source, is, comes p))
+
+pub of_accepted_program : {A : Type 0} (OfSource : Program → Source → A → Type 0) (OfFault : SourceFault → A → Type 0) (bytes : List ℕ) (program : Program) (a : A)
+    → IsProgramAnswerTo bytes (Ok program) → ((source : Source) → OfSource program source a) → OfBytes OfSource OfFault bytes a
+of_accepted_program OfSource OfFault bytes program a (text, source, is) comes = inl (program, text, inl (source, is, comes source))
 
 -- and of a source that is refused what comes of its fault
-pub of_refused : {A : Type 0} (OfSource : Source → A → Type 0) (OfFault : SourceFault → A → Type 0) (bytes : List ℕ) (fault : SourceFault) (a : A)
+pub of_refused : {A : Type 0} (OfSource : Program → Source → A → Type 0) (OfFault : SourceFault → A → Type 0) (bytes : List ℕ) (fault : SourceFault) (a : A)
     → (fault ≡ Parse parse.NoMemory → ⊥) → (fault ≡ Scope scope.NoMemory → ⊥) → (fault ≡ Share share.NoMemory → ⊥)
-    → IsAnswerTo bytes (Err fault) → OfFault fault a → OfBytes OfSource OfFault bytes a
+    → IsFirstFault bytes fault → OfFault fault a → OfBytes OfSource OfFault bytes a
 of_refused OfSource OfFault bytes (Parse (parse.Lex e)) a x y z is comes = inr (parse.Lex e, is, comes)
 of_refused OfSource OfFault bytes (Parse (parse.Unexpected at line)) a x y z is comes = inr (parse.Unexpected at line, is, comes)
 of_refused OfSource OfFault bytes (Parse (parse.TooDeep line)) a x y z is comes = inr (parse.TooDeep line, is, comes)

@@ -9,11 +9,11 @@ use Rattle.shim_front_end.specs.Source.{Source, IsSource, checked}
 use Rattle.shim_report.specs.Refusal.{refusal}
 use Rattle.shim_tool.specs.RunEnds.{Execution}
 use Rattle.shim_tool.specs.Modes.{Deed}
-use Rattle.shim_tool.specs.Answer.{Answer, AnswersSource, AnswersUnits, IsNoSource}
+use Rattle.shim_tool.specs.Answer.{Answer, AnswersProgram, AnswersSource, IsNoSource}
 use Rattle.shim_tool.specs.Rows.{IsRefusal}
 
 pub data Outcome (deed : Deed) (as_run : Source → Execution) (bytes : List ℕ) (answer : Answer) : Type 0 where
-  does : (source : Source) → IsSource bytes source → AnswersUnits deed (as_run source) answer → ((other : Source) → IsSource bytes other → other ≡ source) → ((line : List ℕ) → IsRefusal bytes line → ⊥)
+  does : (source : Source) (is : IsSource bytes source) → AnswersProgram deed is.program (as_run source) answer → ((other : Source) (is_other : IsSource bytes other) → (other ≡ source) × (is_other.program ≡ is.program)) → ((line : List ℕ) → IsRefusal bytes line → ⊥)
       → Outcome deed as_run bytes answer
   refuses : (line : List ℕ) → IsRefusal bytes line → ((other : List ℕ) → IsRefusal bytes other → other ≡ line) → IsNoSource bytes
       → answer ≡ record { status = 5; text = line } → Outcome deed as_run bytes answer
@@ -60,7 +60,7 @@ line_of_fault bytes fault h line (inr (other, is, same)) = same ∙ ap (λ (f : 
 
 pub outcome : (deed : Deed) (as_run : Source → Execution) (bytes : List ℕ) (answer : Answer) → AnswersSource deed as_run bytes answer → Outcome deed as_run bytes answer
 outcome deed as_run bytes answer (inl (program, text, inl (source, units, told))) =
-    does source (record { program = program; text = text.text; units = units }) told (one_source bytes program source text units) (never_refused bytes program source text units)
+    does source (record { program = program; text = text.text; units = units }) told (λ other is_other. (one_source bytes program source text units other is_other, text.only is_other.program is_other.text)) (never_refused bytes program source text units)
 outcome deed as_run bytes answer (inl (program, text, inr (r, refused, is))) =
     refuses (refusal r) (inl (program, text.text, r, refused, refl)) (line_of_refused bytes program r text refused) (no_acceptance bytes program r text refused) is
 outcome deed as_run bytes answer (inr (fault, h, is)) =

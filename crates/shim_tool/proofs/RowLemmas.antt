@@ -4,6 +4,7 @@ use Rattle.shim_edge.specs.Count.{HasRisen}
 use Rattle.shim_edge.specs.Sink.{then_bytes, TakesPart}
 use Rattle.shim_local.specs.declared.Outcome.{Outcome as End}
 use Rattle.shim_local.specs.declared.Outcome.TheVariants.{Done, Uncaught, Trapped, Blocked, Spent}
+use Rattle.shim_syntax.specs.declared.Program.{Program}
 use Rattle.shim_front_end.specs.Source.{Source, IsSource}
 use Rattle.shim_command.specs.declared.job.Job.{Job}
 use Rattle.shim_tool.specs.Moments.{FilesAt, SinkAt}
@@ -13,9 +14,9 @@ use Rattle.shim_command.specs.declared.mode.Course.TheVariants.{ByFirstEvents, I
 use Rattle.shim_tool.specs.RunEnds.{Execution, status_of, status_of_outcome, end_of, printed_steps, read_off, IsBeginning, IsReachedIn, IsSpent, IsStoppedAt, IsStoppedEnd, as_meant, stopped}
 use Rattle.shim_tool.specs.Modes.{Deed, Reading, runs, tells, deed_of, reads_of, source_text}
 use Rattle.shim_tool.specs.Reads.{AreContents, HoldsAll, HoldsUpTo, Holds, OneReadFailed, Saw, all, longer_file, unread_file}
-use Rattle.shim_tool.specs.Answer.{Answer, Answers, AnswersSaw, AnswersUnits, FailedGrew, MayAnswer, IsNoSource, IsStoppedBy, status_by, text_by, text_with, longer_line, memory_line, usage_line}
+use Rattle.shim_tool.specs.Answer.{Answer, Answers, AnswersProgram, AnswersSaw, FailedGrew, MayAnswer, IsNoSource, IsShown, IsStoppedBy, IsTextBy, status_by, longer_line, memory_line, usage_line}
 use Rattle.shim_tool.specs.Call.{Ran, Writes}
-use Rattle.shim_tool.specs.Rows.{Came, Comes, ComesUnlessUnread, WasRead, EndsBy, IsReached, IsRefusal, execution, CameStopped, EndRow, SpentRow, CountRow, BeginningRow, RefusedRow, FileCause, FileRow, SinkRow, MemoryRow, WordsRow, FilesRow, IsComplete}
+use Rattle.shim_tool.specs.Rows.{Came, CameWithText, Comes, ComesUnlessUnread, WasRead, EndsBy, IsReached, IsRefusal, execution, CameStopped, EndRow, SpentRow, CountRow, BeginningRow, RefusedRow, FileCause, FileRow, SinkRow, MemoryRow, WordsRow, FilesRow, IsComplete}
 use Rattle.shim_process.specs.OwnSlots.{UsesOwnSlots}
 use Rattle.shim_process.specs.LocalState.{LocalState}
 use Rattle.shim_process.specs.Ops.{process_ops}
@@ -86,34 +87,37 @@ end_below Blocked = omega arith
 end_below Spent = omega arith
 
 deed_below : (deed : Deed) (x : Execution) → status_by deed x < 5
-deed_below (runs course text) x = end_below (end_of x).outcome
-deed_below (tells text) x = omega arith
+deed_below (runs course shown) x = end_below (end_of x).outcome
+deed_below (tells told) x = omega arith
 
--- the source is one, so what is answered to it is answered to this one
-units_of : (job : Job) (contents : List (List ℕ)) (source : Source) (answer : Answer) → IsSource (source_text job contents) source → OutcomeOf job contents answer
-    → AnswersUnits (deed_of job) (execution job contents source) answer
-units_of job contents source answer has (does other is_other told only free) =
-    let P : Source → Type 0 = λ b. AnswersUnits (deed_of job) (execution job contents b) answer in
-    subst P (sym (only source has)) told
-units_of job contents source answer has (refuses line why only none is) = absurd (none source has)
+-- the source is one, and so is its program, so what is answered to it is answered to this one
+program_of : (job : Job) (contents : List (List ℕ)) (source : Source) (answer : Answer) (is : IsSource (source_text job contents) source) → OutcomeOf job contents answer
+    → AnswersProgram (deed_of job) is.program (execution job contents source) answer
+program_of job contents source answer is (does other is_other done only free) =
+    let same = only source is in
+    let P : Source → Type 0 = λ b. AnswersProgram (deed_of job) is.program (execution job contents b) answer in
+    let Q : Program → Type 0 = λ q. AnswersProgram (deed_of job) q (execution job contents other) answer in
+    subst P (sym same.0) (subst Q (sym same.1) done)
+program_of job contents source answer is (refuses line why only none refused) = absurd (none source is)
 
 -- the status that is answered tells how the meaning ended
-status_answered : (deed : Deed) (x : Execution) (answer : Answer) → AnswersUnits deed x answer → answer.status ≡ status_by deed x
-status_answered (runs course text) x answer (e, as_meant apart same, is) = ap (λ (a : Answer). a.status) is ∙ ap (λ (y : Ended). status_of_outcome y.outcome) same
-status_answered (runs course text) x answer (e, stopped four may told, is) = ap (λ (a : Answer). a.status) is ∙ (told ∙ sym four)
-status_answered (tells text) x answer is = ap (λ (a : Answer). a.status) is
+status_answered : (deed : Deed) (program : Program) (x : Execution) (answer : Answer) → AnswersProgram deed program x answer → answer.status ≡ status_by deed x
+status_answered (runs course shown) program x answer (e, as_meant apart same, is) = ap (λ (a : Answer). a.status) is ∙ ap (λ (y : Ended). status_of_outcome y.outcome) same
+status_answered (runs course shown) program x answer (e, stopped four may so, is) = ap (λ (a : Answer). a.status) is ∙ (so ∙ sym four)
+status_answered (tells told) program x answer is = is.0
 
--- and the text is that of the meaning, unless this is stopped
-text_answered : (deed : Deed) (x : Execution) (answer : Answer) → AnswersUnits deed x answer → (status_by deed x ≡ 4 → ⊥) → answer.text ≡ text_by deed x
-text_answered (runs course text) x answer (e, as_meant apart same, is) whole = ap (λ (a : Answer). a.text) is ∙ ap (λ (y : Ended). text x.source y) same
-text_answered (runs course text) x answer (e, stopped four may told, is) whole = absurd (whole four)
-text_answered (tells text) x answer is whole = ap (λ (a : Answer). a.text) is
+-- and the text is that of the source, unless its meaning is stopped
+text_answered : (deed : Deed) (program : Program) (x : Execution) (answer : Answer) → AnswersProgram deed program x answer → (status_by deed x ≡ 4 → ⊥) → IsTextBy deed program x answer.text
+text_answered (runs course shown) program x answer (e, as_meant apart same, is) whole = ap (λ (a : Answer). a.text) is ∙ ap (λ (y : Ended). shown x.source y) same
+text_answered (runs course shown) program x answer (e, stopped four may so, is) whole = absurd (whole four)
+text_answered (tells told) program x answer is whole = is.1
 
--- where it is, some stopped run is told
-stopped_answered : (deed : Deed) (x : Execution) (answer : Answer) → AnswersUnits deed x answer → status_by deed x ≡ 4 → (e : Ended) × IsStoppedBy deed x e × (answer.text ≡ text_with deed x e)
-stopped_answered (runs course text) x answer (e, as_meant apart same, is) four = absurd (apart four)
-stopped_answered (runs course text) x answer (e, stopped _ may told, is) four = (e, may, ap (λ (a : Answer). a.text) is)
-stopped_answered (tells text) x answer is four = absurd (omega (arith, four))
+-- where it is, some stopped run is shown
+stopped_answered : (deed : Deed) (program : Program) (x : Execution) (answer : Answer) → AnswersProgram deed program x answer → status_by deed x ≡ 4
+    → (e : Ended) × IsStoppedBy deed x e × IsShown deed x e answer.text
+stopped_answered (runs course shown) program x answer (e, as_meant apart same, is) four = absurd (apart four)
+stopped_answered (runs course shown) program x answer (e, stopped _ may so, is) four = (e, may, ap (λ (a : Answer). a.text) is)
+stopped_answered (tells told) program x answer is four = absurd (omega (arith, four))
 
 -- the counts of a stopped run add up to the budget
 stopped_counts : (course : Course) (x : Execution) (e : Ended) → UsesOwnSlots x.source → status_of x ≡ 4 → IsStoppedEnd course x e → printed_steps e ≡ x.budget
@@ -121,8 +125,8 @@ stopped_counts ByFirstEvents x e own four same = ap printed_steps same ∙ spent
 stopped_counts InSomeOrder x e own four (t, at, same) = ap printed_steps same ∙ (printed process_ops x.source.main_throws t ∙ at.counted)
 
 deed_counts : (deed : Deed) (x : Execution) (e : Ended) → UsesOwnSlots x.source → status_by deed x ≡ 4 → IsStoppedBy deed x e → printed_steps e ≡ x.budget
-deed_counts (runs course text) x e own four may = stopped_counts course x e own four may
-deed_counts (tells text) x e own four may = absurd may
+deed_counts (runs course shown) x e own four may = stopped_counts course x e own four may
+deed_counts (tells told) x e own four may = absurd may
 
 -- a refusal's line was written with 5
 refused_with : (job : Job) (contents : List (List ℕ)) (line : List ℕ) (answer : Answer) (ob on : SinkAt) (result : ℕ) → IsRefusal (source_text job contents) line → OutcomeOf job contents answer →
@@ -142,7 +146,7 @@ refused_somehow job contents answer ob on result none (refuses line why only _ i
 -- what is told where the status of a deed came
 abbrev EndedSo : ℕ → FilesAt → FilesAt → SinkAt → SinkAt → Option Job → Type 0
 EndedSo status before now ob on a = (now.failed ≡ before.failed) × (job : Job) × (contents : List (List ℕ)) × (source : Source) × (answer : Answer) × WasRead a job before contents
-    × IsSource (source_text job contents) source × AnswersUnits (deed_of job) (execution job contents source) answer × (answer.status ≡ status) × (on.taken ≡ then_bytes ob.taken answer.text)
+    × (is : IsSource (source_text job contents) source) × AnswersProgram (deed_of job) is.program (execution job contents source) answer × (answer.status ≡ status) × (on.taken ≡ then_bytes ob.taken answer.text)
 
 -- the status of a deed comes of a deed alone
 ended_so : (status : ℕ) → status < 5 → (status ≡ 2 → ⊥) → (ask : Option Job) (before now : FilesAt) (ob on : SinkAt) (result : ℕ) → Ran ask before now ob on result → result ≡ status → EndedSo status before now ob on ask
@@ -167,115 +171,129 @@ ended_so status few apart ask before now ob on result ran came_so = by_wrote ask
 
 -- what a status tells of the meaning
 ends_by : (status : ℕ) (Cause : Execution → Type 0) → Tells status Cause → (deed : Deed) (x : Execution) → UsesOwnSlots x.source → status_by deed x ≡ status → EndsBy status Cause deed x
-ends_by status Cause tell (runs course text) x own e = tell.only x own e
-ends_by status Cause tell (tells text) x own e = sym e
+ends_by status Cause tell (runs course shown) x own e = tell.only x own e
+ends_by status Cause tell (tells told) x own e = sym e
 
 status_is : (status : ℕ) (Cause : Execution → Type 0) → Tells status Cause → (deed : Deed) (x : Execution) → UsesOwnSlots x.source → EndsBy status Cause deed x → status_by deed x ≡ status
-status_is status Cause tell (runs course text) x own cause = tell.when x own cause
-status_is status Cause tell (tells text) x own cause = sym cause
+status_is status Cause tell (runs course shown) x own cause = tell.when x own cause
+status_is status Cause tell (tells told) x own cause = sym cause
 
 deed_reached : (deed : Deed) (x : Execution) → IsReached deed x
-deed_reached (runs course text) x = is_reached x
-deed_reached (tells text) x = tt
+deed_reached (runs course shown) x = is_reached x
+deed_reached (tells told) x = tt
 
 deed_spent : (deed : Deed) (x : Execution) → UsesOwnSlots x.source → status_by deed x ≡ 4 → IsReachedIn x.budget x
-deed_spent (runs course text) x own four = is_reached_whole x own four
-deed_spent (tells text) x own four = absurd (omega (arith, four))
+deed_spent (runs course shown) x own four = is_reached_whole x own four
+deed_spent (tells told) x own four = absurd (omega (arith, four))
+
+-- what came where the status of a deed may come, with or without the text that it comes with
+abbrev CameOrLacked : Type 0 → Job → FilesAt → FilesAt → ℕ → Type 0
+CameOrLacked Text job before now result = Text ⊎ (result ≡ 7) ⊎ (result ≡ 8) ⊎ ((result ≡ 6) × OneReadFailed (reads_of job) before now)
 
 pub end_row : (status : ℕ) (Cause : Execution → Type 0) → Tells status Cause → status < 5 → (status ≡ 2 → ⊥) → (status ≡ 4 → ⊥) → (ask : Option Job) (before now : FilesAt) (ob on : SinkAt) (result : ℕ)
     → Ran ask before now ob on result → EndRow status Cause ask before now ob on result
 end_row status Cause tell few apart whole ask before now ob on result ran = record {
-  only = λ is. only (ended_so status few apart ask before now ob on result ran is);
-  when = λ job contents source asks h has cause. when job contents source has cause (came_of ask job contents before now ob on result ran asks h);
+  only = λ came. only (ended_so status few apart ask before now ob on result ran came) came;
+  when = λ job contents source asks h is cause. when job contents source is cause (came_of ask job contents before now ob on result ran asks h);
 } where
-  only : EndedSo status before now ob on ask
-      → (now.failed ≡ before.failed) × (job : Job) × (contents : List (List ℕ)) × (source : Source) × WasRead ask job before contents × IsSource (source_text job contents) source
+  only : EndedSo status before now ob on ask → result ≡ status
+      → (now.failed ≡ before.failed) × (job : Job) × (contents : List (List ℕ)) × (source : Source) × WasRead ask job before contents × (is : IsSource (source_text job contents) source)
       × EndsBy status Cause (deed_of job) (execution job contents source) × IsReached (deed_of job) (execution job contents source)
-      × (status_by (deed_of job) (execution job contents source) ≡ status) × (on.taken ≡ then_bytes ob.taken (text_by (deed_of job) (execution job contents source)))
-  only (same, job, contents, source, answer, read, has, told, ends, taken) =
+      × (status_by (deed_of job) (execution job contents source) ≡ status) × CameWithText status (deed_of job) is.program (execution job contents source) ob on result
+  only (same, job, contents, source, answer, read, is, done, ends, taken) came =
       let deed = deed_of job in
       let x = execution job contents source in
-      let is : status_by deed x ≡ status = sym (status_answered deed x answer told) ∙ ends in
-      let text : answer.text ≡ text_by deed x = text_answered deed x answer told (λ four. whole (sym is ∙ four)) in
-      (same, job, contents, source, read, has, ends_by status Cause tell deed x (source_uses_own_slots (source_text job contents) source has) is, deed_reached deed x, is, taken ∙ ap (λ (t : List ℕ). then_bytes ob.taken t) text)
+      let by : status_by deed x ≡ status = sym (status_answered deed is.program x answer done) ∙ ends in (
+        same,
+        job,
+        contents,
+        source,
+        read,
+        is,
+        ends_by status Cause tell deed x (source_uses_own_slots (source_text job contents) source is) by,
+        deed_reached deed x,
+        by,
+        (answer.text, text_answered deed is.program x answer done (λ four. whole (sym by ∙ four)), (came, taken)),
+      )
 
-  comes : (deed : Deed) (x : Execution) (answer : Answer) → UsesOwnSlots x.source → EndsBy status Cause deed x → AnswersUnits deed x answer → Came answer.status answer.text ob on result → Came status (text_by deed x) ob on result
-  comes deed x answer own cause told came =
-      let is : status_by deed x ≡ status = status_is status Cause tell deed x own cause in
-      let text : answer.text ≡ text_by deed x = text_answered deed x answer told (λ four. whole (sym is ∙ four)) in
-      (came.0 ∙ (status_answered deed x answer told ∙ is), came.1 ∙ ap (λ (t : List ℕ). then_bytes ob.taken t) text)
+  comes : (deed : Deed) (program : Program) (x : Execution) (answer : Answer) → UsesOwnSlots x.source → EndsBy status Cause deed x → AnswersProgram deed program x answer → Came answer.status answer.text ob on result
+      → CameWithText status deed program x ob on result
+  comes deed program x answer own cause done came =
+      let by : status_by deed x ≡ status = status_is status Cause tell deed x own cause in
+      (answer.text, text_answered deed program x answer done (λ four. whole (sym by ∙ four)), (came.0 ∙ (status_answered deed program x answer done ∙ by), came.1))
 
-  when : (job : Job) (contents : List (List ℕ)) (source : Source) → IsSource (source_text job contents) source → EndsBy status Cause (deed_of job) (execution job contents source)
-      → CameOf job contents before now ob on result → ComesUnlessUnread status (text_by (deed_of job) (execution job contents source)) job before now ob on result
-  when job contents source has cause (of_source answer is came) = inl (inl (comes (deed_of job) (execution job contents source) answer (source_uses_own_slots (source_text job contents) source has) cause (units_of job contents source answer has is) came))
-  when job contents source has cause (unreadable is read) = inr (is, read)
-  when job contents source has cause (wanting is) = inl (inr (inr is))
-  when job contents source has cause (unwritten is rose) = inl (inr (inl is))
+  when : (job : Job) (contents : List (List ℕ)) (source : Source) (is : IsSource (source_text job contents) source) → EndsBy status Cause (deed_of job) (execution job contents source)
+      → CameOf job contents before now ob on result → CameOrLacked (CameWithText status (deed_of job) is.program (execution job contents source) ob on result) job before now result
+  when job contents source is cause (of_source answer outcome came) =
+      inl (comes (deed_of job) is.program (execution job contents source) answer (source_uses_own_slots (source_text job contents) source is) cause (program_of job contents source answer is outcome) came)
+  when job contents source is cause (unreadable six read) = inr (inr (inr (six, read)))
+  when job contents source is cause (wanting eight) = inr (inr (inl eight))
+  when job contents source is cause (unwritten seven rose) = inr (inl seven)
 
 pub spent_row : (ask : Option Job) (before now : FilesAt) (ob on : SinkAt) (result : ℕ) → Ran ask before now ob on result → SpentRow ask before now ob on result
 spent_row ask before now ob on result ran = record {
-  only = λ is. only (ended_so 4 (omega arith) (λ e. omega (arith, e)) ask before now ob on result ran is) is;
-  when = λ job contents source asks h has cause. when job contents source has cause (came_of ask job contents before now ob on result ran asks h);
+  only = λ came. only (ended_so 4 (omega arith) (λ e. omega (arith, e)) ask before now ob on result ran came) came;
+  when = λ job contents source asks h is cause. when job contents source is cause (came_of ask job contents before now ob on result ran asks h);
 } where
-  came_stopped : (deed : Deed) (x : Execution) (answer : Answer) → AnswersUnits deed x answer → status_by deed x ≡ 4 → result ≡ 4 → on.taken ≡ then_bytes ob.taken answer.text → CameStopped deed x ob on result
-  came_stopped deed x answer told four is taken =
-      let s = stopped_answered deed x answer told four in
-      (s.0, s.1, (is, taken ∙ ap (λ (t : List ℕ). then_bytes ob.taken t) s.2))
+  came_stopped : (deed : Deed) (program : Program) (x : Execution) (answer : Answer) → AnswersProgram deed program x answer → status_by deed x ≡ 4 → result ≡ 4 → on.taken ≡ then_bytes ob.taken answer.text
+      → CameStopped deed x ob on result
+  came_stopped deed program x answer done four came taken = let s = stopped_answered deed program x answer done four in (s.0, s.1, answer.text, s.2, (came, taken))
 
   only : EndedSo 4 before now ob on ask → result ≡ 4
       → (now.failed ≡ before.failed) × (job : Job) × (contents : List (List ℕ)) × (source : Source) × WasRead ask job before contents × IsSource (source_text job contents) source
       × EndsBy 4 IsSpent (deed_of job) (execution job contents source) × IsReached (deed_of job) (execution job contents source)
       × (status_by (deed_of job) (execution job contents source) ≡ 4) × CameStopped (deed_of job) (execution job contents source) ob on result
-  only (same, job, contents, source, answer, read, has, told, ends, taken) is =
+  only (same, job, contents, source, answer, read, is, done, ends, taken) came =
       let deed = deed_of job in
       let x = execution job contents source in
-      let four : status_by deed x ≡ 4 = sym (status_answered deed x answer told) ∙ ends in
-      (same, job, contents, source, read, has, ends_by 4 IsSpent tells_spent deed x (source_uses_own_slots (source_text job contents) source has) four, deed_reached deed x, four, came_stopped deed x answer told four is taken)
+      let four : status_by deed x ≡ 4 = sym (status_answered deed is.program x answer done) ∙ ends in
+      (same, job, contents, source, read, is, ends_by 4 IsSpent tells_spent deed x (source_uses_own_slots (source_text job contents) source is) four, deed_reached deed x, four, came_stopped deed is.program x answer done four came taken)
 
-  comes : (deed : Deed) (x : Execution) (answer : Answer) → UsesOwnSlots x.source → EndsBy 4 IsSpent deed x → AnswersUnits deed x answer → Came answer.status answer.text ob on result → CameStopped deed x ob on result
-  comes deed x answer own cause told came =
+  comes : (deed : Deed) (program : Program) (x : Execution) (answer : Answer) → UsesOwnSlots x.source → EndsBy 4 IsSpent deed x → AnswersProgram deed program x answer → Came answer.status answer.text ob on result
+      → CameStopped deed x ob on result
+  comes deed program x answer own cause done came =
       let four : status_by deed x ≡ 4 = status_is 4 IsSpent tells_spent deed x own cause in
-      came_stopped deed x answer told four (came.0 ∙ (status_answered deed x answer told ∙ four)) came.1
+      came_stopped deed program x answer done four (came.0 ∙ (status_answered deed program x answer done ∙ four)) came.1
 
   when : (job : Job) (contents : List (List ℕ)) (source : Source) → IsSource (source_text job contents) source → EndsBy 4 IsSpent (deed_of job) (execution job contents source)
-      → CameOf job contents before now ob on result
-      → CameStopped (deed_of job) (execution job contents source) ob on result ⊎ (result ≡ 7) ⊎ (result ≡ 8) ⊎ ((result ≡ 6) × OneReadFailed (reads_of job) before now)
-  when job contents source has cause (of_source answer is came) = inl (comes (deed_of job) (execution job contents source) answer (source_uses_own_slots (source_text job contents) source has) cause (units_of job contents source answer has is) came)
-  when job contents source has cause (unreadable is read) = inr (inr (inr (is, read)))
-  when job contents source has cause (wanting is) = inr (inr (inl is))
-  when job contents source has cause (unwritten is rose) = inr (inl is)
+      → CameOf job contents before now ob on result → CameOrLacked (CameStopped (deed_of job) (execution job contents source) ob on result) job before now result
+  when job contents source is cause (of_source answer outcome came) =
+      inl (comes (deed_of job) is.program (execution job contents source) answer (source_uses_own_slots (source_text job contents) source is) cause (program_of job contents source answer is outcome) came)
+  when job contents source is cause (unreadable six read) = inr (inr (inr (six, read)))
+  when job contents source is cause (wanting eight) = inr (inr (inl eight))
+  when job contents source is cause (unwritten seven rose) = inr (inl seven)
 
 pub count_row : (ask : Option Job) (before now : FilesAt) (ob on : SinkAt) (result : ℕ) → Ran ask before now ob on result → CountRow ask before ob on result
 count_row ask before now ob on result ran is = counts (ended_so 4 (omega arith) (λ e. omega (arith, e)) ask before now ob on result ran is) where
   counts : EndedSo 4 before now ob on ask → (job : Job) × (contents : List (List ℕ)) × (source : Source) × WasRead ask job before contents × IsSource (source_text job contents) source
       × IsReachedIn job.budget (execution job contents source) × (e : Ended) × IsStoppedBy (deed_of job) (execution job contents source) e × (printed_steps e ≡ job.budget)
-      × (on.taken ≡ then_bytes ob.taken (text_with (deed_of job) (execution job contents source) e))
-  counts (same, job, contents, source, answer, read, has, told, ends, taken) =
+      × (text : List ℕ) × IsShown (deed_of job) (execution job contents source) e text × (on.taken ≡ then_bytes ob.taken text)
+  counts (same, job, contents, source, answer, read, is, done, ends, taken) =
       let deed = deed_of job in
       let x = execution job contents source in
-      let four : status_by deed x ≡ 4 = sym (status_answered deed x answer told) ∙ ends in
-      let s = stopped_answered deed x answer told four in
-      let own : UsesOwnSlots source = source_uses_own_slots (source_text job contents) source has in
-      (job, contents, source, read, has, deed_spent deed x own four, s.0, s.1, deed_counts deed x s.0 own four s.1, taken ∙ ap (λ (t : List ℕ). then_bytes ob.taken t) s.2)
+      let four : status_by deed x ≡ 4 = sym (status_answered deed is.program x answer done) ∙ ends in
+      let s = stopped_answered deed is.program x answer done four in
+      let own : UsesOwnSlots source = source_uses_own_slots (source_text job contents) source is in
+      (job, contents, source, read, is, deed_spent deed x own four, s.0, s.1, deed_counts deed x s.0 own four s.1, answer.text, s.2, taken)
 
 -- what is told of a deed that was stopped is read off a tree whose beginning is the meaning's
 deed_begins : (deed : Deed) (x : Execution) (e : Ended) → UsesOwnSlots x.source → status_by deed x ≡ 4 → IsStoppedBy deed x e
     → (t : Tree LocalState) × IsStoppedAt x t × IsBeginning x t × (e ≡ read_off x t)
-deed_begins (runs course text) x e own four may = stopped_tree course x e own four may
-deed_begins (tells text) x e own four may = absurd may
+deed_begins (runs course shown) x e own four may = stopped_tree course x e own four may
+deed_begins (tells told) x e own four may = absurd may
 
 pub beginning_row : (ask : Option Job) (before now : FilesAt) (ob on : SinkAt) (result : ℕ) → Ran ask before now ob on result → BeginningRow ask before ob on result
 beginning_row ask before now ob on result ran is = begins (ended_so 4 (omega arith) (λ e. omega (arith, e)) ask before now ob on result ran is) where
   begins : EndedSo 4 before now ob on ask → (job : Job) × (contents : List (List ℕ)) × (source : Source) × WasRead ask job before contents × IsSource (source_text job contents) source
       × (t : Tree LocalState) × IsStoppedAt (execution job contents source) t × IsBeginning (execution job contents source) t
-      × (on.taken ≡ then_bytes ob.taken (text_with (deed_of job) (execution job contents source) (read_off (execution job contents source) t)))
-  begins (same, job, contents, source, answer, read, has, told, ends, taken) =
+      × (text : List ℕ) × IsShown (deed_of job) (execution job contents source) (read_off (execution job contents source) t) text × (on.taken ≡ then_bytes ob.taken text)
+  begins (same, job, contents, source, answer, read, is, done, ends, taken) =
       let deed = deed_of job in
       let x = execution job contents source in
-      let four : status_by deed x ≡ 4 = sym (status_answered deed x answer told) ∙ ends in
-      let s = stopped_answered deed x answer told four in
-      let b = deed_begins deed x s.0 (source_uses_own_slots (source_text job contents) source has) four s.1 in
-      (job, contents, source, read, has, b.0, b.1, b.2, taken ∙ ap (λ (t : List ℕ). then_bytes ob.taken t) (s.2 ∙ ap (λ (y : Ended). text_with deed x y) b.3))
+      let four : status_by deed x ≡ 4 = sym (status_answered deed is.program x answer done) ∙ ends in
+      let s = stopped_answered deed is.program x answer done four in
+      let b = deed_begins deed x s.0 (source_uses_own_slots (source_text job contents) source is) four s.1 in
+      (job, contents, source, read, is, b.0, b.1, b.2, answer.text, subst (λ (y : Ended). IsShown deed x y answer.text) b.3 s.2, taken)
 
 -- what is told where a source was refused
 abbrev RefusedSo : FilesAt → FilesAt → SinkAt → SinkAt → Option Job → Type 0
@@ -305,7 +323,7 @@ refused_row ask before now ob on result ran = record {
       → Came answer.status answer.text ob on result → result ≡ 5 → RefusedSo before now ob on (Some job)
   by_source job contents answer same are (does source has told only free) came five =
       let x = execution job contents source in
-      absurd (let e : answer.status ≡ status_by (deed_of job) x = status_answered (deed_of job) x answer told in omega (arith, e, came.0, five, deed_below (deed_of job) x))
+      absurd (let e : answer.status ≡ status_by (deed_of job) x = status_answered (deed_of job) has.program x answer told in omega (arith, e, came.0, five, deed_below (deed_of job) x))
   by_source job contents answer same are (refuses line why only none is) came five =
       (same, job, contents, line, record { asked = refl; read = are }, none, why, came.1 ∙ ap (λ (a : Answer). then_bytes ob.taken a.text) is)
 
@@ -333,7 +351,7 @@ file_row ask before now ob on result ran = record {
   by_source : (job : Job) (contents : List (List ℕ)) (answer : Answer) → OutcomeOf job contents answer → Came answer.status answer.text ob on result → result ≡ 6 → FileCause (Some job) before now ob on
   by_source job contents answer (does source has told only free) came six =
       let x = execution job contents source in
-      absurd (let e : answer.status ≡ status_by (deed_of job) x = status_answered (deed_of job) x answer told in omega (arith, e, came.0, six, deed_below (deed_of job) x))
+      absurd (let e : answer.status ≡ status_by (deed_of job) x = status_answered (deed_of job) has.program x answer told in omega (arith, e, came.0, six, deed_below (deed_of job) x))
   by_source job contents answer (refuses line why only none is) came six = absurd (let e : answer.status ≡ 5 = ap (λ (a : Answer). a.status) is in omega (arith, e, came.0, six))
 
   by_saw : (job : Job) (answer : Answer) (saw : Saw) → WasSeen (reads_of job) before now saw → AnswersSaw job saw answer → Came answer.status answer.text ob on result → result ≡ 6
@@ -370,7 +388,7 @@ status_below (Some job) before now answer (saw, looks, is) = by_saw saw is where
   by_source : (contents : List (List ℕ)) → OutcomeOf job contents answer → answer.status < 7
   by_source contents (does source has told only free) =
       let x = execution job contents source in
-      let e : answer.status ≡ status_by (deed_of job) x = status_answered (deed_of job) x answer told in
+      let e : answer.status ≡ status_by (deed_of job) x = status_answered (deed_of job) has.program x answer told in
       omega (arith, e, deed_below (deed_of job) x)
   by_source contents (refuses line why only none same) = let e : answer.status ≡ 5 = ap (λ (a : Answer). a.status) same in omega (arith, e)
 
@@ -414,8 +432,8 @@ end_not_two Blocked e = omega (arith, e)
 end_not_two Spent e = omega (arith, e)
 
 deed_not_two : (deed : Deed) (x : Execution) → status_by deed x ≡ 2 → ⊥
-deed_not_two (runs course text) x e = end_not_two (end_of x).outcome e
-deed_not_two (tells text) x e = omega (arith, e)
+deed_not_two (runs course shown) x e = end_not_two (end_of x).outcome e
+deed_not_two (tells told) x e = omega (arith, e)
 
 pub words_row : (ask : Option Job) (before now : FilesAt) (ob on : SinkAt) (result : ℕ) → Ran ask before now ob on result → WordsRow ask ob on result
 words_row ask before now ob on result ran = record {
@@ -423,7 +441,7 @@ words_row ask before now ob on result ran = record {
   when = λ asks. let P : Option Job → Type 0 = λ a. Ran a before now ob on result in when (wrote None before now ob on result (subst P asks ran));
 } where
   by_source : (job : Job) (contents : List (List ℕ)) (answer : Answer) → OutcomeOf job contents answer → answer.status ≡ 2 → ⊥
-  by_source job contents answer (does source has told only free) two = deed_not_two (deed_of job) (execution job contents source) (sym (status_answered (deed_of job) (execution job contents source) answer told) ∙ two)
+  by_source job contents answer (does source has told only free) two = deed_not_two (deed_of job) (execution job contents source) (sym (status_answered (deed_of job) has.program (execution job contents source) answer told) ∙ two)
   by_source job contents answer (refuses line why only none is) two = let e : answer.status ≡ 5 = ap (λ (a : Answer). a.status) is in omega (arith, e, two)
 
   by_saw : (job : Job) (answer : Answer) (saw : Saw) → AnswersSaw job saw answer → answer.status ≡ 2 → ⊥
@@ -452,10 +470,10 @@ pub files_row : (ask : Option Job) (before now : FilesAt) (ob on : SinkAt) (resu
 files_row ask before now ob on result ran = record { held = ran.files.held; sound = ran.files.sound; grew = grew ask before now ran.answer ran.cause }
 
 pub complete : (ask : Option Job) (before now : FilesAt) (ob on : SinkAt) (result : ℕ) → Ran ask before now ob on result → IsComplete ask before ob on result
-complete ask before now ob on result ran job contents source asks sound h has calm = by_came (came_of ask job contents before now ob on result ran asks h) where
+complete ask before now ob on result ran job contents source asks sound h is calm = by_came (came_of ask job contents before now ob on result ran asks h) where
   by_came : CameOf job contents before now ob on result
-      → ((answer : Answer) × AnswersUnits (deed_of job) (execution job contents source) answer × Came answer.status answer.text ob on result) ⊎ (result ≡ 8)
-  by_came (of_source answer is came) = inl (answer, units_of job contents source answer has is, came)
-  by_came (unreadable is read) = absurd (none_failed (reads_of job) contents before now sound h read)
-  by_came (wanting is) = inr is
-  by_came (unwritten is rose) = absurd (calm rose)
+      → ((answer : Answer) × AnswersProgram (deed_of job) is.program (execution job contents source) answer × Came answer.status answer.text ob on result) ⊎ (result ≡ 8)
+  by_came (of_source answer outcome came) = inl (answer, program_of job contents source answer is outcome, came)
+  by_came (unreadable six read) = absurd (none_failed (reads_of job) contents before now sound h read)
+  by_came (wanting eight) = inr eight
+  by_came (unwritten seven rose) = absurd (calm rose)

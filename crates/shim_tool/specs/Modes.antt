@@ -1,5 +1,5 @@
 -- What the files of a job are, and what is done with its source, as the row of its mode says.
-use Rattle.std.specs.Prelude.{ℕ, ◌+◌, List, [], ◌∷◌, ◌++◌, Option, Some, None, if◌then◌else◌, nat_eq, codes, decimal}
+use Rattle.std.specs.Prelude.{ℕ, ◌+◌, ◌≡◌, List, [], ◌∷◌, ◌++◌, Option, Some, None, if◌then◌else◌, nat_eq, codes, decimal}
 use Rattle.shim_generator.specs.declared.kind.Kind.{Kind}
 use Rattle.shim_generator.specs.Kinds.{kind_named}
 use Rattle.shim_generator.specs.Sources.{generated}
@@ -14,8 +14,11 @@ use Rattle.shim_command.specs.declared.mode.Showing.TheVariants.{Report, Summary
 use Rattle.shim_command.specs.declared.mode.Task.{Task}
 use Rattle.shim_command.specs.declared.mode.Task.TheVariants.{Runs, Tells}
 use Rattle.shim_command.specs.declared.mode.Telling.{Telling}
-use Rattle.shim_command.specs.declared.mode.Telling.TheVariants.{Functions, Instructions}
+use Rattle.shim_command.specs.declared.mode.Telling.TheVariants.{Functions, Instructions, Version2}
 use Rattle.shim_command.specs.Modes.{row_of}
+use Rattle.shim_syntax.specs.declared.Program.{Program}
+use Rattle.shim_syntax.specs.Printing.{canonical}
+use Rattle.shim_up.specs.Up.{IsUp}
 use Rattle.shim_units.specs.declared.unit.Unit.{Unit as UnitOf}
 use Rattle.shim_front_end.specs.Source.{Source}
 use Rattle.shim_code.specs.Listing.{listing}
@@ -105,15 +108,20 @@ code_text source = listing (code_units source.units)
 abbrev pub summary_of : Job → Source → Ended → List ℕ
 summary_of job source e = summary job.file job.size source.names e
 
--- A task with the functions that give its text, which is what is done with a source that is accepted: it is run so, and this text tells how that ended; or this is told of the source, and nothing is run
-pub data Deed : Type 0 where
+-- the text is the canonical one of what the program is in version 2
+abbrev pub IsTextInVersion2 : Program → List ℕ → Type 0
+IsTextInVersion2 program text = (newer : Program) × IsUp program newer × (text ≡ canonical newer)
+
+-- What is done with a source that is accepted, with what gives its text: it is run so, and this text tells how that ended; or such a text is told of its program and its units, and nothing is run
+pub data Deed : Type 1 where
   runs : Course → (Source → Ended → List ℕ) → Deed
-  tells : (Source → List ℕ) → Deed
+  tells : (Program → Source → List ℕ → Type 0) → Deed
 
 -- what is told of a source
-abbrev pub telling_of : Telling → Source → List ℕ
-telling_of Functions = accepted_line
-telling_of Instructions = code_text
+abbrev pub telling_of : Telling → Program → Source → List ℕ → Type 0
+telling_of Functions program source text = text ≡ accepted_line source
+telling_of Instructions program source text = text ≡ code_text source
+telling_of Version2 program source text = IsTextInVersion2 program text
 
 -- what is told of a run of a job's source
 abbrev pub showing_of : Showing → Job → Source → Ended → List ℕ

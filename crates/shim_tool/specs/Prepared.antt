@@ -1,5 +1,6 @@
 -- What a call comes to before any thread is wanted: an answer, or a run that workers are to do.
 use Rattle.std.specs.Prelude.{ℕ, ◌≡◌, ◌⊎◌, List, Option, Some, None}
+use Rattle.shim_syntax.specs.declared.Program.{Program}
 use Rattle.shim_front_end.specs.Source.{Source, IsSource}
 use Rattle.shim_command.specs.declared.job.Job.{Job}
 use Rattle.shim_command.specs.declared.mode.Course.TheVariants.{InSomeOrder}
@@ -9,9 +10,9 @@ use Rattle.shim_command.specs.Jobs.{IsWithin}
 use Rattle.shim_command.specs.Modes.{row_of}
 use Rattle.shim_tool.specs.declared.prepared.PreparedRun.{PreparedRun}
 use Rattle.shim_tool.specs.Moments.{FilesAt}
-use Rattle.shim_tool.specs.Modes.{deed_of, executed, reads_of, runs, second, showing_of, source_text}
+use Rattle.shim_tool.specs.Modes.{deed_of, executed, reads_of, second, showing_of, source_text}
 use Rattle.shim_tool.specs.Reads.{HoldsAll, Looks, OneReadFailed, Saw, all, longer_file, unread_file}
-use Rattle.shim_tool.specs.Answer.{Answer, AnswersUnits, OfBytes, file_failed, file_too_long, refused, usage}
+use Rattle.shim_tool.specs.Answer.{Answer, AnswersProgram, AnswersRun, OfBytes, file_failed, file_too_long, refused, usage}
 use Rattle.shim_tool.specs.Rows.{WasRead}
 
 pub data Prepared : Type 0 where
@@ -23,13 +24,18 @@ abbrev pub IsForWorkers : Job → Showing → Type 0
 IsForWorkers job showing = (row_of job.mode).task ≡ Runs InSomeOrder showing
 
 -- a source is kept to be run, with its input, where workers run it, and is answered where they don't
-abbrev pub PreparesUnits : Job → List ℕ → Source → Prepared → Type 0
-PreparesUnits job input source (answered answer) = ((showing : Showing) → IsForWorkers job showing → ⊥) × AnswersUnits (deed_of job) (executed job input source) answer
-PreparesUnits job input source (to_run r) = IsForWorkers job r.showing × (r ≡ record { job = job; showing = r.showing; source = source; input = input })
+abbrev pub PreparesProgram : Job → List ℕ → Program → Source → Prepared → Type 0
+PreparesProgram job input program source (answered answer) = ((showing : Showing) → IsForWorkers job showing → ⊥) × AnswersProgram (deed_of job) program (executed job input source) answer
+PreparesProgram job input program source (to_run r) = IsForWorkers job r.showing × (r ≡ record { job = job; showing = r.showing; source = source; input = input })
+
+-- a source is kept to be run by workers, and other bytes are answered with the line of their first fault
+abbrev pub LeavesToWorkers : Job → Showing → List ℕ → List ℕ → Prepared → Type 0
+LeavesToWorkers job showing input bytes p =
+    OfBytes (λ program source q. q ≡ to_run (record { job = job; showing = showing; source = source; input = input })) (λ fault q. q ≡ answered (refused fault)) bytes p
 
 -- bytes that are no source are answered with the line of their first fault
 abbrev pub PreparesSource : Job → List ℕ → List ℕ → Prepared → Type 0
-PreparesSource job input bytes p = OfBytes (λ source q. PreparesUnits job input source q) (λ fault q. q ≡ answered (refused fault)) bytes p
+PreparesSource job input bytes p = OfBytes (PreparesProgram job input) (λ fault q. q ≡ answered (refused fault)) bytes p
 
 -- what comes of what was seen of the files of a job
 abbrev pub PreparesSaw : Job → Saw → Prepared → Type 0
@@ -47,7 +53,7 @@ Prepares (Some job) before now p = PreparesJob job before now p
 -- the answer that was prepared, or one to the run that was left
 abbrev pub Completes : Prepared → Answer → Type 0
 Completes (answered made) answer = answer ≡ made
-Completes (to_run r) answer = AnswersUnits (runs InSomeOrder (showing_of r.showing r.job)) (executed r.job r.input r.source) answer
+Completes (to_run r) answer = AnswersRun InSomeOrder (showing_of r.showing r.job) (executed r.job r.input r.source) answer
 
 -- the numbers of the job are in their ranges
 abbrev pub IsPreparedWithin : Prepared → Type 0

@@ -18,7 +18,7 @@ use Rattle.shim_semantics.specs.Trees.{Tree}
 use Rattle.shim_tool.specs.RunEnds.{Execution, printed_steps, read_off, IsBeginning, IsReachedIn, IsSpent, IsStoppedAt}
 use Rattle.shim_tool.specs.Modes.{Deed, Reading, runs, tells, deed_of, executed, reads_of, second, source_text}
 use Rattle.shim_tool.specs.Reads.{AreContents, ComesToRead, Holds, HoldsAll, HoldsUpTo, IsTooLong, OneReadFailed, ReadFailed}
-use Rattle.shim_tool.specs.Answer.{Answer, AnswersUnits, MayAnswer, FailedGrew, IsNoSource, IsStoppedBy, status_by, text_by, text_with, usage_line, failed_line, longer_line, memory_line}
+use Rattle.shim_tool.specs.Answer.{Answer, AnswersProgram, MayAnswer, FailedGrew, IsNoSource, IsShown, IsStoppedBy, IsTextBy, status_by, usage_line, failed_line, longer_line, memory_line}
 
 -- this status came with this text, whole
 abbrev pub Came : ℕ → List ℕ → SinkAt → SinkAt → ℕ → Type 0
@@ -44,29 +44,32 @@ execution job contents source = executed job (second contents) source
 
 -- the meaning ends for this cause; of a source of which something is told, that comes with 0
 abbrev pub EndsBy : ℕ → (Execution → Type 0) → Deed → Execution → Type 0
-EndsBy status Cause (runs course text) x = Cause x
-EndsBy status Cause (tells text) x = status ≡ 0
+EndsBy status Cause (runs course shown) x = Cause x
+EndsBy status Cause (tells told) x = status ≡ 0
 
 -- a run within the budget leads to the tree to which the meaning comes
 abbrev pub IsReached : Deed → Execution → Type 0
-IsReached (runs course text) x = (n : ℕ) × (n ≤ x.budget) × IsReachedIn n x
-IsReached (tells text) x = Unit {0}
+IsReached (runs course shown) x = (n : ℕ) × (n ≤ x.budget) × IsReachedIn n x
+IsReached (tells told) x = Unit {0}
+
+-- this status came with the text of a source with this program
+abbrev pub CameWithText : ℕ → Deed → Program → Execution → SinkAt → SinkAt → ℕ → Type 0
+CameWithText status deed program x out_before out_now result = (text : List ℕ) × IsTextBy deed program x text × Came status text out_before out_now result
 
 -- The rows below say "exactly where" of told files, within their limits. Of other files each says that there is some source, fault or cause that fits.
 
--- 0, 1, 3: exactly where the job has a source whose meaning ends for this cause within the budget, with the text of its mode, which for `run` and `ref` is the report of that meaning, whatever the order of events in the run; of a source that isn't run, 0 comes wherever it is accepted. A run within the budget leads to the tree that is told.
+-- 0, 1, 3: exactly where the job has a source whose meaning ends for this cause within the budget, with the text of its mode, which for `run` and `ref` is the report of that meaning, whatever the order of events in the run; of a source that isn't run, 0 comes wherever it is accepted, with what is told of its program. A run within the budget leads to the tree that is told.
 pub record EndRow (status : ℕ) (Cause : Execution → Type 0) (ask : Option Job) (before now : FilesAt) (out_before out_now : SinkAt) (result : ℕ) : Type 0 where
   pub only : result ≡ status → (now.failed ≡ before.failed) × (job : Job) × (contents : List (List ℕ)) × (source : Source) × WasRead ask job before contents
-      × IsSource (source_text job contents) source × EndsBy status Cause (deed_of job) (execution job contents source) × IsReached (deed_of job) (execution job contents source)
-      × (status_by (deed_of job) (execution job contents source) ≡ status)
-      × (out_now.taken ≡ then_bytes out_before.taken (text_by (deed_of job) (execution job contents source)))
+      × (is : IsSource (source_text job contents) source) × EndsBy status Cause (deed_of job) (execution job contents source) × IsReached (deed_of job) (execution job contents source)
+      × (status_by (deed_of job) (execution job contents source) ≡ status) × CameWithText status (deed_of job) is.program (execution job contents source) out_before out_now result
   pub when : (job : Job) (contents : List (List ℕ)) (source : Source) → ask ≡ Some job → HoldsAll before.held (reads_of job) contents
-      → IsSource (source_text job contents) source → EndsBy status Cause (deed_of job) (execution job contents source)
-      → ComesUnlessUnread status (text_by (deed_of job) (execution job contents source)) job before now out_before out_now result
+      → (is : IsSource (source_text job contents) source) → EndsBy status Cause (deed_of job) (execution job contents source)
+      → CameWithText status (deed_of job) is.program (execution job contents source) out_before out_now result ⊎ (result ≡ 7) ⊎ (result ≡ 8) ⊎ ((result ≡ 6) × OneReadFailed (reads_of job) before now)
 
 -- the status of a run that was stopped came, with the text of what may be read off such a run
 abbrev pub CameStopped : Deed → Execution → SinkAt → SinkAt → ℕ → Type 0
-CameStopped deed x out_before out_now result = (e : Ended) × IsStoppedBy deed x e × Came 4 (text_with deed x e) out_before out_now result
+CameStopped deed x out_before out_now result = (e : Ended) × IsStoppedBy deed x e × (text : List ℕ) × IsShown deed x e text × Came 4 text out_before out_now result
 
 -- 4: exactly where the job has a source in whose meaning something can still happen after the budget's events. For `ref` the text is that of the meaning; for `run` and `gen` it is read off a tree to which a run of just the budget's events leads, and in which something can still happen.
 pub record SpentRow (ask : Option Job) (before now : FilesAt) (out_before out_now : SinkAt) (result : ℕ) : Type 0 where
@@ -81,13 +84,13 @@ pub record SpentRow (ask : Option Job) (before now : FilesAt) (out_before out_no
 abbrev pub CountRow : Option Job → FilesAt → SinkAt → SinkAt → ℕ → Type 0
 CountRow ask before out_before out_now result = result ≡ 4 → (job : Job) × (contents : List (List ℕ)) × (source : Source) × WasRead ask job before contents
     × IsSource (source_text job contents) source × IsReachedIn job.budget (execution job contents source) × (e : Ended) × IsStoppedBy (deed_of job) (execution job contents source) e
-    × (printed_steps e ≡ job.budget) × (out_now.taken ≡ then_bytes out_before.taken (text_with (deed_of job) (execution job contents source) e))
+    × (printed_steps e ≡ job.budget) × (text : List ℕ) × IsShown (deed_of job) (execution job contents source) e text × (out_now.taken ≡ then_bytes out_before.taken text)
 
 -- 4: the tree that is told is one at which a run is stopped, and what was put and met in it is a prefix of what the meaning gives in as many rounds as the budget has events
 abbrev pub BeginningRow : Option Job → FilesAt → SinkAt → SinkAt → ℕ → Type 0
 BeginningRow ask before out_before out_now result = result ≡ 4 → (job : Job) × (contents : List (List ℕ)) × (source : Source) × WasRead ask job before contents
     × IsSource (source_text job contents) source × (t : Tree LocalState) × IsStoppedAt (execution job contents source) t × IsBeginning (execution job contents source) t
-    × (out_now.taken ≡ then_bytes out_before.taken (text_with (deed_of job) (execution job contents source) (read_off (execution job contents source) t)))
+    × (text : List ℕ) × IsShown (deed_of job) (execution job contents source) (read_off (execution job contents source) t) text × (out_now.taken ≡ then_bytes out_before.taken text)
 
 -- 2: exactly where the words ask for nothing
 pub record WordsRow (ask : Option Job) (out_before out_now : SinkAt) (result : ℕ) : Type 0 where
@@ -142,5 +145,5 @@ pub record FilesRow (ask : Option Job) (before now : FilesAt) : Type 0 where
 -- Over sound files that hold what the job reads, with a source in it, and a sink that doesn't fail, the whole text of the mode is written with its status, unless memory is wanted.
 abbrev pub IsComplete : Option Job → FilesAt → SinkAt → SinkAt → ℕ → Type 0
 IsComplete ask before out_before out_now result = (job : Job) (contents : List (List ℕ)) (source : Source) → ask ≡ Some job → IsTrue before.sound
-    → HoldsAll before.held (reads_of job) contents → IsSource (source_text job contents) source → (HasRisen out_before.faults out_now.faults → ⊥)
-    → ((answer : Answer) × AnswersUnits (deed_of job) (execution job contents source) answer × Came answer.status answer.text out_before out_now result) ⊎ (result ≡ 8)
+    → HoldsAll before.held (reads_of job) contents → (is : IsSource (source_text job contents) source) → (HasRisen out_before.faults out_now.faults → ⊥)
+    → ((answer : Answer) × AnswersProgram (deed_of job) is.program (execution job contents source) answer × Came answer.status answer.text out_before out_now result) ⊎ (result ≡ 8)

@@ -104,7 +104,7 @@ pub fn shim<F: Files, K: Sink, G: Gate, R: Threads + Wait + Sync>(
     // What follows says "exactly where" of told files, within their limits. Of other files each clause says
     // that there is some source, fault or cause that fits.
     // 0: exactly where the root of the source ends in its meaning, with the text of the mode, as the report
-    // of that meaning; of a source that is only checked, exactly where it is accepted.
+    // of that meaning; of a source that isn't run, exactly where it is accepted.
     ensures done { EndRow 0 IsDone (job (texts_of words.now)) (files_at F.held F.sound F.failed files.old)
         (files_at F.held F.sound F.failed files.new) (sink_at K.taken K.faults out.old)
         (sink_at K.taken K.faults out.new) result }

@@ -1,23 +1,27 @@
 // What is told of a source, run or not.
-ghost use Rattle.std.specs.Prelude.{◌≡◌, IfOk};
+ghost use Rattle.std.specs.Prelude.{◌≡◌, ◌≤◌, IfOk, length};
 ghost use Rattle.shim_command.specs.Jobs.{IsWithin};
 ghost use Rattle.shim_command.specs.declared.mode.Course.TheVariants as courses;
-ghost use Rattle.shim_tool.specs.Answer.{AnswersUnits};
-ghost use Rattle.shim_tool.specs.Modes.{accepted_line, code_text, executed, functions_from, runs, showing_of, telling_of};
+ghost use Rattle.shim_command.specs.declared.mode.Telling.TheVariants as tellings;
+ghost use Rattle.shim_tool.specs.Answer.{AnswersMeaning, AnswersRun, AnswersTold};
+ghost use Rattle.shim_tool.specs.Modes.{accepted_line, executed, functions_from, showing_of, IsTextInVersion2};
 ghost use Rattle.shim_tool.specs.RunEnds.{IsEnd};
 ghost use Rattle.shim_tool.specs.Views.{answer_view};
 
-use crate::answer::Answer;
+use crate::answer::{Answer, refused};
 use crate::prepared::PreparedRun;
 use crate::status::ExitStatus;
 use shim_base::{List, NoMemory, Shared, push_decimal};
 use shim_code::{compile, listing};
 use shim_command::{Job, Showing, Telling};
+use shim_front_end::{read_program, read_source};
 use shim_net::Net;
 use shim_reference::{named, reference};
 use shim_report::{Ended, summary, text};
 use shim_sharing::Accepted;
+use shim_syntax::{Program, print};
 use shim_units::Unit;
+use shim_up::up;
 use shim_vm::Body;
 use shim_workers::{Gate, drive};
 use std::alloc::Global;
@@ -84,7 +88,7 @@ pub(crate) fn answer_run<G: Gate, R: Threads + Wait + Sync>(
     gate: &G,
 ) -> Result<Answer, NoMemory>
     requires within { IsWithin run.job }
-    ensures { IfOk result (λ a. AnswersUnits (runs courses.InSomeOrder (showing_of run.showing run.job)) (executed run.job run.input run.source) (answer_view a)) }
+    ensures { IfOk result (λ a. AnswersRun courses.InSomeOrder (showing_of run.showing run.job) (executed run.job run.input run.source) (answer_view a)) }
 {
     let PreparedRun {
         job,
@@ -99,8 +103,8 @@ pub(crate) fn answer_run<G: Gate, R: Threads + Wait + Sync>(
     })
 }
 
-/// Tells what a source means.
-pub(crate) fn answer_reference(
+// Tells what a source means.
+fn answer_reference(
     alloc: Global,
     job: &Job,
     showing: Showing,
@@ -108,7 +112,7 @@ pub(crate) fn answer_reference(
     input: List<u8>,
 ) -> Result<Answer, NoMemory>
     requires within { IsWithin job.now }
-    ensures { IfOk result (λ a. AnswersUnits (runs courses.ByFirstEvents (showing_of showing job.now)) (executed job.now input source) (answer_view a)) }
+    ensures { IfOk result (λ a. AnswersRun courses.ByFirstEvents (showing_of showing job.now) (executed job.now input source) (answer_view a)) }
 {
     let source = Shared::new(alloc, source)?;
     let end = end_of_syntax(alloc, job, &source, input)?;
@@ -116,6 +120,24 @@ pub(crate) fn answer_reference(
         status: ExitStatus::of(end.outcome),
         text: shown(alloc, job, showing, &source, &end)?,
     })
+}
+
+/// Tells what the source in a text means.
+pub(crate) fn answer_meaning(
+    alloc: Global,
+    job: &Job,
+    showing: Showing,
+    bytes: &[u8],
+    input: List<u8>,
+) -> Result<Answer, NoMemory>
+    requires short { length bytes.now ≤ 1048576 }
+    requires within { IsWithin job.now }
+    ensures { IfOk result (λ a. AnswersMeaning showing job.now input bytes.now (answer_view a)) }
+{
+    match read_source(alloc, bytes) {
+        Ok(source) => answer_reference(alloc, job, showing, source, input),
+        Err(fault) => refused(alloc, fault),
+    }
 }
 
 // How many units are those of functions. Those that were lifted out of functions stand behind them.
@@ -130,41 +152,81 @@ fn function_count(units: &[Unit]) -> usize
     units.len()
 }
 
-// Tells that a source is accepted.
+// The line that tells how many functions a source has.
 #[tactic(auto, unfolding(crate::specs::Modes::accepted_line))]
-fn answer_check(alloc: Global, source: &Accepted) -> Result<Answer, NoMemory>
-    ensures { IfOk result (λ a. answer_view a ≡ record { status = 0; text = accepted_line source.now }) }
+fn count_line(alloc: Global, source: &Accepted) -> Result<List<u8>, NoMemory>
+    ensures { IfOk result (λ text. text ≡ accepted_line source.now) }
 {
     let mut text = List::new(alloc);
     text.extend_from_slice(b"accepted ")?;
     push_decimal(&mut text, function_count(source.units()) as u64)?;
     text.extend_from_slice(b"\n")?;
-    Ok(Answer {
+    Ok(text)
+}
+
+// The canonical text of what a program is in version 2.
+fn text_in_version_2(alloc: Global, program: &Program) -> Result<List<u8>, NoMemory>
+    ensures { IfOk result (λ text. IsTextInVersion2 program.now text) }
+{
+    let newer = up(alloc, program)?;
+    print(alloc, &newer)
+}
+
+// The answer with what is told of a source.
+fn told(text: List<u8>) -> Answer
+    ensures { answer_view result ≡ record { status = 0; text = text } }
+{
+    Answer {
         status: ExitStatus::Done,
         text,
-    })
+    }
 }
 
-// Tells the code of a source's units.
-fn answer_code(alloc: Global, source: &Accepted) -> Result<Answer, NoMemory>
-    ensures { IfOk result (λ a. answer_view a ≡ record { status = 0; text = code_text source.now }) }
+// Tells that the source in a text is accepted.
+fn answer_check(alloc: Global, bytes: &[u8]) -> Result<Answer, NoMemory>
+    requires short { length bytes.now ≤ 1048576 }
+    ensures { IfOk result (λ a. AnswersTold tellings.Functions bytes.now (answer_view a)) }
 {
-    Ok(Answer {
-        status: ExitStatus::Done,
-        text: listing(alloc, source)?,
-    })
+    match read_source(alloc, bytes) {
+        Ok(source) => Ok(told(count_line(alloc, &source)?)),
+        Err(fault) => refused(alloc, fault),
+    }
 }
 
-/// Tells something of a source that isn't run.
+// Tells the code of the source in a text.
+fn answer_code(alloc: Global, bytes: &[u8]) -> Result<Answer, NoMemory>
+    requires short { length bytes.now ≤ 1048576 }
+    ensures { IfOk result (λ a. AnswersTold tellings.Instructions bytes.now (answer_view a)) }
+{
+    match read_source(alloc, bytes) {
+        Ok(source) => Ok(told(listing(alloc, &source)?)),
+        Err(fault) => refused(alloc, fault),
+    }
+}
+
+// Tells what the program of a text is in version 2.
+fn answer_up(alloc: Global, bytes: &[u8]) -> Result<Answer, NoMemory>
+    requires short { length bytes.now ≤ 1048576 }
+    ensures { IfOk result (λ a. AnswersTold tellings.Version2 bytes.now (answer_view a)) }
+{
+    match read_program(alloc, bytes) {
+        Ok(program) => Ok(told(text_in_version_2(alloc, &program)?)),
+        Err(fault) => refused(alloc, fault),
+    }
+}
+
+/// Tells something of the source in a text, which isn't run.
 pub(crate) fn answer_telling(
     alloc: Global,
     telling: Telling,
-    source: &Accepted,
+    bytes: &[u8],
 ) -> Result<Answer, NoMemory>
-    ensures { IfOk result (λ a. answer_view a ≡ record { status = 0; text = telling_of telling source.now }) }
+    requires short { length bytes.now ≤ 1048576 }
+    ensures { IfOk result (λ a. AnswersTold telling bytes.now (answer_view a)) }
 {
     match telling {
-        Telling::Functions => answer_check(alloc, source),
-        Telling::Instructions => answer_code(alloc, source),
+        Telling::Functions => answer_check(alloc, bytes),
+        Telling::Instructions => answer_code(alloc, bytes),
+        Telling::Version2 => answer_up(alloc, bytes),
     }
 }

@@ -5,6 +5,7 @@ ghost use Rattle.shim_command.specs.Jobs.{IsWithin, job, texts_of};
 ghost use Rattle.shim_tool.specs.Moments.{files_at, KeepsFiles};
 ghost use Rattle.shim_command.specs.Modes.{row_of};
 ghost use Rattle.shim_command.specs.declared.mode.Origin.TheVariants as origins;
+ghost use Rattle.shim_command.specs.declared.mode.Task.TheVariants as tasks;
 ghost use Rattle.shim_tool.specs.Modes.{first, made_text, reads_of, text_from};
 ghost use Rattle.shim_tool.specs.Reads.{GrewByOneOf, all};
 ghost use Rattle.shim_tool.specs.Answer.{FailedGrew};
@@ -12,7 +13,7 @@ ghost use Rattle.shim_tool.specs.Prepared as prepares;
 ghost use Rattle.shim_tool.specs.PreparedView.{prepared_view};
 
 use crate::answer::{Answer, file_failed, file_too_long, refused, usage};
-use crate::execute::{answer_reference, answer_telling};
+use crate::execute::{answer_meaning, answer_telling};
 use crate::files::{FilesRead, first_two, read_files};
 use shim_base::{List, NoMemory};
 use shim_command::{Course, Job, Kind, Origin, Showing, Task, WordsFault, read_words};
@@ -39,31 +40,51 @@ pub enum Prepared {
     ToRun(PreparedRun),
 }
 
-// Answers a source, or keeps it to be run where workers run it.
-fn prepare_units(
+// Keeps the source in a text to be run by workers.
+fn leave_to_workers(
     alloc: Global,
     job: Job,
-    source: Accepted,
+    showing: Showing,
+    bytes: &[u8],
     input: List<u8>,
 ) -> Result<Prepared, NoMemory>
-    requires within { IsWithin job }
-    ensures { IfOk result (λ p. prepares.PreparesUnits job input source (prepared_view p)) }
+    requires short { length bytes.now ≤ 1048576 }
+    ensures { IfOk result (λ p. prepares.LeavesToWorkers job showing input bytes.now (prepared_view p)) }
 {
-    match job.mode.row().task {
-        Task::Tells(telling) => Ok(Prepared::Answered(answer_telling(alloc, telling, &source)?)),
-        Task::Runs(Course::ByFirstEvents, showing) => Ok(Prepared::Answered(answer_reference(
-            alloc, &job, showing, source, input,
-        )?)),
-        Task::Runs(Course::InSomeOrder, showing) => Ok(Prepared::ToRun(PreparedRun {
+    match read_source(alloc, bytes) {
+        Ok(source) => Ok(Prepared::ToRun(PreparedRun {
             job,
             showing,
             source,
             input,
         })),
+        Err(fault) => Ok(Prepared::Answered(refused(alloc, fault)?)),
     }
 }
 
-// Reads the text of a job's source, which has at most 1,048,576 bytes.
+// Tells what the source in a text means, or leaves its run to workers, as the course asks.
+fn prepare_run(
+    alloc: Global,
+    job: Job,
+    course: Course,
+    showing: Showing,
+    bytes: &[u8],
+    input: List<u8>,
+) -> Result<Prepared, NoMemory>
+    requires short { length bytes.now ≤ 1048576 }
+    requires within { IsWithin job }
+    requires runs { (row_of job.mode).task ≡ tasks.Runs course showing }
+    ensures { IfOk result (λ p. prepares.PreparesSource job input bytes.now (prepared_view p)) }
+{
+    match course {
+        Course::ByFirstEvents => Ok(Prepared::Answered(answer_meaning(
+            alloc, &job, showing, bytes, input,
+        )?)),
+        Course::InSomeOrder => leave_to_workers(alloc, job, showing, bytes, input),
+    }
+}
+
+// Does what the mode asks for with the source in a text, of at most 1,048,576 bytes.
 fn prepare_source(
     alloc: Global,
     job: Job,
@@ -74,9 +95,9 @@ fn prepare_source(
     requires within { IsWithin job }
     ensures { IfOk result (λ p. prepares.PreparesSource job input bytes.now (prepared_view p)) }
 {
-    match read_source(alloc, bytes) {
-        Ok(source) => prepare_units(alloc, job, source, input),
-        Err(fault) => Ok(Prepared::Answered(refused(alloc, fault)?)),
+    match job.mode.row().task {
+        Task::Tells(telling) => Ok(Prepared::Answered(answer_telling(alloc, telling, bytes)?)),
+        Task::Runs(course, showing) => prepare_run(alloc, job, course, showing, bytes, input),
     }
 }
 
