@@ -5,7 +5,7 @@ use Rattle.std.specs.Option.{option_map}
 use Rattle.shim_base.specs.Paths.{Channel, NamedChannel}
 use Rattle.shim_base.proofs.Facts.{some_same, none_some}
 use Rattle.shim_local.specs.Process.{Ops}
-use Rattle.shim_semantics.specs.Nodes.{death}
+use Rattle.shim_semantics.specs.Nodes.{Death}
 use Rattle.shim_laws_records.specs.Changes.{block, prevailing_of, prevailing_among}
 use Rattle.shim_records.specs.Members.{IsAmong}
 use Rattle.shim_records.specs.Acted.{Earlier}
@@ -33,8 +33,8 @@ none_read rs g n =
     sym (ap (λ z. prevailing_among (block (g + n) z (map stands_of rs))) none ∙ ap prevailing_among (no_block (drop (g + n) (map stands_of rs))))
 
 -- one more child
-pub one_read : (rs : List Record) (g n i : ℕ) (r : Record) (least now : Option ℕ) → i < n → slice_get rs (g + i) ≡ Some r → ((f : ℕ) → option_map death now ≡ prevailing_of (stands_by f r.status) (option_map death least))
-    → option_map death least ≡ prevailing_among (block (g + (i + 1)) (n - (i + 1)) (map stands_of rs)) → option_map death now ≡ prevailing_among (block (g + i) (n - i) (map stands_of rs))
+pub one_read : (rs : List Record) (g n i : ℕ) (r : Record) (least now : Option Death) → i < n → slice_get rs (g + i) ≡ Some r → ((f : ℕ) → now ≡ prevailing_of (stands_by f r.status) least)
+    → least ≡ prevailing_among (block (g + (i + 1)) (n - (i + 1)) (map stands_of rs)) → now ≡ prevailing_among (block (g + i) (n - i) (map stands_of rs))
 one_read rs g n i r least now less there is so =
     let left : n - i ≡ suc (n - (i + 1)) = omega (arith, less) in
     let next : suc (g + i) ≡ g + (i + 1) = omega arith in
@@ -43,7 +43,7 @@ one_read rs g n i r least now less there is so =
     ∙ (ap (prevailing_of (stands_of r)) (so ∙ ap (λ z. prevailing_among (block z (n - (i + 1)) (map stands_of rs))) (sym next))
     ∙ sym (ap (λ z. prevailing_among (block (g + i) z (map stands_of rs))) left ∙ ap (λ z. prevailing_among (take (suc (n - (i + 1))) z)) (drop_at (map stands_of rs) (g + i) (stands_of r) here)))
 
-pub all_read : (rs : List Record) (g n i : ℕ) (least : Option ℕ) → i ≡ 0 → option_map death least ≡ prevailing_among (block (g + i) (n - i) (map stands_of rs)) → option_map death least ≡ prevailing_among (block g n (map stands_of rs))
+pub all_read : (rs : List Record) (g n i : ℕ) (least : Option Death) → i ≡ 0 → least ≡ prevailing_among (block (g + i) (n - i) (map stands_of rs)) → least ≡ prevailing_among (block g n (map stands_of rs))
 all_read rs g n i least e so =
     let first : g + i ≡ g = omega (arith, e) in
     let many : n - i ≡ n = omega (arith, e) in

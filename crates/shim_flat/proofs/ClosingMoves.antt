@@ -1,13 +1,13 @@
 -- A close of a fork: what its parts ask for, and that the tree moves by it.
 use Rattle.std.proofs.Common.{◌≡◌, ◌≢◌, ◌<◌, ◌≤◌, ◌+◌, ◌⊎◌, inl, inr, ℕ, false, Option, Some, List, map, take, length, get_or, slice_set, refl, sym, ap, subst, ◌∙◌, arith}
-use Rattle.std.specs.Prelude.{slice_get, unwrap_or}
+use Rattle.std.specs.Prelude.{slice_get}
 use Rattle.std.specs.Option.{option_map}
 use Rattle.std.proofs.lemmas.List.{length-set}
 use Rattle.std.proofs.lemmas.Option.{slice_get_within}
 use Rattle.shim_base.proofs.Facts.{some_same}
 use Rattle.shim_local.specs.Process.{Ops}
 use Rattle.shim_local.specs.Laws.{LocalLaws}
-use Rattle.shim_semantics.specs.Nodes.{death, state}
+use Rattle.shim_semantics.specs.Nodes.{Death, state}
 use Rattle.shim_semantics.specs.Acts.{Acted, closed}
 use Rattle.shim_semantics.specs.Trees.{Close}
 use Rattle.shim_laws_records.specs.Seen.{forks, sort}
@@ -57,25 +57,29 @@ children_read v i f n l r k has read is =
     let told = forked_says w.0.first f n w.0.status so in
     (ap (λ (z : Record). z.first) same ∙ told.0, is ∙ (ap (λ (z : Record). fork_size z.status) same ∙ told.1))
 
-state_told : {S : Type 0} (outcome : CloseOutcome) (x : ℕ) (s : S) → state (acted_by outcome x s).node ≡ s
-state_told GoesOn x s = refl
-state_told (Threw (thrown.Caught name line)) x s = refl
-state_told (Threw thrown.Died) x s = refl
+state_told : {S : Type 0} (outcome : CloseOutcome) (s : S) → state (acted_by outcome s).node ≡ s
+state_told GoesOn s = refl
+state_told (Threw (thrown.Caught name line)) s = refl
+state_told (Threw (thrown.Died d)) s = refl
+state_told (Threw thrown.Trapped) s = refl
 
-sort_told : {S : Type 0} (outcome : CloseOutcome) (x : ℕ) (s : S) → sort (acted_by outcome x s).node ≡ sort_left outcome x
-sort_told GoesOn x s = refl
-sort_told (Threw (thrown.Caught name line)) x s = refl
-sort_told (Threw thrown.Died) x s = refl
+sort_told : {S : Type 0} (outcome : CloseOutcome) (s : S) → sort (acted_by outcome s).node ≡ sort_left outcome
+sort_told GoesOn s = refl
+sort_told (Threw (thrown.Caught name line)) s = refl
+sort_told (Threw (thrown.Died d)) s = refl
+sort_told (Threw thrown.Trapped) s = refl
 
-effects_told : {S : Type 0} (outcome : CloseOutcome) (x : ℕ) (s : S) → (acted_by outcome x s).effects ≡ told_by outcome
-effects_told GoesOn x s = refl
-effects_told (Threw (thrown.Caught name line)) x s = refl
-effects_told (Threw thrown.Died) x s = refl
+effects_told : {S : Type 0} (outcome : CloseOutcome) (s : S) → (acted_by outcome s).effects ≡ told_by outcome
+effects_told GoesOn s = refl
+effects_told (Threw (thrown.Caught name line)) s = refl
+effects_told (Threw (thrown.Died d)) s = refl
+effects_told (Threw thrown.Trapped) s = refl
 
-came_to : {S : Type 0} (outcome : CloseOutcome) (x : ℕ) (s : S) → CameTo outcome (sort (acted_by outcome x s).node)
-came_to GoesOn x s = refl
-came_to (Threw (thrown.Caught name line)) x s = refl
-came_to (Threw thrown.Died) x s = (death x, refl)
+came_to : {S : Type 0} (outcome : CloseOutcome) (s : S) → CameTo outcome (sort (acted_by outcome s).node)
+came_to GoesOn s = refl
+came_to (Threw (thrown.Caught name line)) s = refl
+came_to (Threw (thrown.Died d)) s = refl
+came_to (Threw thrown.Trapped) s = refl
 
 -- records that say the same beside what came of their processes have their pairs in the same order
 pub freed_order : (g n : ℕ) (before behind : List Record) → AreFreed g n before behind → AreOrdered before → AreOrdered behind
@@ -117,29 +121,29 @@ module _ {S : Type 0} (o : Ops S) (law : LocalLaws o) (states : List S) (rs : Li
   pub are_born : (l : S) → slice_get states number ≡ Some l → o.born l (block first count states)
   are_born l e = subst (λ z. o.born z (block first count states)) (some_same done.process l (sym done.forked.state_is ∙ e)) (born o law kept.0 states rs kept.1 number first count done.process kept.2 has)
 
-  pub is_below : (label : Option ℕ) → option_map death label ≡ prevailing_among (block first count (map stands_of rs)) → (l : S) (x : ℕ) → slice_get states number ≡ Some l → label ≡ Some x → x < o.handlers (o.join l (block first count states) false)
+  pub is_below : (label : Option Death) → label ≡ prevailing_among (block first count (map stands_of rs)) → (l : S) (x : Death) → slice_get states number ≡ Some l → label ≡ Some x → x.label < o.handlers (o.join l (block first count states) false)
   is_below label read l x e f =
-      subst (λ z. x < o.handlers (o.join z (block first count states) false)) (some_same done.process l (sym done.forked.state_is ∙ e))
-      (below o law kept.0 states rs kept.1 number first count done.process kept.2 has (death x) (sym read ∙ ap (option_map death) f))
+      subst (λ z. x.label < o.handlers (o.join z (block first count states) false)) (some_same done.process l (sym done.forked.state_is ∙ e))
+      (below o law kept.0 states rs kept.1 number first count done.process kept.2 has x (sym read ∙ f))
 
   pub are_ordered : AreOrdered rs
   are_ordered = kept.2.ordered
 
   -- ---- what came of it
 
-  module _ (label : Option ℕ) (outcome : CloseOutcome) (now : List S) (read : option_map death label ≡ prevailing_among (block first count (map stands_of rs)))
-      (taken : (l : S) → slice_get states number ≡ Some l → (s : S) × (now ≡ slice_set states number s) × (acted_by outcome (unwrap_or label 0) s ≡ closed o l (block first count states) (option_map death label))) where
-    last : (s : S) × (now ≡ slice_set states number s) × (acted_by outcome (unwrap_or label 0) s ≡ closed o done.process (block first count states) (option_map death label))
+  module _ (label : Option Death) (outcome : CloseOutcome) (now : List S) (read : label ≡ prevailing_among (block first count (map stands_of rs)))
+      (taken : (l : S) → slice_get states number ≡ Some l → (s : S) × (now ≡ slice_set states number s) × (acted_by outcome s ≡ closed o l (block first count states) label)) where
+    last : (s : S) × (now ≡ slice_set states number s) × (acted_by outcome s ≡ closed o done.process (block first count states) label)
     last = taken done.process done.forked.state_is
 
     abbrev a : Acted S
-    a = acted_by outcome (unwrap_or label 0) last.0
+    a = acted_by outcome last.0
 
     is : a ≡ closed o done.process (block first count states) (prevailing_among (block first count (map stands_of rs)))
     is = last.2 ∙ ap (closed o done.process (block first count states)) read
 
     state_is : state a.node ≡ last.0
-    state_is = state_told outcome (unwrap_or label 0) last.0
+    state_is = state_told outcome last.0
 
     set : now ≡ slice_set states number (state a.node)
     set = last.1 ∙ ap (slice_set states number) (sym state_is)
@@ -153,10 +157,10 @@ module _ {S : Type 0} (o : Ops S) (law : LocalLaws o) (states : List S) (rs : Li
     pub still_there : number < length now
     still_there = let w = state_there states rs number done in let long = ap length set ∙ length-set states number (state a.node) in omega (arith, w, long)
 
-    module _ (freed behind : List Record) (status : Status) (end : ℕ) (free : AreFreed first count rs freed) (sort_is : sort_of status ≡ sort_left outcome (unwrap_or label 0))
-        (settled : ClosesRecord o now number status (option_map death label) freed behind) (unused : (i : ℕ) (r : Record) → end ≤ i → slice_get behind i ≡ Some r → stands_of r ≡ unused_so) where
+    module _ (freed behind : List Record) (status : Status) (end : ℕ) (free : AreFreed first count rs freed) (sort_is : sort_of status ≡ sort_left outcome)
+        (settled : ClosesRecord o now number status label freed behind) (unused : (i : ℕ) (r : Record) → end ≤ i → slice_get behind i ≡ Some r → stands_of r ≡ unused_so) where
       same_sort : sort_of status ≡ sort a.node
-      same_sort = sort_is ∙ sym (sort_told outcome (unwrap_or label 0) last.0)
+      same_sort = sort_is ∙ sym (sort_told outcome last.0)
 
       same_state : settled.process ≡ state a.node
       same_state = its settled.process settled.state_is
@@ -181,7 +185,7 @@ module _ {S : Type 0} (o : Ops S) (law : LocalLaws o) (states : List S) (rs : Li
 
       again : RecountedIf (prevailing_among (block first count (map stands_of rs))) o (slice_set states number (state a.node)) (state a.node) 4294967295 number settled.between behind
       again = subst (λ z. RecountedIf (prevailing_among (block first count (map stands_of rs))) o z (state a.node) 4294967295 number settled.between behind) set
-          (subst (λ z. RecountedIf z o now (state a.node) 4294967295 number settled.between behind) read (subst (λ z. RecountedIf (option_map death label) o now z 4294967295 number settled.between behind) same_state settled.again))
+          (subst (λ z. RecountedIf z o now (state a.node) 4294967295 number settled.between behind) read (subst (λ z. RecountedIf label o now z 4294967295 number settled.between behind) same_state settled.again))
 
       abbrev After : FlatView S
       After = record { states = take end now; records = take end behind }
@@ -226,8 +230,8 @@ module _ {S : Type 0} (o : Ops S) (law : LocalLaws o) (states : List S) (rs : Li
         does = is;
         path = path;
         apart = is_no_child;
-        told = effects_told outcome (unwrap_or label 0) last.0;
-        came = came_to outcome (unwrap_or label 0) last.0;
+        told = effects_told outcome last.0;
+        came = came_to outcome last.0;
         becomes = subst (λ z. HasClosed states (take end z) (map stands_of rs) (map stands_of (take end behind)) number first count (state a.node) (sort a.node)) (sym set)
             (closed_cut (slice_set states number (state a.node)) behind end unused states (map stands_of rs) number first count (state a.node) (sort a.node) closes);
         moves = moves;

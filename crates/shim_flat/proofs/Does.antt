@@ -1,13 +1,13 @@
 -- What one live process did by itself in place, as an event of the tree that is shown.
-use Rattle.std.proofs.Common.{◌≡◌, ◌≤◌, ◌<◌, ℕ, Bool, false, cond, ltb, ltb-true, Option, Some, List, length, get_or, slice_set, inl, inr, refl, sym, ap, subst, ◌∙◌, arith}
+use Rattle.std.proofs.Common.{◌≡◌, ◌≤◌, ◌<◌, ℕ, zero, suc, ℤ, Bool, true, false, cond, ltb, Option, Some, None, List, [], ◌∷◌, length, get_or, slice_set, inl, inr, refl, sym, ap, subst, ◌∙◌, arith}
 use Rattle.std.specs.Prelude.{slice_get}
 use Rattle.std.proofs.lemmas.Option.{slice_get_read, slice_get_within}
-use Rattle.std.proofs.lemmas.Bool.{lt-ltb}
-use Rattle.shim_base.proofs.Facts.{some_same, true_or_false}
+use Rattle.shim_base.proofs.Facts.{some_same}
 use Rattle.shim_local.specs.Process.{Ops, StopView, AtPut, AtThrow}
 use Rattle.shim_local.specs.Laws.{LocalLaws}
-use Rattle.shim_semantics.specs.Nodes.{Live, Dead, death, goes, state}
-use Rattle.shim_semantics.specs.Acts.{Acted, Effects, nothing, putting, catching, act_live}
+use Rattle.shim_semantics.specs.Nodes.{Live, Dead, Death, death_with, handed, goes, state}
+use Rattle.shim_semantics.specs.Acts.{Acted, Effects, nothing, putting, catching, throwing, act_live}
+use Rattle.shim_semantics.specs.Acts as act
 use Rattle.shim_semantics.specs.Places.{at}
 use Rattle.shim_semantics.proofs.Replaced.{sound_at}
 use Rattle.shim_laws_records.specs.Seen.{Sort, lives, place}
@@ -31,7 +31,9 @@ use Rattle.shim_laws_keeping.proofs.OneLess.{found}
 use Rattle.shim_laws_keeping.proofs.Gone.{leaves_keep}
 use Rattle.shim_laws_keeping.proofs.Marks.{left_sort, rest_taken, changed_then}
 use Rattle.shim_flat.specs.Stepping.{LivesAt, HasBecome}
-use Rattle.shim_flat.specs.Acting.{ActsHere}
+use Rattle.shim_flat.specs.Acting.{ActsHere, sort_by, told_of, thrown_by}
+use Rattle.shim_flat.specs.declared.acting.Thrown.{Thrown}
+use Rattle.shim_flat.specs.declared.acting.Thrown.TheVariants as thrown
 use Rattle.shim_flat.specs.Touching.{TouchesRecords}
 use Rattle.shim_flat.proofs.HereSteps.{read_set, has_become}
 use Rattle.shim_flat.proofs.TouchingOwn.{one_touched, records_touched}
@@ -90,29 +92,38 @@ module _ {S : Type 0} (o : Ops S) where
   pub puts : (l s : S) (byte : Option ℕ) → byte ≡ o.byte l → s ≡ o.put l → act_live o l AtPut ≡ Some (record { node = Live s; effects = putting byte })
   puts l s byte told next = λ i. let a : Acted S = record { node = Live (sym next i); effects = putting (sym told i) } in Some a
 
-  abbrev dead_of : S → ℕ → Acted S
-  dead_of l label = record { node = Dead l (death label); effects = nothing }
+  -- a throw of a process: who dies is as it was
+  dies_itself : (l s : S) (d e : Death) → thrown_by (thrown.Died d) s ≡ act.thrown o l e → s ≡ l
+  dies_itself l s d e h =
+      let dies : Acted S = record { node = Dead l e; effects = nothing } in
+      let goes_on : Acted S = record { node = Live (o.unwind l e.label (handed e.given)); effects = catching (o.handler l e.label) } in
+      elim (ltb e.label (o.base l)) as (λ b. thrown_by (thrown.Died d) s ≡ cond b dies goes_on → s ≡ l) [ true ↦ λ z. ap (λ (w : Acted S). state w.node) z | false ↦ λ z. absurd (cc (ap (λ (w : Acted S). w.node) z)) ] h
 
-  abbrev caught_by : S → ℕ → Acted S
-  caught_by l label = record { node = Live (o.unwind l label); effects = catching (o.handler l label) }
+  died_same : (l s : S) (d : Death) (label : ℕ) (r : Option ℤ) → thrown_by (thrown.Died d) s ≡ throwing o l label r → s ≡ l
+  died_same l s d label None h = absurd (cc (ap (λ (w : Acted S). w.node) h))
+  died_same l s d label (Some v) h = dies_itself l s d (death_with label v) h
 
-  pub throw_dies : (l : S) (label : ℕ) → label < o.base l → act_live o l (AtThrow label) ≡ Some (record { node = Dead l (death label); effects = nothing })
-  throw_dies l label less = ap (λ (b : Bool). Some (cond b (dead_of l label) (caught_by l label))) (lt-ltb label (o.base l) less)
+  pub throw_dies : (l s : S) (d : Death) (label : ℕ) → thrown_by (thrown.Died d) s ≡ throwing o l label (o.number l) → (s ≡ l) × (act_live o l (AtThrow label) ≡ Some (record { node = Dead l d; effects = nothing }))
+  throw_dies l s d label h =
+      let same = died_same l s d label (o.number l) h in
+      (same, ap Some (sym h ∙ ap (thrown_by (thrown.Died d)) same))
 
-  pub throw_caught : (l s : S) (label : ℕ) (h : ℕ × ℕ) → o.base l ≤ label → s ≡ o.unwind l label → h ≡ o.handler l label → act_live o l (AtThrow label) ≡ Some (record { node = Live s; effects = catching h })
-  throw_caught l s label h past next by =
-      ap (λ (b : Bool). Some (cond b (dead_of l label) (caught_by l label))) none
-      ∙ (λ i. let a : Acted S = record { node = Live (sym next i); effects = catching (sym by i) } in Some a)
-    where
-      none : ltb label (o.base l) ≡ false
-      none = elim (true_or_false (ltb label (o.base l))) [ inl w ↦ let less = ltb-true label (o.base l) w in absurd (omega (arith, less, past)) | inr w ↦ w ]
+  -- who lives on does so as it is then
+  pub throw_lives : (l s : S) (t : Thrown) (label : ℕ) → sort_by t ≡ lives → thrown_by t s ≡ throwing o l label (o.number l) → act_live o l (AtThrow label) ≡ Some (record { node = Live s; effects = told_of t })
+  throw_lives l s (thrown.Caught name line) label e h = ap Some (sym h)
+  throw_lives l s (thrown.Died d) label e h = absurd cc
+  throw_lives l s thrown.Trapped label e h = ap Some (sym h)
 
-  -- a label that isn't below those in force around it is one of its own
-  pub can_catch : LocalLaws o → (states : List S) (rs : List Record) (x label b : ℕ) (l read_first : S) → IsKept o (record { states = states; records = rs }) → LivesAt o (record { states = states; records = rs }) x (AtThrow label) → l ≡ get_or states x l → read_first ≡ get_or states x read_first
-      → b ≡ o.base read_first → b ≤ label → (o.base l ≤ label) × (label < o.handlers l)
-  can_catch law states rs x label b l read_first kept here read first e past =
-      let base : b ≡ o.base l = e ∙ ap o.base (one_read states rs x (AtThrow label) read_first l here first read) in
-      (subst (λ z. z ≤ label) base past, law.throw_below l label (is_sound states rs x here.0 l kept (its states rs x (AtThrow label) l here read)) (stood states rs x (AtThrow label) l here read))
+  pub lives_by : (t : Thrown) → ((d : Death) → t ≡ thrown.Died d → ⊥) → sort_by t ≡ lives
+  lives_by (thrown.Caught name line) n = refl
+  lives_by (thrown.Died d) n = absurd (n d refl)
+  lives_by thrown.Trapped n = refl
+
+  -- an item in its own place
+  pub set_same : {A : Type 0} (xs : List A) (i : ℕ) (x : A) → slice_get xs i ≡ Some x → slice_set xs i x ≡ xs
+  set_same [] i x e = refl
+  set_same (y ∷ xs) zero x e = ap (λ z. z ∷ xs) (sym (some_same y x e))
+  set_same (y ∷ xs) (suc i) x e = ap (λ z. y ∷ z) (set_same xs i x e)
 
   -- ---- what was done
 

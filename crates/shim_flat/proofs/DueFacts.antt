@@ -5,7 +5,7 @@ use Rattle.std.specs.Option.{option_map}
 use Rattle.std.proofs.lemmas.Option.{slice_get_within}
 use Rattle.shim_base.proofs.Facts.{some_same, none_some}
 use Rattle.shim_local.specs.Process.{Ops}
-use Rattle.shim_semantics.specs.Nodes.{death}
+use Rattle.shim_semantics.specs.Nodes.{Death}
 use Rattle.shim_laws_records.specs.Seen.{Sort, lives, forks, ends, dies}
 use Rattle.shim_laws_records.specs.Agrees.{free, used}
 use Rattle.shim_laws_records.specs.Counts.{all_there}
@@ -49,8 +49,8 @@ module _ {S : Type 0} (o : Ops S) (v : FlatView S) (i : ℕ) where
     pub is_ended : r.status ≡ code.Ended → IsIdle o v i
     is_ended e = has_ended r.first l (its_process ends code.Ended e refl)
 
-    pub is_dead : (x : ℕ) → r.status ≡ code.Dead x → IsIdle o v i
-    is_dead x e = has_died r.first l (death x) (its_process (dies (death x)) (code.Dead x) e refl)
+    pub is_dead : (x : Death) → r.status ≡ code.Dead x → IsIdle o v i
+    is_dead x e = has_died r.first l x (its_process (dies x) (code.Dead x) e refl)
 
     pub live_process : r.status ≡ code.Live → HasProcess v i r.first l lives
     live_process e = its_process lives code.Live e refl
@@ -118,7 +118,7 @@ all_idle o v i l r state there n forked some past all idle =
 -- ---- what the code says of lists
 
 -- of a process that has ended or died, or of a free record, nothing
-pub at_rest : {S : Type 0} (o : Ops S) (v : FlatView S) (i : ℕ) (r : Record) → i < length v.states → slice_get v.records i ≡ Some r → (r.status ≡ code.Free) ⊎ ((r.status ≡ code.Ended) ⊎ ((x : ℕ) × (r.status ≡ code.Dead x))) → IsIdle o v i
+pub at_rest : {S : Type 0} (o : Ops S) (v : FlatView S) (i : ℕ) (r : Record) → i < length v.states → slice_get v.records i ≡ Some r → (r.status ≡ code.Free) ⊎ ((r.status ≡ code.Ended) ⊎ ((x : Death) × (r.status ≡ code.Dead x))) → IsIdle o v i
 at_rest o v i r within there h = let l = there_is v.states i within in elim h [
   | inl e ↦ is_free o v i l.0 r l.1 there e
   | inr (inl e) ↦ is_ended o v i l.0 r l.1 there e

@@ -9,7 +9,7 @@ use Rattle.shim_base.proofs.Facts.{some_same, none_some}
 use Rattle.shim_local.specs.Process.{Ops}
 use Rattle.shim_laws_records.specs.Seen.{Sort, lives, forks, ends, dies}
 use Rattle.shim_laws_records.specs.Agrees.{used}
-use Rattle.shim_semantics.specs.Nodes.{death}
+use Rattle.shim_semantics.specs.Nodes.{Death}
 use Rattle.shim_records.specs.Members.{IsAmong}
 use Rattle.shim_records.specs.Pairs.{stands_of, stands_by}
 use Rattle.shim_records.specs.declared.record.Record.{Record}
@@ -110,7 +110,7 @@ children_are f code.Free n e = none_some n e
 children_are f code.Live n e = (lives, refl, sym (some_same 0 n e))
 children_are f (code.Forked m) n e = (forks m, refl, sym (some_same m n e))
 children_are f code.Ended n e = (ends, refl, sym (some_same 0 n e))
-children_are f (code.Dead x) n e = (dies (death x), refl, sym (some_same 0 n e))
+children_are f (code.Dead x) n e = (dies x, refl, sym (some_same 0 n e))
 
 not_used : {B : Type 0} (f g : ℕ) (k : Status) (x : Sort) → children_by k ≡ None → stands_by f k ≡ used g x → B
 not_used f g code.Free x e h = absurd (let z : ⊥ = cc in z)

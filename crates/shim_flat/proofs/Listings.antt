@@ -58,10 +58,10 @@ module _ {S : Type 0} (o : Ops S) (v : FlatView S) (i : ℕ) where
         forked_alone : (n : ℕ) → code.Forked n ≢ code.Live
         forked_alone n e = absurd cc
 
-    pub rests : (r.status ≡ code.Free) ⊎ ((r.status ≡ code.Ended) ⊎ ((x : ℕ) × (r.status ≡ code.Dead x))) → IsIdle o v i × IsBeforeQuiet o i v false
+    pub rests : (r.status ≡ code.Free) ⊎ ((r.status ≡ code.Ended) ⊎ ((x : Death) × (r.status ≡ code.Dead x))) → IsIdle o v i × IsBeforeQuiet o i v false
     rests h = (at_rest o v i r (slice_get_within v.states i used.1 used.3.state_is) there h, lives_not (at_rest_alone r.status h))
       where
-        at_rest_alone : (k : Status) → (k ≡ code.Free) ⊎ ((k ≡ code.Ended) ⊎ ((x : ℕ) × (k ≡ code.Dead x))) → k ≢ code.Live
+        at_rest_alone : (k : Status) → (k ≡ code.Free) ⊎ ((k ≡ code.Ended) ⊎ ((x : Death) × (k ≡ code.Dead x))) → k ≢ code.Live
         at_rest_alone k (inl e) f = absurd (cc)
         at_rest_alone k (inr (inl e)) f = absurd (cc)
         at_rest_alone k (inr (inr (x, e))) f = absurd (cc)

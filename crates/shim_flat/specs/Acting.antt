@@ -2,8 +2,8 @@
 use Rattle.std.specs.Prelude.{◌≡◌, ℕ, Some}
 use Rattle.shim_base.specs.declared.operators.Trap.{Trap}
 use Rattle.shim_local.specs.Process.{Ops, StopView, AtTrap}
-use Rattle.shim_semantics.specs.Nodes.{Node, death, state}
-use Rattle.shim_semantics.specs.Acts.{Effects, nothing, catching, act_live}
+use Rattle.shim_semantics.specs.Nodes.{Node, Live, Dead, state}
+use Rattle.shim_semantics.specs.Acts.{Acted, Effects, nothing, catching, act_live}
 use Rattle.shim_laws_records.specs.Seen.{Sort, lives, dies, sort}
 use Rattle.shim_laws_keeping.specs.Flats.{FlatView, HasProcess}
 use Rattle.shim_laws_keeping.specs.Moves.{MovesBy}
@@ -30,12 +30,20 @@ pub record ActsHere {S : Type 0} (o : Ops S) (n number : ℕ) (stop : StopView) 
   pub moves : MovesBy o (event_at_stop stop (o.path process)) before behind
   pub touches : TouchesAbove n number before behind
 
--- what came of a process that threw the exception of this label
-abbrev pub sort_by : ℕ → Thrown → Sort
-sort_by label (thrown.Caught name line) = lives
-sort_by label thrown.Died = dies (death label)
+-- what came of a process that threw an exception
+abbrev pub sort_by : Thrown → Sort
+sort_by (thrown.Caught name line) = lives
+sort_by (thrown.Died d) = dies d
+sort_by thrown.Trapped = lives
 
 -- what is told of it
 abbrev pub told_of : Thrown → Effects
 told_of (thrown.Caught name line) = catching (name, line)
-told_of thrown.Died = nothing
+told_of (thrown.Died d) = nothing
+told_of thrown.Trapped = nothing
+
+-- what a process leaves in which an exception was thrown
+abbrev pub thrown_by : {S : Type 0} → Thrown → S → Acted S
+thrown_by (thrown.Caught name line) s = record { node = Live s; effects = catching (name, line) }
+thrown_by (thrown.Died d) s = record { node = Dead s d; effects = nothing }
+thrown_by thrown.Trapped s = record { node = Live s; effects = nothing }

@@ -1,9 +1,8 @@
 -- What a close of a fork did, and what its parts do to states and records.
-use Rattle.std.specs.Prelude.{◌≡◌, ◌≢◌, ◌<◌, ◌+◌, ℕ, Bool, Option, Some, List, slice_get, slice_set, unwrap_or}
-use Rattle.std.specs.Option.{option_map}
+use Rattle.std.specs.Prelude.{◌≡◌, ◌≢◌, ◌<◌, ◌+◌, ℕ, Bool, Option, Some, List, slice_get, slice_set}
 use Rattle.shim_local.specs.Process.{Ops}
-use Rattle.shim_semantics.specs.Nodes.{Live, Dead, Death, death, state}
-use Rattle.shim_semantics.specs.Acts.{Acted, Effects, nothing, catching, closed}
+use Rattle.shim_semantics.specs.Nodes.{Live, Death, state}
+use Rattle.shim_semantics.specs.Acts.{Acted, Effects, nothing, closed}
 use Rattle.shim_semantics.specs.Trees.{Close}
 use Rattle.shim_laws_records.specs.Seen.{Sort, lives, forks, dies, sort}
 use Rattle.shim_laws_records.specs.Changes.{HasClosed, block, prevailing_among}
@@ -14,7 +13,7 @@ use Rattle.shim_laws_keeping.specs.Flats.{FlatView, HasProcess, stands}
 use Rattle.shim_laws_keeping.specs.Moves.{MovesBy}
 use Rattle.shim_laws_closes.specs.Closing.{HasCome, LeavesIf, RecountedIf}
 use Rattle.shim_flat.specs.Touching.{TouchesAbove}
-use Rattle.shim_flat.specs.Acting.{sort_by, told_of}
+use Rattle.shim_flat.specs.Acting.{sort_by, told_of, thrown_by}
 use Rattle.shim_flat.specs.declared.acting.Thrown.{Thrown}
 use Rattle.shim_flat.specs.declared.acting.Thrown.TheVariants as thrown
 use Rattle.shim_flat.specs.declared.closing.CloseOutcome.{CloseOutcome}
@@ -39,7 +38,8 @@ told_by (Threw t) = told_of t
 abbrev pub CameTo : CloseOutcome → Sort → Type 0
 CameTo GoesOn k = k ≡ lives
 CameTo (Threw (thrown.Caught name line)) k = k ≡ lives
-CameTo (Threw thrown.Died) k = (d : Death) × (k ≡ dies d)
+CameTo (Threw (thrown.Died d)) k = k ≡ dies d
+CameTo (Threw thrown.Trapped) k = k ≡ lives
 
 -- The process with this number had forked, and its fork closed: this came of it, the tree moves by that event, and of all others its children alone are no more. Of the records none has changed but its own, its children's and those of the first n forks above.
 pub record ClosesHere {S : Type 0} (o : Ops S) (n number : ℕ) (outcome : CloseOutcome) (before behind : FlatView S) : Type 0 where
@@ -59,28 +59,23 @@ pub record ClosesHere {S : Type 0} (o : Ops S) (n number : ℕ) (outcome : Close
 
 -- ---- the parts
 
--- what a process leaves in which the exception of the label x was thrown
-abbrev pub thrown_by : {S : Type 0} → Thrown → ℕ → S → Acted S
-thrown_by (thrown.Caught name line) x s = record { node = Live s; effects = catching (name, line) }
-thrown_by thrown.Died x s = record { node = Dead s (death x); effects = nothing }
+-- what a process leaves of which this came
+abbrev pub acted_by : {S : Type 0} → CloseOutcome → S → Acted S
+acted_by GoesOn s = record { node = Live s; effects = nothing }
+acted_by (Threw t) s = thrown_by t s
 
--- what a process leaves of which this came, where the label that prevailed is x
-abbrev pub acted_by : {S : Type 0} → CloseOutcome → ℕ → S → Acted S
-acted_by GoesOn x s = record { node = Live s; effects = nothing }
-acted_by (Threw t) x s = thrown_by t x s
-
--- what came of a process with this outcome, where the label that prevailed is x
-abbrev pub sort_left : CloseOutcome → ℕ → Sort
-sort_left GoesOn x = lives
-sort_left (Threw t) x = sort_by x t
+-- what came of a process with this outcome
+abbrev pub sort_left : CloseOutcome → Sort
+sort_left GoesOn = lives
+sort_left (Threw t) = sort_by t
 
 -- the process p has the values of its children again, whose states lie together from g on
 abbrev pub HasJoined : {S : Type 0} → Ops S → ℕ → ℕ → ℕ → Bool → List S → List S → Type 0
 HasJoined {S} o p g n goes_on before behind = (l : S) → slice_get before p ≡ Some l → behind ≡ slice_set before p (o.join l (block g n before) goes_on)
 
--- and where this label prevailed, its exception was thrown in it
-abbrev pub TakesBack : {S : Type 0} → Ops S → ℕ → ℕ → ℕ → Option ℕ → CloseOutcome → List S → List S → Type 0
-TakesBack {S} o p g n label outcome before behind = (l : S) → slice_get before p ≡ Some l → (s : S) × (behind ≡ slice_set before p s) × (acted_by outcome (unwrap_or label 0) s ≡ closed o l (block g n before) (option_map death label))
+-- and where this death prevailed, its exception was thrown in it
+abbrev pub TakesBack : {S : Type 0} → Ops S → ℕ → ℕ → ℕ → Option Death → CloseOutcome → List S → List S → Type 0
+TakesBack {S} o p g n death outcome before behind = (l : S) → slice_get before p ≡ Some l → (s : S) × (behind ≡ slice_set before p s) × (acted_by outcome s ≡ closed o l (block g n before) death)
 
 -- The record at a place says what came of its process, and all above was brought up to date.
 pub record ClosesRecord {S : Type 0} (o : Ops S) (states : List S) (at : ℕ) (status : Status) (d : Option Death) (before behind : List Record) : Type 0 where

@@ -17,8 +17,8 @@ fn take_label<L: Local>(process: &L, status: Status, records: &mut Vec<Record>, 
     ensures touches { TouchesRecords result at records.old.items records.new.items }
 {
     match status {
-        Status::Dead(label) => {
-            lower_all_labels(process, records, at, label, u32::MAX);
+        Status::Dead(death) => {
+            lower_all_labels(process, records, at, death.label, u32::MAX);
             u32::MAX
         }
         Status::Free | Status::Live | Status::Forked(_) | Status::Ended => 0,

@@ -1,7 +1,6 @@
 // The close of a fork.
-ghost use Rattle.std.specs.Prelude.{◌≡◌, ◌<◌, ◌≤◌, ◌+◌, ◌⊎◌, Some, true, false, ℕ, ◌≢◌, length, map, slice_get, unwrap_or, vec_len};
-ghost use Rattle.std.specs.Option.{option_map};
-ghost use Rattle.shim_semantics.specs.Nodes.{death};
+ghost use Rattle.std.specs.Prelude.{◌≡◌, ◌<◌, ◌≤◌, ◌+◌, ◌⊎◌, Some, true, false, ℕ, ◌≢◌, length, map, slice_get, vec_len};
+ghost use Rattle.shim_local.specs.declared.death.Death.{Death as DeathOf};
 ghost use Rattle.shim_semantics.specs.Acts.{thrown};
 ghost use Rattle.shim_laws_records.specs.Agrees.{free};
 ghost use Rattle.shim_laws_records.specs.Changes.{block, prevailing_of, prevailing_among};
@@ -11,12 +10,13 @@ ghost use Rattle.shim_records.specs.declared.record.Record.{Record};
 ghost use Rattle.shim_records.specs.declared.record.Status.TheVariants.{Free};
 ghost use Rattle.shim_records.specs.Ways.{most_forks};
 ghost use Rattle.shim_laws_closes.specs.Closing.{AreFreed, HasCome, LeavesIf, GivenRecounted, RecountedIf};
-ghost use Rattle.shim_flat.specs.Closing.{CanClose, thrown_by, ClosesHere, sort_left, HasJoined, TakesBack, ClosesRecord};
+ghost use Rattle.shim_flat.specs.Closing.{CanClose, ClosesHere, sort_left, HasJoined, TakesBack, ClosesRecord};
+ghost use Rattle.shim_flat.specs.Acting.{thrown_by};
 ghost use Rattle.shim_flat.specs.Touching.{TouchesRecords};
 
 use crate::acting::Thrown;
 use crate::flat::Flat;
-use shim_local::Local;
+use shim_local::{Death, Local};
 use shim_records::{Record, Status, fork_size, is_free, leave, recount, update_all_counts};
 
 /// What came of a process whose fork has closed.
@@ -28,31 +28,31 @@ pub enum CloseOutcome {
     Threw(Thrown),
 }
 
-// The lesser of the label of a death and another one, if there are any.
-fn lesser_label(status: Status, least: Option<u32>) -> Option<u32>
-    ensures { (f : ℕ) → option_map death result ≡ prevailing_of (stands_by f status) (option_map death least) }
+// The prevailing one of a death and another one, if there are any.
+fn prevailing(status: Status, rest: Option<Death>) -> Option<Death>
+    ensures { (f : ℕ) → result ≡ prevailing_of (stands_by f status) rest }
 {
     match status {
-        Status::Dead(label) => match least {
-            None => Some(label),
-            Some(other) => Some(if label < other { label } else { other }),
+        Status::Dead(death) => match rest {
+            None => Some(death),
+            Some(other) => Some(death.outermost(other)),
         },
-        Status::Free | Status::Live | Status::Forked(_) | Status::Ended => least,
+        Status::Free | Status::Live | Status::Forked(_) | Status::Ended => rest,
     }
 }
 
-// The least label of which any of these children died.
-fn least_label(records: &[Record], first: usize, count: usize) -> Option<u32>
+// The prevailing death of these children.
+fn prevailing_death(records: &[Record], first: usize, count: usize) -> Option<Death>
     requires { first + count ≤ length records.now }
-    ensures { option_map death result ≡ prevailing_among (block first count (map stands_of records.now)) }
+    ensures { result ≡ prevailing_among (block first count (map stands_of records.now)) }
 {
-    let mut least = None;
+    let mut death = None;
     let mut left = count;
     while left > 0 {
         left -= 1;
-        least = lesser_label(records[first + left].status, least);
+        death = prevailing(records[first + left].status, death);
     }
-    least
+    death
 }
 
 // The process takes back the values of its children, whose states stand behind its own.
@@ -99,38 +99,38 @@ fn join_children<L: Local>(
     }
 }
 
-// Throws the exception of this label in a process.
-fn throw_in<L: Local>(process: &mut L, label: u32) -> Thrown
-    requires { label < L.ops.handlers process.old }
-    ensures { thrown_by result label process.new ≡ thrown L.ops process.old (death label) }
+/// Throws the exception of this death in a process.
+pub(crate) fn throw_in<L: Local>(process: &mut L, death: Death) -> Thrown
+    requires { death.label < L.ops.handlers process.old }
+    ensures { thrown_by result process.new ≡ thrown L.ops process.old death }
 {
-    if label < process.base() {
-        return Thrown::Died;
+    if death.label < process.base() {
+        return Thrown::Died(death);
     }
-    let (name, line) = process.handler(label);
-    process.unwind(label);
+    let (name, line) = process.handler(death.label);
+    process.unwind(death.label, death.handed());
     Thrown::Caught(name, line)
 }
 
-// The process takes back its children's values. Where any died, the exception of the least label is thrown in it.
+// The process takes back its children's values. Where any died, the exception of the prevailing death is thrown in it.
 fn take_back<L: Local>(
     states: &mut Vec<L>,
     parent: usize,
     first: usize,
     count: usize,
-    label: Option<u32>,
+    death: Option<Death>,
 ) -> CloseOutcome
     requires apart { (parent < first) ⊎ (first + count ≤ parent) }
     requires parent { parent < length states.old.items }
     requires inside { first + count ≤ length states.old.items }
     requires born { (l : L) → slice_get states.old.items parent ≡ Some l → L.ops.born l (block first count states.old.items) }
-    requires below { (l : L) (x : ℕ) → slice_get states.old.items parent ≡ Some l → label ≡ Some x → x < L.ops.handlers (L.ops.join l (block first count states.old.items) false) }
-    ensures { TakesBack L.ops parent first count label result states.old.items states.new.items }
+    requires below { (l : L) (d : DeathOf) → slice_get states.old.items parent ≡ Some l → death ≡ Some d → d.label < L.ops.handlers (L.ops.join l (block first count states.old.items) false) }
+    ensures { TakesBack L.ops parent first count death result states.old.items states.new.items }
 {
-    join_children(states, parent, first, count, label.is_none());
-    match label {
+    join_children(states, parent, first, count, death.is_none());
+    match death {
         None => CloseOutcome::GoesOn,
-        Some(label) => CloseOutcome::Threw(throw_in(&mut states[parent], label)),
+        Some(death) => CloseOutcome::Threw(throw_in(&mut states[parent], death)),
     }
 }
 
@@ -183,21 +183,21 @@ fn recount_all<L: Local>(states: &[L], records: &mut Vec<Record>, at: usize, for
     }
 }
 
-// Reads the labels above a process off again where a child died of this label; where none did there is no label
+// Reads the labels above a process off again where a child died so; where none did there is no label
 // to take away. It answers how many forks that concerns, at most.
 fn recount_if<L: Local>(
     states: &[L],
     records: &mut Vec<Record>,
     at: usize,
-    label: Option<u32>,
+    death: Option<Death>,
 ) -> u32
     requires ordered { AreOrdered records.old.items }
     requires few { (s : L) → slice_get states.now at ≡ Some s → length (L.ops.given s) ≤ 18446744073709551615 }
     requires inside { at < length states.now }
-    ensures recounts { (s : L) → slice_get states.now at ≡ Some s → RecountedIf (option_map death label) L.ops states.now s most_forks at records.old.items records.new.items }
+    ensures recounts { (s : L) → slice_get states.now at ≡ Some s → RecountedIf death L.ops states.now s most_forks at records.old.items records.new.items }
     ensures touches { TouchesRecords result at records.old.items records.new.items }
 {
-    match label {
+    match death {
         None => 0,
         Some(_) => {
             recount_all(states, records, at, u32::MAX);
@@ -206,40 +206,41 @@ fn recount_if<L: Local>(
     }
 }
 
-// This came of a process whose fork has closed, and a child of which died of this label, if any did: its
+// This came of a process whose fork has closed, and a child of which died so, if any did: its
 // record says so, and all above is brought up to date. It answers how many forks that concerns, at most.
 fn close_record<L: Local>(
     states: &[L],
     records: &mut Vec<Record>,
     at: usize,
     status: Status,
-    label: Option<u32>,
+    death: Option<Death>,
 ) -> u32
     requires ordered { AreOrdered records.old.items }
     requires few { (s : L) → slice_get states.now at ≡ Some s → length (L.ops.given s) ≤ 18446744073709551615 }
     requires of_state { at < length states.now }
     requires of_record { at < length records.old.items }
     requires status { status ≢ Free }
-    ensures closes { ClosesRecord L.ops states.now at status (option_map death label) records.old.items records.new.items }
+    ensures closes { ClosesRecord L.ops states.now at status death records.old.items records.new.items }
     ensures touches { TouchesRecords result at records.old.items records.new.items }
 {
     come_to(&mut records[at], status);
     leave_if(records, at, status);
     let counted = update_all_counts(&states[at], status, records, at, u32::MAX);
-    let labelled = recount_if(states, records, at, label);
+    let labelled = recount_if(states, records, at, death);
     // where the process has left, its fork has one less that goes on, though no child may have died
     labelled.max(counted).max(1)
 }
 
-// What came of a process, and its label where it died.
-fn status_after(outcome: CloseOutcome, label: Option<u32>) -> Status
+// What came of a process.
+fn status_after(outcome: CloseOutcome) -> Status
     ensures used { result ≢ Free }
-    ensures sort { sort_of result ≡ sort_left outcome (unwrap_or label 0) }
+    ensures sort { sort_of result ≡ sort_left outcome }
 {
     match outcome {
         CloseOutcome::GoesOn => Status::Live,
         CloseOutcome::Threw(Thrown::Caught(_, _)) => Status::Live,
-        CloseOutcome::Threw(Thrown::Died) => Status::Dead(label.unwrap_or(0)),
+        CloseOutcome::Threw(Thrown::Died(death)) => Status::Dead(death),
+        CloseOutcome::Threw(Thrown::Trapped) => Status::Live,
     }
 }
 
@@ -259,8 +260,8 @@ fn used_end(records: &[Record]) -> usize
 
 impl<L: Local> Flat<L> {
     /// Closes the fork of the process with this number, of which no child goes on: it takes back its
-    /// children's values, and goes on behind the fork, or the exception of the least label of which a child
-    /// died is thrown in it. The children's records are free, and those at the end are cut off. The answer says
+    /// children's values, and goes on behind the fork, or the exception of the prevailing death of its
+    /// children is thrown in it. The children's records are free, and those at the end are cut off. The answer says
     /// how many forks above the process say something else now, too, at most. It takes no memory.
     pub fn close_here(&mut self, number: u32) -> (CloseOutcome, u32)
         requires { CanClose self.old number }
@@ -269,12 +270,12 @@ impl<L: Local> Flat<L> {
         let at = number as usize;
         let first = self.records[at].first;
         let count = fork_size(self.records[at].status);
-        let label = least_label(self.records.as_slice(), first as usize, count as usize);
-        let outcome = take_back(&mut self.states, at, first as usize, count as usize, label);
+        let death = prevailing_death(self.records.as_slice(), first as usize, count as usize);
+        let outcome = take_back(&mut self.states, at, first as usize, count as usize, death);
         free_children(&mut self.records, first as usize, count as usize);
         self.free.give_back(first, count);
-        let status = status_after(outcome, label);
-        let forks = close_record(self.states.as_slice(), &mut self.records, at, status, label);
+        let status = status_after(outcome);
+        let forks = close_record(self.states.as_slice(), &mut self.records, at, status, death);
         let end = used_end(self.records.as_slice());
         self.records.truncate(end);
         self.states.truncate(end);

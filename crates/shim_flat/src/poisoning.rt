@@ -8,7 +8,7 @@ ghost use Rattle.shim_flat.specs.Changing.{IsChanged};
 use crate::descent::Sharers;
 use crate::flat::Flat;
 use shim_base::Chan;
-use shim_local::Local;
+use shim_local::{Death, Local};
 use shim_records::{Status, kill_all, leave, lower_all_labels};
 
 impl<L: Local> Flat<L> {
@@ -43,7 +43,7 @@ impl<L: Local> Flat<L> {
         if !self.is_killed_by(at, label) {
             return;
         }
-        self.records[at].status = Status::Dead(label);
+        self.records[at].status = Status::Dead(Death { label, given: None });
         let process = &self.states[at];
         kill_all(process, &mut self.records, at, u32::MAX);
         lower_all_labels(process, &mut self.records, at, label, u32::MAX);

@@ -51,7 +51,8 @@ put_logs_none m p (Some b) = refl
 -- a throw puts nothing
 pub throw_puts_none : (bytes : List ℕ) (t : Thrown) → bytes ≡ bytes ++ (told_of t).bytes
 throw_puts_none bytes (thrown.Caught name line) = sym (append-nil bytes)
-throw_puts_none bytes thrown.Died = sym (append-nil bytes)
+throw_puts_none bytes (thrown.Died d) = sym (append-nil bytes)
+throw_puts_none bytes thrown.Trapped = sym (append-nil bytes)
 
 -- ---- as an event
 

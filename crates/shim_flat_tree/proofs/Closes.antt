@@ -33,7 +33,8 @@ use Rattle.shim_flat_tree.proofs.Telling.{Goes}
 no_bytes : (r : CloseOutcome) → (told_by r).bytes ≡ []
 no_bytes GoesOn = refl
 no_bytes (Threw (thrown.Caught name line)) = refl
-no_bytes (Threw thrown.Died) = refl
+no_bytes (Threw (thrown.Died d)) = refl
+no_bytes (Threw thrown.Trapped) = refl
 
 -- the children of a fork are in use
 pub children_used : {S : Type 0} (o : Ops S) (v : FlatTreeView S) → KeepsTree o v → (i f n : ℕ) (l : S) → HasProcess v.flat i f l (forks n) → (b : ℕ) → b < n → IsInUse v.flat (f + b)

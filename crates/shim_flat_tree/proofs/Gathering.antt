@@ -5,7 +5,7 @@ use Rattle.std.specs.FinMap as finite
 use Rattle.shim_base.specs.Paths.{NamedChannel, path_order}
 use Rattle.shim_base.proofs.Facts.{some_same, none_some}
 use Rattle.shim_local.specs.Process.{Ops}
-use Rattle.shim_semantics.specs.Nodes.{Node, Nodes, Live, Forked, Ended, Dead, death, no_node, node_and}
+use Rattle.shim_semantics.specs.Nodes.{Node, Nodes, Live, Forked, Ended, Dead, Death, no_node, node_and}
 use Rattle.shim_semantics.specs.Endings.{waiting, all_waiting}
 use Rattle.shim_run_log.specs.Waits.{with_waits}
 use Rattle.shim_tree.proofs.Gathered.{with_both}
@@ -37,7 +37,7 @@ said_free r e = ap (stands_by r.first) e
 pub said_ended : (r : Record) → r.status ≡ code.Ended → stands_of r ≡ used r.first ends
 said_ended r e = ap (stands_by r.first) e
 
-pub said_dead : (r : Record) (x : ℕ) → r.status ≡ code.Dead x → stands_of r ≡ used r.first (dies (death x))
+pub said_dead : (r : Record) (x : Death) → r.status ≡ code.Dead x → stands_of r ≡ used r.first (dies x)
 said_dead r x e = ap (stands_by r.first) e
 
 pub said_forked : (r : Record) (n : ℕ) → r.status ≡ code.Forked n → stands_of r ≡ used r.first (forks n)

@@ -7,7 +7,7 @@ use Rattle.shim_base.specs.Paths.{NamedChannel, path_order}
 use Rattle.shim_base.proofs.Facts.{some_same, none_some}
 use Rattle.shim_local.specs.Process.{Ops}
 use Rattle.shim_local.specs.declared.Outcome.TheVariants.{Blocked}
-use Rattle.shim_semantics.specs.Nodes.{Node, Nodes, Live, Forked, Ended, Dead, death}
+use Rattle.shim_semantics.specs.Nodes.{Node, Nodes, Live, Forked, Ended, Dead}
 use Rattle.shim_semantics.specs.Trees.{IsQuiescent}
 use Rattle.shim_semantics.specs.Walks.{walk}
 use Rattle.shim_semantics.specs.Endings.{is_empty, outcome_of_root, waits_of, wait_at}
@@ -66,7 +66,7 @@ module _ {S : Type 0} (o : Ops S) where
   by_standing nodes s first code.Live root h = ap outcome_of_root (some_same (Live s) root h)
   by_standing nodes s first (code.Forked n) root h = fork_blocked s (nodes_from nodes first n) root h
   by_standing nodes s first code.Ended root h = ap outcome_of_root (some_same (Ended s) root h)
-  by_standing nodes s first (code.Dead x) root h = ap outcome_of_root (some_same (Dead s (death x)) root h)
+  by_standing nodes s first (code.Dead x) root h = ap outcome_of_root (some_same (Dead s x) root h)
 
   root_came : (v : FlatView S) (levels : ℕ) (root : Node S) (r : Record) → slice_get v.records 0 ≡ Some r → node_of v.states (stands v) levels 0 ≡ Some root → outcome_by r.status ≡ outcome_of_root root
   root_came v zero root r e h = none_some root h

@@ -19,4 +19,4 @@ outcome_by code.Free = Blocked
 outcome_by code.Live = Blocked
 outcome_by (code.Forked n) = Blocked
 outcome_by code.Ended = Done
-outcome_by (code.Dead label) = outcome_of_label label
+outcome_by (code.Dead death) = outcome_of_label death.label

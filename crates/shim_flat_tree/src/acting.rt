@@ -35,7 +35,7 @@ pub(crate) fn tell_catch(logs: &mut Vec<Log>, path: Path, thrown: Thrown)
     ensures { logged logs.new.items ≡ with_logs (logged logs.old.items) path (told_of thrown).logs }
 {
     match thrown {
-        Thrown::Died => {}
+        Thrown::Died(_) | Thrown::Trapped => {}
         Thrown::Caught(name, line) => logs.push_reserved(Log {
             path,
             what: LogWhat::Caught(name, line),

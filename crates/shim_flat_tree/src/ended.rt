@@ -46,7 +46,7 @@ fn outcome_of_root(status: Status) -> Outcome
     match status {
         Status::Free | Status::Live | Status::Forked(_) => Outcome::Blocked,
         Status::Ended => Outcome::Done,
-        Status::Dead(label) => outcome_of_label(label),
+        Status::Dead(death) => outcome_of_label(death.label),
     }
 }
 

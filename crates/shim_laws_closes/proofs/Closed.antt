@@ -7,7 +7,7 @@ use Rattle.shim_base.specs.Paths.{Path, Channel}
 use Rattle.shim_base.proofs.Facts.{some_same, none_some, cond_some}
 use Rattle.shim_local.specs.Process.{Ops}
 use Rattle.shim_local.specs.Laws.{LocalLaws}
-use Rattle.shim_semantics.specs.Nodes.{Node, Nodes, Live, Forked, Dead, Death, state, states as states_of, all_done, prevailing_death}
+use Rattle.shim_semantics.specs.Nodes.{Node, Nodes, Live, Forked, Dead, Death, handed, state, states as states_of, all_done, prevailing_death}
 use Rattle.shim_semantics.specs.Acts.{Acted, act_here, thrown, closed, nothing, catching}
 use Rattle.shim_semantics.specs.Places.{at, branches, route}
 use Rattle.shim_semantics.specs.Trees.{Tree, Close, after}
@@ -47,7 +47,7 @@ some_of (Some y) h = (y, refl)
 thrown_leaf : {S : Type 0} (o : Ops S) (l : S) (d : Death) → is_leaf (thrown o l d).node ≡ true
 thrown_leaf {S = S} o l d = on (ltb d.label (o.base l))
   where
-    on : (b : Bool) → is_leaf (cond {A = Acted S} b (record { node = Dead l d; effects = nothing }) (record { node = Live (o.unwind l d.label); effects = catching (o.handler l d.label) })).node ≡ true
+    on : (b : Bool) → is_leaf (cond {A = Acted S} b (record { node = Dead l d; effects = nothing }) (record { node = Live (o.unwind l d.label (handed d.given)); effects = catching (o.handler l d.label) })).node ≡ true
     on true = refl
     on false = refl
 

@@ -210,9 +210,9 @@ module _ {S : Type 0} (o : Ops S) (law : LocalLaws o) (rp : Path) (states : List
           labels = λ c. subst (λ z. Labelled o rp states st' c (counts_in c ms) (leasts_in c z) new) (sym same) (as_before c (ap (λ z. least o c (left_by l z)) (sym e)));
         }
         on (code.Dead y) e t = record {
-          rest = labels_above.rest_same y 4294967295 x t.is_lowered;
-          counts = λ c i j. labels_above.counts_same y 4294967295 x c j t.is_lowered i;
-          labels = λ c. with_death c y (ap (λ z. least o c (left_by l z)) (sym e)) t;
+          rest = labels_above.rest_same y.label 4294967295 x t.is_lowered;
+          counts = λ c i j. labels_above.counts_same y.label 4294967295 x c j t.is_lowered i;
+          labels = λ c. with_death c y.label (ap (λ z. least o c (left_by l z)) (sym e)) t;
         }
         on code.Free e same = lives_still code.Free e refl
         on code.Live e same = lives_still code.Live e refl

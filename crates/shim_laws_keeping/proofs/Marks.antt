@@ -51,7 +51,7 @@ marked_stands l (code.Dead y) e r = refl
 
 -- the labels are taken in, and the records say all else as before
 pub rest_taken : {S : Type 0} (o : Ops S) (s : S) (k : Status) (n x : ℕ) (before behind : List Record) → TakesIn o s k n x before behind → map rest_of behind ≡ map rest_of before
-rest_taken o s (code.Dead y) n x before behind h = labels_above.rest_same y n x h.is_lowered
+rest_taken o s (code.Dead d) n x before behind h = labels_above.rest_same d.label n x h.is_lowered
 rest_taken o s code.Ended n x before behind h = ap (map rest_of) h
 rest_taken o s code.Free n x before behind h = ap (map rest_of) h
 rest_taken o s code.Live n x before behind h = ap (map rest_of) h

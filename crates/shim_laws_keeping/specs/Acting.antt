@@ -2,7 +2,7 @@
 use Rattle.std.specs.Prelude.{◌≡◌, ℕ, false, Some, List, slice_get, slice_set}
 use Rattle.shim_base.specs.Paths.{Path}
 use Rattle.shim_local.specs.Process.{Ops, StopView, AtQuiet, AtNext, AtPut, AtFork, AtFinish, AtThrow, AtTrap}
-use Rattle.shim_semantics.specs.Nodes.{Node, Live, Ended, Dead, death, goes}
+use Rattle.shim_semantics.specs.Nodes.{Node, Live, Ended, Dead, goes}
 use Rattle.shim_semantics.specs.Acts.{Effects, act_live}
 use Rattle.shim_semantics.specs.Trees.{Event, Own, End}
 use Rattle.shim_laws_records.specs.Seen.{lives}
@@ -29,7 +29,7 @@ event_at_stop (AtTrap kind line) p = Own p
 -- the node of a process of which this came
 abbrev pub left_by : {S : Type 0} → S → Status → Node S
 left_by l code.Ended = Ended l
-left_by l (code.Dead x) = Dead l (death x)
+left_by l (code.Dead d) = Dead l d
 left_by l code.Free = Live l
 left_by l code.Live = Live l
 left_by l (code.Forked n) = Live l
@@ -40,7 +40,7 @@ marked k r = record { status = k; first = r.first; parent = r.parent; path = r.p
 
 -- the label of a death is taken in above, and where there is none nothing is done
 abbrev pub TakesIn : {S : Type 0} → Ops S → S → Status → ℕ → ℕ → List Record → List Record → Type 0
-TakesIn o s (code.Dead y) n x before behind = IsTaken o s y n x before behind
+TakesIn o s (code.Dead d) n x before behind = IsTaken o s d.label n x before behind
 TakesIn o s code.Ended n x before behind = behind ≡ before
 TakesIn o s code.Free n x before behind = behind ≡ before
 TakesIn o s code.Live n x before behind = behind ≡ before

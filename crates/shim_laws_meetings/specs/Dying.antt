@@ -1,6 +1,7 @@
 -- One process is killed by a poison: how the records change with it.
 use Rattle.std.specs.Prelude.{◌≡◌, ℕ, Some, List, slice_get, slice_set}
 use Rattle.shim_local.specs.Process.{Ops}
+use Rattle.shim_semantics.specs.Nodes.{death}
 use Rattle.shim_records.specs.Killed.{IsKilled}
 use Rattle.shim_records.specs.Died.{IsTaken}
 use Rattle.shim_records.specs.Leaving.{HasLeft}
@@ -9,7 +10,7 @@ use Rattle.shim_records.specs.declared.record.Status.TheVariants.{Dead}
 
 -- the record of a process that died of an exception with this label
 abbrev pub dead_record : Record → ℕ → Record
-dead_record r label = record { status = Dead label; first = r.first; parent = r.parent; path = r.path; going = r.going; pairs = r.pairs }
+dead_record r label = record { status = Dead (death label); first = r.first; parent = r.parent; path = r.path; going = r.going; pairs = r.pairs }
 
 -- the record x says so, the ways up were walked and the label taken in through at most n forks, and its fork has one child less that goes on
 pub record DiesAt {S : Type 0} (o : Ops S) (s : S) (label n x : ℕ) (before behind : List Record) : Type 0 where

@@ -1,12 +1,12 @@
 -- What a process does by itself leaves what its fork gave it, and what it shares of the channels of others.
-use Rattle.std.proofs.Common.{◌≡◌, ◌≢◌, ℕ, ◌<◌, Bool, true, false, Option, Some, None, List, [], ◌∷◌, ◌++◌, cond, inl, inr, refl, sym, ap, ◌∙◌, ltb, ltb-false, arith}
+use Rattle.std.proofs.Common.{◌≡◌, ◌≢◌, ℕ, ℤ, ◌<◌, Bool, true, false, Option, Some, None, List, [], ◌∷◌, ◌++◌, cond, inl, inr, refl, sym, ap, ◌∙◌, ltb, ltb-false, arith}
 use Rattle.std.specs.Prelude.{slice_get}
 use Rattle.std.proofs.lemmas.List.{append-nil}
 use Rattle.shim_base.specs.Paths.{Path, Channel}
 use Rattle.shim_local.specs.Process.{Ops, StopView, ForkedView, AtQuiet, AtNext, AtPut, AtFork, AtFinish, AtThrow, AtTrap, Parted, Trapped}
-use Rattle.shim_local.specs.Laws.{LocalLaws, Moved, by_quiet, by_call, by_unwind, by_fork, by_trap, by_join, by_put, by_label, AllOf, IsGiven}
-use Rattle.shim_semantics.specs.Nodes.{Node, Nodes, Live, Forked, Ended, Dead, Death, death, state, states, all_done, prevailing_death}
-use Rattle.shim_semantics.specs.Acts.{Acted, act_here, act_live, thrown, closed, parted, nothing, catching}
+use Rattle.shim_local.specs.Laws.{LocalLaws, Moved, by_quiet, by_call, by_unwind, by_fork, by_trap, by_join, by_put, by_thrown, by_label, AllOf, IsGiven}
+use Rattle.shim_semantics.specs.Nodes.{Node, Nodes, Live, Forked, Ended, Dead, Death, death, death_with, handed, state, states, all_done, prevailing_death}
+use Rattle.shim_semantics.specs.Acts.{Acted, act_here, act_live, thrown, throwing, closed, parted, nothing, catching}
 use Rattle.shim_semantics.specs.Places.{at, SoundBelow}
 use Rattle.shim_semantics.specs.Sound.{IsSound}
 use Rattle.shim_semantics.proofs.HowMany.{clash}
@@ -26,14 +26,18 @@ use Rattle.shim_laws_records.proofs.Hanging.{tree_of}
 module _ {S : Type 0} (o : Ops S) (law : LocalLaws o) where
   thrown_given : (l : S) (d : Death) → o.sound l → d.label < o.handlers l → o.given (state (thrown o l d).node) ≡ o.given l
   thrown_given l d s below = elim (true_or_false (ltb d.label (o.base l))) [
-    | inl e ↦ ap (λ b. o.given (state (cond {A = Acted S} b (record { node = Dead l d; effects = nothing }) (record { node = Live (o.unwind l d.label); effects = catching (o.handler l d.label) })).node)) e
-    | inr e ↦ ap (λ b. o.given (state (cond {A = Acted S} b (record { node = Dead l d; effects = nothing }) (record { node = Live (o.unwind l d.label); effects = catching (o.handler l d.label) })).node)) e
-        ∙ law.moved_given l (o.unwind l d.label) s (by_unwind (by_label d.label (ltb-false d.label (o.base l) e) below refl))
+    | inl e ↦ ap (λ b. o.given (state (cond {A = Acted S} b (record { node = Dead l d; effects = nothing }) (record { node = Live (o.unwind l d.label (handed d.given)); effects = catching (o.handler l d.label) })).node)) e
+    | inr e ↦ ap (λ b. o.given (state (cond {A = Acted S} b (record { node = Dead l d; effects = nothing }) (record { node = Live (o.unwind l d.label (handed d.given)); effects = catching (o.handler l d.label) })).node)) e
+        ∙ law.moved_given l (o.unwind l d.label (handed d.given)) s (by_unwind (by_label d.label (handed d.given) (ltb-false d.label (o.base l) e) below refl))
   ]
 
   parted_given : (l : S) (v : ForkedView S) → o.sound l → o.stop l ≡ AtFork → o.fork l ≡ v → o.given (state (parted v)) ≡ o.given l
   parted_given l (Parted p ks) s at e = law.moved_given l p s (by_fork ks at e)
   parted_given l (Trapped m) s at e = law.moved_given l m s (by_trap at e)
+
+  throwing_given : (l : S) (x : ℕ) (r : Option ℤ) → o.sound l → o.stop l ≡ AtThrow x → o.given (state (throwing o l x r).node) ≡ o.given l
+  throwing_given l x None s at = law.moved_given l (o.thrown l) s (by_call (by_thrown x at refl))
+  throwing_given l x (Some v) s at = thrown_given l (death_with x v) s (law.throw_below l x s at)
 
   live_given : (l : S) (v : StopView) (a : Acted S) → o.sound l → o.stop l ≡ v → act_live o l v ≡ Some a → o.given (state a.node) ≡ o.given l
   live_given l AtQuiet a s at e = ap (λ (z : Acted S). o.given (state z.node)) (sym (some_same _ a e)) ∙ law.moved_given l (o.quiet l) s (by_quiet at refl)
@@ -41,7 +45,7 @@ module _ {S : Type 0} (o : Ops S) (law : LocalLaws o) where
   live_given l AtFork a s at e = ap (λ (z : Acted S). o.given (state z.node)) (sym (some_same _ a e)) ∙ parted_given l (o.fork l) s at refl
   live_given l AtFinish a s at e = ap (λ (z : Acted S). o.given (state z.node)) (sym (some_same _ a e))
   live_given l (AtNext c) a s at e = none_some a e
-  live_given l (AtThrow x) a s at e = ap (λ (z : Acted S). o.given (state z.node)) (sym (some_same _ a e)) ∙ thrown_given l (death x) s (law.throw_below l x s at)
+  live_given l (AtThrow x) a s at e = ap (λ (z : Acted S). o.given (state z.node)) (sym (some_same _ a e)) ∙ throwing_given l x (o.number l) s at
   live_given l (AtTrap kind line) a s at e = ap (λ (z : Acted S). o.given (state z.node)) (sym (some_same _ a e))
 
   closed_given : (l : S) (ks : Nodes S) (d : Option Death) → prevailing_death ks ≡ d → SoundBelow o (Forked l ks) → o.given (state (closed o l (states ks) d).node) ≡ o.given l

@@ -7,7 +7,7 @@ use Rattle.shim_local.specs.Process.{Ops, Parted, AtFork}
 use Rattle.shim_local.specs.Quiets.{QuietSteps}
 use Rattle.shim_local.specs.Laws.{LocalLaws, AreChildren, by_quiet}
 use Rattle.shim_local.proofs.Quiets.{first_quiet}
-use Rattle.shim_semantics.specs.Nodes.{Node, Nodes, Live, Forked, Dead, Death, death, state, states, all_live, all_done, prevailing_death, source, value_of, received}
+use Rattle.shim_semantics.specs.Nodes.{Node, Nodes, Live, Forked, Dead, Death, death, death_with, handed, state, states, all_live, all_done, prevailing_death, source, value_of, received}
 use Rattle.shim_semantics.specs.Acts.{Acted, act_here, act_live, thrown, closed, parted, nothing, catching}
 use Rattle.shim_semantics.specs.Places.{at, branches, route}
 use Rattle.shim_semantics.specs.Quiets.{Advances}
@@ -49,7 +49,7 @@ nothing_before b (x ∷ q) e = cc
 thrown_leaf : {S : Type 0} (o : Ops S) (l : S) (d : Death) → is_leaf (thrown o l d).node ≡ true
 thrown_leaf {S = S} o l d = on (ltb d.label (o.base l))
   where
-    on : (b : Bool) → is_leaf (cond {A = Acted S} b (record { node = Dead l d; effects = nothing }) (record { node = Live (o.unwind l d.label); effects = catching (o.handler l d.label) })).node ≡ true
+    on : (b : Bool) → is_leaf (cond {A = Acted S} b (record { node = Dead l d; effects = nothing }) (record { node = Live (o.unwind l d.label (handed d.given)); effects = catching (o.handler l d.label) })).node ≡ true
     on true = refl
     on false = refl
 

@@ -1,5 +1,5 @@
 -- What an event logs tells whether it has a process catch a label.
-use Rattle.std.proofs.Common.{◌≡◌, ◌≤◌, ℕ, true, false, Option, Some, None, List, [], ◌∷◌, ◌++◌, inl, inr, cond, ltb, refl, sym, ap, subst, ◌∙◌, ltb-false, le-ltb}
+use Rattle.std.proofs.Common.{◌≡◌, ◌≤◌, ℕ, ℤ, true, false, Option, Some, None, List, [], ◌∷◌, ◌++◌, inl, inr, cond, ltb, refl, sym, ap, subst, ◌∙◌, ltb-false, le-ltb}
 use Rattle.std.proofs.lemmas.List.{append-nil, append_cancel_left}
 use Rattle.std.specs.Prelude.{unwrap_or}
 use Rattle.std.specs.FinMap as map
@@ -10,8 +10,8 @@ use Rattle.shim_base.specs.PathLaws.{path_order_total, exact_path}
 use Rattle.shim_local.specs.Process.{Ops, StopView, AtQuiet, AtNext, AtPut, AtFork, AtFinish, AtThrow, AtTrap}
 use Rattle.shim_local.specs.declared.LogWhat.{LogWhat}
 use Rattle.shim_local.specs.declared.LogWhat.TheVariants.{Caught, Trap as LoggedTrap}
-use Rattle.shim_semantics.specs.Nodes.{Node, Nodes, Live, Forked, Ended, Dead, death, Death, state, states, all_done, prevailing_death, source, value_of}
-use Rattle.shim_semantics.specs.Acts.{Acted, nothing, putting, catching, thrown, closed, act_live, act_here}
+use Rattle.shim_semantics.specs.Nodes.{handed, Node, Nodes, Live, Forked, Ended, Dead, death_with, Death, state, states, all_done, prevailing_death, source, value_of}
+use Rattle.shim_semantics.specs.Acts.{Acted, nothing, putting, catching, thrown, throwing, closed, act_live, act_here}
 use Rattle.shim_semantics.specs.Places.{at, at_route, route, meets, StandsAt}
 use Rattle.shim_semantics.specs.Trees.{Tree, Event, Own, Meet, Poison, Close, End, kind_of, kind_of_stop, same_kind, logs_at, with_logs, change_nodes, poisons, met, after}
 use Rattle.shim_semantics.proofs.Alone.{does, doer, does_close}
@@ -49,13 +49,13 @@ module _ {S : Type 0} (o : Ops S) where
   caught_logs : (l : S) (x : Death) → o.base l ≤ x.label → (thrown o l x).effects ≡ catching (o.handler l x.label)
   caught_logs l x h =
       let dies : Acted S = record { node = Dead l x; effects = nothing } in
-      let goes_on : Acted S = record { node = Live (o.unwind l x.label); effects = catching (o.handler l x.label) } in
+      let goes_on : Acted S = record { node = Live (o.unwind l x.label (handed x.given)); effects = catching (o.handler l x.label) } in
       ap (λ b. (cond b dies goes_on).effects) (le-ltb x.label (o.base l) h)
 
   logs_caught : (l : S) (x : Death) (name line : ℕ) (more : List LogWhat) → (thrown o l x).effects.logs ≡ Caught name line ∷ more → (o.base l ≤ x.label) × (o.handler l x.label ≡ (name, line))
   logs_caught l x name line more e =
       let dies : Acted S = record { node = Dead l x; effects = nothing } in
-      let goes_on : Acted S = record { node = Live (o.unwind l x.label); effects = catching (o.handler l x.label) } in
+      let goes_on : Acted S = record { node = Live (o.unwind l x.label (handed x.given)); effects = catching (o.handler l x.label) } in
       elim (true_or_false (ltb x.label (o.base l))) [
         | inl y ↦ let none : [] ≡ Caught name line ∷ more = sym (ap (λ b. (cond b dies goes_on).effects.logs) y) ∙ e in absurd (cc none)
         | inr n ↦
@@ -69,12 +69,16 @@ module _ {S : Type 0} (o : Ops S) where
 
   -- its process throws a label and catches it, or closes its fork and catches the prevailing one there
   data NodeCatches (m : Node S) (name line : ℕ) : Type 0 where
-    at_throw : (k : S) (x : ℕ) → m ≡ Live k → o.stop k ≡ AtThrow x → o.base k ≤ x → o.handler k x ≡ (name, line) → NodeCatches m name line
+    at_throw : (k : S) (x : ℕ) (v : ℤ) → m ≡ Live k → o.stop k ≡ AtThrow x → o.number k ≡ Some v → o.base k ≤ x → o.handler k x ≡ (name, line) → NodeCatches m name line
     at_close : (k : S) (ks : Nodes S) (x : Death) → m ≡ Forked k ks → all_done ks ≡ true → prevailing_death ks ≡ Some x → o.base (o.join k (states ks) false) ≤ x.label → o.handler (o.join k (states ks) false) x.label ≡ (name, line) → NodeCatches m name line
 
   putting_logs : (b : Option ℕ) → (putting b).logs ≡ []
   putting_logs None = refl
   putting_logs (Some b) = refl
+
+  throwing_catches : (l : S) (x : ℕ) (r : Option ℤ) (name line : ℕ) (more : List LogWhat) → o.stop l ≡ AtThrow x → o.number l ≡ r → (throwing o l x r).effects.logs ≡ Caught name line ∷ more → NodeCatches (Live l) name line
+  throwing_catches l x None name line more at is f = let none : [] ≡ Caught name line ∷ more = f in absurd (cc none)
+  throwing_catches l x (Some v) name line more at is f = let w = logs_caught l (death_with x v) name line more f in at_throw l x v refl at is w.0 w.1
 
   live_catches : (l : S) (v : StopView) (a : Acted S) (name line : ℕ) (more : List LogWhat) → o.stop l ≡ v → act_live o l v ≡ Some a → a.effects.logs ≡ Caught name line ∷ more → NodeCatches (Live l) name line
   live_catches l AtQuiet a name line more at e f = let none : [] ≡ Caught name line ∷ more = ap (λ z. z.effects.logs) (some_same _ a e) ∙ f in absurd (cc none)
@@ -83,8 +87,7 @@ module _ {S : Type 0} (o : Ops S) where
   live_catches l AtFinish a name line more at e f = let none : [] ≡ Caught name line ∷ more = ap (λ z. z.effects.logs) (some_same _ a e) ∙ f in absurd (cc none)
   live_catches l (AtNext c) a name line more at e f = none_some a e
   live_catches l (AtThrow x) a name line more at e f =
-      let w = logs_caught l (death x) name line more (ap (λ z. z.effects.logs) (some_same (thrown o l (death x)) a e) ∙ f) in
-      at_throw l x refl at w.0 w.1
+      throwing_catches l x (o.number l) name line more at refl (ap (λ z. z.effects.logs) (some_same (throwing o l x (o.number l)) a e) ∙ f)
   live_catches l (AtTrap kind number) a name line more at e f = let count_event : LoggedTrap kind number ∷ [] ≡ Caught name line ∷ more = ap (λ z. z.effects.logs) (some_same _ a e) ∙ f in absurd (cc count_event)
 
   closed_catches : (l : S) (ks : Nodes S) (r : Option Death) (name line : ℕ) (more : List LogWhat) → all_done ks ≡ true → prevailing_death ks ≡ r → (closed o l (states ks) r).effects.logs ≡ Caught name line ∷ more → NodeCatches (Forked l ks) name line
@@ -112,17 +115,17 @@ module _ {S : Type 0} (o : Ops S) where
     others_logs p n = ap (λ z. logs_at z.logs p) (sym w.is) ∙ logs_other t.logs (doer e) p w.new.effects.logs n
 
     -- a catch that it logs
-    tells : (p : Path) (name line : ℕ) → p ≡ doer e → NodeCatches w.old name line → (x : ℕ) × (c : Catches o t e p x) × (o.handler (catcher c) x ≡ (name, line))
-    tells p name line at (at_throw k x live throws low handler) =
+    tells : (p : Path) (name line : ℕ) → p ≡ doer e → NodeCatches w.old name line → (x : ℕ) × (v : ℤ) × (c : Catches o t e p x v) × (o.handler (catcher c) x ≡ (name, line))
+    tells p name line at (at_throw k x v live throws gives low handler) =
         let is : e ≡ Own (doer e) = does_steps e (ap (same_kind (does e)) (sym (ap (kind_of o) live ∙ ap kind_of_stop throws)) ∙ its_kind o e t u w) in
-        let c : Throws o t e p x = record { is = is ∙ ap Own (sym at); thrower = k; stands = opened_stands o e t u w p (Live k) at live; throws = throws } in
-        (x, by_throw c low, handler)
+        let c : Throws o t e p x v = record { is = is ∙ ap Own (sym at); thrower = k; stands = opened_stands o e t u w p (Live k) at live; throws = throws; gives = gives } in
+        (x, v, by_throw c low, handler)
     tells p name line at (at_close k ks x forked done least low handler) =
         let is : e ≡ Close (doer e) = does_close e (ap (same_kind (does e)) (sym (ap (kind_of o) forked)) ∙ its_kind o e t u w) in
-        let c : ClosesWith o t e p x.label = record { is = is ∙ ap Close (sym at); parent = k; children = ks; stands = opened_stands o e t u w p (Forked k ks) at forked; done = done; death = x; prevails = least; labelled = refl } in
-        (x.label, by_close c low, handler)
+        let c : ClosesWith o t e p x.label (handed x.given) = record { is = is ∙ ap Close (sym at); parent = k; children = ks; stands = opened_stands o e t u w p (Forked k ks) at forked; done = done; death = x; prevails = least; labelled = refl; hands = refl } in
+        (x.label, handed x.given, by_close c low, handler)
 
-    alone_tells : (p : Path) (name line : ℕ) (more : List LogWhat) → logs_at u.logs p ≡ logs_at t.logs p ++ Caught name line ∷ more → (x : ℕ) × (c : Catches o t e p x) × (o.handler (catcher c) x ≡ (name, line))
+    alone_tells : (p : Path) (name line : ℕ) (more : List LogWhat) → logs_at u.logs p ≡ logs_at t.logs p ++ Caught name line ∷ more → (x : ℕ) × (v : ℤ) × (c : Catches o t e p x v) × (o.handler (catcher c) x ≡ (name, line))
     alone_tells p name line more f = elim (paths_same p (doer e)) [
       | inl at ↦
           let effects = append_cancel_left (logs_at t.logs p) w.new.effects.logs (Caught name line ∷ more) (sym (alone_logs p at) ∙ f) in
@@ -131,16 +134,17 @@ module _ {S : Type 0} (o : Ops S) where
     ]
 
     -- and what it logs where it catches a label
-    throw_logs : (p : Path) (x : ℕ) (c : Throws o t e p x) → o.base c.thrower ≤ x → logs_at u.logs p ≡ logs_at t.logs p ++ Caught (o.handler c.thrower x).0 (o.handler c.thrower x).1 ∷ []
-    throw_logs p x c low =
+    throw_logs : (p : Path) (x : ℕ) (v : ℤ) (c : Throws o t e p x v) → o.base c.thrower ≤ x → logs_at u.logs p ≡ logs_at t.logs p ++ Caught (o.handler c.thrower x).0 (o.handler c.thrower x).1 ∷ []
+    throw_logs p x v c low =
         let at : p ≡ doer e = sym (ap doer c.is) in
         let old = old_is p (Live c.thrower) at c.stands in
-        let new : thrown o c.thrower (death x) ≡ w.new = some_same (thrown o c.thrower (death x)) w.new (sym (ap (act_live o c.thrower) c.throws) ∙ (ap (act_here o) (sym old) ∙ w.here)) in
-        alone_logs p at ∙ ap (λ z. logs_at t.logs p ++ z.logs) (sym (ap (λ z. z.effects) new) ∙ caught_logs c.thrower (death x) low)
+        let new : thrown o c.thrower (death_with x v) ≡ w.new =
+        ap (throwing o c.thrower x) (sym c.gives) ∙ some_same (throwing o c.thrower x (o.number c.thrower)) w.new (sym (ap (act_live o c.thrower) c.throws) ∙ (ap (act_here o) (sym old) ∙ w.here)) in
+        alone_logs p at ∙ ap (λ z. logs_at t.logs p ++ z.logs) (sym (ap (λ z. z.effects) new) ∙ caught_logs c.thrower (death_with x v) low)
 
-    close_logs : (p : Path) (x : ℕ) (c : ClosesWith o t e p x) → o.base (o.join c.parent (states c.children) false) ≤ x
+    close_logs : (p : Path) (x : ℕ) (v : ℤ) (c : ClosesWith o t e p x v) → o.base (o.join c.parent (states c.children) false) ≤ x
         → logs_at u.logs p ≡ logs_at t.logs p ++ Caught (o.handler (o.join c.parent (states c.children) false) x).0 (o.handler (o.join c.parent (states c.children) false) x).1 ∷ []
-    close_logs p x c low =
+    close_logs p x v c low =
         let at : p ≡ doer e = sym (ap doer c.is) in
         let old = old_is p (Forked c.parent c.children) at c.stands in
         let joined = o.join c.parent (states c.children) false in
@@ -152,12 +156,12 @@ module _ {S : Type 0} (o : Ops S) where
 
   -- ---- every event
 
-  caught_logged : (t u : Tree S) (e : Event) (p : Path) (x : ℕ) → after o e t ≡ Some u → (c : Catches o t e p x) → logs_at u.logs p ≡ logs_at t.logs p ++ Caught (o.handler (catcher c) x).0 (o.handler (catcher c) x).1 ∷ []
-  caught_logged t u e p x h (by_throw c low) = throw_logs t u e (opened o e t u (λ z. let w = sym z ∙ ap does c.is in absurd (cc w)) h) p x c low
-  caught_logged t u e p x h (by_close c low) = close_logs t u e (opened o e t u (λ z. let w = sym z ∙ ap does c.is in absurd (cc w)) h) p x c low
+  caught_logged : (t u : Tree S) (e : Event) (p : Path) (x : ℕ) (v : ℤ) → after o e t ≡ Some u → (c : Catches o t e p x v) → logs_at u.logs p ≡ logs_at t.logs p ++ Caught (o.handler (catcher c) x).0 (o.handler (catcher c) x).1 ∷ []
+  caught_logged t u e p x v h (by_throw c low) = throw_logs t u e (opened o e t u (λ z. let w = sym z ∙ ap does c.is in absurd (cc w)) h) p x v c low
+  caught_logged t u e p x v h (by_close c low) = close_logs t u e (opened o e t u (λ z. let w = sym z ∙ ap does c.is in absurd (cc w)) h) p x v c low
 
   logged_caught : (t u : Tree S) (e : Event) (p : Path) (name line : ℕ) (more : List LogWhat) → after o e t ≡ Some u → logs_at u.logs p ≡ logs_at t.logs p ++ Caught name line ∷ more
-      → (x : ℕ) × (c : Catches o t e p x) × (o.handler (catcher c) x ≡ (name, line))
+      → (x : ℕ) × (v : ℤ) × (c : Catches o t e p x v) × (o.handler (catcher c) x ≡ (name, line))
   logged_caught t u (Own q) p name line more h f = alone_tells t u (Own q) (opened o (Own q) t u (λ z. absurd cc) h) p name line more f
   logged_caught t u (Close q) p name line more h f = alone_tells t u (Close q) (opened o (Close q) t u (λ z. absurd cc) h) p name line more f
   logged_caught t u (End q) p name line more h f = alone_tells t u (End q) (opened o (End q) t u (λ z. absurd cc) h) p name line more f

@@ -1,9 +1,9 @@
 -- Who is dead of which label once a process did something by itself.
-use Rattle.std.proofs.Common.{◌≡◌, ◌≤◌, ℕ, zero, suc, true, false, Option, Some, None, List, [], ◌∷◌, cond, ltb, refl, sym, ap, subst, ◌∙◌, inl, inr, le-ltb, ltb-false}
+use Rattle.std.proofs.Common.{◌≡◌, ◌≤◌, ℕ, ℤ, pos, zero, suc, true, false, Option, Some, None, List, [], ◌∷◌, cond, ltb, refl, sym, ap, subst, ◌∙◌, inl, inr, le-ltb, ltb-false}
 use Rattle.shim_local.specs.Process.{Ops, ForkedView, Parted, Trapped, StopView, AtQuiet, AtNext, AtPut, AtFork, AtFinish, AtThrow, AtTrap}
 use Rattle.shim_local.specs.Laws.{LocalLaws, Moved, by_join}
-use Rattle.shim_semantics.specs.Nodes.{Node, Nodes, Live, Forked, Ended, Dead, death, Death, state, states, all_live, all_done, prevailing_death}
-use Rattle.shim_semantics.specs.Acts.{Acted, nothing, catching, thrown, closed, parted, act_live, act_here}
+use Rattle.shim_semantics.specs.Nodes.{handed, Node, Nodes, Live, Forked, Ended, Dead, death_with, Death, state, states, all_live, all_done, prevailing_death}
+use Rattle.shim_semantics.specs.Acts.{Acted, nothing, catching, thrown, throwing, closed, parted, act_live, act_here}
 use Rattle.shim_semantics.specs.Places.{at, child_at, SoundBelow}
 use Rattle.shim_semantics.proofs.HowMany.{no_less_than}
 use Rattle.shim_semantics.proofs.Replaced.{states_sound}
@@ -12,10 +12,10 @@ use Rattle.shim_laws_schedules.proofs.Dooms.{same_bound}
 use Rattle.shim_laws_schedules.proofs.DeadBelow.{dead_below, any_dead_below, none_dead, done_none, done_some}
 use Rattle.shim_base.proofs.Facts.{some_same, none_some, true_or_false}
 
--- The node is replaced by another. As to labels below the base of its process there is no other death, or the process threw a label, or was trapped.
+-- The node is replaced by another. As to labels below the base of its process there is no other death, or the process threw a label with a number, or was trapped.
 pub data Leaves {S : Type 0} (o : Ops S) (m a : Node S) : Type 0 where
   no_other : ((t : ℕ) → t ≤ o.base (state m) → dead_below t a ≡ dead_below t m) → Leaves o m a
-  by_throw : (k : S) (y : ℕ) → m ≡ Live k → o.stop k ≡ AtThrow y → ((t : ℕ) → t ≤ o.base k → dead_below t a ≡ ltb y t) → Leaves o m a
+  by_throw : (k : S) (y : ℕ) (v : ℤ) → m ≡ Live k → o.stop k ≡ AtThrow y → o.number k ≡ Some v → a ≡ (thrown o k (death_with y v)).node → ((t : ℕ) → t ≤ o.base k → dead_below t a ≡ ltb y t) → Leaves o m a
   by_trap : ((t : ℕ) → dead_below t a ≡ ltb 0 t) → Leaves o m a
 
 module _ {S : Type 0} (o : Ops S) where
@@ -23,7 +23,7 @@ module _ {S : Type 0} (o : Ops S) where
   thrown_dead : (l : S) (x : Death) (t : ℕ) → t ≤ o.base l → dead_below t (thrown o l x).node ≡ ltb x.label t
   thrown_dead l x t h =
       let dies : Acted S = record { node = Dead l x; effects = nothing } in
-      let goes_on : Acted S = record { node = Live (o.unwind l x.label); effects = catching (o.handler l x.label) } in
+      let goes_on : Acted S = record { node = Live (o.unwind l x.label (handed x.given)); effects = catching (o.handler l x.label) } in
       elim (true_or_false (ltb x.label (o.base l))) [
         | inl y ↦ ap (λ b. dead_below t (cond b dies goes_on).node) y
         | inr n ↦ ap (λ b. dead_below t (cond b dies goes_on).node) n ∙ sym (le-ltb x.label t (no_less_than x.label (o.base l) t h (ltb-false x.label (o.base l) n)))
@@ -33,13 +33,17 @@ module _ {S : Type 0} (o : Ops S) where
   parted_dead (Parted l ks) t = none_dead t ks
   parted_dead (Trapped l) t = refl
 
+  throwing_leaves : (l : S) (x : ℕ) (r : Option ℤ) → o.stop l ≡ AtThrow x → o.number l ≡ r → Leaves o (Live l) (throwing o l x r).node
+  throwing_leaves l x None at is = no_other (λ t h. refl)
+  throwing_leaves l x (Some v) at is = by_throw l x v refl at is refl (λ t h. thrown_dead l (death_with x v) t h)
+
   live_leaves : (l : S) (v : StopView) (a : Acted S) → o.stop l ≡ v → act_live o l v ≡ Some a → Leaves o (Live l) a.node
   live_leaves l AtQuiet a at e = subst (λ z. Leaves o (Live l) z.node) (some_same _ a e) (no_other (λ t h. refl))
   live_leaves l AtPut a at e = subst (λ z. Leaves o (Live l) z.node) (some_same _ a e) (no_other (λ t h. refl))
   live_leaves l AtFork a at e = subst (λ z. Leaves o (Live l) z.node) (some_same _ a e) (no_other (λ t h. parted_dead (o.fork l) t))
   live_leaves l AtFinish a at e = subst (λ z. Leaves o (Live l) z.node) (some_same _ a e) (no_other (λ t h. refl))
   live_leaves l (AtNext c) a at e = none_some a e
-  live_leaves l (AtThrow x) a at e = subst (λ z. Leaves o (Live l) z.node) (some_same _ a e) (by_throw l x refl at (λ t h. thrown_dead l (death x) t h))
+  live_leaves l (AtThrow x) a at e = subst (λ z. Leaves o (Live l) z.node) (some_same _ a e) (throwing_leaves l x (o.number l) at refl)
   live_leaves l (AtTrap kind line) a at e = subst (λ z. Leaves o (Live l) z.node) (some_same _ a e) (by_trap (λ t. refl))
 
   -- at the close of a fork the prevailing death stays, unless it is caught
@@ -88,8 +92,8 @@ module _ {S : Type 0} (o : Ops S) where
   thrown_no_fork : (k : S) (x : Death) → NoFork (thrown o k x).node
   thrown_no_fork k x =
       let dies : Acted S = record { node = Dead k x; effects = nothing } in
-      let goes_on : Acted S = record { node = Live (o.unwind k x.label); effects = catching (o.handler k x.label) } in
-      elim (ltb x.label (o.base k)) as (λ b. NoFork (cond b dies goes_on).node) [ true ↦ dead_no_fork k x | false ↦ live_no_fork (o.unwind k x.label) ]
+      let goes_on : Acted S = record { node = Live (o.unwind k x.label (handed x.given)); effects = catching (o.handler k x.label) } in
+      elim (ltb x.label (o.base k)) as (λ b. NoFork (cond b dies goes_on).node) [ true ↦ dead_no_fork k x | false ↦ live_no_fork (o.unwind k x.label (handed x.given)) ]
 
   pub closed_no_fork : (k : S) (js : List S) (r : Option Death) → NoFork (closed o k js r).node
   closed_no_fork k js None = live_no_fork (o.join k js true)
@@ -112,14 +116,18 @@ module _ {S : Type 0} (o : Ops S) where
   parted_none (Parted m ls) = forked_none m ls
   parted_none (Trapped m) = no_fork_none (Live m) (live_no_fork m)
 
+  throwing_no_fork : (l : S) (x : ℕ) (r : Option ℤ) → NoFork (throwing o l x r).node
+  throwing_no_fork l x None = live_no_fork (o.thrown l)
+  throwing_no_fork l x (Some v) = thrown_no_fork l (death_with x v)
+
   live_new : (l : S) (v : StopView) (a : Acted S) → act_live o l v ≡ Some a → NoneDead a.node
   live_new l AtQuiet a e = subst (λ z. NoneDead z.node) (some_same _ a e) (no_fork_none _ (live_no_fork (o.quiet l)))
   live_new l AtPut a e = subst (λ z. NoneDead z.node) (some_same _ a e) (no_fork_none _ (live_no_fork (o.put l)))
   live_new l AtFork a e = subst (λ z. NoneDead z.node) (some_same _ a e) (parted_none (o.fork l))
   live_new l AtFinish a e = subst (λ z. NoneDead z.node) (some_same _ a e) (no_fork_none _ (ended_no_fork l))
   live_new l (AtNext c) a e = none_some a e
-  live_new l (AtThrow x) a e = subst (λ z. NoneDead z.node) (some_same _ a e) (no_fork_none _ (thrown_no_fork l (death x)))
-  live_new l (AtTrap kind line) a e = subst (λ z. NoneDead z.node) (some_same _ a e) (no_fork_none _ (dead_no_fork l (death 0)))
+  live_new l (AtThrow x) a e = subst (λ z. NoneDead z.node) (some_same _ a e) (no_fork_none _ (throwing_no_fork l x (o.number l)))
+  live_new l (AtTrap kind line) a e = subst (λ z. NoneDead z.node) (some_same _ a e) (no_fork_none _ (dead_no_fork l (death_with 0 (pos 0))))
 
   pub new_none : (m : Node S) (a : Acted S) → act_here o m ≡ Some a → NoneDead a.node
   new_none (Live l) a e = live_new l (o.stop l) a e

@@ -29,10 +29,13 @@ pub mod Diamond
 pub mod EveryPair
 pub mod DeadBelow
 pub mod Forks
+pub mod Numbers
+pub mod DiedThrown
 pub mod Leaves
 pub mod Stood
 pub mod MeetSpares
 pub mod PoisonSpares
+pub mod NumbersKept
 pub mod Threw
 pub mod Thrown
 pub mod CatchLogs

@@ -22,13 +22,13 @@ module _ {S : Type 0} (o : Ops S) where
     all_received_dead c v t (node_and k ks) = λ i. received_dead c v t k i || all_received_dead c v t ks i
 
   -- a fork of which the children received something
-  record Received (c : Channel) (v : ℤ) (r : Option (Node S)) (l : S) (ks : Nodes S) : Type 0 where
+  pub record Received (c : Channel) (v : ℤ) (r : Option (Node S)) (l : S) (ks : Nodes S) : Type 0 where
     pub children : Nodes S
     pub there : r ≡ Some (Forked l children)
     pub is : all_received o c v children ≡ ks
 
   mutual
-    received_fork : (c : Channel) (v : ℤ) (q : List ℕ) (n : Node S) (l : S) (ks : Nodes S) → at q (received o c v n) ≡ Some (Forked l ks) → Received c v (at q n) l ks
+    pub received_fork : (c : Channel) (v : ℤ) (q : List ℕ) (n : Node S) (l : S) (ks : Nodes S) → at q (received o c v n) ≡ Some (Forked l ks) → Received c v (at q n) l ks
     received_fork c v [] (Live k) l ks e = absurd cc
     received_fork c v [] (Ended k) l ks e = absurd cc
     received_fork c v [] (Dead k x) l ks e = absurd cc

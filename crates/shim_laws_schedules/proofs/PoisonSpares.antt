@@ -194,7 +194,7 @@ module _ {S : Type 0} (o : Ops S) where
         ]
 
   -- a fork in a child that was poisoned
-  record Poisoned (c : Channel) (x : Death) (r : Option (Node S)) (l : S) (ks : Nodes S) : Type 0 where
+  pub record Poisoned (c : Channel) (x : Death) (r : Option (Node S)) (l : S) (ks : Nodes S) : Type 0 where
     pub children : Nodes S
     pub there : r ≡ Some (Forked l children)
     pub is : all_poisoned o c x children ≡ ks
@@ -206,7 +206,7 @@ module _ {S : Type 0} (o : Ops S) where
   live_no_child {A} c x i q k l ks e = elim (o.shares k c) as (λ b. at (i ∷ q) (cond b (Dead k x) (Live k)) ≡ Some (Forked l ks) → A) [ true ↦ λ z. none_some (Forked l ks) z | false ↦ λ z. none_some (Forked l ks) z ] e
 
   mutual
-    poisoned_fork : (c : Channel) (x : Death) (q : List ℕ) (n : Node S) (l : S) (ks : Nodes S) → at q (poisoned o c x n) ≡ Some (Forked l ks) → Poisoned c x (at q n) l ks
+    pub poisoned_fork : (c : Channel) (x : Death) (q : List ℕ) (n : Node S) (l : S) (ks : Nodes S) → at q (poisoned o c x n) ≡ Some (Forked l ks) → Poisoned c x (at q n) l ks
     poisoned_fork c x [] (Live k) l ks e = live_no_fork c x k l ks e
     poisoned_fork c x [] (Ended k) l ks e = absurd cc
     poisoned_fork c x [] (Dead k y) l ks e = absurd cc

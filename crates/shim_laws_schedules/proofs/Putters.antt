@@ -1,11 +1,11 @@
 -- Who puts bytes holds the output, so of two processes that act one puts none.
-use Rattle.std.proofs.Common.{◌≡◌, ◌≤◌, ◌⊎◌, ℕ, Bool, true, false, Option, Some, None, List, [], ◌++◌, inl, inr, cond, refl, sym, ap, ◌∙◌, arith}
+use Rattle.std.proofs.Common.{◌≡◌, ◌≤◌, ◌⊎◌, ℕ, ℤ, Bool, true, false, Option, Some, None, List, [], ◌++◌, inl, inr, cond, refl, sym, ap, ◌∙◌, arith}
 use Rattle.std.specs.Prelude.{ltb}
 use Rattle.std.proofs.lemmas.List.{append-nil}
 use Rattle.shim_local.specs.Process.{Ops, StopView, AtQuiet, AtNext, AtPut, AtFork, AtFinish, AtThrow, AtTrap}
 use Rattle.shim_local.specs.Laws.{LocalLaws}
-use Rattle.shim_semantics.specs.Nodes.{Node, Live, Forked, Ended, Dead, death, Death, state, states, prevailing_death}
-use Rattle.shim_semantics.specs.Acts.{Acted, nothing, catching, thrown, closed, act_here, act_live}
+use Rattle.shim_semantics.specs.Nodes.{handed, Node, Live, Forked, Ended, Dead, death_with, Death, state, states, prevailing_death}
+use Rattle.shim_semantics.specs.Acts.{Acted, nothing, catching, thrown, throwing, closed, act_here, act_live}
 use Rattle.shim_semantics.specs.Places.{at, SoundBelow}
 use Rattle.shim_semantics.specs.Sound.{IsSound, holders}
 use Rattle.shim_semantics.proofs.Replaced.{sound_at}
@@ -17,9 +17,13 @@ module _ {S : Type 0} (o : Ops S) where
   thrown_silent : (l : S) (x : Death) → (thrown o l x).effects.bytes ≡ []
   thrown_silent l x = by_test (ltb x.label (o.base l))
     where
-      by_test : (b : Bool) → (cond {A = Acted S} b (record { node = Dead l x; effects = nothing }) (record { node = Live (o.unwind l x.label); effects = catching (o.handler l x.label) })).effects.bytes ≡ []
+      by_test : (b : Bool) → (cond {A = Acted S} b (record { node = Dead l x; effects = nothing }) (record { node = Live (o.unwind l x.label (handed x.given)); effects = catching (o.handler l x.label) })).effects.bytes ≡ []
       by_test true = refl
       by_test false = refl
+
+  throwing_silent : (l : S) (x : ℕ) (r : Option ℤ) → (throwing o l x r).effects.bytes ≡ []
+  throwing_silent l x None = refl
+  throwing_silent l x (Some v) = thrown_silent l (death_with x v)
 
   closed_silent : (l : S) (ks : List S) (x : Option Death) → (closed o l ks x).effects.bytes ≡ []
   closed_silent l ks None = refl
@@ -35,7 +39,7 @@ module _ {S : Type 0} (o : Ops S) where
   puts_live law l AtFork a s at e = inl (told _ a refl (some_same _ a e))
   puts_live law l AtFinish a s at e = inl (told _ a refl (some_same _ a e))
   puts_live law l (AtNext c) a s at e = none_some a e
-  puts_live law l (AtThrow x) a s at e = inl (told (thrown o l (death x)) a (thrown_silent l (death x)) (some_same (thrown o l (death x)) a e))
+  puts_live law l (AtThrow x) a s at e = inl (told (throwing o l x (o.number l)) a (throwing_silent l x (o.number l)) (some_same (throwing o l x (o.number l)) a e))
   puts_live law l (AtTrap kind line) a s at e = inl (told _ a refl (some_same _ a e))
 
   pub puts : LocalLaws o → (m : Node S) (a : Acted S) → SoundBelow o m → act_here o m ≡ Some a → (a.effects.bytes ≡ []) ⊎ (o.holds_output (state m) ≡ true)

@@ -1,8 +1,8 @@
--- Where an event of one process by itself changes the least label of the dead below a fork, it is the throw of that label.
-use Rattle.std.proofs.Common.{◌≡◌, ◌≤◌, ◌<◌, ◌+◌, ℕ, zero, suc, true, false, Some, List, [], ◌∷◌, ◌⊎◌, inl, inr, ltb, sym, ap, subst, ◌∙◌, arith, ltb-true, ltb-false, lt-ltb}
+-- Where an event of one process by itself changes the least label of the dead below a fork, it is the throw of that label with a number.
+use Rattle.std.proofs.Common.{◌≡◌, ◌≤◌, ◌<◌, ◌+◌, ℕ, ℤ, zero, suc, true, false, Some, List, [], ◌∷◌, ◌⊎◌, inl, inr, ltb, refl, sym, ap, subst, ◌∙◌, arith, ltb-true, ltb-false, lt-ltb}
 use Rattle.shim_local.specs.Process.{Ops, AtThrow}
 use Rattle.shim_local.specs.Laws.{LocalLaws}
-use Rattle.shim_semantics.specs.Nodes.{Node, Nodes, Live, Forked, Ended, Dead, no_node, node_and, state}
+use Rattle.shim_semantics.specs.Nodes.{Node, Nodes, Live, Forked, Ended, Dead, death_with, no_node, node_and, state}
 use Rattle.shim_semantics.specs.Acts.{Acted, act_here}
 use Rattle.shim_semantics.specs.Places.{at, child_at, SoundBelow, SoundChildren}
 use Rattle.shim_semantics.proofs.HowMany.{clash, no_less_than}
@@ -11,6 +11,8 @@ use Rattle.shim_semantics.proofs.Replaced.{sound_at}
 use Rattle.shim_laws_schedules.proofs.DeadBelow.{dead_below, any_dead_below, IsLeast, there_dead_in, put_dead_in, dead_put_in, at_put_in}
 use Rattle.shim_laws_schedules.proofs.Forks.{same, above, within, whence}
 use Rattle.shim_laws_schedules.proofs.Leaves.{Leaves, no_other, by_throw, by_trap, leaves, new_none}
+use Rattle.shim_laws_schedules.proofs.Numbers.{DiedWith, AnyNumbered, there_died_in}
+use Rattle.shim_laws_schedules.proofs.DiedThrown.{died_thrown}
 use Rattle.shim_base.proofs.Facts.{some_same, none_some, false_unless}
 
 no_higher : (a b : ℕ) → a ≡ b → a ≤ b
@@ -28,17 +30,21 @@ between x y e f = omega arith
 from_one : (x b : ℕ) → 1 ≤ b → b ≤ x → 0 < x
 from_one x b e f = omega arith
 
+under_base : (y x h b : ℕ) → y ≡ x → x < h → h ≤ b → y < b
+under_base y x h b e f g = omega arith
+
 -- the process of this state stood at this fork, and this was the least label of the dead below it
 pub record Stood {S : Type 0} (n : Node S) (q : List ℕ) (l : S) (x : ℕ) : Type 0 where
   pub children : Nodes S
   pub there : at q n ≡ Some (Forked l children)
   pub least : IsLeast x children
 
--- the process of this state stood at this fork, and one below it at a throw of the label
-pub record ThrowsBelow {S : Type 0} (o : Ops S) (n m : Node S) (q : List ℕ) (l : S) (x : ℕ) : Type 0 where
+-- the process of this state stood at this fork, and one below it at a throw of the label with the number
+pub record ThrowsBelow {S : Type 0} (o : Ops S) (n m : Node S) (q : List ℕ) (l : S) (x : ℕ) (v : ℤ) : Type 0 where
   pub thrower : S
   pub live : m ≡ Live thrower
   pub throws : o.stop thrower ≡ AtThrow x
+  pub gives : o.number thrower ≡ Some v
   pub children : Nodes S
   pub there : at q n ≡ Some (Forked l children)
   pub branch : ℕ
@@ -64,7 +70,7 @@ module _ {S : Type 0} (o : Ops S) where
 
   -- a fork above what was replaced
   stood_above : LocalLaws o → (n m a : Node S) (q : List ℕ) (l : S) (js : Nodes S) (i : ℕ) (r : List ℕ) (x : ℕ) → SoundBelow o n → at q n ≡ Some (Forked l js) → child_at i r js ≡ Some m
-      → o.base l ≤ x → x < o.handlers l → IsLeast x (put_child i r a js) → Leaves o m a → Stood n q l x ⊎ ThrowsBelow o n m q l x
+      → o.base l ≤ x → x < o.handlers l → IsLeast x (put_child i r a js) → Leaves o m a → Stood n q l x ⊎ AnyNumbered x (put_child i r a js)
   stood_above law n m a q l js i r x s e f low high least (no_other alike) =
       let sound = sound_at o q n (Forked l js) s e in
       let reach = base_below law l sound.number 0 js i r m sound.children f in
@@ -75,7 +81,7 @@ module _ {S : Type 0} (o : Ops S) where
       let not_less : any_dead_below x js ≡ false = false_unless (any_dead_below x js) (λ y. clash (any_dead_below x (put_child i r a js))
       (dead_put_in x i r js m a f (λ d. alike x (itself_within x (o.handlers l) (o.base (state m)) high reach) ∙ d) y) least.none) in
       inl (record { children = js; there = e; least = record { some = was; none = not_less } })
-  stood_above law n m a q l js i r x s e f low high least (by_throw k y live throws tells) =
+  stood_above law n m a q l js i r x s e f low high least (by_throw k y v live throws gives dies tells) =
       let sound = sound_at o q n (Forked l js) s e in
       let reach : o.handlers l ≤ o.base k = no_less_than (o.base k) (o.base (state m)) (o.handlers l) (base_below law l sound.number 0 js i r m sound.children f)
       (no_higher (o.base (state m)) (o.base k) (ap (λ z. o.base (state z)) live)) in
@@ -89,7 +95,7 @@ module _ {S : Type 0} (o : Ops S) where
         | inr z ↦
             let below : y < suc x = ltb-true y (suc x) (sym (tells (suc x) (next_within x (o.handlers l) (o.base k) high reach)) ∙ z) in
             let is : y ≡ x = between x y below (ltb-false y x no_lower) in
-            inr (record { thrower = k; live = live; throws = throws ∙ ap AtThrow is; children = js; there = e; branch = i; rest = r; leads = f })
+            inr (v, there_died_in x v i r (put_child i r a js) a (at_put_in i r js m a f) (subst (DiedWith x v) (sym dies) (died_thrown o k (death_with y v) x v (under_base y x (o.handlers l) (o.base k) is high reach) is refl)))
       ]
   stood_above law n m a q l js i r x s e f low high least (by_trap tells) =
       let sound = sound_at o q n (Forked l js) s e in
@@ -97,9 +103,9 @@ module _ {S : Type 0} (o : Ops S) where
       (there_dead_in x i r (put_child i r a js) a (at_put_in i r js m a f) (tells x ∙ lt-ltb 0 x (from_one x (o.base l) (law.base_least l sound.sound) low))) least.none
 
   pub stood_alone : LocalLaws o → (p q : List ℕ) (n m : Node S) (a : Acted S) (l : S) (ks : Nodes S) (x : ℕ) → SoundBelow o n → at p n ≡ Some m → act_here o m ≡ Some a → at q (put p a.node n) ≡ Some (Forked l ks)
-      → o.base l ≤ x → x < o.handlers l → IsLeast x ks → Stood n q l x ⊎ ThrowsBelow o n m q l x
+      → o.base l ≤ x → x < o.handlers l → IsLeast x ks → Stood n q l x ⊎ AnyNumbered x ks
   stood_alone law p q n m a l ks x s e h g low high least = elim (whence p q n m a.node l ks e g) [
     | same f ↦ inl (record { children = ks; there = f; least = least })
-    | above js i r f w is ↦ stood_above law n m a.node q l js i r x s f w low high (subst (IsLeast x) is least) (leaves o law m a (sound_at o p n m s e) h)
+    | above js i r f w is ↦ subst (λ z. Stood n q l x ⊎ AnyNumbered x z) (sym is) (stood_above law n m a.node q l js i r x s f w low high (subst (IsLeast x) is least) (leaves o law m a (sound_at o p n m s e) h))
     | within r f ↦ clash (any_dead_below (suc x) ks) least.some (new_none o m a h r l ks f (suc x))
   ]

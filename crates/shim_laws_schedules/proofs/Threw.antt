@@ -1,5 +1,5 @@
 -- In a run a process below another one threw a label: at the last event, or before it and the fork hasn't closed.
-use Rattle.std.proofs.Common.{◌≡◌, ◌≢◌, ℕ, true, Some, List, [], ◌∷◌, ◌++◌, inl, inr, refl, sym, ap, ◌∙◌}
+use Rattle.std.proofs.Common.{◌≡◌, ◌≢◌, ℕ, ℤ, true, Some, List, [], ◌∷◌, ◌++◌, inl, inr, refl, sym, ap, ◌∙◌}
 use Rattle.std.proofs.lemmas.List.{append_assoc}
 use Rattle.shim_base.specs.Paths.{Path}
 use Rattle.shim_local.specs.Process.{Ops}
@@ -28,8 +28,8 @@ goes_on (x ∷ r) i q e = λ z. absurd cc
 
 module _ {S : Type 0} (o : Ops S) where
   -- another event since, which doesn't close the fork
-  pub threw_before : (from : Tree S) (es : List Event) (e : Event) (p : Path) (l : S) (x : ℕ) → ThrewBelow o from es p l x → (e ≡ Close p → ⊥) → ThrewBelow o from (es ++ e ∷ []) p l x
-  threw_before from es e p l x h n = record {
+  pub threw_before : (from : Tree S) (es : List Event) (e : Event) (p : Path) (l : S) (x : ℕ) (v : ℤ) → ThrewBelow o from es p l x v → (e ≡ Close p → ⊥) → ThrewBelow o from (es ++ e ∷ []) p l x v
+  threw_before from es e p l x v h n = record {
     before = h.before;
     event = h.event;
     since = h.since ++ e ∷ [];
@@ -56,9 +56,9 @@ module _ {S : Type 0} (o : Ops S) where
   }
 
   -- the last event is the throw
-  pub threw_now : (from t u : Tree S) (es : List Event) (e : Event) (q : List ℕ) (l : S) (x : ℕ) → SoundBelow o t.root → run (after o) es from ≡ Some t → (w : Opened o e t u) → ThrowsBelow o t.root w.old q l x
-      → ThrewBelow o from (es ++ e ∷ []) (o.path l) l x
-  threw_now from t u es e q l x s r w h =
+  pub threw_now : (from t u : Tree S) (es : List Event) (e : Event) (q : List ℕ) (l : S) (x : ℕ) (v : ℤ) → SoundBelow o t.root → run (after o) es from ≡ Some t → (w : Opened o e t u) → ThrowsBelow o t.root w.old q l x v
+      → ThrewBelow o from (es ++ e ∷ []) (o.path l) l x v
+  threw_now from t u es e q l x v s r w h =
       let fork = Forked l h.children in
       let path = at_path o fork w.old (h.branch ∷ h.rest) (sound_at o q t.root fork s h.there) h.leads in
       let steps : kind_of o w.old ≡ Steps = ap (kind_of o) h.live ∙ ap kind_of_stop h.throws in
@@ -78,6 +78,7 @@ module _ {S : Type 0} (o : Ops S) where
           thrower = h.thrower;
           stands = opened_stands e t u w (o.path l ++ path.0) (Live h.thrower) (sym to) h.live;
           throws = h.throws;
+          gives = h.gives;
         };
         children = h.children;
         forked = stands t q fork s h.there;

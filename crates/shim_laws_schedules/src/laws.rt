@@ -2,7 +2,7 @@
 ghost use Rattle.shim_laws_schedules.specs.ChangingPlaces.{MeetsWhereAllWait, MeetingsChangePlaces, PoisonsChangePlaces};
 ghost use Rattle.shim_laws_schedules.specs.Laws.{EventsCommute, RunsAgree, RoundsLead};
 ghost use Rattle.shim_laws_schedules.specs.ListedOnce.{ListsOnce};
-ghost use Rattle.shim_laws_schedules.specs.Throws.{CatchesAreLogged, ThrownWhereCaught};
+ghost use Rattle.shim_laws_schedules.specs.Throws.{CatchesAreLogged, CatchesHaveNumbers, ThrownWhereCaught};
 
 use shim_local::Local;
 
@@ -40,13 +40,19 @@ pub fn rounds<L: Local>()
     ensures { RoundsLead L.ops }
 {}
 
-/// What is caught in a run from a sound tree of one live process was thrown: by the process that catches
-/// it, as its step, or by a process below its fork while that was open, and it is caught as the fork
-/// closes. A trap isn't caught by anyone. The log tells just the catches, each by its process, with the
-/// name and the line of the handler.
+/// What is caught in a run from a sound tree of one live process was thrown, with the same number: by the
+/// process that catches it, as its step, or by a process below its fork while that was open, and it is
+/// caught as the fork closes. A trap isn't caught by anyone. The log tells just the catches, each by its
+/// process, with the name and the line of the handler.
 pub fn thrown<L: Local>()
     ensures caught { ThrownWhereCaught L.ops }
     ensures logged { CatchesAreLogged L.ops }
+{}
+
+/// Where a fork of such a run closes and its process catches an exception, the number that the handler is
+/// given was given by a throw. It is never 0 because all that died so were poisoned.
+pub fn numbers<L: Local>()
+    ensures { CatchesHaveNumbers L.ops }
 {}
 
 /// In a tree whose states are sound and whose paths are as forks make them, the walk from the root lists

@@ -1,9 +1,9 @@
 -- What relates a node to what an event leaves in its place, where that holds of what one process does.
-use Rattle.std.proofs.Common.{◌≡◌, ℕ, zero, suc, ℤ, Bool, true, Some, List, [], ◌∷◌, ◌++◌, refl, sym, subst, ltb}
+use Rattle.std.proofs.Common.{◌≡◌, ℕ, zero, suc, ℤ, Bool, true, Option, Some, None, List, [], ◌∷◌, ◌++◌, refl, sym, subst, ltb}
 use Rattle.shim_local.specs.Process.{Ops, Trapped, AtQuiet, AtPut, AtFork}
 use Rattle.shim_local.specs.Laws.{AllOf, Forks}
-use Rattle.shim_semantics.specs.Nodes.{Node, Nodes, Live, Forked, Ended, Dead, Death, no_node, node_and, states, all_live, all_done}
-use Rattle.shim_semantics.specs.Acts.{Acted, thrown, catching, nothing}
+use Rattle.shim_semantics.specs.Nodes.{Node, Nodes, Live, Forked, Ended, Dead, Death, death_with, handed, no_node, node_and, states, all_live, all_done}
+use Rattle.shim_semantics.specs.Acts.{Acted, thrown, throwing, catching, nothing}
 use Rattle.shim_semantics.specs.Places.{at, child_at}
 use Rattle.shim_semantics.proofs.ReplacedNodes.{put, put_child}
 use Rattle.shim_base.proofs.Facts.{some_same, none_some, choose}
@@ -21,7 +21,8 @@ pub record Relates {S : Type 0} (o : Ops S) (R : Node S → Node S → Type 0) :
   pub quiet : (l : S) → o.sound l → o.stop l ≡ AtQuiet → R (Live l) (Live (o.quiet l))
   pub puts : (l : S) → o.sound l → o.stop l ≡ AtPut → R (Live l) (Live (o.put l))
   pub receives : (l : S) (v : ℤ) → o.sound l → R (Live l) (Live (o.receive l v))
-  pub unwinds : (l : S) (x : ℕ) → o.sound l → R (Live l) (Live (o.unwind l x))
+  pub throws : (l : S) → o.sound l → R (Live l) (Live (o.thrown l))
+  pub unwinds : (l : S) (x : ℕ) (v : ℤ) → o.sound l → R (Live l) (Live (o.unwind l x v))
   pub forks : (l p : S) (ks : List S) → o.sound l → Forks o l p ks → R (Live l) (Forked p (all_live ks))
   pub traps : (l m : S) → o.sound l → o.stop l ≡ AtFork → o.fork l ≡ Trapped m → R (Live l) (Live m)
   pub ends : (l : S) → R (Live l) (Ended l)
@@ -55,5 +56,9 @@ module _ {S : Type 0} (o : Ops S) (R : Node S → Node S → Type 0) where
   pub thrown_related : Relates o R → (l : S) (x : Death) → o.sound l → R (Live l) (thrown o l x).node
   thrown_related r l x s =
       let dies : Acted S = record { node = Dead l x; effects = nothing } in
-      let goes_on : Acted S = record { node = Live (o.unwind l x.label); effects = catching (o.handler l x.label) } in
-      choose (λ (z : Acted S). R (Live l) z.node) (ltb x.label (o.base l)) dies goes_on (r.dies l x) (r.unwinds l x.label s)
+      let goes_on : Acted S = record { node = Live (o.unwind l x.label (handed x.given)); effects = catching (o.handler l x.label) } in
+      choose (λ (z : Acted S). R (Live l) z.node) (ltb x.label (o.base l)) dies goes_on (r.dies l x) (r.unwinds l x.label (handed x.given) s)
+
+  pub throwing_related : Relates o R → (l : S) (x : ℕ) (v : Option ℤ) → o.sound l → R (Live l) (throwing o l x v).node
+  throwing_related r l x None s = r.throws l s
+  throwing_related r l x (Some v) s = thrown_related r l (death_with x v) s

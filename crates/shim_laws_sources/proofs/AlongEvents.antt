@@ -1,9 +1,9 @@
 -- A relation of nodes that holds of what each process does holds of each event and of each run.
-use Rattle.std.proofs.Common.{◌≡◌, ℕ, zero, suc, ◌+◌, ◌-◌, ℤ, true, false, Option, Some, None, List, [], ◌∷◌, ◌++◌, refl, subst}
+use Rattle.std.proofs.Common.{◌≡◌, ℕ, zero, suc, ◌+◌, ◌-◌, ℤ, pos, true, false, Option, Some, None, List, [], ◌∷◌, ◌++◌, refl, subst}
 use Rattle.shim_base.specs.Paths.{Path, Channel}
 use Rattle.shim_local.specs.Process.{Ops, StopView, ForkedView, Parted, Trapped, AtQuiet, AtNext, AtPut, AtFork, AtFinish, AtThrow, AtTrap}
 use Rattle.shim_local.specs.Laws.{LocalLaws, AllOf, by_join}
-use Rattle.shim_semantics.specs.Nodes.{Node, Nodes, Live, Forked, Ended, Dead, death, Death, no_node, node_and, state, states, all_done, prevailing_death, source, value_of, is_next, received, all_received}
+use Rattle.shim_semantics.specs.Nodes.{Node, Nodes, Live, Forked, Ended, Dead, death, death_with, Death, no_node, node_and, state, states, all_done, prevailing_death, source, value_of, is_next, received, all_received}
 use Rattle.shim_semantics.specs.Acts.{Acted, act, act_here, act_live, closed, parted}
 use Rattle.shim_semantics.specs.Poison.{poisoned, all_poisoned, one_poisoned, can_poison, poison_here, poison, poison_child, poison_route, to_fork, last_branch}
 use Rattle.shim_semantics.specs.Places.{led_to, route, has_path, meets, SoundBelow, SoundChildren}
@@ -13,7 +13,7 @@ use Rattle.shim_semantics.specs.Trees.{Tree, Event, Own, Meet, Poison, Close, En
 use Rattle.shim_semantics.proofs.ReplacedNodes.{acts_there}
 use Rattle.shim_semantics.proofs.Replaced.{sound_at, states_sound}
 use Rattle.shim_semantics.proofs.SoundEvents.{events_keep_sound, went_on}
-use Rattle.shim_laws_sources.proofs.Along.{behind, Relates, one_further, put_related, thrown_related}
+use Rattle.shim_laws_sources.proofs.Along.{behind, Relates, one_further, put_related, thrown_related, throwing_related}
 use Rattle.shim_base.proofs.Facts.{some_same, none_some, chosen, cond_some, choose}
 use Rattle.shim_semantics.proofs.PoisonStays.{before_some, above_some, after_some}
 
@@ -30,8 +30,8 @@ module _ {S : Type 0} (o : Ops S) (R : Node S → Node S → Type 0) where
   live_related g l AtFork a s at e = subst (λ z. R (Live l) z.node) (some_same _ a e) (forked_related g l (o.fork l) s at refl)
   live_related g l AtFinish a s at e = subst (λ z. R (Live l) z.node) (some_same _ a e) (g.ends l)
   live_related g l (AtNext c) a s at e = none_some a e
-  live_related g l (AtThrow label) a s at e = subst (λ z. R (Live l) z.node) (some_same _ a e) (thrown_related o R g l (death label) s)
-  live_related g l (AtTrap kind line) a s at e = subst (λ z. R (Live l) z.node) (some_same _ a e) (g.dies l (death 0))
+  live_related g l (AtThrow label) a s at e = subst (λ z. R (Live l) z.node) (some_same _ a e) (throwing_related o R g l label (o.number l) s)
+  live_related g l (AtTrap kind line) a s at e = subst (λ z. R (Live l) z.node) (some_same _ a e) (g.dies l (death_with 0 (pos 0)))
 
   closed_related : LocalLaws o → Relates o R → (l : S) (ks : Nodes S) (r : Option Death) → SoundBelow o (Forked l ks) → all_done ks ≡ true → R (Forked l ks) (closed o l (states ks) r).node
   closed_related law g l ks None s done = g.joins l ks true s.sound (states_sound o l s.number 0 ks s.children) s.born done

@@ -268,7 +268,8 @@ module _ (stream : Stream) where
     quiet = λ l s at h. moved l _ h (quiet_has l h.named) (quiet_moves stream l h.named h.taking);
     puts = λ l s at h. moved l _ h (put_has l (put_none l at) h.named) (put_moves stream l h.taking);
     receives = λ l v s h. moved l _ h (receive_has l v h.named) (receive_moves stream l v h.taking);
-    unwinds = λ l x s h. moved l _ h (unwind_has l x h.named) (unwind_moves stream l x h.taking);
+    throws = λ l s h. (h, (refl, refl));
+    unwinds = λ l x v s h. moved l _ h (unwind_has l x h.named) (unwind_moves stream l x h.taking);
     forks = λ l p ks s at h. forks_hold l p ks h at;
     traps = λ l m s at e h. moved l m h (fork_trapped_has l m e h.named) (fork_trapped_moves stream l m e h.taking);
     ends = λ l h. (h, (refl, refl));

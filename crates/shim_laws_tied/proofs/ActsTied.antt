@@ -1,9 +1,9 @@
 -- What tied processes do by themselves leaves tied nodes, and tells the same.
-use Rattle.std.proofs.Common.{◌≡◌, ◌<◌, ℕ, true, false, List, [], ◌∷◌, Option, Some, None, ltb, ltb-false, Bool, arith, refl, ap, subst}
+use Rattle.std.proofs.Common.{◌≡◌, ◌<◌, ℕ, ℤ, true, false, List, [], ◌∷◌, Option, Some, None, ltb, ltb-false, Bool, arith, refl, ap, subst}
 use Rattle.shim_local.specs.Process.{Ops, StopView, ForkedView, AtQuiet, AtNext, AtPut, AtFork, AtFinish, AtThrow, AtTrap, Parted, Trapped}
 use Rattle.shim_local.specs.Laws.{LocalLaws, by_join}
-use Rattle.shim_semantics.specs.Nodes.{Node, Nodes, Live, Forked, Ended, Dead, Death, death, states, all_live, all_done, prevailing_death}
-use Rattle.shim_semantics.specs.Acts.{Acted, nothing, putting, catching, parted, thrown, closed, act_live, act_here}
+use Rattle.shim_semantics.specs.Nodes.{Node, Nodes, Live, Forked, Ended, Dead, Death, death_with, handed, states, all_live, all_done, prevailing_death}
+use Rattle.shim_semantics.specs.Acts.{Acted, nothing, putting, catching, parted, thrown, throwing, closed, act_live, act_here}
 use Rattle.shim_laws_tied.specs.Ties.{KeepsTied, AreTied, AllTied, ForksTied}
 use Rattle.shim_laws_tied.specs.TiedTrees.{NodesTied, ChildrenTied}
 use Rattle.shim_laws_tied.proofs.Both.{BothOrNone, both_chosen}
@@ -33,12 +33,12 @@ parted_tied R (Trapped l) (Parted m ms) h = absurd h
 module _ {A B : Type 0} (o : Ops A) (p : Ops B) (R : A → B → Type 0) (one : LocalLaws o) (other : LocalLaws p) (keeps : KeepsTied o p R) where
   thrown_tied : (l : A) (m : B) (d : Death) → AreTied o p R l m → d.label < o.handlers l → ActedTied R (thrown o l d) (thrown p m d)
   thrown_tied l m d h below = both_chosen (ActedTied R) (ltb d.label (o.base l)) (ltb d.label (p.base m))
-      (record { node = Dead l d; effects = nothing }) (record { node = Live (o.unwind l d.label); effects = catching (o.handler l d.label) })
-      (record { node = Dead m d; effects = nothing }) (record { node = Live (p.unwind m d.label); effects = catching (p.handler m d.label) })
+      (record { node = Dead l d; effects = nothing }) (record { node = Live (o.unwind l d.label (handed d.given)); effects = catching (o.handler l d.label) })
+      (record { node = Dead m d; effects = nothing }) (record { node = Live (p.unwind m d.label (handed d.given)); effects = catching (p.handler m d.label) })
       (ap (ltb d.label) (keeps.base l m h))
       (λ e. record { node = (h.2, refl); effects = refl })
       (λ e. record {
-        node = keeps.unwind l m d.label h (ltb-false d.label (o.base l) e) below;
+        node = keeps.unwind l m d.label (handed d.given) h (ltb-false d.label (o.base l) e) below;
         effects = ap catching (keeps.handler l m d.label h (ltb-false d.label (o.base l) e) below);
       })
 
@@ -60,13 +60,17 @@ module _ {A B : Type 0} (o : Ops A) (p : Ops B) (R : A → B → Type 0) (one : 
       thrown_tied (o.join l (states ks) false) (p.join m (states js) false) d (joined_tied l m ks js false h each)
       (in_force d.label (o.handlers l) (o.handlers (o.join l (states ks) false)) handlers (h.below d e))
 
+  throwing_tied : (l : A) (m : B) (label : ℕ) (r : Option ℤ) → o.stop l ≡ AtThrow label → AreTied o p R l m → ActedTied R (throwing o l label r) (throwing p m label r)
+  throwing_tied l m label None at h = record { node = keeps.thrown l m label h at; effects = refl }
+  throwing_tied l m label (Some v) at h = thrown_tied l m (death_with label v) h (one.throw_below l label h.0 at)
+
   live_tied : (l : A) (m : B) (s : StopView) → o.stop l ≡ s → AreTied o p R l m → BothOrNone (ActedTied R) (act_live o l s) (act_live p m s)
   live_tied l m AtQuiet at h = record { node = keeps.quiet l m h at; effects = refl }
   live_tied l m AtPut at h = record { node = keeps.put l m h at; effects = ap putting (keeps.byte l m h at) }
   live_tied l m AtFork at h = record { node = parted_tied R (o.fork l) (p.fork m) (keeps.fork l m h at); effects = refl }
   live_tied l m AtFinish at h = record { node = h.2; effects = refl }
   live_tied l m (AtNext c) at h = tt
-  live_tied l m (AtThrow label) at h = thrown_tied l m (death label) h (one.throw_below l label h.0 at)
+  live_tied l m (AtThrow label) at h = subst (λ r. ActedTied R (throwing o l label (o.number l)) (throwing p m label r)) (keeps.number l m label h at) (throwing_tied l m label (o.number l) at h)
   live_tied l m (AtTrap kind line) at h = record { node = (h.2, refl); effects = refl }
 
   pub here_tied : (n : Node A) (m : Node B) → Tied o p R n m → BothOrNone (ActedTied R) (act_here o n) (act_here p m)

@@ -1,7 +1,7 @@
 -- When two kinds of process are tied: a relation of their states that every call keeps.
 use Rattle.std.specs.Prelude.{◌≡◌, ◌<◌, ◌≤◌, ℕ, ℤ, Bool, true, List, [], ◌∷◌}
 use Rattle.shim_base.specs.Paths.{Channel, NamedChannel}
-use Rattle.shim_local.specs.Process.{Ops, ForkedView, Parted, Trapped, AtQuiet, AtNext, AtPut, AtFork}
+use Rattle.shim_local.specs.Process.{Ops, ForkedView, Parted, Trapped, AtQuiet, AtNext, AtPut, AtFork, AtThrow}
 use Rattle.shim_local.specs.Laws.{AllOf}
 
 -- there are as many of one kind as of the other, and those in the same place are tied
@@ -32,7 +32,9 @@ pub record KeepsTied {A B : Type 0} (o : Ops A) (p : Ops B) (R : A → B → Typ
   pub fork : (l : A) (m : B) → AreTied o p R l m → o.stop l ≡ AtFork → ForksTied R (o.fork l) (p.fork m)
   pub join : (l : A) (m : B) (ls : List A) (ms : List B) (goes_on : Bool) → AreTied o p R l m → AllOf o.sound ls → AllOf p.sound ms → AllTied R ls ms
       → o.born l ls → p.born m ms → R (o.join l ls goes_on) (p.join m ms goes_on)
-  pub unwind : (l : A) (m : B) (label : ℕ) → AreTied o p R l m → o.base l ≤ label → label < o.handlers l → R (o.unwind l label) (p.unwind m label)
+  pub number : (l : A) (m : B) (label : ℕ) → AreTied o p R l m → o.stop l ≡ AtThrow label → o.number l ≡ p.number m
+  pub thrown : (l : A) (m : B) (label : ℕ) → AreTied o p R l m → o.stop l ≡ AtThrow label → R (o.thrown l) (p.thrown m)
+  pub unwind : (l : A) (m : B) (label : ℕ) (v : ℤ) → AreTied o p R l m → o.base l ≤ label → label < o.handlers l → R (o.unwind l label v) (p.unwind m label v)
   pub value : (l : A) (m : B) (c : Channel) → AreTied o p R l m → o.carries l c ≡ true → o.value l c ≡ p.value m c
   pub shares : (l : A) (m : B) (c : Channel) → AreTied o p R l m → o.shares l c ≡ p.shares m c
   pub carries : (l : A) (m : B) (c : Channel) → AreTied o p R l m → o.carries l c ≡ p.carries m c

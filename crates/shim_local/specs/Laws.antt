@@ -19,14 +19,15 @@ abbrev pub how_many : {S : Type 0} → (S → Bool) → List S → ℕ
 how_many f [] = 0
 how_many f (k ∷ ks) = if f k then suc (how_many f ks) else how_many f ks
 
--- a put or a meeting made the second state of the first
+-- a put, a meeting or the number of a throw made the second state of the first
 pub data Called {S : Type 0} (o : Ops S) (l m : S) : Type 0 where
   by_put : o.stop l ≡ AtPut → m ≡ o.put l → Called o l m
   by_receive : (c : NamedChannel) (v : ℤ) → o.stop l ≡ AtNext c → m ≡ o.receive l v → Called o l m
+  by_thrown : (label : ℕ) → o.stop l ≡ AtThrow label → m ≡ o.thrown l → Called o l m
 
--- an exception of this label was caught, which made the second state of the first
+-- an exception of this label was caught with this number, which made the second state of the first
 pub data Unwound {S : Type 0} (o : Ops S) (l m : S) : Type 0 where
-  by_label : (label : ℕ) → o.base l ≤ label → label < o.handlers l → m ≡ o.unwind l label → Unwound o l m
+  by_label : (label : ℕ) (v : ℤ) → o.base l ≤ label → label < o.handlers l → m ≡ o.unwind l label v → Unwound o l m
 
 -- one call made the second state of the first
 pub data Moved {S : Type 0} (o : Ops S) (l m : S) : Type 0 where
@@ -83,11 +84,15 @@ pub record LocalLaws {S : Type 0} (o : Ops S) : Type 0 where
   pub put_traps : (l : S) → o.sound l → o.stop l ≡ AtPut → o.byte l ≡ None → IsTrapped o (o.put l)
   pub put_goes : (l : S) (b : ℕ) → o.sound l → o.stop l ≡ AtPut → o.byte l ≡ Some b → IsTrapped o (o.put l) → ⊥
   pub fork_traps : (l m : S) → o.sound l → o.stop l ≡ AtFork → o.fork l ≡ Trapped m → IsTrapped o m
-  -- what it shares: a quiet step adds channels of its own alone, and loses none; no other call changes anything
+  -- a throw with a number changes nothing, and one without is stood trapped at
+  pub thrown_same : (l : S) (x : ℕ) (v : ℤ) → o.sound l → o.stop l ≡ AtThrow x → o.number l ≡ Some v → o.thrown l ≡ l
+  pub throw_traps : (l : S) (x : ℕ) → o.sound l → o.stop l ≡ AtThrow x → o.number l ≡ None → IsTrapped o (o.thrown l)
+  -- what it shares: a quiet step, and the way to a handler, add channels of its own alone, and lose none; no other call changes anything
   pub quiet_shares : (l : S) (c : Channel) → o.sound l → o.stop l ≡ AtQuiet → o.shares l c ≡ true → o.shares (o.quiet l) c ≡ true
   pub quiet_adds : (l : S) (c : Channel) → o.sound l → o.stop l ≡ AtQuiet → o.shares l c ≡ false → o.shares (o.quiet l) c ≡ true → c.home ≡ o.path l
   pub call_shares : (l m : S) (c : Channel) → o.sound l → Called o l m → o.shares m c ≡ o.shares l c
-  pub unwind_shares : (l m : S) (c : Channel) → o.sound l → Unwound o l m → o.shares m c ≡ o.shares l c
+  pub unwind_shares : (l m : S) (c : Channel) → o.sound l → Unwound o l m → o.shares l c ≡ true → o.shares m c ≡ true
+  pub unwind_adds : (l m : S) (c : Channel) → o.sound l → Unwound o l m → o.shares l c ≡ false → o.shares m c ≡ true → c.home ≡ o.path l
   pub fork_shares : (l p : S) (ks : List S) (c : Channel) → o.sound l → Forks o l p ks → o.shares p c ≡ o.shares l c
   pub fork_trap_shares : (l m : S) (c : Channel) → o.sound l → o.stop l ≡ AtFork → o.fork l ≡ Trapped m → o.shares m c ≡ o.shares l c
   pub join_shares : (l : S) (ks : List S) (goes_on : Bool) (c : Channel) → o.sound l → AllOf o.sound ks → o.born l ks → o.shares (o.join l ks goes_on) c ≡ o.shares l c

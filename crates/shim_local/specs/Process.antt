@@ -37,8 +37,11 @@ pub record Ops (S : Type 0) : Type 1 where
   pub join : S → List S → Bool → S
   -- these stand for the children of the last fork, one for each and in their order, whatever calls they have had since
   pub born : S → List S → Type 0
-  -- at the handler of the exception of this label
-  pub unwind : S → ℕ → S
+  -- the number that the throw at which it stands gives, or none where its expression traps; and the state after that was computed
+  pub number : S → Option ℤ
+  pub thrown : S → S
+  -- at the handler of the exception of this label, which is given this number
+  pub unwind : S → ℕ → ℤ → S
   -- the value of the channel's own variable, where the process carries that
   pub value : S → Channel → ℤ
   pub shares : S → Channel → Bool

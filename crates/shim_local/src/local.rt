@@ -1,8 +1,8 @@
 // One process as a value.
-ghost use Rattle.std.specs.Prelude.{◌≡◌, ◌≢◌, ◌<◌, ◌≤◌, ◌↔◌, ℤ, true, false, Some, IfOk, OnErr, IsTrue, slice_get};
+ghost use Rattle.std.specs.Prelude.{◌≡◌, ◌≢◌, ◌<◌, ◌≤◌, ◌↔◌, ℕ, ℤ, true, false, Some, IfOk, OnErr, IsTrue, slice_get};
 ghost use Rattle.std.specs.Option.{option_copied};
 ghost use Rattle.shim_base.specs.Paths.{NamedChannel};
-ghost use Rattle.shim_local.specs.Process.{Ops, AtQuiet, AtNext, AtPut, AtFork};
+ghost use Rattle.shim_local.specs.Process.{Ops, AtQuiet, AtNext, AtPut, AtFork, AtThrow};
 ghost use Rattle.shim_local.specs.Laws.{LocalLaws};
 ghost use Rattle.shim_local.specs.Quiets.{QuietSteps};
 ghost use Rattle.shim_local.specs.Views.{stop_view, ForkGives};
@@ -89,11 +89,19 @@ pub trait Local: Send + Sized + Drop {
         requires { ops.born self.old children.now }
         ensures { self.new ≡ ops.join self.old children.now goes_on };
 
+    /// The number of the throw at which it has to stand, and nothing changes. Or `None` where its
+    /// expression traps; it then stands trapped.
+    fn thrown(&mut self) -> Option<i64>
+        requires { (x : ℕ) × (ops.stop self.old ≡ AtThrow x) }
+        ensures number { result ≡ ops.number self.old }
+        ensures after { self.new ≡ ops.thrown self.old };
+
     /// Goes to the handler of the exception of this label, whose place has to be in force and the
-    /// process's own: the label is one from `base` up to `handlers` without that.
-    fn unwind(&mut self, label: u32)
+    /// process's own: the label is one from `base` up to `handlers` without that. The exception gives
+    /// the number.
+    fn unwind(&mut self, label: u32, value: i64)
         requires { (ops.base self.old ≤ label) × (label < ops.handlers self.old) }
-        ensures { self.new ≡ ops.unwind self.old label };
+        ensures { self.new ≡ ops.unwind self.old label value };
 
     /// The value of the channel's own variable, which this process has to carry.
     fn value(&self, c: &Chan) -> i64

@@ -1,9 +1,9 @@
 -- A put, a meeting, a throw that is caught and a trap at a fork keep what a call keeps, and make no channel.
-use Rattle.std.proofs.Common.{◌≡◌, ℕ, ℤ, ◌||◌, List, Option, Some, None, Result, Ok, Err, sym, ap, subst}
+use Rattle.std.proofs.Common.{◌≡◌, ℕ, ℤ, pos, ◌||◌, List, Option, Some, None, Result, Ok, Err, sym, ap, subst}
 use Rattle.shim_base.specs.declared.operators.Trap.{Trap}
 use Rattle.shim_base.specs.declared.operators.Trap.TheVariants.{Depth}
 use Rattle.shim_local.specs.Process.{ForkedView, Parted, Trapped}
-use Rattle.shim_local.specs.Laws.{Called, by_put, by_receive, Unwound, by_label}
+use Rattle.shim_local.specs.Laws.{Called, by_put, by_receive, by_thrown, Unwound, by_label}
 use Rattle.shim_units.specs.declared.unit.UBranch.{UBranch}
 use Rattle.shim_units.specs.declared.unit.UStmt.{UStmt}
 use Rattle.shim_units.specs.declared.unit.UWhat.{UWhat, UWhat-F, out-UWhat}
@@ -67,9 +67,10 @@ unwind_makes_none l label s = left_makes_none l (unwind l label) (unwind_left l.
 pub called_makes_none : (l m : LocalState) → Sound l → Called process_ops l m → MakesNone l m
 called_makes_none l m s (by_put at e) = subst (MakesNone l) (sym e) (put_makes_none l s)
 called_makes_none l m s (by_receive c v at e) = subst (MakesNone l) (sym e) (receive_makes_none l v s)
+called_makes_none l m s (by_thrown x at e) = subst (MakesNone l) (sym e) (stmt_makes_none None (pos 0) l s (stmt_fitting None (pos 0) l s.fitting))
 
 pub unwound_makes_none : (l m : LocalState) → Sound l → Unwound process_ops l m → MakesNone l m
-unwound_makes_none l m s (by_label label least below e) = subst (MakesNone l) (sym e) (unwind_makes_none l label s)
+unwound_makes_none l m s (by_label label v least below e) = subst (MakesNone l) (sym e) (unwind_makes_none l label s)
 
 -- the process is trapped where it stood
 abbrev pub StandsTrapped : LocalState → LocalState → Type 0

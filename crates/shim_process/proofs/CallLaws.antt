@@ -89,8 +89,11 @@ none_made_shares l m c h = shares_same l m c h.keeps.changed.path h.keeps.change
 pub call_shares : (l m : LocalState) (c : Channel) → Sound l → Called process_ops l m → shares m c ≡ shares l c
 call_shares l m c s h = none_made_shares l m c (called_makes_none l m s h)
 
-pub unwind_shares : (l m : LocalState) (c : Channel) → Sound l → Unwound process_ops l m → shares m c ≡ shares l c
-unwind_shares l m c s h = none_made_shares l m c (unwound_makes_none l m s h)
+pub unwind_shares : (l m : LocalState) (c : Channel) → Sound l → Unwound process_ops l m → shares l c ≡ true → shares m c ≡ true
+unwind_shares l m c s h e = none_made_shares l m c (unwound_makes_none l m s h) ∙ e
+
+pub unwind_adds : (l m : LocalState) (c : Channel) → Sound l → Unwound process_ops l m → shares l c ≡ false → shares m c ≡ true → c.home ≡ l.path
+unwind_adds l m c s h n e = let w : true ≡ false = sym e ∙ (none_made_shares l m c (unwound_makes_none l m s h) ∙ n) in absurd (cc w)
 
 -- a fork that traps leaves the exception places as they are
 pub fork_trap_handlers : (l m : LocalState) → Sound l → stop l ≡ AtFork → fork l ≡ Trapped m → handlers m ≡ handlers l

@@ -1,4 +1,5 @@
 -- The states of a process with all of its calls and answers, as one kind of process.
+use Rattle.std.specs.Prelude.{pos, Some}
 use Rattle.shim_local.specs.Process.{Ops}
 use Rattle.shim_process.specs.Forks.{fork, join}
 use Rattle.shim_process.specs.LocalState.{LocalState, handlers}
@@ -20,7 +21,9 @@ process_ops = record {
   fork = fork;
   join = join;
   born = Born;
-  unwind = unwind;
+  number = λ l. Some (pos 0);
+  thrown = λ l. l;
+  unwind = λ l label v. unwind l label;
   value = channel_value;
   shares = shares;
   carries = carries;

@@ -3,7 +3,7 @@ use Rattle.std.specs.Prelude.{◌≡◌, ◌<◌, ◌≤◌, ℕ, true, false, S
 use Rattle.shim_base.specs.Paths.{Path, Channel, NamedChannel}
 use Rattle.shim_local.specs.Process.{Ops}
 use Rattle.shim_local.specs.Laws.{IsGiven}
-use Rattle.shim_semantics.specs.Nodes.{Node, death}
+use Rattle.shim_semantics.specs.Nodes.{Node}
 use Rattle.shim_semantics.specs.Acts.{Acted, act_here}
 use Rattle.shim_semantics.specs.Sound.{IsSound}
 use Rattle.shim_laws_records.specs.Seen.{Sort, lives, forks, ends, dies, is_leaf, place}
@@ -28,7 +28,7 @@ sort_of code.Free = ends
 sort_of code.Live = lives
 sort_of (code.Forked n) = forks n
 sort_of code.Ended = ends
-sort_of (code.Dead x) = dies (death x)
+sort_of (code.Dead d) = dies d
 
 -- what was read of a process that has done anything by itself
 abbrev pub acting : {S : Type 0} → Ops S → S → Channel → Read

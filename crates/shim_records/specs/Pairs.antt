@@ -3,7 +3,6 @@ use Rattle.std.specs.declared.cmp.Ordering.TheVariants.{Less}
 use Rattle.std.specs.Prelude.{ℕ, suc, Option, Some, None, List, [], ◌∷◌, cond, slice_get, ◌≡◌, ◌<◌, map}
 use Rattle.std.specs.Option.{option_map}
 use Rattle.shim_base.specs.Paths.{Path, Channel, same_channel, channel_order}
-use Rattle.shim_semantics.specs.Nodes.{death}
 use Rattle.shim_laws_records.specs.Seen.{lives, forks, ends, dies}
 use Rattle.shim_laws_records.specs.Agrees.{RecordView, free, used}
 use Rattle.shim_laws_records.specs.Counts.{Tally, Reading as Read}
@@ -81,7 +80,7 @@ stands_by f code.Free = free
 stands_by f code.Live = used f lives
 stands_by f (code.Forked n) = used f (forks n)
 stands_by f code.Ended = used f ends
-stands_by f (code.Dead x) = used f (dies (death x))
+stands_by f (code.Dead d) = used f (dies d)
 
 -- into how many a process has forked
 abbrev pub fork_size : Status → ℕ

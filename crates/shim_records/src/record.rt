@@ -5,6 +5,7 @@ ghost use Rattle.shim_records.specs.Pairs.{fork_size, stands_of};
 
 use crate::pair::Pair;
 use shim_base::Path;
+use shim_local::Death;
 
 /// What came of a process, or that the record is free.
 #[derive(Clone, Copy)]
@@ -14,8 +15,7 @@ pub enum Status {
     /// Into so many.
     Forked(u32),
     Ended,
-    /// Of an exception with this label.
-    Dead(u32),
+    Dead(Death),
 }
 
 /// Into how many a process has forked of which this came.

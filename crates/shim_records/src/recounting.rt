@@ -48,8 +48,8 @@ fn label_of_child<L: Local>(states: &[L], records: &[Record], at: usize, c: &Cha
     match records[at].status {
         Status::Free | Status::Live | Status::Ended => None,
         Status::Forked(_) => kept(&records[at], c),
-        Status::Dead(label) => if states[at].shares(c) {
-            Some(label)
+        Status::Dead(death) => if states[at].shares(c) {
+            Some(death.label)
         } else {
             None
         },

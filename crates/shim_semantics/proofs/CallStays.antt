@@ -1,8 +1,8 @@
--- A put, a meeting's value and the way to a handler keep a tree sound: no process shares, carries or holds more.
+-- A put, a meeting's value and a throw that traps keep a tree sound: no process shares, carries or holds more.
 use Rattle.std.proofs.Common.{◌≡◌, true, inl, inr, sym, ◌∙◌}
 use Rattle.shim_base.specs.Paths.{Channel}
 use Rattle.shim_local.specs.Process.{Ops}
-use Rattle.shim_local.specs.Laws.{LocalLaws, Called, Unwound, Moved, CarriesNoMore, by_call, by_unwind}
+use Rattle.shim_local.specs.Laws.{LocalLaws, Called, Moved, CarriesNoMore, by_call}
 use Rattle.shim_semantics.specs.Nodes.{Live}
 use Rattle.shim_semantics.proofs.HowMany.{clash, one_for_one}
 use Rattle.shim_semantics.proofs.Follows.{Stays, follows_moved}
@@ -37,7 +37,3 @@ module _ {S : Type 0} (o : Ops S) where
 
   pub call_stays : LocalLaws o → (l m : S) → o.sound l → Called o l m → Stays o (Live l) (Live m)
   call_stays law l m s h = alike_stays law l m s (called_alike law l m s h)
-
-  pub unwind_stays : LocalLaws o → (l m : S) → o.sound l → Unwound o l m → Stays o (Live l) (Live m)
-  unwind_stays law l m s h =
-      alike_stays law l m s (record { moved = by_unwind h; shares = λ c. law.unwind_shares l m c s h; carries = λ c. law.unwind_carries l m c s h; holds = law.unwind_holds l m s h })

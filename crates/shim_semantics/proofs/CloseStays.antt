@@ -2,14 +2,14 @@
 use Rattle.std.proofs.Common.{◌≡◌, ◌<◌, ◌≤◌, ℕ, ◌+◌, Bool, true, false, Option, Some, None, ◌∷◌, inl, inr, ap, refl, sym, ◌∙◌, arith, min}
 use Rattle.shim_local.specs.Process.{Ops}
 use Rattle.shim_local.specs.Laws.{LocalLaws, AllOf, AnyOf, Moved, by_join, how_many}
-use Rattle.shim_semantics.specs.Nodes.{Nodes, Live, Forked, Ended, Dead, no_node, node_and, states, everyone_of, prevailing_death, prevailing, Death, death}
+use Rattle.shim_semantics.specs.Nodes.{Nodes, Live, Forked, Ended, Dead, no_node, node_and, states, everyone_of, prevailing_death, prevailing, Death, outermost}
 use Rattle.shim_semantics.specs.Acts.{closed}
 use Rattle.shim_semantics.specs.Places.{SoundBelow, SoundChildren}
 use Rattle.shim_semantics.specs.Sound.{carriers, holders}
 use Rattle.shim_semantics.proofs.HowMany.{no_less_than, counts, any_counts, rest_counts, states_count, at_most}
-use Rattle.shim_semantics.proofs.Follows.{Stays, follows_moved, stays_after}
+use Rattle.shim_semantics.proofs.Follows.{Stays, KeepsOwn, follows_moved, stays_keeps_own, keeps_own_after}
 use Rattle.shim_semantics.proofs.Replaced.{states_sound}
-use Rattle.shim_semantics.proofs.ThrowStays.{thrown_stays}
+use Rattle.shim_semantics.proofs.ThrowStays.{thrown_keeps}
 use Rattle.shim_base.proofs.Facts.{some_same, none_some}
 
 is_below : (x y h b : ℕ) → y ≡ x → y < b → b ≡ h → x < h
@@ -32,7 +32,7 @@ module _ {S : Type 0} (o : Ops S) where
     where
       with_rest : (r : Option Death) → ((z : Death) → r ≡ Some z → z.label < o.handlers l) → prevailing y r ≡ Some x → x.label < o.handlers l
       with_rest None h e = is_below x.label y.label (o.handlers l) (o.base k) (ap (λ d. d.label) (some_same y x e)) s.1.below_base s.0.base
-      with_rest (Some z) h e = least_below x.label y.label z.label (o.handlers l) (ap (λ d. d.label) (some_same (death (min y.label z.label)) x e)) (h z refl)
+      with_rest (Some z) h e = least_below x.label y.label z.label (o.handlers l) (ap (λ d. d.label) (some_same (outermost y z) x e)) (h z refl)
 
   some_below : (f : S → Bool) (l : S) (ks : Nodes S) → AnyOf (λ k. f k ≡ true) (states ks) → 1 ≤ how_many f (l ∷ everyone_of ks)
   some_below f l ks h =
@@ -57,11 +57,11 @@ module _ {S : Type 0} (o : Ops S) where
         ]);
       }
 
-  pub closed_stays : LocalLaws o → (l : S) (ks : Nodes S) (r : Option Death) → prevailing_death ks ≡ r → SoundBelow o (Forked l ks) → Stays o (Forked l ks) (closed o l (states ks) r).node
-  closed_stays law l ks None e s = join_stays law l ks true s
-  closed_stays law l ks (Some x) e s =
+  pub closed_keeps : LocalLaws o → (l : S) (ks : Nodes S) (r : Option Death) → prevailing_death ks ≡ r → SoundBelow o (Forked l ks) → KeepsOwn o (Forked l ks) (closed o l (states ks) r).node
+  closed_keeps law l ks None e s = stays_keeps_own o (Forked l ks) (Live (o.join l (states ks) true)) (join_stays law l ks true s)
+  closed_keeps law l ks (Some x) e s =
       let j : S = o.join l (states ks) false in
       let all : AllOf o.sound (states ks) = states_sound o l s.number 0 ks s.children in
       let joined = join_stays law l ks false s in
       let below : x.label < o.handlers (o.join l (states ks) false) = same_bound x.label (o.handlers l) (o.handlers j) (label_below l s.number 0 ks x s.children e) (law.join_handlers l (states ks) s.sound all s.born) in
-      stays_after o (Forked l ks) (Live j) (closed o l (states ks) (Some x)).node joined (thrown_stays o law j x joined.below below)
+      keeps_own_after o (Forked l ks) (Live j) (closed o l (states ks) (Some x)).node joined (λ c. law.join_shares l (states ks) false c s.sound all s.born) (thrown_keeps o law j x joined.below below)

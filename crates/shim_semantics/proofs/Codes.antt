@@ -1,7 +1,7 @@
 -- How the checker stores a tree: its nodes as a list of marks, from which they can be told again; and maps of channels.
-use Rattle.std.specs.Prelude.{◌≡◌, ◌⊎◌, ℕ, ℤ, zero, suc, List, [], ◌∷◌, refl}
+use Rattle.std.specs.Prelude.{◌≡◌, ◌⊎◌, ℕ, ℤ, zero, suc, Option, Some, None, List, [], ◌∷◌, refl}
 use Rattle.std.proofs.Common.{sym, ap, ◌∙◌}
-use Rattle.std.specs.Coded.{Coded, coded×, coded_ℕ, coded_ℤ, coded_list, coded⊎, code_by}
+use Rattle.std.specs.Coded.{Coded, coded×, coded_ℕ, coded_ℤ, coded_list, coded_option, coded⊎, code_by}
 use Rattle.std.specs.FinMap as finite
 use base.Stored.{coded_via}
 use mathlib.Core.Logic.{inl, inr}
@@ -9,7 +9,7 @@ use Rattle.shim_base.specs.declared.operators.Trap.{Trap}
 use Rattle.shim_base.specs.declared.operators.Trap.TheVariants.{Overflow, Zero, Shift, Depth}
 use Rattle.shim_local.specs.declared.LogWhat.{LogWhat}
 use Rattle.shim_local.specs.declared.LogWhat.TheVariants.{Caught, Trap as LoggedTrap}
-use Rattle.shim_semantics.specs.Nodes.{Node, Nodes, Live, Forked, Ended, Dead, death, no_node, node_and}
+use Rattle.shim_semantics.specs.Nodes.{Node, Nodes, Live, Forked, Ended, Dead, no_node, node_and}
 use Rattle.shim_base.specs.Paths.{Path, Channel, NamedChannel, path_order, channel_order}
 use Rattle.shim_semantics.specs.Trees.{Tree, Met}
 
@@ -18,13 +18,13 @@ count_nodes no_node = zero
 count_nodes (node_and k ks) = suc (count_nodes ks)
 
 abbrev mutual
-  pub marks : {S : Type 0} → Node S → List (ℕ × (ℕ × S)) → List (ℕ × (ℕ × S))
-  marks (Live l) r = (0, (0, l)) ∷ r
-  marks (Ended l) r = (1, (0, l)) ∷ r
-  marks (Dead l d) r = (2, (d.label, l)) ∷ r
-  marks (Forked l ks) r = (3, (count_nodes ks, l)) ∷ all_marks ks r
+  pub marks : {S : Type 0} → Node S → List (ℕ × (ℕ × (Option ℤ × S))) → List (ℕ × (ℕ × (Option ℤ × S)))
+  marks (Live l) r = (0, (0, (None, l))) ∷ r
+  marks (Ended l) r = (1, (0, (None, l))) ∷ r
+  marks (Dead l d) r = (2, (d.label, (d.given, l))) ∷ r
+  marks (Forked l ks) r = (3, (count_nodes ks, (None, l))) ∷ all_marks ks r
 
-  pub all_marks : {S : Type 0} → Nodes S → List (ℕ × (ℕ × S)) → List (ℕ × (ℕ × S))
+  pub all_marks : {S : Type 0} → Nodes S → List (ℕ × (ℕ × (Option ℤ × S))) → List (ℕ × (ℕ × (Option ℤ × S)))
   all_marks no_node r = r
   all_marks (node_and k ks) r = marks k (all_marks ks r)
 
@@ -38,15 +38,15 @@ rest zero ns = ns
 rest (suc i) [] = []
 rest (suc i) (n ∷ ns) = rest i ns
 
-abbrev pub told_one : {S : Type 0} → ℕ → ℕ → S → List (Node S) → List (Node S)
-told_one zero x l ns = Live l ∷ ns
-told_one (suc zero) x l ns = Ended l ∷ ns
-told_one (suc (suc zero)) x l ns = Dead l (death x) ∷ ns
-told_one (suc (suc (suc k))) x l ns = Forked l (taken x ns) ∷ rest x ns
+abbrev pub told_one : {S : Type 0} → ℕ → ℕ → Option ℤ → S → List (Node S) → List (Node S)
+told_one zero x v l ns = Live l ∷ ns
+told_one (suc zero) x v l ns = Ended l ∷ ns
+told_one (suc (suc zero)) x v l ns = Dead l (record { label = x; given = v }) ∷ ns
+told_one (suc (suc (suc k))) x v l ns = Forked l (taken x ns) ∷ rest x ns
 
-abbrev pub told : {S : Type 0} → List (ℕ × (ℕ × S)) → List (Node S)
+abbrev pub told : {S : Type 0} → List (ℕ × (ℕ × (Option ℤ × S))) → List (Node S)
 told [] = []
-told (m ∷ ms) = told_one m.0 m.1.0 m.1.1 (told ms)
+told (m ∷ ms) = told_one m.0 m.1.0 m.1.1.0 m.1.1.1 (told ms)
 
 abbrev pub list_of : {S : Type 0} → Nodes S → List (Node S) → List (Node S)
 list_of no_node r = r
@@ -61,7 +61,7 @@ rest_all no_node r = refl
 rest_all (node_and k ks) r = rest_all ks r
 
 mutual
-  pub told_marks : {S : Type 0} (n : Node S) (r : List (ℕ × (ℕ × S))) → told (marks n r) ≡ n ∷ told r
+  pub told_marks : {S : Type 0} (n : Node S) (r : List (ℕ × (ℕ × (Option ℤ × S)))) → told (marks n r) ≡ n ∷ told r
   told_marks (Live l) r = refl
   told_marks (Ended l) r = refl
   told_marks (Dead l d) r = refl
@@ -69,7 +69,7 @@ mutual
       ap (λ z. Forked l (taken (count_nodes ks) z) ∷ rest (count_nodes ks) z) (told_all_marks ks r)
       ∙ (λ i. Forked l (taken_all ks (told r) i) ∷ rest_all ks (told r) i)
 
-  pub told_all_marks : {S : Type 0} (ks : Nodes S) (r : List (ℕ × (ℕ × S))) → told (all_marks ks r) ≡ list_of ks (told r)
+  pub told_all_marks : {S : Type 0} (ks : Nodes S) (r : List (ℕ × (ℕ × (Option ℤ × S)))) → told (all_marks ks r) ≡ list_of ks (told r)
   told_all_marks no_node r = refl
   told_all_marks (node_and k ks) r = told_marks k (all_marks ks r) ∙ ap (λ z. k ∷ z) (told_all_marks ks r)
 
@@ -80,7 +80,7 @@ pub same_marks : {S : Type 0} (m n : Node S) → marks m [] ≡ marks n [] → m
 same_marks m n e = one_of m n (sym (told_marks m []) ∙ (ap told e ∙ told_marks n []))
 
 abbrev pub node_code : {S : Type 0} → Coded S → Coded (Node S)
-node_code s = coded_via (coded_list (coded× coded_ℕ (coded× coded_ℕ s))) (λ n. marks n []) same_marks
+node_code s = coded_via (coded_list (coded× coded_ℕ (coded× coded_ℕ (coded× (coded_option coded_ℤ) s)))) (λ n. marks n []) same_marks
 
 abbrev pub path_code : Coded Path
 path_code = coded_list (coded× coded_ℕ coded_ℕ)

@@ -34,6 +34,13 @@ pub record Stays {S : Type 0} (o : Ops S) (m n : Node S) : Type 0 where
   pub carried : (c : Channel) → carriers o c n ≤ carriers o c m
   pub held : holders o n ≤ holders o m
 
+-- the same where a channel that is new is one of the process's own
+pub record KeepsOwn {S : Type 0} (o : Ops S) (m n : Node S) : Type 0 where
+  pub below : SoundBelow o n
+  pub follows : Follows o (state m) (state n)
+  pub carried : (c : Channel) → (carriers o c n ≤ carriers o c m) ⊎ ((carriers o c n ≤ 1) × (c.home ≡ o.path (state m)) × (o.shares (state m) c ≡ false))
+  pub held : holders o n ≤ holders o m
+
 module _ {S : Type 0} (o : Ops S) where
   pub follows_same : (l m : S) → m ≡ l → Follows o l m
   follows_same l m e = record {
@@ -69,6 +76,24 @@ module _ {S : Type 0} (o : Ops S) where
 
   pub stays_keeps : (m n : Node S) → Stays o m n → Keeps o m n
   stays_keeps m n h = record { below = h.below; follows = h.follows; carried = λ c. inl (h.carried c); held = h.held }
+
+  pub own_keeps : (m n : Node S) → KeepsOwn o m n → Keeps o m n
+  own_keeps m n h = record { below = h.below; follows = h.follows; carried = λ c. elim (h.carried c) [ inl y ↦ inl y | inr y ↦ inr (y.0, by_own y.1 y.2) ]; held = h.held }
+
+  pub stays_keeps_own : (m n : Node S) → Stays o m n → KeepsOwn o m n
+  stays_keeps_own m n h = record { below = h.below; follows = h.follows; carried = λ c. inl (h.carried c); held = h.held }
+
+  -- behind a change after which the process shares the same
+  pub keeps_own_after : (k m n : Node S) → Stays o k m → ((c : Channel) → o.shares (state m) c ≡ o.shares (state k) c) → KeepsOwn o m n → KeepsOwn o k n
+  keeps_own_after k m n f alike g = record {
+    below = g.below;
+    follows = follows_after (state k) (state m) (state n) f.follows g.follows;
+    carried = λ c. elim (g.carried c) [
+      | inl y ↦ inl (no_less_than (carriers o c k) (carriers o c m) (carriers o c n) y (f.carried c))
+      | inr y ↦ inr (y.0, y.1 ∙ f.follows.path, sym (alike c) ∙ y.2)
+    ];
+    held = no_less_than (holders o k) (holders o m) (holders o n) g.held f.held;
+  }
 
   -- the state is the same, and so are all others
   pub same_stays : (m n : Node S) → SoundBelow o n → state n ≡ state m → everyone n ≡ everyone m → Stays o m n

@@ -1,9 +1,9 @@
 -- Each event keeps a tree sound, and so does each run.
-use Rattle.std.proofs.Common.{◌≡◌, ◌<◌, ◌≤◌, ℕ, ℤ, Option, Some, None, List, [], ◌∷◌, refl, subst, arith}
+use Rattle.std.proofs.Common.{◌≡◌, ◌<◌, ◌≤◌, ℕ, ℤ, pos, Option, Some, None, List, [], ◌∷◌, refl, subst, arith}
 use Rattle.shim_base.specs.Paths.{Path, Channel}
 use Rattle.shim_local.specs.Process.{Ops, StopView, AtQuiet, AtNext, AtPut, AtFork, AtFinish, AtThrow, AtTrap}
 use Rattle.shim_local.specs.Laws.{LocalLaws, by_put}
-use Rattle.shim_semantics.specs.Nodes.{Node, Live, Forked, Ended, Dead, death, state, states, all_done, prevailing_death, source, value_of, received}
+use Rattle.shim_semantics.specs.Nodes.{Node, Live, Forked, Ended, Dead, death_with, state, states, all_done, prevailing_death, source, value_of, received}
 use Rattle.shim_semantics.specs.Acts.{Acted, act, act_here, act_live, closed}
 use Rattle.shim_semantics.specs.Poison.{poison_route}
 use Rattle.shim_semantics.specs.Places.{led_to, route, has_path, meets, SoundBelow}
@@ -13,13 +13,13 @@ use Rattle.shim_semantics.specs.Laws.{IsSoundTree, KeepsSound, RunsStaySound}
 use Rattle.shim_semantics.specs.Systems.{go_on, run}
 use Rattle.shim_semantics.proofs.ReplacedNodes.{acts_there}
 use Rattle.shim_semantics.proofs.HowMany.{one_at_most}
-use Rattle.shim_semantics.proofs.Follows.{Keeps, stays_keeps, same_stays}
+use Rattle.shim_semantics.proofs.Follows.{Keeps, stays_keeps, own_keeps, same_stays}
 use Rattle.shim_semantics.proofs.Replaced.{sound_at, stays_sound, replaced}
 use Rattle.shim_semantics.proofs.QuietKeeps.{quiet_keeps}
 use Rattle.shim_semantics.proofs.CallStays.{call_stays}
-use Rattle.shim_semantics.proofs.ThrowStays.{death_stays, thrown_stays}
+use Rattle.shim_semantics.proofs.ThrowStays.{death_stays, throwing_keeps}
 use Rattle.shim_semantics.proofs.ForkKeeps.{fork_keeps}
-use Rattle.shim_semantics.proofs.CloseStays.{closed_stays}
+use Rattle.shim_semantics.proofs.CloseStays.{closed_keeps}
 use Rattle.shim_semantics.proofs.MeetStays.{meeting_stays}
 use Rattle.shim_semantics.proofs.PoisonStays.{poison_stays}
 use Rattle.shim_base.proofs.Facts.{some_same, none_some, chosen, cond_some}
@@ -33,20 +33,20 @@ went_on f (Some w) u e = (w, refl, e)
 
 module _ {S : Type 0} (o : Ops S) where
   live_keeps : LocalLaws o → (l : S) (v : StopView) (a : Acted S) → o.sound l → o.stop l ≡ v → act_live o l v ≡ Some a → Keeps o (Live l) a.node
-  live_keeps law l AtQuiet a s at e = subst (λ z. Keeps o (Live l) z.node) (some_same _ a e) (quiet_keeps o law l s at)
+  live_keeps law l AtQuiet a s at e = subst (λ z. Keeps o (Live l) z.node) (some_same _ a e) (own_keeps o (Live l) _ (quiet_keeps o law l s at))
   live_keeps law l AtPut a s at e = subst (λ z. Keeps o (Live l) z.node) (some_same _ a e) (stays_keeps o (Live l) (Live (o.put l)) (call_stays o law l (o.put l) s (by_put at refl)))
   live_keeps law l AtFork a s at e = subst (λ z. Keeps o (Live l) z.node) (some_same _ a e) (fork_keeps o law l s at (o.fork l) refl)
   live_keeps law l AtFinish a s at e = subst (λ z. Keeps o (Live l) z.node) (some_same _ a e) (stays_keeps o (Live l) (Ended l) (same_stays o (Live l) (Ended l) s refl refl))
   live_keeps law l (AtNext c) a s at e = none_some a e
-  live_keeps law l (AtThrow label) a s at e = subst (λ z. Keeps o (Live l) z.node) (some_same _ a e) (stays_keeps o (Live l) _ (thrown_stays o law l (death label) s (law.throw_below l label s at)))
-  live_keeps law l (AtTrap kind line) a s at e = subst (λ z. Keeps o (Live l) z.node) (some_same _ a e) (stays_keeps o (Live l) (Dead l (death 0)) (death_stays o l (death 0) s (trap_below (o.base l) (law.base_least l s))))
+  live_keeps law l (AtThrow label) a s at e = subst (λ z. Keeps o (Live l) z.node) (some_same _ a e) (own_keeps o (Live l) _ (throwing_keeps o law l label (o.number l) s at))
+  live_keeps law l (AtTrap kind line) a s at e = subst (λ z. Keeps o (Live l) z.node) (some_same _ a e) (stays_keeps o (Live l) (Dead l (death_with 0 (pos 0))) (death_stays o l (death_with 0 (pos 0)) s (trap_below (o.base l) (law.base_least l s))))
 
   -- what the process of a node does by itself
   pub here_keeps : LocalLaws o → (m : Node S) (a : Acted S) → SoundBelow o m → act_here o m ≡ Some a → Keeps o m a.node
   here_keeps law (Live l) a s e = live_keeps law l (o.stop l) a s refl e
   here_keeps law (Forked l ks) a s e =
       subst (λ z. Keeps o (Forked l ks) z.node) (cond_some (all_done ks) (closed o l (states ks) (prevailing_death ks)) a e).1
-      (stays_keeps o (Forked l ks) _ (closed_stays o law l ks (prevailing_death ks) refl s))
+      (own_keeps o (Forked l ks) _ (closed_keeps o law l ks (prevailing_death ks) refl s))
   here_keeps law (Ended l) a s e = none_some a e
   here_keeps law (Dead l x) a s e = none_some a e
 

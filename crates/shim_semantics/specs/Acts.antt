@@ -1,10 +1,10 @@
 -- What a process does by itself: a step of its own, its end, or the close of its fork.
-use Rattle.std.specs.Prelude.{ℕ, Option, Some, None, List, [], ◌∷◌, cond, true, false, ltb}
+use Rattle.std.specs.Prelude.{ℕ, ℤ, pos, Option, Some, None, List, [], ◌∷◌, cond, true, false, ltb}
 use Rattle.shim_base.specs.declared.operators.Trap.{Trap}
 use Rattle.shim_local.specs.Process.{Ops, StopView, ForkedView, AtQuiet, AtNext, AtPut, AtFork, AtFinish, AtThrow, AtTrap, Parted, Trapped}
 use Rattle.shim_local.specs.declared.LogWhat.{LogWhat}
 use Rattle.shim_local.specs.declared.LogWhat.TheVariants.{Caught, Trap as LoggedTrap}
-use Rattle.shim_semantics.specs.Nodes.{Node, Nodes, Live, Forked, Ended, Dead, Death, death, node_and, states, all_live, all_done, prevailing_death}
+use Rattle.shim_semantics.specs.Nodes.{Node, Nodes, Live, Forked, Ended, Dead, Death, death_with, handed, node_and, states, all_live, all_done, prevailing_death}
 use Rattle.shim_semantics.specs.Descents.{Ascent, apply_at, apply_among}
 
 -- what an event tells: the bytes that it puts, and what it logs of its process
@@ -37,24 +37,29 @@ abbrev pub parted : {S : Type 0} → ForkedView S → Node S
 parted (Parted l ks) = Forked l (all_live ks)
 parted (Trapped l) = Live l
 
--- The exception of this death is thrown in a process. Where its label is below the base the process dies so; else its handler goes on, and the catch is logged.
+-- The exception of this death is thrown in a process. Where its label is below the base the process dies so; else its handler goes on with the number, and the catch is logged.
 abbrev pub thrown : {S : Type 0} → Ops S → S → Death → Acted S
-thrown o l d = cond (ltb d.label (o.base l)) (record { node = Dead l d; effects = nothing }) (record { node = Live (o.unwind l d.label); effects = catching (o.handler l d.label) })
+thrown o l d = cond (ltb d.label (o.base l)) (record { node = Dead l d; effects = nothing }) (record { node = Live (o.unwind l d.label (handed d.given)); effects = catching (o.handler l d.label) })
+
+-- a process that stands at a throw of this label throws it with this number; where the expression trapped it stands trapped
+abbrev pub throwing : {S : Type 0} → Ops S → S → ℕ → Option ℤ → Acted S
+throwing o l x None = record { node = Live (o.thrown l); effects = nothing }
+throwing o l x (Some v) = thrown o l (death_with x v)
 
 -- A fork whose children are done closes: the process has their values again, and stands behind the fork where all have ended. Where some died it still stands at the fork, and the exception of the prevailing death is thrown in it.
 abbrev pub closed : {S : Type 0} → Ops S → S → List S → Option Death → Acted S
 closed o l ks None = record { node = Live (o.join l ks true); effects = nothing }
 closed o l ks (Some d) = thrown o (o.join l ks false) d
 
--- A process that stands trapped dies of label 0, and the trap is logged.
+-- A process that stands trapped dies of label 0 with the number 0, and the trap is logged.
 abbrev pub act_live : {S : Type 0} → Ops S → S → StopView → Option (Acted S)
 act_live o l AtQuiet = Some (record { node = Live (o.quiet l); effects = nothing })
 act_live o l AtPut = Some (record { node = Live (o.put l); effects = putting (o.byte l) })
 act_live o l AtFork = Some (record { node = parted (o.fork l); effects = nothing })
 act_live o l AtFinish = Some (record { node = Ended l; effects = nothing })
 act_live o l (AtNext c) = None
-act_live o l (AtThrow label) = Some (thrown o l (death label))
-act_live o l (AtTrap kind line) = Some (record { node = Dead l (death 0); effects = trapping kind line })
+act_live o l (AtThrow label) = Some (throwing o l label (o.number l))
+act_live o l (AtTrap kind line) = Some (record { node = Dead l (death_with 0 (pos 0)); effects = trapping kind line })
 
 -- the one thing that the process of a node can do by itself; that of a fork is its close, which waits until no child is live or forked
 abbrev pub act_here : {S : Type 0} → Ops S → Node S → Option (Acted S)

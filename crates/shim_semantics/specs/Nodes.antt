@@ -1,15 +1,9 @@
 -- A process with what came of it, and the processes below it.
-use Rattle.std.specs.Prelude.{ℕ, ℤ, pos, Bool, true, false, Option, Some, None, List, [], ◌∷◌, ◌++◌, ◌&&◌, ◌||◌, not, cond, min}
+use Rattle.std.specs.Prelude.{ℕ, ℤ, pos, Bool, true, false, Option, Some, None, List, [], ◌∷◌, ◌++◌, ◌&&◌, ◌||◌, not, cond}
 use Rattle.shim_base.specs.Paths.{Channel, NamedChannel, same_channel}
+pub use Rattle.shim_local.specs.declared.death.Death.{Death}
+pub use Rattle.shim_local.specs.Deaths.{death, death_with, handed, outermost_given, outermost}
 use Rattle.shim_local.specs.Process.{Ops, StopView, AtQuiet, AtNext, AtPut, AtFork, AtFinish, AtThrow, AtTrap}
-
--- how a process died: the label of the exception that it died of
-pub record Death : Type 0 where
-  pub label : ℕ
-
--- the death of an exception with this label
-abbrev pub death : ℕ → Death
-death x = record { label = x }
 
 -- A process lives, has forked, has ended, or has died. A process that has forked has its children below it, in order.
 mutual
@@ -53,10 +47,10 @@ abbrev pub all_done : {S : Type 0} → Nodes S → Bool
 all_done no_node = true
 all_done (node_and k ks) = not (goes k) && all_done ks
 
--- of two deaths the label of the outermost exception prevails, which is the lesser one
+-- of two deaths that of the outermost exception prevails
 abbrev pub prevailing : Death → Option Death → Option Death
 prevailing d None = Some d
-prevailing d (Some e) = Some (death (min d.label e.label))
+prevailing d (Some e) = Some (outermost d e)
 
 -- the prevailing death among these, if one of them died
 abbrev pub prevailing_death : {S : Type 0} → Nodes S → Option Death

@@ -51,7 +51,7 @@ one_poisoned o c d (suc i) (node_and k ks) = node_and k (one_poisoned o c d i ks
 abbrev pub can_poison : {S : Type 0} → Ops S → S → Channel → ℕ → Nodes S → Bool
 can_poison o l c i ks = is_ready_child o c i ks && is_doomed o (o.handlers l) c i ks
 
--- the child in this place of the fork is poisoned, where it can be, with the innermost label in force at the fork
+-- the child in this place of the fork is poisoned, where it can be, with the innermost label in force at the fork and no number
 abbrev pub poison_here : {S : Type 0} → Ops S → Channel → ℕ → Node S → Option (Node S)
 poison_here o c i (Forked l ks) = cond (can_poison o l c i ks) (Some (Forked l (one_poisoned o c (death (o.handlers l - 1)) i ks))) None
 poison_here o c i (Live l) = None

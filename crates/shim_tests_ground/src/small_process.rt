@@ -1,6 +1,6 @@
 // A small process, taken through each of its stops by the calls of the trait.
 ghost use Rattle.std.specs.Prelude.{◌≡◌};
-ghost use Rattle.shim_local.specs.Process.{AtFork};
+ghost use Rattle.shim_local.specs.Process.{AtFork, AtThrow};
 
 use crate::made::chan;
 use shim_base::{Chan, List, NoMemory, Path, push_decimal};
@@ -38,19 +38,29 @@ fn go_on<L: Local>(process: &mut L, told: &mut List<u8>) -> Result<(), NoMemory>
         Stop::Finish => told.extend_from_slice(b" finish"),
         Stop::Throw(label) => {
             tell(told, b" throw ", label)?;
-            unwind(process, label, told)
+            throw(process, label, told)
         }
         Stop::Trapped(_, line) => tell(told, b" trapped ", line),
     }
 }
 
-// Goes to the handler of the label, where that is the process's own, and tells it.
-fn unwind<L: Local>(process: &mut L, label: u32, told: &mut List<u8>) -> Result<(), NoMemory> {
+// The throw of this label: goes to its handler, where that is the process's own, and tells it, with the
+// number where this isn't 0.
+fn throw<L: Local>(process: &mut L, label: u32, told: &mut List<u8>) -> Result<(), NoMemory>
+    requires { L.ops.stop process.old ≡ AtThrow label }
+{
+    let Some(number) = process.thrown() else {
+        return told.extend_from_slice(b" with none");
+    };
+    if number != 0 {
+        told.extend_from_slice(b" with ")?;
+        push_decimal(told, number.unsigned_abs())?;
+    }
     if process.base() <= label && label < process.handlers() {
         let handler = process.handler(label);
         tell(told, b" of ", handler.0)?;
         tell(told, b".", handler.1)?;
-        process.unwind(label);
+        process.unwind(label, number);
     }
     Ok(())
 }
@@ -175,7 +185,7 @@ fn an_exception_goes_to_its_handler(rt: HostRuntime) -> Result<(), Fail> {
                 &[
                     Step::Try(3, 20),
                     Step::Try(4, 21),
-                    Step::Throw(2),
+                    Step::Throw(2, 0),
                     Step::Put,
                 ],
                 4,
@@ -186,13 +196,24 @@ fn an_exception_goes_to_its_handler(rt: HostRuntime) -> Result<(), Fail> {
                 &[
                     Step::Try(3, 20),
                     Step::Try(4, 21),
-                    Step::Throw(1),
-                    Step::Throw(2),
+                    Step::Throw(1, 0),
+                    Step::Throw(2, 0),
                 ],
                 3,
                 b" quiet 2 throw 1 of 3.20 trapped 1",
             ),
-            (&[Step::Throw(0)], 1, b" throw 0"),
+            (&[Step::Throw(0, 0)], 1, b" throw 0"),
+            // The process has the number that the exception gave.
+            (
+                &[Step::Try(3, 20), Step::Throw(1, 8), Step::Put],
+                3,
+                b" quiet 1 throw 1 with 8 of 3.20 put 1",
+            ),
+            (
+                &[Step::Try(3, 20), Step::ThrowTrap(1), Step::Put],
+                3,
+                b" quiet 1 throw 1 with none trapped 1",
+            ),
         ],
     )
 }
@@ -205,9 +226,9 @@ fn traps_are_stood_at_and_nothing_is_put_before_one(rt: HostRuntime) -> Result<(
         &[
             (&[Step::Put, Step::Trap], 2, b" put trapped 1"),
             (&[Step::Fork, Step::Trap], 2, b" fork trapped 1"),
-            (&[Step::Put, Step::Throw(1)], 2, b" put trapped 1"),
-            (&[Step::Put, Step::Throw(0)], 2, b" put 0 throw 0"),
-            (&[Step::Fork, Step::Throw(1)], 2, b" fork trapped 1"),
+            (&[Step::Put, Step::Throw(1, 0)], 2, b" put trapped 1"),
+            (&[Step::Put, Step::Throw(0, 0)], 2, b" put 0 throw 0"),
+            (&[Step::Fork, Step::Throw(1, 0)], 2, b" fork trapped 1"),
         ],
     )
 }

@@ -2,13 +2,13 @@
 // each call they have to be the same state again.
 ghost use Rattle.std.specs.Prelude.{◌≡◌, ◌↔◌, IsTrue, IfOk, MatchOption, OnOk};
 ghost use Rattle.shim_base.specs.Paths.{NamedChannel};
-ghost use Rattle.shim_local.specs.Process.{AtFork, AtNext, AtPut};
+ghost use Rattle.shim_local.specs.Process.{AtFork, AtNext, AtPut, AtThrow};
 ghost use Rattle.shim_local.specs.Laws.{AllOf};
 ghost use Rattle.shim_tests_tracing.specs.Kept.{StaysChild, StayChildren};
 
 use shim_base::NoMemory;
-use shim_local::{Forked, Local, Stop};
-use shim_tests_tracing::Fate;
+use shim_local::{Death, Forked, Local, Stop};
+use shim_tests_tracing::{Fate, outermost};
 use shim_walk::has_process::HasProcess;
 use std::mem;
 use std::process::Abort;
@@ -29,16 +29,19 @@ enum Called {
     // It stands at a fork.
     Forks,
     Ended,
-    // It is dead, with this label.
-    Dead(u32),
+    // The expression of its throw traps.
+    NoNumber,
+    // It died so.
+    Dead(Death),
 }
 
 impl Called {
     fn fate(self) -> Fate {
         match self {
-            Called::Quiet(_) | Called::Put(_) | Called::Met | Called::Caught(_, _) => Fate::Live,
+            Called::Quiet(_) | Called::Put(_) | Called::Met => Fate::Live,
+            Called::Caught(_, _) | Called::NoNumber => Fate::Live,
             Called::Forks | Called::Ended => Fate::Ended,
-            Called::Dead(label) => Fate::Dead(label),
+            Called::Dead(death) => Fate::Dead(death),
         }
     }
 }
@@ -67,8 +70,11 @@ fn call<L: Local>(process: &mut L) -> Called
         Stop::Put => put(process),
         Stop::Fork => Called::Forks,
         Stop::Finish => Called::Ended,
-        Stop::Throw(label) => unwind(process, label),
-        Stop::Trapped(_, _) => Called::Dead(0),
+        Stop::Throw(label) => throw(process, label),
+        Stop::Trapped(_, _) => Called::Dead(Death {
+            label: 0,
+            given: Some(0),
+        }),
     }
 }
 
@@ -97,17 +103,36 @@ fn put<L: Local>(process: &mut L) -> Called
     Called::Put(process.put())
 }
 
-// Goes to the handler of the label, where that is the process's own. Else it is dead.
-fn unwind<L: Local>(process: &mut L, label: u32) -> Called
+// The throw of this label at which the process stands.
+fn throw<L: Local>(process: &mut L, label: u32) -> Called
+    requires { L.ops.stop process.old ≡ AtThrow label }
     ensures { StaysChild L.ops process.old process.new }
 {
     let _path = process.path(); // its state is sound
+    match process.thrown() {
+        None => Called::NoNumber,
+        Some(number) => {
+            let death = Death {
+                label,
+                given: Some(number),
+            };
+            unwind(process, death)
+        }
+    }
+}
+
+// Goes to the handler of the exception, where that is the process's own. Else it dies so.
+fn unwind<L: Local>(process: &mut L, death: Death) -> Called
+    ensures { StaysChild L.ops process.old process.new }
+{
+    let _path = process.path(); // its state is sound
+    let label = death.label;
     if process.base() <= label && label < process.handlers() {
         let handler = process.handler(label);
-        process.unwind(label);
+        process.unwind(label, death.handed());
         Called::Caught(handler.0, handler.1)
     } else {
-        Called::Dead(label)
+        Called::Dead(death)
     }
 }
 
@@ -225,14 +250,14 @@ fn fork<A: Local + HasProcess, B: Local + HasProcess>(
     come_back(rt, one, other, least)
 }
 
-// Takes the children of both to their ends, and answers the least label of those that are dead.
+// Takes the children of both to their ends, and answers the prevailing death of those that are dead.
 #[cycle(go)]
 fn go_all<A: Local + HasProcess, B: Local + HasProcess>(
     rt: &impl Abort,
     ones: &mut Vec<A>,
     others: &mut Vec<B>,
     levels: u32,
-) -> Result<Option<u32>, Fail>
+) -> Result<Option<Death>, Fail>
     ensures { OnOk result (StayChildren A.ops ones.old.items ones.new.items × StayChildren B.ops others.old.items others.new.items) }
 {
     assert_eq!(rt; ones.len(), others.len());
@@ -245,36 +270,25 @@ fn go_all<A: Local + HasProcess, B: Local + HasProcess>(
             return Ok(least);
         };
         let fate = go(rt, one, other, levels)?;
-        least = lesser(least, fate);
+        least = outermost(least, fate);
     }
     Ok(least)
 }
 
-// The lesser of a label and that of a process that is dead.
-fn lesser(least: Option<u32>, fate: Fate) -> Option<u32> {
-    match fate {
-        Fate::Dead(label) => match least {
-            Some(other) if other <= label => Some(other),
-            _ => Some(label),
-        },
-        _ => least,
-    }
-}
-
-// Both go on behind the fork, or at the handler of this label of their dead children.
+// Both go on behind the fork, or at the handler of the exception that prevails of their dead children.
 fn come_back<A: Local + HasProcess, B: Local + HasProcess>(
     rt: &impl Abort,
     one: &mut A,
     other: &mut B,
-    least: Option<u32>,
+    least: Option<Death>,
 ) -> Result<Fate, Fail>
     ensures { OnOk result (StaysChild A.ops one.old one.new × StaysChild B.ops other.old other.new) }
 {
     match least {
         None => Ok(Fate::Live),
-        Some(label) => {
-            let called = unwind(one, label);
-            assert_eq!(rt; unwind(other, label), called);
+        Some(death) => {
+            let called = unwind(one, death);
+            assert_eq!(rt; unwind(other, death), called);
             expect_same(rt, one, other);
             Ok(called.fate())
         }

@@ -23,7 +23,13 @@ fn calls_go_200_deep(rt: HostRuntime) -> Result<(), Fail> {
     let functions =
         "void f(ostream o, int n) { int a = n; if (n) f(o, n - 1); else put o, 1; next a; }";
     expect_of(&rt, alloc, functions, "f(o, 199); put o, 2;", Fate::Ended)?;
-    expect_of(&rt, alloc, functions, "f(o, 200); put o, 2;", Fate::Dead(0))
+    expect_of(
+        &rt,
+        alloc,
+        functions,
+        "f(o, 200); put o, 2;",
+        Fate::died_of(0),
+    )
 }
 
 #[test]
@@ -61,6 +67,6 @@ fn forks_go_64_deep(rt: HostRuntime) -> Result<(), Fail> {
         alloc,
         functions,
         "int a; f(65, a); put o, a;",
-        Fate::Dead(0),
+        Fate::died_of(0),
     )
 }

@@ -9,7 +9,7 @@ fn every_trap_is_reached(rt: HostRuntime) -> Result<(), Fail> {
     expect_ends(
         &rt,
         alloc,
-        Fate::Dead(0),
+        Fate::died_of(0),
         &[
             "void main() { int a = 9223372036854775807 + 1; }",
             "void main() { int a; a = -9223372036854775807 - 2; }",
@@ -38,12 +38,12 @@ fn exceptions_go_past_the_root(rt: HostRuntime) -> Result<(), Fail> {
         &rt,
         alloc,
         "void f() throws T { throw T; } void main() throws S, T { try { f(); } catch (U) { } }",
-        Fate::Dead(2),
+        Fate::died_of(2),
     )?;
     expect_end(
         &rt,
         alloc,
         "void main() throws T { int a; { a = 3; throw T; } par { next a; } }",
-        Fate::Dead(1),
+        Fate::died_of(1),
     )
 }

@@ -10,7 +10,7 @@ use crate::turns::drive;
 use shim_base::{Chan, NoMemory, Path};
 use shim_net::Net;
 use shim_tests_plain_net::PlainNet;
-use shim_tests_small::{Small, Step};
+use shim_tests_small::{Branch, Small, Step};
 use std::alloc::Global;
 use std::process::Abort;
 use std::sync::Arc;
@@ -24,13 +24,38 @@ fn any_label(random: &mut Random) -> u32 {
     }
 }
 
+fn any_number(random: &mut Random) -> u32 {
+    match random.below(3) {
+        0 => 0,
+        1 => 7,
+        _ => 9,
+    }
+}
+
+fn any_branch(random: &mut Random) -> Branch {
+    match random.below(6) {
+        0 | 1 => Branch::Next,
+        2 | 3 => Branch::Throw(any_label(random), any_number(random)),
+        4 => Branch::Outer(any_label(random), any_number(random)),
+        _ => Branch::Nothing,
+    }
+}
+
+fn any_fork(random: &mut Random) -> Step {
+    let first = any_branch(random);
+    let second = any_branch(random);
+    Step::Three(first, second, any_branch(random))
+}
+
 fn any_step(random: &mut Random) -> Step {
-    match random.below(20) {
+    match random.below(22) {
         0 => Step::Next,
         1 => Step::Put,
-        2 => Step::Throw(any_label(random)),
+        2 => Step::Throw(any_label(random), any_number(random)),
         3 => Step::Trap,
         4 | 5 | 6 => Step::Fork,
+        20 => any_fork(random),
+        21 => Step::ThrowTrap(any_label(random)),
         7 | 8 | 9 | 10 => Step::Try(3, 20),
         _ => Step::Quiet,
     }

@@ -5,7 +5,7 @@ use Rattle.shim_base.specs.declared.operators.Trap.TheVariants.{Zero}
 use Rattle.shim_tests_small.specs.Small.{SmallView, small_ops}
 use Rattle.shim_tests_small.specs.declared.small.Step.{Step}
 use Rattle.shim_tests_small.specs.declared.small.Step.TheVariants as step
-use Rattle.shim_semantics.specs.Nodes.{Node, Live, Forked, Ended, Dead, death, no_node, node_and}
+use Rattle.shim_semantics.specs.Nodes.{Node, Live, Forked, Ended, Dead, death, death_with, no_node, node_and}
 use Rattle.shim_semantics.specs.Acts.{act, act_here, catching, trapping, nothing}
 use Rattle.shim_semantics.specs.Places.{led_to, meets}
 use Rattle.shim_semantics.specs.Trees.{Closes, is_its, poisons}
@@ -26,25 +26,25 @@ abbrev parent : SmallView
 parent = record { path = []; left = step.Fork ∷ step.Put ∷ []; value = pos 5; chan = home; forks = 1; base = 1; places = (9, 3) ∷ [] }
 
 -- a throw is caught by a place of its own, and logged; else it is dead
-pub caught : act_here small_ops (Live (one [] (step.Throw 1 ∷ step.Put ∷ []) ((9, 3) ∷ [])))
+pub caught : act_here small_ops (Live (one [] (step.Throw 1 5 ∷ step.Put ∷ []) ((9, 3) ∷ [])))
     ≡ Some (record { node = Live (one [] (step.Put ∷ []) []); effects = catching (9, 3) })
 caught = refl
 
-pub dead : act_here small_ops (Live (child 0 (step.Throw 1 ∷ [])))
-    ≡ Some (record { node = Dead (child 0 (step.Throw 1 ∷ [])) (death 1); effects = nothing })
+pub dead : act_here small_ops (Live (child 0 (step.Throw 1 5 ∷ [])))
+    ≡ Some (record { node = Dead (child 0 (step.Throw 1 5 ∷ [])) (death_with 1 (pos 5)); effects = nothing })
 dead = refl
 
 -- a trap is logged, and is no handler's
 pub trapped : act_here small_ops (Live (one [] (step.Trap ∷ []) ((9, 3) ∷ [])))
-    ≡ Some (record { node = Dead (one [] (step.Trap ∷ []) ((9, 3) ∷ [])) (death 0); effects = trapping Zero 1 })
+    ≡ Some (record { node = Dead (one [] (step.Trap ∷ []) ((9, 3) ∷ [])) (death_with 0 (pos 0)); effects = trapping Zero 1 })
 trapped = refl
 
 -- the fork above a child that waits and one that died of the exception of the place around the fork
 abbrev spoiled : Node SmallView
-spoiled = Forked parent (node_and (Live (child 0 (step.Next ∷ []))) (node_and (Dead (child 1 (step.Throw 1 ∷ [])) (death 1)) no_node))
+spoiled = Forked parent (node_and (Live (child 0 (step.Next ∷ []))) (node_and (Dead (child 1 (step.Throw 1 5 ∷ [])) (death_with 1 (pos 5))) no_node))
 
 abbrev both_dead : Node SmallView
-both_dead = Forked parent (node_and (Dead (child 0 (step.Next ∷ [])) (death 1)) (node_and (Dead (child 1 (step.Throw 1 ∷ [])) (death 1)) no_node))
+both_dead = Forked parent (node_and (Dead (child 0 (step.Next ∷ [])) (death 1)) (node_and (Dead (child 1 (step.Throw 1 5 ∷ [])) (death_with 1 (pos 5))) no_node))
 
 -- the channel can't meet, since a child that shares it is dead; the one that waits is poisoned
 pub no_meeting : meets small_ops home.channel spoiled ≡ false

@@ -1,8 +1,10 @@
 -- A small process: a list of the steps that are left, one value, one channel, and the exception places in force.
-use Rattle.std.specs.Prelude.{◌≡◌, ◌≤◌, ℕ, zero, ◌+◌, ◌-◌, Bool, true, false, ◌&&◌, ltb, Option, Some, None, List, [], ◌∷◌, ◌++◌, length, map, take, drop, slice_index_or, ℤ, pos, if◌then◌else◌}
+use Rattle.std.specs.Prelude.{◌≡◌, ◌≤◌, ℕ, zero, suc, ◌+◌, ◌-◌, Bool, true, false, ◌&&◌, ltb, Option, Some, None, List, [], ◌∷◌, ◌++◌, length, map, take, drop, slice_index_or, ℤ, pos, if◌then◌else◌}
 use Rattle.shim_base.specs.Paths.{Path, NamedChannel, same_channel}
 use Rattle.shim_base.specs.declared.operators.Trap.TheVariants as trap
 use Rattle.shim_local.specs.Process.{Ops, StopView, ForkedView, AtQuiet, AtNext, AtPut, AtFork, AtFinish, AtThrow, AtTrap, Parted, Trapped}
+use Rattle.shim_tests_small.specs.declared.small.Branch.{Branch}
+use Rattle.shim_tests_small.specs.declared.small.Branch.TheVariants as branch
 use Rattle.shim_tests_small.specs.declared.small.Step.{Step}
 use Rattle.shim_tests_small.specs.declared.small.Step.TheVariants as step
 
@@ -52,7 +54,9 @@ stop_at s (step.Try name line ∷ left) = AtQuiet
 stop_at s (step.Next ∷ left) = AtNext s.chan
 stop_at s (step.Put ∷ left) = put_stop (is_root s.path)
 stop_at s (step.Fork ∷ left) = AtFork
-stop_at s (step.Throw label ∷ left) = throw_stop label (ltb label (in_force s))
+stop_at s (step.Three a b c ∷ left) = AtFork
+stop_at s (step.Throw label number ∷ left) = throw_stop label (ltb label (in_force s))
+stop_at s (step.ThrowTrap label ∷ left) = throw_stop label (ltb label (in_force s))
 stop_at s (step.Trap ∷ left) = at_trap
 
 abbrev pub stop_of : SmallView → StopView
@@ -89,11 +93,37 @@ abbrev pub byte_put : Bool → ℤ → Option ℕ
 byte_put true v = None
 byte_put false v = Some (byte_of v)
 
--- the child in this branch of the fork at which it stands
-abbrev pub child_of : SmallView → ℕ → SmallView
-child_of s branch = record {
-  path = s.path ++ (s.forks, branch) ∷ [];
-  left = step.Next ∷ [];
+-- the number of the throw with which these steps begin, or none where its expression traps
+abbrev pub number_at : List Step → Option ℤ
+number_at (step.Throw label number ∷ left) = Some (pos number)
+number_at (step.ThrowTrap label ∷ left) = None
+number_at _ = Some (pos 0)
+
+-- the steps once that number was computed: a throw whose expression traps is a trap from then on
+abbrev pub computed : List Step → List Step
+computed (step.ThrowTrap label ∷ left) = step.Trap ∷ left
+computed left = left
+
+abbrev pub number_computed : SmallView → SmallView
+number_computed s = record s { left = computed s.left }
+
+-- what a branch has to do
+abbrev pub steps_of : Branch → List Step
+steps_of branch.Next = step.Next ∷ []
+steps_of (branch.Throw label number) = step.Throw label number ∷ []
+steps_of (branch.Outer label number) = step.Three (branch.Throw label number) branch.Nothing branch.Nothing ∷ []
+steps_of branch.Nothing = []
+
+-- the branches of the fork with which these steps begin
+abbrev pub branches : List Step → List Branch
+branches (step.Three a b c ∷ left) = a ∷ b ∷ c ∷ []
+branches _ = branch.Next ∷ branch.Next ∷ []
+
+-- the child in this place of the fork at which it stands, whose branch is this
+abbrev pub child_of : SmallView → ℕ → Branch → SmallView
+child_of s place b = record {
+  path = s.path ++ (s.forks, place) ∷ [];
+  left = steps_of b;
   value = s.value;
   chan = s.chan;
   forks = 0;
@@ -101,8 +131,13 @@ child_of s branch = record {
   places = [];
 }
 
+-- the children from this place on, whose branches are these
+abbrev pub children_from : SmallView → ℕ → List Branch → List SmallView
+children_from s place [] = []
+children_from s place (b ∷ bs) = child_of s place b ∷ children_from s (place + 1) bs
+
 abbrev pub children_of : SmallView → List SmallView
-children_of s = child_of s 0 ∷ child_of s 1 ∷ []
+children_of s = children_from s 0 (branches s.left)
 
 -- it did one fork more
 abbrev pub forked : SmallView → SmallView
@@ -117,14 +152,18 @@ fork_result false s = Parted (forked s) (children_of s)
 abbrev pub identity_of : SmallView → Path × ℕ
 identity_of s = (s.path, s.base)
 
--- those of the child in this branch
+-- those of the child in this place
 abbrev pub identity : Path → ℕ → ℕ → ℕ → Path × ℕ
-identity path base fork branch = (path ++ (fork, branch) ∷ [], base)
+identity path base fork place = (path ++ (fork, place) ∷ [], base)
+
+-- those of so many children from this place on
+abbrev pub identities : Path → ℕ → ℕ → ℕ → ℕ → List (Path × ℕ)
+identities path base fork place zero = []
+identities path base fork place (suc n) = identity path base fork place ∷ identities path base fork (place + 1) n
 
 -- the children are those of the last fork
 abbrev pub AreOfLastFork : SmallView → List SmallView → Type 0
-AreOfLastFork s children = (fork : ℕ) × (s.forks ≡ fork + 1)
-    × (map identity_of children ≡ identity s.path (in_force s) fork 0 ∷ identity s.path (in_force s) fork 1 ∷ [])
+AreOfLastFork s children = (fork : ℕ) × (n : ℕ) × (s.forks ≡ fork + 1) × (map identity_of children ≡ identities s.path (in_force s) fork 0 n)
 
 -- the value of the first child
 abbrev pub value_given : ℤ → List SmallView → ℤ
@@ -134,9 +173,9 @@ value_given v (k ∷ children) = k.value
 abbrev pub joined : SmallView → List SmallView → Bool → SmallView
 joined s children goes_on = record s { value = value_given s.value children; left = if goes_on then drop 1 s.left else s.left }
 
--- behind the step at which it stands, with the places outside of that of the label alone
-abbrev pub unwound : SmallView → ℕ → SmallView
-unwound s label = record s { left = drop 1 s.left; places = take (label - s.base) s.places }
+-- behind the step at which it stands, with the places outside of that of the label alone, and the number that the exception gave
+abbrev pub unwound : SmallView → ℕ → ℤ → SmallView
+unwound s label v = record s { left = drop 1 s.left; value = v; places = take (label - s.base) s.places }
 
 -- the channels that a fork gave a process that is the root, or isn't
 abbrev pub given_to : Bool → NamedChannel → List NamedChannel
@@ -154,6 +193,8 @@ small_ops = record {
   fork = λ s. fork_result (trap_behind s s.left) s;
   join = joined;
   born = AreOfLastFork;
+  number = λ s. number_at s.left;
+  thrown = number_computed;
   unwind = unwound;
   value = λ s c. s.value;
   shares = λ s c. same_channel c s.chan.channel;

@@ -6,8 +6,10 @@ use Rattle.shim_base.specs.declared.operators.Trap.{Trap}
 use Rattle.shim_local.specs.Process.{StopView, Parted, Trapped, AtQuiet, AtNext, AtPut, AtFork, AtFinish, AtThrow, AtTrap}
 use Rattle.shim_local.specs.Laws.{AllOf, AreChildren, Forks, IsGiven, IsTrapped, how_many}
 use Rattle.shim_local.specs.Sameness.{channel_decides}
-use Rattle.shim_tests_small.specs.Small.{SmallView, IsSoundSmall, AreOfLastFork, children_of, child_of, forked, given_to, in_force, is_root, is_trap, identity, identity_of, fork_result, passed, small_ops, stop_at, stop_of, trap_behind}
+use Rattle.shim_tests_small.specs.Small.{SmallView, IsSoundSmall, AreOfLastFork, branches, children_from, children_of, child_of, forked, given_to, in_force, is_root, is_trap, identities, identity, identity_of, fork_result, passed, small_ops, stop_at, stop_of, trap_behind}
+use Rattle.shim_tests_small.specs.declared.small.Branch.{Branch}
 use Rattle.shim_tests_small.specs.declared.small.Step.{Step}
+use Rattle.shim_tests_small.specs.declared.small.Step.TheVariants as step
 
 parted : (b : Bool) (s p : SmallView) (ks : List SmallView) → fork_result b s ≡ Parted p ks → (p ≡ forked s) × (ks ≡ children_of s)
 parted true s p ks e = absurd cc
@@ -63,9 +65,17 @@ pub no_root : (p : Path) (x : ℕ × ℕ) → is_root (p ++ x ∷ []) ≡ false
 no_root [] x = refl
 no_root (y ∷ p) x = refl
 
+-- what holds of a child in any place, of any branch, holds of all
+each_child : (P : SmallView → Type 0) (l : SmallView) → ((place : ℕ) (b : Branch) → P (child_of l place b)) → (place : ℕ) (bs : List Branch) → AllOf P (children_from l place bs)
+each_child P l holds place [] = tt
+each_child P l holds place (b ∷ bs) = (holds place b, each_child P l holds (place + 1) bs)
+
+every_child : (P : SmallView → Type 0) (l : SmallView) → ((place : ℕ) (b : Branch) → P (child_of l place b)) → AllOf P (children_of l)
+every_child P l holds = each_child P l holds 0 (branches l.left)
+
 -- a child carries nothing
-carries_none : (l : SmallView) (branch : ℕ) (c : Channel) → small_ops.carries (child_of l branch) c ≡ false
-carries_none l branch c = ap (λ b. b && same_channel c l.chan.channel) (no_root l.path (l.forks, branch))
+carries_none : (l : SmallView) (place : ℕ) (b : Branch) (c : Channel) → small_ops.carries (child_of l place b) c ≡ false
+carries_none l place b c = ap (λ t. t && same_channel c l.chan.channel) (no_root l.path (l.forks, place))
 
 none_of : {S : Type 0} (f : S → Bool) (ks : List S) → AllOf (λ k. f k ≡ false) ks → how_many f ks ≡ 0
 none_of f [] all = refl
@@ -76,20 +86,20 @@ one_of f p ks e all = ap (λ b. if b then suc (how_many f ks) else how_many f ks
 
 pub fork_hands_on : (l p : SmallView) (ks : List SmallView) (c : Channel) → Forks small_ops l p ks → small_ops.carries l c ≡ true → how_many (λ s. small_ops.carries s c) (p ∷ ks) ≡ 1
 fork_hands_on l p ks c forks e = at_fork (λ p ks. how_many (λ s. small_ops.carries s c) (p ∷ ks) ≡ 1) l p ks forks
-    (one_of (λ s. small_ops.carries s c) (forked l) (children_of l) e (carries_none l 0 c, (carries_none l 1 c, tt)))
+    (one_of (λ s. small_ops.carries s c) (forked l) (children_of l) e (every_child (λ k. small_ops.carries k c ≡ false) l (λ place b. carries_none l place b c)))
 
 pub fork_hands_output : (l p : SmallView) (ks : List SmallView) → Forks small_ops l p ks → small_ops.holds_output l ≡ true → how_many small_ops.holds_output (p ∷ ks) ≡ 1
 fork_hands_output l p ks forks e = at_fork (λ p ks. how_many small_ops.holds_output (p ∷ ks) ≡ 1) l p ks forks
-    (one_of small_ops.holds_output (forked l) (children_of l) e (no_root l.path (l.forks, 0), (no_root l.path (l.forks, 1), tt)))
+    (one_of small_ops.holds_output (forked l) (children_of l) e (every_child (λ k. small_ops.holds_output k ≡ false) l (λ place b. no_root l.path (l.forks, place))))
 
 pub children_carry : (l p : SmallView) (ks : List SmallView) (c : Channel) → Forks small_ops l p ks
     → AllOf (λ k. small_ops.carries k c ≡ true → (small_ops.carries l c ≡ true) ⊎ (c.home ≡ k.path)) ks
 children_carry l p ks c forks = at_fork (λ p ks. AllOf (λ k. small_ops.carries k c ≡ true → (small_ops.carries l c ≡ true) ⊎ (c.home ≡ k.path)) ks) l p ks forks
-    (λ e. absurd (true≢false (sym e ∙ carries_none l 0 c)), (λ e. absurd (true≢false (sym e ∙ carries_none l 1 c)), tt))
+    (every_child (λ k. small_ops.carries k c ≡ true → (small_ops.carries l c ≡ true) ⊎ (c.home ≡ k.path)) l (λ place b e. absurd (true≢false (sym e ∙ carries_none l place b c))))
 
 pub children_hold : (l p : SmallView) (ks : List SmallView) → Forks small_ops l p ks → AllOf (λ k. small_ops.holds_output k ≡ true → small_ops.holds_output l ≡ true) ks
 children_hold l p ks forks = at_fork (λ p ks. AllOf (λ k. small_ops.holds_output k ≡ true → small_ops.holds_output l ≡ true) ks) l p ks forks
-    (λ e. absurd (true≢false (sym e ∙ no_root l.path (l.forks, 0))), (λ e. absurd (true≢false (sym e ∙ no_root l.path (l.forks, 1))), tt))
+    (every_child (λ k. small_ops.holds_output k ≡ true → small_ops.holds_output l ≡ true) l (λ place b e. absurd (true≢false (sym e ∙ no_root l.path (l.forks, place)))))
 
 -- what a child is given is its channel
 given_is : (d : NamedChannel) (at : ℕ) (e : NamedChannel) → slice_get (given_to false d) at ≡ Some e → e ≡ d
@@ -104,41 +114,54 @@ channel_given l c below =
       λ g. (channel_decides c l.chan.channel).1 (sym g.3 ∙ ap (λ d. d.channel) (given_is l.chan g.0 g.1 (sym (at g.0) ∙ g.2))),
     )
 
-child_given : (l : SmallView) (branch : ℕ) (c : Channel) → (small_ops.shares (child_of l branch) c ≡ true) ↔ IsGiven small_ops (child_of l branch) c
-child_given l branch c = channel_given (child_of l branch) c (no_root l.path (l.forks, branch))
+child_given : (l : SmallView) (place : ℕ) (b : Branch) (c : Channel) → (small_ops.shares (child_of l place b) c ≡ true) ↔ IsGiven small_ops (child_of l place b) c
+child_given l place b c = channel_given (child_of l place b) c (no_root l.path (l.forks, place))
 
 pub children_given : (l p : SmallView) (ks : List SmallView) (c : Channel) → Forks small_ops l p ks → AllOf (λ k. (small_ops.shares k c ≡ true) ↔ IsGiven small_ops k c) ks
 children_given l p ks c forks = at_fork (λ p ks. AllOf (λ k. (small_ops.shares k c ≡ true) ↔ IsGiven small_ops k c) ks) l p ks forks
-    (child_given l 0 c, (child_given l 1 c, tt))
+    (every_child (λ k. (small_ops.shares k c ≡ true) ↔ IsGiven small_ops k c) l (λ place b. child_given l place b c))
 
 -- those that have the identities of a fork's children are its children
-marked : (p : Path) (base f : ℕ) (ks : List SmallView) → map identity_of ks ≡ identity p base f 0 ∷ identity p base f 1 ∷ [] → AreChildren small_ops p base f 0 ks
-marked p base f [] e = absurd cc
-marked p base f (k ∷ []) e = absurd cc
-marked p base f (k ∷ j ∷ []) e =
-    let first : identity_of k ≡ identity p base f 0 = cc in
-    let second : identity_of j ≡ identity p base f 1 = cc in
-    (ap (λ x. x.0) first, ap (λ x. x.1) first, (ap (λ x. x.0) second, ap (λ x. x.1) second, tt))
-marked p base f (k ∷ j ∷ i ∷ ks) e = absurd cc
+marked : (p : Path) (base f i n : ℕ) (ks : List SmallView) → map identity_of ks ≡ identities p base f i n → AreChildren small_ops p base f i ks
+marked p base f i n [] e = tt
+marked p base f i zero (k ∷ ks) e = absurd cc
+marked p base f i (suc n) (k ∷ ks) e =
+    let first : identity_of k ≡ identity p base f i = cc in
+    let rest : map identity_of ks ≡ identities p base f (i + 1) n = cc in
+    (ap (λ x. x.0) first, ap (λ x. x.1) first, marked p base f (i + 1) n ks rest)
 
 pub born_children : (l : SmallView) (ks : List SmallView) → AreOfLastFork l ks → (f : ℕ) × AreChildren small_ops l.path (in_force l) f 0 ks
-born_children l ks born = (born.0, marked l.path (in_force l) born.0 ks born.2)
+born_children l ks born = (born.0, marked l.path (in_force l) born.0 0 born.1 ks born.3)
 
 pub fork_sound : (l p : SmallView) (ks : List SmallView) → IsSoundSmall l → Forks small_ops l p ks → AllOf IsSoundSmall ks
 fork_sound l p ks sound forks =
     let in_it : 1 ≤ l.base + length l.places = omega (arith, sound) in
-    at_fork (λ p ks. AllOf IsSoundSmall ks) l p ks forks (in_it, (in_it, tt))
+    at_fork (λ p ks. AllOf IsSoundSmall ks) l p ks forks (every_child IsSoundSmall l (λ place b. in_it))
+
+some_branches : (left : List Step) → branches left ≢ []
+some_branches (step.Three a b c ∷ left) e = absurd cc
+some_branches _ e = absurd cc
+
+some_children : (l : SmallView) (bs : List Branch) → bs ≢ [] → children_from l 0 bs ≢ []
+some_children l [] some e = some refl
+some_children l (b ∷ bs) some e = absurd cc
 
 pub fork_some : (l p : SmallView) (ks : List SmallView) → Forks small_ops l p ks → ks ≢ []
-fork_some l p ks forks = at_fork (λ p ks. ks ≢ []) l p ks forks (λ e. absurd cc)
+fork_some l p ks forks = at_fork (λ p ks. ks ≢ []) l p ks forks (some_children l (branches l.left) (some_branches l.left))
+
+-- the identities of a fork's children
+are_identities : (l : SmallView) (place : ℕ) (bs : List Branch) → map identity_of (children_from l place bs) ≡ identities l.path (in_force l) l.forks place (length bs)
+are_identities l place [] = refl
+are_identities l place (b ∷ bs) = ap (λ xs. identity l.path (in_force l) l.forks place ∷ xs) (are_identities l (place + 1) bs)
 
 pub fork_children : (l p : SmallView) (ks : List SmallView) → Forks small_ops l p ks → (f : ℕ) × AreChildren small_ops l.path (in_force l) f 0 ks
-fork_children l p ks forks = at_fork (λ p ks. (f : ℕ) × AreChildren small_ops l.path (in_force l) f 0 ks) l p ks forks (l.forks, (refl, refl, (refl, refl, tt)))
+fork_children l p ks forks = at_fork (λ p ks. (f : ℕ) × AreChildren small_ops l.path (in_force l) f 0 ks) l p ks forks
+    (l.forks, marked l.path (in_force l) l.forks 0 (length (branches l.left)) (children_of l) (are_identities l 0 (branches l.left)))
 
 pub children_share : (l p : SmallView) (ks : List SmallView) (c : Channel) → Forks small_ops l p ks
     → AllOf (λ k. small_ops.shares k c ≡ true → (small_ops.shares l c ≡ true) ⊎ (c.home ≡ k.path)) ks
 children_share l p ks c forks = at_fork (λ p ks. AllOf (λ k. small_ops.shares k c ≡ true → (small_ops.shares l c ≡ true) ⊎ (c.home ≡ k.path)) ks) l p ks forks
-    (λ e. inl e, (λ e. inl e, tt))
+    (every_child (λ k. small_ops.shares k c ≡ true → (small_ops.shares l c ≡ true) ⊎ (c.home ≡ k.path)) l (λ place b e. inl e))
 
 pub fork_born : (l p : SmallView) (ks : List SmallView) → Forks small_ops l p ks → AreOfLastFork p ks
-fork_born l p ks forks = at_fork AreOfLastFork l p ks forks (l.forks, refl, refl)
+fork_born l p ks forks = at_fork AreOfLastFork l p ks forks (l.forks, length (branches l.left), refl, are_identities l 0 (branches l.left))

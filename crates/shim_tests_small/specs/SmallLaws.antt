@@ -1,13 +1,14 @@
 -- The small process is a process.
-use Rattle.std.specs.Prelude.{◌≡◌, ◌<◌, ◌≤◌, ℕ, Bool, true, false, ltb, Some, None, List, [], ◌∷◌, ◌++◌, ◌&&◌, map, refl}
+use Rattle.std.specs.Prelude.{◌≡◌, ◌<◌, ◌≤◌, ℕ, ℤ, Bool, true, false, ltb, Some, None, List, [], ◌∷◌, ◌++◌, ◌&&◌, map, refl}
 use Rattle.std.proofs.Common.{ap, sym, subst, ◌∙◌, inl, arith, true≢false}
 use Rattle.std.proofs.lemmas.Bool.{and_parts}
 use Rattle.std.proofs.lemmas.Bool.Decides.{Decides-ltb}
 use Rattle.shim_base.specs.Paths.{Path, Channel, NamedChannel, same_channel}
+use Rattle.shim_base.specs.declared.operators.Trap.TheVariants.{Zero}
 use Rattle.shim_local.specs.Process.{AtNext, AtPut, AtThrow}
-use Rattle.shim_local.specs.Laws.{LocalLaws, Moved, Called, Unwound, IsGiven, by_quiet, by_call, by_unwind, by_fork, by_trap, by_join, by_put, by_receive, by_label}
+use Rattle.shim_local.specs.Laws.{LocalLaws, Moved, Called, Unwound, IsGiven, by_quiet, by_call, by_unwind, by_fork, by_trap, by_join, by_put, by_receive, by_thrown, by_label}
 use Rattle.shim_local.specs.Sameness.{channel_decides}
-use Rattle.shim_tests_small.specs.Small.{SmallView, IsSoundSmall, AreOfLastFork, byte_put, given_to, in_force, is_root, identity_of, put_stop, small_ops, stop_at, throw_stop, trap_behind}
+use Rattle.shim_tests_small.specs.Small.{SmallView, IsSoundSmall, AreOfLastFork, at_trap, byte_put, computed, given_to, in_force, is_root, identity_of, number_at, number_computed, put_stop, small_ops, stop_at, throw_stop, trap_behind}
 use Rattle.shim_tests_small.specs.SmallForks as forks
 use Rattle.shim_tests_small.specs.declared.small.Step.{Step}
 use Rattle.shim_tests_small.specs.declared.small.Step.TheVariants as step
@@ -19,9 +20,10 @@ kept s = (s.path, (s.base, s.chan))
 called_kept : (l m : SmallView) → Called small_ops l m → kept m ≡ kept l
 called_kept l m (by_put at e) = ap kept e
 called_kept l m (by_receive c v at e) = ap kept e
+called_kept l m (by_thrown label at e) = ap kept e
 
 unwound_kept : (l m : SmallView) → Unwound small_ops l m → kept m ≡ kept l
-unwound_kept l m (by_label label least most e) = ap kept e
+unwound_kept l m (by_label label v least most e) = ap kept e
 
 moved_kept : (l m : SmallView) → Moved small_ops l m → kept m ≡ kept l
 moved_kept l m (by_quiet at e) = ap kept e
@@ -40,7 +42,7 @@ same_identities k m [] after e = ap (λ x. (let y : Path × ℕ = (x.0, x.1.0) i
 same_identities k m (s ∷ before) after e = ap (λ xs. identity_of s ∷ xs) (same_identities k m before after e)
 
 born_moved : (l k m : SmallView) (before after : List SmallView) → AreOfLastFork l (before ++ k ∷ after) → Moved small_ops k m → AreOfLastFork l (before ++ m ∷ after)
-born_moved l k m before after (fork, is, identities) moved = (fork, is, same_identities k m before after (moved_kept k m moved) ∙ identities)
+born_moved l k m before after (fork, n, is, identities) moved = (fork, n, is, same_identities k m before after (moved_kept k m moved) ∙ identities)
 
 put_at_root : (b : Bool) → put_stop b ≡ AtPut → b ≡ true
 put_at_root true e = refl
@@ -73,7 +75,9 @@ next_is s (step.Try name line ∷ left) c e = absurd cc
 next_is s (step.Next ∷ left) c e = cc
 next_is s (step.Put ∷ left) c e = absurd (put_is_next (is_root s.path) c e)
 next_is s (step.Fork ∷ left) c e = absurd cc
-next_is s (step.Throw label ∷ left) c e = absurd (throw_is_next label (ltb label (in_force s)) c e)
+next_is s (step.Three x y z ∷ left) c e = absurd cc
+next_is s (step.Throw label number ∷ left) c e = absurd (throw_is_next label (ltb label (in_force s)) c e)
+next_is s (step.ThrowTrap label ∷ left) c e = absurd (throw_is_next label (ltb label (in_force s)) c e)
 next_is s (step.Trap ∷ left) c e = absurd cc
 
 put_holds : (s : SmallView) (left : List Step) → stop_at s left ≡ AtPut → is_root s.path ≡ true
@@ -83,8 +87,15 @@ put_holds s (step.Try name line ∷ left) e = absurd cc
 put_holds s (step.Next ∷ left) e = absurd cc
 put_holds s (step.Put ∷ left) e = put_at_root (is_root s.path) e
 put_holds s (step.Fork ∷ left) e = absurd cc
-put_holds s (step.Throw label ∷ left) e = absurd (throw_is_put label (ltb label (in_force s)) e)
+put_holds s (step.Three x y z ∷ left) e = absurd cc
+put_holds s (step.Throw label number ∷ left) e = absurd (throw_is_put label (ltb label (in_force s)) e)
+put_holds s (step.ThrowTrap label ∷ left) e = absurd (throw_is_put label (ltb label (in_force s)) e)
 put_holds s (step.Trap ∷ left) e = absurd cc
+
+in_force_below : (s : SmallView) (label x : ℕ) → throw_stop label (ltb label (in_force s)) ≡ AtThrow x → x < in_force s
+in_force_below s label x e =
+    let is = throw_passes label x (ltb label (in_force s)) e in
+    subst (λ n. n < in_force s) is.0 ((Decides-ltb label (in_force s)).0 is.1)
 
 throw_below : (s : SmallView) (left : List Step) (x : ℕ) → stop_at s left ≡ AtThrow x → x < in_force s
 throw_below s [] x e = absurd cc
@@ -93,9 +104,9 @@ throw_below s (step.Try name line ∷ left) x e = absurd cc
 throw_below s (step.Next ∷ left) x e = absurd cc
 throw_below s (step.Put ∷ left) x e = absurd (put_is_throw (is_root s.path) x e)
 throw_below s (step.Fork ∷ left) x e = absurd cc
-throw_below s (step.Throw label ∷ left) x e =
-    let is = throw_passes label x (ltb label (in_force s)) e in
-    subst (λ n. n < in_force s) is.0 ((Decides-ltb label (in_force s)).0 is.1)
+throw_below s (step.Three a b c ∷ left) x e = absurd cc
+throw_below s (step.Throw label number ∷ left) x e = in_force_below s label x e
+throw_below s (step.ThrowTrap label ∷ left) x e = in_force_below s label x e
 throw_below s (step.Trap ∷ left) x e = absurd cc
 
 no_byte : (b : Bool) (s : SmallView) → byte_put b s.value ≡ None → b ≡ true
@@ -105,6 +116,15 @@ no_byte false s e = absurd cc
 some_byte : (b : Bool) (s : SmallView) (byte : ℕ) → byte_put b s.value ≡ Some byte → b ≡ false
 some_byte true s byte e = absurd cc
 some_byte false s byte e = refl
+
+-- a throw that has a number stays as it is, and one without is a trap from then on
+computed_same : (left : List Step) (v : ℤ) → number_at left ≡ Some v → computed left ≡ left
+computed_same (step.ThrowTrap label ∷ left) v e = absurd cc
+computed_same _ v e = refl
+
+computed_traps : (s : SmallView) (left : List Step) → number_at left ≡ None → stop_at s (computed left) ≡ at_trap
+computed_traps s (step.ThrowTrap label ∷ left) e = refl
+computed_traps s _ e = absurd cc
 
 carries_shares : (s : SmallView) (c : Channel) → small_ops.carries s c ≡ true → small_ops.shares s c ≡ true
 carries_shares s c e = (and_parts (is_root s.path) (same_channel c s.chan.channel) e).1
@@ -138,10 +158,13 @@ small_laws = record {
   put_traps = λ l sound at none. forks.is_trapped l (no_byte (trap_behind l l.left) l none);
   put_goes = λ l b sound at some trapped. forks.not_trapped l (some_byte (trap_behind l l.left) l b some) trapped;
   fork_traps = λ l m sound at e. forks.fork_traps l m e;
+  thrown_same = λ l x v sound at some. ap (λ left. (let s : SmallView = record l { left = left } in s)) (computed_same l.left v some);
+  throw_traps = λ l x sound at none. (Zero, 1, computed_traps (number_computed l) l.left none);
   quiet_shares = λ l c sound at e. e;
   quiet_adds = λ l c sound at not e. absurd (true≢false (sym e ∙ not));
   call_shares = λ l m c sound called. ap (λ k. same_channel c k.1.1.channel) (called_kept l m called);
-  unwind_shares = λ l m c sound unwound. ap (λ k. same_channel c k.1.1.channel) (unwound_kept l m unwound);
+  unwind_shares = λ l m c sound unwound e. ap (λ k. same_channel c k.1.1.channel) (unwound_kept l m unwound) ∙ e;
+  unwind_adds = λ l m c sound unwound not e. absurd (true≢false (sym e ∙ (ap (λ k. same_channel c k.1.1.channel) (unwound_kept l m unwound) ∙ not)));
   fork_shares = λ l p ks c sound forked. ap (λ s. small_ops.shares s c) (forks.parent_is l p ks forked.1);
   fork_trap_shares = λ l m c sound at e. ap (λ s. small_ops.shares s c) (forks.trapped_is l m e);
   join_shares = λ l ks goes_on c sound all born. refl;

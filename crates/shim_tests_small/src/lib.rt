@@ -5,4 +5,4 @@
 mod pieces;
 mod small;
 
-pub use small::{Small, Step};
+pub use small::{Branch, Small, Step};

@@ -1,11 +1,25 @@
 // A small process, by which what runs processes is tested; it shows that what `Local` asks can be met.
-ghost use Rattle.std.specs.Prelude.{◌≡◌, ◌↔◌, [], pos, IfOk, OnOk, OnErr, IsTrue};
+ghost use Rattle.std.specs.Prelude.{◌≡◌, ◌↔◌, [], ◌∷◌, pos, IfOk, OnOk, OnErr, IsTrue};
 ghost use Rattle.shim_local.specs.Process.{AtQuiet};
-ghost use Rattle.shim_tests_small.specs.Small.{child_of, in_force, is_root, passed, quieted, stop_of, trap_behind};
+ghost use Rattle.shim_tests_small.specs.Small.{child_of, children_from, children_of, in_force, is_root, passed, quieted, steps_of, stop_of, trap_behind};
+ghost use Rattle.shim_tests_small.specs.declared.small.Branch.TheVariants as branch;
 
 use shim_base::{Chan, List, NoMemory, Path, Trap};
 use shim_local::{Forked, Local, Quiet, Stop};
+use std::alloc::Global;
 use std::marker::Model;
+
+/// What a branch of a fork has to do.
+#[derive(Clone, Copy, Debug, PartialEq, Eq)]
+pub enum Branch {
+    /// A `next`.
+    Next,
+    /// It throws the exception of this label with this number.
+    Throw(u32, u32),
+    /// It forks, and the first branch of that fork throws so; the two others have nothing to do.
+    Outer(u32, u32),
+    Nothing,
+}
 
 /// A step that a small process has to do.
 #[derive(Clone, Copy, Debug, PartialEq, Eq)]
@@ -16,9 +30,14 @@ pub enum Step {
     Try(u32, u32),
     Next,
     Put,
+    /// Forks into two branches, each of which has a `next` to do.
     Fork,
-    /// Throws the exception of this label.
-    Throw(u32),
+    /// Forks into these three.
+    Three(Branch, Branch, Branch),
+    /// Throws the exception of this label with this number.
+    Throw(u32, u32),
+    /// Throws the exception of this label, where the expression of its number traps.
+    ThrowTrap(u32),
     Trap,
 }
 
@@ -26,9 +45,9 @@ pub enum Step {
 const MOST_PLACES: u32 = 4;
 
 /// A process that does the steps it was given, for tests of what runs processes. Each `next` of it is
-/// of one channel, and its value is what the last meeting gave, or 0. It puts 1 for each value but 0. A
-/// fork gives two children that stand at a `next` of the same channel; the value of the first comes
-/// back. The root carries the channel and holds the output.
+/// of one channel, and its value is what the last meeting gave, or the number of the last exception that it
+/// caught, or 0. It puts 1 for each value but 0. The children of a fork share the channel, and the value of
+/// the first comes back. The root carries the channel and holds the output.
 ///
 /// It stands trapped at a `Trap`, at a put of a process that isn't the root, and at a throw of an
 /// exception that isn't in force. A put or a fork behind which it would stand so traps. Each of these
@@ -74,15 +93,14 @@ impl Small {
         }
     }
 
-    // The child in this branch of the fork at which it stands.
-    fn child(&self, branch: u32) -> Result<Small, NoMemory>
-        ensures { IfOk result (λ child. child ≡ child_of self.now branch) }
+    // The child in this place of the fork at which it stands, whose branch is this.
+    fn child(&self, place: u32, branch: Branch) -> Result<Small, NoMemory>
+        ensures { IfOk result (λ child. child ≡ child_of self.now place branch) }
     {
         let alloc = *self.left.allocator();
-        let mut left = Vec::new(alloc);
-        left.push(Step::Next)?;
+        let left = steps_of(alloc, branch)?;
         Ok(Small {
-            path: self.path.child(self.forks, branch)?,
+            path: self.path.child(self.forks, place)?,
             left,
             value: self.value,
             chan: self.chan.copy()?,
@@ -90,6 +108,35 @@ impl Small {
             base: self.in_force(),
             places: Vec::new(alloc),
         })
+    }
+
+    fn two(&self) -> Result<List<Small>, NoMemory>
+        ensures { IfOk result (λ children. children ≡ children_from self.now 0 (branch.Next ∷ branch.Next ∷ [])) }
+    {
+        let mut children = List::new(*self.left.allocator());
+        children.push(self.child(0, Branch::Next)?)?;
+        children.push(self.child(1, Branch::Next)?)?;
+        Ok(children)
+    }
+
+    fn three(&self, first: Branch, second: Branch, third: Branch) -> Result<List<Small>, NoMemory>
+        ensures { IfOk result (λ children. children ≡ children_from self.now 0 (first ∷ second ∷ third ∷ [])) }
+    {
+        let mut children = List::new(*self.left.allocator());
+        children.push(self.child(0, first)?)?;
+        children.push(self.child(1, second)?)?;
+        children.push(self.child(2, third)?)?;
+        Ok(children)
+    }
+
+    // The children of the fork at which it stands.
+    fn children(&self) -> Result<List<Small>, NoMemory>
+        ensures { IfOk result (λ children. children ≡ children_of self.now) }
+    {
+        match self.left.first() {
+            Some(Step::Three(first, second, third)) => self.three(*first, *second, *third),
+            _ => self.two(),
+        }
     }
 
     // How many exception places are in force.
@@ -121,7 +168,8 @@ impl Small {
         match self.left.get(1) {
             Some(Step::Trap) => true,
             Some(Step::Put) => !self.is_root(),
-            Some(Step::Throw(label)) => *label >= self.in_force(),
+            Some(Step::Throw(label, _)) => *label >= self.in_force(),
+            Some(Step::ThrowTrap(label)) => *label >= self.in_force(),
             _ => false,
         }
     }
@@ -148,6 +196,33 @@ impl Small {
         }
         self.pass();
         Ok(())
+    }
+}
+
+fn alone(alloc: Global, step: Step) -> Result<Vec<Step>, NoMemory>
+    ensures { IfOk result (λ left. left.items ≡ step ∷ []) }
+{
+    let mut left = Vec::new(alloc);
+    left.push(step)?;
+    Ok(left)
+}
+
+// What this branch has to do.
+fn steps_of(alloc: Global, branch: Branch) -> Result<Vec<Step>, NoMemory>
+    ensures { IfOk result (λ left. left.items ≡ steps_of branch) }
+{
+    match branch {
+        Branch::Next => alone(alloc, Step::Next),
+        Branch::Throw(label, number) => alone(alloc, Step::Throw(label, number)),
+        Branch::Outer(label, number) => alone(
+            alloc,
+            Step::Three(
+                Branch::Throw(label, number),
+                Branch::Nothing,
+                Branch::Nothing,
+            ),
+        ),
+        Branch::Nothing => Ok(Vec::new(alloc)),
     }
 }
 
@@ -201,7 +276,9 @@ impl Local for Small {
             Some(Step::Next) => Stop::Next(&self.chan),
             Some(Step::Put) if self.is_root() => Stop::Put,
             Some(Step::Fork) => Stop::Fork,
-            Some(Step::Throw(label)) if *label < self.in_force() => Stop::Throw(*label),
+            Some(Step::Three(_, _, _)) => Stop::Fork,
+            Some(Step::Throw(label, _)) if *label < self.in_force() => Stop::Throw(*label),
+            Some(Step::ThrowTrap(label)) if *label < self.in_force() => Stop::Throw(*label),
             _ => Stop::Trapped(Trap::Zero, 1),
         }
     }
@@ -240,9 +317,7 @@ impl Local for Small {
             return Ok(Forked::Trapped);
         }
         let forks = self.forks.checked_add(1).ok_or(NoMemory)?;
-        let mut children = List::new(*self.left.allocator());
-        children.push(self.child(0)?)?;
-        children.push(self.child(1)?)?;
+        let children = self.children()?;
         self.forks = forks;
         Ok(Forked::Children(children))
     }
@@ -256,8 +331,20 @@ impl Local for Small {
         }
     }
 
-    fn unwind(&mut self, label: u32) {
+    fn thrown(&mut self) -> Option<i64> {
+        match self.left.first().copied() {
+            Some(Step::Throw(_, number)) => Some(i64::from(number)),
+            Some(Step::ThrowTrap(_)) => {
+                self.left[0] = Step::Trap;
+                None
+            }
+            _ => Some(0),
+        }
+    }
+
+    fn unwind(&mut self, label: u32, value: i64) {
         self.places.truncate((label - self.base) as usize);
+        self.value = value;
         self.pass();
     }
 

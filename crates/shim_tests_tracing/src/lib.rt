@@ -7,4 +7,4 @@ pub mod tell;
 mod tracing;
 
 pub use source::{Both, differing, differing_sources, start};
-pub use tracing::{Fate, trace};
+pub use tracing::{Fate, outermost, trace};

@@ -1,13 +1,13 @@
 // What a process does from where it stands to its end, written down.
 ghost use Rattle.std.specs.Prelude.{◌≡◌, IfOk, OnOk};
 ghost use Rattle.shim_base.specs.Paths.{NamedChannel};
-ghost use Rattle.shim_local.specs.Process.{AtNext, AtPut, AtFork};
+ghost use Rattle.shim_local.specs.Process.{AtNext, AtPut, AtFork, AtThrow};
 ghost use Rattle.shim_local.specs.Laws.{AllOf};
 ghost use Rattle.shim_tests_tracing.specs.Kept.{StaysChild, StayChildren};
 
 use crate::tell::{at_line, channel, count, trap, value, word};
 use shim_base::{Chan, List, Name, NoMemory};
-use shim_local::{Forked, Local, Stop};
+use shim_local::{Death, Forked, Local, Stop};
 use std::mem;
 use std::sync::Arc;
 
@@ -19,8 +19,18 @@ const MET: i64 = 7;
 pub enum Fate {
     Live,
     Ended,
-    /// It is dead, with this label.
-    Dead(u32),
+    /// It died so.
+    Dead(Death),
+}
+
+impl Fate {
+    /// It died of the exception of this label, which gave 0, as a trap does.
+    pub fn died_of(label: u32) -> Fate {
+        Fate::Dead(Death {
+            label,
+            given: Some(0),
+        })
+    }
 }
 
 /// Takes the process from where it stands to its end, and tells what it does on the way. Of a process
@@ -88,10 +98,10 @@ fn go_on<L: Local>(
             word(told, b"end")?;
             Ok(Fate::Ended)
         }
-        Stop::Throw(label) => unwind(process, label, names, told),
+        Stop::Throw(label) => throw(process, label, names, told),
         Stop::Trapped(kind, line) => {
             trap(told, kind, line)?;
-            Ok(Fate::Dead(0))
+            Ok(Fate::died_of(0))
         }
     }
 }
@@ -146,32 +156,59 @@ fn put<L: Local>(process: &mut L, told: &mut List<u8>) -> Result<Fate, NoMemory>
     Ok(Fate::Live)
 }
 
-// Goes to the handler of the label, where that is the process's own. Else it is dead.
-fn unwind<L: Local>(
+// The throw of this label at which the process stands.
+fn throw<L: Local>(
     process: &mut L,
     label: u32,
+    names: &[Name],
+    told: &mut List<u8>,
+) -> Result<Fate, NoMemory>
+    requires { L.ops.stop process.old ≡ AtThrow label }
+    ensures { OnOk result (StaysChild L.ops process.old process.new) }
+{
+    let _path = process.path(); // its state is sound
+    match process.thrown() {
+        None => {
+            word(told, b"throw=none")?;
+            Ok(Fate::Live)
+        }
+        Some(number) => {
+            let death = Death {
+                label,
+                given: Some(number),
+            };
+            unwind(process, death, names, told)
+        }
+    }
+}
+
+// Goes to the handler of the exception, where that is the process's own. Else it dies so.
+fn unwind<L: Local>(
+    process: &mut L,
+    death: Death,
     names: &[Name],
     told: &mut List<u8>,
 ) -> Result<Fate, NoMemory>
     ensures { OnOk result (StaysChild L.ops process.old process.new) }
 {
     let _path = process.path(); // its state is sound
+    let label = death.label;
     if process.base() <= label && label < process.handlers() {
         let handler = process.handler(label);
-        process.unwind(label);
+        process.unwind(label, death.handed());
         word(told, b"catch ")?;
         at_line(told, names, handler.0, handler.1)?;
         Ok(Fate::Live)
     } else {
         count(told, b"throw ", label as u64)?;
-        Ok(Fate::Dead(label))
+        Ok(Fate::Dead(death))
     }
 }
 
-// Goes on behind a fork, or at the handler of this label of its dead children.
+// Goes on behind a fork, or at the handler of the exception that prevails of its dead children.
 fn come_back<L: Local>(
     process: &mut L,
-    least: Option<u32>,
+    least: Option<Death>,
     names: &[Name],
     told: &mut List<u8>,
 ) -> Result<Fate, NoMemory>
@@ -179,7 +216,7 @@ fn come_back<L: Local>(
 {
     match least {
         None => Ok(Fate::Live),
-        Some(label) => unwind(process, label, names, told),
+        Some(death) => unwind(process, death, names, told),
     }
 }
 
@@ -216,7 +253,7 @@ fn fork<L: Local>(
     }
 }
 
-// Takes each child to its end, and answers the least label of those that are dead. The children stay
+// Takes each child to its end, and answers the prevailing death of those that are dead. The children stay
 // those of their parent.
 #[cycle(trace)]
 fn trace_all<L: Local>(
@@ -224,7 +261,7 @@ fn trace_all<L: Local>(
     names: &[Name],
     levels: u32,
     told: &mut List<u8>,
-) -> Result<Option<u32>, NoMemory>
+) -> Result<Option<Death>, NoMemory>
     ensures { OnOk result (StayChildren L.ops children.old.items children.new.items) }
 {
     let mut least = None;
@@ -235,7 +272,7 @@ fn trace_all<L: Local>(
         };
         tell_given(child, names, told)?;
         let fate = trace(child, names, levels, told)?;
-        least = lesser(least, fate);
+        least = outermost(least, fate);
     }
     Ok(least)
 }
@@ -249,12 +286,12 @@ fn separate(told: &mut List<u8>, at: usize) -> Result<(), NoMemory> {
     }
 }
 
-// The lesser of a label and that of a process that is dead.
-fn lesser(least: Option<u32>, fate: Fate) -> Option<u32> {
+/// The outermost of a death, if there is one, and that of a process behind it, if that is dead.
+pub fn outermost(least: Option<Death>, fate: Fate) -> Option<Death> {
     match fate {
-        Fate::Dead(label) => match least {
-            Some(other) if other <= label => Some(other),
-            _ => Some(label),
+        Fate::Dead(death) => match least {
+            Some(other) => Some(other.outermost(death)),
+            None => Some(death),
         },
         _ => least,
     }

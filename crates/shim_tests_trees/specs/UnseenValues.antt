@@ -1,10 +1,11 @@
 -- Small processes that differ in values that no call tells: a join takes back the value of the first branch alone.
-use Rattle.std.specs.Prelude.{◌≡◌, ℕ, zero, ℤ, Bool, true, false, ◌&&◌, eqb, List, [], ◌∷◌, ◌++◌, refl}
+use Rattle.std.specs.Prelude.{◌≡◌, ◌+◌, ℕ, zero, ℤ, Bool, true, false, ◌&&◌, eqb, List, [], ◌∷◌, ◌++◌, refl}
 use Rattle.std.proofs.Common.{ap, sym, subst, ◌∙◌}
 use Rattle.shim_base.specs.Paths.{Path}
 use Rattle.shim_base.proofs.Facts.{first_holds, second_holds, both_hold}
-use Rattle.shim_tests_small.specs.Small.{SmallView, AreOfLastFork, child_of, fork_result, forked, is_root, joined, small_ops, trap_behind, value_given}
+use Rattle.shim_tests_small.specs.Small.{SmallView, AreOfLastFork, branches, child_of, children_from, children_of, fork_result, forked, is_root, joined, small_ops, trap_behind, value_given}
 use Rattle.shim_tests_small.specs.SmallLaws.{small_laws}
+use Rattle.shim_tests_small.specs.declared.small.Branch.{Branch}
 use Rattle.shim_laws_tied.specs.Ties.{KeepsTied, AreTied, AllTied, ForksTied}
 
 -- each branch on the way from the root is the first of its fork
@@ -35,14 +36,15 @@ seen_is_same l m h first = h.0 ∙ ap (λ v. (let s : SmallView = record l { val
 root_is_same : (l m : SmallView) → DifferUnseen l m → is_root l.path ≡ true → m ≡ l
 root_is_same l m h root = seen_is_same l m h (root_is_first l.path root)
 
+children_differ : (l m : SmallView) (place : ℕ) (bs : List Branch) → DifferUnseen l m → AllTied DifferUnseen (children_from l place bs) (children_from m place bs)
+children_differ l m place [] h = tt
+children_differ l m place (b ∷ bs) h = ((ap (λ s. child_of s place b) h.0, λ e. h.1 (parent_is_first l.path l.forks place e)), children_differ l m (place + 1) bs h)
+
 forks_differ : (b : Bool) (l m : SmallView) → DifferUnseen l m → ForksTied DifferUnseen (fork_result b l) (fork_result b m)
 forks_differ true l m h = (ap small_ops.put h.0, h.1)
 forks_differ false l m h = (
   (ap forked h.0, h.1),
-  (
-    (ap (λ s. child_of s 0) h.0, λ e. h.1 (parent_is_first l.path l.forks 0 e)),
-    ((ap (λ s. child_of s 1) h.0, λ e. h.1 (parent_is_first l.path l.forks 1 e)), tt),
-  ),
+  subst (λ left. AllTied DifferUnseen (children_of l) (children_from m 0 (branches left))) (sym (ap (λ s. s.left) h.0)) (children_differ l m 0 (branches l.left) h),
 )
 
 -- the value that comes back is that of the first child
@@ -63,7 +65,9 @@ unseen_is_kept = record {
   receive = λ l m c v h at. (ap (λ s. small_ops.receive s v) h.2.0, λ e. refl);
   fork = λ l m h at. subst (λ b. ForksTied DifferUnseen (small_ops.fork l) (fork_result b m)) (sym (ap (λ s. trap_behind s s.left) h.2.0)) (forks_differ (trap_behind l l.left) l m h.2);
   join = λ l m ls ms goes_on h sound others each born too. (ap (λ s. joined s ms goes_on) h.2.0, values_come_back l m ls ms h.2 each born);
-  unwind = λ l m label h least most. (ap (λ s. small_ops.unwind s label) h.2.0, h.2.1);
+  number = λ l m label h at. sym (ap small_ops.number h.2.0);
+  thrown = λ l m label h at. (ap small_ops.thrown h.2.0, h.2.1);
+  unwind = λ l m label v h least most. (ap (λ s. small_ops.unwind s label v) h.2.0, λ e. refl);
   value = λ l m c h carries. sym (ap (λ s. s.value) (root_is_same l m h.2 (first_holds (is_root l.path) _ carries)));
   shares = λ l m c h. sym (ap (λ s. small_ops.shares s c) h.2.0);
   carries = λ l m c h. sym (ap (λ s. small_ops.carries s c) h.2.0);

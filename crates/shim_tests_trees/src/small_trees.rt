@@ -7,7 +7,7 @@ ghost use Rattle.shim_semantics.specs.Trees.{steps, IsQuiescent};
 
 use shim_base::{Chan, List, NoMemory, Path, Trap, push_decimal};
 use shim_local::{Ended, History, Local, Log, LogWhat, Outcome, OwnSteps, WaitAt};
-use shim_tests_small::{Small, Step};
+use shim_tests_small::{Branch, Small, Step};
 use shim_tree::{Event, Tree};
 use std::alloc::Global;
 use std::process::Abort;
@@ -384,7 +384,7 @@ fn exceptions_are_caught_and_logged_in_order(rt: HostRuntime) -> Result<(), Fail
         rt.alloc(),
         &[
             (
-                &[Step::Try(3, 20), Step::Quiet, Step::Throw(1), Step::Put],
+                &[Step::Try(3, 20), Step::Quiet, Step::Throw(1, 0), Step::Put],
                 9,
                 " own root; own root; own root; own root; end root; \
                  at rest: quiet none none; met none; met none; \
@@ -393,9 +393,9 @@ fn exceptions_are_caught_and_logged_in_order(rt: HostRuntime) -> Result<(), Fail
             (
                 &[
                     Step::Try(3, 20),
-                    Step::Throw(1),
+                    Step::Throw(1, 0),
                     Step::Try(4, 21),
-                    Step::Throw(1),
+                    Step::Throw(1, 0),
                     Step::Trap,
                 ],
                 9,
@@ -418,15 +418,121 @@ fn root_dies_of_a_trap_and_of_its_label(rt: HostRuntime) -> Result<(), Fail> {
         rt.alloc(),
         &[
             (&[Step::Trap], 9, trapped),
-            (&[Step::Throw(1)], 9, trapped),
+            (&[Step::Throw(1, 0)], 9, trapped),
             (
-                &[Step::Throw(0)],
+                &[Step::Throw(0, 0)],
                 9,
                 " own root; \
                  at rest: quiet none none; met none; met none; \
                  put; stepped root 1; others 0; steps 1; trapped",
             ),
         ],
+    )
+}
+
+#[test]
+fn handler_is_given_the_number_of_the_throw(rt: HostRuntime) -> Result<(), Fail> {
+    expect(
+        &rt,
+        rt.alloc(),
+        &[
+            (
+                &[Step::Try(3, 20), Step::Throw(1, 7), Step::Next],
+                9,
+                " own root; own root; meet 2 of root; end root; \
+                 at rest: quiet none none; met 7; met none; \
+                 put; history 2 of root as 7: 7; log root caught 3 in 20; \
+                 stepped root 2; others 2; steps 4; done",
+            ),
+            (
+                &[
+                    Step::Try(3, 20),
+                    Step::Three(Branch::Outer(1, 5), Branch::Nothing, Branch::Nothing),
+                    Step::Next,
+                ],
+                20,
+                " own root; own root; own root/0.0; own root/0.0/0.0; \
+                 end root/0.0/0.1; end root/0.0/0.2; close root/0.0; end root/0.1; end root/0.2; \
+                 close root; meet 2 of root; end root; \
+                 at rest: quiet none none; met 5; met none; \
+                 put; history 2 of root as 7: 5; log root caught 3 in 20; \
+                 stepped root 2; stepped root/0.0 1; stepped root/0.0/0.0 1; others 8; steps 12; done",
+            ),
+        ],
+    )
+}
+
+#[test]
+fn of_one_label_the_leftmost_throw_gives_the_number(rt: HostRuntime) -> Result<(), Fail> {
+    expect(
+        &rt,
+        rt.alloc(),
+        &[
+            (
+                &[
+                    Step::Try(3, 20),
+                    Step::Three(Branch::Next, Branch::Throw(1, 7), Branch::Throw(1, 9)),
+                    Step::Next,
+                ],
+                9,
+                " own root; own root; own root/0.1; poison root/0.0 on 2 of root; own root/0.2; \
+                 close root; meet 2 of root; end root; \
+                 at rest: quiet none none; met 7; met none; \
+                 put; history 2 of root as 7: 7; log root caught 3 in 20; \
+                 stepped root 2; stepped root/0.1 1; stepped root/0.2 1; others 4; steps 8; done",
+            ),
+            // a poisoned branch to the left of the only throw
+            (
+                &[
+                    Step::Try(3, 20),
+                    Step::Three(Branch::Next, Branch::Throw(1, 9), Branch::Nothing),
+                    Step::Next,
+                ],
+                9,
+                " own root; own root; own root/0.1; poison root/0.0 on 2 of root; end root/0.2; \
+                 close root; meet 2 of root; end root; \
+                 at rest: quiet none none; met 9; met none; \
+                 put; history 2 of root as 7: 9; log root caught 3 in 20; \
+                 stepped root 2; stepped root/0.1 1; others 5; steps 8; done",
+            ),
+        ],
+    )
+}
+
+#[test]
+fn outermost_label_gives_the_number(rt: HostRuntime) -> Result<(), Fail> {
+    expect(
+        &rt,
+        rt.alloc(),
+        &[(
+            &[
+                Step::Try(3, 20),
+                Step::Try(4, 21),
+                Step::Three(Branch::Throw(2, 7), Branch::Throw(1, 9), Branch::Nothing),
+                Step::Next,
+            ],
+            9,
+            " own root; own root; own root; own root/0.0; own root/0.1; end root/0.2; \
+             close root; meet 2 of root; end root; \
+             at rest: quiet none none; met 9; met none; \
+             put; history 2 of root as 7: 9; log root caught 3 in 20; \
+             stepped root 3; stepped root/0.0 1; stepped root/0.1 1; others 4; steps 9; done",
+        )],
+    )
+}
+
+#[test]
+fn throw_whose_expression_traps_is_caught_by_nobody(rt: HostRuntime) -> Result<(), Fail> {
+    expect(
+        &rt,
+        rt.alloc(),
+        &[(
+            &[Step::Try(3, 20), Step::ThrowTrap(1), Step::Put],
+            9,
+            " own root; own root; own root; \
+             at rest: quiet none none; met none; met none; \
+             put; log root zero in 1; stepped root 3; others 0; steps 3; trapped",
+        )],
     )
 }
 
@@ -447,7 +553,12 @@ fn put_and_fork_that_trap_are_steps(rt: HostRuntime) -> Result<(), Fail> {
 
 #[test]
 fn quiet_steps_at_once_are_as_one_after_another(rt: HostRuntime) -> Result<(), Fail> {
-    let steps = [Step::Quiet, Step::Try(3, 20), Step::Quiet, Step::Throw(1)];
+    let steps = [
+        Step::Quiet,
+        Step::Try(3, 20),
+        Step::Quiet,
+        Step::Throw(1, 0),
+    ];
     let none = " going: own root; quiet root none; met none; met none; \
          put; others 0; steps 0; spent";
     expect_at_once(

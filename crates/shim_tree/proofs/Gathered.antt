@@ -25,7 +25,7 @@ node_live {S} l = ap (node l) (sym code.rolls-Live) ∙ ap (λ f. f l) (fold-rol
 node_ended : {S : Type 0} (l : S) → node l code.Ended ≡ model.Ended l
 node_ended {S} l = ap (node l) (sym code.rolls-Ended) ∙ ap (λ f. f l) (fold-roll-NodeStatus S (S → model.Node S) node_step open_below.Ended)
 
-node_dead : {S : Type 0} (l : S) (x : ℕ) → node l (code.Dead x) ≡ model.Dead l (model.death x)
+node_dead : {S : Type 0} (l : S) (x : model.Death) → node l (code.Dead x) ≡ model.Dead l x
 node_dead {S} l x = ap (node l) (sym (code.rolls-Dead x)) ∙ ap (λ f. f l) (fold-roll-NodeStatus S (S → model.Node S) node_step (open_below.Dead x))
 
 node_forked : {S : Type 0} (l : S) (ls : _) (bs : _) → node l (code.Forked ls bs) ≡ model.Forked l (together ls.items (nodes bs.items))
@@ -37,13 +37,13 @@ at_live l b e = ap (node l) e ∙ node_live l
 pub at_ended : {S : Type 0} (l : S) (b : NodeStatus S) → b ≡ code.Ended → node l b ≡ model.Ended l
 at_ended l b e = ap (node l) e ∙ node_ended l
 
-pub at_dead : {S : Type 0} (l : S) (b : NodeStatus S) (x : ℕ) → b ≡ code.Dead x → node l b ≡ model.Dead l (model.death x)
+pub at_dead : {S : Type 0} (l : S) (b : NodeStatus S) (x : model.Death) → b ≡ code.Dead x → node l b ≡ model.Dead l x
 at_dead l b x e = ap (node l) e ∙ node_dead l x
 
 pub at_forked : {S : Type 0} (l : S) (b : NodeStatus S) (ls : _) (bs : _) → b ≡ code.Forked ls bs → node l b ≡ model.Forked l (together ls.items (nodes bs.items))
 at_forked l b ls bs e = ap (node l) e ∙ node_forked l ls bs
 
-pub outcome_at_dead : {S : Type 0} (l : S) (b : NodeStatus S) (x : ℕ) → b ≡ code.Dead x → outcome_of_label x ≡ outcome_of_root (node l b)
+pub outcome_at_dead : {S : Type 0} (l : S) (b : NodeStatus S) (x : model.Death) → b ≡ code.Dead x → outcome_of_label x.label ≡ outcome_of_root (node l b)
 outcome_at_dead l b x e = sym (ap outcome_of_root (at_dead l b x e))
 
 pub with_both : (m : FinMap path_order NamedChannel) (xs ys : List (Path × NamedChannel)) → with_waits m (xs ++ ys) ≡ with_waits (with_waits m xs) ys

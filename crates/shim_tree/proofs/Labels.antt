@@ -3,7 +3,7 @@ use Rattle.std.proofs.Common.{◌≡◌, ℕ, zero, suc, ◌+◌, ◌<◌, ◌�
 use Rattle.std.proofs.Math.Nat.{min-le_left}
 use Rattle.shim_local.specs.Process.{Ops}
 use Rattle.shim_local.specs.Laws.{AllOf}
-use Rattle.shim_semantics.specs.Nodes.{Node, Nodes, Live, Forked, Ended, Dead, Death, death, no_node, node_and, state, states, prevailing, prevailing_death}
+use Rattle.shim_semantics.specs.Nodes.{Node, Nodes, Live, Forked, Ended, Dead, Death, outermost, no_node, node_and, state, states, prevailing, prevailing_death}
 use Rattle.shim_semantics.specs.Places.{SoundBelow, SoundChildren}
 use Rattle.shim_tree.specs.NodeStatus.{nodes}
 use Rattle.shim_tree.specs.Beside.{place}
@@ -13,19 +13,6 @@ use Rattle.shim_tree.proofs.Beside.{from, from_next, from_end}
 use Rattle.shim_base.proofs.Facts.{some_same, none_some}
 
 -- ---- the prevailing one of deaths
-
-min_assoc : (x y z : ℕ) → min (min x y) z ≡ min x (min y z)
-min_assoc x y z = omega arith
-
-prevailing_assoc : (x y z : Option Death) → prevailing_of (prevailing_of x y) z ≡ prevailing_of x (prevailing_of y z)
-prevailing_assoc None y z = refl
-prevailing_assoc (Some x) None z = refl
-prevailing_assoc (Some x) (Some y) None = refl
-prevailing_assoc (Some x) (Some y) (Some z) = ap (λ w. Some (death w)) (min_assoc x.label y.label z.label)
-
-prevailing_alone : (x : Option Death) → prevailing_of x None ≡ x
-prevailing_alone None = refl
-prevailing_alone (Some x) = refl
 
 death_first : {S : Type 0} (k : Node S) (ks : Nodes S) → prevailing_death (node_and k ks) ≡ prevailing_of (death_of k) (prevailing_death ks)
 death_first (Live l) ks = refl
@@ -45,14 +32,12 @@ death_next i ls bs r h f =
     ap prevailing_death (from_next i ls bs x.0 h x.1)
     ∙ (death_first (place x.0 (nodes bs) i) (from (i + 1) ls bs) ∙ ap (λ z. prevailing_of z (prevailing_death (from (i + 1) ls bs))) (sym (f x.0)))
 
--- one child more, and all of them
-pub one_death : {S : Type 0} (i : ℕ) (ls : List S) (bs : List (NodeStatus S)) (was r all : Option Death) → i < length ls → ((l : S) → r ≡ death_of (place l (nodes bs) i))
-    → prevailing_of was (prevailing_death (from i ls bs)) ≡ all → prevailing_of (prevailing_of was r) (prevailing_death (from (i + 1) ls bs)) ≡ all
-one_death i ls bs was r all h f each =
-    prevailing_assoc was r (prevailing_death (from (i + 1) ls bs)) ∙ (ap (prevailing_of was) (sym (death_next i ls bs r h f)) ∙ each)
+-- one child more, from the last one on, and none at first
+pub one_death : {S : Type 0} (i : ℕ) (ls : List S) (bs : List (NodeStatus S)) (was r now : Option Death) → i < length ls → ((l : S) → r ≡ death_of (place l (nodes bs) i)) → now ≡ prevailing_of r was → was ≡ prevailing_death (from (i + 1) ls bs) → now ≡ prevailing_death (from i ls bs)
+one_death i ls bs was r now h f is each = is ∙ (ap (prevailing_of r) each ∙ sym (death_next i ls bs r h f))
 
-pub every_death : {S : Type 0} (i : ℕ) (ls : List S) (bs : List (NodeStatus S)) (was all : Option Death) → length ls ≤ i → prevailing_of was (prevailing_death (from i ls bs)) ≡ all → was ≡ all
-every_death i ls bs was all h each = sym (prevailing_alone was) ∙ (ap (λ z. prevailing_of was (prevailing_death z)) (sym (from_end i ls bs h)) ∙ each)
+pub no_death : {S : Type 0} (i : ℕ) (ls : List S) (bs : List (NodeStatus S)) → length ls ≤ i → None ≡ prevailing_death (from i ls bs)
+no_death i ls bs h = sym (ap prevailing_death (from_end i ls bs h))
 
 -- ---- what a sound fork says of it
 
@@ -82,5 +67,5 @@ label_in_force o l f i (node_and (Dead k y) ks) x s e = of_prevailing (prevailin
     of_prevailing (Some z) g =
         let least = min-le_left y.label z.label in
         let status = own in
-        let is = ap (λ d. d.label) (some_same (death (min y.label z.label)) x g) in
+        let is = ap (λ d. d.label) (some_same (outermost y z) x g) in
         omega (arith, least, status, is)

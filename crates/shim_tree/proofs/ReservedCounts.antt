@@ -5,8 +5,8 @@ use Rattle.std.specs.FinMap.{FinMap}
 use Rattle.shim_base.specs.Paths.{Path, Channel, path_order}
 use Rattle.shim_local.specs.Process.{Ops, StopView, ForkedView, AtQuiet, AtNext, AtPut, AtFork, AtFinish, AtThrow, AtTrap, Parted, Trapped}
 use Rattle.shim_local.specs.Laws.{LocalLaws, AllOf}
-use Rattle.shim_semantics.specs.Nodes.{Node, Nodes, Live, Forked, Ended, Dead, Death, death, no_node, node_and, state, states, everyone, everyone_of, all_live, all_done, prevailing_death, received, all_received}
-use Rattle.shim_semantics.specs.Acts.{Acted, nothing, catching, act_here, act_live, parted, thrown, closed}
+use Rattle.shim_semantics.specs.Nodes.{Node, Nodes, Live, Forked, Ended, Dead, Death, death, death_with, handed, no_node, node_and, state, states, everyone, everyone_of, all_live, all_done, prevailing_death, received, all_received}
+use Rattle.shim_semantics.specs.Acts.{throwing, Acted, nothing, catching, act_here, act_live, parted, thrown, closed}
 use Rattle.shim_semantics.specs.Poison.{poison_route}
 use Rattle.shim_semantics.specs.Places.{at, child_at, route, at_route, led_to, has_path, SoundBelow, SoundChildren}
 use Rattle.shim_semantics.specs.Trees.{act_route, poisons}
@@ -38,10 +38,14 @@ module _ {S : Type 0} (o : Ops S) where
   thrown_alone : (l : S) (x : Death) → everyone (thrown o l x).node ≡ state (thrown o l x).node ∷ []
   thrown_alone l x = at_base (ltb x.label (o.base l))
     where
-      at_base : (b : Bool) → everyone (cond {A = Acted S} b (record { node = Dead l x; effects = nothing }) (record { node = Live (o.unwind l x.label); effects = catching (o.handler l x.label) })).node
-          ≡ state (cond {A = Acted S} b (record { node = Dead l x; effects = nothing }) (record { node = Live (o.unwind l x.label); effects = catching (o.handler l x.label) })).node ∷ []
+      at_base : (b : Bool) → everyone (cond {A = Acted S} b (record { node = Dead l x; effects = nothing }) (record { node = Live (o.unwind l x.label (handed x.given)); effects = catching (o.handler l x.label) })).node
+          ≡ state (cond {A = Acted S} b (record { node = Dead l x; effects = nothing }) (record { node = Live (o.unwind l x.label (handed x.given)); effects = catching (o.handler l x.label) })).node ∷ []
       at_base true = refl
       at_base false = refl
+
+  throwing_alone : (l : S) (x : ℕ) (r : Option ℤ) → everyone (throwing o l x r).node ≡ state (throwing o l x r).node ∷ []
+  throwing_alone l x None = refl
+  throwing_alone l x (Some v) = thrown_alone l (death_with x v)
 
   closed_alone : (l : S) (ks : List S) (x : Option Death) → everyone (closed o l ks x).node ≡ state (closed o l ks x).node ∷ []
   closed_alone l ks None = refl
@@ -57,7 +61,7 @@ module _ {S : Type 0} (o : Ops S) where
   live_all l AtFork a e = subst (λ z. everyone z.node ≡ state z.node ∷ children_of (o.fork l)) (some_same _ a e) (parted_all (o.fork l))
   live_all l AtFinish a e = subst (λ z. everyone z.node ≡ state z.node ∷ []) (some_same _ a e) refl
   live_all l (AtNext c) a e = none_some a e
-  live_all l (AtThrow label) a e = subst (λ z. everyone z.node ≡ state z.node ∷ []) (some_same _ a e) (thrown_alone l (death label))
+  live_all l (AtThrow label) a e = subst (λ z. everyone z.node ≡ state z.node ∷ []) (some_same _ a e) (throwing_alone l label (o.number l))
   live_all l (AtTrap kind line) a e = subst (λ z. everyone z.node ≡ state z.node ∷ []) (some_same _ a e) refl
 
   -- the process itself, and the children that its step made

@@ -1,7 +1,7 @@
--- How a child died, as the code compares deaths by their labels, and what a thrown exception leaves.
-use Rattle.std.specs.Prelude.{◌≡◌, ℕ, Option, Some, None}
+-- How a child died, and what a thrown exception leaves.
+use Rattle.std.specs.Prelude.{◌≡◌, Option, Some, None}
 use Rattle.shim_local.specs.Process.{Ops}
-use Rattle.shim_semantics.specs.Nodes.{Node, Live, Forked, Ended, Dead, Death, death, prevailing}
+use Rattle.shim_semantics.specs.Nodes.{Node, Live, Forked, Ended, Dead, Death, prevailing}
 use Rattle.shim_semantics.specs.Acts.{Effects, thrown}
 
 -- how it died
@@ -16,11 +16,6 @@ abbrev pub prevailing_of : Option Death → Option Death → Option Death
 prevailing_of None y = y
 prevailing_of (Some d) y = prevailing d y
 
--- the death of an exception with this label, if there is one
-abbrev pub death_by : Option ℕ → Option Death
-death_by None = None
-death_by (Some x) = Some (death x)
-
--- the exception of this label, thrown in the process, leaves this node and tells this
-abbrev pub ThrowLeaves : {S : Type 0} → Ops S → S → ℕ → Effects → Node S → Type 0
-ThrowLeaves o l x effects after = thrown o l (death x) ≡ record { node = after; effects = effects }
+-- the exception of this death, thrown in the process, leaves this node and tells this
+abbrev pub ThrowLeaves : {S : Type 0} → Ops S → S → Death → Effects → Node S → Type 0
+ThrowLeaves o l d effects after = thrown o l d ≡ record { node = after; effects = effects }

@@ -18,7 +18,7 @@ abbrev pub node_step : {S : Type 0} → NodeStatus-F S (S → model.Node S) → 
 node_step Live l = model.Live l
 node_step (Forked ls bs) l = model.Forked l (together ls.items bs.items)
 node_step Ended l = model.Ended l
-node_step (Dead x) l = model.Dead l (model.death x)
+node_step (Dead x) l = model.Dead l x
 
 abbrev pub node : {S : Type 0} → S → NodeStatus S → model.Node S
 node {S} l b = fold-NodeStatus S (S → model.Node S) node_step b l

@@ -1,19 +1,19 @@
 // What a process does by itself: a step of its own, its end, or the close of its fork.
 ghost use Rattle.std.specs.Prelude.{◌≡◌, ◌≢◌, ◌<◌, ◌≤◌, None, is_none, IfOk, OnOk, OnErr, length, vec_len, drop};
-ghost use Rattle.shim_local.specs.Process.{AtQuiet, AtPut, AtFork};
+ghost use Rattle.shim_local.specs.Process.{AtQuiet, AtPut, AtFork, AtThrow};
 ghost use Rattle.shim_semantics.specs.Nodes.{prevailing_death};
-ghost use Rattle.shim_semantics.specs.Acts.{nothing, putting, act_here, act, act_child};
+ghost use Rattle.shim_semantics.specs.Acts.{nothing, putting, throwing, act_here, act, act_child};
 ghost use Rattle.shim_semantics.specs.Places.{SoundBelow, branches};
 ghost use Rattle.shim_tree.specs.NodeStatus.{node, nodes, together};
 ghost use Rattle.shim_tree.specs.Beside.{place};
-ghost use Rattle.shim_tree.specs.Labels.{death_by, death_of, prevailing_of, ThrowLeaves};
+ghost use Rattle.shim_tree.specs.Labels.{death_of, prevailing_of, ThrowLeaves};
 ghost use Rattle.shim_tree.specs.Acting.{effects_of, ActsHere, ActsAt, ActsAmong, SoundAmong, acted_on, ActsOn};
 
 use crate::effects::Effects;
 use crate::fill::{behind, fill};
 use crate::node_status::NodeStatus;
 use shim_base::{NoMemory, Path};
-use shim_local::{Forked, Local, LogWhat, Stop};
+use shim_local::{Death, Forked, Local, LogWhat, Stop};
 
 // One quiet step.
 fn step_quietly<L: Local>(process: &mut L) -> Result<(), NoMemory>
@@ -59,20 +59,41 @@ fn fork<L: Local>(process: &mut L, status: &mut NodeStatus<L>) -> Result<(), NoM
     Ok(())
 }
 
-// The exception of this label is thrown in the process, whatever came of it until now. It dies of a
+// The exception of this death is thrown in the process, whatever came of it until now. It dies of a
 // label that is none of its own handlers', and else goes on at the handler.
-fn throw<L: Local>(process: &mut L, status: &mut NodeStatus<L>, label: u32) -> Effects
-    requires { label < L.ops.handlers process.old }
-    ensures { ThrowLeaves L.ops process.old label (effects_of result) (node process.new status.new) }
+fn throw<L: Local>(process: &mut L, status: &mut NodeStatus<L>, death: Death) -> Effects
+    requires { death.label < L.ops.handlers process.old }
+    ensures { ThrowLeaves L.ops process.old death (effects_of result) (node process.new status.new) }
 {
-    if label < process.base() {
-        *status = NodeStatus::Dead(label);
+    if death.label < process.base() {
+        *status = NodeStatus::Dead(death);
         return Effects::Nothing;
     }
-    let (name, line) = process.handler(label);
-    process.unwind(label);
+    let (name, line) = process.handler(death.label);
+    process.unwind(death.label, death.handed());
     *status = NodeStatus::Live;
     Effects::Log(LogWhat::Caught(name, line))
+}
+
+// The throw of this label at which the process stands. Where its expression traps, nothing is told yet, and
+// the process stands trapped.
+fn throw_here<L: Local>(process: &mut L, status: &mut NodeStatus<L>, label: u32) -> Effects
+    requires lives { status.old ≡ NodeStatus.Live }
+    requires sound { L.ops.sound process.old }
+    requires throws { L.ops.stop process.old ≡ AtThrow label }
+    ensures { throwing L.ops process.old label (L.ops.number process.old) ≡ record { node = node process.new status.new; effects = effects_of result } }
+{
+    match process.thrown() {
+        None => Effects::Nothing,
+        Some(number) => throw(
+            process,
+            status,
+            Death {
+                label,
+                given: Some(number),
+            },
+        ),
+    }
 }
 
 // A live process does what it stands at.
@@ -97,10 +118,13 @@ fn act_live<L: Local>(process: &mut L, status: &mut NodeStatus<L>) -> Result<Eff
             *status = NodeStatus::Ended;
             Ok(Effects::Nothing)
         }
-        Stop::Throw(label) => Ok(throw(process, status, label)),
+        Stop::Throw(label) => Ok(throw_here(process, status, label)),
         // a trap is the exception of a label that no handler has
         Stop::Trapped(kind, line) => {
-            *status = NodeStatus::Dead(0);
+            *status = NodeStatus::Dead(Death {
+                label: 0,
+                given: Some(0),
+            });
             Ok(Effects::Log(LogWhat::Trap(kind, line)))
         }
         // it waits, and does nothing by itself
@@ -108,61 +132,63 @@ fn act_live<L: Local>(process: &mut L, status: &mut NodeStatus<L>) -> Result<Eff
     }
 }
 
-// The label of which a process died of which this came, if it did.
-fn label_of<L>(status: &NodeStatus<L>) -> Option<u32>
-    ensures { (l : L) → death_by result ≡ death_of (node l status.now) }
+// How a process died of which this came, if it did.
+fn death_of<L>(status: &NodeStatus<L>) -> Option<Death>
+    ensures { (l : L) → result ≡ death_of (node l status.now) }
 {
     match status {
-        NodeStatus::Dead(label) => Some(*label),
+        NodeStatus::Dead(death) => Some(*death),
         NodeStatus::Live | NodeStatus::Ended | NodeStatus::Forked(_, _) => None,
     }
 }
 
-// The label of which the child in this place died, given what came of the children.
-fn label_at<L>(statuses: &[NodeStatus<L>], i: usize) -> Option<u32>
-    ensures { (l : L) → death_by result ≡ death_of (place l (nodes statuses.now) i) }
+// How the child in this place died, given what came of the children.
+fn death_at<L>(statuses: &[NodeStatus<L>], i: usize) -> Option<Death>
+    ensures { (l : L) → result ≡ death_of (place l (nodes statuses.now) i) }
 {
     if i < statuses.len() {
-        label_of(&statuses[i])
+        death_of(&statuses[i])
     } else {
         None
     }
 }
 
-// The lesser of two labels, of which each may be missing.
-fn lesser(one: Option<u32>, other: Option<u32>) -> Option<u32>
-    ensures { death_by result ≡ prevailing_of (death_by one) (death_by other) }
+// The prevailing one of two deaths, of which each may be missing.
+fn prevailing(one: Option<Death>, other: Option<Death>) -> Option<Death>
+    ensures { result ≡ prevailing_of one other }
 {
     match one {
         None => other,
         Some(x) => match other {
             None => one,
-            Some(y) => Some(x.min(y)),
+            Some(y) => Some(x.outermost(y)),
         },
     }
 }
 
-// The label of the prevailing death among these children, if one died.
-fn prevailing_label<L>(children: &[L], statuses: &[NodeStatus<L>]) -> Option<u32>
-    ensures { death_by result ≡ prevailing_death (together children.now (nodes statuses.now)) }
+// The prevailing death among these children, if one died.
+fn prevailing_death<L>(children: &[L], statuses: &[NodeStatus<L>]) -> Option<Death>
+    ensures { result ≡ prevailing_death (together children.now (nodes statuses.now)) }
 {
-    let mut least = None;
-    for i in 0..children.len() {
-        least = lesser(least, label_at(statuses, i));
+    let mut death = None;
+    let mut left = children.len();
+    while left > 0 {
+        left -= 1;
+        death = prevailing(death_at(statuses, left), death);
     }
-    least
+    death
 }
 
 // The process takes back the values of its children, each of which has ended or died. The answer is
-// the label of the prevailing death, which is then to be thrown where the process still stands.
-fn take_back<L: Local>(process: &mut L, children: &[L], statuses: &[NodeStatus<L>]) -> Option<u32>
+// the prevailing death, whose exception is then to be thrown where the process still stands.
+fn take_back<L: Local>(process: &mut L, children: &[L], statuses: &[NodeStatus<L>]) -> Option<Death>
     requires { L.ops.born process.old children.now }
-    ensures label { death_by result ≡ prevailing_death (together children.now (nodes statuses.now)) }
+    ensures death { result ≡ prevailing_death (together children.now (nodes statuses.now)) }
     ensures joined { process.new ≡ L.ops.join process.old children.now (is_none result) }
 {
-    let label = prevailing_label(children, statuses);
-    process.join(children, label.is_none());
-    label
+    let death = prevailing_death(children, statuses);
+    process.join(children, death.is_none());
+    death
 }
 
 // The process does the one thing that it can do by itself.
@@ -180,7 +206,7 @@ fn act_alone<L: Local>(process: &mut L, status: &mut NodeStatus<L>) -> Result<Ef
                     *status = NodeStatus::Live;
                     Ok(Effects::Nothing)
                 }
-                Some(label) => Ok(throw(process, status, label)),
+                Some(death) => Ok(throw(process, status, death)),
             }
         }
         NodeStatus::Ended | NodeStatus::Dead(_) => Ok(Effects::Nothing),

@@ -15,7 +15,7 @@ fn is_dooming<L: Local>(l: &L, status: &NodeStatus<L>, c: &Chan, label: u32) -> 
 {
     match status {
         NodeStatus::Live | NodeStatus::Ended => false,
-        NodeStatus::Dead(own) => l.shares(c) && *own < label,
+        NodeStatus::Dead(death) => l.shares(c) && death.label < label,
         NodeStatus::Forked(children, statuses) => {
             for i in 0..children.len() {
                 // a child without a status lives, and dooms none

@@ -1,4 +1,5 @@
 // What came of a process.
+use shim_local::Death;
 
 /// What came of a process. The states of the children lie together, so that a join can be lent them,
 /// with their statuses in a list beside; a child that has none in it lives. So a fork, which can't be
@@ -7,7 +8,6 @@
 pub(crate) enum NodeStatus<L> {
     Live,
     Ended,
-    /// It died of an exception with this label.
-    Dead(u32),
+    Dead(Death),
     Forked(Vec<L>, Vec<NodeStatus<L>>),
 }

@@ -11,7 +11,7 @@ ghost use Rattle.shim_semantics.specs.Trees.{poisons};
 use crate::fill::{behind, fill_below, fill_to};
 use crate::node_status::NodeStatus;
 use shim_base::{Chan, NoMemory, Path};
-use shim_local::Local;
+use shim_local::{Death, Local};
 
 // Each live process here and below that shares the channel dies of this label. Since each of them has
 // a status, it takes no memory.
@@ -22,7 +22,7 @@ fn poison_filled<L: Local>(process: &L, status: &mut NodeStatus<L>, chan: &Chan,
     match status {
         NodeStatus::Live => {
             if process.shares(chan) {
-                *status = NodeStatus::Dead(label);
+                *status = NodeStatus::Dead(Death { label, given: None });
             }
         }
         NodeStatus::Ended | NodeStatus::Dead(_) => {}

@@ -30,7 +30,7 @@ fn outcome_of_root<L>(status: &NodeStatus<L>) -> Outcome
     match status {
         NodeStatus::Live | NodeStatus::Forked(_, _) => Outcome::Blocked,
         NodeStatus::Ended => Outcome::Done,
-        NodeStatus::Dead(label) => outcome_of_label(*label),
+        NodeStatus::Dead(death) => outcome_of_label(death.label),
     }
 }
 

@@ -1,5 +1,5 @@
 -- Each call leaves a walk in a state that a process comes to.
-use Rattle.std.proofs.Common.{◌≡◌, ◌≤◌, ◌<◌, ◌+◌, ℕ, ℤ, Bool, List, [], ◌∷◌, ◌++◌, length, map, map-id, Result, Ok, Err, OnOk, OnErr, arith, refl, sym, ap, subst, ◌∙◌, append_assoc, append-nil}
+use Rattle.std.proofs.Common.{◌≡◌, ◌≤◌, ◌<◌, ◌+◌, ℕ, ℤ, pos, Bool, List, [], ◌∷◌, ◌++◌, length, map, map-id, Result, Ok, Err, OnOk, OnErr, arith, refl, sym, ap, subst, ◌∙◌, append_assoc, append-nil}
 use Rattle.shim_base.specs.declared.memory.NoMemory.{NoMemory}
 use Rattle.shim_base.specs.Paths.{NamedChannel}
 use Rattle.shim_base.specs.declared.operators.Trap.{Trap}
@@ -36,7 +36,7 @@ receive_sound l now m c v e s at is = walk_laws.moved_sound l m s (by_call (by_r
 pub unwind_sound : (l now m : LocalState) (label : ℕ) → l ≡ now → Sound l → now.base ≤ label → label < handlers now → m ≡ unwind l label → Sound m
 unwind_sound l now m label e s least most is =
     walk_laws.moved_sound l m s
-    (by_unwind (by_label label (subst (λ k. k.base ≤ label) (sym e) least) (subst (λ k. label < handlers k) (sym e) most) is))
+    (by_unwind (by_label label (pos 0) (subst (λ k. k.base ≤ label) (sym e) least) (subst (λ k. label < handlers k) (sym e) most) is))
 
 pub join_sound : (l now m : LocalState) (ks : List LocalState) (goes_on : Bool) → l ≡ now → Sound l → Born now ks → m ≡ join l (map (λ k. k) ks) goes_on → Sound m
 join_sound l now m ks goes_on e s born is =

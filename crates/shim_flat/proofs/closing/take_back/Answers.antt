@@ -11,16 +11,16 @@ index_mut-requires g c =
 pub throw_in-requires-after_bounds : goal.throw_in-requires-after_bounds
 throw_in-requires-after_bounds g c κs within =
     let xs = c.args.states.now.items in
-    below g.L.Local.ops xs c.join_children.new.states.items (block c.args.first c.args.count xs) c.args.parent c.args.label c.is_none.result c.is_none.ensures c.join_children.ensures c.in-Some.label c.in-Some.is c.index_mut.result.now c.index_mut.ensures.value
+    below g.L.Local.ops xs c.join_children.new.states.items (block c.args.first c.args.count xs) c.args.parent c.args.death c.is_none.result c.is_none.ensures c.join_children.ensures c.in-Some.death c.in-Some.is c.index_mut.result.now c.index_mut.ensures.value
     c.requires.parent c.requires.below
 
 pub returns-in-None : goal.returns-in-None
 returns-in-None g c l e =
     let xs = c.args.states.now.items in
-    goes g.L.Local.ops xs c.join_children.new.states.items (block c.args.first c.args.count xs) c.args.parent c.args.label c.is_none.result c.is_none.ensures c.join_children.ensures l e c.in-None.is
+    goes g.L.Local.ops xs c.join_children.new.states.items (block c.args.first c.args.count xs) c.args.parent c.args.death c.is_none.result c.is_none.ensures c.join_children.ensures l e c.in-None.is
 
 pub returns-in-Some : goal.returns-in-Some
 returns-in-Some g c l e =
     let xs = c.args.states.now.items in
-    throws g.L.Local.ops xs c.join_children.new.states.items (block c.args.first c.args.count xs) c.args.parent c.args.label c.is_none.result c.is_none.ensures c.join_children.ensures c.in-Some.label c.in-Some.is c.index_mut.result.now c.index_mut.ensures.value
+    throws g.L.Local.ops xs c.join_children.new.states.items (block c.args.first c.args.count xs) c.args.parent c.args.death c.is_none.result c.is_none.ensures c.join_children.ensures c.in-Some.death c.in-Some.is c.index_mut.result.now c.index_mut.ensures.value
     (Threw c.throw_in.result) c.throw_in.new.process l e c.throw_in.ensures

@@ -3,7 +3,6 @@ use Rattle.std.specs.Prelude.{slice_get}
 use Rattle.std.proofs.lemmas.Result.{on_ok_weaker}
 use Rattle.shim_laws_records.specs.Seen.{lives, forks, ends, dies}
 use Rattle.shim_laws_records.specs.Agrees.{used, free}
-use Rattle.shim_semantics.specs.Nodes.{death}
 use Rattle.shim_flat_tree.proofs.Gathering as lemmas
 use Rattle.shim_flat_tree.proofs.waits.+gather.Goals as goal
 
@@ -51,8 +50,8 @@ returns-in-Dead g t c =
     let e : c.args.levels ≡ suc (c.args.levels - 1) = lemmas.positive c.args.levels c.if-levels-eq0.false in
     let f : slice_get v.states c.args.number ≡ Some c.in-Some.process.now = search rules in
     let r : slice_get v.records c.args.number ≡ Some c.in-Some-record.here.now = search rules in
-    let s = lemmas.said o v c.args.number c.in-Some-record.here.now (used c.in-Some-record.here.now.first (dies (death c.in-Dead.field-0))) r (lemmas.said_dead c.in-Some-record.here.now c.in-Dead.field-0 c.in-Dead.is) in
-    lemmas.it_died o v c.args.levels (c.args.levels - 1) c.args.number c.in-Some.process.now e f c.in-Some-record.here.now.first (death c.in-Dead.field-0) c.args.waits.now s
+    let s = lemmas.said o v c.args.number c.in-Some-record.here.now (used c.in-Some-record.here.now.first (dies c.in-Dead.field-0)) r (lemmas.said_dead c.in-Some-record.here.now c.in-Dead.field-0 c.in-Dead.is) in
+    lemmas.it_died o v c.args.levels (c.args.levels - 1) c.args.number c.in-Some.process.now e f c.in-Some-record.here.now.first c.in-Dead.field-0 c.args.waits.now s
 
 pub returns-after-loop-branch : goal.returns-after-loop-branch
 returns-after-loop-branch g t c =

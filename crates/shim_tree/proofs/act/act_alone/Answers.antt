@@ -15,7 +15,7 @@ pub returns-in-None-clause-ok : goal.returns-in-None-clause-ok
 returns-in-None-clause-ok g c =
     close_goes_on g.L.Local.ops c.args.process.now c.take_back.new.process c.args.status.now c.in-Forked.processes c.in-Forked.statuses c.as_slice.result.now c.as_slice-in-Forked.result.now c.take_back.result
     c.in-Forked.is (c.as_slice.ensures.value ∙ λ t. (c.in-Forked.processes-is t).items) (c.as_slice-in-Forked.ensures.value ∙ λ t. (c.in-Forked.statuses-is t).items)
-    c.take_back.ensures.label c.take_back.ensures.joined c.requires.acts c.in-None.is
+    c.take_back.ensures.death c.take_back.ensures.joined c.requires.acts c.in-None.is
 
 pub throw-requires : goal.throw-requires
 throw-requires g c =
@@ -23,11 +23,11 @@ throw-requires g c =
       search rules,
       close_in_force g.L.Local.ops c.args.process.now c.take_back.new.process c.args.status.now c.in-Forked.processes c.in-Forked.statuses c.as_slice.result.now c.as_slice-in-Forked.result.now c.take_back.result
           c.in-Forked.is (c.as_slice.ensures.value ∙ λ t. (c.in-Forked.processes-is t).items) (c.as_slice-in-Forked.ensures.value ∙ λ t. (c.in-Forked.statuses-is t).items)
-          c.take_back.ensures.label c.take_back.ensures.joined laws c.requires.sound c.in-Some.label c.in-Some.is,
+          c.take_back.ensures.death c.take_back.ensures.joined laws c.requires.sound c.in-Some.death c.in-Some.is,
     )
 
 pub returns-in-Some-clause-ok : goal.returns-in-Some-clause-ok
 returns-in-Some-clause-ok g c =
     close_throws g.L.Local.ops c.args.process.now c.take_back.new.process c.args.status.now c.in-Forked.processes c.in-Forked.statuses c.as_slice.result.now c.as_slice-in-Forked.result.now c.take_back.result
     c.in-Forked.is (c.as_slice.ensures.value ∙ λ t. (c.in-Forked.processes-is t).items) (c.as_slice-in-Forked.ensures.value ∙ λ t. (c.in-Forked.statuses-is t).items)
-    c.take_back.ensures.label c.take_back.ensures.joined c.in-Some.label (effects_of c.throw.result) (node c.throw.new.process c.throw.new.status) c.requires.acts c.in-Some.is c.throw.ensures
+    c.take_back.ensures.death c.take_back.ensures.joined c.in-Some.death (effects_of c.throw.result) (node c.throw.new.process c.throw.new.status) c.requires.acts c.in-Some.is c.throw.ensures

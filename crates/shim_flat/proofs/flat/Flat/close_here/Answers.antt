@@ -9,8 +9,8 @@ use Rattle.shim_flat.specs.Closing.{CanClose, ClosesHere, ClosesRecord}
 use Rattle.shim_flat.proofs.ClosingMoves as closing
 use Rattle.shim_flat.proofs.flat.Flat.close_here.Goals as goal
 
-pub least_label-label-requires : goal.least_label-label-requires
-least_label-label-requires g c =
+pub prevailing_death-death-requires : goal.prevailing_death-death-requires
+prevailing_death-death-requires g c =
     let o = g.L.Local.ops in
     let law = (g.met.L.Local g.world.𝓛 g.world.𝓜 g.world.𝓡 ((λ s x. x), (λ x. x), (λ x. x), λ x. x)).laws in
     let states = c.self.inside.states.items in
@@ -87,8 +87,8 @@ take_back-outcome-requires-clause-below g c κs within =
     let first = c.index.result.now.first in
     let count = c.fork_size-count.result in
     let has = closing.forked_so states rs number done c.index.result.now c.index-2.result.now count c.index.ensures c.index-2.ensures c.fork_size-count.ensures in
-    let label = c.least_label-label.result in
-    let read = c.least_label-label.ensures ∙ ap (λ z. prevailing_among (block first count (map stands_of z))) c.as_slice.ensures.value in
+    let label = c.prevailing_death-death.result in
+    let read = c.prevailing_death-death.ensures ∙ ap (λ z. prevailing_among (block first count (map stands_of z))) c.as_slice.ensures.value in
     closing.is_below o law states rs number c.self.invariant done first count has label read
 
 pub free_children-requires : goal.free_children-requires
@@ -130,8 +130,8 @@ close_record-forks-requires-clause-few g c κs within s e =
     let first = c.index.result.now.first in
     let count = c.fork_size-count.result in
     let has = closing.forked_so states rs number done c.index.result.now c.index-2.result.now count c.index.ensures c.index-2.ensures c.fork_size-count.ensures in
-    let label = c.least_label-label.result in
-    let read = c.least_label-label.ensures ∙ ap (λ z. prevailing_among (block first count (map stands_of z))) c.as_slice.ensures.value in
+    let label = c.prevailing_death-death.result in
+    let read = c.prevailing_death-death.ensures ∙ ap (λ z. prevailing_among (block first count (map stands_of z))) c.as_slice.ensures.value in
     let outcome = c.take_back-outcome.result in
     let now = c.take_back-outcome.new.states.items in
     let taken = c.take_back-outcome.ensures in
@@ -148,8 +148,8 @@ close_record-forks-requires-clause-of_state g c κs within =
     let first = c.index.result.now.first in
     let count = c.fork_size-count.result in
     let has = closing.forked_so states rs number done c.index.result.now c.index-2.result.now count c.index.ensures c.index-2.ensures c.fork_size-count.ensures in
-    let label = c.least_label-label.result in
-    let read = c.least_label-label.ensures ∙ ap (λ z. prevailing_among (block first count (map stands_of z))) c.as_slice.ensures.value in
+    let label = c.prevailing_death-death.result in
+    let read = c.prevailing_death-death.ensures ∙ ap (λ z. prevailing_among (block first count (map stands_of z))) c.as_slice.ensures.value in
     let outcome = c.take_back-outcome.result in
     let now = c.take_back-outcome.new.states.items in
     let taken = c.take_back-outcome.ensures in
@@ -183,15 +183,15 @@ invariant_of-self g c =
     let first = c.index.result.now.first in
     let count = c.fork_size-count.result in
     let has = closing.forked_so states rs number done c.index.result.now c.index-2.result.now count c.index.ensures c.index-2.ensures c.fork_size-count.ensures in
-    let label = c.least_label-label.result in
-    let read = c.least_label-label.ensures ∙ ap (λ z. prevailing_among (block first count (map stands_of z))) c.as_slice.ensures.value in
+    let label = c.prevailing_death-death.result in
+    let read = c.prevailing_death-death.ensures ∙ ap (λ z. prevailing_among (block first count (map stands_of z))) c.as_slice.ensures.value in
     let outcome = c.take_back-outcome.result in
     let now = c.take_back-outcome.new.states.items in
     let taken = c.take_back-outcome.ensures in
     let behind = c.close_record-forks.new.records.items in
     let status = c.status_after-status.result in
     let end = c.used_end-end.result in
-    let settled = subst (λ z. ClosesRecord o z number status (option_map death label) c.free_children.new.records.items behind) c.as_slice-2.ensures.value c.close_record-forks.ensures.closes in
+    let settled = subst (λ z. ClosesRecord o z number status label c.free_children.new.records.items behind) c.as_slice-2.ensures.value c.close_record-forks.ensures.closes in
     subst (λ z. IsKept o (record { states = z; records = c.truncate.new.self.items })) (sym c.truncate-2.ensures.items)
     (subst (λ z. IsKept o (record { states = take end now; records = z })) (sym c.truncate.ensures.items) (closing.still_kept o law states rs number c.self.invariant done first count has label outcome now read taken c.free_children.new.records.items behind status end c.free_children.ensures c.status_after-status.ensures.sort settled (λ i r past e. c.used_end-end.ensures i r past (ap (λ z. slice_get z i) c.as_slice-3.ensures.value ∙ e))))
 
@@ -206,8 +206,8 @@ returns g c =
     let first = c.index.result.now.first in
     let count = c.fork_size-count.result in
     let has = closing.forked_so states rs number done c.index.result.now c.index-2.result.now count c.index.ensures c.index-2.ensures c.fork_size-count.ensures in
-    let label = c.least_label-label.result in
-    let read = c.least_label-label.ensures ∙ ap (λ z. prevailing_among (block first count (map stands_of z))) c.as_slice.ensures.value in
+    let label = c.prevailing_death-death.result in
+    let read = c.prevailing_death-death.ensures ∙ ap (λ z. prevailing_among (block first count (map stands_of z))) c.as_slice.ensures.value in
     let outcome = c.take_back-outcome.result in
     let now = c.take_back-outcome.new.states.items in
     let taken = c.take_back-outcome.ensures in
@@ -215,7 +215,7 @@ returns g c =
     let forks = c.close_record-forks.result in
     let status = c.status_after-status.result in
     let end = c.used_end-end.result in
-    let settled = subst (λ z. ClosesRecord o z number status (option_map death label) c.free_children.new.records.items behind) c.as_slice-2.ensures.value c.close_record-forks.ensures.closes in
+    let settled = subst (λ z. ClosesRecord o z number status label c.free_children.new.records.items behind) c.as_slice-2.ensures.value c.close_record-forks.ensures.closes in
     subst (λ v. ClosesHere o forks number outcome v (record { states = c.truncate-2.new.self.items; records = c.truncate.new.self.items })) c.self.view_is
     (subst (λ z. ClosesHere o forks number outcome (record { states = states; records = rs }) (record { states = z; records = c.truncate.new.self.items })) (sym c.truncate-2.ensures.items)
     (subst (λ z. ClosesHere o forks number outcome (record { states = states; records = rs }) (record { states = take end now; records = z })) (sym c.truncate.ensures.items) (closing.closes_here o law states rs number c.self.invariant done first count has label outcome now read taken c.free_children.new.records.items behind status end c.free_children.ensures c.status_after-status.ensures.sort settled (λ i r past e. c.used_end-end.ensures i r past (ap (λ z. slice_get z i) c.as_slice-3.ensures.value ∙ e)) forks c.close_record-forks.ensures.touches)))

@@ -1,53 +1,87 @@
-use Rattle.std.proofs.Common.{refl, sym, ap, subst, ◌∙◌, slice_set, arith, ◌<◌}
+use Rattle.std.proofs.Common.{◌≡◌, refl, sym, ap, subst, ◌∙◌, slice_set, get_or, arith}
+use Rattle.std.specs.Prelude.{Some}
 use Rattle.shim_local.specs.Process.{AtThrow}
-use Rattle.shim_semantics.specs.Nodes.{death}
-use Rattle.shim_semantics.specs.Acts.{nothing, catching}
+use Rattle.shim_semantics.specs.Nodes.{Dead}
+use Rattle.shim_semantics.specs.Acts.{nothing, act_live}
 use Rattle.shim_laws_records.specs.Seen.{lives, dies}
 use Rattle.shim_records.specs.declared.record.Status.TheVariants as code
 use Rattle.shim_laws_keeping.specs.Flats.{IsKept}
 use Rattle.shim_flat.specs.Stepping.{LivesAt}
-use Rattle.shim_flat.specs.Acting.{ActsHere}
-use Rattle.shim_flat.proofs.Does.{its, inside_states, few_given, can_catch, throw_dies, throw_caught, still_kept, lives_here, lives_then, leaves_here, one_read}
+use Rattle.shim_flat.specs.Acting.{ActsHere, sort_by, told_of, thrown_by}
+use Rattle.shim_flat.specs.declared.acting.Thrown.TheVariants as thrown
+use Rattle.shim_flat.proofs.Does.{its, inside_states, few_given, is_sound, set_same, throw_dies, throw_lives, lives_by, still_kept, lives_here, lives_then, leaves_here, one_read}
 use Rattle.shim_flat.proofs.Listings.{died_nowhere}
 use Rattle.shim_flat.proofs.flat.Flat.throw_here.Goals as goal
+
+pub throw_own-thrown-requires-clause-sound : goal.throw_own-thrown-requires-clause-sound
+throw_own-thrown-requires-clause-sound g c κs within =
+    let o = g.L.Local.ops in
+    let v = c.self.inside in
+    let here = subst (λ z. LivesAt o z c.args.number (AtThrow c.args.label)) (sym c.self.view_is) c.requires in
+    is_sound o v.states.items v.records.items c.args.number here.0 c.index_mut.result.now c.self.invariant (its o v.states.items v.records.items c.args.number (AtThrow c.args.label) c.index_mut.result.now here c.index_mut.ensures.value)
 
 -- ---- it dies
 
 pub leave_tree-forks-requires-clause-few : goal.leave_tree-forks-requires-clause-few
 leave_tree-forks-requires-clause-few g c κs within =
     let o = g.L.Local.ops in
+    let law = (g.met.L.Local g.world.𝓛 g.world.𝓜 g.world.𝓡 ((λ s x. x), (λ x. x), (λ x. x), λ x. x)).laws in
     let v = c.self.inside in
-    let l = c.index-then-label-base.result.now in
-    let here = subst (λ z. LivesAt o z c.args.number (AtThrow c.args.label)) (sym c.self.view_is) c.requires in
-    few_given o v.states.items v.records.items c.args.number here.0 l c.self.invariant (its o v.states.items v.records.items c.args.number (AtThrow c.args.label) l here c.index-then-label-base.ensures)
+    let states = v.states.items in
+    let rs = v.records.items in
+    let x = c.args.number in
+    let label = c.args.label in
+    let l = c.index_mut.result.now in
+    let s = c.throw_own-thrown.new.process in
+    let t = c.throw_own-thrown.result in
+    let here = subst (λ z. LivesAt o z x (AtThrow label)) (sym c.self.view_is) c.requires in
+    let read = c.index_mut.ensures.value in
+    let d = c.in-Died.death in
+    let w = throw_dies o l s d label (ap (λ z. thrown_by z s) (sym c.in-Died.is) ∙ c.throw_own-thrown.ensures) in
+    let same : slice_set states x s ≡ states = ap (slice_set states x) w.0 ∙ set_same o states x l (its o states rs x (AtThrow label) l here read).state_is in
+    let again = c.index.result.now in
+    let read_again : again ≡ get_or states x again = c.index.ensures ∙ ap (λ z. get_or z x again) same in
+    few_given o states rs x here.0 again c.self.invariant (its o states rs x (AtThrow label) again here read_again)
 
-pub returns-then-label-base-clause-acts : goal.returns-then-label-base-clause-acts
-returns-then-label-base-clause-acts g c =
+pub returns-in-Died-clause-acts : goal.returns-in-Died-clause-acts
+returns-in-Died-clause-acts g c =
     let o = g.L.Local.ops in
     let law = (g.met.L.Local g.world.𝓛 g.world.𝓜 g.world.𝓡 ((λ s x. x), (λ x. x), (λ x. x), λ x. x)).laws in
     let v = c.self.inside in
+    let states = v.states.items in
+    let rs = v.records.items in
     let x = c.args.number in
     let label = c.args.label in
-    let l = c.index-then-label-base.result.now in
+    let l = c.index_mut.result.now in
+    let s = c.throw_own-thrown.new.process in
+    let t = c.throw_own-thrown.result in
     let here = subst (λ z. LivesAt o z x (AtThrow label)) (sym c.self.view_is) c.requires in
-    let same = one_read o v.states.items v.records.items x (AtThrow label) c.index.result.now l here c.index.ensures c.index-then-label-base.ensures in
-    let below = subst (λ n. label < n) (c.base.ensures ∙ ap o.base same) c.if-label-base.true in
-    subst (λ z. ActsHere o c.leave_tree-forks.result x (AtThrow label) (dies (death label)) nothing z (record { states = v.states.items; records = c.leave_tree-forks.new.records.items })) c.self.view_is
-    (leaves_here o law v.states.items v.records.items c.leave_tree-forks.new.records.items x (AtThrow label) nothing l here c.index-then-label-base.ensures c.leave_tree-forks.result (code.Dead label) refl c.leave_tree-forks.ensures.leaves
-    c.leave_tree-forks.ensures.touches (throw_dies o l label below))
+    let read = c.index_mut.ensures.value in
+    let d = c.in-Died.death in
+    let w = throw_dies o l s d label (ap (λ z. thrown_by z s) (sym c.in-Died.is) ∙ c.throw_own-thrown.ensures) in
+    let same : slice_set states x s ≡ states = ap (slice_set states x) w.0 ∙ set_same o states x l (its o states rs x (AtThrow label) l here read).state_is in
+    let again = c.index.result.now in
+    let read_again : again ≡ get_or states x again = c.index.ensures ∙ ap (λ z. get_or z x again) same in
+    let forks = c.leave_tree-forks.result in
+    let behind = c.leave_tree-forks.new.records.items in
+    let does = subst (λ z. act_live o z (AtThrow label) ≡ Some (record { node = Dead z d; effects = nothing })) (one_read o states rs x (AtThrow label) l again here read read_again) w.1 in
+    subst (λ z. ActsHere o forks x (AtThrow label) (dies d) nothing z (record { states = slice_set states x s; records = behind })) c.self.view_is
+    (subst (λ z. ActsHere o forks x (AtThrow label) (dies d) nothing (record { states = states; records = rs }) (record { states = z; records = behind })) (sym same)
+    (leaves_here o law states rs behind x (AtThrow label) nothing again here read_again forks (code.Dead d) refl c.leave_tree-forks.ensures.leaves c.leave_tree-forks.ensures.touches does))
 
-pub returns-then-label-base-clause-listing : goal.returns-then-label-base-clause-listing
-returns-then-label-base-clause-listing g c =
-    let a = returns-then-label-base-clause-acts g c in
-    died_nowhere g.L.Local.ops (record { states = c.self.inside.states.items; records = c.leave_tree-forks.new.records.items }) c.args.number a.becomes.first _ (death c.args.label) a.becomes.mine
+pub returns-in-Died-clause-listing : goal.returns-in-Died-clause-listing
+returns-in-Died-clause-listing g c =
+    let o = g.L.Local.ops in
+    let a = returns-in-Died-clause-acts g c in
+    died_nowhere o (record { states = slice_set c.self.inside.states.items c.args.number c.throw_own-thrown.new.process; records = c.leave_tree-forks.new.records.items }) c.args.number a.becomes.first _ c.in-Died.death a.becomes.mine
 
 pub invariant_of-self : goal.invariant_of-self
 invariant_of-self g c =
     let o = g.L.Local.ops in
-    still_kept o c.leave_tree-forks.result c.args.number (AtThrow c.args.label) (dies (death c.args.label)) nothing c.args.self.now (record { states = c.self.inside.states.items; records = c.leave_tree-forks.new.records.items }) (returns-then-label-base-clause-acts g c)
+    still_kept o c.leave_tree-forks.result c.args.number (AtThrow c.args.label) (dies c.in-Died.death) nothing c.args.self.now (record { states = slice_set c.self.inside.states.items c.args.number c.throw_own-thrown.new.process; records = c.leave_tree-forks.new.records.items }) (returns-in-Died-clause-acts g c)
     (subst (IsKept o) c.self.view_is c.self.invariant)
 
--- ---- it is caught
+-- ---- it lives on
 
 pub index-requires-2 : goal.index-requires-2
 index-requires-2 g c =
@@ -58,70 +92,34 @@ index-requires-2 g c =
     let same = v.states.ok.0 in
     omega (arith, less, same)
 
-pub index_mut-requires : goal.index_mut-requires
-index_mut-requires g c =
-    let o = g.L.Local.ops in
-    let v = c.self.inside in
-    let here = subst (λ z. LivesAt o z c.args.number (AtThrow c.args.label)) (sym c.self.view_is) c.requires in
-    let less = inside_states o v.states.items v.records.items c.args.number (AtThrow c.args.label) here in
-    let same = v.states.ok.0 in
-    omega (arith, less, same)
-
-pub index-requires-3 : goal.index-requires-3
-index-requires-3 g c =
-    let o = g.L.Local.ops in
-    let v = c.self.inside in
-    let here = subst (λ z. LivesAt o z c.args.number (AtThrow c.args.label)) (sym c.self.view_is) c.requires in
-    let less = inside_states o v.states.items v.records.items c.args.number (AtThrow c.args.label) here in
-    let same = v.states.ok.0 in
-    omega (arith, less, same)
-
-pub handler-name-requires : goal.handler-name-requires
-handler-name-requires g c =
+pub returns : goal.returns
+returns g c =
     let o = g.L.Local.ops in
     let law = (g.met.L.Local g.world.𝓛 g.world.𝓜 g.world.𝓡 ((λ s x. x), (λ x. x), (λ x. x), λ x. x)).laws in
     let v = c.self.inside in
-    let here = subst (λ z. LivesAt o z c.args.number (AtThrow c.args.label)) (sym c.self.view_is) c.requires in
-    can_catch o law v.states.items v.records.items c.args.number c.args.label c.base.result c.index-2.result.now c.index.result.now c.self.invariant here c.index-2.ensures c.index.ensures c.base.ensures (let past = c.if-label-base.false in omega (arith, past))
-
-pub unwind-requires : goal.unwind-requires
-unwind-requires g c =
-    let o = g.L.Local.ops in
-    let law = (g.met.L.Local g.world.𝓛 g.world.𝓜 g.world.𝓡 ((λ s x. x), (λ x. x), (λ x. x), λ x. x)).laws in
-    let v = c.self.inside in
-    let here = subst (λ z. LivesAt o z c.args.number (AtThrow c.args.label)) (sym c.self.view_is) c.requires in
-    can_catch o law v.states.items v.records.items c.args.number c.args.label c.base.result c.index_mut.result.now c.index.result.now c.self.invariant here c.index_mut.ensures.value c.index.ensures c.base.ensures (let past = c.if-label-base.false in omega (arith, past))
-
-pub returns-clause-acts : goal.returns-clause-acts
-returns-clause-acts g c =
-    let o = g.L.Local.ops in
-    let law = (g.met.L.Local g.world.𝓛 g.world.𝓜 g.world.𝓡 ((λ s x. x), (λ x. x), (λ x. x), λ x. x)).laws in
-    let v = c.self.inside in
+    let states = v.states.items in
+    let rs = v.records.items in
     let x = c.args.number in
     let label = c.args.label in
     let l = c.index_mut.result.now in
-    let s = c.unwind.new.self in
-    let told = catching c.handler-name.result in
+    let s = c.throw_own-thrown.new.process in
+    let t = c.throw_own-thrown.result in
     let here = subst (λ z. LivesAt o z x (AtThrow label)) (sym c.self.view_is) c.requires in
-    let catches = can_catch o law v.states.items v.records.items x label c.base.result l c.index.result.now c.self.invariant here c.index_mut.ensures.value c.index.ensures c.base.ensures (let past = c.if-label-base.false in omega (arith, past)) in
-    let same = one_read o v.states.items v.records.items x (AtThrow label) c.index-2.result.now l here c.index-2.ensures c.index_mut.ensures.value in
-    subst (λ z. ActsHere o c.arrive-arrival.result.forks x (AtThrow label) lives told z (record { states = slice_set v.states.items x s; records = c.arrive-arrival.new.records.items })) c.self.view_is
-    (lives_here o law v.states.items v.records.items c.arrive-arrival.new.records.items x (AtThrow label) told l here c.index_mut.ensures.value c.arrive-arrival.result.forks s c.index-3.result.now c.index-3.ensures c.arrive-arrival.ensures.arrives
-    c.arrive-arrival.ensures.touches
-    (throw_caught o l s label c.handler-name.result catches.0 c.unwind.ensures (c.handler-name.ensures ∙ ap (λ z. o.handler z label) same)))
-
-pub returns-clause-listing : goal.returns-clause-listing
-returns-clause-listing g c =
-    let o = g.L.Local.ops in
-    let law = (g.met.L.Local g.world.𝓛 g.world.𝓜 g.world.𝓡 ((λ s x. x), (λ x. x), (λ x. x), λ x. x)).laws in
-    let v = c.self.inside in
-    let s = c.unwind.new.self in
-    let here = subst (λ z. LivesAt o z c.args.number (AtThrow c.args.label)) (sym c.self.view_is) c.requires in
-    let then = lives_then o law v.states.items v.records.items c.arrive-arrival.new.records.items c.args.number (AtThrow c.args.label) (catching c.handler-name.result) c.index_mut.result.now here c.index_mut.ensures.value s c.index-3.result.now c.index-3.ensures c.arrive-arrival.ensures.arrives in
-    c.arrive-arrival.ensures.listing (record { states = slice_set v.states.items c.args.number s; records = c.arrive-arrival.new.records.items }) c.args.number then.0 then.1
+    let read = c.index_mut.ensures.value in
+    let lived = lives_by o t c.in_default.not-Died in
+    let forks = c.arrive-arrival.result.forks in
+    let behind = c.arrive-arrival.new.records.items in
+    let then = lives_then o law states rs behind x (AtThrow label) (told_of t) l here read s c.index-2.result.now c.index-2.ensures c.arrive-arrival.ensures.arrives in record {
+      acts = subst (λ z. ActsHere o forks x (AtThrow label) (sort_by t) (told_of t) z (record { states = slice_set states x s; records = behind })) c.self.view_is
+          (subst (λ k. ActsHere o forks x (AtThrow label) k (told_of t) (record { states = states; records = rs }) (record { states = slice_set states x s; records = behind })) (sym lived)
+          (lives_here o law states rs behind x (AtThrow label) (told_of t) l here read forks s c.index-2.result.now c.index-2.ensures c.arrive-arrival.ensures.arrives c.arrive-arrival.ensures.touches
+          (throw_lives o l s t label lived c.throw_own-thrown.ensures)));
+      listing = c.arrive-arrival.ensures.listing (record { states = slice_set states x s; records = behind }) x then.0 then.1;
+    }
 
 pub invariant_of-self-2 : goal.invariant_of-self-2
 invariant_of-self-2 g c =
     let o = g.L.Local.ops in
-    still_kept o c.arrive-arrival.result.forks c.args.number (AtThrow c.args.label) lives (catching c.handler-name.result) c.args.self.now (record { states = slice_set c.self.inside.states.items c.args.number c.unwind.new.self; records = c.arrive-arrival.new.records.items }) (returns-clause-acts g c)
+    let t = c.throw_own-thrown.result in
+    still_kept o c.arrive-arrival.result.forks c.args.number (AtThrow c.args.label) (sort_by t) (told_of t) c.args.self.now (record { states = slice_set c.self.inside.states.items c.args.number c.throw_own-thrown.new.process; records = c.arrive-arrival.new.records.items }) (returns g c).acts
     (subst (IsKept o) c.self.view_is c.self.invariant)

@@ -37,7 +37,7 @@ wake_as-requires-clause-awakes g c κs within =
     let n = c.args.number in
     let a = c.throw_here-thrown.ensures.acts in
     let x = view_of w.begun.value c.throw_here-thrown.new.self w.output.items w.histories (logged w.logs.items) w.own.items w.past.items w.events w.awake w.quiet w.held.items in
-    still_for_all o law v x c.self.invariant.0 c.throw_here-thrown.result.1.forks n (AtThrow c.args.label) (sort_by c.args.label c.throw_here-thrown.result.0) (told_of c.throw_here-thrown.result.0) a w.awake c.self.invariant.0.awakes
+    still_for_all o law v x c.self.invariant.0 c.throw_here-thrown.result.1.forks n (AtThrow c.args.label) (sort_by c.throw_here-thrown.result.0) (told_of c.throw_here-thrown.result.0) a w.awake c.self.invariant.0.awakes
 
 pub wake_as-requires-clause-quiets : goal.wake_as-requires-clause-quiets
 wake_as-requires-clause-quiets g c κs within =
@@ -48,7 +48,7 @@ wake_as-requires-clause-quiets g c κs within =
     let n = c.args.number in
     let a = c.throw_here-thrown.ensures.acts in
     let x = view_of w.begun.value c.throw_here-thrown.new.self w.output.items w.histories (logged w.logs.items) w.own.items w.past.items w.events w.awake w.quiet w.held.items in
-    still_for_all o law v x c.self.invariant.0 c.throw_here-thrown.result.1.forks n (AtThrow c.args.label) (sort_by c.args.label c.throw_here-thrown.result.0) (told_of c.throw_here-thrown.result.0) a w.quiet c.self.invariant.0.quiets
+    still_for_all o law v x c.self.invariant.0 c.throw_here-thrown.result.1.forks n (AtThrow c.args.label) (sort_by c.throw_here-thrown.result.0) (told_of c.throw_here-thrown.result.0) a w.quiet c.self.invariant.0.quiets
 
 pub invariant_of-self-2 : goal.invariant_of-self-2
 invariant_of-self-2 g c =
@@ -61,13 +61,13 @@ invariant_of-self-2 g c =
     let a = c.throw_here-thrown.ensures.acts in
     let u = view_of w.begun.value c.throw_here-thrown.new.self w.output.items w.histories (logged c.tell_catch.new.logs.items) c.count_steps.new.own.items w.past.items w.events c.wake_as.new.awake c.wake_as.new.quiet w.held.items in
     let at_path = c.in_ok-path.ensures ∙ c.path.ensures a.process a.has.state_is in
-    let told : HasTold o law v u c.self.invariant.0 c.throw_here-thrown.result.1.forks n (AtThrow c.args.label) (sort_by c.args.label c.throw_here-thrown.result.0) (told_of c.throw_here-thrown.result.0) a = record {
+    let told : HasTold o law v u c.self.invariant.0 c.throw_here-thrown.result.1.forks n (AtThrow c.args.label) (sort_by c.throw_here-thrown.result.0) (told_of c.throw_here-thrown.result.0) a = record {
       output = throw_puts_none w.output.items c.throw_here-thrown.result.0;
       histories = refl;
       logs = c.tell_catch.ensures ∙ (λ j. with_logs (logged (c.in_ok-reserve.ensures.items j)) (at_path j) (told_of c.throw_here-thrown.result.0).logs);
       past = refl;
     } in
-    let r = own_done o law v u c.self.invariant.0 c.throw_here-thrown.result.1.forks n (AtThrow c.args.label) (sort_by c.args.label c.throw_here-thrown.result.0) (told_of c.throw_here-thrown.result.0) a refl (λ e. absurd cc) told c.count_steps.ensures refl refl few c.wake_as.ensures.awake c.wake_as.ensures.quiet in
+    let r = own_done o law v u c.self.invariant.0 c.throw_here-thrown.result.1.forks n (AtThrow c.args.label) (sort_by c.throw_here-thrown.result.0) (told_of c.throw_here-thrown.result.0) a refl (λ e. absurd cc) told c.count_steps.ensures refl refl few c.wake_as.ensures.awake c.wake_as.ensures.quiet in
     (r.0, ap (λ z. z + 1) c.self.invariant.1 ∙ sym r.2)
 
 pub returns-clause-ok : goal.returns-clause-ok
@@ -81,12 +81,12 @@ returns-clause-ok g c =
     let a = c.throw_here-thrown.ensures.acts in
     let u = view_of w.begun.value c.throw_here-thrown.new.self w.output.items w.histories (logged c.tell_catch.new.logs.items) c.count_steps.new.own.items w.past.items w.events c.wake_as.new.awake c.wake_as.new.quiet w.held.items in
     let at_path = c.in_ok-path.ensures ∙ c.path.ensures a.process a.has.state_is in
-    let told : HasTold o law v u c.self.invariant.0 c.throw_here-thrown.result.1.forks n (AtThrow c.args.label) (sort_by c.args.label c.throw_here-thrown.result.0) (told_of c.throw_here-thrown.result.0) a = record {
+    let told : HasTold o law v u c.self.invariant.0 c.throw_here-thrown.result.1.forks n (AtThrow c.args.label) (sort_by c.throw_here-thrown.result.0) (told_of c.throw_here-thrown.result.0) a = record {
       output = throw_puts_none w.output.items c.throw_here-thrown.result.0;
       histories = refl;
       logs = c.tell_catch.ensures ∙ (λ j. with_logs (logged (c.in_ok-reserve.ensures.items j)) (at_path j) (told_of c.throw_here-thrown.result.0).logs);
       past = refl;
     } in
-    let r = own_done o law v u c.self.invariant.0 c.throw_here-thrown.result.1.forks n (AtThrow c.args.label) (sort_by c.args.label c.throw_here-thrown.result.0) (told_of c.throw_here-thrown.result.0) a refl (λ e. absurd cc) told c.count_steps.ensures refl refl few c.wake_as.ensures.awake c.wake_as.ensures.quiet in
+    let r = own_done o law v u c.self.invariant.0 c.throw_here-thrown.result.1.forks n (AtThrow c.args.label) (sort_by c.throw_here-thrown.result.0) (told_of c.throw_here-thrown.result.0) a refl (λ e. absurd cc) told c.count_steps.ensures refl refl few c.wake_as.ensures.awake c.wake_as.ensures.quiet in
     let path = c.in_ok-copy.ensures ∙ at_path in
     subst (λ z. HappensIn o z u (Own c.in_ok-copy.field-0)) c.self.view_is (subst (λ z. HappensIn o v u (Own z)) (sym path) r.1)

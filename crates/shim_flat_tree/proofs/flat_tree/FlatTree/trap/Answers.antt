@@ -1,10 +1,10 @@
-use Rattle.std.proofs.Common.{◌<◌, ◌+◌, refl, sym, ap, subst, ◌∙◌, [], ◌∷◌}
+use Rattle.std.proofs.Common.{◌<◌, ◌+◌, pos, refl, sym, ap, subst, ◌∙◌, [], ◌∷◌}
 use Rattle.std.specs.FinMap as finite
 use Rattle.std.proofs.lemmas.List.{append-nil}
 use Rattle.shim_local.specs.Process.{AtTrap}
 use Rattle.shim_local.specs.declared.Log.{Log}
 use Rattle.shim_local.specs.declared.LogWhat.TheVariants.{Trap as LoggedTrap}
-use Rattle.shim_semantics.specs.Nodes.{death, state}
+use Rattle.shim_semantics.specs.Nodes.{death_with, state}
 use Rattle.shim_semantics.specs.Acts.{trapping}
 use Rattle.shim_semantics.specs.Trees.{Own, steps, with_logs}
 use Rattle.shim_laws_records.specs.Seen.{lives, dies}
@@ -46,7 +46,7 @@ wake-requires-clause-used g c κs within =
     let n = c.args.number in
     let stands = subst (λ z. LivesAt o z.flat n (AtTrap c.args.kind c.args.line)) (sym c.self.view_is) c.requires.stands in
     let a = c.trap_here.ensures c.args.kind c.args.line stands in
-    (a.becomes.first, state a.left, dies (death 0), a.becomes.mine)
+    (a.becomes.first, state a.left, dies (death_with 0 (pos 0)), a.becomes.mine)
 
 pub wake-requires-clause-awakes : goal.wake-requires-clause-awakes
 wake-requires-clause-awakes g c κs within =
@@ -58,7 +58,7 @@ wake-requires-clause-awakes g c κs within =
     let stands = subst (λ z. LivesAt o z.flat n (AtTrap c.args.kind c.args.line)) (sym c.self.view_is) c.requires.stands in
     let a = c.trap_here.ensures c.args.kind c.args.line stands in
     let x = view_of w.begun.value c.trap_here.new.self w.output.items w.histories (logged w.logs.items) w.own.items w.past.items w.events w.awake w.quiet w.held.items in
-    still_for_all o law v x c.self.invariant.0 4294967295 n (AtTrap c.args.kind c.args.line) (dies (death 0)) (trapping c.args.kind c.args.line) a w.awake c.self.invariant.0.awakes
+    still_for_all o law v x c.self.invariant.0 4294967295 n (AtTrap c.args.kind c.args.line) (dies (death_with 0 (pos 0))) (trapping c.args.kind c.args.line) a w.awake c.self.invariant.0.awakes
 
 pub wake-requires-clause-quiets : goal.wake-requires-clause-quiets
 wake-requires-clause-quiets g c κs within =
@@ -70,7 +70,7 @@ wake-requires-clause-quiets g c κs within =
     let stands = subst (λ z. LivesAt o z.flat n (AtTrap c.args.kind c.args.line)) (sym c.self.view_is) c.requires.stands in
     let a = c.trap_here.ensures c.args.kind c.args.line stands in
     let x = view_of w.begun.value c.trap_here.new.self w.output.items w.histories (logged w.logs.items) w.own.items w.past.items w.events w.awake w.quiet w.held.items in
-    still_for_all o law v x c.self.invariant.0 4294967295 n (AtTrap c.args.kind c.args.line) (dies (death 0)) (trapping c.args.kind c.args.line) a w.quiet c.self.invariant.0.quiets
+    still_for_all o law v x c.self.invariant.0 4294967295 n (AtTrap c.args.kind c.args.line) (dies (death_with 0 (pos 0))) (trapping c.args.kind c.args.line) a w.quiet c.self.invariant.0.quiets
 
 pub invariant_of-self-2 : goal.invariant_of-self-2
 invariant_of-self-2 g c =
@@ -85,13 +85,13 @@ invariant_of-self-2 g c =
     let u = view_of w.begun.value c.trap_here.new.self w.output.items w.histories (logged c.push_reserved.new.self.items) c.count_steps.new.own.items w.past.items w.events c.wake.new.awake c.wake.new.quiet w.held.items in
     let at_path = c.in_ok-path.ensures ∙ c.path.ensures a.process a.has.state_is in
     let entry : Log = record { path = c.in_ok-path.path; what = LoggedTrap c.args.kind c.args.line } in
-    let told : HasTold o law v u c.self.invariant.0 4294967295 n (AtTrap c.args.kind c.args.line) (dies (death 0)) (trapping c.args.kind c.args.line) a = record {
+    let told : HasTold o law v u c.self.invariant.0 4294967295 n (AtTrap c.args.kind c.args.line) (dies (death_with 0 (pos 0))) (trapping c.args.kind c.args.line) a = record {
       output = sym (append-nil w.output.items);
       histories = refl;
       logs = ap logged c.push_reserved.ensures.items ∙ (with_one_more finite.empty c.reserve.new.self.items entry ∙ (λ j. with_logs (logged (c.in_ok-reserve.ensures.items j)) (at_path j) (LoggedTrap c.args.kind c.args.line ∷ [])));
       past = refl;
     } in
-    let r = own_done o law v u c.self.invariant.0 4294967295 n (AtTrap c.args.kind c.args.line) (dies (death 0)) (trapping c.args.kind c.args.line) a refl (λ e. absurd cc) told c.count_steps.ensures refl refl few c.wake.ensures.awake c.wake.ensures.quiet in
+    let r = own_done o law v u c.self.invariant.0 4294967295 n (AtTrap c.args.kind c.args.line) (dies (death_with 0 (pos 0))) (trapping c.args.kind c.args.line) a refl (λ e. absurd cc) told c.count_steps.ensures refl refl few c.wake.ensures.awake c.wake.ensures.quiet in
     (r.0, ap (λ z. z + 1) c.self.invariant.1 ∙ sym r.2)
 
 pub returns-clause-ok : goal.returns-clause-ok
@@ -107,12 +107,12 @@ returns-clause-ok g c =
     let u = view_of w.begun.value c.trap_here.new.self w.output.items w.histories (logged c.push_reserved.new.self.items) c.count_steps.new.own.items w.past.items w.events c.wake.new.awake c.wake.new.quiet w.held.items in
     let at_path = c.in_ok-path.ensures ∙ c.path.ensures a.process a.has.state_is in
     let entry : Log = record { path = c.in_ok-path.path; what = LoggedTrap c.args.kind c.args.line } in
-    let told : HasTold o law v u c.self.invariant.0 4294967295 n (AtTrap c.args.kind c.args.line) (dies (death 0)) (trapping c.args.kind c.args.line) a = record {
+    let told : HasTold o law v u c.self.invariant.0 4294967295 n (AtTrap c.args.kind c.args.line) (dies (death_with 0 (pos 0))) (trapping c.args.kind c.args.line) a = record {
       output = sym (append-nil w.output.items);
       histories = refl;
       logs = ap logged c.push_reserved.ensures.items ∙ (with_one_more finite.empty c.reserve.new.self.items entry ∙ (λ j. with_logs (logged (c.in_ok-reserve.ensures.items j)) (at_path j) (LoggedTrap c.args.kind c.args.line ∷ [])));
       past = refl;
     } in
-    let r = own_done o law v u c.self.invariant.0 4294967295 n (AtTrap c.args.kind c.args.line) (dies (death 0)) (trapping c.args.kind c.args.line) a refl (λ e. absurd cc) told c.count_steps.ensures refl refl few c.wake.ensures.awake c.wake.ensures.quiet in
+    let r = own_done o law v u c.self.invariant.0 4294967295 n (AtTrap c.args.kind c.args.line) (dies (death_with 0 (pos 0))) (trapping c.args.kind c.args.line) a refl (λ e. absurd cc) told c.count_steps.ensures refl refl few c.wake.ensures.awake c.wake.ensures.quiet in
     let path = c.in_ok-copy.ensures ∙ at_path in
     subst (λ z. HappensIn o z u (Own c.in_ok-copy.field-0)) c.self.view_is (subst (λ z. HappensIn o v u (Own z)) (sym path) r.1)
