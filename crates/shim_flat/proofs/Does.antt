@@ -1,5 +1,5 @@
 -- What one live process did by itself in place, as an event of the tree that is shown.
-use Rattle.std.proofs.Common.{◌≡◌, ◌≤◌, ◌<◌, ℕ, zero, suc, ℤ, Bool, true, false, cond, ltb, Option, Some, None, List, [], ◌∷◌, length, get_or, slice_set, inl, inr, refl, sym, ap, subst, ◌∙◌, arith}
+use Rattle.std.proofs.Common.{◌≡◌, ◌≤◌, ◌<◌, ℕ, zero, suc, ℤ, true, false, cond, ltb, Option, Some, None, List, [], ◌∷◌, length, get_or, slice_set, refl, sym, ap, subst, ◌∙◌}
 use Rattle.std.specs.Prelude.{slice_get}
 use Rattle.std.proofs.lemmas.Option.{slice_get_read, slice_get_within}
 use Rattle.shim_base.proofs.Facts.{some_same}

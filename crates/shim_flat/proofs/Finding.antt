@@ -9,7 +9,6 @@ use Rattle.shim_base.proofs.Facts.{some_same, none_some}
 use Rattle.shim_local.specs.Process.{Ops}
 use Rattle.shim_laws_records.specs.Seen.{Sort, lives, forks, ends, dies}
 use Rattle.shim_laws_records.specs.Agrees.{used}
-use Rattle.shim_semantics.specs.Nodes.{Death}
 use Rattle.shim_records.specs.Members.{IsAmong}
 use Rattle.shim_records.specs.Pairs.{stands_of, stands_by}
 use Rattle.shim_records.specs.declared.record.Record.{Record}

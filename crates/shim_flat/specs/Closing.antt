@@ -14,7 +14,6 @@ use Rattle.shim_laws_keeping.specs.Moves.{MovesBy}
 use Rattle.shim_laws_closes.specs.Closing.{HasCome, LeavesIf, RecountedIf}
 use Rattle.shim_flat.specs.Touching.{TouchesAbove}
 use Rattle.shim_flat.specs.Acting.{sort_by, told_of, thrown_by}
-use Rattle.shim_flat.specs.declared.acting.Thrown.{Thrown}
 use Rattle.shim_flat.specs.declared.acting.Thrown.TheVariants as thrown
 use Rattle.shim_flat.specs.declared.closing.CloseOutcome.{CloseOutcome}
 use Rattle.shim_flat.specs.declared.closing.CloseOutcome.TheVariants.{GoesOn, Threw}

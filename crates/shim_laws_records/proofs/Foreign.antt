@@ -5,7 +5,7 @@ use Rattle.std.proofs.lemmas.List.{append-nil}
 use Rattle.shim_base.specs.Paths.{Path, Channel}
 use Rattle.shim_local.specs.Process.{Ops, StopView, ForkedView, AtQuiet, AtNext, AtPut, AtFork, AtFinish, AtThrow, AtTrap, Parted, Trapped}
 use Rattle.shim_local.specs.Laws.{LocalLaws, Moved, by_quiet, by_call, by_unwind, by_fork, by_trap, by_join, by_put, by_thrown, by_label, AllOf, IsGiven}
-use Rattle.shim_semantics.specs.Nodes.{Node, Nodes, Live, Forked, Ended, Dead, Death, death, death_with, handed, state, states, all_done, prevailing_death}
+use Rattle.shim_semantics.specs.Nodes.{Node, Nodes, Live, Forked, Ended, Dead, Death, death_with, handed, state, states, all_done, prevailing_death}
 use Rattle.shim_semantics.specs.Acts.{Acted, act_here, act_live, thrown, throwing, closed, parted, nothing, catching}
 use Rattle.shim_semantics.specs.Places.{at, SoundBelow}
 use Rattle.shim_semantics.specs.Sound.{IsSound}

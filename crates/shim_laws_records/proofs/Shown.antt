@@ -7,7 +7,7 @@ use Rattle.shim_local.specs.Process.{Ops, Parted, AtFork}
 use Rattle.shim_local.specs.Quiets.{QuietSteps}
 use Rattle.shim_local.specs.Laws.{LocalLaws, AreChildren, by_quiet}
 use Rattle.shim_local.proofs.Quiets.{first_quiet}
-use Rattle.shim_semantics.specs.Nodes.{Node, Nodes, Live, Forked, Dead, Death, death, death_with, handed, state, states, all_live, all_done, prevailing_death, source, value_of, received}
+use Rattle.shim_semantics.specs.Nodes.{Node, Nodes, Live, Forked, Dead, Death, death, handed, state, states, all_live, all_done, prevailing_death, source, value_of, received}
 use Rattle.shim_semantics.specs.Acts.{Acted, act_here, act_live, thrown, closed, parted, nothing, catching}
 use Rattle.shim_semantics.specs.Places.{at, branches, route}
 use Rattle.shim_semantics.specs.Quiets.{Advances}

@@ -1,5 +1,5 @@
 -- Whether here or below a process died of a label with a number, and where a node is replaced.
-use Rattle.std.proofs.Common.{◌≡◌, ◌≤◌, ◌<◌, ℕ, ℤ, zero, suc, Bool, true, false, Option, Some, None, List, [], ◌∷◌, ◌⊎◌, inl, inr, cond, min, ltb, not, ◌&&◌, refl, sym, ap, subst, ◌∙◌, arith, ltb-true, ltb-false, lt-ltb, le-ltb}
+use Rattle.std.proofs.Common.{◌≡◌, ◌≤◌, ◌<◌, ℕ, ℤ, zero, suc, true, false, Option, Some, None, List, [], ◌∷◌, ◌⊎◌, inl, inr, cond, min, ltb, refl, sym, ap, subst, ◌∙◌, arith, ltb-true, ltb-false, lt-ltb}
 use Rattle.std.specs.Option.{option_or}
 use Rattle.shim_semantics.specs.Nodes.{Node, Nodes, Live, Forked, Ended, Dead, Death, no_node, node_and, all_done, all_live, outermost, outermost_given, prevailing, prevailing_death}
 use Rattle.shim_semantics.specs.Places.{at, child_at}

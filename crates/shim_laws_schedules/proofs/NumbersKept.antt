@@ -1,5 +1,5 @@
 -- Who died with a number, before and behind an event.
-use Rattle.std.proofs.Common.{◌≡◌, ◌≤◌, ◌<◌, ℕ, ℤ, zero, suc, ◌-◌, Bool, true, false, Option, Some, None, List, [], ◌∷◌, ◌⊎◌, inl, inr, cond, ltb, refl, sym, ap, subst, ◌∙◌, arith, ltb-true, ltb-false, lt-ltb}
+use Rattle.std.proofs.Common.{◌≡◌, ◌≤◌, ◌<◌, ℕ, ℤ, zero, suc, ◌-◌, true, false, Option, Some, None, List, [], ◌∷◌, ◌⊎◌, inl, inr, cond, ltb, refl, sym, ap, subst, ◌∙◌, arith, ltb-true, ltb-false}
 use Rattle.shim_base.specs.Paths.{Channel}
 use Rattle.shim_local.specs.Process.{Ops, ForkedView, Parted, Trapped, StopView, AtQuiet, AtNext, AtPut, AtFork, AtFinish, AtThrow, AtTrap}
 use Rattle.shim_local.specs.Laws.{LocalLaws}
@@ -17,7 +17,7 @@ use Rattle.shim_laws_schedules.proofs.Forks.{same_fork}
 use Rattle.shim_laws_schedules.proofs.Leaves.{joined_base}
 use Rattle.shim_laws_schedules.proofs.MeetSpares.{received_fork}
 use Rattle.shim_laws_schedules.proofs.PoisonSpares.{poisoned_fork}
-use Rattle.shim_base.proofs.Facts.{some_same, none_some, cond_some, true_or_false}
+use Rattle.shim_base.proofs.Facts.{some_same, none_some, cond_some}
 use Rattle.shim_semantics.proofs.PoisonStays.{before_some}
 
 not_zero : {A : Type 0} (x : ℕ) → 1 ≤ x → 0 ≡ x → A

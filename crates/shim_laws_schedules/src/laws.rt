@@ -49,8 +49,9 @@ pub fn thrown<L: Local>()
     ensures logged { CatchesAreLogged L.ops }
 {}
 
-/// Where a fork of such a run closes and its process catches an exception, the number that the handler is
-/// given was given by a throw. It is never 0 because all that died so were poisoned.
+/// Where a fork of such a run closes and its process catches an exception, the prevailing death of its
+/// children has a number, which the handler is given: never 0 because all that died so were poisoned. That
+/// it was thrown says `thrown`.
 pub fn numbers<L: Local>()
     ensures { CatchesHaveNumbers L.ops }
 {}

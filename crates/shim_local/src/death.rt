@@ -2,8 +2,8 @@
 ghost use Rattle.std.specs.Prelude.{◌≡◌};
 ghost use Rattle.shim_local.specs.Deaths.{handed, outermost};
 
-/// The exception of which a process died: its label, and the number with which it was thrown. One that was
-/// poisoned has none.
+/// The exception of which a process died: its label, and the number with which it was thrown. A trap has 0.
+/// One that was poisoned, or whose fork closed over such alone, has none.
 #[derive(Clone, Copy, Debug, PartialEq, Eq)]
 pub struct Death {
     pub label: u32,

@@ -21,6 +21,7 @@ process_ops = record {
   fork = fork;
   join = join;
   born = Born;
+  -- a throw gives 0, since no text can write another number, and no handler reads it
   number = λ l. Some (pos 0);
   thrown = λ l. l;
   unwind = λ l label v. unwind l label;

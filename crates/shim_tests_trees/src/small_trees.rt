@@ -481,6 +481,20 @@ fn of_one_label_the_leftmost_throw_gives_the_number(rt: HostRuntime) -> Result<(
                  put; history 2 of root as 7: 7; log root caught 3 in 20; \
                  stepped root 2; stepped root/0.1 1; stepped root/0.2 1; others 4; steps 8; done",
             ),
+            // the leftmost number is not the least
+            (
+                &[
+                    Step::Try(3, 20),
+                    Step::Three(Branch::Throw(1, 9), Branch::Throw(1, 7), Branch::Nothing),
+                    Step::Next,
+                ],
+                9,
+                " own root; own root; own root/0.0; own root/0.1; end root/0.2; \
+                 close root; meet 2 of root; end root; \
+                 at rest: quiet none none; met 9; met none; \
+                 put; history 2 of root as 7: 9; log root caught 3 in 20; \
+                 stepped root 2; stepped root/0.0 1; stepped root/0.1 1; others 4; steps 8; done",
+            ),
             // a poisoned branch to the left of the only throw
             (
                 &[

@@ -1,4 +1,4 @@
-use Rattle.std.proofs.Common.{rules, ◌∙◌, sym, ap}
+use Rattle.std.proofs.Common.{◌∙◌, sym, ap}
 use Rattle.shim_local.specs.Views.{stop_view}
 use Rattle.shim_tree.specs.NodeStatus.{node}
 use Rattle.shim_tree.specs.Acting.{effects_of}

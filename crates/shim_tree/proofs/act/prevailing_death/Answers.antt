@@ -1,7 +1,7 @@
 use Rattle.std.proofs.Common.{◌≡◌, ◌+◌, ◌-◌, arith, ap, ◌∙◌}
 use Rattle.shim_semantics.specs.Nodes.{prevailing_death}
 use Rattle.shim_tree.proofs.Beside.{from}
-use Rattle.shim_tree.proofs.Labels.{one_death, no_death}
+use Rattle.shim_tree.proofs.Labels.{one_death}
 use Rattle.shim_tree.proofs.act.prevailing_death.Goals as goal
 
 pub loop-left-preserved : goal.loop-left-preserved

@@ -1,6 +1,5 @@
 use Rattle.std.proofs.Common.{map, take, length, sym, ap, subst, ◌∙◌, arith}
 use Rattle.std.specs.Prelude.{slice_get}
-use Rattle.std.specs.Option.{option_map}
 use Rattle.shim_semantics.specs.Nodes.{death}
 use Rattle.shim_laws_records.specs.Changes.{block, prevailing_among}
 use Rattle.shim_records.specs.Pairs.{stands_of}

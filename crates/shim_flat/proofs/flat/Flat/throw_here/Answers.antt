@@ -3,7 +3,7 @@ use Rattle.std.specs.Prelude.{Some}
 use Rattle.shim_local.specs.Process.{AtThrow}
 use Rattle.shim_semantics.specs.Nodes.{Dead}
 use Rattle.shim_semantics.specs.Acts.{nothing, act_live}
-use Rattle.shim_laws_records.specs.Seen.{lives, dies}
+use Rattle.shim_laws_records.specs.Seen.{dies}
 use Rattle.shim_records.specs.declared.record.Status.TheVariants as code
 use Rattle.shim_laws_keeping.specs.Flats.{IsKept}
 use Rattle.shim_flat.specs.Stepping.{LivesAt}
