@@ -12,7 +12,7 @@ use Rattle.shim_flat.proofs.descent.Sharers.TheSendSync as sharers
 use Rattle.shim_flat_tree.proofs.flat_tree.PastSteps.TheSendSync as past
 use Rattle.shim_flat_tree.specs.contracts.flat_tree.FlatTree as FlatTree
 use Rattle.shim_flat_tree.specs.contracts.flat_tree.FlatTree.TheInside as tree
-use Rattle.shim_net.proofs.entry.Entry.TheSendSync as entries
+use Rattle.shim_tree.proofs.entry.Entry.TheSendSync as entries
 use Rattle.shim_net.proofs.open_grant.OpenGrant.TheSendSync as grants
 use Rattle.shim_net.specs.contracts.net.Net as Net
 use Rattle.shim_net.specs.contracts.net.Net.TheInside as net

@@ -5,10 +5,10 @@ ghost use Rattle.shim_local.specs.Quiets.{QuietSteps};
 ghost use Rattle.shim_net.specs.Nets.{OpenGrant as GrantOf};
 ghost use Rattle.shim_net.specs.Taking.{Matches, Closes, Takes, Came};
 
-use crate::entry::Entry;
 use crate::net::Net;
 use crate::open_grant::place_of;
 use shim_local::{Finished, Local};
+use shim_tree::Entry;
 
 /// What came of a finished piece that was brought back.
 #[derive(Drop)]

@@ -2,7 +2,6 @@
 #![tactic(auto)]
 
 mod absorb;
-mod entry;
 mod finish;
 mod gate;
 mod grant;
@@ -17,7 +16,7 @@ mod standing;
 mod stepping;
 
 pub use absorb::Absorbed;
-pub use entry::Entry;
 pub use gate::{Gate, NoOpGate};
 pub use net::Net;
+pub use shim_tree::Entry;
 pub use standing::Standing;

@@ -5,11 +5,11 @@ ghost use Rattle.shim_semantics.specs.Trees.{steps};
 ghost use Rattle.shim_flat_tree.specs.FlatTrees.{tree_in, KeepsTree};
 ghost use Rattle.shim_net.specs.Nets.{started, reserved_in};
 
-use crate::entry::Entry;
 use crate::open_grant::OpenGrant;
 use shim_base::NoMemory;
 use shim_flat_tree::FlatTree;
 use shim_local::Local;
+use shim_tree::Entry;
 use std::alloc::Global;
 use std::marker::Model;
 use std::snapshot::Snapshot;

@@ -6,11 +6,11 @@ ghost use Rattle.shim_semantics.specs.Endings as endings;
 ghost use Rattle.shim_net.specs.Entries.{entry_of};
 ghost use Rattle.shim_net.specs.Nets.{IsOpen};
 
-use crate::entry::Entry;
 use crate::net::Net;
 use crate::open_grant::is_open;
 use shim_base::Chan;
 use shim_local::Local;
+use shim_tree::Entry;
 
 impl<L: Local> Net<L> {
     /// Whether an open grant has this slot and round.
@@ -27,7 +27,7 @@ impl<L: Local> Net<L> {
         self.tree.steps()
     }
 
-    /// What was done in it.
+    /// What was done in it. An event that stands there by itself is no quiet step, as the clauses of `settle` say.
     pub fn journal(&self) -> &[Entry]
         ensures { map entry_of result.now ≡ self.now.journal }
     {

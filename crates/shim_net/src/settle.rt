@@ -4,10 +4,10 @@ ghost use Rattle.shim_semantics.specs.Trees.{steps};
 ghost use Rattle.shim_net.specs.Nets.{reserved_in};
 ghost use Rattle.shim_net.specs.Settling.{RestsButForQuiet, SettlesOne, Settles};
 
-use crate::entry::Entry;
 use crate::net::Net;
 use shim_base::NoMemory;
 use shim_local::Local;
+use shim_tree::Entry;
 
 impl<L: Local> Net<L> {
     /// Does enabled events other than quiet steps, until none is enabled, or all that is left of the

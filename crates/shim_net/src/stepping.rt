@@ -6,11 +6,11 @@ ghost use Rattle.shim_net.specs.Taking.{with_piece};
 ghost use Rattle.shim_net.specs.Stepping.{IsNextHome, StepsHome};
 ghost use Rattle.shim_net.specs.Progress.{GoesOn, CanGive};
 
-use crate::entry::Entry;
 use crate::gate::{Gate, NoOpGate};
 use crate::net::{Net, left_in};
 use shim_base::{NoMemory, Path};
 use shim_local::{Local, Quiet};
+use shim_tree::Entry;
 
 // Adds the entry of so many quiet steps of the process of this path, if there are any, for which there is
 // room.

@@ -3,6 +3,8 @@
 #![tactic(auto)]
 
 #[cfg(test)]
+mod by_path;
+#[cfg(test)]
 mod small_trees;
 #[cfg(test)]
 mod ties;

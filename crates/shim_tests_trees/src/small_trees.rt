@@ -15,12 +15,12 @@ use std::str;
 use std::sync::Arc;
 use std::test::Fail;
 
-fn add_number(told: &mut List<u8>, before: &[u8], number: u64) -> Result<(), NoMemory> {
+pub(crate) fn add_number(told: &mut List<u8>, before: &[u8], number: u64) -> Result<(), NoMemory> {
     told.extend_from_slice(before)?;
     push_decimal(told, number)
 }
 
-fn add_path(told: &mut List<u8>, before: &[u8], path: &Path) -> Result<(), NoMemory> {
+pub(crate) fn add_path(told: &mut List<u8>, before: &[u8], path: &Path) -> Result<(), NoMemory> {
     told.extend_from_slice(before)?;
     told.extend_from_slice(b" root")?;
     for pair in path.pairs() {
@@ -35,7 +35,7 @@ fn add_chan(told: &mut List<u8>, before: &[u8], chan: &Chan) -> Result<(), NoMem
     add_path(told, b" of", chan.home())
 }
 
-fn add_value(told: &mut List<u8>, value: i64) -> Result<(), NoMemory> {
+pub(crate) fn add_value(told: &mut List<u8>, value: i64) -> Result<(), NoMemory> {
     told.extend_from_slice(b" ")?;
     if value < 0 {
         told.extend_from_slice(b"-")?;
@@ -67,7 +67,7 @@ fn add_poison(told: &mut List<u8>, path: &Path, chan: &Chan) -> Result<(), NoMem
 }
 
 // Tells whether something can happen, and all that can.
-fn add_enabled<L: Local>(told: &mut List<u8>, tree: &Tree<L>) -> Result<(), NoMemory> {
+pub(crate) fn add_enabled<L: Local>(told: &mut List<u8>, tree: &Tree<L>) -> Result<(), NoMemory> {
     if tree.quiescent() {
         told.extend_from_slice(b" at rest:")?;
     } else {
@@ -207,7 +207,11 @@ fn add_ended(told: &mut List<u8>, ended: &Ended) -> Result<(), NoMemory> {
 }
 
 // Does so many first events, or fewer where none is enabled any more, and tells each.
-fn do_events<L: Local>(told: &mut List<u8>, tree: &mut Tree<L>, most: u64) -> Result<(), NoMemory>
+pub(crate) fn do_events<L: Local>(
+    told: &mut List<u8>,
+    tree: &mut Tree<L>,
+    most: u64,
+) -> Result<(), NoMemory>
     requires fresh { steps tree.old ≡ 0 }
     requires few { most ≤ 255 }
     ensures { OnOk result (((steps tree.new ≤ most) × IsQuiescent L.ops tree.new) ⊎ (steps tree.new ≡ most)) }
@@ -242,7 +246,7 @@ fn advance_one<L: Local>(tree: &mut Tree<L>, at: usize, most: u64) -> Result<u64
 }
 
 // A root with these steps to do, on a channel of its own.
-fn root(alloc: Global, left: &[Step]) -> Result<Small, NoMemory>
+pub(crate) fn root(alloc: Global, left: &[Step]) -> Result<Small, NoMemory>
     ensures { IfOk result (λ root. SharesItsOwn small_ops root) }
 {
     let chan = Chan::new(Arc::new(alloc, Path::root(alloc))?, 2, 7);

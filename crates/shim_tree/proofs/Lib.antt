@@ -24,3 +24,8 @@ pub mod Sought
 pub mod PathProcesses
 pub mod Swaps
 pub mod Walked
+pub mod NodeRefs
+pub mod ByPath
+pub mod EventsByPath
+pub mod QuietInPlace
+pub mod QuietEntries

@@ -19,7 +19,7 @@ use Rattle.shim_tree.proofs.Beside.{is_forked, place_in, place_past, inside, out
 use Rattle.shim_base.proofs.Facts.{no_items}
 
 -- the child in a place, by the branches that begin there
-child_in_place : {S : Type 0} (i : ℕ) (q : List ℕ) (ls : List S) (bs : List (NodeStatus S)) (l : S) → i < length ls → l ≡ get_or ls i l → child_at i q (together ls (nodes bs)) ≡ at q (place l (nodes bs) i)
+pub child_in_place : {S : Type 0} (i : ℕ) (q : List ℕ) (ls : List S) (bs : List (NodeStatus S)) (l : S) → i < length ls → l ≡ get_or ls i l → child_at i q (together ls (nodes bs)) ≡ at q (place l (nodes bs) i)
 child_in_place i q [] bs l h e = absurd (omega (arith, h))
 child_in_place zero q (m ∷ ls) [] l h e = ap (λ z. at q (Live z)) (sym e)
 child_in_place zero q (m ∷ ls) (b ∷ bs) l h e = ap (λ z. at q (node z b)) (sym e)
@@ -27,7 +27,7 @@ child_in_place (suc i) q (m ∷ ls) [] l h e = child_in_place i q ls [] l (omega
 child_in_place (suc i) q (m ∷ ls) (b ∷ bs) l h e = child_in_place i q ls bs l (omega (arith, h)) e
 
 -- behind the last child there is none
-no_child : {S : Type 0} (i : ℕ) (q : List ℕ) (ls : List S) (bs : List (NodeStatus S)) → length ls ≤ i → child_at i q (together ls (nodes bs)) ≡ None
+pub no_child : {S : Type 0} (i : ℕ) (q : List ℕ) (ls : List S) (bs : List (NodeStatus S)) → length ls ≤ i → child_at i q (together ls (nodes bs)) ≡ None
 no_child i q [] bs h = refl
 no_child zero q (m ∷ ls) bs h = absurd (omega (arith, h))
 no_child (suc i) q (m ∷ ls) [] h = no_child i q ls [] (omega (arith, h))

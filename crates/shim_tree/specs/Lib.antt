@@ -14,3 +14,8 @@ pub mod Advancing
 pub mod ChildCounts
 pub mod Filled
 pub mod Poisoning
+pub mod NodeRefs
+pub mod ByPath
+pub mod Views
+pub mod Stepping
+pub mod Entries

@@ -1,15 +1,20 @@
-//! The tree of processes: its events, the first of them, and what is read off it in the end.
+//! The tree of processes: its events, the first of them, what is seen of its processes, and what is read off
+//! it in the end.
 #![tactic(auto)]
 
 mod act;
 mod advance;
+mod by_path;
 mod child_counts;
 mod counts;
 mod doom;
 mod effects;
+mod entry;
 mod event;
 mod fill;
+mod in_place;
 mod listing;
+mod node_ref;
 mod node_status;
 mod own_step;
 mod poison;
@@ -20,9 +25,13 @@ mod receive;
 mod seek;
 mod standing;
 mod tree;
+mod view;
 
+pub use entry::Entry;
 pub use event::Event;
+pub use node_ref::NodeRef;
 pub use tree::Tree;
+pub use view::View;
 
 /// What is proved of trees, their events, and every order of these, whatever the processes are.
 pub mod laws;

@@ -104,8 +104,13 @@ pub(crate) fn are_done<L>(children: &[L], statuses: &[NodeStatus<L>]) -> bool
     true
 }
 
-// Whether the child in this place is ready on the channel.
-fn is_ready_at<L: Local>(child: &L, statuses: &[NodeStatus<L>], i: usize, c: &Chan) -> bool
+/// Whether the child in this place is ready on the channel.
+pub(crate) fn is_ready_at<L: Local>(
+    child: &L,
+    statuses: &[NodeStatus<L>],
+    i: usize,
+    c: &Chan,
+) -> bool
     ensures { result ≡ ready L.ops c.now.channel (place child.now (nodes statuses.now) i) }
 {
     if i < statuses.len() {

@@ -55,8 +55,8 @@ pub(crate) fn live_at<'a, L: Local>(
     }
 }
 
-// Whether the process is that of the path.
-fn is_of<L: Local>(process: &L, path: &Path) -> bool
+/// Whether the process is that of the path.
+pub(crate) fn is_of<L: Local>(process: &L, path: &Path) -> bool
     ensures { IsTrue result ↔ (L.ops.path process.now ≡ path.now) }
 {
     process.path() == path

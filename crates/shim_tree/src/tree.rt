@@ -13,13 +13,22 @@ ghost use Rattle.shim_semantics.specs.Nodes.{source, value_of};
 ghost use Rattle.shim_semantics.specs.Places.{led_to, has_path};
 ghost use Rattle.shim_tree.specs.Acting.{acted_on};
 ghost use Rattle.shim_semantics.specs.Quiets.{quiet_at, StandsQuiet, ComesBy, Advances};
+ghost use Rattle.shim_semantics.specs.Nodes.{Live};
+ghost use Rattle.shim_semantics.specs.Places.{StandsAt};
+ghost use Rattle.shim_tree.specs.ByPath.{its_node};
+ghost use Rattle.shim_tree.specs.Views.{node_view, viewed};
+ghost use Rattle.shim_tree.specs.Stepping.{QuietStepsOn, DoesSome, DoesQuietSteps};
 ghost use Rattle.shim_local.specs.declared.Outcome.TheVariants.{Spent};
 ghost use Rattle.std.specs.FinMap as finite;
 
 use crate::advance::swap_on;
+use crate::by_path::{can_happen, found_by};
 use crate::counts::Counts;
 use crate::event::Event;
+use crate::fill::behind;
+use crate::in_place::go_quietly_at;
 use crate::listing;
+use crate::node_ref::{NodeRef, lend};
 use crate::node_status::NodeStatus;
 use crate::own_step::own_step;
 use crate::poison::poison_on;
@@ -28,8 +37,9 @@ use crate::reading::{outcome_of, waits_of};
 use crate::receive::{name_met, receive_at, value_met};
 use crate::seek::{found_first, is_quiescent};
 use crate::standing::{live_of, stands_quiet};
+use crate::view::View;
 use shim_base::{Chan, List, NoMemory, Path};
-use shim_local::{Ended, Local, Log};
+use shim_local::{Ended, Local, Log, Quiet};
 use shim_run_log::{Histories, logs_by_path};
 use std::alloc::Global;
 use std::marker::Model;
@@ -160,6 +170,56 @@ impl<L: Local> Tree<L> {
         swap_on(&mut self.root, &mut self.status, &mut state);
     }
 
+    /// Does so many quiet steps of the process of this path, in place. `true` where it lives and each of
+    /// them is a quiet step of it; `false` where one isn't. With `false`, and where memory is wanted, the
+    /// tree stands behind as many of them as were done.
+    pub fn step_on(&mut self, path: &Path, steps: u64) -> Result<bool, NoMemory>
+        requires few { trees.steps self.old + steps ≤ 4000000 }
+        ensures done { IfOk result (λ done. QuietStepsOn L.ops path.now steps self.old self.new done) }
+        ensures part { DoesSome L.ops path.now steps self.old self.new }
+    {
+        if steps == 0 {
+            return Ok(true);
+        }
+        if live_of(&self.root, &self.status, path).is_none() {
+            return Ok(false);
+        }
+        let quiet = self.go_quietly(path, steps);
+        if quiet.taken == steps {
+            return Ok(true);
+        }
+        if quiet.short {
+            return Err(NoMemory);
+        }
+        Ok(false)
+    }
+
+    /// The root, with all that stand below it.
+    pub fn root(&self) -> NodeRef<'_, L>
+        ensures { result ≡ self.now.root }
+    {
+        lend(&self.root, &self.status)
+    }
+
+    /// What came of the process of this path; `None` exactly where no process has it. It takes no memory.
+    pub fn view(&self, path: &Path) -> Option<View<'_, L>>
+        ensures { option_map viewed result ≡ option_map (node_view L.ops) (its_node L.ops self.now.root path.now) }
+    {
+        let root = lend(&self.root, &self.status);
+        match found_by(&root, path) {
+            None => None,
+            Some(node) => Some(node.view()),
+        }
+    }
+
+    /// Whether the event is enabled, so that `do_event` may be called with it. It takes no memory.
+    pub fn is_enabled(&self, event: &Event) -> bool
+        ensures { IsTrue result ↔ (after L.ops (event_of event.now) self.now ≢ None) }
+    {
+        let root = lend(&self.root, &self.status);
+        can_happen(&root, event)
+    }
+
     /// The values that the meetings on the channel gave, if it had one; it lends no empty list. It takes
     /// no memory.
     pub fn history(&self, c: &Chan) -> Option<&[i64]>
@@ -212,6 +272,23 @@ impl<L: Local> Tree<L> {
             Event::Poison(path, chan) => self.poison(path, chan),
             Event::Close(path) | Event::End(path) => self.change(path),
         }
+    }
+
+    // Up to so many quiet steps of the process of this path, which lives, in place.
+    fn go_quietly(&mut self, path: &Path, most: u64) -> Quiet
+        requires lives { (first : L) × StandsAt L.ops self.old.root path.now (Live first) }
+        requires few { trees.steps self.old + most ≤ 4000000 }
+        ensures { DoesQuietSteps L.ops path.now most result self.old self.new }
+    {
+        let front = self.root.path().pairs().len();
+        let quiet = go_quietly_at(
+            &mut self.root,
+            &mut self.status,
+            behind(path.pairs(), front),
+            most,
+        );
+        self.counts.add(path, quiet.taken);
+        quiet
     }
 
     // The process of this path does a step of its own.

@@ -5,7 +5,7 @@ use Rattle.shim_semantics.specs.Trees.{steps}
 use Rattle.shim_tree.specs.NodeStatus.{event_of}
 use Rattle.shim_laws_replay.specs.Journals as journals
 use Rattle.shim_laws_replay.specs.Grants.{IsNoQuietStep}
-use Rattle.shim_net.specs.declared.entry.Entry.TheVariants as code
+use Rattle.shim_tree.specs.declared.entry.Entry.TheVariants as code
 use Rattle.shim_net.specs.Entries.{entry_of}
 use Rattle.shim_net.specs.Nets.{NetView, reserved_in}
 use Rattle.shim_net.proofs.Keeping.{happened}
