@@ -1,0 +1,23 @@
+-- The lemmas of this crate, one module for each subject.
+pub mod Resting
+pub mod Descent
+pub mod Found
+pub mod Sharing
+pub mod Held
+pub mod Given
+pub mod Ordered
+pub mod Following
+pub mod Cycle
+pub mod Blocked
+pub mod Numbers
+pub mod IsExplained
+pub mod Asked
+pub mod Children
+pub mod Keeping
+pub mod NumberedWaits
+pub mod NumberRings
+pub mod PathRings
+pub mod Explains
+pub mod Judging
+pub mod Index
+pub mod Others

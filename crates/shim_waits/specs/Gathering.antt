@@ -1,0 +1,70 @@
+-- What one walk finds of those that wait and of those that hold them up, and the waits that follow from it.
+use Rattle.std.specs.Prelude.{◌≡◌, ℕ, Bool, false, ◌&&◌, Option, Some, None, List, slice_get, cond}
+use Rattle.std.specs.Option.{option_map}
+use Rattle.std.specs.BTreeMap.{BTreeMap, get_by}
+use Rattle.shim_base.specs.Paths.{Channel, NamedChannel, channel_order, same_channel}
+use Rattle.shim_local.specs.Process.{Ops}
+use Rattle.shim_semantics.specs.Nodes.{Node, Live, Forked, Ended, Dead, state, next_of, any_sharer, or_else}
+use Rattle.shim_waits.specs.Holding.{holds_up}
+use Rattle.shim_waits.specs.Numbers.{holds_given, first_with}
+use Rattle.shim_waits.specs.declared.explained.Wait.{Wait}
+use Rattle.shim_waits.specs.declared.gathering.Holder.{Holder}
+
+-- some child that goes on shares the channel
+abbrev pub any_child_shares : {S : Type 0} → Ops S → Channel → Node S → Bool
+any_child_shares o c (Live l) = false
+any_child_shares o c (Forked l ks) = any_sharer o c ks
+any_child_shares o c (Ended l) = false
+any_child_shares o c (Dead l d) = false
+
+-- who is kept as the one that holds up those at the channel
+abbrev pub holder_in : BTreeMap NamedChannel Holder → Channel → Option Holder
+holder_in holders c = get_by (λ k. channel_order c k.channel) holders
+
+-- a node that is found, with the number of live processes before it
+abbrev pub holder_of : {S : Type 0} → Ops S → Node S × ℕ → Holder
+holder_of o x = record { path = o.path (state x.0); number = x.1 }
+
+-- the process of the node, where the test holds
+abbrev pub holder_where : {S : Type 0} → Ops S → Node S → ℕ → Bool → Option Holder
+holder_where o n number test = cond test (Some (holder_of o (n, number))) None
+
+-- The process of the node is kept for this channel, if it holds it up and nobody is kept for it before.
+abbrev pub KeepsOne : {S : Type 0} → Ops S → Node S → ℕ → Channel → BTreeMap NamedChannel Holder → BTreeMap NamedChannel Holder → Type 0
+KeepsOne o n number c before behind = (q : Channel) → holder_in behind q ≡ or_else (holder_in before q) (holder_where o n number (same_channel c q && holds_up o q n))
+
+-- and so for each channel that it was given
+abbrev pub KeepsGiven : {S : Type 0} → Ops S → Node S → ℕ → BTreeMap NamedChannel Holder → BTreeMap NamedChannel Holder → Type 0
+KeepsGiven o n number before behind = (q : Channel) → holder_in behind q ≡ or_else (holder_in before q) (holder_where o n number (holds_given o q n))
+
+-- and so for all nodes from this one on: of each channel the first one is kept
+abbrev pub KeepsFirst : {S : Type 0} → Ops S → Node S → ℕ → BTreeMap NamedChannel Holder → BTreeMap NamedChannel Holder → Type 0
+KeepsFirst o n number before behind = (q : Channel) → holder_in behind q ≡ or_else (holder_in before q) (option_map (holder_of o) (first_with (holds_given o q) number n))
+
+-- of a wait that leads to the live process of a number: its holder is kept, and that process stands at a channel
+abbrev pub wait_to : {S : Type 0} → Ops S → S → NamedChannel → Holder → S → Option NamedChannel → Option (Wait × ℕ)
+wait_to o l c h b None = None
+wait_to o l c h b (Some d) = Some (record { path = o.path l; chan = c; holder = h.path; by = o.path b; at = d }, h.number)
+
+abbrev pub wait_on : {S : Type 0} → Ops S → S → NamedChannel → Holder → Option S → Option (Wait × ℕ)
+wait_on o l c h None = None
+wait_on o l c h (Some b) = wait_to o l c h b (next_of (o.stop b))
+
+abbrev pub wait_by_holder : {S : Type 0} → Ops S → List S → S → NamedChannel → Option Holder → Option (Wait × ℕ)
+wait_by_holder o lives l c None = None
+wait_by_holder o lives l c (Some h) = wait_on o l c h (slice_get lives h.number)
+
+abbrev pub numbered_wait_at : {S : Type 0} → Ops S → List S → BTreeMap NamedChannel Holder → S → Option NamedChannel → Option (Wait × ℕ)
+numbered_wait_at o lives holders l None = None
+numbered_wait_at o lives holders l (Some c) = wait_by_holder o lives l c (holder_in holders c.channel)
+
+-- the wait of a live process, with the number of the one that it waits for
+abbrev pub numbered_wait : {S : Type 0} → Ops S → List S → BTreeMap NamedChannel Holder → S → Option (Wait × ℕ)
+numbered_wait o lives holders l = numbered_wait_at o lives holders l (next_of (o.stop l))
+
+-- the two apart
+abbrev pub wait_found : {S : Type 0} → Ops S → List S → BTreeMap NamedChannel Holder → S → Option Wait
+wait_found o lives holders l = option_map (λ w. w.0) (numbered_wait o lives holders l)
+
+abbrev pub number_found : {S : Type 0} → Ops S → List S → BTreeMap NamedChannel Holder → S → Option ℕ
+number_found o lives holders l = option_map (λ w. w.1) (numbered_wait o lives holders l)

@@ -1,0 +1,67 @@
+-- What holds of blocked trees.
+use Rattle.std.specs.Prelude.{◌≡◌, ◌≢◌, ℕ, Some, List, [], ◌∷◌, true, map}
+use Rattle.std.specs.declared.cmp.Ordering.TheVariants.{Less}
+use Rattle.shim_base.specs.Paths.{Path, NamedChannel, path_order}
+use Rattle.shim_local.specs.Process.{Ops, AtNext}
+use Rattle.shim_local.specs.Laws.{AllOf, IsGiven}
+use Rattle.shim_semantics.specs.Nodes.{Node, state, goes}
+use Rattle.shim_semantics.specs.Places.{at}
+use Rattle.shim_semantics.specs.Listing.{IsAmong}
+use Rattle.shim_semantics.specs.Laws.{IsSoundTree}
+use Rattle.shim_semantics.specs.Systems.{run}
+use Rattle.shim_semantics.specs.Trees.{Tree, Event, after, IsQuiescent}
+use Rattle.shim_waits.specs.Holding.{holds_up, lives}
+use Rattle.shim_waits.specs.Waits.{wait_of_process, explained, IsWait}
+use Rattle.shim_waits.specs.Cycles.{IsCycle}
+use Rattle.shim_waits.specs.Holds.{IsExplanation}
+use Rattle.shim_waits.specs.declared.explained.Explained.{Explained}
+use Rattle.shim_waits.specs.declared.explained.Wait.{Wait}
+
+-- nothing can happen in the tree, which is sound, and its root has neither ended nor died
+pub record IsBlockedTree {S : Type 0} (o : Ops S) (t : Tree S) : Type 0 where
+  pub sound : IsSoundTree o t
+  pub rests : IsQuiescent o t
+  pub root : goes t.root ≡ true
+
+-- why this live process waits: not by itself
+pub record IsHeldUp {S : Type 0} (o : Ops S) (root : Node S) (l : S) : Type 0 where
+  pub wait : Wait
+  pub is : wait_of_process o root l ≡ Some wait
+  pub its : wait.path ≡ o.path l
+  pub waits : IsWait o root wait
+  pub other : wait.by ≢ wait.path
+
+-- each path comes before those behind it
+abbrev pub PathsAscend : List Path → Type 0
+PathsAscend [] = Unit {0}
+PathsAscend (p ∷ ps) = AllOf (λ q. path_order p q ≡ Less) ps × PathsAscend ps
+
+pub record BlockedIsExplained {S : Type 0} (o : Ops S) : Type 0 where
+  pub held : (t : Tree S) (l : S) → IsBlockedTree o t → IsAmong l (lives t.root) → IsHeldUp o t.root l
+  -- so each has one wait, and these are in the order of paths
+  pub each : (t : Tree S) → IsBlockedTree o t → map (λ w. w.path) (explained o t.root).waits ≡ map o.path (lives t.root)
+  pub in_order : (t : Tree S) → IsSoundTree o t → PathsAscend (map o.path (lives t.root))
+  pub cycle : (t : Tree S) → IsBlockedTree o t → IsCycle (explained o t.root).waits (explained o t.root).cycle
+  -- and there is no other cycle to which one comes from the first
+  pub one : (t : Tree S) (c : List Path) → IsBlockedTree o t → IsCycle (explained o t.root).waits c → c ≡ (explained o t.root).cycle
+  -- who holds up those that wait at a channel was given it by its fork
+  pub given : (t : Tree S) (l : S) (d : NamedChannel) (m : Node S) (q : List ℕ) → IsSoundTree o t → IsAmong l (lives t.root) → o.stop l ≡ AtNext d
+      → at q t.root ≡ Some m → holds_up o d.channel m ≡ true → IsGiven o (state m) d.channel
+
+-- what is explained of a blocked tree is an explanation of it
+abbrev pub ExplainedHolds : {S : Type 0} → Ops S → Type 0
+ExplainedHolds {S} o = (t : Tree S) → IsBlockedTree o t → IsExplanation o t.root (explained o t.root)
+
+-- two runs of a sound tree that come to ends in which nothing can happen come to one explanation
+abbrev pub EndsAreExplainedAlike : {S : Type 0} → Ops S → Type 0
+EndsAreExplainedAlike {S} o = (t u w : Tree S) (es fs : List Event) → IsSoundTree o t → run (after o) es t ≡ Some u → IsQuiescent o u → run (after o) fs t ≡ Some w → IsQuiescent o w
+    → explained o w.root ≡ explained o u.root
+
+-- there are two different paths among these
+abbrev pub HasTwo : List Path → Type 0
+HasTwo ps = (p : Path) × (q : Path) × IsAmong p ps × IsAmong q ps × (p ≢ q)
+
+-- Nobody waits for himself, through whomever. So on the cycle of each explanation there are two.
+pub record NobodyWaitsForHimself {S : Type 0} (o : Ops S) : Type 0 where
+  pub other : (t : Tree S) (w : Wait) → IsBlockedTree o t → IsWait o t.root w → w.by ≢ w.path
+  pub two : (t : Tree S) (e : Explained) → IsBlockedTree o t → IsExplanation o t.root e → HasTwo e.cycle

@@ -1,0 +1,47 @@
+-- The cycle of waits, by the numbers of the processes that wait.
+use Rattle.std.specs.Prelude.{◌≡◌, ◌<◌, ◌≤◌, ℕ, zero, suc, Bool, false, ◌||◌, eqb, Option, Some, None, List, [], ◌∷◌, ◌++◌, map, length, take, drop, get_or, slice_get, cond}
+use Rattle.shim_base.specs.Paths.{Path}
+use Rattle.shim_waits.specs.declared.explained.Wait.{Wait}
+
+-- the number is one of these
+abbrev pub was_passed : ℕ → List ℕ → Bool
+was_passed i [] = false
+was_passed i (j ∷ js) = eqb j i || was_passed i js
+
+-- of numbers that were passed, the last one first, those from i on, in the order in which they were, before others
+abbrev pub numbers_since : ℕ → List ℕ → List ℕ → List ℕ
+numbers_since i [] more = more
+numbers_since i (j ∷ js) more = cond (eqb j i) (j ∷ more) (numbers_since i js (j ∷ more))
+
+abbrev pub from_number : (ℕ → List ℕ) → Option ℕ → List ℕ
+from_number f None = []
+from_number f (Some i) = f i
+
+-- The numbers that are passed from i on until one comes again, from that one on, where each leads to the one at its place.
+abbrev pub number_ring : ℕ → List ℕ → List ℕ → ℕ → List ℕ
+number_ring zero next passed i = numbers_since i passed []
+number_ring (suc n) next passed i = cond (was_passed i passed) (numbers_since i passed []) (from_number (number_ring n next (i ∷ passed)) (slice_get next i))
+
+-- the first n of these, the last one first
+abbrev pub backwards : ℕ → List ℕ → List ℕ
+backwards zero is = []
+backwards (suc n) is = get_or is n 0 ∷ backwards n is
+
+-- each of these is below n
+abbrev pub AllBelow : ℕ → List ℕ → Type 0
+AllBelow n is = (place i : ℕ) → slice_get is place ≡ Some i → i < n
+
+-- In this place, and in none before, stands the least number; where there is none, it is the first place.
+pub record IsLeastAt (is : List ℕ) (m : ℕ) : Type 0 where
+  pub inside : m ≤ length is
+  pub there : 0 < length is → m < length is
+  pub before : (j : ℕ) → j < m → get_or is m 0 < get_or is j 0
+  pub least : (j : ℕ) → j < length is → get_or is m 0 ≤ get_or is j 0
+
+-- the path of the wait of a number
+abbrev pub path_of_wait : List Wait → ℕ → Path
+path_of_wait ws i = get_or (map (λ w. w.path) ws) i []
+
+-- what stands for the numbers of a ring, from the least one on
+abbrev pub IsTurned : (ℕ → Path) → List ℕ → List Path → Type 0
+IsTurned f ring cycle = (m : ℕ) × IsLeastAt ring m × (cycle ≡ map f (drop m ring) ++ map f (take m ring))

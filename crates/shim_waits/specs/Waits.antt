@@ -1,0 +1,64 @@
+-- Whom a process waits for.
+use Rattle.std.specs.Prelude.{◌≡◌, ◌++◌, Option, Some, None, List, [], ◌∷◌, true, map}
+use Rattle.shim_base.specs.Paths.{Path, NamedChannel}
+use Rattle.shim_local.specs.Process.{Ops, AtNext}
+use Rattle.shim_semantics.specs.Nodes.{Node, Live, state, next_of}
+use Rattle.shim_semantics.specs.Places.{StandsAt}
+use Rattle.shim_semantics.specs.Walks.{head}
+use Rattle.shim_waits.specs.Holding.{holds_up, first_of, lives}
+use Rattle.shim_waits.specs.Cycles.{cycle_of}
+use Rattle.shim_waits.specs.declared.explained.Wait.{Wait}
+use Rattle.shim_waits.specs.declared.explained.Explained.{Explained}
+
+-- it stands at the channel, by whatever name
+abbrev pub StandsAtNext : {S : Type 0} → Ops S → S → NamedChannel → Type 0
+StandsAtNext o l c = (d : NamedChannel) × (o.stop l ≡ AtNext d) × (d.channel ≡ c.channel)
+
+-- The process of the wait's path stands at its channel. It waits for the live process `by` through the process `holder`, which holds it up: that lies at or below the channel's home, and `by` at or below that.
+pub record IsWait {S : Type 0} (o : Ops S) (root : Node S) (w : Wait) : Type 0 where
+  pub process : S
+  pub stands : StandsAt o root w.path (Live process)
+  pub waits : StandsAtNext o process w.chan
+  pub holding : Node S
+  pub there : StandsAt o root w.holder holding
+  pub holds : holds_up o w.chan.channel holding ≡ true
+  pub below_home : (r : Path) × (w.holder ≡ w.chan.channel.home ++ r)
+  pub other : S
+  pub lives : StandsAt o root w.by (Live other)
+  pub below : (r : Path) × (w.by ≡ w.holder ++ r)
+  pub stands_too : StandsAtNext o other w.at
+
+-- the wait of the process of this path at this channel, by the process f and the live process b, as far as there are these
+abbrev pub wait_by : Path → NamedChannel → Path → Path → Option NamedChannel → Option Wait
+wait_by p c f b None = None
+wait_by p c f b (Some d) = Some (record { path = p; chan = c; holder = f; by = b; at = d })
+
+abbrev pub wait_through : {S : Type 0} → Ops S → Path → NamedChannel → Path → Option S → Option Wait
+wait_through o p c f None = None
+wait_through o p c f (Some b) = wait_by p c f (o.path b) (next_of (o.stop b))
+
+abbrev pub wait_held : {S : Type 0} → Ops S → Path → NamedChannel → Option (Node S) → Option Wait
+wait_held o p c None = None
+wait_held o p c (Some f) = wait_through o p c (o.path (state f)) (head (lives f))
+
+abbrev pub wait_at_next : {S : Type 0} → Ops S → Node S → Path → Option NamedChannel → Option Wait
+wait_at_next o root p None = None
+wait_at_next o root p (Some c) = wait_held o p c (first_of (holds_up o c.channel) root)
+
+-- Of a live process that waits: through the first process that holds it up, for the leftmost live one there.
+abbrev pub wait_of_process : {S : Type 0} → Ops S → Node S → S → Option Wait
+wait_of_process o root l = wait_at_next o root (o.path l) (next_of (o.stop l))
+
+-- what is there
+abbrev pub present : {A : Type 0} → List (Option A) → List A
+present [] = []
+present (None ∷ xs) = present xs
+present (Some x ∷ xs) = x ∷ present xs
+
+-- the waits of all live processes, from the left
+abbrev pub waits : {S : Type 0} → Ops S → Node S → List Wait
+waits o root = present (map (wait_of_process o root) (lives root))
+
+-- why each live process waits, and the cycle that is reached from the first one
+abbrev pub explained : {S : Type 0} → Ops S → Node S → Explained
+explained o root = record { waits = waits o root; cycle = cycle_of (waits o root) }
