@@ -2,7 +2,7 @@
 use Rattle.std.specs.Prelude.{List, [], ◌∷◌, Option, Some, None, if◌then◌else◌, bytes_eq, codes}
 use Rattle.clap.specs.Words.{Text}
 use Rattle.shim_command.specs.declared.mode.Mode.{Mode}
-use Rattle.shim_command.specs.declared.mode.Mode.TheVariants.{Run, Reference, Check, Code, Gen, Up}
+use Rattle.shim_command.specs.declared.mode.Mode.TheVariants.{Run, Reference, Check, Code, Gen, Up, Why}
 use Rattle.shim_command.specs.declared.mode.Origin.{Origin}
 use Rattle.shim_command.specs.declared.mode.Origin.TheVariants.{Stored, Generated}
 use Rattle.shim_command.specs.declared.mode.Extra.{Extra}
@@ -11,7 +11,7 @@ use Rattle.shim_command.specs.declared.mode.Telling.TheVariants.{Functions, Inst
 use Rattle.shim_command.specs.declared.mode.Course.TheVariants.{ByFirstEvents, InSomeOrder}
 use Rattle.shim_command.specs.declared.mode.Showing.TheVariants.{Report, Summary}
 use Rattle.shim_command.specs.declared.mode.Task.{Task}
-use Rattle.shim_command.specs.declared.mode.Task.TheVariants.{Tells, Runs}
+use Rattle.shim_command.specs.declared.mode.Task.TheVariants.{Tells, Runs, Explains}
 use Rattle.shim_command.specs.declared.mode.ModeRow.{ModeRow as Made}
 
 pub record ModeRow : Type 0 where
@@ -31,13 +31,14 @@ row_of Check = record { word = codes "check"; origin = Stored; beside = Nothing;
 row_of Code = record { word = codes "code"; origin = Stored; beside = Nothing; task = Tells Instructions }
 row_of Gen = record { word = codes "gen"; origin = Generated; beside = Nothing; task = Runs InSomeOrder Summary }
 row_of Up = record { word = codes "up"; origin = Stored; beside = Nothing; task = Tells Version2 }
+row_of Why = record { word = codes "why"; origin = Stored; beside = Input; task = Explains }
 
 -- a row that was made, as the definition names it
 abbrev pub row_view : Made → ModeRow
 row_view row = record { word = row.word.now; origin = row.origin; beside = row.beside; task = row.task }
 
 abbrev pub modes : List Mode
-modes = Run ∷ Reference ∷ Check ∷ Code ∷ Gen ∷ Up ∷ []
+modes = Run ∷ Reference ∷ Check ∷ Code ∷ Gen ∷ Up ∷ Why ∷ []
 
 -- the first of these modes that a word asks for
 abbrev pub named_among : List Mode → Text → Option Mode

@@ -14,6 +14,7 @@ pub enum Mode {
     Code,
     Gen,
     Up,
+    Why,
 }
 
 /// Where the text of a source comes from.
@@ -67,6 +68,8 @@ pub enum Task {
     Tells(Telling),
     /// It is run, and something is told of how that ended.
     Runs(Course, Showing),
+    /// Its meaning is told, and of a meaning that is blocked who waits for whom.
+    Explains,
 }
 
 /// What a mode is.
@@ -80,13 +83,14 @@ pub struct ModeRow {
 }
 
 /// All modes, in the order in which a word is looked up.
-const MODES: [Mode; 6] = [
+const MODES: [Mode; 7] = [
     Mode::Run,
     Mode::Reference,
     Mode::Check,
     Mode::Code,
     Mode::Gen,
     Mode::Up,
+    Mode::Why,
 ];
 
 // The row of a mode whose source is read from its file.
@@ -133,6 +137,7 @@ impl Mode {
             Mode::Code => stored("code", Extra::Nothing, Task::Tells(Telling::Instructions)),
             Mode::Gen => generated("gen", Task::Runs(Course::InSomeOrder, Showing::Summary)),
             Mode::Up => stored("up", Extra::Nothing, Task::Tells(Telling::Version2)),
+            Mode::Why => stored("why", Extra::Input, Task::Explains),
         }
     }
 

@@ -2,9 +2,9 @@
 use Rattle.std.proofs.Common.{◌≡◌, ◌↔◌, ◌⊎◌, inl, inr, ℕ, zero, suc, ◌+◌, ◌-◌, ◌<◌, ◌≤◌, Option, Some, None, refl, sym, ap, ◌∙◌, subst, arith}
 use Rattle.std.specs.Option.{option_map}
 use Rattle.shim_local.specs.Process.{Ops}
-use Rattle.shim_semantics.specs.Trees.{Tree, Event, after, steps, IsQuiescent}
+use Rattle.shim_semantics.specs.Trees.{Tree, Event, after, IsQuiescent}
 use Rattle.shim_semantics.specs.Walks.{first, after_first, or_stay, meaning}
-use Rattle.shim_reference.specs.Runs.{IsEndOfRun}
+use Rattle.shim_reference.specs.Runs.{HasRun, IsEndOfRun}
 
 -- where nothing is enabled nothing more happens
 pub stays : {S : Type 0} (o : Ops S) (b : ℕ) (t : Tree S) → first o t ≡ None → meaning o b t ≡ t
@@ -27,7 +27,7 @@ one_less b i h = omega (arith, h)
 
 -- a run that did its events, or came to rest, is at its end, whatever may happen next
 at_end : {S F : Type 0} (o : Ops S) (b : ℕ) (t : Tree S) (event_of : F → Event) (next : Option F) → option_map event_of next ≡ first o t → (next ≡ None) ↔ IsQuiescent o t
-    → ((steps t ≤ b) × IsQuiescent o t) ⊎ (steps t ≡ b) → IsEndOfRun o b t
+    → HasRun o b t → IsEndOfRun o b t
 at_end o b t event_of None is rests done = inl (sym is, rests.0 refl)
 at_end o b t event_of (Some e) is rests (inl (few, quiet)) = absurd (let none = rests.1 quiet in cc)
 at_end o b t event_of (Some e) is rests (inr full) = inr (
@@ -38,5 +38,5 @@ at_end o b t event_of (Some e) is rests (inr full) = inr (
 
 -- so is one that leads to the same tree
 pub run_ended : {S F : Type 0} (o : Ops S) (b : ℕ) (t u : Tree S) (event_of : F → Event) (next : Option F) → t ≡ u → option_map event_of next ≡ first o t → (next ≡ None) ↔ IsQuiescent o t
-    → ((steps t ≤ b) × IsQuiescent o t) ⊎ (steps t ≡ b) → IsEndOfRun o b u
+    → HasRun o b t → IsEndOfRun o b u
 run_ended {S} o b t u event_of next is found rests done = subst (λ (v : Tree S). IsEndOfRun o b v) is (at_end o b t event_of next found rests done)

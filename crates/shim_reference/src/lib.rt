@@ -7,5 +7,5 @@ mod meaning;
 mod naming;
 mod run;
 
-pub use meaning::reference;
+pub use meaning::{meaning_of, reference};
 pub use naming::named;

@@ -2,12 +2,11 @@
 ghost use Rattle.std.specs.Prelude.{◌≡◌, ◌≤◌, ◌⊎◌, OnOk, IfOk};
 ghost use Rattle.shim_semantics.specs.Trees.{start, steps, IsQuiescent};
 ghost use Rattle.shim_semantics.specs.Walks.{meaning};
-ghost use Rattle.shim_semantics.specs.Endings.{ended};
 ghost use Rattle.shim_semantics.specs.Sound.{SharesItsOwn};
-ghost use Rattle.shim_reference.specs.Runs.{IsEndOfRun};
+ghost use Rattle.shim_reference.specs.Runs.{HasRun, IsEndOfRun};
 
 use shim_base::NoMemory;
-use shim_local::{Ended, Local};
+use shim_local::Local;
 use shim_tree::Tree;
 use std::alloc::Global;
 
@@ -16,7 +15,7 @@ fn do_first_events<L: Local>(tree: &mut Tree<L>, budget: u64) -> Result<(), NoMe
     requires fresh { steps tree.old ≡ 0 }
     requires small { budget ≤ 4000000 }
     ensures tree { OnOk result (tree.new ≡ meaning L.ops budget tree.old) }
-    ensures end { OnOk result (((steps tree.new ≤ budget) × IsQuiescent L.ops tree.new) ⊎ (steps tree.new ≡ budget)) }
+    ensures end { OnOk result (HasRun L.ops budget tree.new) }
 {
     for _ in 0..budget {
         match tree.first()? {
@@ -27,16 +26,17 @@ fn do_first_events<L: Local>(tree: &mut Tree<L>, budget: u64) -> Result<(), NoMe
     Ok(())
 }
 
-/// What is read off the tree of this one process, which shares channels of its own alone, after at most
-/// so many first events.
-pub(crate) fn run<L: Local>(alloc: Global, root: L, budget: u64) -> Result<Ended, NoMemory>
+/// The tree of this one process, which shares channels of its own alone, after at most so many first
+/// events.
+pub(crate) fn run<L: Local>(alloc: Global, root: L, budget: u64) -> Result<Tree<L>, NoMemory>
     requires few { budget ≤ 4000000 }
     requires own { SharesItsOwn L.ops root }
-    ensures end { IfOk result (λ end. end ≡ ended L.ops (meaning L.ops budget (start root))) }
+    ensures tree { IfOk result (λ tree. tree ≡ meaning L.ops budget (start root)) }
+    ensures end { IfOk result (HasRun L.ops budget) }
     ensures ran { OnOk result (IsEndOfRun L.ops budget (meaning L.ops budget (start root))) }
 {
     let mut tree = Tree::start(alloc, root)?;
     do_first_events(&mut tree, budget)?;
     let _next = tree.first()?; // brings into the proof that the walk finds an event wherever one can happen
-    tree.ended(budget)
+    Ok(tree)
 }

@@ -11,6 +11,7 @@ use shim_base::{List, Name, NoMemory};
 use shim_local::{Ended, History, Log, Outcome, OwnSteps, WaitAt};
 use std::alloc::Global;
 pub use sums::summary;
+pub use words::{push_channel, push_path};
 
 /// The report of a run, whose names are numbered by their places in the list: what was put, what each
 /// channel's meetings gave, what was caught and what trapped, who waits, of a run that was stopped how

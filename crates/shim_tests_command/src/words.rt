@@ -63,6 +63,7 @@ fn each_mode_has_its_word(rt: HostRuntime) -> Result<(), Fail> {
             ("check|f", "Check \"f\": 4 1000000 64 1000"),
             ("code|f", "Code \"f\": 4 1000000 64 1000"),
             ("up|f", "Up \"f\": 4 1000000 64 1000"),
+            ("why|f", "Why \"f\": 4 1000000 64 1000"),
             ("gen|pipe", "Gen \"pipe\": 4 1000000 64 1000"),
             ("gen|tree", "Gen \"tree\": 4 1000000 64 1000"),
             ("gen|storm", "Gen \"storm\": 4 1000000 64 1000"),
@@ -78,8 +79,8 @@ fn unknown_modes_and_kinds_are_refused(rt: HostRuntime) -> Result<(), Fail> {
         &rt,
         rt.alloc(),
         &[
-            "walk|f", "Run|f", "ru|f", "runs|f", "|f", "f|run", "codes|f", "Up|f", "gen|ring",
-            "gen|f", "gen|Pipe", "gen|", "help|f", "-|f",
+            "walk|f", "Run|f", "ru|f", "runs|f", "|f", "f|run", "codes|f", "Up|f", "whys|f",
+            "gen|ring", "gen|f", "gen|Pipe", "gen|", "help|f", "-|f",
         ],
     )
 }

@@ -81,6 +81,7 @@ fn all_but_runs_by_workers_is_answered_without_a_runtime(rt: HostRuntime) -> Res
                 "unit main\n0 end\n",
             ),
             (PUTS_A, "shim ref p.shim", 0, "output 1 41\nend done 2\n"),
+            (PUTS_A, "shim why p.shim", 0, "output 1 41\nend done 2\n"),
         ],
     )
 }

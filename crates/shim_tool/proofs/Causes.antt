@@ -117,6 +117,11 @@ tells_failed = rest_tells 1 is_dead (λ e. omega (arith, e)) root_died
 pub tells_blocked : Tells 3 IsBlocked
 tells_blocked = rest_tells 3 goes (λ e. omega (arith, e)) root_goes
 
+-- so a run of first events that comes to be blocked came to rest, and its root goes on
+pub blocked_rests : (x : Execution) → IsEndOfRun process_ops x.budget (tree_of x) → (end_of x).outcome ≡ Blocked → IsBlocked x
+blocked_rests x (inl (none, quiet)) is = (quiet, (root_goes (tree_of x).root).1 (sym (status_at_rest x none) ∙ ap status_of_outcome is))
+blocked_rests x (inr (some, busy, full)) is = absurd (let three : status_of x ≡ 3 = ap status_of_outcome is in omega (arith, three, status_stopped x some))
+
 pub tells_spent : Tells 4 IsSpent
 tells_spent = record { only = λ x own is. only x (was_run x own) is; when = λ x own cause. when x (was_run x own) cause } where
   only : (x : Execution) → IsEndOfRun process_ops x.budget (tree_of x) → status_of x ≡ 4 → IsSpent x

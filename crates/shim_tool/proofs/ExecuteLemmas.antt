@@ -12,12 +12,12 @@ use Rattle.shim_front_end.specs.Source.{Source}
 use Rattle.shim_reference.specs.Reference.{reference_of}
 use Rattle.shim_command.specs.declared.mode.Course.{Course}
 use Rattle.shim_command.specs.declared.mode.Course.TheVariants.{ByFirstEvents}
-use Rattle.shim_tool.specs.RunEnds.{IsEnd, end_of, status_of_outcome}
+use Rattle.shim_tool.specs.RunEnds.{Execution, IsEnd, end_of, status_of_outcome}
 use Rattle.shim_tool.proofs.NetEnds.{meaning_end}
 use Rattle.shim_tool.specs.Answer.{AnswersRun, OfBytes}
 
 -- what a program means is what it means under other names for it and its input
-reference_is : (source program : Source) (input bytes : List ℕ) (budget : ℕ) (e : Ended) → program ≡ source → bytes ≡ input → e ≡ reference_of program bytes budget
+pub reference_is : (source program : Source) (input bytes : List ℕ) (budget : ℕ) (e : Ended) → program ≡ source → bytes ≡ input → e ≡ reference_of program bytes budget
     → e ≡ end_of (record { source = source; input = input; budget = budget })
 unfolding end_of
 reference_is source program input bytes budget e same read is = is ∙ λ i. reference_of (same i) (read i) budget
@@ -35,11 +35,11 @@ reference_was (Ok e) source program input bytes budget same read is =
 reference_was (Err e) source program input bytes budget same read is = tt
 
 -- a run's status and text answer its source
-pub answers_run : (course : Course) (text_of : Source → Ended → List ℕ) (s t : Source) (input : List ℕ) (budget : ℕ) (e : Ended) (status : ℕ) (text : List ℕ) → s ≡ t
-    → IsEnd course (record { source = s; input = input; budget = budget }) e → status ≡ status_of_outcome e.outcome → text ≡ text_of s e
-    → AnswersRun course text_of (record { source = t; input = input; budget = budget }) (record { status = status; text = text })
-answers_run course text_of s t input budget e status text same end told written =
-    subst (λ (b : Source). AnswersRun course text_of (record { source = b; input = input; budget = budget }) (record { status = status; text = text })) same
+pub answers_run : (course : Course) (shown : Execution → Ended → List ℕ) (s t : Source) (input : List ℕ) (budget : ℕ) (e : Ended) (status : ℕ) (text : List ℕ) → s ≡ t
+    → IsEnd course (record { source = s; input = input; budget = budget }) e → status ≡ status_of_outcome e.outcome → text ≡ shown (record { source = s; input = input; budget = budget }) e
+    → AnswersRun course shown (record { source = t; input = input; budget = budget }) (record { status = status; text = text })
+answers_run course shown s t input budget e status text same end told written =
+    subst (λ (b : Source). AnswersRun course shown (record { source = b; input = input; budget = budget }) (record { status = status; text = text })) same
     (e, end, (λ i. record { status = told i; text = written i }))
 
 -- of an accepted program comes what comes of its source

@@ -11,4 +11,5 @@ pub mod Sights
 pub mod FunctionUnits
 pub mod ReadsOn
 pub mod Preparing
+pub mod Explaining
 pub mod Beginnings

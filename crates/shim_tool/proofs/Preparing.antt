@@ -10,7 +10,7 @@ use Rattle.shim_command.specs.declared.mode.Origin.{Origin}
 use Rattle.shim_command.specs.declared.mode.Origin.TheVariants.{Stored, Generated}
 use Rattle.shim_command.specs.declared.mode.Showing.{Showing}
 use Rattle.shim_command.specs.declared.mode.Task.{Task}
-use Rattle.shim_command.specs.declared.mode.Task.TheVariants.{Runs, Tells}
+use Rattle.shim_command.specs.declared.mode.Task.TheVariants.{Explains, Runs, Tells}
 use Rattle.shim_command.specs.declared.mode.Telling.{Telling}
 use Rattle.shim_command.specs.Jobs.{IsWithin}
 use Rattle.shim_command.specs.Modes.{row_of}
@@ -18,8 +18,11 @@ use Rattle.shim_tool.specs.declared.answer.Answer.{Answer as MadeAnswer}
 use Rattle.shim_tool.specs.declared.prepared.Prepared.{Prepared as MadePrepared}
 use Rattle.shim_tool.specs.declared.prepared.Prepared.TheVariants.{Answered, ToRun}
 use Rattle.shim_tool.specs.declared.prepared.PreparedRun.{PreparedRun}
+use Rattle.shim_local.specs.declared.Ended.{Ended}
 use Rattle.shim_tool.specs.Moments.{FilesAt}
-use Rattle.shim_tool.specs.Modes.{Reading, deed_by, deed_of, executed, first, readings_beside, reads_of, second, showing_of, source_readings, source_text, telling_of}
+use Rattle.shim_tool.specs.Reasons.{report_with_reasons}
+use Rattle.shim_tool.specs.RunEnds.{Execution}
+use Rattle.shim_tool.specs.Modes.{Reading, deed_by, deed_of, executed, first, readings_beside, reads_of, second, shown_of, source_readings, source_text, telling_of}
 use Rattle.shim_tool.specs.Reads.{AreContents, HoldsAll, Looks, OneReadFailed, Saw, Told, all, longer_file, unread_file}
 use Rattle.shim_tool.specs.Answer.{Answer, Answers, AnswersMeaning, AnswersProgram, AnswersRun, AnswersSaw, AnswersSource, AnswersTelling, AnswersTold, OfBytes, refused}
 use Rattle.shim_tool.specs.Rows.{WasRead}
@@ -34,7 +37,7 @@ completed_program : (job : Job) (input : List ℕ) (program : Program) (source :
     → AnswersProgram (deed_of job) program (executed job input source) answer
 completed_program job input program source (answered made) answer (none, done) same = subst (λ (a : Answer). AnswersProgram (deed_of job) program (executed job input source) a) (sym same) done
 completed_program job input program source (to_run r) answer (task, is) done =
-    let P : PreparedRun → Type 0 = λ q. AnswersRun InSomeOrder (showing_of q.showing q.job) (executed q.job q.input q.source) answer in
+    let P : PreparedRun → Type 0 = λ q. AnswersRun InSomeOrder (shown_of q.showing q.job) (executed q.job q.input q.source) answer in
     subst (λ (t : Task). AnswersProgram (deed_by t job) program (executed job input source) answer) (sym task) (subst P is done)
 
 completed_answer : (p : Prepared) (made answer : Answer) → p ≡ answered made → Completes p answer → answer ≡ made
@@ -153,7 +156,7 @@ prepared_within job before now p within (saw, looks, prepared) = within_saw job 
 pub answered_done : (p : MadePrepared) (made : MadeAnswer) → p ≡ Answered made → Completes (prepared_view p) (answer_view made)
 answered_done p made is = subst (λ (q : MadePrepared). Completes (prepared_view q) (answer_view made)) (sym is) refl
 
-pub left_done : (p : MadePrepared) (r : PreparedRun) (answer : Answer) → p ≡ ToRun r → AnswersRun InSomeOrder (showing_of r.showing r.job) (executed r.job r.input r.source) answer → Completes (prepared_view p) answer
+pub left_done : (p : MadePrepared) (r : PreparedRun) (answer : Answer) → p ≡ ToRun r → AnswersRun InSomeOrder (shown_of r.showing r.job) (executed r.job r.input r.source) answer → Completes (prepared_view p) answer
 left_done p r answer is done = subst (λ (q : MadePrepared). Completes (prepared_view q) answer) (sym is) done
 
 -- what comes of bytes is what follows from that for each program and each fault
@@ -172,8 +175,8 @@ PreparesRefusal fault p = p ≡ answered (refused fault)
 
 -- what is prepared is what the task of the job's mode asks for
 module _ (job : Job) (input bytes : List ℕ) where
-  abbrev MeaningOf : Showing → Program → Source → Answer → Type 0
-  MeaningOf showing program source a = AnswersRun ByFirstEvents (showing_of showing job) (executed job input source) a
+  abbrev MeaningOf : (Execution → Ended → List ℕ) → Program → Source → Answer → Type 0
+  MeaningOf shown program source a = AnswersRun ByFirstEvents shown (executed job input source) a
 
   abbrev LeftOf : Showing → Program → Source → Prepared → Type 0
   LeftOf showing program source p = p ≡ to_run (record { job = job; showing = showing; source = source; input = input })
@@ -183,8 +186,13 @@ module _ (job : Job) (input bytes : List ℕ) where
       (λ program source done. ((λ showing other. absurd (cc (task, other))), subst (λ (t : Task). AnswersProgram (deed_by t job) program (executed job input source) a) (sym task) done))
       (λ fault is. ap answered is) comes
 
-  pub meaning_prepared : (showing : Showing) (a : Answer) → (row_of job.mode).task ≡ Runs ByFirstEvents showing → AnswersMeaning showing job input bytes a → PreparesSource job input bytes (answered a)
-  meaning_prepared showing a task comes = by_bytes (MeaningOf showing) (PreparesProgram job input) Refuses PreparesRefusal bytes a (answered a)
+  pub meaning_prepared : (showing : Showing) (a : Answer) → (row_of job.mode).task ≡ Runs ByFirstEvents showing → AnswersMeaning (shown_of showing job) job input bytes a → PreparesSource job input bytes (answered a)
+  meaning_prepared showing a task comes = by_bytes (MeaningOf (shown_of showing job)) (PreparesProgram job input) Refuses PreparesRefusal bytes a (answered a)
+      (λ program source done. ((λ other is. absurd (cc (task, is))), subst (λ (t : Task). AnswersProgram (deed_by t job) program (executed job input source) a) (sym task) done))
+      (λ fault is. ap answered is) comes
+
+  pub reasons_prepared : (a : Answer) → (row_of job.mode).task ≡ Explains → AnswersMeaning report_with_reasons job input bytes a → PreparesSource job input bytes (answered a)
+  reasons_prepared a task comes = by_bytes (MeaningOf report_with_reasons) (PreparesProgram job input) Refuses PreparesRefusal bytes a (answered a)
       (λ program source done. ((λ other is. absurd (cc (task, is))), subst (λ (t : Task). AnswersProgram (deed_by t job) program (executed job input source) a) (sym task) done))
       (λ fault is. ap answered is) comes
 

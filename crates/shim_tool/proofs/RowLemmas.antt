@@ -108,7 +108,7 @@ status_answered (tells told) program x answer is = is.0
 
 -- and the text is that of the source, unless its meaning is stopped
 text_answered : (deed : Deed) (program : Program) (x : Execution) (answer : Answer) → AnswersProgram deed program x answer → (status_by deed x ≡ 4 → ⊥) → IsTextBy deed program x answer.text
-text_answered (runs course shown) program x answer (e, as_meant apart same, is) whole = ap (λ (a : Answer). a.text) is ∙ ap (λ (y : Ended). shown x.source y) same
+text_answered (runs course shown) program x answer (e, as_meant apart same, is) whole = ap (λ (a : Answer). a.text) is ∙ ap (λ (y : Ended). shown x y) same
 text_answered (runs course shown) program x answer (e, stopped four may so, is) whole = absurd (whole four)
 text_answered (tells told) program x answer is whole = is.1
 

@@ -10,12 +10,11 @@ use Rattle.shim_report.specs.Refusal.{refusal}
 use Rattle.shim_command.specs.declared.job.Job.{Job}
 use Rattle.shim_command.specs.declared.mode.Course.{Course}
 use Rattle.shim_command.specs.declared.mode.Course.TheVariants.{ByFirstEvents}
-use Rattle.shim_command.specs.declared.mode.Showing.{Showing}
 use Rattle.shim_command.specs.declared.mode.Telling.{Telling}
 use Rattle.shim_tool.specs.Moments.{FilesAt}
 use Rattle.shim_local.specs.declared.Ended.{Ended}
 use Rattle.shim_tool.specs.RunEnds.{Execution, end_of, status_of, status_of_outcome, IsEnd, IsStoppedEnd}
-use Rattle.shim_tool.specs.Modes.{Deed, runs, tells, deed_of, executed, reads_of, second, showing_of, source_text, telling_of}
+use Rattle.shim_tool.specs.Modes.{Deed, runs, tells, deed_of, executed, reads_of, second, source_text, telling_of}
 use Rattle.shim_tool.specs.Reads.{GrewByOneOf, Looks, Saw, all, longer_file, unread_file}
 
 -- a status and the text that goes with it
@@ -37,12 +36,12 @@ longer_line name limit = codes "file too long " ++ (name ++ (codes " " ++ (decim
 
 -- the text shows a run that ended so; of a source that isn't run none does
 abbrev pub IsShown : Deed → Execution → Ended → List ℕ → Type 0
-IsShown (runs course shown) x e text = text ≡ shown x.source e
+IsShown (runs course shown) x e text = text ≡ shown x e
 IsShown (tells told) x e text = ⊥
 
 -- the text is that of a source with this program: it shows its meaning, or is told of it
 abbrev pub IsTextBy : Deed → Program → Execution → List ℕ → Type 0
-IsTextBy (runs course shown) program x text = text ≡ shown x.source (end_of x)
+IsTextBy (runs course shown) program x text = text ≡ shown x (end_of x)
 IsTextBy (tells told) program x text = told program x.source text
 
 -- the status that tells how the meaning ended; a source of which something is told has 0
@@ -75,8 +74,8 @@ IsStoppedBy (runs course shown) x e = IsStoppedEnd course x e
 IsStoppedBy (tells told) x e = ⊥
 
 -- a run is answered with the status that tells how it ended, and with this text
-abbrev pub AnswersRun : Course → (Source → Ended → List ℕ) → Execution → Answer → Type 0
-AnswersRun course shown x answer = (e : Ended) × IsEnd course x e × (answer ≡ record { status = status_of_outcome e.outcome; text = shown x.source e })
+abbrev pub AnswersRun : Course → (Execution → Ended → List ℕ) → Execution → Answer → Type 0
+AnswersRun course shown x answer = (e : Ended) × IsEnd course x e × (answer ≡ record { status = status_of_outcome e.outcome; text = shown x e })
 
 -- a source of which something is told is answered with 0 and that
 abbrev pub AnswersTelling : (Program → Source → List ℕ → Type 0) → Program → Source → Answer → Type 0
@@ -107,9 +106,9 @@ AnswersSource deed as_run bytes answer = OfBytes (λ program source a. AnswersPr
 abbrev pub AnswersTold : Telling → List ℕ → Answer → Type 0
 AnswersTold telling bytes answer = OfBytes (AnswersTelling (telling_of telling)) (λ fault a. a ≡ refused fault) bytes answer
 
--- a source whose meaning is told
-abbrev pub AnswersMeaning : Showing → Job → List ℕ → List ℕ → Answer → Type 0
-AnswersMeaning showing job input bytes answer = OfBytes (λ program source a. AnswersRun ByFirstEvents (showing_of showing job) (executed job input source) a) (λ fault a. a ≡ refused fault) bytes answer
+-- a source whose meaning is told, by this text
+abbrev pub AnswersMeaning : (Execution → Ended → List ℕ) → Job → List ℕ → List ℕ → Answer → Type 0
+AnswersMeaning shown job input bytes answer = OfBytes (λ program source a. AnswersRun ByFirstEvents shown (executed job input source) a) (λ fault a. a ≡ refused fault) bytes answer
 
 -- the answer to what was seen of the files of a job
 abbrev pub AnswersSaw : Job → Saw → Answer → Type 0

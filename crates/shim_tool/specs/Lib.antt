@@ -1,5 +1,6 @@
 -- The definitions of this crate, one module for each subject.
 pub mod RunEnds
+pub mod Reasons
 pub mod Modes
 pub mod Moments
 pub mod Reads

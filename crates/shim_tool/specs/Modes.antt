@@ -7,12 +7,13 @@ use Rattle.shim_command.specs.declared.job.Job.{Job}
 use Rattle.shim_command.specs.declared.mode.Extra.{Extra}
 use Rattle.shim_command.specs.declared.mode.Extra.TheVariants.{Nothing, Input}
 use Rattle.shim_command.specs.declared.mode.Course.{Course}
+use Rattle.shim_command.specs.declared.mode.Course.TheVariants.{ByFirstEvents}
 use Rattle.shim_command.specs.declared.mode.Origin.{Origin}
 use Rattle.shim_command.specs.declared.mode.Origin.TheVariants.{Stored, Generated}
 use Rattle.shim_command.specs.declared.mode.Showing.{Showing}
 use Rattle.shim_command.specs.declared.mode.Showing.TheVariants.{Report, Summary}
 use Rattle.shim_command.specs.declared.mode.Task.{Task}
-use Rattle.shim_command.specs.declared.mode.Task.TheVariants.{Runs, Tells}
+use Rattle.shim_command.specs.declared.mode.Task.TheVariants.{Explains, Runs, Tells}
 use Rattle.shim_command.specs.declared.mode.Telling.{Telling}
 use Rattle.shim_command.specs.declared.mode.Telling.TheVariants.{Functions, Instructions, Version2}
 use Rattle.shim_command.specs.Modes.{row_of}
@@ -26,6 +27,7 @@ use Rattle.shim_code.specs.Programs.{code_units}
 use Rattle.shim_report.specs.Summary.{summary}
 use Rattle.shim_local.specs.declared.Ended.{Ended}
 use Rattle.shim_tool.specs.RunEnds.{Execution, report_of}
+use Rattle.shim_tool.specs.Reasons.{report_with_reasons}
 
 -- a file that is read, and the most bytes that it may have
 pub record Reading : Type 0 where
@@ -114,7 +116,7 @@ IsTextInVersion2 program text = (newer : Program) × IsUp program newer × (text
 
 -- What is done with a source that is accepted, with what gives its text: it is run so, and this text tells how that ended; or such a text is told of its program and its units, and nothing is run
 pub data Deed : Type 1 where
-  runs : Course → (Source → Ended → List ℕ) → Deed
+  runs : Course → (Execution → Ended → List ℕ) → Deed
   tells : (Program → Source → List ℕ → Type 0) → Deed
 
 -- what is told of a source
@@ -128,9 +130,14 @@ abbrev pub showing_of : Showing → Job → Source → Ended → List ℕ
 showing_of Report job = report_of
 showing_of Summary job = summary_of job
 
+-- the same of an execution, of which the source is enough
+abbrev pub shown_of : Showing → Job → Execution → Ended → List ℕ
+shown_of showing job x e = showing_of showing job x.source e
+
 abbrev pub deed_by : Task → Job → Deed
 deed_by (Tells telling) job = tells (telling_of telling)
-deed_by (Runs course showing) job = runs course (showing_of showing job)
+deed_by (Runs course showing) job = runs course (shown_of showing job)
+deed_by Explains job = runs ByFirstEvents report_with_reasons
 
 abbrev pub deed_of : Job → Deed
 deed_of job = deed_by (row_of job.mode).task job

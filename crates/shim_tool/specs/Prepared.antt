@@ -10,7 +10,7 @@ use Rattle.shim_command.specs.Jobs.{IsWithin}
 use Rattle.shim_command.specs.Modes.{row_of}
 use Rattle.shim_tool.specs.declared.prepared.PreparedRun.{PreparedRun}
 use Rattle.shim_tool.specs.Moments.{FilesAt}
-use Rattle.shim_tool.specs.Modes.{deed_of, executed, reads_of, second, showing_of, source_text}
+use Rattle.shim_tool.specs.Modes.{deed_of, executed, reads_of, second, shown_of, source_text}
 use Rattle.shim_tool.specs.Reads.{HoldsAll, Looks, OneReadFailed, Saw, all, longer_file, unread_file}
 use Rattle.shim_tool.specs.Answer.{Answer, AnswersProgram, AnswersRun, OfBytes, file_failed, file_too_long, refused, usage}
 use Rattle.shim_tool.specs.Rows.{WasRead}
@@ -53,7 +53,7 @@ Prepares (Some job) before now p = PreparesJob job before now p
 -- the answer that was prepared, or one to the run that was left
 abbrev pub Completes : Prepared → Answer → Type 0
 Completes (answered made) answer = answer ≡ made
-Completes (to_run r) answer = AnswersRun InSomeOrder (showing_of r.showing r.job) (executed r.job r.input r.source) answer
+Completes (to_run r) answer = AnswersRun InSomeOrder (shown_of r.showing r.job) (executed r.job r.input r.source) answer
 
 -- the numbers of the job are in their ranges
 abbrev pub IsPreparedWithin : Prepared → Type 0

@@ -4,7 +4,7 @@ ghost use Rattle.shim_command.specs.Jobs.{IsWithin};
 ghost use Rattle.shim_command.specs.declared.mode.Course.TheVariants as courses;
 ghost use Rattle.shim_command.specs.declared.mode.Telling.TheVariants as tellings;
 ghost use Rattle.shim_tool.specs.Answer.{AnswersMeaning, AnswersRun, AnswersTold};
-ghost use Rattle.shim_tool.specs.Modes.{accepted_line, executed, functions_from, showing_of, IsTextInVersion2};
+ghost use Rattle.shim_tool.specs.Modes.{accepted_line, executed, functions_from, showing_of, shown_of, IsTextInVersion2};
 ghost use Rattle.shim_tool.specs.RunEnds.{IsEnd};
 ghost use Rattle.shim_tool.specs.Views.{answer_view};
 
@@ -88,7 +88,7 @@ pub(crate) fn answer_run<G: Gate, R: Threads + Wait + Sync>(
     gate: &G,
 ) -> Result<Answer, NoMemory>
     requires within { IsWithin run.job }
-    ensures { IfOk result (λ a. AnswersRun courses.InSomeOrder (showing_of run.showing run.job) (executed run.job run.input run.source) (answer_view a)) }
+    ensures { IfOk result (λ a. AnswersRun courses.InSomeOrder (shown_of run.showing run.job) (executed run.job run.input run.source) (answer_view a)) }
 {
     let PreparedRun {
         job,
@@ -112,7 +112,7 @@ fn answer_reference(
     input: List<u8>,
 ) -> Result<Answer, NoMemory>
     requires within { IsWithin job.now }
-    ensures { IfOk result (λ a. AnswersRun courses.ByFirstEvents (showing_of showing job.now) (executed job.now input source) (answer_view a)) }
+    ensures { IfOk result (λ a. AnswersRun courses.ByFirstEvents (shown_of showing job.now) (executed job.now input source) (answer_view a)) }
 {
     let source = Shared::new(alloc, source)?;
     let end = end_of_syntax(alloc, job, &source, input)?;
@@ -132,7 +132,7 @@ pub(crate) fn answer_meaning(
 ) -> Result<Answer, NoMemory>
     requires short { length bytes.now ≤ 1048576 }
     requires within { IsWithin job.now }
-    ensures { IfOk result (λ a. AnswersMeaning showing job.now input bytes.now (answer_view a)) }
+    ensures { IfOk result (λ a. AnswersMeaning (shown_of showing job.now) job.now input bytes.now (answer_view a)) }
 {
     match read_source(alloc, bytes) {
         Ok(source) => answer_reference(alloc, job, showing, source, input),

@@ -4,6 +4,7 @@
 mod answer;
 mod call;
 mod execute;
+mod explain;
 mod files;
 pub mod laws;
 mod prepared;

@@ -14,6 +14,7 @@ ghost use Rattle.shim_tool.specs.PreparedView.{prepared_view};
 
 use crate::answer::{Answer, file_failed, file_too_long, refused, usage};
 use crate::execute::{answer_meaning, answer_telling};
+use crate::explain::answer_reasons;
 use crate::files::{FilesRead, first_two, read_files};
 use shim_base::{List, NoMemory};
 use shim_command::{Course, Job, Kind, Origin, Showing, Task, WordsFault, read_words};
@@ -98,6 +99,7 @@ fn prepare_source(
     match job.mode.row().task {
         Task::Tells(telling) => Ok(Prepared::Answered(answer_telling(alloc, telling, bytes)?)),
         Task::Runs(course, showing) => prepare_run(alloc, job, course, showing, bytes, input),
+        Task::Explains => Ok(Prepared::Answered(answer_reasons(alloc, &job, bytes, input)?)),
     }
 }
 

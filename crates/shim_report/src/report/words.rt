@@ -46,7 +46,7 @@ pub(super) fn push_signed(text: &mut List<u8>, number: i64) -> Result<(), NoMemo
 
 /// Adds `main`, and `/FORK.BRANCH` for each pair.
 #[tactic(auto, unfolding(crate::specs::Report::path_text))]
-pub(super) fn push_path(text: &mut List<u8>, path: &Path) -> Result<(), NoMemory>
+pub fn push_path(text: &mut List<u8>, path: &Path) -> Result<(), NoMemory>
     ensures { OnOk result (text.new ≡ text.old ++ path_text path.now) }
 {
     text.extend_from_slice(b"main")?;
@@ -74,7 +74,7 @@ fn push_pair(text: &mut List<u8>, pair: (u32, u32)) -> Result<(), NoMemory>
 
 /// Adds `HOME#SERIAL`.
 #[tactic(auto, unfolding(crate::specs::Report::channel_text))]
-pub(super) fn push_channel(text: &mut List<u8>, chan: &Chan) -> Result<(), NoMemory>
+pub fn push_channel(text: &mut List<u8>, chan: &Chan) -> Result<(), NoMemory>
     ensures { OnOk result (text.new ≡ text.old ++ channel_text chan.now.channel) }
 {
     push_path(text, chan.home())?;

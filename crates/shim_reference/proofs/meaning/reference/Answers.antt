@@ -2,19 +2,12 @@ use denote.Param.Send.{sendable}
 use Rattle.std.proofs.Common.{ap, ◌∙◌}
 use Rattle.shim_units.specs.declared.form.Form.{Form}
 use Rattle.shim_walk.proofs.Sends.{walk_send}
-use Rattle.shim_reference.proofs.Outcomes.{end_was, run_was}
-use Rattle.shim_reference.proofs.RootChannels.{main_shares_its_own}
+use Rattle.shim_reference.proofs.Outcomes.{end_was}
 use Rattle.shim_reference.proofs.meaning.reference.Goals as goal
 
-pub reference_from-requires-send-L : goal.reference_from-requires-send-L
-reference_from-requires-send-L c κs = search (walk_send, sendable)
-
-pub reference_from-requires-clause-own : goal.reference_from-requires-clause-own
-reference_from-requires-clause-own c κs = main_shares_its_own _ _ _ c.in_ok-main.ensures
+pub ended-requires-send-L : goal.ended-requires-send-L
+ended-requires-send-L c κs = search (walk_send, sendable)
 
 pub returns-clause-end : goal.returns-clause-end
 returns-clause-end c =
-    end_was c.reference_from.result _ _ _ _ _ c.in_ok-main.ensures (c.main_throws.ensures.value ∙ ap (λ (f : Form). f.main_throws) (c.deref.ensures ∙ c.in_ok-kept.ensures)) c.reference_from.ensures.end
-
-pub returns-clause-ran : goal.returns-clause-ran
-returns-clause-ran c = run_was c.reference_from.result _ _ _ _ c.in_ok-main.ensures c.reference_from.ensures.ran
+    end_was _ _ _ _ _ _ _ c.in_ok-tree.ensures.tree (c.main_throws.ensures.value ∙ ap (λ (f : Form). f.main_throws) (c.deref.ensures ∙ c.in_ok-kept.ensures)) c.in_ok-ended.ensures.ended c.named.ensures

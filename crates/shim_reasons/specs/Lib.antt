@@ -1,0 +1,2 @@
+-- The definitions of this crate, one module for each subject.
+pub mod Reasons
