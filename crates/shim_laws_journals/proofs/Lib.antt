@@ -1,0 +1,4 @@
+-- The lemmas of this crate, one module for each subject.
+pub mod Counts
+pub mod Accepting
+pub mod Traced

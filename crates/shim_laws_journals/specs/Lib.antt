@@ -1,0 +1,4 @@
+-- The definitions of this crate, one module for each subject.
+pub mod Ranges
+pub mod Accepting
+pub mod Traces

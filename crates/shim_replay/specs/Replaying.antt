@@ -1,0 +1,29 @@
+-- What replaying answers.
+use Rattle.std.specs.Prelude.{◌≡◌, ◌⊎◌, ℕ, Bool, true, false, Some, None, List, Result, Ok, Err}
+use Rattle.shim_local.specs.Process.{Ops}
+use Rattle.shim_semantics.specs.Trees.{Tree, IsQuiescent}
+use Rattle.shim_laws_replay.specs.Journals.{Entry, entry_after}
+use Rattle.shim_laws_journals.specs.Accepting.{IsAcceptedJournal, IsRefusedJournal, OverBudget, NotEnabled, Unfinished}
+use Rattle.shim_replay.specs.declared.fault.ReplayFault.{ReplayFault}
+use Rattle.shim_replay.specs.declared.fault.ReplayFault.TheVariants as faults
+
+-- the journal is accepted with this tree, or refused at this line for this cause
+abbrev pub ReplayAnswers : {S : Type 0} → Ops S → S → ℕ → List Entry → Result (Tree S) ReplayFault → Type 0
+ReplayAnswers o root b es (Ok t) = IsAcceptedJournal o root b es t
+ReplayAnswers o root b es (Err (faults.OverBudget line)) = IsRefusedJournal o root b es (OverBudget line)
+ReplayAnswers o root b es (Err (faults.NotEnabled line)) = IsRefusedJournal o root b es (NotEnabled line)
+ReplayAnswers o root b es (Err (faults.Unfinished line)) = IsRefusedJournal o root b es (Unfinished line)
+ReplayAnswers o root b es (Err faults.NoMemory) = Unit {0}
+
+-- the entry was done, or can't be
+abbrev pub DoesEntry : {S : Type 0} → Ops S → Entry → Tree S → Tree S → Bool → Type 0
+DoesEntry o e before after true = entry_after o e before ≡ Some after
+DoesEntry o e before after false = entry_after o e before ≡ None
+
+-- the tree comes out where no event is enabled or the budget is spent, and else this line of the end is told
+abbrev pub AnswersEnd : {S : Type 0} → Ops S → Tree S → Bool → ℕ → Result (Tree S) ReplayFault → Type 0
+AnswersEnd o t spent line (Ok u) = (u ≡ t) × (IsQuiescent o t ⊎ ((spent ≡ true) × (IsQuiescent o t → ⊥)))
+AnswersEnd o t spent line (Err (faults.OverBudget l)) = ⊥
+AnswersEnd o t spent line (Err (faults.NotEnabled l)) = ⊥
+AnswersEnd o t spent line (Err (faults.Unfinished l)) = (l ≡ line) × (spent ≡ false) × (IsQuiescent o t → ⊥)
+AnswersEnd o t spent line (Err faults.NoMemory) = Unit {0}

@@ -1,0 +1,188 @@
+-- What comes first in a text, read from left to right, and what is behind it.
+use Rattle.std.specs.Prelude.{◌≡◌, ℕ, zero, suc, ◌+◌, ◌*◌, ◌-◌, List, [], ◌∷◌, ◌++◌, Option, Some, None, Result, Ok, Err, nat_lt, nat_eq, eqb, codes, decimal, drop, length, if◌then◌else◌}
+use Rattle.std.specs.List.{starts_with}
+use Rattle.shim_base.specs.Paths.{Path, Channel}
+use Rattle.shim_base.specs.Tokens.{is_digit}
+use Rattle.shim_semantics.specs.Trees.{Event, Own, Meet, Poison, Close, End}
+use Rattle.shim_laws_replay.specs.Journals.{Entry, Quiet, Did}
+use Rattle.shim_laws_journals.specs.Ranges.{steps_in}
+use Rattle.shim_replay.specs.declared.fault.ReadFault.{ReadFault}
+use Rattle.shim_replay.specs.declared.fault.ReadFault.TheVariants as faults
+use Rattle.shim_replay.specs.declared.fault.TextFault.{TextFault}
+use Rattle.shim_replay.specs.declared.fault.TextFault.TheVariants as texts
+
+infixl 10 ◌>>=◌
+abbrev pub ◌>>=◌ : {A B : Type 0} → Option A → (A → Option B) → Option B
+(Some x) >>= f = f x
+None >>= f = None
+
+-- what the code reads, seen by view, is what stands there, or it finds nothing where nothing stands; unless memory is wanted
+abbrev pub FailsAs : {Y : Type 0} → ReadFault → Option Y → Type 0
+FailsAs faults.NoMemory read = Unit {0}
+FailsAs faults.Malformed read = read ≡ None
+
+abbrev pub ReadsAs : {X Y : Type 0} → (X → Y) → Result X ReadFault → Option Y → Type 0
+ReadsAs view (Ok x) read = read ≡ Some (view x)
+ReadsAs view (Err e) read = FailsAs e read
+
+-- what is behind these bytes
+abbrev pub scan_word : List ℕ → List ℕ → Option (List ℕ)
+scan_word word bytes = if starts_with eqb bytes word then Some (drop (length word) bytes) else None
+
+-- digits behind a number, which stays below the limit
+abbrev pub scan_digits : ℕ → ℕ → List ℕ → Option (ℕ × List ℕ)
+scan_digits limit n [] = Some (n, [])
+scan_digits limit n (c ∷ cs) =
+    if is_digit c then (if nat_lt (n * 10 + (c - 48)) limit then scan_digits limit (n * 10 + (c - 48)) cs else None)
+    else Some (n, c ∷ cs)
+
+-- a number without leading zeros, below the limit
+unfoldable pub scan_number : ℕ → List ℕ → Option (ℕ × List ℕ)
+scan_number limit [] = None
+scan_number limit (c ∷ cs) = if nat_eq c 48 then Some (0, cs) else (if is_digit c then scan_digits limit 0 (c ∷ cs) else None)
+
+-- one from 1 on
+unfoldable pub scan_count : ℕ → List ℕ → Option (ℕ × List ℕ)
+scan_count limit bytes = do
+  n ← scan_number limit bytes
+  if nat_eq n.0 0 then None else Some n
+
+-- numbers of paths and channels are below this
+abbrev pub number_limit : ℕ
+number_limit = 4294967296
+
+-- counts of steps are below this
+abbrev pub step_limit : ℕ
+step_limit = 4000001
+
+unfoldable pub scan_pair : List ℕ → Option ((ℕ × ℕ) × List ℕ)
+scan_pair bytes = do
+  fork ← scan_number number_limit bytes
+  behind ← scan_word (codes ".") fork.1
+  branch ← scan_number number_limit behind
+  Some ((fork.0, branch.0), branch.1)
+
+-- pairs, each behind a `/`, so many at most
+unfoldable pub scan_pairs : ℕ → List ℕ → Option (Path × List ℕ)
+scan_pairs zero bytes = Some ([], bytes)
+scan_pairs (suc n) bytes = if starts_with eqb bytes (codes "/") then
+    (scan_pair (drop 1 bytes) >>= λ pair. scan_pairs n pair.1 >>= λ pairs. Some (pair.0 ∷ pairs.0, pairs.1))
+    else Some ([], bytes)
+
+unfoldable pub scan_path : List ℕ → Option (Path × List ℕ)
+scan_path bytes = do
+  behind ← scan_word (codes "main") bytes
+  scan_pairs (length behind) behind
+
+unfoldable pub scan_channel : List ℕ → Option (Channel × List ℕ)
+scan_channel bytes = do
+  home ← scan_path bytes
+  behind ← scan_word (codes "#") home.1
+  serial ← scan_number number_limit behind
+  Some (record { home = home.0; serial = serial.0 }, serial.1)
+
+unfoldable pub scan_quiet : List ℕ → Option (Entry × List ℕ)
+scan_quiet bytes = do
+  path ← scan_path bytes
+  behind ← scan_word (codes " ") path.1
+  steps ← scan_count step_limit behind
+  rest ← scan_word (codes "\n") steps.1
+  Some (Quiet path.0 steps.0, rest)
+
+-- a path and the end of its line
+abbrev pub scan_path_line : List ℕ → Option (Path × List ℕ)
+scan_path_line bytes = do
+  path ← scan_path bytes
+  rest ← scan_word (codes "\n") path.1
+  Some (path.0, rest)
+
+-- an event that is told by a path alone
+abbrev pub scan_of_path : (Path → Event) → List ℕ → Option (Entry × List ℕ)
+scan_of_path event bytes = do
+  path ← scan_path_line bytes
+  Some (Did (event path.0), path.1)
+
+unfoldable pub scan_meet : List ℕ → Option (Entry × List ℕ)
+scan_meet bytes = do
+  chan ← scan_channel bytes
+  rest ← scan_word (codes "\n") chan.1
+  Some (Did (Meet chan.0), rest)
+
+unfoldable pub scan_poison : List ℕ → Option (Entry × List ℕ)
+scan_poison bytes = do
+  path ← scan_path bytes
+  behind ← scan_word (codes " ") path.1
+  chan ← scan_channel behind
+  rest ← scan_word (codes "\n") chan.1
+  Some (Did (Poison path.0 chan.0), rest)
+
+-- the line of an entry, by its first word
+unfoldable pub scan_entry : List ℕ → Option (Entry × List ℕ)
+scan_entry bytes =
+    if starts_with eqb bytes (codes "quiet ") then scan_quiet (drop 6 bytes)
+    else (if starts_with eqb bytes (codes "meet ") then scan_meet (drop 5 bytes)
+    else (if starts_with eqb bytes (codes "own ") then scan_of_path Own (drop 4 bytes)
+    else (if starts_with eqb bytes (codes "end ") then scan_of_path End (drop 4 bytes)
+    else (if starts_with eqb bytes (codes "close ") then scan_of_path Close (drop 6 bytes)
+    else (if starts_with eqb bytes (codes "poison ") then scan_poison (drop 7 bytes) else None)))))
+
+unfoldable pub scan_budget : List ℕ → Option (ℕ × List ℕ)
+scan_budget bytes = do
+  behind ← scan_word (codes "journal ") bytes
+  budget ← scan_count step_limit behind
+  rest ← scan_word (codes "\n") budget.1
+  Some (budget.0, rest)
+
+-- behind the last line nothing may stand
+abbrev pub ends_at : ℕ → Option (List ℕ) → Result (List Entry) ℕ
+ends_at line None = Err line
+ends_at line (Some []) = Ok []
+ends_at line (Some (c ∷ cs)) = Err (line + 1)
+
+abbrev pub scan_steps_line : ℕ → List ℕ → Option (List ℕ)
+scan_steps_line sum bytes = scan_word (decimal sum) bytes >>= λ behind. scan_word (codes "\n") behind
+
+-- the rest of the line `stop S`, which has this number, and what is behind it
+abbrev pub scan_stop : ℕ → ℕ → List ℕ → Result (List Entry) ℕ
+scan_stop line sum bytes = ends_at line (scan_steps_line sum bytes)
+
+-- what was found, or else the number of the line
+abbrev pub ok_or_line : {A : Type 0} → ℕ → Option A → Result A ℕ
+ok_or_line line (Some x) = Ok x
+ok_or_line line None = Err line
+
+-- the entries behind these ones
+abbrev pub with_front : List Entry → Result (List Entry) ℕ → Result (List Entry) ℕ
+with_front front (Ok es) = Ok (front ++ es)
+with_front front (Err line) = Err line
+
+abbrev pub behind_entry : (ℕ → List ℕ → Result (List Entry) ℕ) → ℕ → ℕ → Option (Entry × List ℕ) → Result (List Entry) ℕ
+behind_entry on line sum None = Err line
+behind_entry on line sum (Some e) = with_front (e.0 ∷ []) (on (sum + steps_in e.0) e.1)
+
+-- so many lines at most, the first of which has this number, with so many steps before them
+unfoldable pub scan_lines : ℕ → ℕ → ℕ → List ℕ → Result (List Entry) ℕ
+scan_lines zero line sum bytes = Err line
+scan_lines (suc n) line sum bytes =
+    if starts_with eqb bytes (codes "stop ") then scan_stop line sum (drop 5 bytes)
+    else behind_entry (scan_lines n (line + 1)) line sum (scan_entry bytes)
+
+abbrev pub with_budget : ℕ → Result (List Entry) ℕ → Result (ℕ × List Entry) ℕ
+with_budget b (Ok es) = Ok (b, es)
+with_budget b (Err line) = Err line
+
+abbrev pub behind_budget : Option (ℕ × List ℕ) → Result (ℕ × List Entry) ℕ
+behind_budget None = Err 1
+behind_budget (Some b) = with_budget b.0 (scan_lines 4294967295 2 0 b.1)
+
+unfoldable pub scan_journal : List ℕ → Result (ℕ × List Entry) ℕ
+scan_journal bytes = behind_budget (scan_budget bytes)
+
+-- what the code reads, seen by view, is what stands there, or it tells the line; unless memory is wanted
+abbrev pub FailsTextAs : {Y : Type 0} → TextFault → Result Y ℕ → Type 0
+FailsTextAs texts.NoMemory read = Unit {0}
+FailsTextAs (texts.Malformed line) read = read ≡ Err line
+
+abbrev pub ReadsTextAs : {X Y : Type 0} → (X → Y) → Result X TextFault → Result Y ℕ → Type 0
+ReadsTextAs view (Ok x) read = read ≡ Ok (view x)
+ReadsTextAs view (Err e) read = FailsTextAs e read
