@@ -1,15 +1,16 @@
 #!/usr/bin/env python3
 """What it costs to explain a blocked run: `shim why` beside `shim ref`, which tells the same run without the reasons. Both in
-turn, for some rounds, and of each the least time and the most memory. 100,000 processes wait in each program:
+turn, for some rounds, and of each the least time and the most memory. Some 128 processes wait in each program, or as many as
+--count says; `ref` looks for each event from the root on, so its own time grows much faster than that:
 
 one     all but two wait at one channel, which the last two hold up
-pairs   50,000 pairs, each of which waits for itself
-rings   1,562 rings of 64
+pairs   pairs, each of which waits for itself
+rings   rings of 64
 nested  pairs again, each inside 24 forks of its own, so that paths are long
 
 Nothing is tested but that each run is blocked, and that `why` begins as `ref` does, and tells each process that waits.
 
-Use: make shim && python3 bench/why.py [--shim PATH] [--rounds N] [SHAPE..]
+Use: make shim && python3 bench/why.py [--shim PATH] [--rounds N] [--count N] [SHAPE..]
 """
 import argparse
 import os
@@ -29,24 +30,24 @@ def split(name, leaf, given=""):
     return SPLIT % (name, given, leaf, name, words, name, words)
 
 
-def one():
-    return split("wait", "next c;", ", int c") + "void main() { int c; int d; wait(99998, c); par { next d; next c; } par { next c; next d; } }\n"
+def one(count):
+    return split("wait", "next c;", ", int c") + "void main() { int c; int d; wait(%d, c); par { next d; next c; } par { next c; next d; } }\n" % (count - 2)
 
 
-def pairs():
-    return split("pair", "int a; int b; { next a; next b; } par { next b; next a; }") + "void main() { pair(50000); }\n"
+def pairs(count):
+    return split("pair", "int a; int b; { next a; next b; } par { next b; next a; }") + "void main() { pair(%d); }\n" % (count // 2)
 
 
-def rings():
+def rings(count):
     names = ["c%d" % k for k in range(64)]
     branches = " par ".join("{ next %s; next %s; }" % (names[k], names[(k + 1) % 64]) for k in range(64))
-    return split("ring", " ".join("int %s;" % it for it in names) + " " + branches) + "void main() { ring(1562); }\n"
+    return split("ring", " ".join("int %s;" % it for it in names) + " " + branches) + "void main() { ring(%d); }\n" % (count // 64)
 
 
-def nested():
+def nested(count):
     inner = "int a; int b; { next a; next b; } par { next b; next a; }"
     deep = "void deep(int k) { if (k < 1) { %s } else { { deep(k - 1); } par { } } }\n" % inner
-    return deep + split("pair", "deep(24);") + "void main() { pair(50000); }\n"
+    return deep + split("pair", "deep(24);") + "void main() { pair(%d); }\n" % (count // 2)
 
 
 SHAPES = {"one": one, "pairs": pairs, "rings": rings, "nested": nested}
@@ -76,6 +77,7 @@ def main():
     words = argparse.ArgumentParser()
     words.add_argument("--shim", default=os.path.join(TOP, "shim"))
     words.add_argument("--rounds", type=int, default=5)
+    words.add_argument("--count", type=int, default=128)
     words.add_argument("shapes", nargs="*", choices=[*SHAPES, []], metavar="SHAPE")
     given = words.parse_args()
     shim = os.path.abspath(given.shim)
@@ -84,7 +86,7 @@ def main():
         print("%d processors, load %.1f" % (os.cpu_count(), os.getloadavg()[0]))
         for name in given.shapes or SHAPES:
             with open("source.shim", "w") as out:
-                out.write(SHAPES[name]())
+                out.write(SHAPES[name](given.count))
             ref, why = (Run([shim, mode, "source.shim", "--budget", "4000000"]) for mode in ("ref", "why"))
             for _ in range(given.rounds):
                 ref.once()
