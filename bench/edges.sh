@@ -48,6 +48,7 @@ unwritten() { # WORDS..
 }
 
 echo 'void main(ostream &o) { int x; x = 65; put o, x; }' > p.shim
+echo 'void main() { int a; int b; int c; { next a; next b; } par { next b; next c; } par { next c; next a; } }' > blocked.shim
 puts=$'output 1 41\nend done 4'
 echo 'void main(istream &i, ostream &o) { int c; c = get i; while (c != -1) { put o, c; c = get i; } }' > copy.shim
 printf AB > bytes
@@ -185,6 +186,8 @@ unwritten
 unwritten check p.shim
 unwritten code p.shim
 unwritten up p.shim
+unwritten why p.shim
+unwritten why blocked.shim
 unwritten gen storm --size 10
 unwritten gen ring
 

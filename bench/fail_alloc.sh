@@ -103,7 +103,7 @@ refuse_all() { # QUIET WORDS..
 
 if [ $# -gt 0 ]; then
   quiet=10
-  case " $* " in *" --workers 1 "* | *" --workers=1 "* | " ref "* | " check "* | " code "* | " up "*) quiet=1 ;; esac
+  case " $* " in *" --workers 1 "* | *" --workers=1 "* | " ref "* | " why "* | " check "* | " code "* | " up "*) quiet=1 ;; esac
   refuse_all $quiet "$@"
   exit 0
 fi
@@ -142,6 +142,7 @@ void main(istream &i, ostream &o) {
   } catch (Done) { }
 }
 S
+echo 'void main() { int a; int b; int c; { next a; next b; } par { next b; next c; } par { next c; next a; } }' > ring.shim
 printf AB > bytes
 echo 'void main() { x = 1; }' > refused.shim
 
@@ -159,6 +160,7 @@ for source in meeting poison filter; do
   refuse_all 1 code $source.shim
   refuse_all 1 up $source.shim
 done
+refuse_all 1 why ring.shim
 refuse_all 1 check refused.shim
 refuse_all 1 check nowhere.shim
 refuse_all 1 walk

@@ -4,13 +4,15 @@
 The texts are those of crates/shim_conformance and of examples/, and programs of bench/made.py: their bytes flipped, their
 tokens swapped, doubled, deleted, exchanged or nested deeper, their statements moved, their numbers put to limits, the header
 of version 2 put before them or taken off. Each is checked, listed, written in version 2, run by some number of workers
-and pieces, and run by `ref`, with a limit of time and of memory, and
+and pieces, run by `ref`, and explained by `why`, with a limit of time and of memory, and
 
 - each call ends by itself with a status from 0 to 8, its text is of the form that docs/FORMATS.md has for that status and
   mode, and nothing comes on standard error;
 - where the text is refused, the line is that of bench/grammar.py, or one of a text that is a program, the same in every
   mode; `check` counts the functions as bench/grammar.py does, and `up` writes the text of bench/canonical.py;
-- `run` and `ref` have the same status, and the same text but where the budget stopped them; then the counts add up to it.
+- `run` and `ref` have the same status, and the same text but where the budget stopped them; then the counts add up to it;
+- `why` writes what `ref` does, and where that is blocked behind it one reason for each wait, in its order, with the channel at
+  which the process waits for which it waits; the cycle follows the reasons, from its least path on.
 
 The same numbers make the same texts and words. Prints how many calls had each status, the longest time and the most
 memory. Keeps what differs in the folder `found`, says its words, and ends with 1.
@@ -350,7 +352,7 @@ class Job:
         self.input = dice.choice(INPUTS)
         self.budget = dice.choice([1, 7, 50, 300, 2000, 2000, 10000, 10000])
         fed = ["--input", "i", "--budget", str(self.budget)]
-        self.calls = [["check", "p"], ["code", "p"], ["up", "p"], ["ref", "p"] + fed]
+        self.calls = [["check", "p"], ["code", "p"], ["up", "p"], ["ref", "p"] + fed, ["why", "p"] + fed]
         for _ in range(2):
             workers, quantum = dice.choice([1, 2, 3, 4, 16]), dice.choice([1, 2, 7, 64, 10000])
             self.calls.append(["run", "p"] + fed + ["--workers", str(workers), "--quantum", str(quantum)])
@@ -415,6 +417,31 @@ OF_PROGRAM = re.compile(
 )
 
 
+def order(path):
+    """The place of a path in the order from the root, leftmost children first."""
+    return [tuple(map(int, pair.split("."))) for pair in path.split("/")[1:]]
+
+
+def wrong_reasons(waits, reasons):
+    """What is wrong with the reasons behind these waits, or None."""
+    at = dict(line.split()[1:] for line in waits.splitlines())
+    lines = [line.split() for line in reasons.splitlines()]
+    if not at:
+        return "reasons without waits" if lines else None
+    if [line[:2] for line in lines[:-1]] != [["because", path] for path in sorted(at, key=order)] or lines[-1][0] != "cycle":
+        return "other reasons than one for each wait, and a cycle"
+    by = {line[1]: line[3] for line in lines[:-1]}
+    for _, path, holder, other, chan in lines[:-1]:
+        if at.get(other) != chan or other == path or order(other)[:len(order(holder))] != order(holder):
+            return "a reason with a process that doesn't wait there"
+        if order(holder)[:len(order(at[path].split("#")[0]))] != order(at[path].split("#")[0]) or at[other] == at[path]:
+            return "a holder of another channel"
+    cycle = lines[-1][1:]
+    if len(cycle) < 2 or min(cycle, key=order) != cycle[0] or any(by[one] != next for one, next in zip(cycle, cycle[1:] + cycle[:1])):
+        return "no cycle of the reasons"
+    return None
+
+
 def wrong_form(answer, budget):
     """What is wrong with an answer by itself, or None."""
     mode, status = answer.words[0], answer.status
@@ -440,9 +467,12 @@ def wrong_form(answer, budget):
         return None if status == 0 and LISTING.fullmatch(text) else "no listing"
     if mode == "up":
         return None if status == 0 and text.startswith("shim 2 ;\n") else "no text of version 2"
-    report = REPORT.fullmatch(text)
+    reasons = text[REPORT.match(text).end():] if mode == "why" and REPORT.match(text) else ""
+    report = REPORT.fullmatch(text, 0, len(text) - len(reasons))
     if not report:
         return "no report"
+    if mode == "why":
+        return wrong_reasons(report["waits"], reasons)
     if not re.match(ENDS[status], report["end"]):
         return "an end of another status"
     if (report["waits"] != "") != (status == 3):
@@ -487,11 +517,12 @@ def wrong(job, answers):
             return "another text than that of bench/canonical.py", answer
         if (answer.status == 5) != (full[0].status == 5) or answer.status == 5 and text != full[0].text.decode():
             return "another answer than that of " + full[0].words[0], answer
-    runs = [answer for answer in full if answer.words[0] in ("run", "ref")]
+    runs = [answer for answer in full if answer.words[0] in ("run", "ref", "why")]
     for answer in runs:
         if answer.status != runs[0].status:
             return "another status than that of %s, %d" % (runs[0].words[0], runs[0].status), answer
-        if answer.status != 4 and answer.text != runs[0].text:
+        is_why = answer.words[0] == "why"
+        if is_why and not answer.text.startswith(runs[0].text) or not is_why and answer.status != 4 and answer.text != runs[0].text:
             return "another text than that of " + runs[0].words[0], answer
     return None
 
@@ -553,7 +584,7 @@ def main():
     calls = sum(counts.values())
     print("%d texts of seed %d from number %d, %d bytes on the average; %d calls in %.0f s"
           % (given.texts, given.seed, given.first, lengths / max(1, given.texts), calls, time.monotonic() - begin))
-    for mode in ("check", "code", "up", "ref", "run"):
+    for mode in ("check", "code", "up", "ref", "why", "run"):
         statuses = ", ".join("%d with status %d" % (counts[key], key[1]) for key in sorted(counts) if key[0] == mode)
         print("%s: %s; longest %.2f s (text %d), most memory %.1f MiB (text %d)"
               % (mode, statuses, *longest[mode], most[mode][0] / 1024, most[mode][1]))

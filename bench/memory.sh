@@ -37,6 +37,7 @@ printf AB > "$room/bytes"
 head -c 3000 /dev/zero > "$room/zeros"
 echo 'void main(istream &i, ostream &o) { int c; c = get i; while (c != -1) { put o, c + 1; c = get i; } }' > "$room/copy.shim"
 echo 'void f(int n) { if (n > 0) { f(n - 1); par { } } } void main() { f(64); }' > "$room/deep.shim"
+echo 'void main() { int a; int b; int c; { next a; next b; } par { next b; next c; } par { next c; next a; } }' > "$room/ring.shim"
 echo 'void node(int n, int &r) { if (n < 2) { r = 1; } else { int a; int b; node(n / 2, a); par node(n - n / 2, b); r = a + b; } } void main() { int r; node(1000, r); next r; }' > "$room/tree.shim"
 { echo 'void main() {'; many "$(many '{' 63)$(many '}' 63)
 " 500; echo '}'; } > "$room/blocks.shim"
@@ -101,6 +102,8 @@ climb check filter.shim
 climb code filter.shim
 climb up filter.shim
 climb ref filter.shim --input bytes
+climb why filter.shim --input bytes
+climb why ring.shim
 climb check blocks.shim
 climb check long.shim
 climb ref deep.shim
