@@ -27,6 +27,7 @@ arguments =
     ∷ number (codes "budget") 1 4000000
     ∷ number (codes "quantum") 1 10000
     ∷ number (codes "size") 1 100000
+    ∷ option (codes "journal")
     ∷ []
 
 -- the command: its arguments, no subcommand, and no flag for help

@@ -1,5 +1,5 @@
 -- What words ask for.
-use Rattle.std.specs.Prelude.{ℕ, ◌≡◌, ◌≢◌, ◌≤◌, Bool, true, List, [], ◌∷◌, map, Option, Some, None, Result, Ok, Err, is_some, if◌then◌else◌, unwrap_or, codes, string_bytes, String}
+use Rattle.std.specs.Prelude.{ℕ, ◌≡◌, ◌≢◌, ◌≤◌, ◌&&◌, Bool, true, List, [], ◌∷◌, map, Option, Some, None, Result, Ok, Err, is_some, if◌then◌else◌, unwrap_or, codes, string_bytes, String}
 use Rattle.std.specs.Option.{option_map_or}
 use Rattle.std.specs.Str.Parse.{digits_value, without_leading_plus}
 use Rattle.std.specs.declared.alloc.Global.{Global}
@@ -9,6 +9,8 @@ use Rattle.clap.specs.declared.error.kind.ErrorKind.{ErrorKind}
 use Rattle.clap.specs.declared.error.kind.ErrorKind.TheVariants.{OutOfMemory}
 use Rattle.shim_generator.specs.Kinds.{kind_named}
 use Rattle.shim_command.specs.declared.mode.Mode.{Mode}
+use Rattle.shim_command.specs.declared.mode.Extra.{Extra}
+use Rattle.shim_command.specs.declared.mode.Extra.TheVariants.{Nothing, Input, InputAndJournal}
 use Rattle.shim_command.specs.declared.mode.Origin.{Origin}
 use Rattle.shim_command.specs.declared.mode.Origin.TheVariants.{Stored, Generated}
 use Rattle.shim_command.specs.declared.job.Job.{Job}
@@ -43,6 +45,7 @@ job_with mode rows = record {
   budget = number_in rows (codes "budget") 1000000;
   quantum = number_in rows (codes "quantum") 64;
   size = number_in rows (codes "size") 1000;
+  journal = first_of (codes "journal") rows;
 }
 
 -- whether a job has its source so: one that is generated is of a kind that FILE names
@@ -50,9 +53,15 @@ abbrev pub has_origin : Origin → Job → Bool
 has_origin Stored job = true
 has_origin Generated job = is_some (kind_named job.file)
 
+-- whether a job has what is to be read so: a journal has to be named
+abbrev pub has_extra : Extra → Job → Bool
+has_extra Nothing job = true
+has_extra Input job = true
+has_extra InputAndJournal job = is_some job.journal
+
 -- whether the mode takes what was found
 abbrev pub suits : Job → Bool
-suits job = has_origin (row_of job.mode).origin job
+suits job = has_origin (row_of job.mode).origin job && has_extra (row_of job.mode).beside job
 
 abbrev pub where_it_suits : Job → Option Job
 where_it_suits job = if suits job then Some job else None

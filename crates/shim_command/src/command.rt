@@ -34,8 +34,8 @@ fn number<'a>(alloc: Global, name: &'a str, least: u64, most: u64) -> Arg<'a>
         .value_parser(ValueParser::Unsigned(least, most))
 }
 
-/// `shim MODE FILE [--input FILE] [--workers N] [--budget B] [--quantum Q] [--size N]`. It has no
-/// flag for help: that is a word like any other that it doesn't know.
+/// `shim MODE FILE [--input FILE] [--workers N] [--budget B] [--quantum Q] [--size N]
+/// [--journal FILE]`. It has no flag for help: that is a word like any other that it doesn't know.
 pub(crate) fn command<'a>(alloc: Global) -> Result<Command<'a>, NoMemory>
     ensures { IfOk result (λ c. app_of c ≡ shim_app) }
 {
@@ -47,6 +47,7 @@ pub(crate) fn command<'a>(alloc: Global) -> Result<Command<'a>, NoMemory>
         .arg(number(alloc, "workers", 1, 16))?
         .arg(number(alloc, "budget", 1, 4000000))?
         .arg(number(alloc, "quantum", 1, 10000))?
-        .arg(number(alloc, "size", 1, 100000))?;
+        .arg(number(alloc, "size", 1, 100000))?
+        .arg(option(alloc, "journal"))?;
     Ok(command)
 }

@@ -13,6 +13,7 @@ pub struct Job {
     pub budget: u64,
     pub quantum: u64,
     pub size: u64,
+    pub journal: Option<List<u8>>,
 }
 
 /// Why there is no job.

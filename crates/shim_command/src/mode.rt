@@ -14,6 +14,8 @@ pub enum Mode {
     Code,
     Gen,
     Up,
+    Trace,
+    Replay,
     Why,
 }
 
@@ -32,6 +34,8 @@ pub enum Extra {
     Nothing,
     /// The bytes that the run takes in, where an option names their file.
     Input,
+    /// These, and behind them a journal, whose file an option has to name.
+    InputAndJournal,
 }
 
 /// What is told of a source that isn't run.
@@ -70,6 +74,10 @@ pub enum Task {
     Runs(Course, Showing),
     /// Its meaning is told, and of a meaning that is blocked who waits for whom.
     Explains,
+    /// It is run by workers, and the journal of what they did is told.
+    Records,
+    /// It is run as a journal tells, and the report of that is told.
+    Replays,
 }
 
 /// What a mode is.
@@ -83,13 +91,15 @@ pub struct ModeRow {
 }
 
 /// All modes, in the order in which a word is looked up.
-const MODES: [Mode; 7] = [
+const MODES: [Mode; 9] = [
     Mode::Run,
     Mode::Reference,
     Mode::Check,
     Mode::Code,
     Mode::Gen,
     Mode::Up,
+    Mode::Trace,
+    Mode::Replay,
     Mode::Why,
 ];
 
@@ -137,6 +147,8 @@ impl Mode {
             Mode::Code => stored("code", Extra::Nothing, Task::Tells(Telling::Instructions)),
             Mode::Gen => generated("gen", Task::Runs(Course::InSomeOrder, Showing::Summary)),
             Mode::Up => stored("up", Extra::Nothing, Task::Tells(Telling::Version2)),
+            Mode::Trace => stored("trace", Extra::Input, Task::Records),
+            Mode::Replay => stored("replay", Extra::InputAndJournal, Task::Replays),
             Mode::Why => stored("why", Extra::Input, Task::Explains),
         }
     }

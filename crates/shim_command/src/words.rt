@@ -2,11 +2,11 @@
 ghost use Rattle.std.specs.Prelude.{◌≡◌, ℕ, IfOk, Some, codes, option_map};
 ghost use Rattle.clap.specs.Words.{first_of, found_of, kind_of, matches_of, one_of, rows_of};
 ghost use Rattle.shim_command.specs.Command.{shim_app};
-ghost use Rattle.shim_command.specs.Jobs.{FitAll, Gives, IsFaultOf, IsNumber, IsWithin, job, job_in, job_with, number_in, suits, texts_of, word_in};
+ghost use Rattle.shim_command.specs.Jobs.{FitAll, Gives, IsFaultOf, IsNumber, IsWithin, has_extra, has_origin, job, job_in, job_with, number_in, suits, texts_of, word_in};
 
 use crate::command::command;
 use crate::job::{Job, WordsFault};
-use crate::mode::{Mode, Origin};
+use crate::mode::{Extra, Mode, Origin};
 use clap::error::ErrorKind;
 use clap::{ArgMatches, Error};
 use shim_base::{List, NoMemory};
@@ -59,17 +59,36 @@ fn job_with(alloc: Global, mode: Mode, matches: &ArgMatches<'_>) -> Result<Job, 
         budget: number_in(matches, "budget", 1000000),
         quantum: number_in(matches, "quantum", 64),
         size: number_in(matches, "size", 1000),
+        journal: bytes_of(alloc, text_in(matches, "journal"))?,
     })
 }
 
-// Whether the mode takes what was found: where its source is generated, FILE names a kind.
-fn suits(job: &Job) -> bool
-    ensures { result ≡ suits job.now }
+// Whether the source is there to be had: where it is generated, FILE names a kind.
+fn has_origin(job: &Job, origin: Origin) -> bool
+    ensures { result ≡ has_origin origin job.now }
 {
-    match job.mode.row().origin {
+    match origin {
         Origin::Stored => true,
         Origin::Generated => Kind::named(job.file.as_slice()).is_some(),
     }
+}
+
+// Whether what is read beside the source is named where it has to be.
+fn has_extra(job: &Job, beside: Extra) -> bool
+    ensures { result ≡ has_extra beside job.now }
+{
+    match beside {
+        Extra::Nothing | Extra::Input => true,
+        Extra::InputAndJournal => job.journal.is_some(),
+    }
+}
+
+// Whether the mode takes what was found.
+fn suits(job: &Job) -> bool
+    ensures { result ≡ suits job.now }
+{
+    let row = job.mode.row();
+    has_origin(job, row.origin) && has_extra(job, row.beside)
 }
 
 // The job of what `clap` found.
@@ -101,7 +120,7 @@ fn fault_of(error: &Error) -> WordsFault
 
 /// Reads the words, the first of which is the program's own name. `Refused` comes exactly where they
 /// have no job: `clap` finds a fault in them, or MODE names no mode, or its source is generated and FILE
-/// names no kind. A job has what `clap` finds in the words for each argument, with a default for an option that is
+/// names no kind, or it reads a journal and none is named. A job has what `clap` finds in the words for each argument, with a default for an option that is
 /// absent; its numbers are in their ranges, and FILE is one that was found. Want of memory may come in
 /// place of both.
 pub fn read_words(alloc: Global, words: &[String]) -> Result<Job, WordsFault>

@@ -63,6 +63,7 @@ fn each_mode_has_its_word(rt: HostRuntime) -> Result<(), Fail> {
             ("check|f", "Check \"f\": 4 1000000 64 1000"),
             ("code|f", "Code \"f\": 4 1000000 64 1000"),
             ("up|f", "Up \"f\": 4 1000000 64 1000"),
+            ("trace|f", "Trace \"f\": 4 1000000 64 1000"),
             ("why|f", "Why \"f\": 4 1000000 64 1000"),
             ("gen|pipe", "Gen \"pipe\": 4 1000000 64 1000"),
             ("gen|tree", "Gen \"tree\": 4 1000000 64 1000"),
@@ -81,6 +82,23 @@ fn unknown_modes_and_kinds_are_refused(rt: HostRuntime) -> Result<(), Fail> {
         &[
             "walk|f", "Run|f", "ru|f", "runs|f", "|f", "f|run", "codes|f", "Up|f", "whys|f",
             "gen|ring", "gen|f", "gen|Pipe", "gen|", "help|f", "-|f",
+        ],
+    )
+}
+
+#[test]
+fn a_replay_wants_a_journal(rt: HostRuntime) -> Result<(), Fail> {
+    expect_refused(
+        &rt,
+        rt.alloc(),
+        &["replay|f", "replay|f|--input|j", "replay|f|--journal"],
+    )?;
+    expect(
+        &rt,
+        rt.alloc(),
+        &[
+            ("replay|f|--journal|j", "Replay \"f\": 4 1000000 64 1000"),
+            ("run|f|--journal|j", "Run \"f\": 4 1000000 64 1000"),
         ],
     )
 }

@@ -20,14 +20,21 @@ pub struct Program {
     pub text: &'static str,
 }
 
-/// The files of a program.
-pub fn files_of(alloc: Global, program: Program) -> Result<MemFiles, NoMemory> {
+// The files of a program, and a journal.
+fn files_with(alloc: Global, program: Program, journal: &[u8]) -> Result<MemFiles, NoMemory> {
     let source = List::from_slice(alloc, program.source.as_bytes())?;
     let input = List::from_slice(alloc, program.input.as_bytes())?;
+    let journal = List::from_slice(alloc, journal)?;
     let mut files = List::new(alloc);
     files.push((Name::new(alloc, b"p.shim")?, source))?;
     files.push((Name::new(alloc, b"i")?, input))?;
+    files.push((Name::new(alloc, b"j")?, journal))?;
     Ok(MemFiles::new(alloc, files, List::new(alloc)))
+}
+
+/// The files of a program, with an empty journal.
+pub fn files_of(alloc: Global, program: Program) -> Result<MemFiles, NoMemory> {
+    files_with(alloc, program, &[])
 }
 
 /// The words of a line.
@@ -39,21 +46,44 @@ pub fn words_of(alloc: Global, line: &str) -> Result<Vec<String>, NoMemory> {
     Ok(words)
 }
 
-// Calls the tool with these words over the files of a program, and expects this text.
+// What the tool writes with these words over the files of a program and a journal.
+fn written<G: Gate, R: Threads + Wait + Sync + Abort>(
+    rt: &R,
+    alloc: Global,
+    program: Program,
+    journal: &[u8],
+    words: &[String],
+    gate: &G,
+) -> Result<Vec<u8>, Fail> {
+    let mut files = files_with(alloc, program, journal)?;
+    let mut sink = MemSink::new(alloc, ROOM, List::new(alloc));
+    sink.room(ROOM)?;
+    let status = shim(rt, alloc, words, &mut files, &mut sink, gate);
+    assert_eq!(rt; status, 0);
+    Ok(Vec::from_slice(alloc, sink.taken())?)
+}
+
+// Calls the tool with these words over the files of a program and a journal, and expects this text.
 fn expect_call<G: Gate, R: Threads + Wait + Sync + Abort>(
     rt: &R,
     alloc: Global,
     program: Program,
+    journal: &[u8],
     words: &[String],
     gate: &G,
 ) -> Result<(), Fail> {
-    let mut files = files_of(alloc, program)?;
-    let mut sink = MemSink::new(alloc, ROOM, List::new(alloc));
-    sink.room(ROOM)?;
-    let status = shim(rt, alloc, words, &mut files, &mut sink, gate);
-    assert_eq!(rt; str::from_utf8(sink.taken())?, program.text);
-    assert_eq!(rt; status, 0);
+    let text = written(rt, alloc, program, journal, words, gate)?;
+    assert_eq!(rt; str::from_utf8(&text)?, program.text);
     Ok(())
+}
+
+// These words, and then those of options.
+fn words_with(alloc: Global, line: &str, options: &str) -> Result<Vec<String>, NoMemory> {
+    let mut words = words_of(alloc, line)?;
+    for word in words_of(alloc, options)? {
+        words.push(word)?;
+    }
+    Ok(words)
 }
 
 /// Runs the program with these options, and expects its text.
@@ -64,11 +94,22 @@ pub fn expect_run<G: Gate, R: Threads + Wait + Sync + Abort>(
     options: &str,
     gate: &G,
 ) -> Result<(), Fail> {
-    let mut words = words_of(alloc, "shim run p.shim --input i")?;
-    for word in words_of(alloc, options)? {
-        words.push(word)?;
-    }
-    expect_call(rt, alloc, program, &words, gate)
+    let words = words_with(alloc, "shim run p.shim --input i", options)?;
+    expect_call(rt, alloc, program, &[], &words, gate)
+}
+
+/// Runs the program with these options, replays the journal of that, and expects the program's text.
+pub fn expect_replay<G: Gate, R: Threads + Wait + Sync + Abort>(
+    rt: &R,
+    alloc: Global,
+    program: Program,
+    options: &str,
+    gate: &G,
+) -> Result<(), Fail> {
+    let traced = words_with(alloc, "shim trace p.shim --input i", options)?;
+    let journal = written(rt, alloc, program, &[], &traced, gate)?;
+    let words = words_of(alloc, "shim replay p.shim --input i --journal j")?;
+    expect_call(rt, alloc, program, &journal, &words, gate)
 }
 
 /// Makes a program by these words and runs it, and expects this summary.
@@ -84,5 +125,5 @@ pub fn expect_made<G: Gate, R: Threads + Wait + Sync + Abort>(
         input: "",
         text,
     };
-    expect_call(rt, alloc, program, &words_of(alloc, words)?, gate)
+    expect_call(rt, alloc, program, &[], &words_of(alloc, words)?, gate)
 }

@@ -10,7 +10,7 @@ use std::test::Fail;
 const PUTS_A: &str = "void main(ostream &o) { put o, 65; }";
 
 const USAGE: &str =
-    "usage: shim MODE FILE [--input FILE] [--workers N] [--budget B] [--quantum Q] [--size N]\n";
+    "usage: shim MODE FILE [--input FILE] [--workers N] [--budget B] [--quantum Q] [--size N] [--journal FILE]\n";
 
 // A status and a text that words come to by themselves, or that they leave a run. No runtime is given.
 fn prepared(
@@ -29,7 +29,7 @@ fn prepared(
             let text = str::from_utf8(answer.text.as_slice()).unwrap_or("");
             Ok(Some((answer.status.code(), String::from_str(alloc, text)?)))
         }
-        Prepared::ToRun(_) => Ok(None),
+        Prepared::ToRun(_) | Prepared::ToRecord(_) => Ok(None),
     }
 }
 
@@ -68,6 +68,12 @@ fn all_but_runs_by_workers_is_answered_without_a_runtime(rt: HostRuntime) -> Res
             (PUTS_A, "shim run p.shim --input q", 6, "file failed q\n"),
             (PUTS_A, "shim", 2, USAGE),
             (PUTS_A, "shim check p.shim", 0, "accepted 1\n"),
+            (
+                PUTS_A,
+                "shim replay p.shim --journal i",
+                9,
+                "journal 1 malformed\n",
+            ),
             (
                 "void main() { }",
                 "shim up p.shim",

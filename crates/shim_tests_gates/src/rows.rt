@@ -1,5 +1,5 @@
 // Programs, and which pieces of work a gate sees of their runs.
-use crate::calls::{Program, expect_made, expect_run};
+use crate::calls::{Program, expect_made, expect_replay, expect_run};
 use crate::gates::{CountingGate, HoldingGate};
 use std::alloc::Global;
 use std::process::Abort;
@@ -92,6 +92,19 @@ fn workers_do_compiled_pieces_of_each_run(rt: HostRuntime) -> Result<(), Fail> {
         for options in ["--workers 1", "--workers 2", "--workers 16 --quantum 1"] {
             let gate = CountingGate::new();
             expect_run(&rt, rt.alloc(), program, options, &gate)?;
+            assert!(&rt; gate.entries() >= 1);
+            assert_eq!(&rt; gate.not_compiled(), 0);
+        }
+    }
+    Ok(())
+}
+
+#[test]
+fn journals_of_runs_lead_to_their_texts(rt: HostRuntime) -> Result<(), Fail> {
+    for program in PROGRAMS {
+        for options in ["--workers 1", "--workers 16 --quantum 1"] {
+            let gate = CountingGate::new();
+            expect_replay(&rt, rt.alloc(), program, options, &gate)?;
             assert!(&rt; gate.entries() >= 1);
             assert_eq!(&rt; gate.not_compiled(), 0);
         }

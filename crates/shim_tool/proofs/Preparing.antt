@@ -1,56 +1,65 @@
 -- What a call comes to before any thread is wanted, and what the answer is when a run that was left is done.
-use Rattle.std.proofs.Common.{◌≡◌, ◌≤◌, ◌⊎◌, ◌++◌, ℕ, List, [], ◌∷◌, length, Option, Some, None, inl, inr, refl, sym, ap, ◌∙◌, subst}
+use Rattle.std.proofs.Common.{◌≡◌, ◌≤◌, ◌⊎◌, ◌++◌, ℕ, List, [], ◌∷◌, length, Option, Some, None, inl, inr, refl, sym, ap, ◌∙◌, subst, arith}
 use Rattle.shim_syntax.specs.declared.Program.{Program}
 use Rattle.shim_front_end.specs.declared.SourceFault.{SourceFault}
 use Rattle.shim_front_end.specs.declared.SourceFault.TheVariants.{Parse}
 use Rattle.shim_front_end.specs.Source.{Source, IsSource}
 use Rattle.shim_command.specs.declared.job.Job.{Job}
 use Rattle.shim_command.specs.declared.mode.Course.TheVariants.{ByFirstEvents, InSomeOrder}
+use Rattle.shim_command.specs.declared.mode.Extra.{Extra}
+use Rattle.shim_command.specs.declared.mode.Extra.TheVariants.{Nothing, Input, InputAndJournal}
 use Rattle.shim_command.specs.declared.mode.Origin.{Origin}
 use Rattle.shim_command.specs.declared.mode.Origin.TheVariants.{Stored, Generated}
 use Rattle.shim_command.specs.declared.mode.Showing.{Showing}
 use Rattle.shim_command.specs.declared.mode.Task.{Task}
-use Rattle.shim_command.specs.declared.mode.Task.TheVariants.{Explains, Runs, Tells}
+use Rattle.shim_command.specs.declared.mode.Task.TheVariants.{Explains, Records, Replays, Runs, Tells}
 use Rattle.shim_command.specs.declared.mode.Telling.{Telling}
 use Rattle.shim_command.specs.Jobs.{IsWithin}
 use Rattle.shim_command.specs.Modes.{row_of}
-use Rattle.shim_tool.specs.declared.answer.Answer.{Answer as MadeAnswer}
-use Rattle.shim_tool.specs.declared.prepared.Prepared.{Prepared as MadePrepared}
-use Rattle.shim_tool.specs.declared.prepared.Prepared.TheVariants.{Answered, ToRun}
-use Rattle.shim_tool.specs.declared.prepared.PreparedRun.{PreparedRun}
 use Rattle.shim_local.specs.declared.Ended.{Ended}
+use Rattle.shim_answers.specs.declared.answer.Answer.{Answer as MadeAnswer}
+use Rattle.shim_answers.specs.declared.runs.PreparedRun.{PreparedRun}
+use Rattle.shim_answers.specs.declared.runs.RunToRecord.{RunToRecord}
+use Rattle.shim_answers.specs.RunEnds.{Execution}
+use Rattle.shim_answers.specs.Reasons.{report_with_reasons}
+use Rattle.shim_answers.specs.Deeds.{deed_by, executed, shown_of, telling_of}
+use Rattle.shim_answers.specs.Answer.{Answer, AnswersMeaning, AnswersProgram, AnswersRecord, AnswersReplay, AnswersReplaySource, AnswersRun, AnswersSource, AnswersTelling, AnswersTold, OfBytes, refused}
+use Rattle.shim_answers.specs.Views.{answer_view}
+use Rattle.shim_answers.proofs.Outcomes.{no_acceptance, one_source}
+use Rattle.shim_tool.specs.declared.prepared.Prepared.{Prepared as MadePrepared}
+use Rattle.shim_tool.specs.declared.prepared.Prepared.TheVariants.{Answered, ToRecord, ToRun}
 use Rattle.shim_tool.specs.Moments.{FilesAt}
-use Rattle.shim_tool.specs.Reasons.{report_with_reasons}
-use Rattle.shim_tool.specs.RunEnds.{Execution}
-use Rattle.shim_tool.specs.Modes.{Reading, deed_by, deed_of, executed, first, readings_beside, reads_of, second, shown_of, source_readings, source_text, telling_of}
+use Rattle.shim_tool.specs.Modes.{Reading, behind_named, first, input_in, input_readings, journal_in, journal_readings, readings_beside, reads_of, contents_behind, source_readings, source_text}
 use Rattle.shim_tool.specs.Reads.{AreContents, HoldsAll, Looks, OneReadFailed, Saw, Told, all, longer_file, unread_file}
-use Rattle.shim_tool.specs.Answer.{Answer, Answers, AnswersMeaning, AnswersProgram, AnswersRun, AnswersSaw, AnswersSource, AnswersTelling, AnswersTold, OfBytes, refused}
+use Rattle.shim_tool.specs.Answer.{Answers, AnswersSaw}
 use Rattle.shim_tool.specs.Rows.{WasRead}
-use Rattle.shim_tool.specs.Prepared.{Completes, IsForWorkers, IsPreparedWithin, Prepared, Prepares, PreparesJob, PreparesSaw, PreparesProgram, PreparesSource, LeavesToWorkers, RunRow, answered, to_run}
+use Rattle.shim_tool.specs.Prepared.{Completes, IsForWorkers, IsPreparedWithin, IsToRecord, LeavesToRecord, LeavesToWorkers, Prepared, Prepares, PreparesJob, PreparesSaw, PreparesProgram, PreparesSource, RecordRow, RunRow, answered, to_record, to_run}
 use Rattle.shim_tool.specs.PreparedView.{prepared_view}
-use Rattle.shim_tool.specs.Views.{answer_view}
-use Rattle.shim_tool.proofs.Outcomes.{no_acceptance, one_source}
 use Rattle.shim_tool.proofs.Sights.{WasSeen, none_too_long, same_contents, was_seen}
 
 -- what was prepared of a source, and then done, is answered
-completed_program : (job : Job) (input : List ℕ) (program : Program) (source : Source) (p : Prepared) (answer : Answer) → PreparesProgram job input program source p → Completes p answer
-    → AnswersProgram (deed_of job) program (executed job input source) answer
-completed_program job input program source (answered made) answer (none, done) same = subst (λ (a : Answer). AnswersProgram (deed_of job) program (executed job input source) a) (sym same) done
-completed_program job input program source (to_run r) answer (task, is) done =
+completed_program : (job : Job) (input journal : List ℕ) (program : Program) (source : Source) (p : Prepared) (answer : Answer) → PreparesProgram job input journal program source p → Completes p answer
+    → AnswersProgram (deed_by (row_of job.mode).task job journal) program (executed job input source) answer
+completed_program job input journal program source (answered made) answer (none, unrecorded, done) same =
+    subst (λ (a : Answer). AnswersProgram (deed_by (row_of job.mode).task job journal) program (executed job input source) a) (sym same) done
+completed_program job input journal program source (to_run r) answer (task, is) done =
     let P : PreparedRun → Type 0 = λ q. AnswersRun InSomeOrder (shown_of q.showing q.job) (executed q.job q.input q.source) answer in
-    subst (λ (t : Task). AnswersProgram (deed_by t job) program (executed job input source) answer) (sym task) (subst P is done)
+    subst (λ (t : Task). AnswersProgram (deed_by t job journal) program (executed job input source) answer) (sym task) (subst P is done)
+completed_program job input journal program source (to_record r) answer (task, is) done =
+    let P : RunToRecord → Type 0 = λ q. AnswersRecord (executed q.job q.input q.source) answer in
+    subst (λ (t : Task). AnswersProgram (deed_by t job journal) program (executed job input source) answer) (sym task) (subst P is done)
 
 completed_answer : (p : Prepared) (made answer : Answer) → p ≡ answered made → Completes p answer → answer ≡ made
 completed_answer p made answer is done = let P : Prepared → Type 0 = λ q. Completes q answer in subst P is done
 
-completed_source : (job : Job) (input bytes : List ℕ) (p : Prepared) (answer : Answer) → PreparesSource job input bytes p → Completes p answer
-    → AnswersSource (deed_of job) (executed job input) bytes answer
-completed_source job input bytes p answer (inl (program, text, inl (source, units, prepared))) done = inl (program, text, inl (source, units, completed_program job input program source p answer prepared done))
-completed_source job input bytes p answer (inl (program, text, inr (fault, refused, is))) done = inl (program, text, inr (fault, refused, completed_answer p _ answer is done))
-completed_source job input bytes p answer (inr (fault, only, is)) done = inr (fault, only, completed_answer p _ answer is done)
+completed_source : (job : Job) (input journal bytes : List ℕ) (p : Prepared) (answer : Answer) → PreparesSource job input journal bytes p → Completes p answer
+    → AnswersSource (deed_by (row_of job.mode).task job journal) (executed job input) bytes answer
+completed_source job input journal bytes p answer (inl (program, text, inl (source, units, prepared))) done = inl (program, text, inl (source, units, completed_program job input journal program source p answer prepared done))
+completed_source job input journal bytes p answer (inl (program, text, inr (fault, refused, is))) done = inl (program, text, inr (fault, refused, completed_answer p _ answer is done))
+completed_source job input journal bytes p answer (inr (fault, only, is)) done = inr (fault, only, completed_answer p _ answer is done)
 
 completed_saw : (job : Job) (saw : Saw) (p : Prepared) (answer : Answer) → PreparesSaw job saw p → Completes p answer → AnswersSaw job saw answer
-completed_saw job (all contents) p answer prepared done = completed_source job (second contents) (source_text job contents) p answer prepared done
+completed_saw job (all contents) p answer prepared done = completed_source job (input_in job contents) (journal_in job contents) (source_text job contents) p answer prepared done
 completed_saw job (unread_file r) p answer is done = completed_answer p _ answer is done
 completed_saw job (longer_file r) p answer is done = completed_answer p _ answer is done
 
@@ -70,82 +79,180 @@ pub read_short : (job : Job) (before now : FilesAt) (contents : List (List ℕ))
 read_short job before now contents looks is =
     first_short before.held (row_of job.mode).origin job (readings_beside (row_of job.mode).beside job) contents (was_seen (reads_of job) before now (all contents) looks).0 is
 
+-- no file may have more bytes than a journal
+abbrev AreFew : List Reading → Type 0
+AreFew [] = Unit {0}
+AreFew (r ∷ rs) = (r.limit ≤ 67108864) × AreFew rs
+
+few_and_few : (rs ss : List Reading) → AreFew rs → AreFew ss → AreFew (rs ++ ss)
+few_and_few [] ss p q = q
+few_and_few (r ∷ rs) ss p q = (p.0, few_and_few rs ss p.1 q)
+
+few_inputs : (input : Option (List ℕ)) → AreFew (input_readings input)
+few_inputs None = tt
+few_inputs (Some name) = (omega arith, tt)
+
+few_journals : (journal : Option (List ℕ)) → AreFew (journal_readings journal)
+few_journals None = tt
+few_journals (Some name) = (omega arith, tt)
+
+few_sources : (origin : Origin) (job : Job) → AreFew (source_readings origin job)
+few_sources Stored job = (omega arith, tt)
+few_sources Generated job = tt
+
+few_beside : (beside : Extra) (job : Job) → AreFew (readings_beside beside job)
+few_beside Nothing job = tt
+few_beside Input job = few_inputs job.input
+few_beside InputAndJournal job = few_and_few (input_readings job.input) (journal_readings job.journal) (few_inputs job.input) (few_journals job.journal)
+
+-- so no content has
+abbrev AreShort : List (List ℕ) → Type 0
+AreShort [] = Unit {0}
+AreShort (c ∷ cs) = (length c ≤ 67108864) × AreShort cs
+
+contents_short : (held : Told) (rs : List Reading) (contents : List (List ℕ)) → AreFew rs → AreContents held rs contents → AreShort contents
+contents_short held [] [] few are = tt
+contents_short held [] (c ∷ cs) few are = absurd are
+contents_short held (r ∷ rs) [] few are = absurd are
+contents_short held (r ∷ rs) (c ∷ cs) few are = (let here = are.0.0 in let most = few.0 in omega (arith, here, most), contents_short held rs cs few.1 are.1)
+
+first_few : (cs : List (List ℕ)) → AreShort cs → length (first cs) ≤ 67108864
+first_few [] short = omega arith
+first_few (c ∷ cs) short = short.0
+
+rest_few : (cs : List (List ℕ)) → AreShort cs → AreShort (contents_behind cs)
+rest_few [] short = tt
+rest_few (c ∷ cs) short = short.1
+
+behind_few : (name : Option (List ℕ)) (cs : List (List ℕ)) → AreShort cs → AreShort (behind_named name cs)
+behind_few None cs short = short
+behind_few (Some name) cs short = rest_few cs short
+
+pub journal_few : (job : Job) (before now : FilesAt) (contents : List (List ℕ)) → Looks (reads_of job) before now (all contents) → length (journal_in job contents) ≤ 67108864
+journal_few job before now contents looks =
+    let row = row_of job.mode in
+    let few = few_and_few (source_readings row.origin job) (readings_beside row.beside job) (few_sources row.origin job) (few_beside row.beside job) in
+    let short = contents_short before.held (reads_of job) contents few (was_seen (reads_of job) before now (all contents) looks).0 in
+    first_few (behind_named job.input (contents_behind contents)) (behind_few job.input (contents_behind contents) (rest_few contents short))
+
+-- no answer was prepared
+abbrev IsNoAnswer : Prepared → Type 0
+IsNoAnswer p = (a : Answer) → p ≡ answered a → ⊥
+
+-- where a run was left, of a source of the job
+abbrev LeftSo : Option Job → FilesAt → FilesAt → Prepared → Type 0
+LeftSo ask before now p = (now.failed ≡ before.failed) × (job : Job) × (contents : List (List ℕ)) × (source : Source) × WasRead ask job before contents
+    × IsSource (source_text job contents) source × (program : Program) × PreparesProgram job (input_in job contents) (journal_in job contents) program source p
+
+left_source : (job : Job) (before now : FilesAt) (contents : List (List ℕ)) (p : Prepared) → IsNoAnswer p → now.failed ≡ before.failed → AreContents before.held (reads_of job) contents
+    → PreparesSource job (input_in job contents) (journal_in job contents) (source_text job contents) p → LeftSo (Some job) before now p
+left_source job before now contents p none same are (inl (program, text, inl (source, units, prepared))) =
+    (same, job, contents, source, record { asked = refl; read = are }, record { program = program; text = text.text; units = units }, program, prepared)
+left_source job before now contents p none same are (inl (program, text, inr (fault, refused, is))) = absurd (none _ is)
+left_source job before now contents p none same are (inr (fault, only, is)) = absurd (none _ is)
+
+left_saw : (job : Job) (before now : FilesAt) (saw : Saw) (p : Prepared) → IsNoAnswer p → WasSeen (reads_of job) before now saw → PreparesSaw job saw p → LeftSo (Some job) before now p
+left_saw job before now (all contents) p none (are, same) prepared = left_source job before now contents p none same are prepared
+left_saw job before now (unread_file q) p none seen is = absurd (none _ is)
+left_saw job before now (longer_file q) p none seen is = absurd (none _ is)
+
+left : (ask : Option Job) (before now : FilesAt) (p : Prepared) → IsNoAnswer p → Prepares ask before now p → LeftSo ask before now p
+left None before now p none (same, is) = absurd (none _ is)
+left (Some job) before now p none (saw, looks, prepared) = left_saw job before now saw p none (was_seen (reads_of job) before now saw looks) prepared
+
+-- a source of which only this is prepared
+module _ (job : Job) (contents : List (List ℕ)) (source : Source) (has : IsSource (source_text job contents) source) (q : Prepared)
+    (only_this : (program : Program) (p : Prepared) → PreparesProgram job (input_in job contents) (journal_in job contents) program source p → p ≡ q) where
+  left_of_source : (p : Prepared) → PreparesSource job (input_in job contents) (journal_in job contents) (source_text job contents) p → p ≡ q
+  left_of_source p (inl (program, text, inl (other, units, prepared))) =
+      let same : source ≡ other = one_source (source_text job contents) program other text units source has in
+      only_this program p (subst (λ (s : Source). PreparesProgram job (input_in job contents) (journal_in job contents) program s p) (sym same) prepared)
+  left_of_source p (inl (program, text, inr (fault, refused, is))) = absurd (no_acceptance (source_text job contents) program fault text refused source has)
+  left_of_source p (inr (fault, only, is)) = absurd (only.textless has.program has.text)
+
+  left_of_saw : (before now : FilesAt) (p : Prepared) (saw : Saw) → HoldsAll before.held (reads_of job) contents → WasSeen (reads_of job) before now saw → PreparesSaw job saw p
+      → (p ≡ q) ⊎ OneReadFailed (reads_of job) before now
+  left_of_saw before now p (all read) h (are, same) prepared =
+      let P : List (List ℕ) → Type 0 = λ cs. PreparesSaw job (all cs) p in
+      inl (left_of_source p (subst P (same_contents before.held (reads_of job) read contents are h) prepared))
+  left_of_saw before now p (unread_file r) h (comes, read) is = inr (r, comes, read)
+  left_of_saw before now p (longer_file r) h (comes, same, long) is = absurd (none_too_long before.held (reads_of job) contents r h comes long)
+
+  left_of : (before now : FilesAt) (p : Prepared) → HoldsAll before.held (reads_of job) contents → Prepares (Some job) before now p → (p ≡ q) ⊎ OneReadFailed (reads_of job) before now
+  left_of before now p h (saw, looks, prepared) = left_of_saw before now p saw h (was_seen (reads_of job) before now saw looks) prepared
+
 -- the run that was left
 abbrev RunOf : Job → Showing → Source → List (List ℕ) → PreparedRun
-RunOf job showing source contents = record { job = job; showing = showing; source = source; input = second contents }
+RunOf job showing source contents = record { job = job; showing = showing; source = source; input = input_in job contents }
 
--- where a run was left
-abbrev LeftSo : Option Job → FilesAt → FilesAt → PreparedRun → Type 0
-LeftSo ask before now r = (now.failed ≡ before.failed) × (job : Job) × (contents : List (List ℕ)) × (source : Source) × WasRead ask job before contents
-    × IsSource (source_text job contents) source × IsForWorkers job r.showing × (r ≡ RunOf job r.showing source contents)
-
-left_source : (job : Job) (before now : FilesAt) (contents : List (List ℕ)) (r : PreparedRun) → now.failed ≡ before.failed → AreContents before.held (reads_of job) contents
-    → PreparesSource job (second contents) (source_text job contents) (to_run r) → LeftSo (Some job) before now r
-left_source job before now contents r same are (inl (program, text, inl (source, units, (task, is)))) =
-    (same, job, contents, source, record { asked = refl; read = are }, record { program = program; text = text.text; units = units }, task, is)
-left_source job before now contents r same are (inl (program, text, inr (fault, refused, is))) = absurd (cc is)
-left_source job before now contents r same are (inr (fault, only, is)) = absurd (cc is)
-
-left_saw : (job : Job) (before now : FilesAt) (saw : Saw) (r : PreparedRun) → WasSeen (reads_of job) before now saw → PreparesSaw job saw (to_run r) → LeftSo (Some job) before now r
-left_saw job before now (all contents) r (are, same) prepared = left_source job before now contents r same are prepared
-left_saw job before now (unread_file q) r seen is = absurd (cc is)
-left_saw job before now (longer_file q) r seen is = absurd (cc is)
-
-left : (ask : Option Job) (before now : FilesAt) (r : PreparedRun) → Prepares ask before now (to_run r) → LeftSo ask before now r
-left None before now r (same, is) = absurd (cc is)
-left (Some job) before now r (saw, looks, prepared) = left_saw job before now saw r (was_seen (reads_of job) before now saw looks) prepared
+abbrev RecordOf : Job → Source → List (List ℕ) → RunToRecord
+RecordOf job source contents = record { job = job; source = source; input = input_in job contents }
 
 -- a source that workers run is left to them
-module _ (job : Job) (contents : List (List ℕ)) (source : Source) (showing : Showing) (has : IsSource (source_text job contents) source) (task : IsForWorkers job showing) where
-  run_of_program : (program : Program) (p : Prepared) → PreparesProgram job (second contents) program source p → p ≡ to_run (RunOf job showing source contents)
-  run_of_program program (answered made) (none, done) = absurd (none showing task)
-  run_of_program program (to_run r) (other, is) =
-      let same : r.showing ≡ showing = cc (other, task) in
-      ap to_run is ∙ ap (λ (s : Showing). to_run (RunOf job s source contents)) same
+only_run : (job : Job) (contents : List (List ℕ)) (source : Source) (showing : Showing) → IsForWorkers job showing → (program : Program) (p : Prepared)
+    → PreparesProgram job (input_in job contents) (journal_in job contents) program source p → p ≡ to_run (RunOf job showing source contents)
+only_run job contents source showing task program (answered made) (none, unrecorded, done) = absurd (none showing task)
+only_run job contents source showing task program (to_run r) (other, is) =
+    let same : r.showing ≡ showing = cc (other, task) in
+    ap to_run is ∙ ap (λ (s : Showing). to_run (RunOf job s source contents)) same
+only_run job contents source showing task program (to_record r) (other, is) = absurd (cc (other, task))
 
-  run_of_source : (p : Prepared) → PreparesSource job (second contents) (source_text job contents) p → p ≡ to_run (RunOf job showing source contents)
-  run_of_source p (inl (program, text, inl (other, units, prepared))) =
-      let same : source ≡ other = one_source (source_text job contents) program other text units source has in
-      run_of_program program p (subst (λ (s : Source). PreparesProgram job (second contents) program s p) (sym same) prepared)
-  run_of_source p (inl (program, text, inr (fault, refused, is))) = absurd (no_acceptance (source_text job contents) program fault text refused source has)
-  run_of_source p (inr (fault, only, is)) = absurd (only.textless has.program has.text)
+-- and so is one whose journal is told
+only_record : (job : Job) (contents : List (List ℕ)) (source : Source) → IsToRecord job → (program : Program) (p : Prepared)
+    → PreparesProgram job (input_in job contents) (journal_in job contents) program source p → p ≡ to_record (RecordOf job source contents)
+only_record job contents source task program (answered made) (none, unrecorded, done) = absurd (unrecorded task)
+only_record job contents source task program (to_run r) (other, is) = absurd (cc (other, task))
+only_record job contents source task program (to_record r) (other, is) = ap to_record is
 
-  run_of_saw : (before now : FilesAt) (p : Prepared) (saw : Saw) → HoldsAll before.held (reads_of job) contents → WasSeen (reads_of job) before now saw → PreparesSaw job saw p
-      → (p ≡ to_run (RunOf job showing source contents)) ⊎ OneReadFailed (reads_of job) before now
-  run_of_saw before now p (all read) h (are, same) prepared =
-      let P : List (List ℕ) → Type 0 = λ cs. PreparesSaw job (all cs) p in
-      inl (run_of_source p (subst P (same_contents before.held (reads_of job) read contents are h) prepared))
-  run_of_saw before now p (unread_file r) h (comes, read) is = inr (r, comes, read)
-  run_of_saw before now p (longer_file r) h (comes, same, long) is = absurd (none_too_long before.held (reads_of job) contents r h comes long)
-
-  run_of : (before now : FilesAt) (p : Prepared) → HoldsAll before.held (reads_of job) contents → Prepares (Some job) before now p
-      → (p ≡ to_run (RunOf job showing source contents)) ⊎ OneReadFailed (reads_of job) before now
-  run_of before now p h (saw, looks, prepared) = run_of_saw before now p saw h (was_seen (reads_of job) before now saw looks) prepared
+asked_for : (ask : Option Job) (job : Job) (before now : FilesAt) (p : Prepared) → ask ≡ Some job → Prepares ask before now p → Prepares (Some job) before now p
+asked_for ask job before now p asks prepared = subst (λ (a : Option Job). Prepares a before now p) asks prepared
 
 pub run_row : (ask : Option Job) (before now : FilesAt) (p : Prepared) → Prepares ask before now p → RunRow ask before now p
 run_row ask before now p prepared = record {
-  only = λ r is. left ask before now r (subst (λ (q : Prepared). Prepares ask before now q) is prepared);
-  when = λ job contents source showing asks h has task. run_of job contents source showing has task before now p h (subst (λ (a : Option Job). Prepares a before now p) asks prepared);
-}
+  only = λ r is. only r (left ask before now (to_run r) (λ a e. cc e) (subst (λ (q : Prepared). Prepares ask before now q) is prepared));
+  when = λ job contents source showing asks h has task.
+      left_of job contents source has (to_run (RunOf job showing source contents)) (only_run job contents source showing task) before now p h (asked_for ask job before now p asks prepared);
+} where
+  only : (r : PreparedRun) → LeftSo ask before now (to_run r) → (now.failed ≡ before.failed) × (job : Job) × (contents : List (List ℕ)) × (source : Source) × WasRead ask job before contents
+      × IsSource (source_text job contents) source × IsForWorkers job r.showing × (r ≡ RunOf job r.showing source contents)
+  only r (same, job, contents, source, was, has, program, (task, is)) = (same, job, contents, source, was, has, task, is)
+
+pub record_row : (ask : Option Job) (before now : FilesAt) (p : Prepared) → Prepares ask before now p → RecordRow ask before now p
+record_row ask before now p prepared = record {
+  only = λ r is. only r (left ask before now (to_record r) (λ a e. cc e) (subst (λ (q : Prepared). Prepares ask before now q) is prepared));
+  when = λ job contents source asks h has task.
+      left_of job contents source has (to_record (RecordOf job source contents)) (only_record job contents source task) before now p h (asked_for ask job before now p asks prepared);
+} where
+  only : (r : RunToRecord) → LeftSo ask before now (to_record r) → (now.failed ≡ before.failed) × (job : Job) × (contents : List (List ℕ)) × (source : Source) × WasRead ask job before contents
+      × IsSource (source_text job contents) source × IsToRecord job × (r ≡ RecordOf job source contents)
+  only r (same, job, contents, source, was, has, program, (task, is)) = (same, job, contents, source, was, has, task, is)
+
+-- so it is where the words ask for this job
+as_asked : (ask : Option Job) (job : Job) (before now : FilesAt) (p : Prepared) → ask ≡ Some job → PreparesJob job before now p → Prepares ask before now p
+as_asked ask job before now p asked prepared = subst (λ (a : Option Job). Prepares a before now p) (sym asked) prepared
 
 pub run_row_asked : (ask : Option Job) (job : Job) (before now : FilesAt) (p : Prepared) → ask ≡ Some job → PreparesJob job before now p → RunRow ask before now p
-run_row_asked ask job before now p asked prepared = run_row ask before now p (subst (λ (a : Option Job). Prepares a before now p) (sym asked) prepared)
+run_row_asked ask job before now p asked prepared = run_row ask before now p (as_asked ask job before now p asked prepared)
+
+pub record_row_asked : (ask : Option Job) (job : Job) (before now : FilesAt) (p : Prepared) → ask ≡ Some job → PreparesJob job before now p → RecordRow ask before now p
+record_row_asked ask job before now p asked prepared = record_row ask before now p (as_asked ask job before now p asked prepared)
 
 -- the numbers of a run that is left are those of the job
-within_program : (job : Job) (input : List ℕ) (program : Program) (source : Source) (p : Prepared) → IsWithin job → PreparesProgram job input program source p → IsPreparedWithin p
-within_program job input program source (answered made) within prepared = tt
-within_program job input program source (to_run r) within (task, is) = subst (λ (q : PreparedRun). IsWithin q.job) (sym is) within
+within_program : (job : Job) (input journal : List ℕ) (program : Program) (source : Source) (p : Prepared) → IsWithin job → PreparesProgram job input journal program source p → IsPreparedWithin p
+within_program job input journal program source (answered made) within prepared = tt
+within_program job input journal program source (to_run r) within (task, is) = subst (λ (q : PreparedRun). IsWithin q.job) (sym is) within
+within_program job input journal program source (to_record r) within (task, is) = subst (λ (q : RunToRecord). IsWithin q.job) (sym is) within
 
 within_answer : (p : Prepared) (made : Answer) → p ≡ answered made → IsPreparedWithin p
 within_answer p made is = subst IsPreparedWithin (sym is) tt
 
-within_source : (job : Job) (input bytes : List ℕ) (p : Prepared) → IsWithin job → PreparesSource job input bytes p → IsPreparedWithin p
-within_source job input bytes p within (inl (program, text, inl (source, units, prepared))) = within_program job input program source p within prepared
-within_source job input bytes p within (inl (program, text, inr (fault, refused, is))) = within_answer p _ is
-within_source job input bytes p within (inr (fault, only, is)) = within_answer p _ is
+within_source : (job : Job) (input journal bytes : List ℕ) (p : Prepared) → IsWithin job → PreparesSource job input journal bytes p → IsPreparedWithin p
+within_source job input journal bytes p within (inl (program, text, inl (source, units, prepared))) = within_program job input journal program source p within prepared
+within_source job input journal bytes p within (inl (program, text, inr (fault, refused, is))) = within_answer p _ is
+within_source job input journal bytes p within (inr (fault, only, is)) = within_answer p _ is
 
 within_saw : (job : Job) (saw : Saw) (p : Prepared) → IsWithin job → PreparesSaw job saw p → IsPreparedWithin p
-within_saw job (all contents) p within prepared = within_source job (second contents) (source_text job contents) p within prepared
+within_saw job (all contents) p within prepared = within_source job (input_in job contents) (journal_in job contents) (source_text job contents) p within prepared
 within_saw job (unread_file r) p within is = within_answer p _ is
 within_saw job (longer_file r) p within is = within_answer p _ is
 
@@ -158,6 +265,9 @@ answered_done p made is = subst (λ (q : MadePrepared). Completes (prepared_view
 
 pub left_done : (p : MadePrepared) (r : PreparedRun) (answer : Answer) → p ≡ ToRun r → AnswersRun InSomeOrder (shown_of r.showing r.job) (executed r.job r.input r.source) answer → Completes (prepared_view p) answer
 left_done p r answer is done = subst (λ (q : MadePrepared). Completes (prepared_view q) answer) (sym is) done
+
+pub record_done : (p : MadePrepared) (r : RunToRecord) (answer : Answer) → p ≡ ToRecord r → AnswersRecord (executed r.job r.input r.source) answer → Completes (prepared_view p) answer
+record_done p r answer is done = subst (λ (q : MadePrepared). Completes (prepared_view q) answer) (sym is) done
 
 -- what comes of bytes is what follows from that for each program and each fault
 by_bytes : {A B : Type 0} (P : Program → Source → A → Type 0) (Q : Program → Source → B → Type 0) (F : SourceFault → A → Type 0) (G : SourceFault → B → Type 0) (bytes : List ℕ) (a : A) (b : B)
@@ -174,31 +284,43 @@ abbrev PreparesRefusal : SourceFault → Prepared → Type 0
 PreparesRefusal fault p = p ≡ answered (refused fault)
 
 -- what is prepared is what the task of the job's mode asks for
-module _ (job : Job) (input bytes : List ℕ) where
+module _ (job : Job) (input journal bytes : List ℕ) where
+  -- an answer by a task that leaves no run
+  answer_prepared : (task : Task) (OfSource : Program → Source → Answer → Type 0) (a : Answer) → (row_of job.mode).task ≡ task → ((showing : Showing) → task ≡ Runs InSomeOrder showing → ⊥) → (task ≡ Records → ⊥)
+      → ((program : Program) (source : Source) (b : Answer) → OfSource program source b → AnswersProgram (deed_by task job journal) program (executed job input source) b)
+      → OfBytes OfSource Refuses bytes a → PreparesSource job input journal bytes (answered a)
+  answer_prepared task OfSource a is unleft unrecorded as_done comes = by_bytes OfSource (PreparesProgram job input journal) Refuses PreparesRefusal bytes a (answered a)
+      (λ program source done. (
+        (λ showing other. unleft showing (sym is ∙ other)),
+        (λ other. unrecorded (sym is ∙ other)),
+        subst (λ (t : Task). AnswersProgram (deed_by t job journal) program (executed job input source) a) (sym is) (as_done program source a done),
+      ))
+      (λ fault same. ap answered same) comes
+
   abbrev MeaningOf : (Execution → Ended → List ℕ) → Program → Source → Answer → Type 0
   MeaningOf shown program source a = AnswersRun ByFirstEvents shown (executed job input source) a
 
-  abbrev LeftOf : Showing → Program → Source → Prepared → Type 0
-  LeftOf showing program source p = p ≡ to_run (record { job = job; showing = showing; source = source; input = input })
+  pub told_prepared : (telling : Telling) (a : Answer) → (row_of job.mode).task ≡ Tells telling → AnswersTold telling bytes a → PreparesSource job input journal bytes (answered a)
+  told_prepared telling a task comes = answer_prepared (Tells telling) (AnswersTelling (telling_of telling)) a task (λ showing e. cc e) (λ e. cc e) (λ program source b done. done) comes
 
-  pub told_prepared : (telling : Telling) (a : Answer) → (row_of job.mode).task ≡ Tells telling → AnswersTold telling bytes a → PreparesSource job input bytes (answered a)
-  told_prepared telling a task comes = by_bytes (AnswersTelling (telling_of telling)) (PreparesProgram job input) Refuses PreparesRefusal bytes a (answered a)
-      (λ program source done. ((λ showing other. absurd (cc (task, other))), subst (λ (t : Task). AnswersProgram (deed_by t job) program (executed job input source) a) (sym task) done))
-      (λ fault is. ap answered is) comes
+  pub meaning_prepared : (showing : Showing) (a : Answer) → (row_of job.mode).task ≡ Runs ByFirstEvents showing → AnswersMeaning (shown_of showing job) job input bytes a
+      → PreparesSource job input journal bytes (answered a)
+  meaning_prepared showing a task comes = answer_prepared (Runs ByFirstEvents showing) (MeaningOf (shown_of showing job)) a task (λ other e. cc e) (λ e. cc e) (λ program source b done. done) comes
 
-  pub meaning_prepared : (showing : Showing) (a : Answer) → (row_of job.mode).task ≡ Runs ByFirstEvents showing → AnswersMeaning (shown_of showing job) job input bytes a → PreparesSource job input bytes (answered a)
-  meaning_prepared showing a task comes = by_bytes (MeaningOf (shown_of showing job)) (PreparesProgram job input) Refuses PreparesRefusal bytes a (answered a)
-      (λ program source done. ((λ other is. absurd (cc (task, is))), subst (λ (t : Task). AnswersProgram (deed_by t job) program (executed job input source) a) (sym task) done))
-      (λ fault is. ap answered is) comes
+  pub reasons_prepared : (a : Answer) → (row_of job.mode).task ≡ Explains → AnswersMeaning report_with_reasons job input bytes a → PreparesSource job input journal bytes (answered a)
+  reasons_prepared a task comes = answer_prepared Explains (MeaningOf report_with_reasons) a task (λ showing e. cc e) (λ e. cc e) (λ program source b done. done) comes
 
-  pub reasons_prepared : (a : Answer) → (row_of job.mode).task ≡ Explains → AnswersMeaning report_with_reasons job input bytes a → PreparesSource job input bytes (answered a)
-  reasons_prepared a task comes = by_bytes (MeaningOf report_with_reasons) (PreparesProgram job input) Refuses PreparesRefusal bytes a (answered a)
-      (λ program source done. ((λ other is. absurd (cc (task, is))), subst (λ (t : Task). AnswersProgram (deed_by t job) program (executed job input source) a) (sym task) done))
-      (λ fault is. ap answered is) comes
+  pub replay_prepared : (a : Answer) → (row_of job.mode).task ≡ Replays → AnswersReplaySource input journal bytes a → PreparesSource job input journal bytes (answered a)
+  replay_prepared a task comes = answer_prepared Replays (λ program source b. AnswersReplay source input journal b) a task (λ showing e. cc e) (λ e. cc e) (λ program source b done. done) comes
 
-  pub run_prepared : (showing : Showing) (p : Prepared) → (row_of job.mode).task ≡ Runs InSomeOrder showing → LeavesToWorkers job showing input bytes p → PreparesSource job input bytes p
-  run_prepared showing p task comes = by_bytes (LeftOf showing) (PreparesProgram job input) PreparesRefusal PreparesRefusal bytes p p
-      (λ program source is.
-      let left : PreparesProgram job input program source (to_run (record { job = job; showing = showing; source = source; input = input })) = (task, refl) in
-      subst (λ (q : Prepared). PreparesProgram job input program source q) (sym is) left)
-      (λ fault is. is) comes
+  -- what is left of a source, where this is left
+  left_prepared : (q : Source → Prepared) (p : Prepared) → ((program : Program) (source : Source) → PreparesProgram job input journal program source (q source))
+      → OfBytes (λ program source r. r ≡ q source) PreparesRefusal bytes p → PreparesSource job input journal bytes p
+  left_prepared q p as_left comes = by_bytes (λ program source r. r ≡ q source) (PreparesProgram job input journal) PreparesRefusal PreparesRefusal bytes p p
+      (λ program source is. subst (λ (r : Prepared). PreparesProgram job input journal program source r) (sym is) (as_left program source)) (λ fault is. is) comes
+
+  pub run_prepared : (showing : Showing) (p : Prepared) → (row_of job.mode).task ≡ Runs InSomeOrder showing → LeavesToWorkers job showing input bytes p → PreparesSource job input journal bytes p
+  run_prepared showing p task comes = left_prepared (λ source. to_run (record { job = job; showing = showing; source = source; input = input })) p (λ program source. (task, refl)) comes
+
+  pub record_prepared : (p : Prepared) → (row_of job.mode).task ≡ Records → LeavesToRecord job input bytes p → PreparesSource job input journal bytes p
+  record_prepared p task comes = left_prepared (λ source. to_record (record { job = job; source = source; input = input })) p (λ program source. (task, refl)) comes

@@ -2,30 +2,31 @@
 use Rattle.std.proofs.Common.{ℕ, ◌≡◌, ◌≢◌, ◌<◌, ◌≤◌, ◌⊎◌, List, length, Option, Some, None, refl, inl, inr, sym, ◌∙◌, subst, ap, arith}
 use Rattle.shim_edge.specs.Count.{HasRisen}
 use Rattle.shim_edge.specs.Sink.{then_bytes, TakesPart}
-use Rattle.shim_local.specs.declared.Outcome.{Outcome as End}
-use Rattle.shim_local.specs.declared.Outcome.TheVariants.{Done, Uncaught, Trapped, Blocked, Spent}
 use Rattle.shim_syntax.specs.declared.Program.{Program}
 use Rattle.shim_front_end.specs.Source.{Source, IsSource}
 use Rattle.shim_command.specs.declared.job.Job.{Job}
-use Rattle.shim_tool.specs.Moments.{FilesAt, SinkAt}
+use Rattle.shim_command.specs.declared.mode.Task.{Task}
+use Rattle.shim_command.specs.declared.mode.Task.TheVariants as tasks
+use Rattle.shim_command.specs.Modes.{row_of}
 use Rattle.shim_local.specs.declared.Ended.{Ended}
-use Rattle.shim_command.specs.declared.mode.Course.{Course}
-use Rattle.shim_command.specs.declared.mode.Course.TheVariants.{ByFirstEvents, InSomeOrder}
-use Rattle.shim_tool.specs.RunEnds.{Execution, status_of, status_of_outcome, end_of, printed_steps, read_off, IsBeginning, IsReachedIn, IsSpent, IsStoppedAt, IsStoppedEnd, as_meant, stopped}
-use Rattle.shim_tool.specs.Modes.{Deed, Reading, runs, tells, deed_of, reads_of, source_text}
-use Rattle.shim_tool.specs.Reads.{AreContents, HoldsAll, HoldsUpTo, Holds, OneReadFailed, Saw, all, longer_file, unread_file}
-use Rattle.shim_tool.specs.Answer.{Answer, Answers, AnswersProgram, AnswersSaw, FailedGrew, MayAnswer, IsNoSource, IsShown, IsStoppedBy, IsTextBy, status_by, longer_line, memory_line, usage_line}
-use Rattle.shim_tool.specs.Call.{Ran, Writes}
-use Rattle.shim_tool.specs.Rows.{Came, CameWithText, Comes, ComesUnlessUnread, WasRead, EndsBy, IsReached, IsRefusal, execution, CameStopped, EndRow, SpentRow, CountRow, BeginningRow, RefusedRow, FileCause, FileRow, SinkRow, MemoryRow, WordsRow, FilesRow, IsComplete}
-use Rattle.shim_process.specs.OwnSlots.{UsesOwnSlots}
 use Rattle.shim_process.specs.LocalState.{LocalState}
-use Rattle.shim_process.specs.Ops.{process_ops}
+use Rattle.shim_process.specs.OwnSlots.{UsesOwnSlots}
 use Rattle.shim_semantics.specs.Trees.{Tree}
-use Rattle.shim_tool.proofs.Beginnings.{stopped_tree}
-use Rattle.shim_tool.proofs.Causes.{Tells, tells_spent, printed, spent_counts}
-use Rattle.shim_tool.proofs.Reached.{is_reached, is_reached_whole}
-use Rattle.shim_tool.proofs.SourceSlots.{source_uses_own_slots}
-use Rattle.shim_tool.proofs.Outcomes.{Outcome, does, refuses, outcome}
+use Rattle.shim_answers.specs.RunEnds.{Execution, printed_steps, read_off, IsBeginning, IsReachedIn, IsSpent, IsStoppedAt}
+use Rattle.shim_answers.specs.Recorded.{IsJournalRefused}
+use Rattle.shim_answers.specs.Deeds.{Deed, deed_by}
+use Rattle.shim_answers.specs.Answer.{Answer, AnswersProgram, IsNoSource, IsRefusal}
+use Rattle.shim_answers.specs.DeedEnds.{EndsBy, IsReached, IsRefusedBy, IsShown, IsShownAt, IsStoppedBy, status_by}
+use Rattle.shim_answers.proofs.Causes.{Tells, tells_spent}
+use Rattle.shim_answers.proofs.DeedLemmas.{DeedOutcome, DeedTold, IsDeedStatus, ToldStopped, deed_below, deed_outcome, deed_reached, deed_spent, deed_status, ends, ends_by, status_is, stays, stopped_counts, told_of}
+use Rattle.shim_answers.proofs.Outcomes.{Outcome, does, refuses, outcome}
+use Rattle.shim_answers.proofs.SourceSlots.{source_uses_own_slots}
+use Rattle.shim_tool.specs.Moments.{FilesAt, SinkAt}
+use Rattle.shim_tool.specs.Modes.{Reading, deed_of, execution, journal_in, reads_of, source_text, IsExecution}
+use Rattle.shim_tool.specs.Reads.{AreContents, HoldsAll, HoldsUpTo, Holds, OneReadFailed, Saw, all, longer_file, unread_file}
+use Rattle.shim_tool.specs.Answer.{Answers, AnswersSaw, FailedGrew, MayAnswer, longer_line, memory_line, usage_line}
+use Rattle.shim_tool.specs.Call.{Ran, Writes}
+use Rattle.shim_tool.specs.Rows.{Came, CameWithText, Comes, ComesUnlessUnread, WasRead, CameStopped, EndRow, SpentRow, CountRow, BeginningRow, RefusedRow, FileCause, FileRow, SinkRow, MemoryRow, WordsRow, JournalRow, FilesRow, IsComplete, IsJobRefused}
 use Rattle.shim_tool.proofs.Sights.{WasSeen, looks_grew, was_seen, same_contents, none_failed, none_too_long, not_all_read, one_too_long}
 
 -- What came of an answer: it was written, or memory was wanted, or the sink failed.
@@ -50,10 +51,18 @@ ran_job ask job before now ob on result ran asks =
 
 -- What comes of the source of a job whose files have these contents.
 abbrev OutcomeOf : Job → List (List ℕ) → Answer → Type 0
-OutcomeOf job contents answer = Outcome (deed_of job) (execution job contents) (source_text job contents) answer
+OutcomeOf job contents answer = Outcome (deed_of job contents) (execution job contents) (source_text job contents) answer
 
 answered_source : (job : Job) (contents : List (List ℕ)) (answer : Answer) → AnswersSaw job (all contents) answer → OutcomeOf job contents answer
-answered_source job contents answer is = outcome (deed_of job) (execution job contents) (source_text job contents) answer is
+answered_source job contents answer is = outcome (deed_of job contents) (execution job contents) (source_text job contents) answer is
+
+-- What comes of its source, where that is accepted.
+abbrev DeedOf : Job → List (List ℕ) → Program → Source → Answer → Type 0
+DeedOf job contents program source answer = DeedOutcome (deed_of job contents) program (execution job contents source) answer
+
+done_so : (job : Job) (contents : List (List ℕ)) (source : Source) (answer : Answer) (is : IsSource (source_text job contents) source) → AnswersProgram (deed_of job contents) is.program (execution job contents source) answer
+    → DeedOf job contents is.program source answer
+done_so job contents source answer is done = deed_outcome (deed_of job contents) is.program (execution job contents source) answer (source_uses_own_slots (source_text job contents) source is) done
 
 -- What came of a job whose files are told and short enough: its source was answered, or a read failed, or memory was wanted, or the sink failed.
 pub data CameOf (job : Job) (contents : List (List ℕ)) (before now : FilesAt) (ob on : SinkAt) (result : ℕ) : Type 0 where
@@ -78,55 +87,29 @@ came_of ask job contents before now ob on result ran asks h = by_wrote (ran_job 
   by_wrote (lacked came) = wanting came.0
   by_wrote (failed answer may is rose part) = unwritten is rose
 
--- the end of a run is told by a status below 5
-end_below : (o : End) → status_of_outcome o < 5
-end_below Done = omega arith
-end_below (Uncaught i) = omega arith
-end_below Trapped = omega arith
-end_below Blocked = omega arith
-end_below Spent = omega arith
-
-deed_below : (deed : Deed) (x : Execution) → status_by deed x < 5
-deed_below (runs course shown) x = end_below (end_of x).outcome
-deed_below (tells told) x = omega arith
-
 -- the source is one, and so is its program, so what is answered to it is answered to this one
 program_of : (job : Job) (contents : List (List ℕ)) (source : Source) (answer : Answer) (is : IsSource (source_text job contents) source) → OutcomeOf job contents answer
-    → AnswersProgram (deed_of job) is.program (execution job contents source) answer
+    → AnswersProgram (deed_of job contents) is.program (execution job contents source) answer
 program_of job contents source answer is (does other is_other done only free) =
     let same = only source is in
-    let P : Source → Type 0 = λ b. AnswersProgram (deed_of job) is.program (execution job contents b) answer in
-    let Q : Program → Type 0 = λ q. AnswersProgram (deed_of job) q (execution job contents other) answer in
+    let P : Source → Type 0 = λ b. AnswersProgram (deed_of job contents) is.program (execution job contents b) answer in
+    let Q : Program → Type 0 = λ q. AnswersProgram (deed_of job contents) q (execution job contents other) answer in
     subst P (sym same.0) (subst Q (sym same.1) done)
 program_of job contents source answer is (refuses line why only none refused) = absurd (none source is)
 
--- the status that is answered tells how the meaning ended
-status_answered : (deed : Deed) (program : Program) (x : Execution) (answer : Answer) → AnswersProgram deed program x answer → answer.status ≡ status_by deed x
-status_answered (runs course shown) program x answer (e, as_meant apart same, is) = ap (λ (a : Answer). a.status) is ∙ ap (λ (y : Ended). status_of_outcome y.outcome) same
-status_answered (runs course shown) program x answer (e, stopped four may so, is) = ap (λ (a : Answer). a.status) is ∙ (so ∙ sym four)
-status_answered (tells told) program x answer is = is.0
+-- and so is what comes of it
+deed_of_source : (job : Job) (contents : List (List ℕ)) (source : Source) (answer : Answer) (is : IsSource (source_text job contents) source) → OutcomeOf job contents answer → DeedOf job contents is.program source answer
+deed_of_source job contents source answer is outcome = done_so job contents source answer is (program_of job contents source answer is outcome)
 
--- and the text is that of the source, unless its meaning is stopped
-text_answered : (deed : Deed) (program : Program) (x : Execution) (answer : Answer) → AnswersProgram deed program x answer → (status_by deed x ≡ 4 → ⊥) → IsTextBy deed program x answer.text
-text_answered (runs course shown) program x answer (e, as_meant apart same, is) whole = ap (λ (a : Answer). a.text) is ∙ ap (λ (y : Ended). shown x y) same
-text_answered (runs course shown) program x answer (e, stopped four may so, is) whole = absurd (whole four)
-text_answered (tells told) program x answer is whole = is.1
+-- what is told of the execution that is done
+told_so : (job : Job) (contents : List (List ℕ)) (source : Source) (x : Execution) (answer : Answer) (is : IsSource (source_text job contents) source) → IsExecution job contents source x → OutcomeOf job contents answer
+    → UsesOwnSlots x.source × DeedTold (deed_of job contents) is.program x answer
+told_so job contents source x answer is run outcome = told_of (deed_of job contents) is.program (execution job contents source) answer (deed_of_source job contents source answer is outcome) x run
 
--- where it is, some stopped run is shown
-stopped_answered : (deed : Deed) (program : Program) (x : Execution) (answer : Answer) → AnswersProgram deed program x answer → status_by deed x ≡ 4
-    → (e : Ended) × IsStoppedBy deed x e × IsShown deed x e answer.text
-stopped_answered (runs course shown) program x answer (e, as_meant apart same, is) four = absurd (apart four)
-stopped_answered (runs course shown) program x answer (e, stopped _ may so, is) four = (e, may, ap (λ (a : Answer). a.text) is)
-stopped_answered (tells told) program x answer is four = absurd (omega (arith, four))
-
--- the counts of a stopped run add up to the budget
-stopped_counts : (course : Course) (x : Execution) (e : Ended) → UsesOwnSlots x.source → status_of x ≡ 4 → IsStoppedEnd course x e → printed_steps e ≡ x.budget
-stopped_counts ByFirstEvents x e own four same = ap printed_steps same ∙ spent_counts x own four
-stopped_counts InSomeOrder x e own four (t, at, same) = ap printed_steps same ∙ (printed process_ops x.source.main_throws t ∙ at.counted)
-
-deed_counts : (deed : Deed) (x : Execution) (e : Ended) → UsesOwnSlots x.source → status_by deed x ≡ 4 → IsStoppedBy deed x e → printed_steps e ≡ x.budget
-deed_counts (runs course shown) x e own four may = stopped_counts course x e own four may
-deed_counts (tells told) x e own four may = absurd may
+-- what is answered to a source that is accepted has the status of a deed
+does_status : (job : Job) (contents : List (List ℕ)) (source : Source) (answer : Answer) (is : IsSource (source_text job contents) source) → AnswersProgram (deed_of job contents) is.program (execution job contents source) answer
+    → IsDeedStatus answer.status
+does_status job contents source answer is done = deed_status (deed_of job contents) is.program (execution job contents source) answer (done_so job contents source answer is done)
 
 -- a refusal's line was written with 5
 refused_with : (job : Job) (contents : List (List ℕ)) (line : List ℕ) (answer : Answer) (ob on : SinkAt) (result : ℕ) → IsRefusal (source_text job contents) line → OutcomeOf job contents answer →
@@ -143,48 +126,64 @@ refused_somehow job contents answer ob on result none (does source has told only
 refused_somehow job contents answer ob on result none (refuses line why only _ is) came =
     (line, why, (came.0 ∙ ap (λ (a : Answer). a.status) is, came.1 ∙ ap (λ (a : Answer). then_bytes ob.taken a.text) is))
 
+-- which is that of no fault of a source, a file, a sink or memory
+deed_no_fault : (fault : ℕ) → 5 ≤ fault → fault ≤ 8 → (status : ℕ) → IsDeedStatus status → status ≡ fault → ⊥
+deed_no_fault fault least most status deed is = elim deed.few [ inl few ↦ omega (arith, few, is, least) | inr nine ↦ omega (arith, nine, is, most) ]
+
 -- what is told where the status of a deed came
-abbrev EndedSo : ℕ → FilesAt → FilesAt → SinkAt → SinkAt → Option Job → Type 0
-EndedSo status before now ob on a = (now.failed ≡ before.failed) × (job : Job) × (contents : List (List ℕ)) × (source : Source) × (answer : Answer) × WasRead a job before contents
-    × (is : IsSource (source_text job contents) source) × AnswersProgram (deed_of job) is.program (execution job contents source) answer × (answer.status ≡ status) × (on.taken ≡ then_bytes ob.taken answer.text)
+record EndedSo (status : ℕ) (before now : FilesAt) (ob on : SinkAt) (asks : Option Job) : Type 0 where
+  unfailed : now.failed ≡ before.failed
+  asked : Job
+  contents : List (List ℕ)
+  source : Source
+  answer : Answer
+  was : WasRead asks asked before contents
+  is : IsSource (source_text asked contents) source
+  x : Execution
+  run : IsExecution asked contents source x
+  own : UsesOwnSlots x.source
+  told : DeedTold (deed_of asked contents) is.program x answer
+  by : status_by (deed_of asked contents) x ≡ status
+  taken : on.taken ≡ then_bytes ob.taken answer.text
 
 -- the status of a deed comes of a deed alone
 ended_so : (status : ℕ) → status < 5 → (status ≡ 2 → ⊥) → (ask : Option Job) (before now : FilesAt) (ob on : SinkAt) (result : ℕ) → Ran ask before now ob on result → result ≡ status → EndedSo status before now ob on ask
 ended_so status few apart ask before now ob on result ran came_so = by_wrote ask (wrote ask before now ob on result ran) came_so where
+  by_deed : (job : Job) (contents : List (List ℕ)) (source : Source) (answer : Answer) → now.failed ≡ before.failed → AreContents before.held (reads_of job) contents → (is : IsSource (source_text job contents) source)
+      → DeedOf job contents is.program source answer → Came answer.status answer.text ob on result → result ≡ status → EndedSo status before now ob on (Some job)
+  by_deed job contents source answer same are is (ends x own run only free told) came so = record {
+    unfailed = same;
+    asked = job;
+    contents = contents;
+    source = source;
+    answer = answer;
+    was = record { asked = refl; read = are };
+    is = is;
+    x = x;
+    run = run;
+    own = own;
+    told = told;
+    by = sym told.status ∙ (sym came.0 ∙ so);
+    taken = came.1;
+  }
+  by_deed job contents source answer same are is (stays line why only none refused) came so = absurd (let e : answer.status ≡ 9 = ap (λ (a : Answer). a.status) refused in omega (arith, e, came.0, so, few))
+
   by_source : (job : Job) (contents : List (List ℕ)) (answer : Answer) → now.failed ≡ before.failed → AreContents before.held (reads_of job) contents → OutcomeOf job contents answer
       → Came answer.status answer.text ob on result → result ≡ status → EndedSo status before now ob on (Some job)
-  by_source job contents answer same are (does source has told only free) came ends =
-      (same, job, contents, source, answer, record { asked = refl; read = are }, has, told, sym came.0 ∙ ends, came.1)
-  by_source job contents answer same are (refuses line why only none is) came ends = absurd (let e : answer.status ≡ 5 = ap (λ (a : Answer). a.status) is in omega (arith, e, came.0, ends, few))
+  by_source job contents answer same are (does source has done only free) came so = by_deed job contents source answer same are has (done_so job contents source answer has done) came so
+  by_source job contents answer same are (refuses line why only none is) came so = absurd (let e : answer.status ≡ 5 = ap (λ (a : Answer). a.status) is in omega (arith, e, came.0, so, few))
 
   by_saw : (job : Job) (answer : Answer) (saw : Saw) → WasSeen (reads_of job) before now saw → AnswersSaw job saw answer → Came answer.status answer.text ob on result → result ≡ status
       → EndedSo status before now ob on (Some job)
-  by_saw job answer (all contents) (are, same) is came ends = by_source job contents answer same are (answered_source job contents answer is) came ends
-  by_saw job answer (unread_file r) seen is came ends = absurd (let e : answer.status ≡ 6 = ap (λ (a : Answer). a.status) is in omega (arith, e, came.0, ends, few))
-  by_saw job answer (longer_file r) seen is came ends = absurd (let e : answer.status ≡ 6 = ap (λ (a : Answer). a.status) is in omega (arith, e, came.0, ends, few))
+  by_saw job answer (all contents) (are, same) is came so = by_source job contents answer same are (answered_source job contents answer is) came so
+  by_saw job answer (unread_file r) seen is came so = absurd (let e : answer.status ≡ 6 = ap (λ (a : Answer). a.status) is in omega (arith, e, came.0, so, few))
+  by_saw job answer (longer_file r) seen is came so = absurd (let e : answer.status ≡ 6 = ap (λ (a : Answer). a.status) is in omega (arith, e, came.0, so, few))
 
   by_wrote : (a : Option Job) → Wrote a before now ob on result → result ≡ status → EndedSo status before now ob on a
-  by_wrote a (lacked came) ends = absurd (omega (arith, came.0, ends, few))
-  by_wrote a (failed answer may is rose part) ends = absurd (omega (arith, is, ends, few))
-  by_wrote None (answered answer (same, is) came) ends = absurd (apart (let e : answer.status ≡ 2 = ap (λ (a : Answer). a.status) is in omega (arith, e, came.0, ends)))
-  by_wrote (Some job) (answered answer (saw, looks, is) came) ends = by_saw job answer saw (was_seen (reads_of job) before now saw looks) is came ends
-
--- what a status tells of the meaning
-ends_by : (status : ℕ) (Cause : Execution → Type 0) → Tells status Cause → (deed : Deed) (x : Execution) → UsesOwnSlots x.source → status_by deed x ≡ status → EndsBy status Cause deed x
-ends_by status Cause tell (runs course shown) x own e = tell.only x own e
-ends_by status Cause tell (tells told) x own e = sym e
-
-status_is : (status : ℕ) (Cause : Execution → Type 0) → Tells status Cause → (deed : Deed) (x : Execution) → UsesOwnSlots x.source → EndsBy status Cause deed x → status_by deed x ≡ status
-status_is status Cause tell (runs course shown) x own cause = tell.when x own cause
-status_is status Cause tell (tells told) x own cause = sym cause
-
-deed_reached : (deed : Deed) (x : Execution) → IsReached deed x
-deed_reached (runs course shown) x = is_reached x
-deed_reached (tells told) x = tt
-
-deed_spent : (deed : Deed) (x : Execution) → UsesOwnSlots x.source → status_by deed x ≡ 4 → IsReachedIn x.budget x
-deed_spent (runs course shown) x own four = is_reached_whole x own four
-deed_spent (tells told) x own four = absurd (omega (arith, four))
+  by_wrote a (lacked came) so = absurd (omega (arith, came.0, so, few))
+  by_wrote a (failed answer may is rose part) so = absurd (omega (arith, is, so, few))
+  by_wrote None (answered answer (same, is) came) so = absurd (apart (let e : answer.status ≡ 2 = ap (λ (a : Answer). a.status) is in omega (arith, e, came.0, so)))
+  by_wrote (Some job) (answered answer (saw, looks, is) came) so = by_saw job answer saw (was_seen (reads_of job) before now saw looks) is came so
 
 -- what came where the status of a deed may come, with or without the text that it comes with
 abbrev CameOrLacked : Type 0 → Job → FilesAt → FilesAt → ℕ → Type 0
@@ -194,106 +193,183 @@ pub end_row : (status : ℕ) (Cause : Execution → Type 0) → Tells status Cau
     → Ran ask before now ob on result → EndRow status Cause ask before now ob on result
 end_row status Cause tell few apart whole ask before now ob on result ran = record {
   only = λ came. only (ended_so status few apart ask before now ob on result ran came) came;
-  when = λ job contents source asks h is cause. when job contents source is cause (came_of ask job contents before now ob on result ran asks h);
+  when = λ job contents source x asks h is run cause. when job contents source x is run cause (came_of ask job contents before now ob on result ran asks h);
 } where
   only : EndedSo status before now ob on ask → result ≡ status
       → (now.failed ≡ before.failed) × (job : Job) × (contents : List (List ℕ)) × (source : Source) × WasRead ask job before contents × (is : IsSource (source_text job contents) source)
-      × EndsBy status Cause (deed_of job) (execution job contents source) × IsReached (deed_of job) (execution job contents source)
-      × (status_by (deed_of job) (execution job contents source) ≡ status) × CameWithText status (deed_of job) is.program (execution job contents source) ob on result
-  only (same, job, contents, source, answer, read, is, done, ends, taken) came =
-      let deed = deed_of job in
-      let x = execution job contents source in
-      let by : status_by deed x ≡ status = sym (status_answered deed is.program x answer done) ∙ ends in (
-        same,
-        job,
-        contents,
-        source,
-        read,
-        is,
-        ends_by status Cause tell deed x (source_uses_own_slots (source_text job contents) source is) by,
-        deed_reached deed x,
-        by,
-        (answer.text, text_answered deed is.program x answer done (λ four. whole (sym by ∙ four)), (came, taken)),
+      × (x : Execution) × IsExecution job contents source x × EndsBy status Cause (deed_of job contents) x × IsReached (deed_of job contents) x
+      × (status_by (deed_of job contents) x ≡ status) × CameWithText status (deed_of job contents) is.program x ob on result
+  only e came =
+      let deed = deed_of e.asked e.contents in (
+        e.unfailed,
+        e.asked,
+        e.contents,
+        e.source,
+        e.was,
+        e.is,
+        e.x,
+        e.run,
+        ends_by status Cause tell deed e.x e.own e.by,
+        deed_reached deed e.x,
+        e.by,
+        (e.answer.text, e.told.whole (λ four. whole (sym e.by ∙ four)), (came, e.taken)),
       )
 
-  comes : (deed : Deed) (program : Program) (x : Execution) (answer : Answer) → UsesOwnSlots x.source → EndsBy status Cause deed x → AnswersProgram deed program x answer → Came answer.status answer.text ob on result
+  comes : (deed : Deed) (program : Program) (x : Execution) (answer : Answer) → UsesOwnSlots x.source → EndsBy status Cause deed x → DeedTold deed program x answer → Came answer.status answer.text ob on result
       → CameWithText status deed program x ob on result
-  comes deed program x answer own cause done came =
+  comes deed program x answer own cause told came =
       let by : status_by deed x ≡ status = status_is status Cause tell deed x own cause in
-      (answer.text, text_answered deed program x answer done (λ four. whole (sym by ∙ four)), (came.0 ∙ (status_answered deed program x answer done ∙ by), came.1))
+      (answer.text, told.whole (λ four. whole (sym by ∙ four)), (came.0 ∙ (told.status ∙ by), came.1))
 
-  when : (job : Job) (contents : List (List ℕ)) (source : Source) (is : IsSource (source_text job contents) source) → EndsBy status Cause (deed_of job) (execution job contents source)
-      → CameOf job contents before now ob on result → CameOrLacked (CameWithText status (deed_of job) is.program (execution job contents source) ob on result) job before now result
-  when job contents source is cause (of_source answer outcome came) =
-      inl (comes (deed_of job) is.program (execution job contents source) answer (source_uses_own_slots (source_text job contents) source is) cause (program_of job contents source answer is outcome) came)
-  when job contents source is cause (unreadable six read) = inr (inr (inr (six, read)))
-  when job contents source is cause (wanting eight) = inr (inr (inl eight))
-  when job contents source is cause (unwritten seven rose) = inr (inl seven)
+  when : (job : Job) (contents : List (List ℕ)) (source : Source) (x : Execution) (is : IsSource (source_text job contents) source) → IsExecution job contents source x → EndsBy status Cause (deed_of job contents) x
+      → CameOf job contents before now ob on result → CameOrLacked (CameWithText status (deed_of job contents) is.program x ob on result) job before now result
+  when job contents source x is run cause (of_source answer outcome came) =
+      let told = told_so job contents source x answer is run outcome in
+      inl (comes (deed_of job contents) is.program x answer told.0 cause told.1 came)
+  when job contents source x is run cause (unreadable six read) = inr (inr (inr (six, read)))
+  when job contents source x is run cause (wanting eight) = inr (inr (inl eight))
+  when job contents source x is run cause (unwritten seven rose) = inr (inl seven)
+
+-- what is told of a run that was stopped came
+came_stopped : (deed : Deed) (x : Execution) (text : List ℕ) (ob on : SinkAt) (result : ℕ) → ToldStopped deed x text → Came 4 text ob on result → CameStopped deed x ob on result
+came_stopped deed x text ob on result s came = (read_off x s.tree, s.may, text, s.shown, came)
 
 pub spent_row : (ask : Option Job) (before now : FilesAt) (ob on : SinkAt) (result : ℕ) → Ran ask before now ob on result → SpentRow ask before now ob on result
 spent_row ask before now ob on result ran = record {
   only = λ came. only (ended_so 4 (omega arith) (λ e. omega (arith, e)) ask before now ob on result ran came) came;
-  when = λ job contents source asks h is cause. when job contents source is cause (came_of ask job contents before now ob on result ran asks h);
+  when = λ job contents source x asks h is run cause. when job contents source x is run cause (came_of ask job contents before now ob on result ran asks h);
 } where
-  came_stopped : (deed : Deed) (program : Program) (x : Execution) (answer : Answer) → AnswersProgram deed program x answer → status_by deed x ≡ 4 → result ≡ 4 → on.taken ≡ then_bytes ob.taken answer.text
-      → CameStopped deed x ob on result
-  came_stopped deed program x answer done four came taken = let s = stopped_answered deed program x answer done four in (s.0, s.1, answer.text, s.2, (came, taken))
-
   only : EndedSo 4 before now ob on ask → result ≡ 4
       → (now.failed ≡ before.failed) × (job : Job) × (contents : List (List ℕ)) × (source : Source) × WasRead ask job before contents × IsSource (source_text job contents) source
-      × EndsBy 4 IsSpent (deed_of job) (execution job contents source) × IsReached (deed_of job) (execution job contents source)
-      × (status_by (deed_of job) (execution job contents source) ≡ 4) × CameStopped (deed_of job) (execution job contents source) ob on result
-  only (same, job, contents, source, answer, read, is, done, ends, taken) came =
-      let deed = deed_of job in
-      let x = execution job contents source in
-      let four : status_by deed x ≡ 4 = sym (status_answered deed is.program x answer done) ∙ ends in
-      (same, job, contents, source, read, is, ends_by 4 IsSpent tells_spent deed x (source_uses_own_slots (source_text job contents) source is) four, deed_reached deed x, four, came_stopped deed is.program x answer done four came taken)
+      × (x : Execution) × IsExecution job contents source x × EndsBy 4 IsSpent (deed_of job contents) x × IsReached (deed_of job contents) x
+      × (status_by (deed_of job contents) x ≡ 4) × CameStopped (deed_of job contents) x ob on result
+  only e came =
+      let deed = deed_of e.asked e.contents in (
+        e.unfailed,
+        e.asked,
+        e.contents,
+        e.source,
+        e.was,
+        e.is,
+        e.x,
+        e.run,
+        ends_by 4 IsSpent tells_spent deed e.x e.own e.by,
+        deed_reached deed e.x,
+        e.by,
+        came_stopped deed e.x e.answer.text ob on result (e.told.part e.by) (came, e.taken),
+      )
 
-  comes : (deed : Deed) (program : Program) (x : Execution) (answer : Answer) → UsesOwnSlots x.source → EndsBy 4 IsSpent deed x → AnswersProgram deed program x answer → Came answer.status answer.text ob on result
+  comes : (deed : Deed) (program : Program) (x : Execution) (answer : Answer) → UsesOwnSlots x.source → EndsBy 4 IsSpent deed x → DeedTold deed program x answer → Came answer.status answer.text ob on result
       → CameStopped deed x ob on result
-  comes deed program x answer own cause done came =
+  comes deed program x answer own cause told came =
       let four : status_by deed x ≡ 4 = status_is 4 IsSpent tells_spent deed x own cause in
-      came_stopped deed program x answer done four (came.0 ∙ (status_answered deed program x answer done ∙ four)) came.1
+      came_stopped deed x answer.text ob on result (told.part four) (came.0 ∙ (told.status ∙ four), came.1)
 
-  when : (job : Job) (contents : List (List ℕ)) (source : Source) → IsSource (source_text job contents) source → EndsBy 4 IsSpent (deed_of job) (execution job contents source)
-      → CameOf job contents before now ob on result → CameOrLacked (CameStopped (deed_of job) (execution job contents source) ob on result) job before now result
-  when job contents source is cause (of_source answer outcome came) =
-      inl (comes (deed_of job) is.program (execution job contents source) answer (source_uses_own_slots (source_text job contents) source is) cause (program_of job contents source answer is outcome) came)
-  when job contents source is cause (unreadable six read) = inr (inr (inr (six, read)))
-  when job contents source is cause (wanting eight) = inr (inr (inl eight))
-  when job contents source is cause (unwritten seven rose) = inr (inl seven)
+  when : (job : Job) (contents : List (List ℕ)) (source : Source) (x : Execution) → IsSource (source_text job contents) source → IsExecution job contents source x → EndsBy 4 IsSpent (deed_of job contents) x
+      → CameOf job contents before now ob on result → CameOrLacked (CameStopped (deed_of job contents) x ob on result) job before now result
+  when job contents source x is run cause (of_source answer outcome came) =
+      let told = told_so job contents source x answer is run outcome in
+      inl (comes (deed_of job contents) is.program x answer told.0 cause told.1 came)
+  when job contents source x is run cause (unreadable six read) = inr (inr (inr (six, read)))
+  when job contents source x is run cause (wanting eight) = inr (inr (inl eight))
+  when job contents source x is run cause (unwritten seven rose) = inr (inl seven)
 
 pub count_row : (ask : Option Job) (before now : FilesAt) (ob on : SinkAt) (result : ℕ) → Ran ask before now ob on result → CountRow ask before ob on result
-count_row ask before now ob on result ran is = counts (ended_so 4 (omega arith) (λ e. omega (arith, e)) ask before now ob on result ran is) where
+count_row ask before now ob on result ran four = counts (ended_so 4 (omega arith) (λ e. omega (arith, e)) ask before now ob on result ran four) where
   counts : EndedSo 4 before now ob on ask → (job : Job) × (contents : List (List ℕ)) × (source : Source) × WasRead ask job before contents × IsSource (source_text job contents) source
-      × IsReachedIn job.budget (execution job contents source) × (e : Ended) × IsStoppedBy (deed_of job) (execution job contents source) e × (printed_steps e ≡ job.budget)
-      × (text : List ℕ) × IsShown (deed_of job) (execution job contents source) e text × (on.taken ≡ then_bytes ob.taken text)
-  counts (same, job, contents, source, answer, read, is, done, ends, taken) =
-      let deed = deed_of job in
-      let x = execution job contents source in
-      let four : status_by deed x ≡ 4 = sym (status_answered deed is.program x answer done) ∙ ends in
-      let s = stopped_answered deed is.program x answer done four in
-      let own : UsesOwnSlots source = source_uses_own_slots (source_text job contents) source is in
-      (job, contents, source, read, is, deed_spent deed x own four, s.0, s.1, deed_counts deed x s.0 own four s.1, answer.text, s.2, taken)
-
--- what is told of a deed that was stopped is read off a tree whose beginning is the meaning's
-deed_begins : (deed : Deed) (x : Execution) (e : Ended) → UsesOwnSlots x.source → status_by deed x ≡ 4 → IsStoppedBy deed x e
-    → (t : Tree LocalState) × IsStoppedAt x t × IsBeginning x t × (e ≡ read_off x t)
-deed_begins (runs course shown) x e own four may = stopped_tree course x e own four may
-deed_begins (tells told) x e own four may = absurd may
+      × (x : Execution) × IsExecution job contents source x × IsReachedIn x.budget x × (e : Ended) × IsStoppedBy (deed_of job contents) x e × (printed_steps e ≡ x.budget)
+      × (text : List ℕ) × IsShown (deed_of job contents) x e text × (on.taken ≡ then_bytes ob.taken text)
+  counts e =
+      let s = e.told.part e.by in (
+        e.asked,
+        e.contents,
+        e.source,
+        e.was,
+        e.is,
+        e.x,
+        e.run,
+        deed_spent (deed_of e.asked e.contents) e.x e.own e.by,
+        read_off e.x s.tree,
+        s.may,
+        stopped_counts e.x s.tree s.at,
+        e.answer.text,
+        s.shown,
+        e.taken,
+      )
 
 pub beginning_row : (ask : Option Job) (before now : FilesAt) (ob on : SinkAt) (result : ℕ) → Ran ask before now ob on result → BeginningRow ask before ob on result
-beginning_row ask before now ob on result ran is = begins (ended_so 4 (omega arith) (λ e. omega (arith, e)) ask before now ob on result ran is) where
+beginning_row ask before now ob on result ran four = begins (ended_so 4 (omega arith) (λ e. omega (arith, e)) ask before now ob on result ran four) where
   begins : EndedSo 4 before now ob on ask → (job : Job) × (contents : List (List ℕ)) × (source : Source) × WasRead ask job before contents × IsSource (source_text job contents) source
-      × (t : Tree LocalState) × IsStoppedAt (execution job contents source) t × IsBeginning (execution job contents source) t
-      × (text : List ℕ) × IsShown (deed_of job) (execution job contents source) (read_off (execution job contents source) t) text × (on.taken ≡ then_bytes ob.taken text)
-  begins (same, job, contents, source, answer, read, is, done, ends, taken) =
-      let deed = deed_of job in
-      let x = execution job contents source in
-      let four : status_by deed x ≡ 4 = sym (status_answered deed is.program x answer done) ∙ ends in
-      let s = stopped_answered deed is.program x answer done four in
-      let b = deed_begins deed x s.0 (source_uses_own_slots (source_text job contents) source is) four s.1 in
-      (job, contents, source, read, is, b.0, b.1, b.2, answer.text, subst (λ (y : Ended). IsShown deed x y answer.text) b.3 s.2, taken)
+      × (x : Execution) × IsExecution job contents source x × (t : Tree LocalState) × IsStoppedAt x t × IsBeginning x t
+      × (text : List ℕ) × IsShownAt (deed_of job contents) x t text × (on.taken ≡ then_bytes ob.taken text)
+  begins e = let s = e.told.part e.by in (e.asked, e.contents, e.source, e.was, e.is, e.x, e.run, s.tree, s.at, s.begins, e.answer.text, s.shown_there, e.taken)
+
+-- ---- a journal that is refused
+
+-- the deed of a task whose journal may be refused is to replay it
+refused_task : (task : Task) (job : Job) (journal : List ℕ) (asked : Execution) (line : List ℕ) → IsRefusedBy (deed_by task job journal) asked line → (task ≡ tasks.Replays) × IsJournalRefused asked.source asked.input journal line
+refused_task (tasks.Tells telling) job journal asked line why = absurd why
+refused_task (tasks.Runs course showing) job journal asked line why = absurd why
+refused_task tasks.Explains job journal asked line why = absurd why
+refused_task tasks.Records job journal asked line why = absurd why
+refused_task tasks.Replays job journal asked line why = (refl, why)
+
+refused_as : (job : Job) (contents : List (List ℕ)) (source : Source) (line : List ℕ) → IsRefusedBy (deed_of job contents) (execution job contents source) line → IsJobRefused job contents source line
+refused_as job contents source line why = refused_task (row_of job.mode).task job (journal_in job contents) (execution job contents source) line why
+
+refused_by : (job : Job) (contents : List (List ℕ)) (source : Source) (line : List ℕ) → IsJobRefused job contents source line → IsRefusedBy (deed_of job contents) (execution job contents source) line
+refused_by job contents source line (task, why) =
+    subst (λ (t : Task). IsRefusedBy (deed_by t job (journal_in job contents)) (execution job contents source) line) (sym task) why
+
+-- what is told where a journal was refused
+abbrev JournalRefusedSo : FilesAt → FilesAt → SinkAt → SinkAt → Option Job → Type 0
+JournalRefusedSo before now ob on a = (now.failed ≡ before.failed) × (job : Job) × (contents : List (List ℕ)) × (source : Source) × (line : List ℕ) × WasRead a job before contents
+    × IsSource (source_text job contents) source × IsJobRefused job contents source line × (on.taken ≡ then_bytes ob.taken line)
+
+pub journal_row : (ask : Option Job) (before now : FilesAt) (ob on : SinkAt) (result : ℕ) → Ran ask before now ob on result → JournalRow ask before now ob on result
+journal_row ask before now ob on result ran = record {
+  only = λ nine. by_wrote ask (wrote ask before now ob on result ran) nine;
+  when = λ job contents source line asks h is why. when job contents source line is why (came_of ask job contents before now ob on result ran asks h);
+} where
+  line_came : (job : Job) (contents : List (List ℕ)) (source : Source) (line : List ℕ) (program : Program) (answer : Answer) → IsRefusedBy (deed_of job contents) (execution job contents source) line
+      → DeedOf job contents program source answer → Came answer.status answer.text ob on result → Came 9 line ob on result
+  line_came job contents source line program answer why (ends x own run only free told) came = absurd (free line why)
+  line_came job contents source line program answer why (stays other cause only none is) came =
+      (came.0 ∙ ap (λ (a : Answer). a.status) is, came.1 ∙ ap (λ (t : List ℕ). then_bytes ob.taken t) (ap (λ (a : Answer). a.text) is ∙ only line why))
+
+  when : (job : Job) (contents : List (List ℕ)) (source : Source) (line : List ℕ) → IsSource (source_text job contents) source → IsJobRefused job contents source line → CameOf job contents before now ob on result
+      → ComesUnlessUnread 9 line job before now ob on result
+  when job contents source line is why (of_source answer outcome came) =
+      inl (inl (line_came job contents source line is.program answer (refused_by job contents source line why) (deed_of_source job contents source answer is outcome) came))
+  when job contents source line is why (unreadable six read) = inr (six, read)
+  when job contents source line is why (wanting eight) = inl (inr (inr eight))
+  when job contents source line is why (unwritten seven rose) = inl (inr (inl seven))
+
+  by_deed : (job : Job) (contents : List (List ℕ)) (source : Source) (answer : Answer) → now.failed ≡ before.failed → AreContents before.held (reads_of job) contents → (is : IsSource (source_text job contents) source)
+      → DeedOf job contents is.program source answer → Came answer.status answer.text ob on result → result ≡ 9 → JournalRefusedSo before now ob on (Some job)
+  by_deed job contents source answer same are is (ends x own run only free told) came nine =
+      absurd (let h = deed_below (deed_of job contents) x in let e = told.status in omega (arith, h, e, came.0, nine))
+  by_deed job contents source answer same are is (stays line why only none refused) came nine =
+      (same, job, contents, source, line, record { asked = refl; read = are }, is, refused_as job contents source line why, came.1 ∙ ap (λ (a : Answer). then_bytes ob.taken a.text) refused)
+
+  by_source : (job : Job) (contents : List (List ℕ)) (answer : Answer) → now.failed ≡ before.failed → AreContents before.held (reads_of job) contents → OutcomeOf job contents answer
+      → Came answer.status answer.text ob on result → result ≡ 9 → JournalRefusedSo before now ob on (Some job)
+  by_source job contents answer same are (does source has done only free) came nine = by_deed job contents source answer same are has (done_so job contents source answer has done) came nine
+  by_source job contents answer same are (refuses line why only none is) came nine = absurd (let e : answer.status ≡ 5 = ap (λ (a : Answer). a.status) is in omega (arith, e, came.0, nine))
+
+  by_saw : (job : Job) (answer : Answer) (saw : Saw) → WasSeen (reads_of job) before now saw → AnswersSaw job saw answer → Came answer.status answer.text ob on result → result ≡ 9
+      → JournalRefusedSo before now ob on (Some job)
+  by_saw job answer (all contents) (are, same) is came nine = by_source job contents answer same are (answered_source job contents answer is) came nine
+  by_saw job answer (unread_file r) seen is came nine = absurd (let e : answer.status ≡ 6 = ap (λ (a : Answer). a.status) is in omega (arith, e, came.0, nine))
+  by_saw job answer (longer_file r) seen is came nine = absurd (let e : answer.status ≡ 6 = ap (λ (a : Answer). a.status) is in omega (arith, e, came.0, nine))
+
+  by_wrote : (a : Option Job) → Wrote a before now ob on result → result ≡ 9 → JournalRefusedSo before now ob on a
+  by_wrote a (lacked came) nine = absurd (omega (arith, came.0, nine))
+  by_wrote a (failed answer may is rose part) nine = absurd (omega (arith, is, nine))
+  by_wrote None (answered answer (same, is) came) nine = absurd (let e : answer.status ≡ 2 = ap (λ (a : Answer). a.status) is in omega (arith, e, came.0, nine))
+  by_wrote (Some job) (answered answer (saw, looks, is) came) nine = by_saw job answer saw (was_seen (reads_of job) before now saw looks) is came nine
+
+-- ---- a source that is refused
 
 -- what is told where a source was refused
 abbrev RefusedSo : FilesAt → FilesAt → SinkAt → SinkAt → Option Job → Type 0
@@ -321,9 +397,7 @@ refused_row ask before now ob on result ran = record {
 
   by_source : (job : Job) (contents : List (List ℕ)) (answer : Answer) → now.failed ≡ before.failed → AreContents before.held (reads_of job) contents → OutcomeOf job contents answer
       → Came answer.status answer.text ob on result → result ≡ 5 → RefusedSo before now ob on (Some job)
-  by_source job contents answer same are (does source has told only free) came five =
-      let x = execution job contents source in
-      absurd (let e : answer.status ≡ status_by (deed_of job) x = status_answered (deed_of job) has.program x answer told in omega (arith, e, came.0, five, deed_below (deed_of job) x))
+  by_source job contents answer same are (does source has done only free) came five = absurd (deed_no_fault 5 (omega arith) (omega arith) answer.status (does_status job contents source answer has done) (sym came.0 ∙ five))
   by_source job contents answer same are (refuses line why only none is) came five =
       (same, job, contents, line, record { asked = refl; read = are }, none, why, came.1 ∙ ap (λ (a : Answer). then_bytes ob.taken a.text) is)
 
@@ -349,9 +423,7 @@ file_row ask before now ob on result ran = record {
   when = λ job r bytes asks up h over. when job r bytes up h over (ran_job ask job before now ob on result ran asks);
 } where
   by_source : (job : Job) (contents : List (List ℕ)) (answer : Answer) → OutcomeOf job contents answer → Came answer.status answer.text ob on result → result ≡ 6 → FileCause (Some job) before now ob on
-  by_source job contents answer (does source has told only free) came six =
-      let x = execution job contents source in
-      absurd (let e : answer.status ≡ status_by (deed_of job) x = status_answered (deed_of job) has.program x answer told in omega (arith, e, came.0, six, deed_below (deed_of job) x))
+  by_source job contents answer (does source has done only free) came six = absurd (deed_no_fault 6 (omega arith) (omega arith) answer.status (does_status job contents source answer has done) (sym came.0 ∙ six))
   by_source job contents answer (refuses line why only none is) came six = absurd (let e : answer.status ≡ 5 = ap (λ (a : Answer). a.status) is in omega (arith, e, came.0, six))
 
   by_saw : (job : Job) (answer : Answer) (saw : Saw) → WasSeen (reads_of job) before now saw → AnswersSaw job saw answer → Came answer.status answer.text ob on result → result ≡ 6
@@ -381,21 +453,18 @@ file_row ask before now ob on result ran = record {
   when job r bytes up h over (lacked came) = inl (inr (inr came.0))
   when job r bytes up h over (failed answer may is rose part) = inl (inr (inl is))
 
--- an answer that is no want of memory has a status below 7
-status_below : (ask : Option Job) (before now : FilesAt) (answer : Answer) → Answers ask before now answer → answer.status < 7
-status_below None before now answer (same, is) = let e : answer.status ≡ 2 = ap (λ (a : Answer). a.status) is in omega (arith, e)
-status_below (Some job) before now answer (saw, looks, is) = by_saw saw is where
-  by_source : (contents : List (List ℕ)) → OutcomeOf job contents answer → answer.status < 7
-  by_source contents (does source has told only free) =
-      let x = execution job contents source in
-      let e : answer.status ≡ status_by (deed_of job) x = status_answered (deed_of job) has.program x answer told in
-      omega (arith, e, deed_below (deed_of job) x)
-  by_source contents (refuses line why only none same) = let e : answer.status ≡ 5 = ap (λ (a : Answer). a.status) same in omega (arith, e)
+-- an answer that is no want of memory doesn't tell of it, nor of a sink that failed
+answers_no_fault : (fault : ℕ) → 7 ≤ fault → fault ≤ 8 → (ask : Option Job) (before now : FilesAt) (answer : Answer) → Answers ask before now answer → answer.status ≡ fault → ⊥
+answers_no_fault fault least most None before now answer (same, is) told = let e : answer.status ≡ 2 = ap (λ (a : Answer). a.status) is in omega (arith, e, told, least)
+answers_no_fault fault least most (Some job) before now answer (saw, looks, is) told = by_saw saw is where
+  by_source : (contents : List (List ℕ)) → OutcomeOf job contents answer → ⊥
+  by_source contents (does source has done only free) = deed_no_fault fault (omega (arith, least)) most answer.status (does_status job contents source answer has done) told
+  by_source contents (refuses line why only none same) = let e : answer.status ≡ 5 = ap (λ (a : Answer). a.status) same in omega (arith, e, told, least)
 
-  by_saw : (saw : Saw) → AnswersSaw job saw answer → answer.status < 7
-  by_saw (all contents) told = by_source contents (answered_source job contents answer told)
-  by_saw (unread_file r) told = let e : answer.status ≡ 6 = ap (λ (a : Answer). a.status) told in omega (arith, e)
-  by_saw (longer_file r) told = let e : answer.status ≡ 6 = ap (λ (a : Answer). a.status) told in omega (arith, e)
+  by_saw : (seen : Saw) → AnswersSaw job seen answer → ⊥
+  by_saw (all contents) done = by_source contents (answered_source job contents answer done)
+  by_saw (unread_file r) same = let e : answer.status ≡ 6 = ap (λ (a : Answer). a.status) same in omega (arith, e, told, least)
+  by_saw (longer_file r) same = let e : answer.status ≡ 6 = ap (λ (a : Answer). a.status) same in omega (arith, e, told, least)
 
 pub sink_row : (ask : Option Job) (before now : FilesAt) (ob on : SinkAt) (result : ℕ) → Ran ask before now ob on result → SinkRow ask before now ob on result
 sink_row ask before now ob on result ran = record {
@@ -404,7 +473,7 @@ sink_row ask before now ob on result ran = record {
   never_falls = never ran.written;
 } where
   only : Wrote ask before now ob on result → result ≡ 7 → HasRisen ob.faults on.faults × (answer : Answer) × MayAnswer ask before now answer × TakesPart ob.taken answer.text on.taken
-  only (answered answer told came) seven = absurd (omega (arith, came.0, seven, status_below ask before now answer told))
+  only (answered answer told came) seven = absurd (answers_no_fault 7 (omega arith) (omega arith) ask before now answer told (sym came.0 ∙ seven))
   only (lacked came) seven = absurd (omega (arith, came.0, seven))
   only (failed answer may is rose part) seven = (rose, answer, may, part)
 
@@ -419,21 +488,9 @@ sink_row ask before now ob on result ran = record {
 pub memory_row : (ask : Option Job) (before now : FilesAt) (ob on : SinkAt) (result : ℕ) → Ran ask before now ob on result → MemoryRow ob on result
 memory_row ask before now ob on result ran eight = by_wrote (wrote ask before now ob on result ran) where
   by_wrote : Wrote ask before now ob on result → on.taken ≡ then_bytes ob.taken memory_line
-  by_wrote (answered answer told came) = absurd (omega (arith, came.0, eight, status_below ask before now answer told))
+  by_wrote (answered answer told came) = absurd (answers_no_fault 8 (omega arith) (omega arith) ask before now answer told (sym came.0 ∙ eight))
   by_wrote (lacked came) = came.1
   by_wrote (failed answer may is rose part) = absurd (omega (arith, is, eight))
-
--- the status of a deed isn't that of words that ask for nothing
-end_not_two : (o : End) → status_of_outcome o ≡ 2 → ⊥
-end_not_two Done e = omega (arith, e)
-end_not_two (Uncaught i) e = omega (arith, e)
-end_not_two Trapped e = omega (arith, e)
-end_not_two Blocked e = omega (arith, e)
-end_not_two Spent e = omega (arith, e)
-
-deed_not_two : (deed : Deed) (x : Execution) → status_by deed x ≡ 2 → ⊥
-deed_not_two (runs course shown) x e = end_not_two (end_of x).outcome e
-deed_not_two (tells told) x e = omega (arith, e)
 
 pub words_row : (ask : Option Job) (before now : FilesAt) (ob on : SinkAt) (result : ℕ) → Ran ask before now ob on result → WordsRow ask ob on result
 words_row ask before now ob on result ran = record {
@@ -441,7 +498,7 @@ words_row ask before now ob on result ran = record {
   when = λ asks. let P : Option Job → Type 0 = λ a. Ran a before now ob on result in when (wrote None before now ob on result (subst P asks ran));
 } where
   by_source : (job : Job) (contents : List (List ℕ)) (answer : Answer) → OutcomeOf job contents answer → answer.status ≡ 2 → ⊥
-  by_source job contents answer (does source has told only free) two = deed_not_two (deed_of job) (execution job contents source) (sym (status_answered (deed_of job) has.program (execution job contents source) answer told) ∙ two)
+  by_source job contents answer (does source has done only free) two = (does_status job contents source answer has done).apart two
   by_source job contents answer (refuses line why only none is) two = let e : answer.status ≡ 5 = ap (λ (a : Answer). a.status) is in omega (arith, e, two)
 
   by_saw : (job : Job) (answer : Answer) (saw : Saw) → AnswersSaw job saw answer → answer.status ≡ 2 → ⊥
@@ -472,8 +529,11 @@ files_row ask before now ob on result ran = record { held = ran.files.held; soun
 pub complete : (ask : Option Job) (before now : FilesAt) (ob on : SinkAt) (result : ℕ) → Ran ask before now ob on result → IsComplete ask before ob on result
 complete ask before now ob on result ran job contents source asks sound h is calm = by_came (came_of ask job contents before now ob on result ran asks h) where
   by_came : CameOf job contents before now ob on result
-      → ((answer : Answer) × AnswersProgram (deed_of job) is.program (execution job contents source) answer × Came answer.status answer.text ob on result) ⊎ (result ≡ 8)
-  by_came (of_source answer outcome came) = inl (answer, program_of job contents source answer is outcome, came)
+      → ((answer : Answer) × AnswersProgram (deed_of job contents) is.program (execution job contents source) answer
+      × ((x : Execution) → IsExecution job contents source x → answer.status ≡ status_by (deed_of job contents) x) × Came answer.status answer.text ob on result)
+      ⊎ (result ≡ 8)
+  by_came (of_source answer outcome came) =
+      inl (answer, program_of job contents source answer is outcome, (λ x run. (told_so job contents source x answer is run outcome).1.status), came)
   by_came (unreadable six read) = absurd (none_failed (reads_of job) contents before now sound h read)
   by_came (wanting eight) = inr eight
   by_came (unwritten seven rose) = absurd (calm rose)

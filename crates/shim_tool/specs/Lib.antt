@@ -1,13 +1,10 @@
 -- The definitions of this crate, one module for each subject.
-pub mod RunEnds
-pub mod Reasons
 pub mod Modes
 pub mod Moments
 pub mod Reads
 pub mod Answer
 pub mod Call
 pub mod Rows
-pub mod AnswerView
 pub mod Views
 pub mod Prepared
 pub mod PreparedView

@@ -1,33 +1,18 @@
 -- What the files of a job are, and what is done with its source, as the row of its mode says.
-use Rattle.std.specs.Prelude.{ℕ, ◌+◌, ◌≡◌, List, [], ◌∷◌, ◌++◌, Option, Some, None, if◌then◌else◌, nat_eq, codes, decimal}
+use Rattle.std.specs.Prelude.{ℕ, List, [], ◌∷◌, ◌++◌, Option, Some, None}
 use Rattle.shim_generator.specs.declared.kind.Kind.{Kind}
 use Rattle.shim_generator.specs.Kinds.{kind_named}
 use Rattle.shim_generator.specs.Sources.{generated}
 use Rattle.shim_command.specs.declared.job.Job.{Job}
 use Rattle.shim_command.specs.declared.mode.Extra.{Extra}
-use Rattle.shim_command.specs.declared.mode.Extra.TheVariants.{Nothing, Input}
-use Rattle.shim_command.specs.declared.mode.Course.{Course}
-use Rattle.shim_command.specs.declared.mode.Course.TheVariants.{ByFirstEvents}
+use Rattle.shim_command.specs.declared.mode.Extra.TheVariants.{Nothing, Input, InputAndJournal}
 use Rattle.shim_command.specs.declared.mode.Origin.{Origin}
 use Rattle.shim_command.specs.declared.mode.Origin.TheVariants.{Stored, Generated}
-use Rattle.shim_command.specs.declared.mode.Showing.{Showing}
-use Rattle.shim_command.specs.declared.mode.Showing.TheVariants.{Report, Summary}
-use Rattle.shim_command.specs.declared.mode.Task.{Task}
-use Rattle.shim_command.specs.declared.mode.Task.TheVariants.{Explains, Runs, Tells}
-use Rattle.shim_command.specs.declared.mode.Telling.{Telling}
-use Rattle.shim_command.specs.declared.mode.Telling.TheVariants.{Functions, Instructions, Version2}
 use Rattle.shim_command.specs.Modes.{row_of}
-use Rattle.shim_syntax.specs.declared.Program.{Program}
-use Rattle.shim_syntax.specs.Printing.{canonical}
-use Rattle.shim_up.specs.Up.{IsUp}
-use Rattle.shim_units.specs.declared.unit.Unit.{Unit as UnitOf}
 use Rattle.shim_front_end.specs.Source.{Source}
-use Rattle.shim_code.specs.Listing.{listing}
-use Rattle.shim_code.specs.Programs.{code_units}
-use Rattle.shim_report.specs.Summary.{summary}
-use Rattle.shim_local.specs.declared.Ended.{Ended}
-use Rattle.shim_tool.specs.RunEnds.{Execution, report_of}
-use Rattle.shim_tool.specs.Reasons.{report_with_reasons}
+use Rattle.shim_answers.specs.Deeds.{Deed, deed_by, executed}
+use Rattle.shim_answers.specs.DeedEnds.{IsRunBy}
+use Rattle.shim_answers.specs.RunEnds.{Execution}
 
 -- a file that is read, and the most bytes that it may have
 pub record Reading : Type 0 where
@@ -42,10 +27,19 @@ source_limit = 1048576
 abbrev pub input_limit : ℕ
 input_limit = 16777216
 
+-- the most bytes of a journal
+abbrev pub journal_limit : ℕ
+journal_limit = 67108864
+
 -- an input that was named is read; where none is, there is nothing to read
 abbrev pub input_readings : Option (List ℕ) → List Reading
 input_readings None = []
 input_readings (Some name) = record { name = name; limit = input_limit } ∷ []
+
+-- and so is a journal
+abbrev pub journal_readings : Option (List ℕ) → List Reading
+journal_readings None = []
+journal_readings (Some name) = record { name = name; limit = journal_limit } ∷ []
 
 abbrev pub source_reading : Job → Reading
 source_reading job = record { name = job.file; limit = source_limit }
@@ -59,6 +53,7 @@ source_readings Generated job = []
 abbrev pub readings_beside : Extra → Job → List Reading
 readings_beside Nothing job = []
 readings_beside Input job = input_readings job.input
+readings_beside InputAndJournal job = input_readings job.input ++ journal_readings job.journal
 
 -- the files that a job reads, in their order
 abbrev pub reads_of : Job → List Reading
@@ -69,9 +64,27 @@ abbrev pub first : List (List ℕ) → List ℕ
 first [] = []
 first (content ∷ rest) = content
 
-abbrev pub second : List (List ℕ) → List ℕ
-second [] = []
-second (content ∷ rest) = first rest
+-- those behind the first
+abbrev pub contents_behind : List (List ℕ) → List (List ℕ)
+contents_behind [] = []
+contents_behind (content ∷ rest) = rest
+
+-- the content of a file that is read only where it is named, and what is left of the contents
+abbrev pub where_named : Option (List ℕ) → List (List ℕ) → List ℕ
+where_named None contents = []
+where_named (Some name) contents = first contents
+
+abbrev pub behind_named : Option (List ℕ) → List (List ℕ) → List (List ℕ)
+behind_named None contents = contents
+behind_named (Some name) contents = contents_behind contents
+
+-- of the contents of a job's files that of its input
+abbrev pub input_in : Job → List (List ℕ) → List ℕ
+input_in job contents = where_named job.input (contents_behind contents)
+
+-- and that of its journal
+abbrev pub journal_in : Job → List (List ℕ) → List ℕ
+journal_in job contents = first (behind_named job.input (contents_behind contents))
 
 -- the text that is made of a kind; a job that makes its source has one
 abbrev pub made : Option Kind → ℕ → List ℕ
@@ -89,55 +102,14 @@ text_from Generated job content = made_text job
 abbrev pub source_text : Job → List (List ℕ) → List ℕ
 source_text job contents = text_from (row_of job.mode).origin job (first contents)
 
--- how a source is run for a job, with this input
-abbrev pub executed : Job → List ℕ → Source → Execution
-executed job input source = record { source = source; input = input; budget = job.budget }
+-- what is done with the source of a job whose files have these contents
+abbrev pub deed_of : Job → List (List ℕ) → Deed
+deed_of job contents = deed_by (row_of job.mode).task job (journal_in job contents)
 
--- The units of the functions come first, each at the number of its function; those behind them were lifted out of functions, and stand at no such number. So this many functions are there, of which the first has the number `n`.
-abbrev pub functions_from : ℕ → List UnitOf → ℕ
-functions_from n [] = n
-functions_from n (u ∷ us) = if nat_eq u.function n then functions_from (n + 1) us else n
+-- what is asked to be run for it
+abbrev pub execution : Job → List (List ℕ) → Source → Execution
+execution job contents source = executed job (input_in job contents) source
 
--- `accepted N`, with the number of functions
-unfoldable pub accepted_line : Source → List ℕ
-accepted_line source = codes "accepted " ++ (decimal (functions_from 0 source.units) ++ codes "\n")
-
--- the code of its units as text
-abbrev pub code_text : Source → List ℕ
-code_text source = listing (code_units source.units)
-
--- the summary of what was read off a run of a source that was made for this job
-abbrev pub summary_of : Job → Source → Ended → List ℕ
-summary_of job source e = summary job.file job.size source.names e
-
--- the text is the canonical one of what the program is in version 2
-abbrev pub IsTextInVersion2 : Program → List ℕ → Type 0
-IsTextInVersion2 program text = (newer : Program) × IsUp program newer × (text ≡ canonical newer)
-
--- What is done with a source that is accepted, with what gives its text: it is run so, and this text tells how that ended; or such a text is told of its program and its units, and nothing is run
-pub data Deed : Type 1 where
-  runs : Course → (Execution → Ended → List ℕ) → Deed
-  tells : (Program → Source → List ℕ → Type 0) → Deed
-
--- what is told of a source
-abbrev pub telling_of : Telling → Program → Source → List ℕ → Type 0
-telling_of Functions program source text = text ≡ accepted_line source
-telling_of Instructions program source text = text ≡ code_text source
-telling_of Version2 program source text = IsTextInVersion2 program text
-
--- what is told of a run of a job's source
-abbrev pub showing_of : Showing → Job → Source → Ended → List ℕ
-showing_of Report job = report_of
-showing_of Summary job = summary_of job
-
--- the same of an execution, of which the source is enough
-abbrev pub shown_of : Showing → Job → Execution → Ended → List ℕ
-shown_of showing job x e = showing_of showing job x.source e
-
-abbrev pub deed_by : Task → Job → Deed
-deed_by (Tells telling) job = tells (telling_of telling)
-deed_by (Runs course showing) job = runs course (shown_of showing job)
-deed_by Explains job = runs ByFirstEvents report_with_reasons
-
-abbrev pub deed_of : Job → Deed
-deed_of job = deed_by (row_of job.mode).task job
+-- what is run for it
+abbrev pub IsExecution : Job → List (List ℕ) → Source → Execution → Type 0
+IsExecution job contents source x = IsRunBy (deed_of job contents) (execution job contents source) x

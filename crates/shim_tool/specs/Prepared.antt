@@ -5,41 +5,60 @@ use Rattle.shim_front_end.specs.Source.{Source, IsSource}
 use Rattle.shim_command.specs.declared.job.Job.{Job}
 use Rattle.shim_command.specs.declared.mode.Course.TheVariants.{InSomeOrder}
 use Rattle.shim_command.specs.declared.mode.Showing.{Showing}
-use Rattle.shim_command.specs.declared.mode.Task.TheVariants.{Runs}
+use Rattle.shim_command.specs.declared.mode.Task.TheVariants.{Records, Runs}
 use Rattle.shim_command.specs.Jobs.{IsWithin}
 use Rattle.shim_command.specs.Modes.{row_of}
-use Rattle.shim_tool.specs.declared.prepared.PreparedRun.{PreparedRun}
+use Rattle.shim_answers.specs.declared.runs.PreparedRun.{PreparedRun}
+use Rattle.shim_answers.specs.declared.runs.RunToRecord.{RunToRecord}
+use Rattle.shim_answers.specs.Answer.{Answer, AnswersProgram, AnswersRecord, AnswersRun, OfBytes, refused}
+use Rattle.shim_answers.specs.Deeds.{deed_by, executed, shown_of}
 use Rattle.shim_tool.specs.Moments.{FilesAt}
-use Rattle.shim_tool.specs.Modes.{deed_of, executed, reads_of, second, shown_of, source_text}
+use Rattle.shim_tool.specs.Modes.{input_in, journal_in, reads_of, source_text}
 use Rattle.shim_tool.specs.Reads.{HoldsAll, Looks, OneReadFailed, Saw, all, longer_file, unread_file}
-use Rattle.shim_tool.specs.Answer.{Answer, AnswersProgram, AnswersRun, OfBytes, file_failed, file_too_long, refused, usage}
+use Rattle.shim_tool.specs.Answer.{file_failed, file_too_long, usage}
 use Rattle.shim_tool.specs.Rows.{WasRead}
 
 pub data Prepared : Type 0 where
   answered : Answer → Prepared
   to_run : PreparedRun → Prepared
+  to_record : RunToRecord → Prepared
 
 -- the source of the job is run by workers, and this is told of how that ended
 abbrev pub IsForWorkers : Job → Showing → Type 0
 IsForWorkers job showing = (row_of job.mode).task ≡ Runs InSomeOrder showing
 
+-- and so is the source of a job whose journal is told
+abbrev pub IsToRecord : Job → Type 0
+IsToRecord job = (row_of job.mode).task ≡ Records
+
 -- a source is kept to be run, with its input, where workers run it, and is answered where they don't
-abbrev pub PreparesProgram : Job → List ℕ → Program → Source → Prepared → Type 0
-PreparesProgram job input program source (answered answer) = ((showing : Showing) → IsForWorkers job showing → ⊥) × AnswersProgram (deed_of job) program (executed job input source) answer
-PreparesProgram job input program source (to_run r) = IsForWorkers job r.showing × (r ≡ record { job = job; showing = r.showing; source = source; input = input })
+abbrev pub PreparesProgram : Job → List ℕ → List ℕ → Program → Source → Prepared → Type 0
+PreparesProgram job input journal program source (answered answer) = ((showing : Showing) → IsForWorkers job showing → ⊥) × (IsToRecord job → ⊥)
+    × AnswersProgram (deed_by (row_of job.mode).task job journal) program (executed job input source) answer
+PreparesProgram job input journal program source (to_run r) = IsForWorkers job r.showing × (r ≡ record { job = job; showing = r.showing; source = source; input = input })
+PreparesProgram job input journal program source (to_record r) = IsToRecord job × (r ≡ record { job = job; source = source; input = input })
 
 -- a source is kept to be run by workers, and other bytes are answered with the line of their first fault
 abbrev pub LeavesToWorkers : Job → Showing → List ℕ → List ℕ → Prepared → Type 0
 LeavesToWorkers job showing input bytes p =
     OfBytes (λ program source q. q ≡ to_run (record { job = job; showing = showing; source = source; input = input })) (λ fault q. q ≡ answered (refused fault)) bytes p
 
+-- the same of a source whose journal is told
+abbrev pub LeavesToRecord : Job → List ℕ → List ℕ → Prepared → Type 0
+LeavesToRecord job input bytes p =
+    OfBytes (λ program source q. q ≡ to_record (record { job = job; source = source; input = input })) (λ fault q. q ≡ answered (refused fault)) bytes p
+
 -- bytes that are no source are answered with the line of their first fault
-abbrev pub PreparesSource : Job → List ℕ → List ℕ → Prepared → Type 0
-PreparesSource job input bytes p = OfBytes (PreparesProgram job input) (λ fault q. q ≡ answered (refused fault)) bytes p
+abbrev pub PreparesSource : Job → List ℕ → List ℕ → List ℕ → Prepared → Type 0
+PreparesSource job input journal bytes p = OfBytes (PreparesProgram job input journal) (λ fault q. q ≡ answered (refused fault)) bytes p
+
+-- the same whatever the journal, which no run asks for
+abbrev pub PreparesRun : Job → List ℕ → List ℕ → Prepared → Type 0
+PreparesRun job input bytes p = (journal : List ℕ) → PreparesSource job input journal bytes p
 
 -- what comes of what was seen of the files of a job
 abbrev pub PreparesSaw : Job → Saw → Prepared → Type 0
-PreparesSaw job (all contents) p = PreparesSource job (second contents) (source_text job contents) p
+PreparesSaw job (all contents) p = PreparesSource job (input_in job contents) (journal_in job contents) (source_text job contents) p
 PreparesSaw job (unread_file r) p = p ≡ answered (file_failed r.name)
 PreparesSaw job (longer_file r) p = p ≡ answered (file_too_long r.name r.limit)
 
@@ -54,16 +73,26 @@ Prepares (Some job) before now p = PreparesJob job before now p
 abbrev pub Completes : Prepared → Answer → Type 0
 Completes (answered made) answer = answer ≡ made
 Completes (to_run r) answer = AnswersRun InSomeOrder (shown_of r.showing r.job) (executed r.job r.input r.source) answer
+Completes (to_record r) answer = AnswersRecord (executed r.job r.input r.source) answer
 
 -- the numbers of the job are in their ranges
 abbrev pub IsPreparedWithin : Prepared → Type 0
 IsPreparedWithin (answered answer) = Unit {0}
 IsPreparedWithin (to_run r) = IsWithin r.job
+IsPreparedWithin (to_record r) = IsWithin r.job
 
 -- A run is to be done exactly where the words have a job whose source workers run, and the job's text is a source. The run is of that source, with the input that was read.
 pub record RunRow (ask : Option Job) (before now : FilesAt) (p : Prepared) : Type 0 where
   pub only : (r : PreparedRun) → p ≡ to_run r → (now.failed ≡ before.failed) × (job : Job) × (contents : List (List ℕ)) × (source : Source) × WasRead ask job before contents
-      × IsSource (source_text job contents) source × IsForWorkers job r.showing × (r ≡ record { job = job; showing = r.showing; source = source; input = second contents })
+      × IsSource (source_text job contents) source × IsForWorkers job r.showing × (r ≡ record { job = job; showing = r.showing; source = source; input = input_in job contents })
   pub when : (job : Job) (contents : List (List ℕ)) (source : Source) (showing : Showing) → ask ≡ Some job → HoldsAll before.held (reads_of job) contents
       → IsSource (source_text job contents) source → IsForWorkers job showing
-      → (p ≡ to_run (record { job = job; showing = showing; source = source; input = second contents })) ⊎ OneReadFailed (reads_of job) before now
+      → (p ≡ to_run (record { job = job; showing = showing; source = source; input = input_in job contents })) ⊎ OneReadFailed (reads_of job) before now
+
+-- A run is to be done and recorded exactly where the words have a job whose journal is told, and the job's text is a source. The run is of that source, with the input that was read.
+pub record RecordRow (ask : Option Job) (before now : FilesAt) (p : Prepared) : Type 0 where
+  pub only : (r : RunToRecord) → p ≡ to_record r → (now.failed ≡ before.failed) × (job : Job) × (contents : List (List ℕ)) × (source : Source) × WasRead ask job before contents
+      × IsSource (source_text job contents) source × IsToRecord job × (r ≡ record { job = job; source = source; input = input_in job contents })
+  pub when : (job : Job) (contents : List (List ℕ)) (source : Source) → ask ≡ Some job → HoldsAll before.held (reads_of job) contents
+      → IsSource (source_text job contents) source → IsToRecord job
+      → (p ≡ to_record (record { job = job; source = source; input = input_in job contents })) ⊎ OneReadFailed (reads_of job) before now

@@ -1,9 +1,10 @@
 -- What a call comes to, as the definition names it.
 use Rattle.shim_tool.specs.declared.prepared.Prepared.{Prepared as Made}
-use Rattle.shim_tool.specs.declared.prepared.Prepared.TheVariants.{Answered, ToRun}
-use Rattle.shim_tool.specs.Prepared.{Prepared, answered, to_run}
-use Rattle.shim_tool.specs.Views.{answer_view}
+use Rattle.shim_tool.specs.declared.prepared.Prepared.TheVariants.{Answered, ToRun, ToRecord}
+use Rattle.shim_tool.specs.Prepared.{Prepared, answered, to_run, to_record}
+use Rattle.shim_answers.specs.Views.{answer_view}
 
 abbrev pub prepared_view : Made → Prepared
 prepared_view (Answered answer) = answered (answer_view answer)
 prepared_view (ToRun run) = to_run run
+prepared_view (ToRecord run) = to_record run

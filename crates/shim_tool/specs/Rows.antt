@@ -1,24 +1,24 @@
 -- When each status comes, and with which text: each row follows from what one call is.
-use Rattle.std.specs.Prelude.{ℕ, ◌≡◌, ◌≢◌, ◌<◌, ◌≤◌, ◌⊎◌, IsTrue, List, length, Option, Some, None, Err}
+use Rattle.std.specs.Prelude.{ℕ, ◌≡◌, ◌≢◌, ◌<◌, ◌≤◌, ◌⊎◌, IsTrue, List, length, Option, Some, None}
 use Rattle.shim_edge.specs.Count.{HasRisen}
 use Rattle.shim_edge.specs.Sink.{then_bytes, TakesPart}
 use Rattle.shim_syntax.specs.declared.Program.{Program}
-use Rattle.shim_syntax.specs.Text.{IsText}
-use Rattle.shim_parser.specs.declared.ParseFault.{ParseFault}
-use Rattle.shim_parser.specs.Parsing.{IsFaultOf}
-use Rattle.shim_front_end.specs.declared.SourceFault.{SourceFault}
-use Rattle.shim_front_end.specs.declared.SourceFault.TheVariants.{Parse}
-use Rattle.shim_front_end.specs.Source.{Source, IsSource, checked}
-use Rattle.shim_report.specs.Refusal.{refusal}
+use Rattle.shim_front_end.specs.Source.{Source, IsSource}
 use Rattle.shim_command.specs.declared.job.Job.{Job}
-use Rattle.shim_tool.specs.Moments.{FilesAt, SinkAt}
+use Rattle.shim_command.specs.declared.mode.Task.TheVariants.{Replays}
+use Rattle.shim_command.specs.Modes.{row_of}
 use Rattle.shim_local.specs.declared.Ended.{Ended}
 use Rattle.shim_process.specs.LocalState.{LocalState}
 use Rattle.shim_semantics.specs.Trees.{Tree}
-use Rattle.shim_tool.specs.RunEnds.{Execution, printed_steps, read_off, IsBeginning, IsReachedIn, IsSpent, IsStoppedAt}
-use Rattle.shim_tool.specs.Modes.{Deed, Reading, runs, tells, deed_of, executed, reads_of, second, source_text}
+use Rattle.shim_answers.specs.RunEnds.{Execution, printed_steps, IsBeginning, IsReachedIn, IsSpent, IsStoppedAt}
+use Rattle.shim_answers.specs.Recorded.{IsJournalRefused}
+use Rattle.shim_answers.specs.Deeds.{Deed}
+use Rattle.shim_answers.specs.Answer.{Answer, AnswersProgram, IsNoSource, IsRefusal}
+use Rattle.shim_answers.specs.DeedEnds.{EndsBy, IsReached, IsShown, IsShownAt, IsStoppedBy, IsTextBy, status_by}
+use Rattle.shim_tool.specs.Moments.{FilesAt, SinkAt}
+use Rattle.shim_tool.specs.Modes.{Reading, deed_of, execution, input_in, journal_in, reads_of, source_text, IsExecution}
 use Rattle.shim_tool.specs.Reads.{AreContents, ComesToRead, Holds, HoldsAll, HoldsUpTo, IsTooLong, OneReadFailed, ReadFailed}
-use Rattle.shim_tool.specs.Answer.{Answer, AnswersProgram, MayAnswer, FailedGrew, IsNoSource, IsShown, IsStoppedBy, IsTextBy, status_by, usage_line, failed_line, longer_line, memory_line}
+use Rattle.shim_tool.specs.Answer.{MayAnswer, FailedGrew, usage_line, failed_line, longer_line, memory_line}
 
 -- this status came with this text, whole
 abbrev pub Came : ℕ → List ℕ → SinkAt → SinkAt → ℕ → Type 0
@@ -38,70 +38,50 @@ pub record WasRead (ask : Option Job) (job : Job) (before : FilesAt) (contents :
   pub asked : ask ≡ Some job
   pub read : AreContents before.held (reads_of job) contents
 
--- what is run for a job whose files have these contents
-abbrev pub execution : Job → List (List ℕ) → Source → Execution
-execution job contents source = executed job (second contents) source
-
--- the meaning ends for this cause; of a source of which something is told, that comes with 0
-abbrev pub EndsBy : ℕ → (Execution → Type 0) → Deed → Execution → Type 0
-EndsBy status Cause (runs course shown) x = Cause x
-EndsBy status Cause (tells told) x = status ≡ 0
-
--- a run within the budget leads to the tree to which the meaning comes
-abbrev pub IsReached : Deed → Execution → Type 0
-IsReached (runs course shown) x = (n : ℕ) × (n ≤ x.budget) × IsReachedIn n x
-IsReached (tells told) x = Unit {0}
-
 -- this status came with the text of a source with this program
 abbrev pub CameWithText : ℕ → Deed → Program → Execution → SinkAt → SinkAt → ℕ → Type 0
 CameWithText status deed program x out_before out_now result = (text : List ℕ) × IsTextBy deed program x text × Came status text out_before out_now result
 
 -- The rows below say "exactly where" of told files, within their limits. Of other files each says that there is some source, fault or cause that fits.
 
--- 0, 1, 3: exactly where the job has a source whose meaning ends for this cause within the budget, with the text of its mode, which for `run` and `ref` is the report of that meaning, whatever the order of events in the run; of a source that isn't run, 0 comes wherever it is accepted, with what is told of its program. A run within the budget leads to the tree that is told.
+-- 0, 1, 3: exactly where the job has a source whose meaning ends for this cause within the budget, with the text of its mode, which for `run` and `ref` is the report of that meaning, whatever the order of events in the run; of a source that isn't run, 0 comes wherever it is accepted, with what is told of its program. A run within the budget leads to the tree that is told. What `trace` writes is the journal of a run to that tree; and where `replay` is asked for, the journal is one, whose budget counts.
 pub record EndRow (status : ℕ) (Cause : Execution → Type 0) (ask : Option Job) (before now : FilesAt) (out_before out_now : SinkAt) (result : ℕ) : Type 0 where
   pub only : result ≡ status → (now.failed ≡ before.failed) × (job : Job) × (contents : List (List ℕ)) × (source : Source) × WasRead ask job before contents
-      × (is : IsSource (source_text job contents) source) × EndsBy status Cause (deed_of job) (execution job contents source) × IsReached (deed_of job) (execution job contents source)
-      × (status_by (deed_of job) (execution job contents source) ≡ status) × CameWithText status (deed_of job) is.program (execution job contents source) out_before out_now result
-  pub when : (job : Job) (contents : List (List ℕ)) (source : Source) → ask ≡ Some job → HoldsAll before.held (reads_of job) contents
-      → (is : IsSource (source_text job contents) source) → EndsBy status Cause (deed_of job) (execution job contents source)
-      → CameWithText status (deed_of job) is.program (execution job contents source) out_before out_now result ⊎ (result ≡ 7) ⊎ (result ≡ 8) ⊎ ((result ≡ 6) × OneReadFailed (reads_of job) before now)
+      × (is : IsSource (source_text job contents) source) × (x : Execution) × IsExecution job contents source x × EndsBy status Cause (deed_of job contents) x × IsReached (deed_of job contents) x
+      × (status_by (deed_of job contents) x ≡ status) × CameWithText status (deed_of job contents) is.program x out_before out_now result
+  pub when : (job : Job) (contents : List (List ℕ)) (source : Source) (x : Execution) → ask ≡ Some job → HoldsAll before.held (reads_of job) contents
+      → (is : IsSource (source_text job contents) source) → IsExecution job contents source x → EndsBy status Cause (deed_of job contents) x
+      → CameWithText status (deed_of job contents) is.program x out_before out_now result ⊎ (result ≡ 7) ⊎ (result ≡ 8) ⊎ ((result ≡ 6) × OneReadFailed (reads_of job) before now)
 
 -- the status of a run that was stopped came, with the text of what may be read off such a run
 abbrev pub CameStopped : Deed → Execution → SinkAt → SinkAt → ℕ → Type 0
 CameStopped deed x out_before out_now result = (e : Ended) × IsStoppedBy deed x e × (text : List ℕ) × IsShown deed x e text × Came 4 text out_before out_now result
 
--- 4: exactly where the job has a source in whose meaning something can still happen after the budget's events. For `ref` the text is that of the meaning; for `run` and `gen` it is read off a tree to which a run of just the budget's events leads, and in which something can still happen.
+-- 4: exactly where the job has a source in whose meaning something can still happen after the budget's events. For `ref` the text is that of the meaning; for `run` and `gen` it is read off a tree to which a run of just the budget's events leads, and in which something can still happen; for `trace` it is the journal of a run to such a tree. For `replay` it is read off such a tree to which the journal leads, and the budget is that of the journal.
 pub record SpentRow (ask : Option Job) (before now : FilesAt) (out_before out_now : SinkAt) (result : ℕ) : Type 0 where
   pub only : result ≡ 4 → (now.failed ≡ before.failed) × (job : Job) × (contents : List (List ℕ)) × (source : Source) × WasRead ask job before contents
-      × IsSource (source_text job contents) source × EndsBy 4 IsSpent (deed_of job) (execution job contents source) × IsReached (deed_of job) (execution job contents source)
-      × (status_by (deed_of job) (execution job contents source) ≡ 4) × CameStopped (deed_of job) (execution job contents source) out_before out_now result
-  pub when : (job : Job) (contents : List (List ℕ)) (source : Source) → ask ≡ Some job → HoldsAll before.held (reads_of job) contents
-      → IsSource (source_text job contents) source → EndsBy 4 IsSpent (deed_of job) (execution job contents source)
-      → CameStopped (deed_of job) (execution job contents source) out_before out_now result ⊎ (result ≡ 7) ⊎ (result ≡ 8) ⊎ ((result ≡ 6) × OneReadFailed (reads_of job) before now)
+      × IsSource (source_text job contents) source × (x : Execution) × IsExecution job contents source x × EndsBy 4 IsSpent (deed_of job contents) x × IsReached (deed_of job contents) x
+      × (status_by (deed_of job contents) x ≡ 4) × CameStopped (deed_of job contents) x out_before out_now result
+  pub when : (job : Job) (contents : List (List ℕ)) (source : Source) (x : Execution) → ask ≡ Some job → HoldsAll before.held (reads_of job) contents
+      → IsSource (source_text job contents) source → IsExecution job contents source x → EndsBy 4 IsSpent (deed_of job contents) x
+      → CameStopped (deed_of job contents) x out_before out_now result ⊎ (result ≡ 7) ⊎ (result ≡ 8) ⊎ ((result ≡ 6) × OneReadFailed (reads_of job) before now)
 
--- 4: a run of as many events as the budget has leads to the tree of the meaning, too, and the own steps and the events that are read off the tree that is told, which `run` and `ref` print, add up to the budget
+-- 4: a run of as many events as the budget has leads to the tree of the meaning, too, and the own steps and the events that are read off the tree that is told, which `run`, `ref` and `replay` print, add up to the budget
 abbrev pub CountRow : Option Job → FilesAt → SinkAt → SinkAt → ℕ → Type 0
 CountRow ask before out_before out_now result = result ≡ 4 → (job : Job) × (contents : List (List ℕ)) × (source : Source) × WasRead ask job before contents
-    × IsSource (source_text job contents) source × IsReachedIn job.budget (execution job contents source) × (e : Ended) × IsStoppedBy (deed_of job) (execution job contents source) e
-    × (printed_steps e ≡ job.budget) × (text : List ℕ) × IsShown (deed_of job) (execution job contents source) e text × (out_now.taken ≡ then_bytes out_before.taken text)
+    × IsSource (source_text job contents) source × (x : Execution) × IsExecution job contents source x × IsReachedIn x.budget x × (e : Ended) × IsStoppedBy (deed_of job contents) x e
+    × (printed_steps e ≡ x.budget) × (text : List ℕ) × IsShown (deed_of job contents) x e text × (out_now.taken ≡ then_bytes out_before.taken text)
 
--- 4: the tree that is told is one at which a run is stopped, and what was put and met in it is a prefix of what the meaning gives in as many rounds as the budget has events
+-- 4: the tree that is told, or to which the journal leads that is told or replayed, is one at which a run is stopped, and what was put and met in it is a prefix of what the meaning gives in as many rounds as the budget has events
 abbrev pub BeginningRow : Option Job → FilesAt → SinkAt → SinkAt → ℕ → Type 0
 BeginningRow ask before out_before out_now result = result ≡ 4 → (job : Job) × (contents : List (List ℕ)) × (source : Source) × WasRead ask job before contents
-    × IsSource (source_text job contents) source × (t : Tree LocalState) × IsStoppedAt (execution job contents source) t × IsBeginning (execution job contents source) t
-    × (text : List ℕ) × IsShown (deed_of job) (execution job contents source) (read_off (execution job contents source) t) text × (out_now.taken ≡ then_bytes out_before.taken text)
+    × IsSource (source_text job contents) source × (x : Execution) × IsExecution job contents source x × (t : Tree LocalState) × IsStoppedAt x t × IsBeginning x t
+    × (text : List ℕ) × IsShownAt (deed_of job contents) x t text × (out_now.taken ≡ then_bytes out_before.taken text)
 
 -- 2: exactly where the words ask for nothing
 pub record WordsRow (ask : Option Job) (out_before out_now : SinkAt) (result : ℕ) : Type 0 where
   pub only : result ≡ 2 → (ask ≡ None) × (out_now.taken ≡ then_bytes out_before.taken usage_line)
   pub when : ask ≡ None → Comes 2 usage_line out_before out_now result
-
--- why bytes are refused with this line: they are the text of a program that isn't accepted, with this first fault, or they are the text of none, with this fault
-abbrev pub IsRefusal : List ℕ → List ℕ → Type 0
-IsRefusal bytes line =
-    ((program : Program) × IsText bytes program × (fault : SourceFault) × (checked program ≡ Err fault) × (line ≡ refusal fault))
-    ⊎ ((fault : ParseFault) × IsFaultOf bytes fault × (line ≡ refusal (Parse fault)))
 
 -- 5: exactly where the job's text is no source, with the line of the cause; and no other text comes of such bytes
 pub record RefusedRow (ask : Option Job) (before now : FilesAt) (out_before out_now : SinkAt) (result : ℕ) : Type 0 where
@@ -125,6 +105,17 @@ pub record FileRow (ask : Option Job) (before now : FilesAt) (out_before out_now
   pub when : (job : Job) (r : Reading) (bytes : List ℕ) → ask ≡ Some job → HoldsUpTo before.held (reads_of job) r → Holds before.held r.name bytes → r.limit < length bytes
       → ComesUnlessUnread 6 (longer_line r.name r.limit) job before now out_before out_now result
 
+-- the journal of a job is to be replayed, and is refused with this line
+abbrev pub IsJobRefused : Job → List (List ℕ) → Source → List ℕ → Type 0
+IsJobRefused job contents source line = ((row_of job.mode).task ≡ Replays) × IsJournalRefused source (input_in job contents) (journal_in job contents) line
+
+-- 9: exactly where the job's source is accepted and its journal is refused, with the line of the cause
+pub record JournalRow (ask : Option Job) (before now : FilesAt) (out_before out_now : SinkAt) (result : ℕ) : Type 0 where
+  pub only : result ≡ 9 → (now.failed ≡ before.failed) × (job : Job) × (contents : List (List ℕ)) × (source : Source) × (line : List ℕ) × WasRead ask job before contents
+      × IsSource (source_text job contents) source × IsJobRefused job contents source line × (out_now.taken ≡ then_bytes out_before.taken line)
+  pub when : (job : Job) (contents : List (List ℕ)) (source : Source) (line : List ℕ) → ask ≡ Some job → HoldsAll before.held (reads_of job) contents
+      → IsSource (source_text job contents) source → IsJobRefused job contents source line → ComesUnlessUnread 9 line job before now out_before out_now result
+
 -- 7: only where the sink's count of faults rose in this call, with a part taken of the text that was to be written; and wherever the count moved
 pub record SinkRow (ask : Option Job) (before now : FilesAt) (out_before out_now : SinkAt) (result : ℕ) : Type 0 where
   pub only : result ≡ 7 → HasRisen out_before.faults out_now.faults
@@ -142,8 +133,10 @@ pub record FilesRow (ask : Option Job) (before now : FilesAt) : Type 0 where
   pub sound : now.sound ≡ before.sound
   pub grew : FailedGrew ask before now
 
--- Over sound files that hold what the job reads, with a source in it, and a sink that doesn't fail, the whole text of the mode is written with its status, unless memory is wanted.
+-- Over sound files that hold what the job reads, with a source in it, and a sink that doesn't fail, the whole text of the mode is written with its status, unless memory is wanted. The status is that of the meaning; of a journal that is refused it is 9.
 abbrev pub IsComplete : Option Job → FilesAt → SinkAt → SinkAt → ℕ → Type 0
 IsComplete ask before out_before out_now result = (job : Job) (contents : List (List ℕ)) (source : Source) → ask ≡ Some job → IsTrue before.sound
     → HoldsAll before.held (reads_of job) contents → (is : IsSource (source_text job contents) source) → (HasRisen out_before.faults out_now.faults → ⊥)
-    → ((answer : Answer) × AnswersProgram (deed_of job) is.program (execution job contents source) answer × Came answer.status answer.text out_before out_now result) ⊎ (result ≡ 8)
+    → ((answer : Answer) × AnswersProgram (deed_of job contents) is.program (execution job contents source) answer
+    × ((x : Execution) → IsExecution job contents source x → answer.status ≡ status_by (deed_of job contents) x) × Came answer.status answer.text out_before out_now result)
+    ⊎ (result ≡ 8)

@@ -4,15 +4,13 @@ ghost use Rattle.shim_command.specs.Jobs.{job, texts_of};
 ghost use Rattle.shim_tool.specs.Moments.{files_at, sink_at, KeepsFiles};
 ghost use Rattle.shim_tool.specs.Answer as answers;
 ghost use Rattle.shim_tool.specs.Call.{Ran, Writes};
-ghost use Rattle.shim_tool.specs.RunEnds.{IsDone, IsFailed, IsBlocked};
-ghost use Rattle.shim_tool.specs.Rows.{EndRow, SpentRow, CountRow, BeginningRow, WordsRow, RefusedRow, FileRow, SinkRow, MemoryRow, FilesRow, IsComplete};
-ghost use Rattle.shim_tool.specs.AnswerView.{code_of};
-ghost use Rattle.shim_tool.specs.Views.{answer_view};
+ghost use Rattle.shim_answers.specs.RunEnds.{IsDone, IsFailed, IsBlocked};
+ghost use Rattle.shim_tool.specs.Rows.{EndRow, SpentRow, CountRow, BeginningRow, WordsRow, RefusedRow, FileRow, SinkRow, MemoryRow, JournalRow, FilesRow, IsComplete};
+ghost use Rattle.shim_answers.specs.AnswerView.{code_of};
+ghost use Rattle.shim_answers.specs.Views.{answer_view};
 
-use crate::answer::Answer;
-use crate::execute::answer_run;
 use crate::prepared::{Prepared, prepare};
-use crate::status::ExitStatus;
+use shim_answers::{Answer, ExitStatus, answer_record, answer_run};
 use shim_base::NoMemory;
 use shim_edge::{Files, Sink, write_all};
 use shim_workers::Gate;
@@ -37,6 +35,7 @@ fn answer<F: Files, G: Gate, R: Threads + Wait + Sync>(
     match prepare(alloc, words, files)? {
         Prepared::Answered(answer) => Ok(answer),
         Prepared::ToRun(run) => answer_run(rt, alloc, run, gate),
+        Prepared::ToRecord(run) => answer_record(rt, alloc, run, gate),
     }
 }
 
@@ -85,7 +84,10 @@ fn run_tool<F: Files, K: Sink, G: Gate, R: Threads + Wait + Sync>(
 /// The processes of a run do their work piece by piece, each piece behind the gate, on at most as many
 /// threads as the words ask for. Whatever their number and the order of events, the run ends as its meaning
 /// does, with the text of that, where the meaning ends within the budget. Else it is stopped at a tree to
-/// which some run of just the budget's events leads, and that is told.
+/// which some run of just the budget's events leads, and that is told. Where the journal of the run is told
+/// in place of the report, it is that of a run to such a tree, and its own report is what a replay of it
+/// tells: a journal is replayed exactly where it is a run of the source, within the journal's own budget,
+/// that ends at rest or with the budget spent.
 ///
 /// Answers the status that the program ends with. Want of memory may come in place of any status but
 /// 7, and a failed write, which is 7, in place of any.
@@ -121,7 +123,8 @@ pub fn shim<F: Files, K: Sink, G: Gate, R: Threads + Wait + Sync>(
         (files_at F.held F.sound F.failed files.new) (sink_at K.taken K.faults out.old)
         (sink_at K.taken K.faults out.new) result }
     // 4: exactly where something can still happen in the meaning after the budget's events. `ref` tells the
-    // meaning itself, and `run` and `gen` a tree that some run of just the budget's events reaches.
+    // meaning itself, and `run` and `gen` a tree that some run of just the budget's events reaches; `trace`
+    // tells the journal of a run to such a tree, and `replay` the tree to which its journal leads.
     ensures spent { SpentRow (job (texts_of words.now)) (files_at F.held F.sound F.failed files.old)
         (files_at F.held F.sound F.failed files.new) (sink_at K.taken K.faults out.old)
         (sink_at K.taken K.faults out.new) result }
@@ -136,7 +139,7 @@ pub fn shim<F: Files, K: Sink, G: Gate, R: Threads + Wait + Sync>(
     ensures refused { RefusedRow (job (texts_of words.now)) (files_at F.held F.sound F.failed files.old)
         (files_at F.held F.sound F.failed files.new) (sink_at K.taken K.faults out.old)
         (sink_at K.taken K.faults out.new) result }
-    // 6: a read of the file or of the input failed, or one of them is too long.
+    // 6: a read of the file, of the input or of the journal failed, or one of them is too long.
     ensures file { FileRow (job (texts_of words.now)) (files_at F.held F.sound F.failed files.old)
         (files_at F.held F.sound F.failed files.new) (sink_at K.taken K.faults out.old)
         (sink_at K.taken K.faults out.new) result }
@@ -146,6 +149,10 @@ pub fn shim<F: Files, K: Sink, G: Gate, R: Threads + Wait + Sync>(
         (sink_at K.taken K.faults out.new) result }
     // 8: want of memory.
     ensures memory { MemoryRow (sink_at K.taken K.faults out.old) (sink_at K.taken K.faults out.new) result }
+    // 9: exactly where the journal of a source that is accepted is refused, with the line of the cause.
+    ensures journal { JournalRow (job (texts_of words.now)) (files_at F.held F.sound F.failed files.old)
+        (files_at F.held F.sound F.failed files.new) (sink_at K.taken K.faults out.old)
+        (sink_at K.taken K.faults out.new) result }
     // The files stay, and no name but one that was asked for is added to the failed ones.
     ensures files { FilesRow (job (texts_of words.now)) (files_at F.held F.sound F.failed files.old)
         (files_at F.held F.sound F.failed files.new) }

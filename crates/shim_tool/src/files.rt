@@ -17,6 +17,9 @@ const SOURCE_LIMIT: usize = 1048576;
 /// The most bytes that an input has.
 const INPUT_LIMIT: usize = 16777216;
 
+/// The most bytes that a journal has.
+const JOURNAL_LIMIT: usize = 67108864;
+
 /// A file that is read, and the most bytes that it may have.
 #[derive(Clone, Copy, Drop)]
 pub(crate) struct FileToRead<'a> {
@@ -87,6 +90,19 @@ fn list_input<'a>(files: &mut List<FileToRead<'a>>, job: &'a Job) -> Result<(), 
     }
 }
 
+// Lists the file of a job's journal, if one is named.
+fn list_journal<'a>(files: &mut List<FileToRead<'a>>, job: &'a Job) -> Result<(), NoMemory>
+    ensures { OnOk result (map reading_view files.new ≡ map reading_view files.old ++ modes.journal_readings job.now.journal) }
+{
+    match &job.journal {
+        Some(name) => files.push(FileToRead {
+            name: name.as_slice(),
+            limit: JOURNAL_LIMIT,
+        }),
+        None => Ok(()),
+    }
+}
+
 // Lists what a job reads beside its source.
 fn list_beside<'a>(
     files: &mut List<FileToRead<'a>>,
@@ -98,6 +114,10 @@ fn list_beside<'a>(
     match beside {
         Extra::Nothing => Ok(()),
         Extra::Input => list_input(files, job),
+        Extra::InputAndJournal => {
+            list_input(files, job)?;
+            list_journal(files, job)
+        }
     }
 }
 
@@ -164,12 +184,31 @@ pub(crate) fn read_files<'a, F: Files>(
     read_all(alloc, to_read.as_slice(), files)
 }
 
-/// The first two of the contents that were read; what isn't there is empty.
-pub(crate) fn first_two(alloc: Global, contents: List<List<u8>>) -> (List<u8>, List<u8>)
-    ensures { result ≡ (modes.first contents, modes.second contents) }
+/// What the files of a job had. What wasn't there to be read is as an empty file.
+#[derive(Drop)]
+pub(crate) struct Contents {
+    pub(crate) source: List<u8>,
+    pub(crate) input: List<u8>,
+    pub(crate) journal: List<u8>,
+}
+
+/// The contents that were read for a job, by what they are: its source comes first, then its input, where
+/// one is named, and then its journal.
+pub(crate) fn contents_of(alloc: Global, job: &Job, contents: List<List<u8>>) -> Contents
+    ensures source { result.source ≡ modes.first contents }
+    ensures input { result.input ≡ modes.input_in job.now contents }
+    ensures journal { result.journal ≡ modes.journal_in job.now contents }
 {
     let mut contents = contents.into_vec().into_iter();
-    let first = contents.next().unwrap_or(List::new(alloc));
-    let second = contents.next().unwrap_or(List::new(alloc));
-    (first, second)
+    let source = contents.next().unwrap_or(List::new(alloc));
+    let input = match job.input {
+        Some(_) => contents.next().unwrap_or(List::new(alloc)),
+        None => List::new(alloc),
+    };
+    let journal = contents.next().unwrap_or(List::new(alloc));
+    Contents {
+        source,
+        input,
+        journal,
+    }
 }

@@ -6,39 +6,31 @@ ghost use Rattle.shim_tool.specs.Moments.{files_at, KeepsFiles};
 ghost use Rattle.shim_command.specs.Modes.{row_of};
 ghost use Rattle.shim_command.specs.declared.mode.Origin.TheVariants as origins;
 ghost use Rattle.shim_command.specs.declared.mode.Task.TheVariants as tasks;
-ghost use Rattle.shim_tool.specs.Modes.{first, made_text, reads_of, text_from};
+ghost use Rattle.shim_tool.specs.Modes.{first, journal_in, made_text, reads_of, text_from};
 ghost use Rattle.shim_tool.specs.Reads.{GrewByOneOf, all};
 ghost use Rattle.shim_tool.specs.Answer.{FailedGrew};
 ghost use Rattle.shim_tool.specs.Prepared as prepares;
 ghost use Rattle.shim_tool.specs.PreparedView.{prepared_view};
 
-use crate::answer::{Answer, file_failed, file_too_long, refused, usage};
-use crate::execute::{answer_meaning, answer_telling};
-use crate::explain::answer_reasons;
-use crate::files::{FilesRead, first_two, read_files};
+use crate::files::{Contents, FilesRead, contents_of, read_files};
+use crate::lines::{file_failed, file_too_long, usage};
+use shim_answers::{
+    Answer, PreparedRun, RunToRecord, answer_meaning, answer_reasons, answer_replay,
+    answer_telling, refused,
+};
 use shim_base::{List, NoMemory};
 use shim_command::{Course, Job, Kind, Origin, Showing, Task, WordsFault, read_words};
 use shim_edge::Files;
 use shim_front_end::read_source;
 use shim_generator::generate;
-use shim_sharing::Accepted;
 use std::alloc::Global;
-
-/// A run that workers are to do: of an accepted source that reads these bytes, for a job.
-#[derive(Drop)]
-pub struct PreparedRun {
-    pub job: Job,
-    /// What is told of how the run ended.
-    pub showing: Showing,
-    pub source: Accepted,
-    pub input: List<u8>,
-}
 
 /// What a call comes to before any thread is wanted.
 #[derive(Drop)]
 pub enum Prepared {
     Answered(Answer),
     ToRun(PreparedRun),
+    ToRecord(RunToRecord),
 }
 
 // Keeps the source in a text to be run by workers.
@@ -63,6 +55,22 @@ fn leave_to_workers(
     }
 }
 
+// Keeps the source in a text to be run by workers and recorded.
+fn leave_to_record(
+    alloc: Global,
+    job: Job,
+    bytes: &[u8],
+    input: List<u8>,
+) -> Result<Prepared, NoMemory>
+    requires short { length bytes.now ≤ 1048576 }
+    ensures { IfOk result (λ p. prepares.LeavesToRecord job input bytes.now (prepared_view p)) }
+{
+    match read_source(alloc, bytes) {
+        Ok(source) => Ok(Prepared::ToRecord(RunToRecord { job, source, input })),
+        Err(fault) => Ok(Prepared::Answered(refused(alloc, fault)?)),
+    }
+}
+
 // Tells what the source in a text means, or leaves its run to workers, as the course asks.
 fn prepare_run(
     alloc: Global,
@@ -75,7 +83,7 @@ fn prepare_run(
     requires short { length bytes.now ≤ 1048576 }
     requires within { IsWithin job }
     requires runs { (row_of job.mode).task ≡ tasks.Runs course showing }
-    ensures { IfOk result (λ p. prepares.PreparesSource job input bytes.now (prepared_view p)) }
+    ensures { IfOk result (λ p. prepares.PreparesRun job input bytes.now (prepared_view p)) }
 {
     match course {
         Course::ByFirstEvents => Ok(Prepared::Answered(answer_meaning(
@@ -91,14 +99,18 @@ fn prepare_source(
     job: Job,
     bytes: &[u8],
     input: List<u8>,
+    journal: &[u8],
 ) -> Result<Prepared, NoMemory>
     requires short { length bytes.now ≤ 1048576 }
+    requires few { length journal.now ≤ 67108864 }
     requires within { IsWithin job }
-    ensures { IfOk result (λ p. prepares.PreparesSource job input bytes.now (prepared_view p)) }
+    ensures { IfOk result (λ p. prepares.PreparesSource job input journal.now bytes.now (prepared_view p)) }
 {
     match job.mode.row().task {
         Task::Tells(telling) => Ok(Prepared::Answered(answer_telling(alloc, telling, bytes)?)),
         Task::Runs(course, showing) => prepare_run(alloc, job, course, showing, bytes, input),
+        Task::Records => leave_to_record(alloc, job, bytes, input),
+        Task::Replays => Ok(Prepared::Answered(answer_replay(alloc, bytes, input, journal)?)),
         Task::Explains => Ok(Prepared::Answered(answer_reasons(alloc, &job, bytes, input)?)),
     }
 }
@@ -130,11 +142,16 @@ fn source_of(alloc: Global, job: &Job, first: List<u8>) -> Result<List<u8>, NoMe
 fn prepare_contents(alloc: Global, job: Job, contents: List<List<u8>>) -> Result<Prepared, NoMemory>
     requires within { IsWithin job }
     requires short { (row_of job.mode).origin ≡ origins.Stored → length (first contents) ≤ 1048576 }
+    requires few { length (journal_in job contents) ≤ 67108864 }
     ensures { IfOk result (λ p. prepares.PreparesSaw job (all contents) (prepared_view p)) }
 {
-    let (first, input) = first_two(alloc, contents);
-    let text = source_of(alloc, &job, first)?;
-    prepare_source(alloc, job, text.as_slice(), input)
+    let Contents {
+        source,
+        input,
+        journal,
+    } = contents_of(alloc, &job, contents);
+    let text = source_of(alloc, &job, source)?;
+    prepare_source(alloc, job, text.as_slice(), input, journal.as_slice())
 }
 
 // Reads the files of a job, and goes on with them.
@@ -160,7 +177,7 @@ fn prepare_job<F: Files>(alloc: Global, job: Job, files: &mut F) -> Result<Prepa
 /// a source that workers don't run. It starts no thread, waits for nothing, and returns.
 ///
 /// A run is left to be done exactly where the mode has its sources run by workers and the text is a
-/// source, which is left with its input. "Exactly where" is said of told files, within their limits; of other
+/// source, which is left with its input; and so is one that is to be recorded. "Exactly where" is said of told files, within their limits; of other
 /// files, that there is such a source. A read that failed may come in place of both, and so may want of
 /// memory, which is `Err`.
 pub fn prepare<F: Files>(
@@ -171,6 +188,8 @@ pub fn prepare<F: Files>(
     ensures prepared { IfOk result (λ p. prepares.Prepares (job (texts_of words.now)) (files_at F.held F.sound F.failed files.old)
         (files_at F.held F.sound F.failed files.new) (prepared_view p)) }
     ensures run { IfOk result (λ p. prepares.RunRow (job (texts_of words.now)) (files_at F.held F.sound F.failed files.old)
+        (files_at F.held F.sound F.failed files.new) (prepared_view p)) }
+    ensures recorded { IfOk result (λ p. prepares.RecordRow (job (texts_of words.now)) (files_at F.held F.sound F.failed files.old)
         (files_at F.held F.sound F.failed files.new) (prepared_view p)) }
     ensures within { IfOk result (λ p. prepares.IsPreparedWithin (prepared_view p)) }
     ensures grew { FailedGrew (job (texts_of words.now)) (files_at F.held F.sound F.failed files.old)

@@ -17,13 +17,15 @@ returns c =
     let budget : rule_of c.number-2.result ≡ number (codes "budget") 1 4000000 = search rules in
     let quantum : rule_of c.number-3.result ≡ number (codes "quantum") 1 10000 = search rules in
     let size : rule_of c.number-4.result ≡ number (codes "size") 1 100000 = search rules in
+    let journal : rule_of c.option-2.result ≡ option (codes "journal") = search rules in
     let plain : app_of c.disable_help_flag-plain.result ≡ without_help (new_app (codes "shim")) =
     ap app_of_fields c.disable_help_flag-plain.ensures ∙ ap without_help c.new.ensures.app in
     c.in_ok-command.ensures.shape (search rules) ∙ ap₂ with_rule
+    (c.in_ok-arg-7.ensures.shape (search rules) ∙ ap₂ with_rule
     (c.in_ok-arg-6.ensures.shape (search rules) ∙ ap₂ with_rule
     (c.in_ok-arg-5.ensures.shape (search rules) ∙ ap₂ with_rule
     (c.in_ok-arg-4.ensures.shape (search rules) ∙ ap₂ with_rule
     (c.in_ok-arg-3.ensures.shape (search rules) ∙ ap₂ with_rule
     (c.in_ok-arg-2.ensures.shape (search rules) ∙ ap₂ with_rule
     (c.in_ok-arg.ensures.shape (search rules) ∙ ap₂ with_rule plain mode)
-    file) input) workers) budget) quantum) size
+    file) input) workers) budget) quantum) size) journal

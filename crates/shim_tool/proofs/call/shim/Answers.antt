@@ -1,6 +1,6 @@
 use Rattle.std.proofs.Common.{arith}
-use Rattle.shim_tool.proofs.Causes.{tells_done, tells_failed, tells_blocked}
-use Rattle.shim_tool.proofs.RowLemmas.{end_row, spent_row, count_row, beginning_row, words_row, refused_row, file_row, sink_row, memory_row, files_row, complete}
+use Rattle.shim_answers.proofs.Causes.{tells_done, tells_failed, tells_blocked}
+use Rattle.shim_tool.proofs.RowLemmas.{end_row, spent_row, count_row, beginning_row, words_row, refused_row, file_row, sink_row, memory_row, journal_row, files_row, complete}
 use Rattle.shim_tool.proofs.call.shim.Goals as goal
 
 pub returns-clause-done : goal.returns-clause-done
@@ -35,6 +35,9 @@ returns-clause-sink g c = sink_row _ _ _ _ _ _ c.run_tool-status.ensures
 
 pub returns-clause-memory : goal.returns-clause-memory
 returns-clause-memory g c = memory_row _ _ _ _ _ _ c.run_tool-status.ensures
+
+pub returns-clause-journal : goal.returns-clause-journal
+returns-clause-journal g c = journal_row _ _ _ _ _ _ c.run_tool-status.ensures
 
 pub returns-clause-files : goal.returns-clause-files
 returns-clause-files g c = files_row _ _ _ _ _ _ c.run_tool-status.ensures

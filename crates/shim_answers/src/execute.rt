@@ -1,0 +1,266 @@
+// What is told of a source, run or not.
+ghost use Rattle.std.specs.Prelude.{◌≡◌, ◌≤◌, IfOk, length};
+ghost use Rattle.shim_command.specs.Jobs.{IsWithin};
+ghost use Rattle.shim_command.specs.declared.mode.Course.TheVariants as courses;
+ghost use Rattle.shim_command.specs.declared.mode.Telling.TheVariants as tellings;
+ghost use Rattle.shim_answers.specs.Answer.{AnswersMeaning, AnswersRecord, AnswersRun, AnswersTold};
+ghost use Rattle.shim_answers.specs.Deeds.{accepted_line, executed, functions_from, showing_of, shown_of, IsTextInVersion2};
+ghost use Rattle.shim_answers.specs.RunEnds.{IsEnd};
+ghost use Rattle.shim_answers.specs.Recorded.{IsEndedNet};
+ghost use Rattle.shim_answers.specs.Views.{answer_view};
+
+use crate::answer::{Answer, refused};
+use crate::runs::{PreparedRun, RunToRecord};
+use crate::status::ExitStatus;
+use shim_base::{List, NoMemory, Shared, push_decimal};
+use shim_code::{compile, listing};
+use shim_command::{Job, Showing, Telling};
+use shim_front_end::{read_program, read_source};
+use shim_net::Net;
+use shim_reference::{named, reference};
+use shim_replay::journal_text;
+use shim_report::{Ended, summary, text};
+use shim_sharing::Accepted;
+use shim_syntax::{Program, print};
+use shim_units::Unit;
+use shim_up::up;
+use shim_vm::Body;
+use shim_workers::{Gate, drive};
+use std::alloc::Global;
+use std::sync::Wait;
+use std::thread::Threads;
+
+// The net to which a run of a source's compiled code comes, whose processes do their work on at most as
+// many threads as the job has workers.
+fn run_code<G: Gate, R: Threads + Wait + Sync>(
+    rt: &R,
+    alloc: Global,
+    job: &Job,
+    source: &Accepted,
+    input: List<u8>,
+    gate: &G,
+) -> Result<Net<Body>, NoMemory>
+    requires within { IsWithin job.now }
+    ensures { IfOk result (IsEndedNet (executed job.now input source.now)) }
+{
+    let input = Shared::new(alloc, input)?;
+    let code = Shared::new(alloc, compile(alloc, source)?)?;
+    let main = Body::main(alloc, code, input)?;
+    let begun = Net::start(alloc, main, job.budget)?;
+    drive(rt, alloc, begun, job.workers as u32, job.quantum, gate)
+}
+
+// What such a run comes to.
+fn end_of_code<G: Gate, R: Threads + Wait + Sync>(
+    rt: &R,
+    alloc: Global,
+    job: &Job,
+    source: &Accepted,
+    input: List<u8>,
+    gate: &G,
+) -> Result<Ended, NoMemory>
+    requires within { IsWithin job.now }
+    ensures { IfOk result (IsEnd courses.InSomeOrder (executed job.now input source.now)) }
+{
+    let net = run_code(rt, alloc, job, source, input, gate)?;
+    Ok(named(net.ended()?, source.main_throws()))
+}
+
+// What the syntax of a source comes to, run by first events.
+fn end_of_syntax(
+    alloc: Global,
+    job: &Job,
+    source: &Shared<Accepted>,
+    input: List<u8>,
+) -> Result<Ended, NoMemory>
+    requires within { IsWithin job.now }
+    ensures { IfOk result (IsEnd courses.ByFirstEvents (executed job.now input source.now)) }
+{
+    let input = Shared::new(alloc, input)?;
+    reference(alloc, source.share()?, input, job.budget)
+}
+
+// What is told of a run of this source for a job.
+fn shown(
+    alloc: Global,
+    job: &Job,
+    showing: Showing,
+    source: &Accepted,
+    end: &Ended,
+) -> Result<List<u8>, NoMemory>
+    ensures { IfOk result (λ text. text ≡ showing_of showing job.now source.now end.now) }
+{
+    match showing {
+        Showing::Report => text(alloc, end, source.names()),
+        Showing::Summary => summary(alloc, job.file.as_slice(), job.size, end, source.names()),
+    }
+}
+
+/// Does a run that was left to be done, its processes on at most as many threads as the job has workers,
+/// and tells how it ended.
+pub fn answer_run<G: Gate, R: Threads + Wait + Sync>(
+    rt: &R,
+    alloc: Global,
+    run: PreparedRun,
+    gate: &G,
+) -> Result<Answer, NoMemory>
+    requires within { IsWithin run.job }
+    ensures { IfOk result (λ a. AnswersRun courses.InSomeOrder (shown_of run.showing run.job) (executed run.job run.input run.source) (answer_view a)) }
+{
+    let PreparedRun {
+        job,
+        showing,
+        source,
+        input,
+    } = run;
+    let end = end_of_code(rt, alloc, &job, &source, input, gate)?;
+    Ok(Answer {
+        status: ExitStatus::of(end.outcome),
+        text: shown(alloc, &job, showing, &source, &end)?,
+    })
+}
+
+/// Does a run whose journal is to be told, and tells that: the budget, and what was done in the net to
+/// which the run comes. The status tells how the run ended, as that of any run.
+pub fn answer_record<G: Gate, R: Threads + Wait + Sync>(
+    rt: &R,
+    alloc: Global,
+    run: RunToRecord,
+    gate: &G,
+) -> Result<Answer, NoMemory>
+    requires within { IsWithin run.job }
+    ensures { IfOk result (λ a. AnswersRecord (executed run.job run.input run.source) (answer_view a)) }
+{
+    let RunToRecord { job, source, input } = run;
+    let net = run_code(rt, alloc, &job, &source, input, gate)?;
+    let text = journal_text(alloc, job.budget, net.journal())?;
+    let end = named(net.ended()?, source.main_throws());
+    Ok(Answer {
+        status: ExitStatus::of(end.outcome),
+        text,
+    })
+}
+
+// Tells what a source means.
+fn answer_reference(
+    alloc: Global,
+    job: &Job,
+    showing: Showing,
+    source: Accepted,
+    input: List<u8>,
+) -> Result<Answer, NoMemory>
+    requires within { IsWithin job.now }
+    ensures { IfOk result (λ a. AnswersRun courses.ByFirstEvents (shown_of showing job.now) (executed job.now input source) (answer_view a)) }
+{
+    let source = Shared::new(alloc, source)?;
+    let end = end_of_syntax(alloc, job, &source, input)?;
+    Ok(Answer {
+        status: ExitStatus::of(end.outcome),
+        text: shown(alloc, job, showing, &source, &end)?,
+    })
+}
+
+/// Tells what the source in a text means.
+pub fn answer_meaning(
+    alloc: Global,
+    job: &Job,
+    showing: Showing,
+    bytes: &[u8],
+    input: List<u8>,
+) -> Result<Answer, NoMemory>
+    requires short { length bytes.now ≤ 1048576 }
+    requires within { IsWithin job.now }
+    ensures { IfOk result (λ a. AnswersMeaning (shown_of showing job.now) job.now input bytes.now (answer_view a)) }
+{
+    match read_source(alloc, bytes) {
+        Ok(source) => answer_reference(alloc, job, showing, source, input),
+        Err(fault) => refused(alloc, fault),
+    }
+}
+
+// How many units are those of functions. Those that were lifted out of functions stand behind them.
+fn function_count(units: &[Unit]) -> usize
+    ensures { result ≡ functions_from 0 units.now }
+{
+    for (number, unit) in units.iter().enumerate() {
+        if unit.function as usize != number {
+            return number;
+        }
+    }
+    units.len()
+}
+
+// The line that tells how many functions a source has.
+#[tactic(auto, unfolding(crate::specs::Deeds::accepted_line))]
+fn count_line(alloc: Global, source: &Accepted) -> Result<List<u8>, NoMemory>
+    ensures { IfOk result (λ text. text ≡ accepted_line source.now) }
+{
+    let mut text = List::new(alloc);
+    text.extend_from_slice(b"accepted ")?;
+    push_decimal(&mut text, function_count(source.units()) as u64)?;
+    text.extend_from_slice(b"\n")?;
+    Ok(text)
+}
+
+// The canonical text of what a program is in version 2.
+fn text_in_version_2(alloc: Global, program: &Program) -> Result<List<u8>, NoMemory>
+    ensures { IfOk result (λ text. IsTextInVersion2 program.now text) }
+{
+    let newer = up(alloc, program)?;
+    print(alloc, &newer)
+}
+
+// The answer with what is told of a source.
+fn told(text: List<u8>) -> Answer
+    ensures { answer_view result ≡ record { status = 0; text = text } }
+{
+    Answer {
+        status: ExitStatus::Done,
+        text,
+    }
+}
+
+// Tells that the source in a text is accepted.
+fn answer_check(alloc: Global, bytes: &[u8]) -> Result<Answer, NoMemory>
+    requires short { length bytes.now ≤ 1048576 }
+    ensures { IfOk result (λ a. AnswersTold tellings.Functions bytes.now (answer_view a)) }
+{
+    match read_source(alloc, bytes) {
+        Ok(source) => Ok(told(count_line(alloc, &source)?)),
+        Err(fault) => refused(alloc, fault),
+    }
+}
+
+// Tells the code of the source in a text.
+fn answer_code(alloc: Global, bytes: &[u8]) -> Result<Answer, NoMemory>
+    requires short { length bytes.now ≤ 1048576 }
+    ensures { IfOk result (λ a. AnswersTold tellings.Instructions bytes.now (answer_view a)) }
+{
+    match read_source(alloc, bytes) {
+        Ok(source) => Ok(told(listing(alloc, &source)?)),
+        Err(fault) => refused(alloc, fault),
+    }
+}
+
+// Tells what the program of a text is in version 2.
+fn answer_up(alloc: Global, bytes: &[u8]) -> Result<Answer, NoMemory>
+    requires short { length bytes.now ≤ 1048576 }
+    ensures { IfOk result (λ a. AnswersTold tellings.Version2 bytes.now (answer_view a)) }
+{
+    match read_program(alloc, bytes) {
+        Ok(program) => Ok(told(text_in_version_2(alloc, &program)?)),
+        Err(fault) => refused(alloc, fault),
+    }
+}
+
+/// Tells something of the source in a text, which isn't run.
+pub fn answer_telling(alloc: Global, telling: Telling, bytes: &[u8]) -> Result<Answer, NoMemory>
+    requires short { length bytes.now ≤ 1048576 }
+    ensures { IfOk result (λ a. AnswersTold telling bytes.now (answer_view a)) }
+{
+    match telling {
+        Telling::Functions => answer_check(alloc, bytes),
+        Telling::Instructions => answer_code(alloc, bytes),
+        Telling::Version2 => answer_up(alloc, bytes),
+    }
+}

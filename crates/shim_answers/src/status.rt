@@ -1,0 +1,54 @@
+// The statuses that the program ends with.
+ghost use Rattle.std.specs.Prelude.{◌≡◌};
+ghost use Rattle.shim_answers.specs.AnswerView.{code_of};
+ghost use Rattle.shim_answers.specs.RunEnds.{status_of_outcome};
+
+use shim_local::Outcome;
+
+/// How a call ended, which is what the program tells by its status.
+#[derive(Clone, Copy, Debug, PartialEq, Eq)]
+pub enum ExitStatus {
+    Done,
+    /// The run ended by an exception that nobody caught, or by a trap.
+    Failed,
+    Usage,
+    Blocked,
+    Spent,
+    Refused,
+    FileFault,
+    SinkFault,
+    NoMemory,
+    JournalFault,
+}
+
+impl ExitStatus {
+    /// The status that tells how a run ended.
+    pub fn of(outcome: Outcome) -> ExitStatus
+        ensures { code_of result ≡ status_of_outcome outcome }
+    {
+        match outcome {
+            Outcome::Done => ExitStatus::Done,
+            Outcome::Uncaught(_) | Outcome::Trapped => ExitStatus::Failed,
+            Outcome::Blocked => ExitStatus::Blocked,
+            Outcome::Spent => ExitStatus::Spent,
+        }
+    }
+
+    /// The number that the program ends with.
+    pub fn code(self) -> u8
+        ensures { result ≡ code_of self }
+    {
+        match self {
+            ExitStatus::Done => 0,
+            ExitStatus::Failed => 1,
+            ExitStatus::Usage => 2,
+            ExitStatus::Blocked => 3,
+            ExitStatus::Spent => 4,
+            ExitStatus::Refused => 5,
+            ExitStatus::FileFault => 6,
+            ExitStatus::SinkFault => 7,
+            ExitStatus::NoMemory => 8,
+            ExitStatus::JournalFault => 9,
+        }
+    }
+}

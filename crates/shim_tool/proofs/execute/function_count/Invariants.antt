@@ -1,6 +1,0 @@
-use Rattle.std.proofs.Common.{◌≡◌, drop}
-use Rattle.shim_tool.specs.Modes.{functions_from}
-use Rattle.shim_tool.proofs.execute.function_count.Given as goal
-
-abbrev pub invariant-loop-number : goal.invariant-loop-number
-invariant-loop-number l = functions_from l.number (drop l.number l.units) ≡ functions_from 0 l.units
