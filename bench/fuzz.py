@@ -4,15 +4,19 @@
 The texts are those of crates/shim_conformance and of examples/, and programs of bench/made.py: their bytes flipped, their
 tokens swapped, doubled, deleted, exchanged or nested deeper, their statements moved, their numbers put to limits, the header
 of version 2 put before them or taken off. Each is checked, listed, written in version 2, run by some number of workers
-and pieces, run by `ref`, and explained by `why`, with a limit of time and of memory, and
+and pieces, run by `ref`, explained by `why`, and recorded by `trace`; the journal is replayed, and so is one that was changed at random.
+All that with a limit of time and of memory, and
 
-- each call ends by itself with a status from 0 to 8, its text is of the form that docs/FORMATS.md has for that status and
+- each call ends by itself with a status from 0 to 9, its text is of the form that docs/FORMATS.md has for that status and
   mode, and nothing comes on standard error;
 - where the text is refused, the line is that of bench/grammar.py, or one of a text that is a program, the same in every
   mode; `check` counts the functions as bench/grammar.py does, and `up` writes the text of bench/canonical.py;
 - `run` and `ref` have the same status, and the same text but where the budget stopped them; then the counts add up to it;
 - `why` writes what `ref` does, and where that is blocked behind it one reason for each wait, in its order, with the channel at
-  which the process waits for which it waits; the cycle follows the reasons, from its least path on.
+  which the process waits for which it waits; the cycle follows the reasons, from its least path on;
+- a journal has the budget of its run, and its steps add up to what it says; no `own` is a quiet step; its replay has the status
+  of its run and, but where the budget stopped that, its text. A changed journal is malformed just at the line at which a
+  reader of journals in this script says so.
 
 The same numbers make the same texts and words. Prints how many calls had each status, the longest time and the most
 memory. Keeps what differs in the folder `found`, says its words, and ends with 1.
@@ -356,6 +360,42 @@ class Job:
         for _ in range(2):
             workers, quantum = dice.choice([1, 2, 3, 4, 16]), dice.choice([1, 2, 7, 64, 10000])
             self.calls.append(["run", "p"] + fed + ["--workers", str(workers), "--quantum", str(quantum)])
+        workers, quantum = dice.choice([1, 2, 3, 4, 16]), dice.choice([1, 2, 7, 64, 10000])
+        self.calls.append(["trace", "p"] + fed + ["--workers", str(workers), "--quantum", str(quantum)])
+        self.calls.append(["replay", "p", "--input", "i", "--journal", "j"])
+        self.calls.append(["replay", "p", "--input", "i", "--journal", "k"])
+        self.dice = dice
+
+    def changed(self, journal):
+        """The journal with one thing changed."""
+        dice, lines = self.dice, journal.split(b"\n")
+        at = dice.randrange(len(lines))
+        kind = dice.randrange(9)
+        if kind == 0:
+            return journal[:dice.randrange(len(journal) + 1)]
+        if kind == 1:
+            del lines[at]
+        elif kind == 2:
+            lines.insert(at, lines[at])
+        elif kind == 3:
+            other = dice.randrange(len(lines))
+            lines[at], lines[other] = lines[other], lines[at]
+        elif kind == 4:
+            lines.insert(at, dice.choice([b"own main", b"end main", b"close main", b"quiet main 1", b"meet main#0", b"poison main main#0", b"stop 1", b"journal 9", b""]))
+        elif kind == 5:
+            numbers = dice.choice([b"0", b"1", b"01", b"2", b"4000000", b"4000001", b"4294967295", b"4294967296", b"18446744073709551616", b"9" * 10000, b"-1", b"+1", b""])
+            found = list(re.finditer(rb"\d+", lines[at]))
+            if found:
+                one = dice.choice(found)
+                lines[at] = lines[at][:one.start()] + numbers + lines[at][one.end():]
+        elif kind == 6:
+            place = dice.randrange(len(lines[at]) + 1)
+            lines[at] = lines[at][:place] + dice.choice([b" ", b"\t", b"\x00", b"\r", b"\xff", b"/", b"#", b"."]) + lines[at][place:]
+        elif kind == 7:
+            lines[0] = b"journal %d" % dice.choice([1, 2, 3, 10, 100, 4000000])
+        else:
+            lines[-1] = dice.choice([b"x", b"stop 1", b" "])
+        return b"\n".join(lines)
 
 
 Answer = collections.namedtuple("Answer", "words status text error seconds memory")
@@ -442,13 +482,71 @@ def wrong_reasons(waits, reasons):
     return None
 
 
+PLACE = re.compile(rb"main((?:/(?:0|[1-9]\d*)\.(?:0|[1-9]\d*))*)(?:#(0|[1-9]\d*))?")
+ENTRY = re.compile(rb"(?:quiet (\S+) ([1-9]\d*)|(own|end|close) (\S+)|meet (\S+)|poison (\S+) (\S+))")
+
+
+def is_place(text, is_channel):
+    """Whether this is a path, or a channel."""
+    found = PLACE.fullmatch(text)
+    if not found or (found[2] is not None) != is_channel:
+        return False
+    return all(int(number) < 1 << 32 for number in re.findall(rb"\d+", text))
+
+
+def steps_of(line):
+    """How many steps the line of an entry has, or None where it is none."""
+    found = ENTRY.fullmatch(line)
+    if not found:
+        return None
+    if found[1] is not None:
+        return int(found[2]) if len(found[2]) < 8 and int(found[2]) <= 4000000 and is_place(found[1], False) else None
+    if found[3]:
+        return 1 if is_place(found[4], False) else None
+    if found[5]:
+        return 1 if is_place(found[5], True) else None
+    return 1 if is_place(found[6], False) and is_place(found[7], True) else None
+
+
+def malformed(journal):
+    """The first line that no journal has behind the lines before it, or None."""
+    lines = journal.split(b"\n")
+    tail, steps = lines.pop(), 0
+    for number, line in enumerate(lines, 1):
+        if number == 1:
+            found = re.fullmatch(rb"journal ([1-9]\d{0,6})", line)
+            if not found or int(found[1]) > 4000000:
+                return 1
+        elif line.startswith(b"stop "):
+            if line != b"stop %d" % steps:
+                return number
+            return None if number == len(lines) and tail == b"" else number + 1
+        else:
+            more = steps_of(line)
+            if more is None:
+                return number
+            steps += more
+    return len(lines) + 1
+
+
+def wrong_journal(text, status, budget):
+    """What is wrong with the journal that `trace` wrote, or None."""
+    if malformed(text):
+        return "a journal that is malformed in line %d" % malformed(text)
+    lines = text.split(b"\n")
+    if lines[0] != b"journal %d" % budget:
+        return "a journal of another budget"
+    steps = int(lines[-2].split()[1])
+    return "a journal of %d steps" % steps if steps > budget or (status == 4) != (steps == budget) and status == 4 else None
+
+
 def wrong_form(answer, budget):
     """What is wrong with an answer by itself, or None."""
     mode, status = answer.words[0], answer.status
     if answer.error:
         return "something on standard error"
-    if not 0 <= status <= 8:
-        return "no status from 0 to 8"
+    if not 0 <= status <= 9:
+        return "no status from 0 to 9"
     try:
         text = answer.text.decode("ascii")
     except UnicodeDecodeError:
@@ -459,8 +557,12 @@ def wrong_form(answer, budget):
         return None if text == "file too long p 1048576\n" else "another text than of a file that is too long"
     if status == 5:
         return None if OF_TEXT.fullmatch(text) or OF_PROGRAM.fullmatch(text) else "no refusal"
+    if status == 9 and mode == "replay":
+        return None if re.fullmatch(r"journal [1-9]\d* (?:malformed|over budget|not enabled|unfinished)\n", text) else "no fault of a journal"
     if status in (2, 7, 9):
         return "a status that nothing gave cause for"
+    if mode == "trace":
+        return wrong_journal(answer.text, status, budget)
     if mode == "check":
         return None if status == 0 and re.fullmatch(r"accepted \d+\n", text) else "no count of functions"
     if mode == "code":
@@ -479,6 +581,7 @@ def wrong_form(answer, budget):
         return "waits and a run that isn't blocked, or none"
     if (report["counts"] != "") != (status == 4):
         return "counts and a run that isn't spent, or none"
+    budget = int(report["steps"]) if mode == "replay" and status == 4 else 4000000 if mode == "replay" else budget
     if int(report["steps"]) > budget:
         return "more steps than the budget has"
     if status == 4:
@@ -524,6 +627,17 @@ def wrong(job, answers):
         is_why = answer.words[0] == "why"
         if is_why and not answer.text.startswith(runs[0].text) or not is_why and answer.status != 4 and answer.text != runs[0].text:
             return "another text than that of " + runs[0].words[0], answer
+    trace, replay, changed = answers[-3:]
+    if runs and not any(answer.status == 8 for answer in (trace, replay)):
+        if trace.status != runs[0].status or replay.status != trace.status:
+            return "another status than that of %s, %d" % (runs[0].words[0], runs[0].status), replay if trace.status == runs[0].status else trace
+        if replay.status != 4 and replay.text != runs[0].text:
+            return "another text than that of " + runs[0].words[0], replay
+        line = malformed(job.other)
+        if changed.status != 8 and (line is not None) != changed.text.endswith(b" malformed\n") or line and changed.status != 8 and changed.text != b"journal %d malformed\n" % line:
+            return "another line than that of this script, %s" % line, changed
+        if changed.status in (0, 1, 3) and changed.text != runs[0].text and runs[0].status != 4:
+            return "another text than that of " + runs[0].words[0], changed
     return None
 
 
@@ -532,7 +646,17 @@ def do(number):
     for name, content in (("p", job.text), ("i", job.input)):
         with open(name, "wb") as file:
             file.write(content)
-    answers = [ask(words) for words in job.calls]
+    job.other, answers = b"", []
+    for name in ("j", "k"):
+        with open(name, "wb"):
+            pass
+    for words in job.calls:
+        answers.append(ask(words))
+        if words[0] == "trace" and answers[-1].status in (0, 1, 3, 4):
+            job.other = job.changed(answers[-1].text)
+            for name, content in (("j", answers[-1].text), ("k", job.other)):
+                with open(name, "wb") as file:
+                    file.write(content)
     found = wrong(job, answers)
     seen = [(answer.words[0], answer.status, answer.seconds, answer.memory) for answer in answers]
     return number, len(job.text), seen, (found and (found[0], found[1].words, found[1].status, found[1].text[:300], found[1].error[:300]))
@@ -584,7 +708,7 @@ def main():
     calls = sum(counts.values())
     print("%d texts of seed %d from number %d, %d bytes on the average; %d calls in %.0f s"
           % (given.texts, given.seed, given.first, lengths / max(1, given.texts), calls, time.monotonic() - begin))
-    for mode in ("check", "code", "up", "ref", "why", "run"):
+    for mode in ("check", "code", "up", "ref", "why", "run", "trace", "replay"):
         statuses = ", ".join("%d with status %d" % (counts[key], key[1]) for key in sorted(counts) if key[0] == mode)
         print("%s: %s; longest %.2f s (text %d), most memory %.1f MiB (text %d)"
               % (mode, statuses, *longest[mode], most[mode][0] / 1024, most[mode][1]))

@@ -1,0 +1,61 @@
+# Completion of shim, shim-see and shim-draw for fish.
+# The modes `trace` and `replay` are offered where the program has them, which its usage line tells.
+
+function __shim_has_journals
+    string match -q -- '*--journal*' (command shim 2>/dev/null </dev/null)
+end
+
+# How many words stand there that are no options: the tool itself counts.
+function __shim_plain
+    set -l count 0
+    set -l skip 0
+    for word in (commandline -opc)
+        if test $skip = 1
+            set skip 0
+        else if string match -qr -- '^--(raw|help|version)$|=' $word
+        else if string match -q -- '-*' $word
+            set skip 1
+        else
+            set count (math $count + 1)
+        end
+    end
+    test $count = $argv[1]
+end
+
+function __shim_seen
+    contains -- $argv[1] (commandline -opc)
+end
+
+for tool in shim shim-see shim-draw
+    complete -c $tool -f
+    complete -c $tool -n '__shim_plain 2; and not __shim_seen gen' -a '(__fish_complete_suffix .shim)'
+    complete -c $tool -l input -r -F -d 'the bytes that get takes'
+    complete -c $tool -l budget -x -a '1000 100000 1000000 4000000' -d 'steps at most'
+end
+for tool in shim shim-see
+    complete -c $tool -n '__shim_plain 1' -a run -d 'the report of a run'
+    complete -c $tool -n '__shim_plain 1' -a ref -d 'the report of what the program means'
+    complete -c $tool -n '__shim_plain 1' -a why -d 'the report, and who waits for whom'
+    complete -c $tool -n '__shim_plain 1' -a check -d 'whether anything is refused'
+    complete -c $tool -n '__shim_plain 1' -a code -d 'the instructions of a source'
+    complete -c $tool -n '__shim_plain 1' -a up -d 'the source in version 2'
+    complete -c $tool -n '__shim_plain 1' -a gen -d 'run a program that is made'
+    complete -c $tool -n '__shim_plain 1; and __shim_has_journals' -a trace -d 'the journal of a run'
+    complete -c $tool -n '__shim_plain 1; and __shim_has_journals' -a replay -d 'the run that a journal tells'
+    complete -c $tool -n '__shim_plain 2; and __shim_seen gen' -a 'pipe tree storm'
+    complete -c $tool -l workers -x -a '1 2 4 8 16' -d 'threads at most'
+    complete -c $tool -l quantum -x -a '1 64 10000' -d 'steps of a first piece'
+    complete -c $tool -l size -x -a '100 1000 10000 100000' -d 'the size of what gen makes'
+    complete -c $tool -n __shim_has_journals -l journal -r -F -d 'the journal of replay'
+end
+complete -c shim-see -l raw -d 'the bytes of shim alone'
+complete -c shim-see -l help -d 'say modes, options and statuses'
+complete -c shim-see -l version -d 'say which build this is'
+complete -c shim-draw -n '__shim_plain 1' -a run -d 'a sequence diagram'
+complete -c shim-draw -n '__shim_plain 1' -a why -d 'a graph of waits'
+complete -c shim-draw -l journal -r -F -d 'the run that this journal tells'
+complete -c shim-draw -l from -x -d 'the first step'
+complete -c shim-draw -l to -x -d 'the last step'
+complete -c shim-draw -l channels -x -d 'names with commas between'
+complete -c shim-draw -l output -r -F -d 'the picture'
+complete -c shim-draw -l help -d 'say the words'

@@ -1,0 +1,123 @@
+#!/usr/bin/env python3
+"""Holds the runs of tools/shimtools against the program's own cases and examples: the report of each, byte for byte,
+and that its journal, read back and followed, leads to the same report. The cases are those of
+crates/shim_conformance/data whose mode is `run` or `ref` and whose text is a report. Ends with 1 at the first
+difference, and names it.
+
+Programs of bench/made.py are run, too, by `shim ref`, each with a budget of 3000.
+
+Use: tools/tests/runs.py [MOST [FIRST LAST]], the most steps of a case that is taken, 20000 where nothing is said,
+and the numbers of the made programs, 1 to 100"""
+import os
+import re
+import subprocess
+import sys
+import tempfile
+
+TOP = os.path.dirname(os.path.dirname(os.path.dirname(os.path.realpath(__file__))))
+sys.path.insert(0, os.path.join(TOP, "tools"))
+from shimtools import journals, runs, syntax  # noqa: E402
+
+
+def body_of(kind, body):
+    """What a part of a case has: lines as they are, without the last end of a line, or bytes by their digits."""
+    lines = []
+    for line in body.splitlines(keepends=True):
+        repeated = re.match(rb"=== repeat (\d+) (.*\n)", line)
+        lines += [repeated[2]] * int(repeated[1]) if repeated else [line]
+    body = b"".join(lines)
+    if kind == "hex":
+        return bytes.fromhex(body.decode())
+    return body[:-1] if kind == "bare" else body
+
+
+def cases(path):
+    """The cases of a file: name, lines of words, files by name, text."""
+    with open(path, "rb") as it:
+        text = it.read()
+    for part in re.split(rb"^=== case ", text, flags=re.M)[1:]:
+        name, rest = part.split(b"\n", 1)
+        words, files, told = [], {}, None
+        for section in re.split(rb"^=== (?!repeat )", rest, flags=re.M)[1:]:
+            head, _, body = section.partition(b"\n")
+            kind, _, value = head.decode("latin-1").partition(" ")
+            if kind == "words":
+                words.append(value)
+            elif kind in ("file", "bare", "hex"):
+                files[value] = body_of(kind, body)
+            elif kind == "text":
+                told = body_of(value, body)
+            elif kind.startswith("failing-"):
+                told = None
+                break
+        yield name.decode(), words, files, told
+
+
+def same(what, source, input, budget, text):
+    """Whether the run is told so; also over its journal."""
+    functions = syntax.program(source)
+    run = runs.Run(functions, input)
+    entries = journals.of_first_events(run, budget)
+    if run.report().encode() != text:
+        sys.exit("differs: %s\nwanted:\n%s\ncame:\n%s" % (what, text.decode("latin-1"), run.report()))
+    again = runs.Run(functions, input)
+    journals.follow(again, journals.written(budget, entries))
+    if again.report().encode() != text:
+        sys.exit("differs: %s, over its journal" % what)
+
+
+def main():
+    most = int(sys.argv[1]) if len(sys.argv) > 1 else 20_000
+    taken = left = 0
+    folder = os.path.join(TOP, "crates", "shim_conformance", "data")
+    for file in sorted(os.listdir(folder)):
+        if not file.endswith(".cases"):
+            continue
+        for name, words, files, text in cases(os.path.join(folder, file)):
+            if text is None or not text.startswith(b"output "):
+                continue
+            text = text.split(b"because ")[0]
+            end = text.splitlines()[-1].split()
+            line = next((w for w in words if re.match(r"(\{?ref|\{run\|ref\}|why)", w)), None)
+            if line is None:
+                continue
+            given = line.split()
+            option = lambda which: next((given[i + 1] for i, w in enumerate(given) if w == which), None)
+            budget = re.sub(r"[{}].*|\|.*", "", (option("--budget") or "1000000").lstrip("{"))
+            if "{" in given[1] or given[1] not in files or not budget.isdigit() or int(end[-1]) > most:
+                left += 1
+                continue
+            input = files.get(option("--input"), b"")
+            same("%s, %s" % (file, name), files[given[1]], input, int(budget), text)
+            taken += 1
+    examples = os.path.join(TOP, "crates", "shim_examples")
+    with open(os.path.join(examples, "args")) as it:
+        lines = it.read().splitlines()
+    with open(os.path.join(examples, "stdout"), "rb") as it:
+        told = it.read()
+    for line in lines:
+        words = line.split()
+        if words[0] == "run":
+            read = lambda name: open(os.path.join(examples, "data", name), "rb").read()
+            text = told.split(line.encode() + b"\n")[1].split(b"status ")[0]
+            same(line, read(words[1]), read(words[3]) if len(words) > 2 else b"", 1_000_000, text)
+            taken += 1
+    first, last = map(int, sys.argv[2:4] or (1, 100))
+    made = 0
+    shim = os.environ.get("SHIM", os.path.join(TOP, "shim"))
+    with tempfile.TemporaryDirectory() as room:
+        for number in range(first, last + 1):
+            source = subprocess.run([sys.executable, os.path.join(TOP, "bench", "made.py"), str(number)], stdout=subprocess.PIPE, check=True).stdout
+            file = os.path.join(room, "made.shim")
+            with open(file, "wb") as out:
+                out.write(source)
+            told = subprocess.run([shim, "ref", file, "--budget", "3000"], stdout=subprocess.PIPE)
+            if told.returncode in (0, 1, 3, 4):
+                same("made.py %d" % number, source, b"", 3000, told.stdout)
+                made += 1
+    print("%d made programs the same" % made)
+    print("%d cases the same, each over its journal, too; %d left out for their length or their words" % (taken, left))
+
+
+if __name__ == "__main__":
+    runs.with_room(main)
