@@ -628,7 +628,7 @@ def wrong(job, answers):
         if is_why and not answer.text.startswith(runs[0].text) or not is_why and answer.status != 4 and answer.text != runs[0].text:
             return "another text than that of " + runs[0].words[0], answer
     trace, replay, changed = answers[-3:]
-    if runs and not any(answer.status == 8 for answer in (trace, replay)):
+    if runs and runs[0].status in (0, 1, 3, 4) and not any(answer.status == 8 for answer in (trace, replay)):
         if trace.status != runs[0].status or replay.status != trace.status:
             return "another status than that of %s, %d" % (runs[0].words[0], runs[0].status), replay if trace.status == runs[0].status else trace
         if replay.status != 4 and replay.text != runs[0].text:
