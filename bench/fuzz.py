@@ -14,8 +14,8 @@ All that with a limit of time and of memory, and
 - `run` and `ref` have the same status, and the same text but where the budget stopped them; then the counts add up to it;
 - `why` writes what `ref` does, and where that is blocked behind it one reason for each wait, in its order, with the channel at
   which the process waits for which it waits; the cycle follows the reasons, from its least path on;
-- a journal has the budget of its run, and its steps add up to what it says; no `own` is a quiet step; its replay has the status
-  of its run and, but where the budget stopped that, its text. A changed journal is malformed just at the line at which a
+- a journal has the budget of its run, and its steps add up to what it says; its replay has the status of its run and, but where
+  the budget stopped that, its text. A changed journal is malformed just at the line at which a
   reader of journals in this script says so.
 
 The same numbers make the same texts and words. Prints how many calls had each status, the longest time and the most
@@ -491,7 +491,7 @@ def is_place(text, is_channel):
     found = PLACE.fullmatch(text)
     if not found or (found[2] is not None) != is_channel:
         return False
-    return all(int(number) < 1 << 32 for number in re.findall(rb"\d+", text))
+    return all(len(number) <= 10 and int(number) < 1 << 32 for number in re.findall(rb"\d+", text))
 
 
 def steps_of(line):
