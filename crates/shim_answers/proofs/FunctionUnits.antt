@@ -21,7 +21,7 @@ use Rattle.shim_units.specs.declared.unit.UCall.{UCall}
 use Rattle.shim_units.specs.declared.unit.UStmt.{UStmt}
 use Rattle.shim_units.specs.declared.unit.UWhat.{UWhat}
 use Rattle.shim_units.specs.declared.unit.UWhat.TheVariants.{If, For, Try}
-use Rattle.shim_units.specs.Moving.{slot_index_of, moved, moved_option}
+use Rattle.shim_units.specs.Moving.{slot_index_of, slot_index_of_option, moved, moved_option}
 use Rattle.shim_units.specs.Parts.{LiftContext, Part, Lifts}
 use Rattle.shim_units.specs.Lifting.{branch_inner, lift_all, lift_branch, lift_three, lift_two}
 use Rattle.shim_units.specs.PartFold.{branch_what_step, what_step, branch_step, stmt_step, part, parts, branch_part, branch_parts, lift_in}
@@ -138,9 +138,9 @@ what_layer (RWhat-F.For first test step body) line =
     three (λ w p r s. For p (moved_option w.slots test) r s) (lift_all (parts (stmts first))) (lift_all (parts (stmts step))) (lift_all (parts (stmts body))) (stmts_stay first) (stmts_stay step) (stmts_stay body)
 what_layer (RWhat-F.RWhat::Block body) line = λ context w n. stmts_stay body context w n
 what_layer (RWhat-F.RWhat::Call c) line = λ context w n. tt
-what_layer (RWhat-F.Try body x handler) line =
-    two (λ w r s. Try r (slot_index_of w.exceptions x) s) (lift_all (parts (stmts body))) (lift_all (parts (stmts handler))) (stmts_stay body) (stmts_stay handler)
-what_layer (RWhat-F.Throw x) line = λ context w n. tt
+what_layer (RWhat-F.Try body x y handler) line =
+    two (λ w r s. Try r (slot_index_of w.exceptions x) (slot_index_of_option w.slots y) s) (lift_all (parts (stmts body))) (lift_all (parts (stmts handler))) (stmts_stay body) (stmts_stay handler)
+what_layer (RWhat-F.Throw x a) line = λ context w n. tt
 what_layer (RWhat-F.Par bs) line = λ context w n. branches_stay bs context w n
 
 branch_what_case : (x : RBranchWhat-F RBranchWhat RWhat RBranch RStmt) (y : RBranchWhat-F StayingBranchWhat StayingWhat StayingBranch StayingStmt) → branch_what_of y ≡ x → BranchWhatStays (roll-RBranchWhat x)

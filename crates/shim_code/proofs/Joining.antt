@@ -8,6 +8,7 @@ use Rattle.shim_code.specs.declared.instr.MarkKind.{MarkKind}
 use Rattle.shim_code.specs.declared.instr.MarkKind.TheVariants as kind
 use Rattle.shim_code.specs.Layout.{arms, behind, loop, one}
 use Rattle.shim_code.specs.MachineCode.{MachineCode, begins, machine_looped, machine_marked}
+use Rattle.shim_code.specs.declared.draft.Caught.{Caught}
 use Rattle.shim_code.specs.Drafts.{head_of, closed, closed_loop}
 
 -- both places are written over
@@ -49,7 +50,7 @@ arms_made head a b old c1 c2 c3 c4 c5 h j end x y i eh e1 e2 ej e3 e4 ee ei e5 =
     ∙ ap (λ n. old ++ head second ∷ (ca ++ Jump n ∷ cb)) l4
 
 -- as a draft closes them
-pub arms_closed : (caught : Option ℕ) (a b : MachineCode) (old c1 c2 c3 c4 c5 : List MachineInstr) (h j : ℕ) (x y : MachineInstr)
+pub arms_closed : (caught : Option Caught) (a b : MachineCode) (old c1 c2 c3 c4 c5 : List MachineInstr) (h j : ℕ) (x y : MachineInstr)
     → h ≡ length old → c1 ≡ old ++ x ∷ [] → c2 ≡ c1 ++ a (length c1) → j ≡ length c2 → c3 ≡ c2 ++ y ∷ [] → c4 ≡ c3 ++ b (length c3)
     → c5 ≡ closed caught h j c4 → c5 ≡ old ++ arms Jump (head_of caught) a b (length old)
 arms_closed caught a b old c1 c2 c3 c4 c5 h j x y eh e1 e2 ej e3 e4 e5 =

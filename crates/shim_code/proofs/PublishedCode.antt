@@ -21,7 +21,7 @@ use Rattle.shim_code.specs.declared.machine_instr.MachineInstr.TheVariants as ma
 use Rattle.shim_code.specs.declared.unit.CodeUnit.{CodeUnit}
 use Rattle.shim_code.specs.Layout.{arms, behind, loop, one}
 use Rattle.shim_code.specs.Code.{Code, arg_code, args_code, branch_code, branches_code, call_code, expr_code, expr_or, expr_step, fork_code, looped, marked, stmt_code, stmts_code, unit_code, what_code}
-use Rattle.shim_code.specs.MachineCode.{MachineCode, begun, callee_of, first_name, first_sort, machine_arg, machine_args, machine_branch, machine_branches, machine_call, machine_expr, machine_expr_or, machine_expr_step, machine_fork, machine_looped, machine_marked, machine_stmt, machine_stmts, machine_unit, numbered, params_in, what_machine, with_number}
+use Rattle.shim_code.specs.MachineCode.{MachineCode, begun, callee_of, first_name, first_sort, machine_arg, machine_args, machine_branch, machine_branches, machine_call, machine_expr, machine_expr_or, machine_expr_step, machine_fork, machine_looped, machine_marked, machine_stmt, machine_stmts, machine_unit, numbered, params_in, try_instr, what_machine, with_number}
 use Rattle.shim_code.specs.Programs.{code_units, machine_units}
 use Rattle.shim_code.specs.Published.{published, published_all}
 use Rattle.shim_code.proofs.StatementKinds.{machine_what}
@@ -187,6 +187,10 @@ module _ (units : List UnitOf) where
   simple_shown : (k : MarkKind) (line : ℕ) (a : MachineCode) (i : MachineInstr) (c : Code) → Shows a c → Shows (machine_marked k line false (behind a (one i))) (marked k line (behind c (one (published i))))
   simple_shown k line a i c h = marked_shown k line false (behind a (one i)) (behind c (one (published i))) (then_shown a i c h)
 
+  try_shown : (t x : ℕ) (y : Option ℕ) → published (try_instr t x y) ≡ code.Try t x y
+  try_shown t x None = refl
+  try_shown t x (Some y) = refl
+
   what_layer : (y : UWhat-F SuchWhat SuchStmt) → WhatLayer (bare_what y)
   what_layer (UWhat-F.Declare t x e) line = simple_shown kind.Quiet line (machine_expr_or (pos 0) e) (machine.Declare t x) (expr_or (pos 0) e) (option_shown (pos 0) e)
   what_layer (UWhat-F.Assign x e) line = simple_shown kind.Quiet line (machine_expr e) (machine.Set x) (expr_code e) (expr_shown e)
@@ -219,16 +223,16 @@ module _ (units : List UnitOf) where
       (looped_shown line test (behind mb ms) shown (behind cb cs) (option_shown (pos 1) e) (behind_shown mb ms cb cs (such_shown body) (such_shown step)))
   what_layer (UWhat-F.Block a) line = such_shown a
   what_layer (UWhat-F.Call c) line = marked_shown kind.Quiet line false (machine_call units c) (call_code c) (call_shown units c)
-  what_layer (UWhat-F.Try a x b) line =
+  what_layer (UWhat-F.Try a x y b) line =
       let ma = machine_stmts units (stmts_of a) in
       let mb = machine_stmts units (stmts_of b) in
       let ca = stmts_code (stmts_of a) in
       let cb = stmts_code (stmts_of b) in
       let m = behind ma (one machine.Untry) in
       let c = behind ca (one code.Untry) in
-      marked_shown kind.Quiet line false (arms machine.Jump (λ h. machine.Try h x) m mb) (arms code.Jump (λ h. code.Try h x) c cb)
-      (arms_shown (λ h. machine.Try h x) (λ h. code.Try h x) m mb c cb (λ t. refl) (then_shown ma machine.Untry ca (such_shown a)) (such_shown b))
-  what_layer (UWhat-F.Throw x) line = λ pc. refl
+      marked_shown kind.Quiet line false (arms machine.Jump (λ h. try_instr h x y) m mb) (arms code.Jump (λ h. code.Try h x y) c cb)
+      (arms_shown (λ h. try_instr h x y) (λ h. code.Try h x y) m mb c cb (λ t. try_shown t x y) (then_shown ma machine.Untry ca (such_shown a)) (such_shown b))
+  what_layer (UWhat-F.Throw x e) line = simple_shown kind.Throw line (machine_expr_or (pos 0) e) (machine.Throw x) (expr_or (pos 0) e) (option_shown (pos 0) e)
   what_layer (UWhat-F.Par bs) line = marked_shown kind.Fork line false (machine_fork units bs) (fork_code bs) (fork_shown units bs)
 
   what_shown : (x : UWhat-F UWhat UStmt) → WhatLayer x → WhatShows (roll-UWhat x)

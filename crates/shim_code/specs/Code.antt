@@ -81,8 +81,8 @@ what_code (UWhat-F.While e a) line = looped line (expr_code e) (all a)
 what_code (UWhat-F.For first e step body) line = behind (all first) (looped line (expr_or (pos 1) e) (behind (all body) (all step)))
 what_code (UWhat-F.Block a) line = all a
 what_code (UWhat-F.Call c) line = marked kind.Quiet line (call_code c)
-what_code (UWhat-F.Try a x b) line = marked kind.Quiet line (arms Jump (λ h. Try h x) (behind (all a) (one Untry)) (all b))
-what_code (UWhat-F.Throw x) line = marked kind.Throw line (one (Throw x))
+what_code (UWhat-F.Try a x y b) line = marked kind.Quiet line (arms Jump (λ h. Try h x y) (behind (all a) (one Untry)) (all b))
+what_code (UWhat-F.Throw x e) line = marked kind.Throw line (behind (expr_or (pos 0) e) (one (Throw x)))
 what_code (UWhat-F.Par branches) line = marked kind.Fork line (fork_code branches)
 
 abbrev pub stmt_code : UStmt → Code

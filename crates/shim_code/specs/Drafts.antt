@@ -1,15 +1,17 @@
 -- Jumps of a draft whose places are written late.
 use Rattle.std.specs.Prelude.{ℕ, ◌+◌, List, [], ◌∷◌, ◌++◌, length, Option, Some, None, slice_set}
 use Rattle.shim_code.specs.declared.machine_instr.MachineInstr.{MachineInstr}
-use Rattle.shim_code.specs.declared.machine_instr.MachineInstr.TheVariants.{Jump, JumpZ, Try}
+use Rattle.shim_code.specs.declared.machine_instr.MachineInstr.TheVariants.{Jump, JumpZ}
+use Rattle.shim_code.specs.declared.draft.Caught.{Caught}
+use Rattle.shim_code.specs.MachineCode.{try_instr}
 
 -- what leads to the second of two pieces: a test, or the exception of a `try`
-abbrev pub head_of : Option ℕ → ℕ → MachineInstr
+abbrev pub head_of : Option Caught → ℕ → MachineInstr
 head_of None t = JumpZ t
-head_of (Some x) t = Try t x
+head_of (Some x) t = try_instr t x.exception x.variable
 
 -- the first jump leads behind the second, which leads to the end
-abbrev pub closed : Option ℕ → ℕ → ℕ → List MachineInstr → List MachineInstr
+abbrev pub closed : Option Caught → ℕ → ℕ → List MachineInstr → List MachineInstr
 closed x head jump l = slice_set (slice_set l head (head_of x (jump + 1))) jump (Jump (length l))
 
 -- a jump to the start of a loop stands at the end, and the jump out of the loop leads behind it

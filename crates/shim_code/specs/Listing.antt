@@ -1,5 +1,5 @@
 -- Code as text.
-use Rattle.std.specs.Prelude.{ℕ, ◌+◌, List, [], ◌∷◌, ◌++◌, codes, decimal, flat_map}
+use Rattle.std.specs.Prelude.{ℕ, ◌+◌, List, [], ◌∷◌, ◌++◌, Option, Some, None, codes, decimal, flat_map}
 use Rattle.std.specs.Fmt.{signed_decimal}
 use Rattle.shim_base.specs.declared.operators.BinOp.{BinOp}
 use Rattle.shim_base.specs.declared.operators.BinOp.TheVariants as op
@@ -49,6 +49,11 @@ abbrev pub then_number : List ℕ → ℕ → List ℕ
 then_number word n = word ++ (codes " " ++ decimal n)
 
 -- The word of an instruction and its operands, with a space before each. The exceptions of a call are not told.
+-- the slot of a handler's variable stands last, where there is one
+abbrev pub then_slot : List ℕ → Option ℕ → List ℕ
+then_slot text None = text
+then_slot text (Some y) = then_number text y
+
 abbrev pub instr_text : Instr → List ℕ
 instr_text (Mark k line) = codes "mark " ++ then_number (kind_word k) line
 instr_text (Num n) = codes "num " ++ signed_decimal n
@@ -69,7 +74,7 @@ instr_text Fresh = codes "fresh"
 instr_text (Call u n throws) = then_number (then_number (codes "call") u) n
 instr_text (Branch u n throws) = then_number (then_number (codes "branch") u) n
 instr_text (Fork n) = then_number (codes "fork") n
-instr_text (Try t x) = then_number (then_number (codes "try") t) x
+instr_text (Try t x y) = then_slot (then_number (then_number (codes "try") t) x) y
 instr_text Untry = codes "untry"
 instr_text (Throw x) = then_number (codes "throw") x
 instr_text End = codes "end"

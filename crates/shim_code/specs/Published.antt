@@ -1,9 +1,9 @@
 -- An instruction of the machine without what only running it takes.
-use Rattle.std.specs.Prelude.{List, map}
+use Rattle.std.specs.Prelude.{List, map, Some, None}
 use Rattle.shim_code.specs.declared.instr.Instr.{Instr}
 use Rattle.shim_code.specs.declared.instr.Instr.TheVariants as code
 use Rattle.shim_code.specs.declared.machine_instr.MachineInstr.{MachineInstr}
-use Rattle.shim_code.specs.declared.machine_instr.MachineInstr.TheVariants.{Mark, Num, Var, Un, Bin, Bool, Jump, JumpZ, Declare, Set, Get, Put, Next, Ref, Pass, Fresh, Call, Branch, Fork, Try, Untry, Throw, End}
+use Rattle.shim_code.specs.declared.machine_instr.MachineInstr.TheVariants.{Mark, Num, Var, Un, Bin, Bool, Jump, JumpZ, Declare, Set, Get, Put, Next, Ref, Pass, Fresh, Call, Branch, Fork, Try, TryInto, Untry, Throw, End}
 
 abbrev pub published : MachineInstr → Instr
 published (Mark m) = code.Mark m.kind m.line
@@ -25,7 +25,8 @@ published (Fresh s x) = code.Fresh
 published (Call c) = code.Call c.unit c.args c.throws
 published (Branch c) = code.Branch c.unit c.args c.throws
 published (Fork n) = code.Fork n
-published (Try t x) = code.Try t x
+published (Try t x) = code.Try t x None
+published (TryInto t x y) = code.Try t x (Some y)
 published Untry = code.Untry
 published (Throw x) = code.Throw x
 published (End n) = code.End

@@ -1,7 +1,7 @@
 // The code of a unit while it is written.
 ghost use Rattle.std.specs.Prelude.{◌≡◌, ◌+◌, ◌∷◌, ◌++◌, [], length, slice_set, IfOk, OnOk};
 ghost use Rattle.shim_code.specs.Drafts.{closed, closed_loop};
-ghost use Rattle.shim_code.specs.MachineCode.{begins, begun, numbered, with_number};
+ghost use Rattle.shim_code.specs.MachineCode.{begins, begun, numbered, try_instr, with_number};
 ghost use Rattle.shim_code.specs.declared.machine_instr.MachineInstr.TheVariants.{Jump};
 
 use crate::instr::MarkKind;
@@ -9,6 +9,23 @@ use crate::machine_instr::{MachineInstr, Mark};
 use shim_base::{List, NoMemory};
 use std::alloc::Global;
 use std::marker::Model;
+
+/// The exception of a `try`, and the slot of the handler's variable where it has one.
+#[derive(Clone, Copy, Debug, PartialEq, Eq)]
+pub struct Caught {
+    pub exception: u32,
+    pub variable: Option<u32>,
+}
+
+// The instruction of a `try` with its handler at this place.
+fn try_instr(handler: u32, exception: u32, variable: Option<u32>) -> MachineInstr
+    ensures { result ≡ try_instr handler exception variable }
+{
+    match variable {
+        None => MachineInstr::Try(handler, exception),
+        Some(slot) => MachineInstr::TryInto(handler, exception, slot),
+    }
+}
 
 /// The instructions so far. A jump past what isn't there yet is pushed first and gets its place later.
 #[derive(Drop)]
@@ -81,14 +98,14 @@ impl Draft {
 
     /// Two pieces are written: the first place leads to the second piece, by a test or, with an
     /// exception, as its handler; the second place leads from the first piece here.
-    pub fn close(&mut self, head: u32, jump: u32, exception: Option<u32>) -> Result<(), NoMemory>
-        ensures { OnOk result (self.new ≡ closed exception head jump self.old) }
+    pub fn close(&mut self, head: u32, jump: u32, caught: Option<Caught>) -> Result<(), NoMemory>
+        ensures { OnOk result (self.new ≡ closed caught head jump self.old) }
     {
         let end = self.here()?;
         let second = jump.checked_add(1).ok_or(NoMemory)?;
-        let first = match exception {
+        let first = match caught {
             None => MachineInstr::JumpZ(second),
-            Some(exception) => MachineInstr::Try(second, exception),
+            Some(caught) => try_instr(second, caught.exception, caught.variable),
         };
         self.put(head, first);
         self.put(jump, MachineInstr::Jump(end));

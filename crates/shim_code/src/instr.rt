@@ -43,9 +43,11 @@ pub enum Instr {
     Branch(u32, u32, List<u32>),
     /// So many branches run beside one another.
     Fork(u32),
-    /// The place of the handler, and the exception that comes into force.
-    Try(u32, u32),
+    /// The place of the handler, the exception that comes into force, and the slot of the handler's variable,
+    /// where it has one.
+    Try(u32, u32, Option<u32>),
     Untry,
+    /// The number on top is taken off, and the exception is thrown with it.
     Throw(u32),
     End,
 }

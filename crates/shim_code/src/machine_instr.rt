@@ -53,6 +53,8 @@ pub enum MachineInstr {
     Branch(Boxed<Callee>),
     Fork(u32),
     Try(u32, u32),
+    /// `Try` with the slot of the handler's variable.
+    TryInto(u32, u32, u32),
     Untry,
     Throw(u32),
     /// How many numbers the unit's statements have.

@@ -36,7 +36,12 @@ fn published(alloc: Global, instr: &MachineInstr) -> Result<Instr, NoMemory>
             Instr::Branch(callee.unit, callee.args, throws)
         }
         MachineInstr::Fork(many) => Instr::Fork(*many),
-        MachineInstr::Try(place, exception) => Instr::Try(*place, *exception),
+        MachineInstr::Try(place, exception) => Instr::Try(*place, *exception, None),
+        MachineInstr::TryInto(place, exception, slot) => Instr::Try(
+            *place,
+            *exception,
+            Some(*slot),
+        ),
         MachineInstr::Untry => Instr::Untry,
         MachineInstr::Throw(exception) => Instr::Throw(*exception),
         MachineInstr::End(_) => Instr::End,

@@ -3,7 +3,7 @@ ghost use Rattle.std.specs.Prelude.{◌≡◌, ◌++◌, length, IfOk, OnOk};
 ghost use Rattle.shim_code.specs.MachineCode.{machine_stmt, machine_stmts, machine_unit};
 
 use crate::calls::{emit_call, emit_fork};
-use crate::draft::Draft;
+use crate::draft::{Caught, Draft};
 use crate::exprs::{emit_expr, emit_expr_or};
 use crate::instr::MarkKind;
 use crate::machine_instr::MachineInstr;
@@ -97,17 +97,25 @@ fn emit(alloc: Global, code: &mut Draft, stmt: &UStmt, units: &[Unit]) -> Result
             code.begin(MarkKind::Quiet, stmt.line, false)?;
             emit_call(alloc, code, call, units)
         }
-        UWhat::Try(body, exception, handler) => {
+        UWhat::Try(body, exception, variable, handler) => {
             code.begin(MarkKind::Quiet, stmt.line, false)?;
             let head = code.skip()?;
             emit_all(alloc, code, body.as_slice(), units)?;
             code.push(MachineInstr::Untry)?;
             let jump = code.skip()?;
             emit_all(alloc, code, handler.as_slice(), units)?;
-            code.close(head, jump, Some(*exception))
+            code.close(
+                head,
+                jump,
+                Some(Caught {
+                    exception: *exception,
+                    variable: *variable,
+                }),
+            )
         }
-        UWhat::Throw(exception) => {
+        UWhat::Throw(exception, expr) => {
             code.begin(MarkKind::Throw, stmt.line, false)?;
+            emit_expr_or(code, 0, expr)?;
             code.push(MachineInstr::Throw(*exception))
         }
         UWhat::Par(branches) => {

@@ -1,6 +1,6 @@
 // Code as text.
 ghost use Rattle.std.specs.Prelude.{◌≡◌, ◌++◌, IfOk, OnOk};
-ghost use Rattle.shim_code.specs.declared.instr.Instr.TheVariants.{Mark, Num};
+ghost use Rattle.shim_code.specs.declared.instr.Instr.TheVariants.{Mark, Num, Try};
 ghost use Rattle.shim_code.specs.Programs.{code_units};
 ghost use Rattle.shim_code.specs.Listing.{bin_word, instr_text, kind_word, line_text, lines_text, listing, then_number, un_word, unit_text};
 
@@ -75,7 +75,7 @@ fn push_instr(text: &mut List<u8>, instr: &Instr) -> Result<(), NoMemory>
         Instr::Call(unit, args, _) => push_two(text, b"call", *unit, *args),
         Instr::Branch(unit, args, _) => push_two(text, b"branch", *unit, *args),
         Instr::Fork(many) => push_number(text, b"fork", *many),
-        Instr::Try(place, exception) => push_two(text, b"try", *place, *exception),
+        Instr::Try(place, exception, slot) => push_try(text, *place, *exception, slot),
         Instr::Untry => text.extend_from_slice(b"untry"),
         Instr::Throw(exception) => push_number(text, b"throw", *exception),
         Instr::End => text.extend_from_slice(b"end"),
@@ -114,6 +114,25 @@ fn push_two(text: &mut List<u8>, word: &[u8], one: u32, other: u32) -> Result<()
     push_number(text, word, one)?;
     text.push(b' ')?;
     push_decimal(text, u64::from(other))
+}
+
+// A `try`, with the slot of its handler's variable where it has one.
+fn push_try(
+    text: &mut List<u8>,
+    place: u32,
+    exception: u32,
+    slot: &Option<u32>,
+) -> Result<(), NoMemory>
+    ensures { OnOk result (text.new ≡ text.old ++ instr_text (Try place exception slot.now)) }
+{
+    push_two(text, b"try", place, exception)?;
+    match slot {
+        None => Ok(()),
+        Some(slot) => {
+            text.push(b' ')?;
+            push_decimal(text, u64::from(*slot))
+        }
+    }
 }
 
 fn kind_word(kind: MarkKind) -> &'static [u8]

@@ -12,7 +12,7 @@ use Rattle.shim_syntax.specs.Grammar.{Counts, at_level, new_expression, behind_b
 use Rattle.shim_grammar.specs.declared.punctuation.Punctuation.{Punctuation}
 use Rattle.shim_grammar.specs.declared.punctuation.Punctuation.TheVariants as punctuation
 use Rattle.shim_grammar.specs.Machine as m
-use Rattle.shim_grammar.specs.Machine.{Fixed, Word, Operand, Inside, Expression, Operators, Arguments, MoreArguments, Argument, Declarations, AfterDeclared, MoreDeclarations, Declaration, AfterDeclaration, Statement, Body, Block, AfterWord, AfterEqual, AfterNext, First, Test, Step, Else, AfterBody, Pars, Branch, Parameters, AfterSort, Throws, MoreParameters, Parameter, Thrown, MoreThrows, Functions, Stack, Ask, Want, ask, go, wants, Source, Version}
+use Rattle.shim_grammar.specs.Machine.{Fixed, Word, Operand, Inside, Expression, Operators, Arguments, MoreArguments, Argument, Declarations, AfterDeclared, MoreDeclarations, Declaration, AfterDeclaration, Statement, Body, Block, AfterWord, AfterEqual, AfterNext, ThrowRest, CatchRest, First, Test, Step, Else, AfterBody, Pars, Branch, Parameters, AfterSort, Throws, MoreParameters, Parameter, Thrown, MoreThrows, Functions, Stack, Ask, Want, ask, go, wants, Source, Version}
 
 abbrev pub NumbersAlone : List Ask → Type 0
 NumbersAlone [] = Unit {0}
@@ -148,6 +148,21 @@ after_next_asks (Sign g.Semicolon p) l k w = tt
 after_next_asks (Sign g.Equal p) l k w = tt
 after_next_asks _ l k w = tt
 
+-- where one is wanted at all
+joined_or_none : (b : Bool) (o : Option Want) → NoLevel o → NoLevel (if b then o else None)
+joined_or_none true o h = h
+joined_or_none false o h = tt
+
+throw_rest_asks : (x : Terminal) (l : ℕ) (k : Stack) (w : Counts) → NoLevel (m.throw_rest x l k w)
+throw_rest_asks (Sign g.Semicolon p) l k w = tt
+throw_rest_asks (Sign g.LeftParen p) l k w = joined_or_none w.two _ tt
+throw_rest_asks _ l k w = tt
+
+catch_rest_asks : (x : Terminal) (k : Stack) (w : Counts) → NoLevel (m.catch_rest x k w)
+catch_rest_asks (Sign g.RightParen p) k w = tt
+catch_rest_asks (Name y p) k w = joined_or_none w.two _ (many.Locals, refl, tt)
+catch_rest_asks _ k w = tt
+
 first_asks : (x : Terminal) (l : ℕ) (k : Stack) (w : Counts) → OneLevel (m.first_of_for x l k w)
 first_asks (Sign g.Semicolon p) l k w = tt
 first_asks (Sort (Value ty) p) l k w = tt
@@ -249,6 +264,8 @@ level_first (Block l ∷ k) x w = block_asks x l k w
 level_first (AfterWord l ∷ k) x w = one _ (after_word_asks x l k w)
 level_first (AfterEqual l ∷ k) x w = one _ (after_equal_asks x l k w)
 level_first (AfterNext l ∷ k) x w = one _ (after_next_asks x l k w)
+level_first (ThrowRest l ∷ k) x w = one _ (throw_rest_asks x l k w)
+level_first (CatchRest ∷ k) x w = one _ (catch_rest_asks x k w)
 level_first (First l ∷ k) x w = first_asks x l k w
 level_first (Test l ∷ k) x w = one _ (test_asks x l k w)
 level_first (Step l ∷ k) x w = step_asks x l k w

@@ -15,10 +15,10 @@ use Rattle.shim_syntax.specs.declared.tree.Function.{Function}
 use Rattle.shim_syntax.specs.declared.tree.Program.{Program as ProgramTree}
 use Rattle.shim_syntax.specs.Terminals.{Terminal, Name, Sort, Key, Sign, first, is_two}
 use Rattle.shim_syntax.specs.Limits.{Limit, Nesting, Count, Limits}
-use Rattle.shim_syntax.specs.Grammar.{Counts, with_local, new_expression, at_level, behind_body, as_branch, is_else, is_par, IsExpr, IsWhole, IsArguments, IsMoreArguments, IsDeclared, IsDeclarations, IsFirst, IsTest, IsStep, IsBlock, IsStmt, IsBody, IsPlain, IsBranches, IsBranch, IsParam, IsParams, IsMoreParams, IsThrows, IsMoreThrows, IsFunctions, IsProgram}
+use Rattle.shim_syntax.specs.Grammar.{Counts, with_local, new_expression, at_level, behind_body, as_branch, is_else, is_par, IsExpr, IsWhole, IsArguments, IsMoreArguments, IsDeclared, IsDeclarations, IsFirst, IsTest, IsStep, IsThrowRest, IsCatchRest, IsBlock, IsStmt, IsBody, IsPlain, IsBranches, IsBranch, IsParam, IsParams, IsMoreParams, IsThrows, IsMoreThrows, IsFunctions, IsProgram}
 use Rattle.shim_grammar.specs.declared.punctuation.Punctuation.{Punctuation}
 use Rattle.shim_grammar.specs.declared.punctuation.Punctuation.TheVariants as punctuation
-use Rattle.shim_grammar.specs.Machine.{Symbol, Fixed, Word, Operand, Inside, Expression, Operators, Arguments, MoreArguments, Argument, Declarations, AfterDeclared, MoreDeclarations, Declaration, AfterDeclaration, Statement, Body, Block, AfterWord, AfterEqual, AfterNext, First, Test, Step as StepOfFor, Else, AfterBody, Pars, Branch, Parameters, AfterSort, Throws, MoreParameters, Parameter, Thrown, MoreThrows, Functions, Stack, Ask, Want, Source, Version}
+use Rattle.shim_grammar.specs.Machine.{Symbol, Fixed, Word, Operand, Inside, Expression, Operators, Arguments, MoreArguments, Argument, Declarations, AfterDeclared, MoreDeclarations, Declaration, AfterDeclaration, Statement, Body, Block, AfterWord, AfterEqual, AfterNext, ThrowRest, CatchRest, First, Test, Step as StepOfFor, Else, AfterBody, Pars, Branch, Parameters, AfterSort, Throws, MoreParameters, Parameter, Thrown, MoreThrows, Functions, Stack, Ask, Want, Source, Version}
 
 abbrev pub terminal_of : Punctuation → Place → Terminal
 terminal_of punctuation.LeftParen p = Sign g.LeftParen p
@@ -54,6 +54,8 @@ Gives c (Block l) w v s r = (xs : List Stmt) × IsBlock c l w v s r xs
 Gives c (AfterWord l) w v s r = (x : List ℕ) (p : Place) → (xs : List Stmt) × IsPlain c l w v (Name x p ∷ s) r xs
 Gives c (AfterEqual l) w v s r = (x : List ℕ) (p q : Place) → (xs : List Stmt) × IsPlain c l w v (Name x p ∷ Sign g.Equal q ∷ s) r xs
 Gives c (AfterNext l) w v s r = (x : List ℕ) (p q : Place) → (xs : List Stmt) × IsPlain c l w v (Key k.Next p ∷ Name x q ∷ s) r xs
+Gives c (ThrowRest l) w v s r = (x : Option Expr) × IsThrowRest c l w v s r x
+Gives c CatchRest w v s r = (x : Option (List ℕ)) × IsCatchRest c w v s r x
 Gives c (First l) w v s r = (xs : List Stmt) × IsFirst c l w v s r xs
 Gives c (Test l) w v s r = (x : Option Expr) × IsTest c l w v s r x
 Gives c (StepOfFor l) w v s r = (xs : List Stmt) × IsStep c l w v s r xs

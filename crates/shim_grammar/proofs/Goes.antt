@@ -10,7 +10,7 @@ use Rattle.shim_syntax.specs.Limits.{Limits}
 use Rattle.shim_syntax.specs.Grammar as is
 use Rattle.shim_syntax.specs.Grammar.{Counts, new_function, with_local, new_expression, with_operator, at_level, new_body, behind_body, is_else, is_par}
 use Rattle.shim_grammar.specs.declared.punctuation.Punctuation.TheVariants as punctuation
-use Rattle.shim_grammar.specs.Machine.{Symbol, Fixed, Word, Operand, Inside, Expression, Operators, Arguments, MoreArguments, Argument, Declarations, AfterDeclared, MoreDeclarations, Declaration, AfterDeclaration, Statement, Body, Block, AfterWord, AfterEqual, AfterNext, First, Test, Else, AfterBody, Pars, Branch, Parameters, AfterSort, Throws, MoreParameters, Parameter, Thrown, MoreThrows, Functions, Stack, wants, Source, Version}
+use Rattle.shim_grammar.specs.Machine.{Symbol, Fixed, Word, Operand, Inside, Expression, Operators, Arguments, MoreArguments, Argument, Declarations, AfterDeclared, MoreDeclarations, Declaration, AfterDeclaration, Statement, Body, Block, AfterWord, AfterEqual, AfterNext, ThrowRest, CatchRest, First, Test, Else, AfterBody, Pars, Branch, Parameters, AfterSort, Throws, MoreParameters, Parameter, Thrown, MoreThrows, Functions, Stack, wants, Source, Version}
 use Rattle.shim_grammar.specs.Machine.{Step as StepOfFor}
 use Rattle.shim_grammar.proofs.Gives.{terminal_of, Gives, Takes, Step, Free}
 use Rattle.shim_grammar.proofs.Joins.{lift}
@@ -41,6 +41,8 @@ sound c (Block l ∷ k) x w = st.block_sound c x l k w
 sound c (AfterWord l ∷ k) x w = st.after_word_sound c x l k w
 sound c (AfterEqual l ∷ k) x w = st.after_equal_sound c x l k w
 sound c (AfterNext l ∷ k) x w = st.after_next_sound c x l k w
+sound c (ThrowRest l ∷ k) x w = st.throw_rest_sound c x l k w
+sound c (CatchRest ∷ k) x w = st.catch_rest_sound c x k w
 sound c (First l ∷ k) x w = st.first_sound c x l k w
 sound c (Test l ∷ k) x w = st.test_sound c x l k w
 sound c (StepOfFor l ∷ k) x w = st.step_sound c x l k w
@@ -82,6 +84,8 @@ finish (Block l ∷ k) = Sign g.RightBrace start ∷ finish k
 finish (AfterWord l ∷ k) = Sign g.Equal start ∷ Number (pos 0) start ∷ Sign g.Semicolon start ∷ finish k
 finish (AfterEqual l ∷ k) = Number (pos 0) start ∷ Sign g.Semicolon start ∷ finish k
 finish (AfterNext l ∷ k) = Sign g.Semicolon start ∷ finish k
+finish (ThrowRest l ∷ k) = Sign g.Semicolon start ∷ finish k
+finish (CatchRest ∷ k) = Sign g.RightParen start ∷ Sign g.LeftBrace start ∷ finish k
 finish (First l ∷ k) = Sign g.Semicolon start ∷ finish k
 finish (Test l ∷ k) = Sign g.Semicolon start ∷ finish k
 finish (StepOfFor l ∷ k) = Sign g.RightParen start ∷ finish k
@@ -163,6 +167,8 @@ finish_gives c (Block l) k w f = (_, is.block_end)
 finish_gives c (AfterWord l) k w f = λ x p. (_, is.assign (lift 10 is.number))
 finish_gives c (AfterEqual l) k w f = λ x p q. (_, is.assign (lift 10 is.number))
 finish_gives c (AfterNext l) k w f = λ x p q. (_, is.next)
+finish_gives c (ThrowRest l) k w f = (_, is.no_number)
+finish_gives c CatchRest k w f = (_, is.no_variable)
 finish_gives c (First l) k w f = (_, is.no_first)
 finish_gives c (Test l) k w f = (_, is.no_test)
 finish_gives c (StepOfFor l) k w f = (_, is.no_step)

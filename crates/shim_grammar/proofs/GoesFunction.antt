@@ -10,7 +10,7 @@ use Rattle.shim_syntax.specs.declared.tree.Function.{Function}
 use Rattle.shim_syntax.specs.Terminals.{Terminal, Name, Sort, Key, Sign, End, is_shim, is_two}
 use Rattle.shim_syntax.specs.Limits.{Count, Limits}
 use Rattle.shim_syntax.specs.Grammar as is
-use Rattle.shim_syntax.specs.Grammar.{Counts, new_function, IsParam, IsParams, IsThrows, IsBlock, IsFunctions}
+use Rattle.shim_syntax.specs.Grammar.{Counts, in_version_2, new_function, IsParam, IsParams, IsThrows, IsBlock, IsFunctions}
 use Rattle.shim_grammar.specs.declared.punctuation.Punctuation.TheVariants as punctuation
 use Rattle.shim_grammar.specs.Machine as machine
 use Rattle.shim_grammar.specs.Machine.{Fixed, Word, Block, Parameters, AfterSort, Throws, MoreParameters, Parameter, Thrown, MoreThrows, Functions, Stack, Source, Version}
@@ -90,10 +90,10 @@ version_then : (c : Limits) (k : Stack) (w : Counts) (P : List Terminal → Type
     → Takes c (Version ∷ k) w s → P s
 version_then c k w P g s (r, v, (y, two, e, i), t) = subst P (sym e) (g y r two (subst (λ a. Takes c k a r) (sym i) t))
 
-shim_gives : (c : Limits) (x : Terminal) (k : Stack) (w : Counts) (s : List Terminal) → is_shim x ≡ true → Takes c (Version ∷ Fixed punctuation.Semicolon ∷ Functions 0 ∷ k) w s → Takes c (Source ∷ k) w (x ∷ s)
+shim_gives : (c : Limits) (x : Terminal) (k : Stack) (w : Counts) (s : List Terminal) → is_shim x ≡ true → Takes c (Version ∷ Fixed punctuation.Semicolon ∷ Functions 0 ∷ k) (in_version_2 w) s → Takes c (Source ∷ k) w (x ∷ s)
 shim_gives c x k w s shim =
-    version_then c (Fixed punctuation.Semicolon ∷ Functions 0 ∷ k) w (λ s. Takes c (Source ∷ k) w (x ∷ s)) (λ y r two.
-    fixed_then c (Functions 0 ∷ k) w (λ s. Takes c (Source ∷ k) w (x ∷ y ∷ s)) punctuation.Semicolon (λ p q t. (t.0, t.1, (_, is.version_2 shim two t.2.1), t.3)) r) s
+    version_then c (Fixed punctuation.Semicolon ∷ Functions 0 ∷ k) (in_version_2 w) (λ s. Takes c (Source ∷ k) w (x ∷ s)) (λ y r two.
+    fixed_then c (Functions 0 ∷ k) (in_version_2 w) (λ s. Takes c (Source ∷ k) w (x ∷ y ∷ s)) punctuation.Semicolon (λ p q t. (t.0, t.1, (_, is.version_2 shim two t.2.1), t.3)) r) s
 
 source_by : (c : Limits) (x : Terminal) (k : Stack) (w : Counts) (b : Bool) → is_shim x ≡ b → Step c x (Source ∷ k) w (machine.source x k w)
 source_by c x k w true e = rw e (λ s h t. shim_gives c x k w s e t)

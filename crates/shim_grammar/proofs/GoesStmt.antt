@@ -1,5 +1,6 @@
 -- What the machine takes may go on: statements, blocks and forks.
-use Rattle.std.proofs.Common.{◌≡◌, inl, inr, ℕ, suc, List, ◌∷◌, Bool, true, false, Option, refl, subst}
+use Rattle.std.proofs.Common.{◌≡◌, inl, inr, ℕ, suc, List, ◌∷◌, Bool, true, false, Option, None, refl, subst}
+use Rattle.std.specs.Prelude.{if◌then◌else◌}
 use Rattle.shim_base.specs.declared.token.Keyword.TheVariants as key
 use Rattle.shim_base.specs.declared.token.Sign.TheVariants as g
 use Rattle.shim_base.specs.Tokens.{Place}
@@ -11,10 +12,10 @@ use Rattle.shim_syntax.specs.declared.tree.Branch.{Branch as BranchTree}
 use Rattle.shim_syntax.specs.Terminals.{Terminal, Name, Sort, Key, Sign}
 use Rattle.shim_syntax.specs.Limits.{Nesting, Count, Limits}
 use Rattle.shim_syntax.specs.Grammar as is
-use Rattle.shim_syntax.specs.Grammar.{Counts, new_expression, at_level, new_body, behind_body, as_branch, is_else, is_par, IsWhole, IsArguments, IsBlock, IsStmt, IsBody, IsPlain, IsBranches, IsBranch}
+use Rattle.shim_syntax.specs.Grammar.{Counts, with_local, new_expression, at_level, new_body, behind_body, as_branch, is_else, is_par, IsWhole, IsArguments, IsBlock, IsStmt, IsBody, IsPlain, IsBranches, IsBranch}
 use Rattle.shim_grammar.specs.declared.punctuation.Punctuation.TheVariants as punctuation
 use Rattle.shim_grammar.specs.Machine as machine
-use Rattle.shim_grammar.specs.Machine.{Fixed, Word, Operand, Expression, Operators, Arguments, Declarations, Statement, Body, Block, AfterWord, AfterEqual, AfterNext, First, Test, Else, AfterBody, Pars, Branch, Stack, Want}
+use Rattle.shim_grammar.specs.Machine.{Fixed, Word, Operand, Expression, Operators, Arguments, Declarations, Statement, Body, Block, AfterWord, AfterEqual, AfterNext, ThrowRest, CatchRest, First, Test, Else, AfterBody, Pars, Branch, Stack, Want}
 use Rattle.shim_grammar.specs.Machine.{Step as StepOfFor}
 use Rattle.shim_grammar.proofs.Gives.{Gives, Takes, Step}
 use Rattle.shim_grammar.proofs.Takes.{Leads, leads_on, leads_asking, moved, fixed_then, word_then, closed, closed_arguments}
@@ -140,38 +141,69 @@ for_gives c p l k w =
     fixed_then c (First (suc l) ∷ Test l ∷ StepOfFor (suc l) ∷ Body (suc l) ∷ k) w (λ s. Plain c l k w (Key key.For p ∷ s)) punctuation.LeftParen
     (λ q s t. let b = t.3.3.3 in (b.0, b.1, (_, is.for_loop t.2.1 t.3.2.1 t.3.3.2.1 b.2.1), b.3))
 
--- what stands between the two blocks of a `try`
+-- what stands between the block of a `try` and the rest of its `catch`
 catch_then : (c : Limits) (k : Stack) (w : Counts) (P : List Terminal → Type 0)
-    → ((o a : Place) (x : List ℕ) (b d i : Place) (r : List Terminal) → Takes c k w r → P (Key key.Catch o ∷ Sign g.LeftParen a ∷ Name x b ∷ Sign g.RightParen d ∷ Sign g.LeftBrace i ∷ r))
-    → (s : List Terminal) → Takes c (Fixed punctuation.Catch ∷ Fixed punctuation.LeftParen ∷ Word ∷ Fixed punctuation.RightParen ∷ Fixed punctuation.LeftBrace ∷ k) w s → P s
+    → ((o a : Place) (x : List ℕ) (b : Place) (r : List Terminal) → Takes c k w r → P (Key key.Catch o ∷ Sign g.LeftParen a ∷ Name x b ∷ r))
+    → (s : List Terminal) → Takes c (Fixed punctuation.Catch ∷ Fixed punctuation.LeftParen ∷ Word ∷ k) w s → P s
 catch_then c k w P f =
-    fixed_then c (Fixed punctuation.LeftParen ∷ Word ∷ Fixed punctuation.RightParen ∷ Fixed punctuation.LeftBrace ∷ k) w P punctuation.Catch
-    (λ o. fixed_then c (Word ∷ Fixed punctuation.RightParen ∷ Fixed punctuation.LeftBrace ∷ k) w (λ s. P (Key key.Catch o ∷ s)) punctuation.LeftParen
-    (λ a. word_then c (Fixed punctuation.RightParen ∷ Fixed punctuation.LeftBrace ∷ k) w (λ s. P (Key key.Catch o ∷ Sign g.LeftParen a ∷ s))
-    (λ x b. fixed_then c (Fixed punctuation.LeftBrace ∷ k) w (λ s. P (Key key.Catch o ∷ Sign g.LeftParen a ∷ Name x b ∷ s)) punctuation.RightParen
-    (λ d. fixed_then c k w (λ s. P (Key key.Catch o ∷ Sign g.LeftParen a ∷ Name x b ∷ Sign g.RightParen d ∷ s)) punctuation.LeftBrace (λ i r t. f o a x b d i r t)))))
+    fixed_then c (Fixed punctuation.LeftParen ∷ Word ∷ k) w P punctuation.Catch
+    (λ o. fixed_then c (Word ∷ k) w (λ s. P (Key key.Catch o ∷ s)) punctuation.LeftParen
+    (λ a. word_then c k w (λ s. P (Key key.Catch o ∷ Sign g.LeftParen a ∷ s)) (λ x b r t. f o a x b r t)))
 
 caught_gives : (c : Limits) (p q : Place) (l : ℕ) (k : Stack) (w u : Counts) (s : List Terminal) (xs : List Stmt) (r : List Terminal)
-    → Takes c (Fixed punctuation.Catch ∷ Fixed punctuation.LeftParen ∷ Word ∷ Fixed punctuation.RightParen ∷ Fixed punctuation.LeftBrace ∷ Block (suc l) ∷ k) u r → IsBlock c (suc l) w u s r xs
+    → Takes c (Fixed punctuation.Catch ∷ Fixed punctuation.LeftParen ∷ Word ∷ CatchRest ∷ Block (suc l) ∷ k) u r → IsBlock c (suc l) w u s r xs
     → Plain c l k w (Key key.Try p ∷ Sign g.LeftBrace q ∷ s)
 caught_gives c p q l k w u s xs =
-    catch_then c (Block (suc l) ∷ k) u (λ r. IsBlock c (suc l) w u s r xs → Plain c l k w (Key key.Try p ∷ Sign g.LeftBrace q ∷ s))
-    (λ o a x b d i r t e. (t.0, t.1, (_, is.try e t.2.1), t.3))
+    catch_then c (CatchRest ∷ Block (suc l) ∷ k) u (λ r. IsBlock c (suc l) w u s r xs → Plain c l k w (Key key.Try p ∷ Sign g.LeftBrace q ∷ s))
+    (λ o a x b r t e. (t.3.0, t.3.1, (_, is.try e t.2.1 t.3.2.1), t.3.3))
 
 try_gives : (c : Limits) (p : Place) (l : ℕ) (k : Stack) (w : Counts) (s : List Terminal)
-    → Takes c (Fixed punctuation.LeftBrace ∷ Block (suc l) ∷ Fixed punctuation.Catch ∷ Fixed punctuation.LeftParen ∷ Word ∷ Fixed punctuation.RightParen ∷ Fixed punctuation.LeftBrace ∷ Block (suc l) ∷ k) w s
+    → Takes c (Fixed punctuation.LeftBrace ∷ Block (suc l) ∷ Fixed punctuation.Catch ∷ Fixed punctuation.LeftParen ∷ Word ∷ CatchRest ∷ Block (suc l) ∷ k) w s
     → Plain c l k w (Key key.Try p ∷ s)
 try_gives c p l k w =
-    fixed_then c (Block (suc l) ∷ Fixed punctuation.Catch ∷ Fixed punctuation.LeftParen ∷ Word ∷ Fixed punctuation.RightParen ∷ Fixed punctuation.LeftBrace ∷ Block (suc l) ∷ k) w
+    fixed_then c (Block (suc l) ∷ Fixed punctuation.Catch ∷ Fixed punctuation.LeftParen ∷ Word ∷ CatchRest ∷ Block (suc l) ∷ k) w
     (λ s. Plain c l k w (Key key.Try p ∷ s)) punctuation.LeftBrace (λ q s t. caught_gives c p q l k w t.1 s t.2.0 t.0 t.3 t.2.1)
+
+-- what stands behind the exception of a `catch`
+variable_gives : (c : Limits) (x : List ℕ) (p : Place) (k : Stack) (w : Counts) → w.two ≡ true → (s : List Terminal) → Takes c (Fixed punctuation.RightParen ∷ Fixed punctuation.LeftBrace ∷ k) (with_local w) s
+    → c (Name x p ∷ s) (Count many.Locals) (suc w.locals) ≡ true → Takes c (CatchRest ∷ k) w (Name x p ∷ s)
+variable_gives c x p k w two =
+    fixed_then c (Fixed punctuation.LeftBrace ∷ k) (with_local w) (λ s. c (Name x p ∷ s) (Count many.Locals) (suc w.locals) ≡ true → Takes c (CatchRest ∷ k) w (Name x p ∷ s)) punctuation.RightParen
+    (λ q. fixed_then c k (with_local w) (λ s. c (Name x p ∷ Sign g.RightParen q ∷ s) (Count many.Locals) (suc w.locals) ≡ true → Takes c (CatchRest ∷ k) w (Name x p ∷ Sign g.RightParen q ∷ s))
+    punctuation.LeftBrace (λ o r t h. (r, with_local w, (_, is.catch_variable two h), t)))
+
+variable_by : (c : Limits) (x : List ℕ) (p : Place) (k : Stack) (w : Counts) (b : Bool) → w.two ≡ b → Step c (Name x p) (CatchRest ∷ k) w
+    (if b then machine.ask (Count many.Locals) (suc w.locals) (machine.go (Fixed punctuation.RightParen ∷ Fixed punctuation.LeftBrace ∷ k) (with_local w)) else None)
+variable_by c x p k w true two = λ s h t. variable_gives c x p k w two s t h.0
+variable_by c x p k w false two = tt
+
+pub catch_rest_sound : (c : Limits) (x : Terminal) (k : Stack) (w : Counts) → Step c x (CatchRest ∷ k) w (machine.catch_rest x k w)
+catch_rest_sound c (Sign g.RightParen p) k w = λ s h t.
+    fixed_then c k w (λ s. Takes c (CatchRest ∷ k) w (Sign g.RightParen p ∷ s)) punctuation.LeftBrace (λ q r t. (r, w, (_, is.no_variable), t)) s t
+catch_rest_sound c (Name x p) k w = variable_by c x p k w w.two refl
+catch_rest_sound c _ k w = tt
+
+-- what stands behind that of a `throw`
+number_by : (c : Limits) (p : Place) (l : ℕ) (k : Stack) (w : Counts) (b : Bool) → w.two ≡ b → Step c (Sign g.LeftParen p) (ThrowRest l ∷ k) w
+    (if b then machine.go (Expression l ∷ Operators l ∷ Fixed punctuation.RightParen ∷ Fixed punctuation.Semicolon ∷ k) w else None)
+number_by c p l k w true two = λ s h t.
+    let z = closed punctuation.RightParen t.2.1 t.3.2 t.3.3.2 in
+    let o = t.3.3.3 in
+    (o.0, o.1, (_, is.thrown_number two (moved (λ a u. IsWhole c l w a s (Sign g.RightParen z.0 ∷ u) z.1) o.2.1 o.2.2 z.2)), o.3)
+number_by c p l k w false two = tt
+
+pub throw_rest_sound : (c : Limits) (x : Terminal) (l : ℕ) (k : Stack) (w : Counts) → Step c x (ThrowRest l ∷ k) w (machine.throw_rest x l k w)
+throw_rest_sound c (Sign g.Semicolon p) l k w = λ s h t. (s, w, (_, is.no_number), t)
+throw_rest_sound c (Sign g.LeftParen p) l k w = number_by c p l k w w.two refl
+throw_rest_sound c _ l k w = tt
 
 -- a name and a semicolon
 ended_then : (c : Limits) (k : Stack) (w : Counts) (P : List Terminal → Type 0) → ((x : List ℕ) (p o : Place) (r : List Terminal) → Takes c k w r → P (Name x p ∷ Sign g.Semicolon o ∷ r))
     → (s : List Terminal) → Takes c (Word ∷ Fixed punctuation.Semicolon ∷ k) w s → P s
 ended_then c k w P f = word_then c (Fixed punctuation.Semicolon ∷ k) w P (λ x p. fixed_then c k w (λ s. P (Name x p ∷ s)) punctuation.Semicolon (λ o r t. f x p o r t))
 
-throw_gives : (c : Limits) (p : Place) (l : ℕ) (k : Stack) (w : Counts) (s : List Terminal) → Takes c (Word ∷ Fixed punctuation.Semicolon ∷ k) w s → Plain c l k w (Key key.Throw p ∷ s)
-throw_gives c p l k w = ended_then c k w (λ s. Plain c l k w (Key key.Throw p ∷ s)) (λ x q o r t. (r, w, (_, is.throw), t))
+throw_gives : (c : Limits) (p : Place) (l : ℕ) (k : Stack) (w : Counts) (s : List Terminal) → Takes c (Word ∷ ThrowRest l ∷ k) w s → Plain c l k w (Key key.Throw p ∷ s)
+throw_gives c p l k w = word_then c (ThrowRest l ∷ k) w (λ s. Plain c l k w (Key key.Throw p ∷ s)) (λ x q r t. (t.0, t.1, (_, is.throw t.2.1), t.3))
 
 abbrev opens : Terminal → Bool
 opens (Sign g.LeftBrace p) = true

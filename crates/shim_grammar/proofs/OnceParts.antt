@@ -7,7 +7,7 @@ use Rattle.shim_syntax.specs.declared.tree.Stmt.{Stmt}
 use Rattle.shim_syntax.specs.Terminals.{Terminal, Sign, first}
 use Rattle.shim_syntax.specs.Limits.{Limits}
 use Rattle.shim_syntax.specs.Grammar as is
-use Rattle.shim_syntax.specs.Grammar.{Counts, IsDeclared, IsDeclarations, IsFirst, IsTest, IsStep, row_of}
+use Rattle.shim_syntax.specs.Grammar.{Counts, IsDeclared, IsDeclarations, IsFirst, IsTest, IsStep, IsThrowRest, IsCatchRest, row_of}
 use Rattle.shim_grammar.proofs.OnceExpr.{whole_once, no_semicolon, tail_same}
 
 -- an equals sign goes on with a value
@@ -54,3 +54,12 @@ pub step_once : {c d : Limits} {l l' : ℕ} {v w v' w' : Counts} {s r r' : List 
     → (r ≡ r') × (xs ≡ ys)
 step_once is.no_step is.no_step = (refl, refl)
 step_once (is.step h a) (is.step h' a') = let p = whole_once a a' refl refl in (tail_same p.0, (let x = p.1 in cc))
+
+pub throw_rest_once : {c d : Limits} {l l' : ℕ} {v w v' w' : Counts} {s r r' : List Terminal} {x y : Option Expr} → IsThrowRest c l v w s r x → IsThrowRest d l' v' w' s r' y
+    → (r ≡ r') × (x ≡ y)
+throw_rest_once is.no_number is.no_number = (refl, refl)
+throw_rest_once (is.thrown_number h a) (is.thrown_number h' a') = let p = whole_once a a' refl refl in (tail_same (tail_same p.0), ap (λ u. Some u) p.1)
+
+pub catch_rest_once : {c d : Limits} {v w v' w' : Counts} {s r r' : List Terminal} {x y : Option (List ℕ)} → IsCatchRest c v w s r x → IsCatchRest d v' w' s r' y → (r ≡ r') × (x ≡ y)
+catch_rest_once is.no_variable is.no_variable = (refl, refl)
+catch_rest_once (is.catch_variable h a) (is.catch_variable h' a') = (refl, refl)

@@ -9,9 +9,9 @@ use Rattle.shim_syntax.specs.declared.tree.Branch.{Branch}
 use Rattle.shim_syntax.specs.Terminals.{Terminal, Key, Sign, first}
 use Rattle.shim_syntax.specs.Limits.{Limits}
 use Rattle.shim_syntax.specs.Grammar as is
-use Rattle.shim_syntax.specs.Grammar.{Counts, IsTest, IsStep, IsBlock, IsStmt, IsBody, IsPlain, IsBranches, IsBranch, is_else, is_par}
+use Rattle.shim_syntax.specs.Grammar.{Counts, IsTest, IsStep, IsCatchRest, IsBlock, IsStmt, IsBody, IsPlain, IsBranches, IsBranch, is_else, is_par}
 use Rattle.shim_grammar.proofs.OnceExpr.{whole_once, arguments_once, no_keyword, tail_same}
-use Rattle.shim_grammar.proofs.OnceParts.{declarations_once, first_once, test_once, step_once}
+use Rattle.shim_grammar.proofs.OnceParts.{declarations_once, first_once, test_once, step_once, throw_rest_once, catch_rest_once}
 
 pub same_more : {A : Type 0} {x x' : A} {xs xs' : List A} → x ≡ x' → xs ≡ xs' → x ∷ xs ≡ x' ∷ xs'
 same_more {x' = x'} {xs = xs} p q = ap (λ u. u ∷ xs) p ∙ ap (λ u. x' ∷ u) q
@@ -22,6 +22,9 @@ at_test {c = c} {l = l} {v = v} {w = w} {r = r} {x = x} p i = subst (λ u. IsTes
 
 at_step : {c : Limits} {l : ℕ} {v w : Counts} {s t r : List Terminal} {xs : List Stmt} → s ≡ t → IsStep c l v w t r xs → IsStep c l v w s r xs
 at_step {c = c} {l = l} {v = v} {w = w} {r = r} {xs = xs} p i = subst (λ u. IsStep c l v w u r xs) (sym p) i
+
+at_catch_rest : {c : Limits} {v w : Counts} {s t r : List Terminal} {x : Option (List ℕ)} → s ≡ t → IsCatchRest c v w t r x → IsCatchRest c v w s r x
+at_catch_rest {c = c} {v = v} {w = w} {r = r} {x = x} p i = subst (λ u. IsCatchRest c v w u r x) (sym p) i
 
 at_block : {c : Limits} {l : ℕ} {v w : Counts} {s t r : List Terminal} {xs : List Stmt} → s ≡ t → IsBlock c l v w t r xs → IsBlock c l v w s r xs
 at_block {c = c} {l = l} {v = v} {w = w} {r = r} {xs = xs} p i = subst (λ u. IsBlock c l v w u r xs) (sym p) i
@@ -133,12 +136,13 @@ mutual
       let p = arguments_once a a' in
       let q = branches_once b (at_branches (tail_same (tail_same p.0)) b') in
       (q.0, (let x = p.1 in let y = q.1 in cc))
-  plain_once (is.try a b) (is.try a' b') =
+  plain_once (is.try a h b) (is.try a' h' b') =
       let p = block_once a a' in
       let e = p.0 in
-      let q = block_once b (at_block (cc) b') in
-      (q.0, (let x = p.1 in let y = q.1 in cc))
-  plain_once is.throw is.throw = (refl, refl)
+      let o = catch_rest_once h (at_catch_rest (cc) h') in
+      let q = block_once b (at_block o.0 b') in
+      (q.0, (let x = p.1 in let y = q.1 in let z = o.1 in cc))
+  plain_once (is.throw a) (is.throw a') = let p = throw_rest_once a a' in (p.0, (let x = p.1 in cc))
 
   pub branches_once : {c d : Limits} {l l' n n' : ℕ} {v w v' w' : Counts} {s r r' : List Terminal} {bs cs : List Branch} → IsBranches c l n v w s r bs → IsBranches d l' n' v' w' s r' cs
       → (r ≡ r') × (bs ≡ cs)

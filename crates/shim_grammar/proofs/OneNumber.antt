@@ -12,7 +12,7 @@ use Rattle.shim_syntax.specs.Grammar.{Counts, at_level, new_expression, behind_b
 use Rattle.shim_grammar.specs.declared.punctuation.Punctuation.{Punctuation}
 use Rattle.shim_grammar.specs.declared.punctuation.Punctuation.TheVariants as punctuation
 use Rattle.shim_grammar.specs.Machine as m
-use Rattle.shim_grammar.specs.Machine.{Fixed, Word, Operand, Inside, Expression, Operators, Arguments, MoreArguments, Argument, Declarations, AfterDeclared, MoreDeclarations, Declaration, AfterDeclaration, Statement, Body, Block, AfterWord, AfterEqual, AfterNext, First, Test, Step, Else, AfterBody, Pars, Branch, Parameters, AfterSort, Throws, MoreParameters, Parameter, Thrown, MoreThrows, Functions, Stack, Ask, Want, ask, wants, Source, Version}
+use Rattle.shim_grammar.specs.Machine.{Fixed, Word, Operand, Inside, Expression, Operators, Arguments, MoreArguments, Argument, Declarations, AfterDeclared, MoreDeclarations, Declaration, AfterDeclaration, Statement, Body, Block, AfterWord, AfterEqual, AfterNext, ThrowRest, CatchRest, First, Test, Step, Else, AfterBody, Pars, Branch, Parameters, AfterSort, Throws, MoreParameters, Parameter, Thrown, MoreThrows, Functions, Stack, Ask, Want, ask, wants, Source, Version}
 use Rattle.shim_grammar.proofs.Gives.{Allowed}
 
 -- the first where the limit is that on levels, the second where it is one on a number
@@ -147,6 +147,16 @@ after_next_one (Sign g.Semicolon p) l k w = tt
 after_next_one (Sign g.Equal p) l k w = tt
 after_next_one _ l k w = tt
 
+throw_rest_one : (x : Terminal) (l : ℕ) (k : Stack) (w : Counts) → Single (m.throw_rest x l k w)
+throw_rest_one (Sign g.Semicolon p) l k w = tt
+throw_rest_one (Sign g.LeftParen p) l k w = joined w.two _ None tt tt
+throw_rest_one _ l k w = tt
+
+catch_rest_one : (x : Terminal) (k : Stack) (w : Counts) → Single (m.catch_rest x k w)
+catch_rest_one (Sign g.RightParen p) k w = tt
+catch_rest_one (Name y p) k w = joined w.two _ None tt tt
+catch_rest_one _ k w = tt
+
 first_one : (x : Terminal) (l : ℕ) (k : Stack) (w : Counts) → Single (m.first_of_for x l k w)
 first_one (Sign g.Semicolon p) l k w = tt
 first_one (Sort (Value ty) p) l k w = tt
@@ -248,6 +258,8 @@ one_number (Block l ∷ k) x w = block_one x l k w
 one_number (AfterWord l ∷ k) x w = after_word_one x l k w
 one_number (AfterEqual l ∷ k) x w = after_equal_one x l k w
 one_number (AfterNext l ∷ k) x w = after_next_one x l k w
+one_number (ThrowRest l ∷ k) x w = throw_rest_one x l k w
+one_number (CatchRest ∷ k) x w = catch_rest_one x k w
 one_number (First l ∷ k) x w = first_one x l k w
 one_number (Test l ∷ k) x w = test_one x l k w
 one_number (Step l ∷ k) x w = step_one x l k w

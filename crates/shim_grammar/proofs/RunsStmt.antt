@@ -1,5 +1,6 @@
 -- The machine runs through what the grammar derives: declarations, statements and functions.
 use Rattle.std.proofs.Common.{◌≡◌, ℕ, suc, List, [], ◌∷◌, true, false, Option, Some, None, refl, ap, ◌∙◌}
+use Rattle.std.specs.Prelude.{if◌then◌else◌}
 use Rattle.shim_base.specs.Tokens.{Place}
 use Rattle.shim_base.specs.declared.token.Sign.TheVariants as g
 use Rattle.shim_base.specs.declared.types.Ty.{Ty}
@@ -13,9 +14,9 @@ use Rattle.shim_syntax.specs.declared.tree.Program.{Program as ProgramTree}
 use Rattle.shim_syntax.specs.Terminals.{Terminal, Sign, first, is_shim, is_two}
 use Rattle.shim_syntax.specs.Limits.{Nesting, Count, Limits}
 use Rattle.shim_syntax.specs.Grammar as is
-use Rattle.shim_syntax.specs.Grammar.{Counts, nothing_read, new_function, with_local, new_body, at_level, behind_body, as_branch, is_else, is_par, IsDeclared, IsDeclarations, IsFirst, IsStep, IsBlock, IsStmt, IsBody, IsPlain, IsBranches, IsBranch, IsParam, IsParams, IsMoreParams, IsThrows, IsMoreThrows, IsFunction, IsFunctions, Derives}
+use Rattle.shim_syntax.specs.Grammar.{Counts, nothing_read, in_version_2, new_function, with_local, new_body, at_level, behind_body, as_branch, is_else, is_par, IsDeclared, IsDeclarations, IsFirst, IsStep, IsThrowRest, IsCatchRest, IsBlock, IsStmt, IsBody, IsPlain, IsBranches, IsBranch, IsParam, IsParams, IsMoreParams, IsThrows, IsMoreThrows, IsFunction, IsFunctions, Derives}
 use Rattle.shim_grammar.specs.declared.punctuation.Punctuation.TheVariants as punctuation
-use Rattle.shim_grammar.specs.Machine.{Fixed, Word, Declarations, MoreDeclarations, Declaration, Statement, Body, Block, First, Test, Step, Else, AfterBody, Pars, Branch, Parameters, Throws, MoreParameters, Parameter, MoreThrows, Functions, Stack, Want, Halt, At, Unwanted, judge, wants, go, Whole, statement, run, Source, Version}
+use Rattle.shim_grammar.specs.Machine.{Fixed, Word, Expression, Operators, Declarations, MoreDeclarations, Declaration, Statement, Body, Block, ThrowRest, CatchRest, First, Test, Step, Else, AfterBody, Pars, Branch, Parameters, Throws, MoreParameters, Parameter, MoreThrows, Functions, Stack, Want, Halt, At, Unwanted, judge, wants, go, Whole, statement, run, Source, Version}
 use Rattle.shim_grammar.proofs.Runs.{run_on, asked, is_left_brace, is_right_brace, else_skips, pars_skips, after_body_skips, block_skips, body_skips, whole_runs, arguments_runs, equal_runs, test_runs}
 
 pub declared_runs : {c : Limits} {l : ℕ} {w : Counts} {s r : List Terminal} {x : List ℕ} {p : Place} {value : Option Expr} (v : Counts) → IsDeclared c l v w s (Sign g.Semicolon p ∷ r) x value
@@ -47,6 +48,20 @@ pub step_runs : {c : Limits} {l : ℕ} {v w : Counts} {s r : List Terminal} {xs 
 step_runs is.no_step k = refl
 step_runs {l = l} {v = v} (is.step h d) k = rw h (whole_runs (at_level l v) d (Fixed punctuation.RightParen ∷ k))
 
+-- where the text is of version 2
+number_wanted : (c : Limits) (p : Place) (s : List Terminal) (l : ℕ) (k : Stack) (w : Counts) → w.two ≡ true
+    → run c (Sign g.LeftParen p ∷ s) (ThrowRest l ∷ k) w ≡ run c s (Expression l ∷ Operators l ∷ Fixed punctuation.RightParen ∷ Fixed punctuation.Semicolon ∷ k) w
+number_wanted c p s l k w two =
+    ap (λ b. run_on c (Sign g.LeftParen p) s (if b then go (Expression l ∷ Operators l ∷ Fixed punctuation.RightParen ∷ Fixed punctuation.Semicolon ∷ k) w else None)) two
+
+pub throw_rest_runs : {c : Limits} {l : ℕ} {v w : Counts} {s r : List Terminal} {x : Option Expr} → IsThrowRest c l v w s r x → (k : Stack) → run c s (ThrowRest l ∷ k) v ≡ run c r k w
+throw_rest_runs is.no_number k = refl
+throw_rest_runs {c = c} {l = l} {v = v} (is.thrown_number {p = p} {s = s} two d) k = number_wanted c p s l k v two ∙ whole_runs v d (Fixed punctuation.RightParen ∷ Fixed punctuation.Semicolon ∷ k)
+
+pub catch_rest_runs : {c : Limits} {v w : Counts} {s r : List Terminal} {x : Option (List ℕ)} → IsCatchRest c v w s r x → (k : Stack) → run c s (CatchRest ∷ k) v ≡ run c r k w
+catch_rest_runs is.no_variable k = refl
+catch_rest_runs (is.catch_variable two h) k = rw two (rw h refl)
+
 -- a plain statement begins with no brace
 pub plain_begins : {c : Limits} {l : ℕ} {v w : Counts} {s r : List Terminal} {xs : List Stmt} → IsPlain c l v w s r xs → (is_left_brace (first s) ≡ false) × (is_right_brace (first s) ≡ false)
 plain_begins is.empty = (refl, refl)
@@ -63,8 +78,8 @@ plain_begins (is.while d b) = (refl, refl)
 plain_begins (is.for_loop a d e b) = (refl, refl)
 plain_begins (is.call d h) = (refl, refl)
 plain_begins (is.call_fork d b) = (refl, refl)
-plain_begins (is.try b d) = (refl, refl)
-plain_begins is.throw = (refl, refl)
+plain_begins (is.try b h d) = (refl, refl)
+plain_begins (is.throw d) = (refl, refl)
 
 pub stmt_begins : {c : Limits} {l : ℕ} {v w : Counts} {s r : List Terminal} {xs : List Stmt} → IsStmt c l v w s r xs → is_right_brace (first s) ≡ false
 stmt_begins (is.block b h) = refl
@@ -128,8 +143,9 @@ mutual
       ∙ step_runs e (Body (suc l) ∷ k) ∙ body_runs b k
   plain_begun_runs {c = c} {l = l} {w = w} {r = r} (is.call d e) k = arguments_runs d (Fixed punctuation.Semicolon ∷ Pars l 1 ∷ k) ∙ pars_skips c r l 1 w k e
   plain_begun_runs {l = l} (is.call_fork d b) k = arguments_runs d (Fixed punctuation.Semicolon ∷ Pars l 1 ∷ k) ∙ branches_runs b k
-  plain_begun_runs {l = l} (is.try b d) k = block_runs b (Fixed punctuation.Catch ∷ Fixed punctuation.LeftParen ∷ Word ∷ Fixed punctuation.RightParen ∷ Fixed punctuation.LeftBrace ∷ Block (suc l) ∷ k) ∙ block_runs d k
-  plain_begun_runs is.throw k = refl
+  plain_begun_runs {l = l} (is.try b h d) k = block_runs b (Fixed punctuation.Catch ∷ Fixed punctuation.LeftParen ∷ Word ∷ CatchRest ∷ Block (suc l) ∷ k)
+      ∙ catch_rest_runs h (Block (suc l) ∷ k) ∙ block_runs d k
+  plain_begun_runs (is.throw d) k = throw_rest_runs d k
 
   pub branches_runs : {c : Limits} {l n : ℕ} {v w : Counts} {s r : List Terminal} {bs : List BranchTree} → IsBranches c l n v w s r bs → (k : Stack)
       → run c s (Branch l (suc n) ∷ Pars l (suc n) ∷ k) v ≡ run c r k w
@@ -199,17 +215,17 @@ source_begins (is.another_function h (is.function ps ts b) t) = refl
 after : Limits → Terminal → List Terminal → Option Want → Halt
 after c x s o = elim o [ None ↦ At Unwanted (x ∷ s) | Some n ↦ judge c (x ∷ s) n.asks (run c s n.stack n.counts) ]
 
-shim_wanted : (x : Terminal) (k : Stack) (w : Counts) → is_shim x ≡ true → wants (Source ∷ k) x w ≡ go (Version ∷ Fixed punctuation.Semicolon ∷ Functions 0 ∷ k) w
+shim_wanted : (x : Terminal) (k : Stack) (w : Counts) → is_shim x ≡ true → wants (Source ∷ k) x w ≡ go (Version ∷ Fixed punctuation.Semicolon ∷ Functions 0 ∷ k) (in_version_2 w)
 shim_wanted x k w e = rw e refl
 
 two_wanted : (x : Terminal) (k : Stack) (w : Counts) → is_two x ≡ true → wants (Version ∷ k) x w ≡ go k w
 two_wanted x k w e = rw e refl
 
 header_runs : (c : Limits) (x y : Terminal) (p : Place) (s : List Terminal) (w : Counts) → is_shim x ≡ true → is_two y ≡ true
-    → run c (x ∷ y ∷ Sign g.Semicolon p ∷ s) (Source ∷ []) w ≡ run c s (Functions 0 ∷ []) w
+    → run c (x ∷ y ∷ Sign g.Semicolon p ∷ s) (Source ∷ []) w ≡ run c s (Functions 0 ∷ []) (in_version_2 w)
 unfolding after
 header_runs c x y p s w shim two =
-    ap (after c x (y ∷ Sign g.Semicolon p ∷ s)) (shim_wanted x [] w shim) ∙ ap (after c y (Sign g.Semicolon p ∷ s)) (two_wanted y (Fixed punctuation.Semicolon ∷ Functions 0 ∷ []) w two)
+    ap (after c x (y ∷ Sign g.Semicolon p ∷ s)) (shim_wanted x [] w shim) ∙ ap (after c y (Sign g.Semicolon p ∷ s)) (two_wanted y (Fixed punctuation.Semicolon ∷ Functions 0 ∷ []) (in_version_2 w) two)
 
 -- the terminals of a program are all taken
 pub program_runs : {c : Limits} {s : List Terminal} {p : ProgramTree} → Derives c s p → run c s (Source ∷ []) nothing_read ≡ Whole

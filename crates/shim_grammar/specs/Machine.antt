@@ -8,7 +8,7 @@ use Rattle.shim_syntax.specs.declared.limits.Many.TheVariants as m
 use Rattle.shim_syntax.specs.declared.tree.Sort.TheVariants.{Value}
 use Rattle.shim_syntax.specs.Terminals.{Terminal, Name, Number, Sort, Key, Sign, End, is_shim, is_two}
 use Rattle.shim_syntax.specs.Limits.{Limit, Nesting, Count, Limits}
-use Rattle.shim_syntax.specs.Grammar.{Counts, new_function, with_local, new_expression, with_operator, at_level, new_body, behind_body, as_branch}
+use Rattle.shim_syntax.specs.Grammar.{Counts, in_version_2, new_function, with_local, new_expression, with_operator, at_level, new_body, behind_body, as_branch}
 use Rattle.shim_grammar.specs.declared.punctuation.Punctuation.{Punctuation}
 use Rattle.shim_grammar.specs.declared.punctuation.Punctuation.TheVariants as punctuation
 
@@ -25,6 +25,9 @@ pub data Symbol : Type 0 where
   -- the one declared name of a `for`, and behind it
   Declaration AfterDeclaration : ℕ → Symbol
   Statement Body Block AfterWord AfterEqual AfterNext First Test Step Else : ℕ → Symbol
+  -- behind the exception of a `throw`; behind that of a `catch`, up to the handler's block
+  ThrowRest : ℕ → Symbol
+  CatchRest : Symbol
   -- behind the block of a body of that level; the deepest level outside
   AfterBody : ℕ → ℕ → Symbol
   -- behind so many branches; the branch of that number
@@ -151,8 +154,8 @@ statement (Key k.If p) l k w = go (Fixed punctuation.LeftParen ∷ Expression l 
 statement (Key k.While p) l k w = go (Fixed punctuation.LeftParen ∷ Expression l ∷ Operators l ∷ Fixed punctuation.RightParen ∷ Body (suc l) ∷ k) w
 statement (Key k.For p) l k w = go (Fixed punctuation.LeftParen ∷ First (suc l) ∷ Test l ∷ Step (suc l) ∷ Body (suc l) ∷ k) w
 statement (Key k.Try p) l k w =
-    go (Fixed punctuation.LeftBrace ∷ Block (suc l) ∷ Fixed punctuation.Catch ∷ Fixed punctuation.LeftParen ∷ Word ∷ Fixed punctuation.RightParen ∷ Fixed punctuation.LeftBrace ∷ Block (suc l) ∷ k) w
-statement (Key k.Throw p) l k w = go (Word ∷ Fixed punctuation.Semicolon ∷ k) w
+    go (Fixed punctuation.LeftBrace ∷ Block (suc l) ∷ Fixed punctuation.Catch ∷ Fixed punctuation.LeftParen ∷ Word ∷ CatchRest ∷ Block (suc l) ∷ k) w
+statement (Key k.Throw p) l k w = go (Word ∷ ThrowRest l ∷ k) w
 statement (Sign g.LeftBrace p) l k w = go (Block (suc l) ∷ Pars l 1 ∷ k) w
 statement _ l k w = None
 
@@ -182,6 +185,20 @@ abbrev pub after_next : Terminal → ℕ → Stack → Counts → Option Want
 after_next (Sign g.Semicolon p) l k w = go k w
 after_next (Sign g.Equal p) l k w = go (Expression l ∷ Operators l ∷ Fixed punctuation.Semicolon ∷ k) w
 after_next _ l k w = None
+
+-- version 2 alone has a number behind the exception
+abbrev pub throw_rest : Terminal → ℕ → Stack → Counts → Option Want
+throw_rest (Sign g.Semicolon p) l k w = go k w
+throw_rest (Sign g.LeftParen p) l k w = if w.two then go (Expression l ∷ Operators l ∷ Fixed punctuation.RightParen ∷ Fixed punctuation.Semicolon ∷ k) w else None
+throw_rest _ l k w = None
+
+-- version 2 alone has a variable there
+abbrev pub catch_rest : Terminal → Stack → Counts → Option Want
+catch_rest (Sign g.RightParen p) k w = go (Fixed punctuation.LeftBrace ∷ k) w
+catch_rest (Name x p) k w =
+    if w.two then ask (Count m.Locals) (suc w.locals) (go (Fixed punctuation.RightParen ∷ Fixed punctuation.LeftBrace ∷ k) (with_local w))
+    else None
+catch_rest _ k w = None
 
 abbrev pub first_of_for : Terminal → ℕ → Stack → Counts → Option Want
 first_of_for (Sign g.Semicolon p) l k w = go k w
@@ -258,7 +275,7 @@ functions _ n k w = None
 
 -- `shim` begins a text of version 2
 abbrev pub source : Terminal → Stack → Counts → Option Want
-source x k w = if is_shim x then go (Version ∷ Fixed punctuation.Semicolon ∷ Functions 0 ∷ k) w else functions x 0 k w
+source x k w = if is_shim x then go (Version ∷ Fixed punctuation.Semicolon ∷ Functions 0 ∷ k) (in_version_2 w) else functions x 0 k w
 
 abbrev pub version : Terminal → Stack → Counts → Option Want
 version x k w = if is_two x then go k w else None
@@ -285,6 +302,8 @@ wants (Block l ∷ k) x w = block x l k w
 wants (AfterWord l ∷ k) x w = after_word x l k w
 wants (AfterEqual l ∷ k) x w = after_equal x l k w
 wants (AfterNext l ∷ k) x w = after_next x l k w
+wants (ThrowRest l ∷ k) x w = throw_rest x l k w
+wants (CatchRest ∷ k) x w = catch_rest x k w
 wants (First l ∷ k) x w = first_of_for x l k w
 wants (Test l ∷ k) x w = test_of_for x l k w
 wants (Step l ∷ k) x w = step_of_for x l k w

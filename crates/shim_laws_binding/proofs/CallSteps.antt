@@ -85,13 +85,13 @@ pub calls_call : (c : RCall) → calls_of_what (r.Call c) ≡ c ∷ []
 unfolding roll-RWhat denote.Hole.Carrier.roll
 calls_call c = at_what (RWhat-F.RWhat::Call c)
 
-pub calls_try : (body : List RStmt) (number : ℕ) (handler : List RStmt) → calls_of_what (r.Try body number handler) ≡ calls_among body ++ calls_among handler
+pub calls_try : (body : List RStmt) (number : ℕ) (slot : Option ℕ) (handler : List RStmt) → calls_of_what (r.Try body number slot handler) ≡ calls_among body ++ calls_among handler
 unfolding roll-RWhat denote.Hole.Carrier.roll
-calls_try body number handler = at_what (RWhat-F.Try body number handler)
+calls_try body number slot handler = at_what (RWhat-F.Try body number slot handler)
 
-pub calls_throw : (number : ℕ) → calls_of_what (r.Throw number) ≡ []
+pub calls_throw : (number : ℕ) (a : Option UExpr) → calls_of_what (r.Throw number a) ≡ []
 unfolding roll-RWhat denote.Hole.Carrier.roll
-calls_throw number = at_what (RWhat-F.Throw number)
+calls_throw number a = at_what (RWhat-F.Throw number a)
 
 pub calls_par : (branches : List RBranch) → calls_of_what (r.Par branches) ≡ calls_of_branches branches
 unfolding roll-RWhat denote.Hole.Carrier.roll

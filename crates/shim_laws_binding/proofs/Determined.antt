@@ -29,7 +29,7 @@ use Rattle.shim_scopes.specs.Binding.{slot_at, slot_of, placed, placed_all, plac
 use Rattle.shim_scopes.specs.Calls.{function_number, function_of}
 use Rattle.shim_laws_binding.specs.Innermost.{exception_name, local_name, IsNumberOfInnermost, IsSlotOfInnermost}
 use Rattle.shim_laws_binding.specs.LexicalScope as is
-use Rattle.shim_laws_binding.specs.LexicalScope.{Point, Pairwise, behind_declaration, inside_try, behind_block, BindsExpr, BindsOption, BindsCall, BindsWhat, BindsStmt, BindsStmts, BindsBlock, BindsBranchWhat, BindsBranch, BindsBranches}
+use Rattle.shim_laws_binding.specs.LexicalScope.{Point, Pairwise, behind_declaration, inside_try, behind_block, behind_variable, slot_of_variable, BindsExpr, BindsOption, BindsCall, BindsWhat, BindsStmt, BindsStmts, BindsBlock, BindsBranchWhat, BindsBranch, BindsBranches}
 use Rattle.shim_laws_binding.proofs.InnermostLemmas.{innermost_found}
 use Rattle.shim_laws_binding.proofs.NamedExprs.{placed_number, placed_variable, placed_unary, placed_binary}
 
@@ -111,8 +111,13 @@ module _ (functions : List Function) (numbers : HaveNumbers functions) where
   abbrev tell_for : Option Expr → Tells (List RStmt) → Tells (List RStmt) → Tells (List RStmt) → Tells RWhat
   tell_for test f g h p = told (rt.For (f p).tree (placed_option (f p).behind.declared test) (g (f p).behind).tree (h (g (f p).behind).behind).tree) (behind_block p (h (g (f p).behind).behind).behind)
 
-  abbrev tell_try : List ℕ → Tells (List RStmt) → Tells (List RStmt) → Tells RWhat
-  tell_try x f g p = told (rt.Try (f (inside_try x p)).tree p.exceptions (g (behind_block p (f (inside_try x p)).behind)).tree) (g (behind_block p (f (inside_try x p)).behind)).behind
+  abbrev tell_handler : Option (List ℕ) → Point → Told (List RStmt) → Tells (List RStmt) → Told RWhat
+  tell_handler y p body g =
+      let h = g (behind_variable y (behind_block p body.behind)) in
+      told (rt.Try body.tree p.exceptions (slot_of_variable y body.behind) h.tree) (behind_block p h.behind)
+
+  abbrev tell_try : List ℕ → Option (List ℕ) → Tells (List RStmt) → Tells (List RStmt) → Tells RWhat
+  tell_try x y f g p = tell_handler y p (f (inside_try x p)) g
 
   abbrev what_step : What-F (Tells RBranchWhat) (Tells RWhat) (Tells RBranch) (Tells RStmt) → Tells RWhat
   what_step (What-F.Declare ty x a) p = told (rt.Declare ty p.slots (placed_option p.declared a)) (behind_declaration x (Value ty) p)
@@ -127,8 +132,8 @@ module _ (functions : List Function) (numbers : HaveNumbers functions) where
   what_step (What-F.For first test step body) p = tell_for test (tell_all first) (tell_all step) (tell_block (tell_all body)) p
   what_step (What-F.What::Block body) p = let b = tell_block (tell_all body) p in told (rt.Block b.tree) b.behind
   what_step (What-F.What::Call c) p = told (rt.Call (tell_call p c)) p
-  what_step (What-F.Try body x handler) p = tell_try x (tell_block (tell_all body)) (tell_block (tell_all handler)) p
-  what_step (What-F.Throw x) p = told (rt.Throw (exception_number p.handled x)) p
+  what_step (What-F.Try body x y handler) p = tell_try x y (tell_block (tell_all body)) (tell_all handler) p
+  what_step (What-F.Throw x a) p = told (rt.Throw (exception_number p.handled x) (placed_option p.declared a)) p
   what_step (What-F.Par branches) p = let b = tell_all branches p in told (rt.Par b.tree) b.behind
 
   abbrev branch_step : Branch-F (Tells RBranchWhat) (Tells RWhat) (Tells RBranch) (Tells RStmt) → Tells RBranch
@@ -242,17 +247,17 @@ module _ (functions : List Function) (numbers : HaveNumbers functions) where
   unfolding roll-What denote.Hole.Carrier.roll
   call_is c p r h = at_what (What-F.What::Call c) p ∙ ap (λ x. told (rt.Call x) p) (sym h)
 
-  try_is : (body : List Stmt) (x : List ℕ) (handler : List Stmt) (p m q : Point) (b h : List RStmt) → tell_block (tell_stmts body) (inside_try x p) ≡ told b m
-      → tell_block (tell_stmts handler) (behind_block p m) ≡ told h q → tell_what (st.Try body x handler) p ≡ told (rt.Try b p.exceptions h) q
+  try_is : (body : List Stmt) (x : List ℕ) (y : Option (List ℕ)) (handler : List Stmt) (p m q : Point) (b h : List RStmt) → tell_block (tell_stmts body) (inside_try x p) ≡ told b m
+      → tell_stmts handler (behind_variable y (behind_block p m)) ≡ told h q → tell_what (st.Try body x y handler) p ≡ told (rt.Try b p.exceptions (slot_of_variable y m) h) (behind_block p q)
   unfolding roll-What denote.Hole.Carrier.roll
-  try_is body x handler p m q b h d k =
-      let g : Tells (List RStmt) = tell_block (tell_stmts handler) in
-      at_what (What-F.Try body x handler) p ∙ ap (λ y. told (rt.Try y.tree p.exceptions (g (behind_block p y.behind)).tree) (g (behind_block p y.behind)).behind) d
-      ∙ ap (λ y. told (rt.Try b p.exceptions y.tree) y.behind) k
+  try_is body x y handler p m q b h d k =
+      at_what (What-F.Try body x y handler) p ∙ ap (λ z. tell_handler y p z (tell_stmts handler)) d
+      ∙ ap (λ z. told (rt.Try b p.exceptions (slot_of_variable y m) z.tree) (behind_block p z.behind)) k
 
-  throw_is : (x : List ℕ) (p : Point) (number : ℕ) → number ≡ exception_number p.handled x → tell_what (st.Throw x) p ≡ told (rt.Throw number) p
+  throw_is : (x : List ℕ) (a : Option Expr) (p : Point) (number : ℕ) (r : Option UExpr) → number ≡ exception_number p.handled x → r ≡ placed_option p.declared a
+      → tell_what (st.Throw x a) p ≡ told (rt.Throw number r) p
   unfolding roll-What denote.Hole.Carrier.roll
-  throw_is x p number i = at_what (What-F.Throw x) p ∙ ap (λ n. told (rt.Throw n) p) (sym i)
+  throw_is x a p number r i h = at_what (What-F.Throw x a) p ∙ ap (λ n. told (rt.Throw n (placed_option p.declared a)) p) (sym i) ∙ ap (λ v. told (rt.Throw number v) p) (sym h)
 
   par_is : (bs : List Branch) (p q : Point) (rs : List RBranch) → tell_branches bs p ≡ told rs q → tell_what (st.Par bs) p ≡ told (rt.Par rs) q
   unfolding roll-What denote.Hole.Carrier.roll
@@ -287,8 +292,8 @@ module _ (functions : List Function) (numbers : HaveNumbers functions) where
         for_is first test step body p m n q f t s b (stmts_told d) (option_told h) (stmts_told k) (block_told l)
     what_told (is.block {p = p} {q = q} {body = body} {b = b} d) = in_block_is body p q b (block_told d)
     what_told (is.call {p = p} {c = c} {r = r} h) = call_is c p r (call_told p c r h)
-    what_told (is.try {p = p} {m = m} {q = q} {x = x} {body = body} {handler = handler} {b = b} {h = h} d k) = try_is body x handler p m q b h (block_told d) (block_told k)
-    what_told (is.throw {p = p} {x = x} {number = number} i) = throw_is x p number (number_told x p.handled number i)
+    what_told (is.try {p = p} {m = m} {q = q} {x = x} {y = y} {body = body} {handler = handler} {b = b} {h = h} d k) = try_is body x y handler p m q b h (block_told d) (stmts_told k)
+    what_told (is.throw {p = p} {x = x} {a = a} {number = number} {r = r} i h) = throw_is x a p number r (number_told x p.handled number i) (option_told h)
     what_told (is.par {p = p} {q = q} {branches = bs} {rs = rs} d) = par_is bs p q rs (branches_told d)
 
     stmt_told : {p q : Point} {s : Stmt} {r : RStmt} → BindsStmt functions p s r q → tell_stmt s p ≡ told r q

@@ -1,8 +1,9 @@
 -- What is read adds its declarations and its `try` statements to those before, in the order of the text.
-use Rattle.std.proofs.Common.{ℕ, ◌+◌, ◌≡◌, ◌∙◌, List, [], ◌∷◌, ◌++◌, Option, Ok, length, map, refl, sym, ap, subst, append_assoc}
+use Rattle.std.proofs.Common.{ℕ, ◌+◌, ◌≡◌, ◌∙◌, List, [], ◌∷◌, ◌++◌, Option, Some, None, Ok, length, map, refl, sym, ap, subst, append_assoc}
 use Rattle.std.specs.Option.{option_or}
 use Rattle.std.proofs.lemmas.List.{append-nil, map-append}
 use Rattle.shim_base.specs.declared.types.Ty.{Ty}
+use Rattle.shim_base.specs.declared.types.Ty.TheVariants.{Int32}
 use Rattle.shim_syntax.specs.declared.tree.Sort.TheVariants.{Value}
 use Rattle.shim_syntax.specs.declared.tree.Expr.{Expr}
 use Rattle.shim_syntax.specs.declared.tree.Call.{Call}
@@ -21,10 +22,10 @@ use Rattle.shim_scopes.specs.declared.tree.UExpr.{UExpr}
 use Rattle.shim_scopes.specs.Binding.{unknown, unknown_in_option, stream_in, stream_in_option, no_number, no_input, no_output, slot_of, placed, placed_option, exception_number, unhandled}
 use Rattle.shim_syntax.specs.Names.{Texts, number_of}
 use Rattle.shim_scopes.specs.Refusals.{refused_for}
-use Rattle.shim_scopes.specs.Statements.{Whole, Around, Before, BoundTo, Bind, declared, local_of, within, opened, closed, caught, tried, bind_declare, bind_store, bind_next, bind_assign_next, bind_get, bind_put, bind_throw, bind_block, on_tree, bind_two, bind_test, bind_if, bind_while, bind_try, bind_parts, bind_first_test, bind_for, visible, declared_in, unknown_in_both, unknown_of_two}
+use Rattle.shim_scopes.specs.Statements.{Whole, Around, Before, BoundTo, Bind, declared, local_of, within, opened, closed, caught, tried, variable_declared, variable_slot, bind_handler, bind_declare, bind_store, bind_next, bind_assign_next, bind_get, bind_put, bind_throw, bind_block, on_tree, bind_two, bind_test, bind_if, bind_while, bind_try, bind_parts, bind_first_test, bind_for, visible, declared_in, unknown_in_both, unknown_of_two}
 use Rattle.shim_scopes.specs.Calls.{bind_call, bind_called}
 use Rattle.shim_scopes.specs.Bodies.{WhatMeans, StmtMeans, BranchMeans, BranchWhatMeans, nothing, bind_all, bind_fork, first_declares, branch_what_step, what_step, branch_step, stmt_step, meaning, bind_stmts, bind_branch}
-use Rattle.shim_laws_binding.specs.TextOrder.{Declaration, Declarations, together, branch_declares, what_declares, stmt_declares, declarations, branch_tries, what_tries, stmt_tries, tries_among, sorts_of, numbers_of_declared}
+use Rattle.shim_laws_binding.specs.TextOrder.{Declaration, Declarations, declared_variable, together, branch_declares, what_declares, stmt_declares, declarations, branch_tries, what_tries, stmt_tries, tries_among, sorts_of, numbers_of_declared}
 use Rattle.shim_laws_binding.proofs.Bound.{its_before}
 use Rattle.shim_scopes.proofs.Refusals.{passed, first_ok, bound}
 
@@ -141,8 +142,11 @@ module _ (w : Whole) where
       let v : List Local = visible a b in
       asked_two w.names line UnknownName WrongKind (unknown_in_both v x e) (option_or (no_output v x) (stream_in v e)) (Put (slot_of v x) (placed v e)) b r h
 
-  throw_grows : (x : List ℕ) → WhatGrows nothing [] [] (bind_throw x)
-  throw_grows x line a b r h = stays w.names (Throw (exception_number a.handled x)) b r (passed line UnknownException (unhandled a.handled x) _ r h)
+  throw_grows : (x : List ℕ) (e : Option Expr) → WhatGrows nothing [] [] (bind_throw x e)
+  throw_grows x e line a b r h =
+      let v : List Local = visible a b in
+      asked_two w.names line UnknownException WrongKind (unhandled a.handled x) (stream_in_option v e) (Throw (exception_number a.handled x) (placed_option v e)) b r
+      (passed line UnknownName (unknown_in_option v e) _ r h)
 
   called_grows : {T : Type 0} (g : RCall → T) (c : Call) (line : ℕ) → Grows w.names nothing [] [] (bind_called g w c line)
   called_grows g c line a b r h = let p = first_ok (bind_call w c line a b) _ r h in stays w.names (g p.0) b r p.2
@@ -158,15 +162,27 @@ module _ (w : Whole) where
       let p = first_ok (bind_test e line a b) _ r is in
       tree_grows w.names nothing ds ts (While p.0) (bind_block f) (block_grows w.names ls ds ts f k) a b r p.2
 
-  try_grows : (x : List ℕ) (ls ks : ℕ → List Local) (ds es : Declarations) (ts us : Texts) (f h : Bind (List RStmt))
-      → Grows w.names ls ds ts f → Grows w.names ks es us h → Grows w.names nothing (ds ++ es) (x ∷ (ts ++ us)) (bind_try w x f h)
-  try_grows x ls ks ds es ts us f h k l a b r is =
+  -- the variable of a handler
+  pub variable_grown : (y : Option (List ℕ)) (b : Before) → IsGrown w.names [] (declared_variable y) [] b (variable_declared w.names y b)
+  variable_grown None b = unchanged w.names b
+  variable_grown (Some y) b = record { own = record { more = local_of y (Value Int32) (length b.slots) ∷ []; whole = refl }; slots = refl; slot_names = refl; tries = as_was b.tries }
+
+  pub handler_grows : (y : Option (List ℕ)) (ks : ℕ → List Local) (es : Declarations) (us : Texts) (h : Bind (List RStmt))
+      → Grows w.names ks es us h → Grows w.names nothing (declared_variable y ++ es) us (bind_handler w y h)
+  handler_grows y ks es us h k a b r is =
+      grown_twice w.names [] (ks (length (variable_declared w.names y b).slots)) (declared_variable y) es [] us b (variable_declared w.names y b) r.before (variable_grown y b) (k a (variable_declared w.names y b) r is)
+
+  try_grows : (x : List ℕ) (y : Option (List ℕ)) (ls ks : ℕ → List Local) (ds es : Declarations) (ts us : Texts) (f h : Bind (List RStmt))
+      → Grows w.names ls ds ts f → Grows w.names ks es us h → Grows w.names nothing (ds ++ (declared_variable y ++ es)) (x ∷ (ts ++ us)) (bind_try w x y f h)
+  try_grows x y ls ks ds es ts us f h k l a b r is =
       let p = first_ok (bind_block f (caught x a b) (tried w x b)) _ r is in
-      let q = first_ok (bind_block h a p.0.before) _ r p.2 in
+      let q = first_ok (bind_block (bind_handler w y h) a p.0.before) _ r p.2 in
+      let all : Declarations = declared_variable y ++ es in
       let here : IsGrown w.names [] [] (x ∷ []) b (tried w x b) = record { own = record { more = []; whole = as_was b.own }; slots = as_was b.slots; slot_names = as_was b.slot_names; tries = refl } in
-      at_answer w.names [] (ds ++ es) (x ∷ (ts ++ us)) b q.0.before (Try p.0.tree (a.throws + length b.tries) q.0.tree) r q.2
-      (grown_twice w.names [] [] [] (ds ++ es) (x ∷ []) (ts ++ us) b (tried w x b) q.0.before here
-      (grown_twice w.names [] [] ds es ts us (tried w x b) p.0.before q.0.before (block_grows w.names ls ds ts f k (caught x a b) (tried w x b) p.0 p.1) (block_grows w.names ks es us h l a p.0.before q.0 q.1)))
+      at_answer w.names [] (ds ++ all) (x ∷ (ts ++ us)) b q.0.before (Try p.0.tree (a.throws + length b.tries) (variable_slot y p.0.before) q.0.tree) r q.2
+      (grown_twice w.names [] [] [] (ds ++ all) (x ∷ []) (ts ++ us) b (tried w x b) q.0.before here
+      (grown_twice w.names [] [] ds all ts us (tried w x b) p.0.before q.0.before (block_grows w.names ls ds ts f k (caught x a b) (tried w x b) p.0 p.1)
+      (block_grows w.names nothing all us (bind_handler w y h) (handler_grows y ks es us h l) a p.0.before q.0 q.1)))
 
   parts_grow : (test : Option Expr) (ls ks js : ℕ → List Local) (ds es fs : Declarations) (ts us vs : Texts) (f g h : Bind (List RStmt))
       → Grows w.names ls ds ts f → Grows w.names ks es us g → Grows w.names js fs vs h → Grows w.names ls (ds ++ (es ++ fs)) (ts ++ (us ++ vs)) (bind_parts test f g h)
@@ -318,8 +334,8 @@ module _ (w : Whole) where
       for_grows (first_of first) test (first_of first) (first_of step) (first_of body) _ _ _ _ _ _ _ _ _ (stmts_grow first) (stmts_grow step) (stmts_grow body) line
   what_layer (What-F.What::Block body) line = tree_grows w.names nothing _ _ _ _ (block_grows w.names (first_of body) _ _ _ (stmts_grow body))
   what_layer (What-F.What::Call c) line = called_grows _ c line
-  what_layer (What-F.Try body x handler) line = try_grows x (first_of body) (first_of handler) _ _ _ _ _ _ (stmts_grow body) (stmts_grow handler)
-  what_layer (What-F.Throw x) line = throw_grows x line
+  what_layer (What-F.Try body x y handler) line = try_grows x y (first_of body) (first_of handler) _ _ _ _ _ _ (stmts_grow body) (stmts_grow handler)
+  what_layer (What-F.Throw x e) line = throw_grows x e line
   what_layer (What-F.Par bs) line = tree_grows w.names nothing _ _ _ _ (branches_grow bs)
 
   -- the same, of a part and lists that are equal to these

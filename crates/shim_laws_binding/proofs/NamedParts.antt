@@ -4,6 +4,7 @@ use Rattle.std.specs.Option.{option_or}
 use Rattle.std.proofs.lemmas.List.{length-map}
 use Rattle.std.proofs.lemmas.Bool.{eqb-true}
 use Rattle.shim_base.specs.declared.types.Ty.{Ty}
+use Rattle.shim_base.specs.declared.types.Ty.TheVariants.{Int32}
 use Rattle.shim_syntax.specs.declared.tree.Sort.TheVariants.{Value}
 use Rattle.shim_syntax.specs.declared.tree.Expr.{Expr}
 use Rattle.shim_syntax.specs.declared.tree.Call.{Call}
@@ -22,14 +23,14 @@ use Rattle.shim_scopes.specs.declared.tree.UExpr.{UExpr}
 use Rattle.shim_scopes.specs.Binding.{unknown, unknown_in, unknown_in_option, unknown_in_all, stream_in, stream_in_option, no_number, no_input, no_output, slot_of, placed, placed_all, placed_option, exception_number, unhandled}
 use Rattle.shim_syntax.specs.Names.{Texts, number_of}
 use Rattle.shim_scopes.specs.Refusals.{refused_for}
-use Rattle.shim_scopes.specs.Statements.{Whole, Around, Before, BoundTo, Bind, declared, local_of, within, opened, closed, caught, tried, bind_declare, bind_store, bind_next, bind_assign_next, bind_get, bind_put, bind_throw, bind_block, on_tree, bind_two, bind_test, bind_if, bind_while, bind_try, bind_parts, bind_first_test, bind_for, visible, declared_in, unknown_in_both, unknown_of_two}
+use Rattle.shim_scopes.specs.Statements.{Whole, Around, Before, BoundTo, Bind, declared, local_of, within, opened, closed, caught, tried, variable_declared, variable_slot, bind_handler, bind_declare, bind_store, bind_next, bind_assign_next, bind_get, bind_put, bind_throw, bind_block, on_tree, bind_two, bind_test, bind_if, bind_while, bind_try, bind_parts, bind_first_test, bind_for, visible, declared_in, unknown_in_both, unknown_of_two}
 use Rattle.shim_scopes.specs.Calls.{function_number, function_of, unhandled_of_all, if_false, wrong_in_all, bind_known, bind_call, bind_called}
 use Rattle.shim_scopes.specs.Bodies.{nothing}
-use Rattle.shim_laws_binding.specs.Naming.{Naming, expr_named, option_named, call_named}
-use Rattle.shim_laws_binding.specs.TextOrder.{Declaration, Declarations, sorts_of}
+use Rattle.shim_laws_binding.specs.Naming.{Naming, expr_named, option_named, slot_named, call_named}
+use Rattle.shim_laws_binding.specs.TextOrder.{Declaration, Declarations, declared_variable, sorts_of}
 use Rattle.shim_laws_binding.specs.HandedOn.{Calls, calls_among}
 use Rattle.shim_laws_binding.proofs.Bound.{asked, is_bound}
-use Rattle.shim_laws_binding.proofs.Growth.{IsGrown, Grows, block_grows, as_was}
+use Rattle.shim_laws_binding.proofs.Growth.{IsGrown, Grows, block_grows, variable_grown, as_was}
 use Rattle.shim_laws_binding.proofs.Lists.{Each, each_of_both, each_same, neither, AreFrom, earlier, later}
 use Rattle.shim_laws_binding.proofs.NamedSteps.{what_named, stmts_named, named_declare, named_assign, named_next, named_next_assign, named_assign_next, named_get, named_put, named_if, named_while, named_for, named_try, named_throw}
 use Rattle.shim_laws_binding.proofs.CallSteps.{calls_of_what, calls_declare, calls_assign, calls_next, calls_next_assign, calls_assign_next, calls_get, calls_put, calls_if, calls_while, calls_for, calls_try, calls_throw}
@@ -192,11 +193,19 @@ module _ (n : Naming) (H : RCall → Type 0) (w : Whole) where
       let both = neither (unknown v x) (unknown v y) none in
       named_get n (slot_of v x) (slot_of v y) ∙ ap (λ z. st.Get z (n.variable (slot_of v y))) (slot_is_back a b x named both.0) ∙ ap (λ z. st.Get x z) (slot_is_back a b y named both.1))
 
-  pub throw_back : (x : List ℕ) (line : ℕ) → WhatBack (st.Throw x) [] [] (bind_throw x line)
-  throw_back x line a b r h named t =
-      answered n H (whats n) (st.Throw x) (bt.Throw (exception_number a.handled x)) b r (passed line UnknownException (unhandled a.handled x) _ r h)
-      (named_throw n (exception_number a.handled x) ∙ ap st.Throw (exception_back n.exception a.handled x named.handled (asked line UnknownException (unhandled a.handled x) _ r h))) named.own
-      (none_called (bt.Throw (exception_number a.handled x)) (calls_throw (exception_number a.handled x)))
+  pub throw_back : (x : List ℕ) (e : Option Expr) (line : ℕ) → WhatBack (st.Throw x e) [] [] (bind_throw x e line)
+  throw_back x e line a b r h named t =
+      let v : List Local = visible a b in
+      let number : ℕ = exception_number a.handled x in
+      let known = asked line UnknownName (unknown_in_option v e) _ r h in
+      let p = passed line UnknownName (unknown_in_option v e) _ r h in
+      let q = passed line UnknownException (unhandled a.handled x) _ r p in
+      let s = passed line WrongKind (stream_in_option v e) _ r q in
+      answered n H (whats n) (st.Throw x e) (bt.Throw number (placed_option v e)) b r s
+      (named_throw n number (placed_option v e)
+      ∙ ap (λ y. st.Throw y (option_named n.variable (placed_option v e))) (exception_back n.exception a.handled x named.handled (asked line UnknownException (unhandled a.handled x) _ r p))
+      ∙ ap (λ y. st.Throw x y) (option_back n.variable v v (same_known v) (all_named n a b named) e known)) named.own
+      (none_called (bt.Throw number (placed_option v e)) (calls_throw number (placed_option v e)))
 
   -- the number of a function has its name
   abbrev pub FunctionsNamed : Type 0
@@ -302,23 +311,43 @@ module _ (n : Naming) (H : RCall → Type 0) (w : Whole) where
       tree_back n H (bodies n) s (whats n) (st.While e s) (bt.While p.0) ds ts (bind_block f)
       (λ body one. named_while n p.0 body ∙ ap (λ y. st.While y (stmts_named n body)) te ∙ ap (λ y. st.While e y) one) (calls_while p.0) (block_back n H (bodies n) s ds ts f k) a b r p.2 named t
 
-  pub try_back : (x : List ℕ) (s u : List Stmt) (ls : ℕ → List Local) (ds es : Declarations) (ts us : Texts) (f h : Bind (List RStmt))
-      → Grows w.names ls ds ts f → StmtsBack s ds ts f → StmtsBack u es us h → WhatBack (st.Try s x u) (ds ++ es) (x ∷ (ts ++ us)) (bind_try w x f h)
-  try_back x s u ls ds es ts us f h grows k l a b r is named t =
+  -- the variable of a handler has its name, where this is to come
+  variable_named : (y : Option (List ℕ)) (es : Declarations) (us : Texts) (a : Around) (b : Before) → IsNamed n a b → AreToCome n a b (declared_variable y ++ es) us
+      → Each (VariableNamed n.variable) (variable_declared w.names y b).own
+  variable_named None es us a b named t = named.own
+  variable_named (Some y) es us a b named t = each_of_both (VariableNamed n.variable) b.own (local_of y (Value Int32) (length b.slots) ∷ []) named.own (t.slots.0, tt)
+
+  variable_back : (y : Option (List ℕ)) (es : Declarations) (us : Texts) (a : Around) (b : Before) → AreToCome n a b (declared_variable y ++ es) us → slot_named n.variable (variable_slot y b) ≡ y
+  variable_back None es us a b t = refl
+  variable_back (Some y) es us a b t = ap Some t.slots.0
+
+  handler_back : (y : Option (List ℕ)) (u : List Stmt) (es : Declarations) (us : Texts) (h : Bind (List RStmt)) → StmtsBack u es us h → StmtsBack u (declared_variable y ++ es) us (bind_handler w y h)
+  handler_back y u es us h k a b r is named t =
+      k a (variable_declared w.names y b) r is (behind_named n a b (variable_declared w.names y b) named (variable_named y es us a b named t))
+      (next_to_come n w.names [] a b (variable_declared w.names y b) (declared_variable y) es [] us (variable_grown w y b) t)
+
+  pub try_back : (x : List ℕ) (y : Option (List ℕ)) (s u : List Stmt) (ls : ℕ → List Local) (ds es : Declarations) (ts us : Texts) (f h : Bind (List RStmt))
+      → Grows w.names ls ds ts f → StmtsBack s ds ts f → StmtsBack u es us h → WhatBack (st.Try s x y u) (ds ++ (declared_variable y ++ es)) (x ∷ (ts ++ us)) (bind_try w x y f h)
+  try_back x y s u ls ds es ts us f h grows k l a b r is named t =
       let p = first_ok (bind_block f (caught x a b) (tried w x b)) _ r is in
-      let q = first_ok (bind_block h a p.0.before) _ r p.2 in
+      let q = first_ok (bind_block (bind_handler w y h) a p.0.before) _ r p.2 in
+      let number : ℕ = a.throws + length b.tries in
+      let slot : Option ℕ = variable_slot y p.0.before in
+      let all : Declarations = declared_variable y ++ es in
       let here : IsGrown w.names [] [] (x ∷ []) b (tried w x b) = record { own = record { more = []; whole = as_was b.own }; slots = as_was b.slots; slot_names = as_was b.slot_names; tries = refl } in
-      let inside : AreToCome n a (tried w x b) (ds ++ es) (ts ++ us) = next_to_come n w.names [] a b (tried w x b) [] (ds ++ es) (x ∷ []) (ts ++ us) here t in
-      let first = first_to_come n a (tried w x b) ds es ts us inside in
+      let inside : AreToCome n a (tried w x b) (ds ++ all) (ts ++ us) = next_to_come n w.names [] a b (tried w x b) [] (ds ++ all) (x ∷ []) (ts ++ us) here t in
+      let first = first_to_come n a (tried w x b) ds all ts us inside in
       let known : n.exception (a.throws + length b.tries) ≡ x = t.tries.0 in
       let in_force = each_of_both (ExceptionNamed n.exception) a.handled (record { name = x; number = a.throws + length b.tries } ∷ []) named.handled (known, tt) in
       let pb = block_back n H (bodies n) s ds ts f k (caught x a b) (tried w x b) p.0 p.1 (record { outer = named.outer; own = named.own; handled = in_force }) (record { slots = first.slots; tries = first.tries }) in
-      let qb = block_back n H (bodies n) u es us h l a p.0.before q.0 q.1 (behind_named n a b p.0.before named pb.own)
-      (next_to_come n w.names [] a (tried w x b) p.0.before ds es ts us (block_grows w.names ls ds ts f grows (caught x a b) (tried w x b) p.0 p.1) inside) in
-      answered n H (whats n) (st.Try s x u) (bt.Try p.0.tree (a.throws + length b.tries) q.0.tree) q.0.before r q.2
-      (named_try n p.0.tree (a.throws + length b.tries) q.0.tree ∙ ap (λ y. st.Try y (n.exception (a.throws + length b.tries)) (stmts_named n q.0.tree)) pb.tree
-      ∙ ap (λ y. st.Try s y (stmts_named n q.0.tree)) known ∙ ap (λ y. st.Try s x y) qb.tree) qb.own
-      (both_hold (bt.Try p.0.tree (a.throws + length b.tries) q.0.tree) p.0.tree q.0.tree (calls_try p.0.tree (a.throws + length b.tries) q.0.tree) pb.calls qb.calls)
+      let behind : AreToCome n a p.0.before all us =
+      next_to_come n w.names [] a (tried w x b) p.0.before ds all ts us (block_grows w.names ls ds ts f grows (caught x a b) (tried w x b) p.0 p.1) inside in
+      let qb = block_back n H (bodies n) u all us (bind_handler w y h) (handler_back y u es us h l) a p.0.before q.0 q.1 (behind_named n a b p.0.before named pb.own) behind in
+      answered n H (whats n) (st.Try s x y u) (bt.Try p.0.tree number slot q.0.tree) q.0.before r q.2
+      (named_try n p.0.tree number slot q.0.tree ∙ ap (λ z. st.Try z (n.exception number) (slot_named n.variable slot) (stmts_named n q.0.tree)) pb.tree
+      ∙ ap (λ z. st.Try s z (slot_named n.variable slot) (stmts_named n q.0.tree)) known
+      ∙ ap (λ z. st.Try s x z (stmts_named n q.0.tree)) (variable_back y es us a p.0.before behind) ∙ ap (λ z. st.Try s x y z) qb.tree) qb.own
+      (both_hold (bt.Try p.0.tree number slot q.0.tree) p.0.tree q.0.tree (calls_try p.0.tree number slot q.0.tree) pb.calls qb.calls)
 
   -- the test is bound behind the first statement, whose declaration was known when it was examined
   parts_back : (declares : ℕ → List Local) (test : Option Expr) (s u z : List Stmt) (ks js : ℕ → List Local) (ds es fs : Declarations) (ts us vs : Texts) (f g h : Bind (List RStmt))

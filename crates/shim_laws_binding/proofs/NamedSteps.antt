@@ -20,7 +20,7 @@ use Rattle.shim_scopes.specs.declared.tree.RWhat.TheVariants as r
 use Rattle.shim_scopes.specs.declared.tree.RBranch.{RBranch, fold-RBranch, fold-roll-RBranch}
 use Rattle.shim_scopes.specs.declared.tree.RBranchWhat.{RBranchWhat, RBranchWhat-F, fold-RBranchWhat, fold-roll-RBranchWhat, map-RBranchWhat, roll-RBranchWhat}
 use Rattle.shim_scopes.specs.declared.tree.RBranchWhat.TheVariants as rb
-use Rattle.shim_laws_binding.specs.Naming.{Naming, expr_step, expr_named, option_named, call_named, branch_what_step, what_step, branch_step, stmt_step, stmt_named}
+use Rattle.shim_laws_binding.specs.Naming.{Naming, expr_step, expr_named, option_named, slot_named, call_named, branch_what_step, what_step, branch_step, stmt_step, stmt_named}
 
 pub named_number : (v : ℕ → List ℕ) (n : ℤ) → expr_named v (u.Number n) ≡ e.Number n
 unfolding expr_named roll-UExpr denote.Hole.Carrier.roll
@@ -115,13 +115,14 @@ module _ (n : Naming) where
   unfolding roll-RWhat denote.Hole.Carrier.roll
   named_call c = at_what (RWhat-F.RWhat::Call c)
 
-  pub named_try : (body : List RStmt) (number : ℕ) (handler : List RStmt) → what_named (r.Try body number handler) ≡ st.Try (stmts_named body) (n.exception number) (stmts_named handler)
+  pub named_try : (body : List RStmt) (number : ℕ) (slot : Option ℕ) (handler : List RStmt)
+      → what_named (r.Try body number slot handler) ≡ st.Try (stmts_named body) (n.exception number) (slot_named n.variable slot) (stmts_named handler)
   unfolding roll-RWhat denote.Hole.Carrier.roll
-  named_try body number handler = at_what (RWhat-F.Try body number handler)
+  named_try body number slot handler = at_what (RWhat-F.Try body number slot handler)
 
-  pub named_throw : (number : ℕ) → what_named (r.Throw number) ≡ st.Throw (n.exception number)
+  pub named_throw : (number : ℕ) (a : Option UExpr) → what_named (r.Throw number a) ≡ st.Throw (n.exception number) (option_named n.variable a)
   unfolding roll-RWhat denote.Hole.Carrier.roll
-  named_throw number = at_what (RWhat-F.Throw number)
+  named_throw number a = at_what (RWhat-F.Throw number a)
 
   pub named_par : (branches : List RBranch) → what_named (r.Par branches) ≡ st.Par (branches_named branches)
   unfolding roll-RWhat denote.Hole.Carrier.roll

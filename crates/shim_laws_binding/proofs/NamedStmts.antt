@@ -169,10 +169,10 @@ module _ (n : Naming) (H : RCall → Type 0) (w : Whole) (functions : FunctionsN
   what_layer (What-F.What::Block body) line =
       tree_back n H (bodies n) (stmts body) (whats n) (st.Block (stmts body)) bt.Block _ _ _ (λ x e. named_block n x ∙ ap st.Block e) calls_block (block_back n H (bodies n) (stmts body) _ _ _ (stmts_back body))
   what_layer (What-F.What::Call c) line = called_back n H w functions holds (whats n) st.Call bt.Call c line (named_call n) calls_call
-  what_layer (What-F.Try body x handler) line =
-      try_back n H w x (stmts body) (stmts handler) (first_of body) (declarations (stmts body)) (declarations (stmts handler)) (tries_among (stmts body)) (tries_among (stmts handler)) _ _
+  what_layer (What-F.Try body x y handler) line =
+      try_back n H w x y (stmts body) (stmts handler) (first_of body) (declarations (stmts body)) (declarations (stmts handler)) (tries_among (stmts body)) (tries_among (stmts handler)) _ _
       (stmts_grow body) (stmts_back body) (stmts_back handler)
-  what_layer (What-F.Throw x) line = throw_back n H w x line
+  what_layer (What-F.Throw x e) line = throw_back n H w x e line
   what_layer (What-F.Par bs) line = tree_back n H all_branches (branches bs) (whats n) (st.Par (branches bs)) bt.Par _ _ _ (λ x e. named_par n x ∙ ap st.Par e) calls_par (branches_back bs)
 
   -- the same, of a part and lists that are equal to these

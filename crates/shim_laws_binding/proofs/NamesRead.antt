@@ -19,8 +19,9 @@ use Rattle.shim_syntax.specs.Terminals.{Terminal, Name, Sign, is_shim, is_two}
 use Rattle.shim_syntax.specs.Limits.{Limits}
 use Rattle.shim_syntax.specs.Text.{IsText}
 use Rattle.shim_syntax.specs.Grammar as is
-use Rattle.shim_syntax.specs.Grammar.{Counts, operator_of_sign, IsExpr, IsChain, IsArguments, IsMoreArguments, IsDeclared, IsDeclarations, IsFirst, IsTest, IsStep, IsBlock, IsStmt, IsBody, IsPlain, IsBranches, IsBranch, IsParam, IsParams, IsMoreParams, IsThrows, IsMoreThrows, IsFunction, IsFunctions, Derives}
+use Rattle.shim_syntax.specs.Grammar.{Counts, operator_of_sign, IsExpr, IsChain, IsArguments, IsMoreArguments, IsDeclared, IsDeclarations, IsFirst, IsTest, IsStep, IsBlock, IsStmt, IsBody, IsPlain, IsBranches, IsBranch, IsThrowRest, IsCatchRest, IsParam, IsParams, IsMoreParams, IsThrows, IsMoreThrows, IsFunction, IsFunctions, Derives}
 use Rattle.shim_syntax.specs.Names.{Texts, param_names}
+use Rattle.shim_syntax.specs.Occurrences as occurs
 use Rattle.shim_syntax.specs.Occurrences.{in_expr, in_exprs, in_option, in_call, in_stmt, in_function, identifiers}
 use Rattle.shim_laws_binding.specs.TextNames.{names_among, of_functions}
 use Rattle.shim_laws_binding.proofs.OccurrenceSteps.{in_number, in_variable, in_unary, in_binary, in_what, in_branch, in_stmts, in_branches, in_one, in_single, in_declare, in_assign, in_next, in_next_assign, in_assign_next, in_get, in_put, in_if, in_while, in_for, in_block, in_called, in_try, in_throw, in_par, in_block_branch, in_call_branch}
@@ -58,6 +59,14 @@ more_arguments_read (is.argument {s = s} {m = m} {r = r} {x = x} {xs = xs} h d t
 arguments_read : {c : Limits} {l : ℕ} {v w : Counts} {s r : List Terminal} {xs : List Expr} → IsArguments c l v w s r xs → Take (in_exprs xs) s r
 arguments_read is.no_arguments = refl
 arguments_read (is.arguments {s = s} {m = m} {r = r} {x = x} {xs = xs} h d t) = one_then (in_expr x) (in_exprs xs) s m r (expr_read d) (more_arguments_read t)
+
+throw_rest_read : {c : Limits} {l : ℕ} {v w : Counts} {s r : List Terminal} {value : Option Expr} → IsThrowRest c l v w s r value → Take (in_option value) s r
+throw_rest_read is.no_number = refl
+throw_rest_read (is.thrown_number two d) = expr_read d
+
+catch_read : {c : Limits} {v w : Counts} {s r : List Terminal} {y : Option (List ℕ)} → IsCatchRest c v w s r y → Take (occurs.in_variable y) s r
+catch_read is.no_variable = refl
+catch_read (is.catch_variable two h) = refl
 
 declared_read : {c : Limits} {l : ℕ} {v w : Counts} {s r : List Terminal} {x : List ℕ} {value : Option Expr} → IsDeclared c l v w s r x value → Take (x ∷ in_option value) s r
 declared_read (is.without_value h) = refl
@@ -147,10 +156,12 @@ mutual
       single p.line (st.Call (call_of f xs)) (in_call (call_of f xs)) (Name f p ∷ s) r (in_called (call_of f xs)) (ap (λ l. f ∷ l) (arguments_read d))
   plain_read (is.call_fork {f = f} {p = p} {s = s} {m = m} {r = r} {xs = xs} {bs = bs} d b) =
       fork p.line (record { line = p.line; what = br.Call (call_of f xs) }) bs (in_call (call_of f xs)) (Name f p ∷ s) m r (in_call_branch p.line (call_of f xs)) (ap (λ l. f ∷ l) (arguments_read d)) (branches_read b)
-  plain_read (is.try {x = x} {p = p} {b = place} {s = s} {m = m} {r = r} {xs = xs} {ys = ys} d b) =
-      single p.line (st.Try xs x ys) (in_stmts xs ++ x ∷ in_stmts ys) s r (in_try xs x ys)
-      (one_then (in_stmts xs) (x ∷ in_stmts ys) s (Name x place ∷ m) r (block_read d) (ap (λ l. x ∷ l) (block_read b)))
-  plain_read (is.throw {x = x} {p = p} {q = q} {r = r}) = single p.line (st.Throw x) (x ∷ []) (Name x q ∷ r) r (in_throw x) refl
+  plain_read (is.try {x = x} {y = y} {p = p} {b = place} {s = s} {i = i} {m = m} {r = r} {xs = xs} {ys = ys} d c b) =
+      single p.line (st.Try xs x y ys) (in_stmts xs ++ x ∷ (occurs.in_variable y ++ in_stmts ys)) s r (in_try xs x y ys)
+      (one_then (in_stmts xs) (x ∷ (occurs.in_variable y ++ in_stmts ys)) s (Name x place ∷ i) r (block_read d)
+      (ap (λ l. x ∷ l) (one_then (occurs.in_variable y) (in_stmts ys) i m r (catch_read c) (block_read b))))
+  plain_read (is.throw {x = x} {p = p} {q = q} {s = s} {r = r} {value = a} d) =
+      single p.line (st.Throw x a) (x ∷ in_option a) (Name x q ∷ s) r (in_throw x a) (ap (λ l. x ∷ l) (throw_rest_read d))
 
   branches_read : {c : Limits} {l n : ℕ} {v w : Counts} {s r : List Terminal} {bs : List Branch} → IsBranches c l n v w s r bs → Take (in_branches bs) s r
   branches_read (is.last_branch {s = s} {r = r} {b = b} h d a) = are_those (in_branches (b ∷ [])) (in_branch b) s r (append-nil (in_branch b)) (branch_read d)

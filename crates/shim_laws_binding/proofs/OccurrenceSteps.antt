@@ -14,6 +14,7 @@ use Rattle.shim_syntax.specs.declared.tree.Branch.{Branch, fold-Branch, fold-rol
 use Rattle.shim_syntax.specs.declared.tree.BranchWhat.{BranchWhat, BranchWhat-F, roll-BranchWhat, fold-BranchWhat, fold-roll-BranchWhat, map-BranchWhat}
 use Rattle.shim_syntax.specs.declared.tree.BranchWhat.TheVariants as br
 use Rattle.shim_syntax.specs.Names.{Texts}
+use Rattle.shim_syntax.specs.Occurrences as occurs
 use Rattle.shim_syntax.specs.Occurrences.{joined, expr_occurs, in_expr, in_option, in_call, branch_occurs, what_occurs, in_stmt}
 
 pub in_number : (n : ℤ) → in_expr (e.Number n) ≡ []
@@ -118,13 +119,13 @@ pub in_called : (c : Call) → in_what (st.Call c) ≡ in_call c
 unfolding roll-What denote.Hole.Carrier.roll
 in_called c = at_what (What-F.What::Call c)
 
-pub in_try : (body : List Stmt) (x : List ℕ) (handler : List Stmt) → in_what (st.Try body x handler) ≡ in_stmts body ++ x ∷ in_stmts handler
+pub in_try : (body : List Stmt) (x : List ℕ) (y : Option (List ℕ)) (handler : List Stmt) → in_what (st.Try body x y handler) ≡ in_stmts body ++ x ∷ (occurs.in_variable y ++ in_stmts handler)
 unfolding roll-What denote.Hole.Carrier.roll
-in_try body x handler = at_what (What-F.Try body x handler)
+in_try body x y handler = at_what (What-F.Try body x y handler)
 
-pub in_throw : (x : List ℕ) → in_what (st.Throw x) ≡ x ∷ []
+pub in_throw : (x : List ℕ) (a : Option Expr) → in_what (st.Throw x a) ≡ x ∷ in_option a
 unfolding roll-What denote.Hole.Carrier.roll
-in_throw x = at_what (What-F.Throw x)
+in_throw x a = at_what (What-F.Throw x a)
 
 pub in_par : (branches : List Branch) → in_what (st.Par branches) ≡ in_branches branches
 unfolding roll-What denote.Hole.Carrier.roll

@@ -1,12 +1,12 @@
 -- What is declared, and what the `try` statements name, stands among the identifiers of the text.
-use Rattle.std.proofs.Common.{◌≡◌, List, [], ◌∷◌, ◌++◌, ℕ, map, sym, subst}
+use Rattle.std.proofs.Common.{◌≡◌, List, [], ◌∷◌, ◌++◌, ℕ, Option, Some, None, map, sym, subst}
 use Rattle.shim_syntax.specs.declared.tree.Stmt.{Stmt, Stmt-F, fold-roll-Stmt, ind-Stmt, map-Stmt, roll-Stmt}
 use Rattle.shim_syntax.specs.declared.tree.What.{What, What-F, fold-What, fold-roll-What, map-What, roll-What}
 use Rattle.shim_syntax.specs.declared.tree.Branch.{Branch, Branch-F, fold-Branch, fold-roll-Branch, map-Branch, roll-Branch}
 use Rattle.shim_syntax.specs.declared.tree.BranchWhat.{BranchWhat, BranchWhat-F, fold-BranchWhat, fold-roll-BranchWhat, map-BranchWhat, roll-BranchWhat}
 use Rattle.shim_syntax.specs.Names.{Texts}
-use Rattle.shim_syntax.specs.Occurrences.{joined, in_expr, in_option, branch_occurs, what_occurs, in_stmt}
-use Rattle.shim_laws_binding.specs.TextOrder.{Declaration, Declarations, together, branch_declares, what_declares, stmt_declares, declarations, branch_tries, what_tries, stmt_tries, tries_among}
+use Rattle.shim_syntax.specs.Occurrences.{joined, in_expr, in_option, in_variable, branch_occurs, what_occurs, in_stmt}
+use Rattle.shim_laws_binding.specs.TextOrder.{Declaration, Declarations, declared_variable, together, branch_declares, what_declares, stmt_declares, declarations, branch_tries, what_tries, stmt_tries, tries_among}
 use Rattle.shim_laws_binding.proofs.Lists.{Each, each_of_both, each_of_first, each_of_second}
 
 module _ (P : List ℕ → Type 0) where
@@ -32,6 +32,10 @@ module _ (P : List ℕ → Type 0) where
       let c = each_of_second P xs (x ∷ ys) h in
       let b = q c.1 in
       (each_of_both DeclaredSo ds es a.0 b.0, (c.0, each_of_both P ts us a.1 b.1))
+
+  variable_passes : (y : Option (List ℕ)) → Passes (in_variable y) (declared_variable y) []
+  variable_passes None h = (tt, tt)
+  variable_passes (Some x) h = ((h.0, tt), tt)
 
   abbrev in_branch_what : BranchWhat → Texts
   in_branch_what = fold-BranchWhat Texts Texts Texts Texts branch_occurs what_occurs (λ b. b.what) (λ s. s.what)
@@ -144,7 +148,9 @@ module _ (P : List ℕ → Type 0) where
       (behind_others (in_option test) (texts step ++ texts body) (ds step ++ ds body) (ts step ++ ts body)
       (both_pass (texts step) (texts body) (ds step) (ds body) (ts step) (ts body) (stmts_pass step) (stmts_pass body))) h
   what_layer (What-F.What::Block body) h = stmts_pass body h
-  what_layer (What-F.Try body x handler) h = try_passes x (texts body) (texts handler) (ds body) (ds handler) (ts body) (ts handler) (stmts_pass body) (stmts_pass handler) h
+  what_layer (What-F.Try body x y handler) h =
+      try_passes x (texts body) (in_variable y ++ texts handler) (ds body) (declared_variable y ++ ds handler) (ts body) (ts handler) (stmts_pass body)
+      (both_pass (in_variable y) (texts handler) (declared_variable y) (ds handler) [] (ts handler) (variable_passes y) (stmts_pass handler)) h
   what_layer (What-F.Par bs) h = branches_pass bs h
   what_layer _ h = (tt, tt)
 

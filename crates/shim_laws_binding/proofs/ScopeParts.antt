@@ -1,8 +1,9 @@
 -- Each kind of statement is bound by the rules of lexical scope, where its parts are.
-use Rattle.std.proofs.Common.{ℕ, suc, ◌+◌, ◌≡◌, ◌∙◌, List, [], ◌∷◌, ◌++◌, Option, None, Ok, length, refl, sym, ap, subst, arith, append_assoc, length-append}
+use Rattle.std.proofs.Common.{ℕ, suc, ◌+◌, ◌≡◌, ◌∙◌, List, [], ◌∷◌, ◌++◌, Option, Some, None, Ok, length, refl, sym, ap, subst, arith, append_assoc, length-append}
 use Rattle.std.specs.Option.{option_or}
 use Rattle.std.proofs.lemmas.List.{append-nil}
 use Rattle.shim_base.specs.declared.types.Ty.{Ty}
+use Rattle.shim_base.specs.declared.types.Ty.TheVariants.{Int32}
 use Rattle.shim_syntax.specs.declared.tree.Sort.{Sort}
 use Rattle.shim_syntax.specs.declared.tree.Sort.TheVariants.{Value}
 use Rattle.shim_syntax.specs.declared.tree.Expr.{Expr}
@@ -21,10 +22,10 @@ use Rattle.shim_scopes.specs.declared.tree.UExpr.{UExpr}
 use Rattle.shim_scopes.specs.Binding.{unknown, unknown_in, unknown_in_option, stream_in, stream_in_option, no_number, no_input, no_output, slot_of, placed, placed_option, exception_number, unhandled}
 use Rattle.shim_syntax.specs.Names.{Texts, number_of}
 use Rattle.shim_scopes.specs.Refusals.{refused_for}
-use Rattle.shim_scopes.specs.Statements.{Whole, Around, Before, BoundTo, Bind, declared, local_of, within, opened, closed, caught, tried, bind_declare, bind_store, bind_next, bind_assign_next, bind_get, bind_put, bind_throw, bind_block, on_tree, bind_test, bind_if, bind_while, bind_try, bind_parts, bind_first_test, bind_for, visible, declared_in, unknown_in_both, unknown_of_two}
+use Rattle.shim_scopes.specs.Statements.{Whole, Around, Before, BoundTo, Bind, declared, local_of, within, opened, closed, caught, tried, variable_declared, variable_slot, bind_handler, bind_declare, bind_store, bind_next, bind_assign_next, bind_get, bind_put, bind_throw, bind_block, on_tree, bind_test, bind_if, bind_while, bind_try, bind_parts, bind_first_test, bind_for, visible, declared_in, unknown_in_both, unknown_of_two}
 use Rattle.shim_scopes.specs.Calls.{bind_call, bind_called}
 use Rattle.shim_laws_binding.specs.TextOrder.{Declarations}
-use Rattle.shim_laws_binding.specs.LexicalScope.{Point, behind_declaration, inside_try, behind_block, BindsExpr, BindsOption, BindsCall, BindsWhat, declare, assign, next, next_assign, assign_next, get, put, if_else, while, for_loop, try, throw, BindsStmts, BindsBlock, in_block}
+use Rattle.shim_laws_binding.specs.LexicalScope.{Point, behind_declaration, inside_try, behind_block, behind_variable, slot_of_variable, BindsExpr, BindsOption, BindsCall, BindsWhat, declare, assign, next, next_assign, assign_next, get, put, if_else, while, for_loop, try, throw, BindsStmts, BindsBlock, in_block}
 use Rattle.shim_laws_binding.specs.Innermost.{IsSlotOfInnermost}
 use Rattle.shim_laws_binding.proofs.Bound.{asked, is_bound, its_before}
 use Rattle.shim_laws_binding.proofs.Growth.{Grows}
@@ -62,6 +63,11 @@ point_tried w x a b =
     let inside : List Handled = a.handled ++ record { name = x; number = a.throws + length b.tries } ∷ [] in
     same_point (a.outer ++ b.own) (a.outer ++ b.own) inside inside (length b.slots) (length b.slots)
     (a.throws + length (b.tries ++ number_of w.names x ∷ [])) (suc (a.throws + length b.tries)) refl refl refl (omega (arith, length-append b.tries (number_of w.names x ∷ [])))
+
+-- and behind a handler's variable, where it has one
+point_variable : (names : Texts) (y : Option (List ℕ)) (a : Around) (b : Before) → point a (variable_declared names y b) ≡ behind_variable y (point a b)
+point_variable names None a b = refl
+point_variable names (Some y) a b = point_declared names y (Value Int32) a b
 
 module _ (w : Whole) where
   abbrev pub Stmts : Point → List Stmt → List RStmt → Point → Type 0
@@ -147,10 +153,15 @@ module _ (w : Whole) where
       let both = neither (unknown v x) (unknown v y) none in
       get {p = point a b} (slot_by_rules a b x both.0) (slot_by_rules a b y both.1))
 
-  pub throw_by_rules : (x : List ℕ) (line : ℕ) → ByRules Whats (st.Throw x) (bind_throw x line)
-  throw_by_rules x line a b r h =
-      by_answer Whats (st.Throw x) (point a b) a (rt.Throw (exception_number a.handled x)) b r (passed line UnknownException (unhandled a.handled x) _ r h)
-      (throw {p = point a b} (number_is_innermost x a.handled (asked line UnknownException (unhandled a.handled x) _ r h)))
+  pub throw_by_rules : (x : List ℕ) (e : Option Expr) (line : ℕ) → ByRules Whats (st.Throw x e) (bind_throw x e line)
+  throw_by_rules x e line a b r h =
+      let v : List Local = visible a b in
+      let known = asked line UnknownName (unknown_in_option v e) _ r h in
+      let p = passed line UnknownName (unknown_in_option v e) _ r h in
+      let q = passed line UnknownException (unhandled a.handled x) _ r p in
+      let s = passed line WrongKind (stream_in_option v e) _ r q in
+      by_answer Whats (st.Throw x e) (point a b) a (rt.Throw (exception_number a.handled x) (placed_option v e)) b r s
+      (throw {p = point a b} (number_is_innermost x a.handled (asked line UnknownException (unhandled a.handled x) _ r p)) (option_placed v v (same_known v) e known))
 
   pub called_by_rules : {T S : Type 0} (Rule : Point → S → T → Point → Type 0) (made : Call → S) (g : RCall → T) (c : Call) (line : ℕ)
       → ((p : Point) (r : RCall) → BindsCall w.functions p c r → Rule p (made c) (g r) p) → ByRules Rule (made c) (bind_called g w c line)
@@ -186,16 +197,35 @@ module _ (w : Whole) where
       let p = first_ok (f (within a b) (opened b)) _ r h in
       ap (λ (c : Before). c.own) (sym (its_before p.0.tree (closed b p.0.before) r p.2))
 
-  pub try_by_rules : (x : List ℕ) (s z : List Stmt) (f h : Bind (List RStmt)) → ByRules Stmts s f → ByRules Stmts z h → ByRules Whats (st.Try s x z) (bind_try w x f h)
-  try_by_rules x s z f h k l a b r is =
+  -- the slot of a handler's variable is that of its declaration
+  same_slot : (y : Option (List ℕ)) (a : Around) (b : Before) → slot_of_variable y (point a b) ≡ variable_slot y b
+  same_slot None a b = refl
+  same_slot (Some y) a b = refl
+
+  pub try_by_rules : (x : List ℕ) (y : Option (List ℕ)) (s z : List Stmt) (f h : Bind (List RStmt)) → ByRules Stmts s f → ByRules Stmts z h → ByRules Whats (st.Try s x y z) (bind_try w x y f h)
+  try_by_rules x y s z f h k l a b r is =
       let p = first_ok (bind_block f (caught x a b) (tried w x b)) _ r is in
-      let q = first_ok (bind_block h a p.0.before) _ r p.2 in
-      let body = subst (λ (y : Point). Block y s p.0.tree (point (caught x a b) p.0.before)) (point_tried w x a b) (block_by_rules s f k (caught x a b) (tried w x b) p.0 p.1) in
+      let q = first_ok (bind_block (bind_handler w y h) a p.0.before) _ r p.2 in
+      let begun : Before = variable_declared w.names y (opened p.0.before) in
+      let o = first_ok (h (within a p.0.before) begun) _ q.0 q.1 in
+      let number : ℕ = a.throws + length b.tries in
+      let body = subst (λ (v : Point). Block v s p.0.tree (point (caught x a b) p.0.before)) (point_tried w x a b) (block_by_rules s f k (caught x a b) (tried w x b) p.0 p.1) in
       let own : visible a p.0.before ≡ visible a b = ap (λ ls. a.outer ++ ls) (block_keeps f (caught x a b) (tried w x b) p.0 p.1) in
       let behind : point a p.0.before ≡ behind_block (point a b) (point (caught x a b) p.0.before) =
       same_point (visible a p.0.before) (visible a b) a.handled a.handled (length p.0.before.slots) (length p.0.before.slots) (a.throws + length p.0.before.tries) (a.throws + length p.0.before.tries) own refl refl refl in
-      let handler = subst (λ (y : Point). Block y z q.0.tree (point a q.0.before)) behind (block_by_rules z h l a p.0.before q.0 q.1) in
-      by_answer Whats (st.Try s x z) (point a b) a (rt.Try p.0.tree (a.throws + length b.tries) q.0.tree) q.0.before r q.2 (try {p = point a b} body handler)
+      let begins : point (within a p.0.before) begun ≡ behind_variable y (behind_block (point a b) (point (caught x a b) p.0.before)) =
+      point_variable w.names y (within a p.0.before) (opened p.0.before) ∙ ap (λ v. behind_variable y v) (point_within a p.0.before ∙ behind) in
+      let handler = subst (λ (v : Point). Stmts v z o.0.tree (point (within a p.0.before) o.0.before)) begins (l (within a p.0.before) begun o.0 o.1) in
+      let after : behind_block (point a b) (point (within a p.0.before) o.0.before) ≡ point a (closed p.0.before o.0.before) =
+      same_point (visible a b) (visible a p.0.before) a.handled a.handled (length o.0.before.slots) (length o.0.before.slots) (a.throws + length o.0.before.tries) (a.throws + length o.0.before.tries)
+      (sym own) refl refl refl in
+      let rule = try {p = point a b} {x = x} {y = y} body handler in
+      let placed : Whats (point a b) (st.Try s x y z) (rt.Try p.0.tree number (variable_slot y p.0.before) o.0.tree) (point a (closed p.0.before o.0.before)) =
+      subst (λ (v : Point). Whats (point a b) (st.Try s x y z) (rt.Try p.0.tree number (variable_slot y p.0.before) o.0.tree) v) after
+      (subst (λ v. Whats (point a b) (st.Try s x y z) (rt.Try p.0.tree number v o.0.tree) (behind_block (point a b) (point (within a p.0.before) o.0.before))) (same_slot y (caught x a b) p.0.before) rule) in
+      by_answer Whats (st.Try s x y z) (point a b) a (rt.Try p.0.tree number (variable_slot y p.0.before) q.0.tree) q.0.before r q.2
+      (subst (λ (v : BoundTo (List RStmt)). Whats (point a b) (st.Try s x y z) (rt.Try p.0.tree number (variable_slot y p.0.before) v.tree) (point a v.before))
+      (sym (is_bound o.0.tree (closed p.0.before o.0.before) q.0 o.2)) placed)
 
   behind_parts : (x : What) (p : Point) (a : Around) (t : RWhat) (b : Before) (r : BoundTo RWhat) → bound t b ≡ Ok r → Whats p x t (behind_block p (point a b)) → Whats p x r.tree (behind_block p (point a r.before))
   behind_parts x p a t b r e h = subst (λ (y : BoundTo RWhat). Whats p x y.tree (behind_block p (point a y.before))) (sym (is_bound t b r e)) h

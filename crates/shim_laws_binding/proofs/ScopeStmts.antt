@@ -133,8 +133,8 @@ module _ (w : Whole) where
   what_layer (What-F.What::Block body) line =
       tree_by_rules w Blocks OneWhat (parts body) (st.Block (parts body)) rt.Block _ (λ p q t h. block h) (block_by_rules w (parts body) _ (parts_by_rules body))
   what_layer (What-F.What::Call c) line = called_by_rules w OneWhat st.Call rt.Call c line (λ p r h. call h)
-  what_layer (What-F.Try body x handler) line = try_by_rules w x (parts body) (parts handler) _ _ (parts_by_rules body) (parts_by_rules handler)
-  what_layer (What-F.Throw x) line = throw_by_rules w x line
+  what_layer (What-F.Try body x y handler) line = try_by_rules w x y (parts body) (parts handler) _ _ (parts_by_rules body) (parts_by_rules handler)
+  what_layer (What-F.Throw x e) line = throw_by_rules w x e line
   what_layer (What-F.Par bs) line = tree_by_rules w Branches OneWhat (forks bs) (st.Par (forks bs)) rt.Par _ (λ p q t h. par h) (forks_by_rules bs)
 
   -- the same, where the meaning is another that is equal

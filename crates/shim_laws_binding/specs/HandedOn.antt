@@ -22,7 +22,7 @@ what_calls (RWhat-F.While test body) = together body
 what_calls (RWhat-F.For first test step body) = together first ++ (together step ++ together body)
 what_calls (RWhat-F.RWhat::Block body) = together body
 what_calls (RWhat-F.RWhat::Call c) = c ∷ []
-what_calls (RWhat-F.Try body number handler) = together body ++ together handler
+what_calls (RWhat-F.Try body number slot handler) = together body ++ together handler
 what_calls (RWhat-F.Par branches) = together branches
 what_calls _ = []
 

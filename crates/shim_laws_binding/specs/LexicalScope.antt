@@ -1,6 +1,7 @@
 -- The rules of lexical scope: which number each name of a program has, by what is declared and in force around the point of the text where it stands.
 use Rattle.std.specs.Prelude.{ℕ, ℤ, suc, ◌+◌, ◌≡◌, List, [], ◌∷◌, ◌++◌, Option, Some, None, length, codes, slice_get}
 use Rattle.shim_base.specs.declared.types.Ty.{Ty}
+use Rattle.shim_base.specs.declared.types.Ty.TheVariants.{Int32}
 use Rattle.shim_base.specs.declared.operators.BinOp.{BinOp}
 use Rattle.shim_base.specs.declared.operators.UnOp.{UnOp}
 use Rattle.shim_syntax.specs.declared.tree.Sort.{Sort}
@@ -58,6 +59,16 @@ inside_try x p = record p { handled = p.handled ++ record { name = x; number = p
 -- behind a block that begins at p and ends at q, what was around it is around again, and no more
 abbrev pub behind_block : Point → Point → Point
 behind_block p q = record p { slots = q.slots; exceptions = q.exceptions }
+
+-- what stands in the block of a handler has its variable around, where it has one, as an `int32`
+abbrev pub behind_variable : Option (List ℕ) → Point → Point
+behind_variable None p = p
+behind_variable (Some y) p = behind_declaration y (Value Int32) p
+
+-- which has the next slot
+abbrev pub slot_of_variable : Option (List ℕ) → Point → Option ℕ
+slot_of_variable None p = None
+slot_of_variable (Some y) p = Some p.slots
 
 -- an expression: each variable has the slot of the innermost declaration of its name
 pub data BindsExpr (around : List Local) : Expr → UExpr → Type 0 where
@@ -117,11 +128,13 @@ mutual
     block : {p q : Point} {body : List Stmt} {b : List RStmt} → BindsBlock functions p body b q → BindsWhat functions p (st.Block body) (rt.Block b) q
     -- a call declares nothing
     call : {p : Point} {c : Call} {r : RCall} → BindsCall functions p c r → BindsWhat functions p (st.Call c) (rt.Call r) p
-    -- A `try` has the next number, and its exception is in force in its body. The handler is a block behind that body, where the exception is in force no longer.
-    try : {p m q : Point} {x : List ℕ} {body handler : List Stmt} {b h : List RStmt} → BindsBlock functions (inside_try x p) body b m
-        → BindsBlock functions (behind_block p m) handler h q → BindsWhat functions p (st.Try body x handler) (rt.Try b p.exceptions h) q
+    -- A `try` has the next number, and its exception is in force in its body. The handler is a block behind that body, where the exception is in force no longer. A variable of the handler is declared where the handler's block begins.
+    try : {p m q : Point} {x : List ℕ} {y : Option (List ℕ)} {body handler : List Stmt} {b h : List RStmt} → BindsBlock functions (inside_try x p) body b m
+        → BindsStmts functions (behind_variable y (behind_block p m)) handler h q
+        → BindsWhat functions p (st.Try body x y handler) (rt.Try b p.exceptions (slot_of_variable y m) h) (behind_block p q)
     -- a `throw` has the number of the innermost exception of its name that is in force
-    throw : {p : Point} {x : List ℕ} {number : ℕ} → IsNumberOfInnermost x p.handled number → BindsWhat functions p (st.Throw x) (rt.Throw number) p
+    throw : {p : Point} {x : List ℕ} {a : Option Expr} {number : ℕ} {r : Option UExpr} → IsNumberOfInnermost x p.handled number → BindsOption p.declared a r
+        → BindsWhat functions p (st.Throw x a) (rt.Throw number r) p
     -- the branches of a fork
     par : {p q : Point} {branches : List Branch} {rs : List RBranch} → BindsBranches functions p branches rs q → BindsWhat functions p (st.Par branches) (rt.Par rs) q
 

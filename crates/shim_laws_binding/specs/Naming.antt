@@ -49,6 +49,11 @@ abbrev pub option_named : (ℕ → List ℕ) → Option UExpr → Option Expr
 option_named variable None = None
 option_named variable (Some a) = Some (expr_named variable a)
 
+-- the variable of a handler, where it has one
+abbrev pub slot_named : (ℕ → List ℕ) → Option ℕ → Option (List ℕ)
+slot_named variable None = None
+slot_named variable (Some slot) = Some (variable slot)
+
 abbrev pub call_named : Naming → RCall → Call
 call_named n c = record { function = n.function c.function; args = map (expr_named n.variable) c.args }
 
@@ -69,8 +74,8 @@ what_step n (RWhat-F.While test body) = st.While (expr_named n.variable test) bo
 what_step n (RWhat-F.For first test step body) = st.For first (option_named n.variable test) step body
 what_step n (RWhat-F.RWhat::Block body) = st.Block body
 what_step n (RWhat-F.RWhat::Call c) = st.Call (call_named n c)
-what_step n (RWhat-F.Try body number handler) = st.Try body (n.exception number) handler
-what_step n (RWhat-F.Throw number) = st.Throw (n.exception number)
+what_step n (RWhat-F.Try body number slot handler) = st.Try body (n.exception number) (slot_named n.variable slot) handler
+what_step n (RWhat-F.Throw number a) = st.Throw (n.exception number) (option_named n.variable a)
 what_step n (RWhat-F.Par branches) = st.Par branches
 
 abbrev pub branch_step : RBranch-F BranchWhat What Branch Stmt → Branch

@@ -1,5 +1,6 @@
 -- What a function declares, and what its `try` statements name, in the order of the text.
-use Rattle.std.specs.Prelude.{ℕ, ◌≡◌, List, [], ◌∷◌, ◌++◌, map}
+use Rattle.std.specs.Prelude.{ℕ, ◌≡◌, List, [], ◌∷◌, ◌++◌, map, Option, Some, None}
+use Rattle.shim_base.specs.declared.types.Ty.TheVariants.{Int32}
 use Rattle.shim_syntax.specs.declared.tree.Sort.{Sort}
 use Rattle.shim_syntax.specs.declared.tree.Sort.TheVariants.{Value}
 use Rattle.shim_syntax.specs.declared.tree.Param.{Param}
@@ -23,6 +24,11 @@ abbrev pub together : {T : Type 0} → List (List T) → List T
 together [] = []
 together (t ∷ ts) = t ++ together ts
 
+-- the variable of a handler, where it has one
+abbrev pub declared_variable : Option (List ℕ) → Declarations
+declared_variable None = []
+declared_variable (Some x) = record { name = x; sort = Value Int32 } ∷ []
+
 abbrev pub branch_declares : BranchWhat-F Declarations Declarations Declarations Declarations → Declarations
 branch_declares (BranchWhat-F.BranchWhat::Block body) = together body
 branch_declares (BranchWhat-F.BranchWhat::Call c) = []
@@ -33,7 +39,7 @@ what_declares (What-F.If e first other) = together first ++ together other
 what_declares (What-F.While e body) = together body
 what_declares (What-F.For first test step body) = together first ++ (together step ++ together body)
 what_declares (What-F.What::Block body) = together body
-what_declares (What-F.Try body x handler) = together body ++ together handler
+what_declares (What-F.Try body x y handler) = together body ++ (declared_variable y ++ together handler)
 what_declares (What-F.Par branches) = together branches
 what_declares _ = []
 
@@ -54,7 +60,7 @@ what_tries (What-F.If e first other) = together first ++ together other
 what_tries (What-F.While e body) = together body
 what_tries (What-F.For first test step body) = together first ++ (together step ++ together body)
 what_tries (What-F.What::Block body) = together body
-what_tries (What-F.Try body x handler) = x ∷ (together body ++ together handler)
+what_tries (What-F.Try body x y handler) = x ∷ (together body ++ together handler)
 what_tries (What-F.Par branches) = together branches
 what_tries _ = []
 

@@ -1,7 +1,8 @@
 -- What each kind of statement is bound to declares slots behind those that stand before it.
-use Rattle.std.proofs.Common.{ℕ, ◌+◌, ◌≤◌, ◌≡◌, List, [], ◌∷◌, ◌++◌, Option, Ok, length, refl, sym, subst, arith, length-append}
+use Rattle.std.proofs.Common.{ℕ, ◌+◌, ◌≤◌, ◌≡◌, List, [], ◌∷◌, ◌++◌, Option, Some, None, Ok, length, refl, sym, subst, arith, length-append}
 use Rattle.std.specs.Option.{option_or}
 use Rattle.shim_base.specs.declared.types.Ty.{Ty}
+use Rattle.shim_base.specs.declared.types.Ty.TheVariants.{Int32}
 use Rattle.shim_syntax.specs.declared.tree.Call.{Call}
 use Rattle.shim_syntax.specs.declared.tree.Expr.{Expr}
 use Rattle.shim_syntax.specs.declared.tree.Sort.TheVariants.{Value}
@@ -16,8 +17,9 @@ use Rattle.shim_scopes.specs.declared.tree.RWhat.TheVariants as to
 use Rattle.shim_scopes.specs.declared.tree.UExpr.{UExpr}
 use Rattle.shim_scopes.specs.Binding.{unknown, unknown_in_option, stream_in, stream_in_option, no_number, no_input, no_output, slot_of, placed, placed_option, exception_number, unhandled}
 use Rattle.shim_scopes.specs.Refusals.{refused_for}
-use Rattle.shim_scopes.specs.Statements.{Whole, Around, Before, BoundTo, Bind, declared, within, opened, closed, caught, tried, bind_declare, bind_store, bind_next, bind_assign_next, bind_get, bind_put, bind_throw, bind_block, on_tree, bind_two, bind_test, bind_if, bind_while, bind_try, bind_parts, bind_first_test, bind_for, visible, declared_in, unknown_in_both, unknown_of_two}
+use Rattle.shim_scopes.specs.Statements.{Whole, Around, Before, BoundTo, Bind, declared, within, opened, closed, caught, tried, variable_declared, variable_slot, bind_handler, bind_declare, bind_store, bind_next, bind_assign_next, bind_get, bind_put, bind_throw, bind_block, on_tree, bind_two, bind_test, bind_if, bind_while, bind_try, bind_parts, bind_first_test, bind_for, visible, declared_in, unknown_in_both, unknown_of_two}
 use Rattle.shim_scopes.specs.Calls.{bind_call, bind_called}
+use Rattle.shim_units.specs.Own.{some_slot}
 use Rattle.shim_units.specs.PartFold.{declares_in}
 use Rattle.shim_laws_binding.proofs.Bound.{is_bound}
 use Rattle.shim_laws_binding.proofs.Lists.{Each, each_of_both}
@@ -125,10 +127,12 @@ put_adds x e line place a b r h =
     let v : List Local = visible a b in
     asked_two (own_what place) line UnknownName WrongKind (unknown_in_both v x e) (option_or (no_output v x) (stream_in v e)) (to.Put (slot_of v x) (placed v e)) b r (own_put place (slot_of v x) (placed v e)) h
 
-pub throw_adds : (x : List ℕ) → WhatAdds (bind_throw x)
-throw_adds x line place a b r h =
+pub throw_adds : (x : List ℕ) (e : Option Expr) → WhatAdds (bind_throw x e)
+throw_adds x e line place a b r h =
+    let v : List Local = visible a b in
     let number : ℕ = exception_number a.handled x in
-    stays (own_what place) (to.Throw number) b r (own_throw place number) (passed line UnknownException (unhandled a.handled x) _ r h)
+    asked_two (own_what place) line UnknownException WrongKind (unhandled a.handled x) (stream_in_option v e) (to.Throw number (placed_option v e)) b r (own_throw place number (placed_option v e))
+    (passed line UnknownName (unknown_in_option v e) _ r h)
 
 pub called_adds : {T : Type 0} (w : Whole) (own : T → List ℕ) (g : RCall → T) (c : Call) (line : ℕ) → ((d : RCall) → own (g d) ≡ []) → Adds own (bind_called g w c line)
 called_adds w own g c line nothing a b r h = let p = first_ok (bind_call w c line a b) _ r h in stays own (g p.0) b r (nothing p.0) p.2
@@ -145,16 +149,34 @@ while_adds e f k line place a b r is =
     let p = first_ok (bind_test e line a b) _ r is in
     tree_adds declares_in (own_what place) (to.While p.0) (bind_block f) (λ n s i. same_from n (own_what place (to.While p.0 s)) (declares_in s) (own_while place p.0 s) i) (block_adds declares_in f k) a b r p.2
 
-pub try_adds : (w : Whole) (x : List ℕ) (f h : Bind (List RStmt)) → Adds declares_in f → Adds declares_in h → (place : ℕ) → Adds (own_what place) (bind_try w x f h)
-try_adds w x f h k l place a b r is =
+-- the variable of a handler
+variable_longer : (w : Whole) (y : Option (List ℕ)) (b : Before) → length b.slots ≤ length (variable_declared w.names y b).slots
+variable_longer w None b = omega arith
+variable_longer w (Some y) b = omega (arith, length-append b.slots (Value Int32 ∷ []))
+
+variable_from : (n : ℕ) (y : Option (List ℕ)) (b : Before) → n ≤ length b.slots → AllFrom n (some_slot (variable_slot y b))
+variable_from n None b h = tt
+variable_from n (Some y) b h = (h, tt)
+
+handler_adds : (w : Whole) (y : Option (List ℕ)) (h : Bind (List RStmt)) → Adds declares_in h → Adds declares_in (bind_handler w y h)
+handler_adds w y h k a b r is =
+    let longer = variable_longer w y b in
+    let n = k a (variable_declared w.names y b) r is in
+    record { longer = omega (arith, longer, n.longer); behind = from_less _ _ (declares_in r.tree) longer n.behind }
+
+pub try_adds : (w : Whole) (x : List ℕ) (y : Option (List ℕ)) (f h : Bind (List RStmt)) → Adds declares_in f → Adds declares_in h → (place : ℕ) → Adds (own_what place) (bind_try w x y f h)
+try_adds w x y f h k l place a b r is =
     let p = first_ok (bind_block f (caught x a b) (tried w x b)) _ r is in
-    let q = first_ok (bind_block h a p.0.before) _ r p.2 in
+    let q = first_ok (bind_block (bind_handler w y h) a p.0.before) _ r p.2 in
     let m = block_adds declares_in f k (caught x a b) (tried w x b) p.0 p.1 in
-    let n = block_adds declares_in h l a p.0.before q.0 q.1 in
+    let n = block_adds declares_in (bind_handler w y h) (handler_adds w y h l) a p.0.before q.0 q.1 in
     let number : ℕ = a.throws + length b.tries in
-    at_answer (own_what place) b q.0.before (to.Try p.0.tree number q.0.tree) r q.2 (omega (arith, m.longer, n.longer))
-    (both_from (length b.slots) (own_what place (to.Try p.0.tree number q.0.tree)) (declares_in p.0.tree) (declares_in q.0.tree) (own_try place p.0.tree number q.0.tree)
-    m.behind (from_less _ _ (declares_in q.0.tree) m.longer n.behind))
+    let slot : Option ℕ = variable_slot y p.0.before in
+    at_answer (own_what place) b q.0.before (to.Try p.0.tree number slot q.0.tree) r q.2 (omega (arith, m.longer, n.longer))
+    (both_from (length b.slots) (own_what place (to.Try p.0.tree number slot q.0.tree)) (declares_in p.0.tree) (some_slot slot ++ declares_in q.0.tree) (own_try place p.0.tree number slot q.0.tree)
+    m.behind
+    (both_from (length b.slots) (some_slot slot ++ declares_in q.0.tree) (some_slot slot) (declares_in q.0.tree) refl (variable_from (length b.slots) y p.0.before m.longer)
+    (from_less _ _ (declares_in q.0.tree) m.longer n.behind)))
 
 parts_add : (test : Option Expr) (f g h : Bind (List RStmt)) → Adds declares_in f → Adds declares_in g → Adds declares_in h → (place : ℕ) → Adds (own_what place) (bind_parts test f g h)
 parts_add test f g h j k l place a b r is =

@@ -118,8 +118,8 @@ module _ (w : Whole) where
   what_layer (What-F.For first test step body) line place = for_adds (first_declares (map (meaning w) (stmts first))) test _ _ _ (stmts_add first) (stmts_add step) (stmts_add body) line place
   what_layer (What-F.What::Block body) line place = inner_adds _ (stmts_add body) place
   what_layer (What-F.What::Call c) line place = called_adds w (own_what place) to.Call c line (own_call place)
-  what_layer (What-F.Try body x handler) line place = try_adds w x _ _ (stmts_add body) (stmts_add handler) place
-  what_layer (What-F.Throw x) line place = throw_adds x line place
+  what_layer (What-F.Try body x y handler) line place = try_adds w x y _ _ (stmts_add body) (stmts_add handler) place
+  what_layer (What-F.Throw x e) line place = throw_adds x e line place
   what_layer (What-F.Par bs) line place = fork_adds _ (branches_add bs) place
 
   branch_what_case : (x : BranchWhat-F BranchWhat What Branch Stmt) (y : BranchWhat-F AddingBranchWhat AddingWhat AddingBranch AddingStmt) → branch_what_of y ≡ x → BranchWhatAdds (branch_what_means (roll-BranchWhat x))

@@ -196,7 +196,7 @@ on_what (UWhat-F.NextAssign x e) l =
 on_what (UWhat-F.AssignNext x y) l =
     choose (StandsOn l) l.frame.halfway AtQuiet (at_next (location_of l.locations l.frame.slots y)) tt (on_next l (number_of l.frame.slots y) (location_of l.locations l.frame.slots y) refl)
 on_what (UWhat-F.Put o e) l = on_put l l.holds_output
-on_what (UWhat-F.Throw x) l = tt
+on_what (UWhat-F.Throw x e) l = tt
 on_what (UWhat-F.Par bs) l = on_fork l bs
 on_what _ l = tt
 

@@ -9,7 +9,7 @@ use Rattle.shim_units.specs.declared.unit.UCall.{UCall}
 use Rattle.shim_units.specs.declared.unit.UStmt.{UStmt, fold-roll-UStmt}
 use Rattle.shim_units.specs.declared.unit.UWhat.{UWhat, UWhat-F, fold-UWhat, fold-roll-UWhat, map-UWhat, roll-UWhat}
 use Rattle.shim_units.specs.declared.unit.UWhat.TheVariants as u
-use Rattle.shim_process.specs.OwnSlots.{suits, all_suit, is_own_slot, what_fits, fits, all_fit}
+use Rattle.shim_process.specs.OwnSlots.{suits, all_suit, is_own_slot, is_own_variable, what_fits, fits, all_fit}
 
 module _ (p : Form) (o : UnitOf) where
   abbrev pub fits_what : UWhat → Bool
@@ -70,13 +70,13 @@ module _ (p : Form) (o : UnitOf) where
   unfolding roll-UWhat denote.Hole.Carrier.roll
   fits_call c = at_what (UWhat-F.Call c)
 
-  pub fits_try : (body : List UStmt) (x : ℕ) (handler : List UStmt) → fits_what (u.Try body x handler) ≡ (all_fit p o body && all_fit p o handler)
+  pub fits_try : (body : List UStmt) (x : ℕ) (y : Option ℕ) (handler : List UStmt) → fits_what (u.Try body x y handler) ≡ (all_fit p o body && (is_own_variable o y && all_fit p o handler))
   unfolding roll-UWhat denote.Hole.Carrier.roll
-  fits_try body x handler = at_what (UWhat-F.Try body x handler)
+  fits_try body x y handler = at_what (UWhat-F.Try body x y handler)
 
-  pub fits_throw : (x : ℕ) → fits_what (u.Throw x) ≡ true
+  pub fits_throw : (x : ℕ) (e : Option UExpr) → fits_what (u.Throw x e) ≡ true
   unfolding roll-UWhat denote.Hole.Carrier.roll
-  fits_throw x = at_what (UWhat-F.Throw x)
+  fits_throw x e = at_what (UWhat-F.Throw x e)
 
   pub fits_par : (branches : List UBranch) → fits_what (u.Par branches) ≡ all_suit p branches
   unfolding roll-UWhat denote.Hole.Carrier.roll

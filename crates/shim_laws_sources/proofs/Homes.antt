@@ -14,8 +14,9 @@ use Rattle.shim_laws_sources.specs.Anchored.{IsWhole, Stays}
 use Rattle.shim_laws_sources.specs.Homes.{GivesBack, OneGivesBack, IsGivenBy, Waits, IsHome, AreHome}
 use Rattle.shim_laws_sources.proofs.Along.{behind, Relates}
 use Rattle.shim_laws_sources.proofs.ForkHomes.{fork_home}
-use Rattle.shim_laws_sources.proofs.WholeEnds.{stays_same, stays_both, unwind_whole}
-use Rattle.shim_laws_sources.proofs.WholeSteps.{quiet_whole, put_whole, receive_whole, fork_trapped_whole}
+use Rattle.shim_laws_sources.proofs.WholeEnds.{stays_same, stays_both}
+use Rattle.shim_laws_sources.proofs.WholeUnwinds.{unwind_whole}
+use Rattle.shim_laws_sources.proofs.WholeSteps.{quiet_whole, thrown_whole, put_whole, receive_whole, fork_trapped_whole}
 use Rattle.shim_laws_sources.proofs.WholeJoins.{join_whole}
 
 -- where the first tree has it, the second one has it, and what is its root stays
@@ -85,8 +86,8 @@ home_relates = record {
   quiet = λ l s at h. quiet_whole l h;
   puts = λ l s at h. put_whole l h;
   receives = λ l v s h. receive_whole l v h;
-  throws = λ l s h. (h, stays_same l);
-  unwinds = λ l x v s h. unwind_whole l x h;
+  throws = λ l s h. thrown_whole l h;
+  unwinds = λ l x v s h. unwind_whole l x v h;
   forks = λ l p ks s at h. fork_home l p ks s h at;
   traps = λ l m s at e h. fork_trapped_whole l m e h;
   ends = λ l h. (h, stays_same l);

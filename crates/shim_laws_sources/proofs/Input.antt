@@ -6,7 +6,7 @@ use Rattle.shim_process.specs.LocalState.{LocalState, unit_at}
 use Rattle.shim_process.specs.Arguments.{Argument}
 use Rattle.shim_process.specs.Forks.{takes_input, item_branches, child, children_from, all_lending, parent}
 use Rattle.shim_process.specs.Steps.{quiet}
-use Rattle.shim_process.specs.Stops.{put, receive}
+use Rattle.shim_process.specs.Stops.{put, thrown, receive}
 use Rattle.shim_process.specs.Unwinding.{unwind}
 use Rattle.shim_semantics.specs.Nodes.{Node, Nodes, Live, Forked, node_and, states, everyone, everyone_of, all_live}
 use Rattle.shim_semantics.proofs.HowMany.{no_less, no_less_than, counts, rest_counts, any_counts, states_count, at_most, one_for_one, one_before, both_less}
@@ -15,7 +15,7 @@ use Rattle.shim_process.proofs.ForkCounts.{bit, Balanced, count_children, one_bi
 use Rattle.shim_process.proofs.ForkParts.{Parts, parts_of}
 use Rattle.shim_laws_sources.specs.Sources.{is_place, has_input}
 use Rattle.shim_laws_sources.proofs.Along.{behind, Relates}
-use Rattle.shim_laws_sources.proofs.InputMoves.{quiet_input, put_input, receive_input, unwind_input, trapped_input, join_input}
+use Rattle.shim_laws_sources.proofs.InputMoves.{quiet_input, put_input, receive_input, thrown_input, unwind_input, trapped_input, join_input}
 
 -- of no more processes than before it is true
 abbrev pub NoMore : Node LocalState → Node LocalState → Type 0
@@ -85,8 +85,8 @@ input_relates = record {
   quiet = λ l s at. alike_less l (quiet l) (quiet_input l);
   puts = λ l s at. alike_less l (put l) (put_input l);
   receives = λ l v s. alike_less l (receive l v) (receive_input l v);
-  throws = λ l s. no_less (how_many has_input (l ∷ []));
-  unwinds = λ l x v s. alike_less l (unwind l x) (unwind_input l x);
+  throws = λ l s. alike_less l (thrown l) (thrown_input l);
+  unwinds = λ l x v s. alike_less l (unwind l x v) (unwind_input l x v);
   forks = λ l p ks s h. forked_less l p ks h;
   traps = λ l m s at e. alike_less l m (trapped_input l m e);
   ends = λ l. no_less (how_many has_input (l ∷ []));

@@ -7,13 +7,14 @@ use Rattle.shim_units.specs.declared.unit.UStmt.{UStmt}
 use Rattle.shim_units.specs.declared.unit.UWhat.{UWhat, UWhat-F, out-UWhat}
 use Rattle.shim_process.specs.Values.{Value}
 use Rattle.shim_process.specs.Todo.{Successor, On, First, next_stmt}
-use Rattle.shim_process.specs.LocalState.{LocalState, Frame}
+use Rattle.shim_process.specs.declared.handler_variable.HandlerVariable.{HandlerVariable}
+use Rattle.shim_process.specs.LocalState.{LocalState, Frame, ExceptionPlace}
 use Rattle.shim_process.specs.Arguments.{Argument}
 use Rattle.shim_process.specs.Ends.{went, is_over, settled, gone}
 use Rattle.shim_process.specs.Forks.{fork, some_or, input_back, joined, join}
-use Rattle.shim_process.specs.Steps.{Action, Go, Store, StoreFirst, Make, Read, Enter, Install, Trapped, Wait, next_action, stored_in, made_in, read_on, read_in, installed, pushed, called, done, quiet}
-use Rattle.shim_process.specs.Stops.{put_value, after_put, put, what_receive, stmt_receive, receive}
-use Rattle.shim_process.specs.Unwinding.{handling, unwound, unwind}
+use Rattle.shim_process.specs.Steps.{Action, Go, Store, StoreFirst, Make, Read, Enter, Install, Trapped, Wait, next_action, stored_in, made_in, read_on, read_in, installing, pushed, called, done, quiet}
+use Rattle.shim_process.specs.Stops.{put_value, after_put, put, thrown_value, after_throw, thrown, what_receive, stmt_receive, receive}
+use Rattle.shim_process.specs.Unwinding.{handling, taking, catching, unwound, unwind}
 use Rattle.shim_process.proofs.CallKeeps.{fork_trapped}
 use Rattle.shim_laws_sources.specs.Sources.{is_place, has_input}
 use Rattle.shim_base.proofs.Facts.{choose}
@@ -28,12 +29,22 @@ gone_input : (successor : Successor) (l : LocalState) → (gone successor l).inp
 unfolding gone
 gone_input successor l = settled_input l.callers (went successor l.frame) l
 
-unwound_input : (cs : List Frame) (f : Frame) (n : ℕ) (l : LocalState) → (unwound cs f n l).input_at ≡ l.input_at
-unwound_input [] f n l = refl
-unwound_input (c ∷ cs) f n l =
-    let g : Frame = handling (slice_get f.places (n - f.outer)) (n - f.outer) f in
+taking_input : (o : Option HandlerVariable) (v : ℤ) (f : Frame) (l : LocalState) → (taking o v f l).input_at ≡ l.input_at
+taking_input None v f l = refl
+taking_input (Some y) v f l = refl
+
+catching_input : (o : Option ExceptionPlace) (v : ℤ) (f : Frame) (l : LocalState) → (catching o v f l).input_at ≡ l.input_at
+catching_input None v f l = refl
+catching_input (Some p) v f l = taking_input p.variable v f l
+
+unwound_input : (cs : List Frame) (f : Frame) (n : ℕ) (v : ℤ) (l : LocalState) → (unwound cs f n v l).input_at ≡ l.input_at
+unwound_input [] f n v l = catching_input (slice_get f.places (n - f.outer)) v f l
+unwound_input (c ∷ cs) f n v l =
+    let o : Option ExceptionPlace = slice_get f.places (n - f.outer) in
+    let g : Frame = handling o (n - f.outer) f in
     let out : LocalState = record l { locations = take f.floor l.locations } in
-    choose (λ (z : LocalState). z.input_at ≡ l.input_at) (nat_lt n f.outer) (unwound cs c n out) (settled (c ∷ cs) g l) (unwound_input cs c n out) (settled_input (c ∷ cs) g l)
+    choose (λ (z : LocalState). z.input_at ≡ l.input_at) (nat_lt n f.outer) (unwound cs c n v out) (settled (c ∷ cs) g (catching o v f l)) (unwound_input cs c n v out)
+    (settled_input (c ∷ cs) g (catching o v f l) ∙ catching_input o v f l)
 
 -- to read on doesn't lose it
 read_place : (at : Option ℕ) (input : List ℕ) → is_place (read_on at input) ≡ is_place at
@@ -44,6 +55,10 @@ called_input : (unit : ℕ) (given : List Argument) (labels : List ℕ) (l : Loc
 unfolding called pushed
 called_input unit given labels l = let m : LocalState = pushed unit given labels l in settled_input m.callers m.frame m
 
+installing_input : (x name : ℕ) (y : Option ℕ) (l : LocalState) → (installing x name y l).input_at ≡ l.input_at
+installing_input x name None l = refl
+installing_input x name (Some y) l = refl
+
 done_input : (d : Action) (l : LocalState) → has_input (done d l) ≡ has_input l
 done_input (Go successor) l = ap is_place (gone_input successor l)
 done_input (Store x v) l = ap is_place (gone_input On (stored_in x v l))
@@ -51,7 +66,7 @@ done_input (StoreFirst x v) l = refl
 done_input (Make t x v) l = ap is_place (gone_input On (made_in t x v l))
 done_input (Read x) l = ap is_place (gone_input On (read_in x l)) ∙ read_place l.input_at l.input
 done_input (Enter unit given labels) l = ap is_place (called_input unit given labels l)
-done_input (Install x name) l = ap is_place (gone_input First (record l { frame = installed x name l.frame }))
+done_input (Install x name y) l = ap is_place (gone_input First (installing x name y l) ∙ installing_input x name y l)
 done_input (Trapped t) l = refl
 done_input Wait l = refl
 
@@ -81,9 +96,17 @@ pub receive_input : (l : LocalState) (v : ℤ) → has_input (receive l v) ≡ h
 unfolding receive
 receive_input l v = stmt_input (next_stmt l.frame.todo) v l
 
-pub unwind_input : (l : LocalState) (label : ℕ) → has_input (unwind l label) ≡ has_input l
+after_throw_input : (r : Value) (l : LocalState) → has_input (after_throw r l) ≡ has_input l
+after_throw_input (Ok v) l = refl
+after_throw_input (Err t) l = refl
+
+pub thrown_input : (l : LocalState) → has_input (thrown l) ≡ has_input l
+unfolding thrown
+thrown_input l = after_throw_input (thrown_value l) l
+
+pub unwind_input : (l : LocalState) (label : ℕ) (v : ℤ) → has_input (unwind l label v) ≡ has_input l
 unfolding unwind
-unwind_input l label = ap is_place (unwound_input l.callers l.frame (label - l.base) l)
+unwind_input l label v = ap is_place (unwound_input l.callers l.frame (label - l.base) v l)
 
 -- a fork that traps
 pub trapped_input : (l m : LocalState) → fork l ≡ TrappedFork m → has_input m ≡ has_input l

@@ -22,6 +22,7 @@ pub mod Ownerships
 pub mod AtPlaces
 pub mod WholeEnds
 pub mod WholeStores
+pub mod WholeUnwinds
 pub mod WholeCalls
 pub mod WholeSteps
 pub mod LendingPlaces

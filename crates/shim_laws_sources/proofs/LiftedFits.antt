@@ -1,5 +1,5 @@
 -- What is lifted out of a statement or a branch fits, by what is lifted out of its parts.
-use Rattle.std.proofs.Common.{ℕ, ◌≡◌, ◌∙◌, Bool, true, List, [], ◌∷◌, ◌++◌, map, refl, sym, subst}
+use Rattle.std.proofs.Common.{ℕ, ◌≡◌, ◌∙◌, Bool, true, ◌&&◌, List, [], ◌∷◌, ◌++◌, Option, Some, None, map, refl, sym, subst}
 use Rattle.shim_scopes.specs.declared.tree.RStmt.{RStmt, RStmt-F, fold-roll-RStmt, ind-RStmt, map-RStmt, roll-RStmt}
 use Rattle.shim_scopes.specs.declared.tree.RWhat.{RWhat, RWhat-F, fold-roll-RWhat, map-RWhat, roll-RWhat}
 use Rattle.shim_scopes.specs.declared.tree.RBranch.{RBranch, RBranch-F, fold-roll-RBranch, map-RBranch, roll-RBranch}
@@ -12,18 +12,42 @@ use Rattle.shim_units.specs.declared.unit.UStmt.{UStmt}
 use Rattle.shim_units.specs.declared.unit.UWhat.{UWhat}
 use Rattle.shim_units.specs.declared.unit.UWhat.TheVariants.{Declare, Assign, Next, NextAssign, AssignNext, Get, Put, If, While, For, Block, Call, Try, Throw, Par}
 use Rattle.shim_units.specs.declared.slot_map.SlotMap.{SlotMap}
-use Rattle.shim_units.specs.Moving.{slot_index_of, moved, moved_option, moved_call}
-use Rattle.shim_units.specs.Parts.{LiftContext, Part, all_uses, all_declares}
-use Rattle.shim_units.specs.Uses.{names_in, names_in_option}
-use Rattle.shim_units.specs.Lifting.{lift_all, whole}
+use Rattle.shim_units.specs.Moving.{slot_index_of, slot_index_of_option, moved, moved_option, moved_call}
+use Rattle.shim_units.specs.Parts.{LiftContext, Part, all_uses, all_declares, Lifts}
+use Rattle.shim_units.specs.Uses.{names_in, names_in_option, variable_uses}
+use Rattle.shim_units.specs.Own.{some_slot}
+use Rattle.shim_units.specs.Lifting.{lift_all, whole, on_tree}
 use Rattle.shim_units.specs.PartFold.{branch_what_step, what_step, branch_step, stmt_step, in_line, part, parts, branch_part, branch_parts}
 use Rattle.shim_laws_binding.specs.HandedOn.{Calls, branch_what_calls, what_calls, stmt_calls, calls_among}
 use Rattle.shim_laws_binding.proofs.CallSteps.{calls_of_branch_what, calls_of_what, calls_of_branch, calls_of_branches, calls_stmt, calls_branch}
-use Rattle.shim_process.specs.OwnSlots.{suits, all_suit, fits, all_fit}
+use Rattle.shim_process.specs.OwnSlots.{suits, all_suit, is_own_variable, fits, all_fit}
 use Rattle.shim_laws_sources.proofs.FitSteps.{fits_what, fits_line, fits_declare, fits_assign, fits_next, fits_next_assign, fits_assign_next, fits_get, fits_put, fits_if, fits_while, fits_for, fits_block, fits_call, fits_try, fits_throw, fits_par}
-use Rattle.shim_laws_sources.proofs.Lifting.{declared_in_both, declared_behind, LiftFits, PartFits, PartsFit, alone, around, two, three, block_branch, moved_suits}
+use Rattle.shim_laws_sources.proofs.Lifting.{AreDeclared, IsOwn, declared_in_both, declared_behind, LiftFits, PartFits, PartsFit, alone, around, two, three, block_branch, moved_suits}
 use Rattle.shim_laws_sources.proofs.Placing.{declares_it}
+use Rattle.shim_laws_binding.proofs.Lists.{Each, each_of_first, each_of_second}
+use Rattle.shim_base.proofs.Facts.{both_hold}
 use Rattle.shim_units.proofs.PartSteps.{branch_what_part, what_part}
+
+-- a handler's variable is declared where it stands
+variable_declared : (y : Option ℕ) → AreDeclared (variable_uses y) (some_slot y)
+variable_declared None = tt
+variable_declared (Some x) = (declares_it x [], tt)
+
+own_variable : (form : Form) (u : UnitOf) (w : SlotMap) (y : Option ℕ) → Each (IsOwn form u w) (some_slot y) → is_own_variable u (slot_index_of_option w.slots y) ≡ true
+own_variable form u w None h = refl
+own_variable form u w (Some x) h = h.0
+
+-- a handler fits with its variable
+abbrev fit_handler : Form → UnitOf → Option ℕ × List UStmt → Bool
+fit_handler form u p = is_own_variable u p.0 && all_fit form u p.1
+
+handler_fits : (form : Form) (y : Option ℕ) (ds : List ℕ) (cs : Calls) (f : Lifts (List UStmt)) → LiftFits form (all_fit form) ds cs f
+    → LiftFits form (fit_handler form) (some_slot y ++ ds) cs (λ context w n. on_tree (λ t. (slot_index_of_option w.slots y, t)) (f context w n))
+handler_fits form y ds cs f h = record {
+  tree = λ context w n u own given stand.
+      both_hold _ _ (own_variable form u w y (each_of_first (IsOwn form u w) (some_slot y) ds own)) (h.tree context w n u (each_of_second (IsOwn form u w) (some_slot y) ds own) given stand);
+  units = λ context w n given stand. h.units context w n given stand;
+}
 
 module _ (form : Form) where
   abbrev fit_call : UnitOf → UCall → Bool
@@ -161,15 +185,21 @@ module _ (form : Form) where
     declared = λ fs. tt;
     lifts = alone form fit_what [] (c ∷ []) (λ context w. Call (moved_call context.functions c w)) (λ context w u own given. fits_call form u (moved_call context.functions c w) ∙ moved_suits form context.functions c w given.0);
   }
-  what_layer (RWhat-F.Try body x handler) line =
+  what_layer (RWhat-F.Try body x y handler) line =
       let one = stmts_fit body in
       let rest = stmts_fit handler in
       record {
-        declared = λ fs. declared_in_both (all_uses fs (parts (stmts body))) (all_uses fs (parts (stmts handler))) _ _ (one.declared fs) (rest.declared fs);
-        lifts = two form (all_fit form) (all_fit form) fit_what (all_declares (parts (stmts body))) (all_declares (parts (stmts handler))) (calls_among (stmts body)) (calls_among (stmts handler))
-            (λ w r s. Try r (slot_index_of w.exceptions x) s) (lift_all (parts (stmts body))) (lift_all (parts (stmts handler))) (λ u w r s. fits_try form u r (slot_index_of w.exceptions x) s) one.lifts rest.lifts;
+        declared = λ fs. declared_in_both (all_uses fs (parts (stmts body))) _ _ _ (one.declared fs)
+            (declared_in_both (variable_uses y) (all_uses fs (parts (stmts handler))) (some_slot y) _ (variable_declared y) (rest.declared fs));
+        lifts = two form (all_fit form) (fit_handler form) fit_what (all_declares (parts (stmts body))) (some_slot y ++ all_declares (parts (stmts handler))) (calls_among (stmts body)) (calls_among (stmts handler))
+            (λ w r (s : Option ℕ × List UStmt). Try r (slot_index_of w.exceptions x) s.0 s.1) (lift_all (parts (stmts body))) (λ context w n. on_tree (λ t. (slot_index_of_option w.slots y, t)) (lift_all (parts (stmts handler)) context w n))
+            (λ u w r s. fits_try form u r (slot_index_of w.exceptions x) s.0 s.1) one.lifts
+            (handler_fits form y (all_declares (parts (stmts handler))) (calls_among (stmts handler)) (lift_all (parts (stmts handler))) rest.lifts);
       }
-  what_layer (RWhat-F.Throw x) line = record { declared = λ fs. tt; lifts = plain (λ context w. Throw (slot_index_of w.exceptions x)) (λ context w u. fits_throw form u (slot_index_of w.exceptions x)) }
+  what_layer (RWhat-F.Throw x a) line = record {
+    declared = λ fs. tt;
+    lifts = plain (λ context w. Throw (slot_index_of w.exceptions x) (moved_option w.slots a)) (λ context w u. fits_throw form u (slot_index_of w.exceptions x) (moved_option w.slots a));
+  }
   what_layer (RWhat-F.Par bs) line = record {
     declared = λ fs. tt;
     lifts = around form fit_fork fit_what [] (calls_of_branches (branches bs)) (λ w s. Par s) (lift_all (branch_parts (branches bs))) (λ u w s. fits_par form u s) (branches_fit bs);

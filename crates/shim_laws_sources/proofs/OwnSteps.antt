@@ -14,6 +14,7 @@ use Rattle.shim_units.specs.declared.unit.UStmt.{UStmt}
 use Rattle.shim_units.specs.declared.unit.UWhat.{UWhat}
 use Rattle.shim_units.specs.Parts.{Part}
 use Rattle.shim_units.specs.Own.{what_declares}
+use Rattle.shim_units.specs.Own.{some_slot}
 use Rattle.shim_units.specs.PartFold.{branch_what_step, what_step, branch_step, stmt_step, part, branch_part, declares_in}
 use Rattle.shim_units.proofs.PartSteps.{branch_what_part, what_part}
 
@@ -80,13 +81,13 @@ pub own_call : (line : ℕ) (c : RCall) → own_what line (r.Call c) ≡ []
 unfolding roll-RWhat denote.Hole.Carrier.roll
 own_call line c = at_what line (RWhat-F.RWhat::Call c)
 
-pub own_try : (line : ℕ) (body : List RStmt) (x : ℕ) (handler : List RStmt) → own_what line (r.Try body x handler) ≡ declares_in body ++ declares_in handler
+pub own_try : (line : ℕ) (body : List RStmt) (x : ℕ) (y : Option ℕ) (handler : List RStmt) → own_what line (r.Try body x y handler) ≡ declares_in body ++ (some_slot y ++ declares_in handler)
 unfolding roll-RWhat denote.Hole.Carrier.roll
-own_try line body x handler = at_what line (RWhat-F.Try body x handler)
+own_try line body x y handler = at_what line (RWhat-F.Try body x y handler)
 
-pub own_throw : (line : ℕ) (x : ℕ) → own_what line (r.Throw x) ≡ []
+pub own_throw : (line : ℕ) (x : ℕ) (e : Option UExpr) → own_what line (r.Throw x e) ≡ []
 unfolding roll-RWhat denote.Hole.Carrier.roll
-own_throw line x = at_what line (RWhat-F.Throw x)
+own_throw line x e = at_what line (RWhat-F.Throw x e)
 
 pub own_par : (line : ℕ) (branches : List RBranch) → own_what line (r.Par branches) ≡ []
 unfolding roll-RWhat denote.Hole.Carrier.roll

@@ -1,8 +1,10 @@
 -- What each kind of statement is bound to has its sorts among its function's slots.
-use Rattle.std.proofs.Common.{ℕ, ◌+◌, ◌≡◌, ◌∙◌, List, [], ◌∷◌, ◌++◌, Option, Some, Ok, length, slice_get, refl, sym, ap, subst, append_assoc}
+use Rattle.shim_syntax.specs.Names.{Texts}
+use Rattle.std.proofs.Common.{ℕ, ◌+◌, ◌≡◌, ◌∙◌, List, [], ◌∷◌, ◌++◌, Option, Some, None, Ok, length, slice_get, refl, sym, ap, subst, append_assoc}
 use Rattle.std.specs.Option.{option_or}
 use Rattle.std.proofs.lemmas.List.{append-nil}
 use Rattle.shim_base.specs.declared.types.Ty.{Ty}
+use Rattle.shim_base.specs.declared.types.Ty.TheVariants.{Int32}
 use Rattle.shim_syntax.specs.declared.tree.Call.{Call}
 use Rattle.shim_syntax.specs.declared.tree.Expr.{Expr}
 use Rattle.shim_syntax.specs.declared.tree.Sort.{Sort}
@@ -18,10 +20,11 @@ use Rattle.shim_scopes.specs.declared.tree.RWhat.TheVariants as to
 use Rattle.shim_scopes.specs.declared.tree.UExpr.{UExpr}
 use Rattle.shim_scopes.specs.Binding.{unknown, unknown_in_option, stream_in, stream_in_option, no_number, no_input, no_output, slot_of, placed, placed_option, exception_number, unhandled}
 use Rattle.shim_scopes.specs.Refusals.{refused_for}
-use Rattle.shim_scopes.specs.Statements.{Whole, Around, Before, BoundTo, Bind, declared, within, opened, closed, caught, tried, bind_declare, bind_store, bind_next, bind_assign_next, bind_get, bind_put, bind_throw, bind_block, on_tree, bind_two, bind_test, bind_if, bind_while, bind_try, bind_parts, bind_first_test, bind_for, visible, declared_in, unknown_in_both, unknown_of_two}
+use Rattle.shim_scopes.specs.Statements.{Whole, Around, Before, BoundTo, Bind, declared, within, opened, closed, caught, tried, variable_declared, variable_slot, bind_handler, bind_declare, bind_store, bind_next, bind_assign_next, bind_get, bind_put, bind_throw, bind_block, on_tree, bind_two, bind_test, bind_if, bind_while, bind_try, bind_parts, bind_first_test, bind_for, visible, declared_in, unknown_in_both, unknown_of_two}
 use Rattle.shim_scopes.specs.Calls.{bind_call, bind_called}
 use Rattle.shim_laws_binding.proofs.Bound.{is_bound}
 use Rattle.shim_laws_sources.proofs.Lists.{at_length}
+use Rattle.shim_laws_sources.proofs.SortedStmts.{VariableIsSorted}
 use Rattle.shim_laws_sources.proofs.SortedParts.{BodySorted, WhatSorted, ForkSorted, part_declare, part_next, part_assign_next, part_get, part_put, part_if, part_while, part_for, part_block, part_try, part_throw, part_par}
 use Rattle.shim_scopes.proofs.Refusals.{passed, first_ok, bound}
 
@@ -120,10 +123,12 @@ put_sorts x e line a b r h =
     let v : List Local = visible a b in
     asked_two line UnknownName WrongKind (unknown_in_both v x e) (option_or (no_output v x) (stream_in v e)) (to.Put (slot_of v x) (placed v e)) b r (λ all. part_put all (slot_of v x) (placed v e)) h
 
-pub throw_sorts : (x : List ℕ) → WhatSorts (bind_throw x)
-throw_sorts x line a b r h =
+pub throw_sorts : (x : List ℕ) (e : Option Expr) → WhatSorts (bind_throw x e)
+throw_sorts x e line a b r h =
+    let v : List Local = visible a b in
     let number : ℕ = exception_number a.handled x in
-    stays WhatSorted (to.Throw number) b r (λ all. part_throw all number) (passed line UnknownException (unhandled a.handled x) _ r h)
+    asked_two line UnknownException WrongKind (unhandled a.handled x) (stream_in_option v e) (to.Throw number (placed_option v e)) b r (λ all. part_throw all number (placed_option v e))
+    (passed line UnknownName (unknown_in_option v e) _ r h)
 
 pub called_sorts : {T : Type 0} (w : Whole) (right : List Sort → T → Type 0) (g : RCall → T) (c : Call) (line : ℕ) → ((all : List Sort) (d : RCall) → right all (g d)) → Sorts right (bind_called g w c line)
 called_sorts w right g c line so a b r h = let p = first_ok (bind_call w c line a b) _ r h in stays right (g p.0) b r (λ all. so all p.0) p.2
@@ -138,15 +143,40 @@ while_sorts e f k line a b r is =
     let p = first_ok (bind_test e line a b) _ r is in
     tree_sorts BodySorted WhatSorted (to.While p.0) (bind_block f) (λ all s i. part_while all p.0 s i) (block_sorts BodySorted f k) a b r p.2
 
-pub try_sorts : (w : Whole) (x : List ℕ) (f h : Bind (List RStmt)) → Sorts BodySorted f → Sorts BodySorted h → Sorts WhatSorted (bind_try w x f h)
-try_sorts w x f h k l a b r is =
+-- the variable of a handler
+variable_goes : (names : Texts) (y : Option (List ℕ)) (b : Before) → GoesOn b.slots (variable_declared names y b).slots
+variable_goes names None b = as_it_was b.slots
+variable_goes names (Some y) b = record { more = Value Int32 ∷ []; whole = refl }
+
+variable_at : (names : Texts) (y : Option (List ℕ)) (b : Before) (all : List Sort) → GoesOn (variable_declared names y (opened b)).slots all → VariableIsSorted all (variable_slot y b)
+variable_at names None b all on = tt
+variable_at names (Some y) b all on = declared_at b.slots Int32 all on
+
+-- a handler, whose slots go on from these
+record HandlerSorts (begun : List Sort) (r : BoundTo (List RStmt)) : Type 0 where
+  slots : GoesOn begun r.before.slots
+  tree : (all : List Sort) → GoesOn r.before.slots all → BodySorted all r.tree
+
+handler_sorts : (w : Whole) (y : Option (List ℕ)) (h : Bind (List RStmt)) (a : Around) (b : Before) (r : BoundTo (List RStmt)) → Sorts BodySorted h → bind_block (bind_handler w y h) a b ≡ Ok r
+    → HandlerSorts (variable_declared w.names y (opened b)).slots r
+handler_sorts w y h a b r k is =
+    let begun : Before = variable_declared w.names y (opened b) in
+    let o = first_ok (h (within a b) begun) _ r is in
+    let n = k (within a b) begun o.0 o.1 in
+    subst (λ (v : BoundTo (List RStmt)). HandlerSorts begun.slots v) (sym (is_bound o.0.tree (closed b o.0.before) r o.2)) (record { slots = n.slots; tree = n.tree })
+
+pub try_sorts : (w : Whole) (x : List ℕ) (y : Option (List ℕ)) (f h : Bind (List RStmt)) → Sorts BodySorted f → Sorts BodySorted h → Sorts WhatSorted (bind_try w x y f h)
+try_sorts w x y f h k l a b r is =
     let p = first_ok (bind_block f (caught x a b) (tried w x b)) _ r is in
-    let q = first_ok (bind_block h a p.0.before) _ r p.2 in
+    let q = first_ok (bind_block (bind_handler w y h) a p.0.before) _ r p.2 in
     let m = block_sorts BodySorted f k (caught x a b) (tried w x b) p.0 p.1 in
-    let n = block_sorts BodySorted h l a p.0.before q.0 q.1 in
+    let begun : List Sort = (variable_declared w.names y (opened p.0.before)).slots in
+    let n = handler_sorts w y h a p.0.before q.0 l q.1 in
+    let from : GoesOn p.0.before.slots q.0.before.slots = goes_twice p.0.before.slots begun q.0.before.slots (variable_goes w.names y (opened p.0.before)) n.slots in
     let number : ℕ = a.throws + length b.tries in
-    at_answer WhatSorted b q.0.before (to.Try p.0.tree number q.0.tree) r q.2 (goes_twice b.slots p.0.before.slots q.0.before.slots m.slots n.slots)
-    (λ all on. part_try all p.0.tree number q.0.tree (m.tree all (goes_twice p.0.before.slots q.0.before.slots all n.slots on)) (n.tree all on))
+    at_answer WhatSorted b q.0.before (to.Try p.0.tree number (variable_slot y p.0.before) q.0.tree) r q.2 (goes_twice b.slots p.0.before.slots q.0.before.slots m.slots from)
+    (λ all on. part_try all p.0.tree number (variable_slot y p.0.before) q.0.tree (m.tree all (goes_twice p.0.before.slots q.0.before.slots all from on))
+    (variable_at w.names y p.0.before all (goes_twice begun q.0.before.slots all n.slots on)) (n.tree all on))
 
 parts_sort : (test : Option Expr) (f g h : Bind (List RStmt)) → Sorts BodySorted f → Sorts BodySorted g → Sorts BodySorted h → Sorts WhatSorted (bind_parts test f g h)
 parts_sort test f g h j k l a b r is =

@@ -104,8 +104,8 @@ module _ (w : Whole) where
   what_layer (What-F.For first test step body) line = for_sorts (first_declares (map (meaning w) (stmts first))) test _ _ _ (stmts_sort first) (stmts_sort step) (stmts_sort body) line
   what_layer (What-F.What::Block body) line = inner_sorts _ (stmts_sort body)
   what_layer (What-F.What::Call c) line = called_sorts w WhatSorted to.Call c line part_call
-  what_layer (What-F.Try body x handler) line = try_sorts w x _ _ (stmts_sort body) (stmts_sort handler)
-  what_layer (What-F.Throw x) line = throw_sorts x line
+  what_layer (What-F.Try body x y handler) line = try_sorts w x y _ _ (stmts_sort body) (stmts_sort handler)
+  what_layer (What-F.Throw x e) line = throw_sorts x e line
   what_layer (What-F.Par bs) line = fork_sorts _ (branches_sort bs)
 
   branch_what_case : (x : BranchWhat-F BranchWhat What Branch Stmt) (y : BranchWhat-F SortingBranchWhat SortingWhat SortingBranch SortingStmt) → branch_what_of y ≡ x → BranchWhatSorts (branch_what_means (roll-BranchWhat x))

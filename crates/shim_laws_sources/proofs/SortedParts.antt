@@ -1,6 +1,7 @@
 -- What is lifted out of a part has its sorts, where the part's declarations have theirs among the slots of the function.
-use Rattle.std.proofs.Common.{ℕ, suc, ◌+◌, ◌≡◌, ◌∙◌, Bool, true, false, not, ◌||◌, List, [], ◌∷◌, ◌++◌, Option, Some, cond, length, map, nat_eq, slice_get, eqb-true, refl, sym, ap, subst, arith}
+use Rattle.std.proofs.Common.{ℕ, suc, ◌+◌, ◌≡◌, ◌∙◌, Bool, true, false, not, ◌||◌, List, [], ◌∷◌, ◌++◌, Option, Some, None, cond, length, map, nat_eq, slice_get, eqb-true, refl, sym, ap, subst, arith}
 use Rattle.shim_base.specs.declared.types.Ty.{Ty}
+use Rattle.shim_base.specs.declared.types.Ty.TheVariants.{Int32}
 use Rattle.shim_syntax.specs.declared.tree.Sort.{Sort}
 use Rattle.shim_syntax.specs.declared.tree.Sort.TheVariants.{Value}
 use Rattle.shim_scopes.specs.declared.tree.RCall.{RCall}
@@ -17,7 +18,8 @@ use Rattle.shim_units.specs.declared.unit.UStmt.{UStmt}
 use Rattle.shim_units.specs.declared.unit.UWhat.{UWhat}
 use Rattle.shim_units.specs.declared.unit.UWhat.TheVariants as u
 use Rattle.shim_units.specs.declared.slot_map.SlotMap.{SlotMap}
-use Rattle.shim_units.specs.Moving.{slot_index_of, moved, moved_option, moved_call}
+use Rattle.shim_units.specs.Moving.{slot_index_of, slot_index_of_option, moved, moved_option, moved_call}
+use Rattle.shim_units.specs.Own.{some_slot}
 use Rattle.shim_units.specs.Parts.{LiftContext, Part, Lifts, all_declares}
 use Rattle.shim_units.specs.Lifting.{lift_all, whole, on_tree, lift_two, sort_of, sort_or_bool, is_among, branch_slots, branch_inner, lift_branch}
 use Rattle.shim_units.specs.PartFold.{branch_what_step, what_step, branch_step, stmt_step, part, parts, branch_part, branch_parts, declares_in}
@@ -25,7 +27,7 @@ use Rattle.shim_units.proofs.PartSteps.{branch_what_part, what_part}
 use Rattle.shim_laws_binding.proofs.Lists.{Each, each_of_both, each_of_first, each_of_second}
 use Rattle.shim_laws_sources.proofs.Lists.{each_weaker}
 use Rattle.shim_laws_sources.proofs.Placing.{all_among, among_more, index_of, found, place_is}
-use Rattle.shim_laws_sources.proofs.SortedStmts.{AreSorted, WhatIsSorted, IsSorted, UnitIsSorted, none_sorted, more_sorted, sorted_declare, sorted_assign, sorted_next, sorted_next_assign, sorted_assign_next, sorted_get, sorted_put, sorted_if, sorted_while, sorted_for, sorted_block, sorted_call, sorted_try, sorted_throw, sorted_par}
+use Rattle.shim_laws_sources.proofs.SortedStmts.{AreSorted, VariableIsSorted, WhatIsSorted, IsSorted, UnitIsSorted, none_sorted, more_sorted, sorted_declare, sorted_assign, sorted_next, sorted_next_assign, sorted_assign_next, sorted_get, sorted_put, sorted_if, sorted_while, sorted_for, sorted_block, sorted_call, sorted_try, sorted_throw, sorted_par}
 
 -- the sort of a variable, at its place in a unit
 
@@ -195,14 +197,32 @@ module _ (all : List Sort) where
   unfolding roll-RWhat denote.Hole.Carrier.roll
   part_call c line = at_part line (RWhat-F.RWhat::Call c) (plain (λ context w. u.Call (moved_call context.functions c w)) (λ context w. sorted_call (slots_of context w) (moved_call context.functions c w)))
 
-  pub part_try : (a : List RStmt) (x : ℕ) (b : List RStmt) → BodySorted all a → BodySorted all b → WhatSorted all (r.Try a x b)
-  unfolding roll-RWhat denote.Hole.Carrier.roll
-  part_try a x b h k line = at_part line (RWhat-F.Try a x b) (two AreSorted AreSorted WhatIsSorted all (declares_in a) (declares_in b) (λ w q s. u.Try q (slot_index_of w.exceptions x) s) (lift_all (parts a)) (lift_all (parts b))
-      (λ slots w q s i j. sorted_try slots q (slot_index_of w.exceptions x) s i j) h k)
+  variable_sort : (context : LiftContext) (w : SlotMap) (y : Option ℕ) → context.function.slots ≡ all → VariableIsSorted all y → AreAmong w.slots (some_slot y) → VariableIsSorted (slots_of context w) (slot_index_of_option w.slots y)
+  variable_sort context w None is h among = tt
+  variable_sort context w (Some x) is h among = has_sort context w Int32 x (ap (λ l. slice_get l x) is ∙ h) among.0
 
-  pub part_throw : (x : ℕ) → WhatSorted all (r.Throw x)
+  -- a handler with its variable
+  handler_sorted : (y : Option ℕ) (b : List RStmt) → VariableIsSorted all y → BodySorted all b
+      → LiftsSorted (λ slots (p : Option ℕ × List UStmt). VariableIsSorted slots p.0 × AreSorted slots p.1) all (some_slot y ++ declares_in b)
+      (λ context w n. on_tree (λ t. (slot_index_of_option w.slots y, t)) (lift_all (parts b) context w n))
+  handler_sorted y b v k = record {
+    tree = λ context w n is among. (
+      variable_sort context w y is v (each_of_first (λ x. is_among w.slots x ≡ true) (some_slot y) (declares_in b) among),
+      k.tree context w n is (each_of_second (λ x. is_among w.slots x ≡ true) (some_slot y) (declares_in b) among),
+    );
+    units = λ context w n is. k.units context w n is;
+  }
+
+  pub part_try : (a : List RStmt) (x : ℕ) (y : Option ℕ) (b : List RStmt) → BodySorted all a → VariableIsSorted all y → BodySorted all b → WhatSorted all (r.Try a x y b)
   unfolding roll-RWhat denote.Hole.Carrier.roll
-  part_throw x line = at_part line (RWhat-F.Throw x) (plain (λ context w. u.Throw (slot_index_of w.exceptions x)) (λ context w. sorted_throw (slots_of context w) (slot_index_of w.exceptions x)))
+  part_try a x y b h v k line = at_part line (RWhat-F.Try a x y b) (two AreSorted (λ slots (p : Option ℕ × List UStmt). VariableIsSorted slots p.0 × AreSorted slots p.1) WhatIsSorted all (declares_in a) (some_slot y ++ declares_in b)
+      (λ w q (p : Option ℕ × List UStmt). u.Try q (slot_index_of w.exceptions x) p.0 p.1) (lift_all (parts a)) (λ context w n. on_tree (λ t. (slot_index_of_option w.slots y, t)) (lift_all (parts b) context w n))
+      (λ slots w q p i j. sorted_try slots q (slot_index_of w.exceptions x) p.0 p.1 i j.0 j.1) h (handler_sorted y b v k))
+
+  pub part_throw : (x : ℕ) (e : Option UExpr) → WhatSorted all (r.Throw x e)
+  unfolding roll-RWhat denote.Hole.Carrier.roll
+  part_throw x e line = at_part line (RWhat-F.Throw x e)
+      (plain (λ context w. u.Throw (slot_index_of w.exceptions x) (moved_option w.slots e)) (λ context w. sorted_throw (slots_of context w) (slot_index_of w.exceptions x) (moved_option w.slots e)))
 
   pub part_par : (bs : List RBranch) → ForkSorted all bs → WhatSorted all (r.Par bs)
   unfolding roll-RWhat denote.Hole.Carrier.roll

@@ -1,6 +1,7 @@
 -- The declarations in statements of each kind have their sorts, by those in their blocks.
-use Rattle.std.proofs.Common.{◌≡◌, ℕ, List, [], ◌∷◌, ◌++◌, Option, Some, slice_get, sym, subst}
+use Rattle.std.proofs.Common.{◌≡◌, ℕ, List, [], ◌∷◌, ◌++◌, Option, Some, None, slice_get, sym, subst}
 use Rattle.shim_base.specs.declared.types.Ty.{Ty}
+use Rattle.shim_base.specs.declared.types.Ty.TheVariants.{Int32}
 use Rattle.shim_syntax.specs.declared.tree.Sort.{Sort}
 use Rattle.shim_syntax.specs.declared.tree.Sort.TheVariants.{Value}
 use Rattle.shim_scopes.specs.declared.tree.UExpr.{UExpr}
@@ -22,6 +23,11 @@ WhatIsSorted slots t = HasItsSort slots (out-UWhat t) × AreSorted slots (inner 
 
 abbrev pub IsSorted : List Sort → UStmt → Type 0
 IsSorted slots s = WhatIsSorted slots s.what
+
+-- and so is the slot of a handler's variable
+abbrev pub VariableIsSorted : List Sort → Option ℕ → Type 0
+VariableIsSorted slots None = Unit {0}
+VariableIsSorted slots (Some x) = slice_get slots x ≡ Some (Value Int32)
 
 -- each declaration of a unit has its sort among the unit's slots
 abbrev pub UnitIsSorted : UnitOf → Type 0
@@ -91,13 +97,17 @@ module _ (slots : List Sort) where
   unfolding roll-UWhat denote.Hole.Carrier.roll
   sorted_call c = rolled (UWhat-F.Call c) tt (none_sorted slots)
 
-  pub sorted_try : (a : List UStmt) (x : ℕ) (b : List UStmt) → AreSorted slots a → AreSorted slots b → WhatIsSorted slots (u.Try a x b)
-  unfolding roll-UWhat denote.Hole.Carrier.roll
-  sorted_try a x b h k = rolled (UWhat-F.Try a x b) tt (both_sorted slots a b h k)
+  try_sort : (a : List UStmt) (x : ℕ) (y : Option ℕ) (b : List UStmt) → VariableIsSorted slots y → HasItsSort slots (UWhat-F.Try a x y b)
+  try_sort a x None b h = tt
+  try_sort a x (Some y) b h = h
 
-  pub sorted_throw : (x : ℕ) → WhatIsSorted slots (u.Throw x)
+  pub sorted_try : (a : List UStmt) (x : ℕ) (y : Option ℕ) (b : List UStmt) → AreSorted slots a → VariableIsSorted slots y → AreSorted slots b → WhatIsSorted slots (u.Try a x y b)
   unfolding roll-UWhat denote.Hole.Carrier.roll
-  sorted_throw x = rolled (UWhat-F.Throw x) tt (none_sorted slots)
+  sorted_try a x y b h v k = rolled (UWhat-F.Try a x y b) (try_sort a x y b v) (both_sorted slots a b h k)
+
+  pub sorted_throw : (x : ℕ) (e : Option UExpr) → WhatIsSorted slots (u.Throw x e)
+  unfolding roll-UWhat denote.Hole.Carrier.roll
+  sorted_throw x e = rolled (UWhat-F.Throw x e) tt (none_sorted slots)
 
   pub sorted_par : (branches : List UBranch) → WhatIsSorted slots (u.Par branches)
   unfolding roll-UWhat denote.Hole.Carrier.roll

@@ -1,5 +1,5 @@
 -- In the units of an accepted program each declaration has its sort: in those of its functions, and in those that are lifted out of them.
-use Rattle.std.proofs.Common.{ℕ, zero, suc, ◌+◌, List, [], ◌∷◌, ◌++◌, length, slice_get, refl, subst}
+use Rattle.std.proofs.Common.{ℕ, zero, suc, ◌+◌, List, [], ◌∷◌, ◌++◌, length, Some, None, slice_get, refl, subst}
 use Rattle.std.proofs.Math.Logic.{∥∥₁_elim}
 use Rattle.std.specs.Coded.{Coded-set, coded_option}
 use Rattle.shim_syntax.specs.contracts.tree.Sort as sort
@@ -56,6 +56,8 @@ lifted_sorted p t n =
 -- it is a proposition, so it follows from what is truncated
 sort_prop : (slots : List Sort) (x : UWhat-F UWhat UStmt) → IsProp (HasItsSort slots x)
 sort_prop slots (UWhat-F.Declare t x e) = Coded-set (coded_option sort.the_row.coded) _ _
+sort_prop slots (UWhat-F.Try body x (Some y) handler) = Coded-set (coded_option sort.the_row.coded) _ _
+sort_prop slots (UWhat-F.Try body x None handler) = hlevel
 sort_prop slots _ = hlevel
 
 units_of_text : (form : Form) → IsUnitsOfText form → HasDeclaredSorts form

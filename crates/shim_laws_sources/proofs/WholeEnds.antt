@@ -1,20 +1,17 @@
--- What the ends of units and a throw that is caught leave of a process has what it had.
-use Rattle.std.proofs.Common.{◌≡◌, ◌∙◌, ℕ, ◌-◌, ◌<◌, ◌≤◌, inl, inr, List, [], ◌∷◌, take, nat_lt, refl, sym, subst, arith}
-use Rattle.std.specs.Prelude.{slice_get}
+-- What the ends of units leave of a process has what it had.
+use Rattle.std.proofs.Common.{◌≡◌, ◌∙◌, ℕ, ◌<◌, ◌≤◌, inl, inr, List, [], ◌∷◌, take, refl, sym, subst, arith}
 use Rattle.shim_base.specs.Paths.{Path, Channel}
 use Rattle.shim_units.specs.declared.form.Form.{Form}
 use Rattle.shim_process.specs.Locations.{Locations}
 use Rattle.shim_process.specs.Todo.{Successor, On}
-use Rattle.shim_process.specs.LocalState.{LocalState, Frame, unit_at}
+use Rattle.shim_process.specs.LocalState.{LocalState, Frame}
 use Rattle.shim_process.specs.Ends.{went, is_over, settled, gone}
-use Rattle.shim_process.specs.Unwinding.{handling, unwound, unwind}
 use Rattle.shim_process.proofs.PlaceLocations.{at_take}
-use Rattle.shim_process.specs.FittingFrames.{FrameFits, parameters, parameters_of}
+use Rattle.shim_process.specs.FittingFrames.{parameters, parameters_of}
 use Rattle.shim_laws_sources.specs.Anchored.{IsFloor, Anchor, Anchored, NoneLent, IsWhole, Stays}
 use Rattle.shim_laws_sources.proofs.AtPlaces.{take_below, at_taken}
 use Rattle.shim_process.proofs.FittingEnds.{fitting_on, fitting_left}
-use Rattle.shim_process.proofs.FittingItems.{place_at}
-use Rattle.shim_process.proofs.FittingFrames.{GoesOn, went_fits, handling_fits, inner_fits, same_parameters}
+use Rattle.shim_process.proofs.FittingFrames.{GoesOn, went_fits, inner_fits, same_parameters}
 use Rattle.shim_laws_sources.proofs.Floors.{same_floors}
 use Rattle.shim_base.proofs.Facts.{choose}
 
@@ -70,7 +67,7 @@ anchored_left path program f c cs xs h = record {
   anchors = λ m x e ownership home. left_anchor f c cs xs m x.channel.channel (take_below f.floor xs m x e) (h.anchors m x (at_take xs f.floor m x e) ownership home);
 }
 
-left_stays : (l : LocalState) (f c g : Frame) (cs : List Frame) → g.unit ≡ c.unit → parameters l.path l.program f (c ∷ cs) ≤ f.floor
+pub left_stays : (l : LocalState) (f c g : Frame) (cs : List Frame) → g.unit ≡ c.unit → parameters l.path l.program f (c ∷ cs) ≤ f.floor
     → Stays (record l { frame = f; callers = c ∷ cs }) (record l { locations = take f.floor l.locations; frame = g; callers = cs })
 left_stays l f c g cs unit long = record {
   path = refl;
@@ -104,30 +101,3 @@ gone_whole successor l h =
     let w : GoesOn l.program (parameters_of l) l.frame (went successor l.frame) = went_fits l.program (parameters_of l) successor l.frame (inner_fits l.program (parameters_of l) l.frame l.callers h.0.fitting.fit) in
     moves_on l (record l { frame = went successor l.frame }) (settled l.callers (went successor l.frame) l) (frame_stays l (went successor l.frame) w.unit)
     (settled_whole l.callers (went successor l.frame) l (anchored_on l.path l.program l.frame (went successor l.frame) l.callers l.locations h.0 w) h.1)
-
-handled : (l : LocalState) (f : Frame) (cs : List Frame) (i : ℕ) → Anchored l.path l.program f cs l.locations → GoesOn l.program (parameters l.path l.program f cs) f (handling (slice_get f.places i) i f)
-handled l f cs i h =
-    let inner : FrameFits l.program (parameters l.path l.program f cs) f = inner_fits l.program (parameters l.path l.program f cs) f cs h.fitting.fit in
-    handling_fits l.program (parameters l.path l.program f cs) (slice_get f.places i) i f inner (λ e is. place_at l.program (unit_at l.program f.unit) f.places i e inner.places is)
-
-stopped : (l : LocalState) (f : Frame) (cs : List Frame) (i : ℕ) → Anchored l.path l.program f cs l.locations → NoneLent l.locations → Moves (record l { frame = f; callers = cs }) (settled cs (handling (slice_get f.places i) i f) l)
-stopped l f cs i h none =
-    let g : Frame = handling (slice_get f.places i) i f in
-    let w : GoesOn l.program (parameters l.path l.program f cs) f (handling (slice_get f.places i) i f) = handled l f cs i h in
-    moves_on (record l { frame = f; callers = cs }) (record l { frame = g; callers = cs }) (settled cs g l) (frame_stays (record l { frame = f; callers = cs }) g w.unit)
-    (settled_whole cs g l (anchored_on l.path l.program f g cs l.locations h w) none)
-
-unwound_whole : (cs : List Frame) (f : Frame) (n : ℕ) (l : LocalState) → Anchored l.path l.program f cs l.locations → NoneLent l.locations → Moves (record l { frame = f; callers = cs }) (unwound cs f n l)
-unwound_whole [] f n l h none = stopped l f [] (n - f.outer) h none
-unwound_whole (c ∷ cs) f n l h none =
-    let g : Frame = handling (slice_get f.places (n - f.outer)) (n - f.outer) f in
-    let out : LocalState = record l { locations = take f.floor l.locations } in
-    choose (λ (z : LocalState). Moves (record l { frame = f; callers = c ∷ cs }) z) (nat_lt n f.outer) (unwound cs c n out) (settled (c ∷ cs) g l)
-    (moves_on (record l { frame = f; callers = c ∷ cs }) (record out { frame = c; callers = cs }) (unwound cs c n out)
-    (left_stays l f c c cs refl h.fitting.fit.1)
-    (unwound_whole cs c n out (anchored_left l.path l.program f c cs l.locations h) (none_taken f.floor l.locations none)))
-    (stopped l f (c ∷ cs) (n - f.outer) h none)
-
-pub unwind_whole : (l : LocalState) (label : ℕ) → IsWhole l → Moves l (unwind l label)
-unfolding unwind
-unwind_whole l label h = unwound_whole l.callers l.frame (label - l.base) l h.0 h.1

@@ -68,10 +68,10 @@ read_whole x l h =
 new_own : (home : Path) (serial name : ℕ) (t : Ty) (v : ℤ) (x : Location) → Some (new_location home serial name t v) ≡ Some x → x.ownership ≡ Own
 new_own home serial name t v x e = sym (ap (λ (r : Location). r.ownership) (some_same (new_location home serial name t v) x e))
 
-not_there : (k j : ℕ) (bound : ℕ) → bound ≤ k → j < bound → k ≡ j → ⊥
+pub not_there : (k j : ℕ) (bound : ℕ) → bound ≤ k → j < bound → k ≡ j → ⊥
 not_there k j bound a b e = omega (arith, a, b, e)
 
-put_anchor : (f : Frame) (cs : List Frame) (xs : Locations) (k : ℕ) (o : Option Location) (m : ℕ) (c : Channel) → ((bound : ℕ) → IsFloor bound f cs → bound ≤ k) → Anchor f cs xs m c → Anchor f cs (slice_set xs k o) m c
+pub put_anchor : (f : Frame) (cs : List Frame) (xs : Locations) (k : ℕ) (o : Option Location) (m : ℕ) (c : Channel) → ((bound : ℕ) → IsFloor bound f cs → bound ≤ k) → Anchor f cs xs m c → Anchor f cs (slice_set xs k o) m c
 put_anchor f cs xs k o m c most a = record {
   number = a.number;
   owned = record {

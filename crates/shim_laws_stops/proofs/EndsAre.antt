@@ -75,7 +75,7 @@ what_no_end l (UWhat-F.NextAssign x v) h at e = next_or_half l.frame.halfway (lo
 what_no_end l (UWhat-F.AssignNext y x) h at e = half_or_next l.frame.halfway (location_of l.locations l.frame.slots x) (location_there l x (next_has l x (assign_next y) (stands_right l (UWhat-F.AssignNext y x) h.named at))) e
 what_no_end l (UWhat-F.Put o v) h at e = put_no_end l.holds_output (put_holds l o v h at) e
 what_no_end l (UWhat-F.Par bs) h at e = fork_no_end bs (some_branch l bs (stands_right l (UWhat-F.Par bs) h.named at)) e
-what_no_end l (UWhat-F.Throw x) h at e = cc e
+what_no_end l (UWhat-F.Throw x v) h at e = cc e
 what_no_end l _ h at e = cc e
 
 items_end : (l : LocalState) (todo : List Item) → l.frame.todo ≡ todo → HoldsStream TheOutput l → StartsRight todo → stmt_stop (next_stmt todo) (statement_view l) ≡ AtFinish → todo ≡ []

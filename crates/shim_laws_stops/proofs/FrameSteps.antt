@@ -1,11 +1,12 @@
 -- The units that a process is in have their labels, wherever one goes on or is left.
-use Rattle.std.proofs.Common.{◌≡◌, ℕ, ◌+◌, ◌-◌, false, List, [], ◌∷◌, length, take, Option, Some, None, nat_lt, refl, sym, subst}
+use Rattle.std.proofs.Common.{◌≡◌, ℕ, ◌+◌, ◌-◌, ℤ, false, List, [], ◌∷◌, length, take, Option, Some, None, nat_lt, refl, sym, subst}
 use Rattle.std.specs.Prelude.{slice_get}
 use Rattle.shim_units.specs.declared.form.Form.{Form}
 use Rattle.shim_process.specs.Todo.{Item, Do, Leave, Successor, On, Second, followed}
+use Rattle.shim_process.specs.declared.handler_variable.HandlerVariable.{HandlerVariable}
 use Rattle.shim_process.specs.LocalState.{LocalState, Frame, ExceptionPlace, unit_at}
 use Rattle.shim_process.specs.Ends.{without_last, past_ends, went, is_over, settled, gone}
-use Rattle.shim_process.specs.Unwinding.{handling, unwound, unwind}
+use Rattle.shim_process.specs.Unwinding.{handling, taking, catching, unwound, unwind}
 use Rattle.shim_base.proofs.Facts.{choose}
 use Rattle.shim_laws_stops.specs.InForce.{AllInForce}
 use Rattle.shim_laws_stops.specs.FrameLabels.{ItemsThrow, PlacesThrow, AreLabels, FrameLabels, FramesLabels, HasLabels}
@@ -99,21 +100,33 @@ gone_on_moves l h =
     let f : FrameLabels l.program l.frame = inner_labels l.program l.frame l.callers h.frames in
     gone_moves On l h.units (given_of l.program l.frame f) (on_throws l.program (unit_at l.program l.frame.unit).throws l.frame.places l.frame.todo f.todo) f.places (waiting l.program l.frame l.callers h.frames)
 
-handled : (cs : List Frame) (f : Frame) (i : ℕ) (l : LocalState) → AllInForce l.program → FramesLabels l.program f cs → Moves l (settled cs (handling (slice_get f.places i) i f) l)
-handled cs f i l units h =
+taken_moves : (y : Option HandlerVariable) (v : ℤ) (f g : Frame) (cs : List Frame) (l : LocalState) → AllInForce l.program → FramesLabels l.program g cs → Moves l (settled cs g (taking y v f l))
+taken_moves None v f g cs l units h = settled_moves cs g l units h
+taken_moves (Some y) v f g cs l units h =
+    let m : LocalState = taking (Some y) v f l in
+    let w : Moves m (settled cs g m) = settled_moves cs g m units h in
+    record { labels = w.labels; base = w.base; program = w.program }
+
+caught_moves : (o : Option ExceptionPlace) (v : ℤ) (f g : Frame) (cs : List Frame) (l : LocalState) → AllInForce l.program → FramesLabels l.program g cs → Moves l (settled cs g (catching o v f l))
+caught_moves None v f g cs l units h = settled_moves cs g l units h
+caught_moves (Some p) v f g cs l units h = taken_moves p.variable v f g cs l units h
+
+handled : (cs : List Frame) (f : Frame) (i : ℕ) (v : ℤ) (l : LocalState) → AllInForce l.program → FramesLabels l.program f cs → Moves l (settled cs (handling (slice_get f.places i) i f) (catching (slice_get f.places i) v f l))
+handled cs f i v l units h =
     let g : Frame = handling (slice_get f.places i) i f in
-    settled_moves cs g l units (frames_on l.program f g cs (waiting l.program f cs h) (handling_labels l.program i f (slice_get f.places i) refl (inner_labels l.program f cs h)))
+    caught_moves (slice_get f.places i) v f g cs l units (frames_on l.program f g cs (waiting l.program f cs h) (handling_labels l.program i f (slice_get f.places i) refl (inner_labels l.program f cs h)))
 
-unwound_moves : (cs : List Frame) (f : Frame) (n : ℕ) (l : LocalState) → AllInForce l.program → FramesLabels l.program f cs → Moves l (unwound cs f n l)
-unwound_moves [] f n l units h = handled [] f (n - f.outer) l units h
-unwound_moves (c ∷ cs) f n l units h =
-    let g : Frame = handling (slice_get f.places (n - f.outer)) (n - f.outer) f in
+unwound_moves : (cs : List Frame) (f : Frame) (n : ℕ) (v : ℤ) (l : LocalState) → AllInForce l.program → FramesLabels l.program f cs → Moves l (unwound cs f n v l)
+unwound_moves [] f n v l units h = handled [] f (n - f.outer) v l units h
+unwound_moves (c ∷ cs) f n v l units h =
+    let o : Option ExceptionPlace = slice_get f.places (n - f.outer) in
+    let g : Frame = handling o (n - f.outer) f in
     let out : LocalState = record l { locations = take f.floor l.locations } in
-    let rest : Moves out (unwound cs c n out) = unwound_moves cs c n out units h.2 in
-    choose (λ (z : LocalState). Moves l z) (nat_lt n f.outer) (unwound cs c n out) (settled (c ∷ cs) g l)
+    let rest : Moves out (unwound cs c n v out) = unwound_moves cs c n v out units h.2 in
+    choose (λ (z : LocalState). Moves l z) (nat_lt n f.outer) (unwound cs c n v out) (settled (c ∷ cs) g (catching o v f l))
     (record { labels = rest.labels; base = rest.base; program = rest.program })
-    (handled (c ∷ cs) f (n - f.outer) l units h)
+    (handled (c ∷ cs) f (n - f.outer) v l units h)
 
-pub unwind_moves : (l : LocalState) (label : ℕ) → HasLabels l → Moves l (unwind l label)
+pub unwind_moves : (l : LocalState) (label : ℕ) (v : ℤ) → HasLabels l → Moves l (unwind l label v)
 unfolding unwind
-unwind_moves l label h = unwound_moves l.callers l.frame (label - l.base) l h.units h.frames
+unwind_moves l label v h = unwound_moves l.callers l.frame (label - l.base) v l h.units h.frames

@@ -22,7 +22,7 @@ use Rattle.shim_laws_stops.specs.FrameLabels.{AreKnown, ItemsThrow, FrameLabels,
 use Rattle.shim_laws_stops.proofs.ThrowItems.{throws_layer, throws_out}
 use Rattle.shim_laws_stops.proofs.FrameSteps.{inner_labels, Moves, moves_none, gone_on_moves, unwind_moves}
 use Rattle.shim_laws_stops.proofs.KnownLabels.{passes_on}
-use Rattle.shim_laws_stops.proofs.LabelSteps.{again, entered_labels, quiet_moves, put_moves, receive_moves, fork_trapped_moves}
+use Rattle.shim_laws_stops.proofs.LabelSteps.{again, entered_labels, quiet_moves, put_moves, thrown_moves, receive_moves, fork_trapped_moves}
 
 -- each process of the tree has its labels
 abbrev mutual
@@ -119,8 +119,8 @@ labels_relate = record {
   quiet = λ l s at h. moved l _ (quiet_moves l s.base h);
   puts = λ l s at h. moved l _ (put_moves l h);
   receives = λ l v s h. moved l _ (receive_moves l v h);
-  throws = λ l s h. (h, (refl, refl));
-  unwinds = λ l x v s h. moved l _ (unwind_moves l x h);
+  throws = λ l s h. moved l _ (thrown_moves l h);
+  unwinds = λ l x v s h. moved l _ (unwind_moves l x v h);
   forks = λ l p ks s at h. forks_labels l p ks s.base h at;
   traps = λ l m s at e h. moved l m (fork_trapped_moves l m e h);
   ends = λ l h. (h, (refl, refl));

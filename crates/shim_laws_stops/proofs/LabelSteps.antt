@@ -17,8 +17,8 @@ use Rattle.shim_process.specs.StatementViews.{statement_view, unit_in, passed_la
 use Rattle.shim_process.specs.Arguments.{Argument, arguments, entered, call_slots, declared_slots}
 use Rattle.shim_process.specs.Ends.{gone, settled}
 use Rattle.shim_process.specs.Forks.{fork}
-use Rattle.shim_process.specs.Steps.{Action, Go, Store, StoreFirst, Make, Read, Enter, Install, Trapped, Wait, action, limited, value_or, try_name, what_action, stmt_action, next_action, line_of, stored_in, made_in, read_in, half, installed, pushed, called, done, quiet}
-use Rattle.shim_process.specs.Stops.{put_value, after_put, put, what_receive, stmt_receive, receive}
+use Rattle.shim_process.specs.Steps.{Action, Go, Store, StoreFirst, Make, Read, Enter, Install, Trapped, Wait, action, limited, value_or, try_name, what_action, stmt_action, next_action, line_of, stored_in, made_in, read_in, half, variable_in, installing, pushed, called, done, quiet}
+use Rattle.shim_process.specs.Stops.{put_value, after_put, put, thrown_value, after_throw, thrown, what_receive, stmt_receive, receive}
 use Rattle.shim_process.proofs.CallKeeps.{fork_trapped}
 use Rattle.shim_base.proofs.Facts.{choose, second_holds}
 use Rattle.shim_laws_stops.specs.InForce.{all_throw, AllInForce}
@@ -32,7 +32,7 @@ use Rattle.shim_laws_stops.proofs.KnownLabels.{PassesOn, passes_on}
 abbrev ActionThrows : LocalState → (Successor → List Item) → Action → Type 0
 ActionThrows l next (Go successor) = ItemsThrow l.program (unit_at l.program l.frame.unit).throws l.frame.places (next successor)
 ActionThrows l next (Enter unit given labels) = PassesOn l.program unit labels
-ActionThrows l next (Install x name) = (e : ExceptionPlace) → e.exception ≡ x → ItemsThrow l.program (unit_at l.program l.frame.unit).throws (l.frame.places ++ e ∷ []) (next First)
+ActionThrows l next (Install x name y) = (e : ExceptionPlace) → e.exception ≡ x → ItemsThrow l.program (unit_at l.program l.frame.unit).throws (l.frame.places ++ e ∷ []) (next First)
 ActionThrows l next _ = Unit {0}
 
 action_throws : {A : Type 0} (l : LocalState) (next : Successor → List Item) (f : A → Action) (r : Result A Trap) → ((v : A) → ActionThrows l next (f v)) → ActionThrows l next (action f r)
@@ -80,9 +80,9 @@ module _ (l : LocalState) (least : 1 ≤ l.base) (g : Given l.program l.frame) w
       action_throws l (behind (UWhat-F.Call c) n s k) (λ given. limited (is_deep l || is_full l) (Enter c.unit given (passed_labels (statement_view l) c.throws)))
       (arguments l.locations l.frame.slots (unit_in (statement_view l) c.unit).params c.args)
       (λ v. limited_throws l (behind (UWhat-F.Call c) n s k) (is_deep l || is_full l) (Enter c.unit v (passed_labels (statement_view l) c.throws)) (passes_on l given xs c least g.many g.labels known h))
-  what_asks (UWhat-F.Try a x b) n s k xs h known own rest =
-      limited_throws l (behind (UWhat-F.Try a x b) n s k) (is_full l) (Install x (try_name (unit_in (statement_view l) l.frame.unit) x))
-      (λ e is. first_of_try l.program given places e a b n k xs (subst (λ y. (all_throw l.program a (y ∷ xs) && all_throw l.program b xs) ≡ true) (sym is) h) known rest)
+  what_asks (UWhat-F.Try a x y b) n s k xs h known own rest =
+      limited_throws l (behind (UWhat-F.Try a x y b) n s k) (is_full l) (Install x (try_name (unit_in (statement_view l) l.frame.unit) x) y)
+      (λ e is. first_of_try l.program given places e a b n k xs (subst (λ z. (all_throw l.program a (z ∷ xs) && all_throw l.program b xs) ≡ true) (sym is) h) known rest)
   what_asks _ n s k xs h known own rest = tt
 
   item_asks : (todo : List Item) → ItemsThrow l.program given places todo → ActionThrows l (λ successor. followed successor todo) (stmt_action (next_stmt todo) (statement_view l))
@@ -127,13 +127,20 @@ called_moves unit given labels l h p =
     settled_moves (l.frame ∷ l.callers) f m h.units (entered_labels l unit (call_slots (length l.locations) given (declared_slots u)) labels (length l.locations) (l.frame.outer + length l.frame.places) h.units p, refl, h.frames) in
     again l m (settled (l.frame ∷ l.callers) f m) refl refl w
 
-installed_moves : (x name : ℕ) (l : LocalState) → HasLabels l → ((e : ExceptionPlace) → e.exception ≡ x → ItemsThrow l.program (unit_at l.program l.frame.unit).throws (l.frame.places ++ e ∷ []) (followed First l.frame.todo))
-    → Moves l (gone First (record l { frame = installed x name l.frame }))
-installed_moves x name l h next =
+installed_moves : (x name : ℕ) (y : Option ℕ) (l : LocalState) → HasLabels l → ((e : ExceptionPlace) → e.exception ≡ x → ItemsThrow l.program (unit_at l.program l.frame.unit).throws (l.frame.places ++ e ∷ []) (followed First l.frame.todo))
+    → Moves l (gone First (installing x name y l))
+installed_moves x name None l h next =
     let given : ℕ = (unit_at l.program l.frame.unit).throws in
     let f : FrameLabels l.program l.frame = inner_labels l.program l.frame l.callers h.frames in
-    let e : ExceptionPlace = record { exception = x; name = name; line = line_of l.frame.todo; todo = l.frame.todo } in
-    let k : LocalState = record l { frame = installed x name l.frame } in
+    let e : ExceptionPlace = record { exception = x; name = name; line = line_of l.frame.todo; variable = None; todo = l.frame.todo } in
+    let k : LocalState = installing x name None l in
+    again l k (gone First k) refl refl
+    (gone_moves First k h.units (record { many = f.many; labels = f.labels }) (next e refl) (places_more l.program given l.frame.places e f.places f.todo) (waiting l.program l.frame l.callers h.frames))
+installed_moves x name (Some y) l h next =
+    let given : ℕ = (unit_at l.program l.frame.unit).throws in
+    let f : FrameLabels l.program l.frame = inner_labels l.program l.frame l.callers h.frames in
+    let e : ExceptionPlace = record { exception = x; name = name; line = line_of l.frame.todo; variable = Some (variable_in y l); todo = l.frame.todo } in
+    let k : LocalState = installing x name (Some y) l in
     again l k (gone First k) refl refl
     (gone_moves First k h.units (record { many = f.many; labels = f.labels }) (next e refl) (places_more l.program given l.frame.places e f.places f.todo) (waiting l.program l.frame l.callers h.frames))
 
@@ -146,7 +153,7 @@ done_moves (StoreFirst x v) l h next = record { labels = half_labels (stored_in 
 done_moves (Make t x v) l h next = again l (made_in t x v l) (gone On (made_in t x v l)) refl refl (gone_on_moves (made_in t x v l) (record { units = h.units; frames = h.frames }))
 done_moves (Read x) l h next = again l (read_in x l) (gone On (read_in x l)) refl refl (gone_on_moves (read_in x l) (record { units = h.units; frames = h.frames }))
 done_moves (Enter unit given labels) l h next = called_moves unit given labels l h next
-done_moves (Install x name) l h next = installed_moves x name l h next
+done_moves (Install x name y) l h next = installed_moves x name y l h next
 done_moves (Trapped t) l h next = record { labels = record { units = h.units; frames = h.frames }; base = refl; program = refl }
 done_moves Wait l h next = moves_none l h
 
@@ -164,6 +171,14 @@ after_put_moves (Err t) l h = trapped_moves t (line_of l.frame.todo) l h
 pub put_moves : (l : LocalState) → HasLabels l → Moves l (put l)
 unfolding put
 put_moves l h = after_put_moves (put_value l) l h
+
+after_throw_moves : (r : Value) (l : LocalState) → HasLabels l → Moves l (after_throw r l)
+after_throw_moves (Ok v) l h = moves_none l h
+after_throw_moves (Err t) l h = trapped_moves t (line_of l.frame.todo) l h
+
+pub thrown_moves : (l : LocalState) → HasLabels l → Moves l (thrown l)
+unfolding thrown
+thrown_moves l h = after_throw_moves (thrown_value l) l h
 
 what_moves : (w : UWhat-F UWhat UStmt) (v : ℤ) (l : LocalState) → HasLabels l → Moves l (what_receive w v l)
 what_moves (UWhat-F.Next x) v l h = again l (stored_in x v l) (gone On (stored_in x v l)) refl refl (gone_on_moves (stored_in x v l) (record { units = h.units; frames = h.frames }))

@@ -39,7 +39,7 @@ use Rattle.shim_laws_stops.proofs.ScopeItems.{scoped_out}
 use Rattle.shim_laws_stops.proofs.ScopeFrames.{Covers, covers_same, covers_both, covers_onward, inner_scoped, unwind_has}
 use Rattle.shim_laws_stops.proofs.ScopeEntries.{GivenThere, given_covered, given_there, HasFrom, has_less, branch_params, empties_many, numbers_many, params_fit, entered_scoped}
 use Rattle.shim_laws_stops.proofs.ScopeUnits.{get_below}
-use Rattle.shim_laws_stops.proofs.LocationSteps.{Has, covered_has, gone_on_has, quiet_has, put_has, receive_has, fork_trapped_has}
+use Rattle.shim_laws_stops.proofs.LocationSteps.{Has, covered_has, gone_on_has, quiet_has, put_has, thrown_has, receive_has, fork_trapped_has}
 
 -- each process of the tree has the locations of what it names
 abbrev mutual
@@ -78,8 +78,8 @@ module _ (l : LocalState) where
   what_none (UWhat-F.For a e st b) h = refl
   what_none (UWhat-F.Block a) h = refl
   what_none (UWhat-F.Call c) h = refl
-  what_none (UWhat-F.Try a x b) h = refl
-  what_none (UWhat-F.Throw x) h = refl
+  what_none (UWhat-F.Try a x y b) h = refl
+  what_none (UWhat-F.Throw x e) h = refl
   what_none (UWhat-F.Par bs) h = refl
 
   items_none : (todo : List Item) → waits (stmt_stop (next_stmt todo) (statement_view l)) ≡ true → next_declares l.program u todo ≡ []
@@ -246,8 +246,8 @@ locations_relate = record {
   quiet = λ l s at h. quiet_has l h;
   puts = λ l s at h. put_has l (put_none l at) h;
   receives = λ l v s h. receive_has l v h;
-  throws = λ l s h. h;
-  unwinds = λ l x v s h. unwind_has l x h;
+  throws = λ l s h. thrown_has l h;
+  unwinds = λ l x v s h. unwind_has l x v h;
   forks = λ l p ks s at h. forks_have l p ks h at;
   traps = λ l m s at e h. fork_trapped_has l m e h;
   ends = λ l h. h;

@@ -13,8 +13,10 @@ use Rattle.shim_units.specs.declared.unit.Unit.{Unit as UnitOf}
 use Rattle.shim_units.specs.declared.unit.UCall.{UCall}
 use Rattle.shim_units.specs.declared.unit.UStmt.{UStmt}
 use Rattle.shim_units.specs.declared.unit.UWhat.{UWhat, UWhat-F, out-UWhat}
+use Rattle.shim_units.specs.Own.{some_slot}
 use Rattle.shim_units.specs.Numbering as numbering
 use Rattle.shim_process.specs.Values.{Value, value}
+use Rattle.shim_process.specs.declared.handler_variable.HandlerVariable.{HandlerVariable}
 use Rattle.shim_process.specs.Locations.{Location, Locations, at_number, store_at, with_value}
 use Rattle.shim_process.specs.Todo.{Item, Do, Leave, Successor, On, First, Second, items_all, follow_what, followed, next_stmt}
 use Rattle.shim_process.specs.LocalState.{LocalState, Frame, ExceptionPlace, unit_at, number_of, env_of, is_full, is_deep, trapped}
@@ -22,23 +24,23 @@ use Rattle.shim_process.specs.StatementViews.{statement_view, unit_in, passed_la
 use Rattle.shim_process.specs.Arguments.{Argument, arguments, entered, call_slots, call_locations, declared_slots, empties, new_location}
 use Rattle.shim_process.specs.Ends.{gone}
 use Rattle.shim_process.specs.Forks.{fork}
-use Rattle.shim_process.specs.Steps.{Action, Go, Store, StoreFirst, Make, Read, Enter, Install, Trapped, Wait, action, limited, value_or, try_name, what_action, stmt_action, next_action, line_of, stored_in, made_in, read_in, next_byte, half, installed, pushed, called, done, quiet}
-use Rattle.shim_process.specs.Stops.{put_value, after_put, put, what_receive, stmt_receive, receive}
+use Rattle.shim_process.specs.Steps.{Action, Go, Store, StoreFirst, Make, Read, Enter, Install, Trapped, Wait, action, limited, value_or, try_name, what_action, stmt_action, next_action, line_of, stored_in, made_in, read_in, next_byte, half, installed, variable_in, installing, pushed, called, done, quiet}
+use Rattle.shim_process.specs.Stops.{put_value, after_put, put, thrown_value, after_throw, thrown, what_receive, stmt_receive, receive}
 use Rattle.shim_process.proofs.CallKeeps.{fork_trapped}
-use Rattle.shim_process.specs.OwnSlots.{is_own_slot, suits}
+use Rattle.shim_process.specs.OwnSlots.{is_own_slot, is_own_variable, suits, all_fit}
 use Rattle.shim_process.specs.FittingFrames.{ItemsFit}
 use Rattle.shim_laws_sources.proofs.AtPlaces.{at_before}
 use Rattle.shim_process.proofs.CallSlots.{called_slot, given_many}
 use Rattle.shim_process.proofs.FittingFrames.{installed_fits}
 use Rattle.shim_process.proofs.FittingItems.{fits_layer, fits_out}
-use Rattle.shim_base.proofs.Facts.{choose, second_holds}
+use Rattle.shim_base.proofs.Facts.{choose, first_holds, second_holds}
 use Rattle.shim_laws_stops.specs.InScope.{reads_right, option_right, all_scoped, arguments_right, references, distinct, call_right, Scoped, scoped}
-use Rattle.shim_laws_stops.specs.FrameLocations.{HasLocation, scoped_kind, item_right, ItemsScoped, next_declares, FrameScoped, FramesScoped, HasLocations}
+use Rattle.shim_laws_stops.specs.FrameLocations.{HasLocation, scoped_kind, item_right, ItemsScoped, next_declares, slot_taken, what_takes, next_takes, FrameScoped, FramesScoped, HasLocations}
 use Rattle.shim_laws_stops.specs.Named.{IsThere}
 use Rattle.shim_laws_stops.proofs.Among.{Among, none_among, among_cases}
 use Rattle.shim_laws_stops.proofs.ThrowItems.{goes_on}
 use Rattle.shim_laws_stops.proofs.ScopeItems.{scoped_out, more_known, body_scoped, places_more}
-use Rattle.shim_laws_stops.proofs.ScopeFrames.{Covers, covers_set, set_there, has_covered, frames_covered, rest_of, went_on_scoped, inner_scoped, waiting, framed, frames_on, settled_has, gone_has}
+use Rattle.shim_laws_stops.proofs.ScopeFrames.{Rest, Covers, covers_set, set_there, has_covered, frames_covered, rest_of, went_on_scoped, inner_scoped, waiting, framed, frames_on, settled_has, gone_has}
 use Rattle.shim_laws_stops.proofs.ScopeEntries.{GivenThere, given_there, has_behind, has_less, call_params, call_room, call_many, empties_many, entered_scoped}
 
 -- what is asked of the locations of the unit in which the process is
@@ -49,23 +51,23 @@ abbrev unit_of : LocalState → UnitOf
 unit_of l = unit_at l.program l.frame.unit
 
 -- what a statement asks for leaves of the unit what names what has its location, where the statement declares this; behind it comes what this function says
-abbrev ActionScoped : LocalState → List ℕ → (Successor → List Item) → Action → Type 0
-ActionScoped l top next (Go successor) = ItemsScoped l.program (unit_of l) (Has l) [] (next successor)
-ActionScoped l top next (Store x v) = top ≡ []
-ActionScoped l top next (StoreFirst x v) = Unit {0}
-ActionScoped l top next (Make t x v) = (top ≡ x ∷ []) × (is_own_slot (unit_of l) x ≡ true)
-ActionScoped l top next (Read x) = top ≡ []
-ActionScoped l top next (Enter unit given labels) = (top ≡ []) × GivenThere l.locations (unit_at l.program unit).params given × (length given ≡ length (unit_at l.program unit).params)
-ActionScoped l top next (Install x name) = (top ≡ []) × ItemsScoped l.program (unit_of l) (Has l) [] (next First)
-ActionScoped l top next (Trapped t) = Unit {0}
-ActionScoped l top next Wait = Unit {0}
+abbrev ActionScoped : LocalState → List ℕ → Option ℕ → (Successor → List Item) → Action → Type 0
+ActionScoped l top taken next (Go successor) = ItemsScoped l.program (unit_of l) (Has l) [] (next successor)
+ActionScoped l top taken next (Store x v) = top ≡ []
+ActionScoped l top taken next (StoreFirst x v) = Unit {0}
+ActionScoped l top taken next (Make t x v) = (top ≡ x ∷ []) × (is_own_slot (unit_of l) x ≡ true)
+ActionScoped l top taken next (Read x) = top ≡ []
+ActionScoped l top taken next (Enter unit given labels) = (top ≡ []) × GivenThere l.locations (unit_at l.program unit).params given × (length given ≡ length (unit_at l.program unit).params)
+ActionScoped l top taken next (Install x name y) = (top ≡ []) × (taken ≡ y) × (is_own_variable (unit_of l) y ≡ true) × ItemsScoped l.program (unit_of l) (Has l) [] (next First)
+ActionScoped l top taken next (Trapped t) = Unit {0}
+ActionScoped l top taken next Wait = Unit {0}
 
-action_scoped : {A : Type 0} (l : LocalState) (top : List ℕ) (next : Successor → List Item) (f : A → Action) (r : Result A Trap) → ((v : A) → r ≡ Ok v → ActionScoped l top next (f v)) → ActionScoped l top next (action f r)
-action_scoped l top next f (Ok v) h = h v refl
-action_scoped l top next f (Err t) h = tt
+action_scoped : {A : Type 0} (l : LocalState) (top : List ℕ) (taken : Option ℕ) (next : Successor → List Item) (f : A → Action) (r : Result A Trap) → ((v : A) → r ≡ Ok v → ActionScoped l top taken next (f v)) → ActionScoped l top taken next (action f r)
+action_scoped l top taken next f (Ok v) h = h v refl
+action_scoped l top taken next f (Err t) h = tt
 
-limited_scoped : (l : LocalState) (top : List ℕ) (next : Successor → List Item) (over : Bool) (d : Action) → ActionScoped l top next d → ActionScoped l top next (limited over d)
-limited_scoped l top next over d h = choose (ActionScoped l top next) over (Trapped Depth) d tt h
+limited_scoped : (l : LocalState) (top : List ℕ) (taken : Option ℕ) (next : Successor → List Item) (over : Bool) (d : Action) → ActionScoped l top taken next d → ActionScoped l top taken next (limited over d)
+limited_scoped l top taken next over d h = choose (ActionScoped l top taken next) over (Trapped Depth) d tt h
 
 abbrev behind : UWhat-F UWhat UStmt → ℕ → UStmt → List Item → Successor → List Item
 behind w n s k successor = follow_what w successor n s k
@@ -84,62 +86,67 @@ module _ (l : LocalState) where
   kind w = (scoped_kind l.program (unit_of l) w).declares
 
   what_asks : (w : UWhat-F UWhat UStmt) (n : ℕ) (s : UStmt) (k : List Item) (xs : List ℕ) → item_right l.program (unit_of l) w xs ≡ true → ((x : ℕ) → Among xs x → Has l x) → fits_layer l.program (unit_of l) w ≡ true
-      → ItemsScoped l.program (unit_of l) (Has l) [] (Do n s ∷ k) → ItemsScoped l.program (unit_of l) (Has l) (kind w ++ []) k → ActionScoped l (kind w) (behind w n s k) (what_action w (statement_view l))
+      → ItemsScoped l.program (unit_of l) (Has l) [] (Do n s ∷ k) → ItemsScoped l.program (unit_of l) (Has l) (kind w ++ []) k → ActionScoped l (kind w) (what_takes w) (behind w n s k) (what_action w (statement_view l))
   what_asks (UWhat-F.Declare t x e) n s k xs h has fit self rest =
       let w = UWhat-F.Declare t x e in
-      action_scoped l (x ∷ []) (behind w n s k) (λ v. limited (is_full l) (Make t x v)) (value_or (pos 0) e (env_of l.locations l.frame.slots)) (λ v is. limited_scoped l (x ∷ []) (behind w n s k) (is_full l) (Make t x v) (refl, fit))
-  what_asks (UWhat-F.Assign x e) n s k xs h has fit self rest = action_scoped l [] (behind (UWhat-F.Assign x e) n s k) (Store x) (value e (env_of l.locations l.frame.slots)) (λ v is. refl)
+      action_scoped l (x ∷ []) None (behind w n s k) (λ v. limited (is_full l) (Make t x v)) (value_or (pos 0) e (env_of l.locations l.frame.slots)) (λ v is. limited_scoped l (x ∷ []) None (behind w n s k) (is_full l) (Make t x v) (refl, fit))
+  what_asks (UWhat-F.Assign x e) n s k xs h has fit self rest = action_scoped l [] None (behind (UWhat-F.Assign x e) n s k) (Store x) (value e (env_of l.locations l.frame.slots)) (λ v is. refl)
   what_asks (UWhat-F.NextAssign x e) n s k xs h has fit self rest =
       let w = UWhat-F.NextAssign x e in
-      choose (ActionScoped l [] (behind w n s k)) l.frame.halfway Wait (action (StoreFirst x) (value e (env_of l.locations l.frame.slots))) tt (action_scoped l [] (behind w n s k) (StoreFirst x) (value e (env_of l.locations l.frame.slots)) (λ v is. tt))
+      choose (ActionScoped l [] None (behind w n s k)) l.frame.halfway Wait (action (StoreFirst x) (value e (env_of l.locations l.frame.slots))) tt (action_scoped l [] None (behind w n s k) (StoreFirst x) (value e (env_of l.locations l.frame.slots)) (λ v is. tt))
   what_asks (UWhat-F.AssignNext x y) n s k xs h has fit self rest =
-      choose (ActionScoped l [] (behind (UWhat-F.AssignNext x y) n s k)) l.frame.halfway (Store x (env_of l.locations l.frame.slots y)) Wait refl tt
+      choose (ActionScoped l [] None (behind (UWhat-F.AssignNext x y) n s k)) l.frame.halfway (Store x (env_of l.locations l.frame.slots y)) Wait refl tt
   what_asks (UWhat-F.Get x i) n s k xs h has fit self rest = refl
   what_asks (UWhat-F.If e a b) n s k xs h has fit self rest =
       let next : Successor → List Item = behind (UWhat-F.If e a b) n s k in
       let w = and_parts (all_scoped l.program (unit_of l) a xs) (all_scoped l.program (unit_of l) b xs) (second_holds (reads_right (unit_of l) xs e) (all_scoped l.program (unit_of l) a xs && all_scoped l.program (unit_of l) b xs) h) in
-      action_scoped l [] next (λ v. Go (cond (is_zero v) Second First)) (value e (env_of l.locations l.frame.slots))
+      action_scoped l [] None next (λ v. Go (cond (is_zero v) Second First)) (value e (env_of l.locations l.frame.slots))
       (λ v is. choose (λ (z : Successor). ItemsScoped l.program (unit_of l) (Has l) [] (next z)) (is_zero v) Second First
       (body_scoped l.program (unit_of l) (Has l) b (n + 1 + numbering.size_all a) xs [] k w.1 (λ x i. inl (has x i)) rest)
       (body_scoped l.program (unit_of l) (Has l) a (n + 1) xs [] k w.0 (λ x i. inl (has x i)) rest))
   what_asks (UWhat-F.While e a) n s k xs h has fit self rest =
       let next : Successor → List Item = behind (UWhat-F.While e a) n s k in
-      action_scoped l [] next (λ v. Go (cond (is_zero v) On First)) (value e (env_of l.locations l.frame.slots))
+      action_scoped l [] None next (λ v. Go (cond (is_zero v) On First)) (value e (env_of l.locations l.frame.slots))
       (λ v is. choose (λ (z : Successor). ItemsScoped l.program (unit_of l) (Has l) [] (next z)) (is_zero v) On First rest
       (body_scoped l.program (unit_of l) (Has l) a (n + 1) xs [] (Do n s ∷ k) (second_holds (reads_right (unit_of l) xs e) (all_scoped l.program (unit_of l) a xs) h) (λ x i. inl (has x i)) self))
   what_asks (UWhat-F.For a e st b) n s k xs h has fit self rest =
       let next : Successor → List Item = behind (UWhat-F.For a e st b) n s k in
       let w = and_parts (all_scoped l.program (unit_of l) st xs) (all_scoped l.program (unit_of l) b xs) (second_holds (option_right (unit_of l) xs e) (all_scoped l.program (unit_of l) st xs && all_scoped l.program (unit_of l) b xs) h) in
-      action_scoped l [] next (λ v. Go (cond (is_zero v) On First)) (value_or (pos 1) e (env_of l.locations l.frame.slots))
+      action_scoped l [] None next (λ v. Go (cond (is_zero v) On First)) (value_or (pos 1) e (env_of l.locations l.frame.slots))
       (λ v is. choose (λ (z : Successor). ItemsScoped l.program (unit_of l) (Has l) [] (next z)) (is_zero v) On First rest
       (body_scoped l.program (unit_of l) (Has l) b (n + 1) xs [] (items_all st (n + 1 + numbering.size_all b) ++ Do n s ∷ k) w.1 (λ x i. inl (has x i))
       (body_scoped l.program (unit_of l) (Has l) st (n + 1 + numbering.size_all b) xs [] (Do n s ∷ k) w.0 (λ x i. inl (has x i)) self)))
   what_asks (UWhat-F.Call c) n s k xs h has fit self rest =
       let w = UWhat-F.Call c in
-      action_scoped l [] (behind w n s k) (λ given. limited (is_deep l || is_full l) (Enter c.unit given (passed_labels (statement_view l) c.throws)))
+      action_scoped l [] None (behind w n s k) (λ given. limited (is_deep l || is_full l) (Enter c.unit given (passed_labels (statement_view l) c.throws)))
       (arguments l.locations l.frame.slots (unit_in (statement_view l) c.unit).params c.args)
-      (λ given is. limited_scoped l [] (behind w n s k) (is_deep l || is_full l) (Enter c.unit given (passed_labels (statement_view l) c.throws)) (let g = call_given l c given xs has h fit is in (refl, g.0, g.1)))
-  what_asks (UWhat-F.Try a x b) n s k xs h has fit self rest =
-      let w = UWhat-F.Try a x b in
-      limited_scoped l [] (behind w n s k) (is_full l) (Install x (try_name (unit_in (statement_view l) l.frame.unit) x))
-      (refl, body_scoped l.program (unit_of l) (Has l) a (n + 1) xs [] (Leave ∷ k) (and_parts (all_scoped l.program (unit_of l) a xs) (all_scoped l.program (unit_of l) b xs) h).0 (λ y i. inl (has y i)) rest)
+      (λ given is. limited_scoped l [] None (behind w n s k) (is_deep l || is_full l) (Enter c.unit given (passed_labels (statement_view l) c.throws)) (let g = call_given l c given xs has h fit is in (refl, g.0, g.1)))
+  what_asks (UWhat-F.Try a x y b) n s k xs h has fit self rest =
+      let w = UWhat-F.Try a x y b in
+      let own = second_holds (all_fit l.program (unit_of l) a) (is_own_variable (unit_of l) y && all_fit l.program (unit_of l) b) fit in
+      limited_scoped l [] y (behind w n s k) (is_full l) (Install x (try_name (unit_in (statement_view l) l.frame.unit) x) y) (
+        refl,
+        refl,
+        first_holds (is_own_variable (unit_of l) y) (all_fit l.program (unit_of l) b) own,
+        body_scoped l.program (unit_of l) (Has l) a (n + 1) xs [] (Leave ∷ k) (and_parts (all_scoped l.program (unit_of l) a xs) (all_scoped l.program (unit_of l) b (some_slot y ++ xs)) h).0 (λ z i. inl (has z i)) rest,
+      )
   what_asks (UWhat-F.Next x) n s k xs h has fit self rest = tt
   what_asks (UWhat-F.Put o e) n s k xs h has fit self rest = tt
   what_asks (UWhat-F.Block a) n s k xs h has fit self rest = tt
-  what_asks (UWhat-F.Throw x) n s k xs h has fit self rest = tt
+  what_asks (UWhat-F.Throw x e) n s k xs h has fit self rest = tt
   what_asks (UWhat-F.Par bs) n s k xs h has fit self rest = tt
 
   item_asks : (todo : List Item) → ItemsFit l.program (unit_of l) todo → ItemsScoped l.program (unit_of l) (Has l) [] todo
-      → ActionScoped l (next_declares l.program (unit_of l) todo) (λ successor. followed successor todo) (stmt_action (next_stmt todo) (statement_view l))
+      → ActionScoped l (next_declares l.program (unit_of l) todo) (next_takes todo) (λ successor. followed successor todo) (stmt_action (next_stmt todo) (statement_view l))
   item_asks [] fit h = tt
   item_asks (Leave ∷ k) fit h = tt
   item_asks (Do n s ∷ k) fit h =
       let same : scoped l.program (unit_of l) s ≡ scoped_kind l.program (unit_of l) (out-UWhat s.what) = scoped_out l.program (unit_of l) s in
-      subst (λ (c : Scoped). ActionScoped l c.declares (λ successor. followed successor (Do n s ∷ k)) (what_action (out-UWhat s.what) (statement_view l))) (sym same)
+      subst (λ (c : Scoped). ActionScoped l c.declares (what_takes (out-UWhat s.what)) (λ successor. followed successor (Do n s ∷ k)) (what_action (out-UWhat s.what) (statement_view l))) (sym same)
       (what_asks (out-UWhat s.what) n s k h.0.slots h.0.right (λ x a. elim (h.0.known x a) [ inl b ↦ b | inr b ↦ none_among x b ]) (sym (fits_out l.program (unit_of l) s) ∙ fit.0) h
       (subst (λ (c : Scoped). ItemsScoped l.program (unit_of l) (Has l) (c.declares ++ []) k) same h.1))
 
-next_asks : (l : LocalState) → HasLocations l → ActionScoped l (next_declares l.program (unit_of l) l.frame.todo) (λ successor. followed successor l.frame.todo) (next_action l)
+next_asks : (l : LocalState) → HasLocations l → ActionScoped l (next_declares l.program (unit_of l) l.frame.todo) (next_takes l.frame.todo) (λ successor. followed successor l.frame.todo) (next_action l)
 unfolding next_action
 next_asks l h =
     let f : FrameScoped l.program l.locations l.frame = inner_scoped l.program l.locations l.frame l.callers h.frames in
@@ -227,14 +234,25 @@ called_has unit given labels l h none there many =
       subst (λ zs. FramesScoped l.program zs l.frame l.callers) (sym front) h.frames,
     )
 
-installed_has : (x name : ℕ) (l : LocalState) → HasLocations l → next_declares l.program (unit_of l) l.frame.todo ≡ [] → ItemsScoped l.program (unit_of l) (Has l) [] (followed First l.frame.todo) → HasLocations (gone First (record l { frame = installed x name l.frame }))
-installed_has x name l h none next =
-    let f : FrameScoped l.program l.locations l.frame = inner_scoped l.program l.locations l.frame l.callers h.frames in
-    let e : ExceptionPlace = record { exception = x; name = name; line = line_of l.frame.todo; todo = l.frame.todo } in
-    let k : LocalState = record l { frame = installed x name l.frame } in
-    gone_has First k h.own h.units (installed_fits l.program 0 x name l.frame f.fit) (record { slots = f.slots; places = places_more l.program (unit_of l) (Has l) l.frame.places e f.places f.todo none; room = f.room }) next (waiting l.program l.locations l.frame l.callers h.frames)
+-- a place comes into force, with this variable
+installed_rest : (program : Form) (xs : Locations) (x name : ℕ) (z : Option HandlerVariable) (f : Frame) → FrameScoped program xs f → next_declares program (unit_at program f.unit) f.todo ≡ [] → next_takes f.todo ≡ slot_taken z → Rest program xs (installed x name z f)
+installed_rest program xs x name z f h none taken =
+    let e : ExceptionPlace = record { exception = x; name = name; line = line_of f.todo; variable = z; todo = f.todo } in
+    record { slots = h.slots; places = places_more program (unit_at program f.unit) (HasLocation (unit_at program f.unit) xs f.slots) f.places e h.places h.todo none taken; room = h.room }
 
-done_has : (d : Action) (l : LocalState) → HasLocations l → ActionScoped l (next_declares l.program (unit_of l) l.frame.todo) (λ successor. followed successor l.frame.todo) d → HasLocations (done d l)
+installed_has : (x name : ℕ) (y : Option ℕ) (l : LocalState) → HasLocations l → next_declares l.program (unit_of l) l.frame.todo ≡ [] → next_takes l.frame.todo ≡ y → is_own_variable (unit_of l) y ≡ true → ItemsScoped l.program (unit_of l) (Has l) [] (followed First l.frame.todo)
+    → HasLocations (gone First (installing x name y l))
+installed_has x name None l h none taken own next =
+    let f : FrameScoped l.program l.locations l.frame = inner_scoped l.program l.locations l.frame l.callers h.frames in
+    let k : LocalState = installing x name None l in
+    gone_has First k h.own h.units (installed_fits l.program 0 x name None l.frame tt f.fit) (installed_rest l.program l.locations x name None l.frame f none taken) next (waiting l.program l.locations l.frame l.callers h.frames)
+installed_has x name (Some y) l h none taken own next =
+    let f : FrameScoped l.program l.locations l.frame = inner_scoped l.program l.locations l.frame l.callers h.frames in
+    let k : LocalState = installing x name (Some y) l in
+    let z : Option HandlerVariable = Some (variable_in y l) in
+    gone_has First k h.own h.units (installed_fits l.program 0 x name z l.frame own f.fit) (installed_rest l.program l.locations x name z l.frame f none taken) next (waiting l.program l.locations l.frame l.callers h.frames)
+
+done_has : (d : Action) (l : LocalState) → HasLocations l → ActionScoped l (next_declares l.program (unit_of l) l.frame.todo) (next_takes l.frame.todo) (λ successor. followed successor l.frame.todo) d → HasLocations (done d l)
 done_has (Go successor) l h next =
     let f : FrameScoped l.program l.locations l.frame = inner_scoped l.program l.locations l.frame l.callers h.frames in
     gone_has successor l h.own h.units f.fit (rest_of l.program l.locations l.frame f) next (waiting l.program l.locations l.frame l.callers h.frames)
@@ -245,13 +263,23 @@ done_has (Read x) l h none =
     let w = stored_has x (next_byte l.input_at l.input) l h in
     gone_on_has (read_in x l) (record { own = w.own; units = w.units; frames = w.frames }) none
 done_has (Enter unit given labels) l h (none, there, many) = called_has unit given labels l h none there many
-done_has (Install x name) l h (none, next) = installed_has x name l h none next
+done_has (Install x name y) l h (none, taken, own, next) = installed_has x name y l h none taken own next
 done_has (Trapped t) l h next = trapped_has t (line_of l.frame.todo) l h
 done_has Wait l h next = h
 
 pub quiet_has : (l : LocalState) → HasLocations l → HasLocations (quiet l)
 unfolding quiet
 quiet_has l h = done_has (next_action l) l h (next_asks l h)
+
+-- a throw
+
+after_throw_has : (r : Value) (l : LocalState) → HasLocations l → HasLocations (after_throw r l)
+after_throw_has (Ok v) l h = h
+after_throw_has (Err t) l h = trapped_has t (line_of l.frame.todo) l h
+
+pub thrown_has : (l : LocalState) → HasLocations l → HasLocations (thrown l)
+unfolding thrown
+thrown_has l h = after_throw_has (thrown_value l) l h
 
 -- a meeting
 

@@ -157,8 +157,8 @@ module _ (l : LocalState) where
   variables_there (UWhat-F.For first test step body) x r a = read_has r.slots (variables_in_option test) x r.has (first_holds (option_right u r.slots test) _ r.right) a
   variables_there (UWhat-F.Block body) x r a = none_among x a
   variables_there (UWhat-F.Call c) x r a = call_reads_there r.slots c x r.has r.right a
-  variables_there (UWhat-F.Try body y handler) x r a = none_among x a
-  variables_there (UWhat-F.Throw y) x r a = none_among x a
+  variables_there (UWhat-F.Try body y z handler) x r a = none_among x a
+  variables_there (UWhat-F.Throw y e) x r a = read_has r.slots (variables_in_option e) x r.has r.right a
   variables_there (UWhat-F.Par bs) x r a = branches_read_there r.slots bs x r.has (second_holds (branches_apart bs) (all_calls_right l.program u r.slots bs) (second_holds (are_some bs) _ r.right)) a
 
   pub at_call : (c : UCall) → IsRight l (UWhat-F.Call c) → CallHasLocations l c

@@ -3,6 +3,7 @@ use Rattle.std.proofs.Common.{ℕ, ◌+◌, ◌≤◌, ◌≡◌, ◌∙◌, Boo
 use Rattle.std.specs.Option.{option_or}
 use Rattle.std.proofs.lemmas.List.{append-nil, map-append}
 use Rattle.shim_base.specs.declared.types.Ty.{Ty}
+use Rattle.shim_base.specs.declared.types.Ty.TheVariants.{Int32}
 use Rattle.shim_syntax.specs.declared.tree.Call.{Call}
 use Rattle.shim_syntax.specs.declared.tree.Expr.{Expr}
 use Rattle.shim_syntax.specs.declared.tree.Function.{Function}
@@ -22,7 +23,7 @@ use Rattle.shim_scopes.specs.declared.tree.UExpr.{UExpr}
 use Rattle.shim_scopes.specs.declared.tree.UParam.{UParam}
 use Rattle.shim_scopes.specs.Binding.{unknown, unknown_in, unknown_in_all, unknown_in_option, stream_in, stream_in_option, no_number, no_input, no_output, slot_of, placed, placed_all, placed_option, exception_number, unhandled}
 use Rattle.shim_scopes.specs.Refusals.{refused_for}
-use Rattle.shim_scopes.specs.Statements.{Whole, Around, Before, BoundTo, Bind, local_of, declared, within, opened, closed, caught, tried, bind_declare, bind_store, bind_next, bind_assign_next, bind_get, bind_put, bind_throw, bind_block, on_tree, bind_test, bind_if, bind_while, bind_try, bind_parts, bind_first_test, bind_for, visible, declared_in, unknown_in_both, unknown_of_two}
+use Rattle.shim_scopes.specs.Statements.{Whole, Around, Before, BoundTo, Bind, local_of, declared, within, opened, closed, caught, tried, variable_slot, bind_handler, bind_declare, bind_store, bind_next, bind_assign_next, bind_get, bind_put, bind_throw, bind_block, on_tree, bind_test, bind_if, bind_while, bind_try, bind_parts, bind_first_test, bind_for, visible, declared_in, unknown_in_both, unknown_of_two}
 use Rattle.shim_scopes.specs.Calls.{function_number, function_of, unhandled_of_all, if_false, wrong_arg, wrong_in_all, bind_known, bind_call, bind_called}
 use Rattle.shim_units.specs.declared.form.Form.{Form}
 use Rattle.shim_units.specs.Calls.{params_at, lends}
@@ -43,7 +44,7 @@ use Rattle.shim_laws_stops.proofs.Among.{Among}
 use Rattle.shim_laws_stops.proofs.ScopeLifting.{OnlyNames, ReadsNumbers}
 use Rattle.shim_laws_stops.proofs.ScopeExprs.{slots, slot_among, only_none, only_both, bare_named, IsPlaced, ArePlaced, number_bound, input_bound, output_bound, IsNumber, placed_numbers, number_behind, expr_reads, option_reads, arg_suits, arg_names}
 use Rattle.shim_laws_stops.proofs.ScopeCalls.{ArgsSuit, CallSuits}
-use Rattle.shim_laws_stops.proofs.ScopeParts.{BodyIn, WhatIn, StmtIn, part_declare, part_next, part_assign_next, part_get, part_put, part_throw, part_call, part_if, part_while, part_for, part_block, part_try}
+use Rattle.shim_laws_stops.proofs.ScopeParts.{BodyIn, HandlerIn, handler_is_in, WhatIn, StmtIn, part_declare, part_next, part_assign_next, part_get, part_put, part_throw, part_call, part_if, part_while, part_for, part_block, part_try}
 
 pub longer : (xs ys : List Sort) → GoesOn xs ys → length xs ≤ length ys
 longer xs ys g = let e : length ys ≡ length (xs ++ g.more) = ap length g.whole in omega (arith, e, length-append xs g.more)
@@ -279,10 +280,16 @@ module _ (w : Whole) (form : Form) (fs : List RFunction) (headers : HeadersSuit 
       part_put form fs (slots v) (length b.slots) all (slot_of v x) (placed v e) (is_around v x both.0) (output_bound v (length b.slots) all x (slot_of v x) are (slot_is_innermost x v both.0) kind.0) (expr_right v (length b.slots) all e are both.1 kind.1))
       h
 
-  pub throw_scopes : (x : List ℕ) → WhatScopes (bind_throw x)
-  throw_scopes x line a b r h =
+  pub throw_scopes : (x : List ℕ) (e : Option Expr) → WhatScopes (bind_throw x e)
+  throw_scopes x e line a b r h =
+      let v : List Local = visible a b in
       let number : ℕ = exception_number a.handled x in
-      stays what_right a (to.Throw number) b r (λ all are. part_throw form fs (slots (visible a b)) (length b.slots) all number) (passed line UnknownException (unhandled a.handled x) _ r h)
+      let none = asked line UnknownName (unknown_in_option v e) _ r h in
+      let p = passed line UnknownName (unknown_in_option v e) _ r h in
+      let q = passed line UnknownException (unhandled a.handled x) _ r p in
+      let kind = asked line WrongKind (stream_in_option v e) _ r q in
+      stays what_right a (to.Throw number (placed_option v e)) b r (λ all are. part_throw form fs (slots v) (length b.slots) all number (placed_option v e) (option_right v (length b.slots) all e are none kind))
+      (passed line WrongKind (stream_in_option v e) _ r q)
 
   pub call_scopes : (c : Call) → WhatScopes (bind_called to.Call w c)
   call_scopes c line = called_scopes what_right to.Call c line (λ ls lo all d are suits params. part_call form fs (slots ls) lo all d suits params)
@@ -302,8 +309,11 @@ module _ (w : Whole) (form : Form) (fs : List RFunction) (headers : HeadersSuit 
   from_blocks a old new t r e on own so = at_answer what_right a old new t r e (record { slots_on = on; more = []; own = own ∙ sym (append-nil old.own); placed = λ all on. tt; tree = so })
 
   -- the second block begins with what was around the first
+  second_of : (right : Right (List RStmt)) (a : Around) (b c : Before) (all : List Sort) (top : List ℕ) (hi : ℕ) (t : List RStmt) → c.own ≡ b.own → right (slots (visible a c)) (length c.slots) hi all top t → right (slots (visible a b)) (length c.slots) hi all top t
+  second_of right a b c all top hi t own h = subst (λ ls. right (slots (a.outer ++ ls)) (length c.slots) hi all top t) own h
+
   second_block : (a : Around) (b c : Before) (all : List Sort) (top : List ℕ) (hi : ℕ) (t : List RStmt) → c.own ≡ b.own → body_right (slots (visible a c)) (length c.slots) hi all top t → body_right (slots (visible a b)) (length c.slots) hi all top t
-  second_block a b c all top hi t own h = subst (λ ls. body_right (slots (a.outer ++ ls)) (length c.slots) hi all top t) own h
+  second_block a b c all top hi t own h = second_of body_right a b c all top hi t own h
 
   still_placed : (a : Around) (b c : Before) (all : List Sort) → c.own ≡ b.own → GoesOn b.slots c.slots → ArePlaced (length b.slots) all (visible a b) → ArePlaced (length c.slots) all (visible a c)
   still_placed a b c all own on are = subst (λ ls. ArePlaced (length c.slots) all (a.outer ++ ls)) (sym own) (placed_later (length b.slots) (length c.slots) all (visible a b) (longer b.slots c.slots on) are)
@@ -335,19 +345,6 @@ module _ (w : Whole) (form : Form) (fs : List RFunction) (headers : HeadersSuit 
       let m = block_scoped body_right f k a b p.0 p.1 in
       from_blocks a b p.0.before (to.Block p.0.tree) r p.2 m.slots_on m.own (λ all on are. part_block form fs (slots (visible a b)) (length b.slots) (length p.0.before.slots) all m.top p.0.tree (m.tree all on are))
 
-  pub try_scopes : (x : List ℕ) (f h : Bind (List RStmt)) → Scopes body_right f → Scopes body_right h → Scopes what_right (bind_try w x f h)
-  try_scopes x f h k l a b r is =
-      let p = first_ok (bind_block f (caught x a b) (tried w x b)) _ r is in
-      let q = first_ok (bind_block h a p.0.before) _ r p.2 in
-      let m = block_scoped body_right f k (caught x a b) (tried w x b) p.0 p.1 in
-      let n = block_scoped body_right h l a p.0.before q.0 q.1 in
-      let number : ℕ = a.throws + length b.tries in
-      from_blocks a b q.0.before (to.Try p.0.tree number q.0.tree) r q.2 (goes_twice b.slots p.0.before.slots q.0.before.slots m.slots_on n.slots_on) (n.own ∙ m.own)
-      (λ all on are.
-      part_try form fs (slots (visible a b)) (length b.slots) (length p.0.before.slots) (length q.0.before.slots) all m.top n.top p.0.tree number q.0.tree
-      (m.tree all (goes_twice p.0.before.slots q.0.before.slots all n.slots_on on) are)
-      (second_block a b p.0.before all n.top (length q.0.before.slots) q.0.tree m.own (n.tree all on (still_placed a b p.0.before all m.own m.slots_on are))))
-
   -- behind statements their declarations are in scope, too
 
   pub behind_visible : (a : Around) (b c : Before) (more : List Local) → c.own ≡ b.own ++ more → visible a c ≡ visible a b ++ more
@@ -360,6 +357,69 @@ module _ (w : Whole) (form : Form) (fs : List RFunction) (headers : HeadersSuit 
   behind_placed a b c more all own on are placed =
       subst (ArePlaced (length c.slots) all) (sym (behind_visible a b c more own))
       (each_of_both (IsPlaced (length c.slots) all) (visible a b) more (placed_later (length b.slots) (length c.slots) all (visible a b) (longer b.slots c.slots on) are) placed)
+
+  -- a handler
+
+  -- its variable, where it has one, in the slot that is next
+  abbrev slot_next : Option (List ℕ) → ℕ → Option ℕ
+  slot_next None lo = None
+  slot_next (Some y) lo = Some lo
+
+  abbrev handler_right : Option (List ℕ) → Right (List RStmt)
+  handler_right y around lo hi all top t = HandlerIn form fs (slot_next y lo) around lo hi all t
+
+  same_slot : (y : Option (List ℕ)) (b : Before) → slot_next y (length b.slots) ≡ variable_slot y b
+  same_slot None b = refl
+  same_slot (Some y) b = refl
+
+  handler_scopes : (y : Option (List ℕ)) (h : Bind (List RStmt)) → Scopes body_right h → Scopes (handler_right y) (bind_handler w y h)
+  handler_scopes None h l a b r is =
+      let n = l a b r is in
+      record {
+        slots_on = n.slots_on;
+        more = n.more;
+        own = n.own;
+        placed = n.placed;
+        tree = λ all on are.
+            handler_is_in form fs (slots (visible a b)) (length b.slots) (length b.slots) (length r.before.slots) all (slots n.more) None r.tree refl
+            (subst (λ xs. BodyIn form fs xs (length b.slots) (length r.before.slots) all (slots n.more) r.tree) (sym (append-nil (slots (visible a b)))) (n.tree all on are));
+      }
+  handler_scopes (Some y) h l a b r is =
+      let slot : ℕ = length b.slots in
+      let begun : Before = declared w.names y (Value Int32) b in
+      let d : Local = local_of y (Value Int32) slot in
+      let n = l a begun r is in
+      let goes : GoesOn b.slots begun.slots = record { more = Value Int32 ∷ []; whole = refl } in
+      let long : length begun.slots ≡ length b.slots + 1 = length-append b.slots (Value Int32 ∷ []) in
+      let up = longer begun.slots r.before.slots n.slots_on in
+      record {
+        slots_on = goes_twice b.slots begun.slots r.before.slots goes n.slots_on;
+        more = d ∷ n.more;
+        own = n.own ∙ append_assoc b.own (d ∷ []) n.more;
+        placed = λ all on. (record { sort = declared_at b.slots Int32 all (goes_twice begun.slots r.before.slots all n.slots_on on); below = omega (arith, long, up) }, n.placed all on);
+        tree = λ all on are.
+            let from : GoesOn begun.slots all = goes_twice begun.slots r.before.slots all n.slots_on on in
+            let sort = declared_at b.slots Int32 all from in
+            handler_is_in form fs (slots (visible a b)) slot (length begun.slots) (length r.before.slots) all (slots n.more) (Some slot) r.tree (refl, omega (arith, long), ap is_number sort)
+            (subst (λ xs. BodyIn form fs xs (length begun.slots) (length r.before.slots) all (slots n.more) r.tree) (behind_slots a b begun (d ∷ []) refl)
+            (n.tree all on (behind_placed a b begun (d ∷ []) all refl goes are (record { sort = sort; below = omega (arith, long) }, tt))));
+      }
+
+  pub try_scopes : (x : List ℕ) (y : Option (List ℕ)) (f h : Bind (List RStmt)) → Scopes body_right f → Scopes body_right h → Scopes what_right (bind_try w x y f h)
+  try_scopes x y f h k l a b r is =
+      let p = first_ok (bind_block f (caught x a b) (tried w x b)) _ r is in
+      let q = first_ok (bind_block (bind_handler w y h) a p.0.before) _ r p.2 in
+      let m = block_scoped body_right f k (caught x a b) (tried w x b) p.0 p.1 in
+      let n = block_scoped (handler_right y) (bind_handler w y h) (handler_scopes y h l) a p.0.before q.0 q.1 in
+      let number : ℕ = a.throws + length b.tries in
+      let mi : ℕ = length p.0.before.slots in
+      let hi : ℕ = length q.0.before.slots in
+      from_blocks a b q.0.before (to.Try p.0.tree number (variable_slot y p.0.before) q.0.tree) r q.2 (goes_twice b.slots p.0.before.slots q.0.before.slots m.slots_on n.slots_on) (n.own ∙ m.own)
+      (λ all on are.
+      part_try form fs (slots (visible a b)) (length b.slots) mi hi all m.top p.0.tree number (variable_slot y p.0.before) q.0.tree
+      (m.tree all (goes_twice p.0.before.slots q.0.before.slots all n.slots_on on) are)
+      (subst (λ z. HandlerIn form fs z (slots (visible a b)) mi hi all q.0.tree) (same_slot y p.0.before)
+      (second_of (handler_right y) a b p.0.before all n.top hi q.0.tree m.own (n.tree all on (still_placed a b p.0.before all m.own m.slots_on are)))))
 
   none_more : (xs ys : List Local) → xs ++ ys ≡ xs → ys ≡ []
   none_more [] ys e = e

@@ -42,7 +42,7 @@ use Rattle.shim_laws_sources.proofs.SortedBinding.{GoesOn, as_it_was, goes_twice
 use Rattle.shim_scopes.proofs.Refusals.{passed, first_ok, bound}
 use Rattle.shim_laws_stops.specs.InScope.{is_number}
 use Rattle.shim_laws_stops.proofs.ScopeExprs.{slots, ArePlaced, placed_around, IsPlaced}
-use Rattle.shim_laws_stops.proofs.ScopeParts.{BodyIn, WhatIn, StmtIn, BranchWhatIn, BranchIn, ForkIn, part_stmt, part_branch, part_block_branch, part_call_branch, part_par, no_stmts, more_stmts, no_branches, more_branches}
+use Rattle.shim_laws_stops.proofs.ScopeParts.{BodyIn, BranchWhatIn, BranchIn, ForkIn, part_stmt, part_branch, part_block_branch, part_call_branch, part_par, no_stmts, more_stmts, no_branches, more_branches}
 use Rattle.shim_laws_stops.proofs.ScopeBinding.{Right, Scopes, at_answer, stays, IsBlockBy, block_scoped, longer, placed_later, HeadersSuit, call_comes, what_right, body_right, stmt_right, WhatScopes, declare_scopes, store_scopes, next_scopes, assign_next_scopes, get_scopes, put_scopes, throw_scopes, call_scopes, if_scopes, while_scopes, inner_scopes, try_scopes, for_scopes, behind_slots, behind_placed, KeepsOwn}
 use Rattle.shim_laws_stops.proofs.ScopeParts as kinds
 
@@ -160,13 +160,13 @@ module _ (w : Whole) (form : Form) (fs : List RFunction) (headers : HeadersSuit 
   unfolding roll-What denote.Hole.Carrier.roll
   of_call c = at_what (What-F.What::Call c) (call_scopes w form fs headers c)
 
-  of_try : (a : List Stmt) (x : List ℕ) (b : List Stmt) → AllScope a → AllScope b → OfWhat (what_means w (st.Try a x b))
+  of_try : (a : List Stmt) (x : List ℕ) (y : Option (List ℕ)) (b : List Stmt) → AllScope a → AllScope b → OfWhat (what_means w (st.Try a x y b))
   unfolding roll-What denote.Hole.Carrier.roll
-  of_try a x b h k = at_what (What-F.Try a x b) (λ line. try_scopes w form fs headers x (bind_stmts w a) (bind_stmts w b) (stmts_scope a h) (stmts_scope b k))
+  of_try a x y b h k = at_what (What-F.Try a x y b) (λ line. try_scopes w form fs headers x y (bind_stmts w a) (bind_stmts w b) (stmts_scope a h) (stmts_scope b k))
 
-  of_throw : (x : List ℕ) → OfWhat (what_means w (st.Throw x))
+  of_throw : (x : List ℕ) (e : Option Expr) → OfWhat (what_means w (st.Throw x e))
   unfolding roll-What denote.Hole.Carrier.roll
-  of_throw x = at_what (What-F.Throw x) (throw_scopes w form fs headers x)
+  of_throw x e = at_what (What-F.Throw x e) (throw_scopes w form fs headers x e)
 
   -- branches
 
@@ -348,8 +348,8 @@ module _ (w : Whole) (form : Form) (fs : List RFunction) (headers : HeadersSuit 
     plain_scope (is.call_fork {f = f} {p = p} {xs = xs} {bs = bs} d b) =
         let c : CallOf = record { function = f; args = xs } in
         one p.line (st.Par (record { line = p.line; what = br.Call c } ∷ bs)) (of_par (record { line = p.line; what = br.Call c }) bs (of_branch p.line (br.Call c) (of_call_branch c)) (branches_of b))
-    plain_scope (is.try {x = x} {p = p} {xs = xs} {ys = ys} d b) = one p.line (st.Try xs x ys) (of_try xs x ys (block_scope d) (block_scope b))
-    plain_scope (is.throw {x = x} {p = p}) = one p.line (st.Throw x) (of_throw x)
+    plain_scope (is.try {x = x} {y = y} {p = p} {xs = xs} {ys = ys} d c b) = one p.line (st.Try xs x y ys) (of_try xs x y ys (block_scope d) (block_scope b))
+    plain_scope (is.throw {x = x} {p = p} {value = e} d) = one p.line (st.Throw x e) (of_throw x e)
 
     branches_of : {l n : ℕ} {v u : Counts} {s r : List Terminal} {bs : List Branch} → IsBranches limits l n v u s r bs → AllBranches bs
     branches_of (is.last_branch h d a) = (branch_of d, tt)

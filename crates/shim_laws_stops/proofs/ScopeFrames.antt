@@ -1,26 +1,28 @@
 -- The units that a process is in have the locations of what they name, wherever one goes on or is left, and whatever is stored.
-use Rattle.std.proofs.Common.{◌≡◌, ◌∙◌, ◌≤◌, ◌<◌, inl, inr, ℕ, zero, suc, ◌-◌, true, false, List, [], ◌∷◌, length, take, Option, Some, None, nat_lt, refl, sym, ap, subst, arith}
+use Rattle.std.proofs.Common.{◌≡◌, ◌∙◌, ◌≤◌, ◌<◌, inl, inr, ℕ, zero, suc, ◌-◌, ℤ, true, false, List, [], ◌∷◌, length, take, Option, Some, None, nat_lt, refl, sym, ap, subst, arith}
 use Rattle.std.specs.Prelude.{slice_get, slice_set}
 use Rattle.std.proofs.lemmas.Bool.Decides.{eqb_tells}
 use Rattle.shim_units.specs.declared.form.Form.{Form}
 use Rattle.shim_units.specs.declared.unit.Unit.{Unit as UnitOf}
+use Rattle.shim_process.specs.declared.handler_variable.HandlerVariable.{HandlerVariable}
+use Rattle.shim_units.specs.Own.{some_slot}
 use Rattle.shim_process.specs.Locations.{Location, Locations, at_number}
 use Rattle.shim_process.specs.Todo.{Item, Do, Leave, Successor, On, Second, followed}
-use Rattle.shim_process.specs.LocalState.{LocalState, Frame, ExceptionPlace, unit_at, number_of}
+use Rattle.shim_process.specs.LocalState.{LocalState, Frame, ExceptionPlace, unit_at, number_of, location_of}
 use Rattle.shim_process.specs.Ends.{without_last, past_ends, went, is_over, settled, gone}
-use Rattle.shim_process.specs.Unwinding.{handling, unwound, unwind}
+use Rattle.shim_process.specs.Unwinding.{handling, caught_location, taking, catching, unwound, unwind}
 use Rattle.shim_process.proofs.PlaceChannels.{length_put}
 use Rattle.shim_process.proofs.PlaceLocations.{at_take}
-use Rattle.shim_process.specs.FittingFrames.{FrameFits}
+use Rattle.shim_process.specs.FittingFrames.{VariableFits, FrameFits}
 use Rattle.shim_process.specs.OwnSlots.{is_own_slot, UsesOwnSlots}
 use Rattle.shim_laws_sources.proofs.AtPlaces.{take_below, at_taken, still_at, put_at, Onward}
 use Rattle.shim_process.proofs.FittingFrames.{went_fits}
 use Rattle.shim_process.proofs.FittingItems as fitting_items
 use Rattle.shim_base.proofs.Facts.{choose}
 use Rattle.shim_laws_stops.specs.InScope.{AllInScope}
-use Rattle.shim_laws_stops.specs.FrameLocations.{HasLocation, ItemsScoped, next_declares, PlacesScoped, FrameScoped, FramesScoped, HasLocations}
+use Rattle.shim_laws_stops.specs.FrameLocations.{HasLocation, ItemsScoped, next_declares, slot_taken, PlacesScoped, FrameScoped, FramesScoped, HasLocations}
 use Rattle.shim_laws_stops.specs.Named.{IsThere}
-use Rattle.shim_laws_stops.proofs.Among.{none_among}
+use Rattle.shim_laws_stops.proofs.Among.{Among, none_among, among_cases}
 use Rattle.shim_laws_stops.proofs.ScopeItems.{more_known, on_scoped, second_scoped, places_taken, place_at, places_known}
 
 -- locations
@@ -129,9 +131,15 @@ pub went_on_scoped : (program : Form) (xs : Locations) (f : Frame) → FrameScop
 went_on_scoped program xs f h none =
     went_scoped program xs On f h.fit (rest_of program xs f h) (on_scoped program (unit_at program f.unit) (HasLocation (unit_at program f.unit) xs f.slots) f.todo none h.todo)
 
-pub handling_scoped : (program : Form) (xs : Locations) (i : ℕ) (f : Frame) (o : Option ExceptionPlace) → slice_get f.places i ≡ o → FrameScoped program xs f → GoesOn program xs f (handling o i f)
-handling_scoped program xs i f None is h = record { floor = refl; scoped = h }
-handling_scoped program xs i f (Some e) is h =
+-- the slot of the variable of this place's handler
+abbrev pub place_takes : Option ExceptionPlace → Option ℕ
+place_takes None = None
+place_takes (Some e) = slot_taken e.variable
+
+pub handling_scoped : (program : Form) (xs : Locations) (i : ℕ) (f : Frame) (o : Option ExceptionPlace) → slice_get f.places i ≡ o → ((x : ℕ) → Among (some_slot (place_takes o)) x → HasLocation (unit_at program f.unit) xs f.slots x) → FrameScoped program xs f
+    → GoesOn program xs f (handling o i f)
+handling_scoped program xs i f None is taken h = record { floor = refl; scoped = h }
+handling_scoped program xs i f (Some e) is taken h =
     let u : UnitOf = unit_at program f.unit in
     let Has : ℕ → Type 0 = HasLocation u xs f.slots in
     let g : Frame = record f { todo = e.todo; places = take i f.places } in
@@ -142,7 +150,7 @@ handling_scoped program xs i f (Some e) is h =
       slots = h.fit.slots;
     } in
     let w = went_scoped program xs Second g fit (record { slots = h.slots; places = places_taken program (unit_at program f.unit) (HasLocation (unit_at program f.unit) xs f.slots) i f.places h.places; room = h.room })
-    (second_scoped program (unit_at program f.unit) (HasLocation (unit_at program f.unit) xs f.slots) e.todo at.1 at.0) in
+    (second_scoped program (unit_at program f.unit) (HasLocation (unit_at program f.unit) xs f.slots) e.todo (λ x a. taken x (subst (λ y. Among (some_slot y) x) at.2 a)) at.1 at.0) in
     record { floor = w.floor; scoped = w.scoped }
 
 -- the units that wait for one with this floor
@@ -183,20 +191,48 @@ unfolding gone
 gone_has successor l own units fit rest h w =
     settled_has l.callers (went successor l.frame) l own units (frames_on l.program l.locations l.frame (went successor l.frame) l.callers w (went_scoped l.program l.locations successor l.frame fit rest h))
 
-handled : (cs : List Frame) (f : Frame) (i : ℕ) (l : LocalState) → UsesOwnSlots l.program → AllInScope l.program → FramesScoped l.program l.locations f cs → HasLocations (settled cs (handling (slice_get f.places i) i f) l)
-handled cs f i l own units h =
-    let g : Frame = handling (slice_get f.places i) i f in
-    settled_has cs g l own units (frames_on l.program l.locations f g cs (waiting l.program l.locations f cs h) (handling_scoped l.program l.locations i f (slice_get f.places i) refl (inner_scoped l.program l.locations f cs h)))
+-- the unit goes on with a handler, whose variable has its location
+goes_handled : (cs : List Frame) (f : Frame) (i : ℕ) (o : Option ExceptionPlace) (l : LocalState) → slice_get f.places i ≡ o → UsesOwnSlots l.program → AllInScope l.program
+    → ((x : ℕ) → Among (some_slot (place_takes o)) x → HasLocation (unit_at l.program f.unit) l.locations f.slots x) → FramesScoped l.program l.locations f cs → HasLocations (settled cs (handling o i f) l)
+goes_handled cs f i o l is own units taken h =
+    let g : Frame = handling o i f in
+    settled_has cs g l own units (frames_on l.program l.locations f g cs (waiting l.program l.locations f cs h) (handling_scoped l.program l.locations i f o is taken (inner_scoped l.program l.locations f cs h)))
 
-unwound_has : (cs : List Frame) (f : Frame) (n : ℕ) (l : LocalState) → UsesOwnSlots l.program → AllInScope l.program → FramesScoped l.program l.locations f cs → HasLocations (unwound cs f n l)
-unwound_has [] f n l own units h = handled [] f (n - f.outer) l own units h
-unwound_has (c ∷ cs) f n l own units h =
-    let g : Frame = handling (slice_get f.places (n - f.outer)) (n - f.outer) f in
+-- the location that a handler's variable gets
+took : (cs : List Frame) (f : Frame) (i : ℕ) (e : ExceptionPlace) (y : Option HandlerVariable) (v : ℤ) (l : LocalState) → slice_get f.places i ≡ Some e → e.variable ≡ y → UsesOwnSlots l.program → AllInScope l.program → FramesScoped l.program l.locations f cs
+    → HasLocations (settled cs (handling (Some e) i f) (taking y v f l))
+took cs f i e None v l is none own units h = goes_handled cs f i (Some e) l is own units (λ x a. none_among x (subst (λ z. Among (some_slot (slot_taken z)) x) none a)) h
+took cs f i e (Some y) v l is same own units h =
+    let m : LocalState = taking (Some y) v f l in
+    let u : UnitOf = unit_at l.program f.unit in
+    let place : ℕ = number_of f.slots y.slot in
+    let new : Location = caught_location y.channel v in
+    let ys : Locations = slice_set l.locations (number_of f.slots y.slot) (Some (caught_location y.channel v)) in
+    let inner : FrameScoped l.program l.locations f = inner_scoped l.program l.locations f cs h in
+    let mine : is_own_slot (unit_at l.program f.unit) y.slot ≡ true = subst (VariableFits (unit_at l.program f.unit)) same (fitting_items.variable_at l.program (unit_at l.program f.unit) f.places i e inner.fit.places is) in
+    let c : Covers l.locations (slice_set l.locations (number_of f.slots y.slot) (Some (caught_location y.channel v))) = covers_set l.locations (number_of f.slots y.slot) (Some (caught_location y.channel v)) (λ x a. (caught_location y.channel v, refl)) in
+    goes_handled cs f i (Some e) m is own units
+    (λ x a number. elim (among_cases y.slot [] x (subst (λ z. Among (some_slot (slot_taken z)) x) same a)) [
+      | inl here ↦ subst (λ z. IsThere (location_of ys f.slots z)) here (new, set_there l.locations place new (inner.room y.slot mine))
+      | inr b ↦ none_among x b
+    ])
+    (frames_covered l.program l.locations ys f cs c h)
+
+handled : (cs : List Frame) (f : Frame) (i : ℕ) (o : Option ExceptionPlace) (v : ℤ) (l : LocalState) → slice_get f.places i ≡ o → UsesOwnSlots l.program → AllInScope l.program → FramesScoped l.program l.locations f cs
+    → HasLocations (settled cs (handling o i f) (catching o v f l))
+handled cs f i None v l is own units h = goes_handled cs f i None l is own units (λ x a. none_among x a) h
+handled cs f i (Some e) v l is own units h = took cs f i e e.variable v l is refl own units h
+
+unwound_has : (cs : List Frame) (f : Frame) (n : ℕ) (v : ℤ) (l : LocalState) → UsesOwnSlots l.program → AllInScope l.program → FramesScoped l.program l.locations f cs → HasLocations (unwound cs f n v l)
+unwound_has [] f n v l own units h = handled [] f (n - f.outer) (slice_get f.places (n - f.outer)) v l refl own units h
+unwound_has (c ∷ cs) f n v l own units h =
+    let o : Option ExceptionPlace = slice_get f.places (n - f.outer) in
+    let g : Frame = handling o (n - f.outer) f in
     let out : LocalState = record l { locations = take f.floor l.locations } in
-    choose HasLocations (nat_lt n f.outer) (unwound cs c n out) (settled (c ∷ cs) g l)
-    (unwound_has cs c n out own units h.3)
-    (handled (c ∷ cs) f (n - f.outer) l own units h)
+    choose HasLocations (nat_lt n f.outer) (unwound cs c n v out) (settled (c ∷ cs) g (catching o v f l))
+    (unwound_has cs c n v out own units h.3)
+    (handled (c ∷ cs) f (n - f.outer) (slice_get f.places (n - f.outer)) v l refl own units h)
 
-pub unwind_has : (l : LocalState) (label : ℕ) → HasLocations l → HasLocations (unwind l label)
+pub unwind_has : (l : LocalState) (label : ℕ) (v : ℤ) → HasLocations l → HasLocations (unwind l label v)
 unfolding unwind
-unwind_has l label h = unwound_has l.callers l.frame (label - l.base) l h.own h.units h.frames
+unwind_has l label v h = unwound_has l.callers l.frame (label - l.base) v l h.own h.units h.frames

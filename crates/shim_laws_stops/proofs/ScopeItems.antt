@@ -1,18 +1,19 @@
 -- What a unit has still to do names what has its location, wherever it goes from there.
-use Rattle.std.proofs.Common.{◌≡◌, ◌∙◌, ◌⊎◌, ℕ, zero, suc, ◌+◌, true, ◌&&◌, inl, inr, List, [], ◌∷◌, ◌++◌, take, map, Some, refl, sym, ap, subst, append_assoc}
+use Rattle.std.proofs.Common.{◌≡◌, ◌∙◌, ◌⊎◌, ℕ, zero, suc, ◌+◌, true, ◌&&◌, inl, inr, List, [], ◌∷◌, ◌++◌, take, map, Option, Some, refl, sym, ap, subst, append_assoc}
 use Rattle.std.proofs.lemmas.Bool.{and_parts}
 use Rattle.std.specs.Prelude.{slice_get}
 use Rattle.shim_units.specs.declared.form.Form.{Form}
 use Rattle.shim_units.specs.declared.unit.Unit.{Unit as UnitOf}
 use Rattle.shim_units.specs.declared.unit.UStmt.{UStmt, UStmt-F, ind-UStmt, roll-UStmt, fold-roll-UStmt}
 use Rattle.shim_units.specs.declared.unit.UWhat.{UWhat, UWhat-F, out-UWhat, roll-UWhat, out-roll-UWhat, map-UWhat, fold-roll-UWhat, roll-out-UWhat}
+use Rattle.shim_units.specs.Own.{some_slot}
 use Rattle.shim_units.specs.Numbering as numbering
 use Rattle.shim_process.specs.Todo.{Item, Do, Leave, On, Second, what_items, items, items_all, follow_what, followed}
 use Rattle.shim_process.specs.LocalState.{ExceptionPlace}
 use Rattle.shim_process.proofs.TodoItems.{items_what, items_roll, line_of}
 use Rattle.shim_base.proofs.Facts.{some_same, second_holds}
 use Rattle.shim_laws_stops.specs.InScope.{reads_right, Scoped, what_scoped, scoped, all_scoped}
-use Rattle.shim_laws_stops.specs.FrameLocations.{scoped_kind, item_right, ItemScoped, ItemsScoped, next_declares, PlacesScoped}
+use Rattle.shim_laws_stops.specs.FrameLocations.{scoped_kind, item_right, ItemScoped, ItemsScoped, next_declares, slot_taken, what_takes, next_takes, PlacesScoped}
 use Rattle.shim_laws_stops.proofs.Among.{Among, none_among, among_first, among_second, among_either}
 use Rattle.shim_laws_stops.proofs.ScopeSteps.{what_in, declared_in}
 use Rattle.shim_laws_stops.proofs.ThrowItems.{goes_on}
@@ -151,8 +152,8 @@ module _ (p : Form) (u : UnitOf) where
     good_cases (UWhat-F.If e a b) l = simple l (bare (UWhat-F.If e a b)) (λ xs. refl) (λ n. refl)
     good_cases (UWhat-F.While e a) l = simple l (bare (UWhat-F.While e a)) (λ xs. refl) (λ n. refl)
     good_cases (UWhat-F.Call v) l = simple l (bare (UWhat-F.Call v)) (λ xs. refl) (λ n. refl)
-    good_cases (UWhat-F.Try a t b) l = simple l (bare (UWhat-F.Try a t b)) (λ xs. refl) (λ n. refl)
-    good_cases (UWhat-F.Throw v) l = simple l (bare (UWhat-F.Throw v)) (λ xs. refl) (λ n. refl)
+    good_cases (UWhat-F.Try a t v b) l = simple l (bare (UWhat-F.Try a t v b)) (λ xs. refl) (λ n. refl)
+    good_cases (UWhat-F.Throw v e) l = simple l (bare (UWhat-F.Throw v e)) (λ xs. refl) (λ n. refl)
     good_cases (UWhat-F.Par v) l = simple l (bare (UWhat-F.Par v)) (λ xs. refl) (λ n. refl)
 
     good : (s : UStmt) → Good s
@@ -176,34 +177,40 @@ module _ (p : Form) (u : UnitOf) where
     on_scoped (Do n s ∷ k) none h =
         subst (ItemsScoped p u A []) (sym (goes_on p 0 (out-UWhat s.what) n s k)) (subst (λ top. ItemsScoped p u A (top ++ []) k) none h.1)
 
-    second_follows : (x : UWhat-F UWhat UStmt) (n : ℕ) (s : UStmt) (k : List Item) (xs : List ℕ) → item_right p u x xs ≡ true → Known [] xs → ItemsScoped p u A [] k → ItemsScoped p u A [] (follow_what x Second n s k)
-    second_follows (UWhat-F.If e a b) n s k xs h known rest =
+    -- these have what is asked
+    abbrev pub Taken : Option ℕ → Type 0
+    Taken y = (x : ℕ) → Among (some_slot y) x → A x
+
+    second_follows : (x : UWhat-F UWhat UStmt) (n : ℕ) (s : UStmt) (k : List Item) (xs : List ℕ) → Taken (what_takes x) → item_right p u x xs ≡ true → Known [] xs → ItemsScoped p u A [] k → ItemsScoped p u A [] (follow_what x Second n s k)
+    second_follows (UWhat-F.If e a b) n s k xs taken h known rest =
         let w = second_holds (reads_right u xs e) (all_scoped p u a xs && all_scoped p u b xs) h in
         body_scoped b (n + 1 + numbering.size_all a) xs [] k (and_parts (all_scoped p u a xs) (all_scoped p u b xs) w).1 known rest
-    second_follows (UWhat-F.Try a t b) n s k xs h known rest = body_scoped b (n + 1 + numbering.size_all a) xs [] k (and_parts (all_scoped p u a xs) (all_scoped p u b xs) h).1 known rest
-    second_follows _ n s k xs h known rest = rest
+    second_follows (UWhat-F.Try a t v b) n s k xs taken h known rest =
+        body_scoped b (n + 1 + numbering.size_all a) (some_slot v ++ xs) [] k (and_parts (all_scoped p u a xs) (all_scoped p u b (some_slot v ++ xs)) h).1
+        (λ x i. elim (among_either (some_slot v) xs x i) [ inl here ↦ inl (taken x here) | inr there ↦ known x there ]) rest
+    second_follows _ n s k xs taken h known rest = rest
 
-    pub second_scoped : (k : List Item) → next_declares p u k ≡ [] → ItemsScoped p u A [] k → ItemsScoped p u A [] (followed Second k)
-    second_scoped [] none h = tt
-    second_scoped (Leave ∷ k) none h = h
-    second_scoped (Do n s ∷ k) none h = second_follows (out-UWhat s.what) n s k h.0.slots h.0.right h.0.known (subst (λ top. ItemsScoped p u A (top ++ []) k) none h.1)
+    pub second_scoped : (k : List Item) → Taken (next_takes k) → next_declares p u k ≡ [] → ItemsScoped p u A [] k → ItemsScoped p u A [] (followed Second k)
+    second_scoped [] taken none h = tt
+    second_scoped (Leave ∷ k) taken none h = h
+    second_scoped (Do n s ∷ k) taken none h = second_follows (out-UWhat s.what) n s k h.0.slots taken h.0.right h.0.known (subst (λ top. ItemsScoped p u A (top ++ []) k) none h.1)
 
     -- places
 
     pub places_taken : (i : ℕ) (es : List ExceptionPlace) → PlacesScoped p u A es → PlacesScoped p u A (take i es)
     places_taken zero es h = tt
     places_taken (suc i) [] h = tt
-    places_taken (suc i) (e ∷ es) h = (h.0, h.1, places_taken i es h.2)
+    places_taken (suc i) (e ∷ es) h = (h.0, h.1, h.2, places_taken i es h.3)
 
-    pub places_more : (es : List ExceptionPlace) (e : ExceptionPlace) → PlacesScoped p u A es → ItemsScoped p u A [] e.todo → next_declares p u e.todo ≡ [] → PlacesScoped p u A (es ++ e ∷ [])
-    places_more [] e h todo none = (todo, none, tt)
-    places_more (x ∷ es) e h todo none = (h.0, h.1, places_more es e h.2 todo none)
+    pub places_more : (es : List ExceptionPlace) (e : ExceptionPlace) → PlacesScoped p u A es → ItemsScoped p u A [] e.todo → next_declares p u e.todo ≡ [] → next_takes e.todo ≡ slot_taken e.variable → PlacesScoped p u A (es ++ e ∷ [])
+    places_more [] e h todo none taken = (todo, none, taken, tt)
+    places_more (x ∷ es) e h todo none taken = (h.0, h.1, h.2, places_more es e h.3 todo none taken)
 
-    pub place_at : (es : List ExceptionPlace) (i : ℕ) (e : ExceptionPlace) → PlacesScoped p u A es → slice_get es i ≡ Some e → ItemsScoped p u A [] e.todo × (next_declares p u e.todo ≡ [])
+    pub place_at : (es : List ExceptionPlace) (i : ℕ) (e : ExceptionPlace) → PlacesScoped p u A es → slice_get es i ≡ Some e → ItemsScoped p u A [] e.todo × (next_declares p u e.todo ≡ []) × (next_takes e.todo ≡ slot_taken e.variable)
     place_at [] i e h is = absurd (cc is)
-    place_at (x ∷ es) zero e h is = subst (λ (z : ExceptionPlace). ItemsScoped p u A [] z.todo × (next_declares p u z.todo ≡ [])) (some_same x e is) (h.0, h.1)
-    place_at (x ∷ es) (suc i) e h is = place_at es i e h.2 is
+    place_at (x ∷ es) zero e h is = subst (λ (z : ExceptionPlace). ItemsScoped p u A [] z.todo × (next_declares p u z.todo ≡ []) × (next_takes z.todo ≡ slot_taken z.variable)) (some_same x e is) (h.0, h.1, h.2)
+    place_at (x ∷ es) (suc i) e h is = place_at es i e h.3 is
 
   pub places_known : (A B : ℕ → Type 0) (es : List ExceptionPlace) → ((x : ℕ) → A x → B x) → PlacesScoped p u A es → PlacesScoped p u B es
   places_known A B [] f h = tt
-  places_known A B (e ∷ es) f h = (more_known A B [] [] e.todo f (λ x a. none_among x a) h.0, h.1, places_known A B es f h.2)
+  places_known A B (e ∷ es) f h = (more_known A B [] [] e.todo f (λ x a. none_among x a) h.0, h.1, h.2, places_known A B es f h.3)

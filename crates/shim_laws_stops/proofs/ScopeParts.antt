@@ -22,9 +22,10 @@ use Rattle.shim_units.specs.declared.unit.UWhat.{UWhat}
 use Rattle.shim_units.specs.declared.unit.UWhat.TheVariants as u
 use Rattle.shim_units.specs.declared.slot_map.SlotMap.{SlotMap}
 use Rattle.shim_units.specs.Calls.{params_at}
-use Rattle.shim_units.specs.Moving.{slot_index_of, moved, moved_option, moved_call}
+use Rattle.shim_units.specs.Moving.{slot_index_of, slot_index_of_option, moved, moved_option, moved_call}
 use Rattle.shim_units.specs.Parts.{LiftContext, Part, Place, Lifts, all_uses, all_places, all_declares, each_uses}
-use Rattle.shim_units.specs.Uses.{used, names_in, names_in_option, call_uses}
+use Rattle.shim_units.specs.Uses.{used, names_in, names_in_option, variable_uses, call_uses}
+use Rattle.shim_units.specs.Own.{some_slot}
 use Rattle.shim_units.specs.Places.{call_place}
 use Rattle.shim_units.specs.Rule.{Obey}
 use Rattle.shim_units.specs.Lifting.{lift_all, whole, on_tree, lift_two, is_among, sort_of, sort_or_bool, branch_slots}
@@ -38,7 +39,7 @@ use Rattle.shim_laws_stops.proofs.Among.{Among, none_among, first_of, among_case
 use Rattle.shim_laws_stops.proofs.ScopeLists.{Names, Declares, names_first, names_second, at_place_of}
 use Rattle.shim_laws_stops.proofs.ScopeSteps.{what_in, declared_in, all_in, in_line, in_declare, in_assign, in_next, in_next_assign, in_assign_next, in_get, in_put, in_if, in_while, in_for, in_block, in_call, in_try, in_throw, in_par}
 use Rattle.shim_laws_stops.proofs.ScopeExprs.{only_both, only_named, only_written, only_none}
-use Rattle.shim_laws_stops.proofs.ScopeLifting.{Facts, Stands, no_facts, both_facts, OnlyNames, ReadsNumbers, named_facts, stands_some, Lies, LiftsScoped, on_it, after_reads, two, IsAround, number_there, block_branch, referred}
+use Rattle.shim_laws_stops.proofs.ScopeLifting.{Facts, Stands, no_facts, both_facts, stands_second, OnlyNames, ReadsNumbers, named_facts, stands_some, Lies, LiftsScoped, on_it, after_reads, two, IsAround, number_there, block_branch, referred}
 use Rattle.shim_laws_stops.proofs.ScopeReads.{AreRight, reads_moved, option_moved}
 use Rattle.shim_laws_stops.proofs.ScopeCalls.{CallSuits, moved_right, RefersTo, Refer, call_refers, all_apart}
 
@@ -257,11 +258,13 @@ module _ (form : Form) (fs : List RFunction) where
       ∙ both_hold (has_output v xs (slot_index_of w.slots x)) (reads_right v xs (moved w.slots e)) (output_here around all us context w v xs lies s x a (first_named x (names_in e)) output)
       (reads_moved w.slots v xs e (read_here around all (names_in e) us [] n (λ y k. names_second (used Named x ∷ []) (names_in e) y k) context w v xs lies s))))
 
-  pub part_throw : (around : List ℕ) (lo : ℕ) (all : List Sort) (x : ℕ) → WhatIn around lo lo all [] (r.Throw x)
+  pub part_throw : (around : List ℕ) (lo : ℕ) (all : List Sort) (x : ℕ) (e : Option UExpr) → ReadsNumbers around all (names_in_option e) → WhatIn around lo lo all [] (r.Throw x e)
   unfolding roll-RWhat denote.Hole.Carrier.roll
-  part_throw around lo all x line =
-      at_part around lo lo all [] line (RWhat-F.Throw x) (plain around lo all [] [] (λ context w. u.Throw (slot_index_of w.exceptions x)) (only_none around)
-      (λ context w v xs lies s o. right_of _ _ xs (in_throw form v (slot_index_of w.exceptions x))))
+  part_throw around lo all x e n line =
+      let us : List Use = names_in_option e in
+      at_part around lo lo all [] line (RWhat-F.Throw x e) (plain around lo all us [] (λ context w. u.Throw (slot_index_of w.exceptions x) (moved_option w.slots e)) n.names
+      (λ context w v xs lies s o. right_of _ _ xs (in_throw form v (slot_index_of w.exceptions x) (moved_option w.slots e))
+      ∙ option_moved w.slots v xs e (read_here around all us us [] n (λ y k. k) context w v xs lies s)))
 
   -- a call of a function, by what it gives
 
@@ -404,12 +407,61 @@ module _ (form : Form) (fs : List RFunction) where
       at_part around lo hi all [] line (RWhat-F.RWhat::Block body)
       (enclosed (all_in form) (what_in form) around lo hi all top (all_uses fs (parts body)) (all_declares (parts body)) (all_places fs (parts body)) (λ w s. u.Block s) (lift_all (parts body)) (λ v w s xs. right_of _ _ xs (in_block form v s)) h)
 
-  pub part_try : (around : List ℕ) (lo mi hi : ℕ) (all : List Sort) (top more : List ℕ) (a : List RStmt) (x : ℕ) (b : List RStmt) → BodyIn around lo mi all top a → BodyIn around mi hi all more b → WhatIn around lo hi all [] (r.Try a x b)
+  -- a handler, which has its variable in scope
+
+  abbrev handler_in : UnitOf → Option ℕ × List UStmt → Scoped
+  handler_in v p = declares_none (λ xs. all_scoped form v p.1 (some_slot p.0 ++ xs))
+
+  abbrev pub HandlerIn : Option ℕ → List ℕ → ℕ → ℕ → List Sort → List RStmt → Type 0
+  HandlerIn y around lo hi all b =
+      InScope handler_in around lo hi all [] (variable_uses y ++ all_uses fs (parts b)) (some_slot y ++ all_declares (parts b)) (all_places fs (parts b)) (λ context w n. on_tree (λ t. (slot_index_of_option w.slots y, t)) (lift_all (parts b) context w n))
+
+  -- the variable has the next slot, which holds a number
+  abbrev pub Begins : Option ℕ → ℕ → ℕ → List Sort → Type 0
+  Begins None lo mi all = lo ≡ mi
+  Begins (Some y) lo mi all = (lo ≡ y) × (lo < mi) × (is_number (slice_get all lo) ≡ true)
+
+  variable_facts : (around : List ℕ) (y : Option ℕ) (lo mi : ℕ) (all : List Sort) → Begins y lo mi all → Facts around lo mi all (variable_uses y) (some_slot y)
+  variable_facts around None lo mi all h = subst (λ n. Facts around lo n all [] []) h (no_facts around lo all)
+  variable_facts around (Some y) lo mi all h = subst (λ z. Facts around lo mi all (used Declared z ∷ []) (z ∷ [])) h.0 (declare_facts around lo mi all [] h.1 h.2 (only_none around))
+
+  variable_moved : (ys : List ℕ) (y : Option ℕ) (z : ℕ) → Among (some_slot y) z → Among (some_slot (slot_index_of_option ys y)) (slot_index_of ys z)
+  variable_moved ys None z a = none_among z a
+  variable_moved ys (Some x) z a = elim (among_cases x [] z a) [
+    | inl e ↦ subst (λ v. Among (slot_index_of ys x ∷ []) (slot_index_of ys v)) e (first_of (slot_index_of ys x) [])
+    | inr b ↦ none_among z b
+  ]
+
+  handler_stands : (around : List ℕ) (y : Option ℕ) (us : List Use) (ds : List ℕ) (w : SlotMap) (xs : List ℕ) → Stands around (variable_uses y ++ us) (some_slot y ++ ds) w xs → Stands (around ++ some_slot y) us ds w (some_slot (slot_index_of_option w.slots y) ++ xs)
+  handler_stands around y us ds w xs s =
+      let top : List ℕ = some_slot (slot_index_of_option w.slots y) in
+      stands_second around (around ++ some_slot y) (variable_uses y) us (some_slot y) ds (λ z i. among_either around (some_slot y) z i) w xs (top ++ xs)
+      (λ z i n. elim (among_either around (some_slot y) z i) [
+        | inl j ↦ among_second top xs (slot_index_of w.slots z) (s.known z j (names_second (variable_uses y) us z n))
+        | inr j ↦ among_first top xs (slot_index_of w.slots z) (variable_moved w.slots y z j)
+      ])
+      s
+
+  pub handler_is_in : (around : List ℕ) (lo mi hi : ℕ) (all : List Sort) (more : List ℕ) (y : Option ℕ) (b : List RStmt) → Begins y lo mi all → BodyIn (around ++ some_slot y) mi hi all more b → HandlerIn y around lo hi all b
+  handler_is_in around lo mi hi all more y b begins h = record {
+    facts = both_facts around (around ++ some_slot y) lo mi hi all (variable_uses y) (all_uses fs (parts b)) (some_slot y) (all_declares (parts b)) (λ z i. among_either around (some_slot y) z i) (variable_facts around y lo mi all begins) h.facts;
+    tops = λ z i. none_among z i;
+    lifts = record {
+      tree = λ context w n v xs lies s o stand.
+          h.lifts.tree context w n v (some_slot (slot_index_of_option w.slots y) ++ xs) lies (handler_stands around y (all_uses fs (parts b)) (all_declares (parts b)) w xs s) o stand;
+      declared = λ context w n v z i. none_among z i;
+      units = λ context w n v xs lies s o stand.
+          h.lifts.units context w n v (some_slot (slot_index_of_option w.slots y) ++ xs) lies (handler_stands around y (all_uses fs (parts b)) (all_declares (parts b)) w xs s) o stand;
+    };
+  }
+
+  pub part_try : (around : List ℕ) (lo mi hi : ℕ) (all : List Sort) (top : List ℕ) (a : List RStmt) (x : ℕ) (y : Option ℕ) (b : List RStmt) → BodyIn around lo mi all top a → HandlerIn y around mi hi all b → WhatIn around lo hi all [] (r.Try a x y b)
   unfolding roll-RWhat denote.Hole.Carrier.roll
-  part_try around lo mi hi all top more a x b h k line =
-      at_part around lo hi all [] line (RWhat-F.Try a x b)
-      (blocks around lo mi hi all (all_in form) (all_in form) (what_in form) top more (all_uses fs (parts a)) (all_uses fs (parts b)) (all_declares (parts a)) (all_declares (parts b)) (all_places fs (parts a)) (all_places fs (parts b))
-      (λ w y z. u.Try y (slot_index_of w.exceptions x) z) (lift_all (parts a)) (lift_all (parts b)) (λ v w y z xs. right_of _ _ xs (in_try form v y (slot_index_of w.exceptions x) z)) h k)
+  part_try around lo mi hi all top a x y b h k line =
+      at_part around lo hi all [] line (RWhat-F.Try a x y b)
+      (blocks around lo mi hi all (all_in form) handler_in (what_in form) top [] (all_uses fs (parts a)) (variable_uses y ++ all_uses fs (parts b)) (all_declares (parts a)) (some_slot y ++ all_declares (parts b)) (all_places fs (parts a)) (all_places fs (parts b))
+      (λ w r (s : Option ℕ × List UStmt). u.Try r (slot_index_of w.exceptions x) s.0 s.1) (lift_all (parts a)) (λ context w n. on_tree (λ t. (slot_index_of_option w.slots y, t)) (lift_all (parts b) context w n))
+      (λ v w r s xs. right_of _ _ xs (in_try form v r (slot_index_of w.exceptions x) s.0 s.1)) h k)
 
   -- forks
 

@@ -1,5 +1,5 @@
 -- What a statement of a unit of each kind names and declares, by its parts.
-use Rattle.std.proofs.Common.{ℕ, ◌≡◌, true, ◌&&◌, List, [], ◌∷◌, ◌++◌, Option, map}
+use Rattle.std.proofs.Common.{ℕ, ◌≡◌, ◌&&◌, List, [], ◌∷◌, ◌++◌, Option, map}
 use Rattle.shim_base.specs.declared.types.Ty.{Ty}
 use Rattle.shim_scopes.specs.declared.tree.UExpr.{UExpr}
 use Rattle.shim_units.specs.declared.form.Form.{Form}
@@ -9,6 +9,7 @@ use Rattle.shim_units.specs.declared.unit.UCall.{UCall}
 use Rattle.shim_units.specs.declared.unit.UStmt.{UStmt, fold-roll-UStmt}
 use Rattle.shim_units.specs.declared.unit.UWhat.{UWhat, UWhat-F, fold-UWhat, fold-roll-UWhat, map-UWhat, roll-UWhat}
 use Rattle.shim_units.specs.declared.unit.UWhat.TheVariants as u
+use Rattle.shim_units.specs.Own.{some_slot}
 use Rattle.shim_laws_stops.specs.InScope.{Scoped, declares_none, has_number, has_input, has_output, reads_right, option_right, call_right, all_calls_right, branches_apart, are_some, all_declare, what_scoped, scoped, all_scoped}
 
 module _ (p : Form) (o : UnitOf) where
@@ -79,13 +80,13 @@ module _ (p : Form) (o : UnitOf) where
   unfolding roll-UWhat denote.Hole.Carrier.roll
   in_call c = at_what (UWhat-F.Call c)
 
-  pub in_try : (body : List UStmt) (x : ℕ) (handler : List UStmt) → what_in (u.Try body x handler) ≡ declares_none (λ xs. all_scoped p o body xs && all_scoped p o handler xs)
+  pub in_try : (body : List UStmt) (x : ℕ) (y : Option ℕ) (handler : List UStmt) → what_in (u.Try body x y handler) ≡ declares_none (λ xs. all_scoped p o body xs && all_scoped p o handler (some_slot y ++ xs))
   unfolding roll-UWhat denote.Hole.Carrier.roll
-  in_try body x handler = at_what (UWhat-F.Try body x handler)
+  in_try body x y handler = at_what (UWhat-F.Try body x y handler)
 
-  pub in_throw : (x : ℕ) → what_in (u.Throw x) ≡ declares_none (λ xs. true)
+  pub in_throw : (x : ℕ) (e : Option UExpr) → what_in (u.Throw x e) ≡ declares_none (λ xs. option_right o xs e)
   unfolding roll-UWhat denote.Hole.Carrier.roll
-  in_throw x = at_what (UWhat-F.Throw x)
+  in_throw x e = at_what (UWhat-F.Throw x e)
 
   pub in_par : (branches : List UBranch) → what_in (u.Par branches) ≡ declares_none (λ xs. are_some branches && (branches_apart branches && all_calls_right p o xs branches))
   unfolding roll-UWhat denote.Hole.Carrier.roll

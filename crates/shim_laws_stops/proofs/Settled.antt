@@ -14,11 +14,11 @@ use Rattle.shim_process.specs.Values.{Value}
 use Rattle.shim_process.specs.Todo.{Item, Do, Leave, Successor, On, First, Second, what_items, items, items_all, followed, next_stmt}
 use Rattle.shim_process.specs.LocalState.{LocalState, Frame, ExceptionPlace, trapped, unit_at}
 use Rattle.shim_process.specs.Ends.{without_last, past_ends, went, is_over, settled, gone}
-use Rattle.shim_process.specs.Unwinding.{handling, unwound, unwind}
+use Rattle.shim_process.specs.Unwinding.{handling, catching, unwound, unwind}
 use Rattle.shim_process.specs.Forks.{item_branches, child, children_from, all_lending, parent, fork, joined, join}
 use Rattle.shim_process.specs.Ops.{process_ops}
-use Rattle.shim_process.specs.Steps.{Action, Go, Store, StoreFirst, Make, Read, Enter, Install, Trapped, Wait, next_action, line_of, stored_in, made_in, read_in, half, installed, pushed, called, done, quiet}
-use Rattle.shim_process.specs.Stops.{put_value, after_put, put, what_receive, stmt_receive, receive}
+use Rattle.shim_process.specs.Steps.{Action, Go, Store, StoreFirst, Make, Read, Enter, Install, Trapped, Wait, next_action, line_of, stored_in, made_in, read_in, half, installing, pushed, called, done, quiet}
+use Rattle.shim_process.specs.Stops.{put_value, after_put, put, thrown_value, after_throw, thrown, what_receive, stmt_receive, receive}
 use Rattle.shim_process.proofs.CallKeeps.{fork_trapped}
 use Rattle.shim_process.proofs.ForkLending.{lends_all, Lends}
 use Rattle.shim_process.proofs.ForkParts.{Parts, parts_of, each_child}
@@ -80,8 +80,8 @@ good_cases (UWhat-F.Put v e) l = by_kind l (bare (UWhat-F.Put v e)) (λ n. tt)
 good_cases (UWhat-F.If e a b) l = by_kind l (bare (UWhat-F.If e a b)) (λ n. tt)
 good_cases (UWhat-F.While e a) l = by_kind l (bare (UWhat-F.While e a)) (λ n. tt)
 good_cases (UWhat-F.Call v) l = by_kind l (bare (UWhat-F.Call v)) (λ n. tt)
-good_cases (UWhat-F.Try a t b) l = by_kind l (bare (UWhat-F.Try a t b)) (λ n. tt)
-good_cases (UWhat-F.Throw v) l = by_kind l (bare (UWhat-F.Throw v)) (λ n. tt)
+good_cases (UWhat-F.Try a t v b) l = by_kind l (bare (UWhat-F.Try a t v b)) (λ n. tt)
+good_cases (UWhat-F.Throw v e) l = by_kind l (bare (UWhat-F.Throw v e)) (λ n. tt)
 good_cases (UWhat-F.Par v) l = by_kind l (bare (UWhat-F.Par v)) (λ n. tt)
 
 good : (s : UStmt) → Good s
@@ -129,17 +129,19 @@ gone_is : (successor : Successor) (l : LocalState) → IsSettled l → IsSettled
 unfolding gone
 gone_is successor l h = settled_is l.callers (went successor l.frame) l (went_starts successor l.frame, h.starts.1)
 
-unwound_is : (cs : List Frame) (f : Frame) (n : ℕ) (l : LocalState) → AllStartRight (f ∷ cs) → IsSettled (unwound cs f n l)
-unwound_is [] f n l h = settled_is [] (handling (slice_get f.places (n - f.outer)) (n - f.outer) f) l (handling_starts (slice_get f.places (n - f.outer)) (n - f.outer) f h.0, tt)
-unwound_is (c ∷ cs) f n l h =
+unwound_is : (cs : List Frame) (f : Frame) (n : ℕ) (v : ℤ) (l : LocalState) → AllStartRight (f ∷ cs) → IsSettled (unwound cs f n v l)
+unwound_is [] f n v l h =
+    settled_is [] (handling (slice_get f.places (n - f.outer)) (n - f.outer) f) (catching (slice_get f.places (n - f.outer)) v f l) (handling_starts (slice_get f.places (n - f.outer)) (n - f.outer) f h.0, tt)
+unwound_is (c ∷ cs) f n v l h =
     let g : Frame = handling (slice_get f.places (n - f.outer)) (n - f.outer) f in
+    let m : LocalState = catching (slice_get f.places (n - f.outer)) v f l in
     let out : LocalState = record l { locations = take f.floor l.locations } in
-    choose IsSettled (nat_lt n f.outer) (unwound cs c n out) (settled (c ∷ cs) g l) (unwound_is cs c n out h.1)
-    (settled_is (c ∷ cs) g l (handling_starts (slice_get f.places (n - f.outer)) (n - f.outer) f h.0, h.1))
+    choose IsSettled (nat_lt n f.outer) (unwound cs c n v out) (settled (c ∷ cs) g m) (unwound_is cs c n v out h.1)
+    (settled_is (c ∷ cs) g m (handling_starts (slice_get f.places (n - f.outer)) (n - f.outer) f h.0, h.1))
 
-unwind_is : (l : LocalState) (label : ℕ) → IsSettled l → IsSettled (unwind l label)
+unwind_is : (l : LocalState) (label : ℕ) (v : ℤ) → IsSettled l → IsSettled (unwind l label v)
 unfolding unwind
-unwind_is l label h = unwound_is l.callers l.frame (label - l.base) l h.starts
+unwind_is l label v h = unwound_is l.callers l.frame (label - l.base) v l h.starts
 
 called_is : (unit : ℕ) (given : List Argument) (labels : List ℕ) (l : LocalState) → IsSettled l → IsSettled (called unit given labels l)
 unfolding called pushed
@@ -161,7 +163,8 @@ done_is (StoreFirst x v) l h = same_units l (record (stored_in x v l) { frame = 
 done_is (Make t x v) l h = gone_is On (made_in t x v l) (same_units l (made_in t x v l) refl refl h)
 done_is (Read x) l h = gone_is On (read_in x l) (same_units l (read_in x l) refl refl h)
 done_is (Enter unit given labels) l h = called_is unit given labels l h
-done_is (Install x name) l h = let k : LocalState = record l { frame = installed x name l.frame } in gone_is First k (same_units l k refl refl h)
+done_is (Install x name None) l h = let k : LocalState = installing x name None l in gone_is First k (same_units l k refl refl h)
+done_is (Install x name (Some y)) l h = let k : LocalState = installing x name (Some y) l in gone_is First k (same_units l k refl refl h)
 done_is (Trapped t) l h = same_units l (trapped t (line_of l.frame.todo) l) refl refl h
 done_is Wait l h = h
 
@@ -176,6 +179,14 @@ after_put_is (Err t) l h = same_units l (trapped t (line_of l.frame.todo) l) ref
 put_is : (l : LocalState) → IsSettled l → IsSettled (put l)
 unfolding put
 put_is l h = after_put_is (put_value l) l h
+
+after_throw_is : (r : Value) (l : LocalState) → IsSettled l → IsSettled (after_throw r l)
+after_throw_is (Ok v) l h = h
+after_throw_is (Err t) l h = same_units l (trapped t (line_of l.frame.todo) l) refl refl h
+
+thrown_is : (l : LocalState) → IsSettled l → IsSettled (thrown l)
+unfolding thrown
+thrown_is l h = after_throw_is (thrown_value l) l h
 
 what_is : (w : UWhat-F UWhat UStmt) (v : ℤ) (l : LocalState) → IsSettled l → IsSettled (what_receive w v l)
 what_is (UWhat-F.Next x) v l h = gone_is On (stored_in x v l) (same_units l (stored_in x v l) refl refl h)
@@ -237,8 +248,8 @@ settled_relates = record {
   quiet = λ l s at h. quiet_is l h;
   puts = λ l s at h. put_is l h;
   receives = λ l v s h. receive_is l v h;
-  throws = λ l s h. h;
-  unwinds = λ l x v s h. unwind_is l x h;
+  throws = λ l s h. thrown_is l h;
+  unwinds = λ l x v s h. unwind_is l x v h;
   forks = λ l p ks s at h. forks_are l p ks h at;
   traps = λ l m s at e h. fork_trapped_is l m e h;
   ends = λ l h. h;

@@ -26,8 +26,8 @@ use Rattle.shim_laws_stops.specs.InScope.{call_right, all_calls_right, are_some,
 use Rattle.shim_laws_stops.specs.FrameLocations.{item_right, ItemsScoped, FrameScoped, HasLocations}
 use Rattle.shim_laws_stops.specs.StreamHolders.{Stream, TheInput, TheOutput, takes_stream, held, has_stream, takes, HasOneSlot, waiting_units, first_unit, IsTaking, HoldsStream, OneTakes, LendsStream, HasStream, EachHasStream}
 use Rattle.shim_laws_stops.proofs.LocationForks.{EachHas, put_none, forks_have, join_has}
-use Rattle.shim_laws_stops.proofs.LocationSteps.{Has, quiet_has, put_has, receive_has, fork_trapped_has}
-use Rattle.shim_laws_stops.proofs.StreamSteps.{head_one, takes_first, Moves, gone_moves, unwind_moves, quiet_moves, put_moves, receive_moves, fork_trapped_moves, holds_later}
+use Rattle.shim_laws_stops.proofs.LocationSteps.{Has, quiet_has, put_has, thrown_has, receive_has, fork_trapped_has}
+use Rattle.shim_laws_stops.proofs.StreamSteps.{head_one, takes_first, Moves, gone_moves, unwind_moves, quiet_moves, put_moves, thrown_moves, receive_moves, fork_trapped_moves, holds_later}
 use Rattle.shim_laws_stops.proofs.StreamUnits.{Hands, call_hands, NoneTakes, OneAtMost, one_at_most}
 use Rattle.shim_laws_stops.proofs.ScopeFrames.{inner_scoped, unwind_has}
 
@@ -268,8 +268,8 @@ module _ (stream : Stream) where
     quiet = λ l s at h. moved l _ h (quiet_has l h.named) (quiet_moves stream l h.named h.taking);
     puts = λ l s at h. moved l _ h (put_has l (put_none l at) h.named) (put_moves stream l h.taking);
     receives = λ l v s h. moved l _ h (receive_has l v h.named) (receive_moves stream l v h.taking);
-    throws = λ l s h. (h, (refl, refl));
-    unwinds = λ l x v s h. moved l _ h (unwind_has l x h.named) (unwind_moves stream l x h.taking);
+    throws = λ l s h. moved l _ h (thrown_has l h.named) (thrown_moves stream l h.taking);
+    unwinds = λ l x v s h. moved l _ h (unwind_has l x v h.named) (unwind_moves stream l x v h.taking);
     forks = λ l p ks s at h. forks_hold l p ks h at;
     traps = λ l m s at e h. moved l m h (fork_trapped_has l m e h.named) (fork_trapped_moves stream l m e h.taking);
     ends = λ l h. (h, (refl, refl));

@@ -10,14 +10,15 @@ use Rattle.shim_units.specs.declared.unit.UStmt.{UStmt}
 use Rattle.shim_units.specs.declared.unit.UWhat.{UWhat, UWhat-F, out-UWhat}
 use Rattle.shim_process.specs.Values.{Value, value}
 use Rattle.shim_process.specs.Todo.{Item, Do, Leave, Successor, On, First, Second, followed, next_stmt}
+use Rattle.shim_process.specs.declared.handler_variable.HandlerVariable.{HandlerVariable}
 use Rattle.shim_process.specs.LocalState.{LocalState, Frame, ExceptionPlace, unit_at, env_of, is_full, is_deep}
 use Rattle.shim_process.specs.StatementViews.{statement_view, unit_in, passed_labels}
 use Rattle.shim_process.specs.Arguments.{Argument, arguments}
 use Rattle.shim_process.specs.Ends.{without_last, past_ends, went, is_over, settled, gone}
-use Rattle.shim_process.specs.Unwinding.{handling, unwound, unwind}
+use Rattle.shim_process.specs.Unwinding.{handling, taking, catching, unwound, unwind}
 use Rattle.shim_process.specs.Forks.{fork}
-use Rattle.shim_process.specs.Steps.{Action, Go, Store, StoreFirst, Make, Read, Enter, Install, Trapped, Wait, action, limited, value_or, try_name, what_action, stmt_action, next_action, stored_in, made_in, read_on, read_in, installed, pushed, called, done, quiet}
-use Rattle.shim_process.specs.Stops.{put_value, after_put, put, what_receive, stmt_receive, receive}
+use Rattle.shim_process.specs.Steps.{Action, Go, Store, StoreFirst, Make, Read, Enter, Install, Trapped, Wait, action, limited, value_or, try_name, what_action, stmt_action, next_action, stored_in, made_in, read_on, read_in, installing, pushed, called, done, quiet}
+use Rattle.shim_process.specs.Stops.{put_value, after_put, put, thrown_value, after_throw, thrown, what_receive, stmt_receive, receive}
 use Rattle.shim_process.proofs.CallKeeps.{fork_trapped}
 use Rattle.shim_base.proofs.Facts.{choose}
 use Rattle.shim_laws_stops.specs.InScope.{AllInScope}
@@ -89,25 +90,38 @@ module _ (stream : Stream) where
       same_moved l (settled l.callers (went successor l.frame) l) l.frame.unit (went successor l.frame).unit (waiting_units l) same
       (settled_moves l.callers (went successor l.frame) l (subst (λ n. UnitsTake stream l.program n (waiting_units l)) (sym same) h))
 
-  handled : (cs : List Frame) (f : Frame) (i : ℕ) (l : LocalState) → UnitsTake stream l.program f.unit (units_of cs) → Moved l f.unit (units_of cs) (settled cs (handling (slice_get f.places i) i f) l)
-  handled cs f i l h =
+  taken_moves : (y : Option HandlerVariable) (v : ℤ) (f g : Frame) (cs : List Frame) (l : LocalState) → UnitsTake stream l.program g.unit (units_of cs) → Moved l g.unit (units_of cs) (settled cs g (taking y v f l))
+  taken_moves None v f g cs l h = settled_moves cs g l h
+  taken_moves (Some y) v f g cs l h =
+      let m : LocalState = taking (Some y) v f l in
+      let w : Moved m g.unit (units_of cs) (settled cs g m) = settled_moves cs g m h in
+      record { taking = w.taking; holds = w.holds; first = w.first; program = w.program }
+
+  caught_moves : (o : Option ExceptionPlace) (v : ℤ) (f g : Frame) (cs : List Frame) (l : LocalState) → UnitsTake stream l.program g.unit (units_of cs) → Moved l g.unit (units_of cs) (settled cs g (catching o v f l))
+  caught_moves None v f g cs l h = settled_moves cs g l h
+  caught_moves (Some p) v f g cs l h = taken_moves p.variable v f g cs l h
+
+  handled : (cs : List Frame) (f : Frame) (i : ℕ) (v : ℤ) (l : LocalState) → UnitsTake stream l.program f.unit (units_of cs) → Moved l f.unit (units_of cs) (settled cs (handling (slice_get f.places i) i f) (catching (slice_get f.places i) v f l))
+  handled cs f i v l h =
       let g : Frame = handling (slice_get f.places i) i f in
       let same = handling_unit (slice_get f.places i) i f in
-      same_moved l (settled cs g l) f.unit g.unit (units_of cs) same (settled_moves cs g l (subst (λ n. UnitsTake stream l.program n (units_of cs)) (sym same) h))
+      same_moved l (settled cs g (catching (slice_get f.places i) v f l)) f.unit g.unit (units_of cs) same
+      (caught_moves (slice_get f.places i) v f g cs l (subst (λ n. UnitsTake stream l.program n (units_of cs)) (sym same) h))
 
-  unwound_moves : (cs : List Frame) (f : Frame) (n : ℕ) (l : LocalState) → UnitsTake stream l.program f.unit (units_of cs) → Moved l f.unit (units_of cs) (unwound cs f n l)
-  unwound_moves [] f n l h = handled [] f (n - f.outer) l h
-  unwound_moves (c ∷ cs) f n l h =
-      let g : Frame = handling (slice_get f.places (n - f.outer)) (n - f.outer) f in
+  unwound_moves : (cs : List Frame) (f : Frame) (n : ℕ) (v : ℤ) (l : LocalState) → UnitsTake stream l.program f.unit (units_of cs) → Moved l f.unit (units_of cs) (unwound cs f n v l)
+  unwound_moves [] f n v l h = handled [] f (n - f.outer) v l h
+  unwound_moves (c ∷ cs) f n v l h =
+      let o : Option ExceptionPlace = slice_get f.places (n - f.outer) in
+      let g : Frame = handling o (n - f.outer) f in
       let out : LocalState = record l { locations = take f.floor l.locations } in
-      let rest : Moved out c.unit (units_of cs) (unwound cs c n out) = unwound_moves cs c n out h.2 in
-      choose (λ (z : LocalState). Moved l f.unit (units_of (c ∷ cs)) z) (nat_lt n f.outer) (unwound cs c n out) (settled (c ∷ cs) g l)
+      let rest : Moved out c.unit (units_of cs) (unwound cs c n v out) = unwound_moves cs c n v out h.2 in
+      choose (λ (z : LocalState). Moved l f.unit (units_of (c ∷ cs)) z) (nat_lt n f.outer) (unwound cs c n v out) (settled (c ∷ cs) g (catching o v f l))
       (record { taking = rest.taking; holds = rest.holds; first = rest.first; program = rest.program })
-      (handled (c ∷ cs) f (n - f.outer) l h)
+      (handled (c ∷ cs) f (n - f.outer) v l h)
 
-  pub unwind_moves : (l : LocalState) (label : ℕ) → IsTaking stream l → Moves l (unwind l label)
+  pub unwind_moves : (l : LocalState) (label : ℕ) (v : ℤ) → IsTaking stream l → Moves l (unwind l label v)
   unfolding unwind
-  unwind_moves l label h = unwound_moves l.callers l.frame (label - l.base) l h
+  unwind_moves l label v h = unwound_moves l.callers l.frame (label - l.base) v l h
 
   -- quiet steps
 
@@ -135,7 +149,7 @@ module _ (stream : Stream) where
   what_hands (UWhat-F.Call c) l xs units one h =
       action_hands l (λ given. limited (is_deep l || is_full l) (Enter c.unit given (passed_labels (statement_view l) c.throws))) (arguments l.locations l.frame.slots (unit_in (statement_view l) c.unit).params c.args)
       (λ given. limited_hands l (is_deep l || is_full l) (Enter c.unit given (passed_labels (statement_view l) c.throws)) (call_hands stream l.program l.frame.unit xs c units one h))
-  what_hands (UWhat-F.Try a x b) l xs units one h = limited_hands l (is_full l) (Install x (try_name (unit_in (statement_view l) l.frame.unit) x)) tt
+  what_hands (UWhat-F.Try a x y b) l xs units one h = limited_hands l (is_full l) (Install x (try_name (unit_in (statement_view l) l.frame.unit) x) y) tt
   what_hands _ l xs units one h = tt
 
   item_hands : (todo : List Item) (l : LocalState) → AllInScope l.program → HasOneSlot stream (unit_at l.program l.frame.unit) → ItemsScoped l.program (unit_at l.program l.frame.unit) (Has l) [] todo → ActionHands l (stmt_action (next_stmt todo) (statement_view l))
@@ -170,7 +184,8 @@ module _ (stream : Stream) where
   done_moves (Make t x v) l h n = again l (made_in t x v l) (gone On (made_in t x v l)) refl refl refl refl (gone_moves On (made_in t x v l) h)
   done_moves (Read x) l h n = again l (read_in x l) (gone On (read_in x l)) (read_keeps stream l.input_at l.input l.holds_output) refl refl refl (gone_moves On (read_in x l) h)
   done_moves (Enter unit given labels) l h n = called_moves unit given labels l h n
-  done_moves (Install x name) l h n = let k : LocalState = record l { frame = installed x name l.frame } in again l k (gone First k) refl refl refl refl (gone_moves First k h)
+  done_moves (Install x name None) l h n = let k : LocalState = installing x name None l in again l k (gone First k) refl refl refl refl (gone_moves First k h)
+  done_moves (Install x name (Some y)) l h n = let k : LocalState = installing x name (Some y) l in again l k (gone First k) refl refl refl refl (gone_moves First k h)
   done_moves (Trapped t) l h n = record { taking = h; holds = refl; first = refl; program = refl }
   done_moves Wait l h n = moves_none l h
 
@@ -185,6 +200,14 @@ module _ (stream : Stream) where
   pub put_moves : (l : LocalState) → IsTaking stream l → Moves l (put l)
   unfolding put
   put_moves l h = after_put_moves (put_value l) l h
+
+  after_throw_moves : (r : Value) (l : LocalState) → IsTaking stream l → Moves l (after_throw r l)
+  after_throw_moves (Ok v) l h = moves_none l h
+  after_throw_moves (Err t) l h = record { taking = h; holds = refl; first = refl; program = refl }
+
+  pub thrown_moves : (l : LocalState) → IsTaking stream l → Moves l (thrown l)
+  unfolding thrown
+  thrown_moves l h = after_throw_moves (thrown_value l) l h
 
   what_moves : (w : UWhat-F UWhat UStmt) (v : ℤ) (l : LocalState) → IsTaking stream l → Moves l (what_receive w v l)
   what_moves (UWhat-F.Next x) v l h = again l (stored_in x v l) (gone On (stored_in x v l)) refl refl refl refl (gone_moves On (stored_in x v l) h)

@@ -111,8 +111,8 @@ module _ (p : Form) where
     good_cases (UWhat-F.If e a b) l = simple l (bare (UWhat-F.If e a b)) (λ n. refl)
     good_cases (UWhat-F.While e a) l = simple l (bare (UWhat-F.While e a)) (λ n. refl)
     good_cases (UWhat-F.Call v) l = simple l (bare (UWhat-F.Call v)) (λ n. refl)
-    good_cases (UWhat-F.Try a t b) l = simple l (bare (UWhat-F.Try a t b)) (λ n. refl)
-    good_cases (UWhat-F.Throw v) l = simple l (bare (UWhat-F.Throw v)) (λ n. refl)
+    good_cases (UWhat-F.Try a t v b) l = simple l (bare (UWhat-F.Try a t v b)) (λ n. refl)
+    good_cases (UWhat-F.Throw v e) l = simple l (bare (UWhat-F.Throw v e)) (λ n. refl)
     good_cases (UWhat-F.Par v) l = simple l (bare (UWhat-F.Par v)) (λ n. refl)
 
     good : (s : UStmt) → Good s
@@ -135,7 +135,7 @@ module _ (p : Form) where
     goes_on (UWhat-F.If e a b) n s k = refl
     goes_on (UWhat-F.While e a) n s k = refl
     goes_on (UWhat-F.For a e st b) n s k = refl
-    goes_on (UWhat-F.Try a t b) n s k = refl
+    goes_on (UWhat-F.Try a t v b) n s k = refl
     goes_on _ n s k = refl
 
     pub on_throws : (places : List ExceptionPlace) (k : List Item) → ItemsThrow p given places k → ItemsThrow p given places (followed On k)
@@ -145,7 +145,7 @@ module _ (p : Form) where
 
     second_follows : (places : List ExceptionPlace) (x : UWhat-F UWhat UStmt) (n : ℕ) (s : UStmt) (k : List Item) (xs : List ℕ) → throws_layer x xs ≡ true → AreKnown given places xs → ItemsThrow p given places k → ItemsThrow p given places (follow_what x Second n s k)
     second_follows places (UWhat-F.If e a b) n s k xs h known rest = body_throws b (n + 1 + numbering.size_all a) xs places k (and_parts (all_throw p a xs) (all_throw p b xs) h).1 known rest
-    second_follows places (UWhat-F.Try a t b) n s k xs h known rest = body_throws b (n + 1 + numbering.size_all a) xs places k (and_parts (all_throw p a (t ∷ xs)) (all_throw p b xs) h).1 known rest
+    second_follows places (UWhat-F.Try a t v b) n s k xs h known rest = body_throws b (n + 1 + numbering.size_all a) xs places k (and_parts (all_throw p a (t ∷ xs)) (all_throw p b xs) h).1 known rest
     second_follows places _ n s k xs h known rest = rest
 
     pub second_throws : (places : List ExceptionPlace) (k : List Item) → ItemsThrow p given places k → ItemsThrow p given places (followed Second k)

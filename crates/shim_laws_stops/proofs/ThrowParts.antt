@@ -1,5 +1,5 @@
 -- What is lifted out of a bound body throws and hands on what is in force: by induction over the rules of scope.
-use Rattle.std.proofs.Common.{ℕ, suc, ◌+◌, ◌≡◌, ◌∙◌, true, ◌&&◌, inl, inr, List, [], ◌∷◌, ◌++◌, Option, Some, length, map, slice_get, refl, sym, ap, subst, arith}
+use Rattle.std.proofs.Common.{ℕ, suc, ◌+◌, ◌≡◌, ◌∙◌, true, ◌&&◌, inl, inr, List, [], ◌∷◌, ◌++◌, Option, Some, None, length, map, slice_get, refl, sym, ap, subst, arith}
 use Rattle.shim_base.specs.declared.types.Ty.{Ty}
 use Rattle.shim_syntax.specs.declared.tree.Call.{Call}
 use Rattle.shim_syntax.specs.declared.tree.Function.{Function}
@@ -24,7 +24,7 @@ use Rattle.shim_units.specs.declared.unit.UStmt.{UStmt}
 use Rattle.shim_units.specs.declared.unit.UWhat.{UWhat}
 use Rattle.shim_units.specs.declared.unit.UWhat.TheVariants as u
 use Rattle.shim_units.specs.declared.slot_map.SlotMap.{SlotMap}
-use Rattle.shim_units.specs.Moving.{slot_index_of, moved, moved_option, moved_call}
+use Rattle.shim_units.specs.Moving.{slot_index_of, slot_index_of_option, moved, moved_option, moved_call}
 use Rattle.shim_units.specs.Parts.{LiftContext, Part, Lifts, all_raises, all_tries}
 use Rattle.shim_units.specs.Lifting.{lift_all, whole, on_tree, lift_two}
 use Rattle.shim_units.specs.PartFold.{branch_what_step, what_step, branch_step, stmt_step, part, parts, branch_part, branch_parts}
@@ -32,7 +32,7 @@ use Rattle.shim_units.proofs.PartSteps.{branch_what_part, what_part}
 use Rattle.shim_process.specs.LocalState.{unit_at}
 use Rattle.shim_laws_binding.specs.Innermost.{IsNumberOfInnermost}
 use Rattle.shim_laws_binding.specs.LexicalScope as is
-use Rattle.shim_laws_binding.specs.LexicalScope.{Point, Pairwise, inside_try, behind_block, BindsCall, BindsWhat, BindsStmt, BindsStmts, BindsBlock, BindsBranchWhat, BindsBranch, BindsBranches}
+use Rattle.shim_laws_binding.specs.LexicalScope.{Point, Pairwise, inside_try, behind_block, behind_variable, slot_of_variable, BindsCall, BindsWhat, BindsStmt, BindsStmts, BindsBlock, BindsBranchWhat, BindsBranch, BindsBranches}
 use Rattle.shim_laws_binding.proofs.Lists.{each_of_both}
 use Rattle.shim_laws_sources.proofs.Lifting.{stand_first, stand_from}
 use Rattle.shim_base.proofs.Facts.{both_hold}
@@ -230,13 +230,13 @@ module _ (form : Form) where
         (λ context w xs s. throws_call form (moved_call context.functions c w) xs ∙ call_right form context.functions c (numbers p.handled) p.exceptions p.exceptions w xs h many s);
   })
 
-  part_throw : (p : Point) (x : ℕ) → Among (numbers p.handled) x → WhatThrows p p (r.Throw x)
+  part_throw : (p : Point) (x : ℕ) (e : Option UExpr) → Among (numbers p.handled) x → WhatThrows p p (r.Throw x e)
   unfolding roll-RWhat denote.Hole.Carrier.roll
-  part_throw p x h line = at_part p p line (RWhat-F.Throw x) (record {
+  part_throw p x e h line = at_part p p line (RWhat-F.Throw x e) (record {
     same = refl;
-    numbered = called_numbered p (x ∷ []) (λ y a. elim (among_cases x [] y a) [ inl e ↦ subst (λ z. Among (numbers p.handled) z) e h | inr b ↦ none_among y b ]);
-    lifts = alone form (throws_what form) (numbers p.handled) p.exceptions p.exceptions (x ∷ []) [] (λ context w. u.Throw (slot_index_of w.exceptions x))
-        (λ context w xs s. throws_throw form (slot_index_of w.exceptions x) xs ∙ s.known x h (first_of x []));
+    numbered = called_numbered p (x ∷ []) (λ y a. elim (among_cases x [] y a) [ inl same ↦ subst (λ z. Among (numbers p.handled) z) same h | inr b ↦ none_among y b ]);
+    lifts = alone form (throws_what form) (numbers p.handled) p.exceptions p.exceptions (x ∷ []) [] (λ context w. u.Throw (slot_index_of w.exceptions x) (moved_option w.slots e))
+        (λ context w xs s. throws_throw form (slot_index_of w.exceptions x) (moved_option w.slots e) xs ∙ s.known x h (first_of x []));
   })
 
   part_par : (p q : Point) (bs : List RBranch) → ForkThrows p q bs → WhatThrows p q (r.Par bs)
@@ -310,16 +310,16 @@ module _ (form : Form) where
               ];
         }
 
-    lifts_try : (a b : List (Part UStmt)) → all_raises a ≡ rs → all_tries a ≡ ts → all_raises b ≡ qs → all_tries b ≡ us
+    lifts_try : (z : Option ℕ) (a b : List (Part UStmt)) → all_raises a ≡ rs → all_tries a ≡ ts → all_raises b ≡ qs → all_tries b ≡ us
         → LiftsRight form (all_throw form) (hs ++ lo ∷ []) (suc lo) mi rs ts (lift_all a) → LiftsRight form (all_throw form) hs mi hi qs us (lift_all b)
-        → LiftsRight form (throws_what form) hs lo hi (rs ++ qs) (lo ∷ (ts ++ us)) (λ context w n. lift_two (λ x y. u.Try x (slot_index_of w.exceptions lo) y) (lift_all a) (lift_all b) context w n)
-    lifts_try a b ra ta qb ub h k = record {
+        → LiftsRight form (throws_what form) hs lo hi (rs ++ qs) (lo ∷ (ts ++ us)) (λ context w n. lift_two (λ x y. u.Try x (slot_index_of w.exceptions lo) (slot_index_of_option w.slots z) y) (lift_all a) (lift_all b) context w n)
+    lifts_try z a b ra ta qb ub h k = record {
       tree = λ context w n xs s stand.
           let i : ℕ = slot_index_of w.exceptions lo in
           let x = lift_all a context w n in
           let m : ℕ = n + length x.units in
           let y = lift_all b context w m in
-          throws_try form x.tree i y.tree xs
+          throws_try form x.tree i (slot_index_of_option w.slots z) y.tree xs
           ∙ both_hold (all_throw form x.tree (i ∷ xs)) (all_throw form y.tree xs)
           (h.tree context w n (i ∷ xs) (stands_body w xs s) (stand_first form n x.units y.units stand))
           (k.tree context w m xs (stands_handler w xs s) (stand_from form n m x.units y.units refl stand));
@@ -333,9 +333,14 @@ module _ (form : Form) where
           (k.units context w m xs (stands_handler w xs s) (stand_from form n m x.units y.units refl stand));
     }
 
-  part_try : (p m q : Point) (x : List ℕ) (a b : List RStmt) → BodyThrows (inside_try x p) m a → BodyThrows (behind_block p m) q b → WhatThrows p q (r.Try a p.exceptions b)
+  -- a handler's variable is no exception
+  handler_throws : (p m q : Point) (y : Option (List ℕ)) (b : List RStmt) → BodyThrows (behind_variable y (behind_block p m)) q b → BodyThrows (behind_block p m) (behind_block p q) b
+  handler_throws p m q None b k = record { same = refl; numbered = k.numbered; lifts = k.lifts }
+  handler_throws p m q (Some y) b k = record { same = refl; numbered = k.numbered; lifts = k.lifts }
+
+  part_try : (p m q : Point) (x : List ℕ) (z : Option ℕ) (a b : List RStmt) → BodyThrows (inside_try x p) m a → BodyThrows (behind_block p m) q b → WhatThrows p q (r.Try a p.exceptions z b)
   unfolding roll-RWhat denote.Hole.Carrier.roll
-  part_try p m q x a b h k line =
+  part_try p m q x z a b h k line =
       let hs : List ℕ = numbers p.handled in
       let lo : ℕ = p.exceptions in
       let more : numbers (inside_try x p).handled ≡ hs ++ lo ∷ [] = numbers_more p.handled (record { name = x; number = lo }) in
@@ -345,10 +350,10 @@ module _ (form : Form) where
       let us : List ℕ = all_tries (parts b) in
       let one : Numbered (hs ++ lo ∷ []) (suc lo) m.exceptions rs ts = subst (λ l. Numbered l (suc lo) m.exceptions rs ts) more h.numbered in
       let lifts : LiftsRight form (all_throw form) (hs ++ lo ∷ []) (suc lo) m.exceptions rs ts (lift_all (parts a)) = subst (λ l. LiftsRight form (all_throw form) l (suc lo) m.exceptions rs ts (lift_all (parts a))) more h.lifts in
-      at_part p q line (RWhat-F.Try a lo b) (record {
+      at_part p q line (RWhat-F.Try a lo z b) (record {
         same = k.same;
         numbered = numbered_try hs lo m.exceptions q.exceptions rs qs ts us one k.numbered;
-        lifts = lifts_try hs lo m.exceptions q.exceptions rs qs ts us one k.numbered (parts a) (parts b) refl refl refl refl lifts k.lifts;
+        lifts = lifts_try hs lo m.exceptions q.exceptions rs qs ts us one k.numbered z (parts a) (parts b) refl refl refl refl lifts k.lifts;
       })
 
   at_branch_part : (p q : Point) (line : ℕ) (y : RBranchWhat-F RBranchWhat RWhat RBranch RStmt)
@@ -408,8 +413,8 @@ module _ (form : Form) where
           λ line. let h = part_for p m n q f t s b (stmts_right i) (stmts_right j) (block_right k) line in record { same = refl; numbered = h.numbered; lifts = h.lifts }
       what_right (is.block {p = p} {q = q} {b = b} h) = part_block p q b (block_right h)
       what_right (is.call {p = p} {r = d} h) = part_call p d (handed h) (many_handed h)
-      what_right (is.try {p = p} {m = m} {q = q} {x = x} {b = b} {h = h} i j) = part_try p m q x b h (block_right i) (block_right j)
-      what_right (is.throw {p = p} {x = x} {number = number} i) = part_throw p number (innermost_among x p.handled number i)
+      what_right (is.try {p = p} {m = m} {q = q} {x = x} {y = y} {b = b} {h = h} i j) = part_try p m (behind_block p q) x (slot_of_variable y m) b h (block_right i) (handler_throws p m q y h (stmts_right j))
+      what_right (is.throw {p = p} {x = x} {number = number} {r = e} i a) = part_throw p number e (innermost_among x p.handled number i)
       what_right (is.par {p = p} {q = q} {rs = rs} h) = part_par p q rs (branches_right h)
 
       stmt_right : {p q : Point} {s : Stmt} {t : RStmt} → BindsStmt functions p s t q → PartThrows (throws form) p q (part t)

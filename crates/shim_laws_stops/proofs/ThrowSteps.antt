@@ -70,13 +70,13 @@ module _ (p : Form) where
   unfolding roll-UWhat denote.Hole.Carrier.roll
   throws_call c xs = at_what (UWhat-F.Call c) xs
 
-  pub throws_try : (body : List UStmt) (x : ℕ) (handler : List UStmt) (xs : List ℕ) → throws_what (u.Try body x handler) xs ≡ (all_throw p body (x ∷ xs) && all_throw p handler xs)
+  pub throws_try : (body : List UStmt) (x : ℕ) (y : Option ℕ) (handler : List UStmt) (xs : List ℕ) → throws_what (u.Try body x y handler) xs ≡ (all_throw p body (x ∷ xs) && all_throw p handler xs)
   unfolding roll-UWhat denote.Hole.Carrier.roll
-  throws_try body x handler xs = at_what (UWhat-F.Try body x handler) xs
+  throws_try body x y handler xs = at_what (UWhat-F.Try body x y handler) xs
 
-  pub throws_throw : (x : ℕ) (xs : List ℕ) → throws_what (u.Throw x) xs ≡ is_among xs x
+  pub throws_throw : (x : ℕ) (e : Option UExpr) (xs : List ℕ) → throws_what (u.Throw x e) xs ≡ is_among xs x
   unfolding roll-UWhat denote.Hole.Carrier.roll
-  throws_throw x xs = at_what (UWhat-F.Throw x) xs
+  throws_throw x e xs = at_what (UWhat-F.Throw x e) xs
 
   pub throws_par : (branches : List UBranch) (xs : List ℕ) → throws_what (u.Par branches) xs ≡ all_hand_on p branches xs
   unfolding roll-UWhat denote.Hole.Carrier.roll

@@ -83,7 +83,7 @@ module _ (l : LocalState) (least : 1 ≤ l.base) (g : Given l.program l.frame) w
   what_least (UWhat-F.NextAssign x e) xs known h = choose ThrowsLeast l.frame.halfway (at_next (location_of l.locations l.frame.slots x)) AtQuiet (next_least (location_of l.locations l.frame.slots x)) tt
   what_least (UWhat-F.AssignNext x y) xs known h = choose ThrowsLeast l.frame.halfway AtQuiet (at_next (location_of l.locations l.frame.slots y)) tt (next_least (location_of l.locations l.frame.slots y))
   what_least (UWhat-F.Put o e) xs known h = put_least l.holds_output
-  what_least (UWhat-F.Throw x) xs known h = known_there l given xs x least g.many g.labels known h
+  what_least (UWhat-F.Throw x e) xs known h = known_there l given xs x least g.many g.labels known h
   what_least (UWhat-F.Par bs) xs known h = fork_least bs
   what_least _ xs known h = tt
 

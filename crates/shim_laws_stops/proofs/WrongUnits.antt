@@ -1,5 +1,5 @@
 -- Units and calls as wrong liftings would make them, and a frame with too few numbers: the definitions of the laws refuse each of them.
-use Rattle.std.proofs.Common.{◌≡◌, ◌∙◌, ℕ, true, false, ◌&&◌, nat_eq, List, [], ◌∷◌, Some, slice_get, refl, sym, ap}
+use Rattle.std.proofs.Common.{◌≡◌, ◌∙◌, ℕ, true, false, ◌&&◌, nat_eq, List, [], ◌∷◌, Some, None, slice_get, refl, sym, ap}
 use Rattle.shim_base.specs.declared.types.Ty.TheVariants as ty
 use Rattle.shim_syntax.specs.declared.tree.Sort.{Sort}
 use Rattle.shim_syntax.specs.declared.tree.Sort.TheVariants.{Value, Output}
@@ -83,11 +83,11 @@ module _ (program : Form) where
   got_from_output u = refl
 
   -- an exception thrown that isn't in force: the unit is given one, which has number 0
-  pub thrown_in_force : throws program (record { line = 1; what = Throw 0 }) (0 ∷ []) ≡ true
-  thrown_in_force = throws_line program 1 (Throw 0) (0 ∷ []) ∙ throws_throw program 0 (0 ∷ [])
+  pub thrown_in_force : throws program (record { line = 1; what = Throw 0 None }) (0 ∷ []) ≡ true
+  thrown_in_force = throws_line program 1 (Throw 0 None) (0 ∷ []) ∙ throws_throw program 0 None (0 ∷ [])
 
-  pub thrown_elsewhere : throws program (record { line = 1; what = Throw 1 }) (0 ∷ []) ≡ false
-  thrown_elsewhere = throws_line program 1 (Throw 1) (0 ∷ []) ∙ throws_throw program 1 (0 ∷ [])
+  pub thrown_elsewhere : throws program (record { line = 1; what = Throw 1 None }) (0 ∷ []) ≡ false
+  thrown_elsewhere = throws_line program 1 (Throw 1 None) (0 ∷ []) ∙ throws_throw program 1 None (0 ∷ [])
 
   -- and one that is passed on under a number that isn't in force, or not at all
   pub passed_elsewhere : hands_on program (call [] (1 ∷ [])) (0 ∷ []) ≡ false

@@ -1,10 +1,11 @@
 -- What the frames of a process have for the variables that they name.
-use Rattle.std.specs.Prelude.{◌≡◌, ◌<◌, ◌≤◌, ◌⊎◌, ℕ, Bool, true, ◌&&◌, List, [], ◌∷◌, ◌++◌, length, take, slice_get}
+use Rattle.std.specs.Prelude.{◌≡◌, ◌<◌, ◌≤◌, ◌⊎◌, ℕ, Bool, true, ◌&&◌, List, [], ◌∷◌, ◌++◌, length, take, Option, Some, None, slice_get}
 use Rattle.shim_units.specs.declared.form.Form.{Form}
 use Rattle.shim_units.specs.declared.unit.Unit.{Unit as UnitOf}
 use Rattle.shim_units.specs.declared.unit.UStmt.{UStmt}
 use Rattle.shim_units.specs.declared.unit.UWhat.{UWhat, UWhat-F, fold-UWhat, map-UWhat, out-UWhat}
 use Rattle.shim_units.specs.Lifting.{is_among}
+use Rattle.shim_process.specs.declared.handler_variable.HandlerVariable.{HandlerVariable}
 use Rattle.shim_process.specs.Locations.{Locations}
 use Rattle.shim_process.specs.Todo.{Item, Do, Leave}
 use Rattle.shim_process.specs.LocalState.{LocalState, Frame, ExceptionPlace, unit_at, number_of, location_of}
@@ -43,10 +44,25 @@ next_declares program u [] = []
 next_declares program u (Leave ∷ k) = []
 next_declares program u (Do n s ∷ k) = (scoped program u s).declares
 
--- what there was to do at each exception place, where a `try` was next
+-- the slot of a handler's variable
+abbrev pub slot_taken : Option HandlerVariable → Option ℕ
+slot_taken None = None
+slot_taken (Some y) = Some y.slot
+
+abbrev pub what_takes : UWhat-F UWhat UStmt → Option ℕ
+what_takes (UWhat-F.Try body x y handler) = y
+what_takes _ = None
+
+-- that of the handler of the `try` that is next
+abbrev pub next_takes : List Item → Option ℕ
+next_takes [] = None
+next_takes (Leave ∷ k) = None
+next_takes (Do n s ∷ k) = what_takes (out-UWhat s.what)
+
+-- what there was to do at each exception place, where a `try` was next, whose handler has the place's variable
 abbrev pub PlacesScoped : Form → UnitOf → (ℕ → Type 0) → List ExceptionPlace → Type 0
 PlacesScoped program u Has [] = Unit {0}
-PlacesScoped program u Has (p ∷ places) = ItemsScoped program u Has [] p.todo × (next_declares program u p.todo ≡ []) × PlacesScoped program u Has places
+PlacesScoped program u Has (p ∷ places) = ItemsScoped program u Has [] p.todo × (next_declares program u p.todo ≡ []) × (next_takes p.todo ≡ slot_taken p.variable) × PlacesScoped program u Has places
 
 pub record FrameScoped (program : Form) (locations : Locations) (f : Frame) : Type 0 where
   pub fit : FrameFits program 0 f

@@ -38,8 +38,8 @@ what_throws program (UWhat-F.While e body) xs = all_right body xs
 what_throws program (UWhat-F.For first test step body) xs = all_right first xs && (all_right step xs && all_right body xs)
 what_throws program (UWhat-F.Block body) xs = all_right body xs
 what_throws program (UWhat-F.Call c) xs = hands_on program c xs
-what_throws program (UWhat-F.Try body x handler) xs = all_right body (x ∷ xs) && all_right handler xs
-what_throws program (UWhat-F.Throw x) xs = is_among xs x
+what_throws program (UWhat-F.Try body x y handler) xs = all_right body (x ∷ xs) && all_right handler xs
+what_throws program (UWhat-F.Throw x e) xs = is_among xs x
 what_throws program (UWhat-F.Par branches) xs = all_hand_on program branches xs
 what_throws _ _ _ = true
 

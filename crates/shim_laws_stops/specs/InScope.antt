@@ -13,6 +13,7 @@ use Rattle.shim_units.specs.declared.unit.UCall.{UCall}
 use Rattle.shim_units.specs.declared.unit.UStmt.{UStmt, fold-UStmt}
 use Rattle.shim_units.specs.declared.unit.UWhat.{UWhat-F}
 use Rattle.shim_units.specs.Lifting.{is_among}
+use Rattle.shim_units.specs.Own.{some_slot}
 use Rattle.shim_units.specs.Units.{upto}
 use Rattle.shim_process.specs.LocalState.{unit_at}
 
@@ -162,8 +163,8 @@ what_scoped program u (UWhat-F.For first test step body) =
     declares_none (λ xs. all_right first xs && (option_right u (all_declare first ++ xs) test && (all_right step (all_declare first ++ xs) && all_right body (all_declare first ++ xs))))
 what_scoped program u (UWhat-F.Block body) = declares_none (λ xs. all_right body xs)
 what_scoped program u (UWhat-F.Call c) = declares_none (λ xs. call_right program u xs c)
-what_scoped program u (UWhat-F.Try body x handler) = declares_none (λ xs. all_right body xs && all_right handler xs)
-what_scoped program u (UWhat-F.Throw x) = declares_none (λ xs. true)
+what_scoped program u (UWhat-F.Try body x y handler) = declares_none (λ xs. all_right body xs && all_right handler (some_slot y ++ xs))
+what_scoped program u (UWhat-F.Throw x e) = declares_none (λ xs. option_right u xs e)
 what_scoped program u (UWhat-F.Par branches) = declares_none (λ xs. are_some branches && (branches_apart branches && all_calls_right program u xs branches))
 
 abbrev pub scoped : Form → UnitOf → UStmt → Scoped

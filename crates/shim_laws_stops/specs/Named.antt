@@ -67,6 +67,7 @@ variables_at (UWhat-F.If e first second) = variables_in e
 variables_at (UWhat-F.While e body) = variables_in e
 variables_at (UWhat-F.For first test step body) = variables_in_option test
 variables_at (UWhat-F.Call c) = arguments_read c.args
+variables_at (UWhat-F.Throw x e) = variables_in_option e
 variables_at (UWhat-F.Par branches) = branches_read branches
 variables_at _ = []
 

@@ -14,11 +14,11 @@ use Rattle.shim_syntax.specs.declared.tree.Branch.{Branch, Branch-F, fold-Branch
 use Rattle.shim_syntax.specs.declared.tree.BranchWhat.{BranchWhat, BranchWhat-F, fold-BranchWhat, fold-roll-BranchWhat, map-BranchWhat, roll-BranchWhat}
 use Rattle.shim_syntax.specs.declared.tree.BranchWhat.TheVariants as br
 use Rattle.shim_syntax.specs.Names.{Texts, unless_there, with_name, with_texts, param_names, with_functions}
-use Rattle.shim_syntax.specs.Occurrences.{joined, expr_occurs, in_expr, in_exprs, in_option, in_call, branch_occurs, what_occurs, in_stmt, in_function, identifiers}
+use Rattle.shim_syntax.specs.Occurrences.{joined, expr_occurs, in_expr, in_exprs, in_option, in_variable, in_call, branch_occurs, what_occurs, in_stmt, in_function, identifiers}
 use Rattle.shim_syntax.proofs.OccurrenceLemmas.{names_are_the_identifiers}
 use Rattle.shim_up.specs.Renaming as ren
-use Rattle.shim_up.specs.Renaming.{Renaming, renamed_expr, renamed_option, renamed_call, renamed_stmt, renamed_param, renamed_function, renamed_functions}
-use Rattle.shim_laws_up.proofs.RenamedSteps.{renamed_number, renamed_variable, renamed_unary, renamed_binary}
+use Rattle.shim_up.specs.Renaming.{Renaming, renamed_expr, renamed_option, renamed_variable, renamed_call, renamed_stmt, renamed_param, renamed_function, renamed_functions}
+use Rattle.shim_laws_up.proofs.RenamedSteps.{renamed_number, name_renamed, renamed_unary, renamed_binary}
 use Rattle.shim_laws_up.proofs.Layers.{renamed_branch_what, renamed_what, renamed_branch, stmt_at_line, branch_at_line}
 
 module _ (f g : Renaming) where
@@ -54,7 +54,7 @@ module _ (f g : Renaming) where
   expr_layer : (y : Expr-F Part) → OfExpr (roll-Expr (map-Expr Part Expr (λ e. e.0) y))
   unfolding roll-Expr denote.Hole.Carrier.roll
   expr_layer (Expr-F.Number n) h = renamed_number f n ∙ sym (renamed_number g n)
-  expr_layer (Expr-F.Var x) h = let k = agree_same _ _ (at_expr (Expr-F.Var x)) h in renamed_variable f x ∙ ap e.Var k.0 ∙ sym (renamed_variable g x)
+  expr_layer (Expr-F.Var x) h = let k = agree_same _ _ (at_expr (Expr-F.Var x)) h in name_renamed f x ∙ ap e.Var k.0 ∙ sym (name_renamed g x)
   expr_layer (Expr-F.Unary op a) h = let k = agree_same _ _ (at_expr (Expr-F.Unary op a.0)) h in renamed_unary f op a.0 ∙ ap (e.Unary op) (a.1 k) ∙ sym (renamed_unary g op a.0)
   expr_layer (Expr-F.Binary op a b) h =
       let k = agree_same _ _ (at_expr (Expr-F.Binary op a.0 b.0)) h in
@@ -160,6 +160,10 @@ module _ (f g : Renaming) where
   branch_what_layer (BranchWhat-F.BranchWhat::Block body) h = ap br.Block (stmts_agree body h)
   branch_what_layer (BranchWhat-F.BranchWhat::Call c) h = ap br.Call (call_agrees c h)
 
+  variable_agrees : (y : Option (List ℕ)) → Agree (in_variable y) → renamed_variable f y ≡ renamed_variable g y
+  variable_agrees None h = refl
+  variable_agrees (Some x) h = ap Some h.0
+
   what_layer : (y : What-F PartBranchWhat PartWhat PartBranch PartStmt) → Agree (what_at (what_of y)) → what_below f (what_of y) ≡ what_below g (what_of y)
   unfolding what_below
   what_layer (What-F.Declare ty x a) h = same_parts (st.Declare ty) _ _ _ _ h.0 (option_agrees a h.1)
@@ -182,11 +186,13 @@ module _ (f g : Renaming) where
       ∙ same_parts (λ x y. st.For (map (renamed_stmt g) (stmts first)) (renamed_option g test) x y) _ _ _ _ (stmts_agree step (agree_first (texts step) (texts body) l)) (stmts_agree body (agree_second (texts step) (texts body) l))
   what_layer (What-F.What::Block body) h = ap st.Block (stmts_agree body h)
   what_layer (What-F.What::Call c) h = ap st.Call (call_agrees c h)
-  what_layer (What-F.Try body x handler) h =
-      let k = agree_second (texts body) (x ∷ texts handler) h in
-      same_parts (λ y z. st.Try y z (map (renamed_stmt f) (stmts handler))) _ _ _ _ (stmts_agree body (agree_first (texts body) (x ∷ texts handler) h)) k.0
-      ∙ ap (λ z. st.Try (map (renamed_stmt g) (stmts body)) (g x) z) (stmts_agree handler k.1)
-  what_layer (What-F.Throw x) h = ap st.Throw h.0
+  what_layer (What-F.Try body x y handler) h =
+      let rest : Texts = in_variable y ++ texts handler in
+      let k = agree_second (texts body) (x ∷ rest) h in
+      same_parts (λ b n. st.Try b n (renamed_variable f y) (map (renamed_stmt f) (stmts handler))) _ _ _ _ (stmts_agree body (agree_first (texts body) (x ∷ rest) h)) k.0
+      ∙ same_parts (λ v z. st.Try (map (renamed_stmt g) (stmts body)) (g x) v z) _ _ _ _ (variable_agrees y (agree_first (in_variable y) (texts handler) k.1))
+      (stmts_agree handler (agree_second (in_variable y) (texts handler) k.1))
+  what_layer (What-F.Throw x a) h = same_parts st.Throw _ _ _ _ h.0 (option_agrees a h.1)
   what_layer (What-F.Par bs) h = ap st.Par (branches_agree bs h)
 
   below_branch_what : (u : Renaming) (z : BranchWhat-F BranchWhat What Branch Stmt) → renamed_branch_what u (roll-BranchWhat z) ≡ branch_what_below u z

@@ -11,7 +11,7 @@ use Rattle.shim_scopes.specs.declared.tree.RBranchWhat.TheVariants as bb
 use Rattle.shim_scopes.specs.Statements.{Whole, bind_block}
 use Rattle.shim_scopes.specs.Bodies.{WhatMeans, StmtMeans, BranchMeans, BranchWhatMeans, bind_all, bind_fork, first_declares, branch_what_step, what_step, branch_step, stmt_step, meaning, bind_stmts, bind_branch}
 use Rattle.shim_up.specs.Renaming as ren
-use Rattle.shim_up.specs.Renaming.{Renaming, renamed_expr, renamed_option, renamed_call, renamed_stmt}
+use Rattle.shim_up.specs.Renaming.{Renaming, renamed_stmt}
 use Rattle.shim_laws_up.specs.Around.{local_renamed, whole_renamed, bound_renamed, Follows}
 use Rattle.shim_laws_up.proofs.Around.{followed}
 use Rattle.shim_laws_up.proofs.Statements.{declare_follows, store_follows, next_follows, assign_next_follows, get_follows, put_follows, throw_follows, block_follows, tree_follows, if_follows, while_follows, try_follows, for_follows}
@@ -169,11 +169,11 @@ module _ (f : Renaming) (same : (x y : List ℕ) → bytes_eq (f x) (f y) ≡ by
     declares = nothing_declared;
   }
   what_layer (What-F.What::Call c) = record { binds = called_follows f same bt.Call w c; declares = nothing_declared }
-  what_layer (What-F.Try body x handler) = record {
-    binds = λ line. try_follows f same w x (bind_all (old body)) (bind_all (new body)) (bind_all (old handler)) (bind_all (new handler)) (stmts_follow body) (stmts_follow handler);
+  what_layer (What-F.Try body x y handler) = record {
+    binds = λ line. try_follows f same w x y (bind_all (old body)) (bind_all (new body)) (bind_all (old handler)) (bind_all (new handler)) (stmts_follow body) (stmts_follow handler);
     declares = nothing_declared;
   }
-  what_layer (What-F.Throw x) = record { binds = throw_follows f same x; declares = nothing_declared }
+  what_layer (What-F.Throw x e) = record { binds = throw_follows f same x e; declares = nothing_declared }
   what_layer (What-F.Par bs) = record {
     binds = λ line. tree_follows f same bt.Par (bind_fork (map (bind_branch w) (branches bs))) (bind_fork (map (bind_branch v) (map (renamed_branch f) (branches bs)))) (branches_follow bs);
     declares = nothing_declared;

@@ -12,7 +12,7 @@ use Rattle.shim_scopes.specs.Binding.{unknown_in, unknown_in_all, unknown_in_opt
 use Rattle.shim_up.specs.Renaming.{Renaming, renamed_expr, renamed_option}
 use Rattle.shim_laws_up.specs.Around.{local_renamed}
 use Rattle.shim_laws_up.proofs.Names.{both_or, unknown_same, no_number_same, slot_same}
-use Rattle.shim_laws_up.proofs.RenamedSteps.{renamed_number, renamed_variable, renamed_unary, renamed_binary}
+use Rattle.shim_laws_up.proofs.RenamedSteps.{renamed_number, name_renamed, renamed_unary, renamed_binary}
 use Rattle.shim_laws_up.proofs.ExprSteps.{unknown_number, unknown_variable, unknown_unary, unknown_binary, stream_number, stream_variable, stream_unary, stream_binary, placed_number, placed_variable, placed_unary, placed_binary, bare_number, bare_variable, bare_unary, bare_binary}
 
 module _ (f : Renaming) (same : (x y : List ℕ) → bytes_eq (f x) (f y) ≡ bytes_eq x y) where
@@ -36,10 +36,10 @@ module _ (f : Renaming) (same : (x y : List ℕ) → bytes_eq (f x) (f y) ≡ by
 
   variable_is : (x : List ℕ) → IsSame (e.Var x)
   variable_is x = record {
-    unknown = λ ls. ap (unknown_in (locals ls)) (renamed_variable f x) ∙ unknown_variable (locals ls) (f x) ∙ unknown_same f same ls x ∙ ap (λ (o : Option (List ℕ)). option_map f o) (sym (unknown_variable ls x));
-    stream = λ ls. ap (stream_in (locals ls)) (renamed_variable f x) ∙ stream_variable (locals ls) (f x) ∙ no_number_same f same ls x ∙ ap (λ (o : Option (List ℕ)). option_map f o) (sym (stream_variable ls x));
-    placed = λ ls. ap (placed (locals ls)) (renamed_variable f x) ∙ placed_variable (locals ls) (f x) ∙ ap u.Var (slot_same f same ls x) ∙ sym (placed_variable ls x);
-    bare = ap bare (renamed_variable f x) ∙ bare_variable (f x) ∙ ap (λ (o : Option (List ℕ)). option_map f o) (sym (bare_variable x));
+    unknown = λ ls. ap (unknown_in (locals ls)) (name_renamed f x) ∙ unknown_variable (locals ls) (f x) ∙ unknown_same f same ls x ∙ ap (λ (o : Option (List ℕ)). option_map f o) (sym (unknown_variable ls x));
+    stream = λ ls. ap (stream_in (locals ls)) (name_renamed f x) ∙ stream_variable (locals ls) (f x) ∙ no_number_same f same ls x ∙ ap (λ (o : Option (List ℕ)). option_map f o) (sym (stream_variable ls x));
+    placed = λ ls. ap (placed (locals ls)) (name_renamed f x) ∙ placed_variable (locals ls) (f x) ∙ ap u.Var (slot_same f same ls x) ∙ sym (placed_variable ls x);
+    bare = ap bare (name_renamed f x) ∙ bare_variable (f x) ∙ ap (λ (o : Option (List ℕ)). option_map f o) (sym (bare_variable x));
   }
 
   unary_is : (op : UnOp) (a : Expr) → IsSame a → IsSame (e.Unary op a)

@@ -13,12 +13,12 @@ use Rattle.shim_syntax.specs.declared.tree.What.{What, What-F, fold-What, fold-r
 use Rattle.shim_syntax.specs.declared.tree.Branch.{Branch, Branch-F, fold-Branch, fold-roll-Branch, map-Branch, roll-Branch}
 use Rattle.shim_syntax.specs.declared.tree.BranchWhat.{BranchWhat, BranchWhat-F, fold-BranchWhat, fold-roll-BranchWhat, map-BranchWhat, roll-BranchWhat}
 use Rattle.shim_syntax.specs.Names.{Texts, unless_there, with_name, with_texts, param_names, with_functions}
-use Rattle.shim_syntax.specs.Occurrences.{joined, expr_occurs, in_expr, in_exprs, in_option, in_call, branch_occurs, what_occurs, in_stmt, in_function, identifiers}
+use Rattle.shim_syntax.specs.Occurrences.{joined, expr_occurs, in_expr, in_exprs, in_option, in_variable, in_call, branch_occurs, what_occurs, in_stmt, in_function, identifiers}
 use Rattle.shim_syntax.proofs.OccurrenceLemmas.{names_are_the_identifiers}
 use Rattle.shim_up.specs.Renaming as ren
-use Rattle.shim_up.specs.Renaming.{Renaming, renamed_expr, renamed_option, renamed_call, renamed_stmt, renamed_param, renamed_function, renamed_functions}
+use Rattle.shim_up.specs.Renaming.{Renaming, renamed_expr, renamed_option, renamed_variable, renamed_call, renamed_stmt, renamed_param, renamed_function, renamed_functions}
 use Rattle.shim_laws_up.proofs.Names.{declared_name_same}
-use Rattle.shim_laws_up.proofs.RenamedSteps.{renamed_number, renamed_variable, renamed_unary, renamed_binary}
+use Rattle.shim_laws_up.proofs.RenamedSteps.{renamed_number, name_renamed, renamed_unary, renamed_binary}
 use Rattle.shim_laws_up.proofs.Layers.{branch_what_layer_renamed, what_layer_renamed, branch_what_rolled, what_rolled, renamed_branch_what, renamed_what, renamed_branch, stmt_at_line, branch_at_line}
 
 module _ (f : Renaming) where
@@ -37,7 +37,7 @@ module _ (f : Renaming) where
   expr_layer : (y : Expr-F Part) → OfExpr (roll-Expr (map-Expr Part Expr (λ e. e.0) y))
   unfolding roll-Expr denote.Hole.Carrier.roll
   expr_layer (Expr-F.Number n) = ap in_expr (renamed_number f n) ∙ at_expr (Expr-F.Number n) ∙ sym (ap (map f) (at_expr (Expr-F.Number n)))
-  expr_layer (Expr-F.Var x) = ap in_expr (renamed_variable f x) ∙ at_expr (Expr-F.Var (f x)) ∙ sym (ap (map f) (at_expr (Expr-F.Var x)))
+  expr_layer (Expr-F.Var x) = ap in_expr (name_renamed f x) ∙ at_expr (Expr-F.Var (f x)) ∙ sym (ap (map f) (at_expr (Expr-F.Var x)))
   expr_layer (Expr-F.Unary op a) = ap in_expr (renamed_unary f op a.0) ∙ at_expr (Expr-F.Unary op (renamed_expr f a.0)) ∙ a.1 ∙ sym (ap (map f) (at_expr (Expr-F.Unary op a.0)))
   expr_layer (Expr-F.Binary op a b) =
       ap in_expr (renamed_binary f op a.0 b.0) ∙ at_expr (Expr-F.Binary op (renamed_expr f a.0) (renamed_expr f b.0)) ∙ both_mapped _ _ _ _ a.1 b.1 ∙ sym (ap (map f) (at_expr (Expr-F.Binary op a.0 b.0)))
@@ -137,6 +137,10 @@ module _ (f : Renaming) where
   branch_what_layer (BranchWhat-F.BranchWhat::Block body) = stmts_mapped body
   branch_what_layer (BranchWhat-F.BranchWhat::Call c) = call_mapped c
 
+  variable_mapped : (y : Option (List ℕ)) → in_variable (renamed_variable f y) ≡ map f (in_variable y)
+  variable_mapped None = refl
+  variable_mapped (Some x) = refl
+
   what_layer : (y : What-F PartBranchWhat PartWhat PartBranch PartStmt) → what_at (what_layer_renamed f (what_below (what_of y))) ≡ map f (what_at (what_of y))
   what_layer (What-F.Declare ty x e) = ap (λ l. f x ∷ l) (option_mapped e)
   what_layer (What-F.Assign x e) = ap (λ l. f x ∷ l) (expr_mapped e)
@@ -151,8 +155,8 @@ module _ (f : Renaming) where
       both_mapped _ _ _ _ (stmts_mapped first) (both_mapped _ _ _ _ (option_mapped test) (both_mapped _ _ _ _ (stmts_mapped step) (stmts_mapped body)))
   what_layer (What-F.What::Block body) = stmts_mapped body
   what_layer (What-F.What::Call c) = call_mapped c
-  what_layer (What-F.Try body x handler) = both_mapped _ _ _ _ (stmts_mapped body) (ap (λ l. f x ∷ l) (stmts_mapped handler))
-  what_layer (What-F.Throw x) = refl
+  what_layer (What-F.Try body x y handler) = both_mapped _ _ _ _ (stmts_mapped body) (ap (λ l. f x ∷ l) (both_mapped _ _ _ _ (variable_mapped y) (stmts_mapped handler)))
+  what_layer (What-F.Throw x e) = ap (λ l. f x ∷ l) (option_mapped e)
   what_layer (What-F.Par bs) = branches_mapped bs
 
   new_branch_what : (z : BranchWhat-F BranchWhat What Branch Stmt) → in_branch_what (renamed_branch_what f (roll-BranchWhat z)) ≡ branch_what_at (branch_what_layer_renamed f (branch_what_below z))

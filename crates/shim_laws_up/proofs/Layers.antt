@@ -5,7 +5,7 @@ use Rattle.shim_syntax.specs.declared.tree.What.{What, What-F, fold-What, roll-W
 use Rattle.shim_syntax.specs.declared.tree.Branch.{Branch, fold-Branch, fold-roll-Branch}
 use Rattle.shim_syntax.specs.declared.tree.BranchWhat.{BranchWhat, BranchWhat-F, fold-BranchWhat, roll-BranchWhat}
 use Rattle.shim_up.specs.Renaming as ren
-use Rattle.shim_up.specs.Renaming.{Renaming, renamed_expr, renamed_option, renamed_call, renamed_stmt}
+use Rattle.shim_up.specs.Renaming.{Renaming, renamed_expr, renamed_option, renamed_variable, renamed_call, renamed_stmt}
 
 -- a layer with its own names replaced
 abbrev pub branch_what_layer_renamed : {A B C D : Type 0} → Renaming → BranchWhat-F A B C D → BranchWhat-F A B C D
@@ -25,8 +25,8 @@ what_layer_renamed f (What-F.While test body) = What-F.While (renamed_expr f tes
 what_layer_renamed f (What-F.For first test step body) = What-F.For first (renamed_option f test) step body
 what_layer_renamed f (What-F.What::Block body) = What-F.What::Block body
 what_layer_renamed f (What-F.What::Call c) = What-F.What::Call (renamed_call f c)
-what_layer_renamed f (What-F.Try body x handler) = What-F.Try body (f x) handler
-what_layer_renamed f (What-F.Throw x) = What-F.Throw (f x)
+what_layer_renamed f (What-F.Try body x y handler) = What-F.Try body (f x) (renamed_variable f y) handler
+what_layer_renamed f (What-F.Throw x a) = What-F.Throw (f x) (renamed_option f a)
 what_layer_renamed f (What-F.Par branches) = What-F.Par branches
 
 pub branch_what_rolled : (f : Renaming) (z : BranchWhat-F BranchWhat What Branch Stmt) → ren.branch_what_step f z ≡ roll-BranchWhat (branch_what_layer_renamed f z)
@@ -48,8 +48,8 @@ what_rolled f (What-F.While test body) = refl
 what_rolled f (What-F.For first test step body) = refl
 what_rolled f (What-F.What::Block body) = refl
 what_rolled f (What-F.What::Call c) = refl
-what_rolled f (What-F.Try body x handler) = refl
-what_rolled f (What-F.Throw x) = refl
+what_rolled f (What-F.Try body x y handler) = refl
+what_rolled f (What-F.Throw x a) = refl
 what_rolled f (What-F.Par branches) = refl
 
 module _ (f : Renaming) where

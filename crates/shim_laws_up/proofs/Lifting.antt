@@ -14,7 +14,7 @@ use Rattle.shim_units.specs.declared.unit.UWhat.TheVariants.{If, While, For, Blo
 use Rattle.shim_units.specs.declared.unit.UBranch.{UBranch}
 use Rattle.shim_units.specs.declared.unit.Unit.{Unit as UnitOf}
 use Rattle.shim_units.specs.declared.slot_map.SlotMap.{SlotMap}
-use Rattle.shim_units.specs.Moving.{slot_index_of, moved, moved_option}
+use Rattle.shim_units.specs.Moving.{slot_index_of, slot_index_of_option, moved, moved_option}
 use Rattle.shim_units.specs.Parts.{LiftContext, Lifted, Lifts, Part, all_tries}
 use Rattle.shim_units.specs.Lifting.{lift_all, lift_two, lift_three, lift_branch, branch_inner, branch_captures, branch_slots, branch_exceptions, branch_unit, made_unit}
 use Rattle.shim_units.specs.PartFold.{branch_what_step, what_step, branch_step, stmt_step, part, branch_part, parts, branch_parts, lift_in, tries_in}
@@ -164,9 +164,9 @@ what_layer (RWhat-F.For first test step body) line =
     three_alike (λ w p r s. For p (moved_option w.slots test) r s) (lift_all (parts (stmts first))) (lift_all (parts (stmts step))) (lift_all (parts (stmts body))) (stmts_alike first) (stmts_alike step) (stmts_alike body)
 what_layer (RWhat-F.RWhat::Block body) line = tree_alike (λ w t. Block t) (lift_all (parts (stmts body))) (stmts_alike body)
 what_layer (RWhat-F.RWhat::Call c) line = λ c x w n. record { tree = refl; units = refl }
-what_layer (RWhat-F.Try body x handler) line =
-    two_alike (λ w r s. Try r (slot_index_of w.exceptions x) s) (lift_all (parts (stmts body))) (lift_all (parts (stmts handler))) (stmts_alike body) (stmts_alike handler)
-what_layer (RWhat-F.Throw x) line = λ c x w n. record { tree = refl; units = refl }
+what_layer (RWhat-F.Try body x y handler) line =
+    two_alike (λ w r s. Try r (slot_index_of w.exceptions x) (slot_index_of_option w.slots y) s) (lift_all (parts (stmts body))) (lift_all (parts (stmts handler))) (stmts_alike body) (stmts_alike handler)
+what_layer (RWhat-F.Throw x a) line = λ c x w n. record { tree = refl; units = refl }
 what_layer (RWhat-F.Par bs) line = tree_alike (λ w t. Par t) (lift_all (branch_parts (branches bs))) (branches_alike bs)
 
 branch_what_case : (x : RBranchWhat-F RBranchWhat RWhat RBranch RStmt) (y : RBranchWhat-F PartBranchWhat PartWhat PartBranch PartStmt) → branch_what_of y ≡ x → BranchWhatAlike (roll-RBranchWhat x)

@@ -13,16 +13,16 @@ use Rattle.shim_syntax.specs.declared.tree.Branch.{Branch}
 use Rattle.shim_syntax.specs.declared.tree.BranchWhat.{BranchWhat, BranchWhat-F, fold-roll-BranchWhat, map-BranchWhat, roll-BranchWhat}
 use Rattle.shim_syntax.specs.declared.tree.BranchWhat.TheVariants as br
 use Rattle.shim_up.specs.Renaming as ren
-use Rattle.shim_up.specs.Renaming.{Renaming, expr_step, renamed_expr, renamed_option, renamed_call, renamed_stmt}
+use Rattle.shim_up.specs.Renaming.{Renaming, expr_step, renamed_expr, renamed_option, renamed_variable, renamed_call, renamed_stmt}
 use Rattle.shim_laws_up.proofs.Layers.{renamed_branch_what, renamed_what, renamed_branch, stmt_at_line, branch_at_line}
 
 pub renamed_number : (f : Renaming) (n : ℤ) → renamed_expr f (e.Number n) ≡ e.Number n
 unfolding renamed_expr roll-Expr denote.Hole.Carrier.roll
 renamed_number f n = fold-roll-Expr (Expr) (expr_step f) (Expr-F.Number n)
 
-pub renamed_variable : (f : Renaming) (x : List ℕ) → renamed_expr f (e.Var x) ≡ e.Var (f x)
+pub name_renamed : (f : Renaming) (x : List ℕ) → renamed_expr f (e.Var x) ≡ e.Var (f x)
 unfolding renamed_expr roll-Expr denote.Hole.Carrier.roll
-renamed_variable f x = fold-roll-Expr (Expr) (expr_step f) (Expr-F.Var x)
+name_renamed f x = fold-roll-Expr (Expr) (expr_step f) (Expr-F.Var x)
 
 pub renamed_unary : (f : Renaming) (op : UnOp) (a : Expr) → renamed_expr f (e.Unary op a) ≡ e.Unary op (renamed_expr f a)
 unfolding renamed_expr roll-Expr denote.Hole.Carrier.roll
@@ -94,13 +94,14 @@ module _ (f : Renaming) where
   unfolding roll-What denote.Hole.Carrier.roll
   call_renamed line c = stmt_at_line f line (st.Call c) ∙ ap (made line) (at_what (What-F.What::Call c))
 
-  pub try_renamed : (line : ℕ) (xs : List Stmt) (x : List ℕ) (ys : List Stmt) → renamed_stmt f (made line (st.Try xs x ys)) ≡ made line (st.Try (map (renamed_stmt f) xs) (f x) (map (renamed_stmt f) ys))
+  pub try_renamed : (line : ℕ) (xs : List Stmt) (x : List ℕ) (y : Option (List ℕ)) (ys : List Stmt)
+      → renamed_stmt f (made line (st.Try xs x y ys)) ≡ made line (st.Try (map (renamed_stmt f) xs) (f x) (renamed_variable f y) (map (renamed_stmt f) ys))
   unfolding roll-What denote.Hole.Carrier.roll
-  try_renamed line xs x ys = stmt_at_line f line (st.Try xs x ys) ∙ ap (made line) (at_what (What-F.Try xs x ys))
+  try_renamed line xs x y ys = stmt_at_line f line (st.Try xs x y ys) ∙ ap (made line) (at_what (What-F.Try xs x y ys))
 
-  pub throw_renamed : (line : ℕ) (x : List ℕ) → renamed_stmt f (made line (st.Throw x)) ≡ made line (st.Throw (f x))
+  pub throw_renamed : (line : ℕ) (x : List ℕ) (a : Option Expr) → renamed_stmt f (made line (st.Throw x a)) ≡ made line (st.Throw (f x) (renamed_option f a))
   unfolding roll-What denote.Hole.Carrier.roll
-  throw_renamed line x = stmt_at_line f line (st.Throw x) ∙ ap (made line) (at_what (What-F.Throw x))
+  throw_renamed line x a = stmt_at_line f line (st.Throw x a) ∙ ap (made line) (at_what (What-F.Throw x a))
 
   pub par_renamed : (line : ℕ) (bs : List Branch) → renamed_stmt f (made line (st.Par bs)) ≡ made line (st.Par (map (renamed_branch f) bs))
   unfolding roll-What denote.Hole.Carrier.roll

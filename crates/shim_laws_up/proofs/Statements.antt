@@ -1,9 +1,10 @@
 -- Each kind of statement binds as before with its names replaced, where its parts do.
-use Rattle.std.proofs.Common.{ℕ, ◌+◌, ◌≡◌, ◌∙◌, List, [], ◌∷◌, ◌++◌, Option, Ok, map, length, refl, sym, ap}
+use Rattle.std.proofs.Common.{ℕ, ◌+◌, ◌≡◌, ◌∙◌, List, [], ◌∷◌, ◌++◌, Option, Some, None, Ok, map, length, refl, sym, ap}
 use Rattle.std.specs.Option.{option_map}
 use Rattle.std.specs.Str.{bytes_eq}
 use Rattle.std.proofs.lemmas.List.{map-append}
 use Rattle.shim_base.specs.declared.types.Ty.{Ty}
+use Rattle.shim_base.specs.declared.types.Ty.TheVariants.{Int32}
 use Rattle.shim_syntax.specs.declared.tree.Sort.{Sort}
 use Rattle.shim_syntax.specs.declared.tree.Sort.TheVariants.{Value}
 use Rattle.shim_syntax.specs.declared.tree.Expr.{Expr}
@@ -13,11 +14,11 @@ use Rattle.shim_scopes.specs.declared.tree.RStmt.{RStmt}
 use Rattle.shim_scopes.specs.declared.tree.RWhat.{RWhat}
 use Rattle.shim_scopes.specs.declared.tree.RWhat.TheVariants as bt
 use Rattle.shim_scopes.specs.declared.tree.UExpr.{UExpr}
-use Rattle.shim_scopes.specs.Binding.{unknown, unknown_in, unknown_in_option, stream_in, stream_in_option, no_number, no_input, no_output, slot_of, placed, placed_option}
+use Rattle.shim_scopes.specs.Binding.{unknown, unknown_in, unknown_in_option, stream_in, stream_in_option, no_number, no_input, no_output, slot_of, placed, placed_option, exception_number}
 use Rattle.shim_syntax.specs.Names.{Texts, number_of}
-use Rattle.shim_scopes.specs.Statements.{Whole, Around, Before, Bind, declared, local_of, within, opened, caught, tried, bind_declare, bind_store, bind_next, bind_assign_next, bind_get, bind_put, bind_throw, bind_block, on_tree, bind_two, bind_test, bind_if, bind_while, bind_try, bind_parts, bind_first_test, bind_for, visible}
+use Rattle.shim_scopes.specs.Statements.{Whole, Around, Before, Bind, declared, local_of, within, opened, caught, tried, variable_declared, variable_slot, bind_handler, bind_declare, bind_store, bind_next, bind_assign_next, bind_get, bind_put, bind_throw, bind_block, on_tree, bind_two, bind_test, bind_if, bind_while, bind_try, bind_parts, bind_first_test, bind_for, visible}
 use Rattle.shim_scopes.proofs.Refusals.{bound}
-use Rattle.shim_up.specs.Renaming.{Renaming, renamed_expr, renamed_option}
+use Rattle.shim_up.specs.Renaming.{Renaming, renamed_expr, renamed_option, renamed_variable}
 use Rattle.shim_laws_up.specs.Around.{local_renamed, handled_renamed, whole_renamed, around_renamed, before_renamed, bound_renamed, answer_renamed, Follows}
 use Rattle.shim_laws_up.proofs.Around.{refused, followed}
 use Rattle.shim_laws_up.proofs.Names.{both_or, unknown_same, unhandled_same, number_same, slot_same, no_number_same, no_input_same, no_output_same, declared_in_same, number_of_same}
@@ -115,10 +116,13 @@ module _ (f : Renaming) (same : (x y : List ℕ) → bytes_eq (f x) (f y) ≡ by
       (refused f (bound_renamed f) line WrongKind _ _ _ _ (both_or f _ _ _ _ (no_output_name a b x) (stream_expr a b e))
       (bound_same _ _ _ _ (ap (λ (s : ℕ). bt.Put s (placed (seen_by a b) (renamed_expr f e))) (slot_name a b x) ∙ ap (λ (u : UExpr). bt.Put (slot_of (visible a b) x) u) (placed_expr a b e)) refl))
 
-  pub throw_follows : (x : List ℕ) (line : ℕ) → Follows f (bind_throw x line) (bind_throw (f x) line)
-  throw_follows x line a b =
-      refused f (bound_renamed f) line UnknownException _ _ _ _ (unhandled_same f same a.handled x)
-      (bound_same _ _ _ _ (ap bt.Throw (number_same f same a.handled x)) refl)
+  pub throw_follows : (x : List ℕ) (e : Option Expr) (line : ℕ) → Follows f (bind_throw x e line) (bind_throw (f x) (renamed_option f e) line)
+  throw_follows x e line a b =
+      refused f (bound_renamed f) line UnknownName _ _ _ _ (unknown_option a b e)
+      (refused f (bound_renamed f) line UnknownException _ _ _ _ (unhandled_same f same a.handled x)
+      (refused f (bound_renamed f) line WrongKind _ _ _ _ (stream_option a b e)
+      (bound_same _ _ _ _ (ap (λ (n : ℕ). bt.Throw n (placed_option (seen_by a b) (renamed_option f e))) (number_same f same a.handled x)
+      ∙ ap (λ (o : Option UExpr). bt.Throw (exception_number a.handled x) o) (placed_opt a b e)) refl)))
 
   within_same : (a : Around) (b : Before) → within (around_renamed f a) (before_renamed f b) ≡ around_renamed f (within a b)
   within_same a b = ap (λ (ls : List Local). let c : Around = record { outer = ls; handled = map (handled_renamed f) a.handled; throws = a.throws } in c) (seen a b)
@@ -160,13 +164,27 @@ module _ (f : Renaming) (same : (x y : List ℕ) → bytes_eq (f x) (f y) ≡ by
   tried_same w x b =
       ap (λ (n : ℕ). let c : Before = record { own = locals b.own; slots = b.slots; slot_names = b.slot_names; tries = b.tries ++ n ∷ [] } in c) (number_of_same f same w.names x)
 
-  pub try_follows : (w : Whole) (x : List ℕ) (g h i j : Bind (List RStmt)) → Follows f g h → Follows f i j → Follows f (bind_try w x g i) (bind_try (whole_renamed f w) (f x) h j)
-  try_follows w x g h i j k l a b =
+  variable_same : (names : Texts) (y : Option (List ℕ)) (b : Before) → variable_declared (map f names) (renamed_variable f y) (before_renamed f b) ≡ before_renamed f (variable_declared names y b)
+  variable_same names None b = refl
+  variable_same names (Some y) b = declared_same names y (Value Int32) b
+
+  variable_slot_same : (y : Option (List ℕ)) (b : Before) → variable_slot (renamed_variable f y) (before_renamed f b) ≡ variable_slot y b
+  variable_slot_same None b = refl
+  variable_slot_same (Some y) b = refl
+
+  handler_follows : (w : Whole) (y : Option (List ℕ)) (g h : Bind (List RStmt)) → Follows f g h → Follows f (bind_handler w y g) (bind_handler (whole_renamed f w) (renamed_variable f y) h)
+  handler_follows w y g h k a b = ap (λ c. h (around_renamed f a) c) (variable_same w.names y b) ∙ k a (variable_declared w.names y b)
+
+  pub try_follows : (w : Whole) (x : List ℕ) (y : Option (List ℕ)) (g h i j : Bind (List RStmt)) → Follows f g h → Follows f i j
+      → Follows f (bind_try w x y g i) (bind_try (whole_renamed f w) (f x) (renamed_variable f y) h j)
+  try_follows w x y g h i j k l a b =
       followed f (bound_renamed f) (bound_renamed f) (bind_block g (caught x a b) (tried w x b)) _ _ _
       (ap (λ c. bind_block h c (tried (whole_renamed f w) (f x) (before_renamed f b))) (caught_same x a b)
       ∙ ap (λ c. bind_block h (around_renamed f (caught x a b)) c) (tried_same w x b)
       ∙ block_follows g h k (caught x a b) (tried w x b))
-      (λ r. followed f (bound_renamed f) (bound_renamed f) (bind_block i a r.before) _ _ _ (block_follows i j l a r.before) (λ s. refl))
+      (λ r. followed f (bound_renamed f) (bound_renamed f) (bind_block (bind_handler w y i) a r.before) _ _ _
+      (block_follows (bind_handler w y i) (bind_handler (whole_renamed f w) (renamed_variable f y) j) (handler_follows w y i j l) a r.before)
+      (λ s. bound_same _ _ _ _ (ap (λ (o : Option ℕ). bt.Try r.tree (a.throws + length b.tries) o s.tree) (variable_slot_same y r.before)) refl))
 
   parts_follow : (test : Option Expr) (g h i j k l : Bind (List RStmt)) → Follows f g h → Follows f i j → Follows f k l → Follows f (bind_parts test g i k) (bind_parts (renamed_option f test) h j l)
   parts_follow test g h i j k l p q s a b =

@@ -10,7 +10,7 @@ use Rattle.shim_syntax.specs.declared.tree.Program.{Program}
 use Rattle.shim_syntax.specs.Terminals.{Terminal, Name, Number, Sort, Key, Sign, End, Broken, of_token, of_tokens, of_end, of_version, in_version, begins_two}
 use Rattle.shim_syntax.specs.Limits.{limits}
 use Rattle.shim_syntax.specs.Grammar as is
-use Rattle.shim_syntax.specs.Grammar.{Counts, nothing_read, IsFunction, IsFunctions, Derives}
+use Rattle.shim_syntax.specs.Grammar.{in_version_2, nothing_read, IsFunctions, Derives}
 use Rattle.shim_syntax.specs.Text.{IsText}
 use Rattle.shim_syntax.proofs.Programs.{no_header}
 use Rattle.shim_syntax.proofs.Standing.{header_seen}
@@ -107,7 +107,7 @@ module _ (f : Renaming) (keeps : KeepsNames f) where
       let end = after start (header r.bytes) in
       let new = map (of_version true) (of_tokens r.others (End end)) in
       let is_new = aligned f keeps end (places f keeps new) old new (r.alike last end) (λ n lt. refl) in
-      let done = subst (λ s. IsFunctions limits 0 nothing_read s [] (renamed_functions f p.functions)) is_new (functions_rewritten f end (places f keeps new) derived) in (
+      let done = subst (λ s. IsFunctions limits 0 (in_version_2 nothing_read) s [] (renamed_functions f p.functions)) is_new (functions_rewritten f true end (places f keeps new) derived) in (
         header r.bytes,
         record {
           terminals = in_version (of_tokens (header_tokens r.others) (End end));

@@ -2,3 +2,5 @@
 pub mod Given
 pub mod OneMore
 pub mod Lent
+pub mod Runs
+pub mod RunChanges

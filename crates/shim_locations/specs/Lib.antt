@@ -4,3 +4,4 @@ pub mod Ownerships
 pub mod Given
 pub mod ArgumentFaults
 pub mod Lendings
+pub mod Runs

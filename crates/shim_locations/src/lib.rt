@@ -9,6 +9,7 @@ pub mod locations;
 pub mod ownership;
 pub mod passing;
 pub mod remainder;
+pub mod serial_runs;
 pub mod sharers;
 pub mod slots;
 pub mod streams;

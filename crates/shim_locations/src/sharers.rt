@@ -1,12 +1,14 @@
 // What a process has to do with a channel.
-ghost use Rattle.std.specs.Prelude.{◌≡◌, ◌&&◌, [], ◌∷◌, nat_lt};
+ghost use Rattle.std.specs.Prelude.{◌≡◌, ◌&&◌, [], ◌∷◌, nat_lt, not};
 ghost use Rattle.std.specs.Arc.{arc_value};
 ghost use Rattle.std.specs.Option.{option_copied};
 ghost use Rattle.shim_base.specs.Paths.{same_path};
 ghost use Rattle.shim_process.specs.Locations.{own_of, is_on, is_own};
 ghost use Rattle.shim_process.specs.Sharers.{is_among};
+ghost use Rattle.shim_process.specs.SerialRuns.{is_in_runs};
 
 use crate::location::Location;
+use crate::serial_runs::SerialRuns;
 use shim_base::{Chan, Path};
 use std::sync::Arc;
 
@@ -22,11 +24,12 @@ pub fn is_among(given: &[Chan], c: &Chan) -> bool
     false
 }
 
-/// Whether a process of this path, which made so many channels, made this one.
-pub fn declared(home: &Arc<Path>, made: u32, c: &Chan) -> bool
-    ensures { result ≡ same_path c.now.channel.home (arc_value home.now) && nat_lt c.now.channel.serial made }
+/// Whether a process of this path, which made so many channels, declared this one: no handler's variable
+/// that waits for a number is on it.
+pub fn declared(home: &Arc<Path>, made: u32, untaken: &SerialRuns, c: &Chan) -> bool
+    ensures { result ≡ same_path c.now.channel.home (arc_value home.now) && (nat_lt c.now.channel.serial made && not (is_in_runs c.now.channel.serial untaken.now.runs)) }
 {
-    *c.home() == **home && c.serial() < made
+    *c.home() == **home && c.serial() < made && !untaken.has(c.serial())
 }
 
 // Whether it is the channel's own variable.

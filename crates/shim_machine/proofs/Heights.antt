@@ -17,14 +17,15 @@ use Rattle.shim_process.proofs.TodoItems.{line_of}
 use Rattle.shim_code.specs.declared.instr.MarkKind.{MarkKind}
 use Rattle.shim_code.specs.declared.instr.MarkKind.TheVariants as kind
 use Rattle.shim_code.specs.declared.machine_instr.MachineInstr.{MachineInstr}
-use Rattle.shim_code.specs.declared.machine_instr.MachineInstr.TheVariants.{Num, Var, Un, Bin, Bool, Jump, JumpZ, Declare, Set, Get, Put, Next, Ref, Pass, Fresh, Call, Branch, Fork, Try, Untry, Throw, End}
+use Rattle.shim_code.specs.declared.machine_instr.MachineInstr.TheVariants.{Num, Var, Un, Bin, Bool, Jump, JumpZ, Declare, Set, Get, Put, Next, Ref, Pass, Fresh, Call, Branch, Fork, Untry, Throw, End}
 use Rattle.shim_code.specs.Layout.{all, arms, behind, loop, one}
-use Rattle.shim_code.specs.MachineCode.{MachineCode, begins, begun, callee_of, first_name, first_sort, machine_arg, machine_args, machine_branch, machine_branches, machine_call, machine_expr, machine_expr_or, machine_expr_step, machine_fork, machine_looped, machine_marked, machine_stmt, machine_stmts, machine_unit, numbered, params_in, statements_in, with_number}
+use Rattle.shim_code.specs.MachineCode.{MachineCode, begins, begun, callee_of, first_name, first_sort, machine_arg, machine_args, machine_branch, machine_branches, machine_call, machine_expr, machine_expr_or, machine_expr_step, machine_fork, machine_looped, machine_marked, machine_stmt, machine_stmts, machine_unit, numbered, params_in, statements_in, try_instr, with_number}
 use Rattle.shim_machine.specs.Machine.{CodedUnit, fetch}
 use Rattle.shim_machine.specs.Stands.{HasAt, kind_code}
 use Rattle.shim_machine.specs.StackHeights.{HasHeight, height_after, height_at, height_of}
 use Rattle.shim_machine.proofs.Enters.{code_roll}
 use Rattle.shim_machine.proofs.Exprs.{has_back, has_front}
+use Rattle.shim_machine.proofs.Tried.{tried_number, tried_height, tried_has}
 use Rattle.shim_machine.proofs.UnitStarts.{unit_has}
 
 behind_one : (h : ℕ) (is : List MachineInstr) (i : MachineInstr) → height_of h (is ++ i ∷ []) ≡ height_after (height_of h is) i
@@ -265,24 +266,24 @@ module _ (u : CodedUnit) where
       (ap H z ∙ inner.0, (e, inner.1))
 
   -- the block of a `try`, and its handler
-  try_level : (x : ℕ) (a b : MachineCode) → Level a → Level b → Level (arms Jump (λ h. Try h x) (behind a (one Untry)) b)
-  try_level x a b la lb n pc has e =
+  try_level : (x : ℕ) (y : Option ℕ) (a b : MachineCode) → Level a → Level b → Level (arms Jump (λ h. try_instr h x y) (behind a (one Untry)) b)
+  try_level x y a b la lb n pc has e =
       let body = behind a (one Untry) in
       let ca = body (pc + 1) in
       let jump = pc + 1 + length ca in
       let second = jump + 1 in
       let cb = b second in
       let end = second + length cb in
-      let n0 = n + 0 in
+      let n0 = n + begun (try_instr second x y) in
       let less : 0 - 1 ≡ 0 = omega arith in
-      let at_first : H (pc + 1) ≡ 0 = next pc (Try second x) has.0 ∙ e in
+      let at_first : H (pc + 1) ≡ 0 = next pc (try_instr second x y) (has.0 ∙ ap Some (tried_number n second x y)) ∙ tried_height (H pc) second x y ∙ e in
       let l = behind_level a (one Untry) la (one_level Untry (λ p m e. e) (λ m. refl)) n0 (pc + 1) (has_front u n0 (pc + 1) ca (Jump end ∷ cb) has.1) at_first in
       let hj = has_back u n0 (pc + 1) ca (Jump end ∷ cb) has.1 in
       let at_second : H second ≡ 0 = next jump (Jump end) hj.0 ∙ ap (λ h. h - 1) l.0 ∙ less in
       let r = lb (n0 + statements_in ca + 0) second hj.1 at_second in
       let to_end : H end ≡ H jump = r.0 ∙ sym l.0 in
-      let z : pc + length (arms Jump (λ h. Try h x) body b pc) ≡ end = omega (arith, length-append ca (Jump end ∷ cb)) in
-      (ap H z ∙ r.0, ((e, at_second), both n0 (pc + 1) ca (Jump end ∷ cb) l.1 (to_end, r.1)))
+      let z : pc + length (arms Jump (λ h. try_instr h x y) body b pc) ≡ end = omega (arith, length-append ca (Jump end ∷ cb)) in
+      (ap H z ∙ r.0, (tried_has u n pc second x y e at_second, both n0 (pc + 1) ca (Jump end ∷ cb) l.1 (to_end, r.1)))
 
   -- statements
 
@@ -345,11 +346,12 @@ module _ (u : CodedUnit) where
   kind_level (UWhat-F.Call c) l =
       let ps = params_in u.units c.unit in
       marked kind.Quiet l false (machine_call u.units c) (behind_level (machine_args ps c.args) (one (Call (callee_of c))) (args_level ps c.args) (one_level (Call (callee_of c)) (λ p m e. e) (λ m. refl)))
-  kind_level (UWhat-F.Try a x b) l =
+  kind_level (UWhat-F.Try a x y b) l =
       let ma = machine_stmts u.units (plain a) in
       let mb = machine_stmts u.units (plain b) in
-      marked kind.Quiet l false (arms Jump (λ h. Try h x) (behind ma (one Untry)) mb) (try_level x ma mb (such_level a) (such_level b))
-  kind_level (UWhat-F.Throw x) l = marked kind.Throw l false (one (Throw x)) (one_level (Throw x) (λ p m e. tt) (λ m. refl))
+      marked kind.Quiet l false (arms Jump (λ h. try_instr h x y) (behind ma (one Untry)) mb) (try_level x y ma mb (such_level a) (such_level b))
+  kind_level (UWhat-F.Throw x e) l =
+      marked kind.Throw l false (behind (machine_expr_or (pos 0) e) (one (Throw x))) (takes (machine_expr_or (pos 0) e) (Throw x) (λ p m e. let z : 1 ≤ H p = omega (arith, e) in z) (λ m. refl) (option_rises (pos 0) e))
   kind_level (UWhat-F.Par bs) l = marked kind.Fork l false (machine_fork u.units bs) (behind_level (machine_branches u.units bs) (one (Fork (length bs))) (branches_level bs) (one_level (Fork (length bs)) (λ p m e. tt) (λ m. refl)))
 
   what_level : (x : UWhat-F UWhat UStmt) → KindLevel x → WhatLevel (roll-UWhat x)

@@ -19,3 +19,4 @@ pub mod Heights
 pub mod Room
 pub mod MarkPlaces
 pub mod SamePlaces
+pub mod Tried

@@ -6,7 +6,7 @@ use Rattle.shim_units.specs.declared.unit.UStmt.{UStmt}
 use Rattle.shim_process.specs.LocalState.{Frame, is_deep, is_full}
 use Rattle.shim_process.specs.Values.{Value}
 use Rattle.shim_code.specs.declared.machine_instr.MachineInstr.{MachineInstr}
-use Rattle.shim_code.specs.declared.machine_instr.MachineInstr.TheVariants.{Mark, Num, Var, Un, Bin, Bool, Jump, JumpZ, Declare, Set, Get, Put, Next, Ref, Pass, Fresh, Call, Branch, Fork, Try, Untry, Throw, End}
+use Rattle.shim_code.specs.declared.machine_instr.MachineInstr.TheVariants.{Mark, Num, Var, Un, Bin, Bool, Jump, JumpZ, Declare, Set, Get, Put, Next, Ref, Pass, Fresh, Call, Branch, Fork, Try, TryInto, Untry, Throw, End}
 use Rattle.shim_machine.specs.Machine.{Codes, Go, Machine, Outcome, ReturnPlace, act, fetch, leaves_unit, on_result, on_top, on_two, run, unit_of}
 use Rattle.shim_machine.specs.Comes.{IsEnd}
 
@@ -57,8 +57,9 @@ one body (Some (Call c)) go go' m h e = either (is_deep m.state || is_full m.sta
 one body (Some (Branch c)) go go' m h e = h _ e
 one body (Some (Fork n)) go go' m h e = refl
 one body (Some (Try t x)) go go' m h e = either (is_full m.state) _ _ _ _ (λ e. refl) (h _) e
+one body (Some (TryInto t x y)) go go' m h e = either (is_full m.state) _ _ _ _ (λ e. refl) (h _) e
 one body (Some Untry) go go' m h e = h _ e
-one body (Some (Throw x)) go go' m h e = refl
+one body (Some (Throw x)) go go' m h e = top m.stack _ _ (λ v rest e. refl) e
 one body (Some (End n)) go go' m h e = over m.back m.state.callers body (End n) go go' m h e
 
 pub longer : (codes : Codes) (n more : ℕ) (m : Machine) → n ≤ more → IsEnd (run codes n m) → run codes more m ≡ run codes n m

@@ -1,5 +1,5 @@
 -- Each mark of a unit's code stands there once, and so does its end.
-use Rattle.std.proofs.Common.{◌≡◌, ℕ, zero, suc, pos, ◌+◌, ◌-◌, ◌≤◌, false, true, not, List, [], ◌∷◌, ◌++◌, length, map, Some, None, if◌then◌else◌, refl, sym, ap, ◌∙◌, subst, arith}
+use Rattle.std.proofs.Common.{◌≡◌, ℕ, zero, suc, pos, ◌+◌, ◌-◌, ◌≤◌, false, true, not, List, [], ◌∷◌, ◌++◌, length, map, Option, Some, None, if◌then◌else◌, refl, sym, ap, ◌∙◌, subst, arith}
 use Rattle.std.specs.Prelude.{Bool as TruthValue, slice_get}
 use Rattle.shim_scopes.specs.declared.tree.UExpr.{UExpr}
 use Rattle.shim_units.specs.declared.unit.UBranch.{UBranch}
@@ -12,9 +12,9 @@ use Rattle.shim_code.specs.declared.instr.MarkKind.{MarkKind}
 use Rattle.shim_code.specs.declared.instr.MarkKind.TheVariants as kind
 use Rattle.shim_code.specs.declared.machine_instr.Mark.{Mark as MarkOf}
 use Rattle.shim_code.specs.declared.machine_instr.MachineInstr.{MachineInstr}
-use Rattle.shim_code.specs.declared.machine_instr.MachineInstr.TheVariants.{Mark, Var, Jump, JumpZ, Declare, Set, Get, Put, Next, Call, Branch, Fork, Try, Untry, Throw, End}
+use Rattle.shim_code.specs.declared.machine_instr.MachineInstr.TheVariants.{Mark, Var, Jump, JumpZ, Declare, Set, Get, Put, Next, Call, Branch, Fork, Untry, Throw, End}
 use Rattle.shim_code.specs.Layout.{arms, behind, loop, one}
-use Rattle.shim_code.specs.MachineCode.{MachineCode, begins, begun, callee_of, machine_args, machine_branch, machine_branches, machine_expr, machine_expr_or, machine_looped, machine_marked, machine_stmt, machine_stmts, machine_unit, numbered, params_in, with_number}
+use Rattle.shim_code.specs.MachineCode.{MachineCode, begins, begun, callee_of, machine_args, machine_branch, machine_branches, machine_expr, machine_expr_or, machine_looped, machine_marked, machine_stmt, machine_stmts, machine_unit, numbered, params_in, try_instr, with_number}
 use Rattle.shim_machine.specs.Machine.{CodedUnit, fetch}
 use Rattle.shim_machine.specs.Stands.{kind_code}
 use Rattle.shim_machine.proofs.Computing.{AllCompute, AllGather, Computes, Gathering, args_gather, expr_computes, option_computes}
@@ -115,6 +115,10 @@ then_plain c i hi h pc = both_plain (c pc) (i ∷ []) (h pc) (hi, tt)
 behind_orderly : (a b : MachineCode) → Orderly a → Orderly b → Orderly (behind a b)
 behind_orderly a b ha hb pc o = both_orderly o (a pc) (b (pc + length (a pc))) (ha pc o) (hb (pc + length (a pc)))
 
+tried_plain : (h x : ℕ) (y : Option ℕ) → IsPlain (try_instr h x y)
+tried_plain h x None = tt
+tried_plain h x (Some y) = tt
+
 arms_orderly : (head : ℕ → MachineInstr) (a b : MachineCode) → ((t : ℕ) → IsPlain (head t)) → Orderly a → Orderly b → Orderly (arms Jump head a b)
 arms_orderly head a b hh ha hb pc o =
     let ca = a (pc + 1) in
@@ -209,11 +213,11 @@ module _ (units : List UnitOf) where
       behind_orderly mf (machine_looped l test (behind mb ms)) (such_orderly first) (looped l test (behind mb ms) (λ pc. all_compute_plain (test pc) (option_computes (pos 1) e pc)) (behind_orderly mb ms (such_orderly body) (such_orderly step)))
   kind_orderly (UWhat-F.Block a) l = such_orderly a
   kind_orderly (UWhat-F.Call c) l = simple kind.Quiet l (machine_args (params_in units c.unit) c.args) (Call (callee_of c)) tt (args_plain c)
-  kind_orderly (UWhat-F.Try a x b) l =
+  kind_orderly (UWhat-F.Try a x y b) l =
       let ma = machine_stmts units (plain a) in
       let mb = machine_stmts units (plain b) in
-      marked kind.Quiet l (arms Jump (λ h. Try h x) (behind ma (one Untry)) mb) (arms_orderly (λ h. Try h x) (behind ma (one Untry)) mb (λ t. tt) (behind_orderly ma (one Untry) (such_orderly a) (of_plain (one Untry) (λ pc. (tt, tt)))) (such_orderly b))
-  kind_orderly (UWhat-F.Throw x) l = single kind.Throw l (Throw x) tt
+      marked kind.Quiet l (arms Jump (λ h. try_instr h x y) (behind ma (one Untry)) mb) (arms_orderly (λ h. try_instr h x y) (behind ma (one Untry)) mb (λ t. tried_plain t x y) (behind_orderly ma (one Untry) (such_orderly a) (of_plain (one Untry) (λ pc. (tt, tt)))) (such_orderly b))
+  kind_orderly (UWhat-F.Throw x e) l = simple kind.Throw l (machine_expr_or (pos 0) e) (Throw x) tt (λ pc. all_compute_plain (machine_expr_or (pos 0) e pc) (option_computes (pos 0) e pc))
   kind_orderly (UWhat-F.Par bs) l = simple kind.Fork l (machine_branches units bs) (Fork (length bs)) tt (branches_plain bs)
 
   what_orderly : (x : UWhat-F UWhat UStmt) → KindOrderly x → WhatOrderly (roll-UWhat x)

@@ -14,9 +14,9 @@ use Rattle.shim_code.specs.declared.instr.MarkKind.{MarkKind}
 use Rattle.shim_code.specs.declared.instr.MarkKind.TheVariants as kind
 use Rattle.shim_code.specs.declared.machine_instr.Mark.{Mark as MarkOf}
 use Rattle.shim_code.specs.declared.machine_instr.MachineInstr.{MachineInstr}
-use Rattle.shim_code.specs.declared.machine_instr.MachineInstr.TheVariants.{Mark, Num, Var, Un, Bin, Bool, Jump, JumpZ, Declare, Set, Get, Put, Next, Ref, Pass, Fresh, Call, Branch, Fork, Try, Untry, Throw, End}
+use Rattle.shim_code.specs.declared.machine_instr.MachineInstr.TheVariants.{Mark, Num, Var, Un, Bin, Bool, Jump, JumpZ, Declare, Set, Get, Put, Next, Ref, Pass, Fresh, Call, Branch, Fork, Try, TryInto, Untry, Throw, End}
 use Rattle.shim_code.specs.Layout.{behind, one}
-use Rattle.shim_code.specs.MachineCode.{MachineCode, begins, begun, callee_of, machine_args, machine_branch, machine_branches, machine_call, machine_expr, machine_expr_or, machine_fork, machine_looped, machine_stmt, machine_stmts, machine_unit, numbered, params_in, statements_in, with_number}
+use Rattle.shim_code.specs.MachineCode.{MachineCode, begins, begun, callee_of, machine_args, machine_branch, machine_branches, machine_call, machine_expr, machine_expr_or, machine_fork, machine_looped, machine_stmt, machine_stmts, machine_unit, numbered, params_in, statements_in, try_instr, with_number}
 use Rattle.shim_code.proofs.StatementNumbers.{stmt_counts}
 use Rattle.shim_machine.specs.Machine.{CodedUnit, fetch}
 use Rattle.shim_machine.specs.Stands.{AtHalf, Has, HasAt, HasHalves, Here, IsTold, Stands, at_do, at_half, first_kind, half_what, kind_code, point_code, point_what, stands_back, stands_do, stands_end, stands_jump, stands_leave}
@@ -25,6 +25,7 @@ use Rattle.shim_machine.proofs.Enters.{code_roll, count_all, count_both, enters_
 use Rattle.shim_machine.proofs.Exprs.{has_back, has_front}
 use Rattle.shim_machine.proofs.Steps.{no_stmts, no_stmts_or, renumber}
 use Rattle.shim_machine.proofs.Told.{told_followed}
+use Rattle.shim_machine.proofs.Tried.{tried_begun}
 use Rattle.shim_machine.proofs.UnitStarts.{told_first, unit_has}
 
 -- what is to be done begins at this place with the statement of the mark's number, and has the property
@@ -84,9 +85,14 @@ module _ (P : List Item → Type 0) (stays : (c : Successor) (k : List Item) →
   no_mark u n pc (Branch c) h = tt
   no_mark u n pc (Fork c) h = tt
   no_mark u n pc (Try t x) h = tt
+  no_mark u n pc (TryInto t x y) h = tt
   no_mark u n pc Untry h = tt
   no_mark u n pc (Throw x) h = tt
   no_mark u n pc (End c) h = absurd h
+
+  tried_found : (u : CodedUnit) (n pc h x : ℕ) (y : Option ℕ) → IsFound u pc (with_number n (try_instr h x y))
+  tried_found u n pc h x None = tt
+  tried_found u n pc h x (Some y) = tt
 
   found_gathering : (u : CodedUnit) (n pc : ℕ) (is : List MachineInstr) → AllGather is → AllFound u n pc is
   found_gathering u n pc [] h = tt
@@ -114,6 +120,7 @@ module _ (P : List Item → Type 0) (stays : (c : Successor) (k : List Item) →
   found_computing u n pc (Branch c ∷ is) h = absurd h.0
   found_computing u n pc (Fork c ∷ is) h = absurd h.0
   found_computing u n pc (Try t x ∷ is) h = absurd h.0
+  found_computing u n pc (TryInto t x y ∷ is) h = absurd h.0
   found_computing u n pc (Untry ∷ is) h = absurd h.0
   found_computing u n pc (Throw x ∷ is) h = absurd h.0
   found_computing u n pc (End c ∷ is) h = absurd h.0
@@ -319,18 +326,18 @@ module _ (P : List Item → Type 0) (stays : (c : Successor) (k : List Item) →
         (told_after l m x k On of_first.0, subst (AllFound u n pc) (sym c) (found_both u n pc ca cl of_first.1 (found_as u m _ at cl same_m of_loop)))
 
     -- the block of a `try`, and its handler
-    try_marks : (l : ℕ) (a : List UStmt) (y : ℕ) (b : List UStmt) → AllMarks a → AllMarks b → MarksOf (line_of l (roll-UWhat (UWhat-F.Try a y b)))
-    try_marks l a y b ma mb = marked l x kind.Quiet refl _ (λ pc. refl) (λ pc. refl) (at_items l x) (λ n k. refl) inner
+    try_marks : (l : ℕ) (a : List UStmt) (y : ℕ) (z : Option ℕ) (b : List UStmt) → AllMarks a → AllMarks b → MarksOf (line_of l (roll-UWhat (UWhat-F.Try a y z b)))
+    try_marks l a y z b ma mb = marked l x kind.Quiet refl _ (λ pc. refl) (λ pc. refl) (at_items l x) (λ n k. refl) inner
       where
         x : UWhat-F UWhat UStmt
-        x = UWhat-F.Try a y b
+        x = UWhat-F.Try a y z b
 
-        inner : (pc n stop : ℕ) (k : List Item) → (let s = line_of l (roll-UWhat (UWhat-F.Try a y b)) in
+        inner : (pc n stop : ℕ) (k : List Item) → (let s = line_of l (roll-UWhat (UWhat-F.Try a y z b)) in
             let first = pc + 1 + 1 in
             let body = behind (machine_stmts u.units a) (one Untry) first in
             let handler = first + length body + 1 in
             let cb = machine_stmts u.units b handler in
-            let rest = Try handler y ∷ (body ++ Jump (handler + length cb) ∷ cb) in
+            let rest = try_instr handler y z ∷ (body ++ Jump (handler + length cb) ∷ cb) in
             Has u pc n s stop → HasAt u (n + 1) (pc + 1) rest → stop ≡ pc + 1 + length rest → Stands u stop k → P (Do n s ∷ k) → AllFound u (n + 1) (pc + 1) rest)
         inner pc n stop k whole h ends rest told =
             let first = pc + 1 + 1 in
@@ -339,7 +346,7 @@ module _ (P : List Item → Type 0) (stays : (c : Successor) (k : List Item) →
             let handler = first + length body + 1 in
             let cb = machine_stmts u.units b handler in
             let end = handler + length cb in
-            let n1 : n + 1 + 0 ≡ n + 1 = omega arith in
+            let n1 : n + 1 + begun (try_instr handler y z) ≡ n + 1 = omega (arith, tried_begun handler y z) in
             let h0 = renumber u _ (n + 1) first (body ++ Jump end ∷ cb) n1 h.1 in
             let h2 = has_back u (n + 1) first body (Jump end ∷ cb) h0 in
             let hb = has_front u (n + 1) first body (Jump end ∷ cb) h0 in
@@ -356,7 +363,7 @@ module _ (P : List Item → Type 0) (stays : (c : Successor) (k : List Item) →
             let fb = (in_list b mb handler (n + 1 + size_all a) k hh there (told_after l n x k Second told)).1 in
             let f1 = found_both u (n + 1) first ca (Untry ∷ []) fa (tt, tt) in
             let f2 = found_both u (n + 1) first body (Jump end ∷ cb) f1 (tt, found_as u (n + 1 + size_all a) _ handler cb nb fb) in
-            (tt, found_as u (n + 1) _ first (body ++ Jump end ∷ cb) n1 f2)
+            (tried_found u (n + 1) (pc + 1) handler y z, found_as u (n + 1) _ first (body ++ Jump end ∷ cb) n1 f2)
 
     -- at the second mark of a statement
     half_here : (x : UWhat-F UWhat UStmt) (s : UStmt) (n stop at : ℕ) (k : List Item) → out-UWhat s.what ≡ x → HasHalves x → HasAt u (n + 1) at (half_what x s.line at) → stop ≡ at + length (half_what x s.line at) → Stands u stop k → AtHalf u at (Do n s ∷ k)
@@ -427,8 +434,8 @@ module _ (P : List Item → Type 0) (stays : (c : Successor) (k : List Item) →
         let inner = in_list ss (all_marks a) pc n k (subst (HasAt u n pc) c has) (subst (λ c. Stands u (pc + length c) k) c st) (subst (λ j. P (j ++ k)) i told) in
         (inner.0, subst (AllFound u n pc) (sym c) inner.1)
     by_kind (UWhat-F.Call c) l = let w = bare (UWhat-F.Call c) in plain l w kind.Quiet refl _ (λ pc. refl) (λ pc. refl) (at_items l w) (λ n k. refl) (λ n pc. call_found c n (pc + 1))
-    by_kind (UWhat-F.Try a x b) l = try_marks l (map (λ e. e.0) a) x (map (λ e. e.0) b) (all_marks a) (all_marks b)
-    by_kind (UWhat-F.Throw x) l = let w = bare (UWhat-F.Throw x) in plain l w kind.Throw refl _ (λ pc. refl) (λ pc. refl) (at_items l w) (λ n k. refl) (λ n pc. (tt, tt))
+    by_kind (UWhat-F.Try a x y b) l = try_marks l (map (λ e. e.0) a) x y (map (λ e. e.0) b) (all_marks a) (all_marks b)
+    by_kind (UWhat-F.Throw x e) l = let w = bare (UWhat-F.Throw x e) in plain l w kind.Throw refl _ (λ pc. refl) (λ pc. refl) (at_items l w) (λ n k. refl) (λ n pc. then_one n (pc + 1) (machine_expr_or (pos 0) e (pc + 1)) (Throw x) (option_computes (pos 0) e (pc + 1)) (λ n pc. tt))
     by_kind (UWhat-F.Par bs) l = let w = bare (UWhat-F.Par bs) in plain l w kind.Fork refl _ (λ pc. refl) (λ pc. refl) (at_items l w) (λ n k. refl) (λ n pc. fork_found bs n (pc + 1))
 
     marks_of : (s : UStmt) → MarksOf s

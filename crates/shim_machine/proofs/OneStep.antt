@@ -1,5 +1,5 @@
 -- One step from a mark.
-use Rattle.std.proofs.Common.{◌≡◌, ℕ, suc, pos, ◌+◌, ◌<◌, ◌-◌, false, true, Bool, List, [], ◌∷◌, ◌++◌, length, Some, Ok, refl, sym, ap, ◌∙◌, subst, arith, length-append, if◌then◌else◌}
+use Rattle.std.proofs.Common.{◌≡◌, ℕ, suc, pos, ◌+◌, ◌<◌, ◌-◌, false, true, Bool, List, [], ◌∷◌, ◌++◌, length, Some, Ok, refl, sym, ap, ◌∙◌, subst, arith, length-append, if◌then◌else◌, Option, None}
 use Rattle.shim_scopes.specs.declared.tree.UExpr.{UExpr}
 use Rattle.shim_units.specs.Numbering.{size_all}
 use Rattle.shim_units.specs.declared.unit.UStmt.{UStmt}
@@ -7,7 +7,7 @@ use Rattle.shim_units.specs.declared.unit.UWhat.{UWhat, UWhat-F, out-UWhat}
 use Rattle.shim_process.specs.Ends.{past_ends, settled, gone, went}
 use Rattle.shim_process.specs.LocalState.{LocalState, env_of, is_full, trapped, unit_at}
 use Rattle.shim_process.specs.StatementViews.{statement_view}
-use Rattle.shim_process.specs.Steps.{Action, Enter, Go, Install, Make, Read, Store, StoreFirst, Trapped, Wait, action, installed, limited, line_of, made_in, next_action, next_byte, read_in, read_on, stmt_action, stored_in, try_name, what_action}
+use Rattle.shim_process.specs.Steps.{Action, Enter, Go, Install, Make, Read, Store, StoreFirst, Trapped, Wait, action, installing, limited, line_of, made_in, next_action, next_byte, read_in, read_on, stmt_action, stored_in, try_name, what_action}
 use Rattle.shim_process.specs.Todo.{Item, Do, On, First, followed, items_all, next_stmt}
 use Rattle.shim_process.specs.Values.{value}
 use Rattle.shim_code.specs.declared.instr.MarkKind.TheVariants as kind
@@ -65,9 +65,9 @@ module _ (codes : Codes) (most : ℕ) (short : AreShort codes most) (n : ℕ) (s
       lands_at codes most short n s k l back hs r hd same told (pc + 1) stop k l'.locations l'.made l'.input_at (told_after codes most short n s k l back hs r hd same told (UWhat-F.Get y i) On ex) rest
       (subst (λ p. Leads codes m (machine p hs back s.line l')) e1 lead)
 
-  as_tried : (a : List UStmt) (y : ℕ) (b : List UStmt) (pc : ℕ) → (let x : UWhat-F UWhat UStmt = UWhat-F.Try a y b in Gives (pc + 1) x (limited (is_full l) (Install y (try_name (unit_at l.program l.frame.unit) y))) → Gives (pc + 1) x (what_action x (statement_view l)))
+  as_tried : (a : List UStmt) (y : ℕ) (z : Option ℕ) (b : List UStmt) (pc : ℕ) → (let x : UWhat-F UWhat UStmt = UWhat-F.Try a y z b in Gives (pc + 1) x (limited (is_full l) (Install y (try_name (unit_at l.program l.frame.unit) y) z)) → Gives (pc + 1) x (what_action x (statement_view l)))
   unfolding unit_at
-  as_tried a y b pc g = g
+  as_tried a y z b pc g = g
 
   from_kind : (x : UWhat-F UWhat UStmt) (pc stop : ℕ) → AreOf codes l.program → l.frame.halfway ≡ false → Suits x l → out-UWhat s.what ≡ x → Has u pc n s stop → HasAt u n pc (point_what u.units x s.line pc) → stop ≡ pc + length (point_what u.units x s.line pc) → Stands u stop k
       → Gives (pc + 1) x (what_action x (statement_view l))
@@ -104,11 +104,11 @@ module _ (codes : Codes) (most : ℕ) (short : AreShort codes most) (n : ℕ) (s
       let hs = renumber u _ (n + 1 + size_all b) (place + length cb) cs counted (has_back u (n + 1) place cb cs h) in
       enters_list u b place (n + 1) (items_all st (n + 1 + size_all b) ++ k) (has_front u (n + 1) place cb cs h) (enters_list u st (place + length cb) (n + 1 + size_all b) k hs (subst (λ p. Stands u p k) z stands)))
   from_kind (UWhat-F.Call c) pc stop of eh fit ex whole has ends rest = call_case codes most short n s k l back hs r hd same told c pc stop of fit ex has ends rest
-  from_kind (UWhat-F.Try a y b) pc stop of eh fit ex whole has ends rest = as_tried a y b pc (try_case codes most short n s k l back hs r hd same told a y b pc stop ex has ends rest)
+  from_kind (UWhat-F.Try a y z b) pc stop of eh fit ex whole has ends rest = as_tried a y z b pc (try_case codes most short n s k l back hs r hd same told a y z b pc stop ex has ends rest)
   from_kind (UWhat-F.Block a) pc stop of eh fit ex whole has ends rest = tt
   from_kind (UWhat-F.Next y) pc stop of eh fit ex whole has ends rest = tt
   from_kind (UWhat-F.Put o e) pc stop of eh fit ex whole has ends rest = tt
-  from_kind (UWhat-F.Throw y) pc stop of eh fit ex whole has ends rest = tt
+  from_kind (UWhat-F.Throw y e) pc stop of eh fit ex whole has ends rest = tt
   from_kind (UWhat-F.Par bs) pc stop of eh fit ex whole has ends rest = tt
 
   -- the second part of a statement
@@ -133,8 +133,8 @@ module _ (codes : Codes) (most : ℕ) (short : AreShort codes most) (n : ℕ) (s
   from_half (UWhat-F.For f e st b) pc stop eh is ex has ends rest = absurd is
   from_half (UWhat-F.Block a) pc stop eh is ex has ends rest = absurd is
   from_half (UWhat-F.Call c) pc stop eh is ex has ends rest = absurd is
-  from_half (UWhat-F.Try a y b) pc stop eh is ex has ends rest = absurd is
-  from_half (UWhat-F.Throw y) pc stop eh is ex has ends rest = absurd is
+  from_half (UWhat-F.Try a y z b) pc stop eh is ex has ends rest = absurd is
+  from_half (UWhat-F.Throw y e) pc stop eh is ex has ends rest = absurd is
   from_half (UWhat-F.Par bs) pc stop eh is ex has ends rest = absurd is
 
   -- what is proved of a statement is what the definition says, at a state that stands at it
@@ -148,8 +148,11 @@ module _ (codes : Codes) (most : ℕ) (short : AreShort codes most) (n : ℕ) (s
   does pc (Make t y v) f = subst (λ z. Comes codes (step_room most (length l.callers)) (at pc) (settled l.callers (past_ends (followed On z) l.frame.places (record l.frame { halfway = false })) (made_in t y v l))) (sym same) f
   does pc (Read y) f = subst (λ z. Comes codes (step_room most (length l.callers)) (at pc) (settled l.callers (past_ends (followed On z) l.frame.places (record l.frame { halfway = false })) (read_in y l))) (sym same) f
   does pc (Enter unit given labels) f = f
-  does pc (Install y name) f =
-      let l' = record l { frame = installed y name l.frame } in
+  does pc (Install y name None) f =
+      let l' = installing y name None l in
+      subst (λ z. Comes codes (step_room most (length l.callers)) (at pc) (settled l.callers (past_ends (followed First z) l'.frame.places (record l'.frame { halfway = false })) l')) (sym same) f
+  does pc (Install y name (Some x)) f =
+      let l' = installing y name (Some x) l in
       subst (λ z. Comes codes (step_room most (length l.callers)) (at pc) (settled l.callers (past_ends (followed First z) l'.frame.places (record l'.frame { halfway = false })) l')) (sym same) f
 
 -- by where it stands

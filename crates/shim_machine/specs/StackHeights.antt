@@ -1,7 +1,7 @@
 -- How many numbers are on the stack at each place of a unit's code, told by the code alone.
 use Rattle.std.specs.Prelude.{◌≡◌, ◌≤◌, ℕ, ◌+◌, ◌-◌, List, [], ◌∷◌, take}
 use Rattle.shim_code.specs.declared.machine_instr.MachineInstr.{MachineInstr}
-use Rattle.shim_code.specs.declared.machine_instr.MachineInstr.TheVariants.{Mark, Num, Var, Un, Bin, Bool, Jump, JumpZ, Declare, Set, Get, Put, Fresh, Call, Try, Untry, End}
+use Rattle.shim_code.specs.declared.machine_instr.MachineInstr.TheVariants.{Mark, Num, Var, Un, Bin, Bool, Jump, JumpZ, Declare, Set, Get, Put, Fresh, Call, Try, TryInto, Untry, Throw, End}
 use Rattle.shim_machine.specs.Machine.{CodedUnit}
 
 -- At the next place, where so many are at this instruction. Behind a jump stands the other one of two pieces, which begins without the number that the first has left.
@@ -15,6 +15,7 @@ height_after h (JumpZ t) = h - 1
 height_after h (Declare t x) = h - 1
 height_after h (Set x) = h - 1
 height_after h (Put o) = h - 1
+height_after h (Throw x) = h - 1
 height_after h (Fresh s name) = h - 1
 height_after h _ = h
 
@@ -41,6 +42,8 @@ HasHeight u pc (Put o) = 1 ≤ height_at u pc
 HasHeight u pc (Fresh s name) = 1 ≤ height_at u pc
 HasHeight u pc (Call c) = height_at u pc ≡ 0
 HasHeight u pc (Try t x) = (height_at u pc ≡ 0) × (height_at u t ≡ 0)
+HasHeight u pc (TryInto t x y) = (height_at u pc ≡ 0) × (height_at u t ≡ 0)
+HasHeight u pc (Throw x) = 1 ≤ height_at u pc
 HasHeight u pc Untry = height_at u pc ≡ 0
 HasHeight u pc (End n) = height_at u pc ≡ 0
 HasHeight u pc _ = Unit {0}

@@ -1,7 +1,7 @@
 // Laws of the machine.
-ghost use Rattle.std.specs.Prelude.{◌≡◌, ◌≤◌, ℕ, ◌+◌, ◌-◌, ◌*◌, ◌++◌, List, length, Some};
+ghost use Rattle.std.specs.Prelude.{◌≡◌, ◌≤◌, ℕ, ℤ, ◌+◌, ◌-◌, ◌*◌, ◌++◌, List, length, Some};
 ghost use Rattle.shim_base.specs.Paths.{NamedChannel};
-ghost use Rattle.shim_local.specs.Process.{AtFork, AtNext, AtPut};
+ghost use Rattle.shim_local.specs.Process.{AtFork, AtNext, AtPut, AtThrow};
 ghost use Rattle.shim_scopes.specs.declared.tree.UExpr.{UExpr};
 ghost use Rattle.shim_scopes.specs.declared.tree.UParam.{UParam};
 ghost use Rattle.shim_units.specs.Numbering.{size_all};
@@ -20,7 +20,7 @@ ghost use Rattle.shim_code.specs.declared.machine_instr.MachineInstr.TheVariants
 ghost use Rattle.shim_code.specs.MachineCode.{machine_args, machine_stmts, machine_unit};
 ghost use Rattle.shim_machine.specs.Machine.{CodedUnit, Codes, Machine, ReturnPlace, fetch, machine, run, unit_of};
 ghost use Rattle.shim_machine.specs.Stands.{AtMark, Handles, HasAt, Here, IsTold, Returns, Stands, StandsFor};
-ghost use Rattle.shim_process.specs.Stops.{put_value, stop};
+ghost use Rattle.shim_process.specs.Stops.{put_value, stop, thrown_value};
 ghost use Rattle.shim_process.specs.Unwinding.{place_in, unwind};
 ghost use Rattle.shim_machine.specs.Unwinds.{unwinds};
 ghost use Rattle.shim_process.specs.Forks.{all_arguments, item_branches};
@@ -28,7 +28,7 @@ ghost use Rattle.shim_machine.specs.Forking.{DoesFork, JoinsAt};
 ghost use Rattle.shim_machine.specs.StackHeights.{HasHeight, height_after, height_at};
 ghost use Rattle.shim_machine.specs.MarkStops.{place_stop};
 ghost use Rattle.shim_machine.specs.Leads.{Gathers, Runs};
-ghost use Rattle.shim_machine.specs.Comes.{AreOf, AreShort, Comes, ComesFrom, Does, DoesPut, IsEnd, MeetsAt, NextSuits, room, step_room};
+ghost use Rattle.shim_machine.specs.Comes.{AreOf, AreShort, Comes, ComesFrom, Does, DoesPut, DoesThrow, IsEnd, MeetsAt, NextSuits, room, step_room};
 ghost use Rattle.shim_machine.specs.SamePlaces.{ComesTo, DoesTo, GoOnAlike};
 
 /// The code of an expression gives its value, or its trap, wherever it stands.
@@ -92,6 +92,12 @@ pub fn put()
     ensures { (codes : Codes) (most : ℕ) (l : LocalState) (pc : ℕ) (handlers : List ℕ) (back : List ReturnPlace) → AreShort codes most → StandsFor codes pc handlers back l → stop l ≡ AtPut → DoesPut codes (room most (length l.callers)) (machine (pc + 1) handlers back (line_of l.frame.todo) l) (put_value l) l }
 {}
 
+/// From the mark of a throw the machine comes to the instruction that throws the exception of its label with
+/// the number, or it traps as the expression does.
+pub fn throw()
+    ensures { (codes : Codes) (most : ℕ) (l : LocalState) (pc : ℕ) (handlers : List ℕ) (back : List ReturnPlace) (label : ℕ) → AreShort codes most → StandsFor codes pc handlers back l → stop l ≡ AtThrow label → DoesThrow codes (room most (length l.callers)) (machine (pc + 1) handlers back (line_of l.frame.todo) l) label (thrown_value l) l }
+{}
+
 /// Behind the mark of a meeting stands the slot that it is on, and from behind that the machine comes to
 /// where the process stands after the meeting.
 pub fn receive()
@@ -101,7 +107,7 @@ pub fn receive()
 /// Where the exception of a label is in force, the machine goes on at its handler and comes to where the
 /// process stands that has caught it.
 pub fn unwind()
-    ensures { (codes : Codes) (most line : ℕ) (l : LocalState) (pc : ℕ) (handlers : List ℕ) (back : List ReturnPlace) (label : ℕ) (p : ExceptionPlace) → AreShort codes most → StandsFor codes pc handlers back l → place_in l.frame (label - l.base) l.callers ≡ Some p → ComesFrom codes (room most (length l.callers)) (unwinds back handlers (label - l.base) line l.callers l.frame l) (unwind l label) }
+    ensures { (codes : Codes) (most line : ℕ) (l : LocalState) (pc : ℕ) (handlers : List ℕ) (back : List ReturnPlace) (label : ℕ) (v : ℤ) (p : ExceptionPlace) → AreShort codes most → StandsFor codes pc handlers back l → place_in l.frame (label - l.base) l.callers ≡ Some p → ComesFrom codes (room most (length l.callers)) (unwinds back handlers (label - l.base) line v l.callers l.frame l) (unwind l label v) }
 {}
 
 /// From the mark of a fork the machine comes to the fork of the branches that it gathered, which makes

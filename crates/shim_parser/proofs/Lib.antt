@@ -4,6 +4,7 @@ pub mod Exits
 pub mod Punctuations
 pub mod ExprExits
 pub mod CallExits
+pub mod ExceptionExits
 pub mod PlainExits
 pub mod DeclareExits
 pub mod HeaderExits

@@ -1,5 +1,5 @@
 -- The exits of the functions that read statements which hold others, behind their keywords.
-use Rattle.std.proofs.Common.{◌≡◌, ℕ, suc, List, [], ◌∷◌, Bool, true, false, IsTrue, ◌↔◌, refl, sym, ◌∙◌, ap, subst}
+use Rattle.std.proofs.Common.{◌≡◌, ℕ, suc, List, [], ◌∷◌, Option, Bool, true, false, IsTrue, ◌↔◌, refl, sym, ◌∙◌, ap, subst}
 use Rattle.shim_base.specs.declared.token.Keyword.TheVariants as k
 use Rattle.shim_base.specs.declared.token.Sign.TheVariants as g
 use Rattle.shim_base.specs.Tokens.{Place}
@@ -9,17 +9,19 @@ use Rattle.shim_syntax.specs.declared.tree.What.TheVariants as st
 use Rattle.shim_syntax.specs.Terminals.{Terminal, Name, Key, Sign, first}
 use Rattle.shim_syntax.specs.Limits.{limits}
 use Rattle.shim_syntax.specs.Grammar as is
-use Rattle.shim_syntax.specs.Grammar.{is_else, IsBlock, IsBody, IsWhole}
+use Rattle.shim_syntax.specs.Grammar.{is_else, IsBlock, IsBody, IsCatchRest, IsWhole}
 use Rattle.shim_grammar.specs.declared.punctuation.Punctuation.TheVariants as punctuation
-use Rattle.shim_grammar.specs.Machine.{Stack, Fixed, Word, Expression, Operators, Block, Body, Else, First, Test, Step}
+use Rattle.shim_grammar.specs.Machine.{Stack, CatchRest, Fixed, Word, Expression, Operators, Block, Body, Else, First, Test, Step}
+use Rattle.shim_grammar.proofs.RunsStmt.{catch_rest_runs}
 use Rattle.shim_parser.specs.declared.fault.ParseFault.{ParseFault}
 use Rattle.shim_parser.specs.declared.for_parts.ForParts.{ForParts}
-use Rattle.shim_parser.specs.Parts.{IsPunctuation, IsNameBefore, IsTestOf}
+use Rattle.shim_parser.specs.Parts.{IsPunctuation, IsName, IsTestOf}
 use Rattle.shim_parser.specs.Headers.{IsHeader}
 use Rattle.shim_parser.specs.Statements.{IsKeyAt, IsKeyed}
 use Rattle.shim_parser.specs.Reading.{Reading, Fails}
 use Rattle.shim_parser.proofs.Exits.{Leads, Took, took, fails_as, fails_under}
-use Rattle.shim_parser.proofs.Sequences.{then, same_run, punctuation_leads, name_before_leads, test_leads, header_leads, block_leads, body_leads}
+use Rattle.shim_parser.proofs.Sequences.{then, same_run, punctuation_leads, test_leads, header_leads, block_leads, body_leads}
+use Rattle.shim_parser.proofs.PlainExits.{name_leads}
 use Rattle.shim_parser.proofs.StmtExits.{no_key}
 
 not_else : (t : Terminal) (b : Bool) → IsTrue b ↔ IsKeyAt k.Else t → b ≡ false → is_else t ≡ false
@@ -83,10 +85,10 @@ module _ (l j : ℕ) (e : j ≡ suc l) (a b : Reading) (parts : ForParts) (t : I
   for_reads d xs o p = rw t.6 (is.for_loop t.7 t.8 t.9 (subst (λ u. IsBody limits u b.counts d.counts b.rest d.rest xs) e o))
 
 abbrev pub HandlerStack : ℕ → Stack
-HandlerStack l = Fixed punctuation.LeftBrace ∷ Block (suc l) ∷ []
+HandlerStack l = CatchRest ∷ Block (suc l) ∷ []
 
 abbrev pub NamedStack : ℕ → Stack
-NamedStack l = Word ∷ Fixed punctuation.RightParen ∷ HandlerStack l
+NamedStack l = Word ∷ HandlerStack l
 
 abbrev pub CatchStack : ℕ → Stack
 CatchStack l = Fixed punctuation.Catch ∷ Fixed punctuation.LeftParen ∷ NamedStack l
@@ -126,28 +128,26 @@ module _ (l j : ℕ) (e : j ≡ suc l) (a b : Reading) (t : IsPunctuation punctu
         paren_leads : Leads (TryStack l) (NamedStack l) a n
         paren_leads = then (TryStack l) (Fixed punctuation.LeftParen ∷ NamedStack l) (NamedStack l) a m n catch_leads (punctuation_leads punctuation.LeftParen (NamedStack l) m n p)
 
-        pub exception_fails : (at : Reading) (err : ParseFault) → Fails (Word ∷ Fixed punctuation.RightParen ∷ []) n at err → Fails (TryStack l) a at err
-        exception_fails at err f = fails_under (TryStack l) (Word ∷ Fixed punctuation.RightParen ∷ []) (HandlerStack l) a n at err paren_leads f
+        pub exception_fails : (at : Reading) (err : ParseFault) → Fails (Word ∷ []) n at err → Fails (TryStack l) a at err
+        exception_fails at err f = fails_under (TryStack l) (Word ∷ []) (HandlerStack l) a n at err paren_leads f
 
         -- at q behind the name
-        module _ (q : Reading) (x : List ℕ) (w : IsNameBefore punctuation.RightParen n.counts q.counts n.rest q.rest x) where
-          name_leads : Leads (TryStack l) (HandlerStack l) a q
-          name_leads = then (TryStack l) (NamedStack l) (HandlerStack l) a n q paren_leads (name_before_leads punctuation.RightParen (HandlerStack l) n q x w)
+        module _ (q : Reading) (x : List ℕ) (w : IsName n.counts q.counts n.rest q.rest x) where
+          exception_leads : Leads (TryStack l) (HandlerStack l) a q
+          exception_leads = then (TryStack l) (NamedStack l) (HandlerStack l) a n q paren_leads (name_leads (HandlerStack l) n q x w)
 
-          pub handler_brace_fails : (at : Reading) (err : ParseFault) → Fails (Fixed punctuation.LeftBrace ∷ []) q at err → Fails (TryStack l) a at err
-          handler_brace_fails at err f = fails_under (TryStack l) (Fixed punctuation.LeftBrace ∷ []) (Block (suc l) ∷ []) a q at err name_leads f
+          pub catch_rest_fails : (at : Reading) (err : ParseFault) → Fails (CatchRest ∷ []) q at err → Fails (TryStack l) a at err
+          catch_rest_fails at err f = fails_under (TryStack l) (CatchRest ∷ []) (Block (suc l) ∷ []) a q at err exception_leads f
 
           -- at r behind the brace
-          module _ (r : Reading) (v : IsPunctuation punctuation.LeftBrace q.counts r.counts q.rest r.rest tt) where
+          module _ (r : Reading) (y : Option (List ℕ)) (v : IsCatchRest limits q.counts r.counts q.rest r.rest y) where
             pub handler_fails : (at : Reading) (err : ParseFault) → Fails (Block j ∷ []) r at err → Fails (TryStack l) a at err
             handler_fails at err f = fails_as (TryStack l) (Block (suc l) ∷ []) a r at err
-                (then (TryStack l) (HandlerStack l) (Block (suc l) ∷ []) a q r name_leads (punctuation_leads punctuation.LeftBrace (Block (suc l) ∷ []) q r v)) (subst (λ u. Fails (Block u ∷ []) r at err) e f)
+                (then (TryStack l) (HandlerStack l) (Block (suc l) ∷ []) a q r exception_leads (λ z. catch_rest_runs v (Block (suc l) ∷ z))) (subst (λ u. Fails (Block u ∷ []) r at err) e f)
 
-            pub try_reads : (s : Reading) (ys : List Stmt) → IsBlock limits j r.counts s.counts r.rest s.rest ys → IsKeyed k.Try l a.counts s.counts a.rest s.rest (st.Try xs x ys)
+            pub try_reads : (s : Reading) (ys : List Stmt) → IsBlock limits j r.counts s.counts r.rest s.rest ys → IsKeyed k.Try l a.counts s.counts a.rest s.rest (st.Try xs x y ys)
             try_reads s ys z place =
-                let rest : d.rest ≡ Key k.Catch c.0 ∷ Sign g.LeftParen p.0 ∷ Name x w.0 ∷ Sign g.RightParen w.1 ∷ Sign g.LeftBrace v.0 ∷ r.rest =
-                c.1 ∙ ap (λ u. Key k.Catch c.0 ∷ u) (p.1 ∙ ap (λ u. Sign g.LeftParen p.0 ∷ u) (w.2 ∙ ap (λ u. Name x w.0 ∷ Sign g.RightParen w.1 ∷ u) v.1)) in
-                let counts : d.counts ≡ r.counts = c.2 ∙ p.2 ∙ w.3 ∙ v.2 in
-                rw (t.1, t.2) (is.try (subst (λ u. IsBlock limits (suc l) b.counts u b.rest
-                (Key k.Catch c.0 ∷ Sign g.LeftParen p.0 ∷ Name x w.0 ∷ Sign g.RightParen w.1 ∷ Sign g.LeftBrace v.0 ∷ r.rest) xs) counts
-                (subst (λ u. IsBlock limits (suc l) b.counts d.counts b.rest u xs) rest tried_is)) (subst (λ u. IsBlock limits u r.counts s.counts r.rest s.rest ys) e z))
+                let rest : d.rest ≡ Key k.Catch c.0 ∷ Sign g.LeftParen p.0 ∷ Name x w.0 ∷ q.rest = c.1 ∙ ap (λ u. Key k.Catch c.0 ∷ u) (p.1 ∙ ap (λ u. Sign g.LeftParen p.0 ∷ u) w.1) in
+                let counts : d.counts ≡ q.counts = c.2 ∙ p.2 ∙ w.2 in
+                rw (t.1, t.2) (is.try (subst (λ u. IsBlock limits (suc l) b.counts u b.rest (Key k.Catch c.0 ∷ Sign g.LeftParen p.0 ∷ Name x w.0 ∷ q.rest) xs) counts
+                (subst (λ u. IsBlock limits (suc l) b.counts d.counts b.rest u xs) rest tried_is)) v (subst (λ u. IsBlock limits u r.counts s.counts r.rest s.rest ys) e z))

@@ -1,5 +1,5 @@
 -- The exits of the functions that read statements which hold no other.
-use Rattle.std.proofs.Common.{◌≡◌, ℕ, List, [], ◌∷◌, ◌++◌, false, None, refl, sym, ◌∙◌, ap}
+use Rattle.std.proofs.Common.{◌≡◌, ℕ, List, [], ◌∷◌, ◌++◌, false, Option, None, refl, sym, ◌∙◌, ap}
 use Rattle.shim_base.specs.declared.token.Keyword.TheVariants as key
 use Rattle.shim_base.specs.declared.token.Sign.TheVariants as g
 use Rattle.shim_base.specs.Tokens.{Place}
@@ -8,9 +8,9 @@ use Rattle.shim_syntax.specs.declared.tree.What.TheVariants as st
 use Rattle.shim_syntax.specs.Terminals.{Key, Sign, first}
 use Rattle.shim_syntax.specs.Limits.{limits}
 use Rattle.shim_syntax.specs.Grammar as is
-use Rattle.shim_syntax.specs.Grammar.{Counts}
+use Rattle.shim_syntax.specs.Grammar.{Counts, IsThrowRest}
 use Rattle.shim_grammar.specs.declared.punctuation.Punctuation.TheVariants as punctuation
-use Rattle.shim_grammar.specs.Machine.{Stack, Unwanted, Fixed, Word, Expression, Operators, AfterEqual, AfterNext, after_next, run}
+use Rattle.shim_grammar.specs.Machine.{Stack, Unwanted, Fixed, Word, Expression, Operators, AfterEqual, AfterNext, ThrowRest, after_next, run}
 use Rattle.shim_grammar.proofs.Runs.{is_next_or_get, equal_skips}
 use Rattle.shim_parser.specs.declared.terminal.Terminal as read
 use Rattle.shim_parser.specs.declared.terminal.Terminal.TheVariants as here
@@ -68,10 +68,15 @@ pub next_unwanted : (l : ℕ) (a b : Reading) (x : List ℕ) (err : ParseFault) 
 next_unwanted l a b x err t p n v h i m = fails_as (Word ∷ AfterNext l ∷ []) (AfterNext l ∷ []) a b b err (name_leads (AfterNext l ∷ []) a b x n)
     (unwanted (AfterNext l) [] b err (λ k. ap (λ u. after_next u l k b.counts) (sym v) ∙ no_after_next t p l k b.counts h i) m)
 
--- behind `put` and `throw`
+-- behind `put`
 pub put_reads : (l : ℕ) (a b d : Reading) (x : List ℕ) (value : Expr) → IsNameBefore punctuation.Comma a.counts b.counts a.rest b.rest x → IsWholeBefore punctuation.Semicolon l b.counts d.counts b.rest d.rest value
     → IsKeyed key.Put l a.counts d.counts a.rest d.rest (st.Put x value)
 put_reads l a b d x value n v p = rw (n.2, n.3) (is.put v.1)
 
-pub throw_reads : (l : ℕ) (a b : Reading) (x : List ℕ) → IsNameBefore punctuation.Semicolon a.counts b.counts a.rest b.rest x → IsKeyed key.Throw l a.counts b.counts a.rest b.rest (st.Throw x)
-throw_reads l a b x n p = rw (n.2, n.3) is.throw
+-- behind `throw`
+pub throw_fails : (l : ℕ) (a b at : Reading) (x : List ℕ) (err : ParseFault) → IsName a.counts b.counts a.rest b.rest x → Fails (ThrowRest l ∷ []) b at err → Fails (Word ∷ ThrowRest l ∷ []) a at err
+throw_fails l a b at x err n f = fails_as (Word ∷ ThrowRest l ∷ []) (ThrowRest l ∷ []) a b at err (name_leads (ThrowRest l ∷ []) a b x n) f
+
+pub throw_reads : (l : ℕ) (a b d : Reading) (x : List ℕ) (value : Option Expr) → IsName a.counts b.counts a.rest b.rest x → IsThrowRest limits l b.counts d.counts b.rest d.rest value
+    → IsKeyed key.Throw l a.counts d.counts a.rest d.rest (st.Throw x value)
+throw_reads l a b d x value n v p = rw (n.1, n.2) (is.throw v)

@@ -7,11 +7,11 @@ use Rattle.shim_syntax.specs.declared.Branch.{Branch as BranchTree}
 use Rattle.shim_syntax.specs.Terminals.{Terminal}
 use Rattle.shim_syntax.specs.Limits.{limits}
 use Rattle.shim_syntax.specs.Grammar as is
-use Rattle.shim_syntax.specs.Grammar.{Counts, IsArguments, IsDeclarations, IsFirst, IsTest, IsStep, IsBlock, IsStmt, IsBody, IsPlain, IsBranches, IsBranch}
-use Rattle.shim_grammar.specs.Machine.{Stack, Arguments, Declarations, First, Test, Step, Block, Body, Branch, Pars, run}
+use Rattle.shim_syntax.specs.Grammar.{Counts, IsArguments, IsDeclarations, IsFirst, IsTest, IsStep, IsThrowRest, IsCatchRest, IsBlock, IsStmt, IsBody, IsPlain, IsBranches, IsBranch}
+use Rattle.shim_grammar.specs.Machine.{Stack, Arguments, Declarations, First, Test, Step, ThrowRest, CatchRest, Block, Body, Branch, Pars, run}
 use Rattle.shim_grammar.proofs.Judged.{left_of, shorter}
 use Rattle.shim_grammar.proofs.Runs.{arguments_runs, test_runs}
-use Rattle.shim_grammar.proofs.RunsStmt.{declarations_runs, first_runs, step_runs, block_runs, body_runs, branches_runs}
+use Rattle.shim_grammar.proofs.RunsStmt.{declarations_runs, first_runs, step_runs, throw_rest_runs, catch_rest_runs, block_runs, body_runs, branches_runs}
 use Rattle.shim_parser.proofs.ExprExits.{expr_shorter}
 
 nothing_left : (r : List Terminal) (w : Counts) → left_of (run limits r [] w) ≡ r
@@ -35,6 +35,12 @@ test_within {l = l} {v = v} {w = w} {s = s} {r = r} d = within s r (Test l ∷ [
 
 step_within : {l : ℕ} {v w : Counts} {s r : List Terminal} {xs : List Stmt} → IsStep limits l v w s r xs → length r ≤ length s
 step_within {l = l} {v = v} {w = w} {s = s} {r = r} d = within s r (Step l ∷ []) v w (step_runs d [])
+
+throw_rest_within : {l : ℕ} {v w : Counts} {s r : List Terminal} {x : Option Expr} → IsThrowRest limits l v w s r x → length r ≤ length s
+throw_rest_within {l = l} {v = v} {w = w} {s = s} {r = r} d = within s r (ThrowRest l ∷ []) v w (throw_rest_runs d [])
+
+catch_rest_within : {v w : Counts} {s r : List Terminal} {x : Option (List ℕ)} → IsCatchRest limits v w s r x → length r ≤ length s
+catch_rest_within {v = v} {w = w} {s = s} {r = r} d = within s r (CatchRest ∷ []) v w (catch_rest_runs d [])
 
 pub block_within : {l : ℕ} {v w : Counts} {s r : List Terminal} {xs : List Stmt} → IsBlock limits l v w s r xs → length r ≤ length s
 block_within {l = l} {v = v} {w = w} {s = s} {r = r} d = within s r (Block l ∷ []) v w (block_runs d [])
@@ -64,8 +70,8 @@ plain_shorter (is.while d b) = omega (arith, expr_shorter d, body_within b)
 plain_shorter (is.for_loop f t p b) = omega (arith, first_within f, test_within t, step_within p, body_within b)
 plain_shorter (is.call d h) = omega (arith, arguments_within d)
 plain_shorter (is.call_fork d b) = omega (arith, arguments_within d, branches_within b)
-plain_shorter (is.try d b) = omega (arith, block_within d, block_within b)
-plain_shorter is.throw = omega arith
+plain_shorter (is.try d h b) = omega (arith, block_within d, catch_rest_within h, block_within b)
+plain_shorter (is.throw d) = omega (arith, throw_rest_within d)
 
 pub stmt_shorter : {l : ℕ} {v w : Counts} {s r : List Terminal} {xs : List Stmt} → IsStmt limits l v w s r xs → suc (length r) ≤ length s
 stmt_shorter (is.block d h) = omega (arith, block_within d)

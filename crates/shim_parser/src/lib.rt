@@ -3,6 +3,7 @@
 
 mod call;
 mod declare;
+mod exceptions;
 mod expr;
 mod fault;
 mod for_parts;

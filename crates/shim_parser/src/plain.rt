@@ -1,11 +1,12 @@
 // Statements that hold no other, behind their first terminals.
 ghost use Rattle.std.specs.Prelude.{◌≡◌, ◌≤◌, [], ◌∷◌};
 ghost use Rattle.shim_base.specs.declared.token.Keyword.TheVariants as k;
-ghost use Rattle.shim_grammar.specs.Machine.{AfterEqual, AfterNext, Expression, Fixed, Operators, Word};
+ghost use Rattle.shim_grammar.specs.Machine.{AfterEqual, AfterNext, Expression, Fixed, Operators, ThrowRest, Word};
 ghost use Rattle.shim_grammar.specs.declared.punctuation.Punctuation.TheVariants as punctuation;
 ghost use Rattle.shim_parser.specs.Statements.{IsAssigned, IsKeyed};
 ghost use Rattle.shim_parser.specs.Reading.{Reads};
 
+use crate::exceptions::throw_rest;
 use crate::expr::expression_before;
 use crate::fault::ParseFault;
 use crate::parts::{name, name_before};
@@ -77,8 +78,10 @@ pub(crate) fn put(alloc: Global, tokens: &mut Reader, level: u16) -> Result<What
 
 /// Behind `throw`.
 pub(crate) fn throw(alloc: Global, tokens: &mut Reader, level: u16) -> Result<What, ParseFault>
-    ensures { Reads (IsKeyed k.Throw level) (Word ∷ Fixed punctuation.Semicolon ∷ []) result tokens.old tokens.new }
+    requires { level ≤ 64 }
+    ensures { Reads (IsKeyed k.Throw level) (Word ∷ ThrowRest level ∷ []) result tokens.old tokens.new }
 {
-    let exception = name_before(alloc, tokens, Punctuation::Semicolon)?;
-    Ok(What::Throw(exception))
+    let exception = name(alloc, tokens)?;
+    let number = throw_rest(alloc, tokens, level)?;
+    Ok(What::Throw(exception, number))
 }

@@ -24,6 +24,7 @@ pub(crate) struct Reader<'a> {
     operators: u16,
     locals: u16,
     deepest: u16,
+    two: bool,
 }
 
 impl<'a> Model for Reader<'a> {
@@ -35,7 +36,7 @@ impl<'a> Model for Reader<'a> {
 
     ghost view = { λ r. record {
       rest = token_views (drop r.at r.all.now);
-      counts = record { operators = r.operators; locals = r.locals; deepest = r.deepest };
+      counts = record { operators = r.operators; locals = r.locals; deepest = r.deepest; two = r.two };
     } };
 
     ghost invariant = { λ r. Proper (token_views (drop r.at r.all.now)) × (r.operators ≤ 256) × (r.locals ≤ 64) × (r.deepest ≤ 64) };
@@ -52,6 +53,7 @@ impl<'a> Reader<'a> {
             operators: 0,
             locals: 0,
             deepest: 0,
+            two: false,
         }
     }
 
@@ -147,6 +149,20 @@ impl<'a> Reader<'a> {
         self.number(Many::Locals, self.locals + 1)?;
         self.locals += 1;
         Ok(())
+    }
+
+    /// The text is one of version 2.
+    pub(crate) fn begin_version_2(&mut self)
+        ensures { self.new ≡ counted grammar.in_version_2 self.old }
+    {
+        self.two = true;
+    }
+
+    /// Whether the text is one of version 2.
+    pub(crate) fn is_version_2(&self) -> bool
+        ensures { result ≡ self.now.counts.two }
+    {
+        self.two
     }
 
     /// An expression begins.

@@ -37,6 +37,7 @@ pub(crate) fn source(alloc: Global, tokens: &mut Reader) -> Result<Program, Pars
         });
     }
     tokens.advance();
+    tokens.begin_version_2();
     version(tokens)?;
     let functions = functions(alloc, tokens)?;
     Ok(Program {

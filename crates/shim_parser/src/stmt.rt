@@ -6,19 +6,20 @@ ghost use Rattle.shim_syntax.specs.Terminals.{first};
 ghost use Rattle.shim_syntax.specs.Limits.{limits};
 ghost use Rattle.shim_syntax.specs.Grammar.{IsBlock, IsBody};
 ghost use Rattle.shim_grammar.specs.Machine as machine;
-ghost use Rattle.shim_grammar.specs.Machine.{AfterWord, Else, Expression, First, Fixed, Operators, Pars, Statement, Step, Test, Word};
+ghost use Rattle.shim_grammar.specs.Machine.{AfterWord, CatchRest, Else, Expression, First, Fixed, Operators, Pars, Statement, Step, Test, Word};
 ghost use Rattle.shim_grammar.specs.declared.punctuation.Punctuation.TheVariants as punctuation;
 ghost use Rattle.shim_parser.specs.Statements.{IsSignAt, IsKeyAt, Becomes, IsThing, IsBraced, IsNamed, IsKeyed, IsBehindPar, IsNumberedBranch};
 ghost use Rattle.shim_parser.specs.Reading.{Reads};
 
 use crate::call::call;
 use crate::declare::declarations;
+use crate::exceptions::catch_rest;
 use crate::expr::test;
 use crate::fault::ParseFault;
 use crate::for_parts::ForParts;
 use crate::header::header;
 use crate::opening::{Opening, opening_of};
-use crate::parts::{alone, name_before, punctuation};
+use crate::parts::{alone, name, punctuation};
 use crate::plain::{assignment, next, put, throw};
 use crate::reader::Reader;
 use crate::terminal::Terminal;
@@ -231,17 +232,17 @@ fn for_loop(alloc: Global, tokens: &mut Reader, level: u16) -> Result<What, Pars
 fn try_statement(alloc: Global, tokens: &mut Reader, level: u16) -> Result<What, ParseFault>
     requires { level ≤ 64 }
     ensures { Reads (IsKeyed k.Try level)
-        (Fixed punctuation.LeftBrace ∷ machine.Block (suc level) ∷ Fixed punctuation.Catch ∷ Fixed punctuation.LeftParen ∷ Word ∷ Fixed punctuation.RightParen ∷ Fixed punctuation.LeftBrace ∷ machine.Block (suc level) ∷ [])
+        (Fixed punctuation.LeftBrace ∷ machine.Block (suc level) ∷ Fixed punctuation.Catch ∷ Fixed punctuation.LeftParen ∷ Word ∷ CatchRest ∷ machine.Block (suc level) ∷ [])
         result tokens.old tokens.new }
 {
     punctuation(tokens, Punctuation::LeftBrace)?;
     let tried = block(alloc, tokens, level + 1)?;
     punctuation(tokens, Punctuation::Catch)?;
     punctuation(tokens, Punctuation::LeftParen)?;
-    let exception = name_before(alloc, tokens, Punctuation::RightParen)?;
-    punctuation(tokens, Punctuation::LeftBrace)?;
+    let exception = name(alloc, tokens)?;
+    let variable = catch_rest(alloc, tokens)?;
     let handler = block(alloc, tokens, level + 1)?;
-    Ok(What::Try(tried, exception, handler))
+    Ok(What::Try(tried, exception, variable, handler))
 }
 
 /// The branches of a fork of this level from its first `par` on, behind the first branch.

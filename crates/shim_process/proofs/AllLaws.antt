@@ -1,6 +1,4 @@
 -- All laws of the states of a process.
-use Rattle.std.proofs.Common.{pos, refl, sym}
-use Rattle.shim_base.proofs.Facts.{none_some}
 use Rattle.shim_process.proofs.BornChildren as born
 use Rattle.shim_process.proofs.CallLaws as calls
 use Rattle.shim_process.proofs.ForkLaws as forks
@@ -31,8 +29,8 @@ process_laws = record {
   put_traps = λ l s at e. stops.put_traps l e;
   put_goes = λ l b s at e trapped. goes.put_goes l b at e trapped;
   fork_traps = calls.fork_traps;
-  thrown_same = λ l x v s at e. refl;
-  throw_traps = λ l x s at e. none_some (pos 0) (sym e);
+  thrown_same = λ l x v s at e. stops.thrown_same l v e;
+  throw_traps = λ l x s at e. stops.throw_traps l e;
   quiet_shares = calls.quiet_shares;
   quiet_adds = calls.quiet_adds;
   call_shares = calls.call_shares;

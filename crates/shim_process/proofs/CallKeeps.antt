@@ -1,5 +1,5 @@
 -- A put, a meeting, a throw that is caught and a trap at a fork keep what a call keeps, and make no channel.
-use Rattle.std.proofs.Common.{◌≡◌, ℕ, ℤ, pos, ◌||◌, List, Option, Some, None, Result, Ok, Err, sym, ap, subst}
+use Rattle.std.proofs.Common.{◌≡◌, ℕ, ℤ, ◌||◌, List, Option, Some, None, Result, Ok, Err, sym, ap, subst}
 use Rattle.shim_base.specs.declared.operators.Trap.{Trap}
 use Rattle.shim_base.specs.declared.operators.Trap.TheVariants.{Depth}
 use Rattle.shim_local.specs.Process.{ForkedView, Parted, Trapped}
@@ -14,33 +14,34 @@ use Rattle.shim_process.specs.Arguments.{Argument}
 use Rattle.shim_process.specs.Ends.{gone}
 use Rattle.shim_process.specs.Forks.{fork, fork_result, parent, children_from, is_far, item_branches, all_arguments}
 use Rattle.shim_process.specs.Steps.{line_of, stored_in, half}
-use Rattle.shim_process.specs.Stops.{put_value, after_put, put, what_receive, stmt_receive, receive}
-use Rattle.shim_process.specs.Unwinding.{unwind}
+use Rattle.shim_process.specs.Stops.{put_value, after_put, put, thrown_value, after_throw, thrown, what_receive, stmt_receive, receive}
 use Rattle.shim_process.specs.Sound.{Sound}
 use Rattle.shim_process.specs.Ops.{process_ops}
-use Rattle.shim_process.proofs.LabelFrames.{HasLeft, gone_left, unwind_left, half_left, trapped_left, none_left}
-use Rattle.shim_process.proofs.FittingEnds.{GoesFitting, gone_fitting, unwind_fitting}
+use Rattle.shim_process.proofs.LabelFrames.{HasLeft, sound_frames, gone_left, half_left, trapped_left, none_left}
+use Rattle.shim_process.proofs.FittingEnds.{GoesFitting, same_fitting, gone_fitting}
 use Rattle.shim_process.proofs.FittingSteps.{trapped_fitting, stmt_fitting}
 use Rattle.shim_process.proofs.QuietKeeps.{Keeps, keeps}
 use Rattle.shim_process.proofs.QuietActions.{unchanged, store_changed}
+use Rattle.shim_process.proofs.UnwindKeeps.{unwind_keeps}
 use Rattle.shim_base.proofs.Facts.{choose}
 
 -- the second state keeps what a call keeps of the first, and no channel was made
 pub record MakesNone (l m : LocalState) : Type 0 where
   pub keeps : Keeps l m
   pub made : m.made ≡ l.made
+  pub untaken : m.untaken ≡ l.untaken
 
 left_makes_none : (l m : LocalState) → HasLeft l.base l m → GoesFitting l m → MakesNone l m
-left_makes_none l m h w = record { keeps = keeps l l m (unchanged l) h w; made = h.made }
+left_makes_none l m h w = record { keeps = keeps l l m (unchanged l) h w; made = h.made; untaken = h.untaken }
 
 stored_makes_none : (l m : LocalState) (x : ℕ) (v : ℤ) → HasLeft l.base (stored_in x v l) m → GoesFitting l m → MakesNone l m
-stored_makes_none l m x v h w = record { keeps = keeps l (stored_in x v l) m (store_changed l x v) h w; made = h.made }
+stored_makes_none l m x v h w = record { keeps = keeps l (stored_in x v l) m (store_changed l x v) h w; made = h.made; untaken = h.untaken }
 
 trapped_makes_none : (kind : Trap) (line : ℕ) (l : LocalState) → Sound l → MakesNone l (trapped kind line l)
-trapped_makes_none kind line l s = left_makes_none l (trapped kind line l) (trapped_left l.base kind line l s.labels) (trapped_fitting kind line l s.fitting)
+trapped_makes_none kind line l s = left_makes_none l (trapped kind line l) (trapped_left l.base kind line l (sound_frames l s)) (trapped_fitting kind line l s.fitting)
 
 after_put_makes_none : (r : Value) (l : LocalState) → Sound l → MakesNone l (after_put r l)
-after_put_makes_none (Ok v) l s = left_makes_none l (gone On l) (gone_left l.base On l s.labels) (gone_fitting On l s.fitting)
+after_put_makes_none (Ok v) l s = left_makes_none l (gone On l) (gone_left l.base On l (sound_frames l s)) (gone_fitting On l s.fitting)
 after_put_makes_none (Err t) l s = trapped_makes_none t (line_of l.frame.todo) l s
 
 put_makes_none : (l : LocalState) → Sound l → MakesNone l (put l)
@@ -48,29 +49,34 @@ unfolding put
 put_makes_none l s = after_put_makes_none (put_value l) l s
 
 what_makes_none : (w : UWhat-F UWhat UStmt) (v : ℤ) (l : LocalState) → Sound l → GoesFitting l (what_receive w v l) → MakesNone l (what_receive w v l)
-what_makes_none (UWhat-F.Next x) v l s f = stored_makes_none l (gone On (stored_in x v l)) x v (gone_left l.base On (stored_in x v l) s.labels) f
-what_makes_none (UWhat-F.NextAssign x e) v l s f = stored_makes_none l (gone On (stored_in x v l)) x v (gone_left l.base On (stored_in x v l) s.labels) f
-what_makes_none (UWhat-F.AssignNext x y) v l s f = stored_makes_none l (record (stored_in y v l) { frame = half l.frame }) y v (half_left l.base (stored_in y v l) s.labels) f
-what_makes_none _ v l s f = left_makes_none l l (none_left l.base l s.labels) f
+what_makes_none (UWhat-F.Next x) v l s f = stored_makes_none l (gone On (stored_in x v l)) x v (gone_left l.base On (stored_in x v l) (record { below = s.labels; grow = s.places })) f
+what_makes_none (UWhat-F.NextAssign x e) v l s f = stored_makes_none l (gone On (stored_in x v l)) x v (gone_left l.base On (stored_in x v l) (record { below = s.labels; grow = s.places })) f
+what_makes_none (UWhat-F.AssignNext x y) v l s f = stored_makes_none l (record (stored_in y v l) { frame = half l.frame }) y v (half_left l.base (stored_in y v l) (record { below = s.labels; grow = s.places })) f
+what_makes_none _ v l s f = left_makes_none l l (none_left l.base l (sound_frames l s)) f
 
 stmt_makes_none : (o : Option UStmt) (v : ℤ) (l : LocalState) → Sound l → GoesFitting l (stmt_receive o v l) → MakesNone l (stmt_receive o v l)
-stmt_makes_none None v l s f = left_makes_none l l (none_left l.base l s.labels) f
+stmt_makes_none None v l s f = left_makes_none l l (none_left l.base l (sound_frames l s)) f
 stmt_makes_none (Some stmt) v l s f = what_makes_none (out-UWhat stmt.what) v l s f
 
 receive_makes_none : (l : LocalState) (v : ℤ) → Sound l → MakesNone l (receive l v)
 unfolding receive
 receive_makes_none l v s = stmt_makes_none (next_stmt l.frame.todo) v l s (stmt_fitting (next_stmt l.frame.todo) v l s.fitting)
 
-unwind_makes_none : (l : LocalState) (label : ℕ) → Sound l → MakesNone l (unwind l label)
-unwind_makes_none l label s = left_makes_none l (unwind l label) (unwind_left l.base l label s.labels) (unwind_fitting l label s.fitting)
+after_throw_makes_none : (r : Value) (l : LocalState) → Sound l → MakesNone l (after_throw r l)
+after_throw_makes_none (Ok v) l s = left_makes_none l l (none_left l.base l (sound_frames l s)) (s.fitting, same_fitting l)
+after_throw_makes_none (Err t) l s = trapped_makes_none t (line_of l.frame.todo) l s
+
+thrown_makes_none : (l : LocalState) → Sound l → MakesNone l (thrown l)
+unfolding thrown
+thrown_makes_none l s = after_throw_makes_none (thrown_value l) l s
 
 pub called_makes_none : (l m : LocalState) → Sound l → Called process_ops l m → MakesNone l m
 called_makes_none l m s (by_put at e) = subst (MakesNone l) (sym e) (put_makes_none l s)
 called_makes_none l m s (by_receive c v at e) = subst (MakesNone l) (sym e) (receive_makes_none l v s)
-called_makes_none l m s (by_thrown x at e) = subst (MakesNone l) (sym e) (stmt_makes_none None (pos 0) l s (stmt_fitting None (pos 0) l s.fitting))
+called_makes_none l m s (by_thrown x at e) = subst (MakesNone l) (sym e) (thrown_makes_none l s)
 
-pub unwound_makes_none : (l m : LocalState) → Sound l → Unwound process_ops l m → MakesNone l m
-unwound_makes_none l m s (by_label label v least below e) = subst (MakesNone l) (sym e) (unwind_makes_none l label s)
+pub unwound_keeps : (l m : LocalState) → Sound l → Unwound process_ops l m → Keeps l m
+unwound_keeps l m s (by_label label v least below e) = subst (Keeps l) (sym e) (unwind_keeps l label v s)
 
 -- the process is trapped where it stood
 abbrev pub StandsTrapped : LocalState → LocalState → Type 0

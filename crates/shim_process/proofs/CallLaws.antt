@@ -16,7 +16,7 @@ use Rattle.shim_process.proofs.FittingEnds.{HasParameters}
 use Rattle.shim_process.proofs.PlaceStops.{trapped_stands}
 use Rattle.shim_process.proofs.QuietKeeps.{Keeps, keeps_sound, keeps_shares, keeps_adds, keeps_carries, keeps_holds}
 use Rattle.shim_process.proofs.QuietActions.{quiet_keeps}
-use Rattle.shim_process.proofs.CallKeeps.{MakesNone, called_makes_none, unwound_makes_none, fork_trapped, fork_trapped_makes_none, StandsTrapped}
+use Rattle.shim_process.proofs.CallKeeps.{MakesNone, called_makes_none, unwound_keeps, fork_trapped, fork_trapped_makes_none, StandsTrapped}
 
 -- What holds of each two states of which the second keeps what a call keeps, and of a fork and a join, holds of each call.
 pub moved : (P : LocalState → LocalState → Type 0) → ((l m : LocalState) → Sound l → Keeps l m → P l m)
@@ -25,7 +25,7 @@ pub moved : (P : LocalState → LocalState → Type 0) → ((l m : LocalState) �
     → (l m : LocalState) → Sound l → Moved process_ops l m → P l m
 moved P each forks joins l m s (by_quiet at e) = subst (P l) (sym e) (each l (quiet l) s (quiet_keeps l s))
 moved P each forks joins l m s (by_call c) = each l m s (called_makes_none l m s c).keeps
-moved P each forks joins l m s (by_unwind u) = each l m s (unwound_makes_none l m s u).keeps
+moved P each forks joins l m s (by_unwind u) = each l m s (unwound_keeps l m s u)
 moved P each forks joins l m s (by_fork ks at e) = forks l m ks s at e
 moved P each forks joins l m s (by_trap at e) = each l m s (fork_trapped_makes_none l m s e).keeps
 moved P each forks joins l m s (by_join ks goes_on all born e) = subst (P l) (sym e) (joins l ks goes_on s all born)
@@ -84,16 +84,16 @@ pub quiet_adds : (l : LocalState) (c : Channel) → Sound l → stop l ≡ AtQui
 quiet_adds l c s at none e = keeps_adds l (quiet l) c (quiet_keeps l s) none e
 
 none_made_shares : (l m : LocalState) (c : Channel) → MakesNone l m → shares m c ≡ shares l c
-none_made_shares l m c h = shares_same l m c h.keeps.changed.path h.keeps.changed.given h.made
+none_made_shares l m c h = shares_same l m c h.keeps.changed.path h.keeps.changed.given h.made h.untaken
 
 pub call_shares : (l m : LocalState) (c : Channel) → Sound l → Called process_ops l m → shares m c ≡ shares l c
 call_shares l m c s h = none_made_shares l m c (called_makes_none l m s h)
 
 pub unwind_shares : (l m : LocalState) (c : Channel) → Sound l → Unwound process_ops l m → shares l c ≡ true → shares m c ≡ true
-unwind_shares l m c s h e = none_made_shares l m c (unwound_makes_none l m s h) ∙ e
+unwind_shares l m c s h e = keeps_shares l m c (unwound_keeps l m s h) e
 
 pub unwind_adds : (l m : LocalState) (c : Channel) → Sound l → Unwound process_ops l m → shares l c ≡ false → shares m c ≡ true → c.home ≡ l.path
-unwind_adds l m c s h n e = let w : true ≡ false = sym e ∙ (none_made_shares l m c (unwound_makes_none l m s h) ∙ n) in absurd (cc w)
+unwind_adds l m c s h n e = keeps_adds l m c (unwound_keeps l m s h) n e
 
 -- a fork that traps leaves the exception places as they are
 pub fork_trap_handlers : (l m : LocalState) → Sound l → stop l ≡ AtFork → fork l ≡ Trapped m → handlers m ≡ handlers l
@@ -118,7 +118,7 @@ pub call_carries : (l m : LocalState) (c : Channel) → Sound l → Called proce
 call_carries l m c s h = λ e. keeps_carries l m c s (called_makes_none l m s h).keeps e
 
 pub unwind_carries : (l m : LocalState) (c : Channel) → Sound l → Unwound process_ops l m → CarriesNoMore process_ops l m c
-unwind_carries l m c s h = λ e. keeps_carries l m c s (unwound_makes_none l m s h).keeps e
+unwind_carries l m c s h = λ e. keeps_carries l m c s (unwound_keeps l m s h) e
 
 pub quiet_holds : (l : LocalState) → Sound l → stop l ≡ AtQuiet → (quiet l).holds_output ≡ true → l.holds_output ≡ true
 quiet_holds l s at e = keeps_holds l (quiet l) (quiet_keeps l s) e
@@ -127,4 +127,4 @@ pub call_holds : (l m : LocalState) → Sound l → Called process_ops l m → m
 call_holds l m s h e = keeps_holds l m (called_makes_none l m s h).keeps e
 
 pub unwind_holds : (l m : LocalState) → Sound l → Unwound process_ops l m → m.holds_output ≡ true → l.holds_output ≡ true
-unwind_holds l m s h e = keeps_holds l m (unwound_makes_none l m s h).keeps e
+unwind_holds l m s h e = keeps_holds l m (unwound_keeps l m s h) e

@@ -1,13 +1,14 @@
 -- Tests of channels, what a process shares, and what it carries.
-use Rattle.std.proofs.Common.{◌≡◌, ◌≢◌, ◌∙◌, ℕ, zero, suc, ◌<◌, ◌≤◌, ◌⊎◌, inl, inr, Bool, true, false, ◌&&◌, ◌||◌, List, [], ◌∷◌, Some, None, cond, refl, sym, ap, arith}
+use Rattle.std.proofs.Common.{◌≡◌, ◌≢◌, ◌∙◌, ℕ, zero, suc, ◌<◌, ◌≤◌, ◌⊎◌, inl, inr, Bool, true, false, not, ◌&&◌, ◌||◌, List, [], ◌∷◌, Some, None, cond, refl, sym, ap, arith}
 use Rattle.std.proofs.lemmas.Bool.{ltb-true, lt-ltb}
 use Rattle.std.specs.Prelude.{slice_get, nat_lt}
 use Rattle.shim_base.specs.Paths.{Channel, NamedChannel, same_path, same_channel}
 use Rattle.shim_process.specs.Locations.{Location, Locations, Ownership, Own, is_own, is_on, flattened, at_number, own_of}
 use Rattle.shim_process.specs.LocalState.{LocalState}
-use Rattle.shim_process.specs.Sharers.{is_among, declared, shares, carries, is_there}
+use Rattle.shim_process.specs.SerialRuns.{is_in_runs}
+use Rattle.shim_process.specs.Sharers.{is_among, is_taken, declared, shares, carries, is_there}
 use Rattle.shim_process.proofs.PlaceLocations.{flattened_is}
-use Rattle.shim_base.proofs.Facts.{some_same, first_holds, second_holds, both_hold, either_holds, or_left, or_right, choose}
+use Rattle.shim_base.proofs.Facts.{some_same, first_holds, second_holds, both_hold, either_holds, or_left, or_right, not_false, false_not, false_unless, choose}
 use Rattle.shim_base.proofs.SamePaths.{same_path_refl, same_path_is, same_channel_is, same_channel_refl}
 
 -- a channel among these is at a place
@@ -24,20 +25,33 @@ place_among [] at d c e f = absurd cc
 place_among (x ∷ ds) zero d c e f = or_left (same_channel x.channel c) (is_among c ds) (ap (λ (z : NamedChannel). same_channel z.channel c) (some_same x d e) ∙ ap (λ z. same_channel z c) f ∙ same_channel_refl c)
 place_among (x ∷ ds) (suc at) d c e f = or_right (same_channel x.channel c) (is_among c ds) (place_among ds at d c e f)
 
--- what is shared goes by the path, the given channels and the count of those made
-pub shares_same : (l m : LocalState) (c : Channel) → m.path ≡ l.path → m.given ≡ l.given → m.made ≡ l.made → shares m c ≡ shares l c
+-- what is shared goes by the path, the given channels, the count of those made and which of these no handler has taken
+pub shares_same : (l m : LocalState) (c : Channel) → m.path ≡ l.path → m.given ≡ l.given → m.made ≡ l.made → m.untaken ≡ l.untaken → shares m c ≡ shares l c
 unfolding shares
-shares_same l m c path given made = λ i. is_among c (given i) || (same_path c.home (path i) && nat_lt c.serial (made i))
+shares_same l m c path given made untaken = λ i. is_among c (given i) || (same_path c.home (path i) && (nat_lt c.serial (made i) && not (is_in_runs c.serial (untaken i))))
 
--- where no less was made, no less is shared
-pub shares_more : (l m : LocalState) (c : Channel) → m.path ≡ l.path → m.given ≡ l.given → l.made ≤ m.made → shares l c ≡ true → shares m c ≡ true
+-- a serial number of one that was made and that no handler has still to take
+taken_parts : (l : LocalState) (n : ℕ) → is_taken l n ≡ true → (n < l.made) × (is_in_runs n l.untaken ≡ false)
+taken_parts l n e =
+    let run : Bool = is_in_runs n l.untaken in
+    (ltb-true n l.made (first_holds (nat_lt n l.made) (not run) e), not_false run (second_holds (nat_lt n l.made) (not run) e))
+
+taken_of : (l : LocalState) (n : ℕ) → n < l.made → is_in_runs n l.untaken ≡ false → is_taken l n ≡ true
+taken_of l n below none = both_hold (nat_lt n l.made) (not (is_in_runs n l.untaken)) (lt-ltb n l.made below) (false_not (is_in_runs n l.untaken) none)
+
+-- where no less was made, and no handler has to take more of it, no less is shared
+pub shares_more : (l m : LocalState) (c : Channel) → m.path ≡ l.path → m.given ≡ l.given → l.made ≤ m.made
+    → ((n : ℕ) → n < l.made → is_in_runs n m.untaken ≡ true → is_in_runs n l.untaken ≡ true) → shares l c ≡ true → shares m c ≡ true
 unfolding shares
-shares_more l m c path given made e = elim (either_holds (is_among c l.given) (declared l c) e) [
+shares_more l m c path given made untaken e = elim (either_holds (is_among c l.given) (declared l c) e) [
   | inl h ↦ or_left (is_among c m.given) (declared m c) (ap (is_among c) given ∙ h)
   | inr h ↦
-      let below = ltb-true c.serial l.made (second_holds (same_path c.home l.path) (nat_lt c.serial l.made) h) in
+      let w = taken_parts l c.serial (second_holds (same_path c.home l.path) (is_taken l c.serial) h) in
+      let below = w.0 in
+      let none : is_in_runs c.serial m.untaken ≡ false = false_unless (is_in_runs c.serial m.untaken) (λ t. let there = untaken c.serial w.0 t in absurd (cc (there, w.1))) in
       or_right (is_among c m.given) (declared m c)
-      (both_hold (same_path c.home m.path) (nat_lt c.serial m.made) (ap (same_path c.home) path ∙ first_holds (same_path c.home l.path) (nat_lt c.serial l.made) h) (lt-ltb c.serial m.made (omega (arith, below, made))))
+      (both_hold (same_path c.home m.path) (is_taken m c.serial) (ap (same_path c.home) path ∙ first_holds (same_path c.home l.path) (is_taken l c.serial) h)
+      (taken_of m c.serial (omega (arith, below, made)) none))
 ]
 
 -- and what is shared newly is the process's own
@@ -45,22 +59,22 @@ pub shares_new : (l m : LocalState) (c : Channel) → m.path ≡ l.path → m.gi
 unfolding shares
 shares_new l m c path given none e = elim (either_holds (is_among c m.given) (declared m c) e) [
   | inl h ↦ absurd (let w = or_left (is_among c l.given) (declared l c) (ap (is_among c) (sym given) ∙ h) in cc)
-  | inr h ↦ same_path_is c.home m.path (first_holds (same_path c.home m.path) (nat_lt c.serial m.made) h) ∙ path
+  | inr h ↦ same_path_is c.home m.path (first_holds (same_path c.home m.path) (is_taken m c.serial) h) ∙ path
 ]
 
 -- one of its own that it made
-pub shares_made : (l : LocalState) (c : Channel) → c.home ≡ l.path → c.serial < l.made → shares l c ≡ true
+pub shares_made : (l : LocalState) (c : Channel) → c.home ≡ l.path → c.serial < l.made → is_in_runs c.serial l.untaken ≡ false → shares l c ≡ true
 unfolding shares
-shares_made l c home below = or_right (is_among c l.given) (declared l c)
-    (both_hold (same_path c.home l.path) (nat_lt c.serial l.made) (ap (λ p. same_path p l.path) home ∙ same_path_refl l.path) (lt-ltb c.serial l.made below))
+shares_made l c home below none = or_right (is_among c l.given) (declared l c)
+    (both_hold (same_path c.home l.path) (is_taken l c.serial) (ap (λ p. same_path p l.path) home ∙ same_path_refl l.path) (taken_of l c.serial below none))
 
 -- one that it shares was given, or it made it
 pub shares_how : (l : LocalState) (c : Channel) → shares l c ≡ true
-    → ((at : ℕ) × (d : NamedChannel) × (slice_get l.given at ≡ Some d) × (d.channel ≡ c)) ⊎ (c.serial < l.made)
+    → ((at : ℕ) × (d : NamedChannel) × (slice_get l.given at ≡ Some d) × (d.channel ≡ c)) ⊎ ((c.serial < l.made) × (is_in_runs c.serial l.untaken ≡ false))
 unfolding shares
 shares_how l c e = elim (either_holds (is_among c l.given) (declared l c) e) [
   | inl h ↦ inl (among_at c l.given h)
-  | inr h ↦ inr (ltb-true c.serial l.made (second_holds (same_path c.home l.path) (nat_lt c.serial l.made) h))
+  | inr h ↦ inr (taken_parts l c.serial (second_holds (same_path c.home l.path) (is_taken l c.serial) h))
 ]
 
 -- a channel of another home that it shares was given
@@ -68,7 +82,7 @@ pub shares_given : (l : LocalState) (c : Channel) → c.home ≢ l.path → shar
 unfolding shares
 shares_given l c other e = elim (either_holds (is_among c l.given) (declared l c) e) [
   | inl h ↦ among_at c l.given h
-  | inr h ↦ absurd (other (same_path_is c.home l.path (first_holds (same_path c.home l.path) (nat_lt c.serial l.made) h)))
+  | inr h ↦ absurd (other (same_path_is c.home l.path (first_holds (same_path c.home l.path) (is_taken l c.serial) h)))
 ]
 
 -- one that was given it shares

@@ -1,7 +1,7 @@
 -- The children of a sound process are sound.
-use Rattle.std.proofs.Common.{◌≡◌, ℕ, ◌+◌, ◌<◌, true, List, [], ◌∷◌, ◌++◌, length, Some, ◌⊎◌, inl, inr, sym, ap, ◌∙◌, subst, arith}
+use Rattle.std.proofs.Common.{◌≡◌, ℕ, ◌+◌, ◌<◌, true, List, [], ◌∷◌, ◌++◌, length, Some, ◌⊎◌, inl, inr, sym, ap, ◌∙◌, subst, arith, refl}
 use Rattle.std.proofs.lemmas.Bool.{and_parts, or_cases, or_left, ltb-true}
-use Rattle.std.specs.Prelude.{slice_get}
+use Rattle.std.specs.Prelude.{slice_get, nat_lt}
 use Rattle.shim_base.specs.Paths.{Path, Channel, NamedChannel, same_path}
 use Rattle.shim_units.specs.declared.unit.UBranch.{UBranch}
 use Rattle.shim_process.specs.Locations.{Location, Locations, at_number}
@@ -87,6 +87,9 @@ child_sound l i b given s many =
             | inl shared ↦ absurd (shared_not_own l i c.channel s shared h)
             | inr own ↦ own.1
           ];
+      made = λ n e. absurd (cc e);
+      taken = λ at c e h. refl;
+      places = tt;
       root = λ e. absurd (not_empty l.path (l.forks, i) e);
       fitting = child_fitting l i b given s.fitting many;
     }
@@ -117,6 +120,6 @@ child_given l i b given c e =
       | inl here ↦ among_at c (channels_of passed) here
       | inr made ↦
           let home : c.home ≡ below l i = same_path_is c.home (below l i) ((and_parts (same_path c.home (below l i)) _ made).0) in
-          let number : c.serial < new_channels given = ltb-true c.serial (new_channels given) ((and_parts (same_path c.home (below l i)) _ made).1) in
+          let number : c.serial < new_channels given = ltb-true c.serial (new_channels given) ((and_parts (nat_lt c.serial (new_channels given)) _ ((and_parts (same_path c.home (below l i)) _ made).1)).0) in
           among_at c (channels_of passed) (among_made (below l i) l.locations given c home number)
     ]

@@ -1,5 +1,6 @@
 -- What a statement of a unit that uses slots of its own asks for: a declaration is of a slot of the unit's own, and a call has an argument for each parameter.
 use Rattle.std.proofs.Common.{◌≡◌, ◌∙◌, pos, Bool, true, ◌||◌, List, [], ◌∷◌, length, Result, Ok, Err, cond, refl, sym}
+use Rattle.std.proofs.lemmas.Bool.{and_parts}
 use Rattle.shim_base.specs.declared.operators.Trap.{Trap}
 use Rattle.shim_base.specs.declared.operators.Trap.TheVariants.{Depth}
 use Rattle.shim_base.specs.Operators.{is_zero}
@@ -12,7 +13,7 @@ use Rattle.shim_process.specs.LocalState.{LocalState, unit_at, env_of, is_full, 
 use Rattle.shim_process.specs.StatementViews.{statement_view, unit_in, passed_labels}
 use Rattle.shim_process.specs.Arguments.{Argument, arguments}
 use Rattle.shim_process.specs.Steps.{Action, Go, Store, StoreFirst, Make, Enter, Install, Trapped, Wait, action, limited, value_or, try_name, what_action, stmt_action, next_action}
-use Rattle.shim_process.specs.OwnSlots.{is_own_slot, suits}
+use Rattle.shim_process.specs.OwnSlots.{is_own_slot, is_own_variable, suits}
 use Rattle.shim_process.specs.FittingFrames.{ItemsFit, FrameFits, parameters_of, IsFitting}
 use Rattle.shim_process.proofs.CallSlots.{given_many}
 use Rattle.shim_process.proofs.FittingItems.{fits_layer, fits_out}
@@ -21,6 +22,7 @@ use Rattle.shim_base.proofs.Facts.{choose}
 
 abbrev pub ActionFits : LocalState → Action → Type 0
 ActionFits l (Make t x v) = is_own_slot (unit_at l.program l.frame.unit) x ≡ true
+ActionFits l (Install x name y) = is_own_variable (unit_at l.program l.frame.unit) y ≡ true
 ActionFits l (Enter unit given labels) = length given ≡ length (unit_at l.program unit).params
 ActionFits l _ = Unit {0}
 
@@ -50,7 +52,8 @@ what_fits (UWhat-F.Call c) l h =
     action_fits l (λ given. limited (is_deep l || is_full l) (Enter c.unit given (passed_labels (statement_view l) c.throws)))
     (arguments l.locations l.frame.slots (unit_in (statement_view l) c.unit).params c.args)
     (λ given is. limited_fits l (is_deep l || is_full l) (Enter c.unit given (passed_labels (statement_view l) c.throws)) (call_given c given l h is))
-what_fits (UWhat-F.Try body x handler) l h = limited_fits l (is_full l) (Install x (try_name (unit_in (statement_view l) l.frame.unit) x)) tt
+what_fits (UWhat-F.Try body x y handler) l h =
+    limited_fits l (is_full l) (Install x (try_name (unit_in (statement_view l) l.frame.unit) x) y) (and_parts (is_own_variable (unit_at l.program l.frame.unit) y) _ (and_parts _ _ h).1).0
 what_fits _ l h = tt
 
 item_fits : (todo : List Item) (l : LocalState) → ItemsFit l.program (unit_at l.program l.frame.unit) todo → ActionFits l (stmt_action (next_stmt todo) (statement_view l))

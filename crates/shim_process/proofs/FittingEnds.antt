@@ -1,16 +1,17 @@
 -- The frames of a process fit its locations where a unit is left or a throw is caught, and its parameters stay on their channels.
-use Rattle.std.proofs.Common.{◌≡◌, ◌∙◌, ℕ, ◌-◌, ◌<◌, ◌≤◌, List, [], ◌∷◌, length, take, nat_lt, refl, sym, subst, arith}
-use Rattle.std.specs.Prelude.{slice_get}
+use Rattle.std.proofs.Common.{◌≡◌, ◌∙◌, ℕ, ℤ, ◌-◌, ◌<◌, ◌≤◌, List, [], ◌∷◌, length, take, Option, Some, None, nat_lt, refl, sym, subst, arith}
+use Rattle.std.specs.Prelude.{slice_get, slice_set}
 use Rattle.shim_base.specs.Paths.{Path}
 use Rattle.shim_units.specs.declared.form.Form.{Form}
-use Rattle.shim_process.specs.Locations.{Locations, channel_at}
+use Rattle.shim_process.specs.Locations.{Location, Locations, channel_at}
 use Rattle.shim_process.specs.Todo.{Successor, On}
-use Rattle.shim_process.specs.LocalState.{LocalState, Frame, unit_at}
+use Rattle.shim_process.specs.LocalState.{LocalState, Frame, ExceptionPlace, unit_at, number_of}
+use Rattle.shim_process.specs.declared.handler_variable.HandlerVariable.{HandlerVariable}
 use Rattle.shim_process.specs.Ends.{went, is_over, settled, gone}
-use Rattle.shim_process.specs.Unwinding.{handling, unwound, unwind}
-use Rattle.shim_process.specs.FittingFrames.{FrameFits, FramesFit, parameters, parameters_of, Fitting, IsFitting}
-use Rattle.shim_process.proofs.PlaceChannels.{length_taken, taken_channel}
-use Rattle.shim_process.proofs.FittingItems.{place_at}
+use Rattle.shim_process.specs.Unwinding.{handling, caught_location, taking, catching, unwound, unwind}
+use Rattle.shim_process.specs.FittingFrames.{VariableFits, FrameFits, FramesFit, parameters, parameters_of, Fitting, IsFitting}
+use Rattle.shim_process.proofs.PlaceChannels.{length_taken, taken_channel, length_put, other_channel}
+use Rattle.shim_process.proofs.FittingItems.{place_at, variable_at}
 use Rattle.shim_process.proofs.FittingFrames.{GoesOn, went_fits, handling_fits, inner_fits, frames_fit, same_parameters}
 use Rattle.shim_base.proofs.Facts.{choose}
 
@@ -105,24 +106,70 @@ handled l f cs i h =
     let inner : FrameFits l.program (parameters l.path l.program f cs) f = inner_fits l.program (parameters l.path l.program f cs) f cs h.fit in
     handling_fits l.program (parameters l.path l.program f cs) (slice_get f.places i) i f inner (λ e is. place_at l.program (unit_at l.program f.unit) f.places i e inner.places is)
 
-stopped : (l : LocalState) (f : Frame) (cs : List Frame) (i : ℕ) → Fitting l.path l.program f cs l.locations → GoesFitting (record l { frame = f; callers = cs }) (settled cs (handling (slice_get f.places i) i f) l)
-stopped l f cs i h =
-    let g : Frame = handling (slice_get f.places i) i f in
-    let w : GoesOn l.program (parameters l.path l.program f cs) f (handling (slice_get f.places i) i f) = handled l f cs i h in
-    then_fitting (record l { frame = f; callers = cs }) (record l { frame = g; callers = cs }) (settled cs g l) (frame_parameters (record l { frame = f; callers = cs }) g w.unit)
-    (settled_fitting cs g l (fitting_on l.path l.program f g cs l.locations h w))
+-- a location of the frame's own is set, which none of the parameters has
+pub not_there : (k n bound : ℕ) → bound ≤ k → n < bound → k ≡ n → ⊥
+not_there k n bound a b e = omega (arith, a, b, e)
 
-unwound_fitting : (cs : List Frame) (f : Frame) (n : ℕ) (l : LocalState) → Fitting l.path l.program f cs l.locations → GoesFitting (record l { frame = f; callers = cs }) (unwound cs f n l)
-unwound_fitting [] f n l h = stopped l f [] (n - f.outer) h
-unwound_fitting (c ∷ cs) f n l h =
-    let g : Frame = handling (slice_get f.places (n - f.outer)) (n - f.outer) f in
+-- the process with the location that a handler's variable gets
+pub taking_fitting : (o : Option HandlerVariable) (v : ℤ) (l : LocalState) (f : Frame) (cs : List Frame) → VariableFits (unit_at l.program f.unit) o → Fitting l.path l.program f cs l.locations
+    → GoesFitting (record l { frame = f; callers = cs }) (record (taking o v f l) { frame = f; callers = cs })
+taking_fitting None v l f cs own h = (h, same_fitting (record l { frame = f; callers = cs }))
+taking_fitting (Some y) v l f cs own h =
+    let k : ℕ = number_of f.slots y.slot in
+    let new : Option Location = Some (caught_location y.channel v) in
+    let inner : FrameFits l.program (parameters l.path l.program f cs) f = inner_fits l.program (parameters l.path l.program f cs) f cs h.fit in
+    let at : (f.floor ≤ number_of f.slots y.slot) × (parameters l.path l.program f cs ≤ number_of f.slots y.slot) = inner.slots y.slot own in (
+      fitting_over l.path l.program f cs l.locations (slice_set l.locations k new) (length_put l.locations k new) h,
+      record { many = refl; channels = λ n below. other_channel l.locations k n new (not_there k n (parameters l.path l.program f cs) at.1 below) },
+    )
+
+catching_fitting : (o : Option ExceptionPlace) (v : ℤ) (l : LocalState) (f : Frame) (cs : List Frame) → ((e : ExceptionPlace) → o ≡ Some e → VariableFits (unit_at l.program f.unit) e.variable)
+    → Fitting l.path l.program f cs l.locations → GoesFitting (record l { frame = f; callers = cs }) (record (catching o v f l) { frame = f; callers = cs })
+catching_fitting None v l f cs own h = (h, same_fitting (record l { frame = f; callers = cs }))
+catching_fitting (Some e) v l f cs own h = taking_fitting e.variable v l f cs (own e refl) h
+
+-- the states around a handler's variable are of the same process
+abbrev pub Around : LocalState → LocalState → Type 0
+Around l k = (k.path ≡ l.path) × (k.program ≡ l.program)
+
+taking_around : (o : Option HandlerVariable) (v : ℤ) (f : Frame) (l : LocalState) → Around l (taking o v f l)
+taking_around None v f l = (refl, refl)
+taking_around (Some y) v f l = (refl, refl)
+
+pub catching_around : (o : Option ExceptionPlace) (v : ℤ) (f : Frame) (l : LocalState) → Around l (catching o v f l)
+catching_around None v f l = (refl, refl)
+catching_around (Some e) v f l = taking_around e.variable v f l
+
+-- on with the handler, from the state with its variable
+on_handler : (k : LocalState) (f g : Frame) (cs : List Frame) → Fitting k.path k.program f cs k.locations → GoesOn k.program (parameters k.path k.program f cs) f g → GoesFitting (record k { frame = f; callers = cs }) (settled cs g k)
+on_handler k f g cs h w =
+    then_fitting (record k { frame = f; callers = cs }) (record k { frame = g; callers = cs }) (settled cs g k) (frame_parameters (record k { frame = f; callers = cs }) g w.unit)
+    (settled_fitting cs g k (fitting_on k.path k.program f g cs k.locations h w))
+
+stopped : (l : LocalState) (f : Frame) (cs : List Frame) (i : ℕ) (v : ℤ) → Fitting l.path l.program f cs l.locations
+    → GoesFitting (record l { frame = f; callers = cs }) (settled cs (handling (slice_get f.places i) i f) (catching (slice_get f.places i) v f l))
+stopped l f cs i v h =
+    let o : Option ExceptionPlace = slice_get f.places i in
+    let k : LocalState = catching o v f l in
+    let inner : FrameFits l.program (parameters l.path l.program f cs) f = inner_fits l.program (parameters l.path l.program f cs) f cs h.fit in
+    let c : GoesFitting (record l { frame = f; callers = cs }) (record k { frame = f; callers = cs }) =
+    catching_fitting o v l f cs (λ e is. variable_at l.program (unit_at l.program f.unit) f.places i e inner.places is) h in
+    let on : GoesOn k.program (parameters k.path k.program f cs) f (handling o i f) =
+    subst (λ (z : Form). GoesOn z (parameters k.path z f cs) f (handling o i f)) (sym (catching_around o v f l).1)
+    (subst (λ (z : Path). GoesOn l.program (parameters z l.program f cs) f (handling o i f)) (sym (catching_around o v f l).0) (handled l f cs i h)) in
+    then_fitting (record l { frame = f; callers = cs }) (record k { frame = f; callers = cs }) (settled cs (handling o i f) k) c.1 (on_handler k f (handling o i f) cs c.0 on)
+
+unwound_fitting : (cs : List Frame) (f : Frame) (n : ℕ) (v : ℤ) (l : LocalState) → Fitting l.path l.program f cs l.locations → GoesFitting (record l { frame = f; callers = cs }) (unwound cs f n v l)
+unwound_fitting [] f n v l h = stopped l f [] (n - f.outer) v h
+unwound_fitting (c ∷ cs) f n v l h =
+    let o : Option ExceptionPlace = slice_get f.places (n - f.outer) in
     let out : LocalState = record l { locations = take f.floor l.locations } in
-    choose (λ (z : LocalState). GoesFitting (record l { frame = f; callers = c ∷ cs }) z) (nat_lt n f.outer) (unwound cs c n out) (settled (c ∷ cs) g l)
-    (then_fitting (record l { frame = f; callers = c ∷ cs }) (record out { frame = c; callers = cs }) (unwound cs c n out)
+    choose (λ (z : LocalState). GoesFitting (record l { frame = f; callers = c ∷ cs }) z) (nat_lt n f.outer) (unwound cs c n v out) (settled (c ∷ cs) (handling o (n - f.outer) f) (catching o v f l))
+    (then_fitting (record l { frame = f; callers = c ∷ cs }) (record out { frame = c; callers = cs }) (unwound cs c n v out)
     (left_parameters l f c c cs refl h.fit.1)
-    (unwound_fitting cs c n out (fitting_left l.path l.program f c cs l.locations h)))
-    (stopped l f (c ∷ cs) (n - f.outer) h)
+    (unwound_fitting cs c n v out (fitting_left l.path l.program f c cs l.locations h)))
+    (stopped l f (c ∷ cs) (n - f.outer) v h)
 
-pub unwind_fitting : (l : LocalState) (label : ℕ) → IsFitting l → GoesFitting l (unwind l label)
+pub unwind_fitting : (l : LocalState) (label : ℕ) (v : ℤ) → IsFitting l → GoesFitting l (unwind l label v)
 unfolding unwind
-unwind_fitting l label h = unwound_fitting l.callers l.frame (label - l.base) l h
+unwind_fitting l label v h = unwound_fitting l.callers l.frame (label - l.base) v l h

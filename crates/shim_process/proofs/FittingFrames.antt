@@ -7,7 +7,8 @@ use Rattle.shim_process.specs.Todo.{Item, Do, Leave, Successor, Second, followed
 use Rattle.shim_process.specs.Ends.{without_last, past_ends, went}
 use Rattle.shim_process.specs.Steps.{installed}
 use Rattle.shim_process.specs.Unwinding.{handling}
-use Rattle.shim_process.specs.FittingFrames.{ItemsFit, PlacesFit, SlotsFit, FrameFits, FramesFit, of_child, parameters}
+use Rattle.shim_process.specs.declared.handler_variable.HandlerVariable.{HandlerVariable}
+use Rattle.shim_process.specs.FittingFrames.{ItemsFit, VariableFits, PlacesFit, SlotsFit, FrameFits, FramesFit, of_child, parameters}
 use Rattle.shim_process.proofs.FittingItems.{followed_fits, places_take, places_more}
 
 -- the second frame is of the same unit with the same slots, and fits
@@ -39,8 +40,8 @@ handling_fits program kept (Some e) i f h there =
     again program kept f f2 (went Second f2) refl refl
     (went_fits program kept Second f2 (record { todo = there e refl; places = places_take program (unit_at program f.unit) i f.places h.places; slots = h.slots }))
 
-pub installed_fits : (program : Form) (kept : ℕ) (x name : ℕ) (f : Frame) → FrameFits program kept f → FrameFits program kept (installed x name f)
-installed_fits program kept x name f h = record { todo = h.todo; places = places_more program (unit_at program f.unit) f.places _ h.places (h.todo, tt); slots = h.slots }
+pub installed_fits : (program : Form) (kept : ℕ) (x name : ℕ) (y : Option HandlerVariable) (f : Frame) → VariableFits (unit_at program f.unit) y → FrameFits program kept f → FrameFits program kept (installed x name y f)
+installed_fits program kept x name y f own h = record { todo = h.todo; places = places_more program (unit_at program f.unit) f.places _ h.places (h.todo, own, tt); slots = h.slots }
 
 -- the innermost frame, among all
 

@@ -9,8 +9,8 @@ use Rattle.shim_units.specs.declared.unit.UWhat.{UWhat, UWhat-F, out-UWhat, roll
 use Rattle.shim_process.specs.Todo.{Item, Do, Leave, Successor, First, Second, what_items, items, items_all, follow_what, followed}
 use Rattle.shim_units.specs.Numbering as numbering
 use Rattle.shim_process.specs.LocalState.{ExceptionPlace}
-use Rattle.shim_process.specs.OwnSlots.{what_fits, fits, all_fit}
-use Rattle.shim_process.specs.FittingFrames.{ItemsFit, PlacesFit}
+use Rattle.shim_process.specs.OwnSlots.{is_own_variable, what_fits, fits, all_fit}
+use Rattle.shim_process.specs.FittingFrames.{ItemsFit, VariableFits, PlacesFit}
 use Rattle.shim_base.proofs.Facts.{some_same}
 use Rattle.shim_process.proofs.TodoItems.{items_what, items_roll, line_of}
 
@@ -95,8 +95,8 @@ module _ (p : Form) (u : UnitOf) where
   good_cases (UWhat-F.If e a b) l = simple l (bare (UWhat-F.If e a b)) (λ n. refl)
   good_cases (UWhat-F.While e a) l = simple l (bare (UWhat-F.While e a)) (λ n. refl)
   good_cases (UWhat-F.Call v) l = simple l (bare (UWhat-F.Call v)) (λ n. refl)
-  good_cases (UWhat-F.Try a t b) l = simple l (bare (UWhat-F.Try a t b)) (λ n. refl)
-  good_cases (UWhat-F.Throw v) l = simple l (bare (UWhat-F.Throw v)) (λ n. refl)
+  good_cases (UWhat-F.Try a t v b) l = simple l (bare (UWhat-F.Try a t v b)) (λ n. refl)
+  good_cases (UWhat-F.Throw v e) l = simple l (bare (UWhat-F.Throw v e)) (λ n. refl)
   good_cases (UWhat-F.Par v) l = simple l (bare (UWhat-F.Par v)) (λ n. refl)
 
   good : (s : UStmt) → Good s
@@ -123,8 +123,11 @@ module _ (p : Form) (u : UnitOf) where
       let v = and_parts (all_fit p u st) (all_fit p u b) w.1 in
       let step : List Item = items_all st (n + 1 + numbering.size_all b) in
       both_fit (items_all b (n + 1)) (step ++ Do n s ∷ k) (body_fits b (n + 1) v.1) (both_fit step (Do n s ∷ k) (body_fits st (n + 1 + numbering.size_all b) v.0) (own, rest))
-  what_follows (UWhat-F.Try a t b) First n s k h own rest = both_fit (items_all a (n + 1)) (Leave ∷ k) (body_fits a (n + 1) (and_parts (all_fit p u a) (all_fit p u b) h).0) rest
-  what_follows (UWhat-F.Try a t b) Second n s k h own rest = both_fit (items_all b (n + 1 + numbering.size_all a)) k (body_fits b (n + 1 + numbering.size_all a) (and_parts (all_fit p u a) (all_fit p u b) h).1) rest
+  what_follows (UWhat-F.Try a t v b) First n s k h own rest =
+      both_fit (items_all a (n + 1)) (Leave ∷ k) (body_fits a (n + 1) (and_parts (all_fit p u a) (is_own_variable u v && all_fit p u b) h).0) rest
+  what_follows (UWhat-F.Try a t v b) Second n s k h own rest =
+      let w = and_parts (all_fit p u a) (is_own_variable u v && all_fit p u b) h in
+      both_fit (items_all b (n + 1 + numbering.size_all a)) k (body_fits b (n + 1 + numbering.size_all a) (and_parts (is_own_variable u v) (all_fit p u b) w.1).1) rest
   what_follows _ successor n s k h own rest = rest
 
   pub followed_fits : (successor : Successor) (k : List Item) → ItemsFit p u k → ItemsFit p u (followed successor k)
@@ -137,13 +140,18 @@ module _ (p : Form) (u : UnitOf) where
   pub places_take : (i : ℕ) (es : List ExceptionPlace) → PlacesFit p u es → PlacesFit p u (take i es)
   places_take zero es h = tt
   places_take (suc i) [] h = tt
-  places_take (suc i) (e ∷ es) h = (h.0, places_take i es h.1)
+  places_take (suc i) (e ∷ es) h = (h.0, h.1, places_take i es h.2)
 
   pub places_more : (es fs : List ExceptionPlace) → PlacesFit p u es → PlacesFit p u fs → PlacesFit p u (es ++ fs)
   places_more [] fs h g = g
-  places_more (e ∷ es) fs h g = (h.0, places_more es fs h.1 g)
+  places_more (e ∷ es) fs h g = (h.0, h.1, places_more es fs h.2 g)
 
   pub place_at : (es : List ExceptionPlace) (i : ℕ) (e : ExceptionPlace) → PlacesFit p u es → slice_get es i ≡ Some e → ItemsFit p u e.todo
   place_at [] i e h is = absurd cc
   place_at (x ∷ es) zero e h is = subst (λ (z : ExceptionPlace). ItemsFit p u z.todo) (some_same x e is) h.0
-  place_at (x ∷ es) (suc i) e h is = place_at es i e h.1 is
+  place_at (x ∷ es) (suc i) e h is = place_at es i e h.2 is
+
+  pub variable_at : (es : List ExceptionPlace) (i : ℕ) (e : ExceptionPlace) → PlacesFit p u es → slice_get es i ≡ Some e → VariableFits u e.variable
+  variable_at [] i e h is = absurd cc
+  variable_at (x ∷ es) zero e h is = subst (λ (z : ExceptionPlace). VariableFits u z.variable) (some_same x e is) h.1
+  variable_at (x ∷ es) (suc i) e h is = variable_at es i e h.2 is

@@ -11,10 +11,11 @@ use Rattle.shim_process.specs.Todo.{On, First}
 use Rattle.shim_process.specs.LocalState.{LocalState, Frame, unit_at, number_of, trapped}
 use Rattle.shim_process.specs.Arguments.{Argument, new_location, new_channels, call_locations, call_slots, declared_slots, empties, entered}
 use Rattle.shim_process.specs.Ends.{settled, gone}
-use Rattle.shim_process.specs.Steps.{Action, Go, Store, StoreFirst, Make, Read, Enter, Install, Trapped, Wait, next_action, line_of, stored_in, made_in, next_byte, read_in, half, installed, pushed, called, done, quiet}
+use Rattle.shim_process.specs.Steps.{Action, Go, Store, StoreFirst, Make, Read, Enter, Install, Trapped, Wait, next_action, line_of, stored_in, made_in, next_byte, read_in, half, installed, variable_in, installing, pushed, called, done}
 use Rattle.shim_process.specs.Stops.{what_receive, stmt_receive}
-use Rattle.shim_process.specs.OwnSlots.{is_own_slot}
-use Rattle.shim_process.specs.FittingFrames.{FrameFits, parameters_of, Fitting, IsFitting}
+use Rattle.shim_process.specs.declared.handler_variable.HandlerVariable.{HandlerVariable}
+use Rattle.shim_process.specs.OwnSlots.{is_own_slot, is_own_variable}
+use Rattle.shim_process.specs.FittingFrames.{VariableFits, FrameFits, parameters_of, Fitting, IsFitting}
 use Rattle.shim_process.proofs.PlaceChannels.{length_put, other_channel, before_channel, store_channel, store_length}
 use Rattle.shim_process.proofs.CallSlots.{called_slot}
 use Rattle.shim_process.proofs.FittingItems.{body_fits}
@@ -109,10 +110,16 @@ half_fitting l h =
     let inner : FrameFits l.program (parameters_of l) l.frame = inner_fits l.program (parameters_of l) l.frame l.callers h.fit in
     frame_fitting l (half l.frame) h (record { unit = refl; floor = refl; fit = record { todo = inner.todo; places = inner.places; slots = inner.slots } })
 
-armed_fitting : (x name : ℕ) (l : LocalState) → IsFitting l → GoesFitting l (record l { frame = installed x name l.frame })
-armed_fitting x name l h =
+armed_frame : (x name : ℕ) (y : Option HandlerVariable) (l : LocalState) → IsFitting l → VariableFits (unit_at l.program l.frame.unit) y → GoesFitting l (record l { frame = installed x name y l.frame })
+armed_frame x name y l h own =
     let inner : FrameFits l.program (parameters_of l) l.frame = inner_fits l.program (parameters_of l) l.frame l.callers h.fit in
-    frame_fitting l (installed x name l.frame) h (record { unit = refl; floor = refl; fit = installed_fits l.program (parameters_of l) x name l.frame inner })
+    frame_fitting l (installed x name y l.frame) h (record { unit = refl; floor = refl; fit = installed_fits l.program (parameters_of l) x name y l.frame own inner })
+
+armed_fitting : (x name : ℕ) (y : Option ℕ) (l : LocalState) → IsFitting l → is_own_variable (unit_at l.program l.frame.unit) y ≡ true → GoesFitting l (installing x name y l)
+armed_fitting x name None l h own = armed_frame x name None l h tt
+armed_fitting x name (Some y) l h own =
+    let w : GoesFitting l (record l { frame = installed x name (Some (variable_in y l)) l.frame }) = armed_frame x name (Some (variable_in y l)) l h own in
+    (w.0, record { many = w.1.many; channels = w.1.channels })
 
 pub trapped_fitting : (kind : Trap) (line : ℕ) (l : LocalState) → IsFitting l → GoesFitting l (trapped kind line l)
 trapped_fitting kind line l h = (h, record { many = refl; channels = λ n below. refl })
@@ -124,9 +131,7 @@ done_fitting (StoreFirst x v) l h fit = and_then l (stored_in x v l) (record (st
 done_fitting (Make t x v) l h fit = and_then l (made_in t x v l) (gone On (made_in t x v l)) (made_fitting t x v l h fit) (λ w. gone_fitting On (made_in t x v l) w)
 done_fitting (Read x) l h fit = and_then l (read_in x l) (gone On (read_in x l)) (read_fitting x l h) (λ w. gone_fitting On (read_in x l) w)
 done_fitting (Enter unit given labels) l h fit = called_fitting unit given labels l h fit
-done_fitting (Install x name) l h fit =
-    let k : LocalState = record l { frame = installed x name l.frame } in
-    and_then l k (gone First k) (armed_fitting x name l h) (λ w. gone_fitting First k w)
+done_fitting (Install x name y) l h fit = and_then l (installing x name y l) (gone First (installing x name y l)) (armed_fitting x name y l h fit) (λ w. gone_fitting First (installing x name y l) w)
 done_fitting (Trapped t) l h fit = trapped_fitting t (line_of l.frame.todo) l h
 done_fitting Wait l h fit = (h, same_fitting l)
 

@@ -10,7 +10,8 @@ use Rattle.shim_process.specs.Arguments.{Argument}
 use Rattle.shim_process.specs.Sharers.{shares, carries}
 use Rattle.shim_process.specs.Forks.{item_branches, takes_output, child, children_from, lending, all_lending, parent, fork}
 use Rattle.shim_process.specs.Stops.{stop}
-use Rattle.shim_process.specs.Sound.{Sound, FramesBelow}
+use Rattle.shim_process.specs.declared.serial_run.SerialRun.{SerialRun}
+use Rattle.shim_process.specs.Sound.{Sound, FramesBelow, PlacesGrow}
 use Rattle.shim_process.specs.Born.{Born, InBranches}
 use Rattle.shim_process.specs.Ops.{process_ops}
 use Rattle.shim_process.proofs.BornChildren.{born_children}
@@ -39,7 +40,14 @@ lends_keeps l m w = record {
   path = w.path;
   base = w.base;
   made = w.made;
+  untaken = w.untaken;
   given = w.given;
+  grow = λ h.
+      subst (λ (p : Path). PlacesGrow p m.untaken m.made (m.frame ∷ m.callers)) (sym w.path)
+      (subst (λ (r : List SerialRun). PlacesGrow l.path r m.made (m.frame ∷ m.callers)) (sym w.untaken)
+      (subst (λ (n : ℕ). PlacesGrow l.path l.untaken n (m.frame ∷ m.callers)) (sym w.made)
+      (subst (λ (f : Frame). PlacesGrow l.path l.untaken l.made (f ∷ m.callers)) (sym w.frame)
+      (subst (λ (fs : List Frame). PlacesGrow l.path l.untaken l.made (l.frame ∷ fs)) (sym w.callers) h))));
   frames = λ h.
       subst (λ (n : ℕ). FramesBelow n (m.frame ∷ m.callers)) (sym w.base)
       (subst (λ (f : Frame). FramesBelow l.base (f ∷ m.callers)) (sym w.frame) (subst (λ (fs : List Frame). FramesBelow l.base (l.frame ∷ fs)) (sym w.callers) h));
@@ -52,7 +60,8 @@ one_more_fits : (l m : LocalState) (n : ℕ) → GoesFitting l m → GoesFitting
 one_more_fits l m n w = (w.0, record { many = w.1.many; channels = w.1.channels })
 
 one_fork_more : (l m : LocalState) (n : ℕ) → Keeps l m → Keeps l (record m { forks = n })
-one_fork_more l m n k = record { path = k.path; base = k.base; made = k.made; given = k.given; frames = k.frames; places = k.places; fitting = λ h. one_more_fits l m n (k.fitting h) }
+one_fork_more l m n k =
+    record { path = k.path; base = k.base; made = k.made; untaken = k.untaken; given = k.given; frames = k.frames; grow = k.grow; places = k.places; fitting = λ h. one_more_fits l m n (k.fitting h) }
 
 fork_keeps : (l p : LocalState) (ks : List LocalState) → Forks process_ops l p ks → Keeps l p
 fork_keeps l p ks h =

@@ -77,6 +77,7 @@ pub record Lends (l m : LocalState) : Type 0 where
   pub path : m.path ≡ l.path
   pub base : m.base ≡ l.base
   pub made : m.made ≡ l.made
+  pub untaken : m.untaken ≡ l.untaken
   pub given : m.given ≡ l.given
   pub frame : m.frame ≡ l.frame
   pub callers : m.callers ≡ l.callers
@@ -111,6 +112,7 @@ lends_one l b = record {
   path = refl;
   base = refl;
   made = refl;
+  untaken = refl;
   given = refl;
   frame = refl;
   callers = refl;
@@ -128,6 +130,7 @@ lends_both l m k f g = record {
   path = g.path ∙ f.path;
   base = g.base ∙ f.base;
   made = g.made ∙ f.made;
+  untaken = g.untaken ∙ f.untaken;
   given = g.given ∙ f.given;
   frame = g.frame ∙ f.frame;
   callers = g.callers ∙ f.callers;
@@ -145,6 +148,7 @@ lends_all l [] = record {
   path = refl;
   base = refl;
   made = refl;
+  untaken = refl;
   given = refl;
   frame = refl;
   callers = refl;

@@ -88,7 +88,7 @@ still_there (UWhat-F.Next x) s t e = next_not_fork (location_of s.locations s.sl
 still_there (UWhat-F.NextAssign x v) s t e = next_or_quiet s.halfway (location_of s.locations s.slots x) e
 still_there (UWhat-F.AssignNext x y) s t e = quiet_or_next s.halfway (location_of s.locations s.slots y) e
 still_there (UWhat-F.Put o v) s t e = put_not_fork s.holds_output e
-still_there (UWhat-F.Throw x) s t e = absurd cc
+still_there (UWhat-F.Throw x v) s t e = absurd cc
 still_there (UWhat-F.Par bs) s t e = e
 still_there _ s t e = absurd cc
 
@@ -113,7 +113,7 @@ what_some (UWhat-F.Next x) s e h = next_not_fork (location_of s.locations s.slot
 what_some (UWhat-F.NextAssign x v) s e h = next_or_quiet s.halfway (location_of s.locations s.slots x) e
 what_some (UWhat-F.AssignNext x y) s e h = quiet_or_next s.halfway (location_of s.locations s.slots y) e
 what_some (UWhat-F.Put o v) s e h = put_not_fork s.holds_output e
-what_some (UWhat-F.Throw x) s e h = cc
+what_some (UWhat-F.Throw x v) s e h = cc
 what_some (UWhat-F.Par []) s e h = cc
 what_some (UWhat-F.Par (b ∷ bs)) s e h = cc
 what_some _ s e h = cc

@@ -12,7 +12,8 @@ use Rattle.shim_process.specs.Ends.{gone}
 use Rattle.shim_process.specs.FittingFrames.{IsFitting}
 use Rattle.shim_process.specs.Forks.{item_branches, all_back, output_back, joined, join}
 use Rattle.shim_process.specs.Sharers.{shares, carries}
-use Rattle.shim_process.specs.Sound.{LeadsTo, IsOwned, FramesBelow, Sound}
+use Rattle.shim_process.specs.SerialRuns.{is_in_runs}
+use Rattle.shim_process.specs.Sound.{LeadsTo, IsOwned, FramesBelow, PlacesGrow, Sound}
 use Rattle.shim_process.specs.Born.{Born}
 use Rattle.shim_process.proofs.CarryChannels.{shares_same, Carried, carried_at, carries_at}
 use Rattle.shim_process.proofs.LabelFrames.{HasLeft, gone_left, none_left}
@@ -29,10 +30,12 @@ pub record Joined (l : LocalState) (ks : List LocalState) (m : LocalState) : Typ
   pub path : m.path ≡ l.path
   pub base : m.base ≡ l.base
   pub made : m.made ≡ l.made
+  pub untaken : m.untaken ≡ l.untaken
   pub given : m.given ≡ l.given
   pub output : m.holds_output ≡ true → (l.holds_output ≡ true) ⊎ OneHolds ks
   pub kept : (n : ℕ) (x : Location) → at_number m.locations n ≡ Some x → Kept (OneCarries ks) l.locations n x
   pub labels : FramesBelow l.base (m.frame ∷ m.callers)
+  pub places : PlacesGrow l.path l.untaken l.made (m.frame ∷ m.callers)
   pub fitting : GoesFitting l m
 
 output_kept : (ks : List LocalState) (holds : Bool) → output_back ks holds ≡ true → (holds ≡ true) ⊎ OneHolds ks
@@ -48,10 +51,12 @@ left_joined l ks m born h fitting = record {
   path = h.path;
   base = h.base;
   made = h.made;
+  untaken = h.untaken;
   given = h.given;
   output = λ e. output_kept ks l.holds_output (sym h.output ∙ e);
   kept = λ n x e. all_kept l born.fork 0 (item_branches l.frame.todo) ks l.locations n x born.places (λ j. refl) (h.at n x e);
   labels = h.labels;
+  places = h.places;
   fitting = fitting;
 }
 
@@ -72,11 +77,12 @@ pub join_joined : (l : LocalState) (ks : List LocalState) (goes_on : Bool) → S
 unfolding join
 join_joined l ks goes_on s born =
     left_joined l ks (join l ks goes_on) born
-    (choose (HasLeft l.base (joined l ks)) goes_on (gone On (joined l ks)) (joined l ks) (gone_left l.base On (joined l ks) s.labels) (none_left l.base (joined l ks) s.labels))
+    (choose (HasLeft l.base (joined l ks)) goes_on (gone On (joined l ks)) (joined l ks) (gone_left l.base On (joined l ks) (record { below = s.labels; grow = s.places }))
+    (none_left l.base (joined l ks) (record { below = s.labels; grow = s.places })))
     (join_fitting l ks goes_on s.fitting)
 
 joined_shares : (l : LocalState) (ks : List LocalState) (m : LocalState) (c : Channel) → Joined l ks m → shares m c ≡ shares l c
-joined_shares l ks m c h = shares_same l m c h.path h.given h.made
+joined_shares l ks m c h = shares_same l m c h.path h.given h.made h.untaken
 
 joined_once : (l : LocalState) (ks : List LocalState) (n i : ℕ) (x y : Location) → Sound l → Kept (OneCarries ks) l.locations n x → Kept (OneCarries ks) l.locations i y → IsOwned x.ownership → IsOwned y.ownership
     → x.channel.channel ≡ y.channel.channel → n ≡ i
@@ -101,6 +107,11 @@ joined_sound l ks m s h = record {
       let below = s.serials at d (ap (λ g. slice_get g at) (sym h.given) ∙ e) (home ∙ h.path) in
       let made = h.made in
       omega (arith, below, made);
+  made = λ n e. let below = s.made n (ap (is_in_runs n) (sym h.untaken) ∙ e) in let made = h.made in omega (arith, below, made);
+  taken = λ at d e home. ap (is_in_runs d.channel.serial) h.untaken ∙ s.taken at d (ap (λ g. slice_get g at) (sym h.given) ∙ e) (home ∙ h.path);
+  places = subst (λ path. PlacesGrow path m.untaken m.made (m.frame ∷ m.callers)) (sym h.path)
+      (subst (λ runs. PlacesGrow l.path runs m.made (m.frame ∷ m.callers)) (sym h.untaken)
+      (subst (λ made. PlacesGrow l.path l.untaken made (m.frame ∷ m.callers)) (sym h.made) h.places));
   root = λ e. h.given ∙ s.root (sym h.path ∙ e);
   fitting = h.fitting.0;
 }

@@ -1,5 +1,7 @@
 -- The lemmas of this crate.
 pub mod TodoItems
+pub mod SerialRuns
+pub mod GrowingPlaces
 pub mod PlaceRoot
 pub mod PlaceLocations
 pub mod PlaceChannels
@@ -14,6 +16,7 @@ pub mod CarryChannels
 pub mod LabelFrames
 pub mod QuietKeeps
 pub mod QuietActions
+pub mod UnwindKeeps
 pub mod CallKeeps
 pub mod PlaceStops
 pub mod PutGoes

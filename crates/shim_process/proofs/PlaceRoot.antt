@@ -41,6 +41,9 @@ root_sound program input uses = record {
   once = λ n m x y e f p q same. absurd (at_empty (unit_at program program.main).slots n x e);
   homes = λ at c e. absurd (cc);
   serials = λ at c e home. absurd (cc);
+  made = λ n e. absurd (cc e);
+  taken = λ at c e home. refl;
+  places = tt;
   root = λ e. refl;
   fitting = root_fitting program input uses;
 }
@@ -49,7 +52,7 @@ by_answer : (program : Form) (input : List ℕ) (c : Channel) (b : Bool) → sha
 unfolding root
 by_answer program input c true e = elim (shares_how (root program input) c e) [
   | inl w ↦ absurd (let there = w.2 in cc)
-  | inr below ↦ absurd (omega (arith, below))
+  | inr w ↦ absurd (let below = w.0 in omega (arith, below))
 ]
 by_answer program input c false e = refl
 

@@ -1,5 +1,5 @@
 -- What a process stands at is its own.
-use Rattle.std.proofs.Common.{◌≡◌, ℕ, ◌<◌, Bool, true, false, List, [], ◌∷◌, Option, Some, None, Ok, Err, refl, subst}
+use Rattle.std.proofs.Common.{◌≡◌, ℕ, ℤ, ◌<◌, Bool, true, false, List, [], ◌∷◌, Option, Some, None, Ok, Err, refl, subst}
 use Rattle.shim_base.specs.declared.operators.Trap.{Trap}
 use Rattle.shim_base.specs.Paths.{NamedChannel}
 use Rattle.shim_local.specs.Process.{StopView, AtQuiet, AtNext, AtPut, AtThrow, AtTrap}
@@ -13,7 +13,7 @@ use Rattle.shim_process.specs.LocalState.{LocalState, TrappedAt, location_of, nu
 use Rattle.shim_process.specs.StatementViews.{statement_view}
 use Rattle.shim_process.specs.Sharers.{shares}
 use Rattle.shim_process.specs.Steps.{line_of}
-use Rattle.shim_process.specs.Stops.{at_next, at_put, at_fork, what_stop, stmt_stop, stop_or, stop, put_value, low_bits, byte, after_put, put}
+use Rattle.shim_process.specs.Stops.{at_next, at_put, at_fork, what_stop, stmt_stop, stop_or, stop, put_value, low_bits, byte, after_put, put, number_or_none, thrown_value, thrown_number, after_throw, thrown}
 use Rattle.shim_process.specs.Sound.{Sound}
 use Rattle.shim_process.proofs.LabelFrames.{label_below}
 use Rattle.shim_base.proofs.Facts.{choose}
@@ -48,7 +48,7 @@ own_what (UWhat-F.NextAssign x e) l s =
 own_what (UWhat-F.AssignNext x y) l s =
     choose (IsItsOwn l) l.frame.halfway AtQuiet (at_next (location_of l.locations l.frame.slots y)) tt (own_next l (number_of l.frame.slots y) (location_of l.locations l.frame.slots y) refl)
 own_what (UWhat-F.Put o e) l s = own_put l l.holds_output refl
-own_what (UWhat-F.Throw x) l s = label_below l x s
+own_what (UWhat-F.Throw x e) l s = label_below l x s
 own_what (UWhat-F.Par branches) l s = own_fork l branches
 own_what _ l s = tt
 
@@ -87,3 +87,21 @@ after_put_stands (Err t) l e = (t, line_of l.frame.todo, trapped_stands t (line_
 pub put_traps : (l : LocalState) → byte l ≡ None → (kind : Trap) × (line : ℕ) × (stop (put l) ≡ AtTrap kind line)
 unfolding put byte
 put_traps l e = after_put_stands (put_value l) l e
+
+-- a throw with a number stays where it is, and one without is trapped
+
+after_throw_same : (r : Value) (l : LocalState) (v : ℤ) → number_or_none r ≡ Some v → after_throw r l ≡ l
+after_throw_same (Ok w) l v e = refl
+after_throw_same (Err t) l v e = absurd (cc)
+
+pub thrown_same : (l : LocalState) (v : ℤ) → thrown_number l ≡ Some v → thrown l ≡ l
+unfolding thrown thrown_number
+thrown_same l v e = after_throw_same (thrown_value l) l v e
+
+after_throw_stands : (r : Value) (l : LocalState) → number_or_none r ≡ None → (kind : Trap) × (line : ℕ) × (stop (after_throw r l) ≡ AtTrap kind line)
+after_throw_stands (Ok v) l e = absurd (cc)
+after_throw_stands (Err t) l e = (t, line_of l.frame.todo, trapped_stands t (line_of l.frame.todo) l)
+
+pub throw_traps : (l : LocalState) → thrown_number l ≡ None → (kind : Trap) × (line : ℕ) × (stop (thrown l) ≡ AtTrap kind line)
+unfolding thrown thrown_number
+throw_traps l e = after_throw_stands (thrown_value l) l e

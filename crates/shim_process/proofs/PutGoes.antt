@@ -58,7 +58,7 @@ free_what (UWhat-F.Next x) s = free_next (location_of s.locations s.slots x)
 free_what (UWhat-F.NextAssign x e) s = choose IsFree s.halfway (at_next (location_of s.locations s.slots x)) AtQuiet (free_next (location_of s.locations s.slots x)) tt
 free_what (UWhat-F.AssignNext x y) s = choose IsFree s.halfway AtQuiet (at_next (location_of s.locations s.slots y)) tt (free_next (location_of s.locations s.slots y))
 free_what (UWhat-F.Put o e) s = free_put s.holds_output
-free_what (UWhat-F.Throw x) s = tt
+free_what (UWhat-F.Throw x e) s = tt
 free_what (UWhat-F.Par branches) s = free_fork branches
 free_what _ s = tt
 

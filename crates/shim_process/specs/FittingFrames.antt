@@ -1,10 +1,11 @@
 -- How the frames of a process stand over its locations, in a program whose units use slots of their own.
-use Rattle.std.specs.Prelude.{◌≡◌, ◌≤◌, ℕ, true, List, [], ◌∷◌, length}
+use Rattle.std.specs.Prelude.{◌≡◌, ◌≤◌, ℕ, true, List, [], ◌∷◌, length, Option, Some, None}
 use Rattle.shim_base.specs.Paths.{Path}
 use Rattle.shim_units.specs.declared.form.Form.{Form}
 use Rattle.shim_units.specs.declared.unit.Unit.{Unit as UnitOf}
 use Rattle.shim_process.specs.Locations.{Locations}
 use Rattle.shim_process.specs.LocalState.{LocalState, Frame, ExceptionPlace, unit_at, number_of}
+use Rattle.shim_process.specs.declared.handler_variable.HandlerVariable.{HandlerVariable}
 use Rattle.shim_process.specs.Todo.{Item, Do, Leave}
 use Rattle.shim_process.specs.OwnSlots.{is_own_slot, fits, UsesOwnSlots}
 
@@ -14,10 +15,15 @@ ItemsFit program u [] = Unit {0}
 ItemsFit program u (Leave ∷ k) = ItemsFit program u k
 ItemsFit program u (Do n s ∷ k) = (fits program u s ≡ true) × ItemsFit program u k
 
--- and so is what there was to do at each exception place in force
+-- the slot of a handler's variable is one of the unit's own
+abbrev pub VariableFits : UnitOf → Option HandlerVariable → Type 0
+VariableFits u None = Unit {0}
+VariableFits u (Some y) = is_own_slot u y.slot ≡ true
+
+-- and so is what there was to do at each exception place in force, and the variable of its handler
 abbrev pub PlacesFit : Form → UnitOf → List ExceptionPlace → Type 0
 PlacesFit program u [] = Unit {0}
-PlacesFit program u (p ∷ places) = ItemsFit program u p.todo × PlacesFit program u places
+PlacesFit program u (p ∷ places) = ItemsFit program u p.todo × VariableFits u p.variable × PlacesFit program u places
 
 -- The own slots of a frame's unit have their locations behind those that the process had when the unit was entered, and behind its first ones, of which this many are kept.
 abbrev pub SlotsFit : Form → ℕ → Frame → Type 0

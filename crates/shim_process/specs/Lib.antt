@@ -2,6 +2,7 @@
 pub mod Values
 pub mod Locations
 pub mod Todo
+pub mod SerialRuns
 pub mod LocalState
 pub mod StatementViews
 pub mod Arguments

@@ -11,12 +11,15 @@ use Rattle.shim_units.specs.declared.unit.Unit.{Unit as UnitOf}
 use Rattle.shim_process.specs.Values.{Env}
 use Rattle.shim_process.specs.Locations.{Location, Locations, at_number, number_in}
 use Rattle.shim_process.specs.Todo.{Item}
+use Rattle.shim_process.specs.declared.handler_variable.HandlerVariable.{HandlerVariable}
+use Rattle.shim_process.specs.declared.serial_run.SerialRun.{SerialRun}
 
--- an exception place in force: the number in its unit, the name and the line of its `try`, and what there was to do in the unit, the `try` first
+-- an exception place in force: the number in its unit, the name and the line of its `try`, the variable of its handler where it has one, and what there was to do in the unit, the `try` first
 pub record ExceptionPlace : Type 0 where
   pub exception : ℕ
   pub name : ℕ
   pub line : ℕ
+  pub variable : Option HandlerVariable
   pub todo : List Item
 
 -- the frame of a unit that the process is in
@@ -48,6 +51,8 @@ pub record LocalState : Type 0 where
   -- how many channels it made, and how many forks it did
   pub made : ℕ
   pub forks : ℕ
+  -- the serial numbers of those that a `try` made and no handler has taken
+  pub untaken : List SerialRun
   -- the channels that the arguments of its first unit gave it, in the order of the parameters
   pub given : List NamedChannel
   -- the innermost frame, and those that wait for it, each called by the next; of these there are as many as calls in force

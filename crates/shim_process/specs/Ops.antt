@@ -1,11 +1,10 @@
 -- The states of a process with all of its calls and answers, as one kind of process.
-use Rattle.std.specs.Prelude.{pos, Some}
 use Rattle.shim_local.specs.Process.{Ops}
 use Rattle.shim_process.specs.Forks.{fork, join}
 use Rattle.shim_process.specs.LocalState.{LocalState, handlers}
 use Rattle.shim_process.specs.Sharers.{shares, carries, channel_value}
 use Rattle.shim_process.specs.Steps.{quiet}
-use Rattle.shim_process.specs.Stops.{stop, byte, put, receive}
+use Rattle.shim_process.specs.Stops.{stop, byte, put, receive, thrown_number, thrown}
 use Rattle.shim_process.specs.Unwinding.{unwind, handler}
 use Rattle.shim_process.specs.Sound.{Sound}
 use Rattle.shim_process.specs.Born.{Born}
@@ -21,10 +20,9 @@ process_ops = record {
   fork = fork;
   join = join;
   born = Born;
-  -- a throw gives 0, since no text can write another number, and no handler reads it
-  number = λ l. Some (pos 0);
-  thrown = λ l. l;
-  unwind = λ l label v. unwind l label;
+  number = thrown_number;
+  thrown = thrown;
+  unwind = unwind;
   value = channel_value;
   shares = shares;
   carries = carries;

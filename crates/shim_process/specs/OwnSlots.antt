@@ -1,5 +1,5 @@
 -- What binding gives the units of a program: their declarations are of slots of their own, and their calls and branches have an argument for each parameter.
-use Rattle.std.specs.Prelude.{◌≡◌, ℕ, nat_eq, nat_le, nat_lt, Bool, true, ◌&&◌, List, [], ◌∷◌, length, map}
+use Rattle.std.specs.Prelude.{◌≡◌, ℕ, nat_eq, nat_le, nat_lt, Bool, true, ◌&&◌, List, [], ◌∷◌, length, map, Option, Some, None}
 use Rattle.shim_units.specs.declared.form.Form.{Form}
 use Rattle.shim_units.specs.declared.unit.Unit.{Unit as UnitOf}
 use Rattle.shim_units.specs.declared.unit.UBranch.{UBranch}
@@ -20,6 +20,11 @@ all_suit program (b ∷ branches) = suits program b.call && all_suit program bra
 abbrev pub is_own_slot : UnitOf → ℕ → Bool
 is_own_slot u x = nat_le (length u.params) x && nat_lt x (length u.slots)
 
+-- so is that of a handler's variable, where it has one
+abbrev pub is_own_variable : UnitOf → Option ℕ → Bool
+is_own_variable u None = true
+is_own_variable u (Some x) = is_own_slot u x
+
 abbrev pub all_true : List Bool → Bool
 all_true [] = true
 all_true (b ∷ bs) = b && all_true bs
@@ -32,7 +37,7 @@ what_fits program u (UWhat-F.While e body) = all_true body
 what_fits program u (UWhat-F.For first test step body) = all_true first && (all_true step && all_true body)
 what_fits program u (UWhat-F.Block body) = all_true body
 what_fits program u (UWhat-F.Call c) = suits program c
-what_fits program u (UWhat-F.Try body x handler) = all_true body && all_true handler
+what_fits program u (UWhat-F.Try body x y handler) = all_true body && (is_own_variable u y && all_true handler)
 what_fits program u (UWhat-F.Par branches) = all_suit program branches
 what_fits _ _ _ = true
 

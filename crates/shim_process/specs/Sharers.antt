@@ -1,16 +1,21 @@
 -- What a process has to do with a channel: whether it shares or carries it, its value, and which it was given.
-use Rattle.std.specs.Prelude.{ℕ, ℤ, nat_lt, Bool, true, false, ◌&&◌, ◌||◌, List, [], ◌∷◌, Option, Some, None, slice_get}
+use Rattle.std.specs.Prelude.{ℕ, ℤ, nat_lt, not, Bool, true, false, ◌&&◌, ◌||◌, List, [], ◌∷◌, Option, Some, None, slice_get}
 use Rattle.shim_base.specs.Paths.{Channel, NamedChannel, same_channel, same_path}
 use Rattle.shim_process.specs.Locations.{Location, own_of, number_in}
 use Rattle.shim_process.specs.LocalState.{LocalState}
+use Rattle.shim_process.specs.SerialRuns.{is_in_runs}
 
 abbrev pub is_among : Channel → List NamedChannel → Bool
 is_among c [] = false
 is_among c (d ∷ ds) = same_channel d.channel c || is_among c ds
 
--- the process declared it: it is one of those that it made
+-- the serial number is of a channel that the process made, and not of one that a `try` made and no handler has taken
+abbrev pub is_taken : LocalState → ℕ → Bool
+is_taken l n = nat_lt n l.made && not (is_in_runs n l.untaken)
+
+-- the process declared it
 abbrev pub declared : LocalState → Channel → Bool
-declared l c = same_path c.home l.path && nat_lt c.serial l.made
+declared l c = same_path c.home l.path && is_taken l c.serial
 
 -- an argument gave it the channel, or it declared it
 unfoldable pub shares : LocalState → Channel → Bool

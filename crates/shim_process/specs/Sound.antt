@@ -1,8 +1,11 @@
 -- What all states have that a process comes to; other states may have it, too.
-use Rattle.std.specs.Prelude.{◌≡◌, ◌<◌, ◌≤◌, ℕ, ◌+◌, true, List, [], ◌∷◌, ◌++◌, Some, slice_get}
+use Rattle.std.specs.Prelude.{◌≡◌, ◌<◌, ◌≤◌, ℕ, ◌+◌, true, false, List, [], ◌∷◌, ◌++◌, Option, Some, None, slice_get}
 use Rattle.shim_base.specs.Paths.{Path, NamedChannel}
 use Rattle.shim_process.specs.Locations.{Location, Ownership, Own, Lent, Copy, at_number}
-use Rattle.shim_process.specs.LocalState.{LocalState, Frame}
+use Rattle.shim_process.specs.LocalState.{LocalState, Frame, ExceptionPlace}
+use Rattle.shim_process.specs.declared.handler_variable.HandlerVariable.{HandlerVariable}
+use Rattle.shim_process.specs.declared.serial_run.SerialRun.{SerialRun}
+use Rattle.shim_process.specs.SerialRuns.{is_in_runs}
 use Rattle.shim_process.specs.Sharers.{shares}
 use Rattle.shim_process.specs.FittingFrames.{IsFitting}
 
@@ -25,6 +28,32 @@ abbrev pub FramesBelow : ℕ → List Frame → Type 0
 FramesBelow base [] = Unit {0}
 FramesBelow base (f ∷ fs) = LabelsBelow (base + f.outer) f.labels × FramesBelow base fs
 
+abbrev pub VariableIsBelow : Path → List SerialRun → ℕ → Option HandlerVariable → Type 0
+VariableIsBelow path untaken bound None = Unit {0}
+VariableIsBelow path untaken bound (Some y) = (y.channel.channel.home ≡ path) × (y.channel.channel.serial < bound) × (is_in_runs y.channel.channel.serial untaken ≡ true)
+
+abbrev pub bound_by : ℕ → Option HandlerVariable → ℕ
+bound_by bound None = bound
+bound_by bound (Some y) = y.channel.channel.serial
+
+-- The variables of these places, the innermost first, are on channels of this process that no handler has taken, with serial numbers below this one that grow from the outermost inwards.
+abbrev pub VariablesGrow : Path → List SerialRun → ℕ → List ExceptionPlace → Type 0
+VariablesGrow path untaken bound [] = Unit {0}
+VariablesGrow path untaken bound (p ∷ places) = VariableIsBelow path untaken bound p.variable × VariablesGrow path untaken (bound_by bound p.variable) places
+
+-- these places, which came into force one after the other, before others, the innermost first
+abbrev pub inward : List ExceptionPlace → List ExceptionPlace → List ExceptionPlace
+inward [] outer = outer
+inward (p ∷ places) outer = inward places (p ∷ outer)
+
+-- those of all frames
+abbrev pub places_inward : List Frame → List ExceptionPlace
+places_inward [] = []
+places_inward (f ∷ fs) = inward f.places (places_inward fs)
+
+abbrev pub PlacesGrow : Path → List SerialRun → ℕ → List Frame → Type 0
+PlacesGrow path untaken made frames = VariablesGrow path untaken made (places_inward frames)
+
 pub record Sound (l : LocalState) : Type 0 where
   pub base : 1 ≤ l.base
   pub labels : FramesBelow l.base (l.frame ∷ l.callers)
@@ -36,6 +65,11 @@ pub record Sound (l : LocalState) : Type 0 where
   -- the channels that it was given are of processes on the way from the root, and those of its own are among the first that it made
   pub homes : (at : ℕ) (c : NamedChannel) → slice_get l.given at ≡ Some c → LeadsTo c.channel.home l.path
   pub serials : (at : ℕ) (c : NamedChannel) → slice_get l.given at ≡ Some c → c.channel.home ≡ l.path → c.channel.serial < l.made
+  -- those that no handler has taken are among the first that it made, and it was given none of them
+  pub made : (n : ℕ) → is_in_runs n l.untaken ≡ true → n < l.made
+  pub taken : (at : ℕ) (c : NamedChannel) → slice_get l.given at ≡ Some c → c.channel.home ≡ l.path → is_in_runs c.channel.serial l.untaken ≡ false
+  -- the variable of each handler in force is on one of them, and a handler inside another one has a greater one
+  pub places : PlacesGrow l.path l.untaken l.made (l.frame ∷ l.callers)
   -- a root was given no channels
   pub root : l.path ≡ [] → l.given ≡ []
   -- its program's units use slots of their own, so that what it declares is behind the locations of its parameters

@@ -11,8 +11,10 @@ use Rattle.shim_units.specs.declared.unit.UStmt.{UStmt}
 use Rattle.shim_units.specs.declared.unit.UWhat.{UWhat, UWhat-F, out-UWhat}
 use Rattle.shim_process.specs.Values.{Env, Value, value}
 use Rattle.shim_process.specs.Locations.{store_at}
+use Rattle.shim_process.specs.SerialRuns.{with_serial}
 use Rattle.shim_process.specs.Todo.{Item, Successor, On, First, Second, next_stmt}
 use Rattle.shim_process.specs.LocalState.{LocalState, Frame, unit_at, number_of, env_of, trapped}
+use Rattle.shim_process.specs.declared.handler_variable.HandlerVariable.{HandlerVariable}
 use Rattle.shim_process.specs.StatementViews.{StatementView, statement_view, unit_in, passed_labels}
 use Rattle.shim_process.specs.Arguments.{Argument, arguments, new_location, new_channels, call_locations, call_slots, declared_slots, empties, entered}
 use Rattle.shim_process.specs.Ends.{settled, gone}
@@ -30,8 +32,8 @@ pub data Action : Type 0 where
   Read : ℕ → Action
   -- the unit is called with these arguments, and its exceptions stand for these labels
   Enter : ℕ → List Argument → List ℕ → Action
-  -- the exception of this number comes into force, by this name
-  Install : ℕ → ℕ → Action
+  -- the exception of this number comes into force, by this name, with a variable of its handler in this slot, where it has one
+  Install : ℕ → ℕ → Option ℕ → Action
   Trapped : Trap → Action
   -- it isn't quiet
   Wait : Action
@@ -69,7 +71,7 @@ what_action (UWhat-F.If e first second) s = action (λ v. Go (if is_zero v then 
 what_action (UWhat-F.While e body) s = action (λ v. Go (if is_zero v then On else First)) (value e (env_of s.locations s.slots))
 what_action (UWhat-F.For first e step body) s = action (λ v. Go (if is_zero v then On else First)) (value_or (pos 1) e (env_of s.locations s.slots))
 what_action (UWhat-F.Call c) s = call_action c s
-what_action (UWhat-F.Try body x handler) s = limited s.full (Install x (try_name (unit_in s s.unit) x))
+what_action (UWhat-F.Try body x y handler) s = limited s.full (Install x (try_name (unit_in s s.unit) x) y)
 what_action _ s = Wait
 
 abbrev pub stmt_action : Option UStmt → StatementView → Action
@@ -122,8 +124,20 @@ abbrev pub half : Frame → Frame
 half f = record f { halfway = true }
 
 -- the exception's place comes into force, as the innermost
-abbrev pub installed : ℕ → ℕ → Frame → Frame
-installed x name f = record f { places = f.places ++ record { exception = x; name = name; line = line_of f.todo; todo = f.todo } ∷ [] }
+abbrev pub installed : ℕ → ℕ → Option HandlerVariable → Frame → Frame
+installed x name variable f = record f { places = f.places ++ record { exception = x; name = name; line = line_of f.todo; variable = variable; todo = f.todo } ∷ [] }
+
+-- the variable of a handler in this slot, on a new channel of its name
+abbrev pub variable_in : ℕ → LocalState → HandlerVariable
+variable_in x l = record {
+  slot = x;
+  channel = record { channel = record { home = l.path; serial = l.made }; name = number_of (unit_at l.program l.frame.unit).slot_names x };
+}
+
+-- The exception's place comes into force. A variable of its handler gets a channel, which the process doesn't share until the handler takes it.
+abbrev pub installing : ℕ → ℕ → Option ℕ → LocalState → LocalState
+installing x name None l = record l { frame = installed x name None l.frame }
+installing x name (Some y) l = record l { frame = installed x name (Some (variable_in y l)) l.frame; untaken = with_serial l.made l.untaken; made = l.made + 1 }
 
 -- the frame of the called unit is the innermost from now on, with its own locations behind the others
 unfoldable pub pushed : ℕ → List Argument → List ℕ → LocalState → LocalState
@@ -150,7 +164,7 @@ done (StoreFirst x v) l = record (stored_in x v l) { frame = half l.frame }
 done (Make t x v) l = gone On (made_in t x v l)
 done (Read x) l = gone On (read_in x l)
 done (Enter unit given labels) l = called unit given labels l
-done (Install x name) l = gone First (record l { frame = installed x name l.frame })
+done (Install x name y) l = gone First (installing x name y l)
 done (Trapped t) l = trapped t (line_of l.frame.todo) l
 done Wait l = l
 

@@ -11,7 +11,7 @@ use Rattle.shim_process.specs.Todo.{On, next_stmt}
 use Rattle.shim_process.specs.LocalState.{LocalState, TrappedAt, location_of, env_of, trapped}
 use Rattle.shim_process.specs.StatementViews.{StatementView, statement_view, label_of}
 use Rattle.shim_process.specs.Ends.{gone}
-use Rattle.shim_process.specs.Steps.{stored_in, half, line_of}
+use Rattle.shim_process.specs.Steps.{stored_in, half, line_of, value_or}
 
 -- Where a process can't go on, nothing is left to do. No run of an accepted program comes to such a statement: a variable in scope has a location, who puts has the output, and a fork has branches.
 
@@ -33,7 +33,7 @@ what_stop (UWhat-F.Next x) s = at_next (location_of s.locations s.slots x)
 what_stop (UWhat-F.NextAssign x e) s = if s.halfway then at_next (location_of s.locations s.slots x) else AtQuiet
 what_stop (UWhat-F.AssignNext x y) s = if s.halfway then AtQuiet else at_next (location_of s.locations s.slots y)
 what_stop (UWhat-F.Put o e) s = at_put s.holds_output
-what_stop (UWhat-F.Throw x) s = AtThrow (label_of s x)
+what_stop (UWhat-F.Throw x e) s = AtThrow (label_of s x)
 what_stop (UWhat-F.Par branches) s = at_fork branches
 what_stop _ s = AtQuiet
 
@@ -77,6 +77,35 @@ after_put (Err t) l = trapped t (line_of l.frame.todo) l
 -- behind the `put`, or trapped at it
 unfoldable pub put : LocalState → LocalState
 put l = after_put (put_value l) l
+
+-- the number of a throw, which is 0 where its statement gives none
+abbrev pub what_thrown : UWhat-F UWhat UStmt → StatementView → Value
+what_thrown (UWhat-F.Throw x e) s = value_or (pos 0) e (env_of s.locations s.slots)
+what_thrown _ s = Ok (pos 0)
+
+abbrev pub stmt_thrown : Option UStmt → StatementView → Value
+stmt_thrown None s = Ok (pos 0)
+stmt_thrown (Some stmt) s = what_thrown (out-UWhat stmt.what) s
+
+-- the number that is thrown, or the trap
+abbrev pub thrown_value : LocalState → Value
+thrown_value l = stmt_thrown (next_stmt l.frame.todo) (statement_view l)
+
+abbrev pub number_or_none : Value → Option ℤ
+number_or_none (Ok v) = Some v
+number_or_none (Err t) = None
+
+-- the number that is thrown, or none where the expression traps
+unfoldable pub thrown_number : LocalState → Option ℤ
+thrown_number l = number_or_none (thrown_value l)
+
+abbrev pub after_throw : Value → LocalState → LocalState
+after_throw (Ok v) l = l
+after_throw (Err t) l = trapped t (line_of l.frame.todo) l
+
+-- still at the throw, or trapped at it
+unfoldable pub thrown : LocalState → LocalState
+thrown l = after_throw (thrown_value l) l
 
 -- the value of a meeting is stored in the location that the statement names
 abbrev pub what_receive : UWhat-F UWhat UStmt → ℤ → LocalState → LocalState

@@ -49,8 +49,8 @@ follow_what (UWhat-F.If e first second) First n s k = items_all first (n + 1) ++
 follow_what (UWhat-F.If e first second) Second n s k = items_all second (n + 1 + size_all first) ++ k
 follow_what (UWhat-F.While e body) First n s k = items_all body (n + 1) ++ Do n s ∷ k
 follow_what (UWhat-F.For first test step body) First n s k = items_all body (n + 1) ++ (items_all step (n + 1 + size_all body) ++ Do n s ∷ k)
-follow_what (UWhat-F.Try body x handler) First n s k = items_all body (n + 1) ++ Leave ∷ k
-follow_what (UWhat-F.Try body x handler) Second n s k = items_all handler (n + 1 + size_all body) ++ k
+follow_what (UWhat-F.Try body x y handler) First n s k = items_all body (n + 1) ++ Leave ∷ k
+follow_what (UWhat-F.Try body x y handler) Second n s k = items_all handler (n + 1 + size_all body) ++ k
 follow_what _ successor n s k = k
 
 abbrev pub follow : Successor → ℕ → UStmt → List Item → List Item

@@ -1,7 +1,8 @@
 -- What is read adds no more slots and exceptions to a function than its size.
-use Rattle.std.proofs.Common.{ℕ, suc, ◌+◌, ◌≡◌, ◌≤◌, List, [], ◌∷◌, Option, Ok, length, map, sym, ap, subst, arith}
+use Rattle.std.proofs.Common.{ℕ, suc, ◌+◌, ◌≡◌, ◌≤◌, List, [], ◌∷◌, Option, Some, None, Ok, length, map, sym, ap, subst, arith}
 use Rattle.std.proofs.lemmas.List.{length-append}
 use Rattle.shim_base.specs.declared.types.Ty.{Ty}
+use Rattle.shim_base.specs.declared.types.Ty.TheVariants.{Int32}
 use Rattle.shim_syntax.specs.declared.tree.Expr.{Expr}
 use Rattle.shim_syntax.specs.declared.tree.Call.{Call}
 use Rattle.shim_syntax.specs.declared.tree.Stmt.{Stmt, Stmt-F, fold-roll-Stmt, ind-Stmt, map-Stmt, roll-Stmt}
@@ -18,13 +19,13 @@ use Rattle.shim_scopes.specs.declared.tree.RWhat.TheVariants.{Declare, Assign, N
 use Rattle.shim_syntax.specs.declared.tree.Sort.TheVariants.{Value}
 use Rattle.std.specs.Option.{option_or}
 use Rattle.shim_scopes.specs.Binding.{unknown, unknown_in_option, stream_in, stream_in_option, no_number, no_input, no_output, slot_of, placed, placed_option, exception_number, unhandled}
-use Rattle.shim_syntax.specs.Names.{number_of}
+use Rattle.shim_syntax.specs.Names.{Texts, number_of}
 use Rattle.shim_scopes.specs.declared.tree.UExpr.{UExpr}
 use Rattle.shim_scopes.specs.Refusals.{refused_for}
-use Rattle.shim_scopes.specs.Statements.{Whole, Around, Before, BoundTo, Bind, declared, within, opened, closed, caught, tried, bind_declare, bind_store, bind_next, bind_assign_next, bind_get, bind_put, bind_throw, bind_block, on_tree, bind_two, bind_test, bind_if, bind_while, bind_try, bind_parts, bind_first_test, bind_for, visible, declared_in, unknown_in_both, unknown_of_two}
+use Rattle.shim_scopes.specs.Statements.{Whole, Around, Before, BoundTo, Bind, declared, within, opened, closed, caught, tried, variable_declared, variable_slot, bind_handler, bind_declare, bind_store, bind_next, bind_assign_next, bind_get, bind_put, bind_throw, bind_block, on_tree, bind_two, bind_test, bind_if, bind_while, bind_try, bind_parts, bind_first_test, bind_for, visible, declared_in, unknown_in_both, unknown_of_two}
 use Rattle.shim_scopes.specs.Calls.{bind_call, bind_called}
 use Rattle.shim_scopes.specs.Bodies.{WhatMeans, StmtMeans, BranchMeans, BranchWhatMeans, bind_all, bind_fork, first_declares, branch_what_step, what_step, branch_step, stmt_step, meaning, bind_stmts, bind_branch}
-use Rattle.shim_syntax.specs.Sizes.{sum_of, expr_size, option_size, branch_counts, what_counts, what_size, stmt_size, branch_size, stmts_size}
+use Rattle.shim_syntax.specs.Sizes.{sum_of, expr_size, option_size, variable_size, branch_counts, what_counts, what_size, stmt_size, branch_size, stmts_size}
 use Rattle.shim_syntax.proofs.SizeSteps.{branch_what_size, of_branch, at_branch, of_stmt, at_what}
 use Rattle.shim_scopes.proofs.Refusals.{passed, first_ok, bound}
 
@@ -83,8 +84,11 @@ put_adds x e n line a b r h =
     let v : List Local = visible a b in
     asked_two line UnknownName WrongKind (unknown_in_both v x e) (option_or (no_output v x) (stream_in v e)) (Put (slot_of v x) (placed v e)) b r n h
 
-throw_adds : (x : List ℕ) (n : ℕ) → WhatAdds n (bind_throw x)
-throw_adds x n line a b r h = nothing_added (Throw (exception_number a.handled x)) b r n (passed line UnknownException (unhandled a.handled x) _ r h)
+throw_adds : (x : List ℕ) (e : Option Expr) (n : ℕ) → WhatAdds n (bind_throw x e)
+throw_adds x e n line a b r h =
+    let v : List Local = visible a b in
+    asked_two line UnknownException WrongKind (unhandled a.handled x) (stream_in_option v e) (Throw (exception_number a.handled x) (placed_option v e)) b r n
+    (passed line UnknownName (unknown_in_option v e) _ r h)
 
 called_adds : {T : Type 0} (g : RCall → T) (w : Whole) (c : Call) (line n : ℕ) → AddsAtMost n (bind_called g w c line)
 called_adds g w c line n a b r h = let p = first_ok (bind_call w c line a b) _ r h in nothing_added (g p.0) b r n p.2
@@ -115,16 +119,25 @@ while_adds e f m o k line a b r is =
     let p = first_ok (bind_test e line a b) _ r is in
     omega (arith, tree_adds (While p.0) (bind_block f) m m (omega arith) (block_adds f m k) a b r p.2)
 
-try_adds : (w : Whole) (x : List ℕ) (f h : Bind (List RStmt)) (m n : ℕ) → AddsAtMost m f → AddsAtMost n h → AddsAtMost (suc (m + n)) (bind_try w x f h)
-try_adds w x f h m n k l a b r is =
+-- a handler's variable is one slot
+pub variable_added : (names : Texts) (y : Option (List ℕ)) (b : Before) → given (variable_declared names y b) ≡ given b + variable_size y
+variable_added names None b = omega arith
+variable_added names (Some y) b = omega (arith, length-append b.slots (Value Int32 ∷ []))
+
+handler_adds : (w : Whole) (y : Option (List ℕ)) (h : Bind (List RStmt)) (n : ℕ) → AddsAtMost n h → AddsAtMost (variable_size y + n) (bind_handler w y h)
+handler_adds w y h n k a b r is = omega (arith, variable_added w.names y b, k a (variable_declared w.names y b) r is)
+
+try_adds : (w : Whole) (x : List ℕ) (y : Option (List ℕ)) (f h : Bind (List RStmt)) (m n : ℕ) → AddsAtMost m f → AddsAtMost n h
+    → AddsAtMost (suc (m + (variable_size y + n))) (bind_try w x y f h)
+try_adds w x y f h m n k l a b r is =
     let p = first_ok (bind_block f (caught x a b) (tried w x b)) _ r is in
-    let q = first_ok (bind_block h a p.0.before) _ r p.2 in
+    let q = first_ok (bind_block (bind_handler w y h) a p.0.before) _ r p.2 in
     omega (
       arith,
       block_adds f m k (caught x a b) (tried w x b) p.0 p.1,
       length-append b.tries (number_of w.names x ∷ []),
-      block_adds h n l a p.0.before q.0 q.1,
-      behind_tree (Try p.0.tree (a.throws + length b.tries) q.0.tree) q.0.before r q.2,
+      block_adds (bind_handler w y h) (variable_size y + n) (handler_adds w y h n l) a p.0.before q.0 q.1,
+      behind_tree (Try p.0.tree (a.throws + length b.tries) (variable_slot y p.0.before) q.0.tree) q.0.before r q.2,
     )
 
 parts_add : (test : Option Expr) (f g h : Bind (List RStmt)) (i m n : ℕ) → AddsAtMost i f → AddsAtMost m g → AddsAtMost n h → AddsAtMost (i + (m + n)) (bind_parts test f g h)
@@ -222,8 +235,8 @@ module _ (w : Whole) where
   what_layer (What-F.For first test step body) line = for_adds (first_declares (map (meaning w) (stmts first))) test _ _ _ _ _ _ (option_size test) (stmts_add first) (stmts_add step) (stmts_add body) line
   what_layer (What-F.What::Block body) line = tree_adds _ _ _ _ (omega arith) (block_adds _ _ (stmts_add body))
   what_layer (What-F.What::Call c) line = called_adds _ w c line _
-  what_layer (What-F.Try body x handler) line = try_adds w x _ _ _ _ (stmts_add body) (stmts_add handler)
-  what_layer (What-F.Throw x) line = throw_adds x _ line
+  what_layer (What-F.Try body x y handler) line = try_adds w x y _ _ _ _ (stmts_add body) (stmts_add handler)
+  what_layer (What-F.Throw x e) line = throw_adds x e _ line
   what_layer (What-F.Par bs) line = tree_adds _ _ _ _ (omega arith) (branches_add bs)
 
   -- the same bound, of a part and a size that are equal to these

@@ -1,6 +1,7 @@
 -- What a `for` and a `try` mean, by the answers for what stands in them.
-use Rattle.std.proofs.Common.{ℕ, ◌≡◌, ◌∙◌, ◌+◌, List, [], ◌∷◌, ◌++◌, length, take, drop, Option, Result, Ok, Err, refl, sym, ap, subst, IsErr, IsErrAnd, arith}
+use Rattle.std.proofs.Common.{ℕ, ◌≡◌, ◌∙◌, ◌+◌, List, [], ◌∷◌, ◌++◌, length, take, drop, Option, Some, None, Result, Ok, Err, refl, sym, ap, subst, IsErr, IsErrAnd, arith}
 use Rattle.std.proofs.lemmas.Grind.{common_steps}
+use Rattle.shim_syntax.specs.declared.tree.Sort.{Sort}
 use Rattle.shim_syntax.specs.declared.tree.Expr.{Expr}
 use Rattle.shim_syntax.specs.declared.tree.Stmt.{Stmt}
 use Rattle.shim_syntax.specs.declared.tree.What.{What, What-F, roll-What, fold-What, fold-roll-What}
@@ -17,9 +18,9 @@ use Rattle.shim_scopes.specs.declared.scope.Scope.{Scope}
 use Rattle.shim_syntax.specs.Names.{Texts}
 use Rattle.shim_scopes.specs.Refusals.{Refusal, and_then}
 use Rattle.shim_scopes.specs.Binding.{placed_option}
-use Rattle.shim_scopes.specs.Statements.{Whole, Around, Before, BoundTo, Meant, Bind, visible, within, opened, closed, bind_block, bind_parts, bind_first_test, bind_for, bind_try, caught, tried}
+use Rattle.shim_scopes.specs.Statements.{Whole, Around, Before, BoundTo, Meant, Bind, visible, within, opened, closed, bind_block, bind_parts, bind_first_test, bind_for, bind_handler, bind_try, caught, tried, variable_slot, variable_declared}
 use Rattle.shim_scopes.specs.Bodies.{WhatMeans, StmtMeans, BranchMeans, BranchWhatMeans, branch_what_step, what_step, branch_step, stmt_step, bind_stmts, declared_first}
-use Rattle.shim_scopes.specs.State.{Answers, Kept, around_of, before_of, IsTried}
+use Rattle.shim_scopes.specs.State.{Answers, Kept, around_of, before_of, IsBegun, IsTried}
 use Rattle.shim_scopes.proofs.Seams.{seam}
 
 abbrev what_means : Whole → What → WhatMeans
@@ -38,11 +39,11 @@ unfolding roll-What denote.Hole.Carrier.roll
 for_means w first test step body n a b =
     ap (λ (m : WhatMeans). m.bind n a b) (fold-roll-What BranchWhatMeans WhatMeans BranchMeans StmtMeans (branch_what_step w) (what_step w) branch_step stmt_step (What-F.For first test step body))
 
-pub try_means : (w : Whole) (body : List Stmt) (x : List ℕ) (handler : List Stmt) (n : ℕ) (a : Around) (b : Before)
-    → (what_means w (st.Try body x handler)).bind n a b ≡ bind_try w x (bind_stmts w body) (bind_stmts w handler) a b
+pub try_means : (w : Whole) (body : List Stmt) (x : List ℕ) (y : Option (List ℕ)) (handler : List Stmt) (n : ℕ) (a : Around) (b : Before)
+    → (what_means w (st.Try body x y handler)).bind n a b ≡ bind_try w x y (bind_stmts w body) (bind_stmts w handler) a b
 unfolding roll-What denote.Hole.Carrier.roll
-try_means w body x handler n a b =
-    ap (λ (m : WhatMeans). m.bind n a b) (fold-roll-What BranchWhatMeans WhatMeans BranchMeans StmtMeans (branch_what_step w) (what_step w) branch_step stmt_step (What-F.Try body x handler))
+try_means w body x y handler n a b =
+    ap (λ (m : WhatMeans). m.bind n a b) (fold-roll-What BranchWhatMeans WhatMeans BranchMeans StmtMeans (branch_what_step w) (what_step w) branch_step stmt_step (What-F.Try body x y handler))
 
 -- the place inside a block, as the scope says it
 around_inside : (start : ℕ) (s : Scope) → around_of (length s.visible) s ≡ within (around_of start s) (before_of start s)
@@ -227,50 +228,88 @@ try_behind start n names x s one two three made len t k cut =
     let handled : take n two.handled ≡ s.handled = ap (λ (hs : List Handled). take n hs) whole ∙ ap (λ i. take i (s.handled ++ record { name = x; number = s.throws + length s.tries } ∷ [])) len ∙ front in
     ap (λ (v : Scope). around_of start v) cut ∙ rw (outer, handled, throws) refl
 
-try_at_handler : (w : Whole) (x : List ℕ) (f g : Bodies) (a : Around) (b : Before) (r : BoundTo (List RStmt)) (e : Refusal)
-    → bind_block f (caught x a b) (tried w x b) ≡ Ok r → bind_block g a r.before ≡ Err e → bind_try w x f g a b ≡ Err e
-try_at_handler w x f g a b r e p q = rw (p, q) refl
+-- the place inside a handler, behind its variable
+in_handler : (w : Whole) (start n : ℕ) (s t : Scope) (y : Option (List ℕ)) (slot : Option ℕ) (f : Bodies) (m : Meant (List RStmt))
+    → n ≡ length s.visible → IsBegun w.names y (before_of n s) slot (before_of n t) → Kept n s t → f (around_of n t) (before_of n t) ≡ m
+    → bind_handler w y f (within (around_of start s) (before_of start s)) (opened (before_of start s)) ≡ m
+in_handler w start n s t y slot f m len begun k p =
+    let before : before_of n t ≡ variable_declared w.names y (opened (before_of start s)) = begun.after ∙ ap (λ v. variable_declared w.names y v) (begins start n s len) in
+    subst (λ v. f v (variable_declared w.names y (opened (before_of start s))) ≡ m) (around_kept k ∙ inside start n s len) (subst (λ v. f (around_of n t) v ≡ m) before p)
 
-try_done : (w : Whole) (x : List ℕ) (f g : Bodies) (a : Around) (b : Before) (r s : BoundTo (List RStmt))
-    → bind_block f (caught x a b) (tried w x b) ≡ Ok r → bind_block g a r.before ≡ Ok s
-    → bind_try w x f g a b ≡ Ok (record { tree = rs.Try r.tree (a.throws + length b.tries) s.tree; before = s.before })
-try_done w x f g a b r s p q = rw (p, q) refl
+-- its slot is told by the slots alone
+same_slot : (y : Option (List ℕ)) (b c : Before) → b.slots ≡ c.slots → variable_slot y b ≡ variable_slot y c
+same_slot None b c e = refl
+same_slot (Some y) b c e = ap (λ (xs : List Sort). Some (length xs)) e
+
+block_fails : (f : Bodies) (a : Around) (b : Before) (e : Refusal) → f (within a b) (opened b) ≡ Err e → bind_block f a b ≡ Err e
+block_fails f a b e p = ap (λ z. and_then z (λ (r : BoundTo (List RStmt)). Ok (record { tree = r.tree; before = closed b r.before }))) p
+
+block_done : (f : Bodies) (a : Around) (b : Before) (r : BoundTo (List RStmt)) → f (within a b) (opened b) ≡ Ok r → bind_block f a b ≡ Ok (record { tree = r.tree; before = closed b r.before })
+block_done f a b r p = ap (λ z. and_then z (λ (r : BoundTo (List RStmt)). Ok (record { tree = r.tree; before = closed b r.before }))) p
+
+try_at_handler : (w : Whole) (x : List ℕ) (y : Option (List ℕ)) (f g : Bodies) (a : Around) (b : Before) (r : BoundTo (List RStmt)) (e : Refusal)
+    → bind_block f (caught x a b) (tried w x b) ≡ Ok r → bind_block (bind_handler w y g) a r.before ≡ Err e → bind_try w x y f g a b ≡ Err e
+try_at_handler w x y f g a b r e p q = rw (p, q) refl
+
+try_done : (w : Whole) (x : List ℕ) (y : Option (List ℕ)) (f g : Bodies) (a : Around) (b : Before) (r s : BoundTo (List RStmt))
+    → bind_block f (caught x a b) (tried w x b) ≡ Ok r → bind_block (bind_handler w y g) a r.before ≡ Ok s
+    → bind_try w x y f g a b ≡ Ok (record { tree = rs.Try r.tree (a.throws + length b.tries) (variable_slot y r.before) s.tree; before = s.before })
+try_done w x y f g a b r s p q = rw (p, q) refl
 
 -- a `try` whose second block wasn't taken
-pub try_refused : (w : Whole) (start n line : ℕ) (s one two three : Scope) (what : What) (body : List Stmt) (x : List ℕ) (handler : List Stmt) (made : ℕ) (f : List RStmt) (e : Refusal)
-    → what ≡ st.Try body x handler → n ≡ length s.handled → IsTried w.names x s made one
+pub try_refused : (w : Whole) (start n inner line : ℕ) (s one two three four : Scope) (what : What) (body : List Stmt) (x : List ℕ) (y : Option (List ℕ)) (handler : List Stmt) (made : ℕ) (slot : Option ℕ)
+    (f : List RStmt) (e : Refusal)
+    → what ≡ st.Try body x y handler → n ≡ length s.handled → IsTried w.names x s made one
     → bind_block (bind_stmts w body) (around_of start one) (before_of start one) ≡ Ok (record { tree = f; before = before_of start two }) → Kept start one two
     → three ≡ record two { handled = take n two.handled }
-    → bind_block (bind_stmts w handler) (around_of start three) (before_of start three) ≡ Err e
+    → inner ≡ length three.visible → IsBegun w.names y (before_of inner three) slot (before_of inner four) → Kept inner three four
+    → bind_stmts w handler (around_of inner four) (before_of inner four) ≡ Err e
     → (what_means w what).bind line (around_of start s) (before_of start s) ≡ Err e
-try_refused w start n line s one two three what body x handler made f e is len t p k cut q =
+try_refused w start n inner line s one two three four what body x y handler made slot f e is len t p k cut long begun l q =
     let a : Around = around_of start s in
     let b : Before = before_of start s in
     let p' : bind_block (bind_stmts w body) (caught x a b) (tried w x b) ≡ Ok (record { tree = f; before = before_of start two }) =
     subst (λ v. bind_block (bind_stmts w body) v (tried w x b) ≡ Ok (record { tree = f; before = before_of start two })) (try_around start w x s one made t)
     (subst (λ v. bind_block (bind_stmts w body) (around_of start one) v ≡ Ok (record { tree = f; before = before_of start two })) (try_before start w x s one made t) p) in
-    let q' : bind_block (bind_stmts w handler) a (before_of start two) ≡ Err e =
-    subst (λ v. bind_block (bind_stmts w handler) v (before_of start two) ≡ Err e) (try_behind start n w.names x s one two three made len t k cut)
-    (subst (λ v. bind_block (bind_stmts w handler) (around_of start three) v ≡ Err e) (ap (λ (v : Scope). before_of start v) cut) q) in
-    ap (λ v. (what_means w v).bind line a b) is ∙ try_means w body x handler line a b
-    ∙ try_at_handler w x (bind_stmts w body) (bind_stmts w handler) a b (record { tree = f; before = before_of start two }) e p' q'
+    let r : bind_block (bind_handler w y (bind_stmts w handler)) (around_of start three) (before_of start three) ≡ Err e =
+    block_fails (bind_handler w y (bind_stmts w handler)) (around_of start three) (before_of start three) e
+    (in_handler w start inner three four y slot (bind_stmts w handler) (Err e) long begun l q) in
+    let q' : bind_block (bind_handler w y (bind_stmts w handler)) a (before_of start two) ≡ Err e =
+    subst (λ v. bind_block (bind_handler w y (bind_stmts w handler)) v (before_of start two) ≡ Err e) (try_behind start n w.names x s one two three made len t k cut)
+    (subst (λ v. bind_block (bind_handler w y (bind_stmts w handler)) (around_of start three) v ≡ Err e) (ap (λ (v : Scope). before_of start v) cut) r) in
+    ap (λ v. (what_means w v).bind line a b) is ∙ try_means w body x y handler line a b
+    ∙ try_at_handler w x y (bind_stmts w body) (bind_stmts w handler) a b (record { tree = f; before = before_of start two }) e p' q'
 
--- and one that was taken whole
-pub try_whole : (w : Whole) (start n line : ℕ) (s one two three four : Scope) (what : What) (body : List Stmt) (x : List ℕ) (handler : List Stmt) (made : ℕ) (f g : List RStmt)
-    → what ≡ st.Try body x handler → n ≡ length s.handled → IsTried w.names x s made one
+-- and one that was taken whole, with the scope as it was left
+pub try_whole : (w : Whole) (start n inner line : ℕ) (s one two three four five : Scope) (what : What) (body : List Stmt) (x : List ℕ) (y : Option (List ℕ)) (handler : List Stmt) (made : ℕ) (slot : Option ℕ)
+    (f g : List RStmt) (left : List Local)
+    → what ≡ st.Try body x y handler → n ≡ length s.handled → IsTried w.names x s made one
     → bind_block (bind_stmts w body) (around_of start one) (before_of start one) ≡ Ok (record { tree = f; before = before_of start two }) → Kept start one two
     → three ≡ record two { handled = take n two.handled }
-    → bind_block (bind_stmts w handler) (around_of start three) (before_of start three) ≡ Ok (record { tree = g; before = before_of start four })
-    → (what_means w what).bind line (around_of start s) (before_of start s) ≡ Ok (record { tree = rs.Try f made g; before = before_of start four })
-try_whole w start n line s one two three four what body x handler made f g is len t p k cut q =
+    → inner ≡ length three.visible → IsBegun w.names y (before_of inner three) slot (before_of inner four) → Kept inner three four
+    → bind_stmts w handler (around_of inner four) (before_of inner four) ≡ Ok (record { tree = g; before = before_of inner five }) → Kept inner four five
+    → left ≡ take inner five.visible
+    → (what_means w what).bind line (around_of start s) (before_of start s) ≡ Ok (record { tree = rs.Try f made slot g; before = before_of start (record five { visible = left }) })
+try_whole w start n inner line s one two three four five what body x y handler made slot f g left is len t p k cut long begun l q m shut =
     let a : Around = around_of start s in
     let b : Before = before_of start s in
     let p' : bind_block (bind_stmts w body) (caught x a b) (tried w x b) ≡ Ok (record { tree = f; before = before_of start two }) =
     subst (λ v. bind_block (bind_stmts w body) v (tried w x b) ≡ Ok (record { tree = f; before = before_of start two })) (try_around start w x s one made t)
     (subst (λ v. bind_block (bind_stmts w body) (around_of start one) v ≡ Ok (record { tree = f; before = before_of start two })) (try_before start w x s one made t) p) in
-    let q' : bind_block (bind_stmts w handler) a (before_of start two) ≡ Ok (record { tree = g; before = before_of start four }) =
-    subst (λ v. bind_block (bind_stmts w handler) v (before_of start two) ≡ Ok (record { tree = g; before = before_of start four })) (try_behind start n w.names x s one two three made len t k cut)
-    (subst (λ v. bind_block (bind_stmts w handler) (around_of start three) v ≡ Ok (record { tree = g; before = before_of start four })) (ap (λ (v : Scope). before_of start v) cut) q) in
-    ap (λ v. (what_means w v).bind line a b) is ∙ try_means w body x handler line a b
-    ∙ try_done w x (bind_stmts w body) (bind_stmts w handler) a b (record { tree = f; before = before_of start two }) (record { tree = g; before = before_of start four }) p' q'
-    ∙ ap (λ i. Ok (record { tree = rs.Try f i g; before = before_of start four })) (sym t.number)
+    let lefts : left ≡ three.visible = shut ∙ kept_cut long (kept_both l m) in
+    let after : closed (before_of start three) (before_of inner five) ≡ before_of start (record five { visible = left }) =
+    ap (λ (xs : List Local). record { own = drop start xs; slots = five.slots; slot_names = five.slot_names; tries = five.tries }) (sym lefts) in
+    let r : bind_block (bind_handler w y (bind_stmts w handler)) (around_of start three) (before_of start three) ≡ Ok (record { tree = g; before = before_of start (record five { visible = left }) }) =
+    block_done (bind_handler w y (bind_stmts w handler)) (around_of start three) (before_of start three) (record { tree = g; before = before_of inner five })
+    (in_handler w start inner three four y slot (bind_stmts w handler) (Ok (record { tree = g; before = before_of inner five })) long begun l q)
+    ∙ ap (λ v. Ok (record { tree = g; before = v })) after in
+    let q' : bind_block (bind_handler w y (bind_stmts w handler)) a (before_of start two) ≡ Ok (record { tree = g; before = before_of start (record five { visible = left }) }) =
+    subst (λ v. bind_block (bind_handler w y (bind_stmts w handler)) v (before_of start two) ≡ Ok (record { tree = g; before = before_of start (record five { visible = left }) }))
+    (try_behind start n w.names x s one two three made len t k cut)
+    (subst (λ v. bind_block (bind_handler w y (bind_stmts w handler)) (around_of start three) v ≡ Ok (record { tree = g; before = before_of start (record five { visible = left }) }))
+    (ap (λ (v : Scope). before_of start v) cut) r) in
+    let same : variable_slot y (before_of start two) ≡ slot = same_slot y (before_of start two) (before_of inner three) (sym (ap (λ (v : Scope). v.slots) cut)) ∙ sym begun.slot in
+    ap (λ v. (what_means w v).bind line a b) is ∙ try_means w body x y handler line a b
+    ∙ try_done w x y (bind_stmts w body) (bind_stmts w handler) a b (record { tree = f; before = before_of start two }) (record { tree = g; before = before_of start (record five { visible = left }) }) p' q'
+    ∙ ap (λ i. Ok (record { tree = rs.Try f i (variable_slot y (before_of start two)) g; before = before_of start (record five { visible = left }) })) (sym t.number)
+    ∙ ap (λ v. Ok (record { tree = rs.Try f made v g; before = before_of start (record five { visible = left }) })) same

@@ -15,12 +15,12 @@ use Rattle.shim_scopes.specs.declared.scope.Scope.{Scope}
 use Rattle.shim_scopes.specs.declared.tree.RStmt.{RStmt}
 use Rattle.shim_scopes.specs.declared.tree.RBranch.{RBranch}
 use Rattle.shim_syntax.specs.Names.{Texts, number_of}
-use Rattle.shim_syntax.specs.Sizes.{what_size, stmt_size, stmts_size, branch_size, branches_size, function_size, functions_size}
+use Rattle.shim_syntax.specs.Sizes.{what_size, stmt_size, stmts_size, branch_size, branches_size, variable_size, function_size, functions_size}
 use Rattle.shim_scopes.specs.Statements.{Whole, Before, bind_block}
 use Rattle.shim_scopes.specs.Bodies.{bind_stmt, bind_stmts, bind_branch}
 use Rattle.shim_scopes.specs.Functions.{params_from, with_param, function_begin}
-use Rattle.shim_scopes.specs.State.{HasRoom, IsNumber, IsOpened, IsTried, Kept, around_of, before_of}
-use Rattle.shim_scopes.proofs.BindSizes.{given, block_adds, stmt_adds, branch_adds, body_adds}
+use Rattle.shim_scopes.specs.State.{HasRoom, IsBegun, IsNumber, IsOpened, IsTried, Kept, around_of, before_of}
+use Rattle.shim_scopes.proofs.BindSizes.{given, variable_added, block_adds, stmt_adds, branch_adds, body_adds}
 use Rattle.shim_syntax.proofs.SizeSteps.{of_stmt, declare_size, if_size, while_size, for_size, block_size, try_size, par_size, block_branch_size}
 
 -- room for so many is room for fewer
@@ -96,9 +96,9 @@ room_for_test stmt s first test step body is r = room_in 1 stmt _ s is (omega (a
 pub room_in_block : (stmt : Stmt) (s : Scope) (body : List Stmt) → stmt.what ≡ st.Block body → HasRoom (stmt_size stmt) s → HasRoom (stmts_size body) s
 room_in_block stmt s body is r = room_in _ stmt _ s is (omega (arith, block_size body)) r
 
-pub room_in_try : (stmt : Stmt) (s : Scope) (body : List Stmt) (x : List ℕ) (handler : List Stmt) → stmt.what ≡ st.Try body x handler → HasRoom (stmt_size stmt) s
-    → HasRoom (1 + (stmts_size body + stmts_size handler)) s
-room_in_try stmt s body x handler is r = room_in _ stmt _ s is (omega (arith, try_size body x handler)) r
+pub room_in_try : (stmt : Stmt) (s : Scope) (body : List Stmt) (x : List ℕ) (y : Option (List ℕ)) (handler : List Stmt) → stmt.what ≡ st.Try body x y handler → HasRoom (stmt_size stmt) s
+    → HasRoom (1 + (stmts_size body + (variable_size y + stmts_size handler))) s
+room_in_try stmt s body x y handler is r = room_in _ stmt _ s is (omega (arith, try_size body x y handler)) r
 
 pub room_in_par : (stmt : Stmt) (s : Scope) (bs : List Branch) → stmt.what ≡ st.Par bs → HasRoom (stmt_size stmt) s → HasRoom (branches_size bs) s
 room_in_par stmt s bs is r = room_in _ stmt _ s is (omega (arith, par_size bs)) r
@@ -115,6 +115,12 @@ behind_try names x s t made n tried r =
     let slots : length t.slots ≡ length s.slots = ap (λ (v : Scope). length v.slots) tried.after in
     let tries : length t.tries ≡ length (s.tries ++ number_of names x ∷ []) = ap (λ (v : Scope). length v.tries) tried.after in
     omega (arith, throws, slots, tries, length-append s.tries (number_of names x ∷ []), r)
+
+-- and its handler's variable one slot
+pub behind_variable : (names : Texts) (y : Option (List ℕ)) (start : ℕ) (s t : Scope) (made : Option ℕ) (n : ℕ) → IsBegun names y (before_of start s) made (before_of start t) → Kept start s t
+    → HasRoom (variable_size y + n) s → HasRoom n t
+behind_variable names y start s t made n begun k r =
+    room_behind (variable_size y) n start s t (omega (arith, ap (λ (b : Before). given b) begun.after, variable_added names y (before_of start s))) k.throws r
 
 -- which exceptions are in scope takes no room
 pub room_outside : (s : Scope) (handled : List Handled) (n : ℕ) → HasRoom n s → HasRoom n (record s { handled = handled })

@@ -72,8 +72,8 @@ what_step w (What-F.For first test step body) =
     record { bind = bind_for (first_declares first) test (bind_all first) (bind_all step) (bind_all body); declares = nothing }
 what_step w (What-F.What::Block body) = record { bind = λ line. on_tree RBlock (bind_block (bind_all body)); declares = nothing }
 what_step w (What-F.What::Call c) = record { bind = bind_called RCalled w c; declares = nothing }
-what_step w (What-F.Try body x handler) = record { bind = λ line. bind_try w x (bind_all body) (bind_all handler); declares = nothing }
-what_step w (What-F.Throw x) = record { bind = bind_throw x; declares = nothing }
+what_step w (What-F.Try body x y handler) = record { bind = λ line. bind_try w x y (bind_all body) (bind_all handler); declares = nothing }
+what_step w (What-F.Throw x e) = record { bind = bind_throw x e; declares = nothing }
 what_step w (What-F.Par branches) = record { bind = λ line. on_tree Par (bind_fork branches); declares = nothing }
 
 abbrev pub branch_step : Branch-F BranchWhatMeans WhatMeans BranchMeans StmtMeans → BranchMeans

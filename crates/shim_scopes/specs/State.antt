@@ -13,7 +13,7 @@ use Rattle.shim_scopes.specs.declared.tree.RWhat.{RWhat}
 use Rattle.shim_scopes.specs.declared.tree.RWhat.TheVariants.{Assign, NextAssign}
 use Rattle.shim_syntax.specs.Names.{Texts, number_of}
 use Rattle.shim_scopes.specs.Refusals.{Refusal}
-use Rattle.shim_scopes.specs.Statements.{Whole, Around, Before, Meant, declared}
+use Rattle.shim_scopes.specs.Statements.{Whole, Around, Before, Meant, declared, variable_slot, variable_declared}
 use Rattle.shim_scopes.specs.Functions.{params_from, function_begin, handled_from}
 
 abbrev pub whole : List Function → Texts → Whole
@@ -79,6 +79,10 @@ Passes (Err NoMemory) line kind name = Unit {0}
 pub record IsDeclared (names : Texts) (x : List ℕ) (sort : Sort) (old : Before) (made : ℕ) (new : Before) : Type 0 where
   pub number : made ≡ length old.slots
   pub after : new ≡ declared names x sort old
+
+pub record IsBegun (names : Texts) (y : Option (List ℕ)) (old : Before) (made : Option ℕ) (new : Before) : Type 0 where
+  pub slot : made ≡ variable_slot y old
+  pub after : new ≡ variable_declared names y old
 
 pub record IsTried (names : Texts) (x : List ℕ) (old : Scope) (made : ℕ) (new : Scope) : Type 0 where
   pub number : made ≡ old.throws + length old.tries

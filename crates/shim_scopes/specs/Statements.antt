@@ -4,6 +4,7 @@ use Rattle.std.specs.List.{find}
 use Rattle.std.specs.Option.{option_or}
 use Rattle.std.specs.Str.{bytes_eq}
 use Rattle.shim_base.specs.declared.types.Ty.{Ty}
+use Rattle.shim_base.specs.declared.types.Ty.TheVariants.{Int32}
 use Rattle.shim_syntax.specs.declared.tree.Sort.{Sort}
 use Rattle.shim_syntax.specs.declared.tree.Sort.TheVariants.{Value}
 use Rattle.shim_syntax.specs.declared.tree.Expr.{Expr}
@@ -123,10 +124,12 @@ bind_put x e line a b =
     (refused_for line WrongKind (option_or (no_output (visible a b) x) (stream_in (visible a b) e))
     (Ok (record { tree = Put (slot_of (visible a b) x) (placed (visible a b) e); before = b })))
 
-abbrev pub bind_throw : List ℕ → ℕ → Bind RWhat
-bind_throw x line a b =
-    refused_for line UnknownException (unhandled a.handled x)
-    (Ok (record { tree = Throw (exception_number a.handled x); before = b }))
+abbrev pub bind_throw : List ℕ → Option Expr → ℕ → Bind RWhat
+bind_throw x e line a b =
+    refused_for line UnknownName (unknown_in_option (visible a b) e)
+    (refused_for line UnknownException (unhandled a.handled x)
+    (refused_for line WrongKind (stream_in_option (visible a b) e)
+    (Ok (record { tree = Throw (exception_number a.handled x) (placed_option (visible a b) e); before = b }))))
 
 -- blocks
 
@@ -174,12 +177,25 @@ caught x a b = record a { handled = a.handled ++ record { name = x; number = a.t
 abbrev pub tried : Whole → List ℕ → Before → Before
 tried w x b = record b { tries = b.tries ++ number_of w.names x ∷ [] }
 
+-- the variable of a handler is the first declaration of the handler's block, as an `int32`
+abbrev pub variable_declared : Texts → Option (List ℕ) → Before → Before
+variable_declared names None b = b
+variable_declared names (Some y) b = declared names y (Value Int32) b
+
+abbrev pub bind_handler : Whole → Option (List ℕ) → Bind (List RStmt) → Bind (List RStmt)
+bind_handler w y handler a b = handler a (variable_declared w.names y b)
+
+-- the slot that it gets
+abbrev pub variable_slot : Option (List ℕ) → Before → Option ℕ
+variable_slot None b = None
+variable_slot (Some y) b = Some (length b.slots)
+
 -- the handler stands outside of the `try`, so its exception isn't in force there
-abbrev pub bind_try : Whole → List ℕ → Bind (List RStmt) → Bind (List RStmt) → Bind RWhat
-bind_try w x body handler a b =
+abbrev pub bind_try : Whole → List ℕ → Option (List ℕ) → Bind (List RStmt) → Bind (List RStmt) → Bind RWhat
+bind_try w x y body handler a b =
     and_then (bind_block body (caught x a b) (tried w x b)) (λ r.
-    and_then (bind_block handler a r.before) (λ s.
-    Ok (record { tree = Try r.tree (a.throws + length b.tries) s.tree; before = s.before })))
+    and_then (bind_block (bind_handler w y handler) a r.before) (λ s.
+    Ok (record { tree = Try r.tree (a.throws + length b.tries) (variable_slot y r.before) s.tree; before = s.before })))
 
 -- The parts of a `for` in a block of its own, behind its test, which is examined before them all. The body is a block inside it.
 abbrev pub bind_parts : Option Expr → Bind (List RStmt) → Bind (List RStmt) → Bind (List RStmt) → Bind RWhat

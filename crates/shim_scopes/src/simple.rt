@@ -2,9 +2,10 @@
 ghost use Rattle.std.specs.Prelude.{◌≡◌, ◌+◌, ◌≤◌, length, IfOk, OnOk};
 ghost use Rattle.std.specs.Option.{option_copied};
 ghost use Rattle.shim_syntax.specs.declared.tree.Sort.TheVariants.{Value};
+ghost use Rattle.shim_syntax.specs.Sizes.{variable_size};
 ghost use Rattle.shim_scopes.specs.Statements.{bind_declare, bind_store, bind_next, bind_assign_next, bind_get, bind_put, bind_throw, bind_test, declared_in};
 ghost use Rattle.shim_scopes.specs.Refusals.{Gives};
-ghost use Rattle.shim_scopes.specs.State.{Answers, HasRoom, IsDeclared, IsNumber, IsTried, Kept, around_of, before_of, stored, whole};
+ghost use Rattle.shim_scopes.specs.State.{Answers, HasRoom, IsBegun, IsDeclared, IsNumber, IsTried, Kept, around_of, before_of, stored, whole};
 
 use crate::check::check;
 use crate::fault::{ScopeFault, ScopeKind};
@@ -38,17 +39,24 @@ pub fn resolve_throw(
     start: usize,
     line: u32,
     name: &Name,
+    expr: &Option<Expr>,
 ) -> Result<RWhat, ScopeFault>
-    ensures { Answers result (before_of start scope.now) (bind_throw name.now line (around_of start scope.now) (before_of start scope.now)) }
+    ensures { Answers result (before_of start scope.now) (bind_throw name.now expr.now line (around_of start scope.now) (before_of start scope.now)) }
 {
+    let visible = scope.visible.as_slice();
     let handled = scope.handled.as_slice();
+    let unknown = find_unknown_in_option(visible, expr);
+    check(alloc, line, ScopeKind::UnknownName, unknown)?;
     check(
         alloc,
         line,
         ScopeKind::UnknownException,
         find_unhandled(handled, name),
     )?;
-    Ok(RWhat::Throw(exception_at(handled, name)))
+    let stream = find_stream_in_option(visible, expr);
+    check(alloc, line, ScopeKind::WrongKind, stream)?;
+    let expr = resolve_option(alloc, visible, expr)?;
+    Ok(RWhat::Throw(exception_at(handled, name), expr))
 }
 
 #[tactic(auto, using(crate::proofs::Seams::seam))]
@@ -216,6 +224,29 @@ pub fn declare(
     scope.slots.push(sort)?;
     scope.slot_names.push(text)?;
     Ok(slot)
+}
+
+// Puts the variable of a handler, where it has one, into the handler's block.
+pub fn begin_handler(
+    alloc: Global,
+    names: &NameTable,
+    scope: &mut Scope,
+    start: usize,
+    variable: &Option<Name>,
+) -> Result<Option<u32>, NoMemory>
+    requires begun { start ≤ length scope.old.visible }
+    requires names { IsNumber (length names.now) }
+    requires room { HasRoom (variable_size variable.now) scope.old }
+    ensures after { IfOk result (λ slot. IsBegun names.now variable.now (before_of start scope.old) slot (before_of start scope.new)) }
+    ensures kept { OnOk result (Kept start scope.old scope.new) }
+{
+    match variable {
+        Some(name) => {
+            let slot = declare(alloc, names, scope, start, Sort::Value(Ty::Int32), name)?;
+            Ok(Some(slot))
+        }
+        None => Ok(None),
+    }
 }
 
 #[tactic(auto, using(crate::proofs::Seams::seam))]

@@ -13,8 +13,8 @@ use crate::fault::{ScopeFault, ScopeKind};
 use crate::lookup::{find_stream_in_option, find_unknown_in_option, resolve_option};
 use crate::scope::{Bound, Local, Scope, cut};
 use crate::simple::{
-    Store, begin_try, resolve_assign_next, resolve_declare, resolve_get, resolve_next, resolve_put,
-    resolve_store, resolve_test, resolve_throw,
+    Store, begin_handler, begin_try, resolve_assign_next, resolve_declare, resolve_get,
+    resolve_next, resolve_put, resolve_store, resolve_test, resolve_throw,
 };
 use crate::tree::{RBranch, RBranchWhat, RStmt, RWhat};
 use crate::word::number;
@@ -210,11 +210,12 @@ fn resolve_try(
     stmt: &Stmt,
     body: &List<Stmt>,
     name: &Name,
+    variable: &Option<Name>,
     handler: &List<Stmt>,
 ) -> Result<RWhat, ScopeFault>
     requires begun { start ≤ length scope.old.visible }
     requires few { AreNumbers (whole functions.now names.now) }
-    requires parts { stmt.now.what ≡ Try body.now name.now handler.now }
+    requires parts { stmt.now.what ≡ Try body.now name.now variable.now handler.now }
     requires room { HasRoom (stmt_size stmt.now) scope.old }
     ensures meant { Answers result (before_of start scope.new) (bind_what (whole functions.now names.now) stmt.now (around_of start scope.old) (before_of start scope.old)) }
     ensures kept { OnOk result (Kept start scope.old scope.new) }
@@ -223,8 +224,11 @@ fn resolve_try(
     let caught = begin_try(alloc, names, scope, name)?;
     let body = resolve_block(alloc, functions, names, scope, start, body.as_slice())?;
     cut(&mut scope.handled, outside);
-    let handler = resolve_block(alloc, functions, names, scope, start, handler.as_slice())?;
-    Ok(RWhat::Try(body, caught, handler))
+    let inner = scope.visible.len();
+    let variable = begin_handler(alloc, names, scope, inner, variable)?;
+    let handler = resolve_body(alloc, functions, names, scope, inner, handler.as_slice())?;
+    cut(&mut scope.visible, inner);
+    Ok(RWhat::Try(body, caught, variable, handler))
 }
 
 #[cycle(resolve)]
@@ -294,12 +298,12 @@ fn resolve_what(
             let call = resolve_call(alloc, functions, names, scope, start, line, call)?;
             Ok(RWhat::Call(call))
         }
-        What::Try(body, name, handler) => {
+        What::Try(body, name, variable, handler) => {
             resolve_try(
-                alloc, functions, names, scope, start, stmt, body, name, handler,
+                alloc, functions, names, scope, start, stmt, body, name, variable, handler,
             )
         }
-        What::Throw(name) => resolve_throw(alloc, scope, start, line, name),
+        What::Throw(name, expr) => resolve_throw(alloc, scope, start, line, name, expr),
         What::Par(branches) => {
             let branches = resolve_branches(
                 alloc,

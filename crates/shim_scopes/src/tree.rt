@@ -8,8 +8,8 @@ pub struct RFunction {
     pub line: u32,
     pub name: u32,
     pub params: List<UParam>,
-    /// What each slot holds. The first slots are the parameters'; the declarations follow as they come
-    /// in the text.
+    /// What each slot holds. The first slots are the parameters'; the declarations and the variables of
+    /// handlers follow as they come in the text.
     pub slots: List<Sort>,
     pub slot_names: List<u32>,
     /// The names behind `throws`, whose numbers are the first exceptions.
@@ -50,8 +50,10 @@ pub enum RWhat {
     For(List<RStmt>, Option<UExpr>, List<RStmt>, List<RStmt>),
     Block(List<RStmt>),
     Call(RCall),
-    Try(List<RStmt>, u32, List<RStmt>),
-    Throw(u32),
+    /// The body, the exception's number, the slot of the handler's variable where it has one, and the handler.
+    Try(List<RStmt>, u32, Option<u32>, List<RStmt>),
+    /// The exception's number, and the expression of the number that is thrown, where the statement has one.
+    Throw(u32, Option<UExpr>),
     Par(List<RBranch>),
 }
 

@@ -1,5 +1,5 @@
 -- What is bound is no larger than its text, and declares no more.
-use Rattle.std.proofs.Common.{ℕ, suc, ◌+◌, ◌≡◌, ◌∙◌, ◌≤◌, List, [], ◌∷◌, ◌++◌, Option, Some, None, Result, Ok, Err, length, map, refl, sym, ap, subst, arith}
+use Rattle.std.proofs.Common.{ℕ, suc, ◌+◌, ◌≡◌, ◌∙◌, ◌≤◌, List, [], ◌∷◌, ◌++◌, Option, Some, None, Result, Ok, length, map, refl, sym, ap, subst, arith}
 use Rattle.std.proofs.lemmas.List.{length-map}
 use Rattle.std.specs.Option.{option_or}
 use Rattle.shim_base.specs.declared.types.Ty.{Ty}
@@ -29,15 +29,15 @@ use Rattle.shim_scopes.specs.declared.tree.RFunction.{RFunction}
 use Rattle.shim_scopes.specs.declared.form.Form.{Form as Resolved}
 use Rattle.shim_scopes.specs.Binding.{unknown, unknown_in, unknown_in_option, unknown_in_all, stream_in, stream_in_option, no_number, no_input, no_output, slot_of, placed_step, placed, placed_option, placed_all, exception_number, unhandled}
 use Rattle.shim_syntax.specs.Names.{Texts, number_of, with_functions, param_names}
-use Rattle.shim_scopes.specs.Refusals.{Refusal, and_then, refused_for}
-use Rattle.shim_scopes.specs.Statements.{Whole, Around, Before, BoundTo, Bind, declared, within, opened, closed, caught, tried, bind_declare, bind_store, bind_next, bind_assign_next, bind_get, bind_put, bind_throw, bind_block, on_tree, bind_test, bind_if, bind_while, bind_try, bind_parts, bind_first_test, bind_for, Meant, visible, declared_in, unknown_in_both, unknown_of_two}
+use Rattle.shim_scopes.specs.Refusals.{Refusal, refused_for}
+use Rattle.shim_scopes.specs.Statements.{Whole, Around, Before, BoundTo, Bind, declared, within, opened, closed, caught, tried, variable_declared, variable_slot, bind_handler, bind_declare, bind_store, bind_next, bind_assign_next, bind_get, bind_put, bind_throw, bind_block, on_tree, bind_test, bind_if, bind_while, bind_try, bind_parts, bind_first_test, bind_for, visible, declared_in, unknown_in_both, unknown_of_two}
 use Rattle.shim_scopes.specs.Calls.{bind_call, bind_called, bind_known, function_of, unhandled_of_all, wrong_in_all, if_false}
 use Rattle.shim_scopes.specs.Bodies.{WhatMeans, StmtMeans, BranchMeans, BranchWhatMeans, bind_all, bind_fork, first_declares, branch_what_step, what_step, branch_step, stmt_step, meaning, bind_stmts, bind_branch}
 use Rattle.shim_scopes.specs.Functions.{name_in, twice_after, wrong_main, placed_param, made_function, bind_function, bind_functions, main_of, bind_program}
 use Rattle.shim_syntax.specs.Sizes as text
 use Rattle.shim_syntax.specs.Sizes.{sum_of}
 use Rattle.shim_syntax.proofs.SizeSteps as source
-use Rattle.shim_units.specs.Sizes.{Extent, plain, expr_size, option_size, call_size, branch_what_extent, what_extent, branch_extent, stmt_extent, extent, fork_extent, function_size, functions_size}
+use Rattle.shim_units.specs.Sizes.{Extent, plain, variable_extent, expr_size, option_size, call_size, branch_what_extent, what_extent, branch_extent, stmt_extent, extent, fork_extent, function_size, functions_size}
 use Rattle.shim_sharing.proofs.TextLocals as counted
 use Rattle.shim_sharing.proofs.TextLocals.{locals, stmt_locals, branch_locals, what_locals, branch_what_locals, IsNarrow, AreNarrow}
 use Rattle.shim_sharing.proofs.ExtentSteps.{number_size, variable_size, unary_size, binary_size, of_stmt, of_branch, at_declare, at_assign, at_next, at_next_assign, at_assign_next, at_get, at_put, at_if, at_while, at_for, at_block, at_call, at_try, at_throw, at_par, at_block_branch, at_call_branch}
@@ -70,7 +70,7 @@ KeptExpr = (a : Expr) × KeepsSize a
 expr_layer : (y : Expr-F KeptExpr) → KeepsSize (roll-Expr (map-Expr KeptExpr Expr (λ e. e.0) y))
 unfolding roll-Expr denote.Hole.Carrier.roll
 expr_layer (Expr-F.Number n) around = ap expr_size (placed_number around n) ∙ number_size n ∙ sym (source.number_size n)
-expr_layer (Expr-F.Var x) around = ap expr_size (placed_variable around x) ∙ variable_size (slot_of around x) ∙ sym (source.variable_size x)
+expr_layer (Expr-F.Var x) around = ap expr_size (placed_variable around x) ∙ variable_size (slot_of around x) ∙ sym (source.var_size x)
 expr_layer (Expr-F.Unary op a) around =
     ap expr_size (placed_unary around op a.0) ∙ unary_size op (placed around a.0) ∙ ap suc (a.1 around) ∙ sym (source.unary_size op a.0)
 expr_layer (Expr-F.Binary op a b) around =
@@ -155,10 +155,12 @@ put_within x e d line a b r h =
     asked_two line UnknownName WrongKind (unknown_in_both v x e) (option_or (no_output v x) (stream_in v e)) (Put (slot_of v x) (placed v e)) b r _ d h
     (is_within _ d _ _ (at_put (slot_of v x) (placed v e)) (omega (arith, placed_size v e)) (omega arith))
 
-throw_within : (x : List ℕ) (d : ℕ) → WhatWithin 1 d (bind_throw x)
-throw_within x d line a b r h =
-    made what_extent 1 d (Throw (exception_number a.handled x)) b r (passed line UnknownException (unhandled a.handled x) _ r h)
-    (is_within 1 d _ _ (at_throw (exception_number a.handled x)) (omega arith) (omega arith))
+throw_within : (x : List ℕ) (e : Option Expr) (d : ℕ) → WhatWithin (suc (text.option_size e)) d (bind_throw x e)
+throw_within x e d line a b r h =
+    let v : List Local = visible a b in
+    asked_two line UnknownException WrongKind (unhandled a.handled x) (stream_in_option v e) (Throw (exception_number a.handled x) (placed_option v e)) b r _ d
+    (passed line UnknownName (unknown_in_option v e) _ r h)
+    (is_within _ d _ _ (at_throw (exception_number a.handled x) (placed_option v e)) (omega (arith, placed_option_size v e)) (omega arith))
 
 known_call : (o : Option Function) (fs : List Function) (c : Call) (line : ℕ) (a : Around) (b : Before) (r : RCall) → bind_known o fs c line a b ≡ Ok r → call_size r ≡ text.call_size c
 known_call None fs c line a b r h = absurd (cc)
@@ -208,14 +210,25 @@ while_within e f m d k line a b r is =
     made what_extent _ _ (While p.0 q.0.tree) q.0.before r q.2
     (is_within _ _ _ _ (at_while p.0 q.0.tree) (omega (arith, test, one.size)) (omega (arith, one.declared)))
 
-try_within : (w : Whole) (x : List ℕ) (f h : Bind (List RStmt)) (m n d c : ℕ) → BoundWithin extent m d f → BoundWithin extent n c h → BoundWithin what_extent (suc (m + n)) (d + c) (bind_try w x f h)
-try_within w x f h m n d c k l a b r is =
+-- a variable of a handler is as large as its slot, and declares it
+variable_within : (y : Option (List ℕ)) (b : Before) → IsWithin (text.variable_size y) (text.variable_size y) (variable_extent (variable_slot y b))
+variable_within None b = record { size = omega arith; declared = omega arith }
+variable_within (Some y) b = record { size = omega arith; declared = omega arith }
+
+handler_within : (w : Whole) (y : Option (List ℕ)) (h : Bind (List RStmt)) (n c : ℕ) → BoundWithin extent n c h → BoundWithin extent n c (bind_handler w y h)
+handler_within w y h n c k a b r is = k a (variable_declared w.names y b) r is
+
+try_within : (w : Whole) (x : List ℕ) (y : Option (List ℕ)) (f h : Bind (List RStmt)) (m n d c : ℕ) → BoundWithin extent m d f → BoundWithin extent n c h
+    → BoundWithin what_extent (suc (m + (text.variable_size y + n))) (d + (text.variable_size y + c)) (bind_try w x y f h)
+try_within w x y f h m n d c k l a b r is =
     let p = first_ok (bind_block f (caught x a b) (tried w x b)) _ r is in
-    let q = first_ok (bind_block h a p.0.before) _ r p.2 in
+    let q = first_ok (bind_block (bind_handler w y h) a p.0.before) _ r p.2 in
     let one = block_within extent f m d k (caught x a b) (tried w x b) p.0 p.1 in
-    let two = block_within extent h n c l a p.0.before q.0 q.1 in
-    made what_extent _ _ (Try p.0.tree (a.throws + length b.tries) q.0.tree) q.0.before r q.2
-    (is_within _ _ _ _ (at_try p.0.tree (a.throws + length b.tries) q.0.tree) (omega (arith, one.size, two.size)) (omega (arith, one.declared, two.declared)))
+    let slot = variable_within y p.0.before in
+    let two = block_within extent (bind_handler w y h) n c (handler_within w y h n c l) a p.0.before q.0 q.1 in
+    made what_extent _ _ (Try p.0.tree (a.throws + length b.tries) (variable_slot y p.0.before) q.0.tree) q.0.before r q.2
+    (is_within _ _ _ _ (at_try p.0.tree (a.throws + length b.tries) (variable_slot y p.0.before) q.0.tree) (omega (arith, one.size, slot.size, two.size))
+    (omega (arith, one.declared, slot.declared, two.declared)))
 
 parts_within : (test : Option Expr) (f g h : Bind (List RStmt)) (i m n d c j : ℕ) → BoundWithin extent i d f → BoundWithin extent m c g → BoundWithin extent n j h
     → BoundWithin what_extent (suc (i + (text.option_size test + (m + n)))) (d + (c + j)) (bind_parts test f g h)
@@ -329,8 +342,8 @@ module _ (w : Whole) where
   what_layer (What-F.For first test step body) line = for_within (first_declares (map (meaning w) (stmts first))) test _ _ _ _ _ _ _ _ _ (stmts_within first) (stmts_within step) (stmts_within body) line
   what_layer (What-F.What::Block body) line = tree_within extent what_extent RBlock _ _ _ _ (in_block _ _) (block_within extent _ _ _ (stmts_within body))
   what_layer (What-F.What::Call c) line = called_within what_extent RCalled at_call w c line 0
-  what_layer (What-F.Try body x handler) line = try_within w x _ _ _ _ _ _ (stmts_within body) (stmts_within handler)
-  what_layer (What-F.Throw x) line = throw_within x 0 line
+  what_layer (What-F.Try body x y handler) line = try_within w x y _ _ _ _ _ _ (stmts_within body) (stmts_within handler)
+  what_layer (What-F.Throw x e) line = throw_within x e 0 line
   what_layer (What-F.Par bs) line = tree_within fork_extent what_extent Par _ _ _ _ (in_fork _ _) (branches_within bs)
 
   -- the same bound, of a part and of sizes that are equal to these

@@ -12,7 +12,7 @@ use Rattle.shim_scopes.specs.declared.tree.RWhat.TheVariants as r
 use Rattle.shim_scopes.specs.declared.tree.RBranch.{RBranch, fold-roll-RBranch}
 use Rattle.shim_scopes.specs.declared.tree.RBranchWhat.{RBranchWhat, RBranchWhat-F, fold-roll-RBranchWhat, map-RBranchWhat, roll-RBranchWhat}
 use Rattle.shim_scopes.specs.declared.tree.RBranchWhat.TheVariants as rb
-use Rattle.shim_units.specs.Sizes.{Extent, plain, declaration, larger, both, apart, expr_counts, expr_size, option_size, call_size, branch_extents, what_extents, branch_what_extent, what_extent, branch_extent, stmt_extent, extent, fork_extent}
+use Rattle.shim_units.specs.Sizes.{Extent, plain, declaration, larger, both, apart, variable_extent, expr_counts, expr_size, option_size, call_size, branch_extents, what_extents, branch_what_extent, what_extent, branch_extent, stmt_extent, extent, fork_extent}
 
 pub number_size : (n : ℤ) → expr_size (u.Number n) ≡ 1
 unfolding expr_size roll-UExpr denote.Hole.Carrier.roll
@@ -95,13 +95,13 @@ pub at_call : (c : RCall) → what_extent (r.Call c) ≡ plain (call_size c)
 unfolding roll-RWhat denote.Hole.Carrier.roll
 at_call c = at_what (RWhat-F.RWhat::Call c)
 
-pub at_try : (body : List RStmt) (x : ℕ) (handler : List RStmt) → what_extent (r.Try body x handler) ≡ larger 1 (both (extent body) (extent handler))
+pub at_try : (body : List RStmt) (x : ℕ) (y : Option ℕ) (handler : List RStmt) → what_extent (r.Try body x y handler) ≡ larger 1 (both (extent body) (both (variable_extent y) (extent handler)))
 unfolding roll-RWhat denote.Hole.Carrier.roll
-at_try body x handler = at_what (RWhat-F.Try body x handler)
+at_try body x y handler = at_what (RWhat-F.Try body x y handler)
 
-pub at_throw : (x : ℕ) → what_extent (r.Throw x) ≡ plain 1
+pub at_throw : (x : ℕ) (e : Option UExpr) → what_extent (r.Throw x e) ≡ plain (suc (option_size e))
 unfolding roll-RWhat denote.Hole.Carrier.roll
-at_throw x = at_what (RWhat-F.Throw x)
+at_throw x e = at_what (RWhat-F.Throw x e)
 
 pub at_par : (branches : List RBranch) → what_extent (r.Par branches) ≡ apart (fork_extent branches)
 unfolding roll-RWhat denote.Hole.Carrier.roll

@@ -1,10 +1,10 @@
 -- A function's own unit, and the units that are lifted out of it.
-use Rattle.std.proofs.Common.{ℕ, zero, suc, ◌+◌, ◌≡◌, ◌≤◌, List, [], ◌∷◌, length, arith, length-append}
+use Rattle.std.proofs.Common.{ℕ, suc, ◌+◌, ◌≤◌, List, length, arith}
 use Rattle.shim_scopes.specs.declared.tree.RFunction.{RFunction}
 use Rattle.shim_units.specs.Parts.{LiftContext}
 use Rattle.shim_units.specs.Sizes.{function_size, units_points}
 use Rattle.shim_units.specs.Numbering.{size_all}
-use Rattle.shim_units.specs.Units.{upto, text_of, function_slot_map, lift_function}
+use Rattle.shim_units.specs.Units.{text_of, function_slot_map, lift_function}
 use Rattle.shim_sharing.proofs.LiftedSizes.{body_within}
 
 module _ (names : List (List ℕ)) (all : List RFunction) where

@@ -8,7 +8,7 @@ use Rattle.shim_units.specs.declared.unit.UStmt.{UStmt}
 use Rattle.shim_units.specs.declared.unit.UWhat.TheVariants as u
 use Rattle.shim_units.specs.declared.slot_map.SlotMap.{SlotMap}
 use Rattle.shim_units.specs.Parts.{LiftContext, Part}
-use Rattle.shim_units.specs.Moving.{slot_index_of, moved, moved_option}
+use Rattle.shim_units.specs.Moving.{slot_index_of, slot_index_of_option, moved, moved_option}
 use Rattle.shim_units.specs.PartFold.{part, lift_in}
 use Rattle.shim_units.proofs.EachKind.{at_if, at_for, at_try}
 use Rattle.shim_sharing.proofs.Lifts.{two_tree, two_units, three_tree, three_units}
@@ -27,19 +27,22 @@ if_units context w n us vs ws s e first other kind behind next =
     two_units (u.If (moved w.slots e)) (lift_in first) (lift_in other) context w n us vs ws behind next
     ∙ sym (ap (λ (p : Part UStmt). us ++ (p.lift context w (n + length us)).units) (at_if s e first other kind))
 
-pub try_tree : (context : LiftContext) (w : SlotMap) (n : ℕ) (us vs : List UnitOf) (s : RStmt) (body : List RStmt) (x : ℕ) (handler : List RStmt) (made : ℕ) (r q : List UStmt) → s.what ≡ is.Try body x handler
-    → r ≡ (lift_in body context w (n + length us)).tree → vs ≡ us ++ (lift_in body context w (n + length us)).units → made ≡ slot_index_of w.exceptions x → q ≡ (lift_in handler context w (n + length vs)).tree
-    → u.Try r made q ≡ ((part s).lift context w (n + length us)).tree.what
-try_tree context w n us vs s body x handler made r q kind first behind placed next =
-    ap (λ t. u.Try r t q) placed ∙ two_tree (λ a b. u.Try a (slot_index_of w.exceptions x) b) (lift_in body) (lift_in handler) context w n us vs r q first behind next
-    ∙ sym (ap (λ (p : Part UStmt). (p.lift context w (n + length us)).tree.what) (at_try s body x handler kind))
+pub try_tree : (context : LiftContext) (w : SlotMap) (n : ℕ) (us vs : List UnitOf) (s : RStmt) (body : List RStmt) (x : ℕ) (y : Option ℕ) (handler : List RStmt) (made : ℕ) (slot : Option ℕ) (r q : List UStmt)
+    → s.what ≡ is.Try body x y handler
+    → r ≡ (lift_in body context w (n + length us)).tree → vs ≡ us ++ (lift_in body context w (n + length us)).units → made ≡ slot_index_of w.exceptions x → slot ≡ slot_index_of_option w.slots y
+    → q ≡ (lift_in handler context w (n + length vs)).tree
+    → u.Try r made slot q ≡ ((part s).lift context w (n + length us)).tree.what
+try_tree context w n us vs s body x y handler made slot r q kind first behind placed held next =
+    ap (λ t. u.Try r t slot q) placed ∙ ap (λ t. u.Try r (slot_index_of w.exceptions x) t q) held
+    ∙ two_tree (λ a b. u.Try a (slot_index_of w.exceptions x) (slot_index_of_option w.slots y) b) (lift_in body) (lift_in handler) context w n us vs r q first behind next
+    ∙ sym (ap (λ (p : Part UStmt). (p.lift context w (n + length us)).tree.what) (at_try s body x y handler kind))
 
-pub try_units : (context : LiftContext) (w : SlotMap) (n : ℕ) (us vs ws : List UnitOf) (s : RStmt) (body : List RStmt) (x : ℕ) (handler : List RStmt) → s.what ≡ is.Try body x handler
+pub try_units : (context : LiftContext) (w : SlotMap) (n : ℕ) (us vs ws : List UnitOf) (s : RStmt) (body : List RStmt) (x : ℕ) (y : Option ℕ) (handler : List RStmt) → s.what ≡ is.Try body x y handler
     → vs ≡ us ++ (lift_in body context w (n + length us)).units → ws ≡ vs ++ (lift_in handler context w (n + length vs)).units
     → ws ≡ us ++ ((part s).lift context w (n + length us)).units
-try_units context w n us vs ws s body x handler kind behind next =
-    two_units (λ a b. u.Try a (slot_index_of w.exceptions x) b) (lift_in body) (lift_in handler) context w n us vs ws behind next
-    ∙ sym (ap (λ (p : Part UStmt). us ++ (p.lift context w (n + length us)).units) (at_try s body x handler kind))
+try_units context w n us vs ws s body x y handler kind behind next =
+    two_units (λ a b. u.Try a (slot_index_of w.exceptions x) (slot_index_of_option w.slots y) b) (lift_in body) (lift_in handler) context w n us vs ws behind next
+    ∙ sym (ap (λ (p : Part UStmt). us ++ (p.lift context w (n + length us)).units) (at_try s body x y handler kind))
 
 pub for_tree : (context : LiftContext) (w : SlotMap) (n : ℕ) (us vs ws : List UnitOf) (s : RStmt) (first : List RStmt) (test : Option UExpr) (step body : List RStmt) (made : Option UExpr) (p r q : List UStmt) → s.what ≡ is.For first test step body
     → p ≡ (lift_in first context w (n + length us)).tree → vs ≡ us ++ (lift_in first context w (n + length us)).units → made ≡ moved_option w.slots test

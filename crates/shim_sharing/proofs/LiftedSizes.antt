@@ -10,7 +10,7 @@ use Rattle.shim_scopes.specs.declared.tree.RFunction.{RFunction}
 use Rattle.shim_scopes.specs.declared.tree.RStmt.{RStmt, RStmt-F, fold-roll-RStmt, ind-RStmt, map-RStmt, roll-RStmt}
 use Rattle.shim_scopes.specs.declared.tree.RWhat.{RWhat, RWhat-F, fold-RWhat, fold-roll-RWhat, map-RWhat, roll-RWhat}
 use Rattle.shim_scopes.specs.declared.tree.RBranch.{RBranch, RBranch-F, fold-roll-RBranch, ind-RBranch, map-RBranch, roll-RBranch}
-use Rattle.shim_scopes.specs.declared.tree.RBranchWhat.{RBranchWhat, RBranchWhat-F, fold-RBranchWhat, fold-roll-RBranchWhat, map-RBranchWhat, roll-RBranchWhat}
+use Rattle.shim_scopes.specs.declared.tree.RBranchWhat.{RBranchWhat, RBranchWhat-F, fold-roll-RBranchWhat, map-RBranchWhat, roll-RBranchWhat}
 use Rattle.shim_syntax.specs.Sizes.{sum_of}
 use Rattle.shim_units.specs.declared.unit.Unit.{Unit as UnitOf}
 use Rattle.shim_units.specs.declared.unit.UCall.{UCall}
@@ -20,12 +20,13 @@ use Rattle.shim_units.specs.declared.unit.UWhat.TheVariants.{Declare, Assign, Ne
 use Rattle.shim_units.specs.declared.unit.UBranch.{UBranch}
 use Rattle.shim_units.specs.declared.slot_map.SlotMap.{SlotMap}
 use Rattle.shim_units.specs.Calls.{bare, lends_first, behind_first, params_at}
-use Rattle.shim_units.specs.Moving.{slot_index_of, moved_step, moved, moved_option, by_mode, arg_of, args_of, moved_call}
+use Rattle.shim_units.specs.Moving.{slot_index_of, slot_index_of_option, moved_step, moved, moved_option, by_mode, arg_of, args_of, moved_call}
 use Rattle.shim_units.specs.Parts.{LiftContext, Part, Lifts, all_places, all_declares, all_tries}
 use Rattle.shim_units.specs.Captures.{Captures, is_reference, is_taken}
+use Rattle.shim_units.specs.Own.{some_slot}
 use Rattle.shim_units.specs.Lifting.{lift_all, whole, on_tree, lift_two, lift_three, branch_arg, branch_param, branch_captures, branch_slots, branch_inner, lift_branch}
 use Rattle.shim_units.specs.PartFold.{branch_what_step, what_step, branch_step, stmt_step, in_line, part, parts, branch_part, branch_parts}
-use Rattle.shim_units.specs.Sizes.{Extent, plain, declaration, larger, both, apart, expr_size, option_size, call_size, branch_extents, what_extents, branch_what_extent, what_extent, branch_extent, stmt_extent, extent, fork_extent, arg_size, args_size, unit_call_size, units_size, units_points}
+use Rattle.shim_units.specs.Sizes.{Extent, plain, declaration, larger, both, apart, variable_extent, slot_size, expr_size, option_size, call_size, branch_extents, what_extents, branch_what_extent, what_extent, branch_extent, stmt_extent, extent, fork_extent, arg_size, args_size, unit_call_size, units_size, units_points}
 use Rattle.shim_sharing.proofs.ForkSizes.{ForksWithin, forks_fewer, forks_of_both, uses_of_each}
 use Rattle.shim_sharing.proofs.ExtentSteps as steps
 use Rattle.shim_sharing.proofs.ExtentSteps.{number_size, variable_size, unary_size, binary_size}
@@ -77,6 +78,10 @@ kept = ind-UExpr KeepsSize (λ x y is. subst (λ z. KeepsSize (roll-UExpr z)) is
 moved_option_size : (slots : List ℕ) (a : Option UExpr) → option_size (moved_option slots a) ≡ option_size a
 moved_option_size slots None = refl
 moved_option_size slots (Some a) = (kept a).same slots
+
+moved_slot_size : (slots : List ℕ) (y : Option ℕ) → slot_size (slot_index_of_option slots y) ≡ slot_size y
+moved_slot_size slots None = refl
+moved_slot_size slots (Some x) = refl
 
 by_mode_size : (lent : Bool) (x : ℕ) → arg_size (by_mode lent x) ≡ 1
 by_mode_size true x = refl
@@ -319,6 +324,17 @@ branch_what_layer (RBranchWhat-F.RBranchWhat::Call c) line = record {
   lifts = alone measure_call (plain (call_size c)) (λ context w. moved_call context.functions c w) (λ context w. record { size = call_within context.functions c w; points = omega arith });
 }
 
+-- the variable of a handler
+record OfVariable (y : Option ℕ) : Type 0 where
+  pub size : (variable_extent y).size ≡ slot_size y
+  pub own : length (some_slot y) ≡ (variable_extent y).own
+  pub slots : (variable_extent y).own + (variable_extent y).inside ≤ (variable_extent y).size
+  pub forked : (variable_extent y).forked ≡ 0
+
+of_variable : (y : Option ℕ) → OfVariable y
+of_variable None = record { size = refl; own = refl; slots = omega arith; forked = refl }
+of_variable (Some x) = record { size = refl; own = refl; slots = omega arith; forked = refl }
+
 what_layer : (y : RWhat-F SmallBranchWhat SmallWhat SmallBranch SmallStmt)
     → WhatFits (what_extents (map-RWhat RBranchWhat RWhat RBranch RStmt Extent Extent Extent Extent branch_what_extent what_extent branch_extent stmt_extent (what_of y)))
     (what_step (map-RWhat RBranchWhat RWhat RBranch RStmt (ℕ → Part UCall) (ℕ → Part UWhat) (Part UBranch) (Part UStmt) branch_what_part what_part branch_part part (what_of y)))
@@ -461,27 +477,38 @@ what_layer (RWhat-F.RWhat::Call c) line = record {
   lifts = alone measure_what (plain (call_size c)) (λ context w. Call (moved_call context.functions c w))
       (λ context w. is_small _ _ _ (at_call (moved_call context.functions c w)) (omega (arith, call_within context.functions c w)) (omega arith));
 }
-what_layer (RWhat-F.Try body x handler) line =
+what_layer (RWhat-F.Try body x y handler) line =
     let one = stmts_within body in
+    let slot = of_variable y in
     let rest = stmts_within handler in
     record {
-      declares = omega (arith, one.declares, rest.declares, length-append (all_declares (parts (stmts body))) (all_declares (parts (stmts handler))));
-      slots = omega (arith, one.slots, rest.slots);
-      tries = omega (arith, one.tries, rest.tries, length-append (all_tries (parts (stmts body))) (all_tries (parts (stmts handler))));
+      declares = omega (
+        arith,
+        one.declares,
+        slot.own,
+        rest.declares,
+        length-append (all_declares (parts (stmts body))) (some_slot y ++ all_declares (parts (stmts handler))),
+        length-append (some_slot y) (all_declares (parts (stmts handler))),
+      );
+      slots = omega (arith, one.slots, slot.slots, rest.slots);
+      tries = omega (arith, one.tries, slot.slots, rest.tries, length-append (all_tries (parts (stmts body))) (all_tries (parts (stmts handler))));
       some = omega arith;
       forks = λ fs. forks_of_both (extent (stmts body)).size (extent (stmts handler)).size _ (all_places fs (parts (stmts body))) (all_places fs (parts (stmts handler))) (omega arith) (omega arith) (one.forks fs) (rest.forks fs);
-      lifts = two measure measure measure_what (extent (stmts body)) (extent (stmts handler)) 1 (λ w r s. Try r (slot_index_of w.exceptions x) s) (lift_all (parts (stmts body))) (lift_all (parts (stmts handler)))
-          (λ w r s. omega (arith, ap (λ (z : Measure). z.points) (at_try r (slot_index_of w.exceptions x) s)))
-          (λ w r s. omega (arith, ap (λ (z : Measure). z.size) (at_try r (slot_index_of w.exceptions x) s)))
-          one.lifts rest.lifts;
+      lifts = as_large measure_what (larger (suc (slot_size y)) (both (extent (stmts body)) (extent (stmts handler)))) _ _ (omega (arith, slot.size)) (omega arith)
+          (two measure measure measure_what (extent (stmts body)) (extent (stmts handler)) (suc (slot_size y)) (λ w r s. Try r (slot_index_of w.exceptions x) (slot_index_of_option w.slots y) s)
+          (lift_all (parts (stmts body))) (lift_all (parts (stmts handler)))
+          (λ w r s. omega (arith, ap (λ (z : Measure). z.points) (at_try r (slot_index_of w.exceptions x) (slot_index_of_option w.slots y) s)))
+          (λ w r s. omega (arith, moved_slot_size w.slots y, ap (λ (z : Measure). z.size) (at_try r (slot_index_of w.exceptions x) (slot_index_of_option w.slots y) s)))
+          one.lifts rest.lifts);
     }
-what_layer (RWhat-F.Throw x) line = record {
+what_layer (RWhat-F.Throw x a) line = record {
   declares = omega arith;
   slots = omega arith;
   tries = omega arith;
   some = omega arith;
   forks = λ fs. tt;
-  lifts = alone measure_what (plain 1) (λ context w. Throw (slot_index_of w.exceptions x)) (λ context w. is_small _ _ _ (at_throw (slot_index_of w.exceptions x)) (omega arith) (omega arith));
+  lifts = alone measure_what (plain (suc (option_size a))) (λ context w. Throw (slot_index_of w.exceptions x) (moved_option w.slots a))
+      (λ context w. is_small _ _ _ (at_throw (slot_index_of w.exceptions x) (moved_option w.slots a)) (omega (arith, moved_option_size w.slots a)) (omega arith));
 }
 what_layer (RWhat-F.Par bs) line =
     let one = branches_within bs in

@@ -1,7 +1,7 @@
 -- Trees that are lifted one after another, each behind the units of those before it.
 use Rattle.std.proofs.Common.{◌≡◌, ◌∙◌, ℕ, ◌+◌, List, [], ◌∷◌, ◌++◌, length, sym, ap, arith, length-append, append_assoc}
 use Rattle.shim_scopes.specs.declared.tree.RBranch.{RBranch, fold_out-RBranch}
-use Rattle.shim_scopes.specs.declared.tree.RBranchWhat.{RBranchWhat, RBranchWhat-F, roll-RBranchWhat, fold-RBranchWhat, fold-roll-RBranchWhat}
+use Rattle.shim_scopes.specs.declared.tree.RBranchWhat.{RBranchWhat-F, roll-RBranchWhat, fold-roll-RBranchWhat}
 use Rattle.shim_scopes.specs.declared.tree.RBranchWhat.TheVariants as is
 use Rattle.shim_scopes.specs.declared.tree.RStmt.{RStmt}
 use Rattle.shim_units.specs.declared.branch.BranchCaptures.{BranchCaptures}

@@ -14,7 +14,7 @@ use Rattle.shim_units.specs.PartFold.{part, parts, branch_part, lift_in}
 use Rattle.shim_units.specs.BranchCapturing.{IsBranchCaptures}
 use Rattle.shim_units.specs.Parts.{LiftContext, all_raises, all_declares, all_tries}
 use Rattle.shim_sharing.specs.Room.{HasRoom, FunctionHasRoom, FunctionsHaveRoom}
-use Rattle.shim_units.specs.Sizes.{Extent, larger, both, apart, what_extent, stmt_extent, branch_extent, extent, fork_extent}
+use Rattle.shim_units.specs.Sizes.{Extent, larger, both, apart, variable_extent, what_extent, stmt_extent, branch_extent, extent, fork_extent}
 use Rattle.shim_units.specs.Captures.{is_taken}
 use Rattle.shim_units.specs.Units.{upto, function_slot_map, lift_function, lift_functions}
 use Rattle.shim_sharing.proofs.ExtentSteps.{of_stmt, at_if, at_for, at_try, at_par}
@@ -27,6 +27,9 @@ room_for_less w k n x y inside size h = record { slots = omega (arith, inside, h
 
 first_part : (w : SlotMap) (n : ℕ) (x y : Extent) → HasRoom w n (both x y) → HasRoom w n x
 first_part w n x y h = room_for_less w n n (both x y) x (omega arith) (omega arith) h
+
+second_part : (w : SlotMap) (n : ℕ) (x y : Extent) → HasRoom w n (both x y) → HasRoom w n y
+second_part w n x y h = room_for_less w n n (both x y) y (omega arith) (omega arith) h
 
 behind : (w : SlotMap) (n : ℕ) (us vs xs : List UnitOf) (x y : Extent) → vs ≡ us ++ xs → length xs ≤ x.size → HasRoom w (n + length us) (both x y) → HasRoom w (n + length vs) y
 behind w n us vs xs x y is few h = room_for_less w (n + length vs) (n + length us) (both x y) y (omega arith) (omega (arith, few, ap (λ (l : List UnitOf). length l) is, length-append us xs)) h
@@ -42,10 +45,12 @@ pub room_for_other : (context : LiftContext) (w : SlotMap) (n : ℕ) (us vs : Li
 room_for_other context w n us vs s e first other kind made h =
     behind w n us vs _ (extent first) (extent other) made (units_of_body context w (n + length us) first) (what_in w (n + length us) _ s _ (both (extent first) (extent other)) kind (at_if e first other) h)
 
-pub room_for_handler : (context : LiftContext) (w : SlotMap) (n : ℕ) (us vs : List UnitOf) (s : RStmt) (body : List RStmt) (x : ℕ) (handler : List RStmt) → s.what ≡ r.Try body x handler
+pub room_for_handler : (context : LiftContext) (w : SlotMap) (n : ℕ) (us vs : List UnitOf) (s : RStmt) (body : List RStmt) (x : ℕ) (y : Option ℕ) (handler : List RStmt) → s.what ≡ r.Try body x y handler
     → vs ≡ us ++ (lift_in body context w (n + length us)).units → HasRoom w (n + length us) (stmt_extent s) → HasRoom w (n + length vs) (extent handler)
-room_for_handler context w n us vs s body x handler kind made h =
-    behind w n us vs _ (extent body) (extent handler) made (units_of_body context w (n + length us) body) (what_in w (n + length us) _ s _ (both (extent body) (extent handler)) kind (at_try body x handler) h)
+room_for_handler context w n us vs s body x y handler kind made h =
+    second_part w (n + length vs) (variable_extent y) (extent handler)
+    (behind w n us vs _ (extent body) (both (variable_extent y) (extent handler)) made (units_of_body context w (n + length us) body)
+    (what_in w (n + length us) _ s _ (both (extent body) (both (variable_extent y) (extent handler))) kind (at_try body x y handler) h))
 
 room_behind_first : (context : LiftContext) (w : SlotMap) (n : ℕ) (us vs : List UnitOf) (s : RStmt) (first : List RStmt) (test : Option UExpr) (step body : List RStmt) → s.what ≡ r.For first test step body
     → vs ≡ us ++ (lift_in first context w (n + length us)).units → HasRoom w (n + length us) (stmt_extent s) → HasRoom w (n + length vs) (both (extent step) (extent body))

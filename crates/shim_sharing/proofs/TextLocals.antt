@@ -15,8 +15,8 @@ use Rattle.shim_syntax.specs.declared.tree.Program.{Program}
 use Rattle.shim_syntax.specs.Terminals.{Terminal}
 use Rattle.shim_syntax.specs.Limits.{limits}
 use Rattle.shim_syntax.specs.Grammar as is
-use Rattle.shim_syntax.specs.Grammar.{Counts, IsExpr, IsChain, IsArguments, IsMoreArguments, IsDeclared, IsDeclarations, IsFirst, IsTest, IsStep, IsBlock, IsStmt, IsBody, IsPlain, IsBranches, IsBranch, IsParams, IsMoreParams, IsFunction, IsFunctions, Derives}
-use Rattle.shim_syntax.specs.Sizes.{sum_of}
+use Rattle.shim_syntax.specs.Grammar.{Counts, IsExpr, IsChain, IsArguments, IsMoreArguments, IsDeclared, IsDeclarations, IsFirst, IsTest, IsStep, IsBlock, IsStmt, IsBody, IsPlain, IsBranches, IsBranch, IsThrowRest, IsCatchRest, IsParams, IsMoreParams, IsFunction, IsFunctions, Derives}
+use Rattle.shim_syntax.specs.Sizes.{sum_of, variable_size}
 
 -- how many declarations there are in a statement's text
 
@@ -30,7 +30,7 @@ what_counts (What-F.If e first other) = sum_of first + sum_of other
 what_counts (What-F.While e body) = sum_of body
 what_counts (What-F.For first test step body) = sum_of first + (sum_of step + sum_of body)
 what_counts (What-F.What::Block body) = sum_of body
-what_counts (What-F.Try body x handler) = sum_of body + sum_of handler
+what_counts (What-F.Try body x y handler) = sum_of body + (variable_size y + sum_of handler)
 what_counts (What-F.Par branches) = sum_of branches
 what_counts _ = 0
 
@@ -86,9 +86,9 @@ block_locals : (body : List Stmt) → what_locals (st.Block body) ≡ locals bod
 unfolding roll-What denote.Hole.Carrier.roll
 block_locals body = at_what (What-F.What::Block body)
 
-try_locals : (body : List Stmt) (x : List ℕ) (handler : List Stmt) → what_locals (st.Try body x handler) ≡ locals body + locals handler
+try_locals : (body : List Stmt) (x : List ℕ) (y : Option (List ℕ)) (handler : List Stmt) → what_locals (st.Try body x y handler) ≡ locals body + (variable_size y + locals handler)
 unfolding roll-What denote.Hole.Carrier.roll
-try_locals body x handler = at_what (What-F.Try body x handler)
+try_locals body x y handler = at_what (What-F.Try body x y handler)
 
 par_locals : (branches : List Branch) → what_locals (st.Par branches) ≡ fork_locals branches
 unfolding roll-What denote.Hole.Carrier.roll
@@ -124,9 +124,9 @@ called_locals : (c : CallOf) → what_locals (st.Call c) ≡ 0
 unfolding roll-What denote.Hole.Carrier.roll
 called_locals c = at_what (What-F.What::Call c)
 
-throw_locals : (x : List ℕ) → what_locals (st.Throw x) ≡ 0
+throw_locals : (x : List ℕ) (a : Option Expr) → what_locals (st.Throw x a) ≡ 0
 unfolding roll-What denote.Hole.Carrier.roll
-throw_locals x = at_what (What-F.Throw x)
+throw_locals x a = at_what (What-F.Throw x a)
 
 block_branch_locals : (line : ℕ) (body : List Stmt) → branch_locals (record { line = line; what = br.Block body }) ≡ locals body
 unfolding roll-BranchWhat denote.Hole.Carrier.roll
@@ -213,6 +213,14 @@ step_locals : {l : ℕ} {v w : Counts} {s r : List Terminal} {xs : List Stmt} �
 step_locals is.no_step = nothing _ _ refl
 step_locals (is.step {x = x} {p = p} {value = value} h d) = counts _ _ _ _ (one p.line (st.Assign x value) ∙ assign_locals x value) (nothing _ _ (expr_locals d))
 
+throw_rest_locals : {l : ℕ} {v w : Counts} {s r : List Terminal} {value : Option Expr} → IsThrowRest limits l v w s r value → w.locals ≡ v.locals
+throw_rest_locals is.no_number = refl
+throw_rest_locals (is.thrown_number two d) = expr_locals d
+
+catch_locals : {v w : Counts} {s r : List Terminal} {y : Option (List ℕ)} → IsCatchRest limits v w s r y → Read (variable_size y) v.locals w.locals
+catch_locals is.no_variable = nothing _ _ refl
+catch_locals (is.catch_variable two h) = next_local _ _ h refl
+
 -- a fork whose first branch was read before the others
 fork : (line : ℕ) (b : Branch) (bs : List Branch) (m v u w : ℕ) → branch_locals b ≡ m → Read m v u → Read (fork_locals bs) u w → Read (locals (record { line = line; what = st.Par (b ∷ bs) } ∷ [])) v w
 fork line b bs m v u w e first others = counts _ _ _ _ (one line (st.Par (b ∷ bs)) ∙ par_locals (b ∷ bs) ∙ ap (λ k. k + fork_locals bs) e) (then m _ v u w first others)
@@ -252,8 +260,9 @@ mutual
       counts _ _ _ _ (one p.line (st.Call (record { function = f; args = xs })) ∙ called_locals (record { function = f; args = xs })) (nothing _ _ (arguments_locals d))
   plain_read (is.call_fork {f = f} {p = p} {xs = xs} {bs = bs} d b) =
       fork p.line (record { line = p.line; what = br.Call (record { function = f; args = xs }) }) bs 0 _ _ _ (call_branch_locals p.line (record { function = f; args = xs })) (nothing _ _ (arguments_locals d)) (branches_read b)
-  plain_read (is.try {x = x} {p = p} {xs = xs} {ys = ys} d b) = counts _ _ _ _ (one p.line (st.Try xs x ys) ∙ try_locals xs x ys) (then _ _ _ _ _ (block_read d) (block_read b))
-  plain_read (is.throw {x = x} {p = p}) = counts _ _ _ _ (one p.line (st.Throw x) ∙ throw_locals x) (nothing _ _ refl)
+  plain_read (is.try {x = x} {y = y} {p = p} {xs = xs} {ys = ys} d c b) =
+      counts _ _ _ _ (one p.line (st.Try xs x y ys) ∙ try_locals xs x y ys) (then _ _ _ _ _ (block_read d) (then _ _ _ _ _ (catch_locals c) (block_read b)))
+  plain_read (is.throw {x = x} {p = p} {value = value} d) = counts _ _ _ _ (one p.line (st.Throw x value) ∙ throw_locals x value) (nothing _ _ (throw_rest_locals d))
 
   branches_read : {l n : ℕ} {v w : Counts} {s r : List Terminal} {bs : List Branch} → IsBranches limits l n v w s r bs → Read (fork_locals bs) v.locals w.locals
   branches_read (is.last_branch {b = b} h d a) = counts _ _ _ _ (omega arith) (branch_read d)

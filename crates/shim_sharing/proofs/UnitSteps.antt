@@ -10,7 +10,7 @@ use Rattle.shim_units.specs.declared.unit.UWhat.{UWhat, UWhat-F, fold-UWhat, fol
 use Rattle.shim_units.specs.declared.unit.UWhat.TheVariants as u
 use Rattle.shim_units.specs.Numbering as numbering
 use Rattle.shim_units.specs.Numbering.{size_of, size_all}
-use Rattle.shim_units.specs.Sizes.{expr_size, option_size, unit_call_size, unit_branch_size, what_counts, what_size, stmt_size, stmts_size}
+use Rattle.shim_units.specs.Sizes.{expr_size, option_size, slot_size, unit_call_size, unit_branch_size, what_counts, what_size, stmt_size, stmts_size}
 
 -- how large a statement is, and how many numbers it takes
 pub record Measure : Type 0 where
@@ -116,14 +116,14 @@ pub at_call : (c : UCall) → measure_what (u.Call c) ≡ sized (unit_call_size 
 unfolding roll-UWhat denote.Hole.Carrier.roll
 at_call c = at_what (UWhat-F.Call c)
 
-pub at_try : (body : List UStmt) (x : ℕ) (handler : List UStmt) → measure_what (u.Try body x handler)
-    ≡ sized (suc (stmts_size body + stmts_size handler)) (1 + size_all body + size_all handler)
+pub at_try : (body : List UStmt) (x : ℕ) (y : Option ℕ) (handler : List UStmt) → measure_what (u.Try body x y handler)
+    ≡ sized (suc (stmts_size body + (slot_size y + stmts_size handler))) (1 + size_all body + size_all handler)
 unfolding roll-UWhat denote.Hole.Carrier.roll
-at_try body x handler = at_what (UWhat-F.Try body x handler)
+at_try body x y handler = at_what (UWhat-F.Try body x y handler)
 
-pub at_throw : (x : ℕ) → measure_what (u.Throw x) ≡ sized 1 1
+pub at_throw : (x : ℕ) (e : Option UExpr) → measure_what (u.Throw x e) ≡ sized (suc (option_size e)) 1
 unfolding roll-UWhat denote.Hole.Carrier.roll
-at_throw x = at_what (UWhat-F.Throw x)
+at_throw x e = at_what (UWhat-F.Throw x e)
 
 pub at_par : (branches : List UBranch) → measure_what (u.Par branches) ≡ sized (suc (sum_of (map unit_branch_size branches))) 1
 unfolding roll-UWhat denote.Hole.Carrier.roll

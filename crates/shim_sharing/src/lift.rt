@@ -10,7 +10,7 @@ use shim_base::{List, NoMemory};
 use shim_scopes::{RBranch, RBranchWhat, RStmt, RWhat};
 use shim_units::{
     LiftContext, SlotMap, UBranch, UCall, UStmt, UWhat, Unit, call_branch, close_branch, move_call,
-    move_expr, move_option, number_after, open_branch, slot_index,
+    move_expr, move_option, number_after, open_branch, slot_index, slot_index_of_option,
 };
 use std::alloc::Global;
 
@@ -131,15 +131,17 @@ fn lift_what(
             let call = move_call(alloc, context.functions, call, slot_map)?;
             Ok(UWhat::Call(call))
         }
-        RWhat::Try(body, exception, handler) => {
+        RWhat::Try(body, exception, variable, handler) => {
             let body = lift_body(alloc, context, slot_map, next, units, body.as_slice())?;
             let exception = slot_map.exceptions.index_of(*exception);
+            let variable = slot_index_of_option(slots, variable);
             let handler = lift_body(alloc, context, slot_map, next, units, handler.as_slice())?;
-            Ok(UWhat::Try(body, exception, handler))
+            Ok(UWhat::Try(body, exception, variable, handler))
         }
-        RWhat::Throw(exception) => {
+        RWhat::Throw(exception, expr) => {
             let exception = slot_map.exceptions.index_of(*exception);
-            Ok(UWhat::Throw(exception))
+            let expr = move_option(alloc, slots, expr)?;
+            Ok(UWhat::Throw(exception, expr))
         }
         RWhat::Par(branches) => {
             let branches = lift_branches(

@@ -66,7 +66,7 @@ fn find_in_stmt(
         },
         RWhat::Block(body) => Ok(find_offence(alloc, functions, sorts, body.as_slice())?),
         RWhat::Call(call) => Ok(find_alias(alloc, functions, call, stmt.line)?),
-        RWhat::Try(body, _, handler) => match find_offence(
+        RWhat::Try(body, _, _, handler) => match find_offence(
             alloc,
             functions,
             sorts,

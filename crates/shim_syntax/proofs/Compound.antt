@@ -1,5 +1,5 @@
 -- The statements with other statements in them, each read from its own pieces once its parts are.
-use Rattle.std.proofs.Common.{ℕ, suc, ◌≤◌, ◌≡◌, true, false, List, [], ◌∷◌, ◌++◌, map, Option, refl, sym, ap, ◌∙◌, arith}
+use Rattle.std.proofs.Common.{ℕ, suc, ◌≤◌, ◌≡◌, true, false, List, [], ◌∷◌, ◌++◌, map, Option, Some, None, refl, sym, ap, ◌∙◌, arith}
 use Rattle.std.proofs.lemmas.List.{append_assoc}
 use Rattle.shim_base.specs.declared.Keyword.TheVariants as kw
 use Rattle.shim_base.specs.declared.Sign.TheVariants as g
@@ -11,14 +11,14 @@ use Rattle.shim_syntax.specs.declared.tree.Branch.{Branch}
 use Rattle.shim_syntax.specs.declared.tree.BranchWhat.TheVariants as br
 use Rattle.shim_syntax.specs.Terminals.{Terminal, Name, Key, Sign, first}
 use Rattle.shim_syntax.specs.Limits.{limits}
-use Rattle.shim_syntax.specs.Grammar.{Counts, at_level, new_body, behind_body, as_branch, is_par, is_else, IsWhole, IsArguments, IsBranches, IsFirst, IsTest, IsStep}
+use Rattle.shim_syntax.specs.Grammar.{Counts, at_level, new_body, behind_body, as_branch, is_par, is_else, IsWhole, IsArguments, IsBranches, IsFirst, IsTest, IsStep, IsCatchRest}
 use Rattle.shim_syntax.specs.Grammar as gr
-use Rattle.shim_syntax.specs.Printing.{Piece, stmt_shown, branch_pieces, all_pieces, part_pieces, block_pieces, else_pieces, fork_pieces, call_pieces, key, sign, name, last, expr_pieces, args_pieces, test_pieces}
+use Rattle.shim_syntax.specs.Printing.{Piece, stmt_shown, branch_pieces, all_pieces, part_pieces, block_pieces, else_pieces, fork_pieces, call_pieces, key, sign, name, last, expr_pieces, args_pieces, test_pieces, variable_pieces}
 use Rattle.shim_syntax.proofs.Expressions.{IsAlike}
 use Rattle.shim_syntax.proofs.StatementShapes.{AreSameBranches, branch_without_lines, other_branch_line, if_shown, while_shown, for_shown, block_shown, try_shown, par_shown, block_branch_pieces, call_branch_pieces, same_if, same_while, same_for, same_block, same_try, same_par, same_block_branch}
-use Rattle.shim_syntax.proofs.Parts.{IsPart, Both, both, IsPiece, here, front_name, front_key, front_sign, front_last, mapped, same_pieces, inner, Whole, whole_part, Arguments, args_part}
+use Rattle.shim_syntax.proofs.Parts.{Reading, IsPart, Both, both, IsPiece, here, front_name, front_key, front_sign, front_last, mapped, same_pieces, inner, Whole, whole_part, Arguments, args_part}
 use Rattle.shim_syntax.proofs.Readings.{One, Block, Body, OneBranch, Branches, IsStmtsPart, IsBlockPart, IsBodyPart, IsBranchPart, behind_par, AreBranchesPart, append_nothing, InBody, in_body, body_of_own, behind_terminal, with_idle, ended_pieces, one_stmt, stmt_at}
-use Rattle.shim_syntax.proofs.Simple.{First, Step, Test, first_part, test_part, step_part}
+use Rattle.shim_syntax.proofs.Simple.{First, Step, Test, IsLocal, local, local_part, where_two, first_part, test_part, step_part}
 
 -- a block as a statement
 pub block_stmt : {l : ℕ} {v w : Counts} {p : Place} {s r : List Terminal} (line : ℕ) (xs : List Stmt) → l ≤ v.deepest → IsBlockPart (suc l) v w s r xs →
@@ -120,23 +120,44 @@ for_stmt {x = x} line xs ys zs some first_h test_h step_h part =
             gr.plain (gr.for_loop is_first is_test is_step (body no_par)),
       )
 
-pub try_stmt : {l : ℕ} {v u w : Counts} {p q o c b d i : Place} {s m r : List Terminal} {x : List ℕ} (line : ℕ) (xs ys : List Stmt) → l ≤ v.deepest →
-    IsBlockPart (suc l) v u s (Key kw.Catch o ∷ Sign g.LeftParen c ∷ Name x b ∷ Sign g.RightParen d ∷ Sign g.LeftBrace i ∷ m) xs → IsBlockPart (suc l) u w m r ys →
-    IsStmtsPart l v w (Key kw.Try p ∷ Sign g.LeftBrace q ∷ s) r (record { line = line; what = st.Try xs x ys } ∷ [])
-try_stmt {b = e} {x = x} line xs ys some part handler =
-    one_stmt (record { line = line; what = st.Try xs x ys }) some
+-- what stands behind the exception of a `catch`, with the handler's left brace
+abbrev CatchRest : Option (List ℕ) → Reading
+CatchRest y k a b t q = IsCatchRest limits a b t q y
+
+catch_rest_part : {l : ℕ} {v w : Counts} {s r : List Terminal} {y : Option (List ℕ)} → IsCatchRest limits v w s r y →
+    IsPart l v w s r (variable_pieces y ++ sign g.RightParen ∷ last g.LeftBrace ∷ []) (CatchRest y)
+catch_rest_part gr.no_variable = mapped build (both (front_sign g.RightParen) (front_last g.LeftBrace)) where
+  build : (k : ℕ) (a b : Counts) (t q : List Terminal) → Both (IsPiece (sign g.RightParen)) (IsPiece (last g.LeftBrace)) k a b t q → CatchRest None k a b t q
+  build k a _ _ q (_, _, here i, here j) = gr.no_variable
+catch_rest_part (gr.catch_variable {x = x} {p = p} two fits) =
+    mapped build (where_two two (both (local_part x p fits) (both (front_sign g.RightParen) (front_last g.LeftBrace)))) where
+      build : (k : ℕ) (a b : Counts) (t q : List Terminal) → (a.two ≡ true) × Both (IsLocal x) (Both (IsPiece (sign g.RightParen)) (IsPiece (last g.LeftBrace))) k a b t q →
+          CatchRest (Some x) k a b t q
+      build k a _ _ q (seen, (_, _, local i few, (_, _, here j, here n))) = gr.catch_variable seen few
+
+-- the pieces of a handler with those of its head
+handler_pieces : (y : Option (List ℕ)) (body : List Piece) → (variable_pieces y ++ sign g.RightParen ∷ last g.LeftBrace ∷ []) ++ body ≡ variable_pieces y ++ sign g.RightParen ∷ last g.LeftBrace ∷ body
+handler_pieces y body = append_assoc (variable_pieces y) (sign g.RightParen ∷ last g.LeftBrace ∷ []) body
+
+pub try_stmt : {l : ℕ} {v u t w : Counts} {p q o c b : Place} {s i m r : List Terminal} {x : List ℕ} {y : Option (List ℕ)} (line : ℕ) (xs ys : List Stmt) → l ≤ v.deepest →
+    IsBlockPart (suc l) v u s (Key kw.Catch o ∷ Sign g.LeftParen c ∷ Name x b ∷ i) xs → IsCatchRest limits u t i m y → IsBlockPart (suc l) t w m r ys →
+    IsStmtsPart l v w (Key kw.Try p ∷ Sign g.LeftBrace q ∷ s) r (record { line = line; what = st.Try xs x y ys } ∷ [])
+try_stmt {b = e} {x = x} {y = y} line xs ys some part is_catch handler =
+    one_stmt (record { line = line; what = st.Try xs x y ys }) some
     (same_pieces
-    (ended_pieces (record { line = line; what = st.Try xs x ys })
-    (key kw.Try ∷ (block_pieces (map stmt_shown xs) ++ key kw.Catch ∷ sign g.LeftParen ∷ name x ∷ sign g.RightParen ∷ block_pieces (map stmt_shown ys))) (try_shown line xs x ys))
+    (ap (λ (ps : List Piece). key kw.Try ∷ last g.LeftBrace ∷ ((all_pieces (map stmt_shown xs) ++ last g.RightBrace ∷ []) ++ key kw.Catch ∷ sign g.LeftParen ∷ name x ∷ ps))
+    (handler_pieces y (all_pieces (map stmt_shown ys) ++ last g.RightBrace ∷ []))
+    ∙ ended_pieces (record { line = line; what = st.Try xs x y ys })
+    (key kw.Try ∷ (block_pieces (map stmt_shown xs) ++ key kw.Catch ∷ sign g.LeftParen ∷ name x ∷ (variable_pieces y ++ sign g.RightParen ∷ block_pieces (map stmt_shown ys)))) (try_shown line xs x y ys))
     (mapped build
     (both (front_key kw.Try) (both (front_last g.LeftBrace) (both (inner part) (both (front_key kw.Catch)
-    (both (front_sign g.LeftParen) (both (front_name x e) (both (front_sign g.RightParen) (both (front_last g.LeftBrace) (inner handler))))))))))) where
+    (both (front_sign g.LeftParen) (both (front_name x e) (both (catch_rest_part is_catch) (inner handler)))))))))) where
       build : (k : ℕ) (a b : Counts) (t q : List Terminal) →
           Both (IsPiece (key kw.Try)) (Both (IsPiece (last g.LeftBrace)) (Both (λ n. Block xs (suc n)) (Both (IsPiece (key kw.Catch)) (Both (IsPiece (sign g.LeftParen))
-          (Both (IsPiece (name x)) (Both (IsPiece (sign g.RightParen)) (Both (IsPiece (last g.LeftBrace)) (λ n. Block ys (suc n))))))))) k a b t q →
-          One (record { line = line; what = st.Try xs x ys }) k a b t q
-      build k a b _ q (_, _, here i, (_, _, here j, (_, _, (us, us_same, block), (_, _, here n, (_, _, here e, (_, _, here f, (_, _, here h, (_, _, here z, (vs, vs_same, second))))))))) =
-          (record { line = i.line; what = st.Try us x vs }, same_try i.line line xs us x ys vs us_same vs_same, λ no_par no_else. gr.plain (gr.try block second))
+          (Both (IsPiece (name x)) (Both (CatchRest y) (λ n. Block ys (suc n)))))))) k a b t q →
+          One (record { line = line; what = st.Try xs x y ys }) k a b t q
+      build k a b _ q (_, _, here i, (_, _, here j, (_, _, (us, us_same, block), (_, _, here n, (_, _, here e, (_, _, here f, (_, _, rest, (vs, vs_same, second)))))))) =
+          (record { line = i.line; what = st.Try us x y vs }, same_try i.line line xs us x y ys vs us_same vs_same, λ no_par no_else. gr.plain (gr.try block rest second))
 
 -- the same first branch, and the same ones behind it
 same_branches : (b c : Branch) (bs cs : List Branch) → branch_without_lines c ≡ branch_without_lines b → AreSameBranches cs bs → AreSameBranches (c ∷ cs) (b ∷ bs)

@@ -12,7 +12,7 @@ use Rattle.shim_syntax.specs.declared.tree.Stmt.{Stmt, Stmt-F, fold-roll-Stmt, i
 use Rattle.shim_syntax.specs.declared.tree.What.{What, What-F, fold-What, fold-roll-What, map-What, roll-What}
 use Rattle.shim_syntax.specs.declared.tree.Branch.{Branch, Branch-F, fold-roll-Branch, map-Branch, roll-Branch}
 use Rattle.shim_syntax.specs.declared.tree.BranchWhat.{BranchWhat, BranchWhat-F, fold-BranchWhat, fold-roll-BranchWhat, map-BranchWhat, roll-BranchWhat}
-use Rattle.shim_syntax.specs.Names.{Texts, Adds, unless_there, with_name, in_turn, expr_step, with_expr, with_exprs, with_option, with_call, branch_names, what_names, with_stmt, with_branch, with_stmts, with_texts, with_params, with_function, with_functions}
+use Rattle.shim_syntax.specs.Names.{Texts, Adds, unless_there, with_name, in_turn, expr_step, with_expr, with_exprs, with_option, with_variable, with_call, branch_names, what_names, with_stmt, with_branch, with_stmts, with_texts, with_params, with_function, with_functions}
 use Rattle.shim_syntax.specs.Distinct.{IsNew, AreDistinct}
 
 abbrev Keeps : Adds → Type 0
@@ -71,6 +71,10 @@ exprs_kept (e ∷ es) known d = exprs_kept es (with_expr e known) (expr_kept e k
 option_kept : (e : Option Expr) → Keeps (with_option e)
 option_kept None known d = d
 option_kept (Some e) known d = expr_kept e known d
+
+variable_kept : (y : Option (List ℕ)) → Keeps (with_variable y)
+variable_kept None known d = d
+variable_kept (Some x) known d = name_kept x known d
 
 call_kept : (c : Call) → Keeps (with_call c)
 call_kept c known d = exprs_kept c.args (with_name c.function known) (name_kept c.function known d)
@@ -133,8 +137,8 @@ what_layer (What-F.While e body) known d = stmts_in_turn body _ (expr_kept e kno
 what_layer (What-F.For first test step body) known d = stmts_in_turn body _ (stmts_in_turn step _ (option_kept test _ (stmts_in_turn first known d)))
 what_layer (What-F.What::Block body) known d = stmts_in_turn body known d
 what_layer (What-F.What::Call c) known d = call_kept c known d
-what_layer (What-F.Try body x handler) known d = stmts_in_turn handler _ (name_kept x _ (stmts_in_turn body known d))
-what_layer (What-F.Throw x) known d = name_kept x known d
+what_layer (What-F.Try body x y handler) known d = stmts_in_turn handler _ (variable_kept y _ (name_kept x _ (stmts_in_turn body known d)))
+what_layer (What-F.Throw x e) known d = option_kept e _ (name_kept x known d)
 what_layer (What-F.Par branches) known d = branches_in_turn branches known d
 
 stmt_kept : (s : Stmt) → Keeps (with_stmt s)

@@ -21,9 +21,9 @@ use Rattle.shim_syntax.proofs.Pieces.{AreTokens}
 use Rattle.shim_syntax.proofs.Standing.{Stand, nothing, piece, split, tokens_of_both, AreGood}
 use Rattle.shim_syntax.proofs.Shapes.{number_shown, variable_shown, unary_shown, binary_shown, both_pieces, operator_is, sign_spells}
 
--- the same number of operators and of declarations; the deepest level is left open
+-- the same number of operators and of declarations in the same version; the deepest level is left open
 abbrev pub IsAlike : Counts → Counts → Type 0
-IsAlike v a = (a.operators ≡ v.operators) × (a.locals ≡ v.locals)
+IsAlike v a = (a.operators ≡ v.operators) × (a.locals ≡ v.locals) × (a.two ≡ v.two)
 
 -- x is read in the row n at the level k; a is counted before it, and behind it as much as in w
 pub record IsRead (n k : ℕ) (w a : Counts) (s r : List Terminal) (x : Expr) : Type 0 where
@@ -197,7 +197,7 @@ unary_kept o l v w p s r x makes count fits kept = record {
   read : IsReadFrom (record { row = 0; pieces = sign (sign_of_unary o) ∷ wrapped (nat_lt 0 (expr_row x)) (expr_pieces x) }) l v w (e.Unary o x)
   read k a _ r room alike (piece q h) =
       let deeper = kept.deeper in
-      let inner = operand 0 (suc l) (at_level (suc l) (with_operator v)) w _ _ x kept (suc k) (at_level (suc k) (with_operator a)) _ r (omega (arith, room)) (ap suc alike.0, alike.1) h in
+      let inner = operand 0 (suc l) (at_level (suc l) (with_operator v)) w _ _ x kept (suc k) (at_level (suc k) (with_operator a)) _ r (omega (arith, room)) (ap suc alike.0, alike.1, alike.2) h in
       record {
         behind = inner.behind;
         alike = inner.alike;
@@ -247,7 +247,7 @@ binary_kept n l b v u o p t s m x z is count left right = record {
   behind_left k a s2 r2 room alike (_, first, piece q second) =
       let deeper = right.deeper in
       let one = operand (suc n) l b v t (Sign o p ∷ s) x left k a s2 _ (omega (arith, room, deeper)) alike first in
-      let two = operand n l (with_operator v) u s m z right k (with_operator one.behind) _ r2 room (ap suc one.alike.0, one.alike.1) second in
+      let two = operand n l (with_operator v) u s m z right k (with_operator one.behind) _ r2 room (ap suc one.alike.0, one.alike.1, one.alike.2) second in
       record { behind = two.behind; alike = two.alike; is = joined one.is is (count_is v.operators one.behind.operators one.alike.0 count) two.is }
 
   read : IsReadFrom (record { row = suc n; pieces = both_pieces (suc n) o (nat_lt n (expr_row z)) x z }) l b u (e.Binary (operator_of_sign o) x z)

@@ -1,5 +1,5 @@
 -- The list of names takes in the identifiers of the text, one after another.
-use Rattle.std.proofs.Common.{◌≡◌, ◌∙◌, List, [], ◌∷◌, ◌++◌, Option, Some, None, map, refl, sym, ap, subst}
+use Rattle.std.proofs.Common.{ℕ, ◌≡◌, ◌∙◌, List, [], ◌∷◌, ◌++◌, Option, Some, None, map, refl, sym, ap, subst}
 use Rattle.shim_syntax.specs.declared.tree.Expr.{Expr, Expr-F, fold-roll-Expr, ind-Expr, map-Expr, roll-Expr}
 use Rattle.shim_syntax.specs.declared.tree.Call.{Call}
 use Rattle.shim_syntax.specs.declared.tree.Param.{Param}
@@ -8,8 +8,8 @@ use Rattle.shim_syntax.specs.declared.tree.Stmt.{Stmt, Stmt-F, fold-roll-Stmt, i
 use Rattle.shim_syntax.specs.declared.tree.What.{What, What-F, fold-What, fold-roll-What, map-What, roll-What}
 use Rattle.shim_syntax.specs.declared.tree.Branch.{Branch, Branch-F, fold-Branch, fold-roll-Branch, map-Branch, roll-Branch}
 use Rattle.shim_syntax.specs.declared.tree.BranchWhat.{BranchWhat, BranchWhat-F, fold-BranchWhat, fold-roll-BranchWhat, map-BranchWhat, roll-BranchWhat}
-use Rattle.shim_syntax.specs.Names.{Texts, Adds, with_name, in_turn, expr_step, with_expr, with_exprs, with_option, with_call, branch_names, what_names, with_stmt, with_branch, with_stmts, with_texts, param_names, with_params, with_function, with_functions}
-use Rattle.shim_syntax.specs.Occurrences.{joined, expr_occurs, in_expr, in_exprs, in_option, in_call, branch_occurs, what_occurs, in_stmt, in_function, identifiers}
+use Rattle.shim_syntax.specs.Names.{Texts, Adds, with_name, in_turn, expr_step, with_expr, with_exprs, with_option, with_variable, with_call, branch_names, what_names, with_stmt, with_branch, with_stmts, with_texts, param_names, with_params, with_function, with_functions}
+use Rattle.shim_syntax.specs.Occurrences.{joined, expr_occurs, in_expr, in_exprs, in_option, in_variable, in_call, branch_occurs, what_occurs, in_stmt, in_function, identifiers}
 
 -- the list changes as by these names one after another
 abbrev Takes : Adds → Texts → Type 0
@@ -54,6 +54,10 @@ exprs_taken (e ∷ es) known = one_then (with_expr e) (with_exprs es) (in_expr e
 option_taken : (e : Option Expr) → Takes (with_option e) (in_option e)
 option_taken None known = refl
 option_taken (Some e) known = expr_taken e known
+
+variable_taken : (y : Option (List ℕ)) → Takes (with_variable y) (in_variable y)
+variable_taken None known = refl
+variable_taken (Some x) known = refl
 
 call_taken : (c : Call) → Takes (with_call c) (in_call c)
 call_taken c known = exprs_taken c.args (with_name c.function known)
@@ -144,9 +148,10 @@ what_layer (What-F.For first test step body) known =
     (one_then (turn step) (turn body) (texts step) (texts body) (stmts_in_turn step) (stmts_in_turn body))) known
 what_layer (What-F.What::Block body) known = stmts_in_turn body known
 what_layer (What-F.What::Call c) known = call_taken c known
-what_layer (What-F.Try body x handler) known =
-    one_then (turn body) (λ k. turn handler (with_name x k)) (texts body) (x ∷ texts handler) (stmts_in_turn body) (λ k. stmts_in_turn handler (with_name x k)) known
-what_layer (What-F.Throw x) known = refl
+what_layer (What-F.Try body x y handler) known =
+    one_then (turn body) (λ k. turn handler (with_variable y (with_name x k))) (texts body) (x ∷ (in_variable y ++ texts handler)) (stmts_in_turn body)
+    (λ k. one_then (with_variable y) (turn handler) (in_variable y) (texts handler) (variable_taken y) (stmts_in_turn handler) (with_name x k)) known
+what_layer (What-F.Throw x e) known = option_taken e (with_name x known)
 what_layer (What-F.Par bs) known = branches_in_turn bs known
 
 stmt_taken : (s : Stmt) → Takes (with_stmt s) (in_stmt s)

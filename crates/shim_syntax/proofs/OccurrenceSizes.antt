@@ -12,8 +12,8 @@ use Rattle.shim_syntax.specs.declared.tree.What.{What, What-F, fold-What, fold-r
 use Rattle.shim_syntax.specs.declared.tree.Branch.{Branch, Branch-F, fold-Branch, fold-roll-Branch, map-Branch, roll-Branch}
 use Rattle.shim_syntax.specs.declared.tree.BranchWhat.{BranchWhat, BranchWhat-F, fold-BranchWhat, fold-roll-BranchWhat, map-BranchWhat, roll-BranchWhat}
 use Rattle.shim_syntax.specs.Names.{Texts, with_name, unless_there, with_texts, with_functions, param_names}
-use Rattle.shim_syntax.specs.Occurrences.{joined, expr_occurs, in_expr, in_exprs, in_option, in_call, branch_occurs, what_occurs, in_stmt, in_function, identifiers}
-use Rattle.shim_syntax.specs.Sizes.{sum_of, expr_counts, expr_size, exprs_size, option_size, call_size, branch_counts, what_counts, what_size, stmt_size, branch_size, stmts_size, function_size, functions_size}
+use Rattle.shim_syntax.specs.Occurrences.{joined, expr_occurs, in_expr, in_exprs, in_option, in_variable, in_call, branch_occurs, what_occurs, in_stmt, in_function, identifiers}
+use Rattle.shim_syntax.specs.Sizes.{sum_of, expr_counts, expr_size, exprs_size, option_size, variable_size, call_size, branch_counts, what_counts, what_size, stmt_size, branch_size, stmts_size, function_size, functions_size}
 use Rattle.shim_syntax.proofs.SizeSteps.{branch_what_size, of_branch, at_branch, of_stmt, at_what}
 use Rattle.shim_syntax.proofs.OccurrenceLemmas.{names_are_the_identifiers}
 
@@ -50,6 +50,10 @@ exprs_few (e ∷ es) = joined_few (in_expr e) (in_exprs es) _ _ (expr_few e) (ex
 option_few : (e : Option Expr) → length (in_option e) ≤ option_size e
 option_few None = omega arith
 option_few (Some e) = expr_few e
+
+variable_few : (y : Option (List ℕ)) → length (in_variable y) ≤ variable_size y
+variable_few None = omega arith
+variable_few (Some x) = omega arith
 
 call_few : (c : Call) → length (in_call c) ≤ call_size c
 call_few c = omega (arith, exprs_few c.args)
@@ -132,8 +136,9 @@ what_layer (What-F.For first test step body) =
     )
 what_layer (What-F.What::Block body) = omega (arith, stmts_few body)
 what_layer (What-F.What::Call c) = call_few c
-what_layer (What-F.Try body x handler) = omega (arith, length-append (texts body) (x ∷ texts handler), stmts_few body, stmts_few handler)
-what_layer (What-F.Throw x) = omega arith
+what_layer (What-F.Try body x y handler) =
+    omega (arith, length-append (texts body) (x ∷ (in_variable y ++ texts handler)), stmts_few body, joined_few (in_variable y) (texts handler) _ _ (variable_few y) (stmts_few handler))
+what_layer (What-F.Throw x e) = omega (arith, option_few e)
 what_layer (What-F.Par bs) = omega (arith, branches_few bs)
 
 stmt_few : (s : Stmt) → length (in_stmt s) ≤ stmt_size s

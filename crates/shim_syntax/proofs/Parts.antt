@@ -196,7 +196,7 @@ whole_part {l = l} {v = v} {w = w} {s = s} {r = r} {x = x} h =
       within = kept.within;
       spelled = kept.spelled;
       read = λ k a t q room alike stand.
-          let read = kept.bare k (new_expression a) t q room (refl, alike.1) stand in
+          let read = kept.bare k (new_expression a) t q room (refl, alike.1, alike.2) stand in
           record { behind = read.behind; alike = read.alike; is = looser 10 (expr_row x) k (new_expression a) read.behind t q x kept.row_most read.is };
     }
 

@@ -16,7 +16,7 @@ use Rattle.std.proofs.lemmas.Int.{ints}
 use Rattle.shim_base.specs.declared.TokenKind.TheVariants.{Word, Number as NumberKind}
 use Rattle.shim_syntax.specs.Terminals.{Terminal, Name, Sort, End, of_tokens, of_end, of_version, in_version, begins_two}
 use Rattle.shim_syntax.specs.Limits.{Count, is_within, limits}
-use Rattle.shim_syntax.specs.Grammar.{Counts, nothing_read, new_function, is_stream, IsParam, IsParams, IsMoreParams, IsThrows, IsMoreThrows, IsFunction, IsFunctions, Derives}
+use Rattle.shim_syntax.specs.Grammar.{Counts, nothing_read, in_version_2, new_function, is_stream, IsParam, IsParams, IsMoreParams, IsThrows, IsMoreThrows, IsFunction, IsFunctions, Derives}
 use Rattle.shim_syntax.specs.Grammar as gr
 use Rattle.shim_syntax.specs.Text.{IsText}
 use Rattle.shim_syntax.specs.Printing.{Piece, piece_text, text_of, key, sign, name, two, last, sort_piece, stmt_shown, all_pieces, param_pieces, params_pieces, more_params_pieces, throws_pieces, more_throws_pieces, function_pieces, functions_pieces, pieces, canonical}
@@ -153,25 +153,25 @@ record AreFunctionsRead (n : ℕ) (a : Counts) (t : List Terminal) (fs : List Fu
 
 record AreKept (n : ℕ) (v : Counts) (s : List Terminal) (fs : List Function) : Type 0 where
   spelled : (ver : Bool) → AreGood ver s → AreTokens ver (functions_pieces fs)
-  read : (a : Counts) (t : List Terminal) (p : Place) → a.operators ≡ v.operators → Stand (functions_pieces fs) t (End p ∷ []) → AreFunctionsRead n a t fs
+  read : (a : Counts) (t : List Terminal) (p : Place) → a.operators ≡ v.operators → a.two ≡ v.two → Stand (functions_pieces fs) t (End p ∷ []) → AreFunctionsRead n a t fs
 
 none_kept : (n : ℕ) (v : Counts) (s : List Terminal) → AreKept n v s []
 none_kept n v s = record { spelled = λ ver good. tt; read = read } where
-  read : (a : Counts) (t : List Terminal) (p : Place) → a.operators ≡ v.operators → Stand [] t (End p ∷ []) → AreFunctionsRead n a t []
-  read a _ p same nothing = record { read = []; same = refl; are = gr.program_end }
+  read : (a : Counts) (t : List Terminal) (p : Place) → a.operators ≡ v.operators → a.two ≡ v.two → Stand [] t (End p ∷ []) → AreFunctionsRead n a t []
+  read a _ p same version nothing = record { read = []; same = refl; are = gr.program_end }
 
 one_kept : (n : ℕ) (v w : Counts) (s m : List Terminal) (f : Function) (fs : List Function) → is_within (Count ManyFunctions) (suc n) ≡ true → w.deepest ≤ 64 →
     IsPart 1 (new_function v) w s m (function_pieces f) (Parts f) → AreKept (suc n) w m fs → AreKept n v s (f ∷ fs)
-one_kept n v w s m f fs fits deep part more = record { spelled = spelled; read = λ a t p same stand. by_parts a t p same (split (function_pieces f) (functions_pieces fs) t (End p ∷ []) stand) } where
+one_kept n v w s m f fs fits deep part more = record { spelled = spelled; read = λ a t p same version stand. by_parts a t p same version (split (function_pieces f) (functions_pieces fs) t (End p ∷ []) stand) } where
   spelled : (ver : Bool) → AreGood ver s → AreTokens ver (functions_pieces (f ∷ fs))
   spelled ver good = let one = part.spelled ver good in tokens_of_both ver (function_pieces f) (functions_pieces fs) one.0 (more.spelled ver one.1)
 
-  by_parts : (a : Counts) (t : List Terminal) (p : Place) → a.operators ≡ v.operators → (q : List Terminal) × Stand (function_pieces f) t q × Stand (functions_pieces fs) q (End p ∷ []) →
+  by_parts : (a : Counts) (t : List Terminal) (p : Place) → a.operators ≡ v.operators → a.two ≡ v.two → (q : List Terminal) × Stand (function_pieces f) t q × Stand (functions_pieces fs) q (End p ∷ []) →
       AreFunctionsRead n a t (f ∷ fs)
-  by_parts a t p same (q, one, rest) =
-      let done = part.read 1 (new_function a) t q (omega (arith, deep)) (same, refl) one in
+  by_parts a t p same version (q, one, rest) =
+      let done = part.read 1 (new_function a) t q (omega (arith, deep)) (same, refl, version) one in
       let first = function_read a done.behind t q f done.is in
-      let others = more.read done.behind q p done.alike.0 rest in
+      let others = more.read done.behind q p done.alike.0 done.alike.2 rest in
       record {
         read = first.read ∷ others.read;
         same = ap (λ (x : Function). x ∷ map function_without_lines others.read) first.same ∙ ap (λ (l : List Function). function_without_lines f ∷ l) others.same;
@@ -234,16 +234,16 @@ canonical_by ver ts _ header good (gr.version_1 {fs = fs} h) =
     let end = after start (canonical program) in
     let one : ver ≡ false = sym header ∙ no_header 0 nothing_read ts [] fs h in
     let are = subst (λ b. AreTokens b (functions_pieces fs)) one (kept.spelled ver good) in
-    let read = kept.read nothing_read (map (of_version false) (of_tokens (tokens_of start (functions_pieces fs)) (End end))) end refl (pieces_stand false start (functions_pieces fs) (End end) refl are) in
+    let read = kept.read nothing_read (map (of_version false) (of_tokens (tokens_of start (functions_pieces fs)) (End end))) end refl refl (pieces_stand false start (functions_pieces fs) (End end) refl are) in
     is_shown false program read.read are (no_header_shown start end fs) (gr.version_1 read.are) read.same
 canonical_by ver _ _ header good (gr.version_2 {x = x} {y = y} {s = s} {fs = fs} shim two_is h) =
     let program : Program = record { version = 2; functions = fs } in
-    let kept = functions_kept 0 nothing_read s [] fs (omega arith) h in
+    let kept = functions_kept 0 (in_version_2 nothing_read) s [] fs (omega arith) h in
     let end = after start (canonical program) in
     let one : ver ≡ true = sym header ∙ (rw (shim, two_is) refl) in
     let are = subst (λ b. AreTokens b (functions_pieces fs)) one (kept.spelled ver good.1.1.1) in
     let place = behind_piece (behind_piece (behind_piece start (name (codes "shim"))) two) (last g.Semicolon) in
-    let read = kept.read nothing_read (map (of_version true) (of_tokens (tokens_of place (functions_pieces fs)) (End end))) end refl (pieces_stand true place (functions_pieces fs) (End end) refl are) in
+    let read = kept.read (in_version_2 nothing_read) (map (of_version true) (of_tokens (tokens_of place (functions_pieces fs)) (End end))) end refl refl (pieces_stand true place (functions_pieces fs) (End end) refl are) in
     is_shown true program read.read (header_spells, omega arith, (λ p. refl), (two_spells, omega (arith, ints), (λ p. refl), (sign_spells g.Semicolon, tt, (λ p. refl), are))) refl (gr.version_2 refl refl read.are) read.same
 
 -- the canonical text of a text's program is a text of the same program but for lines

@@ -83,8 +83,8 @@ plain_begins (gr.while _ _) = (refl, refl)
 plain_begins (gr.for_loop _ _ _ _) = (refl, refl)
 plain_begins (gr.call _ _) = (refl, refl)
 plain_begins (gr.call_fork _ _) = (refl, refl)
-plain_begins (gr.try _ _) = (refl, refl)
-plain_begins gr.throw = (refl, refl)
+plain_begins (gr.try _ _ _) = (refl, refl)
+plain_begins (gr.throw _) = (refl, refl)
 
 stmt_begins : {l : ℕ} {v w : Counts} {s r : List Terminal} {xs : List Stmt} → IsStmt limits l v w s r xs → (is_par (first s) ≡ false) × (is_else (first s) ≡ false)
 stmt_begins (gr.block _ _) = (refl, refl)
@@ -120,7 +120,7 @@ with_idle one two alike = record {
   read = λ k a t q room start stand.
       let deeper = two.deeper in
       let done = one.read k a t q (omega (arith, room, deeper)) start stand in
-      record { behind = done.behind; alike = (done.alike.0 ∙ sym alike.0, done.alike.1 ∙ sym alike.1); is = done.is };
+      record { behind = done.behind; alike = (done.alike.0 ∙ sym alike.0, done.alike.1 ∙ sym alike.1, done.alike.2 ∙ sym alike.2); is = done.is };
 }
 
 -- the pieces of a statement with its semicolon

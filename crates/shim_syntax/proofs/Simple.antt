@@ -14,9 +14,9 @@ use Rattle.shim_syntax.specs.declared.tree.Stmt.{Stmt}
 use Rattle.shim_syntax.specs.declared.tree.What.TheVariants as st
 use Rattle.shim_syntax.specs.Terminals.{Terminal, Name, Sort, Key, Sign}
 use Rattle.shim_syntax.specs.Limits.{Count, Nesting, is_within, limits}
-use Rattle.shim_syntax.specs.Grammar.{Counts, at_level, with_local, IsWhole, IsArguments, IsDeclared, IsDeclarations, IsFirst, IsTest, IsStep}
+use Rattle.shim_syntax.specs.Grammar.{Counts, at_level, with_local, IsWhole, IsArguments, IsDeclared, IsDeclarations, IsFirst, IsTest, IsStep, IsThrowRest}
 use Rattle.shim_syntax.specs.Grammar as gr
-use Rattle.shim_syntax.specs.Printing.{Piece, StmtShown, stmt_shown, simple, key, sign, name, last, type_piece, sort_piece, expr_pieces, args_pieces, first_value_pieces, test_pieces, part_pieces}
+use Rattle.shim_syntax.specs.Printing.{Piece, StmtShown, stmt_shown, simple, key, sign, name, last, type_piece, sort_piece, expr_pieces, args_pieces, first_value_pieces, test_pieces, thrown_number_pieces, part_pieces}
 use Rattle.shim_syntax.proofs.Standing.{Stand, nothing, piece}
 use Rattle.shim_syntax.proofs.Expressions.{IsAlike, level_of}
 use Rattle.shim_syntax.proofs.StatementShapes.{AreSame, other_line, declare_shown, assign_shown, next_shown, next_assign_shown, assign_next_shown, get_shown, put_shown, call_shown, throw_shown}
@@ -43,10 +43,10 @@ sort_read Input k a _ _ q (here place) = is_sort place
 sort_read Output k a _ _ q (here place) = is_sort place
 
 -- a name that is declared
-data IsLocal (x : List ℕ) : ℕ → Counts → Counts → List Terminal → List Terminal → Type 0 where
+pub data IsLocal (x : List ℕ) : ℕ → Counts → Counts → List Terminal → List Terminal → Type 0 where
   local : {k : ℕ} {a : Counts} {q : List Terminal} (place : Place) → is_within (Count Locals) (suc a.locals) ≡ true → IsLocal x k a (with_local a) (Name x place ∷ q) q
 
-local_part : {l : ℕ} {v : Counts} {r : List Terminal} (x : List ℕ) (p : Place) → is_within (Count Locals) (suc v.locals) ≡ true → IsPart l v (with_local v) (Name x p ∷ r) r (name x ∷ []) (IsLocal x)
+pub local_part : {l : ℕ} {v : Counts} {r : List Terminal} (x : List ℕ) (p : Place) → is_within (Count Locals) (suc v.locals) ≡ true → IsPart l v (with_local v) (Name x p ∷ r) r (name x ∷ []) (IsLocal x)
 local_part {l = l} {v = v} x p fits = record {
   deeper = omega arith;
   within = λ h. h;
@@ -56,7 +56,7 @@ local_part {l = l} {v = v} x p fits = record {
   read : (k : ℕ) (a : Counts) (t q : List Terminal) → k + v.deepest ≤ l + 64 → IsAlike v a → Stand (name x ∷ []) t q → IsDone (IsLocal x) k (with_local v) a t q
   read k a _ q room alike (piece place nothing) = record {
     behind = with_local a;
-    alike = (alike.0, ap suc alike.1);
+    alike = (alike.0, ap suc alike.1, alike.2);
     is = local place (ap (λ (n : ℕ). is_within (Count Locals) (suc n)) alike.1 ∙ fits);
   }
 
@@ -173,15 +173,44 @@ put_part {q = d} {x = x} {value = value} line some h =
       build k a _ _ q (_, _, here i, (_, _, here j, (_, _, here m, (_, _, whole, here z)))) =
           (record { line = i.line; what = st.Put x value }, other_line i.line line (st.Put x value), λ no_par no_else. gr.plain (gr.put whole))
 
-pub throw_part : {l : ℕ} {v : Counts} {p q o : Place} {r : List Terminal} {x : List ℕ} (line : ℕ) → l ≤ v.deepest →
-    IsStmtsPart l v v (Key kw.Throw p ∷ Name x q ∷ Sign g.Semicolon o ∷ r) r (record { line = line; what = st.Throw x } ∷ [])
-throw_part {q = d} {x = x} line some =
-    one_stmt (record { line = line; what = st.Throw x }) some
-    (same_pieces (simple_pieces (record { line = line; what = st.Throw x }) (key kw.Throw ∷ name x ∷ []) (throw_shown line x))
-    (mapped build (both (front_key kw.Throw) (both (front_name x d) (front_last g.Semicolon))))) where
-      build : (k : ℕ) (a b : Counts) (t q : List Terminal) → Both (IsPiece (key kw.Throw)) (Both (IsPiece (name x)) (IsPiece (last g.Semicolon))) k a b t q →
-          One (record { line = line; what = st.Throw x }) k a b t q
-      build k a _ _ q (_, _, here i, (_, _, here j, here z)) = (record { line = i.line; what = st.Throw x }, other_line i.line line (st.Throw x), λ no_par no_else. gr.plain gr.throw)
+-- what stands behind the exception of a `throw`, with the semicolon
+abbrev ThrowRest : Option Expr → Reading
+ThrowRest x k a b t q = IsThrowRest limits k a b t q x
+
+-- what is read in version 2 alone, where the source is of version 2
+pub where_two : {l : ℕ} {v w : Counts} {s r : List Terminal} {ps : List Piece} {R : Reading} → v.two ≡ true → IsPart l v w s r ps R → IsPart l v w s r ps (λ k a b t q. (a.two ≡ true) × R k a b t q)
+where_two two part = record {
+  deeper = part.deeper;
+  within = part.within;
+  spelled = part.spelled;
+  read = λ k a t q room alike stand.
+      let done = part.read k a t q room alike stand in
+      record { behind = done.behind; alike = done.alike; is = (alike.2 ∙ two, done.is) };
+}
+
+throw_rest_part : {l : ℕ} {v w : Counts} {s r : List Terminal} {x : Option Expr} → IsThrowRest limits l v w s r x →
+    IsPart l v w s r (thrown_number_pieces x ++ last g.Semicolon ∷ []) (ThrowRest x)
+throw_rest_part gr.no_number = mapped build (front_last g.Semicolon) where
+  build : (k : ℕ) (a b : Counts) (t q : List Terminal) → IsPiece (last g.Semicolon) k a b t q → ThrowRest None k a b t q
+  build k a _ _ q (here p) = gr.no_number
+throw_rest_part (gr.thrown_number {x = x} two h) =
+    same_pieces (ap (λ (ps : List Piece). sign g.LeftParen ∷ ps) (sym (append_assoc (expr_pieces x) (sign g.RightParen ∷ []) (last g.Semicolon ∷ []))))
+    (mapped build (where_two two (both (front_sign g.LeftParen) (both (whole_part h) (both (front_sign g.RightParen) (front_last g.Semicolon)))))) where
+      build : (k : ℕ) (a b : Counts) (t q : List Terminal) →
+          (a.two ≡ true) × Both (IsPiece (sign g.LeftParen)) (Both (Whole x) (Both (IsPiece (sign g.RightParen)) (IsPiece (last g.Semicolon)))) k a b t q →
+          ThrowRest (Some x) k a b t q
+      build k a _ _ q (seen, (_, _, here i, (_, _, whole, (_, _, here j, here z)))) = gr.thrown_number seen whole
+
+pub throw_part : {l : ℕ} {v w : Counts} {p q : Place} {s r : List Terminal} {x : List ℕ} {value : Option Expr} (line : ℕ) → l ≤ v.deepest → IsThrowRest limits l v w s r value →
+    IsStmtsPart l v w (Key kw.Throw p ∷ Name x q ∷ s) r (record { line = line; what = st.Throw x value } ∷ [])
+throw_part {q = d} {x = x} {value = value} line some h =
+    one_stmt (record { line = line; what = st.Throw x value }) some
+    (same_pieces (simple_pieces (record { line = line; what = st.Throw x value }) (key kw.Throw ∷ name x ∷ thrown_number_pieces value) (throw_shown line x value))
+    (mapped build (both (front_key kw.Throw) (both (front_name x d) (throw_rest_part h))))) where
+      build : (k : ℕ) (a b : Counts) (t q : List Terminal) → Both (IsPiece (key kw.Throw)) (Both (IsPiece (name x)) (ThrowRest value)) k a b t q →
+          One (record { line = line; what = st.Throw x value }) k a b t q
+      build k a _ _ q (_, _, here i, (_, _, here j, rest)) =
+          (record { line = i.line; what = st.Throw x value }, other_line i.line line (st.Throw x value), λ no_par no_else. gr.plain (gr.throw rest))
 
 pub call_part : {l : ℕ} {v w : Counts} {p q o : Place} {s r : List Terminal} {f : List ℕ} {xs : List Expr} (line : ℕ) → l ≤ v.deepest → IsArguments limits l v w s (Sign g.Semicolon o ∷ r) xs →
     IsStmtsPart l v w (Name f p ∷ Sign g.LeftParen q ∷ s) r (record { line = line; what = st.Call (record { function = f; args = xs }) } ∷ [])

@@ -12,15 +12,15 @@ use Rattle.shim_syntax.specs.declared.tree.What.TheVariants as st
 use Rattle.shim_syntax.specs.declared.tree.Branch.{Branch, fold-roll-Branch}
 use Rattle.shim_syntax.specs.declared.tree.BranchWhat.{BranchWhat, BranchWhat-F, roll-BranchWhat, fold-BranchWhat, fold-roll-BranchWhat, map-BranchWhat}
 use Rattle.shim_syntax.specs.declared.tree.BranchWhat.TheVariants as br
-use Rattle.shim_syntax.specs.Sizes.{expr_counts, expr_size, option_size, call_size, branch_counts, what_counts, what_size, stmt_size, branch_size, stmts_size, branches_size}
+use Rattle.shim_syntax.specs.Sizes.{expr_counts, expr_size, option_size, variable_size, call_size, branch_counts, what_counts, what_size, stmt_size, branch_size, stmts_size, branches_size}
 
 pub number_size : (n : ℤ) → expr_size (e.Number n) ≡ 1
 unfolding expr_size roll-Expr denote.Hole.Carrier.roll
 number_size n = fold-roll-Expr ℕ expr_counts (Expr-F.Number n)
 
-pub variable_size : (x : List ℕ) → expr_size (e.Var x) ≡ 1
+pub var_size : (x : List ℕ) → expr_size (e.Var x) ≡ 1
 unfolding expr_size roll-Expr denote.Hole.Carrier.roll
-variable_size x = fold-roll-Expr ℕ expr_counts (Expr-F.Var x)
+var_size x = fold-roll-Expr ℕ expr_counts (Expr-F.Var x)
 
 pub unary_size : (op : UnOp) (a : Expr) → expr_size (e.Unary op a) ≡ suc (expr_size a)
 unfolding expr_size roll-Expr denote.Hole.Carrier.roll
@@ -92,13 +92,13 @@ pub called_size : (c : Call) → what_size (st.Call c) ≡ call_size c
 unfolding roll-What denote.Hole.Carrier.roll
 called_size c = at_what (What-F.What::Call c)
 
-pub try_size : (body : List Stmt) (x : List ℕ) (handler : List Stmt) → what_size (st.Try body x handler) ≡ suc (stmts_size body + stmts_size handler)
+pub try_size : (body : List Stmt) (x : List ℕ) (y : Option (List ℕ)) (handler : List Stmt) → what_size (st.Try body x y handler) ≡ suc (stmts_size body + (variable_size y + stmts_size handler))
 unfolding roll-What denote.Hole.Carrier.roll
-try_size body x handler = at_what (What-F.Try body x handler)
+try_size body x y handler = at_what (What-F.Try body x y handler)
 
-pub throw_size : (x : List ℕ) → what_size (st.Throw x) ≡ 1
+pub throw_size : (x : List ℕ) (a : Option Expr) → what_size (st.Throw x a) ≡ suc (option_size a)
 unfolding roll-What denote.Hole.Carrier.roll
-throw_size x = at_what (What-F.Throw x)
+throw_size x a = at_what (What-F.Throw x a)
 
 pub par_size : (branches : List Branch) → what_size (st.Par branches) ≡ suc (branches_size branches)
 unfolding roll-What denote.Hole.Carrier.roll

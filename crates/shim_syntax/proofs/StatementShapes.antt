@@ -11,7 +11,7 @@ use Rattle.shim_syntax.specs.declared.tree.What.TheVariants as st
 use Rattle.shim_syntax.specs.declared.tree.Branch.{Branch, Branch-F, roll-Branch, fold-Branch, fold-roll-Branch}
 use Rattle.shim_syntax.specs.declared.tree.BranchWhat.{BranchWhat, BranchWhat-F, roll-BranchWhat, fold-BranchWhat, fold-roll-BranchWhat}
 use Rattle.shim_syntax.specs.declared.tree.BranchWhat.TheVariants as br
-use Rattle.shim_syntax.specs.Printing.{Piece, StmtShown, stmt_step, branch_step, stmt_shown, branch_pieces, key, sign, name, last, simple, ended, type_piece, expr_pieces, first_value_pieces, test_pieces, call_pieces, block_pieces, else_pieces, part_pieces, fork_pieces}
+use Rattle.shim_syntax.specs.Printing.{Piece, StmtShown, stmt_step, branch_step, stmt_shown, branch_pieces, key, sign, name, last, simple, ended, type_piece, expr_pieces, first_value_pieces, test_pieces, variable_pieces, thrown_number_pieces, call_pieces, block_pieces, else_pieces, part_pieces, fork_pieces}
 use Rattle.shim_syntax.specs.Same.{stmt_without_lines}
 
 -- what a statement does, as it shows
@@ -86,14 +86,16 @@ pub call_shown : (n : ℕ) (c : Call) → stmt_shown (record { line = n; what = 
 unfolding roll-What denote.Hole.Carrier.roll
 call_shown n c = stmt_is n (st.Call c) ∙ fold-roll-What (List Piece) StmtShown (List Piece) StmtShown branch_step stmt_step (λ b. b.what) (λ s. s.what) (What-F.What::Call c)
 
-pub try_shown : (n : ℕ) (xs : List Stmt) (x : List ℕ) (ys : List Stmt) → stmt_shown (record { line = n; what = st.Try xs x ys }) ≡
-    ended (key k.Try ∷ (block_pieces (map stmt_shown xs) ++ key k.Catch ∷ sign g.LeftParen ∷ name x ∷ sign g.RightParen ∷ block_pieces (map stmt_shown ys)))
+pub try_shown : (n : ℕ) (xs : List Stmt) (x : List ℕ) (y : Option (List ℕ)) (ys : List Stmt) → stmt_shown (record { line = n; what = st.Try xs x y ys }) ≡
+    ended (key k.Try ∷ (block_pieces (map stmt_shown xs) ++ key k.Catch ∷ sign g.LeftParen ∷ name x ∷ (variable_pieces y ++ sign g.RightParen ∷ block_pieces (map stmt_shown ys))))
 unfolding roll-What denote.Hole.Carrier.roll
-try_shown n xs x ys = stmt_is n (st.Try xs x ys) ∙ fold-roll-What (List Piece) StmtShown (List Piece) StmtShown branch_step stmt_step (λ b. b.what) (λ s. s.what) (What-F.Try xs x ys)
+try_shown n xs x y ys = stmt_is n (st.Try xs x y ys) ∙ fold-roll-What (List Piece) StmtShown (List Piece) StmtShown branch_step stmt_step (λ b. b.what) (λ s. s.what) (What-F.Try xs x y ys)
 
-pub throw_shown : (n : ℕ) (x : List ℕ) → stmt_shown (record { line = n; what = st.Throw x }) ≡ simple (key k.Throw ∷ name x ∷ [])
+pub throw_shown : (n : ℕ) (x : List ℕ) (value : Option Expr) → stmt_shown (record { line = n; what = st.Throw x value }) ≡ simple (key k.Throw ∷ name x ∷ thrown_number_pieces value)
 unfolding roll-What denote.Hole.Carrier.roll
-throw_shown n x = stmt_is n (st.Throw x) ∙ fold-roll-What (List Piece) StmtShown (List Piece) StmtShown branch_step stmt_step (λ b. b.what) (λ s. s.what) (What-F.Throw x)
+throw_shown n x value =
+    stmt_is n (st.Throw x value)
+    ∙ fold-roll-What (List Piece) StmtShown (List Piece) StmtShown branch_step stmt_step (λ b. b.what) (λ s. s.what) (What-F.Throw x value)
 
 pub par_shown : (n : ℕ) (bs : List Branch) → stmt_shown (record { line = n; what = st.Par bs }) ≡ ended (fork_pieces true (map branch_pieces bs))
 unfolding roll-What denote.Hole.Carrier.roll
@@ -209,18 +211,19 @@ same_block n m xs us same_xs =
     ∙ ap (λ (z : List Stmt). roll-What (What-F.What::Block z)) same_xs
     ∙ sym (block_lines xs))
 
-try_lines : (xs : List Stmt) (x : List ℕ) (ys : List Stmt) → what_without_lines (st.Try xs x ys) ≡ roll-What (What-F.Try (map stmt_without_lines xs) x (map stmt_without_lines ys))
+try_lines : (xs : List Stmt) (x : List ℕ) (y : Option (List ℕ)) (ys : List Stmt) →
+    what_without_lines (st.Try xs x y ys) ≡ roll-What (What-F.Try (map stmt_without_lines xs) x y (map stmt_without_lines ys))
 unfolding roll-What denote.Hole.Carrier.roll
-try_lines xs x ys = fold-roll-What BranchWhat What Branch Stmt roll-BranchWhat roll-What branch_zero stmt_zero (What-F.Try xs x ys)
+try_lines xs x y ys = fold-roll-What BranchWhat What Branch Stmt roll-BranchWhat roll-What branch_zero stmt_zero (What-F.Try xs x y ys)
 
-pub same_try : (n m : ℕ) (xs us : List Stmt) (x : List ℕ) (ys vs : List Stmt) → AreSame us xs → AreSame vs ys → stmt_without_lines (record { line = n; what = st.Try us x vs }) ≡
-    stmt_without_lines (record { line = m; what = st.Try xs x ys })
-same_try n m xs us x ys vs same_xs same_ys =
-    same_stmt n m (st.Try us x vs) (st.Try xs x ys)
-    (try_lines us x vs
-    ∙ ap (λ (z : List Stmt). roll-What (What-F.Try z x (map stmt_without_lines vs))) same_xs
-    ∙ ap (λ (z : List Stmt). roll-What (What-F.Try (map stmt_without_lines xs) x z)) same_ys
-    ∙ sym (try_lines xs x ys))
+pub same_try : (n m : ℕ) (xs us : List Stmt) (x : List ℕ) (y : Option (List ℕ)) (ys vs : List Stmt) → AreSame us xs → AreSame vs ys → stmt_without_lines (record { line = n; what = st.Try us x y vs }) ≡
+    stmt_without_lines (record { line = m; what = st.Try xs x y ys })
+same_try n m xs us x y ys vs same_xs same_ys =
+    same_stmt n m (st.Try us x y vs) (st.Try xs x y ys)
+    (try_lines us x y vs
+    ∙ ap (λ (z : List Stmt). roll-What (What-F.Try z x y (map stmt_without_lines vs))) same_xs
+    ∙ ap (λ (z : List Stmt). roll-What (What-F.Try (map stmt_without_lines xs) x y z)) same_ys
+    ∙ sym (try_lines xs x y ys))
 
 par_lines : (bs : List Branch) → what_without_lines (st.Par bs) ≡ roll-What (What-F.Par (map branch_without_lines bs))
 unfolding roll-What denote.Hole.Carrier.roll

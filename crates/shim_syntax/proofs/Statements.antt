@@ -29,7 +29,7 @@ declares_some (gr.declared _ _) e = absurd (cc)
 
 -- where no statement was read, nothing was counted
 plain_idle : {l : ℕ} {v w : Counts} {s r : List Terminal} {xs : List Stmt} → IsPlain limits l v w s r xs → xs ≡ [] → IsAlike v w
-plain_idle gr.empty e = (refl, refl)
+plain_idle gr.empty e = (refl, refl, refl)
 plain_idle (gr.declare h) e = absurd (declares_some h e)
 plain_idle (gr.assign _) e = absurd (cc)
 plain_idle gr.assign_next e = absurd (cc)
@@ -43,8 +43,8 @@ plain_idle (gr.while _ _) e = absurd (cc)
 plain_idle (gr.for_loop _ _ _ _) e = absurd (cc)
 plain_idle (gr.call _ _) e = absurd (cc)
 plain_idle (gr.call_fork _ _) e = absurd (cc)
-plain_idle (gr.try _ _) e = absurd (cc)
-plain_idle gr.throw e = absurd (cc)
+plain_idle (gr.try _ _ _) e = absurd (cc)
+plain_idle (gr.throw _) e = absurd (cc)
 
 stmt_idle : {l : ℕ} {v w : Counts} {s r : List Terminal} {xs : List Stmt} → IsStmt limits l v w s r xs → xs ≡ [] → IsAlike v w
 stmt_idle (gr.block _ _) e = absurd (cc)
@@ -56,12 +56,12 @@ none_of_both [] ys e = (refl, e)
 none_of_both (x ∷ xs) ys e = absurd (cc)
 
 block_idle : {l : ℕ} {v w : Counts} {s r : List Terminal} {xs : List Stmt} → IsBlock limits l v w s r xs → xs ≡ [] → IsAlike v w
-block_idle gr.block_end e = (refl, refl)
+block_idle gr.block_end e = (refl, refl, refl)
 block_idle (gr.stmt {xs = xs} {ys = ys} fits h more) e =
     let none = none_of_both xs ys e in
     let one = stmt_idle h none.0 in
     let two = block_idle more none.1 in
-    (two.0 ∙ one.0, two.1 ∙ one.1)
+    (two.0 ∙ one.0, two.1 ∙ one.1, two.2 ∙ one.2)
 
 body_idle : {l : ℕ} {v w : Counts} {s r : List Terminal} {xs : List Stmt} → IsBody limits l v w s r xs → xs ≡ [] → IsAlike v w
 body_idle (gr.body_block h _) e = block_idle h e
@@ -141,9 +141,9 @@ mutual
   plain_part l v w _ r _ some (gr.for_loop {y = y} {p = p} {j = j} {xs = xs} {ys = ys} {zs = zs} a b c body) = for_stmt p.line xs ys zs some a b c (body_part (suc l) y w j r zs body)
   plain_part l v w _ r _ some (gr.call {p = p} h no_par) = call_part p.line some h
   plain_part l v w _ r _ some (gr.call_fork {u = u} {p = p} {m = m} {bs = bs} h more) = call_fork p.line p.line bs some h (branches_part l 1 u w m r bs more)
-  plain_part l v w _ r _ some (gr.try {u = u} {x = x} {p = p} {o = o} {a = a} {b = b} {d = d} {i = i} {s = s} {m = m} {xs = xs} {ys = ys} h handler) =
-      try_stmt p.line xs ys some (block_part (suc l) v u s (Key kw.Catch o ∷ Sign g.LeftParen a ∷ Name x b ∷ Sign g.RightParen d ∷ Sign g.LeftBrace i ∷ m) xs h) (block_part (suc l) u w m r ys handler)
-  plain_part l v _ _ r _ some (gr.throw {p = p}) = throw_part p.line some
+  plain_part l v w _ r _ some (gr.try {u = u} {t = t} {x = x} {p = p} {o = o} {a = a} {b = b} {s = s} {i = i} {m = m} {xs = xs} {ys = ys} h is_catch handler) =
+      try_stmt p.line xs ys some (block_part (suc l) v u s (Key kw.Catch o ∷ Sign g.LeftParen a ∷ Name x b ∷ i) xs h) is_catch (block_part (suc l) t w m r ys handler)
+  plain_part l v w _ r _ some (gr.throw {p = p} h) = throw_part p.line some h
 
   branches_part : (l n : ℕ) (v w : Counts) (s r : List Terminal) (bs : List Branch) → IsBranches limits l n v w s r bs → AreBranchesPart l n v w s r bs
   branches_part l n v w s r _ (gr.last_branch {b = b} fits h no_par) = last_branch n b fits (branch_part l v w s r b h)

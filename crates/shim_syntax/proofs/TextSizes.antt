@@ -14,14 +14,14 @@ use Rattle.shim_syntax.specs.declared.tree.Program.{Program}
 use Rattle.shim_syntax.specs.Terminals.{Terminal}
 use Rattle.shim_syntax.specs.Limits.{Limits}
 use Rattle.shim_syntax.specs.Grammar as is
-use Rattle.shim_syntax.specs.Grammar.{Counts, nothing_read, operator_of_sign, IsExpr, IsChain, IsArguments, IsMoreArguments, IsDeclared, IsDeclarations, IsFirst, IsTest, IsStep, IsBlock, IsStmt, IsBody, IsPlain, IsBranches, IsBranch, IsParam, IsParams, IsMoreParams, IsThrows, IsMoreThrows, IsFunction, IsFunctions, Derives}
-use Rattle.shim_syntax.specs.Sizes.{expr_size, exprs_size, option_size, what_size, stmts_size, branch_size, branches_size, function_size, functions_size}
-use Rattle.shim_syntax.proofs.SizeSteps.{number_size, variable_size, unary_size, binary_size, of_stmt, declare_size, assign_size, next_size, next_assign_size, assign_next_size, get_size, put_size, if_size, while_size, for_size, block_size, called_size, try_size, throw_size, par_size, block_branch_size, call_branch_size}
+use Rattle.shim_syntax.specs.Grammar.{Counts, nothing_read, operator_of_sign, IsExpr, IsChain, IsArguments, IsMoreArguments, IsDeclared, IsDeclarations, IsFirst, IsTest, IsStep, IsThrowRest, IsCatchRest, IsBlock, IsStmt, IsBody, IsPlain, IsBranches, IsBranch, IsParam, IsParams, IsMoreParams, IsThrows, IsMoreThrows, IsFunction, IsFunctions, Derives}
+use Rattle.shim_syntax.specs.Sizes.{expr_size, exprs_size, option_size, variable_size, what_size, stmts_size, branch_size, branches_size, function_size, functions_size}
+use Rattle.shim_syntax.proofs.SizeSteps.{number_size, var_size, unary_size, binary_size, of_stmt, declare_size, assign_size, next_size, next_assign_size, assign_next_size, get_size, put_size, if_size, while_size, for_size, block_size, called_size, try_size, throw_size, par_size, block_branch_size, call_branch_size}
 
 mutual
   pub expr_read : {c : Limits} {n l : ℕ} {v w : Counts} {s r : List Terminal} {x : Expr} → IsExpr c n l v w s r x → expr_size x + length r ≤ length s
   expr_read (is.number {n = n}) = omega (arith, number_size n)
-  expr_read (is.variable {x = x}) = omega (arith, variable_size x)
+  expr_read (is.variable {x = x}) = omega (arith, var_size x)
   expr_read (is.parens h d) = omega (arith, expr_read d)
   expr_read (is.negative {x = x} g h d) = omega (arith, expr_read d, unary_size Neg x)
   expr_read (is.negation {x = x} g h d) = omega (arith, expr_read d, unary_size Not x)
@@ -71,6 +71,14 @@ step_read : {c : Limits} {l : ℕ} {v w : Counts} {s r : List Terminal} {xs : Li
 step_read is.no_step = omega arith
 step_read (is.step {x = x} {p = p} {value = value} h d) = omega (arith, expr_read d, one_size p.line (st.Assign x value), assign_size x value)
 
+throw_rest_read : {c : Limits} {l : ℕ} {v w : Counts} {s r : List Terminal} {x : Option Expr} → IsThrowRest c l v w s r x → suc (option_size x + length r) ≤ length s
+throw_rest_read is.no_number = omega arith
+throw_rest_read (is.thrown_number h d) = omega (arith, expr_read d)
+
+catch_rest_read : {c : Limits} {v w : Counts} {s r : List Terminal} {x : Option (List ℕ)} → IsCatchRest c v w s r x → suc (variable_size x + length r) ≤ length s
+catch_rest_read is.no_variable = omega arith
+catch_rest_read (is.catch_variable h d) = omega arith
+
 mutual
   pub block_read : {c : Limits} {l : ℕ} {v w : Counts} {s r : List Terminal} {xs : List Stmt} → IsBlock c l v w s r xs → suc (stmts_size xs + length r) ≤ length s
   block_read is.block_end = omega arith
@@ -106,8 +114,9 @@ mutual
       omega (arith, arguments_read d, one_size p.line (st.Call (record { function = f; args = xs })), called_size (record { function = f; args = xs }))
   plain_read (is.call_fork {f = f} {p = p} {xs = xs} {bs = bs} d b) =
       omega (arith, arguments_read d, branches_read b, one_size p.line (st.Par (record { line = p.line; what = br.Call (record { function = f; args = xs }) } ∷ bs)), par_size (record { line = p.line; what = br.Call (record { function = f; args = xs }) } ∷ bs), call_branch_size p.line (record { function = f; args = xs }))
-  plain_read (is.try {x = x} {p = p} {xs = xs} {ys = ys} d b) = omega (arith, block_read d, block_read b, one_size p.line (st.Try xs x ys), try_size xs x ys)
-  plain_read (is.throw {x = x} {p = p}) = omega (arith, one_size p.line (st.Throw x), throw_size x)
+  plain_read (is.try {x = x} {y = y} {p = p} {xs = xs} {ys = ys} d h b) =
+      omega (arith, block_read d, catch_rest_read h, block_read b, one_size p.line (st.Try xs x y ys), try_size xs x y ys)
+  plain_read (is.throw {x = x} {p = p} {value = value} d) = omega (arith, throw_rest_read d, one_size p.line (st.Throw x value), throw_size x value)
 
   branches_read : {c : Limits} {l n : ℕ} {v w : Counts} {s r : List Terminal} {bs : List Branch} → IsBranches c l n v w s r bs → suc (branches_size bs + length r) ≤ length s
   branches_read (is.last_branch h d a) = omega (arith, branch_read d)

@@ -24,7 +24,7 @@ use Rattle.shim_syntax.specs.declared.tree.Program.{Program}
 use Rattle.shim_syntax.specs.Terminals.{Terminal, Name, Number, Sort, Key, Sign, End, first, is_shim, is_two}
 use Rattle.shim_syntax.specs.Limits.{Limits, Nesting, Count}
 
--- what is counted as the terminals are read
+-- what is known and counted as the terminals are read
 pub record Counts : Type 0 where
   -- the operators of the expression
   pub operators : ℕ
@@ -32,9 +32,14 @@ pub record Counts : Type 0 where
   pub locals : ℕ
   -- the level of the deepest thing so far in the innermost body that stands in braces, of an `if`, an `else`, a `while` or a `for`
   pub deepest : ℕ
+  -- whether the text is one of version 2
+  pub two : Bool
 
 abbrev pub nothing_read : Counts
-nothing_read = record { operators = 0; locals = 0; deepest = 0 }
+nothing_read = record { operators = 0; locals = 0; deepest = 0; two = false }
+
+abbrev pub in_version_2 : Counts → Counts
+in_version_2 w = record w { two = true }
 
 abbrev pub new_function : Counts → Counts
 new_function w = record w { locals = 0 }
@@ -194,6 +199,19 @@ pub data IsStep (c : Limits) : ℕ → Counts → Counts → List Terminal → L
   step : {l : ℕ} {v w : Counts} {x : List ℕ} {p q o : Place} {s r : List Terminal} {value : Expr} → c (Name x p ∷ Sign g.Equal q ∷ s) Nesting l ≡ true
       → IsWhole c l (at_level l v) w s (Sign g.RightParen o ∷ r) value → IsStep c l v w (Name x p ∷ Sign g.Equal q ∷ s) r (record { line = p.line; what = st.Assign x value } ∷ [])
 
+-- What stands behind the exception of a `throw`, with the semicolon. Version 2 alone has a number there.
+pub data IsThrowRest (c : Limits) : ℕ → Counts → Counts → List Terminal → List Terminal → Option Expr → Type 0 where
+  no_number : {l : ℕ} {v : Counts} {p : Place} {r : List Terminal} → IsThrowRest c l v v (Sign g.Semicolon p ∷ r) r None
+  thrown_number : {l : ℕ} {v w : Counts} {p q o : Place} {s r : List Terminal} {x : Expr} → v.two ≡ true → IsWhole c l v w s (Sign g.RightParen q ∷ Sign g.Semicolon o ∷ r) x
+      → IsThrowRest c l v w (Sign g.LeftParen p ∷ s) r (Some x)
+
+-- What stands behind the exception of a `catch`, with the handler's left brace. Version 2 alone has a variable there, which counts as a declaration.
+pub data IsCatchRest (c : Limits) : Counts → Counts → List Terminal → List Terminal → Option (List ℕ) → Type 0 where
+  no_variable : {v : Counts} {p q : Place} {r : List Terminal} → IsCatchRest c v v (Sign g.RightParen p ∷ Sign g.LeftBrace q ∷ r) r None
+  catch_variable : {v : Counts} {x : List ℕ} {p q o : Place} {r : List Terminal} → v.two ≡ true
+      → c (Name x p ∷ Sign g.RightParen q ∷ Sign g.LeftBrace o ∷ r) (Count Locals) (suc v.locals) ≡ true
+      → IsCatchRest c v (with_local v) (Name x p ∷ Sign g.RightParen q ∷ Sign g.LeftBrace o ∷ r) r (Some x)
+
 mutual
   -- a block behind its left brace, with the right one; its statements have the level l
   pub data IsBlock (c : Limits) : ℕ → Counts → Counts → List Terminal → List Terminal → List Stmt → Type 0 where
@@ -253,11 +271,11 @@ mutual
         → IsArguments c l v u s (Sign g.Semicolon o ∷ Key k.Par a ∷ m) xs → IsBranches c l 1 u w m r bs
         → IsPlain c l v w (Name f p ∷ Sign g.LeftParen q ∷ s) r
         (record { line = p.line; what = st.Par (record { line = p.line; what = br.Call (record { function = f; args = xs }) } ∷ bs) } ∷ [])
-    try : {l : ℕ} {v u w : Counts} {x : List ℕ} {p q o a b d i : Place} {s m r : List Terminal} {xs ys : List Stmt}
-        → IsBlock c (suc l) v u s (Key k.Catch o ∷ Sign g.LeftParen a ∷ Name x b ∷ Sign g.RightParen d ∷ Sign g.LeftBrace i ∷ m) xs → IsBlock c (suc l) u w m r ys
-        → IsPlain c l v w (Key k.Try p ∷ Sign g.LeftBrace q ∷ s) r (record { line = p.line; what = st.Try xs x ys } ∷ [])
-    throw : {l : ℕ} {v : Counts} {x : List ℕ} {p q o : Place} {r : List Terminal}
-        → IsPlain c l v v (Key k.Throw p ∷ Name x q ∷ Sign g.Semicolon o ∷ r) r (record { line = p.line; what = st.Throw x } ∷ [])
+    try : {l : ℕ} {v u t w : Counts} {x : List ℕ} {y : Option (List ℕ)} {p q o a b : Place} {s i m r : List Terminal} {xs ys : List Stmt}
+        → IsBlock c (suc l) v u s (Key k.Catch o ∷ Sign g.LeftParen a ∷ Name x b ∷ i) xs → IsCatchRest c u t i m y → IsBlock c (suc l) t w m r ys
+        → IsPlain c l v w (Key k.Try p ∷ Sign g.LeftBrace q ∷ s) r (record { line = p.line; what = st.Try xs x y ys } ∷ [])
+    throw : {l : ℕ} {v w : Counts} {x : List ℕ} {p q : Place} {s r : List Terminal} {value : Option Expr} → IsThrowRest c l v w s r value
+        → IsPlain c l v w (Key k.Throw p ∷ Name x q ∷ s) r (record { line = p.line; what = st.Throw x value } ∷ [])
 
   -- the branches of a fork of the level l that follow n of them, each behind its `par`
   pub data IsBranches (c : Limits) : ℕ → ℕ → Counts → Counts → List Terminal → List Terminal → List Branch → Type 0 where
@@ -317,7 +335,7 @@ pub data IsFunctions (c : Limits) : ℕ → Counts → List Terminal → List Te
 -- A program, up to the end of the text and with it. Version 2 stands behind a header.
 pub data IsProgram (c : Limits) : Counts → List Terminal → List Terminal → Program → Type 0 where
   version_1 : {v : Counts} {s r : List Terminal} {fs : List Function} → IsFunctions c 0 v s r fs → IsProgram c v s r (record { version = 1; functions = fs })
-  version_2 : {v : Counts} {x y : Terminal} {p : Place} {s r : List Terminal} {fs : List Function} → is_shim x ≡ true → is_two y ≡ true → IsFunctions c 0 v s r fs
+  version_2 : {v : Counts} {x y : Terminal} {p : Place} {s r : List Terminal} {fs : List Function} → is_shim x ≡ true → is_two y ≡ true → IsFunctions c 0 (in_version_2 v) s r fs
       → IsProgram c v (x ∷ y ∷ Sign g.Semicolon p ∷ s) r (record { version = 2; functions = fs })
 
 -- the terminals, with the end of the text, derive the program

@@ -47,6 +47,11 @@ abbrev pub with_option : Option Expr → Adds
 with_option None known = known
 with_option (Some e) known = with_expr e known
 
+-- the variable of a handler, where it has one
+abbrev pub with_variable : Option (List ℕ) → Adds
+with_variable None known = known
+with_variable (Some x) known = with_name x known
+
 abbrev pub with_call : CallOf → Adds
 with_call c known = with_exprs c.args (with_name c.function known)
 
@@ -67,8 +72,8 @@ what_names (What-F.While e body) known = in_turn body (with_expr e known)
 what_names (What-F.For first test step body) known = in_turn body (in_turn step (with_option test (in_turn first known)))
 what_names (What-F.What::Block body) known = in_turn body known
 what_names (What-F.What::Call c) known = with_call c known
-what_names (What-F.Try body x handler) known = in_turn handler (with_name x (in_turn body known))
-what_names (What-F.Throw x) known = with_name x known
+what_names (What-F.Try body x y handler) known = in_turn handler (with_variable y (with_name x (in_turn body known)))
+what_names (What-F.Throw x e) known = with_option e (with_name x known)
 what_names (What-F.Par branches) known = in_turn branches known
 
 abbrev pub with_stmt : Stmt → Adds

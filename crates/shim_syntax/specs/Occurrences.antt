@@ -1,5 +1,5 @@
 -- The identifiers of a program in the order of its text, each as often as it stands there.
-use Rattle.std.specs.Prelude.{List, [], ◌∷◌, ◌++◌, Option, Some, None, map}
+use Rattle.std.specs.Prelude.{ℕ, List, [], ◌∷◌, ◌++◌, Option, Some, None, map}
 use Rattle.shim_syntax.specs.declared.tree.Expr.{Expr, fold-Expr, Expr-F}
 use Rattle.shim_syntax.specs.declared.tree.Call.{Call as CallOf}
 use Rattle.shim_syntax.specs.declared.tree.Function.{Function}
@@ -29,6 +29,11 @@ abbrev pub in_option : Option Expr → Texts
 in_option None = []
 in_option (Some e) = in_expr e
 
+-- the variable of a handler, where it has one
+abbrev pub in_variable : Option (List ℕ) → Texts
+in_variable None = []
+in_variable (Some x) = x ∷ []
+
 abbrev pub in_call : CallOf → Texts
 in_call c = c.function ∷ in_exprs c.args
 
@@ -49,8 +54,8 @@ what_occurs (What-F.While e body) = in_expr e ++ joined body
 what_occurs (What-F.For first test step body) = joined first ++ (in_option test ++ (joined step ++ joined body))
 what_occurs (What-F.What::Block body) = joined body
 what_occurs (What-F.What::Call c) = in_call c
-what_occurs (What-F.Try body x handler) = joined body ++ x ∷ joined handler
-what_occurs (What-F.Throw x) = x ∷ []
+what_occurs (What-F.Try body x y handler) = joined body ++ x ∷ (in_variable y ++ joined handler)
+what_occurs (What-F.Throw x e) = x ∷ in_option e
 what_occurs (What-F.Par branches) = joined branches
 
 abbrev pub in_stmt : Stmt → Texts

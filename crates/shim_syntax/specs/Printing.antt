@@ -222,6 +222,16 @@ abbrev pub test_pieces : Option Expr → List Piece
 test_pieces None = []
 test_pieces (Some e) = expr_pieces e
 
+-- the variable of a handler, where it has one
+abbrev pub variable_pieces : Option (List ℕ) → List Piece
+variable_pieces None = []
+variable_pieces (Some x) = name x ∷ []
+
+-- the number of a throw in its parentheses, where it has one
+abbrev pub thrown_number_pieces : Option Expr → List Piece
+thrown_number_pieces None = []
+thrown_number_pieces (Some e) = sign g.LeftParen ∷ (expr_pieces e ++ sign g.RightParen ∷ [])
+
 -- a statement without the semicolon at its end, and whether it has one
 pub record StmtShown : Type 0 where
   pub pieces : List Piece
@@ -283,8 +293,9 @@ stmt_step (What-F.For first test step body) =
     ended (key k.For ∷ sign g.LeftParen ∷ (part_pieces first ++ sign g.Semicolon ∷ (test_pieces test ++ sign g.Semicolon ∷ (part_pieces step ++ sign g.RightParen ∷ block_pieces body))))
 stmt_step (What-F.What::Block body) = ended (block_pieces body)
 stmt_step (What-F.What::Call call) = simple (call_pieces call)
-stmt_step (What-F.Try body x handler) = ended (key k.Try ∷ (block_pieces body ++ key k.Catch ∷ sign g.LeftParen ∷ name x ∷ sign g.RightParen ∷ block_pieces handler))
-stmt_step (What-F.Throw x) = simple (key k.Throw ∷ name x ∷ [])
+stmt_step (What-F.Try body x y handler) =
+    ended (key k.Try ∷ (block_pieces body ++ key k.Catch ∷ sign g.LeftParen ∷ name x ∷ (variable_pieces y ++ sign g.RightParen ∷ block_pieces handler)))
+stmt_step (What-F.Throw x e) = simple (key k.Throw ∷ name x ∷ thrown_number_pieces e)
 stmt_step (What-F.Par branches) = ended (fork_pieces true branches)
 
 abbrev pub stmt_shown : Stmt → StmtShown

@@ -28,6 +28,11 @@ abbrev pub option_size : Option Expr → ℕ
 option_size None = 0
 option_size (Some e) = expr_size e
 
+-- the variable of a handler, where it has one
+abbrev pub variable_size : Option (List ℕ) → ℕ
+variable_size None = 0
+variable_size (Some x) = 1
+
 abbrev pub call_size : CallOf → ℕ
 call_size c = suc (exprs_size c.args)
 
@@ -48,8 +53,8 @@ what_counts (What-F.While e body) = suc (expr_size e + sum_of body)
 what_counts (What-F.For first test step body) = suc (sum_of first + (option_size test + (sum_of step + sum_of body)))
 what_counts (What-F.What::Block body) = suc (sum_of body)
 what_counts (What-F.What::Call c) = call_size c
-what_counts (What-F.Try body x handler) = suc (sum_of body + sum_of handler)
-what_counts (What-F.Throw x) = 1
+what_counts (What-F.Try body x y handler) = suc (sum_of body + (variable_size y + sum_of handler))
+what_counts (What-F.Throw x e) = suc (option_size e)
 what_counts (What-F.Par branches) = suc (sum_of branches)
 
 unfoldable pub what_size : What → ℕ

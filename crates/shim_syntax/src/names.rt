@@ -1,6 +1,6 @@
 // The list of a program's names.
 ghost use Rattle.std.specs.Prelude.{◌≡◌, [], IfOk, OnOk};
-ghost use Rattle.shim_syntax.specs.Names.{with_expr, with_exprs, with_option, with_call, with_stmt, with_stmts, with_branch, with_branches, with_texts, with_params, with_function, with_functions};
+ghost use Rattle.shim_syntax.specs.Names.{with_expr, with_exprs, with_option, with_variable, with_call, with_stmt, with_stmts, with_branch, with_branches, with_texts, with_params, with_function, with_functions};
 
 use crate::table::NameTable;
 use crate::{Branch, BranchWhat, Call, Expr, Function, Param, Stmt, What};
@@ -45,6 +45,23 @@ fn add_option(alloc: Global, known: &mut NameTable, expr: &Option<Expr>) -> Resu
         None => Ok(()),
         Some(expr) => {
             add_expr(alloc, known, expr)?;
+            Ok(())
+        }
+    }
+}
+
+// The variable of a handler, where it has one.
+fn add_variable(
+    alloc: Global,
+    known: &mut NameTable,
+    variable: &Option<Name>,
+) -> Result<(), NoMemory>
+    ensures { OnOk result (known.new ≡ with_variable variable.now known.old) }
+{
+    match variable {
+        None => Ok(()),
+        Some(name) => {
+            known.add(alloc, name)?;
             Ok(())
         }
     }
@@ -132,14 +149,16 @@ fn add_stmt(alloc: Global, known: &mut NameTable, stmt: &Stmt) -> Result<(), NoM
             add_call(alloc, known, call)?;
             Ok(())
         }
-        What::Try(body, name, handler) => {
+        What::Try(body, name, variable, handler) => {
             add_stmts(alloc, known, body.as_slice())?;
             known.add(alloc, name)?;
+            add_variable(alloc, known, variable)?;
             add_stmts(alloc, known, handler.as_slice())?;
             Ok(())
         }
-        What::Throw(name) => {
+        What::Throw(name, number) => {
             known.add(alloc, name)?;
+            add_option(alloc, known, number)?;
             Ok(())
         }
         What::Par(branches) => {

@@ -72,10 +72,11 @@ pub enum What {
     Block(List<Stmt>),
     /// `f(a, b);`
     Call(Call),
-    /// `try { .. } catch (T) { .. }`
-    Try(List<Stmt>, Name, List<Stmt>),
-    /// `throw T;`
-    Throw(Name),
+    /// `try { .. } catch (T) { .. }`. In version 2 a variable may stand behind the exception, which takes
+    /// its number.
+    Try(List<Stmt>, Name, Option<Name>, List<Stmt>),
+    /// `throw T;`. In version 2 a number may stand behind the exception, as in `throw T(e);`.
+    Throw(Name, Option<Expr>),
     /// Two or more branches with `par` between them.
     Par(List<Branch>),
 }

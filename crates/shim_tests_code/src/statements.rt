@@ -192,24 +192,58 @@ fn a_handler_stands_behind_its_block_in_a_loop_and_in_a_try(rt: HostRuntime) -> 
             2 declare 0\n\
             3 mark quiet 3\n\
             4 var 0\n\
-            5 jumpz 23\n\
+            5 jumpz 25\n\
             6 mark quiet 4\n\
-            7 try 18 0\n\
+            7 try 20 0\n\
             8 mark quiet 5\n\
-            9 try 14 1\n\
+            9 try 15 1\n\
             10 mark throw 5\n\
-            11 throw 0\n\
-            12 untry\n\
-            13 jump 16\n\
-            14 mark throw 5\n\
-            15 throw 0\n\
-            16 untry\n\
-            17 jump 22\n\
-            18 mark quiet 6\n\
-            19 num 1\n\
-            20 un neg\n\
-            21 set 0\n\
-            22 jump 3\n\
-            23 end\n",
+            11 num 0\n\
+            12 throw 0\n\
+            13 untry\n\
+            14 jump 18\n\
+            15 mark throw 5\n\
+            16 num 0\n\
+            17 throw 0\n\
+            18 untry\n\
+            19 jump 24\n\
+            20 mark quiet 6\n\
+            21 num 1\n\
+            22 un neg\n\
+            23 set 0\n\
+            24 jump 3\n\
+            25 end\n",
+    )
+}
+
+#[test]
+fn a_throw_computes_its_number_and_a_try_names_the_slot_of_its_handlers_variable(
+    rt: HostRuntime,
+) -> Result<(), Fail> {
+    expect_listing(
+        &rt,
+        rt.alloc(),
+        "shim 2;\n\
+            void main() {\n\
+            int x;\n\
+            try { throw A(x + 2); } catch (A y) { x = y; }\n\
+            }",
+        "unit main\n\
+            0 mark quiet 3\n\
+            1 num 0\n\
+            2 declare 0\n\
+            3 mark quiet 4\n\
+            4 try 12 0 1\n\
+            5 mark throw 4\n\
+            6 var 0\n\
+            7 num 2\n\
+            8 bin add\n\
+            9 throw 0\n\
+            10 untry\n\
+            11 jump 15\n\
+            12 mark quiet 4\n\
+            13 var 1\n\
+            14 set 0\n\
+            15 end\n",
     )
 }

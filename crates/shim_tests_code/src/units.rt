@@ -16,8 +16,9 @@ fn arguments_are_gathered_in_their_order(rt: HostRuntime) -> Result<(), Fail> {
             1 get 3\n\
             2 set 0\n\
             3 mark throw 1\n\
-            4 throw 0\n\
-            5 end\n\
+            4 num 0\n\
+            5 throw 0\n\
+            6 end\n\
             unit main\n\
             0 mark quiet 2\n\
             1 num 0\n\
@@ -98,8 +99,9 @@ fn a_lifted_branch_passes_exceptions_on(rt: HostRuntime) -> Result<(), Fail> {
             }",
         "unit f\n\
             0 mark throw 1\n\
-            1 throw 0\n\
-            2 end\n\
+            1 num 0\n\
+            2 throw 0\n\
+            3 end\n\
             unit main\n\
             0 mark quiet 3\n\
             1 try 8 0\n\

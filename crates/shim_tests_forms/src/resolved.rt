@@ -89,23 +89,47 @@ fn exceptions_have_the_numbers_of_their_places(rt: HostRuntime) -> Result<(), Fa
             "RFunction { line: 1, name: 0, \
                 params: [UParam { sort: Value(Int32), by_ref: false, name: 1 }], \
                 slots: [Value(Int32)], slot_names: [1], throws: [2, 3], tries: [], \
-                body: [RStmt { line: 1, what: Throw(1) }] }",
+                body: [RStmt { line: 1, what: Throw(1, None) }] }",
             "RFunction { line: 2, name: 4, params: [], \
                 slots: [Value(Int32), Value(Int8)], slot_names: [5, 6], \
                 throws: [3, 2], tries: [2, 2, 7], \
                 body: [RStmt { line: 3, what: Declare(Int32, 0, None) }, \
                 RStmt { line: 4, what: Try([RStmt { line: 4, what: Try(\
                 [RStmt { line: 4, what: Call(RCall { function: 0, args: [Var(0)], throws: [3, 0] }) }], \
-                3, [RStmt { line: 4, what: Throw(2) }]) }], \
-                2, [RStmt { line: 4, what: Throw(1) }]) }, \
+                3, None, [RStmt { line: 4, what: Throw(2, None) }]) }], \
+                2, None, [RStmt { line: 4, what: Throw(1, None) }]) }, \
                 RStmt { line: 5, what: Try([RStmt { line: 6, what: Par([\
                 RBranch { line: 6, what: Block([RStmt { line: 6, what: Declare(Int8, 1, None) }, \
                 RStmt { line: 6, what: Assign(1, Var(0)) }]) }, \
                 RBranch { line: 7, what: Call(RCall { function: 0, \
                 args: [Unary(Neg, Boxed { inner: Var(0) })], throws: [1, 0] }) }]) }], \
-                4, [RStmt { line: 8, what: While(Var(0), [RStmt { line: 8, what: \
+                4, None, [RStmt { line: 8, what: While(Var(0), [RStmt { line: 8, what: \
                 If(Binary(Eq, Boxed { inner: Var(0) }, Boxed { inner: Number(0) }), [], \
                 [RStmt { line: 8, what: Next(0) }]) }]) }]) }] }",
+        ],
+    )
+}
+
+#[test]
+fn a_handlers_variable_is_the_first_declaration_of_its_block(rt: HostRuntime) -> Result<(), Fail> {
+    expect(
+        &rt,
+        rt.alloc(),
+        "shim 2;\n\
+            void main() throws T {\n\
+            int a;\n\
+            try { throw T(a); } catch (T b) { int c = b; throw T(c); }\n\
+            }",
+        " main T a b c",
+        0,
+        &[
+            "RFunction { line: 2, name: 0, params: [], \
+                slots: [Value(Int32), Value(Int32), Value(Int32)], slot_names: [2, 3, 4], \
+                throws: [1], tries: [1], \
+                body: [RStmt { line: 3, what: Declare(Int32, 0, None) }, \
+                RStmt { line: 4, what: Try([RStmt { line: 4, what: Throw(1, Some(Var(0))) }], \
+                1, Some(1), [RStmt { line: 4, what: Declare(Int32, 2, Some(Var(1))) }, \
+                RStmt { line: 4, what: Throw(0, Some(Var(2))) }]) }] }",
         ],
     )
 }

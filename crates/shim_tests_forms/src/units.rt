@@ -244,8 +244,8 @@ fn exceptions_are_passed_on_in_the_order_of_their_numbers(rt: HostRuntime) -> Re
                     UStmt { line: 3, what: Try([UStmt { line: 4, what: Par([\
                     UBranch { line: 4, call: UCall { unit: 2, args: [], throws: [2] } }, \
                     UBranch { line: 5, call: UCall { unit: 3, args: [Ref(0), Ref(1)], throws: [3] } }, \
-                    UBranch { line: 6, call: UCall { unit: 4, args: [Ref(2)], throws: [1, 2, 3] } }]) }], 3, \
-                    [UStmt { line: 7, what: Try([UStmt { line: 7, what: Throw(1) }], 4, []) }]) }]",
+                    UBranch { line: 6, call: UCall { unit: 4, args: [Ref(2)], throws: [1, 2, 3] } }]) }], 3, None, \
+                    [UStmt { line: 7, what: Try([UStmt { line: 7, what: Throw(1, None) }], 4, None, []) }]) }]",
             },
             Wanted {
                 title: "risky",
@@ -267,7 +267,7 @@ fn exceptions_are_passed_on_in_the_order_of_their_numbers(rt: HostRuntime) -> Re
                 params: "[]",
                 slots: "[]",
                 slot_names: &[],
-                body: "[UStmt { line: 4, what: Throw(0) }]",
+                body: "[UStmt { line: 4, what: Throw(0, None) }]",
             },
             Wanted {
                 title: "main.1",
@@ -279,8 +279,8 @@ fn exceptions_are_passed_on_in_the_order_of_their_numbers(rt: HostRuntime) -> Re
                 slots: "[Input, Value(Int32)]",
                 slot_names: &[1, 5],
                 body: "[UStmt { line: 5, what: Try([UStmt { line: 5, what: Get(1, 0) }, \
-                    UStmt { line: 5, what: Call(UCall { unit: 1, args: [Ref(1)], throws: [0, 1] }) }], 1, \
-                    [UStmt { line: 5, what: Throw(0) }]) }]",
+                    UStmt { line: 5, what: Call(UCall { unit: 1, args: [Ref(1)], throws: [0, 1] }) }], 1, None, \
+                    [UStmt { line: 5, what: Throw(0, None) }]) }]",
             },
             Wanted {
                 title: "main.2",
@@ -302,8 +302,8 @@ fn exceptions_are_passed_on_in_the_order_of_their_numbers(rt: HostRuntime) -> Re
                 params: "[]",
                 slots: "[]",
                 slot_names: &[],
-                body: "[UStmt { line: 6, what: Try([UStmt { line: 6, what: Throw(1) }], 1, \
-                    [UStmt { line: 6, what: Throw(0) }]) }]",
+                body: "[UStmt { line: 6, what: Try([UStmt { line: 6, what: Throw(1, None) }], 1, None, \
+                    [UStmt { line: 6, what: Throw(0, None) }]) }]",
             },
             Wanted {
                 title: "main.4",
@@ -323,7 +323,7 @@ fn exceptions_are_passed_on_in_the_order_of_their_numbers(rt: HostRuntime) -> Re
                 params: "[]",
                 slots: "[]",
                 slot_names: &[],
-                body: "[UStmt { line: 9, what: Throw(0) }]",
+                body: "[UStmt { line: 9, what: Throw(0, None) }]",
             },
             Wanted {
                 title: "risky.1",

@@ -79,3 +79,23 @@ fn a_text_of_version_2_has_int64(rt: HostRuntime) -> Result<(), Fail> {
         ],
     )
 }
+
+#[test]
+fn exceptions_of_a_text_of_version_2_have_numbers(rt: HostRuntime) -> Result<(), Fail> {
+    expect_programs(
+        &rt,
+        rt.alloc(),
+        &[
+            (
+                "shim 2;\nvoid f() throws T { throw T; throw T(3); throw T (a + 1) ; }",
+                "version 2 [2 f params [] throws [T] body [2 Throw(T, None), \
+                    2 Throw(T, Some(Number(3))), 2 Throw(T, Some(Binary(Add, Var(a), Number(1))))]]",
+            ),
+            (
+                "shim 2;\nvoid f() { try { g(); } catch (T x) { h(x); } try { } catch (U) { } }",
+                "version 2 [2 f params [] throws [] body [2 Try([2 Call(g, [])], T, Some(x), \
+                    [2 Call(h, [Var(x)])]), 2 Try([], U, None, [])]]",
+            ),
+        ],
+    )
+}

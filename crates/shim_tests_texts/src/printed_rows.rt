@@ -177,6 +177,12 @@ fn a_text_has_the_first_line_and_the_types_of_its_version(rt: HostRuntime) -> Re
         &[
             ("shim 02;", "shim 2 ;\n"),
             (
+                "shim 2;void f()throws T{try{throw T(-1);}catch(T x){throw T(x);}try{}catch(T){throw T;}}",
+                "shim 2 ;\nvoid f ( ) throws T {\n\
+                    try {\nthrow T ( - 1 ) ;\n}\ncatch ( T x ) {\nthrow T ( x ) ;\n}\n\
+                    try {\n}\ncatch ( T ) {\nthrow T ;\n}\n}\n",
+            ),
+            (
                 "shim 2;\nvoid f(int64 a,int64&b){int64 x=1,y;int z;for(int64 k=0;;){}}",
                 "shim 2 ;\nvoid f ( int64 a , int64 & b ) {\n\
                     int64 x = 1 ;\nint64 y ;\nint32 z ;\nfor ( int64 k = 0 ; ; ) {\n}\n}\n",

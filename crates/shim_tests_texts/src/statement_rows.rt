@@ -17,7 +17,7 @@ fn each_plain_statement_has_its_tree(rt: HostRuntime) -> Result<(), Fail> {
             ),
             ("x = 7;", "[1 Assign(x, Number(7))]"),
             ("next x;", "[1 Next(x)]"),
-            ("throw T;", "[1 Throw(T)]"),
+            ("throw T;", "[1 Throw(T, None)]"),
             ("f(a);", "[1 Call(f, [Var(a)])]"),
             ("g();", "[1 Call(g, [])]"),
             ("g(a, 2);", "[1 Call(g, [Var(a), Number(2)])]"),
@@ -61,7 +61,7 @@ fn statements_with_others_in_them_have_their_trees(rt: HostRuntime) -> Result<()
             ),
             (
                 "try { x = 1; } catch (T) { x = 2; }",
-                "[1 Try([1 Assign(x, Number(1))], T, [1 Assign(x, Number(2))])]",
+                "[1 Try([1 Assign(x, Number(1))], T, None, [1 Assign(x, Number(2))])]",
             ),
             ("{ x = 1; }", "[1 Block([1 Assign(x, Number(1))])]"),
             ("{ { } }", "[1 Block([1 Block([])])]"),

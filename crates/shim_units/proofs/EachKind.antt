@@ -43,11 +43,11 @@ unfolding roll-RWhat denote.Hole.Carrier.roll
 at_for s first test step body kind = of_kind s (is.For first test step body) (what_step (RWhat-F.For (parts first) test (parts step) (parts body))) kind
     (fold-roll-RWhat (ℕ → Part UCall) (ℕ → Part UWhat) (Part UBranch) (Part UStmt) branch_what_step what_step branch_step stmt_step (RWhat-F.For first test step body))
 
-pub at_try : (s : RStmt) (body : List RStmt) (x : ℕ) (handler : List RStmt) → s.what ≡ is.Try body x handler
-    → part s ≡ at_line s.line (what_step (RWhat-F.Try (parts body) x (parts handler)) s.line)
+pub at_try : (s : RStmt) (body : List RStmt) (x : ℕ) (y : Option ℕ) (handler : List RStmt) → s.what ≡ is.Try body x y handler
+    → part s ≡ at_line s.line (what_step (RWhat-F.Try (parts body) x y (parts handler)) s.line)
 unfolding roll-RWhat denote.Hole.Carrier.roll
-at_try s body x handler kind = of_kind s (is.Try body x handler) (what_step (RWhat-F.Try (parts body) x (parts handler))) kind
-    (fold-roll-RWhat (ℕ → Part UCall) (ℕ → Part UWhat) (Part UBranch) (Part UStmt) branch_what_step what_step branch_step stmt_step (RWhat-F.Try body x handler))
+at_try s body x y handler kind = of_kind s (is.Try body x y handler) (what_step (RWhat-F.Try (parts body) x y (parts handler))) kind
+    (fold-roll-RWhat (ℕ → Part UCall) (ℕ → Part UWhat) (Part UBranch) (Part UStmt) branch_what_step what_step branch_step stmt_step (RWhat-F.Try body x y handler))
 
 pub at_par : (s : RStmt) (branches : List RBranch) → s.what ≡ is.Par branches
     → part s ≡ at_line s.line (what_step (RWhat-F.Par (branch_parts branches)) s.line)

@@ -77,10 +77,10 @@ branches_sync : IsSync (List.the_field UBranch.the_row).row
 branches_sync = let y = call_sync in search (list_field_sync, sendable) depth 20
 
 statement_send : IsSend (UStmt.the_field).row
-statement_send = statements.send-UStmt (search sendable depth 20) (search sendable) option_send expression_send list_send call_send branches_send
+statement_send = statements.send-UStmt (search sendable depth 20) (search sendable) option_send expression_send list_send call_send (search sendable depth 20) branches_send
 
 statement_sync : IsSync (UStmt.the_field).row
-statement_sync = statements.sync-UStmt (search sendable depth 20) (search sendable) option_sync expression_sync list_sync call_sync branches_sync
+statement_sync = statements.sync-UStmt (search sendable depth 20) (search sendable) option_sync expression_sync list_sync call_sync (search sendable depth 20) branches_sync
 
 pub unit_send : IsSend (Unit'.the_field).row
 unit_send =

@@ -17,7 +17,7 @@ use Rattle.shim_units.specs.declared.unit.Unit.{Unit as UnitOf}
 use Rattle.shim_units.specs.declared.slot_map.SlotMap.{SlotMap}
 use Rattle.shim_units.specs.Parts.{LiftContext, Lifted, Lifts, Part, all_uses, all_raises, all_declares, all_tries}
 use Rattle.shim_units.specs.Captures.{Captures, captures, is_reference, is_taken}
-use Rattle.shim_units.specs.Moving.{slot_index_of, slot_indices_of, moved, moved_option, by_mode, moved_call}
+use Rattle.shim_units.specs.Moving.{slot_index_of, slot_index_of_option, slot_indices_of, moved, moved_option, by_mode, moved_call}
 
 -- what a function says of its slots and `try` statements, by their numbers
 
@@ -164,7 +164,7 @@ lift_what (RWhat-F.For first test step body) context w n =
     lift_three (λ a b c. For a (moved_option w.slots test) b c) (lift_all first) (lift_all step) (lift_all body) context w n
 lift_what (RWhat-F.RWhat::Block body) context w n = on_tree Block (lift_all body context w n)
 lift_what (RWhat-F.RWhat::Call c) context w n = whole (Call (moved_call context.functions c w))
-lift_what (RWhat-F.Try body x handler) context w n =
-    lift_two (λ a b. Try a (slot_index_of w.exceptions x) b) (lift_all body) (lift_all handler) context w n
-lift_what (RWhat-F.Throw x) context w n = whole (Throw (slot_index_of w.exceptions x))
+lift_what (RWhat-F.Try body x y handler) context w n =
+    lift_two (λ a b. Try a (slot_index_of w.exceptions x) (slot_index_of_option w.slots y) b) (lift_all body) (lift_all handler) context w n
+lift_what (RWhat-F.Throw x e) context w n = whole (Throw (slot_index_of w.exceptions x) (moved_option w.slots e))
 lift_what (RWhat-F.Par branches) context w n = on_tree Par (lift_all branches context w n)

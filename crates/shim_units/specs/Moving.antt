@@ -19,6 +19,11 @@ position_else n (Some at) = at
 unfoldable pub slot_index_of : List ℕ → ℕ → ℕ
 slot_index_of all x = position_else (length all) (position (λ y. nat_eq y x) all)
 
+-- of the variable of a handler, where it has one
+abbrev pub slot_index_of_option : List ℕ → Option ℕ → Option ℕ
+slot_index_of_option all None = None
+slot_index_of_option all (Some x) = Some (slot_index_of all x)
+
 abbrev pub slot_indices_of : List ℕ → List ℕ → List ℕ
 slot_indices_of all xs = map (slot_index_of all) xs
 

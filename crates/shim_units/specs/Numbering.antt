@@ -15,7 +15,7 @@ what_numbers (UWhat-F.If e first second) = 1 + total first + total second
 what_numbers (UWhat-F.While e body) = 1 + total body
 what_numbers (UWhat-F.For first test step body) = total first + (1 + (total body + total step))
 what_numbers (UWhat-F.Block body) = total body
-what_numbers (UWhat-F.Try body x handler) = 1 + total body + total handler
+what_numbers (UWhat-F.Try body x y handler) = 1 + total body + total handler
 what_numbers _ = 1
 
 abbrev pub size_of : UStmt → ℕ

@@ -21,6 +21,6 @@ what_places fs (RWhat-F.While e body) line = all_places fs body
 what_places fs (RWhat-F.For first test step body) line = all_places fs first ++ (all_places fs step ++ all_places fs body)
 what_places fs (RWhat-F.RWhat::Block body) line = all_places fs body
 what_places fs (RWhat-F.RWhat::Call c) line = call_place fs c line ∷ []
-what_places fs (RWhat-F.Try body x handler) line = all_places fs body ++ all_places fs handler
+what_places fs (RWhat-F.Try body x y handler) line = all_places fs body ++ all_places fs handler
 what_places fs (RWhat-F.Par branches) line = Fork line (each_uses fs branches) ∷ all_places fs branches
 what_places fs _ line = []

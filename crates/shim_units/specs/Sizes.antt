@@ -59,6 +59,11 @@ together (e ∷ es) = both e (together es)
 abbrev pub apart : Extent → Extent
 apart e = record { size = suc e.size; own = 0; forked = e.own + e.forked; inside = e.size }
 
+-- the variable of a handler, where it has one
+abbrev pub variable_extent : Option ℕ → Extent
+variable_extent None = plain 0
+variable_extent (Some x) = declaration 1
+
 abbrev pub call_size : RCall → ℕ
 call_size c = suc (sum_of (map expr_size c.args))
 
@@ -79,8 +84,8 @@ what_extents (RWhat-F.While e body) = larger (suc (expr_size e)) (together body)
 what_extents (RWhat-F.For first test step body) = larger (suc (option_size test)) (both (together first) (both (together step) (together body)))
 what_extents (RWhat-F.RWhat::Block body) = larger 1 (together body)
 what_extents (RWhat-F.RWhat::Call c) = plain (call_size c)
-what_extents (RWhat-F.Try body x handler) = larger 1 (both (together body) (together handler))
-what_extents (RWhat-F.Throw x) = plain 1
+what_extents (RWhat-F.Try body x y handler) = larger 1 (both (together body) (both (variable_extent y) (together handler)))
+what_extents (RWhat-F.Throw x e) = plain (suc (option_size e))
 what_extents (RWhat-F.Par branches) = apart (together branches)
 
 abbrev pub branch_what_extent : RBranchWhat → Extent
@@ -123,6 +128,10 @@ unit_call_size c = suc (args_size c.args)
 abbrev pub unit_branch_size : UBranch → ℕ
 unit_branch_size b = unit_call_size b.call
 
+abbrev pub slot_size : Option ℕ → ℕ
+slot_size None = 0
+slot_size (Some x) = 1
+
 abbrev pub what_counts : UWhat-F ℕ ℕ → ℕ
 what_counts (UWhat-F.Declare ty x e) = suc (option_size e)
 what_counts (UWhat-F.Assign x e) = suc (expr_size e)
@@ -136,8 +145,8 @@ what_counts (UWhat-F.While e body) = suc (expr_size e + sum_of body)
 what_counts (UWhat-F.For first test step body) = suc (option_size test + (sum_of first + (sum_of step + sum_of body)))
 what_counts (UWhat-F.Block body) = suc (sum_of body)
 what_counts (UWhat-F.Call c) = unit_call_size c
-what_counts (UWhat-F.Try body x handler) = suc (sum_of body + sum_of handler)
-what_counts (UWhat-F.Throw x) = 1
+what_counts (UWhat-F.Try body x y handler) = suc (sum_of body + (slot_size y + sum_of handler))
+what_counts (UWhat-F.Throw x e) = suc (option_size e)
 what_counts (UWhat-F.Par branches) = suc (sum_of (map unit_branch_size branches))
 
 abbrev pub what_size : UWhat → ℕ

@@ -45,6 +45,11 @@ args_uses ps (e ∷ es) = arg_uses (lends_first ps) e ++ args_uses (behind_first
 abbrev pub call_uses : List RFunction → RCall → List Use
 call_uses fs c = args_uses (params_at fs c.function) c.args
 
+-- the variable of a handler is declared there
+abbrev pub variable_uses : Option ℕ → List Use
+variable_uses None = []
+variable_uses (Some x) = used Declared x ∷ []
+
 abbrev pub branch_what_uses : {S T U V : Type 0} → List RFunction → RBranchWhat-F (ℕ → Part S) (ℕ → Part T) (Part U) (Part V) → List Use
 branch_what_uses fs (RBranchWhat-F.RBranchWhat::Block body) = all_uses fs body
 branch_what_uses fs (RBranchWhat-F.RBranchWhat::Call c) = call_uses fs c
@@ -62,6 +67,6 @@ what_uses fs (RWhat-F.While e body) = names_in e ++ all_uses fs body
 what_uses fs (RWhat-F.For first test step body) = all_uses fs first ++ (names_in_option test ++ (all_uses fs step ++ all_uses fs body))
 what_uses fs (RWhat-F.RWhat::Block body) = all_uses fs body
 what_uses fs (RWhat-F.RWhat::Call c) = call_uses fs c
-what_uses fs (RWhat-F.Try body x handler) = all_uses fs body ++ all_uses fs handler
-what_uses fs (RWhat-F.Throw x) = []
+what_uses fs (RWhat-F.Try body x y handler) = all_uses fs body ++ (variable_uses y ++ all_uses fs handler)
+what_uses fs (RWhat-F.Throw x e) = names_in_option e
 what_uses fs (RWhat-F.Par branches) = all_uses fs branches

@@ -25,7 +25,7 @@ pub use exceptions::ExceptionList;
 pub use form::Form;
 pub use found::{Capture, Given, How, Use};
 pub use lift_context::LiftContext;
-pub use moving::{move_call, move_expr, move_option, slot_index};
+pub use moving::{move_call, move_expr, move_option, slot_index, slot_index_of_option};
 pub use naming::copy_text;
 pub use own::{declares_in, tries_in};
 pub use slot_map::SlotMap;

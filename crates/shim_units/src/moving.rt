@@ -1,7 +1,7 @@
 // Expressions and calls with a unit's own numbers of variables and exceptions.
 ghost use Rattle.std.specs.Prelude.{◌≡◌, ◌<◌, ◌≤◌, ◌^◌, IfOk, length, position, nat_eq, Option};
 ghost use Rattle.shim_units.specs.Calls.{bare, params_at};
-ghost use Rattle.shim_units.specs.Moving.{slot_index_of, moved, moved_option, by_mode, arg_of, args_of, moved_call};
+ghost use Rattle.shim_units.specs.Moving.{slot_index_of, slot_index_of_option, moved, moved_option, by_mode, arg_of, args_of, moved_call};
 
 use crate::calls::{behind_first, find_bare, lends_first, params_at};
 use crate::slot_map::SlotMap;
@@ -70,6 +70,17 @@ pub fn move_option(
             Ok(Some(expr))
         }
         None => Ok(None),
+    }
+}
+
+/// The number that the variable of a handler has, where there is one.
+pub fn slot_index_of_option(all: &[u32], one: &Option<u32>) -> Option<u32>
+    requires { length all.now < 2 ^ 32 }
+    ensures { result ≡ slot_index_of_option all.now one.now }
+{
+    match one {
+        Some(slot) => Some(slot_index(all, *slot)),
+        None => None,
     }
 }
 

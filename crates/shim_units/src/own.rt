@@ -1,5 +1,6 @@
 // The exceptions that a text throws or passes on, and what a unit has of its own.
 ghost use Rattle.std.specs.Prelude.{◌≡◌, ◌++◌, IfOk, OnOk};
+ghost use Rattle.shim_units.specs.Own.{some_slot};
 ghost use Rattle.shim_units.specs.Parts.{all_raises};
 ghost use Rattle.shim_units.specs.PartFold.{part, raises_in, declares_in, tries_in, branch_part, branch_parts};
 
@@ -37,12 +38,12 @@ fn push_raises_of(raises: &mut List<u32>, stmt: &RStmt) -> Result<(), NoMemory>
         }
         RWhat::Block(body) => push_raises(raises, body.as_slice()),
         RWhat::Call(call) => raises.extend_from_slice(call.throws.as_slice()),
-        RWhat::Try(body, _, handler) => {
+        RWhat::Try(body, _, _, handler) => {
             push_raises(raises, body.as_slice())?;
             push_raises(raises, handler.as_slice())?;
             Ok(())
         }
-        RWhat::Throw(exception) => raises.push(*exception),
+        RWhat::Throw(exception, _) => raises.push(*exception),
         RWhat::Par(branches) => push_raises_of_branches(raises, branches.as_slice()),
         _ => Ok(()),
     }
@@ -65,6 +66,16 @@ fn push_raises_of_branch(raises: &mut List<u32>, branch: &RBranch) -> Result<(),
     match &branch.what {
         RBranchWhat::Block(body) => push_raises(raises, body.as_slice()),
         RBranchWhat::Call(call) => raises.extend_from_slice(call.throws.as_slice()),
+    }
+}
+
+// The variable of a handler, where it has one.
+fn push_variable(slots: &mut List<u32>, variable: &Option<u32>) -> Result<(), NoMemory>
+    ensures { OnOk result (slots.new ≡ slots.old ++ some_slot variable.now) }
+{
+    match variable {
+        None => Ok(()),
+        Some(slot) => slots.push(*slot),
     }
 }
 
@@ -106,8 +117,9 @@ fn push_declares_of(slots: &mut List<u32>, stmt: &RStmt) -> Result<(), NoMemory>
             Ok(())
         }
         RWhat::Block(body) => push_declares(slots, body.as_slice()),
-        RWhat::Try(body, _, handler) => {
+        RWhat::Try(body, _, variable, handler) => {
             push_declares(slots, body.as_slice())?;
+            push_variable(slots, variable)?;
             push_declares(slots, handler.as_slice())?;
             Ok(())
         }
@@ -152,7 +164,7 @@ fn push_tries_of(exceptions: &mut List<u32>, stmt: &RStmt) -> Result<(), NoMemor
             Ok(())
         }
         RWhat::Block(body) => push_tries(exceptions, body.as_slice()),
-        RWhat::Try(body, exception, handler) => {
+        RWhat::Try(body, exception, _, handler) => {
             exceptions.push(*exception)?;
             push_tries(exceptions, body.as_slice())?;
             push_tries(exceptions, handler.as_slice())?;

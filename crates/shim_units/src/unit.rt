@@ -47,8 +47,10 @@ pub enum UWhat {
     For(List<UStmt>, Option<UExpr>, List<UStmt>, List<UStmt>),
     Block(List<UStmt>),
     Call(UCall),
-    Try(List<UStmt>, u32, List<UStmt>),
-    Throw(u32),
+    /// The body, the exception's number, the slot of the handler's variable where it has one, and the handler.
+    Try(List<UStmt>, u32, Option<u32>, List<UStmt>),
+    /// The exception's number, and the expression of the number that is thrown, where the statement has one.
+    Throw(u32, Option<UExpr>),
     Par(List<UBranch>),
 }
 

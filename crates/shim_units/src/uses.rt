@@ -1,7 +1,7 @@
 // The uses of variables in a text.
 ghost use Rattle.std.specs.Prelude.{◌≡◌, ◌∷◌, ◌++◌, [], IfOk, OnOk};
 ghost use Rattle.shim_units.specs.Parts.{all_uses};
-ghost use Rattle.shim_units.specs.Uses.{names_in, names_in_option, lent_uses, arg_uses, args_uses, call_uses};
+ghost use Rattle.shim_units.specs.Uses.{names_in, names_in_option, lent_uses, arg_uses, args_uses, call_uses, variable_uses};
 ghost use Rattle.shim_units.specs.Calls.{bare};
 ghost use Rattle.shim_units.specs.PartFold.{part, uses_in, branch_part, branch_parts};
 
@@ -40,6 +40,16 @@ fn push_names_in_option(uses: &mut List<Use>, expr: &Option<UExpr>) -> Result<()
     match expr {
         None => Ok(()),
         Some(expr) => push_names(uses, expr),
+    }
+}
+
+// The variable of a handler is declared there.
+fn push_variable(uses: &mut List<Use>, variable: &Option<u32>) -> Result<(), NoMemory>
+    ensures { OnOk result (uses.new ≡ uses.old ++ variable_uses variable.now) }
+{
+    match variable {
+        None => Ok(()),
+        Some(slot) => push(uses, How::Declared, *slot),
     }
 }
 
@@ -154,12 +164,13 @@ fn push_stmt(uses: &mut List<Use>, functions: &[RFunction], stmt: &RStmt) -> Res
         }
         RWhat::Block(body) => push_stmts(uses, functions, body.as_slice()),
         RWhat::Call(call) => push_call(uses, functions, call),
-        RWhat::Try(body, _, handler) => {
+        RWhat::Try(body, _, variable, handler) => {
             push_stmts(uses, functions, body.as_slice())?;
+            push_variable(uses, variable)?;
             push_stmts(uses, functions, handler.as_slice())?;
             Ok(())
         }
-        RWhat::Throw(_) => Ok(()),
+        RWhat::Throw(_, expr) => push_names_in_option(uses, expr),
         RWhat::Par(branches) => push_branches(uses, functions, branches.as_slice()),
     }
 }

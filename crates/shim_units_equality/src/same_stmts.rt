@@ -5,6 +5,17 @@ use crate::same::{Same, same_all};
 use crate::same_exprs::{same_expr, same_option};
 use shim_units::{UStmt, UWhat};
 
+// Whether two handlers have no variable, or the same.
+fn same_variable(one: &Option<u32>, other: &Option<u32>) -> bool
+    ensures { IsTrue result ↔ (one.now ≡ other.now) }
+{
+    match (one, other) {
+        (None, None) => true,
+        (Some(one), Some(other)) => *one == *other,
+        _ => false,
+    }
+}
+
 // Whether they do the same.
 #[cycle(same)]
 fn same_what(one: &UWhat, other: &UWhat) -> bool
@@ -46,12 +57,18 @@ fn same_what(one: &UWhat, other: &UWhat) -> bool
             same_stmts(body.as_slice(), second.as_slice())
         }
         (UWhat::Call(call), UWhat::Call(other)) => call.same(other),
-        (UWhat::Try(body, exception, handler), UWhat::Try(second, other, otherwise)) => {
+        (
+            UWhat::Try(body, exception, variable, handler),
+            UWhat::Try(second, other, slot, otherwise),
+        ) => {
             *exception == *other
+                && same_variable(variable, slot)
                 && same_stmts(body.as_slice(), second.as_slice())
                 && same_stmts(handler.as_slice(), otherwise.as_slice())
         }
-        (UWhat::Throw(exception), UWhat::Throw(other)) => *exception == *other,
+        (UWhat::Throw(exception, expr), UWhat::Throw(other, second)) => {
+            *exception == *other && same_option(expr, second)
+        }
         (UWhat::Par(branches), UWhat::Par(second)) => {
             same_all(branches.as_slice(), second.as_slice())
         }

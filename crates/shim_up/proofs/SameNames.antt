@@ -15,7 +15,7 @@ use Rattle.shim_syntax.specs.declared.tree.Branch.{Branch, Branch-F, fold-roll-B
 use Rattle.shim_syntax.specs.declared.tree.BranchWhat.{BranchWhat, BranchWhat-F, fold-roll-BranchWhat, map-BranchWhat, roll-BranchWhat}
 use Rattle.shim_syntax.specs.declared.tree.BranchWhat.TheVariants as br
 use Rattle.shim_syntax.specs.Terminals.{new_word}
-use Rattle.shim_up.specs.Renaming.{Renaming, expr_step, branch_what_step, what_step, branch_step, stmt_step, renamed_expr, renamed_option, renamed_call, renamed_stmt, renamed_what, renamed_branch, renamed_branch_what, renamed_param, renamed_function, renamed_functions}
+use Rattle.shim_up.specs.Renaming.{Renaming, expr_step, branch_what_step, what_step, branch_step, stmt_step, renamed_expr, renamed_option, renamed_variable, renamed_call, renamed_stmt, renamed_what, renamed_branch, renamed_branch_what, renamed_param, renamed_function, renamed_functions}
 use Rattle.shim_up.specs.Up.{replaced}
 
 module _ (f : Renaming) (same : (x : List ℕ) → f x ≡ x) where
@@ -50,6 +50,10 @@ module _ (f : Renaming) (same : (x : List ℕ) → f x ≡ x) where
   option_stays : (a : Option Expr) → renamed_option f a ≡ a
   option_stays None = refl
   option_stays (Some a) = ap Some (expr_stays a)
+
+  variable_stays : (y : Option (List ℕ)) → renamed_variable f y ≡ y
+  variable_stays None = refl
+  variable_stays (Some x) = ap Some (same x)
 
   call_stays : (c : Call) → renamed_call f c ≡ c
   call_stays c = λ i. record { function = same c.function i; args = exprs_stay c.args i }
@@ -114,8 +118,8 @@ module _ (f : Renaming) (same : (x : List ℕ) → f x ≡ x) where
   what_layer (What-F.For first test step body) = λ i. st.For (all_stay first i) (option_stays test i) (all_stay step i) (all_stay body i)
   what_layer (What-F.What::Block body) = λ i. st.Block (all_stay body i)
   what_layer (What-F.What::Call c) = λ i. st.Call (call_stays c i)
-  what_layer (What-F.Try body x handler) = λ i. st.Try (all_stay body i) (same x i) (all_stay handler i)
-  what_layer (What-F.Throw x) = λ i. st.Throw (same x i)
+  what_layer (What-F.Try body x y handler) = λ i. st.Try (all_stay body i) (same x i) (variable_stays y i) (all_stay handler i)
+  what_layer (What-F.Throw x a) = λ i. st.Throw (same x i) (option_stays a i)
   what_layer (What-F.Par bs) = λ i. st.Par (branches_stay bs i)
 
   branch_layer : (y : Branch-F BranchWhatStays WhatStays BranchStays StmtStays)

@@ -30,6 +30,11 @@ abbrev pub renamed_option : Renaming → Option Expr → Option Expr
 renamed_option f None = None
 renamed_option f (Some a) = Some (renamed_expr f a)
 
+-- the variable of a handler, where it has one
+abbrev pub renamed_variable : Renaming → Option (List ℕ) → Option (List ℕ)
+renamed_variable f None = None
+renamed_variable f (Some x) = Some (f x)
+
 abbrev pub renamed_call : Renaming → Call → Call
 renamed_call f c = record { function = f c.function; args = map (renamed_expr f) c.args }
 
@@ -50,8 +55,8 @@ what_step f (What-F.While test body) = st.While (renamed_expr f test) body
 what_step f (What-F.For first test step body) = st.For first (renamed_option f test) step body
 what_step f (What-F.What::Block body) = st.Block body
 what_step f (What-F.What::Call c) = st.Call (renamed_call f c)
-what_step f (What-F.Try body x handler) = st.Try body (f x) handler
-what_step f (What-F.Throw x) = st.Throw (f x)
+what_step f (What-F.Try body x y handler) = st.Try body (f x) (renamed_variable f y) handler
+what_step f (What-F.Throw x a) = st.Throw (f x) (renamed_option f a)
 what_step f (What-F.Par branches) = st.Par branches
 
 abbrev pub branch_step : Branch-F BranchWhat What Branch Stmt → Branch

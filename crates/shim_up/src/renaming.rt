@@ -1,7 +1,7 @@
 // Copies of the parts of a program, with a name in place of the word of the new type. Where that
 // name is the word itself, the copy is equal to what it was made of.
 ghost use Rattle.std.specs.Prelude.{◌≡◌, IfOk, map};
-ghost use Rattle.shim_up.specs.Renaming.{renamed_branch, renamed_branch_what, renamed_call, renamed_expr, renamed_function, renamed_functions, renamed_option, renamed_param, renamed_stmt, renamed_what};
+ghost use Rattle.shim_up.specs.Renaming.{renamed_branch, renamed_branch_what, renamed_call, renamed_expr, renamed_function, renamed_functions, renamed_option, renamed_param, renamed_stmt, renamed_variable, renamed_what};
 ghost use Rattle.shim_up.specs.Up.{replaced};
 
 use shim_base::{Boxed, List, Name, NoMemory};
@@ -66,6 +66,23 @@ fn copy_option(alloc: Global, to: &Name, expr: &Option<Expr>) -> Result<Option<E
         Some(expr) => {
             let expr = copy_expr(alloc, to, expr)?;
             Ok(Some(expr))
+        }
+    }
+}
+
+// The variable of a handler, where it has one.
+fn copy_variable(
+    alloc: Global,
+    to: &Name,
+    variable: &Option<Name>,
+) -> Result<Option<Name>, NoMemory>
+    ensures { IfOk result (λ made. made ≡ renamed_variable (replaced to.now) variable.now) }
+{
+    match variable {
+        None => Ok(None),
+        Some(name) => {
+            let name = copy_name(alloc, to, name)?;
+            Ok(Some(name))
         }
     }
 }
@@ -156,13 +173,18 @@ fn copy_what(alloc: Global, to: &Name, what: &What) -> Result<What, NoMemory>
         }
         What::Block(body) => Ok(What::Block(copy_stmts(alloc, to, body.as_slice())?)),
         What::Call(call) => Ok(What::Call(copy_call(alloc, to, call)?)),
-        What::Try(body, name, handler) => {
+        What::Try(body, name, variable, handler) => {
             let body = copy_stmts(alloc, to, body.as_slice())?;
             let name = copy_name(alloc, to, name)?;
+            let variable = copy_variable(alloc, to, variable)?;
             let handler = copy_stmts(alloc, to, handler.as_slice())?;
-            Ok(What::Try(body, name, handler))
+            Ok(What::Try(body, name, variable, handler))
         }
-        What::Throw(name) => Ok(What::Throw(copy_name(alloc, to, name)?)),
+        What::Throw(name, number) => {
+            let name = copy_name(alloc, to, name)?;
+            let number = copy_option(alloc, to, number)?;
+            Ok(What::Throw(name, number))
+        }
         What::Par(branches) => Ok(What::Par(copy_branches(alloc, to, branches.as_slice())?)),
     }
 }

@@ -23,3 +23,5 @@ pub mod Entering
 pub mod Bodies
 pub mod Stretches
 pub mod Sends
+pub mod Throwing
+pub mod MarkedStops

@@ -6,3 +6,4 @@ pub mod Putting
 pub mod Places
 pub mod Landing
 pub mod Stretching
+pub mod MarkedStops

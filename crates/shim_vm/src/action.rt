@@ -1,7 +1,8 @@
 // What a process does at the instruction at which its computation ended.
 ghost use Rattle.std.specs.Prelude.{◌≡◌, ◌∷◌, [], ◌+◌, ◌<◌, ◌^◌, length, Some, IfOk, slice_get};
 ghost use Rattle.shim_walk.specs.StatementContexts.{context_view};
-ghost use Rattle.shim_code.specs.declared.machine_instr.MachineInstr.TheVariants.{Call, Declare, Set, Try};
+ghost use Rattle.shim_code.specs.declared.machine_instr.MachineInstr.TheVariants.{Call, Declare, Set};
+ghost use Rattle.shim_code.specs.MachineCode.{try_instr};
 ghost use Rattle.shim_vm.specs.Actions.{action_of, code_action, instr_action, reads};
 
 use crate::computing::Computation;
@@ -26,8 +27,8 @@ pub enum Action {
     /// The unit is called with these arguments, and its exceptions stand for these labels.
     Enter(usize, u32, List<Argument>, List<u32>),
     /// The exception of this number comes into force, by this name, with its handler at the second
-    /// place.
-    Install(usize, u32, u32, u32),
+    /// place, and with a variable of the handler in this slot, where it has one.
+    Install(usize, u32, u32, u32, Option<u32>),
     Trapped(Trap),
 }
 
@@ -100,16 +101,17 @@ fn install(
     computation: &Computation,
     handler: u32,
     exception: u32,
+    slot: Option<u32>,
     context: &StatementContext<'_>,
 ) -> Result<Action, NoMemory>
-    ensures { IfOk result (λ a. action_of a ≡ instr_action (context_view context.now) [] (Some (Try handler exception)) computation.now) }
+    ensures { IfOk result (λ a. action_of a ≡ instr_action (context_view context.now) [] (Some (try_instr handler exception slot)) computation.now) }
 {
     if context.full {
         return Ok(Action::Trapped(Trap::Depth));
     }
     let name = try_name(context.units, context.unit, exception);
     let next = behind(computation.place())?;
-    Ok(Action::Install(next, handler, exception, name))
+    Ok(Action::Install(next, handler, exception, name, slot))
 }
 
 /// What the instruction at which a computation ended does, by what the statement sees. Code that lacks what
@@ -129,7 +131,10 @@ pub fn action_at(
         Some(MachineInstr::Get(_)) => read(code, behind(computation.place())?),
         Some(MachineInstr::Call(callee)) => enter(alloc, computation, callee, context),
         Some(MachineInstr::Try(handler, exception)) => {
-            install(computation, *handler, *exception, context)
+            install(computation, *handler, *exception, None, context)
+        }
+        Some(MachineInstr::TryInto(handler, exception, slot)) => {
+            install(computation, *handler, *exception, Some(*slot), context)
         }
         _ => Ok(Action::Go(computation.place())),
     }

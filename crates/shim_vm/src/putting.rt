@@ -1,4 +1,4 @@
-// What a `put` puts, computed over its code without memory.
+// What a `put` puts or a `throw` throws, computed over its code without memory.
 ghost use Rattle.std.specs.Prelude.{◌≡◌, ◌∷◌, ◌<◌, ◌+◌, ◌^◌, [], Some, MatchOption, false, not};
 ghost use Rattle.shim_base.specs.Operators.{applied, applied1, is_zero, truth};
 ghost use Rattle.shim_process.specs.LocalState.{env_of};
@@ -10,15 +10,15 @@ use shim_code::MachineInstr;
 use shim_locations::location::Location;
 use shim_locations::locations::value_in;
 
-/// What a `put` puts, and where the process goes on behind it.
+/// The number that is put or thrown, and the place behind the instruction that does it.
 #[derive(Clone, Copy, Debug)]
 pub struct Putting {
     pub place: usize,
     pub value: i64,
 }
 
-/// The numbers that the code of a `put` has computed and not yet used. Each stands in the call that computed
-/// it, which ends when all is computed: so none of them takes memory.
+/// The numbers that the code of a `put` or a `throw` has computed and not yet used. Each stands in the call
+/// that computed it, which ends when all is computed: so none of them takes memory.
 #[derive(Drop)]
 pub enum Numbers<'a> {
     Empty,
@@ -165,7 +165,7 @@ fn put_from(
     }
 }
 
-/// What the `put` puts whose code begins at this place, and the place behind it; or the trap of its
+/// The number of the `put` or `throw` whose code begins at this place, and the place behind it; or the trap of its
 /// expression. It takes no memory.
 pub fn put_at(
     code: &[MachineInstr],

@@ -1,5 +1,5 @@
-// At what a process stands, by the mark at its place and the instruction behind it.
-ghost use Rattle.std.specs.Prelude.{◌≡◌, ◌<◌, ◌+◌, ◌^◌, true, length, slice_get};
+// At what a process stands, by the mark at its place and the instructions behind it.
+ghost use Rattle.std.specs.Prelude.{◌≡◌, ◌<◌, ◌+◌, ◌^◌, true, drop, length, slice_get};
 ghost use Rattle.std.specs.Option.{option_copied};
 ghost use Rattle.shim_local.specs.Process.{AtFinish};
 ghost use Rattle.shim_local.specs.Views.{stop_view};
@@ -9,6 +9,7 @@ ghost use Rattle.shim_process.specs.StatementViews.{label_of};
 ghost use Rattle.shim_walk.specs.StatementContexts.{context_view};
 ghost use Rattle.shim_machine.specs.MarkStops.{instr_stop, mark_stop};
 ghost use Rattle.shim_code.specs.declared.instr.MarkKind.TheVariants as kind;
+ghost use Rattle.shim_vm.specs.MarkedStops.{fork_stop, meeting_stop, thrown_by};
 ghost use Rattle.shim_vm.specs.Stretching.{is_quiet_kind, is_quiet_mark};
 
 use crate::instrs::instr_at;
@@ -20,7 +21,7 @@ use shim_walk::stop::{at_put, next_of};
 
 // At a meeting, which names its slot.
 fn at_meeting<'a>(behind: Option<&MachineInstr>, context: &StatementContext<'a>) -> Stop<'a>
-    ensures { stop_view result ≡ mark_stop kind.Next (option_copied behind.entry) (context_view context.now) }
+    ensures { stop_view result ≡ meeting_stop (option_copied behind.entry) (context_view context.now) }
 {
     match behind {
         Some(MachineInstr::Next(slot)) => next_of(context, *slot),
@@ -28,20 +29,35 @@ fn at_meeting<'a>(behind: Option<&MachineInstr>, context: &StatementContext<'a>)
     }
 }
 
-// At a throw, which names its exception.
-fn at_throw<'a>(behind: Option<&MachineInstr>, context: &StatementContext<'a>) -> Stop<'a>
-    requires { context.now.first + length context.now.places.now < 2 ^ 32 }
-    ensures { stop_view result ≡ mark_stop kind.Throw (option_copied behind.entry) (context_view context.now) }
+// The exception that an instruction throws.
+fn thrown_by(instr: &MachineInstr) -> Option<u32>
+    ensures { result ≡ thrown_by instr.now }
 {
-    match behind {
-        Some(MachineInstr::Throw(exception)) => Stop::Throw(label_for(context, *exception)),
-        _ => Stop::Finish,
+    match instr {
+        MachineInstr::Throw(exception) => Some(*exception),
+        _ => None,
     }
 }
 
+// At a throw, whose instruction names its exception, behind those that compute its number.
+#[tactic(auto, using(crate::proofs::MarkedStops::throws_here, crate::proofs::MarkedStops::throws_later, crate::proofs::MarkedStops::throws_nowhere))]
+fn at_throw<'a>(behind: &[MachineInstr], context: &StatementContext<'a>) -> Stop<'a>
+    requires { context.now.first + length context.now.places.now < 2 ^ 32 }
+    ensures { stop_view result ≡ mark_stop kind.Throw behind.now (context_view context.now) }
+{
+    for place in 0..behind.len() {
+        if let Some(instr) = behind.get(place) {
+            if let Some(exception) = thrown_by(instr) {
+                return Stop::Throw(label_for(context, exception));
+            }
+        }
+    }
+    Stop::Finish
+}
+
 // At a fork. One without branches has nothing before it.
-fn at_fork<'a>(behind: Option<&MachineInstr>, context: &StatementContext<'a>) -> Stop<'a>
-    ensures { stop_view result ≡ mark_stop kind.Fork (option_copied behind.entry) (context_view context.now) }
+fn at_fork<'a>(behind: Option<&MachineInstr>) -> Stop<'a>
+    ensures { stop_view result ≡ fork_stop (option_copied behind.entry) }
 {
     match behind {
         Some(MachineInstr::Fork(_)) => Stop::Finish,
@@ -49,30 +65,27 @@ fn at_fork<'a>(behind: Option<&MachineInstr>, context: &StatementContext<'a>) ->
     }
 }
 
-fn mark_stop<'a>(
-    mark: &Mark,
-    behind: Option<&MachineInstr>,
-    context: &StatementContext<'a>,
-) -> Stop<'a>
+#[tactic(auto, using(crate::proofs::MarkedStops::meets_by, crate::proofs::MarkedStops::forks_by))]
+fn mark_stop<'a>(mark: &Mark, behind: &[MachineInstr], context: &StatementContext<'a>) -> Stop<'a>
     requires { context.now.first + length context.now.places.now < 2 ^ 32 }
-    ensures { stop_view result ≡ mark_stop mark.now.kind (option_copied behind.entry) (context_view context.now) }
+    ensures { stop_view result ≡ mark_stop mark.now.kind behind.now (context_view context.now) }
 {
     match mark.kind {
         MarkKind::Quiet => Stop::Quiet,
-        MarkKind::Next => at_meeting(behind, context),
+        MarkKind::Next => at_meeting(instr_at(behind, 0), context),
         MarkKind::Put => at_put(context.holds_output),
         MarkKind::Throw => at_throw(behind, context),
-        MarkKind::Fork => at_fork(behind, context),
+        MarkKind::Fork => at_fork(instr_at(behind, 0)),
     }
 }
 
 /// At a place of the code of a process that isn't trapped.
 pub fn stop_at<'a>(code: &[MachineInstr], place: usize, context: &StatementContext<'a>) -> Stop<'a>
     requires { context.now.first + length context.now.places.now < 2 ^ 32 }
-    ensures { stop_view result ≡ instr_stop (slice_get code.now place) (slice_get code.now (place + 1)) (context_view context.now) }
+    ensures { stop_view result ≡ instr_stop (slice_get code.now place) (drop (place + 1) code.now) (context_view context.now) }
 {
     match instr_at(code, place) {
-        Some(MachineInstr::Mark(mark)) => mark_stop(mark, instr_at(code, place + 1), context),
+        Some(MachineInstr::Mark(mark)) => mark_stop(mark, &code[place + 1..], context),
         _ => Stop::Finish,
     }
 }

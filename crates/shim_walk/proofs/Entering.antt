@@ -7,6 +7,7 @@ use Rattle.shim_process.specs.Locations.{Locations}
 use Rattle.shim_walk.specs.declared.trapped_at.TrappedAt.{TrappedAt}
 use Rattle.shim_walk.specs.declared.entry.Entry.{Entry}
 use Rattle.shim_walk_frames.specs.declared.cursor.Cursor.{Cursor}
+use Rattle.shim_process.specs.declared.serial_run.SerialRun.{SerialRun}
 use Rattle.shim_walk.specs.States.{state_of}
 use Rattle.shim_units.specs.declared.unit.Unit.{Unit as UnitOf}
 use Rattle.shim_process.specs.LocalState.{LocalState, unit_or, unit_at}
@@ -33,14 +34,14 @@ unfolding called
 called_by unit given labels l m e = ap (λ (x : LocalState). settled x.callers x.frame x) e
 
 -- the unit stands there with what was made for it
-pub pushed_by : (path : Path) (base made forks : ℕ) (given : List NamedChannel) (top : FrameView) (callers : List FrameView) (locations : Locations) (input_at : Option ℕ) (holds_output : Bool) (trap : Option TrappedAt) (program : Form) (input : List ℕ)
+pub pushed_by : (path : Path) (base made forks : ℕ) (untaken : List SerialRun) (given : List NamedChannel) (top : FrameView) (callers : List FrameView) (locations : Locations) (input_at : Option ℕ) (holds_output : Bool) (trap : Option TrappedAt) (program : Form) (input : List ℕ)
     → (unit outer : ℕ) (args : List Argument) (labels : List ℕ) (units : List UnitOf) (known : Locations) (e : Entry) (made' : ℕ) (top' caller : FrameView) (callers' : List FrameView) (locations' : Locations)
     → IsEntry units unit path known made outer args labels e → units ≡ program.units → known ≡ locations → outer ≡ top.outer + length top.places
     → top' ≡ e.top → caller ≡ top → callers' ≡ caller ∷ callers → locations' ≡ locations ++ e.locations → made' ≡ e.made
-    → state_of path base made' forks given top' callers' locations' input_at holds_output trap program input ≡ pushed unit args labels (state_of path base made forks given top callers locations input_at holds_output trap program input)
+    → state_of path base made' forks untaken given top' callers' locations' input_at holds_output trap program input ≡ pushed unit args labels (state_of path base made forks untaken given top callers locations input_at holds_output trap program input)
 unfolding pushed unit_at
-pushed_by path base made forks given top callers locations input_at holds_output trap program input unit outer args labels units known e made' top' caller callers' locations' is eu ek eo et ec ecs ecl em =
-    let l = state_of path base made forks given top callers locations input_at holds_output trap program input in
+pushed_by path base made forks untaken given top callers locations input_at holds_output trap program input unit outer args labels units known e made' top' caller callers' locations' is eu ek eo et ec ecs ecl em =
+    let l = state_of path base made forks untaken given top callers locations input_at holds_output trap program input in
     let u = unit_or (slice_get program.units unit) in
     let places : length l.frame.places ≡ length top.places = length-map top.places (place_of (text program.units top.unit)) in
     let is' = subst (λ (us : List UnitOf). IsEntry us unit path known made outer args labels e) eu is in

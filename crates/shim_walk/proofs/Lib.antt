@@ -3,6 +3,8 @@ pub mod Exceptions
 pub mod Standing
 pub mod Entering
 pub mod Resting
+pub mod Installing
+pub mod Rooms
 pub mod MadeChildren
 pub mod Forking
 pub mod SamePlaces

@@ -13,19 +13,21 @@ use Rattle.shim_process.specs.Forks.{root, child, child_in, lending, all_lending
 use Rattle.shim_walk_frames.specs.FrameViews.{FrameView}
 use Rattle.shim_locations.specs.declared.remainder.Remainder.{Remainder}
 use Rattle.shim_walk_frames.specs.Depths.{shown}
+use Rattle.shim_process.specs.declared.serial_run.SerialRun.{SerialRun}
 use Rattle.shim_walk.specs.States.{state_of}
 use Rattle.shim_locations.specs.Lendings.{remainder_of}
 use Rattle.shim_walk.specs.ChildrenMade.{children_made, behind}
 
-pub same_state : (l m : LocalState) → l.path ≡ m.path → l.base ≡ m.base → l.made ≡ m.made → l.forks ≡ m.forks → l.given ≡ m.given → l.frame ≡ m.frame → l.callers ≡ m.callers → l.locations ≡ m.locations
+pub same_state : (l m : LocalState) → l.path ≡ m.path → l.base ≡ m.base → l.made ≡ m.made → l.forks ≡ m.forks → l.untaken ≡ m.untaken → l.given ≡ m.given → l.frame ≡ m.frame → l.callers ≡ m.callers → l.locations ≡ m.locations
     → l.input_at ≡ m.input_at → l.holds_output ≡ m.holds_output → l.trap ≡ m.trap → l.program ≡ m.program → l.input ≡ m.input → l ≡ m
-same_state l m e1 e2 e3 e4 e5 e6 e7 e8 e9 e10 e11 e12 e13 =
+same_state l m e1 e2 e3 e4 et e5 e6 e7 e8 e9 e10 e11 e12 e13 =
     ap (λ x. record l { path = x }) e1
     ∙ ap (λ x. record l { path = m.path; base = x }) e2
     ∙ ap (λ x. record l { path = m.path; base = m.base; made = x }) e3
     ∙ ap (λ x. record l { path = m.path; base = m.base; made = m.made; forks = x }) e4
-    ∙ ap (λ x. record l { path = m.path; base = m.base; made = m.made; forks = m.forks; given = x }) e5
-    ∙ ap (λ x. record l { path = m.path; base = m.base; made = m.made; forks = m.forks; given = m.given; frame = x }) e6
+    ∙ ap (λ x. record l { path = m.path; base = m.base; made = m.made; forks = m.forks; untaken = x }) et
+    ∙ ap (λ x. record l { path = m.path; base = m.base; made = m.made; forks = m.forks; untaken = m.untaken; given = x }) e5
+    ∙ ap (λ x. record l { path = m.path; base = m.base; made = m.made; forks = m.forks; untaken = m.untaken; given = m.given; frame = x }) e6
     ∙ ap (λ x. record m { callers = x; locations = l.locations; input_at = l.input_at; holds_output = l.holds_output; trap = l.trap; program = l.program; input = l.input }) e7
     ∙ ap (λ x. record m { locations = x; input_at = l.input_at; holds_output = l.holds_output; trap = l.trap; program = l.program; input = l.input }) e8
     ∙ ap (λ x. record m { input_at = x; holds_output = l.holds_output; trap = l.trap; program = l.program; input = l.input }) e9
@@ -35,31 +37,31 @@ same_state l m e1 e2 e3 e4 e5 e6 e7 e8 e9 e10 e11 e12 e13 =
     ∙ ap (λ x. record m { input = x }) e13
 
 -- what `main` begins with
-pub root_by : (program : Form) (input : List ℕ) (home : Path) (base : ℕ) (given : List NamedChannel) (top : FrameView) (callers : List FrameView) (locations : Locations) (input_at : Option ℕ) (output : Bool)
-    → home ≡ [] → base ≡ 1 + length program.main_throws → given ≡ []
+pub root_by : (program : Form) (input : List ℕ) (home : Path) (base : ℕ) (runs : List SerialRun) (given : List NamedChannel) (top : FrameView) (callers : List FrameView) (locations : Locations) (input_at : Option ℕ) (output : Bool)
+    → home ≡ [] → base ≡ 1 + length program.main_throws → runs ≡ [] → given ≡ []
     → shown program.units top ≡ entered (unit_or (slice_get program.units program.main)) program.main (numbers_from 0 (unit_or (slice_get program.units program.main)).slots) (labels_from 1 program.main_throws) 0 0
     → callers ≡ [] → locations ≡ empties (unit_or (slice_get program.units program.main)).slots
     → input_at ≡ (if takes_input (unit_or (slice_get program.units program.main)).params then Some 0 else None)
     → output ≡ takes_output (unit_or (slice_get program.units program.main)).params
-    → state_of home base 0 0 given top callers locations input_at output None program input ≡ root program input
+    → state_of home base 0 0 runs given top callers locations input_at output None program input ≡ root program input
 unfolding root unit_at
-root_by program input home base given top callers locations input_at output e1 e2 e5 e6 e7 e8 e9 e10 =
-    same_state (state_of home base 0 0 given top callers locations input_at output None program input) (root program input) e1 e2 refl refl e5 e6 (ap (map (shown program.units)) e7) e8 e9 e10 refl refl refl
+root_by program input home base runs given top callers locations input_at output e1 e2 et e5 e6 e7 e8 e9 e10 =
+    same_state (state_of home base 0 0 runs given top callers locations input_at output None program input) (root program input) e1 e2 refl refl et e5 e6 (ap (map (shown program.units)) e7) e8 e9 e10 refl refl refl
 
 -- what a child begins with
-pub child_by : (l : LocalState) (i unit : ℕ) (labels : List ℕ) (args : List Argument) (home : Path) (base made : ℕ) (given : List NamedChannel) (top : FrameView) (callers : List FrameView) (passed locations : Locations) (input_at : Option ℕ) (output : Bool) (program : Form) (input : List ℕ)
+pub child_by : (l : LocalState) (i unit : ℕ) (labels : List ℕ) (args : List Argument) (home : Path) (base made : ℕ) (runs : List SerialRun) (given : List NamedChannel) (top : FrameView) (callers : List FrameView) (passed locations : Locations) (input_at : Option ℕ) (output : Bool) (program : Form) (input : List ℕ)
     → program ≡ l.program → input ≡ l.input
-    → home ≡ l.path ++ (l.forks, i) ∷ [] → base ≡ handlers l → made ≡ new_channels args
+    → home ≡ l.path ++ (l.forks, i) ∷ [] → base ≡ handlers l → made ≡ new_channels args → runs ≡ []
     → passed ≡ branch_locations home l.locations 0 args → given ≡ channels_of passed
     → shown l.program.units top ≡ entered (unit_or (slice_get l.program.units unit)) unit (numbers_from 0 (unit_or (slice_get l.program.units unit)).slots) labels 0 0
     → callers ≡ [] → locations ≡ passed ++ empties (declared_slots (unit_or (slice_get l.program.units unit)))
     → input_at ≡ (if takes_input (unit_or (slice_get l.program.units unit)).params then l.input_at else None)
     → output ≡ (if takes_output (unit_or (slice_get l.program.units unit)).params then l.holds_output else false)
-    → state_of home base made 0 given top callers locations input_at output None program input ≡ child_in l i unit labels args
+    → state_of home base made 0 runs given top callers locations input_at output None program input ≡ child_in l i unit labels args
 unfolding unit_at
-child_by l i unit labels args home base made given top callers passed locations input_at output program input ep ei e1 e2 e3 eq e5 e6 e7 e8 e9 e10 =
+child_by l i unit labels args home base made runs given top callers passed locations input_at output program input ep ei e1 e2 e3 et eq e5 e6 e7 e8 e9 e10 =
     let p = eq ∙ ap (λ h. branch_locations h l.locations 0 args) e1 in
-    same_state (state_of home base made 0 given top callers locations input_at output None program input) (child_in l i unit labels args) e1 e2 e3 refl (e5 ∙ ap channels_of p)
+    same_state (state_of home base made 0 runs given top callers locations input_at output None program input) (child_in l i unit labels args) e1 e2 e3 refl et (e5 ∙ ap channels_of p)
     (ap (λ (q : Form). shown q.units top) ep ∙ e6) (ap (map (shown program.units)) e7)
     (e8 ∙ ap (λ x. x ++ empties (declared_slots (unit_or (slice_get l.program.units unit)))) p) e9 (e10 ∙ both_is (takes_output (unit_or (slice_get l.program.units unit)).params) l.holds_output) refl ep ei
   where

@@ -14,6 +14,7 @@ use Rattle.shim_units.specs.contracts.accepted.Accepted as Accepted
 use Rattle.shim_walk_frames.proofs.frame.Frame.TheSendSync as frames
 use Rattle.shim_walk_frames.proofs.call_stack.CallStack.TheSendSync as callers
 use Rattle.shim_locations.proofs.locations.Locations.TheSendSync as locations
+use Rattle.shim_locations.proofs.serial_runs.SerialRuns.TheSendSync as runs
 use Rattle.shim_walk.specs.contracts.process.Process as Process
 use Rattle.shim_walk.specs.contracts.process.Process.TheInside as inside
 use Rattle.shim_walk.specs.contracts.walk.Walk as Walk
@@ -43,16 +44,19 @@ fields_send = recorded_send (inside.the_field).row _ _ (inside.the_type).to_one 
       (
         search sendable,
         (
-          channels_send,
+          runs.the_send,
           (
-            frames.the_send,
+            channels_send,
             (
-              callers.the_send,
+              frames.the_send,
               (
-                locations.the_send,
+                callers.the_send,
                 (
-                  search sendable depth 20,
-                  (search sendable, (search sendable depth 20, (program_send, (input_send, tt)))),
+                  locations.the_send,
+                  (
+                    search sendable depth 20,
+                    (search sendable, (search sendable depth 20, (program_send, (input_send, tt)))),
+                  ),
                 ),
               ),
             ),

@@ -1,15 +1,15 @@
 -- Each call leaves a walk in a state that a process comes to.
-use Rattle.std.proofs.Common.{◌≡◌, ◌≤◌, ◌<◌, ◌+◌, ℕ, ℤ, pos, Bool, List, [], ◌∷◌, ◌++◌, length, map, map-id, Result, Ok, Err, OnOk, OnErr, arith, refl, sym, ap, subst, ◌∙◌, append_assoc, append-nil}
+use Rattle.std.proofs.Common.{◌≡◌, ◌≤◌, ◌<◌, ◌+◌, ℕ, ℤ, Bool, List, [], ◌∷◌, ◌++◌, length, map, map-id, Result, Ok, Err, OnOk, OnErr, arith, refl, sym, ap, subst, ◌∙◌, append_assoc, append-nil}
 use Rattle.shim_base.specs.declared.memory.NoMemory.{NoMemory}
 use Rattle.shim_base.specs.Paths.{NamedChannel}
 use Rattle.shim_base.specs.declared.operators.Trap.{Trap}
-use Rattle.shim_local.specs.Laws.{AllOf, by_quiet, by_call, by_put, by_receive, by_unwind, by_label, by_fork, by_trap}
-use Rattle.shim_local.specs.Process.{StopView, AtQuiet, AtNext, AtPut, AtFork, Parted, Trapped as TrappedFork}
+use Rattle.shim_local.specs.Laws.{AllOf, by_quiet, by_call, by_put, by_receive, by_thrown, by_unwind, by_label, by_fork, by_trap}
+use Rattle.shim_local.specs.Process.{StopView, AtQuiet, AtNext, AtPut, AtThrow, AtFork, Parted, Trapped as TrappedFork}
 use Rattle.shim_process.specs.Born.{Born}
 use Rattle.shim_process.specs.Forks.{join}
 use Rattle.shim_process.specs.LocalState.{LocalState, handlers, trapped}
 use Rattle.shim_process.specs.Steps.{line_of, quiet}
-use Rattle.shim_process.specs.Stops.{stop, put, receive}
+use Rattle.shim_process.specs.Stops.{stop, put, thrown, receive}
 use Rattle.shim_process.specs.Unwinding.{unwind}
 use Rattle.shim_process.specs.Sound.{Sound}
 use Rattle.shim_process.proofs.JoinKeeps.{join_joined, joined_sound}
@@ -30,13 +30,16 @@ step_sound l now m (Err x) e s at ok err = subst Sound (sym err) s
 pub put_sound : (l now m : LocalState) → l ≡ now → Sound l → stop now ≡ AtPut → m ≡ put l → Sound m
 put_sound l now m e s at is = walk_laws.moved_sound l m s (by_call (by_put (stands_so l now AtPut e at) is))
 
+pub thrown_sound : (l now m : LocalState) (z : ℕ) → l ≡ now → Sound l → stop now ≡ AtThrow z → m ≡ thrown l → Sound m
+thrown_sound l now m z e s at is = walk_laws.moved_sound l m s (by_call (by_thrown z (stands_so l now (AtThrow z) e at) is))
+
 pub receive_sound : (l now m : LocalState) (c : NamedChannel) (v : ℤ) → l ≡ now → Sound l → stop now ≡ AtNext c → m ≡ receive l v → Sound m
 receive_sound l now m c v e s at is = walk_laws.moved_sound l m s (by_call (by_receive c v (stands_so l now (AtNext c) e at) is))
 
-pub unwind_sound : (l now m : LocalState) (label : ℕ) → l ≡ now → Sound l → now.base ≤ label → label < handlers now → m ≡ unwind l label → Sound m
-unwind_sound l now m label e s least most is =
+pub unwind_sound : (l now m : LocalState) (label : ℕ) (v : ℤ) → l ≡ now → Sound l → now.base ≤ label → label < handlers now → m ≡ unwind l label v → Sound m
+unwind_sound l now m label v e s least most is =
     walk_laws.moved_sound l m s
-    (by_unwind (by_label label (pos 0) (subst (λ k. k.base ≤ label) (sym e) least) (subst (λ k. label < handlers k) (sym e) most) is))
+    (by_unwind (by_label label v (subst (λ k. k.base ≤ label) (sym e) least) (subst (λ k. label < handlers k) (sym e) most) is))
 
 pub join_sound : (l now m : LocalState) (ks : List LocalState) (goes_on : Bool) → l ≡ now → Sound l → Born now ks → m ≡ join l (map (λ k. k) ks) goes_on → Sound m
 join_sound l now m ks goes_on e s born is =

@@ -13,6 +13,6 @@ action_of (StoreFirst x v) = action.StoreFirst x v
 action_of (Make t x v) = action.Make t x v
 action_of (Read x) = action.Read x
 action_of (Enter unit given labels) = action.Enter unit (arguments_of given) labels
-action_of (Install x name) = action.Install x name
+action_of (Install x name y) = action.Install x name y
 action_of (Trapped t) = action.Trapped t
 action_of Wait = action.Wait

@@ -16,8 +16,9 @@ pub enum Action {
     Read(u32),
     /// The unit is called with these arguments, and its exceptions stand for these labels.
     Enter(u32, List<Argument>, List<u32>),
-    /// The exception of this number comes into force, by this name.
-    Install(u32, u32),
+    /// The exception of this number comes into force, by this name, with the variable of its handler in
+    /// this slot, where it has one.
+    Install(u32, u32, Option<u32>),
     Trapped(Trap),
     /// It isn't quiet.
     Wait,

@@ -1,14 +1,18 @@
 // Returns to callers.
-ghost use Rattle.std.specs.Prelude.{◌≡◌, ◌≢◌, ◌≤◌, ◌-◌, [], ◌∷◌, List as ListOf, map, slice_get};
+ghost use Rattle.std.specs.Prelude.{◌≡◌, ◌≢◌, ◌≤◌, ◌+◌, ◌-◌, ℤ, [], ◌∷◌, List as ListOf, map, slice_get, OnSome};
 ghost use Rattle.shim_units.specs.declared.unit.Unit.{Unit as UnitOf};
 ghost use Rattle.shim_process.specs.Unwinding.{handling};
-ghost use Rattle.shim_walk_frames.specs.Leaving.{unwound_in};
+ghost use Rattle.shim_walk_frames.specs.Leaving.{handler_in, serial_of, taking_in, unwound_in, variable_of};
+ghost use Rattle.shim_walk_frames.specs.Variables.{one_of, variables_in, variables_of};
 ghost use Rattle.shim_process.specs.Ends.{went};
 ghost use Rattle.shim_walk_frames.specs.Turns.{successor_of};
 ghost use Rattle.shim_walk_frames.specs.Depths.{AllFit, depth_of, returned, shown, text};
 ghost use Rattle.shim_walk_frames.specs.Cursors.{AllStand, Stands};
 
-use shim_locations::locations::Locations;
+use shim_base::Ty;
+use shim_locations::location::Location;
+use shim_locations::locations::{Locations, number_of};
+use shim_process::HandlerVariable;
 use shim_units::Unit;
 use shim_walk_frames::call_stack::CallStack;
 use shim_walk_frames::frame::Frame;
@@ -21,6 +25,7 @@ pub fn settle(units: &[Unit], top: &mut Frame, callers: &mut CallStack, location
     requires fit { AllFit units.now }
     requires cursors { AllStand units.now (top.old ∷ callers.old) }
     ensures value { depth_of units.now top.new callers.new locations.new ≡ returned (map (shown units.now) callers.old) (shown units.now top.old) locations.old }
+    ensures fewer { variables_in (top.new ∷ callers.new) ≤ variables_in (top.old ∷ callers.old) }
     ensures cursors { AllStand units.now (top.new ∷ callers.new) }
 {
     while top.is_over(text_of(units, top.unit())) {
@@ -46,6 +51,7 @@ pub fn go_on(
     requires fit { AllFit units.now }
     requires cursors { AllStand units.now (top.old ∷ callers.old) }
     ensures value { depth_of units.now top.new callers.new locations.new ≡ returned (map (shown units.now) callers.old) (went (successor_of successor) (shown units.now top.old)) locations.old }
+    ensures fewer { variables_in (top.new ∷ callers.new) ≤ variables_in (top.old ∷ callers.old) }
     ensures cursors { AllStand units.now (top.new ∷ callers.new) }
 {
     let unit = top.unit();
@@ -53,23 +59,51 @@ pub fn go_on(
     settle(units, top, callers, locations);
 }
 
-// The innermost frame goes on with its handler of this place.
+// The innermost frame goes on with its handler of this place, and gives the variable of that one.
 #[tactic(auto, using(shim_walk_frames::proofs::Returns::text_fits))]
-fn handle(units: &[Unit], top: &mut Frame, place: u32)
+fn handle(units: &[Unit], top: &mut Frame, place: u32) -> Option<HandlerVariable>
     requires fit { AllFit units.now }
     requires cursor { Stands units.now top.old }
     ensures value { shown units.now top.new ≡ handling (slice_get (shown units.now top.old).places (place - top.old.outer)) (place - top.old.outer) (shown units.now top.old) }
+    ensures variable { result ≡ variable_of (slice_get top.old.places (place - top.old.outer)) }
+    ensures fewer { one_of result + variables_of top.new.places ≤ variables_of top.old.places }
+    ensures slots { top.new.slots ≡ top.old.slots }
     ensures cursor { Stands units.now top.new }
 {
     let unit = top.unit();
     let index = place.saturating_sub(top.outer());
-    top.handle(text_of(units, unit), index as usize);
+    top.handle(text_of(units, unit), index as usize)
+}
+
+/// The number is kept in a handler's variable, on the channel that its `try` made for it. Gives the serial
+/// number of that one.
+pub fn keep(
+    locations: &mut Locations,
+    slots: &[usize],
+    variable: Option<HandlerVariable>,
+    value: i64,
+) -> Option<u32>
+    ensures locations { locations.new ≡ taking_in variable value slots.now locations.old }
+    ensures serial { result ≡ serial_of variable }
+{
+    match variable {
+        None => None,
+        Some(variable) => {
+            let HandlerVariable { slot, channel } = variable;
+            let serial = channel.serial();
+            let number = number_of(slots, slot);
+            locations.put(number, Location::new(channel, Ty::Int32, value));
+            Some(serial)
+        }
+    }
 }
 
 // The frames that were entered since a place came into force are left.
-#[tactic(auto, using(shim_walk_frames::proofs::Leaves::leaves_one))]
+#[tactic(auto, using(shim_walk_frames::proofs::Leaves::leaves_one, shim_walk_frames::proofs::Leaves::leaves_place))]
 fn leave(top: &mut Frame, callers: &mut CallStack, locations: &mut Locations, place: u32)
-    ensures same { (units : ListOf UnitOf) → unwound_in (map (shown units) callers.new) (shown units top.new) place locations.new ≡ unwound_in (map (shown units) callers.old) (shown units top.old) place locations.old }
+    ensures same { (units : ListOf UnitOf) (v : ℤ) → unwound_in (map (shown units) callers.new) (shown units top.new) place v locations.new ≡ unwound_in (map (shown units) callers.old) (shown units top.old) place v locations.old }
+    ensures handler { handler_in top.new place callers.new ≡ handler_in top.old place callers.old }
+    ensures fewer { variables_in (top.new ∷ callers.new) ≤ variables_in (top.old ∷ callers.old) }
     ensures there { callers.new ≢ [] → top.new.outer ≤ place }
     ensures cursors { (units : ListOf UnitOf) → AllStand units (top.old ∷ callers.old) → AllStand units (top.new ∷ callers.new) }
 {
@@ -82,21 +116,27 @@ fn leave(top: &mut Frame, callers: &mut CallStack, locations: &mut Locations, pl
     }
 }
 
-/// At the handler of an exception place, counted from the outermost of the process.
-#[tactic(auto, using(shim_walk_frames::proofs::Leaves::handles_here, shim_walk_frames::proofs::Leaves::handles_last))]
+/// At the handler of an exception place, counted from the outermost of the process, which is given the
+/// number. Gives the serial number of the channel that its variable is on, where it has one.
 pub fn unwind_to(
     units: &[Unit],
     top: &mut Frame,
     callers: &mut CallStack,
     locations: &mut Locations,
     place: u32,
-)
+    value: i64,
+) -> Option<u32>
     requires fit { AllFit units.now }
     requires cursors { AllStand units.now (top.old ∷ callers.old) }
-    ensures value { depth_of units.now top.new callers.new locations.new ≡ unwound_in (map (shown units.now) callers.old) (shown units.now top.old) place locations.old }
+    ensures value { depth_of units.now top.new callers.new locations.new ≡ unwound_in (map (shown units.now) callers.old) (shown units.now top.old) place value locations.old }
+    ensures serial { result ≡ serial_of (variable_of (handler_in top.old place callers.old)) }
+    ensures fewer { OnSome result (1 + variables_in (top.new ∷ callers.new) ≤ variables_in (top.old ∷ callers.old)) }
+    ensures none { variables_in (top.new ∷ callers.new) ≤ variables_in (top.old ∷ callers.old) }
     ensures cursors { AllStand units.now (top.new ∷ callers.new) }
 {
     leave(top, callers, locations, place);
-    handle(units, top, place);
+    let variable = handle(units, top, place);
+    let serial = keep(locations, top.slots(), variable, value);
     settle(units, top, callers, locations);
+    serial
 }

@@ -105,7 +105,7 @@ fn what_action(
         UWhat::While(expr, _) => Ok(test(Successor::On, expr, locations, slots)),
         UWhat::For(_, expr, _, _) => Ok(test_or(Successor::On, expr, locations, slots)),
         UWhat::Call(call) => enter(alloc, call, context),
-        UWhat::Try(_, exception, _) => Ok(install(*exception, context)),
+        UWhat::Try(_, exception, slot, _) => Ok(install(*exception, *slot, context)),
         _ => Ok(Action::Wait),
     }
 }
@@ -133,13 +133,17 @@ fn second_part(slot: u32, other: u32, context: &StatementContext<'_>) -> Action
 }
 
 // A `try`.
-fn install(exception: u32, context: &StatementContext<'_>) -> Action
-    ensures { action_of result ≡ step.limited context.now.full (step.Install exception (step.try_name (unit_or (slice_get context.now.units.now context.now.unit)) exception)) }
+fn install(exception: u32, slot: Option<u32>, context: &StatementContext<'_>) -> Action
+    ensures { action_of result ≡ step.limited context.now.full (step.Install exception (step.try_name (unit_or (slice_get context.now.units.now context.now.unit)) exception) slot) }
 {
     if context.full {
         Action::Trapped(Trap::Depth)
     } else {
-        Action::Install(exception, try_name(context.units, context.unit, exception))
+        Action::Install(
+            exception,
+            try_name(context.units, context.unit, exception),
+            slot,
+        )
     }
 }
 

@@ -1,5 +1,5 @@
 // One process as a value.
-ghost use Rattle.std.specs.Prelude.{◌≡◌, ◌≢◌, ◌<◌, ◌≤◌, ◌↔◌, ◌+◌, ◌^◌, IsTrue, true, false, [], length, map, ℤ, IfOk, OnOk, OnErr, slice_set};
+ghost use Rattle.std.specs.Prelude.{◌≡◌, ◌≢◌, ◌<◌, ◌≤◌, ◌↔◌, ◌+◌, ◌^◌, IsTrue, true, false, [], length, map, ℤ, Some, IfOk, OnOk, OnErr, slice_get, slice_set, take};
 ghost use Rattle.std.specs.Option.{option_copied};
 ghost use Rattle.shim_local.specs.Process.{AtQuiet};
 ghost use Rattle.shim_local.specs.Views.{stop_view};
@@ -10,11 +10,11 @@ ghost use Rattle.shim_process.specs.Arguments.{arguments};
 ghost use Rattle.shim_process.specs.LocalState.{handlers, is_deep, is_full, number_of, trapped, unit_at};
 ghost use Rattle.shim_process.specs.Locations.{at_number, with_back};
 ghost use Rattle.shim_process.specs.StatementViews.{passed_labels, statement_view};
-ghost use Rattle.shim_process.specs.Steps.{installed, called, done, half, line_of, made_in, next_action, pushed, quiet, read_in, stored_in};
-ghost use Rattle.shim_process.specs.Stops.{byte, put, put_value, receive, stop};
+ghost use Rattle.shim_process.specs.Steps.{installing, called, done, half, line_of, made_in, next_action, pushed, quiet, read_in, stored_in, variable_in};
+ghost use Rattle.shim_process.specs.Stops.{byte, put, put_value, receive, stop, thrown, thrown_number, thrown_value};
 ghost use Rattle.shim_process.specs.Sharers.{carries, given_at, shares, channel_value};
 ghost use Rattle.shim_process.specs.Todo.{next_stmt};
-ghost use Rattle.shim_process.specs.Unwinding.{handler, unwind};
+ghost use Rattle.shim_process.specs.Unwinding.{catching, handler, unwind};
 ghost use Rattle.shim_walk.specs.Receivers.{received};
 ghost use Rattle.shim_walk.specs.States.{trapped_at_of};
 ghost use Rattle.shim_walk.specs.ChildrenMade.{MakesChildren, children_made};
@@ -29,7 +29,7 @@ ghost use Rattle.shim_walk.specs.Returning.{IsLeft, resting};
 
 use crate::action::Action;
 use crate::count::one_more;
-use crate::depth::{go_on, settle, unwind_to};
+use crate::depth::{go_on, keep, settle, unwind_to};
 use crate::entry::{Entry, make_entry};
 use crate::has_process::HasProcess;
 use crate::initial_frame::{branches_of, first_frame, labels_from};
@@ -40,8 +40,10 @@ use crate::put::{low_bits, stmt_put};
 use crate::receiver::{Receiver, receiver_at};
 use crate::same_frames::{same_call_stack, same_frame};
 use crate::same_locations::same_locations;
+use crate::same_runs::same_runs;
 use crate::same_stands::{same_input, same_trap};
 use crate::stop::{stop_at, trapped};
+use crate::throw_number::stmt_thrown;
 use crate::trapped_at::TrappedAt;
 use shim_base::{Chan, List, NoMemory, Path, Shared, Trap, Ty};
 use shim_local::Stop;
@@ -52,11 +54,13 @@ use shim_locations::location::Location;
 use shim_locations::locations::{Locations, location_at, number_of};
 use shim_locations::passing::{branch_locations, channels_of, copy_channels, fresh, with_empties};
 use shim_locations::remainder::{Remainder, lend, lend_given};
+use shim_locations::serial_runs::SerialRuns;
 use shim_locations::sharers::{declared, is_among, own_of};
 use shim_locations::streams::{input_for, output_for, takes_output};
+use shim_process::HandlerVariable;
 use shim_units::{Accepted, UBranch, UStmt};
 use shim_units_equality::{Same, same_all, same_program};
-use shim_walk_frames::call_stack::{CallStack, handler_in};
+use shim_walk_frames::call_stack::{CallStack, handler_in, variables_in};
 use shim_walk_frames::frame::Frame;
 use shim_walk_frames::handler::name_and_line;
 use shim_walk_frames::successors::Successor;
@@ -83,6 +87,7 @@ pub struct Process {
     base: u32,
     made: u32,
     forks: u32,
+    untaken: SerialRuns,
     given: List<Chan>,
     top: Frame,
     callers: CallStack,
@@ -95,7 +100,7 @@ pub struct Process {
 }
 
 impl Model for Process {
-    ghost use Rattle.std.specs.Prelude.{◌<◌, ◌^◌, ◌∷◌};
+    ghost use Rattle.std.specs.Prelude.{◌<◌, ◌≤◌, ◌^◌, ◌∷◌};
     ghost use Rattle.std.specs.Arc.{arc_value};
     ghost use Rattle.std.specs.Coded.{codes};
     ghost use Rattle.shim_process.specs.LocalState.{LocalState};
@@ -109,10 +114,12 @@ impl Model for Process {
     ghost use Rattle.shim_walk.specs.States.{state_of};
     ghost use Rattle.shim_walk_frames.specs.Depths.{AllFit};
     ghost use Rattle.shim_walk_frames.specs.Cursors.{AllStand};
+    ghost use Rattle.shim_walk_frames.specs.Variables.{variables_in};
+    ghost use Rattle.shim_locations.specs.Runs.{AreBelow};
 
-    ghost view = { λ p. state_of (arc_value p.path) p.base p.made p.forks p.given p.top p.callers p.locations p.input_at p.holds_output p.trap p.program p.input };
+    ghost view = { λ p. state_of (arc_value p.path) p.base p.made p.forks p.untaken.runs p.given p.top p.callers p.locations p.input_at p.holds_output p.trap p.program p.input };
 
-    ghost invariant = { λ p. (p.base < 2 ^ 31) × AllFit p.program.units × AllStand p.program.units (p.top ∷ p.callers) };
+    ghost invariant = { λ p. (p.base < 2 ^ 31) × AllFit p.program.units × AllStand p.program.units (p.top ∷ p.callers) × (variables_in (p.top ∷ p.callers) ≤ p.untaken.room) × AreBelow p.made p.untaken.runs };
 }
 
 impl Process {
@@ -140,6 +147,7 @@ impl Process {
             base,
             made: 0,
             forks: 0,
+            untaken: SerialRuns::new(alloc),
             given: List::new(alloc),
             top,
             callers: CallStack::new(alloc),
@@ -319,14 +327,58 @@ impl Process {
         Ok(())
     }
 
-    /// The exception comes into force, by this name, at the line of the statement. A refusal changes
-    /// nothing.
-    pub fn install(&mut self, exception: u32, name: u32, line: u32) -> Result<(), NoMemory>
+    // The variable of a handler in this slot, on a channel that would be the next.
+    #[tactic(auto, unfolding(shim_process::specs::LocalState::unit_at))]
+    fn variable_in(&self, slot: u32) -> Result<HandlerVariable, NoMemory>
+        ensures { IfOk result (λ variable. variable ≡ variable_in slot self.now) }
+    {
+        let name = slot_name(self.program.units(), self.top.unit(), slot);
+        let channel = Chan::new(Arc::try_clone(&self.path)?, self.made, name);
+        Ok(HandlerVariable { slot, channel })
+    }
+
+    // The exception comes into force, and the variable of its handler, in this slot, gets a new channel. A
+    // refusal changes nothing.
+    fn install_variable(
+        &mut self,
+        exception: u32,
+        name: u32,
+        line: u32,
+        slot: u32,
+    ) -> Result<(), NoMemory>
         requires { line ≡ line_of self.old.frame.todo }
-        ensures ok { OnOk result (self.new ≡ record self.old { frame = installed exception name self.old.frame }) }
+        ensures ok { OnOk result (self.new ≡ installing exception name (Some slot) self.old) }
         ensures err { OnErr result (self.new ≡ self.old) }
     {
-        self.top.install(exception, name, line)
+        let serial = self.made;
+        let made = one_more(serial)?;
+        let many = variables_in(&self.top, &self.callers)?;
+        let room = many.checked_add(2).ok_or(NoMemory)?;
+        let variable = self.variable_in(slot)?;
+        self.untaken.reserve(room)?;
+        self.top.install(exception, name, line, Some(variable))?;
+        self.untaken.add(serial);
+        self.made = made;
+        Ok(())
+    }
+
+    /// The exception comes into force, by this name, at the line of the statement, with the variable of its
+    /// handler in this slot, where it has one. A refusal changes nothing.
+    pub fn install(
+        &mut self,
+        exception: u32,
+        name: u32,
+        line: u32,
+        slot: Option<u32>,
+    ) -> Result<(), NoMemory>
+        requires { line ≡ line_of self.old.frame.todo }
+        ensures ok { OnOk result (self.new ≡ installing exception name slot self.old) }
+        ensures err { OnErr result (self.new ≡ self.old) }
+    {
+        match slot {
+            None => self.top.install(exception, name, line, None),
+            Some(slot) => self.install_variable(exception, name, line, slot),
+        }
     }
 
     /// The frame of the unit is the innermost from now on. A refusal changes nothing.
@@ -418,8 +470,8 @@ impl Process {
                 self.go(Successor::On);
             }
             Action::Enter(unit, given, labels) => self.enter(unit, given.as_slice(), labels)?,
-            Action::Install(exception, name) => {
-                self.install(exception, name, self.line())?;
+            Action::Install(exception, name, slot) => {
+                self.install(exception, name, self.line(), slot)?;
                 self.go(Successor::First);
             }
             Action::Trapped(trap) => self.trap(trap),
@@ -474,6 +526,29 @@ impl Process {
                 self.go(Successor::On);
                 Some(low_bits(value))
             }
+            Err(trap) => {
+                self.trap(trap);
+                None
+            }
+        }
+    }
+
+    /// The number of the throw at which it stands, or the trap.
+    pub fn thrown_value(&self) -> Result<i64, Trap>
+        ensures { result ≡ thrown_value self.now }
+    {
+        stmt_thrown(self.stmt(), &self.context())
+    }
+
+    /// The number of the throw at which it stands, where it goes on standing. Where the expression traps,
+    /// there is none, and the process stands trapped.
+    #[tactic(auto, unfolding(shim_process::specs::Stops::thrown, shim_process::specs::Stops::thrown_number))]
+    pub fn thrown(&mut self) -> Option<i64>
+        ensures number { result ≡ thrown_number self.old }
+        ensures after { self.new ≡ thrown self.old }
+    {
+        match self.thrown_value() {
+            Ok(value) => Some(value),
             Err(trap) => {
                 self.trap(trap);
                 None
@@ -538,7 +613,7 @@ impl Process {
     pub fn shares(&self, c: &Chan) -> bool
         ensures { result ≡ shares self.now c.now.channel }
     {
-        is_among(self.given.as_slice(), c) || declared(&self.path, self.made, c)
+        is_among(self.given.as_slice(), c) || declared(&self.path, self.made, &self.untaken, c)
     }
 
     /// Whether the channel's own variable is one of its own.
@@ -560,18 +635,31 @@ impl Process {
         }
     }
 
-    /// At the handler of the exception of this label, which is one of its own in force.
-    pub fn unwind(&mut self, label: u32)
-        ensures { self.new ≡ unwind self.old label }
+    /// At the handler of the exception of this label, which is one of its own in force, and which is given
+    /// the number.
+    pub fn unwind(&mut self, label: u32, value: i64)
+        ensures { self.new ≡ unwind self.old label value }
     {
         let place = label.saturating_sub(self.base);
-        unwind_to(
+        let taken = unwind_to(
             self.program.units(),
             &mut self.top,
             &mut self.callers,
             &mut self.locations,
             place,
+            value,
         );
+        self.untaken.take_some(taken);
+    }
+
+    /// The number is kept in the variable of the handler of this exception place of the innermost unit,
+    /// where it has one. The place goes out of force, with those inside it.
+    pub fn catch(&mut self, index: usize, value: i64)
+        ensures { self.new ≡ record (catching (slice_get self.old.frame.places index) value self.old.frame self.old) { frame = record self.old.frame { places = take index self.old.frame.places } } }
+    {
+        let variable = self.top.catch(index);
+        let taken = keep(&mut self.locations, self.top.slots(), variable, value);
+        self.untaken.take_some(taken);
     }
 
     /// Whether it stands at a statement that concerns it alone.
@@ -656,6 +744,7 @@ impl Process {
             base,
             made,
             forks: 0,
+            untaken: SerialRuns::new(alloc),
             given,
             top,
             callers: CallStack::new(alloc),
@@ -834,6 +923,7 @@ impl Process {
             base: self.base,
             made: self.made,
             forks: self.forks,
+            untaken: self.untaken.copy(alloc)?,
             given,
             top,
             callers,
@@ -849,12 +939,13 @@ impl Process {
     // Whether the other process came from the same fork with the same channels, and made and forked as
     // much since.
     fn same_origin(&self, other: &Process) -> bool
-        ensures { IsTrue result ↔ ((self.now.path ≡ other.now.path) × (self.now.base ≡ other.now.base) × (self.now.made ≡ other.now.made) × (self.now.forks ≡ other.now.forks) × (self.now.given ≡ other.now.given)) }
+        ensures { IsTrue result ↔ ((self.now.path ≡ other.now.path) × (self.now.base ≡ other.now.base) × (self.now.made ≡ other.now.made) × (self.now.forks ≡ other.now.forks) × (self.now.untaken ≡ other.now.untaken) × (self.now.given ≡ other.now.given)) }
     {
         self.path().same(other.path())
             && self.base == other.base
             && self.made == other.made
             && self.forks == other.forks
+            && same_runs(&self.untaken, &other.untaken)
             && same_all(self.given.as_slice(), other.given.as_slice())
     }
 

@@ -5,8 +5,9 @@ ghost use Rattle.shim_walk_frames.specs.Depths.{AllFit, shown};
 ghost use Rattle.shim_walk_frames.specs.Pieces.{left_all};
 ghost use Rattle.shim_walk_frames.specs.Successors.{size_all};
 
+use shim_process::HandlerVariable;
 use shim_units::{UStmt, Unit};
-use shim_units_equality::same_all;
+use shim_units_equality::{Same, same_all};
 use shim_walk_frames::call_stack::CallStack;
 use shim_walk_frames::frame::Frame;
 use shim_walk_frames::handler::Handler;
@@ -27,14 +28,26 @@ fn same_place(body: &[UStmt], one: u32, other: u32) -> bool
 }
 
 // Whether they are the same exception place of a text.
-fn same_handler(body: &[UStmt], one: Handler, other: Handler) -> bool
+fn same_handler(body: &[UStmt], one: &Handler, other: &Handler) -> bool
     requires { size_all body.now < 2 ^ 32 }
-    ensures { IsTrue result ↔ (place_of body.now one ≡ place_of body.now other) }
+    ensures { IsTrue result ↔ (place_of body.now one.now ≡ place_of body.now other.now) }
 {
     one.exception == other.exception
         && one.name == other.name
         && one.line == other.line
+        && same_variable(&one.variable, &other.variable)
         && same_place(body, one.at, other.at)
+}
+
+// Whether the variables of two handlers are the same.
+fn same_variable(one: &Option<HandlerVariable>, other: &Option<HandlerVariable>) -> bool
+    ensures { IsTrue result ↔ (one.now ≡ other.now) }
+{
+    match (one, other) {
+        (None, None) => true,
+        (Some(one), Some(other)) => one.slot == other.slot && one.channel.same(&other.channel),
+        _ => false,
+    }
 }
 
 // Whether the same exception places of a text are in force.
@@ -47,7 +60,7 @@ fn same_places(body: &[UStmt], one: &[Handler], other: &[Handler]) -> bool
         let Some((first, rest)) = remainder.split_first() else {
             return false;
         };
-        if !same_handler(body, *place, *first) {
+        if !same_handler(body, place, first) {
             return false;
         }
         remainder = rest;

@@ -78,7 +78,7 @@ fn what_stop<'a>(stmt: &UStmt, context: &StatementContext<'a>) -> Stop<'a>
         UWhat::NextAssign(slot, _) => meets_second(context, *slot),
         UWhat::AssignNext(_, slot) => meets_first(context, *slot),
         UWhat::Put(_, _) => at_put(context.holds_output),
-        UWhat::Throw(exception) => Stop::Throw(label_for(context, *exception)),
+        UWhat::Throw(exception, _) => Stop::Throw(label_for(context, *exception)),
         UWhat::Par(branches) => at_fork(branches.as_slice()),
         _ => Stop::Quiet,
     }

@@ -208,8 +208,8 @@ good_cases (UWhat-F.If e a b) l =
     let x = bare (UWhat-F.If e a b) in
     let s = line_of l (roll-UWhat x) in
     two_good s 0 (plain a) (plain b) (all_good a) (all_good b) (successors_roll l x) (items_roll l x) (part_roll l x) (size_roll l x) (follows l x todo.On) (follows l x todo.First) (follows l x todo.Second)
-good_cases (UWhat-F.Try a t b) l =
-    let x = bare (UWhat-F.Try a t b) in
+good_cases (UWhat-F.Try a t y b) l =
+    let x = bare (UWhat-F.Try a t y b) in
     let s = line_of l (roll-UWhat x) in
     two_good s 1 (plain a) (plain b) (all_good a) (all_good b) (successors_roll l x) (items_roll l x) (part_roll l x) (size_roll l x) (follows l x todo.On) (follows l x todo.First) (follows l x todo.Second)
 good_cases (UWhat-F.Declare t v e) l = let x = bare (UWhat-F.Declare t v e) in simple (line_of l (roll-UWhat x)) (successors_roll l x) (items_roll l x) (part_roll l x) (size_roll l x) (follows l x)
@@ -220,7 +220,7 @@ good_cases (UWhat-F.AssignNext v w) l = let x = bare (UWhat-F.AssignNext v w) in
 good_cases (UWhat-F.Get v w) l = let x = bare (UWhat-F.Get v w) in simple (line_of l (roll-UWhat x)) (successors_roll l x) (items_roll l x) (part_roll l x) (size_roll l x) (follows l x)
 good_cases (UWhat-F.Put v e) l = let x = bare (UWhat-F.Put v e) in simple (line_of l (roll-UWhat x)) (successors_roll l x) (items_roll l x) (part_roll l x) (size_roll l x) (follows l x)
 good_cases (UWhat-F.Call v) l = let x = bare (UWhat-F.Call v) in simple (line_of l (roll-UWhat x)) (successors_roll l x) (items_roll l x) (part_roll l x) (size_roll l x) (follows l x)
-good_cases (UWhat-F.Throw v) l = let x = bare (UWhat-F.Throw v) in simple (line_of l (roll-UWhat x)) (successors_roll l x) (items_roll l x) (part_roll l x) (size_roll l x) (follows l x)
+good_cases (UWhat-F.Throw v e) l = let x = bare (UWhat-F.Throw v e) in simple (line_of l (roll-UWhat x)) (successors_roll l x) (items_roll l x) (part_roll l x) (size_roll l x) (follows l x)
 good_cases (UWhat-F.Par v) l = let x = bare (UWhat-F.Par v) in simple (line_of l (roll-UWhat x)) (successors_roll l x) (items_roll l x) (part_roll l x) (size_roll l x) (follows l x)
 good_cases (UWhat-F.While e a) l =
     let x = bare (UWhat-F.While e a) in

@@ -7,3 +7,4 @@ pub mod Went
 pub mod Returns
 pub mod Leaves
 pub mod Fitting
+pub mod Counting

@@ -93,14 +93,14 @@ at_if_first s e a b n w pos h = at_layer s _ (UWhat-F.If e a b) n w (outs-If e a
 pub at_if_second : (s : UStmt) (e : UExpr) (a b : List UStmt) (n : ℕ) → s.what ≡ If e a b → 0 < n → size_all a ≤ n - 1 → stmt_at s n ≡ at_all b (n - 1 - size_all a)
 at_if_second s e a b n w pos h = at_layer s _ (UWhat-F.If e a b) n w (outs-If e a b) ∙ two_of s a b n ∙ two_second s a b n pos h
 
-pub at_try_start : (s : UStmt) (x : ℕ) (a b : List UStmt) (n : ℕ) → s.what ≡ Try a x b → n ≡ 0 → stmt_at s n ≡ Some s
-at_try_start s x a b n w z = at_layer s _ (UWhat-F.Try a x b) n w (outs-Try a x b) ∙ two_of s a b n ∙ two_zero s a b n z
+pub at_try_start : (s : UStmt) (x : ℕ) (y : Option ℕ) (a b : List UStmt) (n : ℕ) → s.what ≡ Try a x y b → n ≡ 0 → stmt_at s n ≡ Some s
+at_try_start s x y a b n w z = at_layer s _ (UWhat-F.Try a x y b) n w (outs-Try a x y b) ∙ two_of s a b n ∙ two_zero s a b n z
 
-pub at_try_first : (s : UStmt) (x : ℕ) (a b : List UStmt) (n : ℕ) → s.what ≡ Try a x b → 0 < n → n - 1 < size_all a → stmt_at s n ≡ at_all a (n - 1)
-at_try_first s x a b n w pos h = at_layer s _ (UWhat-F.Try a x b) n w (outs-Try a x b) ∙ two_of s a b n ∙ two_first s a b n pos h
+pub at_try_first : (s : UStmt) (x : ℕ) (y : Option ℕ) (a b : List UStmt) (n : ℕ) → s.what ≡ Try a x y b → 0 < n → n - 1 < size_all a → stmt_at s n ≡ at_all a (n - 1)
+at_try_first s x y a b n w pos h = at_layer s _ (UWhat-F.Try a x y b) n w (outs-Try a x y b) ∙ two_of s a b n ∙ two_first s a b n pos h
 
-pub at_try_second : (s : UStmt) (x : ℕ) (a b : List UStmt) (n : ℕ) → s.what ≡ Try a x b → 0 < n → size_all a ≤ n - 1 → stmt_at s n ≡ at_all b (n - 1 - size_all a)
-at_try_second s x a b n w pos h = at_layer s _ (UWhat-F.Try a x b) n w (outs-Try a x b) ∙ two_of s a b n ∙ two_second s a b n pos h
+pub at_try_second : (s : UStmt) (x : ℕ) (y : Option ℕ) (a b : List UStmt) (n : ℕ) → s.what ≡ Try a x y b → 0 < n → size_all a ≤ n - 1 → stmt_at s n ≡ at_all b (n - 1 - size_all a)
+at_try_second s x y a b n w pos h = at_layer s _ (UWhat-F.Try a x y b) n w (outs-Try a x y b) ∙ two_of s a b n ∙ two_second s a b n pos h
 
 pub at_while_start : (s : UStmt) (e : UExpr) (a : List UStmt) (n : ℕ) → s.what ≡ While e a → n ≡ 0 → stmt_at s n ≡ Some s
 at_while_start s e a zero w z = at_layer s _ (UWhat-F.While e a) zero w (outs-While e a)

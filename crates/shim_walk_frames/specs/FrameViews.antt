@@ -21,7 +21,7 @@ pub record FrameView : Type 0 where
 
 -- an exception place by the number of its `try` in this text
 abbrev pub place_of : List UStmt → Handler → ExceptionPlace
-place_of body a = record { exception = a.exception; name = a.name; line = a.line; todo = left_all body a.at }
+place_of body a = record { exception = a.exception; name = a.name; line = a.line; variable = a.variable; todo = left_all body a.at }
 
 -- the frame of a unit with this text
 abbrev pub frame_of : List UStmt → FrameView → Frame

@@ -1,17 +1,48 @@
 -- Unwinding to a handler over frames and locations alone, and the handler of an exception place.
-use Rattle.std.specs.Prelude.{ℕ, ◌-◌, nat_lt, List, [], ◌∷◌, take, Option, Some, None, slice_get, if◌then◌else◌}
+use Rattle.std.specs.Prelude.{ℕ, ℤ, ◌-◌, nat_lt, List, [], ◌∷◌, take, Option, Some, None, slice_get, slice_set, if◌then◌else◌}
+use Rattle.shim_process.specs.declared.handler_variable.HandlerVariable.{HandlerVariable}
+use Rattle.shim_process.specs.declared.serial_run.SerialRun.{SerialRun}
 use Rattle.shim_process.specs.Locations.{Locations}
-use Rattle.shim_process.specs.LocalState.{Frame}
-use Rattle.shim_process.specs.Unwinding.{handling}
+use Rattle.shim_process.specs.LocalState.{Frame, ExceptionPlace, number_of}
+use Rattle.shim_process.specs.SerialRuns.{without_some}
+use Rattle.shim_process.specs.Unwinding.{handling, caught_location}
 use Rattle.shim_walk_frames.specs.declared.handler.Handler.{Handler}
 use Rattle.shim_walk_frames.specs.FrameViews.{FrameView}
 use Rattle.shim_walk_frames.specs.Depths.{Depth, returned}
 
-abbrev pub unwound_in : List Frame → Frame → ℕ → Locations → Depth
-unwound_in [] f n locations = returned [] (handling (slice_get f.places (n - f.outer)) (n - f.outer) f) locations
-unwound_in (caller ∷ callers) f n locations =
-    if nat_lt n f.outer then unwound_in callers caller n (take f.floor locations)
-    else returned (caller ∷ callers) (handling (slice_get f.places (n - f.outer)) (n - f.outer) f) locations
+-- what a handler's variable changes of the locations, in a frame of these slots
+abbrev pub taking_in : Option HandlerVariable → ℤ → List ℕ → Locations → Locations
+taking_in None v slots locations = locations
+taking_in (Some y) v slots locations = slice_set locations (number_of slots y.slot) (Some (caught_location y.channel v))
+
+abbrev pub catching_in : Option ExceptionPlace → ℤ → Frame → Locations → Locations
+catching_in None v f locations = locations
+catching_in (Some p) v f locations = taking_in p.variable v f.slots locations
+
+abbrev pub unwound_in : List Frame → Frame → ℕ → ℤ → Locations → Depth
+unwound_in [] f n v locations = returned [] (handling (slice_get f.places (n - f.outer)) (n - f.outer) f) (catching_in (slice_get f.places (n - f.outer)) v f locations)
+unwound_in (caller ∷ callers) f n v locations =
+    if nat_lt n f.outer then unwound_in callers caller n v (take f.floor locations)
+    else returned (caller ∷ callers) (handling (slice_get f.places (n - f.outer)) (n - f.outer) f) (catching_in (slice_get f.places (n - f.outer)) v f locations)
+
+-- the serial number of a handler's variable
+abbrev pub serial_of : Option HandlerVariable → Option ℕ
+serial_of None = None
+serial_of (Some y) = Some y.channel.channel.serial
+
+-- without that of a handler's variable
+abbrev pub untaken_without : Option HandlerVariable → List SerialRun → List SerialRun
+untaken_without y runs = without_some (serial_of y) runs
+
+-- the serial numbers that no handler has taken, behind a catch at this place
+abbrev pub untaken_behind : Option ExceptionPlace → List SerialRun → List SerialRun
+untaken_behind None runs = runs
+untaken_behind (Some p) runs = untaken_without p.variable runs
+
+-- the variable of a handler in force
+abbrev pub variable_of : Option Handler → Option HandlerVariable
+variable_of None = None
+variable_of (Some a) = a.variable
 
 abbrev pub handler_in : FrameView → ℕ → List FrameView → Option Handler
 handler_in s n [] = slice_get s.places (n - s.outer)

@@ -6,3 +6,4 @@ pub mod FrameViews
 pub mod Depths
 pub mod Cursors
 pub mod Leaving
+pub mod Variables

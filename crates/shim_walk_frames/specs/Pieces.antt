@@ -81,7 +81,7 @@ what_part (UWhat-F.If e a b) s = part_of (two_piece s 0 (pieces_of a) (pieces_of
 what_part (UWhat-F.While e a) s = part_of (loop_piece s (pieces_of a))
 what_part (UWhat-F.For first e step body) s = part_of (joined_piece (pieces_of first) (loop_piece s (joined_piece (pieces_of body) (pieces_of step))))
 what_part (UWhat-F.Block a) s = part_of (pieces_of a)
-what_part (UWhat-F.Try a x b) s = part_of (two_piece s 1 (pieces_of a) (pieces_of b))
+what_part (UWhat-F.Try a x y b) s = part_of (two_piece s 1 (pieces_of a) (pieces_of b))
 what_part _ s = part_of (one_piece s)
 
 abbrev pub stmt_part : UStmt-F (UWhat × (UStmt → Part)) (UStmt × Part) → Part

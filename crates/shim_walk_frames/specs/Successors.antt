@@ -75,7 +75,7 @@ what_successors (UWhat-F.If e a b) = two 0 (block a) (block b)
 what_successors (UWhat-F.While e a) = loop (block a)
 what_successors (UWhat-F.For first e step body) = joined (block first) (loop (joined (block body) (block step)))
 what_successors (UWhat-F.Block a) = block a
-what_successors (UWhat-F.Try a x b) = two 1 (block a) (block b)
+what_successors (UWhat-F.Try a x y b) = two 1 (block a) (block b)
 what_successors _ = one
 
 abbrev pub successors : UStmt → Successors

@@ -1,6 +1,8 @@
 // The frames that wait for a called unit.
 ghost use Rattle.std.specs.Prelude.{◌≡◌, [], ◌∷◌, length, reverse, MatchOption, IfOk, OnOk, IfErr, OnErr};
+ghost use Rattle.std.specs.Option.{option_copied};
 ghost use Rattle.shim_walk_frames.specs.Leaving.{handler_in};
+ghost use Rattle.shim_walk_frames.specs.Variables.{variables_in};
 
 use crate::frame::Frame;
 use crate::handler::Handler;
@@ -72,13 +74,24 @@ impl CallStack {
 
 /// The handler at an exception place of a process with this frame and these callers, the innermost
 /// last. The places are counted from the outermost.
-pub fn handler_in(top: &Frame, callers: &[Frame], place: u32) -> Option<Handler>
-    ensures { result ≡ handler_in top.now place (reverse callers.now) }
+pub fn handler_in<'a>(top: &'a Frame, callers: &'a [Frame], place: u32) -> Option<&'a Handler>
+    ensures { option_copied result ≡ handler_in top.now place (reverse callers.now) }
 {
     match callers.split_last() {
         Some((caller, rest)) if place < top.outer() => handler_in(caller, rest, place),
         _ => top.place(place.saturating_sub(top.outer()) as usize),
     }
+}
+
+/// How many variables of handlers are in force, in this frame and in those that wait.
+pub fn variables_in(top: &Frame, callers: &CallStack) -> Result<usize, NoMemory>
+    ensures { IfOk result (λ many. many ≡ variables_in (top.now ∷ callers.now)) }
+{
+    let mut many = top.variables();
+    for caller in callers.as_slice() {
+        many = many.checked_add(caller.variables()).ok_or(NoMemory)?;
+    }
+    Ok(many)
 }
 
 fn copied(alloc: Global, units: &[Frame]) -> Result<Vec<Frame>, NoMemory>

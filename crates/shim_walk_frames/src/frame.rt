@@ -1,16 +1,20 @@
 // The frame of a unit that a process is in.
 ghost use Rattle.std.specs.Prelude.{◌≡◌, ◌<◌, ◌≤◌, ◌↔◌, ◌+◌, ◌^◌, [], ◌∷◌, ◌++◌, length, take, true, false, slice_get, None, Some, IsTrue, IfOk, OnOk, OnErr};
+ghost use Rattle.std.specs.Option.{option_copied};
 ghost use Rattle.shim_process.specs.Ends.{went};
 ghost use Rattle.shim_process.specs.Unwinding.{handling};
 ghost use Rattle.shim_walk_frames.specs.FrameViews.{frame_of};
+ghost use Rattle.shim_walk_frames.specs.Leaving.{variable_of};
+ghost use Rattle.shim_walk_frames.specs.Variables.{one_of, variables_of};
 ghost use Rattle.shim_walk_frames.specs.Cursors.{IsCursor, IsRight};
 ghost use Rattle.shim_walk_frames.specs.Turns.{successor_of};
 ghost use Rattle.shim_walk_frames.specs.Successors.{size_all};
 
 use crate::cursor::{Cursor, advance, cursor_of, go_at};
-use crate::handler::Handler;
+use crate::handler::{Handler, copied};
 use crate::successors::Successor;
 use shim_base::NoMemory;
+use shim_process::HandlerVariable;
 use shim_units::UStmt;
 use std::alloc::Global;
 use std::marker::Model;
@@ -154,6 +158,22 @@ impl Frame {
         self.outer + self.places.len() as u32
     }
 
+    /// How many variables its handlers have.
+    #[tactic(auto, using(crate::proofs::Counting::variables_few))]
+    pub fn variables(&self) -> usize
+        ensures value { result ≡ variables_of self.now.places }
+        ensures bound { result < 2 ^ 31 }
+    {
+        let mut many = 0;
+        let places = self.places.as_slice();
+        for place in places {
+            if place.variable.is_some() {
+                many += 1;
+            }
+        }
+        many
+    }
+
     /// The first part of the statement is done.
     pub fn halve(&mut self)
         ensures { self.new ≡ record self.old { halfway = true } }
@@ -161,10 +181,16 @@ impl Frame {
         self.halfway = true;
     }
 
-    /// The place of the exception's `try`, at which the unit stands, comes into force. A refusal
-    /// changes nothing.
-    pub fn install(&mut self, exception: u32, name: u32, line: u32) -> Result<(), NoMemory>
-        ensures ok { OnOk result (self.new ≡ record self.old { places = self.old.places ++ record { exception = exception; name = name; line = line; at = self.old.at } ∷ [] }) }
+    /// The place of the exception's `try`, at which the unit stands, comes into force, with the variable
+    /// of its handler. A refusal changes nothing.
+    pub fn install(
+        &mut self,
+        exception: u32,
+        name: u32,
+        line: u32,
+        variable: Option<HandlerVariable>,
+    ) -> Result<(), NoMemory>
+        ensures ok { OnOk result (self.new ≡ record self.old { places = self.old.places ++ record { exception = exception; name = name; line = line; at = self.old.at; variable = variable } ∷ [] }) }
         ensures err { OnErr result (self.new ≡ self.old) }
     {
         if self.outer as usize + self.places.len() >= 2_147_483_647 {
@@ -176,6 +202,7 @@ impl Frame {
             name,
             line,
             at,
+            variable,
         })?;
         Ok(())
     }
@@ -205,33 +232,63 @@ impl Frame {
             labels: Vec::from_slice(alloc, self.labels.as_slice())?,
             floor: self.floor,
             outer: self.outer,
-            places: Vec::from_slice(alloc, self.places.as_slice())?,
+            places: copied(alloc, self.places.as_slice())?.into_vec(),
         })
     }
 
     /// One of its exception places in force, counted from the outermost.
-    pub fn place(&self, index: usize) -> Option<Handler>
-        ensures { result ≡ slice_get self.now.places index }
+    pub fn place(&self, index: usize) -> Option<&Handler>
+        ensures { option_copied result ≡ slice_get self.now.places index }
     {
-        self.places.get(index).copied()
+        self.places.get(index)
     }
 
-    /// At the handler of the `try` of this place, which goes out of force.
+    // The place, which goes out of force, with those inside it.
+    #[tactic(auto, using(crate::proofs::Leaves::takes_none, crate::proofs::Leaves::takes_last))]
+    fn take_place(&mut self, index: usize) -> Option<Handler>
+        ensures place { result ≡ slice_get self.old.places index }
+        ensures others { self.new ≡ record self.old { places = take index self.old.places } }
+    {
+        if index >= self.places.len() {
+            return None;
+        }
+        self.places.truncate(index + 1);
+        self.places.pop()
+    }
+
+    /// The place goes out of force, with those inside it. Gives the variable of its handler.
+    pub fn catch(&mut self, index: usize) -> Option<HandlerVariable>
+        ensures variable { result ≡ variable_of (slice_get self.old.places index) }
+        ensures others { self.new ≡ record self.old { places = take index self.old.places } }
+        ensures fewer { one_of result + variables_of self.new.places ≤ variables_of self.old.places }
+    {
+        let Some(place) = self.take_place(index) else {
+            return None;
+        };
+        let Handler { variable, .. } = place;
+        variable
+    }
+
+    /// At the handler of the `try` of this place, which goes out of force. Gives the variable of that
+    /// handler.
     #[tactic(auto, using(crate::proofs::Leaves::handles_none))]
-    pub fn handle(&mut self, body: &[UStmt], index: usize)
+    pub fn handle(&mut self, body: &[UStmt], index: usize) -> Option<HandlerVariable>
         requires bound { size_all body.now < 2 ^ 32 }
         requires cursor { IsRight body.now self.old.cursor self.old.at }
         ensures value { frame_of body.now self.new ≡ handling (slice_get (frame_of body.now self.old).places index) index (frame_of body.now self.old) }
+        ensures variable { result ≡ variable_of (slice_get self.old.places index) }
+        ensures fewer { one_of result + variables_of self.new.places ≤ variables_of self.old.places }
         ensures unit { self.new.unit ≡ self.old.unit }
+        ensures slots { self.new.slots ≡ self.old.slots }
         ensures cursor { IsRight body.now self.new.cursor self.new.at }
     {
-        match self.place(index) {
-            None => {}
-            Some(place) => {
-                self.rest(place.at, false, index);
-                self.go(body, Successor::Second);
-            }
-        }
+        let Some(place) = self.take_place(index) else {
+            return None;
+        };
+        let Handler { at, variable, .. } = place;
+        self.rest(at, false, index);
+        self.go(body, Successor::Second);
+        variable
     }
 
     /// On from the statement at which it stands.
@@ -239,7 +296,9 @@ impl Frame {
         requires bound { size_all body.now < 2 ^ 32 }
         requires cursor { IsRight body.now self.old.cursor self.old.at }
         ensures value { frame_of body.now self.new ≡ went (successor_of successor) (frame_of body.now self.old) }
+        ensures fewer { variables_of self.new.places ≤ variables_of self.old.places }
         ensures unit { self.new.unit ≡ self.old.unit }
+        ensures slots { self.new.slots ≡ self.old.slots }
         ensures cursor { IsRight body.now self.new.cursor self.new.at }
     {
         let cursor = self.cursor(body);

@@ -81,7 +81,7 @@ pub fn size_of(stmt: &UStmt) -> u32
             size_all(first.as_slice()) + looped
         }
         UWhat::Block(body) => size_all(body.as_slice()),
-        UWhat::Try(body, _, handler) => {
+        UWhat::Try(body, _, _, handler) => {
             1 + size_all(body.as_slice()) + size_all(handler.as_slice())
         }
         _ => 1,
@@ -178,7 +178,7 @@ pub fn go(stmt: &UStmt, successor: Successor, at: u32) -> Position
             }
         }
         UWhat::Block(body) => go_all(body.as_slice(), successor, at),
-        UWhat::Try(body, _, handler) => {
+        UWhat::Try(body, _, _, handler) => {
             let size = size_all(body.as_slice());
             let other = size_all(handler.as_slice());
             if at == 0 {
@@ -257,7 +257,7 @@ pub fn find(stmt: &UStmt, at: u32) -> Option<&UStmt>
             }
         }
         UWhat::Block(body) => find_all(body.as_slice(), at),
-        UWhat::Try(body, _, handler) => {
+        UWhat::Try(body, _, _, handler) => {
             if at == 0 {
                 return Some(stmt);
             }

@@ -1,11 +1,11 @@
 // The canonical text of statements.
 ghost use Rattle.std.specs.Prelude.{◌≡◌, ◌++◌, OnOk, map, true};
-ghost use Rattle.shim_syntax.specs.Printing.{all_pieces, block_pieces, branch_pieces, else_pieces, end_pieces, fork_pieces, par_pieces, part_pieces, stmt_shown, text_of};
+ghost use Rattle.shim_syntax.specs.Printing.{all_pieces, block_pieces, branch_pieces, else_pieces, end_pieces, fork_pieces, par_pieces, part_pieces, stmt_shown, text_of, thrown_number_pieces, variable_pieces};
 
 use super::expressions::{push_call, push_expr, push_first_value, push_test};
 use super::words::{push_type, push_word};
-use crate::tree::{Branch, BranchWhat, Stmt, What};
-use shim_base::{List, NoMemory};
+use crate::tree::{Branch, BranchWhat, Expr, Stmt, What};
+use shim_base::{List, Name, NoMemory};
 
 // Whether a semicolon ends the statement.
 fn has_semicolon(stmt: &Stmt) -> bool
@@ -13,7 +13,7 @@ fn has_semicolon(stmt: &Stmt) -> bool
 {
     match &stmt.what {
         What::If(_, _, _) | What::While(_, _) | What::For(_, _, _, _) => false,
-        What::Block(_) | What::Try(_, _, _) | What::Par(_) => false,
+        What::Block(_) | What::Try(_, _, _, _) | What::Par(_) => false,
         _ => true,
     }
 }
@@ -25,6 +25,30 @@ fn push_end(text: &mut List<u8>, semicolon: bool) -> Result<(), NoMemory>
         text.extend_from_slice(b";\n")
     } else {
         Ok(())
+    }
+}
+
+// The variable of a handler, where it has one.
+fn push_variable(text: &mut List<u8>, variable: &Option<Name>) -> Result<(), NoMemory>
+    ensures { OnOk result (text.new ≡ text.old ++ text_of (variable_pieces variable.now)) }
+{
+    match variable {
+        None => Ok(()),
+        Some(name) => push_word(text, name),
+    }
+}
+
+// The number of a throw in its parentheses, where it has one.
+fn push_thrown_number(text: &mut List<u8>, number: &Option<Expr>) -> Result<(), NoMemory>
+    ensures { OnOk result (text.new ≡ text.old ++ text_of (thrown_number_pieces number.now)) }
+{
+    match number {
+        None => Ok(()),
+        Some(number) => {
+            text.extend_from_slice(b"( ")?;
+            push_expr(text, number)?;
+            text.extend_from_slice(b") ")
+        }
     }
 }
 
@@ -95,17 +119,19 @@ fn push_stmt(text: &mut List<u8>, stmt: &Stmt) -> Result<(), NoMemory>
         }
         What::Block(body) => push_block(text, body.as_slice()),
         What::Call(call) => push_call(text, call),
-        What::Try(body, name, handler) => {
+        What::Try(body, name, variable, handler) => {
             text.extend_from_slice(b"try ")?;
             push_block(text, body.as_slice())?;
             text.extend_from_slice(b"catch ( ")?;
             push_word(text, name)?;
+            push_variable(text, variable)?;
             text.extend_from_slice(b") ")?;
             push_block(text, handler.as_slice())
         }
-        What::Throw(name) => {
+        What::Throw(name, number) => {
             text.extend_from_slice(b"throw ")?;
-            push_word(text, name)
+            push_word(text, name)?;
+            push_thrown_number(text, number)
         }
         What::Par(branches) => push_fork(text, branches.as_slice()),
     }

@@ -7,6 +7,7 @@ use Rattle.shim_code.specs.declared.machine_instr.MachineInstr.TheVariants.{Jump
 use Rattle.shim_code.specs.declared.instr.MarkKind.TheVariants as kind
 use Rattle.shim_code.specs.Layout.{arms, behind, one}
 use Rattle.shim_code.specs.MachineCode.{MachineCode, machine_call, machine_expr, machine_expr_or, machine_fork, machine_looped, machine_stmts}
+use Rattle.shim_code.specs.declared.draft.Caught.{Caught}
 use Rattle.shim_code.specs.Drafts.{head_of}
 use Rattle.shim_code.proofs.Joining.{arms_closed, looped_closed, then_marked, then_more, then_one}
 use Rattle.shim_code.proofs.StatementKinds.{at_kind}
@@ -72,13 +73,14 @@ emit-returns-in_ok-emit_all-in-Try-2 t c =
     let handler = c.as_slice-in-Try-2.result.now in
     let a = behind (machine_stmts units body) (one Untry) in
     let b = machine_stmts units handler in
-    let kind_is = w.is ∙ ap (λ a. is.Try a w.exception w.handler) (sym c.as_slice-in-Try.ensures) ∙ ap (λ b. is.Try body w.exception b) (sym c.as_slice-in-Try-2.ensures) in
+    let caught : Caught = record { exception = w.exception; variable = w.variable } in
+    let kind_is = w.is ∙ ap (λ a. is.Try a w.exception w.variable w.handler) (sym c.as_slice-in-Try.ensures) ∙ ap (λ b. is.Try body w.exception w.variable b) (sym c.as_slice-in-Try-2.ensures) in
     on_ok_weaker c.close-in-Try.result
-    (λ e. then_marked kind.Quiet c.args.stmt.now.line false (arms Jump (head_of (Some w.exception)) a b) old _ _ c.in_ok-begin-in-Try.ensures
-    (arms_closed (Some w.exception) a b _ _ _ _ _ _ _ _ _ _ c.in_ok-head-in-Try.ensures.at c.in_ok-head-in-Try.ensures.after
+    (λ e. then_marked kind.Quiet c.args.stmt.now.line false (arms Jump (head_of (Some caught)) a b) old _ _ c.in_ok-begin-in-Try.ensures
+    (arms_closed (Some caught) a b _ _ _ _ _ _ _ _ _ _ c.in_ok-head-in-Try.ensures.at c.in_ok-head-in-Try.ensures.after
     (then_one (machine_stmts units body) Untry _ _ _ c.in_ok-emit_all-in-Try.ensures c.in_ok-push-in-Try.ensures)
     c.in_ok-jump-in-Try.ensures.at c.in_ok-jump-in-Try.ensures.after c.in_ok-emit_all-in-Try-2.ensures e)
-    ∙ ap (λ (f : MachineCode). old ++ f (length old)) (sym (at_kind units c.args.stmt.now _ (UWhat-F.Try body w.exception handler) kind_is (outs-Try body w.exception handler))))
+    ∙ ap (λ (f : MachineCode). old ++ f (length old)) (sym (at_kind units c.args.stmt.now _ (UWhat-F.Try body w.exception w.variable handler) kind_is (outs-Try body w.exception w.variable handler))))
     c.close-in-Try.ensures
 
 pub emit-returns-in_ok-begin-in-Call : goal.emit-returns-in_ok-begin-in-Call
@@ -91,14 +93,16 @@ emit-returns-in_ok-begin-in-Call t c =
     ∙ ap (λ (f : MachineCode). old ++ f (length old)) (sym (at_kind units c.args.stmt.now _ (UWhat-F.Call call) c.in-Call.is (outs-Call call))))
     c.emit_call.ensures
 
-pub emit-returns-in_ok-begin-in-Throw : goal.emit-returns-in_ok-begin-in-Throw
-emit-returns-in_ok-begin-in-Throw t c =
+pub emit-returns-in_ok-emit_expr_or-in-Throw : goal.emit-returns-in_ok-emit_expr_or-in-Throw
+emit-returns-in_ok-emit_expr_or-in-Throw t c =
     let old = c.args.code.now in
     let units = c.args.units.now in
     let x = c.in-Throw.exception in
+    let number = machine_expr_or (pos 0) c.in-Throw.expr in
     on_ok_weaker c.push-in-Throw.result
-    (λ e. then_marked kind.Throw c.args.stmt.now.line false (one (Throw x)) old _ _ c.in_ok-begin-in-Throw.ensures e
-    ∙ ap (λ (f : MachineCode). old ++ f (length old)) (sym (at_kind units c.args.stmt.now _ (UWhat-F.Throw x) c.in-Throw.is (outs-Throw x))))
+    (λ e. then_marked kind.Throw c.args.stmt.now.line false (behind number (one (Throw x))) old _ _ c.in_ok-begin-in-Throw.ensures
+    (then_one number (Throw x) _ _ _ c.in_ok-emit_expr_or-in-Throw.ensures e)
+    ∙ ap (λ (f : MachineCode). old ++ f (length old)) (sym (at_kind units c.args.stmt.now _ (UWhat-F.Throw x c.in-Throw.expr) c.in-Throw.is (outs-Throw x c.in-Throw.expr))))
     c.push-in-Throw.ensures
 
 pub emit-returns-in_ok-begin-in-Par : goal.emit-returns-in_ok-begin-in-Par

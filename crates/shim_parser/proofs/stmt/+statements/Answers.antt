@@ -1,7 +1,7 @@
 use Rattle.std.proofs.Common.{suc, ◌∷◌, [], length, rules, arith, ap, sym, ◌∙◌, refl, subst, add-one}
 use Rattle.shim_base.specs.declared.token.Keyword.TheVariants as k
 use Rattle.shim_grammar.specs.declared.punctuation.Punctuation.TheVariants as punctuation
-use Rattle.shim_grammar.specs.Machine.{AfterEqual, AfterNext, Body, Expression, First, Fixed, Operators, Step, Test, Word}
+use Rattle.shim_grammar.specs.Machine.{AfterEqual, AfterNext, Body, Expression, First, Fixed, Operators, Step, Test, ThrowRest, Word}
 use Rattle.shim_syntax.specs.declared.tree.What.TheVariants as st
 use Rattle.shim_syntax.specs.declared.tree.BranchWhat.TheVariants as br
 use Rattle.shim_parser.specs.Statements.{IsAssigned, IsNamed, IsBehindPar}
@@ -169,7 +169,7 @@ statement-returns-in-Try t c = arm.keyed_arm c.args.level (record { at = c.peek-
     c.try_statement.new.tokens c.try_statement.result c.one-in-Try.result c.try_statement.ensures c.one-in-Try.ensures
 
 pub statement-returns-in-Throw : goal.statement-returns-in-Throw
-statement-returns-in-Throw t c = arm.keyed_arm c.args.level (record { at = c.peek-token.result.at; line = c.peek-token.result.line }) c.args.tokens.now c.enter.new.self c.advance.new.self c.in_ok-enter.ensures.0 c.in_ok-enter.ensures.1 c.advance.ensures k.Throw (sym c.peek-token.ensures.is ∙ c.in-Some.ensures (record { at = c.peek-token.result.at; line = c.peek-token.result.line }) ∙ ap (λ o. opening_view o (record { at = c.peek-token.result.at; line = c.peek-token.result.line })) c.in-Throw.is) (Word ∷ Fixed punctuation.Semicolon ∷ []) (λ z s u. refl)
+statement-returns-in-Throw t c = arm.keyed_arm c.args.level (record { at = c.peek-token.result.at; line = c.peek-token.result.line }) c.args.tokens.now c.enter.new.self c.advance.new.self c.in_ok-enter.ensures.0 c.in_ok-enter.ensures.1 c.advance.ensures k.Throw (sym c.peek-token.ensures.is ∙ c.in-Some.ensures (record { at = c.peek-token.result.at; line = c.peek-token.result.line }) ∙ ap (λ o. opening_view o (record { at = c.peek-token.result.at; line = c.peek-token.result.line })) c.in-Throw.is) (Word ∷ ThrowRest c.args.level ∷ []) (λ z s u. refl)
     c.throw.new.tokens c.throw.result c.one-in-Throw.result c.throw.ensures c.one-in-Throw.ensures
 
 pub try_statement-returns-in_err-tried : goal.try_statement-returns-in_err-tried
@@ -186,18 +186,18 @@ try_statement-returns-in_err-punctuation-3 t c = propagates _ _ _ _ _ _ c.from_r
 
 pub try_statement-returns-in_err-exception : goal.try_statement-returns-in_err-exception
 try_statement-returns-in_err-exception t c = propagates _ _ _ _ _ _ c.from_residual-in_err-exception.ensures
-    (nested.exception_fails c.args.level _ (add-one c.args.level) c.args.tokens.now c.punctuation.new.tokens c.in_ok-punctuation.ensures c.block.new.tokens c.in_ok-tried.tried c.in_ok-tried.ensures c.punctuation-2.new.tokens c.in_ok-punctuation-2.ensures c.punctuation-3.new.tokens c.in_ok-punctuation-3.ensures c.name_before.new.tokens _ c.in_err-exception.ensures)
+    (nested.exception_fails c.args.level _ (add-one c.args.level) c.args.tokens.now c.punctuation.new.tokens c.in_ok-punctuation.ensures c.block.new.tokens c.in_ok-tried.tried c.in_ok-tried.ensures c.punctuation-2.new.tokens c.in_ok-punctuation-2.ensures c.punctuation-3.new.tokens c.in_ok-punctuation-3.ensures c.name.new.tokens _ c.in_err-exception.ensures)
 
-pub try_statement-returns-in_err-punctuation-4 : goal.try_statement-returns-in_err-punctuation-4
-try_statement-returns-in_err-punctuation-4 t c = propagates _ _ _ _ _ _ c.from_residual-in_err-punctuation-4.ensures
-    (nested.handler_brace_fails c.args.level _ (add-one c.args.level) c.args.tokens.now c.punctuation.new.tokens c.in_ok-punctuation.ensures c.block.new.tokens c.in_ok-tried.tried c.in_ok-tried.ensures c.punctuation-2.new.tokens c.in_ok-punctuation-2.ensures c.punctuation-3.new.tokens c.in_ok-punctuation-3.ensures c.name_before.new.tokens c.in_ok-exception.exception c.in_ok-exception.ensures c.punctuation-4.new.tokens _ c.in_err-punctuation-4.ensures)
+pub try_statement-returns-in_err-variable : goal.try_statement-returns-in_err-variable
+try_statement-returns-in_err-variable t c = propagates _ _ _ _ _ _ c.from_residual-in_err-variable.ensures
+    (nested.catch_rest_fails c.args.level _ (add-one c.args.level) c.args.tokens.now c.punctuation.new.tokens c.in_ok-punctuation.ensures c.block.new.tokens c.in_ok-tried.tried c.in_ok-tried.ensures c.punctuation-2.new.tokens c.in_ok-punctuation-2.ensures c.punctuation-3.new.tokens c.in_ok-punctuation-3.ensures c.name.new.tokens c.in_ok-exception.exception c.in_ok-exception.ensures c.catch_rest.new.tokens _ c.in_err-variable.ensures)
 
 pub try_statement-returns-in_err-handler : goal.try_statement-returns-in_err-handler
 try_statement-returns-in_err-handler t c = propagates _ _ _ _ _ _ c.from_residual-in_err-handler.ensures
-    (nested.handler_fails c.args.level _ (add-one c.args.level) c.args.tokens.now c.punctuation.new.tokens c.in_ok-punctuation.ensures c.block.new.tokens c.in_ok-tried.tried c.in_ok-tried.ensures c.punctuation-2.new.tokens c.in_ok-punctuation-2.ensures c.punctuation-3.new.tokens c.in_ok-punctuation-3.ensures c.name_before.new.tokens c.in_ok-exception.exception c.in_ok-exception.ensures c.punctuation-4.new.tokens c.in_ok-punctuation-4.ensures c.block-2.new.tokens _ c.in_err-handler.ensures)
+    (nested.handler_fails c.args.level _ (add-one c.args.level) c.args.tokens.now c.punctuation.new.tokens c.in_ok-punctuation.ensures c.block.new.tokens c.in_ok-tried.tried c.in_ok-tried.ensures c.punctuation-2.new.tokens c.in_ok-punctuation-2.ensures c.punctuation-3.new.tokens c.in_ok-punctuation-3.ensures c.name.new.tokens c.in_ok-exception.exception c.in_ok-exception.ensures c.catch_rest.new.tokens c.in_ok-variable.variable c.in_ok-variable.ensures c.block-2.new.tokens _ c.in_err-handler.ensures)
 
 pub try_statement-returns : goal.try_statement-returns
-try_statement-returns t c = nested.try_reads c.args.level _ (add-one c.args.level) c.args.tokens.now c.punctuation.new.tokens c.in_ok-punctuation.ensures c.block.new.tokens c.in_ok-tried.tried c.in_ok-tried.ensures c.punctuation-2.new.tokens c.in_ok-punctuation-2.ensures c.punctuation-3.new.tokens c.in_ok-punctuation-3.ensures c.name_before.new.tokens c.in_ok-exception.exception c.in_ok-exception.ensures c.punctuation-4.new.tokens c.in_ok-punctuation-4.ensures c.block-2.new.tokens c.in_ok-handler.handler c.in_ok-handler.ensures
+try_statement-returns t c = nested.try_reads c.args.level _ (add-one c.args.level) c.args.tokens.now c.punctuation.new.tokens c.in_ok-punctuation.ensures c.block.new.tokens c.in_ok-tried.tried c.in_ok-tried.ensures c.punctuation-2.new.tokens c.in_ok-punctuation-2.ensures c.punctuation-3.new.tokens c.in_ok-punctuation-3.ensures c.name.new.tokens c.in_ok-exception.exception c.in_ok-exception.ensures c.catch_rest.new.tokens c.in_ok-variable.variable c.in_ok-variable.ensures c.block-2.new.tokens c.in_ok-handler.handler c.in_ok-handler.ensures
 
 pub while_loop-returns-in_err-repeated : goal.while_loop-returns-in_err-repeated
 while_loop-returns-in_err-repeated t c = propagates _ _ _ _ _ _ c.from_residual-in_err-repeated.ensures

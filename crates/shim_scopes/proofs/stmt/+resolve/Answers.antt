@@ -1,12 +1,12 @@
-use Rattle.std.proofs.Common.{rules, arith, ap, sym, subst, ◌≡◌, ◌+◌, ◌∷◌, length, drop}
+use Rattle.std.proofs.Common.{ℕ, rules, arith, ap, sym, subst, ◌≡◌, ◌+◌, ◌∷◌, length, drop}
 use Rattle.std.proofs.lemmas.Grind.{common_steps}
 use Rattle.shim_syntax.specs.declared.tree.Stmt.{the_lemmas}
 use Rattle.shim_scopes.specs.declared.scope.Scope.{Scope}
-use Rattle.shim_syntax.specs.Sizes.{stmts_size}
+use Rattle.shim_syntax.specs.Sizes.{stmts_size, variable_size}
 use Rattle.shim_scopes.specs.State.{whole, HasRoom}
 use Rattle.shim_scopes.proofs.Nested.{passed_on, kept_both, for_at_first, for_at_step, for_at_body, for_whole, try_refused, try_whole}
 use Rattle.shim_scopes.proofs.Loops.{body_goes_on, body_ends, fork_goes_on, fork_ends}
-use Rattle.shim_scopes.proofs.Room.{room_for_first, room_for_stmt, room_for_branch, behind_block, behind_body, behind_stmt, behind_branch, behind_try, room_outside, room_in_declare, room_in_if, room_in_while, room_in_for, room_for_test, room_in_block, room_in_try, room_in_par, room_in_branch}
+use Rattle.shim_scopes.proofs.Room.{room_for_first, room_for_stmt, room_for_branch, behind_block, behind_body, behind_stmt, behind_branch, behind_try, behind_variable, room_outside, room_in_declare, room_in_if, room_in_while, room_in_for, room_for_test, room_in_block, room_in_try, room_in_par, room_in_branch}
 use Rattle.shim_scopes.proofs.stmt.+resolve.Goals as goal
 
 -- statements one after another
@@ -144,35 +144,51 @@ resolve_what-resolve_block-requires-in-Block t c =
     (search (rules, the_lemmas), (c.requires.begun, (c.requires.few, rw (c.as_slice-in-Block.ensures) (room_in_block c.args.stmt.now c.args.scope.now c.in-Block.body c.in-Block.is c.requires.room))))
 
 pub resolve_try-begin_try-requires-clause-room : goal.resolve_try-begin_try-requires-clause-room
-resolve_try-begin_try-requires-clause-room t c = room_for_first 1 _ c.args.scope.now (room_in_try c.args.stmt.now c.args.scope.now c.args.body.now c.args.name.now c.args.handler.now c.requires.parts c.requires.room)
+resolve_try-begin_try-requires-clause-room t c =
+    room_for_first 1 _ c.args.scope.now (room_in_try c.args.stmt.now c.args.scope.now c.args.body.now c.args.name.now c.args.variable.now c.args.handler.now c.requires.parts c.requires.room)
 
 pub resolve_try-resolve_block-requires : goal.resolve_try-resolve_block-requires
-resolve_try-resolve_block-requires t c = (
-  search (rules, the_lemmas),
-  (
-    omega (arith, c.requires.begun, ap (λ (v : Scope). length v.visible) c.in_ok-caught.ensures.after),
-    (
-      c.requires.few,
-      rw (c.as_slice.ensures) (room_for_first (stmts_size c.args.body.now) (stmts_size c.args.handler.now) c.begin_try.new.scope
-          (behind_try c.args.names.now _ c.args.scope.now c.begin_try.new.scope _ (stmts_size c.args.body.now + stmts_size c.args.handler.now) c.in_ok-caught.ensures (room_in_try c.args.stmt.now c.args.scope.now _ _ _ c.requires.parts c.requires.room))),
-    ),
-  ),
-)
+resolve_try-resolve_block-requires t c =
+    let rest : ℕ = variable_size c.args.variable.now + stmts_size c.args.handler.now in (
+      search (rules, the_lemmas),
+      (
+        omega (arith, c.requires.begun, ap (λ (v : Scope). length v.visible) c.in_ok-caught.ensures.after),
+        (
+          c.requires.few,
+          rw (c.as_slice.ensures) (room_for_first (stmts_size c.args.body.now) rest c.begin_try.new.scope
+              (behind_try c.args.names.now _ c.args.scope.now c.begin_try.new.scope _ (stmts_size c.args.body.now + rest) c.in_ok-caught.ensures
+              (room_in_try c.args.stmt.now c.args.scope.now _ _ _ _ c.requires.parts c.requires.room))),
+        ),
+      ),
+    )
 
-pub resolve_try-resolve_block-requires-2 : goal.resolve_try-resolve_block-requires-2
-resolve_try-resolve_block-requires-2 t c = (
-  search (rules, the_lemmas),
-  (
-    c.in_ok-body.ensures.kept.long,
-    (
-      c.requires.few,
-      rw (c.as_slice-2.ensures) (room_outside c.resolve_block.new.scope _ (stmts_size c.args.handler.now)
-          (behind_block (whole c.args.functions.now c.args.names.now) c.args.start (stmts_size c.args.handler.now) c.begin_try.new.scope c.resolve_block.new.scope c.args.body.now c.in_ok-body.body
-          (rw (c.as_slice.ensures) at c.in_ok-body.ensures.meant) c.in_ok-body.ensures.kept
-          (behind_try c.args.names.now _ c.args.scope.now c.begin_try.new.scope _ (stmts_size c.args.body.now + stmts_size c.args.handler.now) c.in_ok-caught.ensures (room_in_try c.args.stmt.now c.args.scope.now _ _ _ c.requires.parts c.requires.room)))),
-    ),
-  ),
-)
+pub resolve_try-begin_handler-requires-clause-room : goal.resolve_try-begin_handler-requires-clause-room
+resolve_try-begin_handler-requires-clause-room t c =
+    let rest : ℕ = variable_size c.args.variable.now + stmts_size c.args.handler.now in
+    room_for_first (variable_size c.args.variable.now) (stmts_size c.args.handler.now) _ (room_outside c.resolve_block.new.scope _ rest
+    (behind_block (whole c.args.functions.now c.args.names.now) c.args.start rest c.begin_try.new.scope c.resolve_block.new.scope c.args.body.now c.in_ok-body.body
+    (rw (c.as_slice.ensures) at c.in_ok-body.ensures.meant) c.in_ok-body.ensures.kept
+    (behind_try c.args.names.now _ c.args.scope.now c.begin_try.new.scope _ (stmts_size c.args.body.now + rest) c.in_ok-caught.ensures
+    (room_in_try c.args.stmt.now c.args.scope.now _ _ _ _ c.requires.parts c.requires.room))))
+
+pub resolve_try-resolve_body-requires : goal.resolve_try-resolve_body-requires
+resolve_try-resolve_body-requires t c =
+    let rest : ℕ = variable_size c.args.variable.now + stmts_size c.args.handler.now in (
+      search (rules, the_lemmas),
+      (
+        c.in_ok-variable.ensures.kept.long,
+        (
+          c.requires.few,
+          rw (c.as_slice-2.ensures)
+              (behind_variable c.args.names.now c.args.variable.now c.len-inner.result _ c.begin_handler.new.scope _ (stmts_size c.args.handler.now) c.in_ok-variable.ensures.after c.in_ok-variable.ensures.kept
+              (room_outside c.resolve_block.new.scope _ rest
+              (behind_block (whole c.args.functions.now c.args.names.now) c.args.start rest c.begin_try.new.scope c.resolve_block.new.scope c.args.body.now c.in_ok-body.body
+              (rw (c.as_slice.ensures) at c.in_ok-body.ensures.meant) c.in_ok-body.ensures.kept
+              (behind_try c.args.names.now _ c.args.scope.now c.begin_try.new.scope _ (stmts_size c.args.body.now + rest) c.in_ok-caught.ensures
+              (room_in_try c.args.stmt.now c.args.scope.now _ _ _ _ c.requires.parts c.requires.room))))),
+        ),
+      ),
+    )
 
 pub resolve_what-resolve_branches-requires : goal.resolve_what-resolve_branches-requires
 resolve_what-resolve_branches-requires t c =
@@ -204,8 +220,10 @@ resolve_for-returns-in_err-body-clause-meant t c =
 pub resolve_try-returns-in_err-handler-clause-meant : goal.resolve_try-returns-in_err-handler-clause-meant
 resolve_try-returns-in_err-handler-clause-meant t c =
     passed_on _ _ _ _ _ _ c.from_residual-in_err-handler.ensures
-    (λ x q. try_refused (whole c.args.functions.now c.args.names.now) c.args.start c.len-outside.result c.args.stmt.now.line c.args.scope.now c.begin_try.new.scope c.resolve_block.new.scope _ _ _ _ _ c.in_ok-caught.caught c.in_ok-body.body x
-    c.requires.parts c.len-outside.ensures c.in_ok-caught.ensures (rw (c.as_slice.ensures) at c.in_ok-body.ensures.meant) c.in_ok-body.ensures.kept (ap (λ hs. record c.resolve_block.new.scope { handled = hs }) c.cut.ensures) q)
+    (λ x q. try_refused (whole c.args.functions.now c.args.names.now) c.args.start c.len-outside.result c.len-inner.result c.args.stmt.now.line c.args.scope.now c.begin_try.new.scope c.resolve_block.new.scope _
+    c.begin_handler.new.scope _ _ _ _ _ c.in_ok-caught.caught c.in_ok-variable.variable c.in_ok-body.body x
+    c.requires.parts c.len-outside.ensures c.in_ok-caught.ensures (rw (c.as_slice.ensures) at c.in_ok-body.ensures.meant) c.in_ok-body.ensures.kept (ap (λ hs. record c.resolve_block.new.scope { handled = hs }) c.cut.ensures)
+    c.len-inner.ensures c.in_ok-variable.ensures.after c.in_ok-variable.ensures.kept q)
     (rw (c.as_slice-2.ensures) at c.in_err-handler.ensures.meant)
 
 pub resolve_for-returns-clause-meant : goal.resolve_for-returns-clause-meant
@@ -217,6 +235,7 @@ resolve_for-returns-clause-meant t c =
 
 pub resolve_try-returns-clause-meant : goal.resolve_try-returns-clause-meant
 resolve_try-returns-clause-meant t c =
-    try_whole (whole c.args.functions.now c.args.names.now) c.args.start c.len-outside.result c.args.stmt.now.line c.args.scope.now c.begin_try.new.scope c.resolve_block.new.scope _ c.resolve_block-2.new.scope _ _ _ _ c.in_ok-caught.caught c.in_ok-body.body c.in_ok-handler.handler
+    try_whole (whole c.args.functions.now c.args.names.now) c.args.start c.len-outside.result c.len-inner.result c.args.stmt.now.line c.args.scope.now c.begin_try.new.scope c.resolve_block.new.scope _
+    c.begin_handler.new.scope c.resolve_body.new.scope _ _ _ _ _ c.in_ok-caught.caught c.in_ok-variable.variable c.in_ok-body.body c.in_ok-handler.handler c.cut-2.new.list
     c.requires.parts c.len-outside.ensures c.in_ok-caught.ensures (rw (c.as_slice.ensures) at c.in_ok-body.ensures.meant) c.in_ok-body.ensures.kept (ap (λ hs. record c.resolve_block.new.scope { handled = hs }) c.cut.ensures)
-    (rw (c.as_slice-2.ensures) at c.in_ok-handler.ensures.meant)
+    c.len-inner.ensures c.in_ok-variable.ensures.after c.in_ok-variable.ensures.kept (rw (c.as_slice-2.ensures) at c.in_ok-handler.ensures.meant) c.in_ok-handler.ensures.kept c.cut-2.ensures

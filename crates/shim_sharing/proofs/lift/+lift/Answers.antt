@@ -40,14 +40,14 @@ lift_what-returns-in_ok-body-in-For-clause-units t c =
 
 pub lift_what-returns-in_ok-handler-in-Try-clause-tree : goal.lift_what-returns-in_ok-handler-in-Try-clause-tree
 lift_what-returns-in_ok-handler-in-Try-clause-tree t c =
-    try_tree (context_view c.args.context.now) c.args.slot_map.now c.args.next c.args.units.now c.lift_body-in-Try.new.units c.args.stmt.now c.in-Try.body c.in-Try.exception c.in-Try.handler _ _ _ c.in-Try.is
+    try_tree (context_view c.args.context.now) c.args.slot_map.now c.args.next c.args.units.now c.lift_body-in-Try.new.units c.args.stmt.now c.in-Try.body c.in-Try.exception c.in-Try.variable c.in-Try.handler _ _ _ _ c.in-Try.is
     (rw (c.as_slice-in-Try.ensures) at c.in_ok-body-in-Try.ensures.tree) (rw (c.as_slice-in-Try.ensures) at c.in_ok-body-in-Try.ensures.units)
-    c.index_of-exception.ensures
+    c.index_of-exception.ensures (rw (c.as_slice-slots.ensures) at c.slot_index_of_option-variable.ensures)
     (rw (c.as_slice-in-Try-2.ensures) at c.in_ok-handler-in-Try.ensures.tree)
 
 pub lift_what-returns-in_ok-handler-in-Try-clause-units : goal.lift_what-returns-in_ok-handler-in-Try-clause-units
 lift_what-returns-in_ok-handler-in-Try-clause-units t c =
-    try_units (context_view c.args.context.now) c.args.slot_map.now c.args.next c.args.units.now c.lift_body-in-Try.new.units c.lift_body-in-Try-2.new.units c.args.stmt.now c.in-Try.body c.in-Try.exception c.in-Try.handler c.in-Try.is
+    try_units (context_view c.args.context.now) c.args.slot_map.now c.args.next c.args.units.now c.lift_body-in-Try.new.units c.lift_body-in-Try-2.new.units c.args.stmt.now c.in-Try.body c.in-Try.exception c.in-Try.variable c.in-Try.handler c.in-Try.is
     (rw (c.as_slice-in-Try.ensures) at c.in_ok-body-in-Try.ensures.units) (rw (c.as_slice-in-Try-2.ensures) at c.in_ok-handler-in-Try.ensures.units)
 
 pub lift_branch-returns-in_ok-call-in-Block-clause-tree : goal.lift_branch-returns-in_ok-call-in-Block-clause-tree
@@ -133,7 +133,7 @@ lift_what-lift_body-requires-in-For-3 t c = (
 pub lift_what-lift_body-requires-in-Try-2 : goal.lift_what-lift_body-requires-in-Try-2
 lift_what-lift_body-requires-in-Try-2 t c = (
   search (rules, the_lemmas),
-  rw (c.as_slice-in-Try-2.ensures) (room_for_handler (context_view c.args.context.now) c.args.slot_map.now c.args.next c.args.units.now c.lift_body-in-Try.new.units c.args.stmt.now c.in-Try.body c.in-Try.exception c.in-Try.handler c.in-Try.is
+  rw (c.as_slice-in-Try-2.ensures) (room_for_handler (context_view c.args.context.now) c.args.slot_map.now c.args.next c.args.units.now c.lift_body-in-Try.new.units c.args.stmt.now c.in-Try.body c.in-Try.exception c.in-Try.variable c.in-Try.handler c.in-Try.is
       (rw (c.as_slice-in-Try.ensures) at c.in_ok-body-in-Try.ensures.units) c.requires),
 )
 

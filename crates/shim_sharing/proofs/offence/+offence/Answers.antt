@@ -20,10 +20,10 @@ pub find_in_stmt-returns-in_ok-find_offence-in-None-3 : goal.find_in_stmt-return
 find_in_stmt-returns-in_ok-find_offence-in-None-3 t c = rw (at_for c.args.stmt.now _ _ _ _ c.in-For.is) (grind (arith, common_steps, refused_here, refused_further))
 
 pub find_in_stmt-returns-in-Some-4 : goal.find_in_stmt-returns-in-Some-4
-find_in_stmt-returns-in-Some-4 t c = rw (at_try c.args.stmt.now _ _ _ c.in-Try.is) (grind (arith, common_steps, refused_here, refused_further))
+find_in_stmt-returns-in-Some-4 t c = rw (at_try c.args.stmt.now _ _ _ _ c.in-Try.is) (grind (arith, common_steps, refused_here, refused_further))
 
 pub find_in_stmt-returns-in_ok-find_offence-in-None-4 : goal.find_in_stmt-returns-in_ok-find_offence-in-None-4
-find_in_stmt-returns-in_ok-find_offence-in-None-4 t c = rw (at_try c.args.stmt.now _ _ _ c.in-Try.is) (grind (arith, common_steps, refused_here, refused_further))
+find_in_stmt-returns-in_ok-find_offence-in-None-4 t c = rw (at_try c.args.stmt.now _ _ _ _ c.in-Try.is) (grind (arith, common_steps, refused_here, refused_further))
 
 pub find_in_stmt-returns-in-Some-own : goal.find_in_stmt-returns-in-Some-own
 find_in_stmt-returns-in-Some-own t c =

@@ -10,4 +10,4 @@ pub push_raises_of-returns-in_ok-push_raises-in-For-3 : goal.push_raises_of-retu
 push_raises_of-returns-in_ok-push_raises-in-For-3 t c = rw (at_for c.args.stmt.now _ _ _ _ c.in-For.is) (grind (arith, common_steps))
 
 pub push_raises_of-returns-in_ok-push_raises-in-Try-2 : goal.push_raises_of-returns-in_ok-push_raises-in-Try-2
-push_raises_of-returns-in_ok-push_raises-in-Try-2 t c = rw (at_try c.args.stmt.now _ _ _ c.in-Try.is) (grind (arith, common_steps))
+push_raises_of-returns-in_ok-push_raises-in-Try-2 t c = rw (at_try c.args.stmt.now _ _ _ _ c.in-Try.is) (grind (arith, common_steps))

@@ -13,4 +13,4 @@ pub push_stmt-returns-in_ok-push_stmts-in-For-3 : goal.push_stmt-returns-in_ok-p
 push_stmt-returns-in_ok-push_stmts-in-For-3 t c = rw (at_for c.args.stmt.now _ _ _ _ c.in-For.is) (grind (arith, common_steps))
 
 pub push_stmt-returns-in_ok-push_stmts-in-Try-2 : goal.push_stmt-returns-in_ok-push_stmts-in-Try-2
-push_stmt-returns-in_ok-push_stmts-in-Try-2 t c = rw (at_try c.args.stmt.now _ _ _ c.in-Try.is) (grind (arith, common_steps))
+push_stmt-returns-in_ok-push_stmts-in-Try-2 t c = rw (at_try c.args.stmt.now _ _ _ _ c.in-Try.is) (grind (arith, common_steps))

@@ -1,13 +1,17 @@
-use Rattle.std.proofs.Common.{◌≡◌, ap, ◌∙◌, subst, slice_get, length, ◌+◌, ◌++◌, arith, if◌then◌else◌, Some, None, List}
+use Rattle.std.proofs.Common.{◌≡◌, ◌<◌, refl, sym, ap, ◌∙◌, subst, slice_get, length, ◌+◌, ◌++◌, arith, if◌then◌else◌, Some, None, List}
 use Rattle.shim_units.specs.declared.unit.Unit.{Unit as UnitOf}
 use Rattle.std.specs.Arc.{arc_value}
 use Rattle.shim_units.specs.declared.form.Form.{Form}
 use Rattle.shim_process.specs.LocalState.{unit_or}
 use Rattle.shim_process.specs.Arguments.{empties, entered, numbers_from}
 use Rattle.shim_process.specs.Forks.{takes_input, takes_output, labels_from}
-use Rattle.shim_walk_frames.specs.Depths.{shown}
+use Rattle.shim_locations.specs.Runs.{AreBelow, RunsView}
+use Rattle.shim_walk_frames.specs.Cursors.{AllStand, Stands}
+use Rattle.shim_walk_frames.specs.Depths.{AllFit, shown}
+use Rattle.shim_walk_frames.proofs.Fitting.{all_fit}
 use Rattle.shim_walk.proofs.Accepting.{accepted}
 use Rattle.shim_walk.proofs.MadeChildren.{root_by}
+use Rattle.shim_walk.proofs.Rooms.{room_for_none}
 use Rattle.shim_walk.proofs.process.Process.main.Goals as goal
 
 pub returns-clause-accepted : goal.returns-clause-accepted
@@ -31,12 +35,23 @@ returns-clause-value c =
     let e_params2 = c.params_of-2.ensures ∙ ap (λ us. (unit_or (slice_get us n)).params) u ∙ ap (λ k. (unit_or (slice_get program.units k)).params) m in
     let z = ap length t in
     let e_base : length names + 1 ≡ 1 + length program.main_throws = omega arith in
-    root_by program c.args.input (arc_value c.in_ok-new.field-0) (length names + 1) c.new-3.result c.in_ok-top.top c.new-4.result c.from_list.result c.input_for-input_at.result c.takes_output-holds_output.result
+    root_by program c.args.input (arc_value c.in_ok-new.field-0) (length names + 1) c.new-3.result.runs c.new-4.result c.in_ok-top.top c.new-5.result c.from_list.result c.input_for-input_at.result c.takes_output-holds_output.result
     (c.in_ok-new.ensures.ok ∙ c.root.ensures)
     e_base
-    c.new-3.ensures
-    e_top
+    (ap (λ (r : RunsView). r.runs) c.new-3.ensures)
     c.new-4.ensures
+    e_top
+    c.new-5.ensures
     (c.from_list.ensures ∙ c.in_ok-locations.ensures ∙ ap (λ x. x ++ empties c.slots_of.result.now) c.new.ensures ∙ ap empties e_slots)
     (c.input_for-input_at.ensures ∙ ap (λ ps. if takes_input ps then Some 0 else None) e_params)
     (c.takes_output-holds_output.ensures ∙ ap takes_output e_params2)
+
+pub invariant_of-result : goal.invariant_of-result
+invariant_of-result c =
+    let units = c.args.program.units in
+    let top = c.in_ok-top.top in
+    let u = c.units-units.ensures.value ∙ ap (λ (p : Form). p.units) c.deref.ensures in
+    let bound : length c.main_throws-names.result.now + 1 < 2147483648 = omega (arith, c.main_throws-names.ensures.few) in
+    let fits = room_for_none c.units-units.result.now top c.new-5.result _ c.new-3.result.room c.in_ok-top.ensures.value refl c.new-5.ensures in
+    let texts = subst (λ (p : Form). AllFit p.units) c.deref.ensures (all_fit _ c.units-units.ensures.fit) in
+    (bound, texts, (subst (λ us. Stands us top) u c.in_ok-top.ensures.cursor, subst (AllStand units) (sym c.new-5.ensures) tt), fits, subst (AreBelow 0) (sym (ap (λ (r : RunsView). r.runs) c.new-3.ensures)) tt)

@@ -1,8 +1,10 @@
-use Rattle.std.proofs.Common.{◌≡◌, ◌≤◌, ◌-◌, ◌∙◌, ap, arith, length, take, false, Some}
+use Rattle.std.proofs.Common.{◌≡◌, ◌≤◌, ◌-◌, ◌∙◌, sym, ap, subst, arith, length, take, false, Some}
 use Rattle.shim_process.specs.Ends.{went}
 use Rattle.shim_walk_frames.specs.FrameViews.{FrameView, frame_of}
 use Rattle.shim_walk_frames.specs.Turns.{successor_of}
 use Rattle.shim_walk_frames.specs.Successors.{size_all}
+use Rattle.shim_walk_frames.specs.Variables.{variables_of}
+use Rattle.shim_walk_frames.proofs.Counting.{variables_take}
 use Rattle.shim_walk_frames.proofs.Went.{goes_on, stays}
 use Rattle.shim_walk_frames.proofs.frame.Frame.go.Goals as goal
 
@@ -30,3 +32,10 @@ returns-clause-value c =
     ap (λ l. frame_of body (record t { at = position.at; cursor = cursor; halfway = false; places = l })) ps
     ∙ goes_on body t cursor c.args.successor position.at position.left h.0 (ap (λ p. p.at) h.1) (ap (λ p. p.left) h.1)
     ∙ ap (λ (x : FrameView). went (successor_of c.args.successor) (frame_of body x)) v
+
+pub returns-clause-fewer : goal.returns-clause-fewer
+returns-clause-fewer c =
+    let i = c.self.inside in
+    let places : i.places.items ≡ c.args.self.now.places = ap (λ (x : FrameView). x.places) c.self.view_is in
+    subst (λ ps. variables_of c.truncate.new.self.items ≤ variables_of ps) places
+    (subst (λ ps. variables_of ps ≤ variables_of i.places.items) (sym c.truncate.ensures.items) (variables_take c.saturating_sub-kept.result i.places.items))
