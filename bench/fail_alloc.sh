@@ -143,6 +143,15 @@ void main(istream &i, ostream &o) {
 }
 S
 echo 'void main() { int a; int b; int c; { next a; next b; } par { next b; next c; } par { next c; next a; } }' > ring.shim
+cat > catch.shim <<'S'
+shim 2; void main(ostream &o) {
+  int k;
+  while (k < 3) {
+    try { { throw T(k); } par { throw T(9); } } catch (T x) { { next x = x + 1; } par { next x; } put o, x; }
+    k = k + 1;
+  }
+}
+S
 printf AB > bytes
 echo 'void main() { x = 1; }' > refused.shim
 
@@ -150,11 +159,12 @@ for workers in 1 4; do
   quiet=$((workers == 1 ? 1 : 10))
   refuse_all $quiet run meeting.shim --workers $workers
   refuse_all $quiet run poison.shim --workers $workers
+  refuse_all $quiet run catch.shim --workers $workers
   refuse_all $quiet run filter.shim --input bytes --workers $workers
   refuse_all $quiet run filter.shim --input bytes --workers $workers --budget 31
   refuse_all $quiet gen storm --size 10 --workers $workers
 done
-for source in meeting poison filter; do
+for source in meeting poison catch filter; do
   refuse_all 1 ref $source.shim --input bytes
   refuse_all 1 check $source.shim
   refuse_all 1 code $source.shim

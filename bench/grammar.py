@@ -1,5 +1,5 @@
 #!/usr/bin/env python3
-"""The first fault of a text, by the grammar and the limits of docs/LANGUAGE.md, in Python and with nothing of ./shim.
+"""The first fault of a text, by the grammar and the limits of docs/GRAMMAR.md, in Python and with nothing of ./shim.
 
 `first_fault` gives the line that refuses a text of either version, or None for a text that is a program, whose names
 nobody looked at.

@@ -290,9 +290,9 @@ class Parser:
 
     def inner(self, read):
         self.scopes.append({})
-        statements = read()
+        what = read()
         self.scopes.pop()
-        return statements
+        return what
 
     # Statements; each reader gives a list, since one declaration may be several.
 
@@ -344,14 +344,22 @@ class Parser:
             self.take("catch")
             self.take("(")
             name = self.take().text
-            self.take(")")
-            self.take("{")
-            return [Statement("try", line, body=body, name=name, handler=self.inner(self.block_rest))]
+            return [Statement("try", line, body=body, name=name, **self.inner(self.handler))]
         if word == "throw":
             name = self.take().text
+            number = self.test() if self.text() == "(" else None
             self.take(";")
-            return [Statement("throw", line, name=name)]
+            return [Statement("throw", line, name=name, value=number)]
         raise NotAccepted()
+
+    def handler(self):
+        variable = slot = None
+        if self.text() != ")":
+            variable = self.take().text
+            slot = self.declare(variable, "int32")
+        self.take(")")
+        self.take("{")
+        return {"variable": variable, "slot": slot, "handler": self.block_rest()}
 
     def test(self):
         self.take("(")
@@ -493,8 +501,13 @@ def uses(statements, functions, named, written, declared):
             for part in (s.first, s.step, s.body):
                 uses(part, functions, named, written, declared)
         elif s.kind == "try":
+            if s.slot is not None:
+                declared.add(s.slot)
             uses(s.body, functions, named, written, declared)
             uses(s.handler, functions, named, written, declared)
+        elif s.kind == "throw":
+            if s.value:
+                named |= s.value.slots
         elif s.kind == "block":
             uses(s.body, functions, named, written, declared)
         elif s.kind == "fork":
