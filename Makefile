@@ -39,7 +39,7 @@ version: built
 to = $(DESTDIR)$(PREFIX)
 SHARED = $(wildcard tools/shimtools/*.py)
 PAGES = $(wildcard man/*.1)
-DOCS = README.md docs/LANGUAGE.md docs/GRAMMAR.md docs/FORMATS.md docs/PROMISES.md docs/TUTORIAL.md docs/QUESTIONS.md docs/MANY-INPUTS.md tools/many.slurm
+DOCS = README.md $(wildcard docs/*.md) tools/many.slurm
 EDITORS = $(shell cd editors && find . -type f | sort)
 
 install: built version
