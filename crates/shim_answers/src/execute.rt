@@ -1,5 +1,7 @@
 // What is told of a source, run or not.
-ghost use Rattle.std.specs.Prelude.{◌≡◌, ◌≤◌, IfOk, length};
+ghost use Rattle.std.specs.Prelude.{◌≡◌, ◌≤◌, ◌⊎◌, IfOk, length};
+ghost use Rattle.shim_net.specs.Nets.{IsNet};
+ghost use Rattle.shim_net.specs.Standings.{IsQuietNet, IsSpentNet};
 ghost use Rattle.shim_command.specs.Jobs.{IsWithin};
 ghost use Rattle.shim_command.specs.declared.mode.Course.TheVariants as courses;
 ghost use Rattle.shim_command.specs.declared.mode.Telling.TheVariants as tellings;
@@ -16,6 +18,7 @@ use shim_base::{List, NoMemory, Shared, push_decimal};
 use shim_code::{compile, listing};
 use shim_command::{Job, Showing, Telling};
 use shim_front_end::{read_program, read_source};
+use shim_local::Local;
 use shim_net::Net;
 use shim_reference::{named, reference};
 use shim_replay::journal_text;
@@ -25,10 +28,33 @@ use shim_syntax::{Program, print};
 use shim_units::Unit;
 use shim_up::up;
 use shim_vm::Body;
-use shim_workers::{Gate, drive};
+use shim_workers::{Gate, drive, drive_steal};
 use std::alloc::Global;
 use std::sync::Wait;
 use std::thread::Threads;
+
+// The net to which a run of this one by workers comes, whose work lies in lanes where the job says so, and else on
+// a board.
+fn run_net<L: Local, G: Gate, R: Threads + Wait + Sync>(
+    rt: &R,
+    alloc: Global,
+    job: &Job,
+    net: Net<L>,
+    gate: &G,
+) -> Result<Net<L>, NoMemory>
+    requires within { IsWithin job.now }
+    ensures root { IfOk result (λ n. n.root ≡ net.root) }
+    ensures budget { IfOk result (λ n. n.budget ≡ net.budget) }
+    ensures stands { IfOk result (λ n. IsQuietNet L.ops n ⊎ IsSpentNet L.ops n) }
+    ensures keeps { IfOk result (λ n. IsNet L.ops n) }
+{
+    let workers = job.workers as u32;
+    if job.steal {
+        drive_steal(rt, alloc, net, workers, job.quantum, gate)
+    } else {
+        drive(rt, alloc, net, workers, job.quantum, gate)
+    }
+}
 
 // The net to which a run of a source's compiled code comes, whose processes do their work on at most as
 // many threads as the job has workers.
@@ -47,7 +73,7 @@ fn run_code<G: Gate, R: Threads + Wait + Sync>(
     let code = Shared::new(alloc, compile(alloc, source)?)?;
     let main = Body::main(alloc, code, input)?;
     let begun = Net::start(alloc, main, job.budget)?;
-    drive(rt, alloc, begun, job.workers as u32, job.quantum, gate)
+    run_net(rt, alloc, job, begun, gate)
 }
 
 // What such a run comes to.

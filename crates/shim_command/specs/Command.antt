@@ -2,7 +2,7 @@
 use Rattle.std.specs.Prelude.{ℕ, true, List, [], ◌∷◌, Some, codes}
 use Rattle.clap.specs.Words.{App, Rule, Text, new_rule}
 use Rattle.clap.specs.Simple.{new_shape}
-use Rattle.clap.specs.declared.builder.action.ArgAction.TheVariants.{Set}
+use Rattle.clap.specs.declared.builder.action.ArgAction.TheVariants.{Set, SetTrue}
 use Rattle.clap.specs.declared.builder.value_parser.ValueParser.TheVariants.{Unsigned}
 
 -- a word that has to be there, by its place
@@ -17,6 +17,10 @@ option name = record (new_rule name) { long = Some name }
 abbrev pub number : Text → ℕ → ℕ → Rule
 number name least most = record (new_rule name) { long = Some name; parser = Some (Unsigned least most) }
 
+-- `--name` alone, at most once
+abbrev pub flag : Text → Rule
+flag name = record (new_rule name) { long = Some name; action = Some SetTrue }
+
 -- the arguments of `shim`
 unfoldable pub arguments : List Rule
 arguments =
@@ -28,6 +32,7 @@ arguments =
     ∷ number (codes "quantum") 1 10000
     ∷ number (codes "size") 1 100000
     ∷ option (codes "journal")
+    ∷ flag (codes "steal")
     ∷ []
 
 -- the command: its arguments, no subcommand, and no flag for help

@@ -1,5 +1,5 @@
 -- What words ask for.
-use Rattle.std.specs.Prelude.{ℕ, ◌≡◌, ◌≢◌, ◌≤◌, ◌&&◌, Bool, true, List, [], ◌∷◌, map, Option, Some, None, Result, Ok, Err, is_some, if◌then◌else◌, unwrap_or, codes, string_bytes, String}
+use Rattle.std.specs.Prelude.{ℕ, ◌≡◌, ◌≢◌, ◌≤◌, ◌&&◌, Bool, true, false, List, [], ◌∷◌, map, Option, Some, None, Result, Ok, Err, is_some, if◌then◌else◌, unwrap_or, bytes_eq, codes, string_bytes, String}
 use Rattle.std.specs.Option.{option_map_or}
 use Rattle.std.specs.Str.Parse.{digits_value, without_leading_plus}
 use Rattle.std.specs.declared.alloc.Global.{Global}
@@ -35,6 +35,10 @@ numbered given default = option_map_or (λ text. digits_value 10 (without_leadin
 abbrev pub number_in : List Row → Text → ℕ → ℕ
 number_in rows name default = numbered (one_of name rows) default
 
+-- whether a flag was given: `clap` finds a truth value for it as a text
+abbrev pub flag_in : List Row → Text → Bool
+flag_in rows name = option_map_or (λ text. bytes_eq text (codes "true")) (first_of name rows) false
+
 -- the job of a mode, with what was found for each argument
 abbrev pub job_with : Mode → List Row → Job
 job_with mode rows = record {
@@ -46,6 +50,7 @@ job_with mode rows = record {
   quantum = number_in rows (codes "quantum") 64;
   size = number_in rows (codes "size") 1000;
   journal = first_of (codes "journal") rows;
+  steal = flag_in rows (codes "steal");
 }
 
 -- whether a job has its source so: one that is generated is of a kind that FILE names

@@ -14,6 +14,8 @@ pub struct Job {
     pub quantum: u64,
     pub size: u64,
     pub journal: Option<List<u8>>,
+    /// Whether the pieces of a run by workers lie in lanes, from which workers steal.
+    pub steal: bool,
 }
 
 /// Why there is no job.

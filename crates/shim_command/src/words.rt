@@ -2,7 +2,7 @@
 ghost use Rattle.std.specs.Prelude.{◌≡◌, ℕ, IfOk, Some, codes, option_map};
 ghost use Rattle.clap.specs.Words.{first_of, found_of, kind_of, matches_of, one_of, rows_of};
 ghost use Rattle.shim_command.specs.Command.{shim_app};
-ghost use Rattle.shim_command.specs.Jobs.{FitAll, Gives, IsFaultOf, IsNumber, IsWithin, has_extra, has_origin, job, job_in, job_with, number_in, suits, texts_of, word_in};
+ghost use Rattle.shim_command.specs.Jobs.{FitAll, Gives, IsFaultOf, IsNumber, IsWithin, flag_in, has_extra, has_origin, job, job_in, job_with, number_in, suits, texts_of, word_in};
 
 use crate::command::command;
 use crate::job::{Job, WordsFault};
@@ -36,6 +36,16 @@ fn number_in(matches: &ArgMatches<'_>, name: &str, default: u64) -> u64
     matches.get_one::<u64>(name).unwrap_or(default)
 }
 
+// Whether a flag was given.
+fn flag_in(matches: &ArgMatches<'_>, name: &str) -> bool
+    ensures { result ≡ flag_in (rows_of (found_of matches.now)) name.now }
+{
+    match text_in(matches, name) {
+        Some(text) => text == "true",
+        None => false,
+    }
+}
+
 // A copy of the bytes of a text.
 fn bytes_of(alloc: Global, text: Option<&str>) -> Result<Option<List<u8>>, NoMemory>
     ensures { IfOk result (λ bytes. bytes ≡ option_map (λ text. text.now) text.entry) }
@@ -60,6 +70,7 @@ fn job_with(alloc: Global, mode: Mode, matches: &ArgMatches<'_>) -> Result<Job, 
         quantum: number_in(matches, "quantum", 64),
         size: number_in(matches, "size", 1000),
         journal: bytes_of(alloc, text_in(matches, "journal"))?,
+        steal: flag_in(matches, "steal"),
     })
 }
 

@@ -18,6 +18,9 @@ fn shown(alloc: Global, job: &Job) -> Result<String, Fail> {
         job.workers, job.budget, job.quantum, job.size
     )?;
     text.push_str(numbers.as_str())?;
+    if job.steal {
+        text.push_str(" steal")?;
+    }
     Ok(text)
 }
 
@@ -180,6 +183,31 @@ fn options_stand_anywhere_and_with_either_sign(rt: HostRuntime) -> Result<(), Fa
             ),
             ("run|", "Run \"\": 4 1000000 64 1000"),
             ("run|-", "Run \"-\": 4 1000000 64 1000"),
+        ],
+    )
+}
+
+#[test]
+fn stealing_is_a_flag_without_a_value(rt: HostRuntime) -> Result<(), Fail> {
+    expect(
+        &rt,
+        rt.alloc(),
+        &[
+            ("run|f|--steal", "Run \"f\": 4 1000000 64 1000 steal"),
+            ("--steal|gen|pipe", "Gen \"pipe\": 4 1000000 64 1000 steal"),
+            ("trace|--steal|f", "Trace \"f\": 4 1000000 64 1000 steal"),
+            ("check|f|--steal", "Check \"f\": 4 1000000 64 1000 steal"),
+            ("run|--|--steal", "Run \"--steal\": 4 1000000 64 1000"),
+        ],
+    )?;
+    expect_refused(
+        &rt,
+        rt.alloc(),
+        &[
+            "run|f|--steal|--steal",
+            "run|f|--steal=true",
+            "run|f|--steal|true",
+            "run|f|--stea",
         ],
     )
 }

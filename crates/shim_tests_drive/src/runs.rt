@@ -1,5 +1,5 @@
-// Nets of small processes, run by any number of workers over a board: what is told in the end, and what a gate
-// sees.
+// Nets of small processes, run by any number of workers over a board, and over lanes: what is told in the end, and
+// what a gate sees.
 ghost use Rattle.std.specs.Prelude.{◌≡◌, ◌⊎◌, [], IfOk};
 ghost use Rattle.shim_tests_small.specs.Small.{small_ops};
 ghost use Rattle.shim_semantics.specs.Sound.{SharesItsOwn};
@@ -9,7 +9,7 @@ use shim_base::{Chan, List, NoMemory, Path, push_decimal};
 use shim_local::{Ended, Local, Outcome};
 use shim_net::{Entry, Net};
 use shim_tests_small::{Small, Step};
-use shim_workers::{Gate, NoOpGate, drive};
+use shim_workers::{Gate, NoOpGate, drive, drive_steal};
 use std::alloc::Global;
 use std::process::Abort;
 use std::str;
@@ -83,25 +83,25 @@ fn net(alloc: Global, left: &[Step], budget: u8) -> Result<Net<Small>, NoMemory>
     Net::start(alloc, root(alloc, left)?, budget.max(1) as u64)
 }
 
-// Runs a net by at least one worker and at most 16, in pieces of a step or more at first, over a board.
+// Runs a net by at least one worker and at most 16, in pieces of a step or more at first, over a board or over lanes.
 fn run<L: Local, G: Gate, R: Threads + Wait + Sync>(
     rt: &R,
     alloc: Global,
     net: Net<L>,
     workers: u32,
     quantum: u64,
+    steals: bool,
     gate: &G,
 ) -> Result<Net<L>, NoMemory>
     ensures { IfOk result (λ n. IsQuietNet L.ops n ⊎ IsSpentNet L.ops n) }
 {
-    drive(
-        rt,
-        alloc,
-        net,
-        workers.clamp(1, 16),
-        quantum.clamp(1, 10000),
-        gate,
-    )
+    let workers = workers.clamp(1, 16);
+    let quantum = quantum.clamp(1, 10000);
+    if steals {
+        drive_steal(rt, alloc, net, workers, quantum, gate)
+    } else {
+        drive(rt, alloc, net, workers, quantum, gate)
+    }
 }
 
 // Tells how a net ended, and how many pieces were taken in.
@@ -128,9 +128,10 @@ fn tell<L: Local, R: Threads + Wait + Sync>(
     net: Net<L>,
     workers: u32,
     quantum: u64,
+    steals: bool,
 ) -> Result<List<u8>, NoMemory> {
     let gate = CountingGate::new();
-    let net = run(rt, alloc, net, workers, quantum, &gate)?;
+    let net = run(rt, alloc, net, workers, quantum, steals, &gate)?;
     let mut told = List::new(alloc);
     tell_net(&mut told, &net)?;
     tell_gate(&mut told, &gate)?;
@@ -140,7 +141,21 @@ fn tell<L: Local, R: Threads + Wait + Sync>(
 // A budget, the most steps of a piece at first, and what is told then.
 type Row<'a> = (u8, u64, &'a str);
 
-// That it is told for any number of workers.
+// That it is told for so many workers.
+fn expect_one<R: Threads + Wait + Sync + Abort>(
+    rt: &R,
+    alloc: Global,
+    left: &[Step],
+    row: &Row<'_>,
+    workers: u32,
+    steals: bool,
+) -> Result<(), Fail> {
+    let told = tell(rt, alloc, net(alloc, left, row.0)?, workers, row.1, steals)?;
+    assert_eq!(rt; str::from_utf8(told.as_slice())?, row.2);
+    Ok(())
+}
+
+// That it is told for any number of workers, over a board and over lanes.
 fn expect<R: Threads + Wait + Sync + Abort>(
     rt: &R,
     alloc: Global,
@@ -149,8 +164,8 @@ fn expect<R: Threads + Wait + Sync + Abort>(
 ) -> Result<(), Fail> {
     for row in rows {
         for workers in [1, 2, 3, 4, 16] {
-            let told = tell(rt, alloc, net(alloc, left, row.0)?, workers, row.1)?;
-            assert_eq!(rt; str::from_utf8(told.as_slice())?, row.2);
+            expect_one(rt, alloc, left, row, workers, false)?;
+            expect_one(rt, alloc, left, row, workers, true)?;
         }
     }
     Ok(())
@@ -238,9 +253,11 @@ fn piece_that_wants_memory_ends_a_run(rt: HostRuntime) -> Result<(), Fail> {
         Step::Try(5, 22),
         Step::Try(6, 23),
     ];
-    let net = net(rt.alloc(), left.as_slice(), 255)?;
-    let told = tell(&rt, rt.alloc(), net, 2, 9);
-    assert!(&rt; told.is_err());
+    for steals in [false, true] {
+        let net = net(rt.alloc(), left.as_slice(), 255)?;
+        let told = tell(&rt, rt.alloc(), net, 2, 9, steals);
+        assert!(&rt; told.is_err());
+    }
     Ok(())
 }
 
@@ -257,12 +274,14 @@ fn with_work_out<L: Local>(net: Net<L>, most: u64) -> Result<Net<L>, NoMemory> {
 #[test]
 fn work_that_is_out_is_done_again(rt: HostRuntime) -> Result<(), Fail> {
     let left = [Step::Quiet, Step::Quiet, Step::Quiet];
-    let net = with_work_out(net(rt.alloc(), left.as_slice(), 9)?, 2)?;
-    let told = tell(&rt, rt.alloc(), net, 3, 5)?;
-    assert_eq!(&rt;
-        str::from_utf8(told.as_slice())?,
-        "done after 4: pieces 2, entries 1, others 0"
-    );
+    for steals in [false, true] {
+        let net = with_work_out(net(rt.alloc(), left.as_slice(), 9)?, 2)?;
+        let told = tell(&rt, rt.alloc(), net, 3, 5, steals)?;
+        assert_eq!(&rt;
+            str::from_utf8(told.as_slice())?,
+            "done after 4: pieces 2, entries 1, others 0"
+        );
+    }
     Ok(())
 }
 

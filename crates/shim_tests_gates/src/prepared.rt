@@ -10,7 +10,7 @@ use std::test::Fail;
 const PUTS_A: &str = "void main(ostream &o) { put o, 65; }";
 
 const USAGE: &str =
-    "usage: shim MODE FILE [--input FILE] [--workers N] [--budget B] [--quantum Q] [--size N] [--journal FILE]\n";
+    "usage: shim MODE FILE [--input FILE] [--workers N] [--budget B] [--quantum Q] [--size N] [--journal FILE] [--steal]\n";
 
 // A status and a text that words come to by themselves, or that they leave a run. No runtime is given.
 fn prepared(

@@ -89,7 +89,13 @@ end done 32
 #[test]
 fn workers_do_compiled_pieces_of_each_run(rt: HostRuntime) -> Result<(), Fail> {
     for program in PROGRAMS {
-        for options in ["--workers 1", "--workers 2", "--workers 16 --quantum 1"] {
+        for options in [
+            "--workers 1",
+            "--workers 2",
+            "--workers 16 --quantum 1",
+            "--workers 2 --steal",
+            "--workers 16 --quantum 1 --steal",
+        ] {
             let gate = CountingGate::new();
             expect_run(&rt, rt.alloc(), program, options, &gate)?;
             assert!(&rt; gate.entries() >= 1);
@@ -102,7 +108,11 @@ fn workers_do_compiled_pieces_of_each_run(rt: HostRuntime) -> Result<(), Fail> {
 #[test]
 fn journals_of_runs_lead_to_their_texts(rt: HostRuntime) -> Result<(), Fail> {
     for program in PROGRAMS {
-        for options in ["--workers 1", "--workers 16 --quantum 1"] {
+        for options in [
+            "--workers 1",
+            "--workers 16 --quantum 1",
+            "--workers 16 --quantum 1 --steal",
+        ] {
             let gate = CountingGate::new();
             expect_replay(&rt, rt.alloc(), program, options, &gate)?;
             assert!(&rt; gate.entries() >= 1);
@@ -135,6 +145,25 @@ fn two_workers_work_at_the_same_time(rt: HostRuntime) -> Result<(), Fail> {
 fn a_worker_goes_on_while_another_one_is_held(rt: HostRuntime) -> Result<(), Fail> {
     let gate = HoldingGate::until_siblings_entered(5);
     expect_hold(&rt, rt.alloc(), "--workers 2 --quantum 10", &gate)?;
+    assert!(&rt; gate.entries() >= 6);
+    Ok(())
+}
+
+#[test]
+fn two_workers_who_steal_work_at_the_same_time(rt: HostRuntime) -> Result<(), Fail> {
+    let gate = HoldingGate::until_another_entry();
+    expect_hold(
+        &rt,
+        rt.alloc(),
+        "--workers 2 --quantum 10000 --steal",
+        &gate,
+    )
+}
+
+#[test]
+fn a_worker_who_steals_goes_on_while_another_one_is_held(rt: HostRuntime) -> Result<(), Fail> {
+    let gate = HoldingGate::until_siblings_entered(5);
+    expect_hold(&rt, rt.alloc(), "--workers 2 --quantum 10 --steal", &gate)?;
     assert!(&rt; gate.entries() >= 6);
     Ok(())
 }
@@ -187,6 +216,10 @@ end done 39
 ";
     expect_made(&rt, rt.alloc(), "shim gen pipe --size 2", text, &gate)?;
     assert!(&rt; gate.entries() >= 1);
+    let entries = gate.entries();
+    let words = "shim gen pipe --size 2 --workers 2 --steal";
+    expect_made(&rt, rt.alloc(), words, text, &gate)?;
+    assert!(&rt; gate.entries() > entries);
     assert_eq!(&rt; gate.not_compiled(), 0);
     Ok(())
 }

@@ -1,19 +1,16 @@
-// What becomes of processes at home, in the hands of who has the turn of a board.
+// What becomes of processes at home, in the hands of who has the turn of a run.
 ghost use Rattle.std.specs.Prelude.{◌≡◌, ◌≤◌, ◌<◌};
-ghost use Rattle.shim_board.specs.Chairs.{StandsAs, slots_of};
-ghost use Rattle.shim_workers.specs.Workers.{HasTurn, SameName};
+ghost use Rattle.shim_workers.specs.Workers.{SameName};
 
-use crate::handing_out::hand_out_some;
 use crate::in_place::step_next;
 use crate::lengths::{LONGEST, longer};
-use crate::load::{NetBoard, NetChair};
 use crate::pool::Pool;
 use shim_base::NoMemory;
 use shim_local::Local;
 use shim_net::{Gate, Net};
 
 /// How many processes run in place in a turn, before others may bring back what they did.
-const RUNS_IN_A_TURN: u64 = 256;
+pub(crate) const RUNS_IN_A_TURN: u64 = 256;
 
 // The process that is next at home does pieces in place, of which each is up to twice as long as the one before,
 // until it comes to another stop or has done so many steps. Answers how many it did.
@@ -42,85 +39,96 @@ fn run_next<L: Local, G: Gate>(
     Ok(done)
 }
 
-// The process that is next at home runs in place, and does all its steps where no other can go on beside it. Else
-// it is handed out if it runs long and a slot is vacant. Answers how many steps it did.
-fn run_or_hand_out<L: Local, G: Gate>(
-    board: &NetBoard<L>,
-    chair: &mut NetChair<L>,
-    net: &mut Net<L>,
-    slots: u64,
-    gate: &G,
-    pool: &Pool,
-) -> Result<u64, NoMemory>
-    requires chair { HasTurn 1 board.now chair.old }
-    requires slots { slots_of board.now ≡ slots }
-    ensures turn { HasTurn 1 board.now chair.new }
-    ensures same { StandsAs chair.old chair.new }
-    ensures net { SameName net.old net.new }
-{
-    let lengths = pool.lengths();
-    if net.runnable() <= 1 {
-        return run_next(net, lengths.first(), u64::MAX, gate);
-    }
-    let limit = lengths.in_place();
-    let done = run_next(net, lengths.first(), limit, gate)?;
-    if done >= limit {
-        let put = hand_out_some(board, chair, net, slots, 1, lengths.behind_those())?;
-        pool.call(put);
-    }
-    Ok(done)
+/// Pieces that are to be handed out: of at most so many processes that are at home, of so many steps each.
+#[derive(Drop)]
+pub(crate) struct HandOut {
+    pub(crate) some: u64,
+    pub(crate) most: u64,
+    /// How many of them this worker will do itself.
+    pub(crate) mine: u64,
+    ghost step: { 1 ≤ most },
 }
 
-// Hands out all processes at home, as far as slots are vacant. Other workers are called for all pieces but one.
-fn hand_out_all<L: Local>(
-    board: &NetBoard<L>,
-    chair: &mut NetChair<L>,
-    net: &mut Net<L>,
-    slots: u64,
-    pool: &Pool,
-) -> Result<u64, NoMemory>
-    requires chair { HasTurn 1 board.now chair.old }
-    requires slots { slots_of board.now ≡ slots }
-    ensures turn { HasTurn 1 board.now chair.new }
-    ensures same { StandsAs chair.old chair.new }
-    ensures net { SameName net.old net.new }
-{
-    let put = hand_out_some(board, chair, net, slots, slots, pool.lengths().first())?;
-    pool.call(put.saturating_sub(1));
-    Ok(put)
+/// How far who has the turn has come with the processes at home.
+#[derive(Drop)]
+pub(crate) struct AtHome {
+    runs: u64,
+    steps: u64,
 }
 
-/// Lets processes at home go on, in place or handed out, with all other events behind them. False where there
-/// was nothing to do.
-pub(crate) fn run_home<L: Local, G: Gate>(
-    board: &NetBoard<L>,
-    chair: &mut NetChair<L>,
-    net: &mut Net<L>,
-    slots: u64,
-    gate: &G,
-    pool: &Pool,
-) -> Result<bool, NoMemory>
-    requires chair { HasTurn 1 board.now chair.old }
-    requires slots { slots_of board.now ≡ slots }
-    ensures turn { HasTurn 1 board.now chair.new }
-    ensures same { StandsAs chair.old chair.new }
-    ensures net { SameName net.old net.new }
-{
-    let mut steps = 0u64;
-    for _ in 0..RUNS_IN_A_TURN {
-        if pool.hands_out_untried() && net.runnable() > 1 {
-            let put = hand_out_all(board, chair, net, slots, pool)?;
-            return Ok(put > 0 || steps > 0);
+impl AtHome {
+    /// At the beginning of a turn.
+    pub(crate) fn new() -> AtHome {
+        AtHome { runs: 0, steps: 0 }
+    }
+
+    /// Whether a process did steps in place.
+    pub(crate) fn has_run(&self) -> bool {
+        self.steps > 0
+    }
+
+    // The process that is next at home runs in place: all its steps where no other can go on beside it, and
+    // else as many as handing it over would cost. Tells what is to be handed out of one that did all these.
+    fn run_one<L: Local, G: Gate>(
+        &mut self,
+        net: &mut Net<L>,
+        gate: &G,
+        pool: &Pool,
+    ) -> Result<Option<HandOut>, NoMemory>
+        ensures net { SameName net.old net.new }
+    {
+        let lengths = pool.lengths();
+        let is_alone = net.runnable() <= 1;
+        let limit = if is_alone {
+            u64::MAX
+        } else {
+            lengths.in_place()
+        };
+        let done = run_next(net, lengths.first(), limit, gate)?;
+        self.runs = if done == 0 {
+            RUNS_IN_A_TURN
+        } else {
+            self.runs.saturating_add(1)
+        };
+        self.steps = self.steps.saturating_add(done);
+        if is_alone || done < limit {
+            return Ok(None);
         }
-        let done = run_or_hand_out(board, chair, net, slots, gate, pool)?;
-        if done == 0 {
-            return Ok(steps > 0);
-        }
-        steps = steps.saturating_add(done);
+        Ok(Some(HandOut {
+            some: 1,
+            most: lengths.behind_those(),
+            mine: 0,
+        }))
+    }
+
+    /// Lets processes at home go on in place, with all other events behind each, until pieces are to be handed
+    /// out. `None` where the turn is to be left.
+    pub(crate) fn run<L: Local, G: Gate>(
+        &mut self,
+        net: &mut Net<L>,
+        gate: &G,
+        pool: &Pool,
+    ) -> Result<Option<HandOut>, NoMemory>
+        ensures net { SameName net.old net.new }
+    {
         net.settle()?;
-        if steps >= LONGEST {
-            return Ok(true);
+        for _ in 0..RUNS_IN_A_TURN {
+            if self.runs >= RUNS_IN_A_TURN || self.steps >= LONGEST {
+                return Ok(None);
+            }
+            if pool.hands_out_untried() && net.runnable() > 1 {
+                self.runs = RUNS_IN_A_TURN; // others do what is at home
+                return Ok(Some(HandOut {
+                    some: u64::MAX,
+                    most: pool.lengths().first(),
+                    mine: 1,
+                }));
+            }
+            if let Some(out) = self.run_one(net, gate, pool)? {
+                return Ok(Some(out));
+            }
+            net.settle()?;
         }
+        Ok(None)
     }
-    Ok(true)
 }

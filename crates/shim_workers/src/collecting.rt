@@ -1,5 +1,5 @@
-// Taking in what has come back over a board, by who has its turn.
-ghost use Rattle.std.specs.Prelude.{◌≡◌, ◌≤◌, ◌<◌};
+// Taking in what has come back, by who has the turn of a run.
+ghost use Rattle.std.specs.Prelude.{◌≡◌, ◌≤◌, ◌<◌, IfOk, IfSome};
 ghost use Rattle.shim_board.specs.Chairs.{HasSlot, StandsAs, slots_of};
 ghost use Rattle.shim_workers.specs.Workers.{HasTurn, SameName};
 
@@ -57,8 +57,31 @@ fn is_next<L: Local>(net: &mut Net<L>, pid: u64) -> bool
     net.next_home() == Some(pid)
 }
 
-// Takes in what has come back in a slot. A process that used up its piece mostly stands before a quiet step
-// again, and needs no other event; so its next piece goes out at once, twice as long.
+/// Takes in a piece that has come back. A process that used it up mostly stands before a quiet step again, and needs
+/// no other event; so its next piece may go out at once, and it is answered how many steps that is to have.
+pub(crate) fn take_in<L: Local>(
+    net: &mut Net<L>,
+    finished: Finished<L>,
+    pool: &Pool,
+) -> Result<Option<u64>, NoMemory>
+    ensures net { SameName net.old net.new }
+    ensures most { IfOk result (λ next. IfSome next (λ most. 1 ≤ most)) }
+{
+    let used = finished.used;
+    let pid = finished.pid;
+    let is_used_up = used == finished.grant;
+    take_back(net, finished)?;
+    if !is_used_up {
+        pool.came_early();
+        return Ok(None);
+    }
+    if !is_next(net, pid) {
+        return Ok(None);
+    }
+    Ok(Some(longer(used)))
+}
+
+// Takes in what has come back in a slot, and gives out there what its process is to do next.
 fn collect<L: Local>(
     board: &NetBoard<L>,
     chair: &mut NetChair<L>,
@@ -79,18 +102,10 @@ fn collect<L: Local>(
             Ok(Came::Home)
         }
         Some(Load::Back(finished)) => {
-            let used = finished.used;
-            let pid = finished.pid;
-            let is_used_up = used == finished.grant;
-            take_back(net, finished)?;
-            if !is_used_up {
-                pool.came_early();
+            let Some(most) = take_in(net, finished, pool)? else {
                 return Ok(Came::Home);
-            }
-            if !is_next(net, pid) {
-                return Ok(Came::Home);
-            }
-            match hand_out(board, chair, net, slot, longer(used))? {
+            };
+            match hand_out(board, chair, net, slot, most)? {
                 Handed::Put => Ok(Came::Out),
                 Handed::NotPut | Handed::NoneLeft => Ok(Came::Home),
             }

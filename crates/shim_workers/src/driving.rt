@@ -1,23 +1,79 @@
-// A net run by workers that claim its work from a board.
+// A net run by workers that go on without rounds.
 ghost use Rattle.std.specs.Prelude.{◌≡◌, ◌≤◌, ◌⊎◌, IfOk};
-ghost use Rattle.shim_board.specs.Chairs.{StandsAs, slots_of};
 ghost use Rattle.shim_net.specs.Nets.{IsNet};
 ghost use Rattle.shim_net.specs.Standings.{IsQuietNet, IsSpentNet};
-ghost use Rattle.shim_workers.specs.Workers.{HasTurn};
+ghost use Rattle.shim_workers.specs.Workers.{SameName};
 
 use crate::lengths::{LONGEST, Lengths};
-use crate::load::NetChair;
+use crate::over_board::run_over_board;
+use crate::over_lanes::run_over_lanes;
 use crate::pool::Pool;
 use crate::turns::rounds;
-use crate::worker::{SLOTS_EACH, run_worker};
-use shim_base::{List, NoMemory};
-use shim_board::Board;
+use shim_base::NoMemory;
 use shim_local::Local;
 use shim_net::{Gate, Net};
 use std::alloc::Global;
 use std::sync::Wait;
-use std::thread;
 use std::thread::Threads;
+
+// Where work lies that no worker is at.
+#[derive(Clone, Copy)]
+enum Between {
+    /// In the slots of a board, which all workers share.
+    Board,
+    /// In lanes, of which each worker has one.
+    Lanes,
+}
+
+// Lets workers run a net until it has come to its end or one of them wants memory.
+fn run_over<L: Local, G: Gate, R: Threads + Wait + Sync>(
+    rt: &R,
+    alloc: Global,
+    net: Net<L>,
+    workers: u64,
+    gate: &G,
+    pool: &Pool,
+    between: Between,
+) -> Result<Net<L>, NoMemory>
+    requires workers { (1 ≤ workers) × (workers ≤ 16) }
+    ensures name { IfOk result (SameName net) }
+{
+    match between {
+        Between::Board => run_over_board(rt, alloc, net, workers, gate, pool),
+        Between::Lanes => run_over_lanes(rt, alloc, net, workers, gate, pool),
+    }
+}
+
+// Runs a net by workers until no event is enabled in it or its budget is spent.
+fn run_by_workers<L: Local, G: Gate, R: Threads + Wait + Sync>(
+    rt: &R,
+    alloc: Global,
+    net: Net<L>,
+    workers: u32,
+    quantum: u64,
+    gate: &G,
+    between: Between,
+) -> Result<Net<L>, NoMemory>
+    requires workers { (1 ≤ workers) × (workers ≤ 16) }
+    requires quantum { (1 ≤ quantum) × (quantum ≤ 10000) }
+    ensures root { IfOk result (λ n. n.root ≡ net.root) }
+    ensures budget { IfOk result (λ n. n.budget ≡ net.budget) }
+    ensures stands { IfOk result (λ n. IsQuietNet L.ops n ⊎ IsSpentNet L.ops n) }
+    ensures keeps { IfOk result (λ n. IsNet L.ops n) }
+{
+    let mut net = net;
+    net.redo_all()?; // what was given out before won't come back from these workers
+    let cost = net.hand_over_cost();
+    if workers == 1 || cost > LONGEST {
+        return rounds(rt, alloc, net, 1, quantum, gate);
+    }
+    let pool = Pool::new(Lengths::new(quantum, cost));
+    let over = run_over(rt, alloc, net, workers as u64, gate, &pool, between)?;
+    if pool.wanted_memory() {
+        return Err(NoMemory);
+    }
+    rounds(rt, alloc, over, workers, quantum, gate)
+}
 
 /// Runs a net until no event is enabled in it or its budget is spent, as `rounds` does, but without
 /// rounds: each worker claims a piece where there is one, does it behind the gate and gives it back; where
@@ -42,30 +98,26 @@ pub fn drive<L: Local, G: Gate, R: Threads + Wait + Sync>(
     ensures stands { IfOk result (λ n. IsQuietNet L.ops n ⊎ IsSpentNet L.ops n) }
     ensures keeps { IfOk result (λ n. IsNet L.ops n) }
 {
-    let mut net = net;
-    net.redo_all()?; // what was given out before won't come back over the board
-    let cost = net.hand_over_cost();
-    if workers == 1 || cost > LONGEST {
-        return rounds(rt, alloc, net, 1, quantum, gate);
-    }
-    let count = workers as u64;
-    let slots = count * SLOTS_EACH;
-    let pool = Pool::new(Lengths::new(quantum, cost));
-    let (board, chairs) = Board::new(alloc, slots, count, net)?;
-    let shared = &board;
-    let chairs = thread::map_vec(
-        rt,
-        chairs.into_vec(),
-        &|chair: NetChair<L>| -> NetChair<L>
-            requires { HasTurn 0 shared.now chair × (slots_of shared.now ≡ slots) }
-            ensures { HasTurn 0 shared.entry.now result × StandsAs chair result }
-        { run_worker(rt, shared, chair, slots, gate, &pool) },
-    )?;
-    let Ok(closed) = board.close(alloc, List::from(chairs)) else {
-        return Err(NoMemory);
-    };
-    if pool.wanted_memory() {
-        return Err(NoMemory);
-    }
-    rounds(rt, alloc, closed.net, workers, quantum, gate)
+    run_by_workers(rt, alloc, net, workers, quantum, gate, Between::Board)
+}
+
+/// Runs a net as `drive` does, but the pieces lie in lanes: each worker pushes those that it gives out into its own
+/// lane, takes the next one from there, and where that is empty from the lanes of the others. What it did it keeps
+/// until it finds no piece and gets the turn, and takes it in then.
+pub fn drive_steal<L: Local, G: Gate, R: Threads + Wait + Sync>(
+    rt: &R,
+    alloc: Global,
+    net: Net<L>,
+    workers: u32,
+    quantum: u64,
+    gate: &G,
+) -> Result<Net<L>, NoMemory>
+    requires workers { (1 ≤ workers) × (workers ≤ 16) }
+    requires quantum { (1 ≤ quantum) × (quantum ≤ 10000) }
+    ensures root { IfOk result (λ n. n.root ≡ net.root) }
+    ensures budget { IfOk result (λ n. n.budget ≡ net.budget) }
+    ensures stands { IfOk result (λ n. IsQuietNet L.ops n ⊎ IsSpentNet L.ops n) }
+    ensures keeps { IfOk result (λ n. IsNet L.ops n) }
+{
+    run_by_workers(rt, alloc, net, workers, quantum, gate, Between::Lanes)
 }

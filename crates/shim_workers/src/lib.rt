@@ -1,5 +1,5 @@
-//! A net run by several workers: work is given out, done on threads, and taken back, in rounds or over a
-//! board from which each worker claims its work.
+//! A net run by several workers: work is given out, done on threads, and taken back, in rounds, over a
+//! board from which each worker claims its work, or out of lanes from which workers steal.
 #![tactic(auto)]
 
 mod at_home;
@@ -11,13 +11,18 @@ mod in_place;
 mod job;
 mod lengths;
 mod load;
+mod over_board;
+mod over_lanes;
+mod pieces;
 mod pool;
 mod scheduling;
+mod start;
+mod stealing;
 mod taking;
 mod turns;
 mod worker;
 
-pub use driving::drive;
+pub use driving::{drive, drive_steal};
 pub use load::Load;
 pub use shim_net::{Gate, NoOpGate};
 pub use turns::rounds;

@@ -139,10 +139,10 @@ impl Pool {
         let _before = self.asleep.fetch_sub(1, Ordering::SeqCst);
     }
 
-    /// Lets a worker rest that has found nothing to do so many times: first not at all, so that short work
-    /// is handed over fast, then until others have had the processor, and then until it is called, or for
-    /// longer each time.
-    pub(crate) fn rest<R: Wait>(&self, rt: &R, news: u64, tries: u64) {
+    // Lets a worker rest that has found nothing to do so many times: first not at all, so that short work
+    // is handed over fast, then until others have had the processor, and then until it is called, or for
+    // longer each time.
+    fn rest<R: Wait>(&self, rt: &R, news: u64, tries: u64) {
         if tries < SPINS {
             hint::spin_loop();
         } else if tries < TRIES_AWAKE {
@@ -152,5 +152,20 @@ impl Pool {
             let micros = sleeps.saturating_mul(SHORTEST_SLEEP);
             self.sleep(rt, news, micros.min(LONGEST_SLEEP));
         }
+    }
+
+    /// As many of these tries as leave a worker awake, who has something that must not wait.
+    pub(crate) fn awake(tries: u64) -> u64 {
+        tries.min(SPINS)
+    }
+
+    /// How many times in a row a worker has found nothing to do, behind one more look; before that it was so many
+    /// times. Where it found nothing again it rests.
+    pub(crate) fn after_look<R: Wait>(&self, rt: &R, news: u64, tries: u64, found: bool) -> u64 {
+        if found {
+            return 0;
+        }
+        self.rest(rt, news, tries);
+        tries.saturating_add(1)
     }
 }

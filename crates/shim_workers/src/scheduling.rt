@@ -3,13 +3,59 @@ ghost use Rattle.std.specs.Prelude.{◌≡◌};
 ghost use Rattle.shim_board.specs.Chairs.{StandsAs, slots_of};
 ghost use Rattle.shim_workers.specs.Workers.{HasTurn, IsNetOf, SameName};
 
-use crate::at_home::run_home;
-use crate::collecting::collect_all;
+use crate::at_home::{AtHome, RUNS_IN_A_TURN};
+use crate::collecting::{Collected, collect_all};
+use crate::handing_out::hand_out_some;
 use crate::load::{NetBoard, NetChair};
 use crate::pool::Pool;
 use shim_base::NoMemory;
 use shim_local::Local;
 use shim_net::{Gate, Net, Standing};
+
+/// Does all that is no process's work behind pieces that were taken in, and calls other workers to those that went
+/// out in place of them. Where nobody is at home, this worker does one of these itself.
+pub(crate) fn settle_behind<L: Local>(
+    net: &mut Net<L>,
+    collected: Collected,
+    pool: &Pool,
+) -> Result<(), NoMemory>
+    ensures net { SameName net.old net.new }
+{
+    net.settle()?;
+    let mine = u64::from(net.next_home().is_none());
+    pool.call(collected.out.saturating_sub(mine));
+    Ok(())
+}
+
+/// Leaves the turn, whose work found something to do or wanted memory. False where there was nothing to do. Where
+/// the run has come to its end, or memory is wanted, all workers are told so.
+pub(crate) fn leave<L: Local>(
+    board: &NetBoard<L>,
+    chair: &mut NetChair<L>,
+    net: Net<L>,
+    found: Result<bool, NoMemory>,
+    pool: &Pool,
+) -> bool
+    requires chair { HasTurn 1 board.now chair.old }
+    requires net { IsNetOf board.now net }
+    ensures turn { HasTurn 0 board.now chair.new }
+    ensures same { StandsAs chair.old chair.new }
+{
+    let is_over = net.standing() != Standing::Running;
+    board.leave_turn(chair, net);
+    match found {
+        Ok(found) => {
+            if is_over {
+                pool.end();
+            }
+            found
+        }
+        Err(NoMemory) => {
+            pool.want_memory();
+            false
+        }
+    }
+}
 
 // Takes back what was done, does all that is no process's work, and lets the processes at home go on. False where
 // there was nothing to do.
@@ -28,15 +74,18 @@ fn schedule_net<L: Local, G: Gate>(
     ensures net { SameName net.old net.new }
 {
     let collected = collect_all(board, chair, net, slots, pool)?;
-    net.settle()?;
-    // where nobody is at home, this worker does one of the pieces that went out
-    let mine = u64::from(net.next_home().is_none());
-    pool.call(collected.out.saturating_sub(mine));
-    let ran = run_home(board, chair, net, slots, gate, pool)?;
-    if net.standing() != Standing::Running {
-        pool.end();
+    settle_behind(net, collected, pool)?;
+    let mut home = AtHome::new();
+    let mut found = collected.back > 0;
+    for _ in 0..RUNS_IN_A_TURN {
+        let Some(out) = home.run(net, gate, pool)? else {
+            break;
+        };
+        let put = hand_out_some(board, chair, net, slots, out.some, out.most)?;
+        pool.call(put.saturating_sub(out.mine));
+        found = found || put > 0;
     }
-    Ok(ran || collected.back > 0)
+    Ok(found || home.has_run())
 }
 
 /// Takes back what was done, lets processes go on, and leaves the turn. False where there was nothing to do. Where
@@ -56,12 +105,5 @@ pub(crate) fn schedule<L: Local, G: Gate>(
     ensures same { StandsAs chair.old chair.new }
 {
     let found = schedule_net(board, chair, &mut net, slots, gate, pool);
-    board.leave_turn(chair, net);
-    match found {
-        Ok(found) => found,
-        Err(NoMemory) => {
-            pool.want_memory();
-            false
-        }
-    }
+    leave(board, chair, net, found, pool)
 }

@@ -105,12 +105,8 @@ pub(crate) fn run_worker<L: Local, G: Gate, R: Wait>(
         if !pool.is_running() {
             break;
         }
-        if work_once(board, &mut chair, slots, first, gate, pool) {
-            tries = 0;
-        } else {
-            pool.rest(rt, news, tries);
-            tries = tries.saturating_add(1);
-        }
+        let found = work_once(board, &mut chair, slots, first, gate, pool);
+        tries = pool.after_look(rt, news, tries, found);
     }
     chair
 }

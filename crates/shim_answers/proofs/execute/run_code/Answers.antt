@@ -16,12 +16,12 @@ start-requires-clause-path g c κs = root_path _ _ _ c.in_ok-main.ensures.value
 pub start-requires-clause-own : goal.start-requires-clause-own
 start-requires-clause-own g c κs = main_shares_its_own _ _ _ c.in_ok-main.ensures.value
 
-pub drive-requires-send-L : goal.drive-requires-send-L
-drive-requires-send-L g c κs = search (body_send, sendable)
+pub run_net-requires-send-L : goal.run_net-requires-send-L
+run_net-requires-send-L g c κs = search (body_send, sendable)
 
 pub returns : goal.returns
 returns g c =
     let code = c.in_ok-code.ensures ∙ c.in_ok-compile.ensures in
-    net_was c.drive.result (executed c.args.job.now c.args.input c.args.source.now) c.in_ok-main.main c.in_ok-begun.begun
+    net_was c.run_net.result (executed c.args.job.now c.args.input c.args.source.now) c.in_ok-main.main c.in_ok-begun.begun
     (c.in_ok-main.ensures.value ∙ (λ i. root (code i) (c.in_ok-input.ensures i)))
-    c.in_ok-begun.ensures c.drive.ensures.root c.drive.ensures.budget c.drive.ensures.keeps c.drive.ensures.stands
+    c.in_ok-begun.ensures c.run_net.ensures.root c.run_net.ensures.budget c.run_net.ensures.keeps c.run_net.ensures.stands

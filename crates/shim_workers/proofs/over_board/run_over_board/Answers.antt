@@ -5,11 +5,10 @@ use Rattle.shim_board.proofs.chair.Chair.TheSendSync as chairs
 use Rattle.shim_net.proofs.Sends.{net_send}
 use Rattle.shim_workers.proofs.load.Load.TheSendSync as loads
 use Rattle.shim_workers.proofs.pool.Pool.TheSendSync as pools
-use Rattle.shim_workers.proofs.Weaker.{if_ok_weaker}
 use Rattle.shim_board.specs.Chairs.{AreAll, IsIdleOn, StandsAs}
 use Rattle.shim_board.proofs.Standing.{stand_as_all}
-use Rattle.shim_workers.proofs.driving.drive.Lts as lts
-use Rattle.shim_workers.proofs.driving.drive.Goals as goal
+use Rattle.shim_workers.proofs.over_board.run_over_board.Lts as lts
+use Rattle.shim_workers.proofs.over_board.run_over_board.Goals as goal
 
 pub close-requires-clause-chairs : goal.close-requires-clause-chairs
 close-requires-clause-chairs g c = λ k d inside. let long = ap length c.from.ensures in let len = c.in_ok-chairs.ensures.len in let before = c.into_vec.result.ok.0 in let after = c.in_ok-chairs.chairs.ok.0 in
@@ -21,11 +20,8 @@ close-requires-clause-all g c = let len = c.in_ok-chairs.ensures.len in let befo
     (omega arith, λ i d inside. let j = (c.in_ok-chairs.ensures.each i d inside).1 in subst (λ x. StandsAs x (slice_index_or c.in_ok-chairs.chairs.items i d)) (sym (j.job_is d)) j.call.met.1)
     (subst AreAll (sym c.into_vec.ensures) c.in_ok-board.ensures.chairs.1))
 
-pub returns-clause-root : goal.returns-clause-root
-returns-clause-root g c = let same = c.in-Ok.ensures.net ∙ c.in_ok-board.ensures.board.1 in if_ok_weaker c.rounds-2.result _ _ (λ n e. e ∙ ap (λ p. p.0) same ∙ c.in_ok-redo_all.ensures.goes_on.root) c.rounds-2.ensures.root
-
-pub returns-clause-budget : goal.returns-clause-budget
-returns-clause-budget g c = let same = c.in-Ok.ensures.net ∙ c.in_ok-board.ensures.board.1 in if_ok_weaker c.rounds-2.result _ _ (λ n e. e ∙ ap (λ p. p.1) same ∙ c.in_ok-redo_all.ensures.goes_on.budget) c.rounds-2.ensures.budget
+pub returns : goal.returns
+returns g c = record { name = c.in-Ok.ensures.net ∙ c.in_ok-board.ensures.board.1 }
 
 -- each chair of a new board has neither the turn nor a slot
 pub map_vec-requires-after_bounds : goal.map_vec-requires-after_bounds
@@ -50,4 +46,4 @@ map_vec-requires-sync-F g c κs within =
     let q = c.type_bounds.sync-G in
     let s = c.type_bounds.send-L in
     let p = pools.the_sync in
-    param_sync 4 (lts.arg-27-4 g.row.L g.row.G g.row.R g.L.laws g.G.laws g.R.laws g.L.Local g.L.Local-dict g.G.Gate g.G.Gate-dict g.R.Threads g.R.Threads-dict g.R.Wait g.R.Wait-dict g.L.Destruct-dict κs) (search (net_send, boards.the_sync, loads.the_send, pools.the_sync, struct_sync, shr_sync, param_sync, sendable) depth 60)
+    param_sync 4 (lts.arg-4-4 g.row.L g.row.G g.row.R g.L.laws g.G.laws g.R.laws g.L.Local g.L.Local-dict g.G.Gate g.G.Gate-dict g.R.Threads g.R.Threads-dict g.R.Wait g.R.Wait-dict g.L.Destruct-dict κs) (search (net_send, boards.the_sync, loads.the_send, struct_sync, shr_sync, sendable) depth 60)

@@ -1,0 +1,53 @@
+-- What is said of lanes while they are made.
+use Rattle.std.specs.Prelude.{◌≡◌, ◌≢◌, ◌<◌, ◌≤◌, ℕ, ◌+◌, ◌-◌, List, [], ◌∷◌, ◌++◌, length}
+use mathlib.Core.Option.{some}
+use lib.ListN.{get_elem?}
+use Rattle.crossbeam_deque.specs.Handles.{view}
+use Rattle.shim_steal.specs.declared.view.View.{View}
+use Rattle.shim_steal.specs.declared.own_deque.OwnDeque.{OwnDeque}
+use Rattle.shim_steal.specs.declared.other_deque.OtherDeque.{OtherDeque}
+use Rattle.shim_steal.specs.declared.lane.Lane.{Lane}
+use Rattle.shim_steal.specs.Views.{fresh}
+use Rattle.shim_steal.specs.Places.{place_of}
+use Rattle.shim_steal.specs.Deques.{view_of, IsSameDeque, IsSameAsOwn}
+use Rattle.shim_steal.specs.Lanes.{home_of, pushes_of, takes_of, takes_from, lanes_of}
+
+module _ {T : Type 0} where
+  -- the deque is the one at this place of those
+  abbrev pub StandsAt : List (OtherDeque T) → ℕ → OwnDeque T → Type 0
+  StandsAt others place own = (t : OtherDeque T) × (get_elem? others place ≡ some t) × IsSameAsOwn t own
+
+  -- each lane but the one of this number, from all of which the lane of that number may take
+  abbrev pub TakesFromAll : ℕ → List (Lane T) → List (OtherDeque T) → Type 0
+  TakesFromAll home all others = (j : ℕ) (m : Lane T) → j ≢ home → get_elem? all j ≡ some m → StandsAt others (place_of home j) m.own
+
+  -- so many lanes, numbered from 0, which have done nothing yet, and of which each may take from all others
+  abbrev pub AreNewLanes : ℕ → List (Lane T) → Type 0
+  AreNewLanes count all = (i : ℕ) (l : Lane T) → get_elem? all i ≡ some l → (home_of l ≡ i) × (lanes_of l ≡ count) × (pushes_of l ≡ []) × (takes_of l ≡ []) × TakesFromAll i all l.others.items
+
+  -- nothing was pushed or taken there, and no other lane may take from it
+  abbrev pub IsUnused : OwnDeque T → Type 0
+  IsUnused d = view_of d ≡ fresh
+
+  -- a deque at which nothing was done meanwhile but that other lanes were let take from it
+  abbrev pub IsAsBefore : OwnDeque T → OwnDeque T → Type 0
+  IsAsBefore old new = IsSameDeque old new × ((view_of new).pushed ≡ (view_of old).pushed) × ((view_of new).taken ≡ (view_of old).taken)
+
+  -- a new way to that deque
+  abbrev pub IsNewWayTo : OwnDeque T → OtherDeque T → Type 0
+  IsNewWayTo own t = IsSameAsOwn t own × (view {V = View T} t.pass ≡ fresh)
+
+  -- the lane may take from this deque, too, and who has `mine` from that of the lane
+  abbrev pub IsLinked : Lane T → Lane T → OwnDeque T → OwnDeque T → OtherDeque T → Type 0
+  IsLinked old new d e mine = (home_of new ≡ home_of old) × IsAsBefore old.own new.own × IsAsBefore d e × IsNewWayTo new.own mine
+      × ((t : OtherDeque T) × (new.others.items ≡ old.others.items ++ t ∷ []) × IsNewWayTo e t)
+
+  -- of n lanes the first k may take from this deque, too, and who has the others from theirs
+  pub record AreLinked (n k : ℕ) (all : List (Lane T)) (own : OwnDeque T) (others : List (OtherDeque T)) : Type 0 where
+    pub count : length all ≡ n
+    pub unused : ((view_of own).pushed ≡ []) × ((view_of own).taken ≡ []) × (k ≡ 0 → (view_of own).made ≡ 0)
+    pub mine : (length others ≡ k) × (takes_from n 0 others ≡ [])
+    pub theirs : (j : ℕ) (m : Lane T) → j < k → get_elem? all j ≡ some m → StandsAt others j m.own
+    pub each : (i : ℕ) (l : Lane T) → get_elem? all i ≡ some l → (home_of l ≡ i) × (pushes_of l ≡ []) × (takes_of l ≡ []) × TakesFromAll i all l.others.items
+    pub old : (i : ℕ) (l : Lane T) → get_elem? all i ≡ some l → k ≤ i → lanes_of l ≡ n
+    pub new : (i : ℕ) (l : Lane T) → get_elem? all i ≡ some l → i < k → (lanes_of l ≡ n + 1) × StandsAt l.others.items (n - 1) own

@@ -1,0 +1,5 @@
+use Rattle.shim_workers.specs.Workers.{SameName}
+use Rattle.shim_workers.proofs.pieces.Pieces.hand_out_some.Given as goal
+
+abbrev pub invariant-loop : goal.invariant-loop
+invariant-loop g l = SameName l.fn.net l.net

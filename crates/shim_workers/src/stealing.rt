@@ -1,0 +1,94 @@
+// A worker whose work lies in lanes.
+ghost use Rattle.std.specs.Prelude.{◌≡◌};
+ghost use Rattle.shim_board.specs.Chairs.{StandsAs};
+ghost use Rattle.shim_workers.specs.Workers.{HasTurn, SameName};
+
+use crate::at_home::{AtHome, RUNS_IN_A_TURN};
+use crate::load::{NetBoard, NetChair};
+use crate::pieces::Pieces;
+use crate::pool::Pool;
+use crate::scheduling::{leave, settle_behind};
+use crate::start::Start;
+use shim_base::NoMemory;
+use shim_local::Local;
+use shim_net::{Gate, Net};
+use std::sync::Wait;
+
+// Takes in what this worker did, does all that is no process's work, and lets the processes at home go on, in place
+// or out of its lane. False where there was nothing to do.
+fn schedule_net<L: Local, G: Gate>(
+    pieces: &mut Pieces<L>,
+    net: &mut Net<L>,
+    gate: &G,
+    pool: &Pool,
+) -> Result<bool, NoMemory>
+    ensures net { SameName net.old net.new }
+{
+    let taken = pieces.take_in_all(net, pool)?;
+    settle_behind(net, taken, pool)?;
+    let mut home = AtHome::new();
+    let mut found = taken.back > 0;
+    for _ in 0..RUNS_IN_A_TURN {
+        let Some(out) = home.run(net, gate, pool)? else {
+            break;
+        };
+        let put = pieces.hand_out_some(net, out.some, out.most)?;
+        pool.call(put.saturating_sub(out.mine));
+        found = found || put > 0;
+    }
+    Ok(found || home.has_run())
+}
+
+// Does a piece of the own lane or of another one; where there is none, tries the turn. False where there was
+// nothing to do.
+fn work_once<L: Local, G: Gate, R: Wait>(
+    rt: &R,
+    board: &NetBoard<L>,
+    chair: &mut NetChair<L>,
+    pieces: &mut Pieces<L>,
+    gate: &G,
+    pool: &Pool,
+) -> bool
+    requires chair { HasTurn 0 board.now chair.old }
+    ensures turn { HasTurn 0 board.now chair.new }
+    ensures same { StandsAs chair.old chair.new }
+{
+    if pieces.do_next(rt, gate) {
+        return true;
+    }
+    match board.take_turn(chair) {
+        None => false,
+        Some(mut net) => {
+            let found = schedule_net(pieces, &mut net, gate, pool);
+            leave(board, chair, net, found, pool)
+        }
+    }
+}
+
+/// Works until the run has come to its end or wants memory, and hands the chair back.
+pub(crate) fn run_stealer<L: Local, G: Gate, R: Wait>(
+    rt: &R,
+    board: &NetBoard<L>,
+    start: Start<L>,
+    gate: &G,
+    pool: &Pool,
+) -> NetChair<L>
+    requires chair { HasTurn 0 board.now start.0 }
+    ensures turn { HasTurn 0 board.now result }
+    ensures same { StandsAs start.0 result }
+{
+    let (mut chair, mut pieces) = start;
+    let mut tries = 0u64;
+    for _ in rt.forever() {
+        let news = pool.news();
+        if !pool.is_running() {
+            break;
+        }
+        let found = work_once(rt, board, &mut chair, &mut pieces, gate, pool);
+        tries = pool.after_look(rt, news, tries, found);
+        if pieces.has_done() {
+            tries = Pool::awake(tries); // nobody else can take in what it did
+        }
+    }
+    chair
+}
