@@ -39,18 +39,17 @@ version: built
 to = $(DESTDIR)$(PREFIX)
 SHARED = $(wildcard tools/shimtools/*.py)
 PAGES = $(wildcard man/*.1)
-DOCS = README.md $(wildcard docs/*.md) tools/many.slurm
+# As they lie here, so that their links to each other work.
+DOCS = README.md CONTRIBUTING.md tools/many.slurm $(wildcard docs/*.md docs/pictures/*.svg examples/*.shim examples/*.txt crates/*/README.md)
 EDITORS = $(shell cd editors && find . -type f | sort)
 
 install: built version
-	install -d $(to)/bin $(to)/share/shim/shimtools $(to)/share/man/man1 $(to)/share/doc/shim/examples $(to)/share/doc/shim/pictures
+	install -d $(to)/bin $(to)/share/shim/shimtools $(to)/share/man/man1
 	install -m 755 shim tools/shim-see tools/shim-draw $(to)/bin
 	install -m 644 $(SHARED) $(to)/share/shim/shimtools
 	install -m 644 out/VERSION $(to)/share/shim/VERSION
 	install -m 644 $(PAGES) $(to)/share/man/man1
-	install -m 644 $(DOCS) $(to)/share/doc/shim
-	install -m 644 docs/pictures/*.svg $(to)/share/doc/shim/pictures
-	install -m 644 examples/*.shim examples/*.txt $(to)/share/doc/shim/examples
+	@for file in $(DOCS); do install -D -m 644 "$$file" "$(to)/share/doc/shim/$$file" || exit 1; done
 	install -D -m 644 completions/shim.bash $(to)/share/bash-completion/completions/shim
 	ln -sf shim $(to)/share/bash-completion/completions/shim-see
 	ln -sf shim $(to)/share/bash-completion/completions/shim-draw

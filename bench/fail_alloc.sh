@@ -1,8 +1,9 @@
 #!/usr/bin/env bash
 # Runs ./shim with its first, second, .. allocation failing, until runs make no more of them; then with that allocation and
 # each behind it failing. Each run must answer as ever, or write `no memory` and end with 8. Without words it does so for
-# programs that meet, that throw and that read, for one that is made, and for every mode, by one worker and by four. Runs
-# by four workers make more or fewer allocations by chance, so there ten numbers in a row have to come to nothing.
+# programs that meet, that throw and that read, for two that are made, one of them with --steal, and for every mode, by one
+# worker and by four. Runs by four workers make more or fewer allocations by chance, so there ten numbers in a row have to
+# come to nothing.
 # Wants gcc.
 # Use: make shim && bench/fail_alloc.sh [WORDS..], with WORDS as `run examples/frame.shim`
 set -eu
@@ -163,6 +164,8 @@ for workers in 1 4; do
   refuse_all $quiet run filter.shim --input bytes --workers $workers
   refuse_all $quiet run filter.shim --input bytes --workers $workers --budget 31
   refuse_all $quiet gen storm --size 10 --workers $workers
+  # (one worker has no lanes)
+  [ $workers = 1 ] || refuse_all $quiet gen tree --size 200 --quantum 1 --workers $workers --steal
 done
 for source in meeting poison catch filter; do
   refuse_all 1 ref $source.shim --input bytes

@@ -1,10 +1,11 @@
 #!/usr/bin/env bash
-# Whether a run answers the same for any workers: lets `run` do each example and programs that bench/made.py makes, at 2,
-# 3, 4 and 16 workers and pieces of 1, 7, 64 and 10,000 steps, again and again, and compares each answer, status too,
+# Whether a run answers the same for any workers: lets `run` do each example and programs that bench/made.py makes, at 1, 2,
+# 3, 4 and 16 workers and pieces of 1, 7, 64 and 10,000 steps, again and again, the first, third, .. time with --steal,
+# or each time with the words of MORE, and compares each answer, status too,
 # with that of `ref`, which has neither. Where `ref` is stopped by its budget only the status is compared, since the text
 # then hangs on the schedule. Loops keep the processors busy beside it, as many as there are processors or as BUSY says.
 # Ends with 1 at the first difference, and names the words that showed it. Wants python3.
-# Use: make shim && [BUSY=LOOPS] bench/soak.sh [TIMES [PROGRAMS]]
+# Use: make shim && [BUSY=LOOPS] [MORE=--steal] bench/soak.sh [TIMES [PROGRAMS]]
 set -eu
 cd "$(dirname "$0")/.."
 times=${1:-1000}
@@ -29,10 +30,12 @@ compare() { # SOURCE [INPUT]
   local source=$1 input=()
   [ -z "${2:-}" ] || input=(--input "$2")
   answer "$room/wanted" ref "$source" "${input[@]}" --budget 100000
-  for _ in $(seq "$times"); do
-    for workers in 2 3 4 16; do
+  for turn in $(seq "$times"); do
+    local more=(${MORE:-})
+    if [ -z "${MORE:-}" ] && [ $((turn % 2)) = 1 ]; then more=(--steal); fi
+    for workers in 1 2 3 4 16; do
       for quantum in 1 7 64 10000; do
-        words=(run "$source" "${input[@]}" --budget 100000 --workers "$workers" --quantum "$quantum")
+        words=(run "$source" "${input[@]}" --budget 100000 --workers "$workers" --quantum "$quantum" "${more[@]}")
         answer "$room/got" "${words[@]}"
         runs=$((runs + 1))
         if [ "$(tail -n 1 "$room/wanted")" = "status 4" ]; then

@@ -10,6 +10,7 @@ _shim() {
   elif [[ $(command shim 2> /dev/null < /dev/null) = *--journal* ]]; then
     modes+=' trace replay' options+=' --journal'
   fi
+  [[ $tool != shim-draw && $(command shim 2> /dev/null < /dev/null) = *--steal* ]] && options+=' --steal'
   [[ $tool = shim-see ]] && options+=' --raw --help --version'
   # `--workers=4` stands in three words, since bash parts words at the sign.
   if [[ $before = '=' ]]; then before=${COMP_WORDS[COMP_CWORD-2]}
@@ -30,7 +31,7 @@ _shim() {
   for ((i = 1; i < COMP_CWORD; i++)); do
     case ${COMP_WORDS[i]} in
       '=') skip=1 ;;
-      --raw) ;;
+      --raw | --steal) ;;
       -*) skip=1 ;;
       *) if ((skip)); then skip=0; else plain+=("${COMP_WORDS[i]}"); fi ;;
     esac

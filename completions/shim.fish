@@ -5,6 +5,10 @@ function __shim_has_journals
     string match -q -- '*--journal*' (command shim 2>/dev/null </dev/null)
 end
 
+function __shim_has_stealing
+    string match -q -- '*--steal*' (command shim 2>/dev/null </dev/null)
+end
+
 # How many words stand there that are no options: the tool itself counts.
 function __shim_plain
     set -l count 0
@@ -12,7 +16,7 @@ function __shim_plain
     for word in (commandline -opc)
         if test $skip = 1
             set skip 0
-        else if string match -qr -- '^--(raw|help|version)$|=' $word
+        else if string match -qr -- '^--(raw|help|version|steal)$|=' $word
         else if string match -q -- '-*' $word
             set skip 1
         else
@@ -47,6 +51,7 @@ for tool in shim shim-see
     complete -c $tool -l quantum -x -a '1 64 10000' -d 'steps of a first piece'
     complete -c $tool -l size -x -a '100 1000 10000 100000' -d 'the size of what gen makes'
     complete -c $tool -n __shim_has_journals -l journal -r -F -d 'the journal of replay'
+    complete -c $tool -n __shim_has_stealing -l steal -d 'workers steal their work'
 end
 complete -c shim-see -l raw -d 'the bytes of shim alone'
 complete -c shim-see -l help -d 'say modes, options and statuses'

@@ -26,8 +26,8 @@ make -s install DESTDIR="$room/root" PREFIX=/usr > "$room/log" 2>&1 || { cat "$r
 for file in bin/shim bin/shim-see bin/shim-draw share/man/man1/shim.1 share/man/man1/shim-see.1 share/man/man1/shim-draw.1 \
   share/bash-completion/completions/shim share/bash-completion/completions/shim-see share/zsh/site-functions/_shim \
   share/fish/vendor_completions.d/shim.fish share/shim/shimtools/runs.py share/shim/VERSION share/shim/editors/vim/compiler/shim.vim \
-  share/shim/editors/vscode/package.json share/shim/editors/emacs/shim-mode.el share/doc/shim/LANGUAGE.md \
-  share/doc/shim/examples/hello.shim share/doc/shim/pictures/meeting.svg; do
+  share/shim/editors/vscode/package.json share/shim/editors/emacs/shim-mode.el share/doc/shim/docs/LANGUAGE.md \
+  share/doc/shim/examples/hello.shim share/doc/shim/docs/pictures/meeting.svg share/doc/shim/tools/many.slurm; do
   checks=$((checks + 1))
   [ -f "$to/$file" ] || fail "$file isn't there"
 done
@@ -36,6 +36,14 @@ same 'the installed program' "$("$to/bin/shim" run "$to/share/doc/shim/examples/
 same 'the installed shim-see' "$(cd /; PYTHONDONTWRITEBYTECODE=1 env -u SHIM "$to/bin/shim-see" run "$to/share/doc/shim/examples/hello.shim" | head -n 1)" 'done: main has ended, after 7 steps'
 same 'its version' "$(env -u SHIM "$to/bin/shim-see" --version | tail -n 1)" "sha256 $(sha256sum shim | cut -d ' ' -f 1)"
 same 'the installed shim-draw' "$(PYTHONDONTWRITEBYTECODE=1 env -u SHIM "$to/bin/shim-draw" why "$to/share/doc/shim/examples/packing.shim")" "$(cat docs/pictures/packing.dot)"
+
+# Each link of an installed page to a file leads to one.
+while read -r page; do
+  while read -r link; do
+    checks=$((checks + 1))
+    [ -f "$(dirname "$page")/$link" ] || fail "${page#"$to/"} links to $link, which isn't there"
+  done < <(grep -o '\](\([^)#]*\)' "$page" | sed 's/^](//' | grep -v -e '^$' -e '^[a-z]*:')
+done < <(find "$to/share/doc/shim" -name '*.md')
 
 # Pages.
 for page in man/*.1; do

@@ -53,6 +53,7 @@ def main_of(words):
         parser.add_argument("--budget", type=int, default=1_000_000)
         parser.add_argument("--workers")
         parser.add_argument("--quantum")
+        parser.add_argument("--steal", action="store_true")
         given = parser.parse_args(words)
         if given.mode == "replay" and given.journal is None:
             return main_of([])
