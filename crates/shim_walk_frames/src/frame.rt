@@ -207,15 +207,27 @@ impl Frame {
         Ok(())
     }
 
+    // So many of the outermost exception places stay. Most steps leave all of them in force, so what drops one
+    // is kept out of their code.
+    #[inline(never)]
+    fn leave_places(&mut self, kept: usize)
+        ensures { self.new ≡ record self.old { places = take kept self.old.places } }
+    {
+        self.places.truncate(kept);
+    }
+
     /// At the statement of this number, or at its second part, with so many of the outermost exception
     /// places. Where that statement stands in the text is looked for only if it is asked.
+    #[tactic(auto, using(crate::proofs::Leaves::takes_none))]
     pub fn rest(&mut self, at: u32, halfway: bool, kept: usize)
         ensures { self.new ≡ record self.old { at = at; cursor = None; halfway = halfway; places = take kept self.old.places } }
     {
         self.at = at;
         self.cursor = None;
         self.halfway = halfway;
-        self.places.truncate(kept);
+        if kept < self.places.len() {
+            self.leave_places(kept);
+        }
     }
 
     /// Another one of the same meaning.
