@@ -37,7 +37,9 @@ impl Path {
     pub fn child(&self, fork: u32, branch: u32) -> Result<Path, NoMemory>
         ensures { IfOk result (λ path. path ≡ self.now ++ (fork, branch) ∷ []) }
     {
-        let mut pairs = List::from_slice(self.alloc, self.pairs())?;
+        let many = self.pairs().len().checked_add(1).ok_or(NoMemory)?;
+        let mut pairs = List::with_capacity(self.alloc, many)?;
+        pairs.extend_from_slice(self.pairs())?;
         pairs.push((fork, branch))?;
         Ok(Path {
             alloc: self.alloc,

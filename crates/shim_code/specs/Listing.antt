@@ -48,12 +48,12 @@ bin_word op.Or = codes "bin or"
 abbrev pub then_number : List ℕ → ℕ → List ℕ
 then_number word n = word ++ (codes " " ++ decimal n)
 
--- The word of an instruction and its operands, with a space before each. The exceptions of a call are not told.
 -- the slot of a handler's variable stands last, where there is one
 abbrev pub then_slot : List ℕ → Option ℕ → List ℕ
 then_slot text None = text
 then_slot text (Some y) = then_number text y
 
+-- The word of an instruction and its operands, with a space before each. The exceptions of a call are not told.
 abbrev pub instr_text : Instr → List ℕ
 instr_text (Mark k line) = codes "mark " ++ then_number (kind_word k) line
 instr_text (Num n) = codes "num " ++ signed_decimal n

@@ -169,8 +169,13 @@ fn branch_location(
     }
 }
 
+// So many elements are no more than memory holds.
+fn sum(some: usize, more: usize) -> Result<usize, NoMemory> {
+    some.checked_add(more).ok_or(NoMemory)
+}
+
 /// The locations that a branch makes for the child of this path, where the locations of these numbers were given
-/// by reference before.
+/// by reference before. There is room for so many more behind them.
 #[tactic(auto, using(crate::proofs::OneMore::one_more_branch, crate::proofs::OneMore::one_more_made))]
 pub fn branch_locations(
     alloc: Global,
@@ -178,11 +183,13 @@ pub fn branch_locations(
     locations: &[Option<Location>],
     before: &[usize],
     given: &[Argument],
+    more: usize,
 ) -> Result<Passed, NoMemory>
     ensures { IfOk result (λ passed. (passed.locations ≡ branch_locations (arc_value home.now) (lent_at before.now locations.now) 0 (arguments_of given.now)) × (passed.made ≡ new_channels (arguments_of given.now))) }
 {
-    let mut passed = List::with_capacity(alloc, given.len())?;
-    let mut taken = List::from_slice(alloc, before)?;
+    let mut passed = List::with_capacity(alloc, sum(given.len(), more)?)?;
+    let mut taken = List::with_capacity(alloc, sum(before.len(), given.len())?)?;
+    taken.extend_from_slice(before)?;
     let mut serial = 0;
     for argument in given {
         serial = branch_location(&mut passed, &mut taken, home, locations, serial, argument)?;

@@ -46,6 +46,9 @@ pub fn next_branch<'a>(
     }
 }
 
+// Most forks have no more branches than these.
+const USUAL_BRANCHES: usize = 2;
+
 // The child of one branch more, with these arguments, is made of what is left.
 fn make_child(
     process: &Process,
@@ -79,7 +82,7 @@ pub fn make_children(
 {
     let alloc = remainder.taken.allocator();
     let mut computation = Computation::new(alloc);
-    let mut children = List::new(alloc);
+    let mut children = List::with_capacity(alloc, USUAL_BRANCHES)?;
     let mut place = start;
     for _ in 0..=code.len() {
         let next = next_branch(

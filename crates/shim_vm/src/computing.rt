@@ -1,5 +1,5 @@
 // Code that only computes: the numbers of expressions, and arguments.
-ghost use Rattle.std.specs.Prelude.{◌≡◌, ◌∷◌, ◌+◌, [], ℤ, MatchOption, Some, IfOk, not};
+ghost use Rattle.std.specs.Prelude.{◌≡◌, ◌∷◌, ◌++◌, ◌+◌, [], ℤ, MatchOption, Some, IfOk, OnOk, not};
 ghost use Rattle.shim_base.specs.Operators.{applied, applied1, is_zero, truth};
 ghost use Rattle.shim_process.specs.Arguments.{ByValue};
 ghost use Rattle.shim_process.specs.LocalState.{env_of, number_of, type_of};
@@ -24,7 +24,7 @@ use std::mem::replace;
 pub struct Computation {
     place: usize,
     stack: Stack,
-    given: List<Argument>,
+    given: Vec<Argument>,
 }
 
 impl Model for Computation {
@@ -33,7 +33,7 @@ impl Model for Computation {
 
     ghost Value = { Computation };
 
-    ghost view = { λ c. record { place = c.place; stack = c.stack; given = arguments_of c.given } };
+    ghost view = { λ c. record { place = c.place; stack = c.stack; given = arguments_of c.given.items } };
 }
 
 impl Computation {
@@ -44,7 +44,7 @@ impl Computation {
         Computation {
             place: 0,
             stack: Stack::new(alloc),
-            given: List::new(alloc),
+            given: Vec::new(alloc),
         }
     }
 
@@ -55,7 +55,7 @@ impl Computation {
         Computation {
             place: 0,
             stack: Stack::with_room(room),
-            given: List::new(alloc),
+            given: Vec::new(alloc),
         }
     }
 
@@ -71,7 +71,7 @@ impl Computation {
     {
         self.place = place;
         self.stack.clear();
-        self.given = List::new(self.given.allocator());
+        self.given.truncate(0);
     }
 
     /// The place of the next instruction.
@@ -93,8 +93,8 @@ impl Computation {
         ensures given { arguments_of result ≡ self.old.given }
         ensures place { self.new.place ≡ self.old.place }
     {
-        let alloc = self.given.allocator();
-        replace(&mut self.given, List::new(alloc))
+        let alloc = *self.given.allocator();
+        List::from(replace(&mut self.given, Vec::new(alloc)))
     }
 
     /// Takes the number off the top.
@@ -173,7 +173,7 @@ impl Computation {
     fn gather(&mut self, argument: Argument) -> Result<bool, ArgumentFault>
         ensures { Progressed (gathers (argument_of argument) self.old.stack self.old) result self.old self.new }
     {
-        self.given.push(argument)?;
+        push_argument(&mut self.given, argument)?;
         self.advance()
     }
 
@@ -236,6 +236,13 @@ impl Computation {
         }
         Err(ArgumentFault::NoMemory)
     }
+}
+
+fn push_argument(given: &mut Vec<Argument>, argument: Argument) -> Result<(), NoMemory>
+    ensures { OnOk result (given.new.items ≡ given.old.items ++ argument ∷ []) }
+{
+    given.push(argument)?;
+    Ok(())
 }
 
 // The type of a variable; that of a stream is never asked for.

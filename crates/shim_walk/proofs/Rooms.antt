@@ -1,5 +1,5 @@
 -- The room for takes is as much as variables of handlers are in force, or more, and the runs that aren't taken stand in order below the number of channels that were made.
-use Rattle.std.proofs.Common.{◌≡◌, ◌∙◌, ◌≤◌, ◌<◌, ◌+◌, ◌-◌, ℕ, List, [], ◌∷◌, ◌++◌, map, take, Option, Some, None, OnSome, Result, Ok, Err, OnOk, OnErr, refl, sym, ap, subst, arith}
+use Rattle.std.proofs.Common.{◌≡◌, ◌∙◌, ◌≤◌, ◌<◌, ◌+◌, ℕ, List, [], ◌∷◌, ◌++◌, map, take, Option, Some, None, OnSome, Result, Ok, Err, OnOk, OnErr, refl, sym, ap, subst, arith}
 use Rattle.shim_base.specs.declared.memory.NoMemory.{NoMemory}
 use Rattle.shim_units.specs.declared.unit.Unit.{Unit as UnitOf}
 use Rattle.shim_process.specs.declared.serial_run.SerialRun.{SerialRun}
@@ -74,12 +74,7 @@ pub fewer_by : (y : Option HandlerVariable) (s : Option ℕ) (few many : ℕ) �
 fewer_by None s few many e h = subst (λ z. OnSome z (1 + few ≤ many)) (sym e) tt
 fewer_by (Some y) s few many e h = let le : 1 + few ≤ many = omega (arith, h) in subst (λ z. OnSome z (1 + few ≤ many)) (sym e) le
 
--- there is room to take it
-pub room_to_take : (s : Option ℕ) (few many room : ℕ) → OnSome s (1 + few ≤ many) → many ≤ room → OnSome s (1 ≤ room)
-room_to_take None few many room h fits = tt
-room_to_take (Some n) few many room h fits = omega (arith, h, fits)
-
--- and room is left for those that are in force then
+-- room is left for those that are in force then
 pub room_behind : (s : Option ℕ) (few many room left : ℕ) → OnSome s (1 + few ≤ many) → few ≤ many → OnSome s (left + 1 ≡ room) → (s ≡ None → left ≡ room) → many ≤ room → few ≤ left
 room_behind None few many room left h le less same fits = let e = same refl in omega (arith, e, le, fits)
 room_behind (Some n) few many room left h le less same fits = omega (arith, h, less, fits)

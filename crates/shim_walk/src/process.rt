@@ -727,16 +727,18 @@ impl Process {
         let program = self.program.share()?;
         let input = self.input.share()?;
         let path = Arc::new(alloc, self.path.child(self.forks, place)?)?;
+        let declared = declared_of(units, unit);
         let passed = branch_locations(
             alloc,
             &path,
             self.locations.as_slice(),
             remainder.taken.as_slice(),
             given,
+            declared.len(),
         )?;
         let made = passed.made;
         let given = channels_of(alloc, passed.locations.as_slice())?;
-        let locations = with_empties(passed.locations, declared_of(units, unit))?;
+        let locations = with_empties(passed.locations, declared)?;
         let labels = labels_for(alloc, &self.context(), throws)?;
         let top = first_frame(alloc, units, unit, labels)?;
         Ok(Process {

@@ -32,7 +32,7 @@ returns c =
     let e_top =
     subst (λ (us : List UnitOf). shown us c.in_ok-top.top ≡ entered (unit_or (slice_get us n)) n (numbers_from 0 (unit_or (slice_get us n)).slots) c.in_ok-labels.labels 0 0) u c.in_ok-top.ensures.value
     ∙ ap (λ x. entered (unit_or (slice_get i.program.units n)) n (numbers_from 0 (unit_or (slice_get i.program.units n)).slots) x 0 0) e_labels in
-    let e_declared = c.declared_of.ensures ∙ ap (λ us. declared_slots (unit_or (slice_get us n))) u in
+    let e_declared = c.declared_of-declared.ensures ∙ ap (λ us. declared_slots (unit_or (slice_get us n))) u in
     let e_params = c.params_of.ensures ∙ ap (λ us. (unit_or (slice_get us n)).params) u in
     let e_params2 = c.params_of-2.ensures ∙ ap (λ us. (unit_or (slice_get us n)).params) u in
     child_by (remainder_of l remainder) c.args.place n (passed_labels (statement_view l) c.args.throws.now) args path c.handlers-base.result c.in_ok-passed.passed.made c.new-2.result.runs c.in_ok-given.given c.in_ok-top.top c.new-3.result c.in_ok-passed.passed.locations c.from_list.result c.input_for.result c.output_for.result c.in_ok-program.program c.in_ok-input.input
