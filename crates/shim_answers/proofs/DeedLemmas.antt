@@ -1,10 +1,8 @@
--- What comes of a source that is accepted, in one go: how its deed ended, with what is told; or that its journal is refused.
+-- What comes of a source that is accepted, in one go: how its deed ended, with what is told; that its journal is refused; or that it was run on several inputs.
 use Rattle.std.proofs.Common.{◌≡◌, ◌<◌, ◌⊎◌, ℕ, List, inl, inr, refl, sym, ap, ◌∙◌, subst, arith}
 use Rattle.shim_command.specs.declared.mode.Course.{Course}
 use Rattle.shim_command.specs.declared.mode.Course.TheVariants.{InSomeOrder}
 use Rattle.shim_local.specs.declared.Ended.{Ended}
-use Rattle.shim_local.specs.declared.Outcome.{Outcome as End}
-use Rattle.shim_local.specs.declared.Outcome.TheVariants.{Done, Uncaught, Trapped, Blocked, Spent}
 use Rattle.shim_syntax.specs.declared.Program.{Program}
 use Rattle.shim_process.specs.Forks.{root}
 use Rattle.shim_process.specs.LocalState.{LocalState}
@@ -19,16 +17,17 @@ use Rattle.shim_laws_replay.specs.Told.{IsToldAs}
 use Rattle.shim_laws_journals.specs.Accepting.{JournalRefusal}
 use Rattle.shim_laws_journals.proofs.Accepting.{accepted_is_told, not_both, one_refusal}
 use Rattle.shim_reference.proofs.RootChannels.{main_shares_its_own}
-use Rattle.shim_answers.specs.RunEnds.{Execution, end_of, printed_steps, read_off, report_of, status_of, status_of_outcome, tree_of, IsBeginning, IsEnd, IsReachedIn, IsStoppedAt, IsStoppedEnd, as_meant, stopped}
+use Rattle.shim_answers.specs.RunEnds.{Execution, end_of, printed_steps, read_off, report_of, status_of, status_of_outcome, tree_of, IsBeginning, IsEnd, IsEndStatus, IsReachedIn, IsStoppedAt, IsStoppedEnd, as_meant, stopped}
 use Rattle.shim_answers.specs.Recorded.{IsJournalOf, IsJournalRefused, IsNoJournal, IsNoRun, IsOnlyJournal, IsRunTo, execution_within, malformed_line, refusal_line}
-use Rattle.shim_answers.specs.Deeds.{Deed, runs, tells, records, replays}
-use Rattle.shim_answers.specs.Answer.{Answer, AnswersProgram, AnswersRecord, AnswersReplay, AnswersRun, journal_refused, reported}
+use Rattle.shim_answers.specs.Deeds.{Deed, runs, tells, records, replays, runs_each}
+use Rattle.shim_answers.specs.Answer.{Answer, AnswersEach, AnswersProgram, AnswersRecord, AnswersReplay, AnswersRun, journal_refused, reported}
 use Rattle.shim_answers.specs.DeedEnds.{EndsBy, IsReached, IsRefusedBy, IsRunBy, IsShown, IsShownAt, IsStoppedBy, IsTextBy, status_by}
 use Rattle.shim_answers.proofs.Beginnings.{begins_by, stopped_tree}
 use Rattle.shim_answers.proofs.Causes.{Tells, printed}
 use Rattle.shim_answers.proofs.FaultyLines.{never_faulty, one_faulty_line}
 use Rattle.shim_answers.proofs.NetEnds.{end_is, net_end, rested_there, stopped_there, tree_is}
 use Rattle.shim_answers.proofs.Reached.{is_reached, is_reached_whole}
+use Rattle.shim_answers.proofs.Statuses.{end_below, end_not_two, end_status, greatest_end}
 
 -- what is told of an execution that is stopped
 pub record ToldStopped (deed : Deed) (x : Execution) (text : List ℕ) : Type 0 where
@@ -45,6 +44,14 @@ pub record DeedTold (deed : Deed) (program : Program) (x : Execution) (answer : 
   pub whole : (status_by deed x ≡ 4 → ⊥) → IsTextBy deed program x answer.text
   pub part : status_by deed x ≡ 4 → ToldStopped deed x answer.text
 
+-- a source is run once on each of several inputs
+abbrev pub IsMany : Deed → Type 0
+IsMany (runs course shown) = ⊥
+IsMany (tells told) = ⊥
+IsMany records = ⊥
+IsMany (replays journal) = ⊥
+IsMany (runs_each names inputs) = Unit {0}
+
 pub data DeedOutcome (deed : Deed) (program : Program) (asked : Execution) (answer : Answer) : Type 0 where
   -- this execution was done, and no other may be
   ends : (x : Execution) → UsesOwnSlots x.source → IsRunBy deed asked x → ((y : Execution) → IsRunBy deed asked y → x ≡ y) → ((line : List ℕ) → IsRefusedBy deed asked line → ⊥) → DeedTold deed program x answer
@@ -52,11 +59,8 @@ pub data DeedOutcome (deed : Deed) (program : Program) (asked : Execution) (answ
   -- none was, and there is one line
   stays : (line : List ℕ) → IsRefusedBy deed asked line → ((other : List ℕ) → IsRefusedBy deed asked other → line ≡ other) → ((y : Execution) → IsRunBy deed asked y → ⊥) → answer ≡ journal_refused line
       → DeedOutcome deed program asked answer
-
--- what a run comes to has the status of the meaning
-end_status : (course : Course) (x : Execution) (e : Ended) → IsEnd course x e → status_of_outcome e.outcome ≡ status_of x
-end_status course x e (as_meant apart same) = ap (λ (y : Ended). status_of_outcome y.outcome) same
-end_status course x e (stopped four may so) = so ∙ sym four
+  -- several were, each on its input, and none of them is the one that was asked for
+  many : IsMany deed → IsEndStatus answer.status → ((y : Execution) → IsRunBy deed asked y → ⊥) → ((line : List ℕ) → IsRefusedBy deed asked line → ⊥) → DeedOutcome deed program asked answer
 
 told_run : (course : Course) (shown : Execution → Ended → List ℕ) (program : Program) (x : Execution) (answer : Answer) → UsesOwnSlots x.source → AnswersRun course shown x answer → DeedTold (runs course shown) program x answer
 told_run course shown program x answer own (e, end, is) = record {
@@ -174,46 +178,38 @@ replay_outcome journal program asked answer own (inl (b, es, only, inr (r, why, 
 replay_outcome journal program asked answer own (inr (n, bad, is)) =
     stays (malformed_line n) (inl (n, bad.faulty, refl)) (one_malformed asked journal n bad) (none_malformed asked journal n bad) is
 
+-- the statuses of all runs give one that tells of runs
+each_outcome : (names inputs : List (List ℕ)) (program : Program) (asked : Execution) (answer : Answer) → AnswersEach names asked inputs answer → DeedOutcome (runs_each names inputs) program asked answer
+each_outcome names inputs program asked answer (named, es, ran, is) = many tt (subst IsEndStatus (sym (ap (λ (a : Answer). a.status) is)) (greatest_end es)) (λ y no. no) (λ line no. no)
+
 pub deed_outcome : (deed : Deed) (program : Program) (asked : Execution) (answer : Answer) → UsesOwnSlots asked.source → AnswersProgram deed program asked answer → DeedOutcome deed program asked answer
 deed_outcome (runs course shown) program asked answer own done = ends asked own refl (λ y is. sym is) (λ line h. h) (told_run course shown program asked answer own done)
 deed_outcome (tells told) program asked answer own done = ends asked own refl (λ y is. sym is) (λ line h. h) (record { status = done.0; whole = λ _. done.1; part = λ four. absurd (omega (arith, four)) })
 deed_outcome records program asked answer own done = ends asked own refl (λ y is. sym is) (λ line h. h) (told_record program asked answer own done)
 deed_outcome (replays journal) program asked answer own done = replay_outcome journal program asked answer own done
+deed_outcome (runs_each names inputs) program asked answer own done = each_outcome names inputs program asked answer done
 
 -- what is told of the execution that is done is told of this one
 pub told_of : (deed : Deed) (program : Program) (asked : Execution) (answer : Answer) → DeedOutcome deed program asked answer → (x : Execution) → IsRunBy deed asked x → UsesOwnSlots x.source × DeedTold deed program x answer
 told_of deed program asked answer (ends y own done only free told) x is = subst (λ (z : Execution). UsesOwnSlots z.source × DeedTold deed program z answer) (only x is) (own, told)
 told_of deed program asked answer (stays line why only none refused) x is = absurd (none x is)
+told_of deed program asked answer (many several few none free) x is = absurd (none x is)
 
 -- ---- statuses
-
--- the end of a run is told by a status below 5
-end_below : (o : End) → status_of_outcome o < 5
-end_below Done = omega arith
-end_below (Uncaught i) = omega arith
-end_below Trapped = omega arith
-end_below Blocked = omega arith
-end_below Spent = omega arith
-
--- and not by that of words that ask for nothing
-end_not_two : (o : End) → status_of_outcome o ≡ 2 → ⊥
-end_not_two Done e = omega (arith, e)
-end_not_two (Uncaught i) e = omega (arith, e)
-end_not_two Trapped e = omega (arith, e)
-end_not_two Blocked e = omega (arith, e)
-end_not_two Spent e = omega (arith, e)
 
 pub deed_below : (deed : Deed) (x : Execution) → status_by deed x < 5
 deed_below (runs course shown) x = end_below (end_of x).outcome
 deed_below (tells told) x = omega arith
 deed_below records x = end_below (end_of x).outcome
 deed_below (replays journal) x = end_below (end_of x).outcome
+deed_below (runs_each names inputs) x = omega arith
 
 deed_not_two : (deed : Deed) (x : Execution) → status_by deed x ≡ 2 → ⊥
 deed_not_two (runs course shown) x e = end_not_two (end_of x).outcome e
 deed_not_two (tells told) x e = omega (arith, e)
 deed_not_two records x e = end_not_two (end_of x).outcome e
 deed_not_two (replays journal) x e = end_not_two (end_of x).outcome e
+deed_not_two (runs_each names inputs) x e = omega (arith, e)
 
 -- a status that a deed may have: that of an end, or that of a journal that is refused
 pub record IsDeedStatus (status : ℕ) : Type 0 where
@@ -226,32 +222,37 @@ deed_status deed program asked answer (ends x own done only free told) =
 deed_status deed program asked answer (stays line why only none is) =
     let nine : answer.status ≡ 9 = ap (λ (a : Answer). a.status) is in
     record { few = inr nine; apart = λ two. omega (arith, nine, two) }
+deed_status deed program asked answer (many several status none free) = record { few = inl status.0; apart = status.1 }
 
 -- ---- what a status tells of the meaning
 
-pub ends_by : (status : ℕ) (Cause : Execution → Type 0) → Tells status Cause → (deed : Deed) (x : Execution) → UsesOwnSlots x.source → status_by deed x ≡ status → EndsBy status Cause deed x
-ends_by status Cause tell (runs course shown) x own e = tell.only x own e
-ends_by status Cause tell (tells told) x own e = sym e
-ends_by status Cause tell records x own e = tell.only x own e
-ends_by status Cause tell (replays journal) x own e = tell.only x own e
+pub ends_by : (status : ℕ) (Cause : Execution → Type 0) → Tells status Cause → (deed : Deed) (asked x : Execution) → IsRunBy deed asked x → UsesOwnSlots x.source → status_by deed x ≡ status → EndsBy status Cause deed x
+ends_by status Cause tell (runs course shown) asked x run own e = tell.only x own e
+ends_by status Cause tell (tells told) asked x run own e = sym e
+ends_by status Cause tell records asked x run own e = tell.only x own e
+ends_by status Cause tell (replays journal) asked x run own e = tell.only x own e
+ends_by status Cause tell (runs_each names inputs) asked x run own e = absurd run
 
 pub status_is : (status : ℕ) (Cause : Execution → Type 0) → Tells status Cause → (deed : Deed) (x : Execution) → UsesOwnSlots x.source → EndsBy status Cause deed x → status_by deed x ≡ status
 status_is status Cause tell (runs course shown) x own cause = tell.when x own cause
 status_is status Cause tell (tells told) x own cause = sym cause
 status_is status Cause tell records x own cause = tell.when x own cause
 status_is status Cause tell (replays journal) x own cause = tell.when x own cause
+status_is status Cause tell (runs_each names inputs) x own cause = absurd cause
 
-pub deed_reached : (deed : Deed) (x : Execution) → IsReached deed x
-deed_reached (runs course shown) x = is_reached x
-deed_reached (tells told) x = tt
-deed_reached records x = is_reached x
-deed_reached (replays journal) x = is_reached x
+pub deed_reached : (deed : Deed) (asked x : Execution) → IsRunBy deed asked x → IsReached deed x
+deed_reached (runs course shown) asked x run = is_reached x
+deed_reached (tells told) asked x run = tt
+deed_reached records asked x run = is_reached x
+deed_reached (replays journal) asked x run = is_reached x
+deed_reached (runs_each names inputs) asked x run = absurd run
 
 pub deed_spent : (deed : Deed) (x : Execution) → UsesOwnSlots x.source → status_by deed x ≡ 4 → IsReachedIn x.budget x
 deed_spent (runs course shown) x own four = is_reached_whole x own four
 deed_spent (tells told) x own four = absurd (omega (arith, four))
 deed_spent records x own four = is_reached_whole x own four
 deed_spent (replays journal) x own four = is_reached_whole x own four
+deed_spent (runs_each names inputs) x own four = absurd (omega (arith, four))
 
 -- the counts of a stopped run add up to the budget
 pub stopped_counts : (x : Execution) (t : Tree LocalState) → IsStoppedAt x t → printed_steps (read_off x t) ≡ x.budget

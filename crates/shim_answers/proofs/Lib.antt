@@ -3,9 +3,12 @@ pub mod ExecuteLemmas
 pub mod SourceSlots
 pub mod MeaningEnds
 pub mod Causes
+pub mod Statuses
+pub mod Greatest
 pub mod NetEnds
 pub mod Outcomes
 pub mod Reached
+pub mod BatchNets
 pub mod FunctionUnits
 pub mod Explaining
 pub mod Beginnings

@@ -126,7 +126,7 @@ net_traced x n net =
     )
 
 -- a net that was started and driven is one of its execution
-net_of : (x : Execution) (main : LocalState) (begun n : NetView LocalState) → main ≡ root x.source x.input → begun ≡ started main x.budget → n.root ≡ begun.root → n.budget ≡ begun.budget
+pub net_of : (x : Execution) (main : LocalState) (begun n : NetView LocalState) → main ≡ root x.source x.input → begun ≡ started main x.budget → n.root ≡ begun.root → n.budget ≡ begun.budget
     → IsNet process_ops n → IsQuietNet process_ops n ⊎ IsSpentNet process_ops n → IsEndedNet x n
 net_of x main begun n is start same_root same_budget keeps stands = record {
   root_is = same_root ∙ (ap (λ (m : NetView LocalState). m.root) start ∙ is);

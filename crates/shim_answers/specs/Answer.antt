@@ -1,5 +1,6 @@
 -- What is answered to a source, from what is done with it.
-use Rattle.std.specs.Prelude.{ℕ, ◌≡◌, ◌⊎◌, List, Ok, Err}
+use Rattle.std.specs.Prelude.{ℕ, ◌≡◌, ◌⊎◌, List, length, Ok, Err}
+use Rattle.std.specs.List.{AllZip}
 use Rattle.shim_syntax.specs.declared.Program.{Program}
 use Rattle.shim_syntax.specs.Text.{IsText}
 use Rattle.shim_parser.specs.declared.ParseFault.{ParseFault}
@@ -11,7 +12,7 @@ use Rattle.shim_front_end.specs.Source.{Source, IsSource, checked}
 use Rattle.shim_report.specs.Refusal.{refusal}
 use Rattle.shim_command.specs.declared.job.Job.{Job}
 use Rattle.shim_command.specs.declared.mode.Course.{Course}
-use Rattle.shim_command.specs.declared.mode.Course.TheVariants.{ByFirstEvents}
+use Rattle.shim_command.specs.declared.mode.Course.TheVariants.{ByFirstEvents, InSomeOrder}
 use Rattle.shim_command.specs.declared.mode.Telling.{Telling}
 use Rattle.shim_local.specs.declared.Ended.{Ended}
 use Rattle.shim_process.specs.LocalState.{LocalState}
@@ -19,8 +20,9 @@ use Rattle.shim_semantics.specs.Trees.{Tree}
 use Rattle.shim_laws_replay.specs.Journals.{Entry}
 use Rattle.shim_laws_journals.specs.Accepting.{JournalRefusal}
 use Rattle.shim_answers.specs.RunEnds.{Execution, read_off, report_of, status_of_outcome, IsEnd}
+use Rattle.shim_answers.specs.Batches.{greatest, on_each, reports_of, statuses_of}
 use Rattle.shim_answers.specs.Recorded.{IsJournalOf, IsNoJournal, IsNoRun, IsOnlyJournal, IsRunTo, execution_within, malformed_line, refusal_line}
-use Rattle.shim_answers.specs.Deeds.{Deed, runs, tells, records, replays, executed, telling_of}
+use Rattle.shim_answers.specs.Deeds.{Deed, runs, tells, records, replays, runs_each, executed, telling_of}
 
 -- a status and the text that goes with it
 pub record Answer : Type 0 where
@@ -71,12 +73,19 @@ AnswersReplay source input journal answer =
     ((b : ℕ) × (es : List Entry) × IsOnlyJournal journal b es × AnswersEntries (execution_within source input b) es answer)
     ⊎ ((n : ℕ) × IsNoJournal journal n × (answer ≡ journal_refused (malformed_line n)))
 
--- an accepted program is answered with what is done with it: with what is read off its run, with what is told of it, with the journal of its run, or as a journal is
+-- Runs of one source on each of these inputs, of which there is one for each of these names, are answered with what they come to: the greatest of the statuses that tell how they ended, and their reports in order.
+abbrev pub AnswersEach : List (List ℕ) → Execution → List (List ℕ) → Answer → Type 0
+AnswersEach names x inputs answer =
+    (length inputs ≡ length names) × (es : List Ended) × AllZip (IsEnd InSomeOrder) (on_each x inputs) es
+    × (answer ≡ record { status = greatest (statuses_of es); text = reports_of x.source names es })
+
+-- an accepted program is answered with what is done with it: with what is read off its run, with what is told of it, with the journal of its run, as a journal is, or with what is read off its runs on each input
 abbrev pub AnswersProgram : Deed → Program → Execution → Answer → Type 0
 AnswersProgram (runs course shown) program x answer = AnswersRun course shown x answer
 AnswersProgram (tells told) program x answer = AnswersTelling told program x.source answer
 AnswersProgram records program x answer = AnswersRecord x answer
 AnswersProgram (replays journal) program x answer = AnswersReplay x.source x.input journal answer
+AnswersProgram (runs_each names inputs) program x answer = AnswersEach names x inputs answer
 
 -- What comes of a program: this of it and of its units, where it is accepted, and else that of its first fault.
 abbrev pub OfProgram : {A : Type 0} → (Program → Source → A → Type 0) → (SourceFault → A → Type 0) → Program → A → Type 0

@@ -6,7 +6,7 @@ use Rattle.shim_command.specs.declared.mode.Course.TheVariants.{ByFirstEvents}
 use Rattle.shim_command.specs.declared.mode.Showing.{Showing}
 use Rattle.shim_command.specs.declared.mode.Showing.TheVariants.{Report, Summary}
 use Rattle.shim_command.specs.declared.mode.Task.{Task}
-use Rattle.shim_command.specs.declared.mode.Task.TheVariants.{Explains, Records, Replays, Runs, Tells}
+use Rattle.shim_command.specs.declared.mode.Task.TheVariants.{Explains, Records, Replays, Runs, RunsEach, Tells}
 use Rattle.shim_command.specs.declared.mode.Telling.{Telling}
 use Rattle.shim_command.specs.declared.mode.Telling.TheVariants.{Functions, Instructions, Version2}
 use Rattle.shim_syntax.specs.declared.Program.{Program}
@@ -56,6 +56,8 @@ pub data Deed : Type 1 where
   records : Deed
   -- it is run as the journal in this text tells, and the report of that is told
   replays : List ℕ → Deed
+  -- it is run once on each of these inputs, which have these names, and the reports of that are told in order
+  runs_each : List (List ℕ) → List (List ℕ) → Deed
 
 -- what is told of a source
 abbrev pub telling_of : Telling → Program → Source → List ℕ → Type 0
@@ -72,10 +74,20 @@ showing_of Summary job = summary_of job
 abbrev pub shown_of : Showing → Job → Execution → Ended → List ℕ
 shown_of showing job x e = showing_of showing job x.source e
 
--- what is done for a job whose mode has this task, with the text of its journal
-abbrev pub deed_by : Task → Job → List ℕ → Deed
-deed_by (Tells telling) job journal = tells (telling_of telling)
-deed_by (Runs course showing) job journal = runs course (shown_of showing job)
-deed_by Explains job journal = runs ByFirstEvents report_with_reasons
-deed_by Records job journal = records
-deed_by Replays job journal = replays journal
+-- what was read beside a source; what wasn't there to be read is empty
+pub record Beside : Type 0 where
+  -- what one run takes in
+  pub input : List ℕ
+  -- the text of a journal
+  pub journal : List ℕ
+  -- what one run each takes in, in the order of the names in the job
+  pub inputs : List (List ℕ)
+
+-- what is done for a job whose mode has this task, with what was read beside its source
+abbrev pub deed_by : Task → Job → Beside → Deed
+deed_by (Tells telling) job beside = tells (telling_of telling)
+deed_by (Runs course showing) job beside = runs course (shown_of showing job)
+deed_by Explains job beside = runs ByFirstEvents report_with_reasons
+deed_by Records job beside = records
+deed_by Replays job beside = replays beside.journal
+deed_by RunsEach job beside = runs_each job.inputs beside.inputs

@@ -1,5 +1,6 @@
 -- The definitions of this crate, one module for each subject.
 pub mod RunEnds
+pub mod Batches
 pub mod Reasons
 pub mod Recorded
 pub mod Deeds

@@ -3,6 +3,9 @@ use Rattle.std.specs.Prelude.{ℕ, ◌≡◌, ◌⊎◌, List, ◌++◌, codes, 
 use Rattle.shim_process.specs.Forks.{root}
 use Rattle.shim_process.specs.LocalState.{LocalState}
 use Rattle.shim_process.specs.Ops.{process_ops}
+use Rattle.shim_local.specs.declared.Ended.{Ended}
+use Rattle.shim_reference.specs.Naming.{named}
+use Rattle.shim_semantics.specs.Endings.{ended}
 use Rattle.shim_semantics.specs.Trees.{Tree}
 use Rattle.shim_laws_replay.specs.Journals.{Entry}
 use Rattle.shim_laws_journals.specs.Accepting.{IsAcceptedJournal, IsRefusedJournal, JournalRefusal, OverBudget, NotEnabled, Unfinished}
@@ -18,6 +21,10 @@ pub record IsEndedNet (x : Execution) (n : NetView LocalState) : Type 0 where
   pub budget_is : n.budget ≡ x.budget
   pub keeps : IsNet process_ops n
   pub stands : IsQuietNet process_ops n ⊎ IsSpentNet process_ops n
+
+-- what is read off a net of a run of this source
+abbrev pub end_of_net : Source → NetView LocalState → Ended
+end_of_net source n = named source.main_throws (ended process_ops n.tree)
 
 -- the entries are a run of this execution, which ends at the tree: at rest within the budget, or with the budget spent
 abbrev pub IsRunTo : Execution → List Entry → Tree LocalState → Type 0

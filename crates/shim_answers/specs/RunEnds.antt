@@ -1,5 +1,5 @@
 -- What a run of a source comes to. Its meaning is the run from its root that always does the first event that is enabled.
-use Rattle.std.specs.Prelude.{◌≡◌, ◌≢◌, ◌⊎◌, ℕ, ◌+◌, IsTrue, Some, List, length, map}
+use Rattle.std.specs.Prelude.{◌≡◌, ◌≢◌, ◌⊎◌, ◌<◌, ℕ, ◌+◌, IsTrue, Some, List, length, map}
 use Rattle.std.specs.FinMap as finite
 use Rattle.shim_base.specs.Paths.{Channel}
 use Rattle.shim_local.specs.declared.Ended.{Ended}
@@ -54,6 +54,10 @@ status_of_outcome Spent = 4
 -- the status that tells how the meaning ended
 abbrev pub status_of : Execution → ℕ
 status_of x = status_of_outcome (end_of x).outcome
+
+-- a status that tells how runs ended: below those of what was never run, and not that of words that ask for nothing
+abbrev pub IsEndStatus : ℕ → Type 0
+IsEndStatus status = (status < 5) × (status ≡ 2 → ⊥)
 
 -- nothing can happen any more, and the root has ended
 abbrev pub IsDone : Execution → Type 0

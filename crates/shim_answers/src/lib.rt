@@ -2,6 +2,7 @@
 #![tactic(auto)]
 
 mod answer;
+mod batched;
 mod execute;
 mod explain;
 pub mod laws;
@@ -12,8 +13,9 @@ mod status;
 pub mod tied;
 
 pub use answer::{Answer, refused};
+pub use batched::answer_each;
 pub use execute::{answer_meaning, answer_record, answer_run, answer_telling};
 pub use explain::answer_reasons;
 pub use replayed::answer_replay;
-pub use runs::{PreparedRun, RunToRecord};
+pub use runs::{PreparedRun, RunOfEach, RunToRecord};
 pub use status::ExitStatus;

@@ -13,6 +13,15 @@ pub struct PreparedRun {
     pub input: List<u8>,
 }
 
+/// Runs of one accepted source, of which each takes in one of these: one for each input that the words
+/// name, in their order.
+#[derive(Drop)]
+pub struct RunOfEach {
+    pub job: Job,
+    pub source: Accepted,
+    pub inputs: List<List<u8>>,
+}
+
 /// A run that workers are to do, of which the journal is told.
 #[derive(Drop)]
 pub struct RunToRecord {

@@ -1,5 +1,5 @@
 // The statuses that the program ends with.
-ghost use Rattle.std.specs.Prelude.{◌≡◌};
+ghost use Rattle.std.specs.Prelude.{◌≡◌, max};
 ghost use Rattle.shim_answers.specs.AnswerView.{code_of};
 ghost use Rattle.shim_answers.specs.RunEnds.{status_of_outcome};
 
@@ -31,6 +31,17 @@ impl ExitStatus {
             Outcome::Uncaught(_) | Outcome::Trapped => ExitStatus::Failed,
             Outcome::Blocked => ExitStatus::Blocked,
             Outcome::Spent => ExitStatus::Spent,
+        }
+    }
+
+    /// This status or the other one, whichever has the greater number.
+    pub(crate) fn or_greater(self, other: ExitStatus) -> ExitStatus
+        ensures { code_of result ≡ max (code_of self) (code_of other) }
+    {
+        if self.code() < other.code() {
+            other
+        } else {
+            self
         }
     }
 

@@ -52,5 +52,5 @@ whole (Some text) h = refl
 
 pub answer_given : (rows : List Row) (r : Result Job WordsFault) → is_some (first_of (codes "FILE") rows) ≡ true → Gives (job_in rows) r
     → IfOk r (λ job. first_of (codes "FILE") rows ≡ Some job.file)
-answer_given rows (Ok found) has is = of_job (λ (job : Job). first_of (codes "FILE") rows ≡ Some job.file) rows (λ mode. whole (first_of (codes "FILE") rows) has) found is
+answer_given rows (Ok found) has is = of_job (λ (job : Job). first_of (codes "FILE") rows ≡ Some job.file) rows (λ mode fits. whole (first_of (codes "FILE") rows) has) found is
 answer_given rows (Err fault) has is = tt

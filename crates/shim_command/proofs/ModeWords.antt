@@ -4,7 +4,7 @@ use Rattle.std.specs.Prelude.{bytes_eq}
 use Rattle.std.proofs.lemmas.Slice.Eq.{bytes_eq-Decides}
 use Rattle.clap.specs.Words.{Text}
 use Rattle.shim_command.specs.declared.mode.Mode.{Mode}
-use Rattle.shim_command.specs.declared.mode.Mode.TheVariants.{Run, Reference, Check, Code, Gen, Up, Trace, Replay, Why}
+use Rattle.shim_command.specs.declared.mode.Mode.TheVariants.{Run, Reference, Check, Code, Gen, Up, Trace, Replay, Why, Batch}
 use Rattle.shim_command.specs.Modes.{mode_named, modes, named_among, row_of}
 
 -- the word of a mode asks for that mode
@@ -19,6 +19,7 @@ asks Up = refl
 asks Trace = refl
 asks Replay = refl
 asks Why = refl
+asks Batch = refl
 
 -- and no other word does
 among : (ms : List Mode) (word : Text) (wanted : Mode) → named_among ms word ≡ Some wanted → word ≡ (row_of wanted).word

@@ -44,15 +44,15 @@ failed words e Refused kinds is = elim kinds [
   | inr among ↦ refused words (kind_of e) among
 ]
 
-of_suiting : (P : Job → Type 0) (job found : Job) (b : Bool) → P job → cond b (Some job) None ≡ Some found → P found
-of_suiting P job found true holds is = subst (λ (o : Option Job). P (unwrap_or o found)) is holds
-of_suiting P job found false holds is = cc
+of_suiting : (P : Job → Type 0) (job found : Job) (b : Bool) → suits job ≡ b → (suits job ≡ true → P job) → cond b (Some job) None ≡ Some found → P found
+of_suiting P job found true fits holds is = subst (λ (o : Option Job). P (unwrap_or o found)) is (holds fits)
+of_suiting P job found false fits holds is = cc
 
-of_mode : (P : Job → Type 0) (mode : Option Mode) (rows : List Row) → ((mode : Mode) → P (job_with mode rows)) → (found : Job)
+of_mode : (P : Job → Type 0) (mode : Option Mode) (rows : List Row) → ((mode : Mode) → suits (job_with mode rows) ≡ true → P (job_with mode rows)) → (found : Job)
     → job_of mode rows ≡ Some found → P found
 of_mode P None rows each found is = cc
-of_mode P (Some mode) rows each found is = of_suiting P (job_with mode rows) found (suits (job_with mode rows)) (each mode) is
+of_mode P (Some mode) rows each found is = of_suiting P (job_with mode rows) found (suits (job_with mode rows)) refl (each mode) is
 
--- what holds of the job of each mode, with what was found, holds of the job
-pub of_job : (P : Job → Type 0) (rows : List Row) → ((mode : Mode) → P (job_with mode rows)) → (found : Job) → job_in rows ≡ Some found → P found
+-- what holds of the job of each mode that takes what was found, holds of the job
+pub of_job : (P : Job → Type 0) (rows : List Row) → ((mode : Mode) → suits (job_with mode rows) ≡ true → P (job_with mode rows)) → (found : Job) → job_in rows ≡ Some found → P found
 of_job P rows each found is = of_mode P (mode_named (word_in rows (codes "MODE"))) rows each found is

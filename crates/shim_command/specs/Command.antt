@@ -2,7 +2,7 @@
 use Rattle.std.specs.Prelude.{ℕ, true, List, [], ◌∷◌, Some, codes}
 use Rattle.clap.specs.Words.{App, Rule, Text, new_rule}
 use Rattle.clap.specs.Simple.{new_shape}
-use Rattle.clap.specs.declared.builder.action.ArgAction.TheVariants.{Set, SetTrue}
+use Rattle.clap.specs.declared.builder.action.ArgAction.TheVariants.{Append, Set, SetTrue}
 use Rattle.clap.specs.declared.builder.value_parser.ValueParser.TheVariants.{Unsigned}
 
 -- a word that has to be there, by its place
@@ -21,6 +21,10 @@ number name least most = record (new_rule name) { long = Some name; parser = Som
 abbrev pub flag : Text → Rule
 flag name = record (new_rule name) { long = Some name; action = Some SetTrue }
 
+-- words behind the others, as many as there are
+abbrev pub words_behind : Text → Rule
+words_behind name = record (new_rule name) { action = Some Append }
+
 -- the arguments of `shim`
 unfoldable pub arguments : List Rule
 arguments =
@@ -33,6 +37,7 @@ arguments =
     ∷ number (codes "size") 1 100000
     ∷ option (codes "journal")
     ∷ flag (codes "steal")
+    ∷ words_behind (codes "INPUT")
     ∷ []
 
 -- the command: its arguments, no subcommand, and no flag for help

@@ -1,16 +1,16 @@
 -- What words ask for.
-use Rattle.std.specs.Prelude.{ℕ, ◌≡◌, ◌≢◌, ◌≤◌, ◌&&◌, Bool, true, false, List, [], ◌∷◌, map, Option, Some, None, Result, Ok, Err, is_some, if◌then◌else◌, unwrap_or, bytes_eq, codes, string_bytes, String}
+use Rattle.std.specs.Prelude.{ℕ, ◌≡◌, ◌≢◌, ◌≤◌, ◌&&◌, Bool, true, false, List, [], ◌∷◌, length, map, nat_eq, nat_le, Option, Some, None, Result, Ok, Err, is_some, if◌then◌else◌, unwrap_or, bytes_eq, codes, string_bytes, String}
 use Rattle.std.specs.Option.{option_map_or}
 use Rattle.std.specs.Str.Parse.{digits_value, without_leading_plus}
 use Rattle.std.specs.declared.alloc.Global.{Global}
-use Rattle.clap.specs.Words.{Kinds, Row, Text, fault_of, first_of, matches_of, one_of}
+use Rattle.clap.specs.Words.{Kinds, Row, Text, all_of, fault_of, first_of, matches_of, one_of}
 use Rattle.clap.specs.Values.{IsUnsignedIn}
 use Rattle.clap.specs.declared.error.kind.ErrorKind.{ErrorKind}
 use Rattle.clap.specs.declared.error.kind.ErrorKind.TheVariants.{OutOfMemory}
 use Rattle.shim_generator.specs.Kinds.{kind_named}
 use Rattle.shim_command.specs.declared.mode.Mode.{Mode}
 use Rattle.shim_command.specs.declared.mode.Extra.{Extra}
-use Rattle.shim_command.specs.declared.mode.Extra.TheVariants.{Nothing, Input, InputAndJournal}
+use Rattle.shim_command.specs.declared.mode.Extra.TheVariants.{Nothing, Input, InputAndJournal, Inputs}
 use Rattle.shim_command.specs.declared.mode.Origin.{Origin}
 use Rattle.shim_command.specs.declared.mode.Origin.TheVariants.{Stored, Generated}
 use Rattle.shim_command.specs.declared.job.Job.{Job}
@@ -26,6 +26,10 @@ texts_of words = map string_bytes words
 -- the word that was found for an argument that has to be there
 abbrev pub word_in : List Row → Text → Text
 word_in rows name = unwrap_or (first_of name rows) []
+
+-- the words that were found for an argument that may have several
+abbrev pub words_in : List Row → Text → List Text
+words_in rows name = unwrap_or (all_of name rows) []
 
 -- the number of a text, in decimal and perhaps with a plus before it; the default, where there is no text
 abbrev pub numbered : Option Text → ℕ → ℕ
@@ -44,6 +48,7 @@ abbrev pub job_with : Mode → List Row → Job
 job_with mode rows = record {
   mode = mode;
   file = word_in rows (codes "FILE");
+  inputs = words_in rows (codes "INPUT");
   input = first_of (codes "input") rows;
   workers = number_in rows (codes "workers") 4;
   budget = number_in rows (codes "budget") 1000000;
@@ -58,11 +63,16 @@ abbrev pub has_origin : Origin → Job → Bool
 has_origin Stored job = true
 has_origin Generated job = is_some (kind_named job.file)
 
--- whether a job has what is to be read so: a journal has to be named
+-- whether a job names no inputs
+abbrev pub has_no_inputs : Job → Bool
+has_no_inputs job = nat_eq (length job.inputs) 0
+
+-- whether a job has what is to be read so: a journal has to be named, and 1 to 64 inputs where there are several, else none
 abbrev pub has_extra : Extra → Job → Bool
-has_extra Nothing job = true
-has_extra Input job = true
-has_extra InputAndJournal job = is_some job.journal
+has_extra Nothing job = has_no_inputs job
+has_extra Input job = has_no_inputs job
+has_extra InputAndJournal job = has_no_inputs job && is_some job.journal
+has_extra Inputs job = nat_le 1 (length job.inputs) && nat_le (length job.inputs) 64
 
 -- whether the mode takes what was found
 abbrev pub suits : Job → Bool
@@ -93,12 +103,13 @@ Gives meant (Ok found) = meant ≡ Some found
 Gives meant (Err Refused) = meant ≡ None
 Gives meant (Err NoMemory) = Unit {0}
 
--- the numbers of a job are in their ranges
+-- the numbers of a job are in their ranges, that of its inputs with them
 pub record IsWithin (job : Job) : Type 0 where
   pub workers : (1 ≤ job.workers) × (job.workers ≤ 16)
   pub budget : (1 ≤ job.budget) × (job.budget ≤ 4000000)
   pub quantum : (1 ≤ job.quantum) × (job.quantum ≤ 10000)
   pub size : (1 ≤ job.size) × (job.size ≤ 100000)
+  pub inputs : (row_of job.mode).beside ≡ Inputs → (1 ≤ length job.inputs) × (length job.inputs ≤ 64)
 
 -- a text, where there is one, is a number from `least` to `most`
 abbrev pub IsNumber : ℕ → ℕ → Option Text → Type 0

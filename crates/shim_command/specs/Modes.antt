@@ -2,16 +2,16 @@
 use Rattle.std.specs.Prelude.{List, [], ◌∷◌, Option, Some, None, if◌then◌else◌, bytes_eq, codes}
 use Rattle.clap.specs.Words.{Text}
 use Rattle.shim_command.specs.declared.mode.Mode.{Mode}
-use Rattle.shim_command.specs.declared.mode.Mode.TheVariants.{Run, Reference, Check, Code, Gen, Up, Trace, Replay, Why}
+use Rattle.shim_command.specs.declared.mode.Mode.TheVariants.{Run, Reference, Check, Code, Gen, Up, Trace, Replay, Why, Batch}
 use Rattle.shim_command.specs.declared.mode.Origin.{Origin}
 use Rattle.shim_command.specs.declared.mode.Origin.TheVariants.{Stored, Generated}
 use Rattle.shim_command.specs.declared.mode.Extra.{Extra}
-use Rattle.shim_command.specs.declared.mode.Extra.TheVariants.{Nothing, Input, InputAndJournal}
+use Rattle.shim_command.specs.declared.mode.Extra.TheVariants.{Nothing, Input, InputAndJournal, Inputs}
 use Rattle.shim_command.specs.declared.mode.Telling.TheVariants.{Functions, Instructions, Version2}
 use Rattle.shim_command.specs.declared.mode.Course.TheVariants.{ByFirstEvents, InSomeOrder}
 use Rattle.shim_command.specs.declared.mode.Showing.TheVariants.{Report, Summary}
 use Rattle.shim_command.specs.declared.mode.Task.{Task}
-use Rattle.shim_command.specs.declared.mode.Task.TheVariants.{Tells, Runs, Explains, Records, Replays}
+use Rattle.shim_command.specs.declared.mode.Task.TheVariants.{Tells, Runs, Explains, Records, Replays, RunsEach}
 use Rattle.shim_command.specs.declared.mode.ModeRow.{ModeRow as Made}
 
 pub record ModeRow : Type 0 where
@@ -34,13 +34,14 @@ row_of Up = record { word = codes "up"; origin = Stored; beside = Nothing; task 
 row_of Trace = record { word = codes "trace"; origin = Stored; beside = Input; task = Records }
 row_of Replay = record { word = codes "replay"; origin = Stored; beside = InputAndJournal; task = Replays }
 row_of Why = record { word = codes "why"; origin = Stored; beside = Input; task = Explains }
+row_of Batch = record { word = codes "batch"; origin = Stored; beside = Inputs; task = RunsEach }
 
 -- a row that was made, as the definition names it
 abbrev pub row_view : Made → ModeRow
 row_view row = record { word = row.word.now; origin = row.origin; beside = row.beside; task = row.task }
 
 abbrev pub modes : List Mode
-modes = Run ∷ Reference ∷ Check ∷ Code ∷ Gen ∷ Up ∷ Trace ∷ Replay ∷ Why ∷ []
+modes = Run ∷ Reference ∷ Check ∷ Code ∷ Gen ∷ Up ∷ Trace ∷ Replay ∷ Why ∷ Batch ∷ []
 
 -- the first of these modes that a word asks for
 abbrev pub named_among : List Mode → Text → Option Mode

@@ -1,7 +1,7 @@
 // The command line, as one simple command of `clap`.
 ghost use Rattle.std.specs.Prelude.{◌≡◌, ◌≤◌, IfOk, false};
 ghost use Rattle.clap.specs.Words.{app_of, rule_of};
-ghost use Rattle.shim_command.specs.Command.{flag, given, number, option, shim_app};
+ghost use Rattle.shim_command.specs.Command.{flag, given, number, option, shim_app, words_behind};
 
 use clap::builder::ValueParser;
 use clap::{Arg, ArgAction, Command};
@@ -42,7 +42,15 @@ fn flag<'a>(alloc: Global, name: &'a str) -> Arg<'a>
     Arg::new(alloc, name).action(ArgAction::SetTrue).long(name)
 }
 
-/// `shim MODE FILE [--input FILE] [--workers N] [--budget B] [--quantum Q] [--size N]
+// Words behind the others, as many as there are.
+fn words_behind<'a>(alloc: Global, name: &'a str) -> Arg<'a>
+    ensures rule { rule_of result ≡ words_behind name.entry.now }
+    ensures own { result.global ≡ false }
+{
+    Arg::new(alloc, name).action(ArgAction::Append)
+}
+
+/// `shim MODE FILE [INPUT]... [--input FILE] [--workers N] [--budget B] [--quantum Q] [--size N]
 /// [--journal FILE] [--steal]`. It has no flag for help: that is a word like any other that it doesn't know.
 pub(crate) fn command<'a>(alloc: Global) -> Result<Command<'a>, NoMemory>
     ensures { IfOk result (λ c. app_of c ≡ shim_app) }
@@ -57,6 +65,7 @@ pub(crate) fn command<'a>(alloc: Global) -> Result<Command<'a>, NoMemory>
         .arg(number(alloc, "quantum", 1, 10000))?
         .arg(number(alloc, "size", 1, 100000))?
         .arg(option(alloc, "journal"))?
-        .arg(flag(alloc, "steal"))?;
+        .arg(flag(alloc, "steal"))?
+        .arg(words_behind(alloc, "INPUT"))?;
     Ok(command)
 }

@@ -8,6 +8,8 @@ pub struct Job {
     pub mode: Mode,
     /// The name of the source's file; of `gen` the word of a kind.
     pub file: List<u8>,
+    /// The names of the files that a batch runs the source on, in order.
+    pub inputs: List<List<u8>>,
     pub input: Option<List<u8>>,
     pub workers: u64,
     pub budget: u64,

@@ -17,6 +17,7 @@ pub enum Mode {
     Trace,
     Replay,
     Why,
+    Batch,
 }
 
 /// Where the text of a source comes from.
@@ -36,6 +37,8 @@ pub enum Extra {
     Input,
     /// These, and behind them a journal, whose file an option has to name.
     InputAndJournal,
+    /// The bytes of each file that INPUT names; one run takes in each.
+    Inputs,
 }
 
 /// What is told of a source that isn't run.
@@ -78,6 +81,8 @@ pub enum Task {
     Records,
     /// It is run as a journal tells, and the report of that is told.
     Replays,
+    /// It is run by workers once on each input, and the reports of these runs are told in order.
+    RunsEach,
 }
 
 /// What a mode is.
@@ -91,7 +96,7 @@ pub struct ModeRow {
 }
 
 /// All modes, in the order in which a word is looked up.
-const MODES: [Mode; 9] = [
+const MODES: [Mode; 10] = [
     Mode::Run,
     Mode::Reference,
     Mode::Check,
@@ -101,6 +106,7 @@ const MODES: [Mode; 9] = [
     Mode::Trace,
     Mode::Replay,
     Mode::Why,
+    Mode::Batch,
 ];
 
 // The row of a mode whose source is read from its file.
@@ -150,6 +156,7 @@ impl Mode {
             Mode::Trace => stored("trace", Extra::Input, Task::Records),
             Mode::Replay => stored("replay", Extra::InputAndJournal, Task::Replays),
             Mode::Why => stored("why", Extra::Input, Task::Explains),
+            Mode::Batch => stored("batch", Extra::Inputs, Task::RunsEach),
         }
     }
 

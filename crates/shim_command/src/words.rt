@@ -1,8 +1,8 @@
 // Reads the words: what `clap` finds in them, and the job that this is.
-ghost use Rattle.std.specs.Prelude.{◌≡◌, ℕ, IfOk, Some, codes, option_map};
+ghost use Rattle.std.specs.Prelude.{◌≡◌, ℕ, IfOk, Some, codes, map, option_map};
 ghost use Rattle.clap.specs.Words.{first_of, found_of, kind_of, matches_of, one_of, rows_of};
 ghost use Rattle.shim_command.specs.Command.{shim_app};
-ghost use Rattle.shim_command.specs.Jobs.{FitAll, Gives, IsFaultOf, IsNumber, IsWithin, flag_in, has_extra, has_origin, job, job_in, job_with, number_in, suits, texts_of, word_in};
+ghost use Rattle.shim_command.specs.Jobs.{FitAll, Gives, IsFaultOf, IsNumber, IsWithin, flag_in, has_extra, has_origin, job, job_in, job_with, number_in, suits, texts_of, word_in, words_in};
 
 use crate::command::command;
 use crate::job::{Job, WordsFault};
@@ -56,6 +56,27 @@ fn bytes_of(alloc: Global, text: Option<&str>) -> Result<Option<List<u8>>, NoMem
     }
 }
 
+// Copies of the bytes of these texts.
+fn copies_of(alloc: Global, texts: &[&str]) -> Result<List<List<u8>>, NoMemory>
+    ensures { IfOk result (λ copies. copies ≡ map (λ text. text.now) texts.now) }
+{
+    let mut copies = List::new(alloc);
+    for text in texts {
+        copies.push(List::from_slice(alloc, text.as_bytes())?)?;
+    }
+    Ok(copies)
+}
+
+// The texts of an argument that may be given several times.
+fn texts_in(alloc: Global, matches: &ArgMatches<'_>, name: &str) -> Result<List<List<u8>>, NoMemory>
+    ensures { IfOk result (λ texts. texts ≡ words_in (rows_of (found_of matches.now)) name.now) }
+{
+    match matches.get_strs(name) {
+        Some(texts) => copies_of(alloc, texts),
+        None => Ok(List::new(alloc)),
+    }
+}
+
 // The job of a mode, with what was found for each argument.
 fn job_with(alloc: Global, mode: Mode, matches: &ArgMatches<'_>) -> Result<Job, NoMemory>
     requires { FitAll (rows_of (found_of matches.now)) }
@@ -64,6 +85,7 @@ fn job_with(alloc: Global, mode: Mode, matches: &ArgMatches<'_>) -> Result<Job, 
     Ok(Job {
         mode,
         file: List::from_slice(alloc, word_in(matches, "FILE").as_bytes())?,
+        inputs: texts_in(alloc, matches, "INPUT")?,
         input: bytes_of(alloc, text_in(matches, "input"))?,
         workers: number_in(matches, "workers", 4),
         budget: number_in(matches, "budget", 1000000),
@@ -84,13 +106,18 @@ fn has_origin(job: &Job, origin: Origin) -> bool
     }
 }
 
+/// The most inputs on which one call runs a source.
+const MOST_INPUTS: usize = 64;
+
 // Whether what is read beside the source is named where it has to be.
 fn has_extra(job: &Job, beside: Extra) -> bool
     ensures { result ≡ has_extra beside job.now }
 {
+    let many = job.inputs.len();
     match beside {
-        Extra::Nothing | Extra::Input => true,
-        Extra::InputAndJournal => job.journal.is_some(),
+        Extra::Nothing | Extra::Input => many == 0,
+        Extra::InputAndJournal => many == 0 && job.journal.is_some(),
+        Extra::Inputs => 1 <= many && many <= MOST_INPUTS,
     }
 }
 
@@ -129,11 +156,12 @@ fn fault_of(error: &Error) -> WordsFault
     }
 }
 
-/// Reads the words, the first of which is the program's own name. `Refused` comes exactly where they
-/// have no job: `clap` finds a fault in them, or MODE names no mode, or its source is generated and FILE
-/// names no kind, or it reads a journal and none is named. A job has what `clap` finds in the words for each argument, with a default for an option that is
-/// absent; its numbers are in their ranges, and FILE is one that was found. Want of memory may come in
-/// place of both.
+/// Reads the words, the first of which is the program's own name. `Refused` comes exactly where they have no job:
+/// `clap` finds a fault in them, or MODE names no mode, or its source is generated and FILE names no kind, or it
+/// reads a journal and none is named, or the number of INPUT words is none that the mode takes: 1 to 64 where it
+/// runs a source on several inputs, else 0. A job has what `clap` finds in the words for each argument, with a
+/// default for an option that is absent; its numbers are in their ranges, and FILE is one that was found. Want of
+/// memory may come in place of both.
 pub fn read_words(alloc: Global, words: &[String]) -> Result<Job, WordsFault>
     ensures job { Gives (job (texts_of words.now)) result }
     ensures within { IfOk result IsWithin }

@@ -17,7 +17,7 @@ const GOES_ON: &str =
     "void main() { int a; { while (1) { } } par { next a = 1; next a = 2; next a = 3; } }";
 
 const USAGE: &str =
-    "usage: shim MODE FILE [--input FILE] [--workers N] [--budget B] [--quantum Q] [--size N] [--journal FILE] [--steal]\n";
+    "usage: shim MODE FILE [INPUT]... [--input FILE] [--workers N] [--budget B] [--quantum Q] [--size N] [--journal FILE] [--steal]\n";
 
 fn strings(alloc: Global, texts: &[&str]) -> Result<Vec<String>, AllocError> {
     let mut all = Vec::new(alloc);

@@ -8,6 +8,11 @@ use std::test::Fail;
 fn shown(alloc: Global, job: &Job) -> Result<String, Fail> {
     let file = str::from_utf8(job.file.as_slice())?;
     let mut text = format!(in alloc; "{:?} {:?}", job.mode, file)?;
+    for name in job.inputs.as_slice() {
+        let name = str::from_utf8(name.as_slice())?;
+        let more = format!(in alloc; " on {:?}", name)?;
+        text.push_str(more.as_str())?;
+    }
     if let Some(input) = &job.input {
         let input = str::from_utf8(input.as_slice())?;
         let more = format!(in alloc; " input {:?}", input)?;
@@ -68,6 +73,7 @@ fn each_mode_has_its_word(rt: HostRuntime) -> Result<(), Fail> {
             ("up|f", "Up \"f\": 4 1000000 64 1000"),
             ("trace|f", "Trace \"f\": 4 1000000 64 1000"),
             ("why|f", "Why \"f\": 4 1000000 64 1000"),
+            ("batch|f|i", "Batch \"f\" on \"i\": 4 1000000 64 1000"),
             ("gen|pipe", "Gen \"pipe\": 4 1000000 64 1000"),
             ("gen|tree", "Gen \"tree\": 4 1000000 64 1000"),
             ("gen|storm", "Gen \"storm\": 4 1000000 64 1000"),
@@ -83,8 +89,23 @@ fn unknown_modes_and_kinds_are_refused(rt: HostRuntime) -> Result<(), Fail> {
         &rt,
         rt.alloc(),
         &[
-            "walk|f", "Run|f", "ru|f", "runs|f", "|f", "f|run", "codes|f", "Up|f", "whys|f",
-            "gen|ring", "gen|f", "gen|Pipe", "gen|", "help|f", "-|f",
+            "walk|f",
+            "Run|f",
+            "ru|f",
+            "runs|f",
+            "|f",
+            "f|run",
+            "codes|f",
+            "Up|f",
+            "whys|f",
+            "gen|ring",
+            "gen|f",
+            "gen|Pipe",
+            "gen|",
+            "help|f",
+            "-|f",
+            "batches|f|i",
+            "Batch|f|i",
         ],
     )
 }
@@ -102,6 +123,110 @@ fn a_replay_wants_a_journal(rt: HostRuntime) -> Result<(), Fail> {
         &[
             ("replay|f|--journal|j", "Replay \"f\": 4 1000000 64 1000"),
             ("run|f|--journal|j", "Run \"f\": 4 1000000 64 1000"),
+        ],
+    )
+}
+
+// The words of a batch on so many inputs, each of which is named for its place.
+fn batch_of(alloc: Global, many: u64) -> Result<String, Fail> {
+    let mut line = String::from_str(alloc, "batch|f")?;
+    for place in 0..many {
+        let word = format!(in alloc; "|{place}")?;
+        line.push_str(word.as_str())?;
+    }
+    Ok(line)
+}
+
+#[test]
+fn a_batch_takes_1_to_64_inputs_in_order(rt: HostRuntime) -> Result<(), Fail> {
+    let mut wanted = String::from_str(rt.alloc(), "Batch \"f\"")?;
+    for place in 0..64 {
+        let name = format!(in rt.alloc(); " on \"{place}\"")?;
+        wanted.push_str(name.as_str())?;
+    }
+    wanted.push_str(": 4 1000000 64 1000")?;
+    let most = batch_of(rt.alloc(), 64)?;
+    let too_many = batch_of(rt.alloc(), 65)?;
+    expect(
+        &rt,
+        rt.alloc(),
+        &[
+            ("batch|f|i", "Batch \"f\" on \"i\": 4 1000000 64 1000"),
+            (
+                "batch|f|j|i|j",
+                "Batch \"f\" on \"j\" on \"i\" on \"j\": 4 1000000 64 1000",
+            ),
+            ("batch|f|", "Batch \"f\" on \"\": 4 1000000 64 1000"),
+            ("batch|f|-", "Batch \"f\" on \"-\": 4 1000000 64 1000"),
+            (most.as_str(), wanted.as_str()),
+        ],
+    )?;
+    expect_refused(
+        &rt,
+        rt.alloc(),
+        &["batch", "batch|f", "batch|f|--input|i", too_many.as_str()],
+    )
+}
+
+#[test]
+fn options_stand_among_the_inputs_of_a_batch(rt: HostRuntime) -> Result<(), Fail> {
+    expect(
+        &rt,
+        rt.alloc(),
+        &[
+            (
+                "--quantum=4|batch|f|i|--workers|2|j|--budget=3|k|--size|5",
+                "Batch \"f\" on \"i\" on \"j\" on \"k\": 2 3 4 5",
+            ),
+            (
+                "batch|f|i|--input|k|j|--steal",
+                "Batch \"f\" on \"i\" on \"j\" input \"k\": 4 1000000 64 1000 steal",
+            ),
+            (
+                "batch|f|--journal|j|i",
+                "Batch \"f\" on \"i\": 4 1000000 64 1000",
+            ),
+            (
+                "batch|f|i|--|j",
+                "Batch \"f\" on \"i\" on \"j\": 4 1000000 64 1000",
+            ),
+            (
+                "batch|f|--|--workers|2|--",
+                "Batch \"f\" on \"--workers\" on \"2\" on \"--\": 4 1000000 64 1000",
+            ),
+        ],
+    )?;
+    expect_refused(
+        &rt,
+        rt.alloc(),
+        &[
+            "batch|f|--",
+            "batch|f|i|--workers|17",
+            "batch|f|i|--workers",
+            "batch|f|i|--help",
+            "batch|f|i|-7",
+            "batch|f|i|--size|1|--size|1",
+        ],
+    )
+}
+
+#[test]
+fn no_other_mode_takes_inputs(rt: HostRuntime) -> Result<(), Fail> {
+    expect_refused(
+        &rt,
+        rt.alloc(),
+        &[
+            "run|f|i",
+            "ref|f|i",
+            "check|f|i",
+            "code|f|i",
+            "up|f|i",
+            "trace|f|i",
+            "why|f|i",
+            "gen|pipe|i",
+            "replay|f|i|--journal|j",
+            "run|f|i|--input|j",
+            "run|--|f|i",
         ],
     )
 }

@@ -98,6 +98,18 @@ pub fn expect_run<G: Gate, R: Threads + Wait + Sync + Abort>(
     expect_call(rt, alloc, program, &[], &words, gate)
 }
 
+/// Runs the program on both files `i` and `j` with these options, and expects its text.
+pub fn expect_batch<G: Gate, R: Threads + Wait + Sync + Abort>(
+    rt: &R,
+    alloc: Global,
+    program: Program,
+    options: &str,
+    gate: &G,
+) -> Result<(), Fail> {
+    let words = words_with(alloc, "shim batch p.shim i j", options)?;
+    expect_call(rt, alloc, program, &[], &words, gate)
+}
+
 /// Runs the program with these options, replays the journal of that, and expects the program's text.
 pub fn expect_replay<G: Gate, R: Threads + Wait + Sync + Abort>(
     rt: &R,

@@ -143,3 +143,69 @@ impl Gate for HoldingGate {
         }
     }
 }
+
+/// Holds the first entry, whoever makes it, until another one has come.
+#[derive(Drop)]
+pub struct FirstEntryGate {
+    counting: CountingGate,
+    most_looks: u64,
+    came: AtomicU64,
+    holds: AtomicU64,
+    failures: AtomicU64,
+}
+
+impl FirstEntryGate {
+    /// Until another entry has come.
+    pub fn until_another_entry() -> FirstEntryGate {
+        FirstEntryGate::new(MOST_LOOKS)
+    }
+
+    /// The same, for a while only.
+    pub fn until_another_entry_or_soon() -> FirstEntryGate {
+        FirstEntryGate::new(FEW_LOOKS)
+    }
+
+    fn new(most_looks: u64) -> FirstEntryGate {
+        FirstEntryGate {
+            counting: CountingGate::new(),
+            most_looks,
+            came: AtomicU64::new(0),
+            holds: AtomicU64::new(0),
+            failures: AtomicU64::new(0),
+        }
+    }
+
+    pub fn not_compiled(&self) -> u64 {
+        self.counting.not_compiled()
+    }
+
+    /// How many entries were held.
+    pub fn holds(&self) -> u64 {
+        get(&self.holds)
+    }
+
+    /// How many of them were let go by the limit.
+    pub fn failures(&self) -> u64 {
+        get(&self.failures)
+    }
+
+    fn hold(&self) {
+        let _before = add_one(&self.holds);
+        for _ in 0..self.most_looks {
+            if get(&self.came) > 1 {
+                return;
+            }
+            thread::yield_now();
+        }
+        let _before = add_one(&self.failures);
+    }
+}
+
+impl Gate for FirstEntryGate {
+    fn enter(&self, pid: u64, compiled: bool) {
+        self.counting.enter(pid, compiled);
+        if add_one(&self.came) == 0 {
+            self.hold();
+        }
+    }
+}

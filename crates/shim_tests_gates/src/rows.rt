@@ -1,6 +1,6 @@
 // Programs, and which pieces of work a gate sees of their runs.
-use crate::calls::{Program, expect_made, expect_replay, expect_run};
-use crate::gates::{CountingGate, HoldingGate};
+use crate::calls::{Program, expect_batch, expect_made, expect_replay, expect_run};
+use crate::gates::{CountingGate, FirstEntryGate, HoldingGate};
 use std::alloc::Global;
 use std::process::Abort;
 use std::sync::Wait;
@@ -202,6 +202,47 @@ fn quantum_is_the_length_of_the_first_piece_and_each_further_one_is_twice_as_lon
         assert_eq!(&rt; gate.entries(), row.1);
     }
     Ok(())
+}
+
+// The same on two inputs, of which neither is read.
+const ONE_COUNTER_TWICE: Program = Program {
+    source: "void main() { int k; while (k < 1000) { k = k + 1; } }",
+    input: "",
+    text: "input i
+output 0
+end done 2003
+input j
+output 0
+end done 2003
+",
+};
+
+fn expect_batch_held<R: Threads + Wait + Sync + Abort>(
+    rt: &R,
+    alloc: Global,
+    options: &str,
+    gate: &FirstEntryGate,
+    failures: u64,
+) -> Result<(), Fail> {
+    expect_batch(rt, alloc, ONE_COUNTER_TWICE, options, gate)?;
+    assert_eq!(rt; gate.holds(), 1);
+    assert_eq!(rt; gate.failures(), failures);
+    assert_eq!(rt; gate.not_compiled(), 0);
+    Ok(())
+}
+
+#[test]
+fn two_runs_of_a_batch_go_at_the_same_time(rt: HostRuntime) -> Result<(), Fail> {
+    let gate = FirstEntryGate::until_another_entry();
+    let options = "--workers 2 --quantum 10000";
+    expect_batch_held(&rt, rt.alloc(), options, &gate, 0)
+}
+
+#[test]
+fn one_worker_does_the_runs_of_a_batch_in_turn(rt: HostRuntime) -> Result<(), Fail> {
+    let gate = FirstEntryGate::until_another_entry_or_soon();
+    let options = "--workers 1 --quantum 10000";
+    expect_batch_held(&rt, rt.alloc(), options, &gate, 1)
 }
 
 #[test]

@@ -2,5 +2,6 @@
 pub mod RowLemmas
 pub mod Sights
 pub mod ReadsOn
+pub mod Batches
 pub mod Preparing
 pub mod Contents

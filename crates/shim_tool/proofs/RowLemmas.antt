@@ -1,10 +1,12 @@
 -- The rows of the statuses, from what one call is. No lemma goes by cases on the mode.
-use Rattle.std.proofs.Common.{ℕ, ◌≡◌, ◌≢◌, ◌<◌, ◌≤◌, ◌⊎◌, List, length, Option, Some, None, refl, inl, inr, sym, ◌∙◌, subst, ap, arith}
+use Rattle.std.proofs.Common.{ℕ, ◌≡◌, ◌≢◌, ◌↔◌, ◌<◌, ◌≤◌, ◌⊎◌, List, [], ◌∷◌, length, map, Option, Some, None, refl, inl, inr, sym, ◌∙◌, subst, ap, arith}
+use Rattle.std.specs.List.{AllZip}
 use Rattle.shim_edge.specs.Count.{HasRisen}
 use Rattle.shim_edge.specs.Sink.{then_bytes, TakesPart}
 use Rattle.shim_syntax.specs.declared.Program.{Program}
 use Rattle.shim_front_end.specs.Source.{Source, IsSource}
 use Rattle.shim_command.specs.declared.job.Job.{Job}
+use Rattle.shim_command.specs.declared.mode.Course.TheVariants.{InSomeOrder}
 use Rattle.shim_command.specs.declared.mode.Task.{Task}
 use Rattle.shim_command.specs.declared.mode.Task.TheVariants as tasks
 use Rattle.shim_command.specs.Modes.{row_of}
@@ -12,21 +14,25 @@ use Rattle.shim_local.specs.declared.Ended.{Ended}
 use Rattle.shim_process.specs.LocalState.{LocalState}
 use Rattle.shim_process.specs.OwnSlots.{UsesOwnSlots}
 use Rattle.shim_semantics.specs.Trees.{Tree}
-use Rattle.shim_answers.specs.RunEnds.{Execution, printed_steps, read_off, IsBeginning, IsReachedIn, IsSpent, IsStoppedAt}
+use Rattle.shim_answers.specs.RunEnds.{Execution, printed_steps, read_off, status_of, IsBeginning, IsEnd, IsEndStatus, IsReachedIn, IsSpent, IsStoppedAt, as_meant, stopped}
+use Rattle.shim_answers.specs.Batches.{greatest, on_each, reports_of}
 use Rattle.shim_answers.specs.Recorded.{IsJournalRefused}
-use Rattle.shim_answers.specs.Deeds.{Deed, deed_by}
-use Rattle.shim_answers.specs.Answer.{Answer, AnswersProgram, IsNoSource, IsRefusal}
+use Rattle.shim_answers.specs.Deeds.{Beside, Deed, deed_by, records}
+use Rattle.shim_answers.specs.Answer.{Answer, AnswersEach, AnswersProgram, IsNoSource, IsRefusal}
 use Rattle.shim_answers.specs.DeedEnds.{EndsBy, IsReached, IsRefusedBy, IsShown, IsShownAt, IsStoppedBy, status_by}
-use Rattle.shim_answers.proofs.Causes.{Tells, tells_spent}
-use Rattle.shim_answers.proofs.DeedLemmas.{DeedOutcome, DeedTold, IsDeedStatus, ToldStopped, deed_below, deed_outcome, deed_reached, deed_spent, deed_status, ends, ends_by, status_is, stays, stopped_counts, told_of}
+use Rattle.shim_answers.proofs.Beginnings.{stopped_tree}
+use Rattle.shim_answers.proofs.Causes.{Tells, tells_blocked, tells_done, tells_failed, tells_spent}
+use Rattle.shim_answers.proofs.DeedLemmas.{DeedOutcome, DeedTold, IsDeedStatus, IsMany, ToldStopped, deed_below, deed_outcome, deed_reached, deed_spent, deed_status, ends, ends_by, many, status_is, stays, stopped_counts, told_of}
 use Rattle.shim_answers.proofs.Outcomes.{Outcome, does, refuses, outcome}
 use Rattle.shim_answers.proofs.SourceSlots.{source_uses_own_slots}
+use Rattle.shim_answers.proofs.Statuses.{each_status}
 use Rattle.shim_tool.specs.Moments.{FilesAt, SinkAt}
-use Rattle.shim_tool.specs.Modes.{Reading, deed_of, execution, journal_in, reads_of, source_text, IsExecution}
+use Rattle.shim_tool.specs.Modes.{Reading, beside_in, deed_of, execution, executions, inputs_in, reads_of, source_text, IsBatch, IsExecution}
 use Rattle.shim_tool.specs.Reads.{AreContents, HoldsAll, HoldsUpTo, Holds, OneReadFailed, Saw, all, longer_file, unread_file}
 use Rattle.shim_tool.specs.Answer.{Answers, AnswersSaw, FailedGrew, MayAnswer, longer_line, memory_line, usage_line}
 use Rattle.shim_tool.specs.Call.{Ran, Writes}
-use Rattle.shim_tool.specs.Rows.{Came, CameWithText, Comes, ComesUnlessUnread, WasRead, CameStopped, EndRow, SpentRow, CountRow, BeginningRow, RefusedRow, FileCause, FileRow, SinkRow, MemoryRow, WordsRow, JournalRow, FilesRow, IsComplete, IsJobRefused}
+use Rattle.shim_tool.specs.Rows.{Came, CameWithText, Comes, ComesUnlessUnread, WasRead, CameStopped, EndRow, SpentRow, CountRow, BeginningRow, IsBatchAsked, IsEndOfOne, CameOfEach, BatchRow, RefusedRow, FileCause, FileRow, SinkRow, MemoryRow, WordsRow, JournalRow, FilesRow, IsComplete, IsJobRefused}
+use Rattle.shim_tool.proofs.Batches.{batch_inputs}
 use Rattle.shim_tool.proofs.Sights.{WasSeen, looks_grew, was_seen, same_contents, none_failed, none_too_long, not_all_read, one_too_long}
 
 -- What came of an answer: it was written, or memory was wanted, or the sink failed.
@@ -146,12 +152,22 @@ record EndedSo (status : ℕ) (before now : FilesAt) (ob on : SinkAt) (asks : Op
   by : status_by (deed_of asked contents) x ≡ status
   taken : on.taken ≡ then_bytes ob.taken answer.text
 
--- the status of a deed comes of a deed alone
-ended_so : (status : ℕ) → status < 5 → (status ≡ 2 → ⊥) → (ask : Option Job) (before now : FilesAt) (ob on : SinkAt) (result : ℕ) → Ran ask before now ob on result → result ≡ status → EndedSo status before now ob on ask
-ended_so status few apart ask before now ob on result ran came_so = by_wrote ask (wrote ask before now ob on result ran) came_so where
-  by_deed : (job : Job) (contents : List (List ℕ)) (source : Source) (answer : Answer) → now.failed ≡ before.failed → AreContents before.held (reads_of job) contents → (is : IsSource (source_text job contents) source)
+-- a source is run once on each of several inputs for a job that asks for that alone
+many_task : (task : Task) (job : Job) (beside : Beside) → IsMany (deed_by task job beside) → task ≡ tasks.RunsEach
+many_task (tasks.Tells telling) job beside several = absurd several
+many_task (tasks.Runs course showing) job beside several = absurd several
+many_task tasks.Explains job beside several = absurd several
+many_task tasks.Records job beside several = absurd several
+many_task tasks.Replays job beside several = absurd several
+many_task tasks.RunsEach job beside several = refl
+
+-- the status of a deed comes of a deed alone, where the words don't ask for several runs
+ended_so : (status : ℕ) → status < 5 → (status ≡ 2 → ⊥) → (ask : Option Job) (before now : FilesAt) (ob on : SinkAt) (result : ℕ) → Ran ask before now ob on result → (IsBatchAsked ask → ⊥) → result ≡ status
+    → EndedSo status before now ob on ask
+ended_so status few apart ask before now ob on result ran alone came_so = by_wrote ask (wrote ask before now ob on result ran) alone came_so where
+  by_deed : (job : Job) (contents : List (List ℕ)) (source : Source) (answer : Answer) → (IsBatchAsked (Some job) → ⊥) → now.failed ≡ before.failed → AreContents before.held (reads_of job) contents → (is : IsSource (source_text job contents) source)
       → DeedOf job contents is.program source answer → Came answer.status answer.text ob on result → result ≡ status → EndedSo status before now ob on (Some job)
-  by_deed job contents source answer same are is (ends x own run only free told) came so = record {
+  by_deed job contents source answer alone same are is (ends x own run only free told) came so = record {
     unfailed = same;
     asked = job;
     contents = contents;
@@ -166,24 +182,25 @@ ended_so status few apart ask before now ob on result ran came_so = by_wrote ask
     by = sym told.status ∙ (sym came.0 ∙ so);
     taken = came.1;
   }
-  by_deed job contents source answer same are is (stays line why only none refused) came so = absurd (let e : answer.status ≡ 9 = ap (λ (a : Answer). a.status) refused in omega (arith, e, came.0, so, few))
+  by_deed job contents source answer alone same are is (stays line why only none refused) came so = absurd (let e : answer.status ≡ 9 = ap (λ (a : Answer). a.status) refused in omega (arith, e, came.0, so, few))
+  by_deed job contents source answer alone same are is (many several end none free) came so = absurd (alone (job, refl, many_task (row_of job.mode).task job (beside_in job contents) several))
 
-  by_source : (job : Job) (contents : List (List ℕ)) (answer : Answer) → now.failed ≡ before.failed → AreContents before.held (reads_of job) contents → OutcomeOf job contents answer
+  by_source : (job : Job) (contents : List (List ℕ)) (answer : Answer) → (IsBatchAsked (Some job) → ⊥) → now.failed ≡ before.failed → AreContents before.held (reads_of job) contents → OutcomeOf job contents answer
       → Came answer.status answer.text ob on result → result ≡ status → EndedSo status before now ob on (Some job)
-  by_source job contents answer same are (does source has done only free) came so = by_deed job contents source answer same are has (done_so job contents source answer has done) came so
-  by_source job contents answer same are (refuses line why only none is) came so = absurd (let e : answer.status ≡ 5 = ap (λ (a : Answer). a.status) is in omega (arith, e, came.0, so, few))
+  by_source job contents answer alone same are (does source has done only free) came so = by_deed job contents source answer alone same are has (done_so job contents source answer has done) came so
+  by_source job contents answer alone same are (refuses line why only none is) came so = absurd (let e : answer.status ≡ 5 = ap (λ (a : Answer). a.status) is in omega (arith, e, came.0, so, few))
 
-  by_saw : (job : Job) (answer : Answer) (saw : Saw) → WasSeen (reads_of job) before now saw → AnswersSaw job saw answer → Came answer.status answer.text ob on result → result ≡ status
+  by_saw : (job : Job) (answer : Answer) (saw : Saw) → (IsBatchAsked (Some job) → ⊥) → WasSeen (reads_of job) before now saw → AnswersSaw job saw answer → Came answer.status answer.text ob on result → result ≡ status
       → EndedSo status before now ob on (Some job)
-  by_saw job answer (all contents) (are, same) is came so = by_source job contents answer same are (answered_source job contents answer is) came so
-  by_saw job answer (unread_file r) seen is came so = absurd (let e : answer.status ≡ 6 = ap (λ (a : Answer). a.status) is in omega (arith, e, came.0, so, few))
-  by_saw job answer (longer_file r) seen is came so = absurd (let e : answer.status ≡ 6 = ap (λ (a : Answer). a.status) is in omega (arith, e, came.0, so, few))
+  by_saw job answer (all contents) alone (are, same) is came so = by_source job contents answer alone same are (answered_source job contents answer is) came so
+  by_saw job answer (unread_file r) alone seen is came so = absurd (let e : answer.status ≡ 6 = ap (λ (a : Answer). a.status) is in omega (arith, e, came.0, so, few))
+  by_saw job answer (longer_file r) alone seen is came so = absurd (let e : answer.status ≡ 6 = ap (λ (a : Answer). a.status) is in omega (arith, e, came.0, so, few))
 
-  by_wrote : (a : Option Job) → Wrote a before now ob on result → result ≡ status → EndedSo status before now ob on a
-  by_wrote a (lacked came) so = absurd (omega (arith, came.0, so, few))
-  by_wrote a (failed answer may is rose part) so = absurd (omega (arith, is, so, few))
-  by_wrote None (answered answer (same, is) came) so = absurd (apart (let e : answer.status ≡ 2 = ap (λ (a : Answer). a.status) is in omega (arith, e, came.0, so)))
-  by_wrote (Some job) (answered answer (saw, looks, is) came) so = by_saw job answer saw (was_seen (reads_of job) before now saw looks) is came so
+  by_wrote : (a : Option Job) → Wrote a before now ob on result → (IsBatchAsked a → ⊥) → result ≡ status → EndedSo status before now ob on a
+  by_wrote a (lacked came) alone so = absurd (omega (arith, came.0, so, few))
+  by_wrote a (failed answer may is rose part) alone so = absurd (omega (arith, is, so, few))
+  by_wrote None (answered answer (same, is) came) alone so = absurd (apart (let e : answer.status ≡ 2 = ap (λ (a : Answer). a.status) is in omega (arith, e, came.0, so)))
+  by_wrote (Some job) (answered answer (saw, looks, is) came) alone so = by_saw job answer saw alone (was_seen (reads_of job) before now saw looks) is came so
 
 -- what came where the status of a deed may come, with or without the text that it comes with
 abbrev CameOrLacked : Type 0 → Job → FilesAt → FilesAt → ℕ → Type 0
@@ -192,7 +209,7 @@ CameOrLacked Text job before now result = Text ⊎ (result ≡ 7) ⊎ (result �
 pub end_row : (status : ℕ) (Cause : Execution → Type 0) → Tells status Cause → status < 5 → (status ≡ 2 → ⊥) → (status ≡ 4 → ⊥) → (ask : Option Job) (before now : FilesAt) (ob on : SinkAt) (result : ℕ)
     → Ran ask before now ob on result → EndRow status Cause ask before now ob on result
 end_row status Cause tell few apart whole ask before now ob on result ran = record {
-  only = λ came. only (ended_so status few apart ask before now ob on result ran came) came;
+  only = λ alone came. only (ended_so status few apart ask before now ob on result ran alone came) came;
   when = λ job contents source x asks h is run cause. when job contents source x is run cause (came_of ask job contents before now ob on result ran asks h);
 } where
   only : EndedSo status before now ob on ask → result ≡ status
@@ -209,8 +226,8 @@ end_row status Cause tell few apart whole ask before now ob on result ran = reco
         e.is,
         e.x,
         e.run,
-        ends_by status Cause tell deed e.x e.own e.by,
-        deed_reached deed e.x,
+        ends_by status Cause tell deed (execution e.asked e.contents e.source) e.x e.run e.own e.by,
+        deed_reached deed (execution e.asked e.contents e.source) e.x e.run,
         e.by,
         (e.answer.text, e.told.whole (λ four. whole (sym e.by ∙ four)), (came, e.taken)),
       )
@@ -236,7 +253,7 @@ came_stopped deed x text ob on result s came = (read_off x s.tree, s.may, text, 
 
 pub spent_row : (ask : Option Job) (before now : FilesAt) (ob on : SinkAt) (result : ℕ) → Ran ask before now ob on result → SpentRow ask before now ob on result
 spent_row ask before now ob on result ran = record {
-  only = λ came. only (ended_so 4 (omega arith) (λ e. omega (arith, e)) ask before now ob on result ran came) came;
+  only = λ alone came. only (ended_so 4 (omega arith) (λ e. omega (arith, e)) ask before now ob on result ran alone came) came;
   when = λ job contents source x asks h is run cause. when job contents source x is run cause (came_of ask job contents before now ob on result ran asks h);
 } where
   only : EndedSo 4 before now ob on ask → result ≡ 4
@@ -253,8 +270,8 @@ spent_row ask before now ob on result ran = record {
         e.is,
         e.x,
         e.run,
-        ends_by 4 IsSpent tells_spent deed e.x e.own e.by,
-        deed_reached deed e.x,
+        ends_by 4 IsSpent tells_spent deed (execution e.asked e.contents e.source) e.x e.run e.own e.by,
+        deed_reached deed (execution e.asked e.contents e.source) e.x e.run,
         e.by,
         came_stopped deed e.x e.answer.text ob on result (e.told.part e.by) (came, e.taken),
       )
@@ -275,7 +292,7 @@ spent_row ask before now ob on result ran = record {
   when job contents source x is run cause (unwritten seven rose) = inr (inl seven)
 
 pub count_row : (ask : Option Job) (before now : FilesAt) (ob on : SinkAt) (result : ℕ) → Ran ask before now ob on result → CountRow ask before ob on result
-count_row ask before now ob on result ran four = counts (ended_so 4 (omega arith) (λ e. omega (arith, e)) ask before now ob on result ran four) where
+count_row ask before now ob on result ran alone four = counts (ended_so 4 (omega arith) (λ e. omega (arith, e)) ask before now ob on result ran alone four) where
   counts : EndedSo 4 before now ob on ask → (job : Job) × (contents : List (List ℕ)) × (source : Source) × WasRead ask job before contents × IsSource (source_text job contents) source
       × (x : Execution) × IsExecution job contents source x × IsReachedIn x.budget x × (e : Ended) × IsStoppedBy (deed_of job contents) x e × (printed_steps e ≡ x.budget)
       × (text : List ℕ) × IsShown (deed_of job contents) x e text × (on.taken ≡ then_bytes ob.taken text)
@@ -298,28 +315,124 @@ count_row ask before now ob on result ran four = counts (ended_so 4 (omega arith
       )
 
 pub beginning_row : (ask : Option Job) (before now : FilesAt) (ob on : SinkAt) (result : ℕ) → Ran ask before now ob on result → BeginningRow ask before ob on result
-beginning_row ask before now ob on result ran four = begins (ended_so 4 (omega arith) (λ e. omega (arith, e)) ask before now ob on result ran four) where
+beginning_row ask before now ob on result ran alone four = begins (ended_so 4 (omega arith) (λ e. omega (arith, e)) ask before now ob on result ran alone four) where
   begins : EndedSo 4 before now ob on ask → (job : Job) × (contents : List (List ℕ)) × (source : Source) × WasRead ask job before contents × IsSource (source_text job contents) source
       × (x : Execution) × IsExecution job contents source x × (t : Tree LocalState) × IsStoppedAt x t × IsBeginning x t
       × (text : List ℕ) × IsShownAt (deed_of job contents) x t text × (on.taken ≡ then_bytes ob.taken text)
   begins e = let s = e.told.part e.by in (e.asked, e.contents, e.source, e.was, e.is, e.x, e.run, s.tree, s.at, s.begins, e.answer.text, s.shown_there, e.taken)
 
+-- ---- runs on several inputs
+
+-- of a source whose units use slots of their own, the status is told exactly where its cause is so
+tells_exactly : (status : ℕ) (Cause : Execution → Type 0) → Tells status Cause → (x : Execution) → UsesOwnSlots x.source → (status_of x ≡ status) ↔ Cause x
+tells_exactly status Cause tell x own = (tell.only x own, tell.when x own)
+
+-- what is told of one of them
+end_of_one : (x : Execution) (e : Ended) → UsesOwnSlots x.source → IsEnd InSomeOrder x e → IsEndOfOne x e
+end_of_one x e own end = record {
+  is = end;
+  causes = (tells_exactly 0 _ tells_done x own, tells_exactly 1 _ tells_failed x own, tells_exactly 3 _ tells_blocked x own, tells_exactly 4 _ tells_spent x own);
+  reached = deed_reached records x x refl;
+  stopped = parts end;
+} where
+  parts : IsEnd InSomeOrder x e → status_of x ≡ 4 → (t : Tree LocalState) × IsStoppedAt x t × IsBeginning x t × (e ≡ read_off x t) × (printed_steps e ≡ x.budget)
+  parts (as_meant apart same) four = absurd (apart four)
+  parts (stopped four may so) _ =
+      let s = stopped_tree InSomeOrder x e own four may in
+      (s.0, s.1, s.2, s.3, ap printed_steps s.3 ∙ stopped_counts x s.0 s.1)
+
+ends_of_each : (x : Execution) (inputs : List (List ℕ)) (es : List Ended) → UsesOwnSlots x.source → AllZip (IsEnd InSomeOrder) (on_each x inputs) es → AllZip IsEndOfOne (on_each x inputs) es
+ends_of_each x [] [] own each = tt
+ends_of_each x [] (e ∷ es) own each = absurd each
+ends_of_each x (input ∷ inputs) [] own each = absurd each
+ends_of_each x (input ∷ inputs) (e ∷ es) own each = (end_of_one (record x { input = input }) e own each.0, ends_of_each x inputs es own each.1)
+
+-- the runs of a source for a job were answered
+abbrev AnswersRuns : Job → List (List ℕ) → Source → Answer → Type 0
+AnswersRuns job contents source answer = AnswersEach job.inputs (execution job contents source) (inputs_in job contents) answer
+
+as_runs : (job : Job) (contents : List (List ℕ)) (source : Source) (program : Program) (answer : Answer) → IsBatch job → AnswersProgram (deed_of job contents) program (execution job contents source) answer
+    → AnswersRuns job contents source answer
+as_runs job contents source program answer task done = subst (λ (t : Task). AnswersProgram (deed_by t job (beside_in job contents)) program (execution job contents source) answer) task done
+
+-- with the greatest of the statuses of their meanings
+runs_status : (job : Job) (contents : List (List ℕ)) (source : Source) (answer : Answer) → AnswersRuns job contents source answer → answer.status ≡ greatest (map status_of (executions job contents source))
+runs_status job contents source answer (named, es, each, is) = ap (λ (a : Answer). a.status) is ∙ each_status (executions job contents source) es each
+
+came_of_each : (job : Job) (contents : List (List ℕ)) (source : Source) (answer : Answer) (ob on : SinkAt) (result : ℕ) → UsesOwnSlots source → AnswersRuns job contents source answer
+    → Came answer.status answer.text ob on result → CameOfEach job contents source ob on result
+came_of_each job contents source answer ob on result own (named, es, each, is) came = (
+  es,
+  ends_of_each (execution job contents source) (inputs_in job contents) es own each,
+  (came.0 ∙ runs_status job contents source answer (named, es, each, is), came.1 ∙ ap (λ (a : Answer). then_bytes ob.taken a.text) is),
+)
+
+-- what is told where runs on several inputs were asked for
+abbrev BatchSo : FilesAt → FilesAt → SinkAt → SinkAt → ℕ → Option Job → Type 0
+BatchSo before now ob on result ask = (now.failed ≡ before.failed) × (job : Job) × (contents : List (List ℕ)) × (source : Source) × WasRead ask job before contents × IsBatch job
+    × IsSource (source_text job contents) source × (length (inputs_in job contents) ≡ length job.inputs) × CameOfEach job contents source ob on result
+
+pub batch_row : (ask : Option Job) (before now : FilesAt) (ob on : SinkAt) (result : ℕ) → Ran ask before now ob on result → BatchRow ask before now ob on result
+batch_row ask before now ob on result ran = record {
+  only = λ asked end. only asked end;
+  when = λ job contents source asks task h is. when job contents source task is (came_of ask job contents before now ob on result ran asks h);
+} where
+  by_source : (job : Job) (contents : List (List ℕ)) (answer : Answer) → ask ≡ Some job → IsBatch job → now.failed ≡ before.failed → AreContents before.held (reads_of job) contents → OutcomeOf job contents answer
+      → Came answer.status answer.text ob on result → IsEndStatus result → BatchSo before now ob on result ask
+  by_source job contents answer asks task same are (does source has done others free) came end = (
+    same,
+    job,
+    contents,
+    source,
+    record { asked = asks; read = are },
+    task,
+    has,
+    batch_inputs job before.held contents task are,
+    came_of_each job contents source answer ob on result (source_uses_own_slots (source_text job contents) source has) (as_runs job contents source has.program answer task done) came,
+  )
+  by_source job contents answer asks task same are (refuses line why others none is) came end = absurd (let e : answer.status ≡ 5 = ap (λ (a : Answer). a.status) is in omega (arith, e, came.0, end.0))
+
+  by_saw : (job : Job) (answer : Answer) (saw : Saw) → ask ≡ Some job → IsBatch job → WasSeen (reads_of job) before now saw → AnswersSaw job saw answer → Came answer.status answer.text ob on result → IsEndStatus result
+      → BatchSo before now ob on result ask
+  by_saw job answer (all contents) asks task (are, same) is came end = by_source job contents answer asks task same are (answered_source job contents answer is) came end
+  by_saw job answer (unread_file r) asks task seen is came end = absurd (let e : answer.status ≡ 6 = ap (λ (a : Answer). a.status) is in omega (arith, e, came.0, end.0))
+  by_saw job answer (longer_file r) asks task seen is came end = absurd (let e : answer.status ≡ 6 = ap (λ (a : Answer). a.status) is in omega (arith, e, came.0, end.0))
+
+  by_wrote : (job : Job) → ask ≡ Some job → IsBatch job → Wrote (Some job) before now ob on result → IsEndStatus result → BatchSo before now ob on result ask
+  by_wrote job asks task (lacked came) end = absurd (omega (arith, came.0, end.0))
+  by_wrote job asks task (failed answer may is rose part) end = absurd (omega (arith, is, end.0))
+  by_wrote job asks task (answered answer (saw, looks, is) came) end = by_saw job answer saw asks task (was_seen (reads_of job) before now saw looks) is came end
+
+  only : IsBatchAsked ask → IsEndStatus result → BatchSo before now ob on result ask
+  only (job, asks, task) end = by_wrote job asks task (ran_job ask job before now ob on result ran asks) end
+
+  when : (job : Job) (contents : List (List ℕ)) (source : Source) → IsBatch job → IsSource (source_text job contents) source → CameOf job contents before now ob on result
+      → CameOrLacked (CameOfEach job contents source ob on result) job before now result
+  when job contents source task is (of_source answer outcome came) =
+      let runs = as_runs job contents source is.program answer task (program_of job contents source answer is outcome) in
+      inl (came_of_each job contents source answer ob on result (source_uses_own_slots (source_text job contents) source is) runs came)
+  when job contents source task is (unreadable six read) = inr (inr (inr (six, read)))
+  when job contents source task is (wanting eight) = inr (inr (inl eight))
+  when job contents source task is (unwritten seven rose) = inr (inl seven)
+
 -- ---- a journal that is refused
 
 -- the deed of a task whose journal may be refused is to replay it
-refused_task : (task : Task) (job : Job) (journal : List ℕ) (asked : Execution) (line : List ℕ) → IsRefusedBy (deed_by task job journal) asked line → (task ≡ tasks.Replays) × IsJournalRefused asked.source asked.input journal line
-refused_task (tasks.Tells telling) job journal asked line why = absurd why
-refused_task (tasks.Runs course showing) job journal asked line why = absurd why
-refused_task tasks.Explains job journal asked line why = absurd why
-refused_task tasks.Records job journal asked line why = absurd why
-refused_task tasks.Replays job journal asked line why = (refl, why)
+refused_task : (task : Task) (job : Job) (beside : Beside) (asked : Execution) (line : List ℕ) → IsRefusedBy (deed_by task job beside) asked line
+    → (task ≡ tasks.Replays) × IsJournalRefused asked.source asked.input beside.journal line
+refused_task (tasks.Tells telling) job beside asked line why = absurd why
+refused_task (tasks.Runs course showing) job beside asked line why = absurd why
+refused_task tasks.Explains job beside asked line why = absurd why
+refused_task tasks.Records job beside asked line why = absurd why
+refused_task tasks.Replays job beside asked line why = (refl, why)
+refused_task tasks.RunsEach job beside asked line why = absurd why
 
 refused_as : (job : Job) (contents : List (List ℕ)) (source : Source) (line : List ℕ) → IsRefusedBy (deed_of job contents) (execution job contents source) line → IsJobRefused job contents source line
-refused_as job contents source line why = refused_task (row_of job.mode).task job (journal_in job contents) (execution job contents source) line why
+refused_as job contents source line why = refused_task (row_of job.mode).task job (beside_in job contents) (execution job contents source) line why
 
 refused_by : (job : Job) (contents : List (List ℕ)) (source : Source) (line : List ℕ) → IsJobRefused job contents source line → IsRefusedBy (deed_of job contents) (execution job contents source) line
 refused_by job contents source line (task, why) =
-    subst (λ (t : Task). IsRefusedBy (deed_by t job (journal_in job contents)) (execution job contents source) line) (sym task) why
+    subst (λ (t : Task). IsRefusedBy (deed_by t job (beside_in job contents)) (execution job contents source) line) (sym task) why
 
 -- what is told where a journal was refused
 abbrev JournalRefusedSo : FilesAt → FilesAt → SinkAt → SinkAt → Option Job → Type 0
@@ -336,6 +449,7 @@ journal_row ask before now ob on result ran = record {
   line_came job contents source line program answer why (ends x own run only free told) came = absurd (free line why)
   line_came job contents source line program answer why (stays other cause only none is) came =
       (came.0 ∙ ap (λ (a : Answer). a.status) is, came.1 ∙ ap (λ (t : List ℕ). then_bytes ob.taken t) (ap (λ (a : Answer). a.text) is ∙ only line why))
+  line_came job contents source line program answer why (many several end none free) came = absurd (free line why)
 
   when : (job : Job) (contents : List (List ℕ)) (source : Source) (line : List ℕ) → IsSource (source_text job contents) source → IsJobRefused job contents source line → CameOf job contents before now ob on result
       → ComesUnlessUnread 9 line job before now ob on result
@@ -351,6 +465,7 @@ journal_row ask before now ob on result ran = record {
       absurd (let h = deed_below (deed_of job contents) x in let e = told.status in omega (arith, h, e, came.0, nine))
   by_deed job contents source answer same are is (stays line why only none refused) came nine =
       (same, job, contents, source, line, record { asked = refl; read = are }, is, refused_as job contents source line why, came.1 ∙ ap (λ (a : Answer). then_bytes ob.taken a.text) refused)
+  by_deed job contents source answer same are is (many several end none free) came nine = absurd (omega (arith, end.0, came.0, nine))
 
   by_source : (job : Job) (contents : List (List ℕ)) (answer : Answer) → now.failed ≡ before.failed → AreContents before.held (reads_of job) contents → OutcomeOf job contents answer
       → Came answer.status answer.text ob on result → result ≡ 9 → JournalRefusedSo before now ob on (Some job)
@@ -530,10 +645,18 @@ pub complete : (ask : Option Job) (before now : FilesAt) (ob on : SinkAt) (resul
 complete ask before now ob on result ran job contents source asks sound h is calm = by_came (came_of ask job contents before now ob on result ran asks h) where
   by_came : CameOf job contents before now ob on result
       → ((answer : Answer) × AnswersProgram (deed_of job contents) is.program (execution job contents source) answer
-      × ((x : Execution) → IsExecution job contents source x → answer.status ≡ status_by (deed_of job contents) x) × Came answer.status answer.text ob on result)
+      × ((x : Execution) → IsExecution job contents source x → answer.status ≡ status_by (deed_of job contents) x)
+      × (IsBatch job → answer.status ≡ greatest (map status_of (executions job contents source))) × Came answer.status answer.text ob on result)
       ⊎ (result ≡ 8)
   by_came (of_source answer outcome came) =
-      inl (answer, program_of job contents source answer is outcome, (λ x run. (told_so job contents source x answer is run outcome).1.status), came)
+      let done = program_of job contents source answer is outcome in
+      inl (
+        answer,
+        done,
+        (λ x run. (told_so job contents source x answer is run outcome).1.status),
+        (λ task. runs_status job contents source answer (as_runs job contents source is.program answer task done)),
+        came,
+      )
   by_came (unreadable six read) = absurd (none_failed (reads_of job) contents before now sound h read)
   by_came (wanting eight) = inr eight
   by_came (unwritten seven rose) = absurd (calm rose)

@@ -7,7 +7,7 @@ use Rattle.shim_tool.specs.Modes.{deed_of, execution, reads_of, source_text}
 use Rattle.shim_tool.specs.Reads.{GrewByOneOf, Looks, Saw, all, longer_file, unread_file}
 
 unfoldable pub usage_line : List ℕ
-usage_line = codes "usage: shim MODE FILE [--input FILE] [--workers N] [--budget B] [--quantum Q] [--size N] [--journal FILE] [--steal]\n"
+usage_line = codes "usage: shim MODE FILE [INPUT]... [--input FILE] [--workers N] [--budget B] [--quantum Q] [--size N] [--journal FILE] [--steal]\n"
 
 unfoldable pub memory_line : List ℕ
 memory_line = codes "no memory\n"

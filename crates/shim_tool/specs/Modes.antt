@@ -1,16 +1,18 @@
 -- What the files of a job are, and what is done with its source, as the row of its mode says.
-use Rattle.std.specs.Prelude.{ℕ, List, [], ◌∷◌, ◌++◌, Option, Some, None}
+use Rattle.std.specs.Prelude.{ℕ, ◌≡◌, List, [], ◌∷◌, ◌++◌, map, Option, Some, None}
 use Rattle.shim_generator.specs.declared.kind.Kind.{Kind}
 use Rattle.shim_generator.specs.Kinds.{kind_named}
 use Rattle.shim_generator.specs.Sources.{generated}
 use Rattle.shim_command.specs.declared.job.Job.{Job}
 use Rattle.shim_command.specs.declared.mode.Extra.{Extra}
-use Rattle.shim_command.specs.declared.mode.Extra.TheVariants.{Nothing, Input, InputAndJournal}
+use Rattle.shim_command.specs.declared.mode.Extra.TheVariants.{Nothing, Input, InputAndJournal, Inputs}
 use Rattle.shim_command.specs.declared.mode.Origin.{Origin}
 use Rattle.shim_command.specs.declared.mode.Origin.TheVariants.{Stored, Generated}
+use Rattle.shim_command.specs.declared.mode.Task.TheVariants.{RunsEach}
 use Rattle.shim_command.specs.Modes.{row_of}
 use Rattle.shim_front_end.specs.Source.{Source}
-use Rattle.shim_answers.specs.Deeds.{Deed, deed_by, executed}
+use Rattle.shim_answers.specs.Batches.{on_each}
+use Rattle.shim_answers.specs.Deeds.{Beside, Deed, deed_by, executed}
 use Rattle.shim_answers.specs.DeedEnds.{IsRunBy}
 use Rattle.shim_answers.specs.RunEnds.{Execution}
 
@@ -41,6 +43,10 @@ abbrev pub journal_readings : Option (List ℕ) → List Reading
 journal_readings None = []
 journal_readings (Some name) = record { name = name; limit = journal_limit } ∷ []
 
+-- all inputs that the words name are read, in their order
+abbrev pub inputs_readings : List (List ℕ) → List Reading
+inputs_readings names = map (λ name. record { name = name; limit = input_limit }) names
+
 abbrev pub source_reading : Job → Reading
 source_reading job = record { name = job.file; limit = source_limit }
 
@@ -54,6 +60,7 @@ abbrev pub readings_beside : Extra → Job → List Reading
 readings_beside Nothing job = []
 readings_beside Input job = input_readings job.input
 readings_beside InputAndJournal job = input_readings job.input ++ journal_readings job.journal
+readings_beside Inputs job = inputs_readings job.inputs
 
 -- the files that a job reads, in their order
 abbrev pub reads_of : Job → List Reading
@@ -78,13 +85,28 @@ abbrev pub behind_named : Option (List ℕ) → List (List ℕ) → List (List �
 behind_named None contents = contents
 behind_named (Some name) contents = contents_behind contents
 
+-- what was read beside a source, from the contents of the files behind it
+abbrev pub beside_of : Extra → Job → List (List ℕ) → Beside
+beside_of Nothing job rest = record { input = []; journal = []; inputs = [] }
+beside_of Input job rest = record { input = where_named job.input rest; journal = []; inputs = [] }
+beside_of InputAndJournal job rest = record { input = where_named job.input rest; journal = first (behind_named job.input rest); inputs = [] }
+beside_of Inputs job rest = record { input = []; journal = []; inputs = rest }
+
+-- the same of the contents of all files of a job
+abbrev pub beside_in : Job → List (List ℕ) → Beside
+beside_in job contents = beside_of (row_of job.mode).beside job (contents_behind contents)
+
 -- of the contents of a job's files that of its input
 abbrev pub input_in : Job → List (List ℕ) → List ℕ
-input_in job contents = where_named job.input (contents_behind contents)
+input_in job contents = (beside_in job contents).input
 
--- and that of its journal
+-- that of its journal
 abbrev pub journal_in : Job → List (List ℕ) → List ℕ
-journal_in job contents = first (behind_named job.input (contents_behind contents))
+journal_in job contents = (beside_in job contents).journal
+
+-- and those of its inputs, where it has several
+abbrev pub inputs_in : Job → List (List ℕ) → List (List ℕ)
+inputs_in job contents = (beside_in job contents).inputs
 
 -- the text that is made of a kind; a job that makes its source has one
 abbrev pub made : Option Kind → ℕ → List ℕ
@@ -104,7 +126,7 @@ source_text job contents = text_from (row_of job.mode).origin job (first content
 
 -- what is done with the source of a job whose files have these contents
 abbrev pub deed_of : Job → List (List ℕ) → Deed
-deed_of job contents = deed_by (row_of job.mode).task job (journal_in job contents)
+deed_of job contents = deed_by (row_of job.mode).task job (beside_in job contents)
 
 -- what is asked to be run for it
 abbrev pub execution : Job → List (List ℕ) → Source → Execution
@@ -113,3 +135,11 @@ execution job contents source = executed job (input_in job contents) source
 -- what is run for it
 abbrev pub IsExecution : Job → List (List ℕ) → Source → Execution → Type 0
 IsExecution job contents source x = IsRunBy (deed_of job contents) (execution job contents source) x
+
+-- the source of a job is run once on each input
+abbrev pub IsBatch : Job → Type 0
+IsBatch job = (row_of job.mode).task ≡ RunsEach
+
+-- what is run for it then, one for each input
+abbrev pub executions : Job → List (List ℕ) → Source → List Execution
+executions job contents source = on_each (execution job contents source) (inputs_in job contents)

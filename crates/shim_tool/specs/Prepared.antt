@@ -1,5 +1,5 @@
--- What a call comes to before any thread is wanted: an answer, or a run that workers are to do.
-use Rattle.std.specs.Prelude.{ℕ, ◌≡◌, ◌⊎◌, List, Option, Some, None}
+-- What a call comes to before any thread is wanted: an answer, or a run, or several, that workers are to do.
+use Rattle.std.specs.Prelude.{ℕ, ◌≡◌, ◌≤◌, ◌⊎◌, List, [], length, Option, Some, None}
 use Rattle.shim_syntax.specs.declared.Program.{Program}
 use Rattle.shim_front_end.specs.Source.{Source, IsSource}
 use Rattle.shim_command.specs.declared.job.Job.{Job}
@@ -9,11 +9,12 @@ use Rattle.shim_command.specs.declared.mode.Task.TheVariants.{Records, Runs}
 use Rattle.shim_command.specs.Jobs.{IsWithin}
 use Rattle.shim_command.specs.Modes.{row_of}
 use Rattle.shim_answers.specs.declared.runs.PreparedRun.{PreparedRun}
+use Rattle.shim_answers.specs.declared.runs.RunOfEach.{RunOfEach}
 use Rattle.shim_answers.specs.declared.runs.RunToRecord.{RunToRecord}
-use Rattle.shim_answers.specs.Answer.{Answer, AnswersProgram, AnswersRecord, AnswersRun, OfBytes, refused}
-use Rattle.shim_answers.specs.Deeds.{deed_by, executed, shown_of}
+use Rattle.shim_answers.specs.Answer.{Answer, AnswersEach, AnswersProgram, AnswersRecord, AnswersRun, OfBytes, refused}
+use Rattle.shim_answers.specs.Deeds.{Beside, deed_by, executed, shown_of}
 use Rattle.shim_tool.specs.Moments.{FilesAt}
-use Rattle.shim_tool.specs.Modes.{input_in, journal_in, reads_of, source_text}
+use Rattle.shim_tool.specs.Modes.{IsBatch, beside_in, input_in, inputs_in, reads_of, source_text}
 use Rattle.shim_tool.specs.Reads.{HoldsAll, Looks, OneReadFailed, Saw, all, longer_file, unread_file}
 use Rattle.shim_tool.specs.Answer.{file_failed, file_too_long, usage}
 use Rattle.shim_tool.specs.Rows.{WasRead}
@@ -22,6 +23,7 @@ pub data Prepared : Type 0 where
   answered : Answer → Prepared
   to_run : PreparedRun → Prepared
   to_record : RunToRecord → Prepared
+  to_run_each : RunOfEach → Prepared
 
 -- the source of the job is run by workers, and this is told of how that ended
 abbrev pub IsForWorkers : Job → Showing → Type 0
@@ -31,12 +33,13 @@ IsForWorkers job showing = (row_of job.mode).task ≡ Runs InSomeOrder showing
 abbrev pub IsToRecord : Job → Type 0
 IsToRecord job = (row_of job.mode).task ≡ Records
 
--- a source is kept to be run, with its input, where workers run it, and is answered where they don't
-abbrev pub PreparesProgram : Job → List ℕ → List ℕ → Program → Source → Prepared → Type 0
-PreparesProgram job input journal program source (answered answer) = ((showing : Showing) → IsForWorkers job showing → ⊥) × (IsToRecord job → ⊥)
-    × AnswersProgram (deed_by (row_of job.mode).task job journal) program (executed job input source) answer
-PreparesProgram job input journal program source (to_run r) = IsForWorkers job r.showing × (r ≡ record { job = job; showing = r.showing; source = source; input = input })
-PreparesProgram job input journal program source (to_record r) = IsToRecord job × (r ≡ record { job = job; source = source; input = input })
+-- a source is kept to be run, with its input or with its inputs, where workers run it, and is answered where they don't
+abbrev pub PreparesProgram : Job → Beside → Program → Source → Prepared → Type 0
+PreparesProgram job beside program source (answered answer) = ((showing : Showing) → IsForWorkers job showing → ⊥) × (IsToRecord job → ⊥) × (IsBatch job → ⊥)
+    × AnswersProgram (deed_by (row_of job.mode).task job beside) program (executed job beside.input source) answer
+PreparesProgram job beside program source (to_run r) = IsForWorkers job r.showing × (r ≡ record { job = job; showing = r.showing; source = source; input = beside.input })
+PreparesProgram job beside program source (to_record r) = IsToRecord job × (r ≡ record { job = job; source = source; input = beside.input })
+PreparesProgram job beside program source (to_run_each r) = IsBatch job × (r ≡ record { job = job; source = source; inputs = beside.inputs })
 
 -- a source is kept to be run by workers, and other bytes are answered with the line of their first fault
 abbrev pub LeavesToWorkers : Job → Showing → List ℕ → List ℕ → Prepared → Type 0
@@ -48,17 +51,22 @@ abbrev pub LeavesToRecord : Job → List ℕ → List ℕ → Prepared → Type 
 LeavesToRecord job input bytes p =
     OfBytes (λ program source q. q ≡ to_record (record { job = job; source = source; input = input })) (λ fault q. q ≡ answered (refused fault)) bytes p
 
--- bytes that are no source are answered with the line of their first fault
-abbrev pub PreparesSource : Job → List ℕ → List ℕ → List ℕ → Prepared → Type 0
-PreparesSource job input journal bytes p = OfBytes (PreparesProgram job input journal) (λ fault q. q ≡ answered (refused fault)) bytes p
+-- and of one that is run once on each of these inputs
+abbrev pub LeavesToRunEach : Job → List (List ℕ) → List ℕ → Prepared → Type 0
+LeavesToRunEach job inputs bytes p =
+    OfBytes (λ program source q. q ≡ to_run_each (record { job = job; source = source; inputs = inputs })) (λ fault q. q ≡ answered (refused fault)) bytes p
 
--- the same whatever the journal, which no run asks for
+-- bytes that are no source are answered with the line of their first fault
+abbrev pub PreparesSource : Job → Beside → List ℕ → Prepared → Type 0
+PreparesSource job beside bytes p = OfBytes (PreparesProgram job beside) (λ fault q. q ≡ answered (refused fault)) bytes p
+
+-- the same whatever was read besides this input, since no single run asks for more
 abbrev pub PreparesRun : Job → List ℕ → List ℕ → Prepared → Type 0
-PreparesRun job input bytes p = (journal : List ℕ) → PreparesSource job input journal bytes p
+PreparesRun job input bytes p = (beside : Beside) → beside.input ≡ input → PreparesSource job beside bytes p
 
 -- what comes of what was seen of the files of a job
 abbrev pub PreparesSaw : Job → Saw → Prepared → Type 0
-PreparesSaw job (all contents) p = PreparesSource job (input_in job contents) (journal_in job contents) (source_text job contents) p
+PreparesSaw job (all contents) p = PreparesSource job (beside_in job contents) (source_text job contents) p
 PreparesSaw job (unread_file r) p = p ≡ answered (file_failed r.name)
 PreparesSaw job (longer_file r) p = p ≡ answered (file_too_long r.name r.limit)
 
@@ -74,12 +82,14 @@ abbrev pub Completes : Prepared → Answer → Type 0
 Completes (answered made) answer = answer ≡ made
 Completes (to_run r) answer = AnswersRun InSomeOrder (shown_of r.showing r.job) (executed r.job r.input r.source) answer
 Completes (to_record r) answer = AnswersRecord (executed r.job r.input r.source) answer
+Completes (to_run_each r) answer = AnswersEach r.job.inputs (executed r.job [] r.source) r.inputs answer
 
--- the numbers of the job are in their ranges
+-- the numbers of the job are in their ranges, and so is that of the inputs, of which there are as many as the words name
 abbrev pub IsPreparedWithin : Prepared → Type 0
 IsPreparedWithin (answered answer) = Unit {0}
 IsPreparedWithin (to_run r) = IsWithin r.job
 IsPreparedWithin (to_record r) = IsWithin r.job
+IsPreparedWithin (to_run_each r) = IsWithin r.job × ((1 ≤ length r.inputs) × (length r.inputs ≤ 64)) × (length r.inputs ≡ length r.job.inputs)
 
 -- A run is to be done exactly where the words have a job whose source workers run, and the job's text is a source. The run is of that source, with the input that was read.
 pub record RunRow (ask : Option Job) (before now : FilesAt) (p : Prepared) : Type 0 where
@@ -96,3 +106,11 @@ pub record RecordRow (ask : Option Job) (before now : FilesAt) (p : Prepared) : 
   pub when : (job : Job) (contents : List (List ℕ)) (source : Source) → ask ≡ Some job → HoldsAll before.held (reads_of job) contents
       → IsSource (source_text job contents) source → IsToRecord job
       → (p ≡ to_record (record { job = job; source = source; input = input_in job contents })) ⊎ OneReadFailed (reads_of job) before now
+
+-- Runs are to be done, one on each input, exactly where the words have a job that asks for that, and the job's text is a source. The runs are of that source, with the inputs that were read, which are as many as the words name.
+pub record EachRow (ask : Option Job) (before now : FilesAt) (p : Prepared) : Type 0 where
+  pub only : (r : RunOfEach) → p ≡ to_run_each r → (now.failed ≡ before.failed) × (job : Job) × (contents : List (List ℕ)) × (source : Source) × WasRead ask job before contents
+      × IsSource (source_text job contents) source × IsBatch job × (length (inputs_in job contents) ≡ length job.inputs) × (r ≡ record { job = job; source = source; inputs = inputs_in job contents })
+  pub when : (job : Job) (contents : List (List ℕ)) (source : Source) → ask ≡ Some job → HoldsAll before.held (reads_of job) contents
+      → IsSource (source_text job contents) source → IsBatch job
+      → (p ≡ to_run_each (record { job = job; source = source; inputs = inputs_in job contents })) ⊎ OneReadFailed (reads_of job) before now

@@ -1,22 +1,25 @@
 -- When each status comes, and with which text: each row follows from what one call is.
-use Rattle.std.specs.Prelude.{ℕ, ◌≡◌, ◌≢◌, ◌<◌, ◌≤◌, ◌⊎◌, IsTrue, List, length, Option, Some, None}
+use Rattle.std.specs.Prelude.{ℕ, ◌≡◌, ◌≢◌, ◌↔◌, ◌<◌, ◌≤◌, ◌⊎◌, IsTrue, List, length, map, Option, Some, None}
+use Rattle.std.specs.List.{AllZip}
 use Rattle.shim_edge.specs.Count.{HasRisen}
 use Rattle.shim_edge.specs.Sink.{then_bytes, TakesPart}
 use Rattle.shim_syntax.specs.declared.Program.{Program}
 use Rattle.shim_front_end.specs.Source.{Source, IsSource}
 use Rattle.shim_command.specs.declared.job.Job.{Job}
+use Rattle.shim_command.specs.declared.mode.Course.TheVariants.{InSomeOrder}
 use Rattle.shim_command.specs.declared.mode.Task.TheVariants.{Replays}
 use Rattle.shim_command.specs.Modes.{row_of}
 use Rattle.shim_local.specs.declared.Ended.{Ended}
 use Rattle.shim_process.specs.LocalState.{LocalState}
 use Rattle.shim_semantics.specs.Trees.{Tree}
-use Rattle.shim_answers.specs.RunEnds.{Execution, printed_steps, IsBeginning, IsReachedIn, IsSpent, IsStoppedAt}
+use Rattle.shim_answers.specs.RunEnds.{Execution, printed_steps, read_off, status_of, IsBeginning, IsBlocked, IsDone, IsEnd, IsEndStatus, IsFailed, IsReachedIn, IsSpent, IsStoppedAt}
+use Rattle.shim_answers.specs.Batches.{greatest, reports_of}
 use Rattle.shim_answers.specs.Recorded.{IsJournalRefused}
 use Rattle.shim_answers.specs.Deeds.{Deed}
 use Rattle.shim_answers.specs.Answer.{Answer, AnswersProgram, IsNoSource, IsRefusal}
-use Rattle.shim_answers.specs.DeedEnds.{EndsBy, IsReached, IsShown, IsShownAt, IsStoppedBy, IsTextBy, status_by}
+use Rattle.shim_answers.specs.DeedEnds.{EndsBy, IsReached, IsReachedWithin, IsShown, IsShownAt, IsStoppedBy, IsTextBy, status_by}
 use Rattle.shim_tool.specs.Moments.{FilesAt, SinkAt}
-use Rattle.shim_tool.specs.Modes.{Reading, deed_of, execution, input_in, journal_in, reads_of, source_text, IsExecution}
+use Rattle.shim_tool.specs.Modes.{Reading, deed_of, execution, executions, input_in, inputs_in, journal_in, reads_of, source_text, IsBatch, IsExecution}
 use Rattle.shim_tool.specs.Reads.{AreContents, ComesToRead, Holds, HoldsAll, HoldsUpTo, IsTooLong, OneReadFailed, ReadFailed}
 use Rattle.shim_tool.specs.Answer.{MayAnswer, FailedGrew, usage_line, failed_line, longer_line, memory_line}
 
@@ -38,15 +41,19 @@ pub record WasRead (ask : Option Job) (job : Job) (before : FilesAt) (contents :
   pub asked : ask ≡ Some job
   pub read : AreContents before.held (reads_of job) contents
 
+-- the words ask for a source to be run once on each of several inputs
+abbrev pub IsBatchAsked : Option Job → Type 0
+IsBatchAsked ask = (job : Job) × (ask ≡ Some job) × IsBatch job
+
 -- this status came with the text of a source with this program
 abbrev pub CameWithText : ℕ → Deed → Program → Execution → SinkAt → SinkAt → ℕ → Type 0
 CameWithText status deed program x out_before out_now result = (text : List ℕ) × IsTextBy deed program x text × Came status text out_before out_now result
 
 -- The rows below say "exactly where" of told files, within their limits. Of other files each says that there is some source, fault or cause that fits.
 
--- 0, 1, 3: exactly where the job has a source whose meaning ends for this cause within the budget, with the text of its mode, which for `run` and `ref` is the report of that meaning, whatever the order of events in the run; of a source that isn't run, 0 comes wherever it is accepted, with what is told of its program. A run within the budget leads to the tree that is told. What `trace` writes is the journal of a run to that tree; and where `replay` is asked for, the journal is one, whose budget counts.
+-- 0, 1, 3 of words that ask for one run or none: exactly where the job has a source whose meaning ends for this cause within the budget, with the text of its mode, which for `run` and `ref` is the report of that meaning, whatever the order of events in the run; of a source that isn't run, 0 comes wherever it is accepted, with what is told of its program. A run within the budget leads to the tree that is told. What `trace` writes is the journal of a run to that tree; and where `replay` is asked for, the journal is one, whose budget counts.
 pub record EndRow (status : ℕ) (Cause : Execution → Type 0) (ask : Option Job) (before now : FilesAt) (out_before out_now : SinkAt) (result : ℕ) : Type 0 where
-  pub only : result ≡ status → (now.failed ≡ before.failed) × (job : Job) × (contents : List (List ℕ)) × (source : Source) × WasRead ask job before contents
+  pub only : (IsBatchAsked ask → ⊥) → result ≡ status → (now.failed ≡ before.failed) × (job : Job) × (contents : List (List ℕ)) × (source : Source) × WasRead ask job before contents
       × (is : IsSource (source_text job contents) source) × (x : Execution) × IsExecution job contents source x × EndsBy status Cause (deed_of job contents) x × IsReached (deed_of job contents) x
       × (status_by (deed_of job contents) x ≡ status) × CameWithText status (deed_of job contents) is.program x out_before out_now result
   pub when : (job : Job) (contents : List (List ℕ)) (source : Source) (x : Execution) → ask ≡ Some job → HoldsAll before.held (reads_of job) contents
@@ -57,26 +64,45 @@ pub record EndRow (status : ℕ) (Cause : Execution → Type 0) (ask : Option Jo
 abbrev pub CameStopped : Deed → Execution → SinkAt → SinkAt → ℕ → Type 0
 CameStopped deed x out_before out_now result = (e : Ended) × IsStoppedBy deed x e × (text : List ℕ) × IsShown deed x e text × Came 4 text out_before out_now result
 
--- 4: exactly where the job has a source in whose meaning something can still happen after the budget's events. For `ref` the text is that of the meaning; for `run` and `gen` it is read off a tree to which a run of just the budget's events leads, and in which something can still happen; for `trace` it is the journal of a run to such a tree. For `replay` it is read off such a tree to which the journal leads, and the budget is that of the journal.
+-- 4 of such words: exactly where the job has a source in whose meaning something can still happen after the budget's events. For `ref` the text is that of the meaning; for `run` and `gen` it is read off a tree to which a run of just the budget's events leads, and in which something can still happen; for `trace` it is the journal of a run to such a tree. For `replay` it is read off such a tree to which the journal leads, and the budget is that of the journal.
 pub record SpentRow (ask : Option Job) (before now : FilesAt) (out_before out_now : SinkAt) (result : ℕ) : Type 0 where
-  pub only : result ≡ 4 → (now.failed ≡ before.failed) × (job : Job) × (contents : List (List ℕ)) × (source : Source) × WasRead ask job before contents
+  pub only : (IsBatchAsked ask → ⊥) → result ≡ 4 → (now.failed ≡ before.failed) × (job : Job) × (contents : List (List ℕ)) × (source : Source) × WasRead ask job before contents
       × IsSource (source_text job contents) source × (x : Execution) × IsExecution job contents source x × EndsBy 4 IsSpent (deed_of job contents) x × IsReached (deed_of job contents) x
       × (status_by (deed_of job contents) x ≡ 4) × CameStopped (deed_of job contents) x out_before out_now result
   pub when : (job : Job) (contents : List (List ℕ)) (source : Source) (x : Execution) → ask ≡ Some job → HoldsAll before.held (reads_of job) contents
       → IsSource (source_text job contents) source → IsExecution job contents source x → EndsBy 4 IsSpent (deed_of job contents) x
       → CameStopped (deed_of job contents) x out_before out_now result ⊎ (result ≡ 7) ⊎ (result ≡ 8) ⊎ ((result ≡ 6) × OneReadFailed (reads_of job) before now)
 
--- 4: a run of as many events as the budget has leads to the tree of the meaning, too, and the own steps and the events that are read off the tree that is told, which `run`, `ref` and `replay` print, add up to the budget
+-- 4 of such words: a run of as many events as the budget has leads to the tree of the meaning, too, and the own steps and the events that are read off the tree that is told, which `run`, `ref` and `replay` print, add up to the budget
 abbrev pub CountRow : Option Job → FilesAt → SinkAt → SinkAt → ℕ → Type 0
-CountRow ask before out_before out_now result = result ≡ 4 → (job : Job) × (contents : List (List ℕ)) × (source : Source) × WasRead ask job before contents
+CountRow ask before out_before out_now result = (IsBatchAsked ask → ⊥) → result ≡ 4 → (job : Job) × (contents : List (List ℕ)) × (source : Source) × WasRead ask job before contents
     × IsSource (source_text job contents) source × (x : Execution) × IsExecution job contents source x × IsReachedIn x.budget x × (e : Ended) × IsStoppedBy (deed_of job contents) x e
     × (printed_steps e ≡ x.budget) × (text : List ℕ) × IsShown (deed_of job contents) x e text × (out_now.taken ≡ then_bytes out_before.taken text)
 
--- 4: the tree that is told, or to which the journal leads that is told or replayed, is one at which a run is stopped, and what was put and met in it is a prefix of what the meaning gives in as many rounds as the budget has events
+-- 4 of such words: the tree that is told, or to which the journal leads that is told or replayed, is one at which a run is stopped, and what was put and met in it is a prefix of what the meaning gives in as many rounds as the budget has events
 abbrev pub BeginningRow : Option Job → FilesAt → SinkAt → SinkAt → ℕ → Type 0
-BeginningRow ask before out_before out_now result = result ≡ 4 → (job : Job) × (contents : List (List ℕ)) × (source : Source) × WasRead ask job before contents
+BeginningRow ask before out_before out_now result = (IsBatchAsked ask → ⊥) → result ≡ 4 → (job : Job) × (contents : List (List ℕ)) × (source : Source) × WasRead ask job before contents
     × IsSource (source_text job contents) source × (x : Execution) × IsExecution job contents source x × (t : Tree LocalState) × IsStoppedAt x t × IsBeginning x t
     × (text : List ℕ) × IsShownAt (deed_of job contents) x t text × (out_now.taken ≡ then_bytes out_before.taken text)
+
+-- What one of several runs comes to: what its meaning comes to, to which a run within the budget leads, unless that is stopped by the budget. Then a run was stopped at a tree that is told: the own steps and the events that its report prints add up to the budget, and what was put and met in it is a prefix of what the meaning gives in as many rounds as the budget has events. The status of the meaning tells its cause, as that of a source that is run once does.
+pub record IsEndOfOne (x : Execution) (e : Ended) : Type 0 where
+  pub is : IsEnd InSomeOrder x e
+  pub causes : ((status_of x ≡ 0) ↔ IsDone x) × ((status_of x ≡ 1) ↔ IsFailed x) × ((status_of x ≡ 3) ↔ IsBlocked x) × ((status_of x ≡ 4) ↔ IsSpent x)
+  pub reached : IsReachedWithin x
+  pub stopped : status_of x ≡ 4 → (t : Tree LocalState) × IsStoppedAt x t × IsBeginning x t × (e ≡ read_off x t) × (printed_steps e ≡ x.budget)
+
+-- The reports of a run on each input came, in the order of the names, with the greatest of the statuses that tell how the meanings ended.
+abbrev pub CameOfEach : Job → List (List ℕ) → Source → SinkAt → SinkAt → ℕ → Type 0
+CameOfEach job contents source out_before out_now result = (es : List Ended) × AllZip IsEndOfOne (executions job contents source) es
+    × Came (greatest (map status_of (executions job contents source))) (reports_of source job.inputs es) out_before out_now result
+
+-- 0, 1, 3, 4 of words that ask for several runs: exactly where the job has a source, which was run on as many inputs as the words name. The meaning on each input tells of its own run.
+pub record BatchRow (ask : Option Job) (before now : FilesAt) (out_before out_now : SinkAt) (result : ℕ) : Type 0 where
+  pub only : IsBatchAsked ask → IsEndStatus result → (now.failed ≡ before.failed) × (job : Job) × (contents : List (List ℕ)) × (source : Source) × WasRead ask job before contents
+      × IsBatch job × IsSource (source_text job contents) source × (length (inputs_in job contents) ≡ length job.inputs) × CameOfEach job contents source out_before out_now result
+  pub when : (job : Job) (contents : List (List ℕ)) (source : Source) → ask ≡ Some job → IsBatch job → HoldsAll before.held (reads_of job) contents → IsSource (source_text job contents) source
+      → CameOfEach job contents source out_before out_now result ⊎ (result ≡ 7) ⊎ (result ≡ 8) ⊎ ((result ≡ 6) × OneReadFailed (reads_of job) before now)
 
 -- 2: exactly where the words ask for nothing
 pub record WordsRow (ask : Option Job) (out_before out_now : SinkAt) (result : ℕ) : Type 0 where
@@ -133,10 +159,11 @@ pub record FilesRow (ask : Option Job) (before now : FilesAt) : Type 0 where
   pub sound : now.sound ≡ before.sound
   pub grew : FailedGrew ask before now
 
--- Over sound files that hold what the job reads, with a source in it, and a sink that doesn't fail, the whole text of the mode is written with its status, unless memory is wanted. The status is that of the meaning; of a journal that is refused it is 9.
+-- Over sound files that hold what the job reads, with a source in it, and a sink that doesn't fail, the whole text of the mode is written with its status, unless memory is wanted. The status is that of the meaning, and of several the greatest; of a journal that is refused it is 9.
 abbrev pub IsComplete : Option Job → FilesAt → SinkAt → SinkAt → ℕ → Type 0
 IsComplete ask before out_before out_now result = (job : Job) (contents : List (List ℕ)) (source : Source) → ask ≡ Some job → IsTrue before.sound
     → HoldsAll before.held (reads_of job) contents → (is : IsSource (source_text job contents) source) → (HasRisen out_before.faults out_now.faults → ⊥)
     → ((answer : Answer) × AnswersProgram (deed_of job contents) is.program (execution job contents source) answer
-    × ((x : Execution) → IsExecution job contents source x → answer.status ≡ status_by (deed_of job contents) x) × Came answer.status answer.text out_before out_now result)
+    × ((x : Execution) → IsExecution job contents source x → answer.status ≡ status_by (deed_of job contents) x)
+    × (IsBatch job → answer.status ≡ greatest (map status_of (executions job contents source))) × Came answer.status answer.text out_before out_now result)
     ⊎ (result ≡ 8)

@@ -1,6 +1,8 @@
--- What was seen of files, as the definitions name it.
+-- What was seen of files, and what was read beside a source, as the definitions name it.
 use Rattle.shim_edge.specs.declared.files.Got.{Got}
 use Rattle.shim_edge.specs.declared.files.Got.TheVariants.{Whole as GotWhole, Longer as GotLonger}
+use Rattle.shim_answers.specs.Deeds.{Beside}
+use Rattle.shim_tool.specs.declared.files.Beside.{Beside as ReadBeside}
 use Rattle.shim_tool.specs.declared.files.FileToRead.{FileToRead}
 use Rattle.shim_tool.specs.declared.files.FilesRead.{FilesRead}
 use Rattle.shim_tool.specs.declared.files.FilesRead.TheVariants.{All, Failed, TooLong}
@@ -25,3 +27,6 @@ abbrev pub read_view : FilesRead → Saw
 read_view (All contents) = all contents
 read_view (Failed file) = unread_file (reading_view file)
 read_view (TooLong file) = longer_file (reading_view file)
+
+abbrev pub beside_view : ReadBeside → Beside
+beside_view beside = record { input = beside.input; journal = beside.journal; inputs = beside.inputs }

@@ -5,12 +5,12 @@ ghost use Rattle.shim_tool.specs.Moments.{files_at, sink_at, KeepsFiles};
 ghost use Rattle.shim_tool.specs.Answer as answers;
 ghost use Rattle.shim_tool.specs.Call.{Ran, Writes};
 ghost use Rattle.shim_answers.specs.RunEnds.{IsDone, IsFailed, IsBlocked};
-ghost use Rattle.shim_tool.specs.Rows.{EndRow, SpentRow, CountRow, BeginningRow, WordsRow, RefusedRow, FileRow, SinkRow, MemoryRow, JournalRow, FilesRow, IsComplete};
+ghost use Rattle.shim_tool.specs.Rows.{EndRow, SpentRow, CountRow, BeginningRow, BatchRow, WordsRow, RefusedRow, FileRow, SinkRow, MemoryRow, JournalRow, FilesRow, IsComplete};
 ghost use Rattle.shim_answers.specs.AnswerView.{code_of};
 ghost use Rattle.shim_answers.specs.Views.{answer_view};
 
 use crate::prepared::{Prepared, prepare};
-use shim_answers::{Answer, ExitStatus, answer_record, answer_run};
+use shim_answers::{Answer, ExitStatus, answer_each, answer_record, answer_run};
 use shim_base::NoMemory;
 use shim_edge::{Files, Sink, write_all};
 use shim_workers::Gate;
@@ -18,7 +18,8 @@ use std::alloc::Global;
 use std::sync::Wait;
 use std::thread::Threads;
 
-// Answers words: a run that was left to be done is done by workers, for whom the call waits.
+// Answers words: a run that was left to be done is done by workers, for whom the call waits. Runs on several
+// inputs are done without a wait.
 fn answer<F: Files, G: Gate, R: Threads + Wait + Sync>(
     rt: &R,
     alloc: Global,
@@ -36,6 +37,7 @@ fn answer<F: Files, G: Gate, R: Threads + Wait + Sync>(
         Prepared::Answered(answer) => Ok(answer),
         Prepared::ToRun(run) => answer_run(rt, alloc, run, gate),
         Prepared::ToRecord(run) => answer_record(rt, alloc, run, gate),
+        Prepared::ToRunEach(run) => answer_each(rt, alloc, run, gate),
     }
 }
 
@@ -77,9 +79,10 @@ fn run_tool<F: Files, K: Sink, G: Gate, R: Threads + Wait + Sync>(
     }
 }
 
-/// Does all that the program does: what `prepare` does, then the run that is left to be done, if one is,
-/// and writes the answer. No byte is written before the whole text is there. What needs no thread is in
-/// `prepare`, whose type says so; no clause says of this call where it waits, or that it returns.
+/// Does all that the program does: what `prepare` does, then the run that is left to be done, or the runs
+/// on several inputs, and writes the answer. No byte is written before the whole text is there. What needs
+/// no thread is in `prepare`, whose type says so; no clause says of this call where it waits, or that it
+/// returns.
 ///
 /// The processes of a run do their work piece by piece, each piece behind the gate, on at most as many
 /// threads as the words ask for. Whatever their number and the order of events, the run ends as its meaning
@@ -88,6 +91,11 @@ fn run_tool<F: Files, K: Sink, G: Gate, R: Threads + Wait + Sync>(
 /// in place of the report, it is that of a run to such a tree, and its own report is what a replay of it
 /// tells: a journal is replayed exactly where it is a run of the source, within the journal's own budget,
 /// that ends at rest or with the budget spent.
+///
+/// Of runs on several inputs at most as many are done at a time as the words ask for workers, each by one
+/// worker; their reports are written in the order of the inputs, each behind the line of its input, and the
+/// status is the greatest that a meaning has. No clause says that the source is compiled once for all of
+/// them.
 ///
 /// Answers the status that the program ends with. Want of memory may come in place of any status but
 /// 7, and a failed write, which is 7, in place of any.
@@ -104,7 +112,8 @@ pub fn shim<F: Files, K: Sink, G: Gate, R: Threads + Wait + Sync>(
         (files_at F.held F.sound F.failed files.new) (sink_at K.taken K.faults out.old)
         (sink_at K.taken K.faults out.new) result }
     // What follows says "exactly where" of told files, within their limits. Of other files each clause says
-    // that there is some source, fault or cause that fits.
+    // that there is some source, fault or cause that fits. Statuses 0, 1, 3 and 4 are told of words that ask
+    // for one run, or for none, up to `batch`, which tells them of words that ask for several.
     // 0: exactly where the root of the source ends in its meaning, with the text of the mode, as the report
     // of that meaning; of a source that isn't run, exactly where it is accepted.
     ensures done { EndRow 0 IsDone (job (texts_of words.now)) (files_at F.held F.sound F.failed files.old)
@@ -135,11 +144,17 @@ pub fn shim<F: Files, K: Sink, G: Gate, R: Threads + Wait + Sync>(
     // gives in as many rounds as the budget has events.
     ensures beginning { BeginningRow (job (texts_of words.now)) (files_at F.held F.sound F.failed files.old)
         (sink_at K.taken K.faults out.old) (sink_at K.taken K.faults out.new) result }
+    // 0, 1, 3 and 4 of runs on several inputs: exactly where the file is a source, with the report of each
+    // input's meaning, or of a tree that some run of just the budget's events reaches; the greatest of the
+    // statuses of the meanings.
+    ensures batch { BatchRow (job (texts_of words.now)) (files_at F.held F.sound F.failed files.old)
+        (files_at F.held F.sound F.failed files.new) (sink_at K.taken K.faults out.old)
+        (sink_at K.taken K.faults out.new) result }
     // 5: exactly where the file is no source, with the line of the cause.
     ensures refused { RefusedRow (job (texts_of words.now)) (files_at F.held F.sound F.failed files.old)
         (files_at F.held F.sound F.failed files.new) (sink_at K.taken K.faults out.old)
         (sink_at K.taken K.faults out.new) result }
-    // 6: a read of the file, of the input or of the journal failed, or one of them is too long.
+    // 6: a read of the file, of an input or of the journal failed, or one of them is too long.
     ensures file { FileRow (job (texts_of words.now)) (files_at F.held F.sound F.failed files.old)
         (files_at F.held F.sound F.failed files.new) (sink_at K.taken K.faults out.old)
         (sink_at K.taken K.faults out.new) result }

@@ -4,7 +4,7 @@ ghost use Rattle.shim_command.specs.Modes.{row_of};
 ghost use Rattle.shim_tool.specs.Moments.{files_at, KeepsFiles};
 ghost use Rattle.shim_tool.specs.Modes as modes;
 ghost use Rattle.shim_tool.specs.Reads.{Looks, Sees};
-ghost use Rattle.shim_tool.specs.Views.{found_view, read_view, reading_view, seen_of};
+ghost use Rattle.shim_tool.specs.Views.{beside_view, found_view, read_view, reading_view, seen_of};
 
 use shim_base::{List, NoMemory};
 use shim_command::{Extra, Job, Origin};
@@ -103,6 +103,19 @@ fn list_journal<'a>(files: &mut List<FileToRead<'a>>, job: &'a Job) -> Result<()
     }
 }
 
+// Lists the files of a job's inputs, in their order.
+fn list_inputs<'a>(files: &mut List<FileToRead<'a>>, names: &'a [List<u8>]) -> Result<(), NoMemory>
+    ensures { OnOk result (map reading_view files.new ≡ map reading_view files.old ++ modes.inputs_readings names.now) }
+{
+    for name in names {
+        files.push(FileToRead {
+            name: name.as_slice(),
+            limit: INPUT_LIMIT,
+        })?;
+    }
+    Ok(())
+}
+
 // Lists what a job reads beside its source.
 fn list_beside<'a>(
     files: &mut List<FileToRead<'a>>,
@@ -118,6 +131,7 @@ fn list_beside<'a>(
             list_input(files, job)?;
             list_journal(files, job)
         }
+        Extra::Inputs => list_inputs(files, job.inputs.as_slice()),
     }
 }
 
@@ -184,31 +198,80 @@ pub(crate) fn read_files<'a, F: Files>(
     read_all(alloc, to_read.as_slice(), files)
 }
 
-/// What the files of a job had. What wasn't there to be read is as an empty file.
+/// What was read beside a source. What wasn't there to be read is empty.
+#[derive(Drop)]
+pub(crate) struct Beside {
+    pub(crate) input: List<u8>,
+    pub(crate) journal: List<u8>,
+    /// What one run each takes in, in the order of the names.
+    pub(crate) inputs: List<List<u8>>,
+}
+
+/// What the files of a job had.
 #[derive(Drop)]
 pub(crate) struct Contents {
     pub(crate) source: List<u8>,
-    pub(crate) input: List<u8>,
-    pub(crate) journal: List<u8>,
+    pub(crate) beside: Beside,
 }
 
-/// The contents that were read for a job, by what they are: its source comes first, then its input, where
-/// one is named, and then its journal.
+// Takes off the first of the contents; a file that wasn't there to be read is as an empty one.
+fn take_first(alloc: Global, contents: &mut Vec<List<u8>>) -> List<u8>
+    ensures first { result ≡ modes.first contents.old.items }
+    ensures rest { contents.new.items ≡ modes.contents_behind contents.old.items }
+{
+    if contents.is_empty() {
+        return List::new(alloc);
+    }
+    contents.remove(0)
+}
+
+// Takes off the content of a job's input, where one is named.
+fn take_input(alloc: Global, job: &Job, contents: &mut Vec<List<u8>>) -> List<u8>
+    ensures first { result ≡ modes.where_named job.now.input contents.old.items }
+    ensures rest { contents.new.items ≡ modes.behind_named job.now.input contents.old.items }
+{
+    match job.input {
+        Some(_) => take_first(alloc, contents),
+        None => List::new(alloc),
+    }
+}
+
+// What was read beside a source, from the contents of the files behind it.
+fn beside_of(alloc: Global, beside: Extra, job: &Job, mut contents: Vec<List<u8>>) -> Beside
+    ensures { beside_view result ≡ modes.beside_of beside job.now contents.items }
+{
+    match beside {
+        Extra::Nothing => Beside {
+            input: List::new(alloc),
+            journal: List::new(alloc),
+            inputs: List::new(alloc),
+        },
+        Extra::Input => Beside {
+            input: take_input(alloc, job, &mut contents),
+            journal: List::new(alloc),
+            inputs: List::new(alloc),
+        },
+        Extra::InputAndJournal => Beside {
+            input: take_input(alloc, job, &mut contents),
+            journal: take_first(alloc, &mut contents),
+            inputs: List::new(alloc),
+        },
+        Extra::Inputs => Beside {
+            input: List::new(alloc),
+            journal: List::new(alloc),
+            inputs: List::from(contents),
+        },
+    }
+}
+
+/// The contents that were read for a job, by what they are: its source comes first, and then what the
+/// mode reads beside it.
 pub(crate) fn contents_of(alloc: Global, job: &Job, contents: List<List<u8>>) -> Contents
     ensures source { result.source ≡ modes.first contents }
-    ensures input { result.input ≡ modes.input_in job.now contents }
-    ensures journal { result.journal ≡ modes.journal_in job.now contents }
+    ensures beside { beside_view result.beside ≡ modes.beside_in job.now contents }
 {
-    let mut contents = contents.into_vec().into_iter();
-    let source = contents.next().unwrap_or(List::new(alloc));
-    let input = match job.input {
-        Some(_) => contents.next().unwrap_or(List::new(alloc)),
-        None => List::new(alloc),
-    };
-    let journal = contents.next().unwrap_or(List::new(alloc));
-    Contents {
-        source,
-        input,
-        journal,
-    }
+    let mut rest = contents.into_vec();
+    let source = take_first(alloc, &mut rest);
+    let beside = beside_of(alloc, job.mode.row().beside, job, rest);
+    Contents { source, beside }
 }

@@ -6,7 +6,7 @@ ghost use Rattle.shim_tool.specs.Answer.{Answers};
 ghost use Rattle.shim_tool.specs.Moments.{FilesAt};
 ghost use Rattle.shim_tool.specs.Prepared.{Completes, Prepared, Prepares};
 
-pub use shim_answers::laws::{functions_are_counted, stopped_runs_begin_alike};
+pub use shim_answers::laws::{batches_end_by_all, functions_are_counted, stopped_runs_begin_alike};
 
 /// What `prepare` comes to, with the run done that it left, is what the whole call answers.
 pub fn what_is_prepared_is_answered()

@@ -13,7 +13,7 @@ pub(crate) fn usage(alloc: Global) -> Result<Answer, NoMemory>
     ensures { IfOk result (λ a. answer_view a ≡ answers.usage) }
 {
     let line =
-        "usage: shim MODE FILE [--input FILE] [--workers N] [--budget B] [--quantum Q] [--size N] [--journal FILE] [--steal]\n";
+        "usage: shim MODE FILE [INPUT]... [--input FILE] [--workers N] [--budget B] [--quantum Q] [--size N] [--journal FILE] [--steal]\n";
     Ok(Answer {
         status: ExitStatus::Usage,
         text: List::from_slice(alloc, line.as_bytes())?,

@@ -7,15 +7,16 @@ ghost use Rattle.shim_command.specs.Modes.{row_of};
 ghost use Rattle.shim_command.specs.declared.mode.Origin.TheVariants as origins;
 ghost use Rattle.shim_command.specs.declared.mode.Task.TheVariants as tasks;
 ghost use Rattle.shim_tool.specs.Modes.{first, journal_in, made_text, reads_of, text_from};
+ghost use Rattle.shim_tool.specs.Views.{beside_view};
 ghost use Rattle.shim_tool.specs.Reads.{GrewByOneOf, all};
 ghost use Rattle.shim_tool.specs.Answer.{FailedGrew};
 ghost use Rattle.shim_tool.specs.Prepared as prepares;
 ghost use Rattle.shim_tool.specs.PreparedView.{prepared_view};
 
-use crate::files::{Contents, FilesRead, contents_of, read_files};
+use crate::files::{Beside, Contents, FilesRead, contents_of, read_files};
 use crate::lines::{file_failed, file_too_long, usage};
 use shim_answers::{
-    Answer, PreparedRun, RunToRecord, answer_meaning, answer_reasons, answer_replay,
+    Answer, PreparedRun, RunOfEach, RunToRecord, answer_meaning, answer_reasons, answer_replay,
     answer_telling, refused,
 };
 use shim_base::{List, NoMemory};
@@ -31,6 +32,7 @@ pub enum Prepared {
     Answered(Answer),
     ToRun(PreparedRun),
     ToRecord(RunToRecord),
+    ToRunEach(RunOfEach),
 }
 
 // Keeps the source in a text to be run by workers.
@@ -71,6 +73,26 @@ fn leave_to_record(
     }
 }
 
+// Keeps the source in a text to be run by workers, once on each of these inputs.
+fn leave_to_run_each(
+    alloc: Global,
+    job: Job,
+    bytes: &[u8],
+    inputs: List<List<u8>>,
+) -> Result<Prepared, NoMemory>
+    requires short { length bytes.now ≤ 1048576 }
+    ensures { IfOk result (λ p. prepares.LeavesToRunEach job inputs bytes.now (prepared_view p)) }
+{
+    match read_source(alloc, bytes) {
+        Ok(source) => Ok(Prepared::ToRunEach(RunOfEach {
+            job,
+            source,
+            inputs,
+        })),
+        Err(fault) => Ok(Prepared::Answered(refused(alloc, fault)?)),
+    }
+}
+
 // Tells what the source in a text means, or leaves its run to workers, as the course asks.
 fn prepare_run(
     alloc: Global,
@@ -98,20 +120,30 @@ fn prepare_source(
     alloc: Global,
     job: Job,
     bytes: &[u8],
-    input: List<u8>,
-    journal: &[u8],
+    beside: Beside,
 ) -> Result<Prepared, NoMemory>
     requires short { length bytes.now ≤ 1048576 }
-    requires few { length journal.now ≤ 67108864 }
+    requires few { length beside.journal ≤ 67108864 }
     requires within { IsWithin job }
-    ensures { IfOk result (λ p. prepares.PreparesSource job input journal.now bytes.now (prepared_view p)) }
+    ensures { IfOk result (λ p. prepares.PreparesSource job (beside_view beside) bytes.now (prepared_view p)) }
 {
+    let Beside {
+        input,
+        journal,
+        inputs,
+    } = beside;
     match job.mode.row().task {
         Task::Tells(telling) => Ok(Prepared::Answered(answer_telling(alloc, telling, bytes)?)),
         Task::Runs(course, showing) => prepare_run(alloc, job, course, showing, bytes, input),
         Task::Records => leave_to_record(alloc, job, bytes, input),
-        Task::Replays => Ok(Prepared::Answered(answer_replay(alloc, bytes, input, journal)?)),
+        Task::Replays => Ok(Prepared::Answered(answer_replay(
+            alloc,
+            bytes,
+            input,
+            journal.as_slice(),
+        )?)),
         Task::Explains => Ok(Prepared::Answered(answer_reasons(alloc, &job, bytes, input)?)),
+        Task::RunsEach => leave_to_run_each(alloc, job, bytes, inputs),
     }
 }
 
@@ -145,13 +177,9 @@ fn prepare_contents(alloc: Global, job: Job, contents: List<List<u8>>) -> Result
     requires few { length (journal_in job contents) ≤ 67108864 }
     ensures { IfOk result (λ p. prepares.PreparesSaw job (all contents) (prepared_view p)) }
 {
-    let Contents {
-        source,
-        input,
-        journal,
-    } = contents_of(alloc, &job, contents);
+    let Contents { source, beside } = contents_of(alloc, &job, contents);
     let text = source_of(alloc, &job, source)?;
-    prepare_source(alloc, job, text.as_slice(), input, journal.as_slice())
+    prepare_source(alloc, job, text.as_slice(), beside)
 }
 
 // Reads the files of a job, and goes on with them.
@@ -177,9 +205,10 @@ fn prepare_job<F: Files>(alloc: Global, job: Job, files: &mut F) -> Result<Prepa
 /// a source that workers don't run. It starts no thread, waits for nothing, and returns.
 ///
 /// A run is left to be done exactly where the mode has its sources run by workers and the text is a
-/// source, which is left with its input; and so is one that is to be recorded. "Exactly where" is said of told files, within their limits; of other
-/// files, that there is such a source. A read that failed may come in place of both, and so may want of
-/// memory, which is `Err`.
+/// source, which is left with its input; and so is one that is to be recorded, and so are runs on several
+/// inputs, of which there are as many as the words name. "Exactly where" is said of told files, within
+/// their limits; of other files, that there is such a source. A read that failed may come in place of
+/// both, and so may want of memory, which is `Err`.
 pub fn prepare<F: Files>(
     alloc: Global,
     words: &[String],
@@ -190,6 +219,8 @@ pub fn prepare<F: Files>(
     ensures run { IfOk result (λ p. prepares.RunRow (job (texts_of words.now)) (files_at F.held F.sound F.failed files.old)
         (files_at F.held F.sound F.failed files.new) (prepared_view p)) }
     ensures recorded { IfOk result (λ p. prepares.RecordRow (job (texts_of words.now)) (files_at F.held F.sound F.failed files.old)
+        (files_at F.held F.sound F.failed files.new) (prepared_view p)) }
+    ensures each { IfOk result (λ p. prepares.EachRow (job (texts_of words.now)) (files_at F.held F.sound F.failed files.old)
         (files_at F.held F.sound F.failed files.new) (prepared_view p)) }
     ensures within { IfOk result (λ p. prepares.IsPreparedWithin (prepared_view p)) }
     ensures grew { FailedGrew (job (texts_of words.now)) (files_at F.held F.sound F.failed files.old)

@@ -1,6 +1,6 @@
 use Rattle.std.proofs.Common.{arith}
 use Rattle.shim_answers.proofs.Causes.{tells_done, tells_failed, tells_blocked}
-use Rattle.shim_tool.proofs.RowLemmas.{end_row, spent_row, count_row, beginning_row, words_row, refused_row, file_row, sink_row, memory_row, journal_row, files_row, complete}
+use Rattle.shim_tool.proofs.RowLemmas.{end_row, spent_row, count_row, beginning_row, batch_row, words_row, refused_row, file_row, sink_row, memory_row, journal_row, files_row, complete}
 use Rattle.shim_tool.proofs.call.shim.Goals as goal
 
 pub returns-clause-done : goal.returns-clause-done
@@ -20,6 +20,9 @@ returns-clause-counts g c = count_row _ _ _ _ _ _ c.run_tool-status.ensures
 
 pub returns-clause-beginning : goal.returns-clause-beginning
 returns-clause-beginning g c = beginning_row _ _ _ _ _ _ c.run_tool-status.ensures
+
+pub returns-clause-batch : goal.returns-clause-batch
+returns-clause-batch g c = batch_row _ _ _ _ _ _ c.run_tool-status.ensures
 
 pub returns-clause-words : goal.returns-clause-words
 returns-clause-words g c = words_row _ _ _ _ _ _ c.run_tool-status.ensures

@@ -6,3 +6,12 @@ returns-in_err-file_failed-in-Failed-clause-grew g c = looks_grew _ _ _ _ c.in_o
 
 pub returns-in_ok-file_failed-in-Failed-clause-grew : goal.returns-in_ok-file_failed-in-Failed-clause-grew
 returns-in_ok-file_failed-in-Failed-clause-grew g c = looks_grew _ _ _ _ c.in_ok-contents.ensures.seen
+
+pub returns-in_err-file_too_long-in-TooLong-clause-grew : goal.returns-in_err-file_too_long-in-TooLong-clause-grew
+returns-in_err-file_too_long-in-TooLong-clause-grew g c = looks_grew _ _ _ _ c.in_ok-contents.ensures.seen
+
+pub returns-in_ok-file_too_long-in-TooLong-clause-grew : goal.returns-in_ok-file_too_long-in-TooLong-clause-grew
+returns-in_ok-file_too_long-in-TooLong-clause-grew g c = looks_grew _ _ _ _ c.in_ok-contents.ensures.seen
+
+pub returns-in-All-clause-grew : goal.returns-in-All-clause-grew
+returns-in-All-clause-grew g c = looks_grew _ _ _ _ c.in_ok-contents.ensures.seen

@@ -7,11 +7,11 @@ use Rattle.shim_tool.proofs.Preparing.{meaning_prepared, run_prepared}
 use Rattle.shim_tool.proofs.prepared.prepare_run.Goals as goal
 
 pub returns-in_ok-answer_meaning-in-ByFirstEvents : goal.returns-in_ok-answer_meaning-in-ByFirstEvents
-returns-in_ok-answer_meaning-in-ByFirstEvents c journal =
-    meaning_prepared c.args.job c.args.input journal c.args.bytes.now c.args.showing _ (c.requires.runs ∙ ap (λ (k : Course). Runs k c.args.showing) c.in-ByFirstEvents.is)
+returns-in_ok-answer_meaning-in-ByFirstEvents c beside same =
+    meaning_prepared c.args.job beside c.args.bytes.now c.args.input c.args.showing _ same (c.requires.runs ∙ ap (λ (k : Course). Runs k c.args.showing) c.in-ByFirstEvents.is)
     c.in_ok-answer_meaning-in-ByFirstEvents.ensures
 
 pub returns-in-InSomeOrder : goal.returns-in-InSomeOrder
 returns-in-InSomeOrder c = if_ok_weaker c.leave_to_workers.result _ _
-    (λ p h journal. run_prepared c.args.job c.args.input journal c.args.bytes.now c.args.showing (prepared_view p) (c.requires.runs ∙ ap (λ (k : Course). Runs k c.args.showing) c.in-InSomeOrder.is) h)
+    (λ p h beside same. run_prepared c.args.job beside c.args.bytes.now c.args.input c.args.showing (prepared_view p) same (c.requires.runs ∙ ap (λ (k : Course). Runs k c.args.showing) c.in-InSomeOrder.is) h)
     c.leave_to_workers.ensures

@@ -1,0 +1,4 @@
+-- The lemmas of this crate, one module for each subject.
+pub mod Joining
+pub mod Runs
+pub mod Sends

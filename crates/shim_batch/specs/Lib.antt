@@ -1,0 +1,3 @@
+-- The definitions of this crate, one module for each subject.
+pub mod Parts
+pub mod Runs
