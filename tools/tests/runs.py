@@ -1,8 +1,8 @@
 #!/usr/bin/env python3
 """Holds the runs of tools/shimtools against the program's own cases and examples: the report of each, byte for byte,
 and that its journal, read back and followed, leads to the same report. The cases are those of
-crates/shim_conformance/data whose mode is `run` or `ref` and whose text is a report. Ends with 1 at the first
-difference, and names it.
+crates/shim_conformance/data whose mode is `run` or `ref` and whose text is a report, and those of `batch` whose text is
+reports. Ends with 1 at the first difference, and names it.
 
 Programs of bench/made.py are run, too, by `shim ref`, each with a budget of 3000.
 
@@ -66,6 +66,28 @@ def same(what, source, input, budget, text):
         sys.exit("differs: %s, over its journal" % what)
 
 
+def same_batch(what, line, files, text):
+    """Whether the runs of a batch are told so, in one text."""
+    words, plain, budget = [re.sub(r"\{([^|}]*).*?\}", r"\1", word) for word in line.split()], [], 1_000_000
+    while words:
+        word = words.pop(0)
+        if word == "--":
+            plain += words
+            break
+        name, is_joined, value = word.partition("=")
+        if name not in ("--input", "--journal", "--workers", "--budget", "--quantum", "--size", "--steal"):
+            plain.append(word)
+            continue
+        if name != "--steal" and not is_joined:
+            value = words.pop(0)
+        if name == "--budget":
+            budget = int(value)
+    _, file, *names = plain
+    told, _ = runs.batch(syntax.program(files[file]), [(name, files[name]) for name in names], budget)
+    if told.encode() != text:
+        sys.exit("differs: %s\nwanted:\n%s\ncame:\n%s" % (what, text.decode("latin-1"), told))
+
+
 def main():
     most = int(sys.argv[1]) if len(sys.argv) > 1 else 20_000
     taken = left = 0
@@ -74,6 +96,14 @@ def main():
         if not file.endswith(".cases"):
             continue
         for name, words, files, text in cases(os.path.join(folder, file)):
+            if text is not None and text.startswith(b"input "):
+                if most < max(int(end) for end in re.findall(rb"(?m)^end .*?(\d+)$", text)):
+                    left += 1
+                    continue
+                for line in words:
+                    same_batch("%s, %s" % (file, name), line, files, text)
+                taken += 1
+                continue
             if text is None or not text.startswith(b"output "):
                 continue
             text = text.split(b"because ")[0]

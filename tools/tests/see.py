@@ -1,7 +1,7 @@
 #!/usr/bin/env python3
 """Compares what tools/shim-see writes, and its status, with the cases of tools/tests/see.cases. Ends with 1 at the
-first difference, and shows it. A case has `words`, files, a status and a text; with `shim stand_in` the program is
-tools/tests/stand_in.py, which has the modes `trace` and `replay`. `--raw` of each case is held against the program
+first difference, and shows it. A case has `words`, files, a status and a text; one with `wants batch` is left out where
+the program hasn't that mode (SHIM=tools/tests/stand_in.py has it). `--raw` of each case is held against the program
 itself.
 
 Use: tools/tests/see.py [--write], which writes the statuses and texts that come into the file, to be read by eye"""
@@ -70,13 +70,18 @@ def main():
     with open(CASES, encoding="utf-8") as it:
         text = it.read()
     head = text[: text.index("=== case ")]
-    new, count = [head], 0
-    program = os.environ.get("SHIM", os.path.join(TOP, "shim"))
-    stand_in = os.path.join(TOP, "tools", "tests", "stand_in.py")
+    new, count, left = [head], 0, 0
+    shim = os.path.realpath(os.environ.get("SHIM", os.path.join(TOP, "shim")))
+    has_batch = b"[INPUT]" in subprocess.run([shim], stdout=subprocess.PIPE).stdout
     for name, sections in cases(text):
+        if ("wants batch", "") in sections and not has_batch:
+            if write:
+                sys.exit("differs: %s wants the mode batch, which %s hasn't" % (name, shim))
+            left += 1
+            continue
         with tempfile.TemporaryDirectory() as room:
             os.symlink(os.path.join(TOP, "examples"), os.path.join(room, "examples"))
-            words, wanted, status, shim = [], None, None, program
+            words, wanted, status = [], None, None
             for kind, body in sections:
                 kind, _, value = kind.partition(" ")
                 if kind == "words":
@@ -89,8 +94,6 @@ def main():
                         out.write(bytes.fromhex(body))
                 elif kind == "folder":
                     os.mkdir(os.path.join(room, value))
-                elif kind == "shim":
-                    shim = stand_in
                 elif kind == "status":
                     status = int(value)
                 elif kind == "text":
@@ -112,8 +115,10 @@ def main():
     if write:
         with open(CASES, "w", encoding="utf-8") as out:
             out.write("".join(new).rstrip("\n") + "\n")
-    odd(program)
-    print("%d cases %s" % (count, "written" if write else "the same, and --raw hands on bytes and status"))
+    odd(shim)
+    print("%d cases %s%s" % (
+        count, "written" if write else "the same, and --raw hands on bytes and status",
+        "; %d left out, since this program has no batch" % left if left else ""))
 
 
 if __name__ == "__main__":

@@ -1,7 +1,7 @@
 #!/usr/bin/env python3
-"""Stands in for a `shim` with the modes `trace` and `replay`, for tests of what reads journals: these two are
-answered by tools/shimtools, by the run that always does the first event that can happen, and all else by the program
-itself.
+"""Stands in for a `shim` with the mode `batch`, for tests of what reads its reports where the program hasn't that mode:
+`batch` is answered by tools/shimtools, by runs that always do the first event that can happen, and all else by the
+program itself.
 
 Use: tools/tests/stand_in.py WORDS.., where SHIM_PROGRAM may name the program; else it is ./shim of this clone"""
 import argparse
@@ -11,56 +11,56 @@ import sys
 
 TOP = os.path.dirname(os.path.dirname(os.path.dirname(os.path.realpath(__file__))))
 sys.path.insert(0, os.path.join(TOP, "tools"))
-from shimtools import journals, runs, syntax  # noqa: E402
+from shimtools import runs, syntax  # noqa: E402
 
-STATUS = {"done": 0, "uncaught": 1, "trap": 1, "blocked": 3, "spent": 4}
+SHIM = os.environ.get("SHIM_PROGRAM", os.path.join(TOP, "shim"))
+USAGE = b"[--input FILE]"
 
 
-def answer(given):
-    """The text and the status of a source that is accepted."""
-    with open(given.file, "rb") as it:
-        functions = syntax.program(it.read())
-    read = lambda name: open(name, "rb").read() if name else b""
-    run = runs.Run(functions, read(given.input))
-    if given.mode == "trace":
-        text = journals.written(given.budget, journals.of_first_events(run, given.budget))
-    else:
+def program(words):
+    """What the program itself answers, with the usage line of one that has the mode."""
+    told = subprocess.run([SHIM, *words], stdout=subprocess.PIPE)
+    text = told.stdout
+    if told.returncode == 2 and b"[INPUT]" not in text:
+        text = text.replace(USAGE, b"[INPUT]... " + USAGE)
+    return text, told.returncode
+
+
+def batch(words):
+    """What is answered to words of which one is the mode."""
+    parser = argparse.ArgumentParser()
+    parser.add_argument("words", nargs="*")
+    parser.add_argument("--budget", type=int, default=1_000_000)
+    for other in ("--input", "--journal", "--workers", "--quantum", "--size"):
+        parser.add_argument(other)
+    parser.add_argument("--steal", action="store_true")
+    given = parser.parse_intermixed_args(words)
+    _, file, *names = given.words
+    if not 1 <= len(names) <= 64:
+        return program([])
+    text, status = program(["check", "--", file])
+    if status == 6:
+        return text, status
+    inputs = []
+    for name in names:
         try:
-            journals.follow(run, read(given.journal))
-        except journals.Refused as why:
-            return (str(why) + "\n").encode(), 9
-        text = run.report().encode()
-    return text, STATUS[run.ended()]
+            with open(name, "rb") as it:
+                inputs.append((name, it.read()))
+        except OSError:
+            return ("file failed %s\n" % name).encode(), 6
+        if len(inputs[-1][1]) > 2**24:
+            return ("file too long %s %d\n" % (name, 2**24)).encode(), 6
+    if status == 5:
+        return text, status
+    with open(file, "rb") as it:
+        functions = syntax.program(it.read())
+    text, status = runs.batch(functions, inputs, given.budget)
+    return text.encode(), status
 
 
 def main():
-    return main_of(sys.argv[1:])
-
-
-def main_of(words):
-    shim = os.environ.get("SHIM_PROGRAM", os.path.join(TOP, "shim"))
-    if not words or words[0] not in ("trace", "replay"):
-        told = subprocess.run([shim, *words], stdout=subprocess.PIPE)
-        text, status = told.stdout, told.returncode
-        if status == 2:
-            text = text.rstrip(b"\n") + b" [--journal FILE]\n"
-    else:
-        parser = argparse.ArgumentParser()
-        parser.add_argument("mode")
-        parser.add_argument("file")
-        parser.add_argument("--input")
-        parser.add_argument("--journal")
-        parser.add_argument("--budget", type=int, default=1_000_000)
-        parser.add_argument("--workers")
-        parser.add_argument("--quantum")
-        parser.add_argument("--steal", action="store_true")
-        given = parser.parse_args(words)
-        if given.mode == "replay" and given.journal is None:
-            return main_of([])
-        told = subprocess.run([shim, "check", given.file], stdout=subprocess.PIPE)
-        text, status = told.stdout, told.returncode
-        if status == 0:
-            text, status = answer(given)
+    words = sys.argv[1:]
+    text, status = batch(words) if "batch" in words[:1] else program(words)
     sys.stdout.buffer.write(text)
     sys.stdout.buffer.flush()
     return status
