@@ -5,15 +5,23 @@
 #SBATCH --mem=4G
 #SBATCH --time=02:00:00
 #SBATCH --output=shim-%A-%a.log
-# An example of a Slurm job array over many inputs: each of its tasks takes each twentieth input and runs eight at a time.
-# Use: sbatch many.slurm SOURCE INPUTS RESULTS, the latter two folders that all machines see. What was done already isn't
-# done again, so the same command goes on where an earlier one was stopped.
+# An example of a Slurm job array over many inputs: each of its tasks takes each twentieth input, and keeps eight processors
+# at work. `shim batch` gets 64 inputs at a time, and their reports stand in one file; with `run` as the last word each
+# input has a run of its own, and a file.
+# Use: sbatch many.slurm SOURCE INPUTS RESULTS [run], where INPUTS and RESULTS are folders that all machines see. What was
+# done already isn't done again, so the same command over the same inputs goes on where an earlier one was stopped.
 set -u
-source=$1 inputs=$2 results=$3
+source=$1 inputs=$2 results=$3 mode=${4:-batch}
 part=${SLURM_ARRAY_TASK_ID:-0} parts=${SLURM_ARRAY_TASK_COUNT:-1} at_once=${SLURM_CPUS_PER_TASK:-$(nproc)}
+for tool in shim parallel; do command -v $tool > /dev/null || { echo "$tool isn't in the PATH of this machine" >&2; exit 2; }; done
 mkdir -p "$results/reports"
+from=$(printf %q "$source") to=$(printf %q "$results/reports")
+case $mode in
+  batch) each=64 command="shim batch $from --workers 1 -- {} > $to/$part.{#}" ;;
+  run) each=1 command="shim run $from --workers 1 --input {} > $to/{/}" ;;
+  *) echo "$mode is neither batch nor run" >&2; exit 2 ;;
+esac
 find "$inputs" -type f | LC_ALL=C sort | awk -v part="$part" -v parts="$parts" 'NR % parts == part' |
-  parallel --jobs "$at_once" --joblog "$results/statuses.$part" --resume \
-    "shim run $(printf %q "$source") --input {} --workers 1 > $(printf %q "$results")/reports/{/}"
-# The status of `parallel` tells how many runs had one, which isn't a failure here.
+  parallel --max-args "$each" --jobs "$at_once" --joblog "$results/statuses.$part" --resume "$command"
+# The status of `parallel` tells how many commands had one, which isn't a failure here.
 exit 0
