@@ -1,16 +1,13 @@
 # Completion of shim, shim-see and shim-draw for bash.
-# The modes `trace` and `replay` are offered where the program has them, which its usage line tells.
 
 _shim() {
   local word=${COMP_WORDS[COMP_CWORD]} before=${COMP_WORDS[COMP_CWORD-1]} tool=${COMP_WORDS[0]##*/}
-  local modes='run ref why check code up gen' options='--input --workers --budget --quantum --size'
+  local modes='run ref why check code up gen trace replay batch'
+  local options='--input --workers --budget --quantum --size --journal --steal'
   local plain=() skip=0 i
   if [[ $tool = shim-draw ]]; then
     modes='run why' options='--input --journal --budget --from --to --channels --output --help'
-  elif [[ $(command shim 2> /dev/null < /dev/null) = *--journal* ]]; then
-    modes+=' trace replay' options+=' --journal'
   fi
-  [[ $tool != shim-draw && $(command shim 2> /dev/null < /dev/null) = *--steal* ]] && options+=' --steal'
   [[ $tool = shim-see ]] && options+=' --raw --help --version'
   # `--workers=4` stands in three words, since bash parts words at the sign.
   if [[ $before = '=' ]]; then before=${COMP_WORDS[COMP_CWORD-2]}
@@ -45,7 +42,12 @@ _shim() {
         mapfile -t COMPREPLY < <(compgen -f -X '!*.shim' -- "$word"; compgen -d -- "$word")
         compopt -o filenames
       fi ;;
-    *) mapfile -t COMPREPLY < <(compgen -W "$options" -- "$word") ;;
+    *)
+      if [[ ${plain[0]} = batch ]]; then
+        mapfile -t COMPREPLY < <(compgen -f -- "$word"); compopt -o filenames
+      else
+        mapfile -t COMPREPLY < <(compgen -W "$options" -- "$word")
+      fi ;;
   esac
 }
 

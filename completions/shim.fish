@@ -1,15 +1,6 @@
 # Completion of shim, shim-see and shim-draw for fish.
-# The modes `trace` and `replay` are offered where the program has them, which its usage line tells.
 
-function __shim_has_journals
-    string match -q -- '*--journal*' (command shim 2>/dev/null </dev/null)
-end
-
-function __shim_has_stealing
-    string match -q -- '*--steal*' (command shim 2>/dev/null </dev/null)
-end
-
-# How many words stand there that are no options: the tool itself counts.
+# Whether so many words stand there that are no options: the tool itself counts. With a second argument, or more of them.
 function __shim_plain
     set -l count 0
     set -l skip 0
@@ -23,7 +14,7 @@ function __shim_plain
             set count (math $count + 1)
         end
     end
-    test $count = $argv[1]
+    test $count = $argv[1]; or test (count $argv) = 2 -a $count -gt $argv[1]
 end
 
 function __shim_seen
@@ -44,14 +35,16 @@ for tool in shim shim-see
     complete -c $tool -n '__shim_plain 1' -a code -d 'the instructions of a source'
     complete -c $tool -n '__shim_plain 1' -a up -d 'the source in version 2'
     complete -c $tool -n '__shim_plain 1' -a gen -d 'run a program that is made'
-    complete -c $tool -n '__shim_plain 1; and __shim_has_journals' -a trace -d 'the journal of a run'
-    complete -c $tool -n '__shim_plain 1; and __shim_has_journals' -a replay -d 'the run that a journal tells'
+    complete -c $tool -n '__shim_plain 1' -a trace -d 'the journal of a run'
+    complete -c $tool -n '__shim_plain 1' -a replay -d 'the run that a journal tells'
+    complete -c $tool -n '__shim_plain 1' -a batch -d 'runs over several inputs'
+    complete -c $tool -n '__shim_plain 3 or-more; and __shim_seen batch' -F
     complete -c $tool -n '__shim_plain 2; and __shim_seen gen' -a 'pipe tree storm'
     complete -c $tool -l workers -x -a '1 2 4 8 16' -d 'threads at most'
     complete -c $tool -l quantum -x -a '1 64 10000' -d 'steps of a first piece'
     complete -c $tool -l size -x -a '100 1000 10000 100000' -d 'the size of what gen makes'
-    complete -c $tool -n __shim_has_journals -l journal -r -F -d 'the journal of replay'
-    complete -c $tool -n __shim_has_stealing -l steal -d 'workers steal their work'
+    complete -c $tool -l journal -r -F -d 'the journal of replay'
+    complete -c $tool -l steal -d 'workers steal their work'
 end
 complete -c shim-see -l raw -d 'the bytes of shim alone'
 complete -c shim-see -l help -d 'say modes, options and statuses'

@@ -55,9 +55,12 @@ for page in man/*.1; do
   fi
   if has mandoc; then same "mandoc -Tlint $page" "$(mandoc -Tlint -Wwarning "$page" 2>&1)" ''; fi
 done
-# Each option and each mode of the usage line stands in the page of shim, or in what it says of a mode that isn't there yet.
+# Each option of the usage line and each mode stands in the page of shim.
 for word in $(./shim | grep -o -- '--[a-z]*'); do
   grep -q -- "Fl Fl ${word#--}" man/shim.1 || fail "$word isn't in man/shim.1"
+done
+for word in run ref why check code up gen trace replay batch; do
+  grep -q -- "^.It Cm $word$" man/shim.1 || fail "$word isn't in man/shim.1"
 done
 
 # Completions.
@@ -72,8 +75,7 @@ _shim
 printf '%s\n' "${COMPREPLY[@]}" | LC_ALL=C sort | tr '\n' ' '
 END
   b() { bash "$room/complete.bash" "$to/share/bash-completion/completions/shim" "$@"; }
-  modes='check code gen ref run up why '
-  ./../root/usr/bin/shim | grep -q -- --journal && modes='check code gen ref replay run trace up why '
+  modes='batch check code gen ref replay run trace up why '
   same 'bash: modes' "$(b shim '')" "$modes"
   same 'bash: a mode begun' "$(b shim r)" "$(printf '%s' "$modes" | tr ' ' '\n' | grep '^r' | tr '\n' ' ')"
   same 'bash: sources' "$(b shim run '')" 'filter.shim folder hello.shim '
@@ -84,6 +86,11 @@ END
   same 'bash: workers in one word' "$(b shim run filter.shim --workers = 1)" '1 16 '
   same 'bash: options' "$(b shim run filter.shim --b)" '--budget '
   same 'bash: kinds' "$(b shim gen '')" 'pipe storm tree '
+  same 'bash: the source of a batch' "$(b shim batch f)" 'filter.shim folder '
+  same 'bash: inputs of a batch' "$(b shim batch filter.shim f)" 'filter.shim filter.txt folder '
+  same 'bash: more inputs of a batch' "$(b shim batch filter.shim hello.shim --workers 2 filter.t)" 'filter.txt '
+  same 'bash: an option among inputs' "$(b shim batch filter.shim hello.shim --b)" '--budget '
+  same 'bash: no input of another mode' "$(b shim run filter.shim f)" ' '
   same 'bash: shim-see' "$(b shim-see --r)" '--raw '
   same 'bash: shim-draw' "$(b shim-draw '')" 'run why '
 done
@@ -104,7 +111,7 @@ zpty -d z
 END
   z() { timeout 60 zsh -f "$room/complete.zsh" "$to/share/zsh/site-functions" "$room/zcompdump" "$room/work" "$1" | tr -d '\r' | sed 's/\x1b\[[0-9;?]*[a-zA-Z]//g'; }
   told=$(z 'shim ')
-  for word in run ref why check code up gen; do
+  for word in $modes; do
     checks=$((checks + 1))
     printf '%s' "$told" | grep -Eq "(^|[[:space:]])$word +--" || { printf '%s\n' "$told" >&2; fail "zsh: mode $word"; }
   done
@@ -113,7 +120,13 @@ END
   case $told in *filter.txt*) fail 'zsh: a file that is no source' ;; esac
   told=$(z 'shim run hello.shim --')
   case $told in *--budget*--input*--workers*) ;; *) printf '%s\n' "$told" >&2; fail 'zsh: options' ;; esac
-  checks=$((checks + 2))
+  told=$(z 'shim batch filter.shim filter.t')
+  case $told in *filter.txt*) ;; *) printf '%s\n' "$told" >&2; fail 'zsh: inputs of a batch' ;; esac
+  told=$(z 'shim batch filter.shim hello.shim filter.t')
+  case $told in *filter.txt*) ;; *) printf '%s\n' "$told" >&2; fail 'zsh: more inputs of a batch' ;; esac
+  told=$(z 'shim run filter.shim filter.t')
+  case $told in *filter.txt*) fail 'zsh: an input of another mode' ;; esac
+  checks=$((checks + 5))
 fi
 if has fish; then
   f() { HOME=$room XDG_DATA_DIRS=$to/share:/usr/share TERM=dumb fish -c 'complete -C "$argv"' -- "$1" 2> /dev/null | cut -f 1 | LC_ALL=C sort | tr '\n' ' '; }
@@ -123,6 +136,11 @@ if has fish; then
   same 'fish: workers' "$(f 'shim run hello.shim --workers ')" '1 16 2 4 8 '
   same 'fish: options' "$(f 'shim run hello.shim --b')" '--budget '
   same 'fish: kinds' "$(f 'shim gen ')" 'pipe storm tree '
+  same 'fish: the source of a batch' "$(f 'shim batch f' | tr ' ' '\n' | grep shim)" 'filter.shim'
+  same 'fish: inputs of a batch' "$(f 'shim batch filter.shim filter.t')" 'filter.txt '
+  same 'fish: more inputs of a batch' "$(f 'shim batch filter.shim hello.shim --workers 2 filter.t')" 'filter.txt '
+  same 'fish: an option among inputs' "$(f 'shim batch filter.shim hello.shim --b')" '--budget '
+  same 'fish: no input of another mode' "$(f 'shim run filter.shim filter.t')" ''
   same 'fish: shim-draw' "$(f 'shim-draw ')" 'run why '
 fi
 cd "$top" || exit 1
