@@ -40,7 +40,7 @@ to = $(DESTDIR)$(PREFIX)
 SHARED = $(wildcard tools/shimtools/*.py)
 PAGES = $(wildcard man/*.1)
 # As they lie here, so that their links to each other work.
-DOCS = README.md CONTRIBUTING.md tools/many.slurm $(wildcard docs/*.md docs/pictures/*.svg examples/*.shim examples/*.txt crates/*/README.md)
+DOCS = README.md CONTRIBUTING.md CHANGELOG.md tools/many.slurm $(wildcard docs/*.md docs/pictures/*.svg examples/*.shim examples/*.txt crates/*/README.md)
 EDITORS = $(shell cd editors && find . -type f | sort)
 
 install: built version
