@@ -1,14 +1,14 @@
 #!/usr/bin/env bash
 # What ./shim answers where the files and the output of the system are odd: pipes, devices, folders, files that can't be
 # read, that are missing, that are changed or cut while they are read; names with any bytes; output that is full, closed
-# or slow; and a failed read with a failed write. Each answer is compared with what docs/FORMATS.md says of it. Ends with 1
+# or slow; a failed read with a failed write; and all this for inputs of a batch. Each answer is compared with what docs/FORMATS.md says of it. Ends with 1
 # at the first one that differs, and names it.
 # Use: make shim && bench/edges.sh [TIMES], the number of runs over a file that is changed
 set -u
 cd "$(dirname "$0")/.." || exit 1
 times=${1:-200}
-shim=$PWD/shim
-usage='usage: shim MODE FILE [--input FILE] [--workers N] [--budget B] [--quantum Q] [--size N]'
+shim=$(realpath "${SHIM:-./shim}")
+usage='usage: shim MODE FILE [INPUT]... [--input FILE] [--workers N] [--budget B] [--quantum Q] [--size N] [--journal FILE] [--steal]'
 room=$(mktemp -d)
 others=()
 trap 'kill "${others[@]}" 2> /dev/null; chmod -R u+rwx "$room"; rm -rf "$room"' EXIT
@@ -182,6 +182,36 @@ for mode in run ref; do
     done
   done
 done
+
+# A batch with one input that is odd: in front, in the midst and at the end.
+copied() { printf 'input %s\noutput 2 4142\nend done 10' "$1"; }
+emptied() { printf 'input %s\noutput 0\nend done 4' "$1"; }
+for odd in nowhere . "$room" p.shim/ p.shim/q dangling round /proc/self/mem "$long" ''; do
+  answer 6 "file failed $odd" batch copy.shim "$odd"
+  answer 6 "file failed $odd" batch copy.shim "$odd" bytes
+  answer 6 "file failed $odd" batch copy.shim bytes "$odd" bytes more.shim nowhere
+done
+for odd in over holes /dev/zero /dev/urandom; do
+  answer 6 "file too long $odd 16777216" batch none.shim "$odd" bytes
+  answer 6 "file too long $odd 16777216" batch none.shim bytes full "$odd" nowhere
+done
+answer 6 'file failed nowhere' batch nowhere neither
+answer 6 'file too long more.shim 1048576' batch more.shim neither
+answer 6 'file failed neither' batch /dev/null neither
+answer 5 'refused 1 no main' batch /dev/null bytes
+answer 0 "$(copied bytes)"$'\n'"$(emptied /dev/null)"$'\n'"$(copied bytes)" batch copy.shim bytes /dev/null bytes
+answer 0 "$(copied /dev/stdin)"$'\n'"$(copied bytes)" batch copy.shim /dev/stdin bytes < bytes
+cat bytes | answer 0 "$(copied /dev/stdin)"$'\n'"$(emptied /dev/stdin)" batch copy.shim /dev/stdin /dev/stdin || exit 1
+for name in 'a b' $'a\nb' $'\e[1m' '*' '日本' "it's" '\' '%s%n' '=x' -x --help --input -- -; do
+  cp bytes "./$name"
+  answer 0 "$(copied "$name")"$'\n'"$(copied bytes)" batch copy.shim -- "$name" bytes
+  rm -- "./$name"
+  answer 6 "file failed $name" batch copy.shim -- bytes "$name"
+done
+for name in $'\xff' $'p\x80' $'\xc3'; do answer 2 "$usage" batch copy.shim bytes "$name"; done
+unwritten batch copy.shim bytes
+unwritten batch copy.shim bytes nowhere
+unwritten batch copy.shim
 unwritten
 unwritten check p.shim
 unwritten code p.shim

@@ -1,7 +1,7 @@
 #!/usr/bin/env bash
 # Runs ./shim with its first, second, .. allocation failing, until runs make no more of them; then with that allocation and
 # each behind it failing. Each run must answer as ever, or write `no memory` and end with 8. Without words it does so for
-# programs that meet, that throw and that read, for two that are made, one of them with --steal, and for every mode, by one
+# programs that meet, that throw and that read, for two that are made, one of them with --steal, for a batch, and for every other mode, by one
 # worker and by four. Runs by four workers make more or fewer allocations by chance, so there ten numbers in a row have to
 # come to nothing.
 # Wants gcc.
@@ -164,6 +164,7 @@ for workers in 1 4; do
   refuse_all $quiet run filter.shim --input bytes --workers $workers
   refuse_all $quiet run filter.shim --input bytes --workers $workers --budget 31
   refuse_all $quiet gen storm --size 10 --workers $workers
+  refuse_all $quiet batch filter.shim bytes bytes bytes bytes --workers $workers
   # (one worker has no lanes)
   [ $workers = 1 ] || refuse_all $quiet gen tree --size 200 --quantum 1 --workers $workers --steal
 done

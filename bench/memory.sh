@@ -115,4 +115,5 @@ for workers in 1 2 4 16; do
   climb run tree.shim --workers $workers
   climb run blocks.shim --workers $workers
   climb gen storm --size 10 --workers $workers
+  climb batch copy.shim bytes zeros bytes --workers $workers
 done

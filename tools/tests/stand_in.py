@@ -36,7 +36,7 @@ def batch(words):
     parser.add_argument("--steal", action="store_true")
     given = parser.parse_intermixed_args(words)
     _, file, *names = given.words
-    if not 1 <= len(names) <= 64:
+    if not 1 <= len(names) <= 64 or any("\ud800" <= c <= "\udfff" for name in names for c in name):
         return program([])
     text, status = program(["check", "--", file])
     if status == 6:
@@ -45,7 +45,7 @@ def batch(words):
     for name in names:
         try:
             with open(name, "rb") as it:
-                inputs.append((name, it.read()))
+                inputs.append((name, it.read(2**24 + 1)))
         except OSError:
             return ("file failed %s\n" % name).encode(), 6
         if len(inputs[-1][1]) > 2**24:
@@ -61,8 +61,11 @@ def batch(words):
 def main():
     words = sys.argv[1:]
     text, status = batch(words) if "batch" in words[:1] else program(words)
-    sys.stdout.buffer.write(text)
-    sys.stdout.buffer.flush()
+    try:
+        sys.stdout.buffer.write(text)
+        sys.stdout.buffer.flush()
+    except OSError:
+        os._exit(7)
     return status
 
 
