@@ -1,8 +1,9 @@
 #!/usr/bin/env python3
 """Tries the files of editors/ without a screen, over all examples and a text of version 2: each token has the colour
 of its class, and a refused file puts the cursor on its line. Vim and Emacs are asked themselves, where they are
-installed. The TextMate grammar is read by a small engine below, and by VS Code's own one where TEXTMATE names a
-folder in which `npm install vscode-textmate vscode-oniguruma` was done. Ends with 1 at the first difference.
+installed. The TextMate grammar is read by a small engine below; by that of `bat`, where this is installed, in the form
+that it takes; and by VS Code's own one where TEXTMATE names a folder in which `npm install vscode-textmate
+vscode-oniguruma` was done. Ends with 1 at the first difference.
 
 Use: tools/tests/editors.py [vim] [emacs] [textmate]"""
 import json
@@ -358,12 +359,90 @@ class Grammar:
         return told
 
 
+def bat_contexts(grammar):
+    """The grammar in the form of Sublime Text, which `bat` takes: a context for each list of rules."""
+    contexts = {}
+
+    def rules(patterns):
+        for pattern in patterns:
+            if "include" in pattern:
+                yield {"include": pattern["include"][1:]}
+                continue
+            rule = {"match": pattern.get("match") or pattern["begin"]}
+            if "begin" in pattern:
+                name = "behind%d" % len(contexts)
+                contexts[name] = None  # the name is taken
+                inner = [{"match": pattern["end"], "pop": True}, *rules(pattern.get("patterns", []))]
+                if "name" in pattern:
+                    inner.insert(0, {"meta_scope": pattern["name"]})
+                contexts[name] = inner
+                rule["push"] = name
+                rule["captures"] = {int(group): it["name"] for group, it in pattern.get("beginCaptures", {}).items()}
+            else:
+                rule["scope"] = pattern["name"]
+            yield rule
+
+    contexts["main"] = list(rules(grammar["patterns"]))
+    for name, part in grammar["repository"].items():
+        contexts[name] = list(rules(part["patterns"]))
+    return contexts
+
+
+def scope_names(rules):
+    """Each scope that rules give, once."""
+    for rule in rules:
+        yield from [it for it in (rule.get("scope"), rule.get("meta_scope")) if it]
+        yield from rule.get("captures", {}).values()
+
+
+def bat(program, grammar, texts):
+    """The scopes of texts as `bat` has them: it is given a theme with a colour for each scope, and its colours are read back."""
+    contexts = bat_contexts(grammar)
+    scopes = sorted({scope for rules in contexts.values() for scope in scope_names(rules)})
+    rule = "<dict><key>scope</key><string>%s</string><key>settings</key><dict><key>foreground</key><string>#0000%02X</string></dict></dict>"
+    with tempfile.TemporaryDirectory() as room:
+        for folder in ("syntaxes", "themes"):
+            os.mkdir(os.path.join(room, folder))
+        form = {"name": "SHIM", "file_extensions": ["shim"], "scope": "source.shim", "contexts": contexts}
+        with open(os.path.join(room, "syntaxes", "shim.sublime-syntax"), "w") as out:
+            out.write("%YAML 1.2\n---\n")
+            out.write(re.sub(r'"(\d+)":', r"\1:", json.dumps(form)))  # JSON has no numbers as keys, and YAML does
+        with open(os.path.join(room, "themes", "told.tmTheme"), "w") as out:
+            out.write('<?xml version="1.0"?><plist version="1.0"><dict><key>name</key><string>told</string><key>settings</key><array>'
+                      "<dict><key>settings</key><dict><key>foreground</key><string>#010101</string></dict></dict>"
+                      + "".join(rule % (scope, number) for number, scope in enumerate(scopes, 2)) + "</array></dict></plist>")
+        env = dict(os.environ, BAT_CACHE_PATH=os.path.join(room, "cache"), BAT_CONFIG_PATH="", COLORTERM="truecolor", HOME=room)
+        told, status = run([program, "cache", "--build", "--source", room, "--target", os.path.join(room, "cache")], env=env)
+        if status:
+            sys.exit("differs: %s cache: %s" % (program, told))
+        for name, source in texts:
+            file = os.path.join(room, "it.shim")
+            with open(file, "wb") as out:
+                out.write(source)
+            told, status = run([program, "--color=always", "--style=plain", "--paging=never", "--wrap=never", "--tabs=0", "--theme=told", "--language=SHIM", file], env=env)
+            if status or re.sub("\x1b\\[[0-9;]*m", "", told).encode() != source:
+                sys.exit("differs: %s prints another text of %s\n%s" % (program, name, told))
+            found, now = [], ""
+            for colour, text in re.findall("\x1b\\[([0-9;]*)m|([^\x1b]+)", told):
+                if text:
+                    found += [now] * len(text.encode())
+                else:
+                    number = re.fullmatch("38;2;0;0;([0-9]+)", colour)
+                    now = scopes[int(number[1]) - 2] if number else ""
+            yield name, source, found
+
+
 def textmate():
     path = os.path.join(TOP, "editors", "vscode", "syntaxes", "shim.tmLanguage.json")
     grammar, texts, count = Grammar(path), list(sources()), 0
     for name, source in texts:
         count += compare("textmate", name, source, grammar.scopes(source.decode("latin-1")), SCOPES)
     said = "textmate: %d tokens" % count
+    program = shutil.which("batcat") or shutil.which("bat")
+    if program:
+        for name, source, scopes in bat(program, grammar.grammar, texts):
+            compare("bat", name, source, scopes, SCOPES)
+        said += ", the same by bat"
     folder = os.environ.get("TEXTMATE")
     if folder:
         with tempfile.TemporaryDirectory() as room:
