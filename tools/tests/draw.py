@@ -16,13 +16,15 @@ import xml.etree.ElementTree
 TOP = os.path.dirname(os.path.dirname(os.path.dirname(os.path.realpath(__file__))))
 DRAW = os.path.join(TOP, "tools", "shim-draw")
 SHIM = os.environ.get("SHIM", os.path.join(TOP, "shim"))
-STAND_IN = os.path.join(TOP, "tools", "tests", "stand_in.py")
+sys.path.insert(0, os.path.join(TOP, "tools"))
+from shimtools import journals, runs, syntax  # noqa: E402
+
 EXAMPLES = os.path.join(TOP, "examples")
 checks = 0
 
 
-def call(*command, shim=SHIM):
-    told = subprocess.run(command, cwd=TOP, env=dict(os.environ, SHIM=shim), stdout=subprocess.PIPE, stderr=subprocess.PIPE, timeout=120)
+def call(*command):
+    told = subprocess.run(command, cwd=TOP, env=dict(os.environ, SHIM=SHIM), stdout=subprocess.PIPE, stderr=subprocess.PIPE, timeout=120)
     return told.stdout.decode(), told.stderr.decode(), told.returncode
 
 
@@ -41,6 +43,13 @@ def drawn(text):
             seen.add(step)
             meetings.append((name, value))
     return meetings, len(re.findall(r"->\] : \d+: put ", text))
+
+
+def journal_of(file, input):
+    """The journal of the run that always does the first event that can happen, which `shim-draw` draws without a journal."""
+    read = lambda name: open(os.path.join(TOP, name), "rb").read()
+    run = runs.Run(syntax.program(read(file)), read(input) if input else b"")
+    return journals.written(1_000_000, journals.of_first_events(run, 1_000_000))
 
 
 def main():
@@ -62,9 +71,9 @@ def main():
         same("%s, caught" % name, len(re.findall("catch ", text)), len(re.findall("^catch ", report, re.M)))
         with tempfile.TemporaryDirectory() as room:
             journal = os.path.join(room, "journal")
-            with open(journal, "w") as out:
-                out.write(call(STAND_IN, "trace", file, *more)[0])
-            same("%s, over its journal" % name, call(DRAW, "run", file, *more, "--journal", journal, shim=STAND_IN), (text, "", 0))
+            with open(journal, "wb") as out:
+                out.write(journal_of(file, input if more else None))
+            same("%s, over its journal" % name, call(DRAW, "run", file, *more, "--journal", journal), (text, "", 0))
     # A journal in another order, and one of another source.
     with tempfile.TemporaryDirectory() as room:
         journal = os.path.join(room, "journal")
@@ -72,7 +81,7 @@ def main():
         lines += "|quiet main/0.1 1|meet main/0.1#0|end main/0.1|close main|own main|end main|stop 16|"
         with open(journal, "w") as out:
             out.write(lines.replace("|", "\n"))
-        text, error, status = call(DRAW, "run", "examples/meeting.shim", "--journal", journal, shim=STAND_IN)
+        text, error, status = call(DRAW, "run", "examples/meeting.shim", "--journal", journal)
         same("a journal of another order", (drawn(text), error, status), (([("level", "5"), ("level", "7"), ("seen", "12")], 1), "", 0))
         text, error, status = call(DRAW, "run", "examples/merger.shim", "--journal", journal)
         same("a journal of another source", (text, error.split(";")[0], status), ("", "shim-draw: journal 4 not enabled", 9))
