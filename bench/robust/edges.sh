@@ -1,14 +1,14 @@
 #!/usr/bin/env bash
 # What ./shim answers where the files and the output of the system are odd: pipes, devices, folders, files that can't be
 # read, that are missing, that are changed or cut while they are read; names with any bytes; output that is full, closed
-# or slow; a failed read with a failed write; and all this for inputs of a batch. Each answer is compared with what docs/FORMATS.md says of it. Ends with 1
-# at the first one that differs, and names it.
-# Use: make shim && bench/edges.sh [TIMES], the number of runs over a file that is changed
+# or slow; a failed read with a failed write; and all this for inputs of a batch. Each answer is compared with what
+# docs/FORMATS.md says of it. Ends with 1 at the first one that differs, and names it.
+# Use: make shim && bench/robust/edges.sh [TIMES], the number of runs over a file that is changed
 set -u
-cd "$(dirname "$0")/.." || exit 1
+cd "$(dirname "$0")/../.." || exit 1
 times=${1:-200}
 shim=$(realpath "${SHIM:-./shim}")
-usage='usage: shim MODE FILE [INPUT]... [--input FILE] [--workers N] [--budget B] [--quantum Q] [--size N] [--journal FILE] [--steal]'
+usage=$("$shim")
 room=$(mktemp -d)
 others=()
 trap 'kill "${others[@]}" 2> /dev/null; chmod -R u+rwx "$room"; rm -rf "$room"' EXIT
@@ -23,28 +23,34 @@ fail() { # WHAT
   exit 1
 }
 
-same() { # NAME STATUS WANTED-STATUS TEXT
+# A call has that status, wrote what the file has, where one is given, and wrote nothing on standard error.
+right() { # WHAT STATUS WANTED-STATUS [FILE]
   checks=$((checks + 1))
   [ "$2" = "$3" ] || fail "$1: status $2, and not $3"
-  printf '%s\n' "$4" | cmp -s - out || fail "$1: another text than $4"
+  [ -z "${4:-}" ] || cmp -s "$4" out || fail "$1: another text"
   [ ! -s err ] || fail "$1: something on standard error"
+}
+
+same() { # WHAT STATUS WANTED-STATUS TEXT
+  right "$1, which is to answer $4" "$2" "$3" <(printf '%s\n' "$4")
+}
+
+call() { # WORDS..
+  timeout 60 "$shim" "$@" 2> err
 }
 
 answer() { # STATUS TEXT WORDS..
   local wanted=$1 text=$2
   shift 2
-  timeout 60 "$shim" "$@" > out 2> err
+  call "$@" > out
   same "$*" $? "$wanted" "$text"
 }
 
 # A write of the answer that fails at once.
 unwritten() { # WORDS..
-  checks=$((checks + 1))
-  timeout 60 "$shim" "$@" > /dev/full 2> err
-  local status=$?
   : > out
-  [ $status = 7 ] || fail "$* > /dev/full: status $status, and not 7"
-  [ ! -s err ] || fail "$*: something on standard error"
+  call "$@" > /dev/full
+  right "$* > /dev/full" $? 7
 }
 
 echo 'void main(ostream &o) { int x; x = 65; put o, x; }' > p.shim
@@ -119,11 +125,9 @@ for mode in run ref; do
   answer 6 "file failed $longer" $mode "$longer"
   answer 6 'file failed ' $mode ''
   answer 6 'file failed ' $mode none.shim --input=
-  timeout 60 "$shim" $mode /dev/stdin > out 2> err <&-
-  same "$mode /dev/stdin, closed" $? 6 'file failed /dev/stdin'
-  timeout 60 "$shim" $mode /dev/stdin > out 2> err < .
-  same "$mode /dev/stdin, a folder" $? 6 'file failed /dev/stdin'
-  timeout 60 "$shim" $mode /dev/stdin > out 2> err 0> written
+  answer 6 'file failed /dev/stdin' $mode /dev/stdin <&-
+  answer 6 'file failed /dev/stdin' $mode /dev/stdin < .
+  call $mode /dev/stdin > out 0> written
   checks=$((checks + 1))
   [ "$(tail -n 1 out)" = 'refused 1 no main' ] || [ "$(cat out)" = 'file failed /dev/stdin' ] || fail "$mode /dev/stdin, open for writing"
   cp p.shim shut && chmod 000 shut && mkdir -p closed && cp p.shim closed && chmod 000 closed
@@ -172,13 +176,10 @@ for mode in run ref; do
   done
   for where in '>&-' '> /dev/full' '1< p.shim' '1< .' '<&- >&-' '<&- >&- 2>&-' '>&- 2>&-'; do
     for words in 'p.shim' 'nowhere' '/dev/null' '--help' 'copy.shim --input bytes' 'p.shim --input nowhere'; do
-      checks=$((checks + 1))
       : > out
       : > err
       bash -c "exec timeout 60 '$shim' $mode $words 2> err $where"
-      status=$?
-      [ $status = 7 ] || fail "$mode $words $where: status $status, and not 7"
-      [ ! -s err ] || fail "$mode $words $where: something on standard error"
+      right "$mode $words $where" $? 7
     done
   done
 done
@@ -212,46 +213,31 @@ for name in $'\xff' $'p\x80' $'\xc3'; do answer 2 "$usage" batch copy.shim bytes
 unwritten batch copy.shim bytes
 unwritten batch copy.shim bytes nowhere
 unwritten batch copy.shim
-unwritten
-unwritten check p.shim
-unwritten code p.shim
-unwritten up p.shim
-unwritten why p.shim
-unwritten why blocked.shim
-unwritten gen storm --size 10
-unwritten gen ring
+for words in '' 'check p.shim' 'code p.shim' 'up p.shim' 'trace p.shim' 'why p.shim' 'why blocked.shim' 'gen storm --size 10' 'gen ring'; do
+  # shellcheck disable=SC2086
+  unwritten $words
+done
 
 # A long text: to a reader that is slow, to one that goes, to one that never came, and to one whose end may not block.
 head -c 200000 /dev/urandom > many
-timeout 60 "$shim" ref copy.shim --input many > whole || fail 'a copy of 200,000 bytes'
+call ref copy.shim --input many > whole || fail 'a copy of 200,000 bytes'
 length=$(wc -c < whole)
 [ "$length" -gt 400000 ] || fail 'a long text'
-timeout 60 "$shim" ref copy.shim --input many 2> err | dd bs=1 of=out status=none
-same_whole() { # NAME STATUS
-  checks=$((checks + 1))
-  [ "$2" = 0 ] || fail "$1: status $2, and not 0"
-  cmp -s whole out || fail "$1: another text"
-}
-same_whole 'a reader that takes a byte at a time' "${PIPESTATUS[0]}"
-timeout 60 "$shim" ref copy.shim --input many 2> err | { sleep 1; cat > out; }
-same_whole 'a reader that comes late' "${PIPESTATUS[0]}"
+call ref copy.shim --input many | dd bs=1 of=out status=none
+right 'a reader that takes a byte at a time' "${PIPESTATUS[0]}" 0 whole
+call ref copy.shim --input many | { sleep 1; cat > out; }
+right 'a reader that comes late' "${PIPESTATUS[0]}" 0 whole
 for taken in 0 1 65536 70000 300000; do
-  timeout 60 "$shim" ref copy.shim --input many 2> err | head -c $taken > out
-  status=${PIPESTATUS[0]}
-  checks=$((checks + 1))
-  [ "$status" = 7 ] || fail "a reader that goes after $taken bytes: status $status, and not 7"
-  cmp -s out <(head -c $taken whole) || fail "a reader that goes after $taken bytes: another text"
-  [ ! -s err ] || fail "a reader that goes after $taken bytes: something on standard error"
+  call ref copy.shim --input many | head -c $taken > out
+  right "a reader that goes after $taken bytes" "${PIPESTATUS[0]}" 7 <(head -c $taken whole)
 done
 mkfifo fifo
 for words in 'p.shim' 'nowhere' '/dev/null' '--help'; do
   # shellcheck disable=SC2086
-  { sleep 0.1; timeout 60 "$shim" run $words 2> err; echo $? > status; } > fifo &
+  { sleep 0.1; call run $words; echo $? > status; } > fifo &
   : < fifo
   wait $!
-  checks=$((checks + 1))
-  [ "$(cat status)" = 7 ] || fail "run $words into a pipe that nobody reads: status $(cat status), and not 7"
-  [ ! -s err ] || fail "run $words into a pipe that nobody reads: something on standard error"
+  right "run $words into a pipe that nobody reads" "$(cat status)" 7
 done
 python3 - "$shim" << 'PY' > out 2> err || fail 'a pipe that may not block'
 import os, subprocess, sys, time
@@ -272,52 +258,47 @@ sys.exit(not right or said != b"")
 PY
 cat out
 checks=$((checks + 1))
-(trap '' XFSZ; ulimit -f 100; timeout 60 "$shim" ref copy.shim --input many > out 2> err)
-status=$?
-checks=$((checks + 1))
-[ $status = 7 ] || fail "a file that may not grow: status $status, and not 7"
-cmp -s out <(head -c "$(wc -c < out)" whole) || fail 'a file that may not grow: another text'
+(trap '' XFSZ; ulimit -f 100; call ref copy.shim --input many > out)
+right 'a file that may not grow' $? 7 <(head -c "$(wc -c < out)" whole)
 echo "$checks answers as they should be"
 
 # Files that are changed or cut while they are read: each answer is that of some bytes. The first is written in place, so
 # it always has one text or the other, or a part of each.
+while_changed() { # WHAT FILE FUNCTION, which says what an answer is
+  local what=$1 file=$2 function=$3 now seen=
+  for _ in $(seq "$times"); do
+    call run "$file" > out
+    now=$($function "$? $(tr '\n' ' ' < out)")
+    if [ -z "$now" ] || [ -s err ]; then fail "$what"; fi
+    seen="$seen$now"$'\n'
+  done
+  kill "${others[@]}"
+  wait "${others[@]}" 2> /dev/null
+  others=()
+  echo "$what:" $(printf '%s' "$seen" | sort | uniq -c)
+}
+
+of_written() {
+  case $1 in
+  '0 output 1 01 end done 2 ') echo first ;;
+  '0 output 1 02 end done 2 ') echo second ;;
+  esac
+}
+
+of_cut() {
+  case $1 in
+  '0 output 0 end done 1 ') echo whole ;;
+  '5 refused 1 no main ' | '5 refused 1 unexpected '* | '5 refused 1 bad byte '*) echo part ;;
+  '6 file too long cut 1048576 ') echo longer ;;
+  esac
+}
+
 one='void main(ostream &o) { put o, 1; }'
 two='void main(ostream &o) { put o, 2; }'
 printf '%s' "$one" > changed
 (while :; do printf '%s' "$two" 1<> changed; printf '%s' "$one" 1<> changed; done) &
 others+=($!)
-seen=''
-for _ in $(seq "$times"); do
-  timeout 60 "$shim" run changed > out 2> err
-  status=$?
-  case "$status $(tr '\n' ' ' < out)" in
-  '0 output 1 01 end done 2 ') now=first ;;
-  '0 output 1 02 end done 2 ') now=second ;;
-  *) fail "a file that is written again and again: status $status" ;;
-  esac
-  [ ! -s err ] || fail 'a file that is written again and again: something on standard error'
-  seen="$seen$now"$'\n'
-done
-kill "${others[@]}"
-wait "${others[@]}" 2> /dev/null
-others=()
-echo "a file that is written again and again:" $(printf '%s' "$seen" | sort | uniq -c)
+while_changed 'a file that is written again and again' changed of_written
 (while :; do cp more.shim cut; truncate -s 1000000 cut; truncate -s 17 cut; truncate -s 3 cut; truncate -s 2000000 cut; done) &
 others+=($!)
-seen=''
-for _ in $(seq "$times"); do
-  timeout 60 "$shim" run cut > out 2> err
-  status=$?
-  case "$status $(tr '\n' ' ' < out)" in
-  '0 output 0 end done 1 ') now=whole ;;
-  '5 refused 1 no main ' | '5 refused 1 unexpected '* | '5 refused 1 bad byte '*) now=part ;;
-  '6 file too long cut 1048576 ') now=longer ;;
-  *) fail "a file that is cut again and again: status $status" ;;
-  esac
-  [ ! -s err ] || fail 'a file that is cut again and again: something on standard error'
-  seen="$seen$now"$'\n'
-done
-kill "${others[@]}"
-wait "${others[@]}" 2> /dev/null
-others=()
-echo "a file that is cut and grows again and again:" $(printf '%s' "$seen" | sort | uniq -c)
+while_changed 'a file that is cut and grows again and again' cut of_cut

@@ -4,7 +4,7 @@
 `first_fault` gives the line that refuses a text of either version, or None for a text that is a program, whose names
 nobody looked at.
 As a command it prints a case of crates/shim_conformance for each beginning of a source whose last byte ends its `main`.
-Use: python3 bench/grammar.py TITLE SOURCE > crates/shim_conformance/data/prefixes.cases
+Use: bench/robust/grammar.py TITLE SOURCE > crates/shim_conformance/data/prefixes.cases
 """
 import re
 import sys
@@ -336,7 +336,7 @@ def main():
     title, path = sys.argv[1:]
     with open(path, "rb") as file:
         source = file.read().rstrip()
-    print("# Each beginning of a source that lacks its last byte or more, as bench/grammar.py makes and answers them.")
+    print("# Each beginning of a source that lacks its last byte or more, as bench/robust/grammar.py makes and answers them.")
     for length in range(len(source)):
         prefix = source[:length].decode()
         if length:

@@ -9,8 +9,8 @@ All that with a limit of time and of memory, and
 
 - each call ends by itself with a status from 0 to 9, its text is of the form that docs/FORMATS.md has for that status and
   mode, and nothing comes on standard error;
-- where the text is refused, the line is that of bench/grammar.py, or one of a text that is a program, the same in every
-  mode; `check` counts the functions as bench/grammar.py does, and `up` writes the text of bench/canonical.py;
+- where the text is refused, the line is that of bench/robust/grammar.py, or one of a text that is a program, the same in every
+  mode; `check` counts the functions as bench/robust/grammar.py does, and `up` writes the text of bench/robust/canonical.py;
 - `run` and `ref` have the same status, and the same text but where the budget stopped them; then the counts add up to it;
 - `why` writes what `ref` does, and where that is blocked behind it one reason for each wait, in its order, with the channel at
   which the process waits for which it waits; the cycle follows the reasons, from its least path on;
@@ -19,29 +19,23 @@ All that with a limit of time and of memory, and
   reader of journals in this script says so.
 
 The same numbers make the same texts and words. Prints how many calls had each status, the longest time and the most
-memory. Keeps what differs in the folder `found`, says its words, and ends with 1.
-Use: make shim && python3 bench/fuzz.py [--texts N] [--first N] [--seed S] [--processes P] [--show NUMBER]
+memory, which is no less than that of this script. Keeps what differs in the folder `found`, says its words, and ends with 1.
+Use: make shim && bench/robust/fuzz.py [--texts N] [--first N] [--seed S] [--processes P] [--show NUMBER]
 """
 import argparse
 import collections
-import glob
 import multiprocessing
 import os
 import random
 import re
-import resource
-import shutil
-import signal
 import sys
 import tempfile
 import time
 
 import canonical
+import common
 import grammar
-import made
 
-TOP = os.path.dirname(os.path.dirname(os.path.abspath(__file__)))
-SHIM = os.path.join(TOP, "shim")
 SECONDS = 20
 MEMORY = 4 << 30
 MIB = 1 << 20
@@ -64,40 +58,14 @@ PIECES = [
 TOKEN = re.compile(rb"[A-Za-z_0-9]+|<<|>>|<=|>=|==|!=|&&|\|\||/\*.*?\*/|//[^\n]*|\s+|.", re.DOTALL)
 
 
-def case_files(path):
-    """The bytes of each file that the cases of a file have, and the status of the case."""
-    files, part, form = [], None, None
-    with open(path, encoding="utf-8", newline="\n") as lines:
-        for line in lines:
-            word, _, rest = line[4:].rstrip("\n").partition(" ")
-            if not line.startswith("=== "):
-                if part is not None:
-                    part.append(line)
-                continue
-            if word == "repeat" and part is not None:
-                count, _, text = rest.partition(" ")
-                part.append(text * int(count) + "\n")
-                continue
-            if part is not None and form == "hex":
-                files.append(bytes.fromhex("".join("".join(part).split())))
-            elif part is not None:
-                files.append("".join(part).encode())
-            form, part = word, [] if word in ("file", "bare", "hex") else None
-            if word == "status":
-                for file in files:
-                    yield file, int(rest)
-                files = []
-
-
 def known_texts():
     """The texts that run, and those that are refused."""
     running, refused = set(), set()
-    for path in glob.glob(os.path.join(TOP, "crates/shim_conformance/data/*.cases")):
+    for path in common.case_files():
         if os.path.basename(path) != "prefixes.cases":
-            for text, status in case_files(path):
-                if 8 < len(text) < 20000:
-                    (running if status in (0, 1, 3, 4) else refused).add(text)
-    for path in glob.glob(os.path.join(TOP, "examples/*.shim")):
+            for case in common.cases(path):
+                (running if case.status in (0, 1, 3, 4) else refused).update(text for text in case.files.values() if 8 < len(text) < 20000)
+    for path, *_ in common.examples():
         with open(path, "rb") as file:
             running.add(file.read())
     return sorted(running), sorted(refused)
@@ -113,7 +81,7 @@ class Changer:
     def base(self):
         kind = self.dice.random()
         if kind < 0.45:
-            return made.Maker(self.dice.randrange(1 << 30)).program().encode()
+            return common.made.Maker(self.dice.randrange(1 << 30)).program().encode()
         running, refused = self.texts
         return self.dice.choice(running if kind < 0.9 else refused)
 
@@ -398,48 +366,6 @@ class Job:
         return b"\n".join(lines)
 
 
-Answer = collections.namedtuple("Answer", "words status text error seconds memory")
-
-
-class Late(Exception):
-    pass
-
-
-def late(_number, _frame):
-    raise Late
-
-
-def limits():
-    resource.setrlimit(resource.RLIMIT_AS, (MEMORY, MEMORY))
-    resource.setrlimit(resource.RLIMIT_CORE, (0, 0))
-
-
-def ask(words):
-    """Calls ./shim in this folder. The status is negative where a signal or the time ended it."""
-    begin = time.monotonic()
-    child = os.fork()
-    if child == 0:
-        try:
-            os.dup2(os.open("out", os.O_WRONLY | os.O_CREAT | os.O_TRUNC, 0o600), 1)
-            os.dup2(os.open("err", os.O_WRONLY | os.O_CREAT | os.O_TRUNC, 0o600), 2)
-            signal.setitimer(signal.ITIMER_REAL, 0)
-            limits()
-            os.execv(SHIM, ["shim"] + words)
-        finally:
-            os._exit(99)
-    signal.setitimer(signal.ITIMER_REAL, SECONDS)
-    try:
-        _, how, usage = os.wait4(child, 0)
-    except Late:
-        os.kill(child, signal.SIGKILL)
-        _, how, usage = os.wait4(child, 0)
-    finally:
-        signal.setitimer(signal.ITIMER_REAL, 0)
-    seconds = time.monotonic() - begin
-    with open("out", "rb") as out, open("err", "rb") as err:
-        return Answer(words, os.waitstatus_to_exitcode(how), out.read(), err.read(), seconds, usage.ru_maxrss)
-
-
 PATH = r"main(?:/\d+\.\d+)*"
 NAME = r"[A-Za-z_][A-Za-z0-9_]{0,63}"
 REPORT = re.compile(
@@ -617,7 +543,7 @@ def wrong(job, answers):
         if answer.words[0] == "check" and answer.status == 0 and text != "accepted %d\n" % parser.functions:
             return "another count than %d" % parser.functions, answer
         if answer.words[0] == "up" and answer.status == 0 and text != canonical.up(job.text):
-            return "another text than that of bench/canonical.py", answer
+            return "another text than that of bench/robust/canonical.py", answer
         if (answer.status == 5) != (full[0].status == 5) or answer.status == 5 and text != full[0].text.decode():
             return "another answer than that of " + full[0].words[0], answer
     runs = [answer for answer in full if answer.words[0] in ("run", "ref", "why")]
@@ -643,23 +569,18 @@ def wrong(job, answers):
 
 def do(number):
     job = Job(do.seed, number, do.texts)
-    for name, content in (("p", job.text), ("i", job.input)):
-        with open(name, "wb") as file:
-            file.write(content)
+    for name, text in (("p", job.text), ("i", job.input), ("j", b""), ("k", b"")):
+        common.write(name, text)
     job.other, answers = b"", []
-    for name in ("j", "k"):
-        with open(name, "wb"):
-            pass
     for words in job.calls:
-        answers.append(ask(words))
+        answers.append(common.ask(*words, before=("prlimit", "--as=%d" % MEMORY, "--core=0"), seconds=SECONDS))
         if words[0] == "trace" and answers[-1].status in (0, 1, 3, 4):
             job.other = job.changed(answers[-1].text)
-            for name, content in (("j", answers[-1].text), ("k", job.other)):
-                with open(name, "wb") as file:
-                    file.write(content)
+            common.write("j", answers[-1].text)
+            common.write("k", job.other)
     found = wrong(job, answers)
-    seen = [(answer.words[0], answer.status, answer.seconds, answer.memory) for answer in answers]
-    return number, len(job.text), seen, (found and (found[0], found[1].words, found[1].status, found[1].text[:300], found[1].error[:300]))
+    seen = [(answer.words[0], answer.status, answer.seconds, answer.kib) for answer in answers]
+    return number, len(job.text), seen, found and (found[0], found[1])
 
 
 def settle(seed, texts, room):
@@ -667,7 +588,6 @@ def settle(seed, texts, room):
     do.seed, do.texts = seed, texts
     os.chdir(tempfile.mkdtemp(dir=room))
     sys.setrecursionlimit(20000)
-    signal.signal(signal.SIGALRM, late)
 
 
 def main():
@@ -684,27 +604,23 @@ def main():
         sys.stdout.buffer.write(job.text)
         print(*job.calls, sep="\n", file=sys.stderr)
         return 0
-    room = tempfile.mkdtemp()
     counts, ends, lengths = collections.Counter(), collections.Counter(), 0
-    longest, most, differing = {}, {}, 0
+    longest, most, differing = collections.Counter(), collections.Counter(), 0
     begin = time.monotonic()
-    with multiprocessing.Pool(given.processes, settle, (given.seed, texts, room)) as pool:
+    with multiprocessing.Pool(given.processes, settle, (given.seed, texts, os.getcwd())) as pool:
         for number, length, seen, found in pool.imap_unordered(do, range(given.first, given.first + given.texts), 8):
             lengths += length
-            for mode, status, seconds, memory in seen:
+            for mode, status, seconds, kib in seen:
                 counts[mode, status] += 1
-                longest[mode] = max(longest.get(mode, (0, 0)), (seconds, number))
-                most[mode] = max(most.get(mode, (0, 0)), (memory, number))
-            statuses = dict((mode, status) for mode, status, _, _ in seen)
-            ends[statuses["ref"]] += 1
+                longest[mode], most[mode] = max(longest[mode] or (0, 0), (seconds, number)), max(most[mode] or (0, 0), (kib, number))
+            ends[next(status for mode, status, _, _ in seen if mode == "ref")] += 1
             if found:
                 differing += 1
-                why, call, status, text, error = found
-                print("text %d: shim %s: status %d: %s\n%r %r" % (number, " ".join(call), status, why, text, error), flush=True)
-                os.makedirs(os.path.join(TOP, "found"), exist_ok=True)
-                with open(os.path.join(TOP, "found", "%d-%d.shim" % (given.seed, number)), "wb") as file:
-                    file.write(Job(given.seed, number, texts).text)
-    shutil.rmtree(room)
+                why, answer = found
+                print("text %d: shim %s: status %d: %s\n%r %r" % (
+                    number, " ".join(answer.words), answer.status, why, answer.text[:300], answer.error[:300]), flush=True)
+                os.makedirs(os.path.join(common.TOP, "found"), exist_ok=True)
+                common.write(os.path.join(common.TOP, "found", "%d-%d.shim" % (given.seed, number)), Job(given.seed, number, texts).text)
     calls = sum(counts.values())
     print("%d texts of seed %d from number %d, %d bytes on the average; %d calls in %.0f s"
           % (given.texts, given.seed, given.first, lengths / max(1, given.texts), calls, time.monotonic() - begin))
@@ -718,4 +634,4 @@ def main():
 
 
 if __name__ == "__main__":
-    sys.exit(main())
+    common.in_a_room(main)

@@ -1,8 +1,8 @@
 #!/usr/bin/env python3
 """The canonical text of a program, by the rules of docs/FORMATS.md, in Python and with nothing of ./shim.
 
-`canonical` gives it of a text that bench/grammar.py takes, and `up` that of the program in version 2.
-As a command it prints the one of a source in version 2. Use: python3 bench/canonical.py SOURCE
+`canonical` gives it of a text that bench/robust/grammar.py takes, and `up` that of the program in version 2.
+As a command it prints the one of a source in version 2. Use: bench/robust/canonical.py SOURCE
 """
 import sys
 
