@@ -1,16 +1,17 @@
 # Use: `make shim` proves what the program stands on, as many crates at once as there are processors or as JOBS
 # says, and leaves ./shim, a binary of its own;
 # `make try FILE=PATH` runs a file without any proof, by the kit's trial run, and `MODE=code` takes another
-# mode; `make check` is the merge gate; `make install PREFIX=/usr/local` puts ./shim, pages, completions, editors'
-# files and tools below PREFIX, and `make uninstall` takes them away again, both below DESTDIR where that is given;
-# `make dist` packs the same into a tarball; `make pictures` draws those of docs/ anew; `make tools` runs the
-# scripts of tools/tests over ./shim.
+# mode; `make test CASE=TEXT` runs the cases of the tool whose title has that text over ./shim, all of them where
+# no text is given; `make gate` is the merge gate; `make tools` runs the scripts of tools/tests over ./shim;
+# `make install PREFIX=/usr/local` puts ./shim, pages, completions, editors' files and tools below PREFIX, and
+# `make uninstall` takes them away again, both below DESTDIR where that is given; `make dist` packs the same into a
+# tarball; `make pictures` draws those of docs/ anew; `make clean` removes what all these left in this folder.
 PREFIX ?= /usr/local
 JOBS ?= $(shell nproc)
 MODE = run
 RELEASE = 0.1
 
-.PHONY: shim try check built version install uninstall dist pictures tools
+.PHONY: shim try test gate built version install uninstall dist pictures tools clean
 
 # What the first command proves is kept, so the second one compiles, links and runs. The last line keeps of what
 # the binary was made, for VERSION.
@@ -26,7 +27,11 @@ try:
 	@echo 'UNPROVED: a trial run of the code as it stands, in which nothing is proved. It takes a minute or two of processor time.' >&2
 	@file=$$(realpath -- "$$TRIED") && cd crates/shim_main && rt try --data "source.shim=$$file" -- $(MODE) source.shim
 
-check:
+test: export WANTED := $(value CASE)
+test: built
+	@bench/robust/cases.py "$$WANTED"
+
+gate:
 	.ci/run
 
 # Installing builds nothing, so that it may be done by another user than the one who has the kit.
@@ -85,3 +90,8 @@ pictures: built
 
 tools: built
 	tools/tests/all
+
+# The proofs, too: the next `make shim` proves anew what the kit doesn't keep elsewhere.
+clean:
+	rm -rf shim shim.new out found crates/*/out
+	find bench tools -name __pycache__ -prune -exec rm -r {} +
