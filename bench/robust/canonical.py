@@ -116,11 +116,15 @@ class Printer:
             self.take()
             return text + ", " + self.expression() + self.end()
         if kind == "throw":
-            return "throw " + self.name() + self.end()
+            text = "throw " + self.name()
+            if self.takes("("):
+                text += "( " + self.expression() + ") "
+                self.take()
+            return text + self.end()
         if kind == "try":
             text = "try " + self.block()
             self.take(), self.take()
-            text += "catch ( " + self.name() + ") "
+            text += "catch ( " + self.name() + ("" if self.kind == ")" else self.name()) + ") "
             self.take()
             return text + self.block()
         if kind == "for":

@@ -15,8 +15,8 @@ All that with a limit of time and of memory, and
 - `why` writes what `ref` does, and where that is blocked behind it one reason for each wait, in its order, with the channel at
   which the process waits for which it waits; the cycle follows the reasons, from its least path on;
 - a journal has the budget of its run, and its steps add up to what it says; its replay has the status of its run and, but where
-  the budget stopped that, its text. A changed journal is malformed just at the line at which a
-  reader of journals in this script says so.
+  the budget stopped that, its text. A changed journal is malformed just at the line at which the
+  reader of tools/shimtools says so.
 
 The same numbers make the same texts and words. Prints how many calls had each status, the longest time and the most
 memory, which is no less than that of this script. Keeps what differs in the folder `found`, says its words, and ends with 1.
@@ -36,6 +36,9 @@ import canonical
 import common
 import grammar
 
+sys.path.insert(0, os.path.join(common.TOP, "tools"))
+from shimtools import journals  # noqa: E402
+
 SECONDS = 20
 MEMORY = 4 << 30
 MIB = 1 << 20
@@ -54,6 +57,7 @@ PIECES = [
     "for (int q = 0; q < 3; q = q + 1) ;", "{ next a; } par { next a; }", "{ throw T; } par { next a; }", "main();", "f(1);",
     "if (a) { } else { }", "a = a << 63;", "a = 9223372036854775807 + a;", "put o, a;", "a = next a;", "next a = a + 1;", "int a;",
     "{ a = 1; } par { { a = 2; } }", "try { { next a; throw T; } par { while (1) next a; } } catch (T) { }", ";", "{ }",
+    "throw T(a);", "try { throw T(a * 3); } catch (T x) { a = x; }", "try { { throw T(1); } par { throw T(2); } } catch (T x) { next x; }",
 ]
 TOKEN = re.compile(rb"[A-Za-z_0-9]+|<<|>>|<=|>=|==|!=|&&|\|\||/\*.*?\*/|//[^\n]*|\s+|.", re.DOTALL)
 
@@ -69,6 +73,14 @@ def known_texts():
         with open(path, "rb") as file:
             running.add(file.read())
     return sorted(running), sorted(refused)
+
+
+def is_number(token):
+    return token[:1].isdigit()
+
+
+def is_name(token):
+    return token[:1].isalpha() and token.decode() not in grammar.KEYWORDS
 
 
 class Changer:
@@ -107,6 +119,14 @@ class Changer:
     def at_token(self, tokens, fits=lambda token: not token.isspace()):
         places = [at for at, token in enumerate(tokens) if fits(token)]
         return self.dice.choice(places) if places else None
+
+    def other(self, text, make, *fits):
+        """Makes another token of one that fits."""
+        tokens = self.tokens(text)
+        at = self.at_token(tokens, *fits)
+        if at is not None:
+            tokens[at] = make(tokens[at])
+        return b"".join(tokens)
 
     # Rough changes.
     def flip(self, text):
@@ -148,28 +168,16 @@ class Changer:
         return b"".join(tokens)
 
     def delete_token(self, text):
-        tokens = self.tokens(text)
-        at = self.at_token(tokens)
-        if at is not None:
-            del tokens[at]
-        return b"".join(tokens)
+        return self.other(text, lambda token: b"")
 
     def double_token(self, text):
-        tokens = self.tokens(text)
-        at = self.at_token(tokens)
-        if at is not None:
-            tokens[at] = (tokens[at] + b" ") * self.dice.choice([2, 2, 3, 66, 260])
-        return b"".join(tokens)
+        return self.other(text, lambda token: (token + b" ") * self.dice.choice([2, 2, 3, 66, 260]))
 
     def other_token(self, text):
-        tokens = self.tokens(text)
-        at = self.at_token(tokens)
-        if at is not None:
-            tokens[at] = b" " + self.dice.choice(WORDS).encode() + b" "
-        return b"".join(tokens)
+        return self.other(text, lambda token: b" " + self.dice.choice(WORDS).encode() + b" ")
 
     def long_name(self, text):
-        return self.at_name(text, b"n" * self.dice.choice([63, 64, 65, 300]))
+        return self.other(text, lambda token: b"n" * self.dice.choice([63, 64, 65, 300]), is_name)
 
     def many_functions(self, text):
         count = self.dice.choice([3, 1022, 1023, 1024, 1025])
@@ -177,51 +185,29 @@ class Changer:
 
     # Gentle ones.
     def number(self, text):
-        tokens = self.tokens(text)
-        at = self.at_token(tokens, lambda token: token[:1].isdigit())
-        if at is not None:
-            tokens[at] = self.dice.choice(NUMBERS[:24]).encode()
-        return b"".join(tokens)
+        return self.other(text, lambda token: self.dice.choice(NUMBERS[:24]).encode(), is_number)
 
     def any_number(self, text):
-        tokens = self.tokens(text)
-        at = self.at_token(tokens, lambda token: token[:1].isdigit())
-        if at is not None:
-            tokens[at] = self.dice.choice(NUMBERS).encode()
-        return b"".join(tokens)
-
-    def at_name(self, text, name):
-        tokens = self.tokens(text)
-        at = self.at_token(tokens, lambda token: token[:1].isalpha() and token.decode() not in grammar.KEYWORDS)
-        if at is not None:
-            tokens[at] = name
-        return b"".join(tokens)
+        return self.other(text, lambda token: self.dice.choice(NUMBERS).encode(), is_number)
 
     def name(self, text):
-        names = [token for token in self.tokens(text) if token[:1].isalpha() and token.decode() not in grammar.KEYWORDS]
-        return self.at_name(text, self.dice.choice(names)) if names else text
+        names = list(filter(is_name, self.tokens(text)))
+        return self.other(text, lambda token: self.dice.choice(names), is_name)
 
     def rename_all(self, text):
-        names = sorted({token for token in self.tokens(text) if token[:1].isalpha() and token.decode() not in grammar.KEYWORDS})
+        names = sorted(set(filter(is_name, self.tokens(text))))
         if not names:
             return text
         old, new = self.dice.choice(names), self.dice.choice(names)
         return b"".join(new if token == old else token for token in self.tokens(text))
 
     def operator(self, text):
-        tokens = self.tokens(text)
-        at = self.at_token(tokens, lambda token: token.decode("latin-1") in grammar.TIGHTNESS)
-        if at is not None:
-            tokens[at] = self.dice.choice(list(grammar.TIGHTNESS)).encode()
-        return b"".join(tokens)
+        signs = [sign.encode() for sign in grammar.TIGHTNESS]
+        return self.other(text, lambda token: self.dice.choice(signs), signs.__contains__)
 
     def type(self, text):
-        tokens = self.tokens(text)
-        types = grammar.TYPES if text.startswith(b"shim") else grammar.OLD_TYPES
-        at = self.at_token(tokens, lambda token: token.decode("latin-1") in types)
-        if at is not None:
-            tokens[at] = self.dice.choice(sorted(types)).encode()
-        return b"".join(tokens)
+        types = sorted(name.encode() for name in (grammar.TYPES if text.startswith(b"shim") else grammar.OLD_TYPES))
+        return self.other(text, lambda token: self.dice.choice(types), types.__contains__)
 
     def version(self, text):
         """A text of version 1 becomes one of version 2, or the other way round."""
@@ -283,12 +269,8 @@ class Changer:
         """Puts a statement deeper, or an operand."""
         count = self.dice.choice([1, 2, 5, 30, 57, 62, 63, 64, 65, 300])
         if self.dice.random() < 0.3:
-            tokens = self.tokens(text)
-            at = self.at_token(tokens, lambda token: token[:1].isdigit())
-            if at is not None:
-                before, behind = self.dice.choice([(b"(", b")"), (b"-", b""), (b"!", b""), (b"~(", b")"), (b"1+(", b")"), (b"(", b"+1)")])
-                tokens[at] = before * count + tokens[at] + behind * count
-            return b"".join(tokens)
+            before, behind = self.dice.choice([(b"(", b")"), (b"-", b""), (b"!", b""), (b"~(", b")"), (b"1+(", b")"), (b"(", b"+1)")])
+            return self.other(text, lambda token: before * count + token + behind * count, is_number)
         places = [at for at, _ in self.beginnings(text) if re.match(rb"[^;{}()]+;", text[at:])]
         if not places:
             return text
@@ -302,11 +284,8 @@ class Changer:
         return text[:at] + b" " + before * count + text[at:past] + behind * count + text[past:]
 
     def spacing(self, text):
-        tokens = self.tokens(text)
-        at = self.at_token(tokens)
-        if at is not None:
-            tokens[at] = self.dice.choice([b" ", b"\n", b"\r\n", b"\t", b"\x0b\x0c", b"/* \xff\x00 */", b"// \xc3\n", b"/**/"]) + tokens[at]
-        return b"".join(tokens)
+        spaces = [b" ", b"\n", b"\r\n", b"\t", b"\x0b\x0c", b"/* \xff\x00 */", b"// \xc3\n", b"/**/"]
+        return self.other(text, lambda token: self.dice.choice(spaces) + token)
 
     ROUGH = [flip, put_bytes, cut, cut_head, delete_span, double_span, splice, swap_tokens, delete_token, double_token, other_token,
              long_name, many_functions, any_number, name, nest, statements]
@@ -325,11 +304,9 @@ class Job:
         self.budget = dice.choice([1, 7, 50, 300, 2000, 2000, 10000, 10000])
         fed = ["--input", "i", "--budget", str(self.budget)]
         self.calls = [["check", "p"], ["code", "p"], ["up", "p"], ["ref", "p"] + fed, ["why", "p"] + fed]
-        for _ in range(2):
+        for mode in ("run", "run", "trace"):
             workers, quantum = dice.choice([1, 2, 3, 4, 16]), dice.choice([1, 2, 7, 64, 10000])
-            self.calls.append(["run", "p"] + fed + ["--workers", str(workers), "--quantum", str(quantum)])
-        workers, quantum = dice.choice([1, 2, 3, 4, 16]), dice.choice([1, 2, 7, 64, 10000])
-        self.calls.append(["trace", "p"] + fed + ["--workers", str(workers), "--quantum", str(quantum)])
+            self.calls.append([mode, "p", *fed, "--workers", str(workers), "--quantum", str(quantum), *dice.choice([[], ["--steal"]])])
         self.calls.append(["replay", "p", "--input", "i", "--journal", "j"])
         self.calls.append(["replay", "p", "--input", "i", "--journal", "k"])
         self.dice = dice
@@ -408,51 +385,12 @@ def wrong_reasons(waits, reasons):
     return None
 
 
-PLACE = re.compile(rb"main((?:/(?:0|[1-9]\d*)\.(?:0|[1-9]\d*))*)(?:#(0|[1-9]\d*))?")
-ENTRY = re.compile(rb"(?:quiet (\S+) ([1-9]\d*)|(own|end|close) (\S+)|meet (\S+)|poison (\S+) (\S+))")
-
-
-def is_place(text, is_channel):
-    """Whether this is a path, or a channel."""
-    found = PLACE.fullmatch(text)
-    if not found or (found[2] is not None) != is_channel:
-        return False
-    return all(len(number) <= 10 and int(number) < 1 << 32 for number in re.findall(rb"\d+", text))
-
-
-def steps_of(line):
-    """How many steps the line of an entry has, or None where it is none."""
-    found = ENTRY.fullmatch(line)
-    if not found:
-        return None
-    if found[1] is not None:
-        return int(found[2]) if len(found[2]) < 8 and int(found[2]) <= 4000000 and is_place(found[1], False) else None
-    if found[3]:
-        return 1 if is_place(found[4], False) else None
-    if found[5]:
-        return 1 if is_place(found[5], True) else None
-    return 1 if is_place(found[6], False) and is_place(found[7], True) else None
-
-
 def malformed(journal):
     """The first line that no journal has behind the lines before it, or None."""
-    lines = journal.split(b"\n")
-    tail, steps = lines.pop(), 0
-    for number, line in enumerate(lines, 1):
-        if number == 1:
-            found = re.fullmatch(rb"journal ([1-9]\d{0,6})", line)
-            if not found or int(found[1]) > 4000000:
-                return 1
-        elif line.startswith(b"stop "):
-            if line != b"stop %d" % steps:
-                return number
-            return None if number == len(lines) and tail == b"" else number + 1
-        else:
-            more = steps_of(line)
-            if more is None:
-                return number
-            steps += more
-    return len(lines) + 1
+    try:
+        journals.read(journal)
+    except journals.Refused as refused:
+        return refused.line
 
 
 def wrong_journal(text, status, budget):
@@ -561,7 +499,7 @@ def wrong(job, answers):
             return "another text than that of " + runs[0].words[0], replay
         line = malformed(job.other)
         if changed.status != 8 and (line is not None) != changed.text.endswith(b" malformed\n") or line and changed.status != 8 and changed.text != b"journal %d malformed\n" % line:
-            return "another line than that of this script, %s" % line, changed
+            return "another line than that of tools/shimtools, %s" % line, changed
         if changed.status in (0, 1, 3) and changed.text != runs[0].text and runs[0].status != 4:
             return "another text than that of " + runs[0].words[0], changed
     return None

@@ -30,7 +30,7 @@ class Fault(Exception):
 
 
 class Parser:
-    """Reads a text token by token. A statement's reader gives the deepest level of what it read."""
+    """Reads a text token by token. `deepest` is the deepest level of what was read in the block that `body` reads."""
 
     def __init__(self, text):
         self.text = text
@@ -39,6 +39,7 @@ class Parser:
         self.locals = 0
         self.operators = 0
         self.functions = 0
+        self.deepest = 0
         self.take_token()
 
     def refuse(self, what, at=None):
@@ -88,6 +89,7 @@ class Parser:
     def below(self, level):
         if level > DEEPEST:
             self.refuse("too deep")
+        self.deepest = max(self.deepest, level)
 
     def at_most(self, most, count, what):
         if count > most:
@@ -145,161 +147,158 @@ class Parser:
 
     def block(self, level):
         """The statements in braces, which have that level."""
-        deepest = 0
         self.take("{")
         while self.kind != "}":
-            deepest = max(deepest, self.statement(level))
+            self.statement(level)
         self.take("}")
-        return deepest
 
     def statement(self, level):
         kind = self.kind
         if kind not in TYPES | set("; name next put if while for try throw {".split()):
             self.unexpected()
         self.below(level)
-        deepest = level
         if kind == "{":
-            deepest = max(level, self.block(level + 1))
-            if self.kind == "par":
-                deepest = max(deepest, self.branches(level))
-            return deepest
+            self.block(level + 1)
+            self.branches(level)
+            return
         self.take_token()
         if kind in TYPES:
-            deepest = max(deepest, self.declared(level))
+            self.declared(level)
             while self.takes(","):
-                deepest = max(deepest, self.declared(level))
+                self.declared(level)
             self.take(";")
         elif kind == "name":
             if self.kind == "(":
-                deepest = max(deepest, self.arguments(level))
+                self.arguments(level)
                 self.take(";")
-                if self.kind == "par":
-                    deepest = max(deepest, self.branches(level))
+                self.branches(level)
+                return
+            self.take("=")
+            if self.kind in ("next", "get"):
+                self.take_token()
+                self.take("name")
             else:
-                self.take("=")
-                if self.kind in ("next", "get"):
-                    self.take_token()
-                    self.take("name")
-                else:
-                    deepest = max(deepest, self.expression(level))
-                self.take(";")
+                self.expression(level)
+            self.take(";")
         elif kind == "next":
             self.take("name")
             if self.takes("="):
-                deepest = max(deepest, self.expression(level))
+                self.expression(level)
             self.take(";")
         elif kind == "put":
             self.take("name")
             self.take(",")
-            deepest = max(deepest, self.expression(level))
+            self.expression(level)
             self.take(";")
         elif kind in ("if", "while"):
             self.take("(")
-            deepest = max(deepest, self.expression(level))
+            self.expression(level)
             self.take(")")
-            deepest = max(deepest, self.body(level + 1))
+            self.body(level + 1)
             if kind == "if" and self.takes("else"):
-                deepest = max(deepest, self.body(level + 1))
+                self.body(level + 1)
         elif kind == "for":
-            deepest = max(deepest, self.heading(level))
-            deepest = max(deepest, self.body(level + 1))
+            self.heading(level)
+            self.body(level + 1)
         elif kind == "try":
-            deepest = max(deepest, self.block(level + 1))
-            self.take("catch")
-            self.take("(")
-            self.take("name")
+            self.block(level + 1)
+            for part in ("catch", "(", "name"):
+                self.take(part)
+            if self.version == 2 and self.kind == "name":
+                self.declared_name()
             self.take(")")
-            deepest = max(deepest, self.block(level + 1))
+            self.block(level + 1)
         elif kind == "throw":
             self.take("name")
+            if self.version == 2 and self.takes("("):
+                self.expression(level)
+                self.take(")")
             self.take(";")
-        return deepest
 
     def body(self, level):
         """A body of that level: braces are no statement of their own, unless they turn out to be a branch."""
         if self.kind != "{":
-            return self.statement(level)
-        deepest = self.block(level)
+            self.statement(level)
+            return
+        around, self.deepest = self.deepest, 0
+        self.block(level)
         if self.kind == "par":
-            deepest = max(deepest + 1 if deepest else 0, level)
-            self.below(deepest)
-            deepest = max(deepest, self.branches(level))
-        return deepest
+            self.below(max(self.deepest + 1 if self.deepest else 0, level))
+            self.branches(level)
+        self.deepest = max(self.deepest, around)
 
     def branches(self, level):
-        """What stands behind the first branch of a fork of that level."""
-        deepest, count = level, 1
+        """What stands behind the first branch of a fork of that level, if it is one."""
+        count = 1
         while self.takes("par"):
             if self.kind not in ("{", "name"):
                 self.unexpected()
             count += 1
             self.at_most(64, count, "branches")
             if self.kind == "{":
-                deepest = max(deepest, self.block(level + 1))
+                self.block(level + 1)
             else:
                 self.take_token()
-                deepest = max(deepest, self.arguments(level))
+                self.arguments(level)
                 self.take(";")
-        return deepest
 
     def arguments(self, level):
-        deepest = level
         self.take("(")
         if self.kind != ")":
-            deepest = max(deepest, self.expression(level))
+            self.expression(level)
             count = 1
             while self.takes(","):
                 count += 1
-                deepest = max(deepest, self.expression(level, count))
+                self.expression(level, count)
         self.take(")")
-        return deepest
 
-    def declared(self, level):
+    def declared_name(self):
         if self.kind != "name":
             self.unexpected()
         self.locals += 1
         self.at_most(64, self.locals, "locals")
         self.take_token()
-        return self.expression(level) if self.takes("=") else level
+
+    def declared(self, level):
+        self.declared_name()
+        if self.takes("="):
+            self.expression(level)
 
     def heading(self, level):
         """The parentheses of a `for` of that level."""
-        deepest = level
         self.take("(")
         if self.kind in TYPES:
             self.below(level + 1)
             self.take_token()
-            deepest = max(deepest, self.declared(level + 1))
+            self.declared(level + 1)
         elif self.kind == "name":
-            deepest = max(deepest, self.assigned(level + 1))
+            self.assigned(level + 1)
         self.take(";")
         if self.kind != ";":
-            deepest = max(deepest, self.expression(level))
+            self.expression(level)
         self.take(";")
         if self.kind != ")":
             if self.kind != "name":
                 self.unexpected()
-            deepest = max(deepest, self.assigned(level + 1))
+            self.assigned(level + 1)
         self.take(")")
-        return deepest
 
     def assigned(self, level):
         self.below(level)
         self.take("name")
         self.take("=")
-        return self.expression(level)
+        self.expression(level)
 
     def expression(self, level, argument=1):
         self.operators = 0
-        return self.operands(level, argument)
+        self.operands(level, argument)
 
     def operands(self, level, argument=1):
         """Operands with operators between them: how tight these bind doesn't matter for what is a fault."""
-        deepest = self.operand(level, argument)
+        self.operand(level, argument)
         while self.kind in TIGHTNESS:
             self.operator()
-            deepest = max(deepest, self.operand(level))
-        return deepest
+            self.operand(level)
 
     def operator(self):
         self.operators += 1
@@ -314,13 +313,12 @@ class Parser:
         self.at_most(32, argument, "arguments")
         if kind in ("-", "!", "~"):
             self.operator()
-            return self.operand(level + 1)
+            self.operand(level + 1)
+            return
         self.take_token()
-        if kind != "(":
-            return level
-        deepest = self.operands(level + 1)
-        self.take(")")
-        return deepest
+        if kind == "(":
+            self.operands(level + 1)
+            self.take(")")
 
 
 def first_fault(text):
