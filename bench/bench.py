@@ -137,7 +137,7 @@ class Bench:
     def say(self, what, run, *peers, steps=None, less=None, count=None):
         """Tells of a run, by its peers, which are pairs of a name and a run; `less` is a run whose time is in no step, and
         `count` a command whose instructions count."""
-        line = "  %-34s %.4f s, %.4f of processor time, %.1f MiB" % (what, run.took, run.spent, run.kib / 1024)
+        line = "  %-40s %.4f s, %.4f of processor time, %.1f MiB" % (what, run.took, run.spent, run.kib / 1024)
         if steps:
             line += ", %.1f ns a step" % ((run.took - (less.took if less else 0)) / steps * 1e9)
         for name, peer in peers:
@@ -404,7 +404,7 @@ def workers(bench):
         by = [(count, bench.shim(*words, *MOST, *options)) for count, options in sorted(WORKERS, key=lambda it: it[0] != "1 worker")]
         bench.measure(*(run for _, run in by))
         for count, run in by:
-            bench.say("%s, %s" % (name, count), run, *([] if run is by[0][1] else [("1 worker", by[0][1])]))
+            bench.say("%s, %s, %.2f times as fast as 1" % (name, count, by[0][1].took / run.took), run)
 
 
 @question(rounds=7, pieces=1000000)
@@ -519,9 +519,8 @@ def why(bench):
 
 def slow_programs():
     """Programs that `ref` walks far in, or that hold much: name, text, and the modes that run it."""
-    count = "par { int k; while (k < 10000) { k = k + 1; } next c; }"
     for waits in (32, 64, 128, 480):
-        yield "20,000 steps beside %d that wait" % waits, shapes.waiting(waits, count), ["ref", "run 1"]
+        yield "20,000 steps beside %d that wait" % waits, shapes.beside_waiting(waits), ["ref", "run 1"]
     yield "512 share five rendezvous", shapes.all_waiting(512, 5), ["run 1"]
     yield "1,000 put beside 200,000 statements", "void main(ostream &o) { int a; { %s } par { %s } }\n" % ("put o, 1;" * 1000, "a=1;" * 200000), ["check", "run 1", "run 4"]
     yield "16,000 assignments", "void main() { int a; %s }\n" % ("a = 1;" * 16000), ["ref"]

@@ -128,16 +128,19 @@ def all_waiting(count, times=1):
     return split("leaf", "next c; " * times, ", int c") + "void main() { int c; leaf(%d, c); }\n" % count
 
 
-def waiting(count, rest):
-    """So many wait at a channel, and the rest shares it."""
-    return split("wait", "next c;", ", int c") + "void main() { int c; int d; wait(%d, c); %s }\n" % (count, rest)
+def beside_waiting(count):
+    """So many wait at a channel, 16 in a fork, while one counts 10,000 turns of two steps."""
+    some = " par ".join(["{ next c; }"] * 16)
+    return "void some(int c) { %s }\nvoid main() { int c; %s par { int k; while (k < 10000) { k = k + 1; } next c; } }\n" % (
+        some, " par ".join(["some(c);"] * (count // 16)))
 
 
 TREE = split("leaf", "n = n + 1;") + "void main() { leaf(20000); }\n"
 
 
 def one_channel(count):
-    return waiting(count - 2, "par { next d; next c; } par { next c; next d; }")
+    main = "void main() { int c; int d; wait(%d, c); par { next d; next c; } par { next c; next d; } }\n"
+    return split("wait", "next c;", ", int c") + main % (count - 2)
 
 
 def pairs(count):
