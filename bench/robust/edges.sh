@@ -75,21 +75,11 @@ for mode in run ref; do
   cat p.shim | answer 0 "$puts" $mode /dev/stdin --input /dev/stdin || exit 1
   answer 5 'refused 1 no main' $mode /dev/null
   answer 0 $'output 0\nend done 4' $mode copy.shim --input /dev/null
-  answer 6 'file too long /dev/zero 1048576' $mode /dev/zero
   answer 6 'file too long /dev/full 1048576' $mode /dev/full
-  answer 6 'file too long /dev/zero 16777216' $mode copy.shim --input /dev/zero
   answer 6 'file too long /dev/urandom 16777216' $mode none.shim --input /dev/urandom
-  answer 6 'file failed /proc/self/mem' $mode /proc/self/mem
-  answer 6 'file failed /proc/self/mem' $mode none.shim --input /proc/self/mem
   answer 5 'refused 1 unexpected 0' $mode /proc/self/stat
   setsid -w "$shim" $mode /dev/tty > out 2> err < /dev/null
   same "$mode /dev/tty without a terminal" $? 6 'file failed /dev/tty'
-  for folder in . / /proc ./ "$room"; do
-    answer 6 "file failed $folder" $mode $folder
-    answer 6 "file failed $folder" $mode none.shim --input $folder
-  done
-  answer 6 'file failed p.shim/' $mode p.shim/
-  answer 6 'file failed p.shim/q' $mode p.shim/q
 
   # At the limit, through a pipe too, and a byte more.
   { printf 'void main() { } //'; head -c $((1048576 - 18)) /dev/zero | tr '\0' x; } > most.shim
@@ -106,25 +96,23 @@ for mode in run ref; do
   answer 6 'file too long over 16777216' $mode none.shim --input over
   cat over | answer 6 'file too long /dev/stdin 16777216' $mode none.shim --input /dev/stdin || exit 1
   truncate -s 1T holes
-  answer 6 'file too long holes 1048576' $mode holes
-  answer 6 'file too long holes 16777216' $mode none.shim --input holes
+  for name in holes /dev/zero; do
+    answer 6 "file too long $name 1048576" $mode $name
+    answer 6 "file too long $name 16777216" $mode copy.shim --input $name
+  done
 
-  # What can't be opened.
-  answer 6 'file failed nowhere' $mode nowhere
-  answer 6 'file failed nowhere' $mode none.shim --input nowhere
-  answer 6 'file failed nowhere' $mode nowhere --input neither
+  # What can't be opened or read.
   ln -sf nowhere dangling
   ln -sf round round
-  answer 6 'file failed dangling' $mode dangling
-  answer 6 'file failed round' $mode round
   ln -sf p.shim link
   answer 0 "$puts" $mode link
   long=$(head -c 300 /dev/zero | tr '\0' n)
-  answer 6 "file failed $long" $mode "$long"
   longer=$(head -c 100000 /dev/zero | tr '\0' n)
-  answer 6 "file failed $longer" $mode "$longer"
-  answer 6 'file failed ' $mode ''
-  answer 6 'file failed ' $mode none.shim --input=
+  for name in nowhere dangling round . / /proc ./ "$room" p.shim/ p.shim/q /proc/self/mem "$long" "$longer" ''; do
+    answer 6 "file failed $name" $mode "$name"
+    answer 6 "file failed $name" $mode none.shim --input="$name"
+  done
+  answer 6 'file failed nowhere' $mode nowhere --input neither
   answer 6 'file failed /dev/stdin' $mode /dev/stdin <&-
   answer 6 'file failed /dev/stdin' $mode /dev/stdin < .
   call $mode /dev/stdin > out 0> written
