@@ -98,7 +98,7 @@ class Run:
 def instructions(command):
     """How many instructions a command takes, or None where there is no valgrind."""
     if not shutil.which("valgrind"):
-        return None
+        return without("valgrind")
     ran = subprocess.run(["valgrind", "--tool=callgrind", "--callgrind-out-file=/dev/null", *command], capture_output=True, text=True)
     return int(re.search(r"Collected : (\d+)", ran.stderr)[1])
 
@@ -109,8 +109,14 @@ def file(name, text):
     return name
 
 
+LACKING = set()
+
+
 def without(what):
-    print("  no %s: its peers are left out" % what, flush=True)
+    """Tells once that a tool isn't there."""
+    if what not in LACKING:
+        print("  no %s here: it is left out" % what, flush=True)
+    LACKING.add(what)
 
 
 class Bench:
@@ -168,6 +174,8 @@ class Bench:
 
     def program_of(self, crate, folder=TOP):
         """The program of a crate, which is proved first where that isn't kept."""
+        if not shutil.which("rt"):
+            sys.exit("no rt here: %s can't be proved and built" % crate)
         ran = subprocess.run(["rt", "run"], cwd=os.path.join(folder, "crates", crate), capture_output=True, text=True)
         if ran.returncode:
             sys.exit("rt run in %s: %s" % (crate, (ran.stdout + ran.stderr)[-2000:]))
@@ -257,7 +265,8 @@ def steps(bench):
     for size in (10000, 20000):
         file("loop.shim", shapes.loop(size))
         counts.append(instructions([bench.builds[0], "run", "loop.shim", *ONE]))
-    print("  no valgrind: instructions are left out" if None in counts else "  %.0f instructions a step" % ((counts[1] - counts[0]) / 30000))
+    if None not in counts:
+        print("  %.0f instructions a step" % ((counts[1] - counts[0]) / 30000))
 
 
 COPIES = """//! Steps a compiled process, and copies it.
@@ -619,8 +628,10 @@ def main():
         one.add_argument("--before", help="another build, measured in turn with it")
         for option, number in numbers.items():
             one.add_argument("--" + option, type=int, default=number, help="%d where nothing is said" % number)
-        if names:
-            one.add_argument("names", nargs=argparse.REMAINDER if name == "gate" else "*", metavar="NAME", help="all where nothing is said: " + ", ".join(names))
+        if name == "gate":
+            one.add_argument("names", nargs=argparse.REMAINDER, metavar="COMMAND", help="%s where nothing is said" % " ".join(names))
+        elif names:
+            one.add_argument("names", nargs="*", metavar="NAME", help="all where nothing is said: " + "; ".join(names))
     given = words.parse_args()
     function, names, _, _ = QUESTIONS[given.question]
     unknown = [] if given.question == "gate" else [name for name in getattr(given, "names", []) if name not in names]
@@ -636,7 +647,7 @@ def main():
             subprocess.run(["gcc", "-O2", "-o", "launch", os.path.join(BENCH, "launch.c")], check=True)
             Run.launch = "./launch"
         else:
-            print("  no gcc: memory counts that of this script where it is more", flush=True)
+            print("  no gcc here: memory counts that of this script where it is more", flush=True)
         status = function(bench)
         os.chdir(TOP)
     return status
