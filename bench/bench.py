@@ -119,6 +119,13 @@ def without(what):
     LACKING.add(what)
 
 
+def told_by_peers(job, size, *_):
+    """What a peer of a made program must print."""
+    if job == "pipe":
+        return str(3 * size * (size - 1) // 2 % 1000000)
+    return str(size) if job in STEPS else None
+
+
 class Bench:
     """What the questions share: the builds, the rounds, and how peers are made and results are told."""
 
@@ -166,7 +173,7 @@ class Bench:
     def in_c(self, *jobs):
         """For each job, which is a list of words, a run of peers.c, or None where there is no compiler."""
         made = os.path.exists("peers") or self.made("gcc", "-O2", "-pthread", "-o", "peers", os.path.join(BENCH, "peers.c"))
-        return [Run(["./peers", *map(str, job)]) if made else None for job in jobs]
+        return [Run(["./peers", *map(str, job)], last=told_by_peers(*job)) if made else None for job in jobs]
 
     def by_gcc(self, *words):
         """A run of the compiler, or None."""
@@ -376,7 +383,7 @@ def net(bench):
         size = 100000
         peers = [("C's threads", bench.in_c(["pipe", size])[0])]
         if bench.made("go", "build", "-o", "go_pipe", os.path.join(BENCH, "peers.go")):
-            peers.append(("Go's channels", Run(["./go_pipe", str(size)])))
+            peers.append(("Go's channels", Run(["./go_pipe", str(size)], last=told_by_peers("pipe", size))))
         pipes = [(name, generated(bench, "pipe", size, *words)) for name, words in WORKERS]
         bench.measure(*(run for _, run in pipes + peers))
         for name, run in pipes:
