@@ -4,7 +4,8 @@
 The texts are those of crates/shim_conformance and of examples/, and programs of bench/made.py: their bytes flipped, their
 tokens swapped, doubled, deleted, exchanged or nested deeper, their statements moved, their numbers put to limits, the header
 of version 2 put before them or taken off. Each is checked, listed, written in version 2, run by some number of workers
-and pieces, run by `ref`, explained by `why`, and recorded by `trace`; the journal is replayed, and so is one that was changed at random.
+and pieces, half of the runs with --steal, run by `ref`, explained by `why`, and recorded by `trace`; the journal is
+replayed, and so is one that was changed at random.
 All that with a limit of time and of memory, and
 
 - each call ends by itself with a status from 0 to 9, its text is of the form that docs/FORMATS.md has for that status and
@@ -15,8 +16,8 @@ All that with a limit of time and of memory, and
 - `why` writes what `ref` does, and where that is blocked behind it one reason for each wait, in its order, with the channel at
   which the process waits for which it waits; the cycle follows the reasons, from its least path on;
 - a journal has the budget of its run, and its steps add up to what it says; its replay has the status of its run and, but where
-  the budget stopped that, its text. A changed journal is malformed just at the line at which the
-  reader of tools/shimtools says so.
+  the budget stopped that, its text. A changed journal is malformed just at the line at which the reader of
+  tools/shimtools says so.
 
 The same numbers make the same texts and words. Prints how many calls had each status, the longest time and the most
 memory, which is no less than that of this script. Keeps what differs in the folder `found`, says its words, and ends with 1.
