@@ -390,16 +390,18 @@ def net(bench):
             bench.say("a pipe of 100,000, " + name, run, *peers, steps=STEPS["pipe"](size))
     if "sizes" in bench.names:
         file("idle.shim", "void main() { }\n")
+        asked = [(kind, size) for size in (1000, 10000, 100000) for kind in STEPS]
+        idle_peer, *peers = bench.in_c(["nothing", "idle.shim"], *asked)
+        for peer in filter(None, peers):
+            peer.idle = idle_peer
+        bench.measure(idle_peer, *peers[:3], rounds=20 * bench.rounds)
+        bench.measure(*peers[3:])
         for name, words in WORKERS:
             idle = bench.shim("run", "idle.shim", *MOST, *words)
-            idle_peer, *peers = bench.in_c(["nothing", "idle.shim"], *([kind, size] for size in (1000, 10000, 100000) for kind in STEPS))
-            made = [(size, kind, generated(bench, kind, size, *words, idle=idle)) for size in (1000, 10000, 100000) for kind in STEPS]
-            for peer in filter(None, peers):
-                peer.idle = idle_peer
-            many = [idle, idle_peer, *(run for size, _, run in made if size == 1000), *peers[:3]]
-            bench.measure(*many, rounds=20 * bench.rounds)
-            bench.measure(*(run for size, _, run in made if size != 1000), *peers[3:])
-            for (size, kind, run), peer in zip(made, peers):
+            made = [generated(bench, kind, size, *words, idle=idle) for kind, size in asked]
+            bench.measure(idle, *made[:3], rounds=20 * bench.rounds)
+            bench.measure(*made[3:])
+            for (kind, size), run, peer in zip(asked, made, peers):
                 bench.say("%s of %d, %s" % (kind, size, name), run, ("C's threads", peer), steps=STEPS[kind](size))
     if "deep" in bench.names:
         file("deep.shim", shapes.DEEP_FORKS)
