@@ -367,6 +367,35 @@ def input_(bench):
     bench.say("%d bytes, %.1f MB/s" % (count, count / total.took / 1e6), total, ("C", in_c))
 
 
+# Of a shell whose first word is the program: a run for each input, one after the other, and four at a time.
+RUN_EACH = 'for input in inputs/*; do echo "input $input"; "$0" run p.shim --workers 1 --budget 4000000 --input "$input"; done'
+RUN_FOUR = """printf '%s\\n' inputs/* |
+  xargs -P 4 -I{} sh -c '"$0" run p.shim --workers 1 --budget 4000000 --input "$1" > "reports/${1##*/}"' "$0" {}
+for input in inputs/*; do echo "input $input"; cat "reports/${input##*/}"; done"""
+
+
+@question(inputs=64, bytes=shapes.MIB)
+def batch(bench):
+    """Run a program that reads its input to the end over many: by `batch`, and by a run of each, one after the other and four
+    at a time. All have to write the same reports."""
+    os.mkdir("inputs")
+    os.mkdir("reports")
+    inputs = [file("inputs/%02d" % number, os.urandom(bench.given.bytes)) for number in range(bench.given.inputs)]
+    words = [file("p.shim", shapes.READ_TO_THE_END), *MOST]
+    one = bench.shim("run", *words, *ONE, "--input", inputs[0], to="one")
+    each, four = (Run(["sh", "-ec", text, bench.builds[0]], to=to) for text, to in ((RUN_EACH, "each"), (RUN_FOUR, "four")))
+    by = [(name, bench.shim("batch", *words, *options, "--", *inputs, to="batch-" + options[-1])) for name, options in WORKERS[1:4]]
+    bench.measure(one, each, four, *(run for _, run in by))
+    for run in (four, *(run for _, run in by)):
+        if run.text() != each.text():
+            sys.exit("other reports: %s" % " ".join(run.command))
+    bench.say("one run", one)
+    bench.say("%d runs, one after the other" % len(inputs), each)
+    bench.say("%d runs, four at a time" % len(inputs), four, ("one after the other", each))
+    for name, run in by:
+        bench.say("batch of %d, %s, memory of %.1f runs" % (len(inputs), name, run.kib / one.kib), run, ("one after the other", each))
+
+
 STEPS = {"pipe": lambda size: 11 * size + 17, "tree": lambda size: 10 * size - 4, "storm": lambda size: 11 * size + 4}
 
 

@@ -105,6 +105,7 @@ def forks_in_turn(turns):
 DEEP_FORKS = ("void f(int n) { if (n > 0) { f(n - 1); par f(n - 1); } }\n"
               + "void main() { int c; " + "{ next c; } par " * 60 + "{ f(62); next c; } }\n")
 SUM_OF_INPUT = "void main(istream &in) { int byte; int sum; byte = get in; while (byte != -1) { sum = sum + byte; byte = get in; } }\n"
+READ_TO_THE_END = "void main(istream &in) { int byte; byte = get in; while (byte != -1) { byte = get in; } }\n"
 ENDLESS = side_by_side(["{ int k; while (true) { k = k + 1; } }"] * 4)
 PIPE = """void main() {
   int a; int b; int n; n = 330000;
