@@ -1,7 +1,7 @@
 #!/usr/bin/env python3
 """Compares what tools/shim-see writes, and its status, with the cases of tools/tests/see.cases. Ends with 1 at the
 first difference, and shows it. A case has `words`, files, a status and a text; one with `wants batch` is left out where
-the program hasn't that mode (SHIM=tools/tests/stand_in.py has it). `--raw` of each case is held against the program
+the program hasn't that mode. `--raw` of each case is held against the program
 itself.
 
 Use: tools/tests/see.py [--write], which writes the statuses and texts that come into the file, to be read by eye"""
