@@ -50,9 +50,6 @@ def differs(report, meant, budget):
 
 def main():
     first, last = map(int, sys.argv[1:3] or (1, 20))
-    if "[INPUT]" not in call()[0]:
-        print("this program has no batch, and nothing was tried")
-        return
     chance = random.Random(5)
     batches = reports = spent = 0
     with tempfile.TemporaryDirectory() as room:

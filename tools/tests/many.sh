@@ -1,7 +1,7 @@
 #!/usr/bin/env bash
-# Does the recipes of docs/MANY-INPUTS.md over 1,000 inputs: GNU parallel on one machine, and tools/many.slurm as three tasks of an array,
-# started by hand; each with a run for each input, and with `batch` where the program has it. Each report is compared with that
-# of `shim ref`, each status with what the input is meant to give, and a second start of the array does nothing again. Where
+# Does the recipes of docs/MANY-INPUTS.md over 1,000 inputs: GNU parallel on one machine, and tools/many.slurm as three tasks
+# of an array, started by hand; each with a run for each input, and with `batch`. Each report is compared with that of
+# `shim ref`, each status with what the input is meant to give, and a second start of the array does nothing again. Where
 # Slurm is installed, it then gets an array over 200 of these inputs, on one node that is started for it in a folder of its
 # own; it is cancelled in the midst and goes on. Ends with 1 at the first difference.
 # Use: tools/tests/many.sh [JOBS], how many runs at a time, 4 where nothing is said
@@ -60,8 +60,7 @@ for number in range(1000):
 END
 mkdir meant
 for input in inputs/*.txt; do shim ref program.shim --input "$input" > "meant/${input#inputs/}"; done
-modes=run
-shim | grep -qF '[INPUT]' && modes='run batch'
+modes='run batch'
 
 # The status of each run: of `run` from the log of parallel, of `batch` from the report, and there none of the log may be
 # another than the greatest of its inputs'.

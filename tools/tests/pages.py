@@ -2,9 +2,8 @@
 """Does what the pages for users say, and compares what comes with what they show. In a page a block behind `<!--
 file NAME -->` is a file, and one behind `<!-- part NAME of OTHER -->` a function that stands in NAME in place of
 OTHER's; in a block of the kind `console` each line `$ COMMAND` is done by bash, in one folder for the whole page,
-and the lines behind it are what it writes. A block behind `<!-- batch -->` is left out where the program hasn't that
-mode, and one behind `<!-- NAME is installed -->` where that program isn't; both may stand in one comment, with a comma
-between. Ends with 1 at the first difference.
+and the lines behind it are what it writes. A block behind `<!-- NAME is installed -->` is left out where that program
+isn't. Ends with 1 at the first difference.
 
 Use: tools/tests/pages.py [PAGE..], else docs/TUTORIAL.md, docs/QUESTIONS.md and docs/MANY-INPUTS.md"""
 import os
@@ -37,11 +36,6 @@ def commands(body):
 
 def main():
     pages = sys.argv[1:] or [os.path.join(TOP, "docs", name) for name in ("TUTORIAL.md", "QUESTIONS.md", "MANY-INPUTS.md")]
-    has_batch = b"[INPUT]" in subprocess.run([SHIM], stdout=subprocess.PIPE).stdout
-
-    def is_there(what):
-        return has_batch if what == "batch" else bool(shutil.which(what.split()[0]))
-
     for page in pages:
         done = files = left = 0
         with open(page, encoding="utf-8") as it:
@@ -72,7 +66,7 @@ def main():
                         out.write("".join(body + "\n" if f.startswith(head) else f for f in functions))
                     files += 1
                 elif kind == "console":
-                    if note and not all(map(is_there, note.split(", "))):
+                    if note and not shutil.which(note.split()[0]):
                         left += 1
                         continue
                     for command, wanted in commands(body):

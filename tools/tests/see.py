@@ -1,8 +1,7 @@
 #!/usr/bin/env python3
 """Compares what tools/shim-see writes, and its status, with the cases of tools/tests/see.cases. Ends with 1 at the
-first difference, and shows it. A case has `words`, files, a status and a text; one with `wants batch` is left out where
-the program hasn't that mode. `--raw` of each case is held against the program
-itself.
+first difference, and shows it. A case has `words`, files, a status and a text. `--raw` of each case is held against the
+program itself.
 
 Use: tools/tests/see.py [--write], which writes the statuses and texts that come into the file, to be read by eye"""
 import difflib
@@ -70,15 +69,9 @@ def main():
     with open(CASES, encoding="utf-8") as it:
         text = it.read()
     head = text[: text.index("=== case ")]
-    new, count, left = [head], 0, 0
+    new, count = [head], 0
     shim = os.path.realpath(os.environ.get("SHIM", os.path.join(TOP, "shim")))
-    has_batch = b"[INPUT]" in subprocess.run([shim], stdout=subprocess.PIPE).stdout
     for name, sections in cases(text):
-        if ("wants batch", "") in sections and not has_batch:
-            if write:
-                sys.exit("differs: %s wants the mode batch, which %s hasn't" % (name, shim))
-            left += 1
-            continue
         with tempfile.TemporaryDirectory() as room:
             os.symlink(os.path.join(TOP, "examples"), os.path.join(room, "examples"))
             words, wanted, status = [], None, None
@@ -116,9 +109,7 @@ def main():
         with open(CASES, "w", encoding="utf-8") as out:
             out.write("".join(new).rstrip("\n") + "\n")
     odd(shim)
-    print("%d cases %s%s" % (
-        count, "written" if write else "the same, and --raw hands on bytes and status",
-        "; %d left out, since this program has no batch" % left if left else ""))
+    print("%d cases %s" % (count, "written" if write else "the same, and --raw hands on bytes and status"))
 
 
 if __name__ == "__main__":
