@@ -1,7 +1,7 @@
 #!/usr/bin/env bash
 # What ./shim answers where the files and the output of the system are odd: pipes, devices, folders, files that can't be
 # read, that are missing, that are changed or cut while they are read; names with any bytes; output that is full, closed
-# or slow; a failed read with a failed write; and all this for inputs of a batch. Each answer is compared with what
+# or slow; a failed read with a failed write; and inputs of a batch that are odd. Each answer is compared with what
 # docs/FORMATS.md says of it. Ends with 1 at the first one that differs, and names it.
 # Use: make shim && bench/robust/edges.sh [TIMES], the number of runs over a file that is changed
 set -u
