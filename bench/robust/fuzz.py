@@ -4,8 +4,8 @@
 The texts are those of crates/shim_conformance and of examples/, and programs of bench/made.py: their bytes flipped, their
 tokens swapped, doubled, deleted, exchanged or nested deeper, their statements moved, their numbers put to limits, the header
 of version 2 put before them or taken off. Each is checked, listed, written in version 2, run by some number of workers
-and pieces, half of the runs with --steal, run by `ref`, explained by `why`, and recorded by `trace`; the journal is
-replayed, and so is one that was changed at random.
+and pieces, half of the runs with --steal, run by `ref`, run over three inputs by `batch`, explained by `why`, and recorded by
+`trace`; the journal is replayed, and so is one that was changed at random.
 All that with a limit of time and of memory, and
 
 - each call ends by itself with a status from 0 to 9, its text is of the form that docs/FORMATS.md has for that status and
@@ -13,6 +13,7 @@ All that with a limit of time and of memory, and
 - where the text is refused, the line is that of bench/robust/grammar.py, or one of a text that is a program, the same in every
   mode; `check` counts the functions as bench/robust/grammar.py does, and `up` writes the text of bench/robust/canonical.py;
 - `run` and `ref` have the same status, and the same text but where the budget stopped them; then the counts add up to it;
+- `batch` has a report for each input, the same as that of `run` but where the budget stopped it, and the greatest status;
 - `why` writes what `ref` does, and where that is blocked behind it one reason for each wait, in its order, with the channel at
   which the process waits for which it waits; the cycle follows the reasons, from its least path on;
 - a journal has the budget of its run, and its steps add up to what it says; its replay has the status of its run and, but where
@@ -44,6 +45,8 @@ SECONDS = 20
 MEMORY = 4 << 30
 MIB = 1 << 20
 
+# The inputs of a batch: that of the other calls twice, and between them one without a byte.
+BATCH = ["i", "none", "i"]
 # What `--input` gives.
 INPUTS = [b"", b"A", b"AB", bytes(range(256)), b"\xff\x00\n" * 7, b"0123456789" * 30]
 NUMBERS = (
@@ -308,6 +311,7 @@ class Job:
         for mode in ("run", "run", "trace"):
             workers, quantum = dice.choice([1, 2, 3, 4, 16]), dice.choice([1, 2, 7, 64, 10000])
             self.calls.append([mode, "p", *fed, "--workers", str(workers), "--quantum", str(quantum), *dice.choice([[], ["--steal"]])])
+        self.calls.insert(-1, ["batch", "p", *BATCH, *self.calls[-2][4:]])
         self.calls.append(["replay", "p", "--input", "i", "--journal", "j"])
         self.calls.append(["replay", "p", "--input", "i", "--journal", "k"])
         self.dice = dice
@@ -405,6 +409,26 @@ def wrong_journal(text, status, budget):
     return "a journal of %d steps" % steps if steps > budget or (status == 4) != (steps == budget) and status == 4 else None
 
 
+def of_batch(answer):
+    """The answers that runs of their own would give in place of a batch, or None where one or its line is missing."""
+    parts = re.split(rb"^input (\w+)\n", answer.text, flags=re.M)
+    reports = [REPORT.fullmatch(part.decode(errors="replace")) for part in parts[2::2]]
+    if parts[0] or [name.decode() for name in parts[1::2]] != BATCH or not all(reports):
+        return None
+    statuses = [next(status for status, end in ENDS.items() if re.match(end, report["end"])) for report in reports]
+    return [answer._replace(words=["run", "of", *answer.words], text=text, status=status) for text, status in zip(parts[2::2], statuses)]
+
+
+def wrong_batch(answer, budget):
+    """What is wrong with the reports of a batch, or None."""
+    reports = of_batch(answer)
+    if reports is None:
+        return "no report for each input"
+    if answer.status != max(report.status for report in reports):
+        return "another status than the greatest"
+    return next(filter(None, (wrong_form(report, budget) for report in reports)), None)
+
+
 def wrong_form(answer, budget):
     """What is wrong with an answer by itself, or None."""
     mode, status = answer.words[0], answer.status
@@ -428,6 +452,8 @@ def wrong_form(answer, budget):
         return "a status that nothing gave cause for"
     if mode == "trace":
         return wrong_journal(answer.text, status, budget)
+    if mode == "batch":
+        return wrong_batch(answer, budget)
     if mode == "check":
         return None if status == 0 and re.fullmatch(r"accepted \d+\n", text) else "no count of functions"
     if mode == "code":
@@ -486,6 +512,9 @@ def wrong(job, answers):
         if (answer.status == 5) != (full[0].status == 5) or answer.status == 5 and text != full[0].text.decode():
             return "another answer than that of " + full[0].words[0], answer
     runs = [answer for answer in full if answer.words[0] in ("run", "ref", "why")]
+    for answer in full:
+        if answer.words[0] == "batch" and answer.status in ENDS:
+            runs += [report for name, report in zip(BATCH, of_batch(answer)) if name == "i"]
     for answer in runs:
         if answer.status != runs[0].status:
             return "another status than that of %s, %d" % (runs[0].words[0], runs[0].status), answer
@@ -508,7 +537,7 @@ def wrong(job, answers):
 
 def do(number):
     job = Job(do.seed, number, do.texts)
-    for name, text in (("p", job.text), ("i", job.input), ("j", b""), ("k", b"")):
+    for name, text in (("p", job.text), ("i", job.input), ("none", b""), ("j", b""), ("k", b"")):
         common.write(name, text)
     job.other, answers = b"", []
     for words in job.calls:
@@ -563,7 +592,7 @@ def main():
     calls = sum(counts.values())
     print("%d texts of seed %d from number %d, %d bytes on the average; %d calls in %.0f s"
           % (given.texts, given.seed, given.first, lengths / max(1, given.texts), calls, time.monotonic() - begin))
-    for mode in ("check", "code", "up", "ref", "why", "run", "trace", "replay"):
+    for mode in ("check", "code", "up", "ref", "why", "run", "batch", "trace", "replay"):
         statuses = ", ".join("%d with status %d" % (counts[key], key[1]) for key in sorted(counts) if key[0] == mode)
         print("%s: %s; longest %.2f s (text %d), most memory %.1f MiB (text %d)"
               % (mode, statuses, *longest[mode], most[mode][0] / 1024, most[mode][1]))
