@@ -21,7 +21,10 @@ case $mode in
   run) each=1 command="shim run $from --workers 1 --input {} > $to/{/}" ;;
   *) echo "$mode is neither batch nor run" >&2; exit 2 ;;
 esac
+log=$results/statuses.$part
+# What a signal ended, as where the array was cancelled, is in the log, too, but it is to be done again.
+[ ! -f "$log" ] || { awk -F '\t' 'NR == 1 || ($7 < 10 && $8 == 0)' "$log" > "$log.kept" && mv "$log.kept" "$log"; } || exit 1
 find "$inputs" -type f | LC_ALL=C sort | awk -v part="$part" -v parts="$parts" 'NR % parts == part' |
-  parallel --max-args "$each" --jobs "$at_once" --joblog "$results/statuses.$part" --resume "$command"
+  parallel --max-args "$each" --jobs "$at_once" --joblog "$log" --resume "$command"
 # The status of `parallel` tells how many commands had one, which isn't a failure here.
 exit 0

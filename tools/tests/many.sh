@@ -171,7 +171,7 @@ number=$(PATH=$room/slow:$PATH submit cut run)
 for _ in $(seq 60); do [ "$(cat cut/statuses.* 2> /dev/null | wc -l)" -gt 14 ] && break; sleep 1; done
 scancel "$number"
 ended "$number"
-cat cut/statuses.* | grep -c -- --input > done.before
+cat cut/statuses.* | awk -F '\t' '/--input/ && $7 < 10 && $8 == 0 { count++ } END { print count + 0 }' > done.before
 [ "$(cat done.before)" -lt 200 ] || fail 'the array was over before it was cancelled'
 touch before
 ended "$(submit cut run)"
