@@ -27,6 +27,7 @@ _shim() {
   fi
   for ((i = 1; i < COMP_CWORD; i++)); do
     case ${COMP_WORDS[i]} in
+      --) ;;
       '=') skip=1 ;;
       --raw | --steal) ;;
       -*) skip=1 ;;
