@@ -1,9 +1,10 @@
 #!/usr/bin/env bash
 # Does the recipes of docs/MANY-INPUTS.md over 1,000 inputs: GNU parallel on one machine, and tools/many.slurm as three tasks
 # of an array, started by hand; each with a run for each input, and with `batch`. Each report is compared with that of
-# `shim ref`, each status with what the input is meant to give, and a second start of the array does nothing again. Where
-# Slurm is installed, it then gets an array over 200 of these inputs, on one node that is started for it in a folder of its
-# own; it is cancelled in the midst and goes on. Ends with 1 at the first difference.
+# `shim ref`, each status with what the input is meant to give. A second start does again what the machine failed at first, and
+# nothing else, and `run` of the array refuses inputs of one name. Where Slurm is installed, it then gets an array over 200 of
+# these inputs, on one node that is started for it in a folder of its own; it is cancelled in the midst and goes on. Ends with
+# 1 at the first difference.
 # Use: tools/tests/many.sh [JOBS], how many runs at a time, 4 where nothing is said
 set -u
 cd "$(dirname "$0")/../.." || exit 1
@@ -91,26 +92,52 @@ compare() { # MODE REPORTS STATUSES..
 
 meant=$room/meant wanted=$room/wanted
 
-# One machine.
+# A program that the system kills on one input, and that finds no memory for another.
+mkdir frail && printf '#!/bin/sh\ncase "$*" in *0007.txt*) kill -9 $$ ;; *0500.txt*) echo no memory; exit 8 ;; esac\nexec %q "$@"\n' "$shim" > frail/shim
+chmod 755 frail/shim
+failures() { awk -F '\t' '$7 == 137 || $7 == 8' "$@" | wc -l; }
+
+# One machine: what failed at first is done again, and nothing else.
+find inputs -type f | LC_ALL=C sort > names
 for mode in $modes; do
   mkdir "reports.$mode"
-  if [ "$mode" = run ]; then
-    find inputs -type f | LC_ALL=C sort | parallel --jobs "$jobs" --joblog statuses.run 'shim run program.shim --workers 1 --input {} > reports.run/{/}'
-  else
-    find inputs -type f | LC_ALL=C sort | parallel --max-args 64 --jobs "$jobs" --joblog statuses.batch 'shim batch program.shim --workers 1 -- {} > reports.batch/{#}'
-  fi
+  alone() { # [--resume]
+    if [ "$mode" = run ]; then
+      parallel "$@" --arg-file names --jobs "$jobs" --joblog statuses.run 'shim run program.shim --workers 1 --input {} > reports.run/{/}'
+    else
+      parallel "$@" --arg-file names --max-args 64 --jobs "$jobs" --joblog statuses.batch 'shim batch program.shim --workers 1 -- {} > reports.batch/{#}'
+    fi
+  }
+  PATH=$room/frail:$PATH alone 2> /dev/null
+  [ "$(failures "statuses.$mode")" = 2 ] || fail 'two failures have a line'
+  awk -F '\t' 'NR == 1 || $7 ~ /^[0134]$/ && $8 == 0' "statuses.$mode" > kept && mv kept "statuses.$mode"
+  touch before && alone --resume
+  [ "$(find "reports.$mode" -type f -newer before | wc -l)" = 2 ] || fail 'just what failed is done again'
   compare "$mode" "reports.$mode" "statuses.$mode"
 done
 
 # The array, as three tasks.
+task() { # PART RESULTS MODE [INPUTS]
+  SLURM_ARRAY_TASK_ID=$1 SLURM_ARRAY_TASK_COUNT=3 SLURM_CPUS_PER_TASK=$jobs bash "$top/tools/many.slurm" program.shim "${4:-inputs}" "$2" "$3"
+}
 for mode in $modes; do
-  task() { SLURM_ARRAY_TASK_ID=$1 SLURM_ARRAY_TASK_COUNT=3 SLURM_CPUS_PER_TASK=$jobs bash "$top/tools/many.slurm" program.shim inputs "results.$mode" "$mode"; }
-  for part in 0 1 2; do task $part || fail "task $part ends with $?"; done
+  for part in 0 1 2; do PATH=$room/frail:$PATH task $part "results.$mode" "$mode" 2> /dev/null || fail "task $part ends with $?"; done
+  [ "$(failures "results.$mode"/statuses.*)" = 2 ] || fail 'two failures of the array have a line'
+  touch before
+  for part in 0 1 2; do task $part "results.$mode" "$mode" || fail "task $part ends with $?"; done
+  [ "$(find "results.$mode/reports" -type f -newer before | wc -l)" = 2 ] || fail 'an array does again just what failed'
   compare "$mode" "results.$mode/reports" "results.$mode"/statuses.*
-  touch before && task 1
+  touch before && task 1 "results.$mode" "$mode"
   [ -z "$(find "results.$mode/reports" -newer before)" ] || fail 'a run is done again'
 done
-said="1000 inputs, each by one machine and by an array of three tasks, by $modes: statuses $(cut -d ' ' -f 2 wanted | sort | uniq -c | awk '{ printf "%s%s of %d", (NR > 1 ? ", " : ""), $1, $2 }'), all as wanted"
+
+# Two inputs of one name would have one report by `run`.
+mkdir -p twins/a twins/b && cp inputs/0003.txt twins/a && cp inputs/0005.txt twins/b/0003.txt
+told=$(task 0 refused run twins 2>&1) && fail 'inputs of one name are taken by run'
+case $told in *'called 0003.txt'*) ;; *) fail "of inputs of one name is told: $told" ;; esac
+for part in 0 1 2; do task $part twins.both batch twins || fail "task $part ends with $?"; done
+[ "$(cat twins.both/reports/* | grep -c '^input ')" = 2 ] || fail 'a batch takes inputs of one name'
+said="1000 inputs, each by one machine and by an array of three tasks, by $modes: what failed was done again, statuses $(cut -d ' ' -f 2 wanted | sort | uniq -c | awk '{ printf "%s%s of %d", (NR > 1 ? ", " : ""), $1, $2 }'), all as wanted"
 for tool in slurmctld slurmd munged sbatch; do
   PATH=$PATH:/usr/sbin command -v $tool > /dev/null || { echo "$said; $tool is not installed, so Slurm was not tried"; exit 0; }
 done
@@ -171,7 +198,7 @@ number=$(PATH=$room/slow:$PATH submit cut run)
 for _ in $(seq 60); do [ "$(cat cut/statuses.* 2> /dev/null | wc -l)" -gt 14 ] && break; sleep 1; done
 scancel "$number"
 ended "$number"
-cat cut/statuses.* | awk -F '\t' '/--input/ && $7 < 10 && $8 == 0 { count++ } END { print count + 0 }' > done.before
+cat cut/statuses.* | awk -F '\t' '$7 ~ /^[0134]$/ && $8 == 0' | wc -l > done.before
 [ "$(cat done.before)" -lt 200 ] || fail 'the array was over before it was cancelled'
 touch before
 ended "$(submit cut run)"
