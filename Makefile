@@ -41,7 +41,8 @@ built:
 version: built
 	@mkdir -p out && tools/version $(RELEASE) > out/VERSION
 
-to = $(DESTDIR)$(PREFIX)
+# In quotes of the shell, so that a blank in a path ends nothing.
+to = '$(subst ','\'',$(DESTDIR)$(PREFIX))'
 SHARED = $(wildcard tools/shimtools/*.py)
 PAGES = $(wildcard man/*.1)
 # As they lie here, so that their links to each other work.
@@ -54,7 +55,7 @@ install: built version
 	install -m 644 $(SHARED) $(to)/share/shim/shimtools
 	install -m 644 out/VERSION $(to)/share/shim/VERSION
 	install -m 644 $(PAGES) $(to)/share/man/man1
-	@for file in $(DOCS); do install -D -m 644 "$$file" "$(to)/share/doc/shim/$$file" || exit 1; done
+	@for file in $(DOCS); do install -D -m 644 "$$file" $(to)/share/doc/shim/"$$file" || exit 1; done
 	install -D -m 644 completions/shim.bash $(to)/share/bash-completion/completions/shim
 	ln -sf shim $(to)/share/bash-completion/completions/shim-see
 	ln -sf shim $(to)/share/bash-completion/completions/shim-draw
@@ -62,7 +63,7 @@ install: built version
 	install -D -m 644 completions/shim.fish $(to)/share/fish/vendor_completions.d/shim.fish
 	ln -sf shim.fish $(to)/share/fish/vendor_completions.d/shim-see.fish
 	ln -sf shim.fish $(to)/share/fish/vendor_completions.d/shim-draw.fish
-	@for file in $(EDITORS); do install -D -m 644 "editors/$$file" "$(to)/share/shim/editors/$$file" || exit 1; done
+	@for file in $(EDITORS); do install -D -m 644 "editors/$$file" $(to)/share/shim/editors/"$$file" || exit 1; done
 
 # Nothing is taken away that `install` doesn't put there, and folders of others stay.
 uninstall:

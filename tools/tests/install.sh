@@ -31,6 +31,7 @@ for file in bin/shim bin/shim-see bin/shim-draw share/man/man1/shim.1 share/man/
   checks=$((checks + 1))
   [ -f "$to/$file" ] || fail "$file isn't there"
 done
+installed=$(cd "$to" && find . ! -type d | wc -l)
 [ -z "$(find "$room/root" -name '*.pyc')" ] || fail 'a compiled file is installed'
 same 'the installed program' "$("$to/bin/shim" run "$to/share/doc/shim/examples/hello.shim")" "$(./shim run examples/hello.shim)"
 same 'the installed shim-see' "$(cd /; PYTHONDONTWRITEBYTECODE=1 env -u SHIM "$to/bin/shim-see" run "$to/share/doc/shim/examples/hello.shim" | head -n 1)" 'done: main has ended, after 7 steps'
@@ -149,6 +150,17 @@ cd "$top" || exit 1
 touch "$to/share/man/man1/other.1"
 make -s uninstall DESTDIR="$room/root" PREFIX=/usr > "$room/log" 2>&1 || { cat "$room/log"; fail 'make uninstall'; }
 same 'files behind make uninstall' "$(cd "$to" && find . ! -type d)" './share/man/man1/other.1'
+
+# Below a folder with a blank in its name, beside one that has the name before the blank; and one with a quote.
+for name in 'my things' "it's"; do
+  mkdir -p "$room/my" && touch "$room/my/kept"
+  make -s install DESTDIR="$room/$name" PREFIX=/usr > "$room/log" 2>&1 || { cat "$room/log"; fail "make install below '$name'"; }
+  same "the program below '$name'" "$("$room/$name/usr/bin/shim" run "$room/$name/usr/share/doc/shim/examples/hello.shim")" "$(./shim run examples/hello.shim)"
+  same "all files below '$name'" "$(cd "$room/$name/usr" && find . ! -type d | wc -l)" "$installed"
+  make -s uninstall DESTDIR="$room/$name" PREFIX=/usr > "$room/log" 2>&1 || { cat "$room/log"; fail "make uninstall below '$name'"; }
+  same "files behind make uninstall below '$name'" "$(cd "$room/$name" && find . ! -type d)" ''
+  same "the folder beside '$name'" "$(cd "$room/my" && find . ! -type d)" './kept'
+done
 
 # A packed one.
 make -s dist > "$room/log" 2>&1 || { cat "$room/log"; fail 'make dist'; }
