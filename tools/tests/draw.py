@@ -95,6 +95,59 @@ def main():
     same("one channel by its place", drawn(call(DRAW, "run", *filter, "--channels", "main#0")[0])[0][0], ("sample", "100"))
     text = call(DRAW, "run", *filter, "--from", "53", "--to", "60")[0]
     same("a cut has the lifelines to which its arrows go", re.findall(r"participant .* as (\w+)", text), ["p", "p_0_0", "p_0_1", "p_0_2"])
+    # Who is dead before a cut isn't drawn in it, and who lives has a bar from its begin to its end.
+    oven = ["examples/oven.shim", "--input", "examples/oven.txt"]
+    bars = lambda text: re.findall(r"^(participant|activate|deactivate|destroy) (?:.* as )?(\w+)$", text, re.M)
+    text = call(DRAW, "run", *oven, "--from", "26", "--to", "28")[0]
+    same("a cut behind deaths", bars(text), [("participant", "p"), ("activate", "p")])
+    text = call(DRAW, "run", *oven, "--from", "23", "--to", "26")[0]
+    same("a cut with a death", bars(text), [("participant", "p"), ("participant", "p_0_1"), ("activate", "p"), ("activate", "p_0_1"), ("destroy", "p_0_1")])
+    for name in ("commands", "frames", "filter"):
+        text = call(DRAW, "run", "examples/%s.shim" % name, "--input", "examples/%s.txt" % name)[0]
+        of = lambda kinds: sorted(who for kind, who in bars(text) if kind in kinds)
+        same("%s, bars begin" % name, of(("activate",)), of(("participant",)))
+        same("%s, bars end" % name, of(("deactivate", "destroy")), of(("participant",)))
+    text = call(DRAW, "run", *oven, "--channels", "reached")[0]
+    same("one channel, and who forked", bars(text)[-1], ("deactivate", "p"))
+    for cut, said in ((("--from", "40", "--to", "10"), "from step 40 to step 10; the run has 11 steps"),
+                      (("--from", "1000"), "from step 1000 to step 4000000; the run has 55 steps")):
+        same("nothing from there", call(DRAW, "run", *oven, *cut), ("", "shim-draw: nothing that is drawn happens %s\n" % said, 2))
+    # Waits in a run that is blocked, names that PlantUML would underline, and a run that never ends.
+    text = call(DRAW, "run", "examples/deadlock.shim")[0]
+    same("who waits", re.findall(r"^hnote over (\w+) \S+ : waits at (.*)$", text, re.M), [("p_0_0", "heat, line 6"), ("p_0_1", "pressure, line 13")])
+    with tempfile.TemporaryDirectory() as room:
+        pair = os.path.join(room, "pair.shim")
+        with open(pair, "w") as out:
+            out.write("void a(int &x__y) { while (1) next x__y = 3; }\nvoid b____c(int x__y) { while (1) next x__y; }\nvoid main() { int x__y; a(x__y); par b____c(x__y); }\n")
+        text = call(DRAW, "run", pair, "--to", "12")[0]
+        same("no underlining", ("__" in text, text.count("x_<U+005F>y = 3"), "b_<U+005F>_<U+005F>c" in text), (False, 2, True))
+        same("more than can be drawn", call(DRAW, "run", pair), ("", "shim-draw: more than 400 lines are no picture: cut it by --from, --to and --channels\n", 1))
+    # Files, numbers and outputs that don't serve, pipes, and a signal.
+    hello = "examples/hello.shim"
+    for words, said, status in (
+        ((hello, "--budget", "99999999"), "--budget 99999999: a number from 1 to 4000000", 2),
+        ((hello, "--budget", "0"), "--budget 0: a number from 1 to 4000000", 2),
+        ((hello, "--to", "-3"), "--to -3: a number from 0 to 4000000", 2),
+        (("nowhere",), "nowhere: No such file or directory", 6),
+        (("examples",), "examples: Is a directory", 6),
+        ((hello, "--input", "nowhere"), "nowhere: No such file or directory", 6),
+        ((hello, "--journal", "nowhere"), "nowhere: No such file or directory", 6),
+        (("examples/filter.txt",), "refused 1 unexpected 0; shim-see check examples/filter.txt says it with its place", 5),
+        ((hello, "--output", "/nowhere/x.puml"), "/nowhere/x.puml: No such file or directory", 7),
+    ):
+        same(" ".join(words), call(DRAW, "run", *words), ("", "shim-draw: %s\n" % said, status))
+    whole = call(DRAW, "run", *oven)
+    same("pipes", call("bash", "-c", 'cat examples/oven.shim | "$1" run /dev/stdin --input <(cat examples/oven.txt)', "bash", DRAW), whole)
+    same("a refused pipe", call("bash", "-c", 'echo "void main() { x; }" | "$1" run /dev/stdin', "bash", DRAW),
+         ("", "shim-draw: refused 1 unexpected 15; shim-see check /dev/stdin says it with its place\n", 5))
+    same("a full output", call("bash", "-c", '"$1" run %s > /dev/full' % hello, "bash", DRAW), ("", "shim-draw: standard output: No space left on device\n", 7))
+    same("a closed output", call("bash", "-c", '"$1" run %s >&-' % hello, "bash", DRAW), ("", "shim-draw: standard output: Bad file descriptor\n", 7))
+    with tempfile.TemporaryDirectory() as room:
+        alone = os.path.join(room, "alone.shim")
+        with open(alone, "w") as out:
+            out.write("void main() { while (1) { } }\n")
+        command = 'timeout --foreground --preserve-status -s INT 2 "$1" run "$2" --budget 4000000'
+        same("Ctrl-C", call("bash", "-c", command, "bash", DRAW, alone), ("", "shim-draw: stopped: nothing is drawn\n", 130))
     same("no such channel", call(DRAW, "run", *filter, "--channels", "nothing")[1:], ("shim-draw: none of nothing has a meeting there\n", 1))
     # Waits, and what isn't blocked.
     text = call(DRAW, "why", "examples/packing.shim")[0]
