@@ -80,6 +80,7 @@ END
   same 'bash: modes' "$(b shim '')" "$modes"
   same 'bash: a mode begun' "$(b shim r)" "$(printf '%s' "$modes" | tr ' ' '\n' | grep '^r' | tr '\n' ' ')"
   same 'bash: sources' "$(b shim run '')" 'filter.shim folder hello.shim '
+  same 'bash: inputs behind --' "$(b shim batch -- filter.shim filter.t)" 'filter.txt '
   same 'bash: sources behind an option' "$(b shim --workers 2 run h)" 'hello.shim '
   same 'bash: sources behind an option in one word' "$(b shim --workers = 2 run h)" 'hello.shim '
   same 'bash: an input' "$(b shim run filter.shim --input filter.t)" 'filter.txt '
