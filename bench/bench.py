@@ -80,6 +80,10 @@ class Run:
     def steps(self):
         return int(self.last_line().split()[-1])
 
+    def output(self):
+        """The bytes that a report of shim says were put."""
+        return bytes.fromhex(self.text().split()[2].decode())
+
     @property
     def took(self):
         return self.least - (self.idle.least if self.idle else 0)
@@ -253,27 +257,31 @@ def runs(bench):
             bench.say("%s: %s, status %d" % (name, " ".join([mode, *more[1:]]), run.status), run)
 
 
-@question(rounds=3)
+@question(list(shapes.MACHINE), rounds=3)
 def steps(bench):
-    """A step of a loop, compiled, inside 30 blocks of `if`, and over syntax, beside Lua and Python."""
-    turns = 1300000
+    """A step of compiled programs, and of one over syntax, beside Lua and Python, with the instructions that a step takes."""
     file("none.shim", "void main(ostream &o) { put o, 0; }\n")
-    file("loop.shim", shapes.loop(turns))
-    file("nested.shim", shapes.loop(turns, 30))
-    idle = bench.shim("run", "none.shim")
-    shims = [bench.shim(mode, name + ".shim", *MOST, to=mode + name) for mode, name in (("run", "loop"), ("run", "nested"), ("ref", "loop"))]
-    peers = []
-    for tool, text in (("lua5.4", shapes.LOOP_IN_LUA), ("python3", shapes.LOOP_IN_PYTHON)):
-        peers.append((tool, Run([tool, file(tool + ".txt", text % turns)]) if shutil.which(tool) else without(tool)))
-    bench.measure(idle, *shims, *(peer for _, peer in peers))
-    for name, run in zip(("run", "run, inside 30 blocks", "ref"), shims):
+    file("input", os.urandom(100000))
+    idle = bench.shim("run", "none.shim", *ONE)
+    rows = []
+    for name in bench.names or shapes.MACHINE:
+        text, *others = shapes.MACHINE[name]
+        words = [file(name + ".shim", text), *MOST, *ONE, "--input", "input"]
+        peers = []
+        for tool, other in zip(("lua5.4", "python3"), others):
+            peers.append((tool, Run(["sh", "-c", 'exec "$0" "$1" < input', tool, file(name + "." + tool, other)], to=name + ".by." + tool) if shutil.which(tool) else without(tool)))
+        rows.append((name, bench.shim("run", *words, to=name), peers, words))
+        if name == "xor":
+            rows.append((name + ", over syntax", bench.shim("ref", *words, to=name + ".ref"), peers, None))
+    bench.measure(idle, *(run for _, run, _, _ in rows), *(peer for name, _, peers, words in rows if words for _, peer in peers if peer))
+    before = instructions([bench.builds[0], "run", "none.shim", *ONE])
+    for name, run, peers, words in rows:
+        for _, peer in peers:
+            if peer and run.output() != peer.text():
+                sys.exit("%s: %r, and %s %r" % (name, run.output(), peer.command[3], peer.text()))
         bench.say(name, run, *peers, steps=run.steps(), less=idle)
-    counts = []
-    for size in (10000, 20000):
-        file("loop.shim", shapes.loop(size))
-        counts.append(instructions([bench.builds[0], "run", "loop.shim", *ONE]))
-    if None not in counts:
-        print("  %.0f instructions a step" % ((counts[1] - counts[0]) / 30000))
+        if words and before is not None:
+            print("  %42.1f instructions a step" % ((instructions([bench.builds[0], "run", *words]) - before) / run.steps()))
 
 
 COPIES = """//! Steps a compiled process, and copies it.

@@ -75,8 +75,70 @@ def loop(turns, blocks=0):
     return "void main(ostream &o) { int i; int s; %s%s%s put o, s; }\n" % ("if (1) { " * blocks, text, " }" * blocks)
 
 
-LOOP_IN_LUA = "local i, s = %d, 0\nwhile i ~= 0 do s = s ~ i; i = i - 1 end\nprint(s & 0xff)\n"
-LOOP_IN_PYTHON = "def main():\n    i, s = %d, 0\n    while i:\n        s = s ^ i\n        i = i - 1\n    print(s & 0xff)\nmain()\n"
+LOOP_IN_LUA = "local i, s = %d, 0\nwhile i ~= 0 do s = s ~ i; i = i - 1 end\nio.write(string.char(s & 0xff))\n"
+LOOP_IN_PYTHON = "def main():\n    i, s = %d, 0\n    while i:\n        s = s ^ i\n        i = i - 1\n    sys.stdout.buffer.write(bytes([s & 0xff]))\nimport sys\nmain()\n"
+
+CALLED = """void inner(int n, int &s) { int i; i = n; while (i) { s = s ^ i; i = i - 1; } }
+void middle(int n, int &s) { inner(n, s); }
+void outer(int n, int &s) { middle(n, s); }
+void main(ostream &o) { int s; outer(%d, s); put o, s; }
+"""
+CALLED_IN_LUA = """local function inner(n, s) local i = n; while i ~= 0 do s = s ~ i; i = i - 1 end; return s end
+local function middle(n, s) local r = inner(n, s); return r end
+local function outer(n, s) local r = middle(n, s); return r end
+io.write(string.char(outer(%d, 0) & 0xff))
+"""
+EIGHT_BITS = "void main(ostream &o) { int i; int8 s; i = %d; while (i) { s = s + i; i = i - 1; } put o, s; }\n"
+EIGHT_BITS_IN_LUA = "local i, s = %d, 0\nwhile i ~= 0 do s = ((s + i + 128) & 0xff) - 128; i = i - 1 end\nio.write(string.char(s & 0xff))\n"
+COUNTING = "void main(ostream &o) { int k; while (k < %d) { k = k + 1; } put o, k; }\n"
+COUNTING_IN_LUA = "local k = 0\nwhile k < %d do k = k + 1 end\nio.write(string.char(k & 0xff))\n"
+COUNTING_IN_PYTHON = "def main():\n    k = 0\n    while k < %d:\n        k = k + 1\n    sys.stdout.buffer.write(bytes([k & 0xff]))\nimport sys\nmain()\n"
+CRC16 = """void main(istream &in, ostream &o) {
+  uint16 crc; int byte; int k; crc = 65535; byte = get in;
+  while (byte != -1) {
+    crc = crc ^ (byte << 8); k = 0;
+    while (k < 8) { if (crc & 32768) { crc = (crc << 1) ^ 4129; } else { crc = crc << 1; } k = k + 1; }
+    byte = get in;
+  }
+  put o, crc >> 8; put o, crc;
+}
+"""
+CRC16_IN_LUA = """local crc, text = 65535, io.read("a")
+for at = 1, #text do
+  crc = crc ~ (text:byte(at) << 8)
+  local k = 0
+  while k < 8 do
+    if crc & 32768 ~= 0 then crc = ((crc << 1) ~ 4129) & 0xffff else crc = (crc << 1) & 0xffff end
+    k = k + 1
+  end
+end
+io.write(string.char(crc >> 8, crc & 0xff))
+"""
+
+
+def sort(turns, lua=False):
+    """So many times: 61 variables are filled anew and sorted by exchanges of neighbours. A function may have 64."""
+    one = "if v%d > v%d then t = v%d; v%d = v%d; v%d = t end\n" if lua else "if (v%d > v%d) { t = v%d; v%d = v%d; v%d = t; }\n"
+    following = "x = (x * 73 + 41) & 1023; v%d = x\n" if lua else "x = (x * 73 + 41) & 1023; v%d = x;\n"
+    filling = "".join(following % k for k in range(61))
+    sorting = "".join(one % (k, k + 1, k, k, k + 1, k + 1) for turn in range(61) for k in range(turn % 2, 60, 2))
+    if lua:
+        return "local x, t, r = 7, 0, %d\nlocal %s\nwhile r ~= 0 do\n%s%sr = r - 1\nend\nio.write(string.char(v31 & 0xff))\n" % (
+            turns, ", ".join("v%d" % k for k in range(61)), filling, sorting)
+    return "void main(ostream &o) { int x; int t; int r; %s\nx = 7; r = %d;\nwhile (r) {\n%s%sr = r - 1;\n}\nput o, v31; }\n" % (
+        " ".join("int v%d;" % k for k in range(61)), turns, filling, sorting)
+
+TURNS = 1300000
+# What compiled code is measured by: for shim, for Lua, and for Python. Each puts the bytes that the others write.
+MACHINE = {
+    "counting": (COUNTING % TURNS, COUNTING_IN_LUA % TURNS, COUNTING_IN_PYTHON % TURNS),
+    "xor": (loop(TURNS), LOOP_IN_LUA % TURNS, LOOP_IN_PYTHON % TURNS),
+    "in 30 blocks": (loop(TURNS, 30), LOOP_IN_LUA % TURNS),
+    "in 3 functions": (CALLED % TURNS, CALLED_IN_LUA % TURNS),
+    "int8": (EIGHT_BITS % TURNS, EIGHT_BITS_IN_LUA % TURNS),
+    "crc16": (CRC16, CRC16_IN_LUA),
+    "sort": (sort(700), sort(700, True)),
+}
 
 
 def side_by_side(branches):

@@ -1,7 +1,7 @@
 #!/usr/bin/env python3
 """Runs the cases of crates/shim_conformance whose title has a text by the built program, over files of the system. The gate
 runs them all by calls inside the proved program; this is for a look at some, in seconds. Cases in which reads or writes
-fail are left out. Prints `ok TITLE (CALLS)` for each, or what differs, and ends with 1 where something does.
+fail are left out, and those of what lies below the tool. Prints `ok TITLE (CALLS)` for each, or what differs, and ends with 1 where something does.
 
 Use: make shim && bench/robust/cases.py [TEXT]
 """
@@ -43,7 +43,7 @@ def main():
                     case.text[:2000].decode(errors="replace")))
             print("%s %s (%d)" % ("FAILED" if wrong else "ok", case.title, len(answers)), flush=True)
             passed, failed = passed + (not wrong), failed + bool(wrong)
-    print("%d cases passed, %d failed, %d left out, whose reads or writes fail" % (passed, failed, left))
+    print("%d cases passed, %d failed, %d left out, which only the crate runs" % (passed, failed, left))
     if not passed + failed + left:
         print("no case has this in its title: %s" % wanted)
     return 1 if failed or not passed + left else 0

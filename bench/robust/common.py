@@ -142,7 +142,7 @@ def body_of(form, body):
 
 
 def cases(path):
-    """The cases of a file: of each its lines of words, files, what fails, status and text."""
+    """The cases of a file: of each its lines of words, files, whether only the crate can run it, status and text."""
     with open(path, "rb") as it:
         parts = re.split(rb"^=== case ", it.read(), flags=re.M)[1:]
     for part in parts:
@@ -159,7 +159,7 @@ def cases(path):
                 status = int(value)
             elif kind == "text":
                 text = body_of(value, body)
-            elif kind != "end":
+            elif kind != "end":  # reads or writes that fail, or what lies inside
                 failing = True
         yield Case(title.decode(), lines, files, failing, status, text)
 

@@ -10,7 +10,7 @@ use Rattle.shim_process.specs.Ops.{process_ops}
 use Rattle.shim_process.specs.LocalState.{LocalState}
 use Rattle.shim_semantics.specs.Nodes.{Node, Live, Forked, Ended, Dead, has_ended, is_dead, goes}
 use Rattle.shim_semantics.specs.Trees.{Tree, Event, steps, sum, IsQuiescent}
-use Rattle.shim_semantics.specs.Walks.{walk, first, head}
+use Rattle.shim_semantics.specs.Walks.{walk, first_event, head}
 use Rattle.shim_semantics.specs.Endings.{ended, own_steps, is_empty, outcome, outcome_of_label, outcome_of_root}
 use Rattle.shim_reference.specs.Naming.{named, named_outcome}
 use Rattle.shim_reference.specs.Reference.{reference_of}
@@ -48,12 +48,12 @@ status_told x =
     let t = tree_of x in
     ap status_of_outcome (told process_ops x.source.main_throws t) ∙ status_named x.source.main_throws (outcome process_ops t.root)
 
-status_at_rest : (x : Execution) → first process_ops (tree_of x) ≡ None → status_of x ≡ status_of_outcome (outcome_of_root (tree_of x).root)
+status_at_rest : (x : Execution) → first_event process_ops (tree_of x) ≡ None → status_of x ≡ status_of_outcome (outcome_of_root (tree_of x).root)
 status_at_rest x none =
     let t = tree_of x in
     status_told x ∙ ap status_of_outcome (at_rest t.root (walk process_ops t.root) none)
 
-status_stopped : (x : Execution) → first process_ops (tree_of x) ≢ None → status_of x ≡ 4
+status_stopped : (x : Execution) → first_event process_ops (tree_of x) ≢ None → status_of x ≡ 4
 status_stopped x some =
     let t = tree_of x in
     status_told x ∙ ap status_of_outcome (still_going t.root (walk process_ops t.root) some)

@@ -21,7 +21,7 @@ use Rattle.shim_units.specs.declared.unit.UCall.{UCall}
 use Rattle.shim_units.specs.declared.unit.UStmt.{UStmt}
 use Rattle.shim_units.specs.declared.unit.UWhat.{UWhat}
 use Rattle.shim_units.specs.declared.unit.UWhat.TheVariants.{If, For, Try}
-use Rattle.shim_units.specs.Moving.{slot_index_of, slot_index_of_option, moved, moved_option}
+use Rattle.shim_units.specs.Moving.{slot_index_of, slot_index_of_option, renumbered, moved_option}
 use Rattle.shim_units.specs.Parts.{LiftContext, Part, Lifts}
 use Rattle.shim_units.specs.Lifting.{branch_inner, lift_all, lift_branch, lift_three, lift_two}
 use Rattle.shim_units.specs.PartFold.{branch_what_step, what_step, branch_step, stmt_step, part, parts, branch_part, branch_parts, lift_in}
@@ -30,7 +30,7 @@ use Rattle.shim_units.proofs.PartSteps.{branch_what_part, what_part}
 use Rattle.shim_sharing.specs.declared.ShareFault.{ShareFault}
 use Rattle.shim_sharing.specs.Accepting.{unless_refused}
 use Rattle.shim_sharing.specs.Refusals.{refusal}
-use Rattle.shim_front_end.specs.Source.{Source, bound, checked, shared}
+use Rattle.shim_front_end.specs.Source.{Source, bound, checked, sharing_result}
 use Rattle.shim_answers.specs.Deeds.{functions_from}
 
 -- all of these units belong to the function of this number
@@ -132,7 +132,7 @@ what_layer (RWhat-F.AssignNext x y) line = λ context w n. tt
 what_layer (RWhat-F.Get x y) line = λ context w n. tt
 what_layer (RWhat-F.Put x a) line = λ context w n. tt
 what_layer (RWhat-F.If a first other) line =
-    two (λ w r s. If (moved w.slots a) r s) (lift_all (parts (stmts first))) (lift_all (parts (stmts other))) (stmts_stay first) (stmts_stay other)
+    two (λ w r s. If (renumbered w.slots a) r s) (lift_all (parts (stmts first))) (lift_all (parts (stmts other))) (stmts_stay first) (stmts_stay other)
 what_layer (RWhat-F.While a body) line = λ context w n. stmts_stay body context w n
 what_layer (RWhat-F.For first test step body) line =
     three (λ w p r s. For p (moved_option w.slots test) r s) (lift_all (parts (stmts first))) (lift_all (parts (stmts step))) (lift_all (parts (stmts body))) (stmts_stay first) (stmts_stay step) (stmts_stay body)
@@ -230,7 +230,7 @@ bound_as_many p form e =
     sym size ∙ as_many w [] p.functions fs.0 fs.1
 
 -- what is accepted is lifted
-lifted_if_shared : (o : Option ShareFault) (made source : Form) → shared (unless_refused o made) ≡ Ok source → made ≡ source
+lifted_if_shared : (o : Option ShareFault) (made source : Form) → sharing_result (unless_refused o made) ≡ Ok source → made ≡ source
 lifted_if_shared None made source e = cc
 lifted_if_shared (Some fault) made source e = absurd (cc)
 

@@ -10,7 +10,7 @@ use Rattle.shim_process.proofs.PlaceRoot.{root_sound}
 use Rattle.shim_semantics.specs.Laws.{IsSoundTree}
 use Rattle.shim_semantics.specs.Sound.{SharesItsOwn}
 use Rattle.shim_semantics.specs.Trees.{Tree, Event, start, steps, IsQuiescent}
-use Rattle.shim_semantics.specs.Walks.{first, meaning}
+use Rattle.shim_semantics.specs.Walks.{first_event, meaning}
 use Rattle.shim_semantics.proofs.Counting.{none_counted}
 use Rattle.shim_semantics.proofs.Enabled.{first_enabled, none_first}
 use Rattle.shim_semantics.proofs.SoundEvents.{events_keep_sound, runs_stay_sound}
@@ -23,11 +23,11 @@ use Rattle.shim_answers.specs.RunEnds.{Execution, tree_of}
 
 module _ {S : Type 0} (o : Ops S) where
   -- the tree to which the meaning comes is at rest, or something can happen in it and the budget is used up
-  came : (root : S) (b : ℕ) (t : Tree S) → IsSoundTree o t → EndsWithin o b (start root) t → (f : Option Event) → first o t ≡ f → IsEndOfRun o b t
+  came : (root : S) (b : ℕ) (t : Tree S) → IsSoundTree o t → EndsWithin o b (start root) t → (f : Option Event) → first_event o t ≡ f → IsEndOfRun o b t
   came root b t s w None is = inl (is, none_first o t (sym is))
   came root b t s w (Some e) is = inr (some, busy, elim w.ends [ inl q ↦ absurd (busy q) | inr n ↦ full n ])
     where
-      some : first o t ≡ None → ⊥
+      some : first_event o t ≡ None → ⊥
       some n = absurd (cc (is, n))
 
       busy : IsQuiescent o t → ⊥
@@ -40,7 +40,7 @@ module _ {S : Type 0} (o : Ops S) where
   meaning_came law root b sound own =
       let s = (events_keep_sound o law).starts root sound own in
       let w = meaning_ends o law b (start root) s in
-      came root b (meaning o b (start root)) (runs_stay_sound o law (start root) (meaning o b (start root)) w.events s w.leads) w (first o (meaning o b (start root))) refl
+      came root b (meaning o b (start root)) (runs_stay_sound o law (start root) (meaning o b (start root)) w.events s w.leads) w (first_event o (meaning o b (start root))) refl
 
 -- the tree to which a source comes is the end of a run of first events
 pub was_run : (x : Execution) → UsesOwnSlots x.source → IsEndOfRun process_ops x.budget (tree_of x)

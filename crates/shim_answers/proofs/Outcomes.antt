@@ -6,7 +6,7 @@ use Rattle.shim_front_end.specs.declared.SourceFault.{SourceFault}
 use Rattle.shim_front_end.specs.declared.SourceFault.TheVariants.{Parse}
 use Rattle.shim_front_end.specs.FrontEnd.{IsOnlyText, IsOnlyFault}
 use Rattle.shim_front_end.specs.Source.{Source, IsSource, checked}
-use Rattle.shim_report.specs.Refusal.{refusal}
+use Rattle.shim_report.specs.Refusal.{refusal_text}
 use Rattle.shim_answers.specs.RunEnds.{Execution}
 use Rattle.shim_answers.specs.Deeds.{Deed}
 use Rattle.shim_answers.specs.Answer.{Answer, AnswersProgram, AnswersSource, IsNoSource, IsRefusal}
@@ -46,21 +46,21 @@ no_acceptance bytes program r text refused source h =
     accepted_or_refused program source r (subst P (text.only h.program h.text) h.units) refused
 
 -- it has one line
-line_of_refused : (bytes : List ℕ) (program : Program) (r : SourceFault) → IsOnlyText bytes program → checked program ≡ Err r → (line : List ℕ) → IsRefusal bytes line → line ≡ refusal r
+line_of_refused : (bytes : List ℕ) (program : Program) (r : SourceFault) → IsOnlyText bytes program → checked program ≡ Err r → (line : List ℕ) → IsRefusal bytes line → line ≡ refusal_text r
 line_of_refused bytes program r text refused line (inl (other, is, s, there, same)) =
     let P : Program → Type 0 = λ q. checked q ≡ Err s in
-    same ∙ ap (λ (t : SourceFault). refusal t) (refused_once program r s refused (subst P (text.only other is) there))
+    same ∙ ap (λ (t : SourceFault). refusal_text t) (refused_once program r s refused (subst P (text.only other is) there))
 line_of_refused bytes program r text refused line (inr (fault, is, same)) = absurd (text.faultless fault is)
 
 -- and so have bytes with a fault
-line_of_fault : (bytes : List ℕ) (fault : ParseFault) → IsOnlyFault bytes fault → (line : List ℕ) → IsRefusal bytes line → line ≡ refusal (Parse fault)
+line_of_fault : (bytes : List ℕ) (fault : ParseFault) → IsOnlyFault bytes fault → (line : List ℕ) → IsRefusal bytes line → line ≡ refusal_text (Parse fault)
 line_of_fault bytes fault h line (inl (program, is, r, refused, same)) = absurd (h.textless program is)
-line_of_fault bytes fault h line (inr (other, is, same)) = same ∙ ap (λ (f : ParseFault). refusal (Parse f)) (h.only other is)
+line_of_fault bytes fault h line (inr (other, is, same)) = same ∙ ap (λ (f : ParseFault). refusal_text (Parse f)) (h.only other is)
 
 pub outcome : (deed : Deed) (as_run : Source → Execution) (bytes : List ℕ) (answer : Answer) → AnswersSource deed as_run bytes answer → Outcome deed as_run bytes answer
 outcome deed as_run bytes answer (inl (program, text, inl (source, units, told))) =
     does source (record { program = program; text = text.text; units = units }) told (λ other is_other. (one_source bytes program source text units other is_other, text.only is_other.program is_other.text)) (never_refused bytes program source text units)
 outcome deed as_run bytes answer (inl (program, text, inr (r, refused, is))) =
-    refuses (refusal r) (inl (program, text.text, r, refused, refl)) (line_of_refused bytes program r text refused) (no_acceptance bytes program r text refused) is
+    refuses (refusal_text r) (inl (program, text.text, r, refused, refl)) (line_of_refused bytes program r text refused) (no_acceptance bytes program r text refused) is
 outcome deed as_run bytes answer (inr (fault, h, is)) =
-    refuses (refusal (Parse fault)) (inr (fault, h.faulty, refl)) (line_of_fault bytes fault h) (λ source has. h.textless has.program has.text) is
+    refuses (refusal_text (Parse fault)) (inr (fault, h.faulty, refl)) (line_of_fault bytes fault h) (λ source has. h.textless has.program has.text) is

@@ -4,9 +4,9 @@ use Rattle.shim_local.specs.Process.{Ops}
 use Rattle.shim_process.specs.Forks.{root}
 use Rattle.shim_process.specs.OwnSlots.{UsesOwnSlots}
 use Rattle.shim_process.specs.Ops.{process_ops}
-use Rattle.shim_semantics.specs.Systems.{run, go_on}
+use Rattle.shim_semantics.specs.Systems.{run, on_some}
 use Rattle.shim_semantics.specs.Trees.{Tree, Event, after, start, steps}
-use Rattle.shim_semantics.specs.Walks.{first, after_first, or_stay, meaning}
+use Rattle.shim_semantics.specs.Walks.{first_event, after_first, or_stay, meaning}
 use Rattle.shim_semantics.proofs.Counting.{event_counts, none_counted}
 use Rattle.shim_reference.specs.Reference.{meaning_of}
 use Rattle.shim_answers.specs.RunEnds.{Execution, tree_of, status_of, IsReachedIn}
@@ -22,7 +22,7 @@ module _ {S : Type 0} (o : Ops S) where
 
   one_first : (b : ℕ) (t v u : Tree S) (e : Event) → after o e t ≡ Some v → Reaches o b v u → Reaches o (suc b) t u
   one_first b t v u e is (es, leads, counts, few) =
-      (e ∷ es, ap (go_on (run (after o) es)) is ∙ leads, omega (arith, counts, event_counts o e t v is), omega (arith, few))
+      (e ∷ es, ap (on_some (run (after o) es)) is ∙ leads, omega (arith, counts, event_counts o e t v is), omega (arith, few))
 
   module _ (b : ℕ) (rest : (v : Tree S) → Reaches o b v (meaning o b v)) where
     by_event : (t : Tree S) (e : Event) (x : Option (Tree S)) → after o e t ≡ x → Reaches o (suc b) t (meaning o b (or_stay t x))
@@ -36,7 +36,7 @@ module _ {S : Type 0} (o : Ops S) where
   reached : (b : ℕ) (t : Tree S) → Reaches o b t (meaning o b t)
   unfolding meaning
   reached zero t = ([], refl, omega arith, omega arith)
-  reached (suc b) t = by_first b (reached b) t (first o t)
+  reached (suc b) t = by_first b (reached b) t (first_event o t)
 
 -- the run of a source
 tree_reached : (x : Execution) → Reaches process_ops x.budget (start (root x.source x.input)) (tree_of x)

@@ -11,9 +11,9 @@ use Rattle.shim_sharing.specs.Refusals.{refusal}
 use Rattle.shim_sharing.specs.declared.ShareFault.{ShareFault}
 use Rattle.shim_process.specs.OwnSlots.{UsesOwnSlots}
 use Rattle.shim_laws_sources.proofs.Units.{lifted_use_own}
-use Rattle.shim_front_end.specs.Source.{Source, IsSource, shared, bound}
+use Rattle.shim_front_end.specs.Source.{Source, IsSource, sharing_result, bound}
 
-same_form : (o : Option ShareFault) (made source : Form) → shared (unless_refused o made) ≡ Ok source → made ≡ source
+same_form : (o : Option ShareFault) (made source : Form) → sharing_result (unless_refused o made) ≡ Ok source → made ≡ source
 same_form None made source e = cc
 same_form (Some fault) made source e = absurd cc
 

@@ -9,7 +9,7 @@ use Rattle.shim_front_end.specs.declared.SourceFault.{SourceFault}
 use Rattle.shim_front_end.specs.declared.SourceFault.TheVariants.{Parse}
 use Rattle.shim_front_end.specs.FrontEnd.{IsOnlyText, IsOnlyFault}
 use Rattle.shim_front_end.specs.Source.{Source, IsSource, checked}
-use Rattle.shim_report.specs.Refusal.{refusal}
+use Rattle.shim_report.specs.Refusal.{refusal_text}
 use Rattle.shim_command.specs.declared.job.Job.{Job}
 use Rattle.shim_command.specs.declared.mode.Course.{Course}
 use Rattle.shim_command.specs.declared.mode.Course.TheVariants.{ByFirstEvents, InSomeOrder}
@@ -30,7 +30,7 @@ pub record Answer : Type 0 where
   pub text : List ℕ
 
 abbrev pub refused : SourceFault → Answer
-refused fault = record { status = 5; text = refusal fault }
+refused fault = record { status = 5; text = refusal_text fault }
 
 abbrev pub journal_refused : List ℕ → Answer
 journal_refused line = record { status = 9; text = line }
@@ -46,8 +46,8 @@ IsNoSource bytes = (source : Source) → IsSource bytes source → ⊥
 -- why bytes are refused with this line: they are the text of a program that isn't accepted, with this first fault, or they are the text of none, with this fault
 abbrev pub IsRefusal : List ℕ → List ℕ → Type 0
 IsRefusal bytes line =
-    ((program : Program) × IsText bytes program × (fault : SourceFault) × (checked program ≡ Err fault) × (line ≡ refusal fault))
-    ⊎ ((fault : ParseFault) × IsFaultOf bytes fault × (line ≡ refusal (Parse fault)))
+    ((program : Program) × IsText bytes program × (fault : SourceFault) × (checked program ≡ Err fault) × (line ≡ refusal_text fault))
+    ⊎ ((fault : ParseFault) × IsFaultOf bytes fault × (line ≡ refusal_text (Parse fault)))
 
 -- a run is answered with the status that tells how it ended, and with this text
 abbrev pub AnswersRun : Course → (Execution → Ended → List ℕ) → Execution → Answer → Type 0

@@ -3,14 +3,14 @@ use Rattle.std.specs.Prelude.{ℕ}
 use Rattle.shim_answers.specs.declared.status.ExitStatus.{ExitStatus}
 use Rattle.shim_answers.specs.declared.status.ExitStatus.TheVariants.{Done, Failed, Usage, Blocked, Spent, Refused, FileFault, SinkFault, NoMemory, JournalFault}
 
-abbrev pub code_of : ExitStatus → ℕ
-code_of Done = 0
-code_of Failed = 1
-code_of Usage = 2
-code_of Blocked = 3
-code_of Spent = 4
-code_of Refused = 5
-code_of FileFault = 6
-code_of SinkFault = 7
-code_of NoMemory = 8
-code_of JournalFault = 9
+abbrev pub exit_code : ExitStatus → ℕ
+exit_code Done = 0
+exit_code Failed = 1
+exit_code Usage = 2
+exit_code Blocked = 3
+exit_code Spent = 4
+exit_code Refused = 5
+exit_code FileFault = 6
+exit_code SinkFault = 7
+exit_code NoMemory = 8
+exit_code JournalFault = 9

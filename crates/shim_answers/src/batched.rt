@@ -7,7 +7,7 @@ ghost use Rattle.shim_process.specs.Ops.{process_ops};
 ghost use Rattle.shim_net.specs.Nets.{started};
 ghost use Rattle.shim_net.specs.Standings.{IsQuietNet, IsSpentNet};
 ghost use Rattle.shim_answers.specs.Answer.{AnswersEach};
-ghost use Rattle.shim_answers.specs.AnswerView.{code_of};
+ghost use Rattle.shim_answers.specs.AnswerView.{exit_code};
 ghost use Rattle.shim_answers.specs.Batches.{greatest, input_line, reports_of, statuses_of};
 ghost use Rattle.shim_answers.specs.Deeds.{executed};
 ghost use Rattle.shim_answers.specs.Recorded.{end_of_net};
@@ -79,7 +79,7 @@ fn ends_of(alloc: Global, source: &Accepted, done: List<Net<Body>>) -> Result<Li
 
 // The greatest of the statuses that tell how runs ended.
 fn greatest_status(ends: &[Ended]) -> ExitStatus
-    ensures { code_of result ≡ greatest (statuses_of ends.now) }
+    ensures { exit_code result ≡ greatest (statuses_of ends.now) }
 {
     let mut status = ExitStatus::Done;
     for end in ends {

@@ -1,6 +1,6 @@
 // The statuses that the program ends with.
 ghost use Rattle.std.specs.Prelude.{◌≡◌, max};
-ghost use Rattle.shim_answers.specs.AnswerView.{code_of};
+ghost use Rattle.shim_answers.specs.AnswerView.{exit_code};
 ghost use Rattle.shim_answers.specs.RunEnds.{status_of_outcome};
 
 use shim_local::Outcome;
@@ -24,7 +24,7 @@ pub enum ExitStatus {
 impl ExitStatus {
     /// The status that tells how a run ended.
     pub fn of(outcome: Outcome) -> ExitStatus
-        ensures { code_of result ≡ status_of_outcome outcome }
+        ensures { exit_code result ≡ status_of_outcome outcome }
     {
         match outcome {
             Outcome::Done => ExitStatus::Done,
@@ -36,7 +36,7 @@ impl ExitStatus {
 
     /// This status or the other one, whichever has the greater number.
     pub(crate) fn or_greater(self, other: ExitStatus) -> ExitStatus
-        ensures { code_of result ≡ max (code_of self) (code_of other) }
+        ensures { exit_code result ≡ max (exit_code self) (exit_code other) }
     {
         if self.code() < other.code() {
             other
@@ -47,7 +47,7 @@ impl ExitStatus {
 
     /// The number that the program ends with.
     pub fn code(self) -> u8
-        ensures { result ≡ code_of self }
+        ensures { result ≡ exit_code self }
     {
         match self {
             ExitStatus::Done => 0,

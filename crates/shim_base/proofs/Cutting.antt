@@ -6,17 +6,17 @@ use Rattle.shim_base.specs.declared.token.TokenKind.{TokenKind}
 use Rattle.shim_base.specs.declared.token.TokenKind.TheVariants.{Word, Number}
 use Rattle.shim_base.specs.declared.token.LexKind.{LexKind}
 use Rattle.shim_base.specs.declared.token.LexKind.TheVariants.{BadByte, LongName, BigNumber, OpenComment}
-use Rattle.shim_base.specs.Tokens.{IsWithinLimits, IsFirst, Token, Place, after, IsComment, Passes, IsFault, Fault, Cuts, ended, passed, token, faulty}
+use Rattle.shim_base.specs.Tokens.{IsWithinLimits, IsLongestToken, Token, Place, place_after, IsComment, Skips, IsFault, Fault, Cuts, ended, passed, token, faulty}
 use Rattle.shim_base.proofs.FirstToken.{no_empty_token, one_first, IsSameToken}
 use Rattle.shim_base.proofs.Passing.{one_pass, no_pass_of_none, no_pass_of_token}
 
 -- no token stands first in no bytes
-pub no_first_of_none : (text rest : List ℕ) (kind : TokenKind) → IsFirst [] text rest kind → ⊥
+pub no_first_of_none : (text rest : List ℕ) (kind : TokenKind) → IsLongestToken [] text rest kind → ⊥
 no_first_of_none [] rest kind h = no_empty_token kind h.spells
 no_first_of_none (b ∷ text) rest kind h = absurd (let w = h.whole in cc)
 
 -- a token takes a byte at least
-pub first_takes : (bytes text rest : List ℕ) (kind : TokenKind) → IsFirst bytes text rest kind → (1 ≤ length text) × (length bytes ≡ length text + length rest)
+pub first_takes : (bytes text rest : List ℕ) (kind : TokenKind) → IsLongestToken bytes text rest kind → (1 ≤ length text) × (length bytes ≡ length text + length rest)
 first_takes bytes [] rest kind h = absurd (no_empty_token kind h.spells)
 first_takes bytes (b ∷ text) rest kind h = (omega arith, ap (λ (l : List ℕ). length l) h.whole ∙ length-append (b ∷ text) rest)
 
@@ -43,7 +43,7 @@ big_not_within text n kind kind_is fits big =
     absurd (omega (arith, ints, small, big))
 
 -- where a token within limits stands and no comment, there is no fault
-pub no_fault_of_token : (bytes text rest : List ℕ) (kind : TokenKind) (fault : LexKind) → (IsComment bytes → ⊥) → IsFirst bytes text rest kind → IsWithinLimits text kind →
+pub no_fault_of_token : (bytes text rest : List ℕ) (kind : TokenKind) (fault : LexKind) → (IsComment bytes → ⊥) → IsLongestToken bytes text rest kind → IsWithinLimits text kind →
     IsFault fault bytes → ⊥
 no_fault_of_token bytes text rest kind BadByte no_comment first fits h = h.2 text rest kind first
 no_fault_of_token bytes text rest kind LongName no_comment first fits h =
@@ -55,7 +55,7 @@ no_fault_of_token bytes text rest kind BigNumber no_comment first fits h =
 no_fault_of_token bytes text rest kind OpenComment no_comment first fits h = no_comment (inr h.0)
 
 -- a word is no number
-word_no_number : (bytes text rest other other_rest : List ℕ) (n : ℕ) → IsFirst bytes text rest Word → IsFirst bytes other other_rest (Number (pos n)) → ⊥
+word_no_number : (bytes text rest other other_rest : List ℕ) (n : ℕ) → IsLongestToken bytes text rest Word → IsLongestToken bytes other other_rest (Number (pos n)) → ⊥
 word_no_number bytes text rest other other_rest n first second =
     let same = one_first bytes text rest other other_rest Word (Number (pos n)) first second in
     absurd (let e = same.kind_is in cc)
@@ -100,13 +100,13 @@ cuts_none place _ _ (token _ _ text rest kind tokens end no_comment first fits m
 cuts_none place _ _ (faulty _ _ kind no_pass fault) = absurd (no_fault_of_none kind fault)
 
 -- a cutting goes on behind what is passed over
-pub cuts_passed : (place : Place) (bytes over rest : List ℕ) (tokens : List Token) (end : Option Fault) → Passes bytes over rest → Cuts place bytes tokens end →
-    Cuts (after place over) rest tokens end
+pub cuts_passed : (place : Place) (bytes over rest : List ℕ) (tokens : List Token) (end : Option Fault) → Skips bytes over rest → Cuts place bytes tokens end →
+    Cuts (place_after place over) rest tokens end
 cuts_passed place _ over rest _ _ passes (ended _) = absurd (no_pass_of_none over rest passes)
 cuts_passed place bytes over rest _ _ passes (passed _ _ other other_rest tokens end other_passes more) =
     let same = one_pass bytes other other_rest over rest other_passes passes in
-    let P : List ℕ → Type 0 = λ l. Cuts (after place l) other_rest tokens end in
-    let Q : List ℕ → Type 0 = λ l. Cuts (after place over) l tokens end in
+    let P : List ℕ → Type 0 = λ l. Cuts (place_after place l) other_rest tokens end in
+    let Q : List ℕ → Type 0 = λ l. Cuts (place_after place over) l tokens end in
     subst Q same.1 (subst P same.0 more)
 cuts_passed place bytes over rest _ _ passes (token _ _ text behind kind tokens end no_comment first fits more) = absurd (no_pass_of_token bytes text behind over rest kind no_comment first passes)
 cuts_passed place bytes over rest _ _ passes (faulty _ _ kind no_pass fault) = absurd (no_pass over rest passes)
@@ -114,15 +114,15 @@ cuts_passed place bytes over rest _ _ passes (faulty _ _ kind no_pass fault) = a
 -- a cutting begins with this token, and goes on behind it
 pub record BeginsWith (place : Place) (text rest : List ℕ) (kind : TokenKind) (tokens : List Token) (end : Option Fault) : Type 0 where
   pub more : List Token
-  pub cuts : Cuts (after place text) rest more end
+  pub cuts : Cuts (place_after place text) rest more end
   pub whole : tokens ≡ token_at place text kind ∷ more
 
 -- the same of a token that is equal
 begins_same : (place : Place) (text rest other other_rest : List ℕ) (kind other_kind : TokenKind) (tokens : List Token) (end : Option Fault) →
-    IsSameToken text rest other other_rest kind other_kind → Cuts (after place text) rest tokens end → BeginsWith place other other_rest other_kind (token_at place text kind ∷ tokens) end
+    IsSameToken text rest other other_rest kind other_kind → Cuts (place_after place text) rest tokens end → BeginsWith place other other_rest other_kind (token_at place text kind ∷ tokens) end
 begins_same place text rest other other_rest kind other_kind tokens end same more =
-    let P : List ℕ → Type 0 = λ l. Cuts (after place l) rest tokens end in
-    let Q : List ℕ → Type 0 = λ l. Cuts (after place other) l tokens end in
+    let P : List ℕ → Type 0 = λ l. Cuts (place_after place l) rest tokens end in
+    let Q : List ℕ → Type 0 = λ l. Cuts (place_after place other) l tokens end in
     record {
       more = tokens;
       cuts = subst Q same.rest_is (subst P same.text_is more);
@@ -130,7 +130,7 @@ begins_same place text rest other other_rest kind other_kind tokens end same mor
     }
 
 -- a cutting of bytes at the front of which a token stands begins with it
-pub cuts_behind : (place : Place) (bytes text rest : List ℕ) (kind : TokenKind) (tokens : List Token) (end : Option Fault) → (IsComment bytes → ⊥) → IsFirst bytes text rest kind →
+pub cuts_behind : (place : Place) (bytes text rest : List ℕ) (kind : TokenKind) (tokens : List Token) (end : Option Fault) → (IsComment bytes → ⊥) → IsLongestToken bytes text rest kind →
     IsWithinLimits text kind → Cuts place bytes tokens end → BeginsWith place text rest kind tokens end
 cuts_behind place _ text rest kind _ _ no_comment first fits (ended _) = absurd (no_first_of_none text rest kind first)
 cuts_behind place bytes text rest kind _ _ no_comment first fits (passed _ _ over behind tokens end passes more) = absurd (no_pass_of_token bytes text rest over behind kind no_comment first passes)
@@ -139,7 +139,7 @@ cuts_behind place bytes text rest kind _ _ no_comment first fits (token _ _ othe
 cuts_behind place bytes text rest kind _ _ no_comment first fits (faulty _ _ fault no_pass is) = absurd (no_fault_of_token bytes text rest kind fault no_comment first fits is)
 
 -- a cutting of bytes at the front of which a fault stands ends there
-pub cuts_fault : (place : Place) (bytes : List ℕ) (kind : LexKind) (tokens : List Token) (end : Option Fault) → ((over rest : List ℕ) → Passes bytes over rest → ⊥) → IsFault kind bytes →
+pub cuts_fault : (place : Place) (bytes : List ℕ) (kind : LexKind) (tokens : List Token) (end : Option Fault) → ((over rest : List ℕ) → Skips bytes over rest → ⊥) → IsFault kind bytes →
     Cuts place bytes tokens end → IsSameCutting tokens [] end (Some (fault_at place kind))
 cuts_fault place _ kind _ _ no_pass fault (ended _) = absurd (no_fault_of_none kind fault)
 cuts_fault place bytes kind _ _ no_pass fault (passed _ _ over rest tokens end passes more) = absurd (no_pass over rest passes)
@@ -162,9 +162,9 @@ pub cuts_once : (place : Place) (bytes : List ℕ) (tokens others : List Token) 
     IsSameCutting tokens others end other_end
 cuts_once place _ _ others _ other_end (ended _) d = same_back others [] other_end None (cuts_none place others other_end d)
 cuts_once place _ _ others _ other_end (passed _ bytes over rest tokens end passes more) d =
-    cuts_once (after place over) rest tokens others end other_end more (cuts_passed place bytes over rest others other_end passes d)
+    cuts_once (place_after place over) rest tokens others end other_end more (cuts_passed place bytes over rest others other_end passes d)
 cuts_once place _ _ others _ other_end (token _ bytes text rest kind tokens end no_comment first fits more) d =
     let h = cuts_behind place bytes text rest kind others other_end no_comment first fits d in
-    same_more (token_at place text kind) tokens h.more others end other_end h.whole (cuts_once (after place text) rest tokens h.more end other_end more h.cuts)
+    same_more (token_at place text kind) tokens h.more others end other_end h.whole (cuts_once (place_after place text) rest tokens h.more end other_end more h.cuts)
 cuts_once place _ _ others _ other_end (faulty _ bytes kind no_pass fault) d =
     same_back others [] other_end (Some (fault_at place kind)) (cuts_fault place bytes kind others other_end no_pass fault d)

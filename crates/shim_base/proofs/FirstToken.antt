@@ -12,7 +12,7 @@ use Rattle.shim_base.specs.declared.token.TokenKind.{TokenKind}
 use Rattle.shim_base.specs.declared.token.TokenKind.TheVariants.{Word, Key, Number, Sign as SignKind}
 use Rattle.shim_base.specs.declared.token.Keyword.{Keyword}
 use Rattle.shim_base.specs.declared.token.Sign.{Sign}
-use Rattle.shim_base.specs.Tokens.{is_spacing, is_digit, is_letter, is_name_byte, entry, signs, keyword_of, sign_of, is_name, is_numeral, is_hex_digit, is_hex_numeral, value, hex_value, IsNumeralOf, Spells, IsFirst}
+use Rattle.shim_base.specs.Tokens.{is_spacing, is_digit, is_letter, is_name_byte, row_for, signs, keyword_of, sign_of, is_name, is_numeral, is_hex_digit, is_hex_numeral, decimal_value, hex_value, IsNumeralOf, Spells, IsLongestToken}
 use Rattle.shim_base.proofs.Facts.{not_false}
 
 -- both halves of a test
@@ -22,13 +22,13 @@ both_true false b h = absurd (cc)
 
 -- what passes on every spelling of a table passes on a text that has an entry
 pub entry-passes : {A : Type 0} (p : List ℕ → Bool) (rows : List (List ℕ × A)) (text : List ℕ) (found : A) →
-    list_all (λ (row : List ℕ × A). p row.0) rows ≡ true → entry rows text ≡ Some found → p text ≡ true
+    list_all (λ (row : List ℕ × A). p row.0) rows ≡ true → row_for rows text ≡ Some found → p text ≡ true
 entry-passes p [] text found all is = absurd (cc)
 entry-passes {A = A} p (row ∷ rows) text found all is = by_test (bytes_eq row.0 text) refl (λ more. entry-passes p rows text found parts.1 more) where
   parts : (p row.0 ≡ true) × (list_all (λ (r : List ℕ × A). p r.0) rows ≡ true)
   parts = both_true (p row.0) (list_all (λ (r : List ℕ × A). p r.0) rows) all
 
-  by_test : (same : Bool) → bytes_eq row.0 text ≡ same → (entry rows text ≡ Some found → p text ≡ true) → p text ≡ true
+  by_test : (same : Bool) → bytes_eq row.0 text ≡ same → (row_for rows text ≡ Some found → p text ≡ true) → p text ≡ true
   by_test true t later = let P : List ℕ → Type 0 = λ l. p l ≡ true in subst P ((bytes_eq-Decides row.0 text).0 t) parts.0
   by_test false t later = later (rw t at is)
 
@@ -142,7 +142,7 @@ decimal-no_hex (b ∷ bytes) h = by_hex (is_hex_numeral (b ∷ bytes)) refl wher
 
 -- the number that a numeral stands for
 abbrev pub numeral_value : List ℕ → ℕ
-numeral_value text = if is_hex_numeral text then hex_value (drop 2 text) else value text
+numeral_value text = if is_hex_numeral text then hex_value (drop 2 text) else decimal_value text
 
 -- a numeral stands for one number
 pub numeral_is : (text : List ℕ) (n : ℕ) → IsNumeralOf text n → n ≡ numeral_value text
@@ -224,7 +224,7 @@ pub record IsSameToken (text rest other_text other_rest : List ℕ) (kind other_
   pub rest_is : rest ≡ other_rest
   pub kind_is : kind ≡ other_kind
 
-pub one_first : (bytes text rest other_text other_rest : List ℕ) (kind other_kind : TokenKind) → IsFirst bytes text rest kind → IsFirst bytes other_text other_rest other_kind →
+pub one_first : (bytes text rest other_text other_rest : List ℕ) (kind other_kind : TokenKind) → IsLongestToken bytes text rest kind → IsLongestToken bytes other_text other_rest other_kind →
     IsSameToken text rest other_text other_rest kind other_kind
 one_first bytes text rest other_text other_rest kind other_kind h k =
     let a = k.longest text rest kind h.whole h.spells in
@@ -273,7 +273,7 @@ front_cons b bytes (a ∷ more) rest kind whole h = (more, (let same : b ≡ a =
 
 -- where a letter stands, the first token is the name up to the first byte that isn't a name's
 pub name_is_first : (b : ℕ) (bytes : List ℕ) (n : ℕ) → is_letter b ≡ true → n ≡ prefix_len is_name_byte (b ∷ bytes) →
-    IsFirst (b ∷ bytes) (take n (b ∷ bytes)) (drop n (b ∷ bytes)) (name_kind (keyword_of (take n (b ∷ bytes))))
+    IsLongestToken (b ∷ bytes) (take n (b ∷ bytes)) (drop n (b ∷ bytes)) (name_kind (keyword_of (take n (b ∷ bytes))))
 name_is_first b bytes n l is = record {
   whole = sym (take-append-drop n (b ∷ bytes));
   spells = by_entry (keyword_of (take n (b ∷ bytes))) refl;
@@ -356,10 +356,10 @@ hex-short b x bytes longer more after longer_is whole hex n size is =
 
 -- where a digit and no hexadecimal numeral stands, the first token is the numeral up to the first byte that is no digit
 pub decimal_is_first : (b : ℕ) (bytes : List ℕ) (n : ℕ) → is_digit b ≡ true → is_hex_numeral (take 3 (b ∷ bytes)) ≡ false → n ≡ prefix_len is_digit (b ∷ bytes) →
-    IsFirst (b ∷ bytes) (take n (b ∷ bytes)) (drop n (b ∷ bytes)) (Number (pos (value (take n (b ∷ bytes)))))
+    IsLongestToken (b ∷ bytes) (take n (b ∷ bytes)) (drop n (b ∷ bytes)) (Number (pos (decimal_value (take n (b ∷ bytes)))))
 decimal_is_first b bytes n d no_hex is = record {
   whole = sym (take-append-drop n (b ∷ bytes));
-  spells = (value (take n (b ∷ bytes)), inl (numeral, refl), refl);
+  spells = (decimal_value (take n (b ∷ bytes)), inl (numeral, refl), refl);
   longest = longest;
 } where
   shape : take n (b ∷ bytes) ≡ b ∷ take (prefix_len is_digit bytes) bytes
@@ -392,7 +392,7 @@ decimal_is_first b bytes n d no_hex is = record {
 
 -- where a hexadecimal numeral stands, the first token is the one up to the first byte that is no hexadecimal digit
 pub hex_is_first : (b x d : ℕ) (bytes : List ℕ) (n : ℕ) → is_hex_numeral (b ∷ x ∷ d ∷ []) ≡ true → n ≡ prefix_len is_hex_digit (d ∷ bytes) →
-    IsFirst (b ∷ x ∷ d ∷ bytes) (b ∷ x ∷ take n (d ∷ bytes)) (drop n (d ∷ bytes)) (Number (pos (hex_value (take n (d ∷ bytes)))))
+    IsLongestToken (b ∷ x ∷ d ∷ bytes) (b ∷ x ∷ take n (d ∷ bytes)) (drop n (d ∷ bytes)) (Number (pos (hex_value (take n (d ∷ bytes)))))
 hex_is_first b x d bytes n hex is = record {
   whole = ap (λ (t : List ℕ). b ∷ x ∷ t) (sym (take-append-drop n (d ∷ bytes)));
   spells = (hex_value (take n (d ∷ bytes)), inr (numeral, refl), refl);
@@ -471,7 +471,7 @@ sign_front b bytes text rest kind l d whole h =
 -- a sign that no longer one begins with is the first token
 pub sign_is_first : (b : ℕ) (bytes : List ℕ) (n : ℕ) (sign : Sign) → is_letter b ≡ false → is_digit b ≡ false → n ≤ length (b ∷ bytes) → sign_of (take n (b ∷ bytes)) ≡ Some sign →
     ((m : ℕ) → n < m → m ≤ 2 → m ≤ length (b ∷ bytes) → sign_of (take m (b ∷ bytes)) ≡ None) →
-    IsFirst (b ∷ bytes) (take n (b ∷ bytes)) (drop n (b ∷ bytes)) (SignKind sign)
+    IsLongestToken (b ∷ bytes) (take n (b ∷ bytes)) (drop n (b ∷ bytes)) (SignKind sign)
 sign_is_first b bytes n sign l d within spelled no_longer = record {
   whole = sym (take-append-drop n (b ∷ bytes));
   spells = spelled;
@@ -491,7 +491,7 @@ sign_is_first b bytes n sign l d within spelled no_longer = record {
 
 -- where neither a letter nor a digit nor a sign stands there is no token
 pub no_sign_no_first : (b : ℕ) (bytes text rest : List ℕ) (kind : TokenKind) → is_letter b ≡ false → is_digit b ≡ false →
-    ((m : ℕ) → 1 ≤ m → m ≤ 2 → sign_of (take m (b ∷ bytes)) ≡ None) → IsFirst (b ∷ bytes) text rest kind → ⊥
+    ((m : ℕ) → 1 ≤ m → m ≤ 2 → sign_of (take m (b ∷ bytes)) ≡ None) → IsLongestToken (b ∷ bytes) text rest kind → ⊥
 no_sign_no_first b bytes text rest kind l d none h =
     let s = sign_front b bytes text rest kind l d h.whole h.spells in
     let e = none (length text) s.some s.short in

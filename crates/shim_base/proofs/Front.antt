@@ -12,7 +12,7 @@ use Rattle.shim_base.specs.declared.token.LexKind.{LexKind}
 use Rattle.shim_base.specs.declared.token.LexKind.TheVariants.{BadByte, LongName, BigNumber, OpenComment}
 use Rattle.shim_base.specs.declared.token.Keyword.{Keyword}
 use Rattle.shim_base.specs.declared.token.Sign.{Sign}
-use Rattle.shim_base.specs.Tokens.{is_spacing, is_digit, is_letter, is_name_byte, is_hex_digit, is_hex_numeral, keyword_of, sign_of, value, hex_value, IsWithinLimits, IsFirst, Token, Place, after, Begins, IsComment, line_opener, block_opener, block_closer, Passes, spacing, line_comment, block_comment, IsFault, Fault, Cuts, ended, passed, token, faulty}
+use Rattle.shim_base.specs.Tokens.{is_spacing, is_digit, is_letter, is_name_byte, is_hex_digit, is_hex_numeral, keyword_of, sign_of, decimal_value, hex_value, IsWithinLimits, IsLongestToken, Token, Place, place_after, Begins, IsComment, line_opener, block_opener, block_closer, Skips, spacing, line_comment, block_comment, IsFault, Fault, Cuts, ended, passed, token, faulty}
 use Rattle.shim_base.specs.Cutting.{IsCutOnce}
 use Rattle.shim_base.proofs.FirstToken.{is_on_line, name_kind, name_is_first, decimal_is_first, hex_is_first, sign_is_first, no_sign_no_first}
 use Rattle.shim_base.proofs.Passing.{line_passes, IsCloserAt, block_passes, block_open, no_pass, no_pass_of_open, no_pass_of_token}
@@ -21,9 +21,9 @@ use Rattle.shim_base.proofs.Cutting.{first_takes, token_at, fault_at, cuts_once}
 -- what stands at the front of bytes
 pub data Front : List ℕ → Type 0 where
   no_bytes : Front []
-  passing : (bytes over rest : List ℕ) → Passes bytes over rest → Front bytes
-  taken : (bytes text rest : List ℕ) (kind : TokenKind) → (IsComment bytes → ⊥) → IsFirst bytes text rest kind → IsWithinLimits text kind → Front bytes
-  fault : (bytes : List ℕ) (kind : LexKind) → ((over rest : List ℕ) → Passes bytes over rest → ⊥) → IsFault kind bytes → Front bytes
+  passing : (bytes over rest : List ℕ) → Skips bytes over rest → Front bytes
+  taken : (bytes text rest : List ℕ) (kind : TokenKind) → (IsComment bytes → ⊥) → IsLongestToken bytes text rest kind → IsWithinLimits text kind → Front bytes
+  fault : (bytes : List ℕ) (kind : LexKind) → ((over rest : List ℕ) → Skips bytes over rest → ⊥) → IsFault kind bytes → Front bytes
 
 -- a slash is one
 is_byte : (b c : ℕ) → (b == c) ≡ true → b ≡ c
@@ -115,7 +115,7 @@ block_front text (inl c) = passing (47 ∷ 42 ∷ text) (47 ∷ 42 ∷ (take c.a
 block_front text (inr none) = fault (47 ∷ 42 ∷ text) OpenComment (λ over rest. no_pass_of_open (47 ∷ 42 ∷ text) over rest (block_open text none)) (block_open text none)
 
 -- a first token that is a name is a token or too long
-word_front : (bytes text rest : List ℕ) (found : Option Keyword) → (IsComment bytes → ⊥) → IsFirst bytes text rest (name_kind found) → Front bytes
+word_front : (bytes text rest : List ℕ) (found : Option Keyword) → (IsComment bytes → ⊥) → IsLongestToken bytes text rest (name_kind found) → Front bytes
 word_front bytes text rest (Some key) no_comment first = taken bytes text rest (Key key) no_comment first tt
 word_front bytes text rest None no_comment first = by_size (cases_lt 64 (length text)) where
   by_size : (64 < length text) ⊎ (length text ≤ 64) → Front bytes
@@ -123,7 +123,7 @@ word_front bytes text rest None no_comment first = by_size (cases_lt 64 (length 
   by_size (inr le) = taken bytes text rest Word no_comment first le
 
 -- a first token that is a number is a token or too big
-number_front : (bytes text rest : List ℕ) (n : ℕ) → (IsComment bytes → ⊥) → IsFirst bytes text rest (Number (pos n)) → Front bytes
+number_front : (bytes text rest : List ℕ) (n : ℕ) → (IsComment bytes → ⊥) → IsLongestToken bytes text rest (Number (pos n)) → Front bytes
 number_front bytes text rest n no_comment first = by_size (cases_lt n (2 ^ 63)) where
   by_size : (n < 2 ^ 63) ⊎ (2 ^ 63 ≤ n) → Front bytes
   by_size (inl lt) = taken bytes text rest (Number (pos n)) no_comment first (omega (arith, ints, lt))
@@ -133,7 +133,7 @@ number_front bytes text rest n no_comment first = by_size (cases_lt n (2 ^ 63)) 
 digit_front : (b : ℕ) (bytes : List ℕ) (hex : Bool) → is_hex_numeral (take 3 (b ∷ bytes)) ≡ hex → is_digit b ≡ true → (IsComment (b ∷ bytes) → ⊥) → Front (b ∷ bytes)
 digit_front b bytes false h d no_comment =
     let n = prefix_len is_digit (b ∷ bytes) in
-    number_front (b ∷ bytes) (take n (b ∷ bytes)) (drop n (b ∷ bytes)) (value (take n (b ∷ bytes))) no_comment (decimal_is_first b bytes n d h refl)
+    number_front (b ∷ bytes) (take n (b ∷ bytes)) (drop n (b ∷ bytes)) (decimal_value (take n (b ∷ bytes))) no_comment (decimal_is_first b bytes n d h refl)
 digit_front b [] true h d no_comment = absurd (cc)
 digit_front b (x ∷ []) true h d no_comment = absurd (cc)
 digit_front b (x ∷ e ∷ bytes) true h d no_comment =
@@ -194,7 +194,7 @@ front (b ∷ bytes) = by_spacing (is_spacing b) refl where
   by_spacing false s = comment_front b bytes s (opening (b ∷ bytes))
 
 -- what is passed over takes bytes
-pub pass_takes : (bytes over rest : List ℕ) → Passes bytes over rest → (1 ≤ length over) × (bytes ≡ over ++ rest)
+pub pass_takes : (bytes over rest : List ℕ) → Skips bytes over rest → (1 ≤ length over) × (bytes ≡ over ++ rest)
 pass_takes _ _ _ (spacing b rest is) = (omega arith, refl)
 pass_takes _ _ _ (line_comment inside rest no_feed ends) = (omega arith, ap (λ (l : List ℕ). 47 ∷ 47 ∷ l) refl)
 pass_takes _ _ _ (block_comment inside rest first) = (omega arith, ap (λ (l : List ℕ). 47 ∷ 42 ∷ l) (sym (append_assoc inside block_closer rest)))
@@ -213,11 +213,11 @@ cut_front most place bytes le (passing _ over rest passes) again =
     let takes = pass_takes bytes over rest passes in
     let size : length bytes ≡ length over + length rest = ap (λ (l : List ℕ). length l) takes.1 ∙ length-append over rest in
     let some = takes.0 in
-    let more = again (after place over) rest (omega (arith, size, some, le)) in
+    let more = again (place_after place over) rest (omega (arith, size, some, le)) in
     record { tokens = more.tokens; end = more.end; cuts = passed place bytes over rest more.tokens more.end passes more.cuts }
 cut_front most place bytes le (taken _ text rest kind no_comment first fits) again =
     let takes = first_takes bytes text rest kind first in
-    let more = again (after place text) rest (omega (arith, takes.0, takes.1, le)) in
+    let more = again (place_after place text) rest (omega (arith, takes.0, takes.1, le)) in
     record {
       tokens = token_at place text kind ∷ more.tokens;
       end = more.end;

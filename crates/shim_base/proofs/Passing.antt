@@ -8,7 +8,7 @@ use Rattle.std.proofs.lemmas.Bool.{cases_lt}
 use Rattle.std.proofs.lemmas.Bool.Decides.{nat_tests}
 use Rattle.shim_base.specs.declared.token.TokenKind.{TokenKind}
 use Rattle.shim_base.specs.declared.token.LexKind.TheVariants.{OpenComment}
-use Rattle.shim_base.specs.Tokens.{is_spacing, Spells, IsFirst, Begins, IsComment, block_opener, block_closer, Passes, spacing, line_comment, block_comment, IsFault}
+use Rattle.shim_base.specs.Tokens.{is_spacing, Spells, IsLongestToken, Begins, IsComment, block_opener, block_closer, Skips, spacing, line_comment, block_comment, IsFault}
 use Rattle.shim_base.proofs.FirstToken.{is_on_line, no_spacing_first, front_cons, front_of}
 
 -- a byte of spacing is passed over
@@ -34,7 +34,7 @@ pub record IsBlock (bytes over rest : List ℕ) : Type 0 where
   pub over_is : over ≡ 47 ∷ 42 ∷ (inside ++ block_closer)
 
 -- what is passed over is one of the three
-pub one_of_three : (bytes over rest : List ℕ) → Passes bytes over rest → IsSpace bytes over rest ⊎ (IsLine bytes over rest ⊎ IsBlock bytes over rest)
+pub one_of_three : (bytes over rest : List ℕ) → Skips bytes over rest → IsSpace bytes over rest ⊎ (IsLine bytes over rest ⊎ IsBlock bytes over rest)
 one_of_three _ _ _ (spacing b rest is) = inl (record { b = b; is = is; whole = refl; over_is = refl })
 one_of_three _ _ _ (line_comment inside rest no_feed ends) = inr (inl (record { inside = inside; no_feed = no_feed; ends = ends; whole = refl; over_is = refl }))
 one_of_three _ _ _ (block_comment inside rest first) = inr (inr (record { inside = inside; first = first; whole = refl; over_is = refl }))
@@ -147,11 +147,11 @@ one_kind bytes over rest other other_rest (inr (inr s)) (inr (inl t)) = absurd (
 one_kind bytes over rest other other_rest (inr (inr s)) (inr (inr t)) = one_block bytes over rest other other_rest s t
 
 -- two things that are passed over are one
-pub one_pass : (bytes over rest other other_rest : List ℕ) → Passes bytes over rest → Passes bytes other other_rest → (over ≡ other) × (rest ≡ other_rest)
+pub one_pass : (bytes over rest other other_rest : List ℕ) → Skips bytes over rest → Skips bytes other other_rest → (over ≡ other) × (rest ≡ other_rest)
 one_pass bytes over rest other other_rest h k = one_kind bytes over rest other other_rest (one_of_three bytes over rest h) (one_of_three bytes other other_rest k)
 
 -- where no bytes are left, nothing is passed over
-pub no_pass_of_none : (over rest : List ℕ) → Passes [] over rest → ⊥
+pub no_pass_of_none : (over rest : List ℕ) → Skips [] over rest → ⊥
 no_pass_of_none over rest h = by_kind (one_of_three [] over rest h) where
   by_kind : IsSpace [] over rest ⊎ (IsLine [] over rest ⊎ IsBlock [] over rest) → ⊥
   by_kind (inl s) = absurd (let w = s.whole in cc)
@@ -172,7 +172,7 @@ block_is : (bytes over rest : List ℕ) → IsBlock bytes over rest → IsCommen
 block_is bytes over rest s = inr (s.inside ++ (block_closer ++ rest), s.whole)
 
 -- where neither spacing nor a comment stands, nothing is passed over
-pub no_pass : (b : ℕ) (bytes over rest : List ℕ) → is_spacing b ≡ false → (IsComment (b ∷ bytes) → ⊥) → Passes (b ∷ bytes) over rest → ⊥
+pub no_pass : (b : ℕ) (bytes over rest : List ℕ) → is_spacing b ≡ false → (IsComment (b ∷ bytes) → ⊥) → Skips (b ∷ bytes) over rest → ⊥
 no_pass b bytes over rest no_space no_comment h = by_kind (one_of_three (b ∷ bytes) over rest h) where
   by_kind : IsSpace (b ∷ bytes) over rest ⊎ (IsLine (b ∷ bytes) over rest ⊎ IsBlock (b ∷ bytes) over rest) → ⊥
   by_kind (inl s) = absurd (let w = s.whole in let head : s.b ≡ b = cc in let f = ap is_spacing head in let g = s.is in cc)
@@ -180,7 +180,7 @@ no_pass b bytes over rest no_space no_comment h = by_kind (one_of_three (b ∷ b
   by_kind (inr (inr s)) = no_comment (block_is (b ∷ bytes) over rest s)
 
 -- where a token stands and no comment, nothing is passed over
-pub no_pass_of_token : (bytes text behind over rest : List ℕ) (kind : TokenKind) → (IsComment bytes → ⊥) → IsFirst bytes text behind kind → Passes bytes over rest → ⊥
+pub no_pass_of_token : (bytes text behind over rest : List ℕ) (kind : TokenKind) → (IsComment bytes → ⊥) → IsLongestToken bytes text behind kind → Skips bytes over rest → ⊥
 no_pass_of_token [] text behind over rest kind no_comment first h = no_pass_of_none over rest h
 no_pass_of_token (b ∷ bytes) text behind over rest kind no_comment first h =
     let c = front_cons b bytes text behind kind first.whole first.spells in
@@ -188,9 +188,9 @@ no_pass_of_token (b ∷ bytes) text behind over rest kind no_comment first h =
     no_pass b bytes over rest (no_spacing_first b c.0 kind (subst P c.1 first.spells)) no_comment h
 
 -- a line comment is passed over up to the first line feed
-pub line_passes : (text : List ℕ) (n : ℕ) → n ≡ prefix_len is_on_line text → Passes (47 ∷ 47 ∷ text) (47 ∷ 47 ∷ take n text) (drop n text)
+pub line_passes : (text : List ℕ) (n : ℕ) → n ≡ prefix_len is_on_line text → Skips (47 ∷ 47 ∷ text) (47 ∷ 47 ∷ take n text) (drop n text)
 line_passes text n is =
-    let P : List ℕ → Type 0 = λ t. Passes (47 ∷ 47 ∷ t) (47 ∷ 47 ∷ take n text) (drop n text) in
+    let P : List ℕ → Type 0 = λ t. Skips (47 ∷ 47 ∷ t) (47 ∷ 47 ∷ take n text) (drop n text) in
     subst P (take-append-drop n text) (line_comment (take n text) (drop n text) no_feed (by_end (cases_lt (prefix_len is_on_line text) (length text)))) where
       within : prefix_len is_on_line text ≤ length text
       within = prefix_len-le-length is_on_line text
@@ -248,9 +248,9 @@ closer_more text rest k c =
 
 -- a block comment is passed over up to the first closer, and with it
 pub block_passes : (text : List ℕ) (n : ℕ) → IsCloserAt text n → ((k : ℕ) → k < n → IsCloserAt text k → ⊥) →
-    Passes (47 ∷ 42 ∷ text) (47 ∷ 42 ∷ (take n text ++ block_closer)) (drop (suc (suc n)) text)
+    Skips (47 ∷ 42 ∷ text) (47 ∷ 42 ∷ (take n text ++ block_closer)) (drop (suc (suc n)) text)
 block_passes text n c before =
-    let P : List ℕ → Type 0 = λ t. Passes (47 ∷ 42 ∷ t) (47 ∷ 42 ∷ (take n text ++ block_closer)) (drop (suc (suc n)) text) in
+    let P : List ℕ → Type 0 = λ t. Skips (47 ∷ 42 ∷ t) (47 ∷ 42 ∷ (take n text ++ block_closer)) (drop (suc (suc n)) text) in
     subst P (sym (closer_parts text n c)) (block_comment (take n text) (drop (suc (suc n)) text) first) where
       size : length (take n text) ≡ n
       size = let within = c.within in length-take-le n text (omega (arith, within))
@@ -297,5 +297,5 @@ open_kind bytes over rest fault (inr (inl s)) = open_not_line bytes over rest fa
 open_kind bytes over rest fault (inr (inr s)) = open_not_block bytes over rest fault s
 
 -- what is open is not passed over
-pub no_pass_of_open : (bytes over rest : List ℕ) → IsFault OpenComment bytes → Passes bytes over rest → ⊥
+pub no_pass_of_open : (bytes over rest : List ℕ) → IsFault OpenComment bytes → Skips bytes over rest → ⊥
 no_pass_of_open bytes over rest fault h = open_kind bytes over rest fault (one_of_three bytes over rest h)

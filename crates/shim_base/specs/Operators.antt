@@ -10,12 +10,12 @@ use Rattle.shim_base.specs.declared.operators.Trap.{Trap}
 use Rattle.shim_base.specs.declared.operators.Trap.TheVariants.{Overflow, Zero, Shift}
 
 -- the number lies from -(2 ^ 63) to 2 ^ 63 - 1
-abbrev pub fits : ℤ → Bool
+abbrev fits : ℤ → Bool
 fits z = int_le (neg_ℤ (pos (2 ^ 63))) z && int_lt z (pos (2 ^ 63))
 
 -- the number where it fits, and else an overflow
-abbrev pub checked : ℤ → Result ℤ Trap
-checked z = if fits z then Ok z else Err Overflow
+abbrev pub fitted : ℤ → Result ℤ Trap
+fitted z = if fits z then Ok z else Err Overflow
 
 -- the number is one by which bits can be shifted
 abbrev pub is_count : ℤ → Bool
@@ -31,17 +31,17 @@ truth b = if b then pos 1 else pos 0
 -- what an operator gives for the two numbers that stand beside it
 abbrev pub applied : BinOp → ℤ → ℤ → Result ℤ Trap
 -- the exact product
-applied Mul a b = checked (a *ℤ b)
+applied Mul a b = fitted (a *ℤ b)
 -- the quotient without its fraction, which cuts toward zero; of the least number and -1 it doesn't fit
-applied Div a b = if is_zero b then Err Zero else checked (int_div a b)
+applied Div a b = if is_zero b then Err Zero else fitted (int_div a b)
 -- what that quotient leaves of a, with the sign of a; by -1 nothing is left, of the least number too
 applied Rem a b = if is_zero b then Err Zero else Ok (int_rem a b)
 -- the exact sum
-applied Add a b = checked (a +ℤ b)
+applied Add a b = fitted (a +ℤ b)
 -- the exact difference
-applied Sub a b = checked (a -ℤ b)
+applied Sub a b = fitted (a -ℤ b)
 -- the exact product of a and 2 to the b; a b that is no count traps first
-applied Shl a b = if is_count b then checked (a *ℤ pos (2 ^ unsigned_abs b)) else Err Shift
+applied Shl a b = if is_count b then fitted (a *ℤ pos (2 ^ unsigned_abs b)) else Err Shift
 -- the quotient of a and 2 to the b, rounded down
 applied Shr a b = if is_count b then Ok (int_shr a (unsigned_abs b)) else Err Shift
 -- whether a is below b
@@ -70,7 +70,7 @@ applied Or a b = Ok (truth (not (is_zero a) || not (is_zero b)))
 -- what an operator gives for the number behind it
 abbrev pub applied1 : UnOp → ℤ → Result ℤ Trap
 -- the exact opposite
-applied1 Neg a = checked (neg_ℤ a)
+applied1 Neg a = fitted (neg_ℤ a)
 -- whether it is 0
 applied1 Not a = Ok (truth (is_zero a))
 -- each of the 64 bits turned over

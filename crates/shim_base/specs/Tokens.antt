@@ -25,9 +25,9 @@ abbrev pub is_name_byte : ℕ → Bool
 is_name_byte b = is_letter b || is_digit b
 
 -- what a table has beside a spelling
-abbrev pub entry : {A : Type 0} → List (List ℕ × A) → List ℕ → Option A
-entry [] text = None
-entry (row ∷ rows) text = if bytes_eq row.0 text then Some row.1 else entry rows text
+abbrev pub row_for : {A : Type 0} → List (List ℕ × A) → List ℕ → Option A
+row_for [] text = None
+row_for (row ∷ rows) text = if bytes_eq row.0 text then Some row.1 else row_for rows text
 
 abbrev pub keywords : List (List ℕ × Keyword)
 keywords =
@@ -50,10 +50,10 @@ signs =
     ∷ (codes "<", s.Less) ∷ (codes ">", s.Greater) ∷ []
 
 unfoldable pub keyword_of : List ℕ → Option Keyword
-keyword_of text = entry keywords text
+keyword_of text = row_for keywords text
 
 unfoldable pub sign_of : List ℕ → Option Sign
-sign_of text = entry signs text
+sign_of text = row_for signs text
 
 -- a letter or `_`, and then letters, digits and `_`
 abbrev pub is_name : List ℕ → Bool
@@ -73,8 +73,8 @@ abbrev pub with_digit : ℕ → ℕ → ℕ
 with_digit n digit = n * 10 + (digit - 48)
 
 -- the number that decimal digits stand for
-abbrev pub value : List ℕ → ℕ
-value digits = fold with_digit 0 digits
+abbrev pub decimal_value : List ℕ → ℕ
+decimal_value digits = fold with_digit 0 digits
 
 -- `0x` or `0X`, and then one hexadecimal digit or more
 abbrev pub is_hex_numeral : List ℕ → Bool
@@ -93,7 +93,7 @@ hex_value digits = fold with_hex_digit 0 digits
 
 -- the text is a numeral, decimal or hexadecimal, and stands for this number
 abbrev pub IsNumeralOf : List ℕ → ℕ → Type 0
-IsNumeralOf text n = (IsTrue (is_numeral text) × (n ≡ value text)) ⊎ (IsTrue (is_hex_numeral text) × (n ≡ hex_value (drop 2 text)))
+IsNumeralOf text n = (IsTrue (is_numeral text) × (n ≡ decimal_value text)) ⊎ (IsTrue (is_hex_numeral text) × (n ≡ hex_value (drop 2 text)))
 
 -- the bytes make one token of this kind
 abbrev pub Spells : List ℕ → TokenKind → Type 0
@@ -110,7 +110,7 @@ IsWithinLimits text (Number n) = n <ℤ pos (2 ^ 63)
 IsWithinLimits text (SignKind sign) = Unit {0}
 
 -- The longest token that stands at the front of the bytes has this text and kind, and the rest follows it.
-pub record IsFirst (bytes text rest : List ℕ) (kind : TokenKind) : Type 0 where
+pub record IsLongestToken (bytes text rest : List ℕ) (kind : TokenKind) : Type 0 where
   pub whole : bytes ≡ text ++ rest
   pub spells : Spells text kind
   pub longest : (longer after : List ℕ) (other : TokenKind) → bytes ≡ longer ++ after → Spells longer other → length longer ≤ length text
@@ -128,8 +128,8 @@ pub record Place : Type 0 where
   pub line : ℕ
 
 -- the place after these bytes: lines are told apart by line feeds
-abbrev pub after : Place → List ℕ → Place
-after place bytes = record { at = place.at + length bytes; line = place.line + count_by (λ b. b == 10) bytes }
+abbrev pub place_after : Place → List ℕ → Place
+place_after place bytes = record { at = place.at + length bytes; line = place.line + count_by (λ b. b == 10) bytes }
 
 abbrev pub line_opener : List ℕ
 line_opener = codes "//"
@@ -149,20 +149,20 @@ abbrev pub IsComment : List ℕ → Type 0
 IsComment bytes = Begins bytes line_opener ⊎ Begins bytes block_opener
 
 -- what is passed over at once, at the front of bytes, and the rest: a byte of spacing, or a comment
-pub data Passes : List ℕ → List ℕ → List ℕ → Type 0 where
-  spacing : (b : ℕ) (rest : List ℕ) → is_spacing b ≡ true → Passes (b ∷ rest) (b ∷ []) rest
+pub data Skips : List ℕ → List ℕ → List ℕ → Type 0 where
+  spacing : (b : ℕ) (rest : List ℕ) → is_spacing b ≡ true → Skips (b ∷ rest) (b ∷ []) rest
   -- `//` and the rest of its line, without the line feed
   line_comment : (inside rest : List ℕ) → All (λ b. b ≢ 10) inside → (rest ≡ []) ⊎ Begins rest (10 ∷ [])
-      → Passes (line_opener ++ (inside ++ rest)) (line_opener ++ inside) rest
+      → Skips (line_opener ++ (inside ++ rest)) (line_opener ++ inside) rest
   -- up to the next `*/`, and with it
   block_comment : (inside rest : List ℕ) → ((front : List ℕ) → Begins (inside ++ block_closer) (front ++ block_closer) → length inside ≤ length front)
-      → Passes (block_opener ++ (inside ++ (block_closer ++ rest))) (block_opener ++ (inside ++ block_closer)) rest
+      → Skips (block_opener ++ (inside ++ (block_closer ++ rest))) (block_opener ++ (inside ++ block_closer)) rest
 
 -- why no token can be taken, where neither spacing nor a comment is passed over
 abbrev pub IsFault : LexKind → List ℕ → Type 0
-IsFault BadByte bytes = (bytes ≢ []) × (IsComment bytes → ⊥) × ((text rest : List ℕ) (kind : TokenKind) → IsFirst bytes text rest kind → ⊥)
-IsFault LongName bytes = (IsComment bytes → ⊥) × (text : List ℕ) × (rest : List ℕ) × IsFirst bytes text rest Word × (64 < length text)
-IsFault BigNumber bytes = (IsComment bytes → ⊥) × (text : List ℕ) × (rest : List ℕ) × (n : ℕ) × IsFirst bytes text rest (Number (pos n)) × (2 ^ 63 ≤ n)
+IsFault BadByte bytes = (bytes ≢ []) × (IsComment bytes → ⊥) × ((text rest : List ℕ) (kind : TokenKind) → IsLongestToken bytes text rest kind → ⊥)
+IsFault LongName bytes = (IsComment bytes → ⊥) × (text : List ℕ) × (rest : List ℕ) × IsLongestToken bytes text rest Word × (64 < length text)
+IsFault BigNumber bytes = (IsComment bytes → ⊥) × (text : List ℕ) × (rest : List ℕ) × (n : ℕ) × IsLongestToken bytes text rest (Number (pos n)) × (2 ^ 63 ≤ n)
 IsFault OpenComment bytes = Begins bytes block_opener × ((inside : List ℕ) → Begins bytes (block_opener ++ (inside ++ block_closer)) → ⊥)
 
 -- a fault and where it stands
@@ -174,12 +174,12 @@ pub record Fault : Type 0 where
 -- The bytes, the first of which stands at this place, are cut into these tokens, up to the end or to this fault: spacing and comments are passed over, and then the longest token taken.
 pub data Cuts : Place → List ℕ → List Token → Option Fault → Type 0 where
   ended : (place : Place) → Cuts place [] [] None
-  passed : (place : Place) (bytes over rest : List ℕ) (tokens : List Token) (end : Option Fault) → Passes bytes over rest → Cuts (after place over) rest tokens end
+  passed : (place : Place) (bytes over rest : List ℕ) (tokens : List Token) (end : Option Fault) → Skips bytes over rest → Cuts (place_after place over) rest tokens end
       → Cuts place bytes tokens end
-  token : (place : Place) (bytes text rest : List ℕ) (kind : TokenKind) (tokens : List Token) (end : Option Fault) → (IsComment bytes → ⊥) → IsFirst bytes text rest kind
-      → IsWithinLimits text kind → Cuts (after place text) rest tokens end
+  token : (place : Place) (bytes text rest : List ℕ) (kind : TokenKind) (tokens : List Token) (end : Option Fault) → (IsComment bytes → ⊥) → IsLongestToken bytes text rest kind
+      → IsWithinLimits text kind → Cuts (place_after place text) rest tokens end
       → Cuts place bytes (record { kind = kind; text = text; at = place.at; line = place.line } ∷ tokens) end
-  faulty : (place : Place) (bytes : List ℕ) (kind : LexKind) → ((over rest : List ℕ) → Passes bytes over rest → ⊥) → IsFault kind bytes
+  faulty : (place : Place) (bytes : List ℕ) (kind : LexKind) → ((over rest : List ℕ) → Skips bytes over rest → ⊥) → IsFault kind bytes
       → Cuts place bytes [] (Some (record { at = place.at; line = place.line; kind = kind }))
 
 -- the place of a text's first byte

@@ -5,7 +5,7 @@ use Rattle.shim_base.specs.declared.types.Ty.{Ty}
 use Rattle.shim_base.specs.declared.types.Ty.TheVariants.{Bool, Int8, Int16, Int32, Uint8, Uint16, Uint32, Int64}
 
 -- the least number of the type
-abbrev pub least : Ty → ℤ
+abbrev least : Ty → ℤ
 least Bool = pos 0
 least Int8 = negsuc 127
 least Int16 = negsuc 32767

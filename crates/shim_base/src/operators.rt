@@ -1,6 +1,6 @@
 // The operators of expressions: what each gives for its operands, and where it traps.
 ghost use Rattle.std.specs.Prelude.{◌≡◌, ◌<◌, ◌^◌, pos, ◌*ℤ◌, if◌then◌else◌, unsigned_abs, Ok, Err};
-ghost use Rattle.shim_base.specs.Operators.{applied, applied1, checked, is_count};
+ghost use Rattle.shim_base.specs.Operators.{applied, applied1, fitted, is_count};
 
 /// An operator with one operand.
 #[derive(Clone, Copy, Debug, PartialEq, Eq)]
@@ -170,7 +170,7 @@ fn shift_left(a: i64, b: i64) -> Result<i64, Trap>
 #[tactic(auto, using(crate::proofs::Shifts::int_shl_is))]
 fn doubled(a: i64, count: u32) -> Result<i64, Trap>
     requires { count < 64 }
-    ensures { result ≡ checked (a *ℤ pos (2 ^ count)) }
+    ensures { result ≡ fitted (a *ℤ pos (2 ^ count)) }
 {
     i64::try_from(i128::from(a) << count).map_err(|_| Trap::Overflow)
 }

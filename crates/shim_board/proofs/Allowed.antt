@@ -12,7 +12,7 @@ use Rattle.shim_board.specs.declared.view.View.{View}
 use Rattle.shim_board.specs.declared.content.Content.{Content}
 use Rattle.shim_board.specs.declared.content.Content.TheVariants.{Nothing, Piece, Net}
 use Rattle.shim_board.specs.Counting.{one_at, one_pair, times, one_if}
-use Rattle.shim_board.specs.Views.{noted_with, at_slot, after_look, after_turn_seen, after_claim, after_give, after_take, after_leave, after_hold, after_put, after_collect, first_of, Ascends, seeing, HasLooked, HasClaimed, carried, out_claimed, out_turn}
+use Rattle.shim_board.specs.Views.{noted_with, at_slot, after_look, after_turn_seen, after_claim, after_give, after_take, after_leave, after_hold, after_put, after_collect, first_or, Ascends, seeing, HasLooked, HasClaimed, carried, out_claimed, out_turn}
 use Rattle.shim_board.specs.Kept.{word_of, CountsKept, Table, Seated, ValuesKept, Kept, in_hand, in_hands, IsEmptyOrBack}
 use Rattle.shim_board.specs.Steps.{HasLookedOnce, HasClaimedOrLooked, HasGiven, HasTakenOrLooked, HasLeft, HoldsEmpty, HoldsBack, HasCollected, HasPut}
 use Rattle.shim_board.proofs.Totals.{times-append, total-has, total-set, total-none, total-two}
@@ -240,7 +240,7 @@ pub note_made : (turn k x r : ℕ) (ns : List (ℕ × ℕ)) → turn ≡ 1 → x
 note_made turn k x r ns mine is = subst (λ b. 0 < times k r (cond (b && (turn == 1)) ((k, x / 4) ∷ ns) ns)) (sym (eq-eqb (x % 4) 0 (let e : x % 4 ≡ 0 = omega arith in e)))
     (subst (λ b. 0 < times k r (cond b ((k, x / 4) ∷ ns) ns)) (sym (eq-eqb turn 1 mine)) (omega arith))
 
-first_more : (ws : List ℕ) (x y : ℕ) → first_of (ws ++ x ∷ []) y ≡ first_of ws x
+first_more : (ws : List ℕ) (x y : ℕ) → first_or (ws ++ x ∷ []) y ≡ first_or ws x
 first_more [] x y = refl
 first_more (w ∷ ws) x y = refl
 

@@ -12,7 +12,7 @@ use Rattle.shim_board.specs.declared.view.View.{View}
 use Rattle.shim_board.specs.Counting.{times, one_if}
 use Rattle.shim_board.specs.Views.{spent, after_join, after_look, after_turn_seen, after_hold, after_put, after_claim, after_give, after_collect, after_take, after_leave}
 use Rattle.shim_board.specs.Kept.{word_of, CountsKept}
-use Rattle.shim_board.specs.Run.{BoardRun, Kind, split, join, look, look_turn, hold, put, claim, give, collect, take_turn, leave_turn, BoardStep, is_spent, is_none, is_slot, is_noted_below, with_piece, holds_nothing, with_view, moves, moves_out, joins, may, does, after_step, after, opened, board_run, Went, AtMostOnce, NothingLost}
+use Rattle.shim_board.specs.Run.{BoardRun, StepKind, split, join, look, look_turn, hold, put, claim, give, collect, take_turn, leave_turn, BoardStep, is_spent, is_none, is_slot, is_noted_below, changed_at, holds_nothing, with_view, moves, moves_out, joins, may, does, after_step, after, opened, board_run, Went, AtMostOnce, NothingLost}
 use Rattle.shim_board.proofs.Totals.{total-two}
 use Rattle.shim_board.proofs.Keeps.{Change, moved, moving, looks, takes_turn, leaves_turn, sees_turn}
 use Rattle.shim_board.proofs.Keeps as changes
@@ -58,10 +58,10 @@ noted_below k (p ∷ ps) e = at (noted_below k ps) ((p.0 == k) && nat_lt p.1 461
 not_eqb : (a b : ℕ) → not (a == b) ≡ true → a ≢ b
 not_eqb a b e h = nots (a == b) e (eq-eqb a b h)
 
-piece_here : {A : Type 0} (f : ℕ → A) (k : ℕ) (y : A) → with_piece f k y k ≡ y
+piece_here : {A : Type 0} (f : ℕ → A) (k : ℕ) (y : A) → changed_at f k y k ≡ y
 piece_here f k y = ap (λ b. cond b y (f k)) (eq-eqb k k refl)
 
-piece_else : {A : Type 0} (f : ℕ → A) (k : ℕ) (y : A) (j : ℕ) → j ≢ k → with_piece f k y j ≡ f j
+piece_else : {A : Type 0} (f : ℕ → A) (k : ℕ) (y : A) (j : ℕ) → j ≢ k → changed_at f k y j ≡ f j
 piece_else f k y j other = ap (λ b. cond b y (f j)) (ne_eqb j k other)
 
 module _ {T N M : Type 0} where
@@ -102,11 +102,11 @@ module _ {T N M : Type 0} where
       else_ j other = get_or-set_other s.words (k + 1) (j + 1) (word_of s.words k + 1) 0 (λ e. other (omega arith))
 
       in_keeps : (y : T) → word_of s.words k % 2 ≡ 0 → Keeps (moves s id w k (Some y) y)
-      in_keeps y even = (counts, goes_in _ _ s.piece (with_piece s.piece k (Some y)) s.done r.1 k (word_of s.words k) y refl here else_ (piece_else s.piece k (Some y)) even (piece_here s.piece k (Some y)), wide)
+      in_keeps y even = (counts, goes_in _ _ s.piece (changed_at s.piece k (Some y)) s.done r.1 k (word_of s.words k) y refl here else_ (piece_else s.piece k (Some y)) even (piece_here s.piece k (Some y)), wide)
 
       out_keeps : (o : Option T) → s.piece k ≡ o → word_of s.words k % 2 ≡ 1 → Keeps (moves_out s id w k o)
       out_keeps None is odd = r
-      out_keeps (Some y) is odd = (counts, goes_out _ _ s.piece (with_piece s.piece k None) s.done r.1 k (word_of s.words k) y refl here else_ (piece_else s.piece k None) odd is, wide)
+      out_keeps (Some y) is odd = (counts, goes_out _ _ s.piece (changed_at s.piece k None) s.done r.1 k (word_of s.words k) y refl here else_ (piece_else s.piece k None) odd is, wide)
 
     -- a chair is taken in
     joins_keep : (other : ℕ) (o : maybe.Option (View M)) → get_elem? s.views other ≡ o → id ≡ 0 → Keeps (joins s v other o)
@@ -121,7 +121,7 @@ module _ {T N M : Type 0} where
         by false hit = r
 
     -- each kind of step, where it may be done
-    step_keeps : (d : Kind T N) → may s id v d ≡ true → Keeps (does s id v d)
+    step_keeps : (d : StepKind T N) → may s id v d ≡ true → Keeps (does s id v d)
     step_keeps split m = let first = eqb-true id 0 m in (forks s.words s.views r.0 v (subst (λ j. get_elem? s.views j ≡ some v) first at) sits, r.1, r.2)
     step_keeps (join other) m = joins_keep other (get_elem? s.views other) refl (eqb-true id 0 m)
     step_keeps (look k) m = looks_on k (ltb-true (k + 1) (length s.words) m) (after_look v k (word_of s.words k)) (looks v k (word_of s.words k))

@@ -11,9 +11,9 @@ use Rattle.shim_board.specs.declared.chair.Chair.{Chair}
 use Rattle.shim_board.specs.declared.view.View.{View}
 use Rattle.shim_board.specs.Counting.{one_below, one_at, times, occurs, one_if, total, Each}
 use Rattle.shim_board.specs.Views.{fresh, spent, after_split, split_off, after_join, carried, out_claimed, out_turn}
-use Rattle.shim_board.specs.Chairs.{told, view_of, chairs_told, IsIdleOn, AreAll}
+use Rattle.shim_board.specs.Chairs.{chairs_known, view_of, chairs_told, IsIdleOn, AreAll}
 use Rattle.shim_board.specs.Closing.{SameLists, HasAllOf}
-use Rattle.shim_board.specs.Kept.{word_of, count_of, CountsKept, IsEmptyOrBack, in_hand, HomeFits, Kept, HoldsNothing}
+use Rattle.shim_board.specs.Kept.{word_of, chair_count, CountsKept, IsEmptyOrBack, in_hand, HomeFits, Kept, HoldsNothing}
 use Rattle.shim_board.proofs.Totals.{all-each, each-add, each-remove, total-remove, total-set, total-snoc, times-append, occurs-append}
 
 long : (xs ys : List ℕ) → xs ≢ [] → xs ++ ys ≢ []
@@ -21,11 +21,11 @@ long [] ys h e = h refl
 long (x ∷ xs) ys h e = absurd (cc)
 
 module _ {M : Type 0} where
-  pub count_first : (views : List (View M)) (v : View M) → get_elem? views 0 ≡ some v → count_of views ≡ v.count
+  pub count_first : (views : List (View M)) (v : View M) → get_elem? views 0 ≡ some v → chair_count views ≡ v.count
   count_first [] v e = absurd (some-ne-none v (sym e))
   count_first (x ∷ xs) v e = ap (λ (u : View M). u.count) (some-injective x v e)
 
-  count_forked : (views : List (View M)) (v l r : View M) → get_elem? views 0 ≡ some v → count_of (set views 0 l ++ r ∷ []) ≡ l.count
+  count_forked : (views : List (View M)) (v l r : View M) → get_elem? views 0 ≡ some v → chair_count (set views 0 l ++ r ∷ []) ≡ l.count
   count_forked [] v l r e = absurd (some-ne-none v (sym e))
   count_forked (x ∷ xs) v l r e = refl
 
@@ -70,7 +70,7 @@ module _ {M : Type 0} where
         (λ (t : (j ≢ other) × (get_elem? (set views id b) j ≡ some u)). ⊎_elim (λ (s : (j ≡ id) × (b ≡ u)). subst P s.1 left) (λ (s : (j ≢ id) × (get_elem? views j ≡ some u)). was j u s.1) (at_set views id j b u t.1))
         (at_set (set views id b) other j n u e)
 
-  count_glued : (views : List (View M)) (other : ℕ) (v b n : View M) → get_elem? views 0 ≡ some v → other ≢ 0 → count_of (set (set views 0 b) other n) ≡ b.count
+  count_glued : (views : List (View M)) (other : ℕ) (v b n : View M) → get_elem? views 0 ≡ some v → other ≢ 0 → chair_count (set (set views 0 b) other n) ≡ b.count
   count_glued [] other v b n e apart = absurd (some-ne-none v (sym e))
   count_glued (x ∷ xs) zero v b n e apart = absurd (apart refl)
   count_glued (x ∷ xs) (suc other) v b n e apart = refl
@@ -126,7 +126,7 @@ module _ {T N M : Type 0} (label : N → M) (board : M) where
   joins_first id other v w zero_is sits rests = subst (λ (j : ℕ). Joins (Kept {T = T} label board) j v other w (after_join v w) spent) (sym zero_is) (joins_at other v w sits rests.0 rests.1 rests.2)
 
 -- the chairs but chair 0 know no count
-pub told_no_more : (chairs number : ℕ) → 0 < number → told chairs number ≡ 0
+pub told_no_more : (chairs number : ℕ) → 0 < number → chairs_known chairs number ≡ 0
 told_no_more chairs zero above = absurd (omega arith)
 told_no_more chairs (suc number) above = refl
 

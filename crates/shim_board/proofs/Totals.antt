@@ -7,7 +7,7 @@ use mathlib.Core.Option.{some, some-injective, some-ne-none}
 use lib.ListN.{get_elem?}
 use Rattle.shim_board.specs.declared.view.View.{View}
 use Rattle.shim_board.specs.Counting.{times, without, occurs, total, Each}
-use Rattle.shim_board.specs.Kept.{count_of}
+use Rattle.shim_board.specs.Kept.{chair_count}
 
 module _ {V : Type 0} (f : V → ℕ) where
   pub total-set : (l : List V) (i : ℕ) (v w : V) → get_elem? l i ≡ some v → total f (set l i w) + f v ≡ total f l + f w
@@ -55,7 +55,7 @@ pub occurs-append : (x : ℕ) (xs ys : List ℕ) → occurs x (xs ++ ys) ≡ occ
 occurs-append x [] ys = omega arith
 occurs-append x (n ∷ ns) ys = let h = occurs-append x ns ys in omega arith
 
-pub count_of-set : {M : Type 0} (l : List (View M)) (i : ℕ) (v w : View M) → get_elem? l i ≡ some v → w.count ≡ v.count → count_of (set l i w) ≡ count_of l
+pub count_of-set : {M : Type 0} (l : List (View M)) (i : ℕ) (v w : View M) → get_elem? l i ≡ some v → w.count ≡ v.count → chair_count (set l i w) ≡ chair_count l
 count_of-set {M} [] i v w e same = refl
 count_of-set {M} (x ∷ xs) zero v w e same = same ∙ ap (λ (u : View M). u.count) (sym (some-injective x v e))
 count_of-set {M} (x ∷ xs) (suc i) v w e same = refl

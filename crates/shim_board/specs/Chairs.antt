@@ -8,9 +8,9 @@ use Rattle.shim_board.specs.Counting.{one_below, occurs, total}
 use Rattle.shim_board.specs.Views.{fresh}
 
 -- what the chair of this number knows of how many there are: chair 0 all, the others nothing
-abbrev pub told : ℕ → ℕ → ℕ
-told chairs zero = chairs
-told chairs (suc number) = 0
+abbrev pub chairs_known : ℕ → ℕ → ℕ
+chairs_known chairs zero = chairs
+chairs_known chairs (suc number) = 0
 
 module _ {T N M : Type 0} where
   abbrev pub slots_of : Board T N M → ℕ
@@ -42,7 +42,7 @@ module _ {T N M : Type 0} {g : Ghosts N M} where
 
   -- one of so many chairs of this board, which has a number below their count and has done nothing yet
   abbrev pub IsNewOn : Board T N M → ℕ → Chair T N M g → Type 0
-  IsNewOn b chairs c = IsIdleOn b c × (seen_of c ≡ 0) × ((number : ℕ) × (number < chairs) × (view_of c ≡ fresh (Some (name_of g.name b)) number (told chairs number)))
+  IsNewOn b chairs c = IsIdleOn b c × (seen_of c ≡ 0) × ((number : ℕ) × (number < chairs) × (view_of c ≡ fresh (Some (name_of g.name b)) number (chairs_known chairs number)))
 
   -- d stands for the same chairs as c
   abbrev pub StandsAs : Chair T N M g → Chair T N M g → Type 0

@@ -19,9 +19,9 @@ abbrev pub IsEmptyOrBack : ℕ → Type 0
 IsEmptyOrBack x = (x % 4 ≡ 1 → ⊥) × (x % 4 ≡ 2 → ⊥)
 
 -- how many chairs there are, which chair 0 keeps
-abbrev pub count_of : {M : Type 0} → List (View M) → ℕ
-count_of [] = 0
-count_of (v ∷ vs) = v.count
+abbrev pub chair_count : {M : Type 0} → List (View M) → ℕ
+chair_count [] = 0
+chair_count (v ∷ vs) = v.count
 
 -- The words and the views. A pair is in the lists of all chairs as often as the slot's word has passed the step that adds it, once or never
 pub record CountsKept {M : Type 0} (words : List ℕ) (views : List (View M)) : Type 0 where
@@ -36,7 +36,7 @@ pub record CountsKept {M : Type 0} (words : List ℕ) (views : List (View M)) : 
   pub noted : (j : ℕ) (v : View M) → get_elem? views j ≡ some v → (k r : ℕ) → 0 < times k r v.noted → (v.turn ≡ 1) × (word_of words k ≡ 4 * r)
   pub hand : (j : ℕ) (v : View M) → get_elem? views j ≡ some v → (k x : ℕ) → v.hand ≡ Some (k, x) → (v.turn ≡ 1) × (word_of words k ≡ x) × IsEmptyOrBack x
   pub seen : (j : ℕ) (v : View M) → get_elem? views j ≡ some v → (k x : ℕ) → 0 < times k x v.seen → x ≤ word_of words k
-  pub numbers : (x : ℕ) → total (λ v. occurs x v.numbers) views ≡ one_below x (count_of views)
+  pub numbers : (x : ℕ) → total (λ v. occurs x v.numbers) views ≡ one_below x (chair_count views)
   pub unspent : (j : ℕ) (v : View M) → get_elem? views j ≡ some v → v.numbers ≡ [] → v ≡ spent
 
 abbrev pub in_hand : ℕ → Option (ℕ × ℕ) → ℕ

@@ -6,7 +6,7 @@ use Rattle.shim_board.specs.declared.content.Content.TheVariants.{Nothing, Piece
 use Rattle.shim_board.specs.declared.view.View.{View}
 use Rattle.shim_board.specs.Counting.{times, occurs, total}
 use Rattle.shim_board.specs.Views.{spent}
-use Rattle.shim_board.specs.Kept.{word_of, count_of, Table}
+use Rattle.shim_board.specs.Kept.{word_of, chair_count, Table}
 
 -- the states of a slot
 abbrev pub IsEmpty : ℕ → Type 0
@@ -15,13 +15,13 @@ IsEmpty x = x % 4 ≡ 0
 abbrev pub IsFull : ℕ → Type 0
 IsFull x = x % 4 ≡ 1
 
-abbrev pub IsTaken : ℕ → Type 0
+abbrev IsTaken : ℕ → Type 0
 IsTaken x = x % 4 ≡ 2
 
 abbrev pub IsBack : ℕ → Type 0
 IsBack x = x % 4 ≡ 3
 
-abbrev pub round_of : ℕ → ℕ
+abbrev round_of : ℕ → ℕ
 round_of x = x / 4
 
 module _ {T N M : Type 0} (label : N → M) (board : M) (s : Table T N M) where
@@ -87,8 +87,8 @@ module _ {T N M : Type 0} (label : N → M) (board : M) (s : Table T N M) where
     pub named : (x : N) → get_elem? s.homes 0 ≡ some (some (Net x)) → label x ≡ board
     pub names : (j : ℕ) (v : View M) → HasView j v → v.numbers ≢ [] → v.name ≡ Some board
     -- each number below the count of chairs is one chair's, and no other number is any chair's; a chair without a number is spent
-    pub numbers : (x : ℕ) → x < count_of s.views → ExactlyOne (λ v. 0 < occurs x v.numbers)
-    pub no_others : (x : ℕ) → count_of s.views ≤ x → (j : ℕ) (v : View M) → HasView j v → occurs x v.numbers ≡ 0
+    pub numbers : (x : ℕ) → x < chair_count s.views → ExactlyOne (λ v. 0 < occurs x v.numbers)
+    pub no_others : (x : ℕ) → chair_count s.views ≤ x → (j : ℕ) (v : View M) → HasView j v → occurs x v.numbers ≡ 0
     pub unspent : (j : ℕ) (v : View M) → HasView j v → v.numbers ≡ [] → v ≡ spent
     -- there are as many words as places, one for each slot and one for the turn, and none is above 2^64 - 4
     pub one_each : length s.words ≡ length s.homes

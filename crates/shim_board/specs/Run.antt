@@ -9,25 +9,25 @@ use Rattle.shim_board.specs.Views.{first_chair, spent, split_off, after_split, a
 use Rattle.shim_board.specs.Kept.{word_of}
 
 -- The kinds of step, with the slot, and with what a step brings. A look at the turn's word is a look, too
-pub data Kind (T N : Type 0) : Type 0 where
-  split : Kind T N
-  join : ℕ → Kind T N
-  look : ℕ → Kind T N
-  look_turn : Kind T N
-  hold : ℕ → Kind T N
-  put : ℕ → T → Kind T N
-  claim : ℕ → Kind T N
-  give : ℕ → T → Kind T N
-  collect : ℕ → Kind T N
-  take_turn : Kind T N
-  leave_turn : N → Kind T N
+pub data StepKind (T N : Type 0) : Type 0 where
+  split : StepKind T N
+  join : ℕ → StepKind T N
+  look : ℕ → StepKind T N
+  look_turn : StepKind T N
+  hold : ℕ → StepKind T N
+  put : ℕ → T → StepKind T N
+  claim : ℕ → StepKind T N
+  give : ℕ → T → StepKind T N
+  collect : ℕ → StepKind T N
+  take_turn : StepKind T N
+  leave_turn : N → StepKind T N
 
 pub record BoardStep (T N : Type 0) : Type 0 where
   pub chair : ℕ
-  pub kind : Kind T N
+  pub kind : StepKind T N
 
 -- a slot's word went on by one: from where, and with which piece
-pub record Entry (T : Type 0) : Type 0 where
+pub record SlotEntry (T : Type 0) : Type 0 where
   pub slot : ℕ
   pub word : ℕ
   pub value : T
@@ -38,7 +38,7 @@ pub record BoardRun (T N M : Type 0) : Type 0 where
   pub piece : ℕ → Option T
   pub net : Option N
   pub views : List (View M)
-  pub done : List (Entry T)
+  pub done : List (SlotEntry T)
 
 abbrev pub is_spent : List ℕ → Bool
 is_spent [] = true
@@ -59,8 +59,8 @@ is_noted_below k [] = false
 is_noted_below k (p ∷ ps) = cond ((p.0 == k) && nat_lt p.1 4611686018427387903) true (is_noted_below k ps)
 
 -- f, but y at k
-abbrev pub with_piece : {A : Type 0} → (ℕ → A) → ℕ → A → ℕ → A
-with_piece f k y j = cond (j == k) y (f j)
+abbrev pub changed_at : {A : Type 0} → (ℕ → A) → ℕ → A → ℕ → A
+changed_at f k y j = cond (j == k) y (f j)
 
 abbrev pub holds_nothing : {M : Type 0} → View M → Bool
 holds_nothing w = (w.turn == 0) && is_none w.claimed && is_none w.hand
@@ -74,7 +74,7 @@ module _ {T N M : Type 0} where
   abbrev pub moves : BoardRun T N M → ℕ → View M → ℕ → Option T → T → BoardRun T N M
   moves s id w k piece y = record {
     words = slice_set s.words (k + 1) (word_of s.words k + 1);
-    piece = with_piece s.piece k piece;
+    piece = changed_at s.piece k piece;
     net = s.net;
     views = slice_set s.views id w;
     done = record { slot = k; word = word_of s.words k; value = y } ∷ s.done;
@@ -99,7 +99,7 @@ module _ {T N M : Type 0} where
     word k = word_of s.words k
 
     -- whether the word and the chair allow the step
-    abbrev pub may : Kind T N → Bool
+    abbrev pub may : StepKind T N → Bool
     may split = id == 0
     may (join other) = id == 0
     may (look k) = has_slot k
@@ -113,7 +113,7 @@ module _ {T N M : Type 0} where
     may (leave_turn net) = (v.turn == 1) && is_none v.hand
 
     -- what it does
-    abbrev pub does : Kind T N → BoardRun T N M
+    abbrev pub does : StepKind T N → BoardRun T N M
     does split = record s { views = slice_set s.views 0 (after_split v) ++ split_off v ∷ [] }
     does (join other) = joins s v other (get_elem? s.views other)
     does (look k) = with_view s id (after_look v k (word k))
@@ -143,18 +143,18 @@ module _ {T N M : Type 0} where
   board_run label net slots steps = after (opened label net slots) steps
 
 -- how often the word of the slot k went on from x
-abbrev pub passed : {T : Type 0} → ℕ → ℕ → List (Entry T) → ℕ
+abbrev pub passed : {T : Type 0} → ℕ → ℕ → List (SlotEntry T) → ℕ
 passed k x [] = 0
 passed k x (e ∷ es) = one_pair k x (e.slot, e.word) + passed k x es
 
-abbrev pub Among : {T : Type 0} → Entry T → List (Entry T) → Type 0
-Among e [] = ⊥
-Among e (x ∷ xs) = (e ≡ x) ⊎ Among e xs
+abbrev pub IsAmong : {T : Type 0} → SlotEntry T → List (SlotEntry T) → Type 0
+IsAmong e [] = ⊥
+IsAmong e (x ∷ xs) = (e ≡ x) ⊎ IsAmong e xs
 
 module _ {T N M : Type 0} (s : BoardRun T N M) where
   -- a step so far took the word of the slot k on from x, with the piece y
   abbrev pub Went : ℕ → ℕ → T → Type 0
-  Went k x y = Among record { slot = k; word = x; value = y } s.done
+  Went k x y = IsAmong record { slot = k; word = x; value = y } s.done
 
   -- the piece y of the slot k was put, claimed, given and collected in the round r
   abbrev pub WasPut : ℕ → ℕ → T → Type 0
@@ -215,7 +215,7 @@ module _ {T N M : Type 0} (s : BoardRun T N M) where
     pub claimed : (k r : ℕ) (y : T) → WasClaimed k r y → IsHeldByItsChair k r ⊎ ((z : T) × WasGiven k r z × (WasCollected k r z ⊎ StandsBack k r z))
 
 -- a step of the chair j
-abbrev pub by : {T N : Type 0} → ℕ → Kind T N → BoardStep T N
+abbrev pub by : {T N : Type 0} → ℕ → StepKind T N → BoardStep T N
 by j kind = record { chair = j; kind = kind }
 
 -- The piece y goes out over the slot 0 from chair 0 to chair 1, and z comes back

@@ -15,14 +15,14 @@ at_slot k [] = []
 at_slot k (x ∷ xs) = (k, x) ∷ at_slot k xs
 
 -- the first of these words, or x where there is none
-abbrev pub first_of : List ℕ → ℕ → ℕ
-first_of [] x = x
-first_of (y ∷ ys) x = y
+abbrev pub first_or : List ℕ → ℕ → ℕ
+first_or [] x = x
+first_or (y ∷ ys) x = y
 
 -- FULL words, each of them less than the next one, and the last one less than x
 abbrev pub Ascends : List ℕ → ℕ → Type 0
 Ascends [] x = Unit {0}
-Ascends (y ∷ ys) x = (y % 4 ≡ 1) × (y < first_of ys x) × Ascends ys x
+Ascends (y ∷ ys) x = (y % 4 ≡ 1) × (y < first_or ys x) × Ascends ys x
 
 module _ {M : Type 0} where
   -- a chair of this number, which has done nothing yet

@@ -6,10 +6,10 @@ use Rattle.shim_code.specs.declared.machine_instr.MachineInstr.{MachineInstr}
 use Rattle.shim_code.specs.declared.machine_instr.MachineInstr.TheVariants.{Jump, JumpZ}
 use Rattle.shim_code.specs.declared.instr.MarkKind.{MarkKind}
 use Rattle.shim_code.specs.declared.instr.MarkKind.TheVariants as kind
-use Rattle.shim_code.specs.Layout.{arms, behind, loop, one}
-use Rattle.shim_code.specs.MachineCode.{MachineCode, begins, machine_looped, machine_marked}
+use Rattle.shim_code.specs.Layout.{arms, sequence, loop, one}
+use Rattle.shim_code.specs.MachineCode.{MachineCode, begin_mark, machine_looped, machine_marked}
 use Rattle.shim_code.specs.declared.draft.Caught.{Caught}
-use Rattle.shim_code.specs.Drafts.{head_of, closed, closed_loop}
+use Rattle.shim_code.specs.Drafts.{head_of, jumps_patched, closed_loop}
 
 -- both places are written over
 pub patched : (old ca cb : List MachineInstr) (x y i j : MachineInstr) → slice_set (slice_set ((((old ++ x ∷ []) ++ ca) ++ y ∷ []) ++ cb) (length old) i) (length old + 1 + length ca) j ≡ old ++ i ∷ (ca ++ j ∷ cb)
@@ -52,22 +52,22 @@ arms_made head a b old c1 c2 c3 c4 c5 h j end x y i eh e1 e2 ej e3 e4 ee ei e5 =
 -- as a draft closes them
 pub arms_closed : (caught : Option Caught) (a b : MachineCode) (old c1 c2 c3 c4 c5 : List MachineInstr) (h j : ℕ) (x y : MachineInstr)
     → h ≡ length old → c1 ≡ old ++ x ∷ [] → c2 ≡ c1 ++ a (length c1) → j ≡ length c2 → c3 ≡ c2 ++ y ∷ [] → c4 ≡ c3 ++ b (length c3)
-    → c5 ≡ closed caught h j c4 → c5 ≡ old ++ arms Jump (head_of caught) a b (length old)
+    → c5 ≡ jumps_patched caught h j c4 → c5 ≡ old ++ arms Jump (head_of caught) a b (length old)
 arms_closed caught a b old c1 c2 c3 c4 c5 h j x y eh e1 e2 ej e3 e4 e5 =
     arms_made (head_of caught) a b old c1 c2 c3 c4 c5 h j (length c4) x y (head_of caught (j + 1)) eh e1 e2 ej e3 e4 refl refl e5
 
 -- a piece, and one instruction behind it
-pub then_one : (a : MachineCode) (i : MachineInstr) (c1 c2 c3 : List MachineInstr) → c2 ≡ c1 ++ a (length c1) → c3 ≡ c2 ++ i ∷ [] → c3 ≡ c1 ++ behind a (one i) (length c1)
+pub then_one : (a : MachineCode) (i : MachineInstr) (c1 c2 c3 : List MachineInstr) → c2 ≡ c1 ++ a (length c1) → c3 ≡ c2 ++ i ∷ [] → c3 ≡ c1 ++ sequence a (one i) (length c1)
 then_one a i c1 c2 c3 e f = f ∙ ap (λ l. l ++ i ∷ []) e ∙ append_assoc c1 (a (length c1)) (i ∷ [])
 
-pub then_more : (a b : MachineCode) (c1 c2 c3 : List MachineInstr) → c2 ≡ c1 ++ a (length c1) → c3 ≡ c2 ++ b (length c2) → c3 ≡ c1 ++ behind a b (length c1)
+pub then_more : (a b : MachineCode) (c1 c2 c3 : List MachineInstr) → c2 ≡ c1 ++ a (length c1) → c3 ≡ c2 ++ b (length c2) → c3 ≡ c1 ++ sequence a b (length c1)
 then_more a b c1 c2 c3 e f =
     let ca = a (length c1) in
     let n : length c2 ≡ length c1 + length ca = ap length e ∙ length-append c1 ca in
     f ∙ ap (λ m. c2 ++ b m) n ∙ ap (λ l. l ++ b (length c1 + length ca)) e ∙ append_assoc c1 ca (b (length c1 + length ca))
 
-pub then_marked : (k : MarkKind) (line : ℕ) (halfway : Bool) (a : MachineCode) (c1 c2 c3 : List MachineInstr) → c2 ≡ c1 ++ begins k line halfway ∷ [] → c3 ≡ c2 ++ a (length c2) → c3 ≡ c1 ++ machine_marked k line halfway a (length c1)
-then_marked k line halfway a c1 c2 c3 e f = then_more (one (begins k line halfway)) a c1 c2 c3 e f
+pub then_marked : (k : MarkKind) (line : ℕ) (halfway : Bool) (a : MachineCode) (c1 c2 c3 : List MachineInstr) → c2 ≡ c1 ++ begin_mark k line halfway ∷ [] → c3 ≡ c2 ++ a (length c2) → c3 ≡ c1 ++ machine_marked k line halfway a (length c1)
+then_marked k line halfway a c1 c2 c3 e f = then_more (one (begin_mark k line halfway)) a c1 c2 c3 e f
 
 -- a loop, when its end is there
 pub loop_closed : (start : ℕ) (a : MachineCode) (old c1 c2 c3 : List MachineInstr) (h : ℕ) (x : MachineInstr)
@@ -90,8 +90,8 @@ loop_closed start a old c1 c2 c3 h x eh e1 e2 e3 =
 
 -- the whole loop, from its mark on
 pub looped_closed : (line start : ℕ) (test body : MachineCode) (old c1 c2 c3 c4 c5 : List MachineInstr) (h : ℕ) (x : MachineInstr)
-    → start ≡ length old → c1 ≡ old ++ begins kind.Quiet line false ∷ [] → c2 ≡ c1 ++ test (length c1)
+    → start ≡ length old → c1 ≡ old ++ begin_mark kind.Quiet line false ∷ [] → c2 ≡ c1 ++ test (length c1)
     → h ≡ length c2 → c3 ≡ c2 ++ x ∷ [] → c4 ≡ c3 ++ body (length c3) → c5 ≡ closed_loop start h c4 → c5 ≡ old ++ machine_looped line test body (length old)
 looped_closed line start test body old c1 c2 c3 c4 c5 h x es e1 e2 eh e3 e4 e5 =
-    then_marked kind.Quiet line false (behind test (loop Jump JumpZ start body)) old c1 c5 e1 (then_more test (loop Jump JumpZ start body) c1 c2 c5 e2 (loop_closed start body c2 c3 c4 c5 h x eh e3 e4 e5))
-    ∙ ap (λ n. old ++ machine_marked kind.Quiet line false (behind test (loop Jump JumpZ n body)) (length old)) es
+    then_marked kind.Quiet line false (sequence test (loop Jump JumpZ start body)) old c1 c5 e1 (then_more test (loop Jump JumpZ start body) c1 c2 c5 e2 (loop_closed start body c2 c3 c4 c5 h x eh e3 e4 e5))
+    ∙ ap (λ n. old ++ machine_marked kind.Quiet line false (sequence test (loop Jump JumpZ n body)) (length old)) es

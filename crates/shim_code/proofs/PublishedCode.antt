@@ -19,8 +19,8 @@ use Rattle.shim_code.specs.declared.instr.MarkKind.TheVariants as kind
 use Rattle.shim_code.specs.declared.machine_instr.MachineInstr.{MachineInstr}
 use Rattle.shim_code.specs.declared.machine_instr.MachineInstr.TheVariants as machine
 use Rattle.shim_code.specs.declared.unit.CodeUnit.{CodeUnit}
-use Rattle.shim_code.specs.Layout.{arms, behind, loop, one}
-use Rattle.shim_code.specs.Code.{Code, arg_code, args_code, branch_code, branches_code, call_code, expr_code, expr_or, expr_step, fork_code, looped, marked, stmt_code, stmts_code, unit_code, what_code}
+use Rattle.shim_code.specs.Layout.{arms, sequence, loop, one}
+use Rattle.shim_code.specs.Code.{Code, arg_code, args_code, branch_code, branches_code, call_code, expr_code, expr_or, compile_expr_step, fork_code, looped, marked_code, stmt_code, stmts_code, unit_code, what_code}
 use Rattle.shim_code.specs.MachineCode.{MachineCode, begun, callee_of, first_name, first_sort, machine_arg, machine_args, machine_branch, machine_branches, machine_call, machine_expr, machine_expr_or, machine_expr_step, machine_fork, machine_looped, machine_marked, machine_stmt, machine_stmts, machine_unit, numbered, params_in, try_instr, what_machine, with_number}
 use Rattle.shim_code.specs.Programs.{code_units, machine_units}
 use Rattle.shim_code.specs.Published.{published, published_all}
@@ -33,7 +33,7 @@ Shows m c = (pc : ℕ) → published_all (m pc) ≡ c pc
 length_shown : (is : List MachineInstr) (js : List Instr) → published_all is ≡ js → length is ≡ length js
 length_shown is js e = sym (length-map is published) ∙ ap length e
 
-behind_shown : (a b : MachineCode) (c d : Code) → Shows a c → Shows b d → Shows (behind a b) (behind c d)
+behind_shown : (a b : MachineCode) (c d : Code) → Shows a c → Shows b d → Shows (sequence a b) (sequence c d)
 behind_shown a b c d ha hb pc =
     let n = length_shown (a pc) (c pc) (ha pc) in
     map-append published (a pc) (b (pc + length (a pc)))
@@ -42,7 +42,7 @@ behind_shown a b c d ha hb pc =
     ∙ ap (λ m. c pc ++ d (pc + m)) n
 
 -- one instruction behind a piece
-then_shown : (a : MachineCode) (i : MachineInstr) (c : Code) → Shows a c → Shows (behind a (one i)) (behind c (one (published i)))
+then_shown : (a : MachineCode) (i : MachineInstr) (c : Code) → Shows a c → Shows (sequence a (one i)) (sequence c (one (published i)))
 then_shown a i c h = behind_shown a (one i) c (one (published i)) h (λ pc. refl)
 
 arms_shown : (head : ℕ → MachineInstr) (shown : ℕ → Instr) (a b : MachineCode) (c d : Code) → ((t : ℕ) → published (head t) ≡ shown t) → Shows a c → Shows b d
@@ -69,7 +69,7 @@ loop_shown start a c ha pc =
     ap (λ m. code.JumpZ (pc + 1 + m + 1) ∷ published_all (ca ++ machine.Jump start ∷ [])) n
     ∙ ap (λ l. code.JumpZ (pc + 1 + length (c (pc + 1)) + 1) ∷ l) (map-append published ca (machine.Jump start ∷ []) ∙ ap (λ l. l ++ code.Jump start ∷ []) (ha (pc + 1)))
 
-marked_shown : (k : MarkKind) (line : ℕ) (halfway : Bool) (a : MachineCode) (c : Code) → Shows a c → Shows (machine_marked k line halfway a) (marked k line c)
+marked_shown : (k : MarkKind) (line : ℕ) (halfway : Bool) (a : MachineCode) (c : Code) → Shows a c → Shows (machine_marked k line halfway a) (marked_code k line c)
 marked_shown k line halfway a c h pc = ap (λ l. code.Mark k line ∷ l) (h (pc + 1))
 
 looped_shown : (line : ℕ) (test body : MachineCode) (c d : Code) → Shows test c → Shows body d → Shows (machine_looped line test body) (looped line c d)
@@ -86,20 +86,20 @@ abbrev bare : UExpr-F Such → UExpr-F UExpr
 bare = map-UExpr Such UExpr (λ e. e.0)
 
 abbrev Layer : UExpr-F UExpr → Type 0
-Layer y = Shows (machine_expr_step (map-UExpr UExpr MachineCode machine_expr y)) (expr_step (map-UExpr UExpr Code expr_code y))
+Layer y = Shows (machine_expr_step (map-UExpr UExpr MachineCode machine_expr y)) (compile_expr_step (map-UExpr UExpr Code expr_code y))
 
-operator : (i : MachineInstr) (a b : Such) → Shows (behind (machine_expr a.0) (behind (machine_expr b.0) (one i))) (behind (expr_code a.0) (behind (expr_code b.0) (one (published i))))
-operator i a b = behind_shown (machine_expr a.0) (behind (machine_expr b.0) (one i)) (expr_code a.0) (behind (expr_code b.0) (one (published i))) a.1 (then_shown (machine_expr b.0) i (expr_code b.0) b.1)
+operator : (i : MachineInstr) (a b : Such) → Shows (sequence (machine_expr a.0) (sequence (machine_expr b.0) (one i))) (sequence (expr_code a.0) (sequence (expr_code b.0) (one (published i))))
+operator i a b = behind_shown (machine_expr a.0) (sequence (machine_expr b.0) (one i)) (expr_code a.0) (sequence (expr_code b.0) (one (published i))) a.1 (then_shown (machine_expr b.0) i (expr_code b.0) b.1)
 
-chosen : (e : Such) (a b : MachineCode) (c d : Code) → Shows a c → Shows b d → Shows (behind (machine_expr e.0) (arms machine.Jump machine.JumpZ a b)) (behind (expr_code e.0) (arms code.Jump code.JumpZ c d))
+chosen : (e : Such) (a b : MachineCode) (c d : Code) → Shows a c → Shows b d → Shows (sequence (machine_expr e.0) (arms machine.Jump machine.JumpZ a b)) (sequence (expr_code e.0) (arms code.Jump code.JumpZ c d))
 chosen e a b c d ha hb = behind_shown (machine_expr e.0) (arms machine.Jump machine.JumpZ a b) (expr_code e.0) (arms code.Jump code.JumpZ c d) e.1 (arms_shown machine.JumpZ code.JumpZ a b c d (λ t. refl) ha hb)
 
 expr_layer : (y : UExpr-F Such) → Layer (bare y)
 expr_layer (UExpr-F.Number n) = λ pc. refl
 expr_layer (UExpr-F.Var x) = λ pc. refl
 expr_layer (UExpr-F.Unary op a) = then_shown (machine_expr a.0) (machine.Un op) (expr_code a.0) a.1
-expr_layer (UExpr-F.Binary And a b) = chosen a (behind (machine_expr b.0) (one machine.Bool)) (one (machine.Num (pos 0))) (behind (expr_code b.0) (one code.Bool)) (one (code.Num (pos 0))) (then_shown (machine_expr b.0) machine.Bool (expr_code b.0) b.1) (λ pc. refl)
-expr_layer (UExpr-F.Binary Or a b) = chosen a (one (machine.Num (pos 1))) (behind (machine_expr b.0) (one machine.Bool)) (one (code.Num (pos 1))) (behind (expr_code b.0) (one code.Bool)) (λ pc. refl) (then_shown (machine_expr b.0) machine.Bool (expr_code b.0) b.1)
+expr_layer (UExpr-F.Binary And a b) = chosen a (sequence (machine_expr b.0) (one machine.Bool)) (one (machine.Num (pos 0))) (sequence (expr_code b.0) (one code.Bool)) (one (code.Num (pos 0))) (then_shown (machine_expr b.0) machine.Bool (expr_code b.0) b.1) (λ pc. refl)
+expr_layer (UExpr-F.Binary Or a b) = chosen a (one (machine.Num (pos 1))) (sequence (machine_expr b.0) (one machine.Bool)) (one (code.Num (pos 1))) (sequence (expr_code b.0) (one code.Bool)) (λ pc. refl) (then_shown (machine_expr b.0) machine.Bool (expr_code b.0) b.1)
 expr_layer (UExpr-F.Binary Mul a b) = operator (machine.Bin Mul) a b
 expr_layer (UExpr-F.Binary Div a b) = operator (machine.Bin Div) a b
 expr_layer (UExpr-F.Binary Rem a b) = operator (machine.Bin Rem) a b
@@ -121,7 +121,7 @@ expr_shown : (e : UExpr) → Shows (machine_expr e) (expr_code e)
 expr_shown = ind-UExpr (λ e. Shows (machine_expr e) (expr_code e)) (λ x y is.
     let now : Layer x = subst Layer is (expr_layer y) in
     let of_machine = fold-roll-UExpr MachineCode machine_expr_step x in
-    let of_code = fold-roll-UExpr Code expr_step x in
+    let of_code = fold-roll-UExpr Code compile_expr_step x in
     subst (λ m. Shows m (expr_code (roll-UExpr x))) (sym of_machine) (subst (λ c. Shows (machine_expr_step (map-UExpr UExpr MachineCode machine_expr x)) c) (sym of_code) now))
 
 option_shown : (n : ℤ) (e : Option UExpr) → Shows (machine_expr_or n e) (expr_or n e)
@@ -184,8 +184,8 @@ module _ (units : List UnitOf) where
   WhatLayer x = (line : ℕ) → Shows (what_machine units (map-UWhat UWhat UStmt (ℕ → MachineCode) MachineCode (machine_what units) (machine_stmt units) x) line) (what_code (map-UWhat UWhat UStmt (ℕ → Code) Code code_what stmt_code x) line)
 
   -- an expression and an instruction behind it, in a statement of its own
-  simple_shown : (k : MarkKind) (line : ℕ) (a : MachineCode) (i : MachineInstr) (c : Code) → Shows a c → Shows (machine_marked k line false (behind a (one i))) (marked k line (behind c (one (published i))))
-  simple_shown k line a i c h = marked_shown k line false (behind a (one i)) (behind c (one (published i))) (then_shown a i c h)
+  simple_shown : (k : MarkKind) (line : ℕ) (a : MachineCode) (i : MachineInstr) (c : Code) → Shows a c → Shows (machine_marked k line false (sequence a (one i))) (marked_code k line (sequence c (one (published i))))
+  simple_shown k line a i c h = marked_shown k line false (sequence a (one i)) (sequence c (one (published i))) (then_shown a i c h)
 
   try_shown : (t x : ℕ) (y : Option ℕ) → published (try_instr t x y) ≡ code.Try t x y
   try_shown t x None = refl
@@ -196,8 +196,8 @@ module _ (units : List UnitOf) where
   what_layer (UWhat-F.Assign x e) line = simple_shown kind.Quiet line (machine_expr e) (machine.Set x) (expr_code e) (expr_shown e)
   what_layer (UWhat-F.Next x) line = λ pc. refl
   what_layer (UWhat-F.NextAssign x e) line =
-      behind_shown (machine_marked kind.Quiet line false (behind (machine_expr e) (one (machine.Set x)))) (machine_marked kind.Next line true (one (machine.Next x)))
-      (marked kind.Quiet line (behind (expr_code e) (one (code.Set x)))) (marked kind.Next line (one (code.Next x)))
+      behind_shown (machine_marked kind.Quiet line false (sequence (machine_expr e) (one (machine.Set x)))) (machine_marked kind.Next line true (one (machine.Next x)))
+      (marked_code kind.Quiet line (sequence (expr_code e) (one (code.Set x)))) (marked_code kind.Next line (one (code.Next x)))
       (simple_shown kind.Quiet line (machine_expr e) (machine.Set x) (expr_code e) (expr_shown e)) (λ pc. refl)
   what_layer (UWhat-F.AssignNext x z) line = λ pc. refl
   what_layer (UWhat-F.Get x i) line = λ pc. refl
@@ -209,7 +209,7 @@ module _ (units : List UnitOf) where
       let cb = stmts_code (stmts_of b) in
       let m = arms machine.Jump machine.JumpZ ma mb in
       let c = arms code.Jump code.JumpZ ca cb in
-      marked_shown kind.Quiet line false (behind (machine_expr e) m) (behind (expr_code e) c)
+      marked_shown kind.Quiet line false (sequence (machine_expr e) m) (sequence (expr_code e) c)
       (behind_shown (machine_expr e) m (expr_code e) c (expr_shown e) (arms_shown machine.JumpZ code.JumpZ ma mb ca cb (λ t. refl) (such_shown a) (such_shown b)))
   what_layer (UWhat-F.While e a) line = looped_shown line (machine_expr e) (machine_stmts units (stmts_of a)) (expr_code e) (stmts_code (stmts_of a)) (expr_shown e) (such_shown a)
   what_layer (UWhat-F.For first e step body) line =
@@ -219,8 +219,8 @@ module _ (units : List UnitOf) where
       let cs = stmts_code (stmts_of step) in
       let test = machine_expr_or (pos 1) e in
       let shown = expr_or (pos 1) e in
-      behind_shown (machine_stmts units (stmts_of first)) (machine_looped line test (behind mb ms)) (stmts_code (stmts_of first)) (looped line shown (behind cb cs)) (such_shown first)
-      (looped_shown line test (behind mb ms) shown (behind cb cs) (option_shown (pos 1) e) (behind_shown mb ms cb cs (such_shown body) (such_shown step)))
+      behind_shown (machine_stmts units (stmts_of first)) (machine_looped line test (sequence mb ms)) (stmts_code (stmts_of first)) (looped line shown (sequence cb cs)) (such_shown first)
+      (looped_shown line test (sequence mb ms) shown (sequence cb cs) (option_shown (pos 1) e) (behind_shown mb ms cb cs (such_shown body) (such_shown step)))
   what_layer (UWhat-F.Block a) line = such_shown a
   what_layer (UWhat-F.Call c) line = marked_shown kind.Quiet line false (machine_call units c) (call_code c) (call_shown units c)
   what_layer (UWhat-F.Try a x y b) line =
@@ -228,8 +228,8 @@ module _ (units : List UnitOf) where
       let mb = machine_stmts units (stmts_of b) in
       let ca = stmts_code (stmts_of a) in
       let cb = stmts_code (stmts_of b) in
-      let m = behind ma (one machine.Untry) in
-      let c = behind ca (one code.Untry) in
+      let m = sequence ma (one machine.Untry) in
+      let c = sequence ca (one code.Untry) in
       marked_shown kind.Quiet line false (arms machine.Jump (λ h. try_instr h x y) m mb) (arms code.Jump (λ h. code.Try h x y) c cb)
       (arms_shown (λ h. try_instr h x y) (λ h. code.Try h x y) m mb c cb (λ t. try_shown t x y) (then_shown ma machine.Untry ca (such_shown a)) (such_shown b))
   what_layer (UWhat-F.Throw x e) line = simple_shown kind.Throw line (machine_expr_or (pos 0) e) (machine.Throw x) (expr_or (pos 0) e) (option_shown (pos 0) e)
@@ -273,7 +273,7 @@ numbered_shown n (i ∷ is) = ap (λ j. j ∷ published_all (numbered (n + begun
 
 pub unit_shown : (units : List UnitOf) (body : List UStmt) → published_all (machine_unit units body) ≡ unit_code body
 unit_shown units body =
-    numbered_shown 0 (behind (machine_stmts units body) (one (machine.End 0)) 0)
+    numbered_shown 0 (sequence (machine_stmts units body) (one (machine.End 0)) 0)
     ∙ then_shown (machine_stmts units body) (machine.End 0) (stmts_code body) (stmts_shown units body) 0
 
 pub machine_shows_units : (units us : List UnitOf) → map published_all (machine_units units us) ≡ map (λ (u : CodeUnit). u.code) (code_units us)

@@ -12,23 +12,23 @@ use Rattle.shim_code.specs.declared.instr.MarkKind.{MarkKind}
 use Rattle.shim_code.specs.declared.instr.MarkKind.TheVariants as kind
 use Rattle.shim_code.specs.declared.instr.Instr.{Instr}
 use Rattle.shim_code.specs.declared.instr.Instr.TheVariants.{Mark, Num, Var, Un, Bin, Bool, Jump, JumpZ, Declare, Set, Get, Put, Next, Ref, Pass, Fresh, Call, Branch, Fork, Try, Untry, Throw, End}
-use Rattle.shim_code.specs.Layout.{CodeAt, one, behind, all, arms, loop}
+use Rattle.shim_code.specs.Layout.{CodeAt, one, sequence, all, arms, loop}
 
 -- a piece of a unit's code, by its place
 abbrev pub Code : Type 0
 Code = CodeAt Instr
 
 -- Operands come before their operator. Of `a && b` a 0 of a leads to a 0, and else b decides, as 0 or 1. Of `a || b` a 0 of a leads to b, which decides as 0 or 1, and else it is 1.
-abbrev pub expr_step : UExpr-F Code → Code
-expr_step (UExpr-F.Number n) = one (Num n)
-expr_step (UExpr-F.Var x) = one (Var x)
-expr_step (UExpr-F.Unary op a) = behind a (one (Un op))
-expr_step (UExpr-F.Binary And a b) = behind a (arms Jump JumpZ (behind b (one Bool)) (one (Num (pos 0))))
-expr_step (UExpr-F.Binary Or a b) = behind a (arms Jump JumpZ (one (Num (pos 1))) (behind b (one Bool)))
-expr_step (UExpr-F.Binary op a b) = behind a (behind b (one (Bin op)))
+abbrev pub compile_expr_step : UExpr-F Code → Code
+compile_expr_step (UExpr-F.Number n) = one (Num n)
+compile_expr_step (UExpr-F.Var x) = one (Var x)
+compile_expr_step (UExpr-F.Unary op a) = sequence a (one (Un op))
+compile_expr_step (UExpr-F.Binary And a b) = sequence a (arms Jump JumpZ (sequence b (one Bool)) (one (Num (pos 0))))
+compile_expr_step (UExpr-F.Binary Or a b) = sequence a (arms Jump JumpZ (one (Num (pos 1))) (sequence b (one Bool)))
+compile_expr_step (UExpr-F.Binary op a b) = sequence a (sequence b (one (Bin op)))
 
 abbrev pub expr_code : UExpr → Code
-expr_code = fold-UExpr Code expr_step
+expr_code = fold-UExpr Code compile_expr_step
 
 -- an absent expression is a number
 abbrev pub expr_or : ℤ → Option UExpr → Code
@@ -39,7 +39,7 @@ expr_or n (Some e) = expr_code e
 abbrev pub arg_code : Arg → Code
 arg_code (ByRef x) = one (Ref x)
 arg_code (ByPass x) = one (Pass x)
-arg_code (ByFresh e) = behind (expr_code e) (one Fresh)
+arg_code (ByFresh e) = sequence (expr_code e) (one Fresh)
 
 -- in their order
 abbrev pub args_code : List Arg → Code
@@ -47,43 +47,43 @@ args_code args = all (map arg_code args)
 
 -- the arguments, and the call of the unit with so many
 abbrev pub call_code : UCall → Code
-call_code c = behind (args_code c.args) (one (Call c.unit (length c.args) c.throws))
+call_code c = sequence (args_code c.args) (one (Call c.unit (length c.args) c.throws))
 
 abbrev pub branch_code : UBranch → Code
-branch_code b = behind (args_code b.call.args) (one (Branch b.call.unit (length b.call.args) b.call.throws))
+branch_code b = sequence (args_code b.call.args) (one (Branch b.call.unit (length b.call.args) b.call.throws))
 
 abbrev pub branches_code : List UBranch → Code
 branches_code branches = all (map branch_code branches)
 
 -- the branches in their order, and the fork of so many
 abbrev pub fork_code : List UBranch → Code
-fork_code branches = behind (branches_code branches) (one (Fork (length branches)))
+fork_code branches = sequence (branches_code branches) (one (Fork (length branches)))
 
 -- a statement of this kind and line, or a part of one, that does this
-abbrev pub marked : MarkKind → ℕ → Code → Code
-marked k line c pc = Mark k line ∷ c (pc + 1)
+abbrev pub marked_code : MarkKind → ℕ → Code → Code
+marked_code k line c pc = Mark k line ∷ c (pc + 1)
 
 -- A loop from its mark on: the test, where a 0 leads out of it, the body, and the way back to the mark.
 abbrev pub looped : ℕ → Code → Code → Code
-looped line test body pc = Mark kind.Quiet line ∷ behind test (loop Jump JumpZ pc body) (pc + 1)
+looped line test body pc = Mark kind.Quiet line ∷ sequence test (loop Jump JumpZ pc body) (pc + 1)
 
 -- What each statement is, by its line. An absent start is 0, an absent test 1 and an absent `else` nothing. `next x = e` assigns and then meets, `x = next y` meets and then assigns; both parts have marks. The handler of a `try` stands behind its block, which a jump leads past.
 abbrev pub what_code : UWhat-F (ℕ → Code) Code → ℕ → Code
-what_code (UWhat-F.Declare t x e) line = marked kind.Quiet line (behind (expr_or (pos 0) e) (one (Declare x)))
-what_code (UWhat-F.Assign x e) line = marked kind.Quiet line (behind (expr_code e) (one (Set x)))
-what_code (UWhat-F.Next x) line = marked kind.Next line (one (Next x))
-what_code (UWhat-F.NextAssign x e) line = behind (marked kind.Quiet line (behind (expr_code e) (one (Set x)))) (marked kind.Next line (one (Next x)))
-what_code (UWhat-F.AssignNext x y) line = behind (marked kind.Next line (one (Next y))) (marked kind.Quiet line (behind (one (Var y)) (one (Set x))))
-what_code (UWhat-F.Get x i) line = marked kind.Quiet line (behind (one (Get i)) (one (Set x)))
-what_code (UWhat-F.Put o e) line = marked kind.Put line (behind (expr_code e) (one (Put o)))
-what_code (UWhat-F.If e a b) line = marked kind.Quiet line (behind (expr_code e) (arms Jump JumpZ (all a) (all b)))
+what_code (UWhat-F.Declare t x e) line = marked_code kind.Quiet line (sequence (expr_or (pos 0) e) (one (Declare x)))
+what_code (UWhat-F.Assign x e) line = marked_code kind.Quiet line (sequence (expr_code e) (one (Set x)))
+what_code (UWhat-F.Next x) line = marked_code kind.Next line (one (Next x))
+what_code (UWhat-F.NextAssign x e) line = sequence (marked_code kind.Quiet line (sequence (expr_code e) (one (Set x)))) (marked_code kind.Next line (one (Next x)))
+what_code (UWhat-F.AssignNext x y) line = sequence (marked_code kind.Next line (one (Next y))) (marked_code kind.Quiet line (sequence (one (Var y)) (one (Set x))))
+what_code (UWhat-F.Get x i) line = marked_code kind.Quiet line (sequence (one (Get i)) (one (Set x)))
+what_code (UWhat-F.Put o e) line = marked_code kind.Put line (sequence (expr_code e) (one (Put o)))
+what_code (UWhat-F.If e a b) line = marked_code kind.Quiet line (sequence (expr_code e) (arms Jump JumpZ (all a) (all b)))
 what_code (UWhat-F.While e a) line = looped line (expr_code e) (all a)
-what_code (UWhat-F.For first e step body) line = behind (all first) (looped line (expr_or (pos 1) e) (behind (all body) (all step)))
+what_code (UWhat-F.For first e step body) line = sequence (all first) (looped line (expr_or (pos 1) e) (sequence (all body) (all step)))
 what_code (UWhat-F.Block a) line = all a
-what_code (UWhat-F.Call c) line = marked kind.Quiet line (call_code c)
-what_code (UWhat-F.Try a x y b) line = marked kind.Quiet line (arms Jump (λ h. Try h x y) (behind (all a) (one Untry)) (all b))
-what_code (UWhat-F.Throw x e) line = marked kind.Throw line (behind (expr_or (pos 0) e) (one (Throw x)))
-what_code (UWhat-F.Par branches) line = marked kind.Fork line (fork_code branches)
+what_code (UWhat-F.Call c) line = marked_code kind.Quiet line (call_code c)
+what_code (UWhat-F.Try a x y b) line = marked_code kind.Quiet line (arms Jump (λ h. Try h x y) (sequence (all a) (one Untry)) (all b))
+what_code (UWhat-F.Throw x e) line = marked_code kind.Throw line (sequence (expr_or (pos 0) e) (one (Throw x)))
+what_code (UWhat-F.Par branches) line = marked_code kind.Fork line (fork_code branches)
 
 abbrev pub stmt_code : UStmt → Code
 stmt_code = fold-UStmt (ℕ → Code) Code what_code (λ s. s.what s.line)
@@ -94,4 +94,4 @@ stmts_code ss = all (map stmt_code ss)
 
 -- of a unit with these statements: the statements, and the end of the unit
 abbrev pub unit_code : List UStmt → List Instr
-unit_code body = behind (stmts_code body) (one End) 0
+unit_code body = sequence (stmts_code body) (one End) 0

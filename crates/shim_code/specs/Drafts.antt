@@ -11,8 +11,8 @@ head_of None t = JumpZ t
 head_of (Some x) t = try_instr t x.exception x.variable
 
 -- the first jump leads behind the second, which leads to the end
-abbrev pub closed : Option Caught → ℕ → ℕ → List MachineInstr → List MachineInstr
-closed x head jump l = slice_set (slice_set l head (head_of x (jump + 1))) jump (Jump (length l))
+abbrev pub jumps_patched : Option Caught → ℕ → ℕ → List MachineInstr → List MachineInstr
+jumps_patched x head jump l = slice_set (slice_set l head (head_of x (jump + 1))) jump (Jump (length l))
 
 -- a jump to the start of a loop stands at the end, and the jump out of the loop leads behind it
 abbrev pub closed_loop : ℕ → ℕ → List MachineInstr → List MachineInstr

@@ -1,7 +1,7 @@
 // The code of a unit while it is written.
 ghost use Rattle.std.specs.Prelude.{◌≡◌, ◌+◌, ◌∷◌, ◌++◌, [], length, slice_set, IfOk, OnOk};
-ghost use Rattle.shim_code.specs.Drafts.{closed, closed_loop};
-ghost use Rattle.shim_code.specs.MachineCode.{begins, begun, numbered, try_instr, with_number};
+ghost use Rattle.shim_code.specs.Drafts.{jumps_patched, closed_loop};
+ghost use Rattle.shim_code.specs.MachineCode.{begin_mark, begun, numbered, try_instr, with_number};
 ghost use Rattle.shim_code.specs.declared.machine_instr.MachineInstr.TheVariants.{Jump};
 
 use crate::instr::MarkKind;
@@ -60,7 +60,7 @@ impl Draft {
 
     /// A statement begins, or its second part.
     pub fn begin(&mut self, kind: MarkKind, line: u32, halfway: bool) -> Result<(), NoMemory>
-        ensures { OnOk result (self.new ≡ self.old ++ begins kind line halfway ∷ []) }
+        ensures { OnOk result (self.new ≡ self.old ++ begin_mark kind line halfway ∷ []) }
     {
         self.push(MachineInstr::Mark(Mark {
             line,
@@ -99,7 +99,7 @@ impl Draft {
     /// Two pieces are written: the first place leads to the second piece, by a test or, with an
     /// exception, as its handler; the second place leads from the first piece here.
     pub fn close(&mut self, head: u32, jump: u32, caught: Option<Caught>) -> Result<(), NoMemory>
-        ensures { OnOk result (self.new ≡ closed caught head jump self.old) }
+        ensures { OnOk result (self.new ≡ jumps_patched caught head jump self.old) }
     {
         let end = self.here()?;
         let second = jump.checked_add(1).ok_or(NoMemory)?;

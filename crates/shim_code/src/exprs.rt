@@ -1,6 +1,6 @@
 // The code of expressions.
 ghost use Rattle.std.specs.Prelude.{◌≡◌, ◌++◌, length, pos, OnOk};
-ghost use Rattle.shim_code.specs.Layout.{arms, behind, one};
+ghost use Rattle.shim_code.specs.Layout.{arms, sequence, one};
 ghost use Rattle.shim_code.specs.MachineCode.{machine_expr, machine_expr_or};
 ghost use Rattle.shim_code.specs.declared.machine_instr.MachineInstr.TheVariants.{Bool, Jump, JumpZ, Num};
 
@@ -40,7 +40,7 @@ pub fn emit_expr(code: &mut Draft, expr: &UExpr) -> Result<(), NoMemory>
 // Adds what follows the left side of `&&`.
 #[cycle(exprs)]
 fn emit_and(code: &mut Draft, right: &UExpr) -> Result<(), NoMemory>
-    ensures { OnOk result (code.new ≡ code.old ++ arms Jump JumpZ (behind (machine_expr right.now) (one Bool)) (one (Num (pos 0))) (length code.old)) }
+    ensures { OnOk result (code.new ≡ code.old ++ arms Jump JumpZ (sequence (machine_expr right.now) (one Bool)) (one (Num (pos 0))) (length code.old)) }
 {
     let head = code.skip()?;
     emit_truth(code, right)?;
@@ -52,7 +52,7 @@ fn emit_and(code: &mut Draft, right: &UExpr) -> Result<(), NoMemory>
 // Adds what follows the left side of `||`.
 #[cycle(exprs)]
 fn emit_or(code: &mut Draft, right: &UExpr) -> Result<(), NoMemory>
-    ensures { OnOk result (code.new ≡ code.old ++ arms Jump JumpZ (one (Num (pos 1))) (behind (machine_expr right.now) (one Bool)) (length code.old)) }
+    ensures { OnOk result (code.new ≡ code.old ++ arms Jump JumpZ (one (Num (pos 1))) (sequence (machine_expr right.now) (one Bool)) (length code.old)) }
 {
     let head = code.skip()?;
     code.push(MachineInstr::Num(1))?;
@@ -64,7 +64,7 @@ fn emit_or(code: &mut Draft, right: &UExpr) -> Result<(), NoMemory>
 // Adds the code of an expression whose value becomes 0 or 1.
 #[cycle(exprs)]
 fn emit_truth(code: &mut Draft, expr: &UExpr) -> Result<(), NoMemory>
-    ensures { OnOk result (code.new ≡ code.old ++ behind (machine_expr expr.now) (one Bool) (length code.old)) }
+    ensures { OnOk result (code.new ≡ code.old ++ sequence (machine_expr expr.now) (one Bool) (length code.old)) }
 {
     emit_expr(code, expr)?;
     code.push(MachineInstr::Bool)

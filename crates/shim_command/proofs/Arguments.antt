@@ -13,7 +13,7 @@ use Rattle.clap.specs.Words.{App, Rule, Text, app_of, rule_of}
 use Rattle.clap.specs.declared.builder.arg.Arg.{Arg}
 use Rattle.clap.specs.declared.builder.command.Command.{Command}
 use Rattle.clap.specs.declared.builder.command.Command.TheViews.{out-Command}
-use Rattle.shim_command.specs.Command.{arguments, given, number, shim_app}
+use Rattle.shim_command.specs.Command.{command_rules, positional, number_option, shim_app}
 
 -- no rule has the name
 none_named : List Rule → Text → Bool
@@ -64,8 +64,8 @@ plain_at [] k d all lt = absurd (omega arith)
 plain_at (r ∷ rs) zero d all lt = both r.is_simple r.is_free (both (r.is_simple && r.is_free) (all_plain rs) all).0
 plain_at (r ∷ rs) (suc k) d all lt = plain_at rs k d (both (r.is_simple && r.is_free) (all_plain rs) all).1 (omega arith)
 
-arguments_are_plain : all_plain arguments ≡ true
-unfolding arguments all_plain
+arguments_are_plain : all_plain command_rules ≡ true
+unfolding command_rules all_plain
 arguments_are_plain = refl
 
 -- a name that isn't the other one
@@ -85,53 +85,53 @@ empty (x ∷ xs) h =
 
 -- a rule stands at a place among the arguments, and has a name of its own
 pub record IsArgument (k : ℕ) (r : Rule) : Type 0 where
-  pub rule : (d : Rule) → slice_index_or arguments k d ≡ r
-  pub below : k < length arguments
-  pub alone : alone_named arguments k r.id ≡ true
+  pub rule : (d : Rule) → slice_index_or command_rules k d ≡ r
+  pub below : k < length command_rules
+  pub alone : alone_named command_rules k r.id ≡ true
   pub no_help : bytes_eq r.id (codes "help") ≡ false
   pub no_version : bytes_eq r.id (codes "version") ≡ false
   pub named : bytes_eq r.id [] ≡ false
 
-pub file_is : IsArgument 1 (given (codes "FILE"))
-unfolding arguments alone_named none_named
+pub file_is : IsArgument 1 (positional (codes "FILE"))
+unfolding command_rules alone_named none_named
 file_is = record { rule = λ d. refl; below = omega arith; alone = refl; no_help = refl; no_version = refl; named = refl }
 
-pub workers_is : IsArgument 3 (number (codes "workers") 1 16)
-unfolding arguments alone_named none_named
+pub workers_is : IsArgument 3 (number_option (codes "workers") 1 16)
+unfolding command_rules alone_named none_named
 workers_is = record { rule = λ d. refl; below = omega arith; alone = refl; no_help = refl; no_version = refl; named = refl }
 
-pub budget_is : IsArgument 4 (number (codes "budget") 1 4000000)
-unfolding arguments alone_named none_named
+pub budget_is : IsArgument 4 (number_option (codes "budget") 1 4000000)
+unfolding command_rules alone_named none_named
 budget_is = record { rule = λ d. refl; below = omega arith; alone = refl; no_help = refl; no_version = refl; named = refl }
 
-pub quantum_is : IsArgument 5 (number (codes "quantum") 1 10000)
-unfolding arguments alone_named none_named
+pub quantum_is : IsArgument 5 (number_option (codes "quantum") 1 10000)
+unfolding command_rules alone_named none_named
 quantum_is = record { rule = λ d. refl; below = omega arith; alone = refl; no_help = refl; no_version = refl; named = refl }
 
-pub size_is : IsArgument 6 (number (codes "size") 1 100000)
-unfolding arguments alone_named none_named
+pub size_is : IsArgument 6 (number_option (codes "size") 1 100000)
+unfolding command_rules alone_named none_named
 size_is = record { rule = λ d. refl; below = omega arith; alone = refl; no_help = refl; no_version = refl; named = refl }
 
 module _ (old : Command) (is : app_of old ≡ shim_app) where
-  rules_are : map rule_of (args_of old) ≡ arguments
+  rules_are : map rule_of (args_of old) ≡ command_rules
   unfolding shim_app
   rules_are = ap (λ (a : App). a.top.rules) is
 
-  pub as_many : length (args_of old) ≡ length arguments
+  pub as_many : length (args_of old) ≡ length command_rules
   as_many = sym (length-map (args_of old) rule_of) ∙ ap length rules_are
 
-  rule_at : (k : ℕ) (d : Arg) → k < length arguments → rule_of (slice_index_or (args_of old) k d) ≡ slice_index_or arguments k (rule_of d)
+  rule_at : (k : ℕ) (d : Arg) → k < length command_rules → rule_of (slice_index_or (args_of old) k d) ≡ slice_index_or command_rules k (rule_of d)
   rule_at k d lt = sym (get_or-map rule_of (args_of old) k d (rule_of d) (rw as_many lt)) ∙ ap (λ rs. slice_index_or rs k (rule_of d)) rules_are
 
   simple_at : (k : ℕ) (d : Arg) → k < length (args_of old) → is_simple_arg (slice_index_or (args_of old) k d) ≡ true
   simple_at k d lt =
-      let below : k < length arguments = rw as_many at lt in
-      ap (λ (r : Rule). r.is_simple) (rule_at k d below) ∙ (plain_at arguments k (rule_of d) arguments_are_plain below).0
+      let below : k < length command_rules = rw as_many at lt in
+      ap (λ (r : Rule). r.is_simple) (rule_at k d below) ∙ (plain_at command_rules k (rule_of d) arguments_are_plain below).0
 
   free_at : (k : ℕ) (d : Arg) → k < length (args_of old) → is_free_arg (slice_index_or (args_of old) k d) ≡ true
   free_at k d lt =
-      let below : k < length arguments = rw as_many at lt in
-      ap (λ (r : Rule). r.is_free) (rule_at k d below) ∙ (plain_at arguments k (rule_of d) arguments_are_plain below).1
+      let below : k < length command_rules = rw as_many at lt in
+      ap (λ (r : Rule). r.is_free) (rule_at k d below) ∙ (plain_at command_rules k (rule_of d) arguments_are_plain below).1
 
   module _ (k : ℕ) (r : Rule) (own : IsArgument k r) where
     pub here : (d : Arg) → rule_of (slice_index_or (args_of old) k d) ≡ r
@@ -143,9 +143,9 @@ module _ (old : Command) (is : app_of old ≡ shim_app) where
     pub unique : (d : Arg) (j : ℕ) (e : Arg) → j < length (args_of old)
         → bytes_eq (slice_index_or (args_of old) j e).id.now (slice_index_or (args_of old) k d).id.now ≡ true → j ≡ k
     unique d j e lt same =
-        let below : j < length arguments = rw as_many at lt in
-        let its : (slice_index_or (args_of old) j e).id.now ≡ (slice_index_or arguments j (rule_of e)).id = ap (λ (r : Rule). r.id) (rule_at j e below) in
-        alone_at arguments k r.id j (rule_of e) own.alone below (rw (its, id_is d) at same)
+        let below : j < length command_rules = rw as_many at lt in
+        let its : (slice_index_or (args_of old) j e).id.now ≡ (slice_index_or command_rules j (rule_of e)).id = ap (λ (r : Rule). r.id) (rule_at j e below) in
+        alone_at command_rules k r.id j (rule_of e) own.alone below (rw (its, id_is d) at same)
 
     pub no_auto : (d : Arg) → IsAuto (slice_index_or (args_of old) k d) → ⊥
     no_auto d (inl h) = differs r.id (codes "help") own.no_help refl (sym (id_is d) ∙ h)

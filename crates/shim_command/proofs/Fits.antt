@@ -22,18 +22,18 @@ use Rattle.clap.specs.declared.builder.value_parser.ValueParser.TheVariants.{Uns
 use Rattle.clap.specs.declared.parser.matches.ArgMatches.{ArgMatches}
 use Rattle.clap.specs.declared.parser.matches.MatchedArg.{MatchedArg}
 use Rattle.shim_command.proofs.Arguments.{IsArgument, as_many, budget_is, differs, here, id_is, names_no_group, no_auto, no_globals, no_groups, quantum_is, size_is, unique, workers_is}
-use Rattle.shim_command.specs.Command.{number, shim_app}
-use Rattle.shim_command.specs.Jobs.{FitAll, IsNumber}
+use Rattle.shim_command.specs.Command.{number_option, shim_app}
+use Rattle.shim_command.specs.Jobs.{FitAll, IsNumberText}
 
 module _ (old : Command) (m : ArgMatches) (p : IsParsedFrom old m) (is : app_of old ≡ shim_app) where
-  module _ (k : ℕ) (name : Text) (least most : ℕ) (own : IsArgument k (number name least most)) where
+  module _ (k : ℕ) (name : Text) (least most : ℕ) (own : IsArgument k (number_option name least most)) where
     parser_is : (d : Arg) → (slice_index_or (args_of old) k d).value_parser ≡ Some (Unsigned least most)
-    parser_is d = ap (λ (r : Rule). r.parser) (here old is k (number name least most) own d)
+    parser_is d = ap (λ (r : Rule). r.parser) (here old is k (number_option name least most) own d)
 
     same_rules : (j : ℕ) (x : Arg) → j < length (args_of p.built) → slice_index_or (args_of p.built) j x ≡ x
         → bytes_eq x.id.now name ≡ true → parser_of x ≡ Unsigned least most
     same_rules j x lt at same =
-        let r = number name least most in
+        let r = number_option name least most in
         let s : SameRules (slice_index_or (args_of old) k x) x =
         same_rules_by_id old m p k x (rw (as_many old is) own.below) (unique old is k r own x) (no_auto old is k r own x) j x lt at (rw (id_is old is k r own x) same) in
         ap parser_of_value (s.parser (Unsigned least most) (parser_is x))
@@ -45,14 +45,14 @@ module _ (old : Command) (m : ArgMatches) (p : IsParsedFrom old m) (is : app_of 
     read r any = sym any.4.1 ∙ ap reading_of (same_rules any.0 any.1 any.2 any.3 any.4.0)
 
     first_fits : (how : Reading) → how ≡ AsWritten → (vs : List (Bor Text)) → All (λ v. PassesArg p.built name v.now) vs
-        → IsNumber least most (option_map (λ s. read_as how s.now) (slice_get vs 0))
+        → IsNumberText least most (option_map (λ s. read_as how s.now) (slice_get vs 0))
     first_fits how written [] all = tt
     first_fits how written (v ∷ vs) all =
         let passed = accepted v.now (All-get_or (λ (x : Bor Text). PassesArg p.built name x.now) (v ∷ vs) 0 v (omega arith) all) in
-        subst (λ (h : Reading). IsNumber least most (Some (read_as h v.now))) (sym written) passed
+        subst (λ (h : Reading). IsNumberText least most (Some (read_as h v.now))) (sym written) passed
 
     entry_fits : (x : MatchedArg) (e : Entry) → groups_of p.built ≡ [] → e.1 ≡ x → e.0.now ≡ name → EntryPasses p.built e
-        → IsNumber least most (option_map (λ s. read_as x.reading s.now) (slice_get x.vals.items 0))
+        → IsNumberText least most (option_map (λ s. read_as x.reading s.now) (slice_get x.vals.items 0))
     entry_fits x e no_groups same_x key pass =
         let no_group : e.1.is_group ≡ true → ⊥ = λ g. elim (pass.3 g) [
           | inl empty ↦ differs name [] own.named refl (sym key ∙ empty)
@@ -70,15 +70,15 @@ module _ (old : Command) (m : ArgMatches) (p : IsParsedFrom old m) (is : app_of 
         ] in
         first_fits x.reading (ap (λ (y : MatchedArg). y.reading) (sym same_x) ∙ is_written) x.vals.items all
 
-    option_fits : groups_of p.built ≡ [] → ValuesPass p.built (found_of m) → IsNumber least most (one_of name (rows_of (found_of m)))
-    option_fits no_groups values = subst (IsNumber least most) (one_text-rows (found_of m) name) (go (matched_of (found_of m) name) refl)
+    option_fits : groups_of p.built ≡ [] → ValuesPass p.built (found_of m) → IsNumberText least most (one_of name (rows_of (found_of m)))
+    option_fits no_groups values = subst (IsNumberText least most) (one_text-rows (found_of m) name) (go (matched_of (found_of m) name) refl)
       where
         step : (x : MatchedArg) → ((e : Entry) × (e.1 ≡ x) × (bytes_eq e.0.now name ≡ true) × EntryPasses p.built e)
-            → IsNumber least most (option_map (λ s. read_as x.reading s.now) (slice_get x.vals.items 0))
+            → IsNumberText least most (option_map (λ s. read_as x.reading s.now) (slice_get x.vals.items 0))
         step x got = entry_fits x got.0 no_groups got.1 ((bytes_eq-Decides got.0.0.now name).0 got.2) got.3
 
         go : (o : Option MatchedArg) → matched_of (found_of m) name ≡ o
-            → IsNumber least most (option_and_then (λ a. option_map (λ s. read_as a.reading s.now) (slice_get a.vals.items 0)) o)
+            → IsNumberText least most (option_and_then (λ a. option_map (λ s. read_as a.reading s.now) (slice_get a.vals.items 0)) o)
         go None e = tt
         go (Some x) e = step x (entry_by_id (EntryPasses p.built) (found_of m).entries.items name x values e)
 

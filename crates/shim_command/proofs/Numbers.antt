@@ -12,7 +12,7 @@ use Rattle.shim_command.specs.declared.job.WordsFault.{WordsFault}
 use Rattle.shim_command.proofs.Taken.{of_job}
 use Rattle.shim_command.specs.declared.mode.Extra.{Extra}
 use Rattle.shim_command.specs.declared.mode.Extra.TheVariants.{Inputs}
-use Rattle.shim_command.specs.Jobs.{FitAll, Gives, IsNumber, IsWithin, has_extra, has_origin, job_in, job_with, numbered, suits}
+use Rattle.shim_command.specs.Jobs.{FitAll, Gives, IsNumberText, IsWithin, has_extra, has_origin, job_in, job_with, parsed_number, suits}
 use Rattle.shim_command.specs.Modes.{row_of}
 
 -- what is borrowed, or the default, is what there is, or the default
@@ -23,17 +23,17 @@ unwrapped (Some b) default text is = ap (λ (o : Option Text). unwrap_or o defau
 
 -- the number that is read of an option's text is the number of the text
 pub number_read : {E : Type 0} (G : List ℕ → Result ℕ E → Type 0) → ((u : List ℕ) (x : Result ℕ E) → G u x → ParsesUnsigned 64 10 u x)
-    → (least most : ℕ) (given : Option Text) (default : ℕ) (r : Option ℕ) → IsNumber least most given
+    → (least most : ℕ) (given : Option Text) (default : ℕ) (r : Option ℕ) → IsNumberText least most given
     → (given ≡ None → r ≡ None) → ((t : List ℕ) → given ≡ Some t → ReadsOne G t r)
-    → unwrap_or r default ≡ numbered given default
+    → unwrap_or r default ≡ parsed_number given default
 number_read G only least most None default r fits none some = ap (λ (o : Option ℕ). unwrap_or o default) (none refl)
 number_read G only least most (Some t) default (Some v) fits none some = (only t (Ok v) (some t refl)).1
 number_read G only least most (Some t) default None fits none some =
     let e = some t refl in
     absurd (only t (Err e.0) e.1 (fits.0, fits.1))
 
-numbered_within : (least most : ℕ) (given : Option Text) (default : ℕ) → IsNumber least most given → least ≤ default → default ≤ most
-    → (least ≤ numbered given default) × (numbered given default ≤ most)
+numbered_within : (least most : ℕ) (given : Option Text) (default : ℕ) → IsNumberText least most given → least ≤ default → default ≤ most
+    → (least ≤ parsed_number given default) × (parsed_number given default ≤ most)
 numbered_within least most None default fits low high = (low, high)
 numbered_within least most (Some t) default fits low high = (fits.2, fits.3)
 

@@ -5,20 +5,20 @@ use Rattle.clap.specs.Kinds.{HasKind, IsAmong, Kinds}
 use Rattle.clap.specs.Words.{Row, Text, fault_of, is_simple, is_simple_and_free, kind_of, matches_of}
 use Rattle.clap.specs.declared.error.Error.{Error}
 use Rattle.clap.specs.declared.error.kind.ErrorKind.{ErrorKind}
-use Rattle.shim_command.specs.Command.{arguments, shim_app}
+use Rattle.shim_command.specs.Command.{command_rules, shim_app}
 use Rattle.shim_command.specs.Modes.{mode_named}
-use Rattle.shim_command.specs.Jobs.{Gives, IsFaultOf, job, job_in, job_of, job_with, suits, where_faultless, word_in}
+use Rattle.shim_command.specs.Jobs.{Gives, IsErrorOf, job, job_in, job_of, job_with, suits, where_faultless, word_in}
 use Rattle.shim_command.specs.declared.job.Job.{Job}
 use Rattle.shim_command.specs.declared.mode.Mode.{Mode}
 use Rattle.shim_command.specs.declared.job.WordsFault.{WordsFault}
 use Rattle.shim_command.specs.declared.job.WordsFault.TheVariants.{Refused, NoMemory}
 
 pub shim_is_simple : is_simple shim_app ≡ true
-unfolding arguments shim_app
+unfolding command_rules shim_app
 shim_is_simple = refl
 
 pub shim_is_free : is_simple_and_free shim_app ≡ true
-unfolding arguments shim_app
+unfolding command_rules shim_app
 shim_is_free = refl
 
 -- words without a fault have the job of what is found in them
@@ -36,7 +36,7 @@ unfolding job
 refused words k among = none_of (job_in (matches_of shim_app words)) k (fault_of shim_app words) among
 
 -- an error is answered as what it is
-pub failed : (words : List Text) (e : Error) (fault : WordsFault) → HasKind (fault_of shim_app words) e → IsFaultOf (kind_of e) fault
+pub failed : (words : List Text) (e : Error) (fault : WordsFault) → HasKind (fault_of shim_app words) e → IsErrorOf (kind_of e) fault
     → Gives (job words) (Err fault)
 failed words e NoMemory kinds is = tt
 failed words e Refused kinds is = elim kinds [

@@ -6,16 +6,16 @@ use Rattle.clap.specs.declared.builder.action.ArgAction.TheVariants.{Append, Set
 use Rattle.clap.specs.declared.builder.value_parser.ValueParser.TheVariants.{Unsigned}
 
 -- a word that has to be there, by its place
-abbrev pub given : Text → Rule
-given name = record (new_rule name) { required = true; action = Some Set }
+abbrev pub positional : Text → Rule
+positional name = record (new_rule name) { required = true; action = Some Set }
 
 -- `--name TEXT` or `--name=TEXT`, at most once
 abbrev pub option : Text → Rule
 option name = record (new_rule name) { long = Some name }
 
 -- the same with a number from `least` to `most`
-abbrev pub number : Text → ℕ → ℕ → Rule
-number name least most = record (new_rule name) { long = Some name; parser = Some (Unsigned least most) }
+abbrev pub number_option : Text → ℕ → ℕ → Rule
+number_option name least most = record (new_rule name) { long = Some name; parser = Some (Unsigned least most) }
 
 -- `--name` alone, at most once
 abbrev pub flag : Text → Rule
@@ -26,15 +26,15 @@ abbrev pub words_behind : Text → Rule
 words_behind name = record (new_rule name) { action = Some Append }
 
 -- the arguments of `shim`
-unfoldable pub arguments : List Rule
-arguments =
-    given (codes "MODE")
-    ∷ given (codes "FILE")
+unfoldable pub command_rules : List Rule
+command_rules =
+    positional (codes "MODE")
+    ∷ positional (codes "FILE")
     ∷ option (codes "input")
-    ∷ number (codes "workers") 1 16
-    ∷ number (codes "budget") 1 4000000
-    ∷ number (codes "quantum") 1 10000
-    ∷ number (codes "size") 1 100000
+    ∷ number_option (codes "workers") 1 16
+    ∷ number_option (codes "budget") 1 4000000
+    ∷ number_option (codes "quantum") 1 10000
+    ∷ number_option (codes "size") 1 100000
     ∷ option (codes "journal")
     ∷ flag (codes "steal")
     ∷ words_behind (codes "INPUT")
@@ -43,6 +43,6 @@ arguments =
 -- the command: its arguments, no subcommand, and no flag for help
 unfoldable pub shim_app : App
 shim_app = record {
-  top = record (new_shape (codes "shim")) { disable_help_flag = true; rules = arguments };
+  top = record (new_shape (codes "shim")) { disable_help_flag = true; rules = command_rules };
   subs = [];
 }

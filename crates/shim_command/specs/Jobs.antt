@@ -32,12 +32,12 @@ abbrev pub words_in : List Row → Text → List Text
 words_in rows name = unwrap_or (all_of name rows) []
 
 -- the number of a text, in decimal and perhaps with a plus before it; the default, where there is no text
-abbrev pub numbered : Option Text → ℕ → ℕ
-numbered given default = option_map_or (λ text. digits_value 10 (without_leading_plus text)) given default
+abbrev pub parsed_number : Option Text → ℕ → ℕ
+parsed_number given default = option_map_or (λ text. digits_value 10 (without_leading_plus text)) given default
 
 -- the number that an option was given, or its default
-abbrev pub number_in : List Row → Text → ℕ → ℕ
-number_in rows name default = numbered (one_of name rows) default
+abbrev pub option_number : List Row → Text → ℕ → ℕ
+option_number rows name default = parsed_number (one_of name rows) default
 
 -- whether a flag was given: `clap` finds a truth value for it as a text
 abbrev pub flag_in : List Row → Text → Bool
@@ -50,10 +50,10 @@ job_with mode rows = record {
   file = word_in rows (codes "FILE");
   inputs = words_in rows (codes "INPUT");
   input = first_of (codes "input") rows;
-  workers = number_in rows (codes "workers") 4;
-  budget = number_in rows (codes "budget") 1000000;
-  quantum = number_in rows (codes "quantum") 64;
-  size = number_in rows (codes "size") 1000;
+  workers = option_number rows (codes "workers") 4;
+  budget = option_number rows (codes "budget") 1000000;
+  quantum = option_number rows (codes "quantum") 64;
+  size = option_number rows (codes "size") 1000;
   journal = first_of (codes "journal") rows;
   steal = flag_in rows (codes "steal");
 }
@@ -112,18 +112,18 @@ pub record IsWithin (job : Job) : Type 0 where
   pub inputs : (row_of job.mode).beside ≡ Inputs → (1 ≤ length job.inputs) × (length job.inputs ≤ 64)
 
 -- a text, where there is one, is a number from `least` to `most`
-abbrev pub IsNumber : ℕ → ℕ → Option Text → Type 0
-IsNumber least most None = Unit {0}
-IsNumber least most (Some text) = IsUnsignedIn least most text
+abbrev pub IsNumberText : ℕ → ℕ → Option Text → Type 0
+IsNumberText least most None = Unit {0}
+IsNumberText least most (Some text) = IsUnsignedIn least most text
 
 -- each option of a number that was given has one in its range
 abbrev pub FitAll : List Row → Type 0
-FitAll rows = IsNumber 1 16 (one_of (codes "workers") rows)
-    × IsNumber 1 4000000 (one_of (codes "budget") rows)
-    × IsNumber 1 10000 (one_of (codes "quantum") rows)
-    × IsNumber 1 100000 (one_of (codes "size") rows)
+FitAll rows = IsNumberText 1 16 (one_of (codes "workers") rows)
+    × IsNumberText 1 4000000 (one_of (codes "budget") rows)
+    × IsNumberText 1 10000 (one_of (codes "quantum") rows)
+    × IsNumberText 1 100000 (one_of (codes "size") rows)
 
 -- what is answered to an error of `clap` of this kind
-abbrev pub IsFaultOf : ErrorKind → WordsFault → Type 0
-IsFaultOf kind Refused = kind ≢ OutOfMemory
-IsFaultOf kind NoMemory = kind ≡ OutOfMemory
+abbrev pub IsErrorOf : ErrorKind → WordsFault → Type 0
+IsErrorOf kind Refused = kind ≢ OutOfMemory
+IsErrorOf kind NoMemory = kind ≡ OutOfMemory

@@ -1,7 +1,7 @@
 // The command line, as one simple command of `clap`.
 ghost use Rattle.std.specs.Prelude.{◌≡◌, ◌≤◌, IfOk, false};
 ghost use Rattle.clap.specs.Words.{app_of, rule_of};
-ghost use Rattle.shim_command.specs.Command.{flag, given, number, option, shim_app, words_behind};
+ghost use Rattle.shim_command.specs.Command.{flag, positional, number_option, option, shim_app, words_behind};
 
 use clap::builder::ValueParser;
 use clap::{Arg, ArgAction, Command};
@@ -10,7 +10,7 @@ use std::alloc::Global;
 
 // A word that has to be there, by its place.
 fn given<'a>(alloc: Global, name: &'a str) -> Arg<'a>
-    ensures rule { rule_of result ≡ given name.entry.now }
+    ensures rule { rule_of result ≡ positional name.entry.now }
     ensures own { result.global ≡ false }
 {
     Arg::new(alloc, name).required(true).action(ArgAction::Set)
@@ -26,7 +26,7 @@ fn option<'a>(alloc: Global, name: &'a str) -> Arg<'a>
 
 // An option that takes a number from `least` to `most`.
 fn number<'a>(alloc: Global, name: &'a str, least: u64, most: u64) -> Arg<'a>
-    ensures rule { rule_of result ≡ number name.entry.now least most }
+    ensures rule { rule_of result ≡ number_option name.entry.now least most }
     ensures own { result.global ≡ false }
 {
     Arg::new(alloc, name)

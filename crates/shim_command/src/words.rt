@@ -2,7 +2,7 @@
 ghost use Rattle.std.specs.Prelude.{◌≡◌, ℕ, IfOk, Some, codes, map, option_map};
 ghost use Rattle.clap.specs.Words.{first_of, found_of, kind_of, matches_of, one_of, rows_of};
 ghost use Rattle.shim_command.specs.Command.{shim_app};
-ghost use Rattle.shim_command.specs.Jobs.{FitAll, Gives, IsFaultOf, IsNumber, IsWithin, flag_in, has_extra, has_origin, job, job_in, job_with, number_in, suits, texts_of, word_in, words_in};
+ghost use Rattle.shim_command.specs.Jobs.{FitAll, Gives, IsErrorOf, IsNumberText, IsWithin, flag_in, has_extra, has_origin, job, job_in, job_with, option_number, suits, texts_of, word_in, words_in};
 
 use crate::command::command;
 use crate::job::{Job, WordsFault};
@@ -30,8 +30,8 @@ fn text_in<'a>(matches: &ArgMatches<'a>, name: &str) -> Option<&'a str>
 
 // The number that an option was given, or its default.
 fn number_in(matches: &ArgMatches<'_>, name: &str, default: u64) -> u64
-    requires { (least : ℕ) × (most : ℕ) × IsNumber least most (one_of name.now (rows_of (found_of matches.now))) }
-    ensures { result ≡ number_in (rows_of (found_of matches.now)) name.now default }
+    requires { (least : ℕ) × (most : ℕ) × IsNumberText least most (one_of name.now (rows_of (found_of matches.now))) }
+    ensures { result ≡ option_number (rows_of (found_of matches.now)) name.now default }
 {
     matches.get_one::<u64>(name).unwrap_or(default)
 }
@@ -148,7 +148,7 @@ fn job_in(alloc: Global, matches: &ArgMatches<'_>) -> Result<Job, WordsFault>
 
 // Why `clap` took no words: memory was wanted, or it refuses them.
 fn fault_of(error: &Error) -> WordsFault
-    ensures { IsFaultOf (kind_of error.now) result }
+    ensures { IsErrorOf (kind_of error.now) result }
 {
     match error.kind() == ErrorKind::OutOfMemory {
         true => WordsFault::NoMemory,

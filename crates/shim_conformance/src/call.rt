@@ -1,4 +1,4 @@
-// One call of the tool, over files and a sink in memory.
+// What calls answer. One of the tool goes over files and a sink in memory.
 use crate::case::Case;
 use shim_base::{List, Name, NoMemory};
 use shim_edge::{MemFiles, MemSink};
@@ -14,16 +14,12 @@ const ROOM: usize = 1 << 20;
 #[derive(Drop)]
 pub struct Answer {
     pub status: u8,
-    sink: MemSink,
+    pub text: List<u8>,
 }
 
 impl Answer {
-    pub fn text(&self) -> &[u8] {
-        self.sink.taken()
-    }
-
     pub fn is_as_told(&self, case: &Case) -> bool {
-        self.status == case.status && self.text() == case.text.as_slice()
+        self.status == case.status && self.text.as_slice() == case.text.as_slice()
     }
 }
 
@@ -45,7 +41,7 @@ fn sink_of(alloc: Global, case: &Case) -> Result<MemSink, NoMemory> {
 }
 
 /// Calls the tool with these words, over the case's files.
-pub fn call<R: Threads + Wait + Sync>(
+pub fn call_tool<R: Threads + Wait + Sync>(
     rt: &R,
     alloc: Global,
     case: &Case,
@@ -55,5 +51,6 @@ pub fn call<R: Threads + Wait + Sync>(
     let mut sink = sink_of(alloc, case)?;
     let gate = NoOpGate::new();
     let status = shim(rt, alloc, words, &mut files, &mut sink, &gate);
-    Ok(Answer { status, sink })
+    let text = List::from_slice(alloc, sink.taken())?;
+    Ok(Answer { status, text })
 }

@@ -3,8 +3,8 @@ ghost use Rattle.std.specs.Prelude.{◌≤◌, ◌<◌, length};
 
 use crate::case::{Case, Edges, HeldFile};
 use crate::fault::CaseFault;
-use crate::heading::{Form, Heading};
-use crate::words::CallLine;
+use crate::heading::{Heading, TextForm};
+use crate::words::{Asked, CallLine};
 use shim_base::{List, Name};
 use std::alloc::Global;
 use std::mem;
@@ -16,13 +16,13 @@ const MOST_BYTES: usize = 1 << 25;
 #[derive(Drop)]
 enum Part {
     Nothing,
-    File(Name, Form),
-    Text(Form),
+    File(Name, TextForm),
+    Text(TextForm),
 }
 
 /// What was read of a case.
 #[derive(Drop)]
-pub struct Draft {
+pub struct CaseDraft {
     alloc: Global,
     title: String,
     lines: Vec<CallLine>,
@@ -54,11 +54,11 @@ fn from_hex(alloc: Global, text: &str) -> Result<Vec<u8>, CaseFault> {
     Ok(bytes)
 }
 
-fn bytes_of(alloc: Global, form: Form, text: &str) -> Result<Vec<u8>, CaseFault> {
+fn bytes_of(alloc: Global, form: TextForm, text: &str) -> Result<Vec<u8>, CaseFault> {
     let text = match form {
-        Form::Whole => text,
-        Form::Bare => text.strip_suffix('\n').unwrap_or(text),
-        Form::Hex => return from_hex(alloc, text),
+        TextForm::Whole => text,
+        TextForm::Bare => text.strip_suffix('\n').unwrap_or(text),
+        TextForm::Hex => return from_hex(alloc, text),
     };
     Ok(Vec::from_slice(alloc, text.as_bytes())?)
 }
@@ -86,12 +86,12 @@ fn repeat_of(text: &str) -> Result<(usize, &str), CaseFault> {
     Ok((count, part))
 }
 
-impl Draft {
-    pub fn new(alloc: Global, title: &str) -> Result<Draft, CaseFault> {
+impl CaseDraft {
+    pub fn new(alloc: Global, title: &str) -> Result<CaseDraft, CaseFault> {
         if title.is_empty() {
             return Err(CaseFault::Unnamed);
         }
-        Ok(Draft {
+        Ok(CaseDraft {
             alloc,
             title: String::from_str(alloc, title)?,
             lines: Vec::new(alloc),
@@ -147,7 +147,7 @@ impl Draft {
         Ok(())
     }
 
-    fn open_file(&mut self, name: &str, form: Form) -> Result<(), CaseFault> {
+    fn open_file(&mut self, name: &str, form: TextForm) -> Result<(), CaseFault> {
         let name = name_of(self.alloc, name)?;
         if self
             .files
@@ -160,7 +160,7 @@ impl Draft {
         Ok(())
     }
 
-    fn open_text(&mut self, form: Form) -> Result<(), CaseFault> {
+    fn open_text(&mut self, form: TextForm) -> Result<(), CaseFault> {
         if self.text.is_some() {
             return Err(CaseFault::Repeated);
         }
@@ -168,8 +168,8 @@ impl Draft {
         Ok(())
     }
 
-    fn add_words(&mut self, words: &str) -> Result<(), CaseFault> {
-        self.lines.push(CallLine::new(self.alloc, words)?)?;
+    fn add_words(&mut self, asked: Asked, words: &str) -> Result<(), CaseFault> {
+        self.lines.push(CallLine::new(self.alloc, asked, words)?)?;
         Ok(())
     }
 
@@ -199,7 +199,8 @@ impl Draft {
         }
         self.close_part()?;
         match heading {
-            Heading::Words(words) => self.add_words(words),
+            Heading::Words(words) => self.add_words(Asked::Tool, words),
+            Heading::Inside(words) => self.add_words(Asked::Inside, words),
             Heading::File(name, form) => self.open_file(name, form),
             Heading::FailingReads(numbers) => {
                 self.edges.failing_reads = numbers_of(self.alloc, numbers)?;
@@ -219,7 +220,7 @@ impl Draft {
     /// The case that was read, if nothing is missing.
     pub fn finish(mut self) -> Result<Case, CaseFault> {
         self.close_part()?;
-        let Draft {
+        let CaseDraft {
             title,
             lines,
             files,

@@ -4,7 +4,7 @@ use crate::fault::CaseFault;
 
 /// How a file or the expected text is written.
 #[derive(Clone, Copy)]
-pub enum Form {
+pub enum TextForm {
     /// As it is, each line with its line break.
     Whole,
     /// As it is, but without the last line break.
@@ -16,13 +16,14 @@ pub enum Form {
 pub enum Heading<'a> {
     Case(&'a str),
     Words(&'a str),
-    File(&'a str, Form),
+    Inside(&'a str),
+    File(&'a str, TextForm),
     Repeat(&'a str),
     FailingReads(&'a str),
     FailingWrites(&'a str),
     Most(&'a str),
     Status(&'a str),
-    Text(Form),
+    Text(TextForm),
     End,
 }
 
@@ -31,17 +32,18 @@ fn heading_of_text(text: &str) -> Option<Heading<'_>> {
     match word {
         "case" => Some(Heading::Case(rest)),
         "words" => Some(Heading::Words(rest)),
-        "file" => Some(Heading::File(rest, Form::Whole)),
-        "bare" => Some(Heading::File(rest, Form::Bare)),
-        "hex" => Some(Heading::File(rest, Form::Hex)),
+        "inside" => Some(Heading::Inside(rest)),
+        "file" => Some(Heading::File(rest, TextForm::Whole)),
+        "bare" => Some(Heading::File(rest, TextForm::Bare)),
+        "hex" => Some(Heading::File(rest, TextForm::Hex)),
         "repeat" => Some(Heading::Repeat(rest)),
         "failing-reads" => Some(Heading::FailingReads(rest)),
         "failing-writes" => Some(Heading::FailingWrites(rest)),
         "most" => Some(Heading::Most(rest)),
         "status" => Some(Heading::Status(rest)),
-        "text" if rest.is_empty() => Some(Heading::Text(Form::Whole)),
-        "text" if rest == "bare" => Some(Heading::Text(Form::Bare)),
-        "text" if rest == "hex" => Some(Heading::Text(Form::Hex)),
+        "text" if rest.is_empty() => Some(Heading::Text(TextForm::Whole)),
+        "text" if rest == "bare" => Some(Heading::Text(TextForm::Bare)),
+        "text" if rest == "hex" => Some(Heading::Text(TextForm::Hex)),
         "end" if rest.is_empty() => Some(Heading::End),
         _ => None,
     }

@@ -1,6 +1,6 @@
 // Reads cases from lines.
 use crate::case::Case;
-use crate::draft::Draft;
+use crate::draft::CaseDraft;
 use crate::fault::CaseFault;
 use crate::heading::{Heading, heading_of};
 use std::alloc::Global;
@@ -11,7 +11,7 @@ enum State {
     Outside,
     // Behind a fault, up to the end of the case.
     Skipping,
-    Inside(Draft),
+    Inside(CaseDraft),
 }
 
 /// Reads lines one after another. Behind a fault it goes on at the next case.
@@ -30,7 +30,7 @@ impl Reader {
     }
 
     fn begin(&mut self, title: &str) -> Result<(), CaseFault> {
-        self.state = State::Inside(Draft::new(self.alloc, title)?);
+        self.state = State::Inside(CaseDraft::new(self.alloc, title)?);
         Ok(())
     }
 
@@ -56,7 +56,7 @@ impl Reader {
         }
     }
 
-    fn read_inside(&mut self, mut draft: Draft, line: &str) -> Result<Option<Case>, CaseFault> {
+    fn read_inside(&mut self, mut draft: CaseDraft, line: &str) -> Result<Option<Case>, CaseFault> {
         match heading_of(line)? {
             None => draft.add_line(line)?,
             Some(Heading::Case(title)) => {

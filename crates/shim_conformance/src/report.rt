@@ -1,8 +1,10 @@
 // What is printed of the cases, and their counts.
-use crate::call::call;
+use crate::call::{Answer, call_tool};
 use crate::case::Case;
 use crate::fault::CaseFault;
+use crate::inside::call_inside;
 use crate::reader::Reader;
+use crate::words::Asked;
 use shim_base::NoMemory;
 use std::alloc::Global;
 use std::collections::BTreeSet;
@@ -70,15 +72,29 @@ fn no_memory(_error: NoMemory) -> io::Error {
     io::Error::from(ErrorKind::OutOfMemory)
 }
 
+fn answer_to<R: Threads + Wait + Sync>(
+    rt: &R,
+    alloc: Global,
+    case: &Case,
+    asked: Asked,
+    words: &[String],
+) -> Result<Answer, NoMemory> {
+    match asked {
+        Asked::Tool => call_tool(rt, alloc, case, words),
+        Asked::Inside => call_inside(alloc, case, words),
+    }
+}
+
 // Makes one call. Where it differs it is shown, behind what is wanted if it is the first of its case.
 fn run_call<R: Print + Threads + Wait + Sync>(
     rt: &R,
     alloc: Global,
     case: &Case,
+    asked: Asked,
     words: &[String],
     tally: Tally,
 ) -> io::Result<Tally> {
-    let answer = call(rt, alloc, case, words).map_err(no_memory)?;
+    let answer = answer_to(rt, alloc, case, asked, words).map_err(no_memory)?;
     let is_right = answer.is_as_told(case);
     if !is_right {
         if tally.is_right() {
@@ -86,7 +102,7 @@ fn run_call<R: Print + Threads + Wait + Sync>(
             show_text(rt, case.status, case.text.as_slice())?;
         }
         show_words(rt, words)?;
-        show_text(rt, answer.status, answer.text())?;
+        show_text(rt, answer.status, answer.text.as_slice())?;
     }
     Ok(tally.with(is_right))
 }
@@ -101,7 +117,7 @@ fn run_case<R: Print + Threads + Wait + Sync>(
     for line in case.lines.iter() {
         for number in 0..line.count() {
             let words = line.words(alloc, number).map_err(no_memory)?;
-            tally = run_call(rt, alloc, case, words.as_slice(), tally)?;
+            tally = run_call(rt, alloc, case, line.asked, words.as_slice(), tally)?;
         }
     }
     Ok(tally)

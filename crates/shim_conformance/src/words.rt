@@ -5,6 +5,14 @@ use std::alloc::Global;
 
 const MOST_CALLS: usize = 1000;
 
+/// Whom words ask.
+#[derive(Clone, Copy)]
+pub enum Asked {
+    Tool,
+    /// What lies below the tool.
+    Inside,
+}
+
 // The choices that a word offers: `{1|2}` has two, `{}` has the empty word, and any other has itself.
 fn choices_of(alloc: Global, word: &str) -> Result<Vec<String>, CaseFault> {
     let inner = word
@@ -23,12 +31,13 @@ fn choices_of(alloc: Global, word: &str) -> Result<Vec<String>, CaseFault> {
 /// Words with the choices of each. Each way to choose is a call.
 #[derive(Drop)]
 pub struct CallLine {
+    pub asked: Asked,
     words: Vec<Vec<String>>,
     count: usize,
 }
 
 impl CallLine {
-    pub fn new(alloc: Global, line: &str) -> Result<CallLine, CaseFault> {
+    pub fn new(alloc: Global, asked: Asked, line: &str) -> Result<CallLine, CaseFault> {
         let mut words = Vec::new(alloc);
         let mut count = 1usize;
         for word in line.split(' ').filter(|_| !line.is_empty()) {
@@ -39,7 +48,11 @@ impl CallLine {
         if count > MOST_CALLS {
             return Err(CaseFault::ManyCalls);
         }
-        Ok(CallLine { words, count })
+        Ok(CallLine {
+            asked,
+            words,
+            count,
+        })
     }
 
     /// How many calls the line stands for.

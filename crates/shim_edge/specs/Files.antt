@@ -15,8 +15,8 @@ abbrev pub no_files : Option (List (List ℕ × List ℕ))
 no_files = None
 
 -- the files are told, and one of them has that name
-abbrev pub IsHeld : Option (List (List ℕ × List ℕ)) → List ℕ → Type 0
-IsHeld held name = IsSomeAnd held (λ files. IsSome (file_of files name))
+abbrev pub HasFile : Option (List (List ℕ × List ℕ)) → List ℕ → Type 0
+HasFile held name = IsSomeAnd held (λ files. IsSome (file_of files name))
 
 -- Whole bytes are at most so many. Where the content is told, it is those bytes, or has more than so many.
 abbrev pub ShowsContent : Option (List ℕ) → ℕ → Got → Type 0

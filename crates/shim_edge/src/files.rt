@@ -1,7 +1,7 @@
 // Files that are read by name.
 ghost use Rattle.std.specs.Prelude.{◌≡◌, ◌≢◌, ℕ, List, [], ◌∷◌, ◌++◌, Bool, Option, Err, IsTrue, IsSome, OnOk, OnErr};
 ghost use Rattle.shim_edge.specs.declared.files.FileFault.TheVariants.{Failed, NoMemory as OutOfMemory};
-ghost use Rattle.shim_edge.specs.Files.{ShowsFile, AddsNameIfFailed, IsHeld};
+ghost use Rattle.shim_edge.specs.Files.{ShowsFile, AddsNameIfFailed, HasFile};
 
 use shim_base::{List, NoMemory};
 use std::alloc::{AllocError, AllocFailed, Global};
@@ -71,7 +71,7 @@ pub trait Files {
         ensures cause { AddsNameIfFailed (failed self.old) name.now (failed self.new) result }
         ensures held { held self.new ≡ held self.old }
         ensures sound { sound self.new ≡ sound self.old }
-        ensures read_if_sound { IsTrue (sound self.old) → IsHeld (held self.old) name.now → result ≢ Err Failed };
+        ensures read_if_sound { IsTrue (sound self.old) → HasFile (held self.old) name.now → result ≢ Err Failed };
 
     /// Sound files are told.
     ghost told_if_sound: { (files : Self) → IsTrue (sound files) → IsSome (held files) };

@@ -1,7 +1,7 @@
 // The system's files and the standard output, which tell nothing of content.
 ghost use Rattle.std.specs.Prelude.{◌≡◌, ◌≤◌, [], ◌≢◌, Err, IsTrue, false, IsUtf8, length, None, IfOk, OnOk, OnErr};
 ghost use Rattle.shim_edge.specs.Count.{count_fault, HasRisen};
-ghost use Rattle.shim_edge.specs.Files.{ShowsContent, ShowsFile, AddsNameIfFailed, IsHeld, no_files};
+ghost use Rattle.shim_edge.specs.Files.{ShowsContent, ShowsFile, AddsNameIfFailed, HasFile, no_files};
 ghost use Rattle.shim_edge.specs.declared.files.FileFault.TheVariants.{Failed};
 ghost use Rattle.shim_edge.specs.Sink.{Takes};
 
@@ -87,7 +87,7 @@ impl<R: rt::Files> Files for HostFiles<'_, R> {
         ensures cause { AddsNameIfFailed self.old name.now self.new result }
         ensures held { no_files ≡ no_files }
         ensures sound { false ≡ false }
-        ensures read_if_sound { IsTrue false → IsHeld no_files name.now → result ≢ Err Failed }
+        ensures read_if_sound { IsTrue false → HasFile no_files name.now → result ≢ Err Failed }
 
         ensures utf8 { OnOk result (IsUtf8 name.now) }
     {

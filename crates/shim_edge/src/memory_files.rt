@@ -1,7 +1,7 @@
 // Files in memory, whose reads fail when told to.
 ghost use Rattle.std.specs.Prelude.{◌≡◌, ◌≢◌, [], length, Some, Err, IsTrue, IsErr, IfOk, option_copied};
 ghost use Rattle.shim_edge.specs.declared.files.FileFault.TheVariants.{Failed};
-ghost use Rattle.shim_edge.specs.Files.{file_of, ShowsFile, ShowsContent, AddsNameIfFailed, IsHeld};
+ghost use Rattle.shim_edge.specs.Files.{file_of, ShowsFile, ShowsContent, AddsNameIfFailed, HasFile};
 ghost use Rattle.shim_edge.specs.MemFiles.{RefusesRead, after_read};
 
 use crate::files::add_failed;
@@ -90,7 +90,7 @@ impl Files for MemFiles {
         ensures cause { AddsNameIfFailed self.old.failed name.now self.new.failed result }
         ensures held { Some self.new.files ≡ Some self.old.files }
         ensures sound { (length self.new.failing == 0) ≡ (length self.old.failing == 0) }
-        ensures read_if_sound { IsTrue (length self.old.failing == 0) → IsHeld (Some self.old.files) name.now → result ≢ Err Failed }
+        ensures read_if_sound { IsTrue (length self.old.failing == 0) → HasFile (Some self.old.files) name.now → result ≢ Err Failed }
 
         ensures failed_if_refused { result ≡ Err Failed → RefusesRead self.old name.now }
         ensures refused { RefusesRead self.old name.now → IsErr result }

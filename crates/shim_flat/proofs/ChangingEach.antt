@@ -7,13 +7,13 @@ use Rattle.shim_local.specs.Process.{Ops}
 use Rattle.shim_local.specs.Laws.{LocalLaws, by_receive, by_call}
 use Rattle.shim_semantics.specs.Nodes.{Node, death}
 use Rattle.shim_semantics.proofs.Replaced.{sound_at, state_sound}
-use Rattle.shim_laws_records.specs.Seen.{Sort, lives, dies, place}
+use Rattle.shim_laws_records.specs.Seen.{ProcessStatus, lives, dies, place}
 use Rattle.shim_laws_records.specs.Agrees.{used}
 use Rattle.shim_laws_records.proofs.SameTrees.{same_or_not}
 use Rattle.shim_records.specs.Members.{IsAmong}
 use Rattle.shim_records.proofs.ReadOff.{same_stands}
 use Rattle.shim_records.proofs.Stepping.{set_there, set_elsewhere}
-use Rattle.shim_laws_keeping.specs.Flats.{FlatView, HasProcess, Keeps, stands}
+use Rattle.shim_laws_keeping.specs.Flats.{FlatView, HasProcessState, Keeps, stands}
 use Rattle.shim_laws_meetings.specs.Meetings.{ReceivesOne, stands_elsewhere, received, ReceiveAll, none_left, one_more}
 use Rattle.shim_laws_meetings.specs.Poisons.{DiesOne, survived, was_killed, AllDie, none_left as none_die, one_more as one_dies}
 use Rattle.shim_laws_meetings.proofs.Among.{among_later}
@@ -23,26 +23,27 @@ use Rattle.shim_laws_meetings.proofs.Meets.{one_keeps}
 use Rattle.shim_laws_meetings.proofs.Receives.{moves_on_rest}
 use Rattle.shim_flat.specs.Stepping.{HasBecome}
 use Rattle.shim_flat.specs.Changing.{IsChanged, ChangesEach}
+use Rattle.shim_flat.proofs.HereSteps.{becomes_this}
 
 module _ {S : Type 0} (o : Ops S) where
   -- nothing has changed
   pub none_changed : (numbers : List ℕ) (before behind : FlatView S) → behind ≡ before → IsChanged o numbers before behind
   none_changed numbers before behind e = record {
-    still = λ i f s k h. (f, s, k, subst (λ z. HasProcess z i f s k) (sym e) h, refl);
-    only = λ i g t h w. (g, t, h, subst (λ z. HasProcess z i g t h) e w, refl);
-    living = λ i f l h. inr (subst (λ z. HasProcess z i f l lives) e h);
+    still = λ i f s k h. (f, s, k, subst (λ z. HasProcessState z i f s k) (sym e) h, refl);
+    only = λ i g t h w. (g, t, h, subst (λ z. HasProcessState z i g t h) e w, refl);
+    living = λ i f l h. inr (subst (λ z. HasProcessState z i f l lives) e h);
   }
 
   -- one process has become this, with its path
-  pub one_changed : (x f : ℕ) (l s : S) (h k : Sort) (before behind : FlatView S) → HasProcess before x f l h → HasBecome x s k before behind → o.path s ≡ o.path l → IsChanged o (x ∷ []) before behind
+  pub one_changed : (x f : ℕ) (l s : S) (h k : ProcessStatus) (before behind : FlatView S) → HasProcessState before x f l h → HasBecome x s k before behind → o.path s ≡ o.path l → IsChanged o (x ∷ []) before behind
   one_changed x f l s h k before behind had become path = record {
     still = λ i g t z w. elim (same_or_not i x) [
       | inr far ↦ (g, t, z, become.others i g t z far w, refl)
-      | inl e ↦ (become.first, s, k, subst (λ n. HasProcess behind n become.first s k) (sym e) become.mine, path ∙ ap o.path (its before.states x l t (subst (λ n. slice_get before.states n ≡ Some t) e w.state_is) had.state_is))
+      | inl e ↦ (become.first, s, k, subst (λ n. HasProcessState behind n become.first s k) (sym e) become.mine, path ∙ ap o.path (its before.states x l t (subst (λ n. slice_get before.states n ≡ Some t) e w.state_is) had.state_is))
     ];
     only = λ i g t z w. elim (same_or_not i x) [
       | inr far ↦ (g, t, z, become.only i g t z far w, refl)
-      | inl e ↦ (f, l, h, subst (λ n. HasProcess before n f l h) (sym e) had, ap o.path (its behind.states x t s become.mine.state_is (subst (λ n. slice_get behind.states n ≡ Some t) e w.state_is)) ∙ path)
+      | inl e ↦ (f, l, h, subst (λ n. HasProcessState before n f l h) (sym e) had, ap o.path (its behind.states x t s become.mine.state_is (subst (λ n. slice_get behind.states n ≡ Some t) e w.state_is)) ∙ path)
     ];
     living = λ i g t w. elim (same_or_not i x) [
       | inr far ↦ inr (become.only i g t lives far w)
@@ -87,12 +88,7 @@ module _ {S : Type 0} (o : Ops S) where
         stay = same_stands before.records behind.records (moves_on_rest moves)
 
         become : HasBecome i s lives before behind
-        become = record {
-          first = f;
-          mine = record { state_is = ap (λ z. slice_get z i) states ∙ set_there before.states i l s has.state_is; stands_so = ap (λ z. slice_get z i) stay ∙ has.stands_so };
-          others = λ j g t x far h. record { state_is = ap (λ z. slice_get z j) states ∙ (set_elsewhere before.states i j s far ∙ h.state_is); stands_so = ap (λ z. slice_get z j) stay ∙ h.stands_so };
-          only = λ j g t x far h. record { state_is = sym (ap (λ z. slice_get z j) states ∙ set_elsewhere before.states i j s far) ∙ h.state_is; stands_so = sym (ap (λ z. slice_get z j) stay) ∙ h.stands_so };
-        }
+        become = becomes_this i f l s before behind has states stay
 
     pub all_receive_changed : (numbers : List ℕ) (before behind : FlatView S) → ReceiveAll o c v numbers before behind → ChangesEach o numbers before behind
     all_receive_changed numbers before behind (none_left w) rp root kept = none_changed [] w w refl
@@ -107,7 +103,7 @@ module _ {S : Type 0} (o : Ops S) where
     dies_changed i before behind (survived none same) = none_changed (i ∷ []) before behind same
     dies_changed i before behind (was_killed f l has less states down) = one_changed i f l l lives dead before behind has become refl
       where
-        dead : Sort
+        dead : ProcessStatus
         dead = dies (death label)
 
         now : stands behind ≡ slice_set (stands before) i (used f dead)

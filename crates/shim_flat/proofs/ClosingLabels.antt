@@ -6,7 +6,7 @@ use Rattle.shim_base.specs.Paths.{Channel, NamedChannel}
 use Rattle.shim_base.proofs.Facts.{some_same, none_some}
 use Rattle.shim_local.specs.Process.{Ops}
 use Rattle.shim_semantics.specs.Nodes.{Death}
-use Rattle.shim_laws_records.specs.Changes.{block, prevailing_of, prevailing_among}
+use Rattle.shim_laws_records.specs.Changes.{segment, prevailing_with, prevailing_among}
 use Rattle.shim_records.specs.Members.{IsAmong}
 use Rattle.shim_records.specs.Acted.{Earlier}
 use Rattle.shim_records.specs.Pairs.{stands_of, stands_by, rest_of}
@@ -27,27 +27,27 @@ no_block : {A : Type 0} (xs : List A) → take 0 xs ≡ []
 no_block [] = refl
 no_block (x ∷ xs) = refl
 
-pub none_read : (rs : List Record) (g n : ℕ) → None ≡ prevailing_among (block (g + n) (n - n) (map stands_of rs))
+pub none_read : (rs : List Record) (g n : ℕ) → None ≡ prevailing_among (segment (g + n) (n - n) (map stands_of rs))
 none_read rs g n =
     let none : n - n ≡ 0 = omega arith in
-    sym (ap (λ z. prevailing_among (block (g + n) z (map stands_of rs))) none ∙ ap prevailing_among (no_block (drop (g + n) (map stands_of rs))))
+    sym (ap (λ z. prevailing_among (segment (g + n) z (map stands_of rs))) none ∙ ap prevailing_among (no_block (drop (g + n) (map stands_of rs))))
 
 -- one more child
-pub one_read : (rs : List Record) (g n i : ℕ) (r : Record) (least now : Option Death) → i < n → slice_get rs (g + i) ≡ Some r → ((f : ℕ) → now ≡ prevailing_of (stands_by f r.status) least)
-    → least ≡ prevailing_among (block (g + (i + 1)) (n - (i + 1)) (map stands_of rs)) → now ≡ prevailing_among (block (g + i) (n - i) (map stands_of rs))
+pub one_read : (rs : List Record) (g n i : ℕ) (r : Record) (least now : Option Death) → i < n → slice_get rs (g + i) ≡ Some r → ((f : ℕ) → now ≡ prevailing_with (stands_by f r.status) least)
+    → least ≡ prevailing_among (segment (g + (i + 1)) (n - (i + 1)) (map stands_of rs)) → now ≡ prevailing_among (segment (g + i) (n - i) (map stands_of rs))
 one_read rs g n i r least now less there is so =
     let left : n - i ≡ suc (n - (i + 1)) = omega (arith, less) in
     let next : suc (g + i) ≡ g + (i + 1) = omega arith in
     let here : slice_get (map stands_of rs) (g + i) ≡ Some (stands_of r) = map_get stands_of rs (g + i) ∙ ap (option_map stands_of) there in
     is r.first
-    ∙ (ap (prevailing_of (stands_of r)) (so ∙ ap (λ z. prevailing_among (block z (n - (i + 1)) (map stands_of rs))) (sym next))
-    ∙ sym (ap (λ z. prevailing_among (block (g + i) z (map stands_of rs))) left ∙ ap (λ z. prevailing_among (take (suc (n - (i + 1))) z)) (drop_at (map stands_of rs) (g + i) (stands_of r) here)))
+    ∙ (ap (prevailing_with (stands_of r)) (so ∙ ap (λ z. prevailing_among (segment z (n - (i + 1)) (map stands_of rs))) (sym next))
+    ∙ sym (ap (λ z. prevailing_among (segment (g + i) z (map stands_of rs))) left ∙ ap (λ z. prevailing_among (take (suc (n - (i + 1))) z)) (drop_at (map stands_of rs) (g + i) (stands_of r) here)))
 
-pub all_read : (rs : List Record) (g n i : ℕ) (least : Option Death) → i ≡ 0 → least ≡ prevailing_among (block (g + i) (n - i) (map stands_of rs)) → least ≡ prevailing_among (block g n (map stands_of rs))
+pub all_read : (rs : List Record) (g n i : ℕ) (least : Option Death) → i ≡ 0 → least ≡ prevailing_among (segment (g + i) (n - i) (map stands_of rs)) → least ≡ prevailing_among (segment g n (map stands_of rs))
 all_read rs g n i least e so =
     let first : g + i ≡ g = omega (arith, e) in
     let many : n - i ≡ n = omega (arith, e) in
-    so ∙ (λ t. prevailing_among (block (first t) (many t) (map stands_of rs)))
+    so ∙ (λ t. prevailing_among (segment (first t) (many t) (map stands_of rs)))
 
 -- ---- the labels above
 

@@ -10,11 +10,11 @@ use Rattle.shim_local.specs.Laws.{LocalLaws}
 use Rattle.shim_semantics.specs.Nodes.{Death, state}
 use Rattle.shim_semantics.specs.Acts.{Acted, closed}
 use Rattle.shim_semantics.specs.Trees.{Close}
-use Rattle.shim_laws_records.specs.Seen.{forks, sort}
+use Rattle.shim_laws_records.specs.Seen.{forks, process_status}
 use Rattle.shim_laws_records.specs.Agrees.{free as unused_so, used, Has}
 use Rattle.shim_laws_records.proofs.Hanging.{tree_of}
-use Rattle.shim_laws_records.specs.Changes.{HasClosed, block, prevailing_among}
-use Rattle.shim_records.specs.Acted.{sort_of, AllUpdated}
+use Rattle.shim_laws_records.specs.Changes.{HasClosed, segment, prevailing_among}
+use Rattle.shim_records.specs.Acted.{process_status_of, AllUpdated}
 use Rattle.shim_records.specs.Pairs.{fork_size, stands_of, stands_by, chans_of, IsOrdered, AreOrdered}
 use Rattle.shim_records.specs.declared.record.Record.{Record}
 use Rattle.shim_records.specs.declared.record.Status.{Status}
@@ -24,13 +24,13 @@ use Rattle.shim_records.proofs.Stepping.{set_there}
 use Rattle.shim_laws_keeping.specs.Flats.{FlatView, Keeps, IsKept}
 use Rattle.shim_laws_keeping.specs.Moves.{MovesBy}
 use Rattle.shim_laws_waking.proofs.PairsFound.{record_of}
-use Rattle.shim_laws_closes.specs.Closing.{Beside, beside_of, AreFreed, HasCome, LeavesIf, RecountedIf}
+use Rattle.shim_laws_closes.specs.Closing.{RecordWithoutStatus, without_status, AreFreed, HasCome, LeavesIf, RecountedIf}
 use Rattle.shim_laws_closes.proofs.Closed.{behind as behind_close, given_few}
 use Rattle.shim_laws_closes.proofs.Closes.{closes_keep, stands_stay}
 use Rattle.shim_laws_closes.proofs.Cuts.{cut, closed_cut}
 use Rattle.shim_laws_closes.proofs.Saying.{map_length, said_alike, was_item}
 use Rattle.shim_laws_closes.proofs.Taking.{born, below, within, apart}
-use Rattle.shim_flat.specs.Closing.{CanClose, told_by, CameTo, acted_by, sort_left, ClosesHere, ClosesRecord}
+use Rattle.shim_flat.specs.Closing.{CanClose, told_by, ClosedAs, acted_by, status_by_close, ClosesHere, ClosesRecord}
 use Rattle.shim_flat.specs.declared.acting.Thrown.TheVariants as thrown
 use Rattle.shim_flat.specs.declared.closing.CloseOutcome.{CloseOutcome}
 use Rattle.shim_flat.specs.declared.closing.CloseOutcome.TheVariants.{GoesOn, Threw}
@@ -63,7 +63,7 @@ state_told (Threw (thrown.Caught name line)) s = refl
 state_told (Threw (thrown.Died d)) s = refl
 state_told (Threw thrown.Trapped) s = refl
 
-sort_told : {S : Type 0} (outcome : CloseOutcome) (s : S) → sort (acted_by outcome s).node ≡ sort_left outcome
+sort_told : {S : Type 0} (outcome : CloseOutcome) (s : S) → process_status (acted_by outcome s).node ≡ status_by_close outcome
 sort_told GoesOn s = refl
 sort_told (Threw (thrown.Caught name line)) s = refl
 sort_told (Threw (thrown.Died d)) s = refl
@@ -75,7 +75,7 @@ effects_told (Threw (thrown.Caught name line)) s = refl
 effects_told (Threw (thrown.Died d)) s = refl
 effects_told (Threw thrown.Trapped) s = refl
 
-came_to : {S : Type 0} (outcome : CloseOutcome) (s : S) → CameTo outcome (sort (acted_by outcome s).node)
+came_to : {S : Type 0} (outcome : CloseOutcome) (s : S) → ClosedAs outcome (process_status (acted_by outcome s).node)
 came_to GoesOn s = refl
 came_to (Threw (thrown.Caught name line)) s = refl
 came_to (Threw (thrown.Died d)) s = refl
@@ -83,10 +83,10 @@ came_to (Threw thrown.Trapped) s = refl
 
 -- records that say the same beside what came of their processes have their pairs in the same order
 pub freed_order : (g n : ℕ) (before behind : List Record) → AreFreed g n before behind → AreOrdered before → AreOrdered behind
-freed_order g n before behind h ordered i r e = let w = was_item beside_of before behind h.beside i r e in subst (λ z. IsOrdered (chans_of z)) (ap (λ (z : Beside). z.pairs) w.2) (ordered i w.0 w.1)
+freed_order g n before behind h ordered i r e = let w = was_item without_status before behind h.beside i r e in subst (λ z. IsOrdered (chans_of z)) (ap (λ (z : RecordWithoutStatus). z.pairs) w.2) (ordered i w.0 w.1)
 
 pub freed_long : (g n : ℕ) (before behind : List Record) → AreFreed g n before behind → length behind ≡ length before
-freed_long g n before behind h = sym (map_length beside_of behind) ∙ (ap length h.beside ∙ map_length beside_of before)
+freed_long g n before behind h = sym (map_length without_status behind) ∙ (ap length h.beside ∙ map_length without_status before)
 
 module _ {S : Type 0} (states : List S) (rs : List Record) (number : ℕ) (done : CanClose (record { states = states; records = rs }) number) where
   -- its number is that of a record and of a state
@@ -118,12 +118,12 @@ module _ {S : Type 0} (o : Ops S) (law : LocalLaws o) (states : List S) (rs : Li
   pub records_within : first + count ≤ length rs
   records_within = let w = states_within in let same = kept.2.beside in omega (arith, w, same)
 
-  pub are_born : (l : S) → slice_get states number ≡ Some l → o.born l (block first count states)
-  are_born l e = subst (λ z. o.born z (block first count states)) (some_same done.process l (sym done.forked.state_is ∙ e)) (born o law kept.0 states rs kept.1 number first count done.process kept.2 has)
+  pub are_born : (l : S) → slice_get states number ≡ Some l → o.born l (segment first count states)
+  are_born l e = subst (λ z. o.born z (segment first count states)) (some_same done.process l (sym done.forked.state_is ∙ e)) (born o law kept.0 states rs kept.1 number first count done.process kept.2 has)
 
-  pub is_below : (label : Option Death) → label ≡ prevailing_among (block first count (map stands_of rs)) → (l : S) (x : Death) → slice_get states number ≡ Some l → label ≡ Some x → x.label < o.handlers (o.join l (block first count states) false)
+  pub is_below : (label : Option Death) → label ≡ prevailing_among (segment first count (map stands_of rs)) → (l : S) (x : Death) → slice_get states number ≡ Some l → label ≡ Some x → x.label < o.handlers (o.join l (segment first count states) false)
   is_below label read l x e f =
-      subst (λ z. x.label < o.handlers (o.join z (block first count states) false)) (some_same done.process l (sym done.forked.state_is ∙ e))
+      subst (λ z. x.label < o.handlers (o.join z (segment first count states) false)) (some_same done.process l (sym done.forked.state_is ∙ e))
       (below o law kept.0 states rs kept.1 number first count done.process kept.2 has x (sym read ∙ f))
 
   pub are_ordered : AreOrdered rs
@@ -131,16 +131,16 @@ module _ {S : Type 0} (o : Ops S) (law : LocalLaws o) (states : List S) (rs : Li
 
   -- ---- what came of it
 
-  module _ (label : Option Death) (outcome : CloseOutcome) (now : List S) (read : label ≡ prevailing_among (block first count (map stands_of rs)))
-      (taken : (l : S) → slice_get states number ≡ Some l → (s : S) × (now ≡ slice_set states number s) × (acted_by outcome s ≡ closed o l (block first count states) label)) where
-    last : (s : S) × (now ≡ slice_set states number s) × (acted_by outcome s ≡ closed o done.process (block first count states) label)
+  module _ (label : Option Death) (outcome : CloseOutcome) (now : List S) (read : label ≡ prevailing_among (segment first count (map stands_of rs)))
+      (taken : (l : S) → slice_get states number ≡ Some l → (s : S) × (now ≡ slice_set states number s) × (acted_by outcome s ≡ closed o l (segment first count states) label)) where
+    last : (s : S) × (now ≡ slice_set states number s) × (acted_by outcome s ≡ closed o done.process (segment first count states) label)
     last = taken done.process done.forked.state_is
 
     abbrev a : Acted S
     a = acted_by outcome last.0
 
-    is : a ≡ closed o done.process (block first count states) (prevailing_among (block first count (map stands_of rs)))
-    is = last.2 ∙ ap (closed o done.process (block first count states)) read
+    is : a ≡ closed o done.process (segment first count states) (prevailing_among (segment first count (map stands_of rs)))
+    is = last.2 ∙ ap (closed o done.process (segment first count states)) read
 
     state_is : state a.node ≡ last.0
     state_is = state_told outcome last.0
@@ -157,34 +157,34 @@ module _ {S : Type 0} (o : Ops S) (law : LocalLaws o) (states : List S) (rs : Li
     pub still_there : number < length now
     still_there = let w = state_there states rs number done in let long = ap length set ∙ length-set states number (state a.node) in omega (arith, w, long)
 
-    module _ (freed behind : List Record) (status : Status) (end : ℕ) (free : AreFreed first count rs freed) (sort_is : sort_of status ≡ sort_left outcome)
+    module _ (freed behind : List Record) (status : Status) (end : ℕ) (free : AreFreed first count rs freed) (sort_is : process_status_of status ≡ status_by_close outcome)
         (settled : ClosesRecord o now number status label freed behind) (unused : (i : ℕ) (r : Record) → end ≤ i → slice_get behind i ≡ Some r → stands_of r ≡ unused_so) where
-      same_sort : sort_of status ≡ sort a.node
+      same_sort : process_status_of status ≡ process_status a.node
       same_sort = sort_is ∙ sym (sort_told outcome last.0)
 
       same_state : settled.process ≡ state a.node
       same_state = its settled.process settled.state_is
 
-      same_beside : beside_of settled.was ≡ beside_of done.said
-      same_beside = some_same (beside_of settled.was) (beside_of done.said) (sym (ap (option_map beside_of) settled.there) ∙ (said_alike beside_of rs freed free.beside number ∙ ap (option_map beside_of) done.there))
+      same_beside : without_status settled.was ≡ without_status done.said
+      same_beside = some_same (without_status settled.was) (without_status done.said) (sym (ap (option_map without_status) settled.there) ∙ (said_alike without_status rs freed free.beside number ∙ ap (option_map without_status) done.there))
 
-      come : HasCome done.said settled.is (sort a.node)
+      come : HasCome done.said settled.is (process_status a.node)
       come = record {
         first = settled.come.first;
         stands_so = subst (λ z. stands_of settled.is ≡ used settled.come.first z) same_sort settled.come.stands_so;
-        parent = settled.come.parent ∙ ap (λ (z : Beside). z.parent) same_beside;
-        path = settled.come.path ∙ ap (λ (z : Beside). z.path) same_beside;
+        parent = settled.come.parent ∙ ap (λ (z : RecordWithoutStatus). z.parent) same_beside;
+        path = settled.come.path ∙ ap (λ (z : RecordWithoutStatus). z.path) same_beside;
         no_pairs = settled.come.no_pairs;
       }
 
-      leaves : LeavesIf (sort a.node) number (slice_set freed number settled.is) settled.left
+      leaves : LeavesIf (process_status a.node) number (slice_set freed number settled.is) settled.left
       leaves = subst (λ z. LeavesIf z number (slice_set freed number settled.is) settled.left) same_sort settled.leaves
 
-      walked : AllUpdated o (state a.node) (sort a.node) 4294967295 number settled.left settled.between
-      walked = subst (λ z. AllUpdated o z (sort a.node) 4294967295 number settled.left settled.between) same_state (subst (λ z. AllUpdated o settled.process z 4294967295 number settled.left settled.between) same_sort settled.walked)
+      walked : AllUpdated o (state a.node) (process_status a.node) 4294967295 number settled.left settled.between
+      walked = subst (λ z. AllUpdated o z (process_status a.node) 4294967295 number settled.left settled.between) same_state (subst (λ z. AllUpdated o settled.process z 4294967295 number settled.left settled.between) same_sort settled.walked)
 
-      again : RecountedIf (prevailing_among (block first count (map stands_of rs))) o (slice_set states number (state a.node)) (state a.node) 4294967295 number settled.between behind
-      again = subst (λ z. RecountedIf (prevailing_among (block first count (map stands_of rs))) o z (state a.node) 4294967295 number settled.between behind) set
+      again : RecountedIf (prevailing_among (segment first count (map stands_of rs))) o (slice_set states number (state a.node)) (state a.node) 4294967295 number settled.between behind
+      again = subst (λ z. RecountedIf (prevailing_among (segment first count (map stands_of rs))) o z (state a.node) 4294967295 number settled.between behind) set
           (subst (λ z. RecountedIf z o now (state a.node) 4294967295 number settled.between behind) read (subst (λ z. RecountedIf label o now z 4294967295 number settled.between behind) same_state settled.again))
 
       abbrev After : FlatView S
@@ -198,17 +198,17 @@ module _ {S : Type 0} (o : Ops S) (law : LocalLaws o) (states : List S) (rs : Li
       pub still_kept : IsKept o After
       still_kept = let w = moves kept.0 (tree_of o kept.1) kept.2 in (kept.0, w.0.root, w.2)
 
-      closes : HasClosed states (slice_set states number (state a.node)) (map stands_of rs) (map stands_of behind) number first count (state a.node) (sort a.node)
+      closes : HasClosed states (slice_set states number (state a.node)) (map stands_of rs) (map stands_of behind) number first count (state a.node) (process_status a.node)
       closes =
-          subst (λ z. HasClosed states (slice_set states number (state a.node)) (map stands_of rs) z number first count (state a.node) (sort a.node))
-          (sym (stands_stay o (slice_set states number (state a.node)) (state a.node) (sort a.node) 4294967295 number (slice_set freed number settled.is) settled.left settled.between behind (prevailing_among (block first count (map stands_of rs))) leaves walked again))
+          subst (λ z. HasClosed states (slice_set states number (state a.node)) (map stands_of rs) z number first count (state a.node) (process_status a.node))
+          (sym (stands_stay o (slice_set states number (state a.node)) (state a.node) (process_status a.node) 4294967295 number (slice_set freed number settled.is) settled.left settled.between behind (prevailing_among (segment first count (map stands_of rs))) leaves walked again))
           (behind_close o law kept.0 (tree_of o kept.1) states rs number first count done.process done.said a kept.2 has done.there done.none_goes is freed settled.is free come).closes
 
       touches : (m : ℕ) → TouchesRecords m number freed behind → TouchesAbove m number (record { states = states; records = rs }) After
       touches m moved =
           let w = closes_keep o law kept.0 (tree_of o kept.1) states rs freed settled.left settled.between behind number first count done.process done.said settled.is a kept.2 has done.there done.none_goes is free come leaves walked again in
           let now : FlatView S = record { states = slice_set states number (state a.node); records = behind } in
-          let mine : IsInUse now number = (closes.first, state a.node, sort a.node, closes.parent) in
+          let mine : IsInUse now number = (closes.first, state a.node, process_status a.node, closes.parent) in
           subst (λ z. TouchesAbove m number (record { states = states; records = rs }) (record { states = take end z; records = take end behind })) (sym set)
           (cut_touched o now end unused m number (record { states = states; records = rs }) (kept.0, w.0.root, w.2) mine (closes_touch states rs freed behind m number first count (state a.node) free moved))
 
@@ -232,8 +232,8 @@ module _ {S : Type 0} (o : Ops S) (law : LocalLaws o) (states : List S) (rs : Li
         apart = is_no_child;
         told = effects_told outcome last.0;
         came = came_to outcome last.0;
-        becomes = subst (λ z. HasClosed states (take end z) (map stands_of rs) (map stands_of (take end behind)) number first count (state a.node) (sort a.node)) (sym set)
-            (closed_cut (slice_set states number (state a.node)) behind end unused states (map stands_of rs) number first count (state a.node) (sort a.node) closes);
+        becomes = subst (λ z. HasClosed states (take end z) (map stands_of rs) (map stands_of (take end behind)) number first count (state a.node) (process_status a.node)) (sym set)
+            (closed_cut (slice_set states number (state a.node)) behind end unused states (map stands_of rs) number first count (state a.node) (process_status a.node) closes);
         moves = moves;
         touches = touches m moved;
       }

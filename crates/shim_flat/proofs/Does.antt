@@ -6,22 +6,22 @@ use Rattle.shim_base.proofs.Facts.{some_same}
 use Rattle.shim_local.specs.Process.{Ops, StopView, AtPut, AtThrow}
 use Rattle.shim_local.specs.Laws.{LocalLaws}
 use Rattle.shim_semantics.specs.Nodes.{Live, Dead, Death, death_with, handed, goes, state}
-use Rattle.shim_semantics.specs.Acts.{Acted, Effects, nothing, putting, catching, throwing, act_live}
+use Rattle.shim_semantics.specs.Acts.{Acted, Effects, nothing, putting, catch_logged, throwing, act_live}
 use Rattle.shim_semantics.specs.Acts as act
 use Rattle.shim_semantics.specs.Places.{at}
 use Rattle.shim_semantics.proofs.Replaced.{sound_at}
-use Rattle.shim_laws_records.specs.Seen.{Sort, lives, place}
+use Rattle.shim_laws_records.specs.Seen.{ProcessStatus, lives, place}
 use Rattle.shim_laws_records.specs.Agrees.{used}
 use Rattle.shim_laws_records.proofs.SameTrees.{seen_live}
 use Rattle.shim_laws_records.proofs.Hanging.{tree_of}
 use Rattle.shim_records.specs.Pairs.{stands_of, chans_of, IsOrdered, AreOrdered}
-use Rattle.shim_records.specs.Acted.{sort_of}
+use Rattle.shim_records.specs.Acted.{process_status_of}
 use Rattle.shim_records.specs.declared.record.Record.{Record}
 use Rattle.shim_records.specs.declared.record.Status.{Status}
 use Rattle.shim_records.proofs.Stepping.{map_set}
 use Rattle.shim_records.proofs.Showing.{map_get}
 use Rattle.shim_records.proofs.WholeWay.{kept_order}
-use Rattle.shim_laws_keeping.specs.Flats.{FlatView, HasProcess, IsKept}
+use Rattle.shim_laws_keeping.specs.Flats.{FlatView, HasProcessState, IsKept}
 use Rattle.shim_laws_keeping.specs.Moves.{MovesBy}
 use Rattle.shim_laws_keeping.specs.Arriving.{Arrives}
 use Rattle.shim_laws_keeping.specs.Acting.{event_at_stop, left_by, marked, TakesIn, Leaves}
@@ -31,7 +31,7 @@ use Rattle.shim_laws_keeping.proofs.OneLess.{found}
 use Rattle.shim_laws_keeping.proofs.Gone.{leaves_keep}
 use Rattle.shim_laws_keeping.proofs.Marks.{left_sort, rest_taken, changed_then}
 use Rattle.shim_flat.specs.Stepping.{LivesAt, HasBecome}
-use Rattle.shim_flat.specs.Acting.{ActsHere, sort_by, told_of, thrown_by}
+use Rattle.shim_flat.specs.Acting.{ActsHere, status_by_throw, told_of, thrown_by}
 use Rattle.shim_flat.specs.declared.acting.Thrown.{Thrown}
 use Rattle.shim_flat.specs.declared.acting.Thrown.TheVariants as thrown
 use Rattle.shim_flat.specs.Touching.{TouchesRecords}
@@ -55,7 +55,7 @@ module _ {S : Type 0} (o : Ops S) where
     is : slice_get states x ≡ Some l
     is = slice_get_read states (length states) x l refl (slice_get_within states x here.1 here.2.state_is) read
 
-    pub its : HasProcess (record { states = states; records = rs }) x here.0 l lives
+    pub its : HasProcessState (record { states = states; records = rs }) x here.0 l lives
     its = record { state_is = is; stands_so = here.2.stands_so }
 
     pub stood : o.stop l ≡ stop
@@ -76,10 +76,10 @@ module _ {S : Type 0} (o : Ops S) where
   inside_states states rs x stop here = slice_get_within states x here.1 here.2.state_is
 
   -- it is sound, and wasn't given too much
-  pub is_sound : (states : List S) (rs : List Record) (x f : ℕ) (l : S) → IsKept o (record { states = states; records = rs }) → HasProcess (record { states = states; records = rs }) x f l lives → o.sound l
+  pub is_sound : (states : List S) (rs : List Record) (x f : ℕ) (l : S) → IsKept o (record { states = states; records = rs }) → HasProcessState (record { states = states; records = rs }) x f l lives → o.sound l
   is_sound states rs x f l kept has = sound_at o (place o kept.0 l) kept.1 (Live l) kept.2.shows.sound.below (seen_live (at (place o kept.0 l) kept.1) l (kept.2.shows.agrees.shown x f l lives has))
 
-  pub few_given : (states : List S) (rs : List Record) (x f : ℕ) (l : S) → IsKept o (record { states = states; records = rs }) → HasProcess (record { states = states; records = rs }) x f l lives → length (o.given l) ≤ 18446744073709551615
+  pub few_given : (states : List S) (rs : List Record) (x f : ℕ) (l : S) → IsKept o (record { states = states; records = rs }) → HasProcessState (record { states = states; records = rs }) x f l lives → length (o.given l) ≤ 18446744073709551615
   few_given states rs x f l kept has =
       let w = from_map stands_of (slice_get rs x) (used f lives) (sym (map_get stands_of rs x) ∙ has.stands_so) in
       (kept.2.fit x f l lives w.0 has w.1).few
@@ -96,7 +96,7 @@ module _ {S : Type 0} (o : Ops S) where
   dies_itself : (l s : S) (d e : Death) → thrown_by (thrown.Died d) s ≡ act.thrown o l e → s ≡ l
   dies_itself l s d e h =
       let dies : Acted S = record { node = Dead l e; effects = nothing } in
-      let goes_on : Acted S = record { node = Live (o.unwind l e.label (handed e.given)); effects = catching (o.handler l e.label) } in
+      let goes_on : Acted S = record { node = Live (o.unwind l e.label (handed e.given)); effects = catch_logged (o.handler l e.label) } in
       elim (ltb e.label (o.base l)) as (λ b. thrown_by (thrown.Died d) s ≡ cond b dies goes_on → s ≡ l) [ true ↦ λ z. ap (λ (w : Acted S). state w.node) z | false ↦ λ z. absurd (cc (ap (λ (w : Acted S). w.node) z)) ] h
 
   died_same : (l s : S) (d : Death) (label : ℕ) (r : Option ℤ) → thrown_by (thrown.Died d) s ≡ throwing o l label r → s ≡ l
@@ -109,12 +109,12 @@ module _ {S : Type 0} (o : Ops S) where
       (same, ap Some (sym h ∙ ap (thrown_by (thrown.Died d)) same))
 
   -- who lives on does so as it is then
-  pub throw_lives : (l s : S) (t : Thrown) (label : ℕ) → sort_by t ≡ lives → thrown_by t s ≡ throwing o l label (o.number l) → act_live o l (AtThrow label) ≡ Some (record { node = Live s; effects = told_of t })
+  pub throw_lives : (l s : S) (t : Thrown) (label : ℕ) → status_by_throw t ≡ lives → thrown_by t s ≡ throwing o l label (o.number l) → act_live o l (AtThrow label) ≡ Some (record { node = Live s; effects = told_of t })
   throw_lives l s (thrown.Caught name line) label e h = ap Some (sym h)
   throw_lives l s (thrown.Died d) label e h = absurd cc
   throw_lives l s thrown.Trapped label e h = ap Some (sym h)
 
-  pub lives_by : (t : Thrown) → ((d : Death) → t ≡ thrown.Died d → ⊥) → sort_by t ≡ lives
+  pub lives_by : (t : Thrown) → ((d : Death) → t ≡ thrown.Died d → ⊥) → status_by_throw t ≡ lives
   lives_by (thrown.Caught name line) n = refl
   lives_by (thrown.Died d) n = absurd (n d refl)
   lives_by thrown.Trapped n = refl
@@ -128,22 +128,22 @@ module _ {S : Type 0} (o : Ops S) where
   -- ---- what was done
 
   -- the records still show a tree
-  pub still_kept : (n x : ℕ) (stop : StopView) (k : Sort) (effects : Effects) (before behind : FlatView S) → ActsHere o n x stop k effects before behind → IsKept o before → IsKept o behind
+  pub still_kept : (n x : ℕ) (stop : StopView) (k : ProcessStatus) (effects : Effects) (before behind : FlatView S) → ActsHere o n x stop k effects before behind → IsKept o before → IsKept o behind
   still_kept n x stop k effects before behind did h = let w = did.moves h.0 (tree_of o h.1) h.2 in (h.0, w.0.root, w.2)
 
   module _ (law : LocalLaws o) (states : List S) (rs behind : List Record) (x : ℕ) (stop : StopView) (effects : Effects) (l : S) (here : LivesAt o (record { states = states; records = rs }) x stop) (read : l ≡ get_or states x l) where
-    has : HasProcess (record { states = states; records = rs }) x here.0 l lives
+    has : HasProcessState (record { states = states; records = rs }) x here.0 l lives
     has = its states rs x stop l here read
 
     stop_is : o.stop l ≡ stop
     stop_is = stood states rs x stop l here read
 
     -- it is there, as it is read then
-    pub lives_then : (s now : S) → now ≡ get_or (slice_set states x s) x now → Arrives o now 4294967295 x rs behind → (f : ℕ) × HasProcess (record { states = slice_set states x s; records = behind }) x f now lives
+    pub lives_then : (s now : S) → now ≡ get_or (slice_set states x s) x now → Arrives o now 4294967295 x rs behind → (f : ℕ) × HasProcessState (record { states = slice_set states x s; records = behind }) x f now lives
     lives_then s now read_then came =
         let is = read_set states x l s now has.state_is read_then in
         let b = has_become o states rs behind x here.0 l s has (subst (λ z. Arrives o z 4294967295 x rs behind) is came) in
-        (b.first, subst (λ z. HasProcess (record { states = slice_set states x s; records = behind }) x b.first z lives) (sym is) b.mine)
+        (b.first, subst (λ z. HasProcessState (record { states = slice_set states x s; records = behind }) x b.first z lives) (sym is) b.mine)
 
     -- it lives on
     pub lives_here : (n : ℕ) (s now : S) → now ≡ get_or (slice_set states x s) x now → Arrives o now 4294967295 x rs behind → TouchesRecords n x rs behind → act_live o l stop ≡ Some (record { node = Live s; effects = effects })
@@ -166,7 +166,7 @@ module _ {S : Type 0} (o : Ops S) where
 
     module _ (n : ℕ) (k : Status) (gone : goes (left_by l k) ≡ false) (leaves : Leaves o l k 4294967295 x rs behind) (touches : TouchesRecords n x rs behind) where
       -- it ends or dies
-      pub leaves_here : act_live o l stop ≡ Some (record { node = left_by l k; effects = effects }) → ActsHere o n x stop (sort_of k) effects (record { states = states; records = rs }) (record { states = states; records = behind })
+      pub leaves_here : act_live o l stop ≡ Some (record { node = left_by l k; effects = effects }) → ActsHere o n x stop (process_status_of k) effects (record { states = states; records = rs }) (record { states = states; records = behind })
       leaves_here does = record {
         first = here.0;
         process = l;

@@ -3,8 +3,8 @@ use Rattle.std.proofs.Common.{◌-◌, ℕ, refl, ap, subst}
 use Rattle.shim_local.specs.Process.{Ops, AtPut, AtFork, AtThrow, AtTrap, AtFinish}
 use Rattle.shim_local.specs.Laws.{LocalLaws}
 use Rattle.shim_base.specs.declared.operators.Trap.{Trap}
-use Rattle.shim_semantics.specs.Trees.{Event, Own, Meet, Poison, Close, End, kind_of_stop}
-use Rattle.shim_laws_keeping.specs.Flats.{FlatView, HasProcess}
+use Rattle.shim_semantics.specs.Trees.{Event, Own, Meet, Poison, Close, End, own_action_at}
+use Rattle.shim_laws_keeping.specs.Flats.{FlatView, HasProcessState}
 use Rattle.shim_laws_waking.specs.Looks.{IsReady, IsDue, to_step, to_end, to_meet, to_close, to_meet_below, to_poison}
 use Rattle.shim_laws_waking.proofs.Idle.{looks_decide}
 use Rattle.shim_laws_meetings.specs.Meetings.{IsEnabled, Declares}
@@ -18,19 +18,19 @@ module _ {S : Type 0} (o : Ops S) (v : FlatView S) (i : ℕ) where
   -- ---- each answer as an event that is told by the record
 
   pub due_put : (w : LivesAt o v i AtPut) → IsDue o v i (Own (o.path w.1))
-  due_put w = to_step w.0 w.1 (o.path w.1) w.2 (ap kind_of_stop w.3) refl
+  due_put w = to_step w.0 w.1 (o.path w.1) w.2 (ap own_action_at w.3) refl
 
   pub due_fork : (w : LivesAt o v i AtFork) → IsDue o v i (Own (o.path w.1))
-  due_fork w = to_step w.0 w.1 (o.path w.1) w.2 (ap kind_of_stop w.3) refl
+  due_fork w = to_step w.0 w.1 (o.path w.1) w.2 (ap own_action_at w.3) refl
 
   pub due_throw : (label : ℕ) (w : LivesAt o v i (AtThrow label)) → IsDue o v i (Own (o.path w.1))
-  due_throw label w = to_step w.0 w.1 (o.path w.1) w.2 (ap kind_of_stop w.3) refl
+  due_throw label w = to_step w.0 w.1 (o.path w.1) w.2 (ap own_action_at w.3) refl
 
   pub due_trap : (kind : Trap) (line : ℕ) (w : LivesAt o v i (AtTrap kind line)) → IsDue o v i (Own (o.path w.1))
-  due_trap kind line w = to_step w.0 w.1 (o.path w.1) w.2 (ap kind_of_stop w.3) refl
+  due_trap kind line w = to_step w.0 w.1 (o.path w.1) w.2 (ap own_action_at w.3) refl
 
   pub due_finish : (w : LivesAt o v i AtFinish) → IsDue o v i (End (o.path w.1))
-  due_finish w = to_end w.0 w.1 (o.path w.1) w.2 (ap kind_of_stop w.3) refl
+  due_finish w = to_end w.0 w.1 (o.path w.1) w.2 (ap own_action_at w.3) refl
 
   pub due_close : (w : CanClose v i) → IsDue o v i (Close (o.path w.process))
   due_close w = to_close w.first w.many w.process w.said (o.path w.process) w.forked w.there w.none_goes refl
@@ -44,7 +44,7 @@ module _ {S : Type 0} (o : Ops S) (v : FlatView S) (i : ℕ) where
   pub due_poison : (q j : ℕ) (w : IsDoomed o v i q j) → IsDue o v i (Poison (o.path w.child) w.pair_is.chan.channel)
   due_poison q j w =
       to_poison w.first w.many q w.branch w.child_first w.process w.child w.child_sort w.has.said w.pair_is (o.path w.child) w.pair_is.chan.channel w.has.forked w.has.there w.has.pair refl w.dooms w.within
-      (subst (λ z. HasProcess v z w.child_first w.child w.child_sort) w.number w.its) (subst (λ z. IsReady o v w.pair_is.chan.channel z w.child w.child_sort) w.number w.ready) refl
+      (subst (λ z. HasProcessState v z w.child_first w.child w.child_sort) w.number w.its) (subst (λ z. IsReady o v w.pair_is.chan.channel z w.child w.child_sort) w.number w.ready) refl
 
   -- ---- so it is enabled
 

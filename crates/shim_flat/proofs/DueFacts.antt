@@ -6,7 +6,7 @@ use Rattle.std.proofs.lemmas.Option.{slice_get_within}
 use Rattle.shim_base.proofs.Facts.{some_same, none_some}
 use Rattle.shim_local.specs.Process.{Ops}
 use Rattle.shim_semantics.specs.Nodes.{Death}
-use Rattle.shim_laws_records.specs.Seen.{Sort, lives, forks, ends, dies}
+use Rattle.shim_laws_records.specs.Seen.{ProcessStatus, lives, forks, ends, dies}
 use Rattle.shim_laws_records.specs.Agrees.{free, used}
 use Rattle.shim_laws_records.specs.Counts.{all_there}
 use Rattle.shim_records.specs.Pairs.{tally, stands_of, stands_by}
@@ -16,7 +16,7 @@ use Rattle.shim_records.specs.declared.record.Status.{Status}
 use Rattle.shim_records.specs.declared.record.Status.TheVariants as code
 use Rattle.shim_records.proofs.Walked.{last_or_before}
 use Rattle.shim_records.proofs.Showing.{map_get}
-use Rattle.shim_laws_keeping.specs.Flats.{FlatView, HasProcess, stands}
+use Rattle.shim_laws_keeping.specs.Flats.{FlatView, HasProcessState, stands}
 use Rattle.shim_laws_waking.specs.Looks.{IsIdlePair, IsIdle, unused, has_ended, has_died, is_open}
 use Rattle.shim_flat.specs.Reading.{HasPair}
 use Rattle.shim_flat.specs.Closing.{CanClose}
@@ -26,7 +26,7 @@ use Rattle.shim_flat.proofs.Parents.{there_is}
 use Rattle.shim_flat.proofs.ReadyChildren.{who_is_ready, idle_pair}
 
 -- no process is at a number past the end, or of a free record
-no_use : {B : Type 0} (f : ℕ) (k : Sort) → free ≡ used f k → B
+no_use : {B : Type 0} (f : ℕ) (k : ProcessStatus) → free ≡ used f k → B
 no_use f k e = absurd cc
 
 module _ {S : Type 0} (o : Ops S) (v : FlatView S) (i : ℕ) where
@@ -40,7 +40,7 @@ module _ {S : Type 0} (o : Ops S) (v : FlatView S) (i : ℕ) where
     stands_there : (k : Status) → r.status ≡ k → slice_get (stands v) i ≡ Some (stands_by r.first k)
     stands_there k e = map_get stands_of v.records i ∙ (ap (option_map stands_of) there ∙ ap (λ z. Some (stands_by r.first z)) e)
 
-    pub its_process : (k : Sort) (w : Status) → r.status ≡ w → stands_by r.first w ≡ used r.first k → HasProcess v i r.first l k
+    pub its_process : (k : ProcessStatus) (w : Status) → r.status ≡ w → stands_by r.first w ≡ used r.first k → HasProcessState v i r.first l k
     its_process k w e is = record { state_is = state_is; stands_so = stands_there w e ∙ ap Some is }
 
     pub is_free : r.status ≡ code.Free → IsIdle o v i
@@ -52,13 +52,13 @@ module _ {S : Type 0} (o : Ops S) (v : FlatView S) (i : ℕ) where
     pub is_dead : (x : Death) → r.status ≡ code.Dead x → IsIdle o v i
     is_dead x e = has_died r.first l x (its_process (dies x) (code.Dead x) e refl)
 
-    pub live_process : r.status ≡ code.Live → HasProcess v i r.first l lives
+    pub live_process : r.status ≡ code.Live → HasProcessState v i r.first l lives
     live_process e = its_process lives code.Live e refl
 
     -- ---- a fork
 
     module _ (n : ℕ) (forked : r.status ≡ code.Forked n) where
-      fork : HasProcess v i r.first l (forks n)
+      fork : HasProcessState v i r.first l (forks n)
       fork = its_process (forks n) (code.Forked n) forked refl
 
       pub is_done : r.going ≡ 0 → CanClose v i

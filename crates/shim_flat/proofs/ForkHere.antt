@@ -10,7 +10,7 @@ use Rattle.shim_laws_records.specs.Seen.{lives}
 use Rattle.shim_laws_records.proofs.Hanging.{tree_of}
 use Rattle.shim_records.specs.declared.record.Record.{Record}
 use Rattle.shim_records.proofs.Stepping.{set_elsewhere}
-use Rattle.shim_laws_keeping.specs.Flats.{FlatView, HasProcess, IsKept}
+use Rattle.shim_laws_keeping.specs.Flats.{FlatView, HasProcessState, IsKept}
 use Rattle.shim_records.specs.Blocks.{with_one, with_block}
 use Rattle.shim_laws_forks.specs.Forking.{ForksAt}
 use Rattle.shim_laws_forks.proofs.Forks.{forks_move, forks_say}
@@ -29,7 +29,7 @@ block_long g (x ∷ xs) ys = let w = block_long (g + 1) xs (with_one g x ys) in 
     one_long zero x (y ∷ ys) = omega arith
     one_long (suc g) x (y ∷ ys) = let w = one_long g x ys in omega (arith, w)
 
-module _ {S : Type 0} (o : Ops S) (law : LocalLaws o) (before behind : FlatView S) (x f : ℕ) (l p : S) (has : HasProcess before x f l lives) (stop : o.stop l ≡ AtFork) where
+module _ {S : Type 0} (o : Ops S) (law : LocalLaws o) (before behind : FlatView S) (x f : ℕ) (l p : S) (has : HasProcessState before x f l lives) (stop : o.stop l ≡ AtFork) where
   module _ (g n : ℕ) (ks : List S) (parts : o.fork l ≡ Parted p ks) (put : ForksAt o x g p ks before behind) where
     -- the records still show a tree
     pub still_kept : IsKept o before → IsKept o behind
@@ -65,7 +65,7 @@ module _ {S : Type 0} (o : Ops S) (law : LocalLaws o) (before behind : FlatView 
         let most = block_long g ks (slice_set before.states x p) in
         omega (arith, was, is, long, set, most)
 
-module _ {S : Type 0} (o : Ops S) (law : LocalLaws o) (before : FlatView S) (x f : ℕ) (l p : S) (has : HasProcess before x f l lives) (stop : o.stop l ≡ AtFork) (traps : o.fork l ≡ Trapped p) where
+module _ {S : Type 0} (o : Ops S) (law : LocalLaws o) (before : FlatView S) (x f : ℕ) (l p : S) (has : HasProcessState before x f l lives) (stop : o.stop l ≡ AtFork) (traps : o.fork l ≡ Trapped p) where
   abbrev trapped : FlatView S
   trapped = record { states = slice_set before.states x p; records = before.records }
 
@@ -86,5 +86,5 @@ module _ {S : Type 0} (o : Ops S) (law : LocalLaws o) (before : FlatView S) (x f
   trapped_kept kept = let m = traps_move o law x f l p before has stop traps kept.0 (tree_of o kept.1) kept.2 in (kept.0, m.0.root, m.2)
 
 -- it is the state that was copied
-pub is_copied : {S : Type 0} (o : Ops S) (i f : ℕ) (states : List S) (rs : List Record) (l copy : S) → HasProcess (record { states = states; records = rs }) i f l lives → copy ≡ get_or states i copy → l ≡ copy
+pub is_copied : {S : Type 0} (o : Ops S) (i f : ℕ) (states : List S) (rs : List Record) (l copy : S) → HasProcessState (record { states = states; records = rs }) i f l lives → copy ≡ get_or states i copy → l ≡ copy
 is_copied o i f states rs l copy h e = some_same l copy (sym h.state_is ∙ slice_get_read states (length states) i copy refl (slice_get_within states i l h.state_is) e)

@@ -5,7 +5,7 @@ use Rattle.std.specs.Option.{option_map}
 use Rattle.shim_base.specs.Paths.{NamedChannel}
 use Rattle.shim_base.proofs.Facts.{some_same, none_some}
 use Rattle.shim_local.specs.Process.{Ops}
-use Rattle.shim_laws_records.specs.Seen.{Sort, forks}
+use Rattle.shim_laws_records.specs.Seen.{ProcessStatus, forks}
 use Rattle.shim_laws_records.specs.Agrees.{free, used, Has}
 use Rattle.shim_records.specs.Pairs.{stands_of}
 use Rattle.shim_records.specs.Fresh.{channels, FreshPairs}
@@ -16,7 +16,7 @@ use Rattle.shim_records.proofs.Showing.{map_get}
 use Rattle.shim_laws_forks.specs.Forking.{AreOfChildren, IsOfFork, ready_chans, EachUpdatedAbove, ForksAt}
 use Rattle.shim_flat.specs.Forking.{IsFreeBlock}
 
-free_used : {B : Type 0} (f : ℕ) (k : Sort) → free ≡ used f k → B
+free_used : {B : Type 0} (f : ℕ) (k : ProcessStatus) → free ≡ used f k → B
 free_used f k e = absurd cc
 
 from_map : {A B : Type 0} (f : A → B) (x : Option A) (y : B) → option_map f x ≡ Some y → (z : A) × (x ≡ Some z) × (f z ≡ y)
@@ -24,7 +24,7 @@ from_map f None y e = none_some y e
 from_map f (Some z) y e = (z, refl, some_same (f z) y e)
 
 -- no process has a number of a free block
-pub none_used : {S B : Type 0} (g n : ℕ) (states : List S) (rs : List Record) → IsFreeBlock g n rs → (b d : ℕ) (t : S) (k : Sort) → b < n → Has states (map stands_of rs) (g + b) d t k → B
+pub none_used : {S B : Type 0} (g n : ℕ) (states : List S) (rs : List Record) → IsFreeBlock g n rs → (b d : ℕ) (t : S) (k : ProcessStatus) → b < n → Has states (map stands_of rs) (g + b) d t k → B
 none_used g n states rs block b d t k less h =
     let r = from_map stands_of (slice_get rs (g + b)) (used d k) (sym (map_get stands_of rs (g + b)) ∙ h.stands_so) in
     free_used d k (sym (block.free_ones b r.0 less r.1) ∙ r.2)

@@ -1,6 +1,6 @@
 -- A meeting in place: one process receives, and then all.
-use Rattle.std.proofs.Common.{◌≡◌, ◌≢◌, ◌<◌, ◌≤◌, ℕ, zero, suc, ◌+◌, Bool, true, false, Option, Some, None, List, [], ◌∷◌, drop, length, get_or, slice_set, inl, inr, refl, sym, ap, subst, ◌∙◌, arith}
-use Rattle.std.specs.Prelude.{ℤ, pos, slice_get}
+use Rattle.std.proofs.Common.{◌≡◌, ◌≤◌, ℕ, zero, suc, ◌+◌, Bool, true, false, Option, Some, None, List, [], ◌∷◌, drop, length, get_or, slice_set, refl, sym, ap, subst, ◌∙◌, arith}
+use Rattle.std.specs.Prelude.{ℤ, slice_get}
 use Rattle.std.proofs.lemmas.List.{drop_all}
 use Rattle.std.proofs.lemmas.Option.{slice_get_read, slice_get_within}
 use Rattle.shim_base.specs.Paths.{Channel, NamedChannel, same_channel}
@@ -19,8 +19,6 @@ use Rattle.shim_records.specs.declared.record.Record.{Record}
 use Rattle.shim_laws_keeping.specs.Flats.{FlatView, IsKept}
 use Rattle.shim_laws_meetings.specs.Receiving.{no_other, other, MovesOn}
 use Rattle.shim_laws_meetings.specs.Meetings.{ReceivesOne, received, ReceiveAll, none_left, one_more}
-use Rattle.shim_laws_meetings.specs.Values.{IsValueAmong, carried, nobody}
-use Rattle.shim_laws_records.proofs.SameTrees.{same_or_not}
 use Rattle.shim_laws_meetings.proofs.Meets.{one_keeps}
 use Rattle.shim_flat.specs.Stepping.{IsLive}
 use Rattle.shim_flat.specs.Meeting.{WaitsAt, LeavesChannel}
@@ -119,10 +117,10 @@ module _ {S : Type 0} (o : Ops S) (c : Channel) where
     is : slice_get states x ≡ Some l
     is = slice_get_read states (length states) x l refl (slice_get_within states x before.1 before.3.state_is) read
 
-    same : l ≡ before.1
+    pub same : l ≡ before.1
     same = some_same l before.1 (sym is ∙ before.3.state_is)
 
-    now_is : now ≡ o.receive before.1 v
+    pub now_is : now ≡ o.receive before.1 v
     now_is = read_set states x l last now is read_then ∙ (is_last ∙ ap (λ z. o.receive z v) same)
 
     pub receives_one : ReceivesOne o c v x (record { states = states; records = rs }) (record { states = slice_set states x last; records = behind })
@@ -144,24 +142,3 @@ module _ {S : Type 0} (o : Ops S) (c : Channel) where
 
   pub all_received : (v : ℤ) (numbers : List ℕ) (place : ℕ) (start now : FlatView S) → length numbers ≤ place → ReceivedSoFar v numbers place start now → ReceiveAll o c v numbers start now
   all_received v numbers place start now past so = so now (subst (λ z. ReceiveAll o c v z now now) (sym (none_left_over numbers place past)) (none_left now))
-
-  -- ---- the value
-
-  -- none of the first ones carries the channel
-  abbrev pub NoneCarries : List S → List ℕ → ℕ → Type 0
-  NoneCarries states numbers place = (at i : ℕ) (s : S) → at < place → slice_get numbers at ≡ Some i → slice_get states i ≡ Some s → o.carries s c ≡ false
-
-  pub one_without : (states : List S) (numbers : List ℕ) (place i : ℕ) → slice_get numbers place ≡ Some i → ((s : S) → slice_get states i ≡ Some s → o.carries s c ≡ false) → NoneCarries states numbers place → NoneCarries states numbers (place + 1)
-  one_without states numbers place i e none so at j s less is state = elim (same_or_not at place) [
-    | inl w ↦ none s (ap (slice_get states) (some_same i j (sym e ∙ (ap (slice_get numbers) (sym w) ∙ is))) ∙ state)
-    | inr n ↦ so at j s (still_less at place n less) is state
-  ]
-    where
-      still_less : (x y : ℕ) → x ≢ y → x < y + 1 → x < y
-      still_less x y n less = omega (arith, n, less)
-
-  pub none_among : (v : FlatView S) (numbers : List ℕ) (place : ℕ) → length numbers ≤ place → NoneCarries v.states numbers place → IsValueAmong o v c numbers (pos 0)
-  none_among v numbers place past so = nobody (λ i s g state. so g.0 i s (let w = slice_get_within numbers g.0 i g.1 in omega (arith, w, past)) g.1 state) refl
-
-  pub one_carries : (v : FlatView S) (numbers : List ℕ) (place i : ℕ) (s : S) (x : ℤ) → slice_get numbers place ≡ Some i → slice_get v.states i ≡ Some s → o.carries s c ≡ true → x ≡ o.value s c → IsValueAmong o v c numbers x
-  one_carries v numbers place i s x e state carries is = carried i s (place, e) state carries is

@@ -19,7 +19,7 @@ use Rattle.shim_records.proofs.Showing.{map_get}
 use Rattle.shim_records.proofs.WholeWay.{kept_order}
 use Rattle.shim_semantics.specs.Trees.{Poison}
 use Rattle.shim_laws_keeping.specs.Moves.{MovesBy}
-use Rattle.shim_laws_keeping.specs.Flats.{FlatView, HasProcess, IsKept}
+use Rattle.shim_laws_keeping.specs.Flats.{FlatView, HasProcessState, IsKept}
 use Rattle.shim_laws_meetings.specs.Dying.{dead_record, DiesAt}
 use Rattle.shim_laws_meetings.specs.Sharers.{ListsSharers}
 use Rattle.shim_laws_meetings.specs.Poisons.{DiesOne, was_killed, AllDie, none_left, one_more, AllDied}
@@ -45,7 +45,7 @@ module _ {S : Type 0} (o : Ops S) (label : ℕ) where
   nobody_dies v i dead f s has low = dead f s has
 
   module _ (states : List S) (rs : List Record) (x : ℕ) (l : S) (r : Record) (before : IsKilledBy o label x (record { states = states; records = rs }) true) (read : r ≡ get_or rs x r) (read_state : l ≡ get_or states x l) where
-    its : HasProcess (record { states = states; records = rs }) x before.0 before.1 lives
+    its : HasProcessState (record { states = states; records = rs }) x before.0 before.1 lives
     its = before.2
 
     there : slice_get rs x ≡ Some r

@@ -10,7 +10,6 @@ use Rattle.shim_local.specs.Laws.{LocalLaws}
 use Rattle.shim_local.specs.Quiets.{QuietSteps}
 use Rattle.shim_laws_records.specs.Seen.{lives}
 use Rattle.shim_laws_records.specs.Agrees.{used}
-use Rattle.shim_laws_records.specs.Changes.{HasChanged}
 use Rattle.shim_laws_records.proofs.Hanging.{tree_of}
 use Rattle.shim_records.specs.Pairs.{stands_of, stands_by, rest_of}
 use Rattle.shim_records.specs.declared.record.Record.{Record}
@@ -19,7 +18,7 @@ use Rattle.shim_records.specs.declared.record.Status.TheVariants as code
 use Rattle.shim_records.proofs.Stepping.{set_there, set_elsewhere}
 use Rattle.shim_records.proofs.Showing.{map_get}
 use Rattle.shim_records.proofs.ReadOff.{same_stands}
-use Rattle.shim_laws_keeping.specs.Flats.{FlatView, HasProcess, IsKept}
+use Rattle.shim_laws_keeping.specs.Flats.{FlatView, HasProcessState, IsKept, stands}
 use Rattle.shim_laws_keeping.specs.Moves.{AdvancesBy}
 use Rattle.shim_laws_keeping.specs.Arriving.{Arrives, nowhere, there}
 use Rattle.shim_laws_keeping.proofs.Steps.{advanced}
@@ -68,6 +67,15 @@ state_read v i l here read = slice_get_read v.states (length v.states) i l refl 
 pub within_states : {S : Type 0} (v : FlatView S) (i : ℕ) → IsLive i v true → i < length v.states
 within_states v i here = slice_get_within v.states i here.1 here.2.state_is
 
+-- another state stands in the record of a live process
+pub becomes_this : {S : Type 0} (x f : ℕ) (l s : S) (before behind : FlatView S) → HasProcessState before x f l lives → behind.states ≡ slice_set before.states x s → stands behind ≡ stands before → HasBecome x s lives before behind
+becomes_this x f l s before behind has states stay = record {
+  first = f;
+  mine = record { state_is = ap (λ z. slice_get z x) states ∙ set_there before.states x l s has.state_is; stands_so = ap (λ z. slice_get z x) stay ∙ has.stands_so };
+  others = λ j g t k far h. record { state_is = ap (λ z. slice_get z j) states ∙ (set_elsewhere before.states x j s far ∙ h.state_is); stands_so = ap (λ z. slice_get z j) stay ∙ h.stands_so };
+  only = λ j g t k far h. record { state_is = sym (ap (λ z. slice_get z j) states ∙ set_elsewhere before.states x j s far) ∙ h.state_is; stands_so = sym (ap (λ z. slice_get z j) stay) ∙ h.stands_so };
+}
+
 module _ {S : Type 0} (o : Ops S) where
   pub stands_at : (v : FlatView S) (i : ℕ) (l : S) (stop : StopView) → IsLive i v true → l ≡ get_or v.states i l → stop ≡ o.stop l → LivesAt o v i stop
   stands_at v i l stop here read e = (here.0, l, record { state_is = state_read v i l here read; stands_so = here.2.stands_so }, sym e)
@@ -77,7 +85,7 @@ module _ {S : Type 0} (o : Ops S) where
   before_quiet v i l false here read quiet other = λ f s has e. other refl (ap o.stop (some_same l s (sym (state_read v i l here read) ∙ has.state_is)) ∙ e)
 
   -- one process alone stands there
-  pub no_longer_quiet : (v : FlatView S) (i f : ℕ) (l : S) → HasProcess v i f l lives → o.stop l ≢ AtQuiet → IsBeforeQuiet o i v false
+  pub no_longer_quiet : (v : FlatView S) (i f : ℕ) (l : S) → HasProcessState v i f l lives → o.stop l ≢ AtQuiet → IsBeforeQuiet o i v false
   no_longer_quiet v i f l has other g s h e = other (ap o.stop (some_same l s (sym has.state_is ∙ h.state_is)) ∙ e)
 
   -- beside the counts the records say what they did
@@ -85,22 +93,16 @@ module _ {S : Type 0} (o : Ops S) where
   rest_arrived s n x before behind (nowhere e same) = ap (map rest_of) same
   rest_arrived s n x before behind (there d was is e u v updated) = updated.1.rest
 
-  module _ (states : List S) (rs behind : List Record) (x f : ℕ) (l s : S) (has : HasProcess (record { states = states; records = rs }) x f l lives) (arrives : Arrives o s 4294967295 x rs behind) where
-    -- another state stands in the record of a live process
+  module _ (states : List S) (rs behind : List Record) (x f : ℕ) (l s : S) (has : HasProcessState (record { states = states; records = rs }) x f l lives) (arrives : Arrives o s 4294967295 x rs behind) where
     pub has_become : HasBecome x s lives (record { states = states; records = rs }) (record { states = slice_set states x s; records = behind })
-    has_become = subst (λ z. HasChanged states (slice_set states x s) (map stands_of rs) z x s lives) (sym (same_stands rs behind (rest_arrived s 4294967295 x rs behind arrives))) (record {
-      first = f;
-      mine = record { state_is = set_there states x l s has.state_is; stands_so = has.stands_so };
-      others = λ j d t k n h. record { state_is = set_elsewhere states x j s n ∙ h.state_is; stands_so = h.stands_so };
-      only = λ j d t k n h. record { state_is = sym (set_elsewhere states x j s n) ∙ h.state_is; stands_so = h.stands_so };
-    })
+    has_become = becomes_this x f l s (record { states = states; records = rs }) (record { states = slice_set states x s; records = behind }) has refl (same_stands rs behind (rest_arrived s 4294967295 x rs behind arrives))
 
   module _ (law : LocalLaws o) (states : List S) (rs behind : List Record) (x n : ℕ) (l last now : S) (before : IsBeforeQuiet o x (record { states = states; records = rs }) true) (read : l ≡ get_or states x l) (taken : QuietSteps o n l last)
       (read_then : now ≡ get_or (slice_set states x last) x now) (came : Arrives o now 4294967295 x rs behind) where
     is : slice_get states x ≡ Some l
     is = slice_get_read states (length states) x l refl (slice_get_within states x before.1 before.2.state_is) read
 
-    its : HasProcess (record { states = states; records = rs }) x before.0 l lives
+    its : HasProcessState (record { states = states; records = rs }) x before.0 l lives
     its = record { state_is = is; stands_so = before.2.stands_so }
 
     stop : o.stop l ≡ AtQuiet
@@ -113,10 +115,10 @@ module _ {S : Type 0} (o : Ops S) where
     advances rp t kept = advanced o law rp t states rs behind n x before.0 l last kept its stop taken arrives
 
     -- it is there, as it is read then
-    pub stands_then : (f : ℕ) × HasProcess (record { states = slice_set states x last; records = behind }) x f now lives
+    pub stands_then : (f : ℕ) × HasProcessState (record { states = slice_set states x last; records = behind }) x f now lives
     stands_then =
         let b = has_become states rs behind x before.0 l last its arrives in
-        (b.first, subst (λ z. HasProcess (record { states = slice_set states x last; records = behind }) x b.first z lives) (sym (read_set states x l last now is read_then)) b.mine)
+        (b.first, subst (λ z. HasProcessState (record { states = slice_set states x last; records = behind }) x b.first z lives) (sym (read_set states x l last now is read_then)) b.mine)
 
     pub steps_here : StepsHere o x n (record { states = states; records = rs }) (record { states = slice_set states x last; records = behind })
     steps_here = record {
@@ -145,10 +147,10 @@ module _ {S : Type 0} (o : Ops S) where
     moves_on : AdvancesBy o (o.path comes.process) n (record { states = states; records = rs }) (record { states = slice_set states x last; records = behind })
     moves_on rp t kept = advanced o law rp t states rs behind n x comes.first comes.process last kept comes.has comes.stands comes.chain arrives_elsewhere
 
-    pub stands_elsewhere : (f : ℕ) × HasProcess (record { states = slice_set states x last; records = behind }) x f now lives
+    pub stands_elsewhere : (f : ℕ) × HasProcessState (record { states = slice_set states x last; records = behind }) x f now lives
     stands_elsewhere =
         let b = has_become states rs behind x comes.first comes.process last comes.has arrives_elsewhere in
-        (b.first, subst (λ z. HasProcess (record { states = slice_set states x last; records = behind }) x b.first z lives) (sym (read_set states x comes.process last now comes.has.state_is read_then)) b.mine)
+        (b.first, subst (λ z. HasProcessState (record { states = slice_set states x last; records = behind }) x b.first z lives) (sym (read_set states x comes.process last now comes.has.state_is read_then)) b.mine)
 
     pub steps_elsewhere : StepsHere o x n (record { states = states; records = rs }) (record { states = slice_set states x last; records = behind })
     steps_elsewhere = record {

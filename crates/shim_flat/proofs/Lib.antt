@@ -1,7 +1,9 @@
 -- The lemmas of this crate, one module for each subject.
 pub mod Does
+pub mod Carriers
 pub mod Finding
 pub mod HereMeets
+pub mod Received
 pub mod HereNames
 pub mod HerePoisons
 pub mod HereSteps
@@ -21,7 +23,7 @@ pub mod ReadyWays
 pub mod NewRecords
 pub mod ForkPut
 pub mod ForkHere
-pub mod TouchingMeets
+pub mod TouchingPoisons
 pub mod DueEvents
 pub mod TouchingCuts
 pub mod ClosingJoins

@@ -14,7 +14,7 @@ use Rattle.shim_records.specs.declared.record.Record.{Record}
 use Rattle.shim_records.specs.declared.record.Status.{Status}
 use Rattle.shim_records.specs.declared.record.Status.TheVariants as code
 use Rattle.shim_records.proofs.Showing.{map_get}
-use Rattle.shim_laws_keeping.specs.Flats.{FlatView, HasProcess}
+use Rattle.shim_laws_keeping.specs.Flats.{FlatView, HasProcessState}
 use Rattle.shim_laws_waking.specs.Looks.{IsIdle, has_died}
 use Rattle.shim_laws_waking.proofs.PairsFound.{record_of}
 use Rattle.shim_flat.specs.Reading.{IsInUse}
@@ -35,11 +35,11 @@ next_alone d e = absurd cc
 
 module _ {S : Type 0} (o : Ops S) (v : FlatView S) (i : ℕ) where
   -- a live process stands at one thing alone
-  pub stands_else : (f : ℕ) (l : S) → HasProcess v i f l lives → o.stop l ≢ AtQuiet → IsBeforeQuiet o i v false
+  pub stands_else : (f : ℕ) (l : S) → HasProcessState v i f l lives → o.stop l ≢ AtQuiet → IsBeforeQuiet o i v false
   stands_else f l has other g s h e = other (ap o.stop (some_same l s (sym has.state_is ∙ h.state_is)) ∙ e)
 
   -- one that has died belongs in no list
-  pub died_nowhere : (f : ℕ) (l : S) (d : Death) → HasProcess v i f l (dies d) → IsIdle o v i × IsBeforeQuiet o i v false
+  pub died_nowhere : (f : ℕ) (l : S) (d : Death) → HasProcessState v i f l (dies d) → IsIdle o v i × IsBeforeQuiet o i v false
   died_nowhere f l d has = (has_died f l d has, λ g m lived stop. absurd (let e = sym has.stands_so ∙ lived.stands_so in cc))
 
   -- ---- by its record
@@ -66,5 +66,5 @@ module _ {S : Type 0} (o : Ops S) (v : FlatView S) (i : ℕ) where
         at_rest_alone k (inr (inl e)) f = absurd (cc)
         at_rest_alone k (inr (inr (x, e))) f = absurd (cc)
 
-    pub lives_there : (l : S) → l ≡ get_or v.states i l → r.status ≡ code.Live → HasProcess v i r.first l lives
+    pub lives_there : (l : S) → l ≡ get_or v.states i l → r.status ≡ code.Live → HasProcessState v i r.first l lives
     lives_there l is alive = live_process o v i l r (slice_get_read v.states (length v.states) i l refl (slice_get_within v.states i used.1 used.3.state_is) is) there alive

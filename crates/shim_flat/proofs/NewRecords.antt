@@ -5,17 +5,17 @@ use Rattle.std.proofs.lemmas.Option.{slice_get_within}
 use Rattle.shim_base.proofs.Facts.{some_same}
 use Rattle.shim_local.specs.Process.{Ops}
 use Rattle.shim_records.specs.declared.record.Record.{Record}
-use Rattle.shim_laws_forks.specs.Forking.{IsOfChild, IsWithin, AreOfChildren}
+use Rattle.shim_laws_forks.specs.Forking.{IsOfChild, FitsRecords, AreOfChildren}
 use Rattle.shim_flat.proofs.Places.{last_or_before, one_longer, get_either}
 
 -- those of the first i children
 pub record AreOfFirst {S : Type 0} (o : Ops S) (x : ℕ) (ks : List S) (i : ℕ) (born : List Record) : Type 0 where
   pub as_many : length born ≡ i
   pub each : (b : ℕ) (k : S) (r : Record) → slice_get ks b ≡ Some k → slice_get born b ≡ Some r → IsOfChild o x k r
-  pub within : (b : ℕ) (k : S) → b < i → slice_get ks b ≡ Some k → IsWithin o k
+  pub within : (b : ℕ) (k : S) → b < i → slice_get ks b ≡ Some k → FitsRecords o k
 
 module _ {S : Type 0} (o : Ops S) (x : ℕ) (ks : List S) where
-  pub one_record : (i : ℕ) (born : List Record) (k : S) (r : Record) → AreOfFirst o x ks i born → slice_get ks i ≡ Some k → IsOfChild o x k r × IsWithin o k → AreOfFirst o x ks (i + 1) (born ++ r ∷ [])
+  pub one_record : (i : ℕ) (born : List Record) (k : S) (r : Record) → AreOfFirst o x ks i born → slice_get ks i ≡ Some k → IsOfChild o x k r × FitsRecords o k → AreOfFirst o x ks (i + 1) (born ++ r ∷ [])
   one_record i born k r h e its = record {
     as_many = one_longer born r ∙ ap (λ n. n + 1) h.as_many;
     each = λ b j q u v. elim (get_either born r q b v) [
@@ -24,7 +24,7 @@ module _ {S : Type 0} (o : Ops S) (x : ℕ) (ks : List S) where
     ];
     within = λ b j less u. elim (last_or_before b i less) [
       | inl w ↦ h.within b j w u
-      | inr w ↦ subst (IsWithin o) (some_same k j (sym e ∙ (ap (slice_get ks) (sym w) ∙ u))) its.1
+      | inr w ↦ subst (FitsRecords o) (some_same k j (sym e ∙ (ap (slice_get ks) (sym w) ∙ u))) its.1
     ];
   }
 

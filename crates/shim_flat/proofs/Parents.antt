@@ -7,14 +7,14 @@ use Rattle.shim_base.specs.Paths.{Path}
 use Rattle.shim_base.proofs.Facts.{some_same}
 use Rattle.shim_local.specs.Process.{Ops}
 use Rattle.shim_semantics.specs.Nodes.{Node}
-use Rattle.shim_laws_records.specs.Seen.{Sort, forks, place}
+use Rattle.shim_laws_records.specs.Seen.{ProcessStatus, forks, place}
 use Rattle.shim_laws_records.proofs.Hanging.{tied}
 use Rattle.shim_laws_records.proofs.SameTrees.{same_or_not}
 use Rattle.shim_records.specs.Pairs.{up_in}
 use Rattle.shim_records.specs.declared.record.Record.{Record}
 use Rattle.shim_records.proofs.Reaching.{among_more, one_above}
 use Rattle.shim_records.proofs.Stepping.{set_there, set_elsewhere}
-use Rattle.shim_laws_keeping.specs.Flats.{FlatView, HasProcess, Keeps, IsKept, stands}
+use Rattle.shim_laws_keeping.specs.Flats.{FlatView, HasProcessState, Keeps, IsKept, stands}
 use Rattle.shim_laws_waking.specs.Awake.{is_set, is_listed}
 use Rattle.shim_laws_waking.proofs.PairsFound.{record_of}
 use Rattle.shim_flat.specs.Reading.{IsInUse, IsForAll, ParentIs}
@@ -69,18 +69,18 @@ module _ {S : Type 0} (o : Ops S) (v : FlatView S) where
 
   module _ (rp : Path) (root : Node S) (kept : Keeps o rp v root) where
     -- its fork is in use, and one branch nearer to the root
-    fork_of : (i j f : ℕ) (s : S) (k : Sort) → HasProcess v i f s k → up_in v.records i ≡ Some j
-        → (g : ℕ) × (n : ℕ) × (t : S) × HasProcess v j g t (forks n) × (length (place o rp s) ≡ length (place o rp t) + 1)
+    fork_of : (i j f : ℕ) (s : S) (k : ProcessStatus) → HasProcessState v i f s k → up_in v.records i ≡ Some j
+        → (g : ℕ) × (n : ℕ) × (t : S) × HasProcessState v j g t (forks n) × (length (place o rp s) ≡ length (place o rp t) + 1)
     fork_of i j f s k has e =
         let b = tied o rp v.states (stands v) root kept.shows (up_in v.records) kept.linked i f j s k has e in
-        (b.0.first, b.0.many, b.0.parent, subst (λ z. HasProcess v z b.0.first b.0.parent (forks b.0.many)) b.1 b.0.has, ap length b.0.is ∙ length-append (place o rp b.0.parent) (b.0.branch ∷ []))
+        (b.0.first, b.0.many, b.0.parent, subst (λ z. HasProcessState v z b.0.first b.0.parent (forks b.0.many)) b.1 b.0.has, ap length b.0.is ∙ length-append (place o rp b.0.parent) (b.0.branch ∷ []))
 
   pub fork_in_use : IsKept o v → (i j : ℕ) → IsInUse v i → up_in v.records i ≡ Some j → IsInUse v j
   fork_in_use kept i j (f, s, k, has) e = let w = fork_of kept.0 kept.1 kept.2 i j f s k has e in (w.0, w.2, forks w.1, w.3)
 
   -- no fork is further up than a path is long
   module _ (kept : IsKept o v) where
-    at_level : {n i k : ℕ} (f : ℕ) (s : S) (h : Sort) → HasProcess v i f s h → IsAbove (up_in v.records) n i k → IsAbove (up_in v.records) (length (place o kept.0 s)) i k
+    at_level : {n i k : ℕ} (f : ℕ) (s : S) (h : ProcessStatus) → HasProcessState v i f s h → IsAbove (up_in v.records) n i k → IsAbove (up_in v.records) (length (place o kept.0 s)) i k
     at_level f s h has (its_fork n i j e) =
         let u = fork_of kept.0 kept.1 kept.2 i j f s h has e in
         subst (λ z. IsAbove (up_in v.records) z i j) (sym (u.4 ∙ one_later (length (place o kept.0 u.2)))) (its_fork (length (place o kept.0 u.2)) i j e)

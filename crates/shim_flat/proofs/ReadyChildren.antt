@@ -5,20 +5,20 @@ use Rattle.std.specs.Option.{option_map}
 use Rattle.shim_base.specs.Paths.{Channel}
 use Rattle.shim_local.specs.Process.{Ops}
 use Rattle.shim_semantics.proofs.HowMany.{clash}
-use Rattle.shim_laws_records.specs.Seen.{Sort}
+use Rattle.shim_laws_records.specs.Seen.{ProcessStatus}
 use Rattle.shim_laws_records.specs.Agrees.{RecordView, free, used}
 use Rattle.shim_laws_records.specs.Counts.{Tally, all_there}
-use Rattle.shim_records.specs.Pairs.{tally, counts_in, place_of, find}
+use Rattle.shim_records.specs.Pairs.{tally, counts_in, pair_index, tally_for}
 use Rattle.shim_records.specs.declared.pair.Pair.{Pair}
 use Rattle.shim_records.specs.declared.record.Record.{Record}
 use Rattle.shim_records.proofs.Walked.{last_or_before}
 use Rattle.shim_records.proofs.Pairing.{put_there, no_place}
-use Rattle.shim_laws_keeping.specs.Flats.{FlatView, HasProcess, stands}
+use Rattle.shim_laws_keeping.specs.Flats.{FlatView, HasProcessState, stands}
 use Rattle.shim_laws_waking.specs.Looks.{ready_by, counts_ready, IsReady, IsIdlePair}
 use Rattle.shim_flat.specs.Due.{ready_record, ready_at, DoomedAmong}
 
 module _ {S : Type 0} (o : Ops S) (c : Channel) where
-  who_by : (x : Option S) (w : Option RecordView) (y : Option Tally) → ready_record o c x w y ≡ true → (f : ℕ) × (s : S) × (k : Sort) × (x ≡ Some s) × (w ≡ Some (used f k)) × (ready_by o c s k y ≡ true)
+  who_by : (x : Option S) (w : Option RecordView) (y : Option Tally) → ready_record o c x w y ≡ true → (f : ℕ) × (s : S) × (k : ProcessStatus) × (x ≡ Some s) × (w ≡ Some (used f k)) × (ready_by o c s k y ≡ true)
   who_by None w y e = absurd cc
   who_by (Some s) None y e = absurd cc
   who_by (Some s) (Some free) y e = absurd cc
@@ -26,11 +26,11 @@ module _ {S : Type 0} (o : Ops S) (c : Channel) where
 
   module _ (v : FlatView S) (j : ℕ) where
     -- of a process in use it is whether that is ready
-    pub is_ready : (f : ℕ) (k : S) (x : Sort) → HasProcess v j f k x → ready_at o c v.states v.records j ≡ ready_by o c k x (counts_in c v.records j)
+    pub is_ready : (f : ℕ) (k : S) (x : ProcessStatus) → HasProcessState v j f k x → ready_at o c v.states v.records j ≡ ready_by o c k x (counts_in c v.records j)
     is_ready f k x has = ap (λ z. ready_record o c z (slice_get (stands v) j) (counts_in c v.records j)) has.state_is ∙ ap (λ z. ready_record o c (Some k) z (counts_in c v.records j)) has.stands_so
 
     -- and where it holds there is one
-    pub who_is_ready : ready_at o c v.states v.records j ≡ true → (f : ℕ) × (k : S) × (x : Sort) × HasProcess v j f k x × IsReady o v c j k x
+    pub who_is_ready : ready_at o c v.states v.records j ≡ true → (f : ℕ) × (k : S) × (x : ProcessStatus) × HasProcessState v j f k x × IsReady o v c j k x
     who_is_ready e = let w = who_by (slice_get v.states j) (slice_get (stands v) j) (counts_in c v.records j) e in (w.0, w.1, w.2, record { state_is = w.3; stands_so = w.4 }, w.5)
 
   -- ---- the first of them
@@ -58,8 +58,8 @@ idle_pair o v l g n y meets dooms = record {
 
 -- ---- a fork's counts for a channel
 
-pub all_by_place : (c : Channel) (ps : List Pair) (i : ℕ) (p : Pair) → place_of c ps ≡ Some i → p ≡ get_or ps i p → all_there (tally p) ≡ counts_ready (find c ps)
+pub all_by_place : (c : Channel) (ps : List Pair) (i : ℕ) (p : Pair) → pair_index c ps ≡ Some i → p ≡ get_or ps i p → all_there (tally p) ≡ counts_ready (tally_for c ps)
 all_by_place c ps i p e g = sym (ap (λ z. counts_ready (option_map tally z)) (put_there c ps i p p e g refl refl).found)
 
-pub none_by_place : (c : Channel) (ps : List Pair) → place_of c ps ≡ None → false ≡ counts_ready (find c ps)
+pub none_by_place : (c : Channel) (ps : List Pair) → pair_index c ps ≡ None → false ≡ counts_ready (tally_for c ps)
 none_by_place c ps e = sym (ap counts_ready (no_place c ps e))

@@ -5,17 +5,17 @@ use Rattle.std.specs.Option.{option_map}
 use Rattle.shim_base.specs.Paths.{Channel}
 use Rattle.shim_base.proofs.Facts.{some_same}
 use Rattle.shim_local.specs.Process.{Ops}
-use Rattle.shim_laws_records.specs.Seen.{Sort, lives, forks, ends, dies}
+use Rattle.shim_laws_records.specs.Seen.{ProcessStatus, lives, forks, ends, dies}
 use Rattle.shim_laws_records.specs.Agrees.{free, used}
 use Rattle.shim_records.specs.Pairs.{up_in, stands_of}
 use Rattle.shim_records.specs.declared.record.Record.{Record}
 use Rattle.shim_records.proofs.Showing.{map_get}
 use Rattle.shim_records.proofs.Stepping.{set_elsewhere}
-use Rattle.shim_laws_keeping.specs.Flats.{FlatView, HasProcess}
+use Rattle.shim_laws_keeping.specs.Flats.{FlatView, HasProcessState}
 use Rattle.shim_laws_waking.specs.Waking.{IsAsBefore}
 use Rattle.shim_laws_waking.proofs.PairsFound.{record_of}
 use Rattle.shim_laws_waking.proofs.Same.{had}
-use Rattle.shim_laws_closes.specs.Closing.{beside_of, AreFreed, HasCome, LeavesIf, AllRecounted, none_left, one_more, GivenRecounted}
+use Rattle.shim_laws_closes.specs.Closing.{without_status, AreFreed, HasCome, LeavesIf, AllRecounted, none_left, one_more, GivenRecounted}
 use Rattle.shim_laws_closes.proofs.Saying.{map_length}
 use Rattle.shim_records.specs.Ways.{IsAbove}
 use Rattle.shim_flat.specs.Touching.{TouchesAbove, SaysAsBefore, TouchesRecords}
@@ -30,14 +30,14 @@ module _ {S : Type 0} (o : Ops S) (states : List S) where
   pub given_read_off : (s : S) (n x : ℕ) (before behind : List Record) → GivenRecounted o states s n x before behind → TouchesRecords n x before behind
   given_read_off s n x before behind h = all_read_off n x h.chans before behind h.recounted
 
-pub leaves_if : (k : Sort) (x : ℕ) (before behind : List Record) → LeavesIf k x before behind → TouchesRecords 1 x before behind
+pub leaves_if : (k : ProcessStatus) (x : ℕ) (before behind : List Record) → LeavesIf k x before behind → TouchesRecords 1 x before behind
 leaves_if lives x before behind h = touches_none 1 x before behind h
 leaves_if (forks n) x before behind h = touches_none 1 x before behind h
 leaves_if ends x before behind h = leaving x before behind h
 leaves_if (dies d) x before behind h = leaving x before behind h
 
 -- its record says what came of it, then one child less of its parent goes on, and then counts and labels above were brought up to date
-pub record_closes : (n x : ℕ) (k : Sort) (was is : Record) (before left between behind : List Record) → slice_get before x ≡ Some was → HasCome was is k → LeavesIf k x (slice_set before x is) left → TouchesRecords n x left between → TouchesRecords n x between behind → 1 ≤ n
+pub record_closes : (n x : ℕ) (k : ProcessStatus) (was is : Record) (before left between behind : List Record) → slice_get before x ≡ Some was → HasCome was is k → LeavesIf k x (slice_set before x is) left → TouchesRecords n x left between → TouchesRecords n x between behind → 1 ≤ n
     → TouchesRecords n x before behind
 record_closes n x k was is before left between behind there come leaves counts labels some =
     let own = slice_set before x is in
@@ -49,7 +49,7 @@ module _ {S : Type 0} (states : List S) (rs freed behind : List Record) (m i g n
   now = slice_set states i s
 
   -- who is in use behind isn't one of the children
-  no_child : (j f : ℕ) (t : S) (h : Sort) → HasProcess (record { states = now; records = behind }) j f t h → SaysAsBefore freed behind j → (b : ℕ) → b < n → j ≢ g + b
+  no_child : (j f : ℕ) (t : S) (h : ProcessStatus) → HasProcessState (record { states = now; records = behind }) j f t h → SaysAsBefore freed behind j → (b : ℕ) → b < n → j ≢ g + b
   no_child j f t h has said b less e =
       let same : IsAsBefore (record { states = now; records = freed }) (record { states = now; records = behind }) j = record { state = refl; rest = said.rest; counts = said.counts; labels = said.labels } in
       let was = had (record { states = now; records = freed }) (record { states = now; records = behind }) j same f t h has in
@@ -57,16 +57,16 @@ module _ {S : Type 0} (states : List S) (rs freed behind : List Record) (m i g n
       let is_free = free_ones.freed.inside b w.0 less (ap (slice_get freed) (sym e) ∙ w.1) in
       not_free f h (sym is_free ∙ some_same (stands_of w.0) (used f h) (sym (map_get stands_of freed j ∙ ap (option_map stands_of) w.1) ∙ was.stands_so))
     where
-      not_free : {B : Type 0} (f : ℕ) (h : Sort) → free ≡ used f h → B
+      not_free : {B : Type 0} (f : ℕ) (h : ProcessStatus) → free ≡ used f h → B
       not_free f h e = absurd cc
 
   freed_long : length freed ≡ length rs
-  freed_long = sym (map_length beside_of freed) ∙ (ap length free_ones.beside ∙ map_length beside_of rs)
+  freed_long = sym (map_length without_status freed) ∙ (ap length free_ones.beside ∙ map_length without_status rs)
 
   abbrev After : FlatView S
   After = record { states = now; records = behind }
 
-  others : (j f : ℕ) (t : S) (h : Sort) → HasProcess After j f t h → j ≢ i → (IsAbove (up_in behind) m i j → ⊥) → IsAsBefore (record { states = states; records = rs }) After j
+  others : (j f : ℕ) (t : S) (h : ProcessStatus) → HasProcessState After j f t h → j ≢ i → (IsAbove (up_in behind) m i j → ⊥) → IsAsBefore (record { states = states; records = rs }) After j
   others j f t h has far out =
       let said = touches.others j far (λ w. out (above_as (up_in freed) (up_in behind) touches.parents w)) in
       let w = says_on rs freed behind j (same_record rs freed j (free_ones.freed.outside j (no_child j f t h has said))) said in

@@ -4,13 +4,13 @@ use Rattle.std.specs.Prelude.{slice_get}
 use Rattle.std.specs.Option.{option_map}
 use Rattle.shim_base.proofs.Facts.{some_same, none_some}
 use Rattle.shim_local.specs.Process.{Ops}
-use Rattle.shim_laws_records.specs.Seen.{Sort}
+use Rattle.shim_laws_records.specs.Seen.{ProcessStatus}
 use Rattle.shim_laws_records.specs.Agrees.{free, used}
 use Rattle.shim_records.specs.Pairs.{up_in, up_at, stands_of}
 use Rattle.shim_records.specs.declared.record.Record.{Record}
 use Rattle.shim_records.proofs.Walked.{less_or_not}
 use Rattle.shim_records.proofs.Showing.{map_get}
-use Rattle.shim_laws_keeping.specs.Flats.{FlatView, HasProcess, IsKept}
+use Rattle.shim_laws_keeping.specs.Flats.{FlatView, HasProcessState, IsKept}
 use Rattle.shim_laws_waking.proofs.PairsFound.{record_of}
 use Rattle.shim_laws_waking.proofs.Same.{whole_same}
 use Rattle.shim_flat.specs.Reading.{IsInUse}
@@ -36,7 +36,7 @@ inside [] (suc m) i x e = none_some x e
 inside (y ∷ xs) (suc m) zero x e = omega arith
 inside (y ∷ xs) (suc m) (suc i) x e = let w = inside xs m i x e in omega (arith, w)
 
-not_free : {B : Type 0} (f : ℕ) (k : Sort) → free ≡ used f k → B
+not_free : {B : Type 0} (f : ℕ) (k : ProcessStatus) → free ≡ used f k → B
 not_free f k e = absurd cc
 
 module _ {S : Type 0} (o : Ops S) (v : FlatView S) (m : ℕ) (past : (i : ℕ) (r : Record) → m ≤ i → slice_get v.records i ≡ Some r → stands_of r ≡ free) where
@@ -51,7 +51,7 @@ module _ {S : Type 0} (o : Ops S) (v : FlatView S) (m : ℕ) (past : (i : ℕ) (
         not_free f k (sym (past i r.0 h r.1) ∙ some_same (stands_of r.0) (used f k) (sym (map_get stands_of v.records i ∙ ap (option_map stands_of) r.1) ∙ has.stands_so))
   ]
 
-  had : (i f : ℕ) (s : S) (k : Sort) → HasProcess cut i f s k → HasProcess v i f s k
+  had : (i f : ℕ) (s : S) (k : ProcessStatus) → HasProcessState cut i f s k → HasProcessState v i f s k
   had i f s k has =
       let less = inside v.states m i s has.state_is in
       record {

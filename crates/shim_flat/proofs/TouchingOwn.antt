@@ -3,7 +3,7 @@ use Rattle.std.proofs.Common.{◌≡◌, ◌≤◌, ℕ, suc, Some, List, map, s
 use Rattle.std.specs.Prelude.{slice_get}
 use Rattle.shim_base.specs.Paths.{Channel}
 use Rattle.shim_local.specs.Process.{Ops}
-use Rattle.shim_laws_records.specs.Seen.{Sort}
+use Rattle.shim_laws_records.specs.Seen.{ProcessStatus}
 use Rattle.shim_laws_records.specs.Counts.{Reading as Read}
 use Rattle.shim_records.specs.Pairs.{rest_of, leasts_in}
 use Rattle.shim_records.specs.Ways.{AllCountsMovedWithin}
@@ -41,7 +41,7 @@ all_lowered y n x cs before behind (one_lowered c ds first between last once way
 
 module _ {S : Type 0} (o : Ops S) (s : S) where
   -- the counts were moved as far up as is told
-  pub all_reach : (k : Sort) (m n x : ℕ) (before behind : List Record) → AllUpdated o s k n x before behind → AllCountsMovedWithin m x before behind → TouchesRecords m x before behind
+  pub all_reach : (k : ProcessStatus) (m n x : ℕ) (before behind : List Record) → AllUpdated o s k n x before behind → AllCountsMovedWithin m x before behind → TouchesRecords m x before behind
   all_reach k m n x before behind all moves = counts_reach m x before behind (rest_stays _ _ n x all.chans before behind all.updated) (labels_stay _ _ n x all.chans before behind all.updated) moves
 
   pub taken : (y n x : ℕ) (before behind : List Record) → IsTaken o s y n x before behind → TouchesRecords n x before behind

@@ -3,15 +3,15 @@ use Rattle.std.specs.Prelude.{◌≡◌, ◌⊎◌, ℕ, List}
 use Rattle.shim_base.specs.Paths.{Path}
 use Rattle.shim_local.specs.Process.{Ops}
 use Rattle.shim_semantics.specs.Nodes.{Node}
-use Rattle.shim_laws_records.specs.Seen.{Sort, lives}
+use Rattle.shim_laws_records.specs.Seen.{ProcessStatus, lives}
 use Rattle.shim_records.specs.Members.{IsAmong}
-use Rattle.shim_laws_keeping.specs.Flats.{FlatView, HasProcess, Keeps}
+use Rattle.shim_laws_keeping.specs.Flats.{FlatView, HasProcessState, Keeps}
 
 -- The same numbers are in use, by processes of the same paths; and who lives and has changed has one of these numbers.
 pub record IsChanged {S : Type 0} (o : Ops S) (numbers : List ℕ) (before behind : FlatView S) : Type 0 where
-  pub still : (i f : ℕ) (s : S) (k : Sort) → HasProcess before i f s k → (g : ℕ) × (t : S) × (h : Sort) × HasProcess behind i g t h × (o.path t ≡ o.path s)
-  pub only : (i g : ℕ) (t : S) (h : Sort) → HasProcess behind i g t h → (f : ℕ) × (s : S) × (k : Sort) × HasProcess before i f s k × (o.path t ≡ o.path s)
-  pub living : (i f : ℕ) (l : S) → HasProcess behind i f l lives → IsAmong i numbers ⊎ HasProcess before i f l lives
+  pub still : (i f : ℕ) (s : S) (k : ProcessStatus) → HasProcessState before i f s k → (g : ℕ) × (t : S) × (h : ProcessStatus) × HasProcessState behind i g t h × (o.path t ≡ o.path s)
+  pub only : (i g : ℕ) (t : S) (h : ProcessStatus) → HasProcessState behind i g t h → (f : ℕ) × (s : S) × (k : ProcessStatus) × HasProcessState before i f s k × (o.path t ≡ o.path s)
+  pub living : (i f : ℕ) (l : S) → HasProcessState behind i f l lives → IsAmong i numbers ⊎ HasProcessState before i f l lives
 
 -- it is so where they show a tree
 abbrev pub ChangesEach : {S : Type 0} → Ops S → List ℕ → FlatView S → FlatView S → Type 0

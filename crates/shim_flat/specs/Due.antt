@@ -2,14 +2,14 @@
 use Rattle.std.specs.Prelude.{◌≡◌, ◌<◌, ℕ, ◌+◌, Bool, true, false, Option, Some, None, List, map, slice_get}
 use Rattle.shim_base.specs.Paths.{Channel, NamedChannel}
 use Rattle.shim_local.specs.Process.{Ops, AtPut, AtFork, AtThrow, AtTrap, AtFinish, AtNext}
-use Rattle.shim_laws_records.specs.Seen.{Sort, lives}
+use Rattle.shim_laws_records.specs.Seen.{ProcessStatus, lives}
 use Rattle.shim_laws_records.specs.Agrees.{RecordView, used}
 use Rattle.shim_laws_records.specs.Counts.{Tally, all_there}
 use Rattle.shim_laws_records.specs.Dooms.{is_below}
 use Rattle.shim_records.specs.Pairs.{tally, counts_in, stands_of}
 use Rattle.shim_records.specs.declared.pair.Pair.{Pair}
 use Rattle.shim_records.specs.declared.record.Record.{Record}
-use Rattle.shim_laws_keeping.specs.Flats.{FlatView, HasProcess}
+use Rattle.shim_laws_keeping.specs.Flats.{FlatView, HasProcessState}
 use Rattle.shim_laws_waking.specs.Looks.{ready_by, IsIdle, IsReady}
 use Rattle.shim_flat.specs.Closing.{CanClose}
 use Rattle.shim_flat.specs.Reading.{HasPair}
@@ -22,7 +22,7 @@ pub record MeetsAlone {S : Type 0} (o : Ops S) (v : FlatView S) (i : ℕ) : Type
   pub first : ℕ
   pub process : S
   pub chan : NamedChannel
-  pub has : HasProcess v i first process lives
+  pub has : HasProcessState v i first process lives
   pub stands : o.stop process ≡ AtNext chan
   pub declared : o.path process ≡ chan.channel.home
 
@@ -49,8 +49,8 @@ pub record IsDoomed {S : Type 0} (o : Ops S) (v : FlatView S) (i q j : ℕ) : Ty
   pub number : j ≡ first + branch
   pub child_first : ℕ
   pub child : S
-  pub child_sort : Sort
-  pub its : HasProcess v j child_first child child_sort
+  pub child_sort : ProcessStatus
+  pub its : HasProcessState v j child_first child child_sort
   pub ready : IsReady o v pair_is.chan.channel j child child_sort
 
 -- what an answer says of the process with this number

@@ -5,12 +5,12 @@ use Rattle.shim_local.specs.Views.{ForkGives}
 use Rattle.shim_local.specs.declared.local.Forked.{Forked}
 use Rattle.shim_local.specs.declared.local.Forked.TheVariants as forked_view
 use Rattle.shim_semantics.specs.Trees.{Own}
-use Rattle.shim_laws_records.specs.Seen.{Sort, lives}
+use Rattle.shim_laws_records.specs.Seen.{ProcessStatus, lives}
 use Rattle.shim_laws_records.specs.Agrees.{free}
 use Rattle.shim_laws_records.specs.Changes.{HasForked}
 use Rattle.shim_records.specs.Pairs.{stands_of}
 use Rattle.shim_records.specs.declared.record.Record.{Record}
-use Rattle.shim_laws_keeping.specs.Flats.{FlatView, HasProcess, stands}
+use Rattle.shim_laws_keeping.specs.Flats.{FlatView, HasProcessState, stands}
 use Rattle.shim_laws_keeping.specs.Moves.{MovesBy}
 use Rattle.shim_flat.specs.Touching.{TouchesAbove, TouchesForking}
 use Rattle.shim_flat.specs.declared.forking.ForkOutcome.{ForkOutcome}
@@ -22,12 +22,12 @@ pub record HasForkedHere {S : Type 0} (o : Ops S) (n number first count : ℕ) (
   pub was : S
   pub is : S
   pub born : List S
-  pub lived : HasProcess before number was_first was lives
+  pub lived : HasProcessState before number was_first was lives
   pub stood : o.stop was ≡ AtFork
   pub forked : o.fork was ≡ Parted is born
   pub many : length born ≡ count
   pub fits : first + count ≤ 4294967295
-  pub unused : (b d : ℕ) (t : S) (k : Sort) → b < count → HasProcess before (first + b) d t k → ⊥
+  pub unused : (b d : ℕ) (t : S) (k : ProcessStatus) → b < count → HasProcessState before (first + b) d t k → ⊥
   pub becomes : HasForked before.states behind.states (stands before) (stands behind) number first is born
   pub moves : MovesBy o (Own (o.path was)) before behind
   pub touches : TouchesForking n number first count before behind
@@ -37,7 +37,7 @@ pub record HasTrappedHere {S : Type 0} (o : Ops S) (number : ℕ) (before behind
   pub first : ℕ
   pub was : S
   pub is : S
-  pub lived : HasProcess before number first was lives
+  pub lived : HasProcessState before number first was lives
   pub stood : o.stop was ≡ AtFork
   pub trapped : o.fork was ≡ Trapped is
   pub behind_is : behind ≡ record { states = slice_set before.states number is; records = before.records }
@@ -50,13 +50,13 @@ ForksHere {S} o n number before behind (outcome.Forked first count) = HasForkedH
 ForksHere {S} o n number before behind outcome.Trapped = HasTrappedHere o number before behind
 
 -- how many children there are where a fork comes to this
-abbrev pub how_many : {S : Type 0} → Forked S → ℕ
-how_many (forked_view.Children ks) = length ks
-how_many forked_view.Trapped = 0
+abbrev pub forked_count : {S : Type 0} → Forked S → ℕ
+forked_count (forked_view.Children ks) = length ks
+forked_count forked_view.Trapped = 0
 
 -- the process with this number lives and stands at a fork, which leaves the process in this state, and comes to these children or to a trap
 abbrev pub ForkComesTo : {S : Type 0} → Ops S → FlatView S → ℕ → S → Forked S → Type 0
-ForkComesTo {S} o v i p came = (f : ℕ) × (l : S) × HasProcess v i f l lives × (o.stop l ≡ AtFork) × ForkGives o l p came
+ForkComesTo {S} o v i p came = (f : ℕ) × (l : S) × HasProcessState v i f l lives × (o.stop l ≡ AtFork) × ForkGives o l p came
 
 -- so many records from the number g on are free, or behind all others
 pub record IsFreeBlock (g n : ℕ) (rs : List Record) : Type 0 where
@@ -65,4 +65,4 @@ pub record IsFreeBlock (g n : ℕ) (rs : List Record) : Type 0 where
 
 -- the process with this number lives, stands at a fork, and would stand so behind it, with these children
 abbrev pub ForkedTo : {S : Type 0} → Ops S → ℕ → S → List S → FlatView S → Type 0
-ForkedTo {S} o i p ks v = (f : ℕ) × (l : S) × HasProcess v i f l lives × (o.stop l ≡ AtFork) × (o.fork l ≡ Parted p ks)
+ForkedTo {S} o i p ks v = (f : ℕ) × (l : S) × HasProcessState v i f l lives × (o.stop l ≡ AtFork) × (o.fork l ≡ Parted p ks)

@@ -3,16 +3,16 @@ use Rattle.std.specs.Prelude.{◌≡◌, ◌-◌, ◌<◌, ℕ, Bool, true, fals
 use Rattle.shim_base.specs.Paths.{Channel}
 use Rattle.shim_local.specs.Process.{Ops}
 use Rattle.shim_semantics.specs.Trees.{Poison}
-use Rattle.shim_laws_records.specs.Seen.{Sort, lives}
-use Rattle.shim_laws_keeping.specs.Flats.{FlatView, HasProcess}
+use Rattle.shim_laws_records.specs.Seen.{ProcessStatus, lives}
+use Rattle.shim_laws_keeping.specs.Flats.{FlatView, HasProcessState}
 use Rattle.shim_laws_keeping.specs.Moves.{MovesBy}
 use Rattle.shim_laws_meetings.specs.Meetings.{IsEnabled}
 use Rattle.shim_laws_meetings.specs.Poisons.{IsChildOf}
 
 -- the process with this number lives and has no handler for exceptions with this label; or it doesn't live, or has one
 abbrev pub IsKilledBy : {S : Type 0} → Ops S → ℕ → ℕ → FlatView S → Bool → Type 0
-IsKilledBy {S} o label i v true = (f : ℕ) × (l : S) × HasProcess v i f l lives × (label < o.base l)
-IsKilledBy {S} o label i v false = (f : ℕ) (l : S) → HasProcess v i f l lives → label < o.base l → ⊥
+IsKilledBy {S} o label i v true = (f : ℕ) × (l : S) × HasProcessState v i f l lives × (label < o.base l)
+IsKilledBy {S} o label i v false = (f : ℕ) (l : S) → HasProcessState v i f l lives → label < o.base l → ⊥
 
 -- the process with this number is a child whose poison on the channel is enabled, and the label is the innermost one in force at its fork
 pub record CanPoison {S : Type 0} (o : Ops S) (c : Channel) (label i : ℕ) (v : FlatView S) : Type 0 where
@@ -24,4 +24,4 @@ pub record CanPoison {S : Type 0} (o : Ops S) (c : Channel) (label i : ℕ) (v :
 
 -- the tree moved by the poison of the process with this number
 abbrev pub PoisonsHere : {S : Type 0} → Ops S → Channel → ℕ → FlatView S → FlatView S → Type 0
-PoisonsHere {S} o c i before behind = (f : ℕ) (k : S) (x : Sort) → HasProcess before i f k x → MovesBy o (Poison (o.path k) c) before behind
+PoisonsHere {S} o c i before behind = (f : ℕ) (k : S) (x : ProcessStatus) → HasProcessState before i f k x → MovesBy o (Poison (o.path k) c) before behind

@@ -1,15 +1,15 @@
 -- What readers of one process ask, and what they answer.
 use Rattle.std.specs.Prelude.{◌≡◌, ◌≤◌, ◌<◌, ℕ, Option, Some, None, List, slice_get, length}
-use Rattle.shim_laws_records.specs.Seen.{Sort, forks}
+use Rattle.shim_laws_records.specs.Seen.{ProcessStatus, forks}
 use Rattle.shim_records.specs.Members.{IsAmong}
 use Rattle.shim_records.specs.Pairs.{up_in}
 use Rattle.shim_records.specs.declared.pair.Pair.{Pair}
 use Rattle.shim_records.specs.declared.record.Record.{Record}
-use Rattle.shim_laws_keeping.specs.Flats.{FlatView, HasProcess}
+use Rattle.shim_laws_keeping.specs.Flats.{FlatView, HasProcessState}
 
 -- there is a process with this number
 abbrev pub IsInUse : {S : Type 0} → FlatView S → ℕ → Type 0
-IsInUse {S} v i = (f : ℕ) × (s : S) × (k : Sort) × HasProcess v i f s k
+IsInUse {S} v i = (f : ℕ) × (s : S) × (k : ProcessStatus) × HasProcessState v i f s k
 
 -- a list has an item for the number of each process
 abbrev pub IsForAll : {S A : Type 0} → FlatView S → List A → Type 0
@@ -17,7 +17,7 @@ IsForAll {S} v xs = (i : ℕ) → IsInUse v i → i < length xs
 
 -- there is one, and it has forked
 abbrev pub HasForkedAt : {S : Type 0} → FlatView S → ℕ → Type 0
-HasForkedAt {S} v i = (first : ℕ) × (n : ℕ) × (l : S) × HasProcess v i first l (forks n)
+HasForkedAt {S} v i = (first : ℕ) × (n : ℕ) × (l : S) × HasProcessState v i first l (forks n)
 
 -- the first number is that of the first child, and there are so many
 abbrev pub ChildrenAre : ℕ × ℕ → ℕ → ℕ → Type 0
@@ -29,7 +29,7 @@ AreInUse v numbers = (i : ℕ) → IsAmong i numbers → IsInUse v i
 
 -- the process with this number has forked, and this is a pair of its record
 pub record HasPair {S : Type 0} (v : FlatView S) (i first n : ℕ) (l : S) (q : ℕ) (y : Pair) : Type 0 where
-  pub forked : HasProcess v i first l (forks n)
+  pub forked : HasProcessState v i first l (forks n)
   pub said : Record
   pub there : slice_get v.records i ≡ Some said
   pub pair : slice_get said.pairs.items q ≡ Some y

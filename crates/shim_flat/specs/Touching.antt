@@ -2,22 +2,22 @@
 use Rattle.std.specs.Prelude.{◌≡◌, ◌≢◌, ◌⊎◌, ◌<◌, ◌≤◌, ℕ, ◌+◌, Bool, true, Some, List, length, slice_get}
 use Rattle.std.specs.Option.{option_map}
 use Rattle.shim_base.specs.Paths.{Channel}
-use Rattle.shim_laws_records.specs.Seen.{Sort}
+use Rattle.shim_laws_records.specs.Seen.{ProcessStatus}
 use Rattle.shim_records.specs.Pairs.{up_in, rest_of, counts_in, leasts_in}
 use Rattle.shim_records.specs.Ways.{IsAbove, most_forks}
 use Rattle.shim_records.specs.declared.record.Record.{Record}
-use Rattle.shim_laws_keeping.specs.Flats.{FlatView, HasProcess}
+use Rattle.shim_laws_keeping.specs.Flats.{FlatView, HasProcessState}
 use Rattle.shim_laws_waking.specs.Waking.{IsAsBefore}
 use Rattle.shim_laws_waking.specs.Awake.{is_listed}
 
 -- Whatever record isn't as before is that with this number, or that of one of the first n forks above it; and there are no more of them.
 pub record TouchesAbove {S : Type 0} (n number : ℕ) (before behind : FlatView S) : Type 0 where
-  pub others : (i f : ℕ) (s : S) (k : Sort) → HasProcess behind i f s k → i ≢ number → (IsAbove (up_in behind.records) n number i → ⊥) → IsAsBefore before behind i
+  pub others : (i f : ℕ) (s : S) (k : ProcessStatus) → HasProcessState behind i f s k → i ≢ number → (IsAbove (up_in behind.records) n number i → ⊥) → IsAsBefore before behind i
   pub no_more : length behind.records ≤ length before.records
 
 -- Whatever record isn't as before is that with this number, that of one of the first n forks above it, or that of one of so many new children of its process; they have the numbers from the first one on, and lie behind all others at most.
 pub record TouchesForking {S : Type 0} (n number first count : ℕ) (before behind : FlatView S) : Type 0 where
-  pub others : (i f : ℕ) (s : S) (k : Sort) → HasProcess behind i f s k → i ≢ number → (IsAbove (up_in behind.records) n number i → ⊥) → ((b : ℕ) → b < count → i ≢ first + b) → IsAsBefore before behind i
+  pub others : (i f : ℕ) (s : S) (k : ProcessStatus) → HasProcessState behind i f s k → i ≢ number → (IsAbove (up_in behind.records) n number i → ⊥) → ((b : ℕ) → b < count → i ≢ first + b) → IsAsBefore before behind i
   pub born : (b : ℕ) → b < count → up_in behind.records (first + b) ≡ Some number
   pub no_more : (m : ℕ) → length before.records ≤ m → first + count ≤ m → length behind.records ≤ m
 

@@ -7,7 +7,7 @@ ghost use Rattle.shim_semantics.specs.Acts.{nothing, putting, throwing, trapping
 ghost use Rattle.shim_laws_records.specs.Seen.{lives, ends, dies};
 ghost use Rattle.shim_records.specs.Ways.{most_forks};
 ghost use Rattle.shim_flat.specs.Stepping.{LivesAt};
-ghost use Rattle.shim_flat.specs.Acting.{IsTrappedAt, ActsHere, sort_by, thrown_by, told_of};
+ghost use Rattle.shim_flat.specs.Acting.{IsTrappedAt, ActsHere, status_by_throw, thrown_by, told_of};
 ghost use Rattle.shim_flat.specs.Listing.{ListingIs};
 
 use crate::acting_gone::leave_tree;
@@ -66,7 +66,7 @@ impl<L: Local> Flat<L> {
     /// has come, too.
     pub fn throw_here(&mut self, number: u32, label: u32) -> (Thrown, Arrival)
         requires { LivesAt L.ops self.old number (AtThrow label) }
-        ensures acts { ActsHere L.ops result.1.forks number (AtThrow label) (sort_by result.0) (told_of result.0) self.old self.new }
+        ensures acts { ActsHere L.ops result.1.forks number (AtThrow label) (status_by_throw result.0) (told_of result.0) self.old self.new }
         ensures listing { ListingIs L.ops self.new number result.1.listing }
     {
         let at = number as usize;

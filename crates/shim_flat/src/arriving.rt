@@ -3,7 +3,7 @@ ghost use Rattle.std.specs.Prelude.{ℕ};
 ghost use Rattle.shim_laws_records.specs.Seen.{lives};
 ghost use Rattle.shim_records.specs.Pairs.{AreOrdered};
 ghost use Rattle.shim_records.specs.Ways.{most_forks};
-ghost use Rattle.shim_laws_keeping.specs.Flats.{FlatView, HasProcess};
+ghost use Rattle.shim_laws_keeping.specs.Flats.{FlatView, HasProcessState};
 ghost use Rattle.shim_laws_keeping.specs.Arriving.{Arrives};
 ghost use Rattle.shim_flat.specs.Touching.{TouchesRecords};
 ghost use Rattle.shim_flat.specs.Listing.{ListingIs};
@@ -26,7 +26,7 @@ pub(crate) fn arrive<L: Local>(process: &L, records: &mut Vec<Record>, at: usize
     requires { AreOrdered records.old.items }
     ensures arrives { Arrives L.ops process.now most_forks at records.old.items records.new.items }
     ensures touches { TouchesRecords result.forks at records.old.items records.new.items }
-    ensures listing { (v : FlatView L) (i f : ℕ) → HasProcess v i f process.now lives → ListingIs L.ops v i result.listing }
+    ensures listing { (v : FlatView L) (i f : ℕ) → HasProcessState v i f process.now lives → ListingIs L.ops v i result.listing }
 {
     match process.stop() {
         Stop::Next(chan) => {

@@ -3,14 +3,14 @@ ghost use Rattle.std.specs.Prelude.{◌≡◌, ◌<◌, ◌≤◌, ◌+◌, ◌�
 ghost use Rattle.shim_local.specs.declared.death.Death.{Death as DeathOf};
 ghost use Rattle.shim_semantics.specs.Acts.{thrown};
 ghost use Rattle.shim_laws_records.specs.Agrees.{free};
-ghost use Rattle.shim_laws_records.specs.Changes.{block, prevailing_of, prevailing_among};
-ghost use Rattle.shim_records.specs.Acted.{sort_of};
+ghost use Rattle.shim_laws_records.specs.Changes.{segment, prevailing_with, prevailing_among};
+ghost use Rattle.shim_records.specs.Acted.{process_status_of};
 ghost use Rattle.shim_records.specs.Pairs.{stands_of, stands_by, AreOrdered};
 ghost use Rattle.shim_records.specs.declared.record.Record.{Record};
 ghost use Rattle.shim_records.specs.declared.record.Status.TheVariants.{Free};
 ghost use Rattle.shim_records.specs.Ways.{most_forks};
 ghost use Rattle.shim_laws_closes.specs.Closing.{AreFreed, HasCome, LeavesIf, GivenRecounted, RecountedIf};
-ghost use Rattle.shim_flat.specs.Closing.{CanClose, ClosesHere, sort_left, HasJoined, TakesBack, ClosesRecord};
+ghost use Rattle.shim_flat.specs.Closing.{CanClose, ClosesHere, status_by_close, HasJoined, TakesBack, ClosesRecord};
 ghost use Rattle.shim_flat.specs.Acting.{thrown_by};
 ghost use Rattle.shim_flat.specs.Touching.{TouchesRecords};
 
@@ -30,7 +30,7 @@ pub enum CloseOutcome {
 
 // The prevailing one of a death and another one, if there are any.
 fn prevailing(status: Status, rest: Option<Death>) -> Option<Death>
-    ensures { (f : ℕ) → result ≡ prevailing_of (stands_by f status) rest }
+    ensures { (f : ℕ) → result ≡ prevailing_with (stands_by f status) rest }
 {
     match status {
         Status::Dead(death) => match rest {
@@ -44,7 +44,7 @@ fn prevailing(status: Status, rest: Option<Death>) -> Option<Death>
 // The prevailing death of these children.
 fn prevailing_death(records: &[Record], first: usize, count: usize) -> Option<Death>
     requires { first + count ≤ length records.now }
-    ensures { result ≡ prevailing_among (block first count (map stands_of records.now)) }
+    ensures { result ≡ prevailing_among (segment first count (map stands_of records.now)) }
 {
     let mut death = None;
     let mut left = count;
@@ -59,7 +59,7 @@ fn prevailing_death(records: &[Record], first: usize, count: usize) -> Option<De
 fn join_behind<L: Local>(states: &mut [L], parent: usize, first: usize, count: usize, goes_on: bool)
     requires order { parent < first }
     requires inside { first + count ≤ length states.old }
-    requires born { (l : L) → slice_get states.old parent ≡ Some l → L.ops.born l (block first count states.old) }
+    requires born { (l : L) → slice_get states.old parent ≡ Some l → L.ops.born l (segment first count states.old) }
     ensures { HasJoined L.ops parent first count goes_on states.old states.new }
 {
     let (front, back) = states.split_at_mut(first);
@@ -70,7 +70,7 @@ fn join_behind<L: Local>(states: &mut [L], parent: usize, first: usize, count: u
 fn join_before<L: Local>(states: &mut [L], parent: usize, first: usize, count: usize, goes_on: bool)
     requires order { first + count ≤ parent }
     requires inside { parent < length states.old }
-    requires born { (l : L) → slice_get states.old parent ≡ Some l → L.ops.born l (block first count states.old) }
+    requires born { (l : L) → slice_get states.old parent ≡ Some l → L.ops.born l (segment first count states.old) }
     ensures { HasJoined L.ops parent first count goes_on states.old states.new }
 {
     let (front, back) = states.split_at_mut(parent);
@@ -89,7 +89,7 @@ fn join_children<L: Local>(
     requires apart { (parent < first) ⊎ (first + count ≤ parent) }
     requires parent { parent < length states.old.items }
     requires inside { first + count ≤ length states.old.items }
-    requires born { (l : L) → slice_get states.old.items parent ≡ Some l → L.ops.born l (block first count states.old.items) }
+    requires born { (l : L) → slice_get states.old.items parent ≡ Some l → L.ops.born l (segment first count states.old.items) }
     ensures { HasJoined L.ops parent first count goes_on states.old.items states.new.items }
 {
     if parent < first {
@@ -123,8 +123,8 @@ fn take_back<L: Local>(
     requires apart { (parent < first) ⊎ (first + count ≤ parent) }
     requires parent { parent < length states.old.items }
     requires inside { first + count ≤ length states.old.items }
-    requires born { (l : L) → slice_get states.old.items parent ≡ Some l → L.ops.born l (block first count states.old.items) }
-    requires below { (l : L) (d : DeathOf) → slice_get states.old.items parent ≡ Some l → death ≡ Some d → d.label < L.ops.handlers (L.ops.join l (block first count states.old.items) false) }
+    requires born { (l : L) → slice_get states.old.items parent ≡ Some l → L.ops.born l (segment first count states.old.items) }
+    requires below { (l : L) (d : DeathOf) → slice_get states.old.items parent ≡ Some l → death ≡ Some d → d.label < L.ops.handlers (L.ops.join l (segment first count states.old.items) false) }
     ensures { TakesBack L.ops parent first count death result states.old.items states.new.items }
 {
     join_children(states, parent, first, count, death.is_none());
@@ -147,7 +147,7 @@ fn free_children(records: &mut Vec<Record>, first: usize, count: usize)
 // This came of a process, and it has no children any more.
 fn come_to(parent: &mut Record, status: Status)
     requires { status ≢ Free }
-    ensures { HasCome parent.old parent.new (sort_of status) }
+    ensures { HasCome parent.old parent.new (process_status_of status) }
 {
     parent.status = status;
     parent.pairs.clear();
@@ -155,7 +155,7 @@ fn come_to(parent: &mut Record, status: Status)
 
 // A process that has ended or died goes on no more.
 fn leave_if(records: &mut Vec<Record>, at: usize, status: Status)
-    ensures { LeavesIf (sort_of status) at records.old.items records.new.items }
+    ensures { LeavesIf (process_status_of status) at records.old.items records.new.items }
 {
     match status {
         Status::Free | Status::Ended | Status::Dead(_) => leave(records, at),
@@ -234,7 +234,7 @@ fn close_record<L: Local>(
 // What came of a process.
 fn status_after(outcome: CloseOutcome) -> Status
     ensures used { result ≢ Free }
-    ensures sort { sort_of result ≡ sort_left outcome }
+    ensures sort { process_status_of result ≡ status_by_close outcome }
 {
     match outcome {
         CloseOutcome::GoesOn => Status::Live,

@@ -4,7 +4,7 @@ ghost use Rattle.shim_laws_records.specs.Seen.{lives};
 ghost use Rattle.shim_laws_records.specs.Counts.{all_there};
 ghost use Rattle.shim_records.specs.Pairs.{tally, AreOrdered};
 ghost use Rattle.shim_records.specs.declared.record.Status.TheVariants.{Forked};
-ghost use Rattle.shim_laws_keeping.specs.Flats.{FlatView, HasProcess};
+ghost use Rattle.shim_laws_keeping.specs.Flats.{FlatView, HasProcessState};
 ghost use Rattle.shim_flat.specs.Due.{DueIs};
 
 use crate::flat::Flat;
@@ -48,7 +48,7 @@ pub(crate) fn declares<L: Local>(process: &L, chan: &Chan) -> bool
 
 // What a live process can do, wherever it is.
 fn due_alone<L: Local>(process: &L) -> Due
-    ensures { (v : FlatView L) (i f : ℕ) → HasProcess v i f process.now lives → DueIs L.ops v i result }
+    ensures { (v : FlatView L) (i f : ℕ) → HasProcessState v i f process.now lives → DueIs L.ops v i result }
 {
     match process.stop() {
         Stop::Quiet => Due::Nothing,

@@ -8,8 +8,8 @@ ghost use Rattle.shim_records.specs.Pairs.{tally, reading_of, stands_of, AreOrde
 ghost use Rattle.shim_records.specs.Fresh.{channels};
 ghost use Rattle.shim_records.specs.Blocks.{with_block};
 ghost use Rattle.shim_records.specs.Ways.{most_forks};
-ghost use Rattle.shim_laws_forks.specs.Forking.{IsOfChild, IsWithin, AreOfChildren, ready_chans, EachUpdatedAbove, ForksAt};
-ghost use Rattle.shim_flat.specs.Forking.{ForksHere, ForkedTo, ForkComesTo, how_many, IsFreeBlock};
+ghost use Rattle.shim_laws_forks.specs.Forking.{IsOfChild, FitsRecords, AreOfChildren, ready_chans, EachUpdatedAbove, ForksAt};
+ghost use Rattle.shim_flat.specs.Forking.{ForksHere, ForkedTo, ForkComesTo, forked_count, IsFreeBlock};
 ghost use Rattle.shim_flat.specs.Stepping.{LivesAt};
 ghost use Rattle.shim_flat.specs.Touching.{TouchesForking, TouchesRecords};
 
@@ -43,7 +43,7 @@ pub struct Fork<L> {
 impl<L> Fork<L> {
     /// How many children the process has behind it.
     pub fn count(&self) -> usize
-        ensures { result ≡ how_many self.now.came }
+        ensures { result ≡ forked_count self.now.came }
     {
         match &self.came {
             Forked::Children(children) => children.len(),
@@ -69,7 +69,7 @@ struct Parted<L> {
 
 // Whether the child's path isn't too long, nor the list of the channels that it was given.
 fn is_within<L: Local>(child: &L) -> bool
-    ensures { result ≡ true → IsWithin L.ops child.now }
+    ensures { result ≡ true → FitsRecords L.ops child.now }
 {
     if child.path().pairs().len() > u32::MAX as usize {
         return false;
@@ -82,7 +82,7 @@ fn is_within<L: Local>(child: &L) -> bool
 
 // The record of a child that has done nothing yet.
 fn child_record<L: Local>(alloc: Global, parent: u32, child: &L) -> Result<Record, NoMemory>
-    ensures { IfOk result (λ r. IsOfChild L.ops parent child.now r × IsWithin L.ops child.now) }
+    ensures { IfOk result (λ r. IsOfChild L.ops parent child.now r × FitsRecords L.ops child.now) }
 {
     if !is_within(child) {
         return Err(NoMemory);
@@ -272,7 +272,7 @@ impl<L: Local> Flat<L> {
     pub fn put_fork(&mut self, alloc: Global, fork: Fork<L>) -> Result<(ForkOutcome, u32), NoMemory>
         requires { ForkComesTo L.ops self.old fork.number fork.parent fork.came }
         ensures ok { IfOk result (λ put. ForksHere L.ops put.1 fork.number self.old self.new put.0) }
-        ensures few { length self.new.records ≤ length self.old.records + how_many fork.came }
+        ensures few { length self.new.records ≤ length self.old.records + forked_count fork.came }
         ensures err { OnErr result (self.new ≡ self.old) }
     {
         let Fork {

@@ -2,7 +2,7 @@
 ghost use Rattle.std.specs.Prelude.{◌≡◌, ℕ};
 ghost use Rattle.shim_local.specs.Process.{AtNext};
 ghost use Rattle.shim_laws_records.specs.Seen.{lives};
-ghost use Rattle.shim_laws_keeping.specs.Flats.{FlatView, HasProcess};
+ghost use Rattle.shim_laws_keeping.specs.Flats.{FlatView, HasProcessState};
 ghost use Rattle.shim_flat.specs.Reading.{IsInUse};
 ghost use Rattle.shim_flat.specs.Listing.{ListingIs};
 
@@ -25,7 +25,7 @@ pub enum Listing {
 
 /// Where a live process belongs that stands at the channel.
 pub(crate) fn listing_at<L: Local>(process: &L, chan: &Chan) -> Listing
-    ensures { (v : FlatView L) (i f : ℕ) → HasProcess v i f process.now lives → L.ops.stop process.now ≡ AtNext chan.now → ListingIs L.ops v i result }
+    ensures { (v : FlatView L) (i f : ℕ) → HasProcessState v i f process.now lives → L.ops.stop process.now ≡ AtNext chan.now → ListingIs L.ops v i result }
 {
     if declares(process, chan) {
         Listing::Awake
@@ -36,7 +36,7 @@ pub(crate) fn listing_at<L: Local>(process: &L, chan: &Chan) -> Listing
 
 // Where a live process belongs.
 fn listing_alone<L: Local>(process: &L) -> Listing
-    ensures { (v : FlatView L) (i f : ℕ) → HasProcess v i f process.now lives → ListingIs L.ops v i result }
+    ensures { (v : FlatView L) (i f : ℕ) → HasProcessState v i f process.now lives → ListingIs L.ops v i result }
 {
     match process.stop() {
         Stop::Quiet => Listing::Quiet,

@@ -2,17 +2,17 @@
 ghost use Rattle.std.specs.Prelude.{◌≡◌};
 ghost use Rattle.shim_laws_records.specs.Dooms.{is_below};
 ghost use Rattle.shim_laws_waking.specs.Looks.{counts_ready};
-ghost use Rattle.shim_records.specs.Pairs.{find, chans_of, IsOrdered, AreOrdered};
+ghost use Rattle.shim_records.specs.Pairs.{tally_for, chans_of, IsOrdered, AreOrdered};
 ghost use Rattle.shim_flat.specs.Due.{ready_at, ReadyAmong, DoomedAmong};
 
 use shim_base::Chan;
 use shim_local::Local;
-use shim_records::{Pair, Record, Status, has_all, place_in, stands_at};
+use shim_records::{Pair, Record, Status, has_all, is_at_channel, place_in};
 
 // Whether all are there by the counts that a fork has for the channel.
 fn counts_all(fork: &Record, c: &Chan) -> bool
     requires { IsOrdered (chans_of fork.now.pairs.items) }
-    ensures { result ≡ counts_ready (find c.now.channel fork.now.pairs.items) }
+    ensures { result ≡ counts_ready (tally_for c.now.channel fork.now.pairs.items) }
 {
     match place_in(fork.pairs.as_slice(), c) {
         None => false,
@@ -33,7 +33,7 @@ fn is_ready<L: Local>(states: &[L], records: &[Record], at: usize, c: &Chan) -> 
     }
     match records[at].status {
         Status::Free | Status::Ended | Status::Dead(_) => false,
-        Status::Live => stands_at(&states[at], c),
+        Status::Live => is_at_channel(&states[at], c),
         Status::Forked(_) => counts_all(&records[at], c),
     }
 }

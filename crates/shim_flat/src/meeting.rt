@@ -1,26 +1,28 @@
 // A meeting, one process after the other.
-ghost use Rattle.shim_semantics.specs.Trees.{Meet};
+ghost use Rattle.std.specs.Prelude.{ℕ};
+ghost use Rattle.shim_laws_records.specs.Seen.{lives};
 ghost use Rattle.shim_records.specs.Pairs.{AreOrdered};
 ghost use Rattle.shim_records.specs.Ways.{most_forks};
-ghost use Rattle.shim_laws_keeping.specs.Moves.{MovesBy};
+ghost use Rattle.shim_laws_keeping.specs.Flats.{FlatView, HasProcessState};
 ghost use Rattle.shim_laws_meetings.specs.Receiving.{MovesOn};
-ghost use Rattle.shim_laws_meetings.specs.Sharers.{ListsSharers};
-ghost use Rattle.shim_laws_meetings.specs.Meetings.{IsEnabled, Declares, HasValue, ReceivesOne, ReceiveAll, AllReceived};
-ghost use Rattle.shim_laws_meetings.specs.Values.{IsValueAmong};
-ghost use Rattle.shim_flat.specs.Meeting.{WaitsAt, LeavesChannel};
-ghost use Rattle.shim_flat.specs.Touching.{TouchesEach, TouchesOne};
-ghost use Rattle.shim_flat.specs.Changing.{ChangesEach};
+ghost use Rattle.shim_laws_meetings.specs.Meetings.{ReceivesOne};
+ghost use Rattle.shim_flat.specs.Meeting.{WaitsAt, LeavesChannel, ReceivesHere};
+ghost use Rattle.shim_flat.specs.Listing.{ListingIs};
+ghost use Rattle.shim_flat.specs.Touching.{TouchesRecords};
 
-use crate::descent::Sharers;
+use crate::arriving::Arrival;
 use crate::flat::Flat;
+use crate::listing::{Listing, listing_at};
 use shim_base::Chan;
 use shim_local::{Local, Stop};
-use shim_records::{Record, live_reading, stands_at, update_counts_above};
+use shim_records::{Record, is_at_channel, live_reading, update_counts_above};
 
-// Brings the counts above a process up to date that stood at the channel and stands there no more.
-fn leave_channel(c: &Chan, records: &mut Vec<Record>, at: usize)
+// Brings the counts above a process up to date that stood at the channel and stands there no more. It answers
+// how many forks above it have other counts, at most.
+fn leave_channel(c: &Chan, records: &mut Vec<Record>, at: usize) -> u32
     requires { AreOrdered records.old.items }
-    ensures { LeavesChannel c.now.channel most_forks at records.old.items records.new.items }
+    ensures leaves { LeavesChannel c.now.channel most_forks at records.old.items records.new.items }
+    ensures touches { TouchesRecords result at records.old.items records.new.items }
 {
     update_counts_above(
         records,
@@ -29,21 +31,25 @@ fn leave_channel(c: &Chan, records: &mut Vec<Record>, at: usize)
         live_reading(true),
         live_reading(false),
         u32::MAX,
-    );
+    )
 }
 
-// Brings the counts above a process up to date that stood at the channel and has received there.
-fn move_on<L: Local>(process: &L, c: &Chan, records: &mut Vec<Record>, at: usize)
+// Brings the counts above a process up to date that stood at the channel and has received there. It answers
+// where the process has come.
+fn move_on<L: Local>(process: &L, c: &Chan, records: &mut Vec<Record>, at: usize) -> Arrival
     requires { AreOrdered records.old.items }
-    ensures { MovesOn L.ops process.now c.now.channel most_forks at records.old.items records.new.items }
+    ensures moves { MovesOn L.ops process.now c.now.channel most_forks at records.old.items records.new.items }
+    ensures touches { TouchesRecords result.forks at records.old.items records.new.items }
+    ensures listing { (v : FlatView L) (i f : ℕ) → HasProcessState v i f process.now lives → ListingIs L.ops v i result.listing }
 {
     match process.stop() {
         Stop::Next(chan) => {
+            let listing = listing_at(process, chan);
             if *c == *chan {
-                return;
+                return Arrival { listing, forks: 0 };
             }
-            leave_channel(c, records, at);
-            update_counts_above(
+            let left = leave_channel(c, records, at);
+            let come = update_counts_above(
                 records,
                 at,
                 chan,
@@ -51,79 +57,37 @@ fn move_on<L: Local>(process: &L, c: &Chan, records: &mut Vec<Record>, at: usize
                 live_reading(true),
                 u32::MAX,
             );
+            Arrival {
+                listing,
+                forks: left.max(come),
+            }
         }
-        Stop::Quiet
-        | Stop::Put
-        | Stop::Fork
-        | Stop::Finish
-        | Stop::Throw(_)
-        | Stop::Trapped(_, _) => leave_channel(c, records, at),
+        Stop::Quiet => Arrival {
+            listing: Listing::Quiet,
+            forks: leave_channel(c, records, at),
+        },
+        Stop::Put | Stop::Fork | Stop::Finish | Stop::Throw(_) | Stop::Trapped(_, _) => Arrival {
+            listing: Listing::Awake,
+            forks: leave_channel(c, records, at),
+        },
     }
 }
 
 impl<L: Local> Flat<L> {
-    /// The value that the channel has when it meets, whose home has this number: that of its source. It takes
+    /// The process with this number receives the value of a meeting of the channel, if it lives and stands at
+    /// it, and the answer says where it has come; `None` where it doesn't, and then nothing changes. It takes
     /// no memory.
-    pub fn value_met(&self, number: u32, c: &Chan, sharers: &Sharers) -> i64
-        requires home { Declares L.ops self.now number c.now.channel }
-        requires enabled { IsEnabled L.ops (Meet c.now.channel) self.now }
-        requires sharers { ListsSharers L.ops self.now c.now.channel number sharers.now }
-        ensures { HasValue L.ops self.now c.now.channel result }
+    pub fn receive(&mut self, number: u32, c: &Chan, v: i64) -> Option<Arrival>
+        ensures receives { ReceivesOne L.ops c.now.channel v number self.old self.new }
+        ensures here { ReceivesHere L.ops c.now.channel v number result self.old self.new }
     {
-        self.value_among(sharers, c)
-    }
-
-    /// The channel meets, whose home has this number: all that live and share it stand at it, and receive the
-    /// value of its source. It takes no memory.
-    pub fn meet_here(&mut self, number: u32, c: &Chan, sharers: &Sharers, value: i64)
-        requires home { Declares L.ops self.old number c.now.channel }
-        requires enabled { IsEnabled L.ops (Meet c.now.channel) self.old }
-        requires sharers { ListsSharers L.ops self.old c.now.channel number sharers.now }
-        requires value { HasValue L.ops self.old c.now.channel value }
-        ensures moves { MovesBy L.ops (Meet c.now.channel) self.old self.new }
-        ensures received { AllReceived L.ops c.now.channel value self.old self.new }
-        ensures touches { TouchesEach sharers.now self.old self.new }
-        ensures changes { ChangesEach L.ops sharers.now self.old self.new }
-    {
-        self.receive_all(sharers, c, value);
-    }
-
-    // The value of the one among these that carries the channel.
-    fn value_among(&self, sharers: &Sharers, c: &Chan) -> i64
-        ensures { IsValueAmong L.ops self.now c.now.channel sharers.now result }
-    {
-        for place in 0..sharers.numbers.len() {
-            let at = sharers.numbers[place] as usize;
-            if at < self.states.len() {
-                let process = &self.states[at];
-                if process.carries(c) {
-                    return process.value(c);
-                }
-            }
-        }
-        0
-    }
-
-    // Each of these receives the value that lives and stands at the channel.
-    fn receive_all(&mut self, sharers: &Sharers, c: &Chan, v: i64)
-        ensures receive { ReceiveAll L.ops c.now.channel v sharers.now self.old self.new }
-        ensures touches { TouchesEach sharers.now self.old self.new }
-    {
-        for place in 0..sharers.numbers.len() {
-            self.receive_at(sharers.numbers[place] as usize, c, v);
-        }
-    }
-
-    // The process with this number receives the value, if it lives and stands at the channel.
-    fn receive_at(&mut self, at: usize, c: &Chan, v: i64)
-        ensures receives { ReceivesOne L.ops c.now.channel v at self.old self.new }
-        ensures touches { TouchesOne at self.old self.new }
-    {
+        let at = number as usize;
         if !self.waits_at(at, c) {
-            return;
+            return None;
         }
         self.states[at].receive(v);
-        move_on(&self.states[at], c, &mut self.records, at);
+        let arrival = move_on(&self.states[at], c, &mut self.records, at);
+        Some(arrival)
     }
 
     // Whether the process with this number lives and stands at the channel.
@@ -133,6 +97,6 @@ impl<L: Local> Flat<L> {
         if !self.lives(at) {
             return false;
         }
-        stands_at(&self.states[at], c)
+        is_at_channel(&self.states[at], c)
     }
 }

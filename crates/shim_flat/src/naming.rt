@@ -1,11 +1,11 @@
 // The name that a channel's first meeting brings.
 ghost use Rattle.std.specs.Prelude.{◌≡◌};
-ghost use Rattle.shim_semantics.specs.Nodes.{next_of, name_at};
+ghost use Rattle.shim_semantics.specs.Nodes.{next_channel, name_for};
 ghost use Rattle.shim_semantics.specs.Trees.{Meet};
 ghost use Rattle.shim_laws_meetings.specs.Sharers.{ListsSharers};
 ghost use Rattle.shim_laws_meetings.specs.Meetings.{IsEnabled, Declares};
 ghost use Rattle.shim_laws_meetings.specs.Names.{HasName};
-ghost use Rattle.shim_flat.specs.Naming.{NamesIt, IsName};
+ghost use Rattle.shim_flat.specs.Naming.{NamesIt, IsChannelName};
 
 use crate::descent::Sharers;
 use crate::flat::Flat;
@@ -14,7 +14,7 @@ use shim_local::{Local, Stop};
 
 // The name that the process has for the channel, if it stands at it.
 fn name_of<L: Local>(process: &L, c: &Chan) -> Option<u32>
-    ensures { result ≡ name_at c.now.channel (next_of (L.ops.stop process.now)) }
+    ensures { result ≡ name_for c.now.channel (next_channel (L.ops.stop process.now)) }
 {
     match process.stop() {
         Stop::Next(chan) => { if *chan == *c { Some(chan.name()) } else { None } }
@@ -41,7 +41,7 @@ impl<L: Local> Flat<L> {
 
     // The name that the first of these has for the channel which lives and stands at it; 0 if there is none.
     fn first_name(&self, sharers: &Sharers, c: &Chan) -> u32
-        ensures { IsName L.ops self.now c.now.channel sharers.now result }
+        ensures { IsChannelName L.ops self.now c.now.channel sharers.now result }
     {
         for place in 0..sharers.numbers.len() {
             match self.name_by(sharers.numbers[place] as usize, c) {

@@ -2,7 +2,7 @@
 ghost use Rattle.std.specs.Prelude.{◌≡◌, ℕ, Some, slice_get, length};
 ghost use Rattle.shim_records.specs.declared.pair.Pair.{Pair as PairOf};
 ghost use Rattle.shim_laws_records.specs.Seen.{forks};
-ghost use Rattle.shim_laws_keeping.specs.Flats.{HasProcess};
+ghost use Rattle.shim_laws_keeping.specs.Flats.{HasProcessState};
 ghost use Rattle.shim_flat.specs.Reading.{IsInUse, HasForkedAt, ChildrenAre, HasPair, HasPairAt, ParentIs};
 
 use crate::flat::Flat;
@@ -57,7 +57,7 @@ impl<L: Local> Flat<L> {
     /// The number of the first child, and how many there are, of the process with this number, which has forked.
     pub fn children(&self, number: u32) -> (u32, u32)
         requires { HasForkedAt self.now number }
-        ensures { (first n : ℕ) (l : L) → HasProcess self.now number first l (forks n) → ChildrenAre result first n }
+        ensures { (first n : ℕ) (l : L) → HasProcessState self.now number first l (forks n) → ChildrenAre result first n }
     {
         let fork = &self.records[number as usize];
         (fork.first, fork_size(fork.status))

@@ -14,21 +14,21 @@ use Rattle.shim_semantics.specs.Places.{at, at_route, route}
 use Rattle.shim_semantics.specs.Trees.{Event, Own, Meet, Poison, Close, End, steps, with_logs}
 use Rattle.shim_semantics.proofs.Replaced.{sound_at}
 use Rattle.shim_semantics.proofs.SoundEvents.{here_keeps}
-use Rattle.shim_laws_records.specs.Seen.{Sort, lives, place}
+use Rattle.shim_laws_records.specs.Seen.{ProcessStatus, lives, place}
 use Rattle.shim_laws_records.proofs.SameTrees.{seen_live}
 use Rattle.shim_laws_replay.specs.Grants.{IsNoQuietStep}
-use Rattle.shim_laws_keeping.specs.Flats.{HasProcess}
+use Rattle.shim_laws_keeping.specs.Flats.{HasProcessState}
 use Rattle.shim_laws_keeping.specs.Moves.{MovesBy}
 use Rattle.shim_laws_keeping.specs.Acting.{event_at_stop}
 use Rattle.shim_laws_waking.specs.Awake.{is_listed}
-use Rattle.shim_flat.specs.Reading.{IsForAll}
 use Rattle.shim_flat.specs.Acting.{ActsHere, told_of}
 use Rattle.shim_flat.specs.declared.acting.Thrown.{Thrown}
 use Rattle.shim_flat.specs.declared.acting.Thrown.TheVariants as thrown
+use Rattle.shim_flat_tree.specs.Schedules.{ScheduleView, Serves}
 use Rattle.shim_flat_tree.specs.FlatTrees.{FlatTreeView, tree_in, IsHeld, KeepsTree}
 use Rattle.shim_flat_tree.specs.Holding.{HappensIn}
 use Rattle.shim_flat_tree.specs.Settling.{StaysAs}
-use Rattle.shim_flat_tree.specs.Waking.{HasCounted, ListsAwake, ListsQuiet}
+use Rattle.shim_flat_tree.specs.Waking.{HasCounted, Requeues}
 use Rattle.shim_flat_tree.proofs.Advanced.{stands_there}
 use Rattle.shim_flat_tree.proofs.Events as events
 use Rattle.shim_flat_tree.proofs.OneMoved.{same_held, one_moved, other_stop_free, for_all_behind}
@@ -69,11 +69,11 @@ end_is_no_step o v p q e s = absurd cc
 
 module _ {S : Type 0} (o : Ops S) (law : LocalLaws o) where
   -- its count is so small that one may be added
-  pub one_may_be_counted : (v : FlatTreeView S) (i f : ℕ) (l : S) (k : Sort) → HasProcess v.flat i f l k → steps (tree_in o v) < 4000000 → (count : ℕ) → slice_get v.own i ≡ Some count → count + 1 ≤ 4000000
+  pub one_may_be_counted : (v : FlatTreeView S) (i f : ℕ) (l : S) (k : ProcessStatus) → HasProcessState v.flat i f l k → steps (tree_in o v) < 4000000 → (count : ℕ) → slice_get v.schedule.own i ≡ Some count → count + 1 ≤ 4000000
   one_may_be_counted v i f l k has few count e = let c = count_is_few o v i f count l k has e in omega (arith, c, few)
 
   -- the step of a process that stands at something else is no quiet one
-  pub no_quiet_step : (v : FlatTreeView S) → KeepsTree o v → (i f : ℕ) (l : S) → HasProcess v.flat i f l lives → o.stop l ≢ AtQuiet → IsNoQuietStep o (tree_in o v) (Own (o.path l))
+  pub no_quiet_step : (v : FlatTreeView S) → KeepsTree o v → (i f : ℕ) (l : S) → HasProcessState v.flat i f l lives → o.stop l ≢ AtQuiet → IsNoQuietStep o (tree_in o v) (Own (o.path l))
   no_quiet_step v kept i f l has other p e (m, stands, quiet) =
       let t = tree_in o v in
       let same : o.path l ≡ p = ap (own_path p) e in
@@ -81,7 +81,7 @@ module _ {S : Type 0} (o : Ops S) (law : LocalLaws o) where
       let is : Live l ≡ Live m = some_same (Live l) (Live m) (sym mine.there ∙ (ap (λ z. at_route t.root (route (o.path (state t.root)) z)) same ∙ stands.there)) in
       other (ap (λ z. o.stop (state z)) is ∙ quiet)
 
-  module _ (before behind : FlatTreeView S) (kept : KeepsTree o before) (n number : ℕ) (stop : StopView) (k : Sort) (effects : Effects) (a : ActsHere o n number stop k effects before.flat behind.flat) where
+  module _ (before behind : FlatTreeView S) (kept : KeepsTree o before) (n number : ℕ) (stop : StopView) (k : ProcessStatus) (effects : Effects) (a : ActsHere o n number stop k effects before.flat behind.flat) where
     abbrev acted : Acted S
     acted = record { node = a.left; effects = effects }
 
@@ -101,30 +101,30 @@ module _ {S : Type 0} (o : Ops S) (law : LocalLaws o) where
       pub logs : behind.logs ≡ with_logs before.logs (o.path a.process) effects.logs
       pub past : behind.past ≡ before.past
 
-    pub own_happens : event_at_stop stop (o.path a.process) ≡ Own (o.path a.process) → HasTold → HasCounted number 1 before.own behind.own → behind.events ≡ before.events → events.Happened o before behind kept.shows (Own (o.path a.process))
+    pub own_happens : event_at_stop stop (o.path a.process) ≡ Own (o.path a.process) → HasTold → HasCounted number 1 before.schedule.own behind.schedule.own → behind.events ≡ before.events → events.Happened o before behind kept.shows (Own (o.path a.process))
     own_happens own told counted e =
         events.own o before behind kept.shows number a.first a.process acted a.has does (subst (λ z. MovesBy o z before.flat behind.flat) own a.moves) told.output told.histories told.logs
         (counts_more o before behind number a.first a.process (state a.left) lives k a.has a.becomes path told.past 1 counted) e
 
-    pub end_happens : event_at_stop stop (o.path a.process) ≡ End (o.path a.process) → HasTold → behind.own ≡ before.own → behind.events ≡ before.events + 1 → events.Happened o before behind kept.shows (End (o.path a.process))
+    pub end_happens : event_at_stop stop (o.path a.process) ≡ End (o.path a.process) → HasTold → behind.schedule.own ≡ before.schedule.own → behind.events ≡ before.events + 1 → events.Happened o before behind kept.shows (End (o.path a.process))
     end_happens end told own e =
         events.end o before behind kept.shows number a.first a.process acted a.has does (subst (λ z. MovesBy o z before.flat behind.flat) end a.moves) told.output told.histories told.logs
         (counts_stay o before behind number a.first a.process (state a.left) lives k a.has a.becomes path told.past own) e
 
-    module _ (other : stop ≢ AtQuiet) (held : behind.held ≡ before.held) (e : Event) (h : events.Happened o before behind kept.shows e) where
+    module _ (other : stop ≢ AtQuiet) (held : behind.schedule.held ≡ before.schedule.held) (e : Event) (h : events.Happened o before behind kept.shows e) where
       stands_else : o.stop a.process ≢ AtQuiet
       stands_else z = other (sym a.stood ∙ z)
 
-      free : is_listed before.held number ≡ false
+      free : is_listed before.schedule.held number ≡ false
       free = other_stop_free o law before behind kept number a.first a.process a.has stands_else
 
-      flags : (i : ℕ) → i ≢ number → is_listed behind.held i ≡ is_listed before.held i
+      flags : (i : ℕ) → i ≢ number → is_listed behind.schedule.held i ≡ is_listed before.schedule.held i
       flags i far = ap (λ z. is_listed z i) held
 
-      pub acted_keeps : steps (tree_in o before) < 4000000 → ListsAwake o behind.flat n number before.awake behind.awake → ListsQuiet o behind.flat number before.quiet behind.quiet → length behind.own ≡ length before.own → KeepsTree o behind
-      acted_keeps few awake quiet owns =
+      pub acted_keeps : steps (tree_in o before) < 4000000 → Requeues o behind.flat n number before.schedule behind.schedule → length behind.schedule.own ≡ length before.schedule.own → KeepsTree o behind
+      acted_keeps few again owns =
           let more = h.counts in
-          one_moved o law before behind kept number a.first a.process (state a.left) lives k a.has a.becomes flags (ap (λ z. is_listed z number) held ∙ free) n h.shows (omega (arith, few, more)) a.touches awake quiet owns (ap length held)
+          one_moved o law before behind kept number a.first a.process (state a.left) lives k a.has a.becomes flags (ap (λ z. is_listed z number) held ∙ free) n h.shows (omega (arith, few, more)) a.touches again.awake again.quiet again.within owns
 
       pub happens_in : IsNoQuietStep o (tree_in o before) e → HappensIn o before behind e
       happens_in none = record {
@@ -134,26 +134,24 @@ module _ {S : Type 0} (o : Ops S) (law : LocalLaws o) where
       }
 
     -- so the type keeps what it kept, and the event has happened
-    pub own_done : event_at_stop stop (o.path a.process) ≡ Own (o.path a.process) → stop ≢ AtQuiet → HasTold → HasCounted number 1 before.own behind.own → behind.events ≡ before.events → behind.held ≡ before.held → steps (tree_in o before) < 4000000
-        → ListsAwake o behind.flat n number before.awake behind.awake → ListsQuiet o behind.flat number before.quiet behind.quiet
+    pub own_done : event_at_stop stop (o.path a.process) ≡ Own (o.path a.process) → stop ≢ AtQuiet → HasTold → HasCounted number 1 before.schedule.own behind.schedule.own → Requeues o behind.flat n number before.schedule behind.schedule → behind.events ≡ before.events → steps (tree_in o before) < 4000000
         → KeepsTree o behind × HappensIn o before behind (Own (o.path a.process)) × (steps (tree_in o behind) ≡ steps (tree_in o before) + 1)
-    own_done own other told counted same held few awake quiet =
+    own_done own other told counted again same few =
         let h = own_happens own told counted same in (
-          acted_keeps other held (Own (o.path a.process)) h few awake quiet (as_many_counts number 1 before.own behind.own counted),
-          happens_in other held (Own (o.path a.process)) h (no_quiet_step before kept number a.first a.process a.has (λ e. other (sym a.stood ∙ e))),
+          acted_keeps other again.held (Own (o.path a.process)) h few again (as_many_counts number 1 before.schedule.own behind.schedule.own counted),
+          happens_in other again.held (Own (o.path a.process)) h (no_quiet_step before kept number a.first a.process a.has (λ e. other (sym a.stood ∙ e))),
           h.counts,
         )
 
-    pub end_done : event_at_stop stop (o.path a.process) ≡ End (o.path a.process) → stop ≢ AtQuiet → HasTold → behind.own ≡ before.own → behind.events ≡ before.events + 1 → behind.held ≡ before.held → steps (tree_in o before) < 4000000
-        → ListsAwake o behind.flat n number before.awake behind.awake → ListsQuiet o behind.flat number before.quiet behind.quiet
+    pub end_done : event_at_stop stop (o.path a.process) ≡ End (o.path a.process) → stop ≢ AtQuiet → HasTold → behind.schedule.own ≡ before.schedule.own → Requeues o behind.flat n number before.schedule behind.schedule → behind.events ≡ before.events + 1 → steps (tree_in o before) < 4000000
         → KeepsTree o behind × HappensIn o before behind (End (o.path a.process)) × (steps (tree_in o behind) ≡ steps (tree_in o before) + 1)
-    end_done end other told same more held few awake quiet =
+    end_done end other told same again more few =
         let h = end_happens end told same more in (
-          acted_keeps other held (End (o.path a.process)) h few awake quiet (ap length same),
-          happens_in other held (End (o.path a.process)) h (end_is_no_step o before (o.path a.process)),
+          acted_keeps other again.held (End (o.path a.process)) h few again (ap length same),
+          happens_in other again.held (End (o.path a.process)) h (end_is_no_step o before (o.path a.process)),
           h.counts,
         )
 
-    -- and whoever was in use then has an item in each list
-    pub still_for_all : {A : Type 0} (xs : List A) → IsForAll before.flat xs → IsForAll behind.flat xs
-    still_for_all xs = for_all_behind before.flat behind.flat number a.first a.process (state a.left) lives k a.has a.becomes xs
+    -- and whoever is in use then was so, and has its place in the schedule
+    pub still_serves : (s : ScheduleView) → Serves before.flat s → Serves behind.flat s
+    still_serves s = for_all_behind before.flat behind.flat number a.first a.process (state a.left) lives k a.has a.becomes s.own

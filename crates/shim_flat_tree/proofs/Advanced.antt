@@ -13,7 +13,7 @@ use Rattle.shim_laws_records.specs.Seen.{lives, place}
 use Rattle.shim_laws_records.proofs.SameTrees.{seen_live}
 use Rattle.shim_laws_replay.specs.Grants.{IsGrantable}
 use Rattle.shim_laws_replay.proofs.Entries.{pieces_are_entries}
-use Rattle.shim_laws_keeping.specs.Flats.{FlatView, HasProcess, Keeps}
+use Rattle.shim_laws_keeping.specs.Flats.{FlatView, HasProcessState, Keeps}
 use Rattle.shim_laws_keeping.specs.Moves.{AdvancesBy}
 use Rattle.shim_tree.specs.Advancing.{with_state_at, steps_taken}
 use Rattle.shim_tree.proofs.Advances.{moved_on, advanced}
@@ -26,7 +26,7 @@ route_from_root rp p e = ap (λ z. route z p) e
 
 module _ {S : Type 0} (o : Ops S) (law : LocalLaws o) where
   -- a live process with a record stands in the tree
-  pub stands_there : (v : FlatView S) (root : Node S) (i f : ℕ) (l : S) → Keeps o [] v root → HasProcess v i f l lives → StandsAt o root (o.path l) (Live l)
+  pub stands_there : (v : FlatView S) (root : Node S) (i f : ℕ) (l : S) → Keeps o [] v root → HasProcessState v i f l lives → StandsAt o root (o.path l) (Live l)
   stands_there v root i f l kept has = record {
     there = ap (at_route root) (route_from_root (o.path (state root)) (o.path l) kept.shows.root_path) ∙ seen_live (at (place o [] l) root) l (kept.shows.agrees.shown i f l lives has);
     is_its = refl;

@@ -9,12 +9,13 @@ use Rattle.shim_local.specs.Laws.{LocalLaws}
 use Rattle.shim_semantics.specs.Nodes.{Live}
 use Rattle.shim_semantics.specs.Trees.{start, steps}
 use Rattle.shim_semantics.proofs.Counting.{none_counted}
-use Rattle.shim_laws_records.specs.Seen.{Sort}
-use Rattle.shim_laws_keeping.specs.Flats.{HasProcess, Keeps}
+use Rattle.shim_laws_records.specs.Seen.{ProcessStatus}
+use Rattle.shim_laws_keeping.specs.Flats.{HasProcessState, Keeps}
 use Rattle.shim_laws_waking.specs.Awake.{is_listed}
 use Rattle.shim_laws_waking.proofs.Awake.{listing_stays}
 use Rattle.shim_flat.specs.Reading.{IsForAll}
 use Rattle.shim_step_counts.specs.Counted.{counted}
+use Rattle.shim_flat_tree.specs.Schedules.{ScheduleView}
 use Rattle.shim_flat_tree.specs.FlatTrees.{FlatTreeView, tree_in, path_at, entry, counts_from, KeepsTree}
 use Rattle.shim_flat_tree.proofs.Events.{root_is, told}
 
@@ -28,15 +29,26 @@ no_entry None = refl
 no_entry (Some p) = refl
 
 module _ {S : Type 0} (o : Ops S) (law : LocalLaws o) (v : FlatTreeView S) (root : S) (shows : Keeps o [] v.flat (Live root)) (states : v.flat.states ≡ root ∷ [])
-    (output : v.output ≡ []) (histories : v.histories ≡ finite.empty) (logs : v.logs ≡ finite.empty) (own : v.own ≡ 0 ∷ []) (past : v.past ≡ []) (events : v.events ≡ 0)
-    (awake : v.awake ≡ true ∷ []) (quiet : v.quiet ≡ true ∷ []) (held : v.held ≡ false ∷ []) where
-  counts : counted (counts_from (path_at o v.flat) v.own ++ v.past) ≡ finite.empty
+    (output : v.output ≡ []) (histories : v.histories ≡ finite.empty) (logs : v.logs ≡ finite.empty) (schedule : v.schedule ≡ record { own = 0 ∷ []; awake = true ∷ []; quiet = true ∷ []; held = false ∷ [] }) (past : v.past ≡ []) (events : v.events ≡ 0) where
+  own : v.schedule.own ≡ 0 ∷ []
+  own = ap (λ (s : ScheduleView). s.own) schedule
+
+  awake : v.schedule.awake ≡ true ∷ []
+  awake = ap (λ (s : ScheduleView). s.awake) schedule
+
+  quiet : v.schedule.quiet ≡ true ∷ []
+  quiet = ap (λ (s : ScheduleView). s.quiet) schedule
+
+  held : v.schedule.held ≡ false ∷ []
+  held = ap (λ (s : ScheduleView). s.held) schedule
+
+  counts : counted (counts_from (path_at o v.flat) v.schedule.own ++ v.past) ≡ finite.empty
   counts = (λ t. counted (counts_from (path_at o v.flat) (own t) ++ past t)) ∙ no_entry (path_at o v.flat 0)
 
   pub is_start : tree_in o v ≡ start root
   is_start = λ t. told o (root_is o v (Live root) shows t) (output t) (histories t) (logs t) (counts t) (events t)
 
-  number : (i f : ℕ) (s : S) (k : Sort) → HasProcess v.flat i f s k → i ≡ 0
+  number : (i f : ℕ) (s : S) (k : ProcessStatus) → HasProcessState v.flat i f s k → i ≡ 0
   number i f s k h = only_one root s i (subst (λ z. slice_get z i ≡ Some s) states h.state_is)
 
   first_listed : (flags : List Bool) → flags ≡ true ∷ [] → (i : ℕ) → i ≡ 0 → is_listed flags i ≡ true
@@ -45,7 +57,7 @@ module _ {S : Type 0} (o : Ops S) (law : LocalLaws o) (v : FlatTreeView S) (root
   for_all : {A : Type 0} (xs : List A) (x : A) → xs ≡ x ∷ [] → IsForAll v.flat xs
   for_all xs x e i (f, s, k, has) = let n = ap length e in let first = number i f s k has in omega (arith, n, first)
 
-  none_held : (i : ℕ) → is_listed v.held i ≡ true → ⊥
+  pub none_held : (i : ℕ) → is_listed v.schedule.held i ≡ true → ⊥
   none_held i e = on i (subst (λ z. is_listed z i ≡ true) held e)
     where
       on : (i : ℕ) → is_listed (false ∷ []) i ≡ true → ⊥
@@ -58,12 +70,9 @@ module _ {S : Type 0} (o : Ops S) (law : LocalLaws o) (v : FlatTreeView S) (root
   pub keeps : KeepsTree o v
   keeps = record {
     shows = subst (Keeps o [] v.flat) (sym (root_is o v (Live root) shows)) shows;
-    awake = (listing_stays o law).all v.flat (tree_in o v) v.awake (λ i f s k h. first_listed v.awake awake i (number i f s k h));
-    quiet = λ i l q. inl (first_listed v.quiet quiet i (number i q.first l _ q.has));
+    awake = (listing_stays o law).all v.flat (tree_in o v) v.schedule.awake (λ i f s k h. first_listed v.schedule.awake awake i (number i f s k h));
+    quiet = λ i l q. inl (first_listed v.schedule.quiet quiet i (number i q.first l _ q.has));
     held = λ i e. absurd (none_held i e);
-    owns = for_all v.own 0 own;
-    awakes = for_all v.awake true awake;
-    quiets = for_all v.quiet true quiet;
-    helds = for_all v.held false held;
+    serves = for_all v.schedule.own 0 own;
     few = let n = none_taken in omega (arith, n);
   }

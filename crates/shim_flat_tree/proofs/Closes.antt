@@ -1,26 +1,27 @@
 -- A fork closes: its children's counts are kept behind the others.
-use Rattle.std.proofs.Common.{◌≡◌, ◌≢◌, ◌<◌, ◌+◌, ◌⊎◌, inl, inr, ℕ, Bool, true, Some, None, List, [], ◌++◌, length, refl, sym, ap, subst, ◌∙◌, arith}
+use Rattle.std.proofs.Common.{◌≡◌, ◌≢◌, ◌<◌, ◌+◌, ◌⊎◌, inl, inr, ℕ, true, Some, None, List, [], ◌++◌, length, refl, sym, ap, subst, ◌∙◌, arith}
 use Rattle.std.proofs.lemmas.List.{append-nil}
 use Rattle.shim_local.specs.Process.{Ops}
 use Rattle.shim_local.specs.Laws.{LocalLaws}
 use Rattle.shim_semantics.specs.Nodes.{state}
 use Rattle.shim_semantics.specs.Acts.{Effects}
 use Rattle.shim_semantics.specs.Trees.{Close, steps, with_logs}
-use Rattle.shim_laws_records.specs.Seen.{Sort, lives, forks}
+use Rattle.shim_laws_records.specs.Seen.{ProcessStatus, lives, forks}
 use Rattle.shim_laws_records.proofs.OneChange.{one_state}
 use Rattle.shim_laws_records.proofs.SameTrees.{same_or_not}
 use Rattle.shim_laws_replay.specs.Grants.{IsNoQuietStep}
-use Rattle.shim_laws_keeping.specs.Flats.{FlatView, HasProcess, stands}
+use Rattle.shim_laws_keeping.specs.Flats.{FlatView, HasProcessState, stands}
 use Rattle.shim_laws_waking.specs.Awake.{is_listed}
 use Rattle.shim_step_counts.specs.Counted.{StepCount, counted}
 use Rattle.shim_flat.specs.Closing.{ClosesHere, told_by}
 use Rattle.shim_flat.specs.declared.acting.Thrown.TheVariants as thrown
 use Rattle.shim_flat.specs.declared.closing.CloseOutcome.{CloseOutcome}
 use Rattle.shim_flat.specs.declared.closing.CloseOutcome.TheVariants.{GoesOn, Threw}
-use Rattle.shim_flat.specs.Reading.{IsInUse, IsForAll}
+use Rattle.shim_flat.specs.Reading.{IsInUse}
+use Rattle.shim_flat_tree.specs.Schedules.{ScheduleView, Serves}
 use Rattle.shim_flat_tree.specs.FlatTrees.{FlatTreeView, tree_in, path_at, counts_from, IsQuietAt, KeepsTree}
 use Rattle.shim_flat_tree.specs.PastCounts.{only_block}
-use Rattle.shim_flat_tree.specs.Waking.{ListsAwake, ListsQuiet}
+use Rattle.shim_flat_tree.specs.Waking.{Requeues}
 use Rattle.shim_flat_tree.proofs.Wakened.{one_suffices}
 use Rattle.shim_flat_tree.proofs.Events as events
 use Rattle.shim_flat_tree.proofs.OneMoved.{still_for_all, keeps_on}
@@ -37,31 +38,31 @@ no_bytes (Threw (thrown.Died d)) = refl
 no_bytes (Threw thrown.Trapped) = refl
 
 -- the children of a fork are in use
-pub children_used : {S : Type 0} (o : Ops S) (v : FlatTreeView S) → KeepsTree o v → (i f n : ℕ) (l : S) → HasProcess v.flat i f l (forks n) → (b : ℕ) → b < n → IsInUse v.flat (f + b)
+pub children_used : {S : Type 0} (o : Ops S) (v : FlatTreeView S) → KeepsTree o v → (i f n : ℕ) (l : S) → HasProcessState v.flat i f l (forks n) → (b : ℕ) → b < n → IsInUse v.flat (f + b)
 children_used o v kept i f n l has b less = let w = kept.shows.shows.agrees.below i f n l has b less in (w.0, w.1, w.2, w.3)
 
 module _ {S : Type 0} (o : Ops S) (m number : ℕ) (outcome : CloseOutcome) (before behind : FlatView S) (h : ClosesHere o m number outcome before behind) where
   pub was_used : (i : ℕ) → IsInUse behind i → IsInUse before i
   was_used i u = elim (h.becomes.only i u.0 u.1 u.2 u.3) [
-    | inl w ↦ (h.first, h.process, forks h.many, subst (λ z. HasProcess before z h.first h.process (forks h.many)) (sym w.0) h.forked)
+    | inl w ↦ (h.first, h.process, forks h.many, subst (λ z. HasProcessState before z h.first h.process (forks h.many)) (sym w.0) h.forked)
     | inr w ↦ (u.0, u.1, u.2, w.2)
   ]
 
-  -- whoever has a record has room in a list that had it
-  pub closed_room : (xs : List Bool) → IsForAll before xs → IsForAll behind xs
-  closed_room xs all = still_for_all before behind xs xs was_used refl all
+  -- whoever has a record has its place in a schedule that had it
+  pub closed_room : (s : ScheduleView) → Serves before s → Serves behind s
+  closed_room s all = still_for_all before behind s.own s.own was_used refl all
 
 -- what is told of it, beside the process and lists of numbers
 pub record OneClose {S : Type 0} (o : Ops S) (m number : ℕ) (outcome : CloseOutcome) (before behind : FlatTreeView S) (h : ClosesHere o m number outcome before.flat behind.flat) : Type 0 where
   pub output : behind.output ≡ before.output
   pub histories : behind.histories ≡ before.histories
   pub logs : behind.logs ≡ with_logs before.logs (o.path h.process) (told_by outcome).logs
-  pub own : behind.own ≡ before.own
+  pub own : behind.schedule.own ≡ before.schedule.own
   pub gathered : List StepCount
   pub past : behind.past ≡ before.past ++ gathered
-  pub are : gathered ≡ counts_from (only_block h.first h.many (path_at o before.flat)) before.own
+  pub are : gathered ≡ counts_from (only_block h.first h.many (path_at o before.flat)) before.schedule.own
   pub events : behind.events ≡ before.events + 1
-  pub held : behind.held ≡ before.held
+  pub again : Requeues o behind.flat m number before.schedule behind.schedule
 
 module _ {S : Type 0} (o : Ops S) (law : LocalLaws o) (before behind : FlatTreeView S) (kept : KeepsTree o before) (m number : ℕ) (outcome : CloseOutcome) (h : ClosesHere o m number outcome before.flat behind.flat) (one : OneClose o m number outcome before behind h) where
   gone : (b : ℕ) → b < h.many → path_at o behind.flat (h.first + b) ≡ None
@@ -77,7 +78,7 @@ module _ {S : Type 0} (o : Ops S) (law : LocalLaws o) (before behind : FlatTreeV
   still_there i out u = elim (same_or_not i number) [
     | inr far ↦ path_of o behind.flat i u.first u.process u.sort_is (h.becomes.others i u.first u.process u.sort_is far out u.has)
     | inl e ↦
-        let mine = subst (λ z. HasProcess before.flat z u.first u.process u.sort_is) e u.has in
+        let mine = subst (λ z. HasProcessState before.flat z u.first u.process u.sort_is) e u.has in
         let same : h.process ≡ u.process = one_state before.flat.states (stands before.flat) number h.first u.first h.process u.process (forks h.many) u.sort_is h.forked mine in
         ap (path_at o behind.flat) e ∙ (path_of o behind.flat number h.becomes.first (state h.left.node) _ h.becomes.parent ∙ ap Some (h.path ∙ ap o.path same))
   ]
@@ -92,7 +93,7 @@ module _ {S : Type 0} (o : Ops S) (law : LocalLaws o) (before behind : FlatTreeV
       let f = path_at o before.flat in
       let g = path_at o behind.flat in
       (λ j. counted (counts_from g (one.own j) ++ one.past j))
-      ∙ taken_out f g h.first h.many before.own before.past one.gathered gone (λ i out. same_path_at o before.flat behind.flat i (still_there i out) (was_there i)) one.are
+      ∙ taken_out f g h.first h.many before.schedule.own before.past one.gathered gone (λ i out. same_path_at o before.flat behind.flat i (still_there i out) (was_there i)) one.are
 
   happened : events.Happened o before behind kept.shows (Close (o.path h.process))
   happened =
@@ -103,22 +104,22 @@ module _ {S : Type 0} (o : Ops S) (law : LocalLaws o) (before behind : FlatTreeV
   no_step : IsNoQuietStep o (tree_in o before) (Close (o.path h.process))
   no_step q e s = absurd cc
 
-  lived : (j g : ℕ) (t : S) → HasProcess behind.flat j g t lives → (f : ℕ) × (s : S) × (k : Sort) × HasProcess before.flat j f s k × (o.path t ≡ o.path s)
+  lived : (j g : ℕ) (t : S) → HasProcessState behind.flat j g t lives → (f : ℕ) × (s : S) × (k : ProcessStatus) × HasProcessState before.flat j f s k × (o.path t ≡ o.path s)
   lived j g t has = elim (h.becomes.only j g t lives has) [
-    | inl w ↦ (h.first, h.process, forks h.many, subst (λ z. HasProcess before.flat z h.first h.process (forks h.many)) (sym w.0) h.forked, ap o.path w.1 ∙ h.path)
+    | inl w ↦ (h.first, h.process, forks h.many, subst (λ z. HasProcessState before.flat z h.first h.process (forks h.many)) (sym w.0) h.forked, ap o.path w.1 ∙ h.path)
     | inr w ↦ (g, t, lives, w.2, refl)
   ]
 
-  flags : (i : ℕ) → is_listed behind.held i ≡ is_listed before.held i
-  flags i = ap (λ z. is_listed z i) one.held
+  flags : (i : ℕ) → is_listed behind.schedule.held i ≡ is_listed before.schedule.held i
+  flags i = ap (λ z. is_listed z i) one.again.held
 
-  stay : (i : ℕ) (l : S) → IsQuietAt o before.flat i l → is_listed before.held i ≡ true → IsQuietAt o behind.flat i l
+  stay : (i : ℕ) (l : S) → IsQuietAt o before.flat i l → is_listed before.schedule.held i ≡ true → IsQuietAt o behind.flat i l
   stay i l q flag = quiet_stays o law before behind kept (Close (o.path h.process)) happened.leads no_step happened.shows lived i l q
 
-  module _ (few : steps (tree_in o before) < 4000000) (above : ListsAwake o behind.flat m number before.awake behind.awake) (mine : ListsQuiet o behind.flat number before.quiet behind.quiet) where
-    quiet_listed : (i : ℕ) (l : S) → IsQuietAt o behind.flat i l → (is_listed behind.quiet i ≡ true) ⊎ IsQuietAt o before.flat i l
+  module _ (few : steps (tree_in o before) < 4000000) where
+    quiet_listed : (i : ℕ) (l : S) → IsQuietAt o behind.flat i l → (is_listed behind.schedule.quiet i ≡ true) ⊎ IsQuietAt o before.flat i l
     quiet_listed i l q = elim (h.becomes.only i q.first l lives q.has) [
-      | inl w ↦ inl (ap (is_listed behind.quiet) w.0 ∙ mine.mine l (subst (λ z. IsQuietAt o behind.flat z l) w.0 q))
+      | inl w ↦ inl (ap (is_listed behind.schedule.quiet) w.0 ∙ one.again.quiet.mine l (subst (λ z. IsQuietAt o behind.flat z l) w.0 q))
       | inr w ↦ inr (record { first = q.first; has = w.2; stands = q.stands })
     ]
 
@@ -130,14 +131,11 @@ module _ {S : Type 0} (o : Ops S) (law : LocalLaws o) (before behind : FlatTreeV
       keeps = keeps_on o law before behind kept (record {
         shows = happened.shows;
         few = let n = happened.counts in omega (arith, few, n);
-        looks = one_suffices o m number before.flat behind.flat before.awake behind.awake above (subst (λ z. number < z) (sym above.as_many) (kept.awakes number (h.first, h.process, forks h.many, h.forked))) h.touches;
-        awake = above.kept;
-        quiet = still_listed o before behind kept flags stay mine.kept quiet_listed;
+        looks = one_suffices o m number before.flat behind.flat before.schedule.awake behind.schedule.awake one.again.awake one.again.within h.touches;
+        awake = one.again.awake.kept;
+        quiet = still_listed o before behind kept flags stay one.again.quiet.kept quiet_listed;
         held = still_held o before behind kept flags stay;
-        owns = still_for_all before.flat behind.flat before.own behind.own used_before (ap length one.own) kept.owns;
-        awakes = still_for_all before.flat behind.flat before.awake behind.awake used_before above.as_many kept.awakes;
-        quiets = still_for_all before.flat behind.flat before.quiet behind.quiet used_before mine.as_many kept.quiets;
-        helds = still_for_all before.flat behind.flat before.held behind.held used_before (ap length one.held) kept.helds;
+        serves = still_for_all before.flat behind.flat before.schedule.own behind.schedule.own used_before (ap length one.own) kept.serves;
       });
       happens = record { leads = happened.leads; other = no_step; same = held_as_before o before behind kept flags stay };
       steps_are = happened.counts;

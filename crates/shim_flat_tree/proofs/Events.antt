@@ -7,14 +7,14 @@ use Rattle.shim_local.specs.Process.{Ops}
 use Rattle.shim_local.specs.declared.LogWhat.{LogWhat}
 use Rattle.shim_semantics.specs.Nodes.{Node, source, value_of, first_name}
 use Rattle.shim_semantics.specs.Acts.{Acted, act_live, closed}
-use Rattle.shim_semantics.specs.Trees.{Tree, Met, Event, Own, Meet, Poison, Close, End, after, steps, one_more, with_logs, recorded}
+use Rattle.shim_semantics.specs.Trees.{Tree, Met, Event, Own, Meet, Poison, Close, End, after, steps, with_step_counted, with_logs, recorded}
 use Rattle.shim_semantics.proofs.Counting.{event_counts}
 use Rattle.shim_laws_records.specs.Seen.{lives, forks}
-use Rattle.shim_laws_records.specs.Changes.{block, prevailing_among}
+use Rattle.shim_laws_records.specs.Changes.{segment, prevailing_among}
 use Rattle.shim_laws_records.specs.Told.{told_event}
 use Rattle.shim_laws_records.proofs.Tells.{events_tell}
 use Rattle.shim_laws_shown.proofs.Shown.{tree_is_computed}
-use Rattle.shim_laws_keeping.specs.Flats.{HasProcess, Keeps, stands}
+use Rattle.shim_laws_keeping.specs.Flats.{HasProcessState, Keeps, stands}
 use Rattle.shim_laws_keeping.specs.Moves.{MovesBy}
 use Rattle.shim_step_counts.specs.Counted.{counted}
 use Rattle.shim_flat_tree.specs.FlatTrees.{FlatTreeView, tree_in, path_at, counts_from, or_begun}
@@ -25,7 +25,7 @@ module _ {S : Type 0} (o : Ops S) where
   root_is v root k = ap (or_begun v.begun) (tree_is_computed o [] v.flat.states (stands v.flat) root k.shows)
 
   abbrev pub counts_in : FlatTreeView S → finite.FinMap path_order ℕ
-  counts_in v = counted (counts_from (path_at o v.flat) v.own ++ v.past)
+  counts_in v = counted (counts_from (path_at o v.flat) v.schedule.own ++ v.past)
 
   -- the tree with another root, and what is told beside it
   abbrev pub told : Node S → List ℕ → finite.FinMap channel_order Met → finite.FinMap path_order (List LogWhat) → finite.FinMap path_order ℕ → ℕ → Tree S
@@ -48,9 +48,9 @@ module _ {S : Type 0} (o : Ops S) where
         }
 
     -- a step of its own that a live process did, which told this
-    pub own : (i f : ℕ) (l : S) (a : Acted S) → HasProcess before.flat i f l lives → act_live o l (o.stop l) ≡ Some a → MovesBy o (Own (o.path l)) before.flat behind.flat
+    pub own : (i f : ℕ) (l : S) (a : Acted S) → HasProcessState before.flat i f l lives → act_live o l (o.stop l) ≡ Some a → MovesBy o (Own (o.path l)) before.flat behind.flat
         → behind.output ≡ before.output ++ a.effects.bytes → behind.histories ≡ before.histories → behind.logs ≡ with_logs before.logs (o.path l) a.effects.logs
-        → counts_in behind ≡ one_more (counts_in before) (o.path l) → behind.events ≡ before.events → Happened (Own (o.path l))
+        → counts_in behind ≡ with_step_counted (counts_in before) (o.path l) → behind.events ≡ before.events → Happened (Own (o.path l))
     own i f l a has act moves output histories logs counts events =
         let m = moves [] (tree_in o before) kept in
         let is = (events_tell o).own [] before.flat.states (stands before.flat) (tree_in o before) m.0 i f l a kept.shows has act m.1 in
@@ -58,7 +58,7 @@ module _ {S : Type 0} (o : Ops S) where
         happened (Own (o.path l)) m.0 m.1 m.2 (is ∙ sym (λ t. told (root t) (output t) (histories t) (logs t) (counts t) (events t)))
 
     -- its end
-    pub end : (i f : ℕ) (l : S) (a : Acted S) → HasProcess before.flat i f l lives → act_live o l (o.stop l) ≡ Some a → MovesBy o (End (o.path l)) before.flat behind.flat
+    pub end : (i f : ℕ) (l : S) (a : Acted S) → HasProcessState before.flat i f l lives → act_live o l (o.stop l) ≡ Some a → MovesBy o (End (o.path l)) before.flat behind.flat
         → behind.output ≡ before.output ++ a.effects.bytes → behind.histories ≡ before.histories → behind.logs ≡ with_logs before.logs (o.path l) a.effects.logs
         → counts_in behind ≡ counts_in before → behind.events ≡ before.events + 1 → Happened (End (o.path l))
     end i f l a has act moves output histories logs counts events =
@@ -68,7 +68,7 @@ module _ {S : Type 0} (o : Ops S) where
         happened (End (o.path l)) m.0 m.1 m.2 (is ∙ sym (λ t. told (root t) (output t) (histories t) (logs t) (counts t) (events t)))
 
     -- the close of its fork into n children, from the number g on
-    pub close : (i g n : ℕ) (l : S) (a : Acted S) → HasProcess before.flat i g l (forks n) → a ≡ closed o l (block g n before.flat.states) (prevailing_among (block g n (stands before.flat)))
+    pub close : (i g n : ℕ) (l : S) (a : Acted S) → HasProcessState before.flat i g l (forks n) → a ≡ closed o l (segment g n before.flat.states) (prevailing_among (segment g n (stands before.flat)))
         → MovesBy o (Close (o.path l)) before.flat behind.flat
         → behind.output ≡ before.output ++ a.effects.bytes → behind.histories ≡ before.histories → behind.logs ≡ with_logs before.logs (o.path l) a.effects.logs
         → counts_in behind ≡ counts_in before → behind.events ≡ before.events + 1 → Happened (Close (o.path l))

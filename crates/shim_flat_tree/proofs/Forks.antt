@@ -9,13 +9,13 @@ use Rattle.shim_local.specs.Process.{Ops, AtQuiet, AtFork, Parted}
 use Rattle.shim_local.specs.Laws.{LocalLaws, by_fork}
 use Rattle.shim_semantics.specs.Nodes.{Live}
 use Rattle.shim_semantics.specs.Acts.{Acted, nothing, parted, act_live}
-use Rattle.shim_semantics.specs.Trees.{Own, steps, one_more}
+use Rattle.shim_semantics.specs.Trees.{Own, steps, with_step_counted}
 use Rattle.shim_semantics.proofs.Replaced.{sound_at, state_sound}
-use Rattle.shim_laws_records.specs.Seen.{Sort, lives, place}
+use Rattle.shim_laws_records.specs.Seen.{ProcessStatus, lives, place}
 use Rattle.shim_laws_records.proofs.OneChange.{one_state}
 use Rattle.shim_laws_records.proofs.SameTrees.{same_or_not}
 use Rattle.shim_records.specs.Blocks.{with_block}
-use Rattle.shim_laws_keeping.specs.Flats.{FlatView, HasProcess, stands}
+use Rattle.shim_laws_keeping.specs.Flats.{FlatView, HasProcessState, stands}
 use Rattle.shim_laws_meetings.proofs.AtHome.{node_at}
 use Rattle.shim_laws_waking.specs.Awake.{is_listed}
 use Rattle.shim_step_counts.specs.Counted.{counted}
@@ -26,11 +26,12 @@ use Rattle.shim_flat.specs.declared.forking.ForkOutcome.{ForkOutcome}
 use Rattle.shim_flat.specs.declared.forking.ForkOutcome.TheVariants as outcome
 use Rattle.shim_records.proofs.Stepping.{set_there, set_elsewhere}
 use Rattle.shim_flat.specs.Acting.{ActsHere}
-use Rattle.shim_flat.specs.Reading.{IsInUse, IsForAll}
+use Rattle.shim_flat.specs.Reading.{IsInUse}
 use Rattle.shim_flat.proofs.Parents.{there_is, use_within}
+use Rattle.shim_flat_tree.specs.Schedules.{ScheduleView, Serves}
 use Rattle.shim_flat_tree.specs.FlatTrees.{FlatTreeView, tree_in, path_at, entry, counts_from, IsQuietAt, KeepsTree}
-use Rattle.shim_flat_tree.specs.Room.{HasRoomFor, block_of}
-use Rattle.shim_flat_tree.specs.Waking.{HasCounted, ListsAwake, ListsQuiet}
+use Rattle.shim_flat_tree.specs.Room.{HasRoomFor, HasNewChildren, block_of}
+use Rattle.shim_flat_tree.specs.Waking.{HasCounted, ListsAwake, ListsQuiet, Requeues}
 use Rattle.shim_flat_tree.proofs.Wakened.{forked_suffices}
 use Rattle.shim_records.specs.Pairs.{up_in}
 use Rattle.shim_records.proofs.Reaching.{among_more}
@@ -61,10 +62,9 @@ pub record OneOwnStep {S : Type 0} (before behind : FlatTreeView S) : Type 0 whe
   pub logs : behind.logs ≡ before.logs
   pub past : behind.past ≡ before.past
   pub events : behind.events ≡ before.events
-  pub held : behind.held ≡ before.held
 
 -- a process that is in use is sound
-pub is_sound : {S : Type 0} (o : Ops S) (v : FlatTreeView S) → KeepsTree o v → (i f : ℕ) (l : S) (k : Sort) → HasProcess v.flat i f l k → o.sound l
+pub is_sound : {S : Type 0} (o : Ops S) (v : FlatTreeView S) → KeepsTree o v → (i f : ℕ) (l : S) (k : ProcessStatus) → HasProcessState v.flat i f l k → o.sound l
 is_sound o v kept i f l k has =
     let root = (tree_in o v).root in
     let shows = kept.shows.shows in
@@ -87,14 +87,17 @@ module _ {S : Type 0} (o : Ops S) (law : LocalLaws o) (before : FlatTreeView S) 
   pub block_fits : (end : ℕ) → length now.records ≤ end → first + count ≤ end
   block_fits end most = let w = some count refl in omega (arith, w, most)
 
-module _ {S : Type 0} (o : Ops S) (law : LocalLaws o) (before behind : FlatTreeView S) (kept : KeepsTree o before) (m number first count : ℕ) (h : HasForkedHere o m number first count before.flat behind.flat) (own : List ℕ) (within : first + count ≤ length before.own)
-    (zeros : own ≡ with_block first (replicate count 0) before.own) (c : HasCounted number 1 own behind.own) (one : OneOwnStep before behind) where
+module _ {S : Type 0} (o : Ops S) (law : LocalLaws o) (before behind : FlatTreeView S) (kept : KeepsTree o before) (m number first count : ℕ) (h : HasForkedHere o m number first count before.flat behind.flat) (s : ScheduleView) (new : HasNewChildren first count before.schedule s)
+    (c : HasCounted number 1 s.own behind.schedule.own) (again : Requeues o behind.flat m number s behind.schedule) (one : OneOwnStep before behind) where
+  held : behind.schedule.held ≡ before.schedule.held
+  held = again.held ∙ new.held
+
   path_is : o.path h.is ≡ o.path h.was
   path_is = law.moved_path h.was h.is (is_sound o before kept number h.was_first h.was lives h.lived) (by_fork h.born h.stood h.forked)
 
   none_there : (i b : ℕ) → b < count → i ≡ first + b → path_at o before.flat i ≡ None
   none_there i b less e = elim (in_use_or_not o before.flat i) [
-    | inl u ↦ absurd (h.unused b u.first u.process u.sort_is less (subst (λ z. HasProcess before.flat z u.first u.process u.sort_is) e u.has))
+    | inl u ↦ absurd (h.unused b u.first u.process u.sort_is less (subst (λ z. HasProcessState before.flat z u.first u.process u.sort_is) e u.has))
     | inr n ↦ n
   ]
 
@@ -102,40 +105,40 @@ module _ {S : Type 0} (o : Ops S) (law : LocalLaws o) (before behind : FlatTreeV
   still_there i u = elim (same_or_not i number) [
     | inr far ↦ path_of o behind.flat i u.first u.process u.sort_is (h.becomes.others i u.first u.process u.sort_is far u.has)
     | inl e ↦
-        let mine = subst (λ z. HasProcess before.flat z u.first u.process u.sort_is) e u.has in
+        let mine = subst (λ z. HasProcessState before.flat z u.first u.process u.sort_is) e u.has in
         let same : h.was ≡ u.process = one_state before.flat.states (stands before.flat) number h.was_first u.first h.was u.process lives u.sort_is h.lived mine in
         ap (path_at o behind.flat) e ∙ (path_of o behind.flat number first h.is _ h.becomes.parent ∙ ap Some (path_is ∙ ap o.path same))
   ]
 
   was_there : (i : ℕ) → ((b : ℕ) → b < count → i ≢ first + b) → InUse o behind.flat i → InUse o before.flat i
   was_there i out u = elim (h.becomes.only i u.first u.process u.sort_is u.has) [
-    | inl w ↦ record { first = h.was_first; process = h.was; sort_is = lives; has = subst (λ z. HasProcess before.flat z h.was_first h.was lives) (sym w.0) h.lived }
+    | inl w ↦ record { first = h.was_first; process = h.was; sort_is = lives; has = subst (λ z. HasProcessState before.flat z h.was_first h.was lives) (sym w.0) h.lived }
     | inr x ↦ elim x [
       | inl w ↦ absurd (out w.0 (let b = slice_get_within h.born w.0 u.process w.1 in let m = h.many in omega (arith, b, m)) w.2)
       | inr w ↦ record { first = u.first; process = u.process; sort_is = u.sort_is; has = w.1 }
     ]
   ]
 
-  paths : (i : ℕ) → (path_at o behind.flat i ≡ path_at o before.flat i) ⊎ ((path_at o before.flat i ≡ None) × (slice_get own i ≡ Some 0))
+  paths : (i : ℕ) → (path_at o behind.flat i ≡ path_at o before.flat i) ⊎ ((path_at o before.flat i ≡ None) × (slice_get s.own i ≡ Some 0))
   paths i = elim (in_block_or_not first count i) [
-    | inl w ↦ inr (none_there i w.0 w.1 w.2, ap (slice_get own) w.2 ∙ block_is 0 first count before.own own within zeros w.0 w.1)
+    | inl w ↦ inr (none_there i w.0 w.1 w.2, ap (slice_get s.own) w.2 ∙ block_is 0 first count before.schedule.own s.own new.within new.own w.0 w.1)
     | inr out ↦ inl (same_path_at o before.flat behind.flat i (still_there i) (was_there i out))
   ]
 
-  same_counts : (i : ℕ) → (slice_get own i ≡ slice_get before.own i) ⊎ (path_at o before.flat i ≡ None)
+  same_counts : (i : ℕ) → (slice_get s.own i ≡ slice_get before.schedule.own i) ⊎ (path_at o before.flat i ≡ None)
   same_counts i = elim (in_block_or_not first count i) [
     | inl w ↦ inr (none_there i w.0 w.1 w.2)
-    | inr out ↦ inl (outside_is 0 first count before.own own within zeros i out)
+    | inr out ↦ inl (outside_is 0 first count before.schedule.own s.own new.within new.own i out)
   ]
 
-  counts : events.counts_in o behind ≡ one_more (events.counts_in o before) (o.path h.was)
+  counts : events.counts_in o behind ≡ with_step_counted (events.counts_in o before) (o.path h.was)
   counts =
       let f = path_at o before.flat in
       let g = path_at o behind.flat in
       (λ j. counted (counts_from g (c.is j) ++ one.past j))
-      ∙ (more g own before.past number (o.path h.was) c.count 1 (path_of o behind.flat number first h.is _ h.becomes.parent ∙ ap Some path_is) c.there
-      ∙ ap (λ z. steps_taken z (o.path h.was) 1) (fresh f g own before.past paths
-      ∙ ap (λ z. counted (z ++ before.past)) (differ_unused f own before.own (block_long 0 first count before.own own within zeros) same_counts)))
+      ∙ (more g s.own before.past number (o.path h.was) c.count 1 (path_of o behind.flat number first h.is _ h.becomes.parent ∙ ap Some path_is) c.there
+      ∙ ap (λ z. steps_taken z (o.path h.was) 1) (fresh f g s.own before.past paths
+      ∙ ap (λ z. counted (z ++ before.past)) (differ_unused f s.own before.schedule.own (block_long 0 first count before.schedule.own s.own new.within new.own) same_counts)))
 
   abbrev acted : Acted S
   acted = record { node = parted (Parted h.is h.born); effects = nothing }
@@ -149,46 +152,45 @@ module _ {S : Type 0} (o : Ops S) (law : LocalLaws o) (before behind : FlatTreeV
   not_quiet : o.stop h.was ≢ AtQuiet
   not_quiet e = absurd (let z = sym h.stood ∙ e in cc)
 
-  flags : (i : ℕ) → is_listed behind.held i ≡ is_listed before.held i
-  flags i = ap (λ z. is_listed z i) one.held
+  flags : (i : ℕ) → is_listed behind.schedule.held i ≡ is_listed before.schedule.held i
+  flags i = ap (λ z. is_listed z i) held
 
-  stay : (i : ℕ) (l : S) → IsQuietAt o before.flat i l → is_listed before.held i ≡ true → IsQuietAt o behind.flat i l
+  stay : (i : ℕ) (l : S) → IsQuietAt o before.flat i l → is_listed before.schedule.held i ≡ true → IsQuietAt o behind.flat i l
   stay i l q flag = record { first = q.first; has = h.becomes.others i q.first l lives far q.has; stands = q.stands }
     where
       far : i ≢ number
       far e =
-          let mine = subst (λ z. HasProcess before.flat z q.first l lives) e q.has in
+          let mine = subst (λ z. HasProcessState before.flat z q.first l lives) e q.has in
           not_quiet (ap o.stop (one_state before.flat.states (stands before.flat) number h.was_first q.first h.was l lives lives h.lived mine) ∙ q.stands)
 
-  module _ (few : steps (tree_in o before) < 4000000) (end : ℕ) (most : length behind.flat.records ≤ end) (room : HasRoomFor end before) (awake quiet : List Bool) (awakes : ListsBlock first count before.awake awake) (quiets : ListsBlock first count before.quiet quiet)
-      (above : ListsAwake o behind.flat m number awake behind.awake) (mine : ListsQuiet o behind.flat number quiet behind.quiet) where
-    quiet_listed : (i : ℕ) (l : S) → IsQuietAt o behind.flat i l → (is_listed behind.quiet i ≡ true) ⊎ IsQuietAt o before.flat i l
+  awakes : ListsBlock first count before.schedule.awake s.awake
+  awakes = block_listed first count before.schedule.awake s.awake new.listed new.awake
+
+  quiets : ListsBlock first count before.schedule.quiet s.quiet
+  quiets = block_listed first count before.schedule.quiet s.quiet new.listed_quiet new.quiet
+
+  module _ (few : steps (tree_in o before) < 4000000) (end : ℕ) (most : length behind.flat.records ≤ end) (room : HasRoomFor end before.schedule) where
+    quiet_listed : (i : ℕ) (l : S) → IsQuietAt o behind.flat i l → (is_listed behind.schedule.quiet i ≡ true) ⊎ IsQuietAt o before.flat i l
     quiet_listed i l q = elim (h.becomes.only i q.first l lives q.has) [
       | inl w ↦ absurd (let e = w.2 in cc)
       | inr x ↦ elim x [
-        | inl w ↦ inl (mine.kept i (ap (is_listed quiet) w.2 ∙ quiets.mine w.0 (let b = slice_get_within h.born w.0 l w.1 in let m = h.many in omega (arith, b, m))))
+        | inl w ↦ inl (again.quiet.kept i (ap (is_listed s.quiet) w.2 ∙ quiets.mine w.0 (let b = slice_get_within h.born w.0 l w.1 in let m = h.many in omega (arith, b, m))))
         | inr w ↦ inr (record { first = q.first; has = w.1; stands = q.stands })
       ]
     ]
 
-    room_for : {A : Type 0} (xs ys : List A) → end ≤ length xs → length ys ≡ length xs → IsForAll behind.flat ys
-    room_for xs ys fits same i u = let w = use_within o behind.flat i u in omega (arith, w, most, fits, same)
-
-    owns : length behind.own ≡ length before.own
-    owns = ap length c.is ∙ (length-set own number (c.count + 1) ∙ block_long 0 first count before.own own within zeros)
+    owns : length behind.schedule.own ≡ length before.schedule.own
+    owns = ap length c.is ∙ (length-set s.own number (c.count + 1) ∙ block_long 0 first count before.schedule.own s.own new.within new.own)
 
     keeps : KeepsTree o behind
     keeps = keeps_on o law before behind kept (record {
       shows = happened.shows;
       few = let n = happened.counts in omega (arith, few, n);
-      looks = forked_suffices o m number before.flat behind.flat awake behind.awake above (room_for before.awake behind.awake room.awake (above.as_many ∙ awakes.as_many) number (first, h.is, _, h.becomes.parent)) first count (λ b less. above.kept (first + b) (awakes.mine b less)) h.touches;
-      awake = λ i e. above.kept i (awakes.kept i e);
-      quiet = still_listed o before behind kept flags stay (λ i e. mine.kept i (quiets.kept i e)) quiet_listed;
+      looks = forked_suffices o m number before.flat behind.flat s.awake behind.schedule.awake again.awake again.within first count (λ b less. again.awake.kept (first + b) (awakes.mine b less)) h.touches;
+      awake = λ i e. again.awake.kept i (awakes.kept i e);
+      quiet = still_listed o before behind kept flags stay (λ i e. again.quiet.kept i (quiets.kept i e)) quiet_listed;
       held = still_held o before behind kept flags stay;
-      owns = room_for before.own behind.own room.own owns;
-      awakes = room_for before.awake behind.awake room.awake (above.as_many ∙ awakes.as_many);
-      quiets = room_for before.quiet behind.quiet room.quiet (mine.as_many ∙ quiets.as_many);
-      helds = room_for before.held behind.held room.held (ap length one.held);
+      serves = λ i u. let w = use_within o behind.flat i u in let long = owns in omega (arith, w, most, room, long);
     })
 
     pub forks_go : Goes o before behind (Own (o.path h.was))
@@ -224,8 +226,8 @@ module _ {S : Type 0} (o : Ops S) (m number : ℕ) (before behind : FlatView S) 
         only = λ j g t x far w. record { state_is = sym (set_elsewhere before.states number j h.is far) ∙ w.state_is; stands_so = w.stands_so };
       }
 
-module _ {S : Type 0} (o : Ops S) (law : LocalLaws o) (before behind : FlatTreeView S) (kept : KeepsTree o before) (m number : ℕ) (h : HasTrappedHere o number before.flat behind.flat) (one : OneOwnStep before behind) (c : HasCounted number 1 before.own behind.own)
-    (few : steps (tree_in o before) < 4000000) (above : ListsAwake o behind.flat m number before.awake behind.awake) (mine : ListsQuiet o behind.flat number before.quiet behind.quiet) where
+module _ {S : Type 0} (o : Ops S) (law : LocalLaws o) (before behind : FlatTreeView S) (kept : KeepsTree o before) (m number : ℕ) (h : HasTrappedHere o number before.flat behind.flat) (one : OneOwnStep before behind) (c : HasCounted number 1 before.schedule.own behind.schedule.own)
+    (again : Requeues o behind.flat m number before.schedule behind.schedule) (few : steps (tree_in o before) < 4000000) where
   acts : ActsHere o m number AtFork lives nothing before.flat behind.flat
   acts = traps_act o m number before.flat behind.flat h
 
@@ -236,7 +238,7 @@ module _ {S : Type 0} (o : Ops S) (law : LocalLaws o) (before behind : FlatTreeV
   unfolding acts traps_act
   traps_go =
       let told : HasTold o law before behind kept m number AtFork lives nothing acts = record { output = one.output ∙ sym (append-nil before.output); histories = one.histories; logs = one.logs; past = one.past } in
-      let w = own_done o law before behind kept m number AtFork lives nothing acts refl other told c one.events one.held few above mine in
+      let w = own_done o law before behind kept m number AtFork lives nothing acts refl other told c again one.events few in
       record { keeps = w.0; happens = w.1; steps_are = w.2 }
 
 -- ---- either way
@@ -252,16 +254,12 @@ module _ {S : Type 0} (o : Ops S) (law : LocalLaws o) (before : FlatTreeView S) 
   new_few outcome.Trapped h = omega arith
 
   -- the process's count is still small enough
-  pub may_be_counted : (r : ForkOutcome) (own : List ℕ) → ForksHere o m number before.flat now r → own ≡ with_block (block_of r).0 (replicate (block_of r).1 0) before.own → (block_of r).0 + (block_of r).1 ≤ length before.own
-      → steps (tree_in o before) < 4000000 → (count : ℕ) → slice_get own number ≡ Some count → count + 1 ≤ 4000000
-  may_be_counted (outcome.Forked first n) own h zeros fits few count e =
-      let out = outside_is 0 first n before.own own fits zeros number (λ b less same. h.unused b h.was_first h.was lives less (subst (λ z. HasProcess before.flat z h.was_first h.was lives) same h.lived)) in
+  pub may_be_counted : (r : ForkOutcome) (s : ScheduleView) → ForksHere o m number before.flat now r → HasNewChildren (block_of r).0 (block_of r).1 before.schedule s
+      → steps (tree_in o before) < 4000000 → (count : ℕ) → slice_get s.own number ≡ Some count → count + 1 ≤ 4000000
+  may_be_counted (outcome.Forked first n) s h new few count e =
+      let out = outside_is 0 first n before.schedule.own s.own new.within new.own number (λ b less same. h.unused b h.was_first h.was lives less (subst (λ z. HasProcessState before.flat z h.was_first h.was lives) same h.lived)) in
       one_may_be_counted o law before number h.was_first h.was lives h.lived few count (sym out ∙ e)
-  may_be_counted outcome.Trapped own h zeros fits few count e = one_may_be_counted o law before number h.first h.was lives h.lived few count (ap (λ z. slice_get z number) (sym zeros) ∙ e)
-
-  pub counted_within : (r : ForkOutcome) (own : List ℕ) → ForksHere o m number before.flat now r → own ≡ with_block (block_of r).0 (replicate (block_of r).1 0) before.own → (block_of r).0 + (block_of r).1 ≤ length before.own → number < length own
-  counted_within (outcome.Forked first n) own h zeros fits = let w = kept.owns number (h.was_first, h.was, lives, h.lived) in let e = block_long 0 first n before.own own fits zeros in omega (arith, w, e)
-  counted_within outcome.Trapped own h zeros fits = subst (λ z. number < length z) (sym zeros) (kept.owns number (h.first, h.was, lives, h.lived))
+  may_be_counted outcome.Trapped s h new few count e = one_may_be_counted o law before number h.first h.was lives h.lived few count (ap (λ z. slice_get z number) (sym new.own) ∙ e)
 
   -- the process still has a record
   pub still_used : (r : ForkOutcome) → ForksHere o m number before.flat now r → IsInUse now number
@@ -269,36 +267,38 @@ module _ {S : Type 0} (o : Ops S) (law : LocalLaws o) (before : FlatTreeView S) 
   still_used (outcome.Forked first count) h = (first, h.is, _, h.becomes.parent)
   still_used outcome.Trapped h = let a = traps_act o m number before.flat now h in (a.becomes.first, h.is, lives, a.becomes.mine)
 
-  -- whoever has a record has room in lists that are long enough
-  pub has_room : {A : Type 0} (end : ℕ) (xs ys : List A) → length now.records ≤ end → end ≤ length xs → length ys ≡ length xs → IsForAll now ys
-  has_room end xs ys most fits same i u = let w = use_within o now i u in omega (arith, w, most, fits, same)
+  -- whoever has a record has its place in a schedule that has room enough
+  pub has_room : (end first count : ℕ) (s : ScheduleView) → length now.records ≤ end → HasRoomFor end before.schedule → HasNewChildren first count before.schedule s → Serves now s
+  has_room end first count s most fits new i u =
+      let w = use_within o now i u in
+      let long = block_long 0 first count before.schedule.own s.own new.within new.own in
+      omega (arith, w, most, fits, long)
 
-module _ {S : Type 0} (o : Ops S) (law : LocalLaws o) (before behind : FlatTreeView S) (kept : KeepsTree o before) (m number : ℕ) (own : List ℕ) (c : HasCounted number 1 own behind.own) (one : OneOwnStep before behind) (few : steps (tree_in o before) < 4000000) (end : ℕ) (most : length behind.flat.records ≤ end)
-    (room : HasRoomFor end before) (awake quiet : List Bool) (above : ListsAwake o behind.flat m number awake behind.awake) (mine : ListsQuiet o behind.flat number quiet behind.quiet) where
+module _ {S : Type 0} (o : Ops S) (law : LocalLaws o) (before behind : FlatTreeView S) (kept : KeepsTree o before) (m number : ℕ) (s : ScheduleView) (c : HasCounted number 1 s.own behind.schedule.own) (again : Requeues o behind.flat m number s behind.schedule) (one : OneOwnStep before behind) (few : steps (tree_in o before) < 4000000)
+    (end : ℕ) (most : length behind.flat.records ≤ end) (room : HasRoomFor end before.schedule) where
   -- what the process was that forked
   pub record Forks : Type 0 where
     pub first : ℕ
     pub was : S
-    pub lived : HasProcess before.flat number first was lives
+    pub lived : HasProcessState before.flat number first was lives
     pub goes : Goes o before behind (Own (o.path was))
 
-  pub fork_goes : (r : ForkOutcome) → ForksHere o m number before.flat behind.flat r → own ≡ with_block (block_of r).0 (replicate (block_of r).1 0) before.own
-      → awake ≡ with_block (block_of r).0 (replicate (block_of r).1 true) before.awake → quiet ≡ with_block (block_of r).0 (replicate (block_of r).1 true) before.quiet → Forks
-  fork_goes (outcome.Forked first count) h zeros awakes quiets =
-      let fits = block_fits o law before kept behind.flat m number first count h end most in
-      let in_own = room.own in
-      let in_awake = room.awake in
-      let in_quiet = room.quiet in
-      record {
-        first = h.was_first;
-        was = h.was;
-        lived = h.lived;
-        goes = forks_go o law before behind kept m number first count h own (omega (arith, fits, in_own)) zeros c one few end most room awake quiet
-            (block_listed first count before.awake awake (omega (arith, fits, in_awake)) awakes) (block_listed first count before.quiet quiet (omega (arith, fits, in_quiet)) quiets) above mine;
-      }
-  fork_goes outcome.Trapped h zeros awakes quiets = record {
+  pub fork_goes : (r : ForkOutcome) → ForksHere o m number before.flat behind.flat r → HasNewChildren (block_of r).0 (block_of r).1 before.schedule s → Forks
+  fork_goes (outcome.Forked first count) h new = record {
+    first = h.was_first;
+    was = h.was;
+    lived = h.lived;
+    goes = forks_go o law before behind kept m number first count h s new c again one few end most room;
+  }
+  fork_goes outcome.Trapped h new = record {
     first = h.first;
     was = h.was;
     lived = h.lived;
-    goes = traps_go o law before behind kept m number h one (subst (λ z. HasCounted number 1 z behind.own) zeros c) few (subst (λ z. ListsAwake o behind.flat m number z behind.awake) awakes above) (subst (λ z. ListsQuiet o behind.flat number z behind.quiet) quiets mine);
+    goes = traps_go o law before behind kept m number h one (subst (λ z. HasCounted number 1 z behind.schedule.own) new.own c)
+        (record {
+          awake = subst (λ z. ListsAwake o behind.flat m number z behind.schedule.awake) new.awake again.awake;
+          quiet = subst (λ z. ListsQuiet o behind.flat number z behind.schedule.quiet) new.quiet again.quiet;
+          held = again.held ∙ new.held;
+          within = again.within;
+        }) few;
   }

@@ -18,7 +18,7 @@ use Rattle.shim_records.specs.declared.record.Status.TheVariants as code
 use Rattle.shim_records.proofs.Showing.{map_get}
 use Rattle.shim_laws_shown.specs.Shown.{node_of, node_in, nodes_from, node_in_front, fork_over}
 use Rattle.shim_laws_keeping.specs.Flats.{FlatView, stands}
-use Rattle.shim_flat_tree.specs.Gathering.{Gathers}
+use Rattle.shim_flat_tree.specs.Gathering.{AddsWaits}
 
 Map : Type 0
 Map = finite.FinMap path_order NamedChannel
@@ -51,7 +51,7 @@ module _ {S : Type 0} (o : Ops S) (v : FlatView S) where
   levels_of m = node_of v.states (stands v) m
 
   -- by no levels nothing is computed
-  pub no_levels : (levels number : ℕ) (w : finite.FinMap path_order NamedChannel) → levels ≡ 0 → Gathers o v levels number w w
+  pub no_levels : (levels number : ℕ) (w : finite.FinMap path_order NamedChannel) → levels ≡ 0 → AddsWaits o v levels number w w
   no_levels levels number w e n is = none_some n (sym (ap (λ z. levels_of z number) e) ∙ is)
 
   -- what a record says is the node
@@ -59,14 +59,14 @@ module _ {S : Type 0} (o : Ops S) (v : FlatView S) where
   by_record levels m number s x e f g = ap (λ z. levels_of z number) e ∙ (λ t. node_in (levels_of m) (f t) (g t))
 
   -- no state, no record
-  pub no_state : (levels m number : ℕ) (w : finite.FinMap path_order NamedChannel) → levels ≡ suc m → slice_get v.states number ≡ None → Gathers o v levels number w w
+  pub no_state : (levels m number : ℕ) (w : finite.FinMap path_order NamedChannel) → levels ≡ suc m → slice_get v.states number ≡ None → AddsWaits o v levels number w w
   no_state levels m number w e f n is = on (slice_get (stands v) number) refl
     where
       on : (x : Option RecordView) → slice_get (stands v) number ≡ x → w ≡ with_waits w (waiting o n)
       on None g = none_some n (sym (by_record levels m number None None e f g) ∙ is)
       on (Some y) g = none_some n (sym (by_record levels m number None (Some y) e f g) ∙ is)
 
-  pub no_record : (levels m number : ℕ) (s : S) (w : finite.FinMap path_order NamedChannel) → levels ≡ suc m → slice_get v.states number ≡ Some s → slice_get (stands v) number ≡ None → Gathers o v levels number w w
+  pub no_record : (levels m number : ℕ) (s : S) (w : finite.FinMap path_order NamedChannel) → levels ≡ suc m → slice_get v.states number ≡ Some s → slice_get (stands v) number ≡ None → AddsWaits o v levels number w w
   no_record levels m number s w e f g n is = none_some n (sym (by_record levels m number (Some s) None e f g) ∙ is)
 
   module _ (m : ℕ) where
@@ -89,7 +89,7 @@ module _ {S : Type 0} (o : Ops S) (v : FlatView S) where
     in_front None (Some ns) js h = none_some js h
     in_front None None js h = none_some js h
 
-    pub one_more : (first count b : ℕ) (w now next : finite.FinMap path_order NamedChannel) → b < count → Gathered first count b w now → Gathers o v m (first + b) now next → Gathered first count (b + 1) w next
+    pub one_more : (first count b : ℕ) (w now next : finite.FinMap path_order NamedChannel) → b < count → Gathered first count b w now → AddsWaits o v m (first + b) now next → Gathered first count (b + 1) w next
     one_more first count b w now next less so_far got ks h =
         let x = so_far ks h in
         let split : nodes_from (levels_of m) (first + b) (suc (count - (b + 1))) ≡ Some x.0 = ap (nodes_from (levels_of m) (first + b)) (sym left) ∙ x.1 in
@@ -110,23 +110,23 @@ module _ {S : Type 0} (o : Ops S) (v : FlatView S) where
     node_is : (x : RecordView) (n k : Node S) → slice_get (stands v) number ≡ Some x → levels_of levels number ≡ Some n → node_in (levels_of m) (Some s) (Some x) ≡ Some k → n ≡ k
     node_is x n k g is h = some_same n k (sym is ∙ (by_record levels m number (Some s) (Some x) e f g ∙ h))
 
-    pub it_lives : (first : ℕ) (w w' : finite.FinMap path_order NamedChannel) → slice_get (stands v) number ≡ Some (used first lives) → w' ≡ with_waits w (waiting o (Live s)) → Gathers o v levels number w w'
+    pub it_lives : (first : ℕ) (w w' : finite.FinMap path_order NamedChannel) → slice_get (stands v) number ≡ Some (used first lives) → w' ≡ with_waits w (waiting o (Live s)) → AddsWaits o v levels number w w'
     it_lives first w w' g is n got = is ∙ ap (λ z. with_waits w (waiting o z)) (sym (node_is (used first lives) n (Live s) g got refl))
 
-    pub it_ended : (first : ℕ) (w : finite.FinMap path_order NamedChannel) → slice_get (stands v) number ≡ Some (used first ends) → Gathers o v levels number w w
+    pub it_ended : (first : ℕ) (w : finite.FinMap path_order NamedChannel) → slice_get (stands v) number ≡ Some (used first ends) → AddsWaits o v levels number w w
     it_ended first w g n got = ap (λ z. with_waits w (waiting o z)) (sym (node_is (used first ends) n (Ended s) g got refl))
 
-    pub it_died : (first : ℕ) (d : _) (w : finite.FinMap path_order NamedChannel) → slice_get (stands v) number ≡ Some (used first (dies d)) → Gathers o v levels number w w
+    pub it_died : (first : ℕ) (d : _) (w : finite.FinMap path_order NamedChannel) → slice_get (stands v) number ≡ Some (used first (dies d)) → AddsWaits o v levels number w w
     it_died first d w g n got = ap (λ z. with_waits w (waiting o z)) (sym (node_is (used first (dies d)) n (Dead s d) g got refl))
 
-    pub it_is_free : (w : finite.FinMap path_order NamedChannel) → slice_get (stands v) number ≡ Some free → Gathers o v levels number w w
+    pub it_is_free : (w : finite.FinMap path_order NamedChannel) → slice_get (stands v) number ≡ Some free → AddsWaits o v levels number w w
     it_is_free w g n got = none_some n (sym (by_record levels m number (Some s) (Some free) e f g) ∙ got)
 
     forked : (x : Option (Nodes S)) (n : Node S) → fork_over s x ≡ Some n → (ks : Nodes S) × (x ≡ Some ks) × (n ≡ Forked s ks)
     forked None n h = none_some n h
     forked (Some ks) n h = (ks, refl, sym (some_same (Forked s ks) n h))
 
-    pub all_gathered : (first count b : ℕ) (w now : finite.FinMap path_order NamedChannel) → slice_get (stands v) number ≡ Some (used first (forks count)) → count ≤ b → Gathered m first count b w now → Gathers o v levels number w now
+    pub all_gathered : (first count b : ℕ) (w now : finite.FinMap path_order NamedChannel) → slice_get (stands v) number ≡ Some (used first (forks count)) → count ≤ b → Gathered m first count b w now → AddsWaits o v levels number w now
     all_gathered first count b w now g past so_far n got =
         let y = forked (nodes_from (levels_of m) first count) n (sym (by_record levels m number (Some s) (Some (used first (forks count))) e f g) ∙ got) in
         let x = so_far y.0 y.1 in

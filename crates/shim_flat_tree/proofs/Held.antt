@@ -1,6 +1,5 @@
 -- Who is held, and who may be next.
 use Rattle.std.proofs.Common.{◌≡◌, ◌<◌, inl, inr, ℕ, Bool, true, Option, Some, None, List, [], length, slice_set, refl, sym, ap, subst, ◌∙◌}
-use Rattle.std.proofs.lemmas.List.{length-set}
 use Rattle.shim_base.proofs.Facts.{some_same}
 use Rattle.shim_semantics.proofs.HowMany.{clash}
 use Rattle.shim_local.specs.Process.{Ops}
@@ -10,34 +9,36 @@ use Rattle.shim_laws_records.specs.Seen.{lives}
 use Rattle.shim_laws_records.proofs.OneTree.{covered}
 use Rattle.shim_laws_records.proofs.SameTrees.{same_or_not}
 use Rattle.shim_laws_replay.specs.Grants.{IsGrantable}
-use Rattle.shim_laws_keeping.specs.Flats.{HasProcess, stands}
+use Rattle.shim_laws_keeping.specs.Flats.{HasProcessState, stands}
 use Rattle.shim_laws_waking.specs.Awake.{is_listed}
+use Rattle.shim_flat_tree.specs.Schedules.{ScheduleView}
 use Rattle.shim_flat_tree.specs.FlatTrees.{FlatTreeView, tree_in, IsQuietAt, KeepsTree}
-use Rattle.shim_flat_tree.specs.Holding.{IsHomeAt, IsNextQuiet, Holds}
+use Rattle.shim_flat_tree.specs.Holding.{IsHomeAt, IsNextQuiet, BecomesHeld}
 use Rattle.shim_flat_tree.specs.Waking.{StillListed, IsFirstHome}
 use Rattle.shim_flat_tree.proofs.Advanced.{route_from_root}
 use Rattle.shim_flat_tree.proofs.Flags.{far_flag, flag_put}
 
--- the tree with these flags in place of its own, by list
+-- the tree with another schedule
+abbrev pub with_schedule : {S : Type 0} → FlatTreeView S → ScheduleView → FlatTreeView S
+with_schedule v s = record { begun = v.begun; flat = v.flat; output = v.output; histories = v.histories; logs = v.logs; schedule = s; past = v.past; events = v.events }
+
+-- with these flags in place of its own, by list
 abbrev pub with_quiet : {S : Type 0} → FlatTreeView S → List Bool → FlatTreeView S
-with_quiet v flags = record { begun = v.begun; flat = v.flat; output = v.output; histories = v.histories; logs = v.logs; own = v.own; past = v.past; events = v.events; awake = v.awake; quiet = flags; held = v.held }
+with_quiet v flags = with_schedule v (record { own = v.schedule.own; awake = v.schedule.awake; quiet = flags; held = v.schedule.held })
 
 abbrev pub with_held : {S : Type 0} → FlatTreeView S → List Bool → FlatTreeView S
-with_held v flags = record { begun = v.begun; flat = v.flat; output = v.output; histories = v.histories; logs = v.logs; own = v.own; past = v.past; events = v.events; awake = v.awake; quiet = v.quiet; held = flags }
+with_held v flags = with_schedule v (record { own = v.schedule.own; awake = v.schedule.awake; quiet = v.schedule.quiet; held = flags })
 
 module _ {S : Type 0} (o : Ops S) (v : FlatTreeView S) (kept : KeepsTree o v) where
   -- ---- the next one that isn't held
 
-  pub quiet_kept : (flags : List Bool) → StillListed o v.flat v.held v.quiet flags → KeepsTree o (with_quiet v flags)
+  pub quiet_kept : (flags : List Bool) → StillListed o v.flat v.schedule.held v.schedule.quiet flags → KeepsTree o (with_quiet v flags)
   quiet_kept flags still = record {
     shows = kept.shows;
     awake = kept.awake;
     quiet = still.kept kept.quiet;
     held = kept.held;
-    owns = kept.owns;
-    awakes = kept.awakes;
-    quiets = λ i u. subst (λ n. i < n) (sym still.as_many) (kept.quiets i u);
-    helds = kept.helds;
+    serves = kept.serves;
     few = kept.few;
   }
 
@@ -49,10 +50,10 @@ module _ {S : Type 0} (o : Ops S) (v : FlatTreeView S) (kept : KeepsTree o v) wh
       let there : at (branches (o.path l)) t.root ≡ Some (Live l) = sym (ap (at_route t.root) (route_from_root _ (o.path l) shows.root_path)) ∙ w.stands.there in
       let c = covered o [] v.flat.states (stands v.flat) shows.rooted t.root shows.agrees (branches (o.path l)) (Live l) there in
       let is = some_same (c.state_is, c.sort_is) (l, lives) c.is_seen in
-      let has : HasProcess v.flat c.number c.first l lives = subst (λ z. HasProcess v.flat c.number c.first z.0 z.1) is c.has in
+      let has : HasProcessState v.flat c.number c.first l lives = subst (λ z. HasProcessState v.flat c.number c.first z.0 z.1) is c.has in
       (c.number, record { first = c.first; has = has; stands = w.stop })
 
-  pub next_is : (flags : List Bool) (r : Option ℕ) → StillListed o v.flat v.held v.quiet flags → IsFirstHome o v.flat v.held flags r → IsNextQuiet o v (with_quiet v flags) r
+  pub next_is : (flags : List Bool) (r : Option ℕ) → StillListed o v.flat v.schedule.held v.schedule.quiet flags → IsFirstHome o v.flat v.schedule.held flags r → IsNextQuiet o v (with_quiet v flags) r
   next_is flags None still none = (
     record { tree = refl; flat = refl; held = refl },
     λ l w.
@@ -63,23 +64,20 @@ module _ {S : Type 0} (o : Ops S) (v : FlatTreeView S) (kept : KeepsTree o v) wh
 
   -- ---- one more is held
 
-  module _ (number : ℕ) (l : S) (home : IsHomeAt o v number l) where
+  module _ (number : ℕ) (l : S) (home : IsHomeAt o v number l) (within : number < length v.schedule.held) where
     abbrev flags : List Bool
-    flags = slice_set v.held number true
+    flags = slice_set v.schedule.held number true
 
-    within : number < length v.held
-    within = kept.helds number (home.quiet.first, l, lives, home.quiet.has)
-
-    more : (i : ℕ) → is_listed v.held i ≡ true → is_listed flags i ≡ true
+    more : (i : ℕ) → is_listed v.schedule.held i ≡ true → is_listed flags i ≡ true
     more i e = elim (same_or_not i number) [
-      | inl w ↦ ap (is_listed flags) w ∙ flag_put v.held number true within
-      | inr far ↦ far_flag v.held i number true far ∙ e
+      | inl w ↦ ap (is_listed flags) w ∙ flag_put v.schedule.held number true within
+      | inr far ↦ far_flag v.schedule.held i number true far ∙ e
     ]
 
     is_quiet : (i : ℕ) → is_listed flags i ≡ true → (s : S) × IsQuietAt o v.flat i s
     is_quiet i e = elim (same_or_not i number) [
       | inl w ↦ (l, subst (λ z. IsQuietAt o v.flat z l) (sym w) home.quiet)
-      | inr far ↦ kept.held i (sym (far_flag v.held i number true far) ∙ e)
+      | inr far ↦ kept.held i (sym (far_flag v.schedule.held i number true far) ∙ e)
     ]
 
     pub held_kept : KeepsTree o (with_held v flags)
@@ -88,19 +86,16 @@ module _ {S : Type 0} (o : Ops S) (v : FlatTreeView S) (kept : KeepsTree o v) wh
       awake = kept.awake;
       quiet = λ i s q. elim (kept.quiet i s q) [ inl e ↦ inl e | inr e ↦ inr (more i e) ];
       held = is_quiet;
-      owns = kept.owns;
-      awakes = kept.awakes;
-      quiets = kept.quiets;
-      helds = λ i u. subst (λ n. i < n) (sym (length-set v.held number true)) (kept.helds i u);
+      serves = kept.serves;
       few = kept.few;
     }
 
-    pub holds : Holds o v (with_held v flags) number l
+    pub holds : BecomesHeld o v (with_held v flags) number l
     holds = record {
-      is = record { quiet = home.quiet; flag = flag_put v.held number true within };
+      is = record { quiet = home.quiet; flag = flag_put v.schedule.held number true within };
       others = λ i s far. (
-        λ w. record { quiet = w.quiet; flag = far_flag v.held i number true far ∙ w.flag },
-        λ w. record { quiet = w.quiet; flag = sym (far_flag v.held i number true far) ∙ w.flag },
+        λ w. record { quiet = w.quiet; flag = far_flag v.schedule.held i number true far ∙ w.flag },
+        λ w. record { quiet = w.quiet; flag = sym (far_flag v.schedule.held i number true far) ∙ w.flag },
       );
       tree = refl;
     }

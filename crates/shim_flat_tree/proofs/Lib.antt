@@ -10,12 +10,15 @@ pub mod Flags
 pub mod Forks
 pub mod Held
 pub mod Gathering
+pub mod Meets
 pub mod NextDue
 pub mod OneMoved
 pub mod OwnCounts
+pub mod Passing
 pub mod PastCounts
 pub mod Paths
 pub mod Rooms
+pub mod Schedules
 pub mod Several
 pub mod Staying
 pub mod Quiescent

@@ -18,10 +18,11 @@ use Rattle.shim_flat_tree.specs.Holding.{HappensIn, RestsIn}
 use Rattle.shim_flat_tree.specs.Settling.{StillAwake, StaysAs}
 use Rattle.shim_flat_tree.proofs.Advanced.{stands_there}
 use Rattle.shim_flat_tree.proofs.Flags.{far_flag, flag_put, within_cleared}
+use Rattle.shim_flat_tree.proofs.Held.{with_schedule}
 
 -- the tree with these flags in place of its own
 abbrev pub with_awake : {S : Type 0} → FlatTreeView S → List Bool → FlatTreeView S
-with_awake v flags = record { begun = v.begun; flat = v.flat; output = v.output; histories = v.histories; logs = v.logs; own = v.own; past = v.past; events = v.events; awake = flags; quiet = v.quiet; held = v.held }
+with_awake v flags = with_schedule v (record { own = v.schedule.own; awake = flags; quiet = v.schedule.quiet; held = v.schedule.held })
 
 module _ {S : Type 0} (o : Ops S) (law : LocalLaws o) (v : FlatView S) (old : List Bool) where
   pub all_awake : StillAwake o v old old
@@ -48,17 +49,14 @@ module _ {S : Type 0} (o : Ops S) (law : LocalLaws o) (v : FlatView S) (old : Li
       as_many = ap length e ∙ (length-set (slice_set now n false) n true ∙ (length-set now n false ∙ still.as_many));
     }
 
-module _ {S : Type 0} (o : Ops S) (law : LocalLaws o) (v : FlatTreeView S) (kept : KeepsTree o v) (flags : List Bool) (still : StillAwake o v.flat v.awake flags) where
+module _ {S : Type 0} (o : Ops S) (law : LocalLaws o) (v : FlatTreeView S) (kept : KeepsTree o v) (flags : List Bool) (still : StillAwake o v.flat v.schedule.awake flags) where
   pub awake_kept : KeepsTree o (with_awake v flags)
   awake_kept = record {
     shows = kept.shows;
     awake = still.kept (tree_in o v) kept.shows kept.awake;
     quiet = kept.quiet;
     held = kept.held;
-    owns = kept.owns;
-    awakes = λ i u. subst (λ n. i < n) (sym still.as_many) (kept.awakes i u);
-    quiets = kept.quiets;
-    helds = kept.helds;
+    serves = kept.serves;
     few = kept.few;
   }
 

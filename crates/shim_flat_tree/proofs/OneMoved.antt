@@ -5,15 +5,16 @@ use Rattle.shim_local.specs.Process.{Ops, AtQuiet}
 use Rattle.shim_local.specs.Laws.{LocalLaws}
 use Rattle.shim_semantics.specs.Trees.{steps}
 use Rattle.shim_semantics.proofs.HowMany.{clash}
-use Rattle.shim_laws_records.specs.Seen.{Sort, lives}
+use Rattle.shim_laws_records.specs.Seen.{ProcessStatus, lives}
 use Rattle.shim_laws_records.proofs.OneChange.{one_state}
 use Rattle.shim_laws_records.proofs.SameTrees.{same_or_not}
-use Rattle.shim_laws_keeping.specs.Flats.{FlatView, HasProcess, Keeps, stands}
+use Rattle.shim_laws_keeping.specs.Flats.{FlatView, HasProcessState, Keeps, stands}
 use Rattle.shim_laws_waking.specs.Awake.{is_listed}
 use Rattle.shim_laws_waking.proofs.Awake.{listing_stays}
 use Rattle.shim_flat.specs.Reading.{IsInUse, IsForAll}
 use Rattle.shim_flat.specs.Stepping.{HasBecome}
 use Rattle.shim_flat.specs.Touching.{TouchesAbove}
+use Rattle.shim_flat_tree.specs.Schedules.{Serves}
 use Rattle.shim_flat_tree.specs.FlatTrees.{FlatTreeView, tree_in, IsQuietAt, IsHeld, KeepsTree, QuietAreListed}
 use Rattle.shim_flat_tree.specs.Holding.{SameHeld}
 use Rattle.shim_flat_tree.specs.Waking.{ListsAwake, ListsQuiet}
@@ -24,10 +25,10 @@ pub still_for_all : {S A : Type 0} (before behind : FlatView S) (xs ys : List A)
 still_for_all before behind xs ys used e h i u = subst (λ n. i < n) (sym e) (h i (used i u))
 
 -- where one process has become another, no other number is in use
-module _ {S : Type 0} (before behind : FlatView S) (number f : ℕ) (l s : S) (h k : Sort) (has : HasProcess before number f l h) (becomes : HasBecome number s k before behind) where
+module _ {S : Type 0} (before behind : FlatView S) (number f : ℕ) (l s : S) (h k : ProcessStatus) (has : HasProcessState before number f l h) (becomes : HasBecome number s k before behind) where
   pub was_used : (i : ℕ) → IsInUse behind i → IsInUse before i
   was_used i (g, t, x, there) = elim (same_or_not i number) [
-    | inl e ↦ (f, l, h, subst (λ z. HasProcess before z f l h) (sym e) has)
+    | inl e ↦ (f, l, h, subst (λ z. HasProcessState before z f l h) (sym e) has)
     | inr far ↦ (g, t, x, becomes.only i g t x far there)
   ]
 
@@ -39,32 +40,26 @@ module _ {S : Type 0} (o : Ops S) (law : LocalLaws o) (before behind : FlatTreeV
   pub record HasMoved : Type 0 where
     pub shows : Keeps o [] behind.flat (tree_in o behind).root
     pub few : steps (tree_in o behind) ≤ 4000000
-    pub looks : Suffices o before.flat behind.flat behind.awake
-    pub awake : (i : ℕ) → is_listed before.awake i ≡ true → is_listed behind.awake i ≡ true
-    pub quiet : QuietAreListed o behind.flat behind.quiet behind.held
-    pub held : (i : ℕ) → is_listed behind.held i ≡ true → (l : S) × IsQuietAt o behind.flat i l
-    pub owns : IsForAll behind.flat behind.own
-    pub awakes : IsForAll behind.flat behind.awake
-    pub quiets : IsForAll behind.flat behind.quiet
-    pub helds : IsForAll behind.flat behind.held
+    pub looks : Suffices o before.flat behind.flat behind.schedule.awake
+    pub awake : (i : ℕ) → is_listed before.schedule.awake i ≡ true → is_listed behind.schedule.awake i ≡ true
+    pub quiet : QuietAreListed o behind.flat behind.schedule.quiet behind.schedule.held
+    pub held : (i : ℕ) → is_listed behind.schedule.held i ≡ true → (l : S) × IsQuietAt o behind.flat i l
+    pub serves : Serves behind.flat behind.schedule
 
   pub keeps_on : HasMoved → KeepsTree o behind
   keeps_on m = record {
     shows = m.shows;
-    awake = (listing_stays o law).moves [] before.flat behind.flat (tree_in o before) (tree_in o behind) before.awake behind.awake (is_listed m.looks.again) kept.shows m.shows kept.awake m.awake m.looks.wakes m.looks.to_look;
+    awake = (listing_stays o law).moves [] before.flat behind.flat (tree_in o before) (tree_in o behind) before.schedule.awake behind.schedule.awake (is_listed m.looks.again) kept.shows m.shows kept.awake m.awake m.looks.wakes m.looks.to_look;
     quiet = m.quiet;
     held = m.held;
-    owns = m.owns;
-    awakes = m.awakes;
-    quiets = m.quiets;
-    helds = m.helds;
+    serves = m.serves;
     few = m.few;
   }
 
   -- ---- one process has become another
 
-  module _ (number f : ℕ) (l s : S) (h k : Sort) (has : HasProcess before.flat number f l h) (becomes : HasBecome number s k before.flat behind.flat)
-      (flags : (i : ℕ) → i ≢ number → is_listed behind.held i ≡ is_listed before.held i) (free : is_listed behind.held number ≡ false) where
+  module _ (number f : ℕ) (l s : S) (h k : ProcessStatus) (has : HasProcessState before.flat number f l h) (becomes : HasBecome number s k before.flat behind.flat)
+      (flags : (i : ℕ) → i ≢ number → is_listed behind.schedule.held i ≡ is_listed before.schedule.held i) (free : is_listed behind.schedule.held number ≡ false) where
     used_before : (i : ℕ) → IsInUse behind.flat i → IsInUse before.flat i
     used_before = was_used before.flat behind.flat number f l s h k has becomes
 
@@ -75,8 +70,8 @@ module _ {S : Type 0} (o : Ops S) (law : LocalLaws o) (before behind : FlatTreeV
     quiet_behind i t far q = record { first = q.first; has = becomes.others i q.first t lives far q.has; stands = q.stands }
 
     -- who is held now is another one, and was held
-    held_far : (i : ℕ) → is_listed behind.held i ≡ true → i ≢ number
-    held_far i flag e = clash (is_listed behind.held i) flag (ap (is_listed behind.held) e ∙ free)
+    held_far : (i : ℕ) → is_listed behind.schedule.held i ≡ true → i ≢ number
+    held_far i flag e = clash (is_listed behind.schedule.held i) flag (ap (is_listed behind.schedule.held) e ∙ free)
 
     pub others_held : (i : ℕ) (t : S) → i ≢ number → IsHeld o before i t ↔ IsHeld o behind i t
     others_held i t far = (
@@ -85,28 +80,28 @@ module _ {S : Type 0} (o : Ops S) (law : LocalLaws o) (before behind : FlatTreeV
     )
 
     pub isnt_held : (t : S) → IsHeld o behind number t → ⊥
-    isnt_held t w = clash (is_listed behind.held number) w.flag free
+    isnt_held t w = clash (is_listed behind.schedule.held number) w.flag free
 
     -- who was held still is, where the process wasn't
-    pub same_held : is_listed before.held number ≡ false → SameHeld o before behind
+    pub same_held : is_listed before.schedule.held number ≡ false → SameHeld o before behind
     same_held was i t = elim (same_or_not i number) [
       | inr far ↦ others_held i t far
       | inl e ↦ (
-        λ w. clash (is_listed before.held i) w.flag (ap (is_listed before.held) e ∙ was),
-        λ w. clash (is_listed behind.held i) w.flag (ap (is_listed behind.held) e ∙ free),
+        λ w. clash (is_listed before.schedule.held i) w.flag (ap (is_listed before.schedule.held) e ∙ was),
+        λ w. clash (is_listed behind.schedule.held i) w.flag (ap (is_listed behind.schedule.held) e ∙ free),
       )
     ]
 
     module _ (n : ℕ) (shows : Keeps o [] behind.flat (tree_in o behind).root) (few : steps (tree_in o behind) ≤ 4000000) (touches : TouchesAbove n number before.flat behind.flat)
-        (awake : ListsAwake o behind.flat n number before.awake behind.awake) (quiet : ListsQuiet o behind.flat number before.quiet behind.quiet)
-        (owns : length behind.own ≡ length before.own) (helds : length behind.held ≡ length before.held) where
-      lists : QuietAreListed o behind.flat behind.quiet behind.held
+        (awake : ListsAwake o behind.flat n number before.schedule.awake behind.schedule.awake) (quiet : ListsQuiet o behind.flat number before.schedule.quiet behind.schedule.quiet)
+        (within : number < length behind.schedule.awake) (owns : length behind.schedule.own ≡ length before.schedule.own) where
+      lists : QuietAreListed o behind.flat behind.schedule.quiet behind.schedule.held
       lists i t q = elim (same_or_not i number) [
-        | inl e ↦ inl (ap (is_listed behind.quiet) e ∙ quiet.mine t (subst (λ z. IsQuietAt o behind.flat z t) e q))
+        | inl e ↦ inl (ap (is_listed behind.schedule.quiet) e ∙ quiet.mine t (subst (λ z. IsQuietAt o behind.flat z t) e q))
         | inr far ↦ elim (kept.quiet i t (quiet_before i t far q)) [ inl w ↦ inl (quiet.kept i w) | inr w ↦ inr (flags i far ∙ w) ]
       ]
 
-      stay_held : (i : ℕ) → is_listed behind.held i ≡ true → (t : S) × IsQuietAt o behind.flat i t
+      stay_held : (i : ℕ) → is_listed behind.schedule.held i ≡ true → (t : S) × IsQuietAt o behind.flat i t
       stay_held i flag =
           let far = held_far i flag in
           let w = kept.held i (sym (flags i far) ∙ flag) in
@@ -116,19 +111,16 @@ module _ {S : Type 0} (o : Ops S) (law : LocalLaws o) (before behind : FlatTreeV
       one_moved = keeps_on (record {
         shows = shows;
         few = few;
-        looks = one_suffices o n number before.flat behind.flat before.awake behind.awake awake (subst (λ z. number < z) (sym awake.as_many) (kept.awakes number (f, l, h, has))) touches;
+        looks = one_suffices o n number before.flat behind.flat before.schedule.awake behind.schedule.awake awake within touches;
         awake = awake.kept;
         quiet = lists;
         held = stay_held;
-        owns = still_for_all before.flat behind.flat before.own behind.own used_before owns kept.owns;
-        awakes = still_for_all before.flat behind.flat before.awake behind.awake used_before awake.as_many kept.awakes;
-        quiets = still_for_all before.flat behind.flat before.quiet behind.quiet used_before quiet.as_many kept.quiets;
-        helds = still_for_all before.flat behind.flat before.held behind.held used_before helds kept.helds;
+        serves = still_for_all before.flat behind.flat before.schedule.own behind.schedule.own used_before owns kept.serves;
       })
 
   -- who stands at something else isn't held
-  pub other_stop_free : (number f : ℕ) (l : S) → HasProcess before.flat number f l lives → o.stop l ≢ AtQuiet → is_listed before.held number ≡ false
-  other_stop_free number f l has other = elim (true_or_false (is_listed before.held number)) [
+  pub other_stop_free : (number f : ℕ) (l : S) → HasProcessState before.flat number f l lives → o.stop l ≢ AtQuiet → is_listed before.schedule.held number ≡ false
+  other_stop_free number f l has other = elim (true_or_false (is_listed before.schedule.held number)) [
     | inr e ↦ e
     | inl e ↦
         let w = kept.held number e in

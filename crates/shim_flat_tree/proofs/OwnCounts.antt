@@ -8,9 +8,9 @@ use Rattle.shim_base.specs.Paths.{Path, path_order}
 use Rattle.shim_base.specs.PathLaws.{path_order_total}
 use Rattle.shim_base.proofs.Facts.{some_same}
 use Rattle.shim_local.specs.Process.{Ops}
-use Rattle.shim_semantics.specs.Trees.{sum, steps, count_of, one_more}
-use Rattle.shim_laws_records.specs.Seen.{Sort}
-use Rattle.shim_laws_keeping.specs.Flats.{HasProcess}
+use Rattle.shim_semantics.specs.Trees.{sum, steps, count_of, with_step_counted}
+use Rattle.shim_laws_records.specs.Seen.{ProcessStatus}
+use Rattle.shim_laws_keeping.specs.Flats.{HasProcessState}
 use Rattle.shim_records.proofs.Stepping.{set_there}
 use Rattle.shim_run_log.proofs.Mapped.{count_below}
 use Rattle.shim_tree.specs.Advancing.{steps_taken}
@@ -24,7 +24,7 @@ use Rattle.shim_flat_tree.proofs.Paths.{path_of, changed}
 
 -- ---- no count is greater than that of all
 
-one_counted : (m : FinMap path_order ℕ) (p : Path) → count_of (one_more m p) p ≡ count_of m p + 1
+one_counted : (m : FinMap path_order ℕ) (p : Path) → count_of (with_step_counted m p) p ≡ count_of m p + 1
 one_counted m p = ap (λ x. unwrap_or x 0) (get-insert path_order_total m p (count_of m p + 1) p ∙ ap (λ b. cond b (Some (count_of m p + 1)) (get m p)) ((eq_by_cmp_equiv path_order_total).refl p))
 
 all_counted : (n : ℕ) (m : FinMap path_order ℕ) (p : Path) → count_of (steps_taken m p n) p ≡ count_of m p + n
@@ -32,7 +32,7 @@ all_counted zero m p = none_more (count_of m p)
   where
     none_more : (k : ℕ) → k ≡ k + 0
     none_more k = omega arith
-all_counted (suc n) m p = all_counted n (one_more m p) p ∙ (ap (λ z. z + n) (one_counted m p) ∙ one_later (count_of m p) n)
+all_counted (suc n) m p = all_counted n (with_step_counted m p) p ∙ (ap (λ z. z + n) (one_counted m p) ∙ one_later (count_of m p) n)
   where
     one_later : (k n : ℕ) → k + 1 + n ≡ k + suc n
     one_later k n = omega arith
@@ -51,13 +51,13 @@ set_back (z ∷ xs) zero x y e = ap (λ w. w ∷ xs) (some_same x z (sym e))
 set_back (z ∷ xs) (suc i) x y e = ap (λ w. z ∷ w) (set_back xs i x y e)
 
 module _ {S : Type 0} (o : Ops S) where
-  pub count_is_few : (v : FlatTreeView S) (i f c : ℕ) (l : S) (k : Sort) → HasProcess v.flat i f l k → slice_get v.own i ≡ Some c → c ≤ steps (tree_in o v)
+  pub count_is_few : (v : FlatTreeView S) (i f c : ℕ) (l : S) (k : ProcessStatus) → HasProcessState v.flat i f l k → slice_get v.schedule.own i ≡ Some c → c ≤ steps (tree_in o v)
   count_is_few v i f c l k has e =
       let p = o.path l in
-      let others = counted (counts_from (path_at o v.flat) (slice_set v.own i 0) ++ v.past) in
+      let others = counted (counts_from (path_at o v.flat) (slice_set v.schedule.own i 0) ++ v.past) in
       let all : counts_in o v ≡ steps_taken others p c =
-      ap (λ z. counted (counts_from (path_at o v.flat) z ++ v.past)) (sym (set_back v.own i c 0 e) ∙ ap (slice_set (slice_set v.own i 0) i) (none_first c))
-      ∙ more (path_at o v.flat) (slice_set v.own i 0) v.past i p 0 c (path_of o v.flat i f l k has) (set_there v.own i c 0 e) in
+      ap (λ z. counted (counts_from (path_at o v.flat) z ++ v.past)) (sym (set_back v.schedule.own i c 0 e) ∙ ap (slice_set (slice_set v.schedule.own i 0) i) (none_first c))
+      ∙ more (path_at o v.flat) (slice_set v.schedule.own i 0) v.past i p 0 c (path_of o v.flat i f l k has) (set_there v.schedule.own i c 0 e) in
       let is : count_of (counts_in o v) p ≡ count_of others p + c = ap (λ z. count_of z p) all ∙ all_counted c others p in
       let few = below_all (counts_in o v) p in
       omega (arith, is, few)
@@ -65,22 +65,22 @@ module _ {S : Type 0} (o : Ops S) where
       none_first : (c : ℕ) → c ≡ 0 + c
       none_first c = omega arith
 
-  module _ (before behind : FlatTreeView S) (number f : ℕ) (l s : S) (h k : Sort) (has : HasProcess before.flat number f l h) (becomes : HasBecome number s k before.flat behind.flat) (path : o.path s ≡ o.path l) (past : behind.past ≡ before.past) where
+  module _ (before behind : FlatTreeView S) (number f : ℕ) (l s : S) (h k : ProcessStatus) (has : HasProcessState before.flat number f l h) (becomes : HasBecome number s k before.flat behind.flat) (path : o.path s ≡ o.path l) (past : behind.past ≡ before.past) where
     paths : (i : ℕ) → path_at o behind.flat i ≡ path_at o before.flat i
     paths = changed o before.flat behind.flat number f l s k h has becomes path
 
     -- it did so many steps more
-    pub counts_more : (n : ℕ) → HasCounted number n before.own behind.own → counts_in o behind ≡ steps_taken (counts_in o before) (o.path l) n
+    pub counts_more : (n : ℕ) → HasCounted number n before.schedule.own behind.schedule.own → counts_in o behind ≡ steps_taken (counts_in o before) (o.path l) n
     counts_more n c =
         (λ j. counted (counts_from (path_at o behind.flat) (c.is j) ++ past j))
-        ∙ (ap (λ z. counted (z ++ before.past)) (same (path_at o behind.flat) (path_at o before.flat) (slice_set before.own number (c.count + n)) paths)
-        ∙ more (path_at o before.flat) before.own before.past number (o.path l) c.count n (path_of o before.flat number f l h has) c.there)
+        ∙ (ap (λ z. counted (z ++ before.past)) (same (path_at o behind.flat) (path_at o before.flat) (slice_set before.schedule.own number (c.count + n)) paths)
+        ∙ more (path_at o before.flat) before.schedule.own before.past number (o.path l) c.count n (path_of o before.flat number f l h has) c.there)
 
     -- or none
-    pub counts_stay : behind.own ≡ before.own → counts_in o behind ≡ counts_in o before
+    pub counts_stay : behind.schedule.own ≡ before.schedule.own → counts_in o behind ≡ counts_in o before
     counts_stay own =
         (λ j. counted (counts_from (path_at o behind.flat) (own j) ++ past j))
-        ∙ ap (λ z. counted (z ++ before.past)) (same (path_at o behind.flat) (path_at o before.flat) before.own paths)
+        ∙ ap (λ z. counted (z ++ before.past)) (same (path_at o behind.flat) (path_at o before.flat) before.schedule.own paths)
 
 pub as_many_counts : (number n : ℕ) (old new : List ℕ) → HasCounted number n old new → length new ≡ length old
 as_many_counts number n old new c = ap length c.is ∙ length-set old number (c.count + n)

@@ -3,11 +3,11 @@ use Rattle.std.proofs.Common.{◌≡◌, ◌⊎◌, inl, inr, ℕ, Option, Some,
 use Rattle.std.specs.Prelude.{slice_get}
 use Rattle.shim_base.proofs.Facts.{none_some}
 use Rattle.shim_local.specs.Process.{Ops}
-use Rattle.shim_laws_records.specs.Seen.{Sort}
+use Rattle.shim_laws_records.specs.Seen.{ProcessStatus}
 use Rattle.shim_laws_records.specs.Agrees.{RecordView, free, used}
 use Rattle.shim_laws_records.specs.Changes.{HasChanged}
 use Rattle.shim_laws_records.proofs.SameTrees.{same_or_not}
-use Rattle.shim_laws_keeping.specs.Flats.{FlatView, HasProcess, stands}
+use Rattle.shim_laws_keeping.specs.Flats.{FlatView, HasProcessState, stands}
 use Rattle.shim_flat_tree.specs.FlatTrees.{path_by, path_at}
 
 module _ {S : Type 0} (o : Ops S) where
@@ -15,10 +15,10 @@ module _ {S : Type 0} (o : Ops S) where
   pub record InUse (v : FlatView S) (i : ℕ) : Type 0 where
     pub first : ℕ
     pub process : S
-    pub sort_is : Sort
-    pub has : HasProcess v i first process sort_is
+    pub sort_is : ProcessStatus
+    pub has : HasProcessState v i first process sort_is
 
-  pub path_of : (v : FlatView S) (i f : ℕ) (s : S) (k : Sort) → HasProcess v i f s k → path_at o v i ≡ Some (o.path s)
+  pub path_of : (v : FlatView S) (i f : ℕ) (s : S) (k : ProcessStatus) → HasProcessState v i f s k → path_at o v i ≡ Some (o.path s)
   path_of v i f s k h = λ t. path_by o (h.state_is t) (h.stands_so t)
 
   -- it is, or there is no path
@@ -42,7 +42,7 @@ module _ {S : Type 0} (o : Ops S) where
   ]
 
   -- so where one process has become this, with its path, and no other has changed
-  pub changed : (v w : FlatView S) (x f : ℕ) (l s : S) (k h : Sort) → HasProcess v x f l h → HasChanged v.states w.states (stands v) (stands w) x s k → o.path s ≡ o.path l → (i : ℕ) → path_at o w i ≡ path_at o v i
+  pub changed : (v w : FlatView S) (x f : ℕ) (l s : S) (k h : ProcessStatus) → HasProcessState v x f l h → HasChanged v.states w.states (stands v) (stands w) x s k → o.path s ≡ o.path l → (i : ℕ) → path_at o w i ≡ path_at o v i
   changed v w x f l s k h had c same i = elim (same_or_not i x) [
     | inl e ↦ ap (path_at o w) e ∙ (path_of w x c.first s k c.mine ∙ (ap Some same ∙ (sym (path_of v x f l h had) ∙ sym (ap (path_at o v) e))))
     | inr n ↦ same_path_at v w i (λ u. path_of w i u.first u.process u.sort_is (c.others i u.first u.process u.sort_is n u.has))
@@ -50,7 +50,7 @@ module _ {S : Type 0} (o : Ops S) where
   ]
 
   -- where numbers keep their processes' paths, and others come into use
-  pub grown : (v w : FlatView S) → ((i f : ℕ) (s : S) (k : Sort) → HasProcess v i f s k → path_at o w i ≡ Some (o.path s)) → (i : ℕ) → (path_at o w i ≡ path_at o v i) ⊎ (path_at o v i ≡ None)
+  pub grown : (v w : FlatView S) → ((i f : ℕ) (s : S) (k : ProcessStatus) → HasProcessState v i f s k → path_at o w i ≡ Some (o.path s)) → (i : ℕ) → (path_at o w i ≡ path_at o v i) ⊎ (path_at o v i ≡ None)
   grown v w stay i = elim (in_use_or_not v i) [
     | inl u ↦ inl (stay i u.first u.process u.sort_is u.has ∙ sym (path_of v i u.first u.process u.sort_is u.has))
     | inr n ↦ inr n

@@ -5,7 +5,7 @@ use Rattle.std.proofs.lemmas.Option.{slice_get_within}
 use Rattle.shim_base.proofs.Facts.{none_some, some_same}
 use Rattle.shim_local.specs.Process.{Ops}
 use Rattle.shim_local.specs.Laws.{LocalLaws}
-use Rattle.shim_semantics.specs.Trees.{Tree, Event, Own, after, IsQuiescent, kind_of_stop}
+use Rattle.shim_semantics.specs.Trees.{Tree, Event, Own, after, IsQuiescent, own_action_at}
 use Rattle.shim_laws_records.specs.Enabled.{Can}
 use Rattle.shim_laws_records.proofs.CanHappen.{enabled_by_records}
 use Rattle.shim_records.specs.Members.{IsAmong}
@@ -57,18 +57,18 @@ module _ {S : Type 0} (o : Ops S) (law : LocalLaws o) where
 
     -- where one stands before a quiet step, that can happen
     pub one_quiet : (n : ℕ) → IsBeforeQuiet o n v.flat true → IsQuiescent o t → ⊥
-    one_quiet n w rest = ((enabled_by_records o law).steps [] v.flat.states (stands v.flat) t n w.0 w.1 kept.shows.shows w.2).1 (ap kind_of_stop w.3) (rest (Own (o.path w.1)))
+    one_quiet n w rest = ((enabled_by_records o law).steps [] v.flat.states (stands v.flat) t n w.0 w.1 kept.shows.shows w.2).1 (ap own_action_at w.3) (rest (Own (o.path w.1)))
 
     pub one_due : (n : ℕ) (e : Event) → IsDue o v.flat n e → IsQuiescent o t → ⊥
     one_due n e due rest = ((looks_decide o law).can [] v.flat t e n kept.shows due).0 (rest e)
 
     -- where at no listed number anything can, nothing can
-    module _ (quiet awake : List ℕ) (quiets : AreListedIn quiet v.quiet) (awakes : AreListedIn awake v.awake) (no_quiet : NoneQuiet o v.flat quiet true) (no_due : NoneDue o v.flat awake true) where
+    module _ (quiet awake : List ℕ) (quiets : AreListedIn quiet v.schedule.quiet) (awakes : AreListedIn awake v.schedule.awake) (no_quiet : NoneQuiet o v.flat quiet true) (no_due : NoneDue o v.flat awake true) where
       no_step : (i : ℕ) (e : Event) → IsQuietStepAt o v.flat i e → ⊥
       no_step i e s =
           let q : IsQuietAt o v.flat i s.process = record { first = s.first; has = s.has; stands = s.stands } in
           elim (kept.quiet i s.process q) [
-            | inl h ↦ no_quiet i (quiets.all i (flag_there v.quiet i h)) s.first s.process s.has s.stands
+            | inl h ↦ no_quiet i (quiets.all i (flag_there v.schedule.quiet i h)) s.first s.process s.has s.stands
             | inr h ↦ none i s.process (record { quiet = q; flag = h })
           ]
 
@@ -76,7 +76,7 @@ module _ {S : Type 0} (o : Ops S) (law : LocalLaws o) where
       cannot e can =
           let at = (looked_for o law).somewhere [] v.flat t e kept.shows can in
           let listed = kept.awake e at.0 can at.1 (no_step at.0 e) in
-          let idle = no_due at.0 (awakes.all at.0 (flag_there v.awake at.0 listed)) in
+          let idle = no_due at.0 (awakes.all at.0 (flag_there v.schedule.awake at.0 listed)) in
           no_step at.0 e ((looks_decide o law).idle [] v.flat t e at.0 kept.shows idle can at.1)
 
       pub rests : IsQuiescent o t
@@ -92,7 +92,7 @@ module _ {S : Type 0} (o : Ops S) (law : LocalLaws o) (v : FlatTreeView S) (kept
   told_some_quiet false e w = (λ h. absurd cc, λ rest. absurd (one_quiet o law v kept none w.0 w.1 rest))
   told_some_quiet true e w = absurd cc
 
-  pub told_rests : (b d : Bool) (awake : List ℕ) → AreListedIn quiet v.quiet → AreListedIn awake v.awake → b ≡ true → NoneQuiet o v.flat quiet b → NoneDue o v.flat awake d → IsTrue d ↔ IsQuiescent o (tree_in o v)
+  pub told_rests : (b d : Bool) (awake : List ℕ) → AreListedIn quiet v.schedule.quiet → AreListedIn awake v.schedule.awake → b ≡ true → NoneQuiet o v.flat quiet b → NoneDue o v.flat awake d → IsTrue d ↔ IsQuiescent o (tree_in o v)
   told_rests true true awake q a e w u = (λ h. rests o law v kept none quiet awake q a w u, λ rest. refl)
   told_rests true false awake q a e w u = (λ h. absurd cc, λ rest. absurd (one_due o law v kept none u.0 u.1 u.2 rest))
   told_rests false d awake q a e w u = absurd cc

@@ -8,17 +8,18 @@ use Rattle.shim_semantics.specs.Trees.{Tree, Event, after, steps}
 use Rattle.shim_laws_records.specs.Seen.{lives}
 use Rattle.shim_laws_records.specs.Enabled.{Can}
 use Rattle.shim_laws_replay.specs.Grants.{IsNoQuietStep}
-use Rattle.shim_laws_keeping.specs.Flats.{HasProcess, stands}
-use Rattle.shim_laws_shown.specs.Shown.{tree_of}
+use Rattle.shim_laws_keeping.specs.Flats.{HasProcessState, stands}
+use Rattle.shim_laws_shown.specs.Shown.{shown_tree}
 use Rattle.shim_laws_waking.specs.Awake.{is_listed}
-use Rattle.shim_records.specs.Waiting.{AreRaised}
 use Rattle.shim_step_counts.specs.Counted.{StepCount, counted}
+use Rattle.shim_flat_tree.specs.Schedules.{ScheduleView}
 use Rattle.shim_flat_tree.specs.FlatTrees.{FlatTreeView, tree_in, path_at, entry, counts_from, or_begun, KeepsTree}
 use Rattle.shim_flat_tree.specs.Holding.{SameHeld, HappensIn}
-use Rattle.shim_flat_tree.specs.Room.{IsLonger, HasMoreRoom}
+use Rattle.shim_flat_tree.specs.Room.{IsLonger, IsRoomier, HasMoreRoom}
 use Rattle.shim_flat_tree.specs.Settling.{StaysAs}
 use Rattle.shim_flat_tree.proofs.Counts.{front}
 use Rattle.shim_flat_tree.proofs.Events.{told, counts_in}
+use Rattle.shim_flat_tree.proofs.Held.{with_schedule}
 
 -- ---- a list that was filled up
 
@@ -68,43 +69,37 @@ module _ {S : Type 0} (o : Ops S) where
   pub same_tree : (before behind : FlatTreeView S) → HasMoreRoom before behind → tree_in o behind ≡ tree_in o before
   same_tree before behind m =
       let counts : counts_in o behind ≡ counts_in o before =
-      (λ j. counted (counts_from (path_at o (m.flat j)) (m.own.1 j) ++ m.past j)) ∙ no_more_counted m.own.0 (path_at o before.flat) before.own before.past in
-      (λ j. told o (or_begun (m.begun j) (tree_of o (m.flat j).states (stands (m.flat j)))) (m.output j) (m.histories j) (m.logs j) (counts j) (m.events j))
+      (λ j. counted (counts_from (path_at o (m.flat j)) (m.schedule.own.1 j) ++ m.past j)) ∙ no_more_counted m.schedule.own.0 (path_at o before.flat) before.schedule.own before.past in
+      (λ j. told o (or_begun (m.begun j) (shown_tree o (m.flat j).states (stands (m.flat j)))) (m.output j) (m.histories j) (m.logs j) (counts j) (m.events j))
 
   same_held : (before behind : FlatTreeView S) → HasMoreRoom before behind → SameHeld o before behind
   same_held before behind m i l =
-      let flag = as_listed before.held behind.held m.held i in (
-        λ h. record { quiet = record { first = h.quiet.first; has = subst (λ z. HasProcess z i h.quiet.first l lives) (sym m.flat) h.quiet.has; stands = h.quiet.stands }; flag = flag ∙ h.flag },
-        λ h. record { quiet = record { first = h.quiet.first; has = subst (λ z. HasProcess z i h.quiet.first l lives) m.flat h.quiet.has; stands = h.quiet.stands }; flag = sym flag ∙ h.flag },
+      let flag = as_listed before.schedule.held behind.schedule.held m.schedule.held i in (
+        λ h. record { quiet = record { first = h.quiet.first; has = subst (λ z. HasProcessState z i h.quiet.first l lives) (sym m.flat) h.quiet.has; stands = h.quiet.stands }; flag = flag ∙ h.flag },
+        λ h. record { quiet = record { first = h.quiet.first; has = subst (λ z. HasProcessState z i h.quiet.first l lives) m.flat h.quiet.has; stands = h.quiet.stands }; flag = sym flag ∙ h.flag },
       )
 
   pub stays_so : (before behind : FlatTreeView S) → HasMoreRoom before behind → StaysAs o before behind
   stays_so before behind m = record { tree = same_tree before behind m; held = same_held before behind m }
 
-  abbrev pub with_room : FlatTreeView S → List ℕ → List Bool → List Bool → List Bool → FlatTreeView S
-  with_room v own awake quiet held = record { begun = v.begun; flat = v.flat; output = v.output; histories = v.histories; logs = v.logs; own = own; past = v.past; events = v.events; awake = awake; quiet = quiet; held = held }
+  module _ (v : FlatTreeView S) (s : ScheduleView) (more : IsRoomier v.schedule s) where
+    pub more_room : HasMoreRoom v (with_schedule v s)
+    more_room = record { begun = refl; flat = refl; output = refl; histories = refl; logs = refl; schedule = more; past = refl; events = refl }
 
-  module _ (v : FlatTreeView S) (own : List ℕ) (awake quiet held : List Bool) (owns : IsLonger 0 v.own own) (awakes : AreRaised v.awake awake) (quiets : AreRaised v.quiet quiet) (helds : IsLonger false v.held held) where
-    pub more_room : HasMoreRoom v (with_room v own awake quiet held)
-    more_room = record { begun = refl; flat = refl; output = refl; histories = refl; logs = refl; own = owns; past = refl; events = refl; awake = awakes; quiet = quiets; held = helds }
+    tree : tree_in o (with_schedule v s) ≡ tree_in o v
+    tree = same_tree v (with_schedule v s) more_room
 
-    tree : tree_in o (with_room v own awake quiet held) ≡ tree_in o v
-    tree = same_tree v (with_room v own awake quiet held) more_room
-
-    pub room_keeps : KeepsTree o v → KeepsTree o (with_room v own awake quiet held)
+    pub room_keeps : KeepsTree o v → KeepsTree o (with_schedule v s)
     room_keeps kept = record {
       shows = kept.shows;
-      awake = λ e i can at none. as_listed v.awake awake awakes i ∙ kept.awake e i (subst (λ (t : Tree S). Can o t e) tree can) at none;
-      quiet = λ i l q. elim (kept.quiet i l q) [ inl e ↦ inl (as_listed v.quiet quiet quiets i ∙ e) | inr e ↦ inr (as_listed v.held held helds i ∙ e) ];
-      held = λ i e. kept.held i (sym (as_listed v.held held helds i) ∙ e);
-      owns = λ i u. still_within 0 v.own own i owns (kept.owns i u);
-      awakes = λ i u. still_within false v.awake awake i awakes (kept.awakes i u);
-      quiets = λ i u. still_within false v.quiet quiet i quiets (kept.quiets i u);
-      helds = λ i u. still_within false v.held held i helds (kept.helds i u);
+      awake = λ e i can at none. as_listed v.schedule.awake s.awake more.awake i ∙ kept.awake e i (subst (λ (t : Tree S). Can o t e) tree can) at none;
+      quiet = λ i l q. elim (kept.quiet i l q) [ inl e ↦ inl (as_listed v.schedule.quiet s.quiet more.quiet i ∙ e) | inr e ↦ inr (as_listed v.schedule.held s.held more.held i ∙ e) ];
+      held = λ i e. kept.held i (sym (as_listed v.schedule.held s.held more.held i) ∙ e);
+      serves = λ i u. still_within 0 v.schedule.own s.own i more.own (kept.serves i u);
       few = subst (λ (t : Tree S). steps t ≤ 4000000) (sym tree) kept.few;
     }
 
-    pub room_steps : (taken : ℕ) → taken ≡ steps (tree_in o v) → taken ≡ steps (tree_in o (with_room v own awake quiet held))
+    pub room_steps : (taken : ℕ) → taken ≡ steps (tree_in o v) → taken ≡ steps (tree_in o (with_schedule v s))
     room_steps taken e = e ∙ ap steps (sym tree)
 
   -- what happens then happens of the tree as it was, and what stays then stays

@@ -27,7 +27,7 @@ use Rattle.shim_laws_keeping.proofs.Moved.{from_map}
 use Rattle.shim_flat.specs.Reading.{IsInUse}
 use Rattle.shim_flat_tree.specs.FlatTrees.{FlatTreeView, tree_in, KeepsTree}
 use Rattle.shim_flat_tree.specs.Endings.{IsRoot, outcome_by}
-use Rattle.shim_flat_tree.specs.Gathering.{Gathers}
+use Rattle.shim_flat_tree.specs.Gathering.{AddsWaits}
 
 module _ {S : Type 0} (o : Ops S) where
   -- ---- the root is computed, and has a record
@@ -84,7 +84,7 @@ module _ {S : Type 0} (o : Ops S) where
 
   -- ---- who waits
 
-  pub root_waits : (v : FlatView S) (levels : ℕ) (root : Node S) (none after : FinMap path_order NamedChannel) → IsRoot v levels root → none ≡ empty → Gathers o v levels 0 none after → map wait_at (entries after) ≡ waits_of o root Blocked
+  pub root_waits : (v : FlatView S) (levels : ℕ) (root : Node S) (none after : FinMap path_order NamedChannel) → IsRoot v levels root → none ≡ empty → AddsWaits o v levels 0 none after → map wait_at (entries after) ≡ waits_of o root Blocked
   root_waits v levels root none after is e got = blocked_waits o after none root e (got root is.is)
 
 -- ---- whether anything can happen, as the walk tells it

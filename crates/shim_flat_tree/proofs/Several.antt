@@ -1,5 +1,5 @@
 -- Several processes have changed, and their numbers and the forks above them are listed.
-use Rattle.std.proofs.Common.{◌≡◌, ◌<◌, ◌⊎◌, inl, inr, ℕ, Bool, true, Some, List, ◌++◌, length, refl, sym, ap, subst, ◌∙◌, arith}
+use Rattle.std.proofs.Common.{◌≡◌, ◌<◌, ◌⊎◌, inl, inr, ℕ, true, Some, List, ◌++◌, length, refl, sym, ap, subst, ◌∙◌, arith}
 use Rattle.shim_local.specs.Process.{Ops}
 use Rattle.shim_local.specs.Laws.{LocalLaws}
 use Rattle.shim_semantics.specs.Trees.{Event, steps}
@@ -7,13 +7,14 @@ use Rattle.shim_laws_records.specs.Seen.{lives}
 use Rattle.shim_laws_replay.specs.Grants.{IsNoQuietStep}
 use Rattle.shim_laws_waking.specs.Awake.{is_listed}
 use Rattle.shim_step_counts.specs.Counted.{counted}
-use Rattle.shim_flat.specs.Reading.{IsInUse, AreInUse, IsForAll}
+use Rattle.shim_flat.specs.Reading.{IsInUse, AreInUse}
 use Rattle.shim_laws_keeping.specs.Flats.{FlatView}
 use Rattle.shim_flat.specs.Changing.{IsChanged}
 use Rattle.shim_flat.specs.Touching.{TouchesEach}
+use Rattle.shim_flat_tree.specs.Schedules.{ScheduleView, Serves}
 use Rattle.shim_flat_tree.specs.FlatTrees.{FlatTreeView, tree_in, path_at, counts_from, IsQuietAt, KeepsTree}
 use Rattle.shim_flat_tree.specs.Holding.{HappensIn}
-use Rattle.shim_flat_tree.specs.Several.{ListsEach, ListsEachQuiet}
+use Rattle.shim_flat_tree.specs.Several.{RequeuesEach}
 use Rattle.shim_flat_tree.proofs.Counts.{same}
 use Rattle.shim_flat_tree.proofs.Events.{counts_in, Happened}
 use Rattle.shim_flat_tree.proofs.OneMoved.{still_for_all, keeps_on}
@@ -29,8 +30,8 @@ module _ {S : Type 0} (o : Ops S) (numbers : List ℕ) (before behind : FlatView
   pub used_behind : AreInUse before numbers → AreInUse behind numbers
   used_behind used i g = let u = used i g in let w = changed.still i u.0 u.1 u.2 u.3 in (w.0, w.1, w.2, w.3)
 
-  pub room_behind : (xs : List Bool) → IsForAll before xs → IsForAll behind xs
-  room_behind xs h = still_for_all before behind xs xs was_used refl h
+  pub room_behind : (s : ScheduleView) → Serves before s → Serves behind s
+  room_behind s h = still_for_all before behind s.own s.own was_used refl h
 
 module _ {S : Type 0} (o : Ops S) (before behind : FlatTreeView S) (numbers : List ℕ) (changed : IsChanged o numbers before.flat behind.flat) where
   -- each number has its path
@@ -40,25 +41,29 @@ module _ {S : Type 0} (o : Ops S) (before behind : FlatTreeView S) (numbers : Li
       (λ u. let w = changed.only i u.first u.process u.sort_is u.has in record { first = w.0; process = w.1; sort_is = w.2; has = w.3 })
 
   -- so the own steps are counted as before
-  pub counts_stay : behind.own ≡ before.own → behind.past ≡ before.past → counts_in o behind ≡ counts_in o before
+  pub counts_stay : behind.schedule.own ≡ before.schedule.own → behind.past ≡ before.past → counts_in o behind ≡ counts_in o before
   counts_stay own past =
       (λ j. counted (counts_from (path_at o behind.flat) (own j) ++ past j))
-      ∙ ap (λ z. counted (z ++ before.past)) (same (path_at o behind.flat) (path_at o before.flat) before.own paths)
+      ∙ ap (λ z. counted (z ++ before.past)) (same (path_at o behind.flat) (path_at o before.flat) before.schedule.own paths)
 
   used_before : (i : ℕ) → IsInUse behind.flat i → IsInUse before.flat i
   used_before = was_used o numbers before.flat behind.flat changed
 
-  module _ (law : LocalLaws o) (kept : KeepsTree o before) (e : Event) (h : Happened o before behind kept.shows e) (none : IsNoQuietStep o (tree_in o before) e) (used : AreInUse before.flat numbers) (touches : TouchesEach numbers before.flat behind.flat)
-      (awake : ListsEach o behind.flat numbers before.awake behind.awake) (quiet : ListsEachQuiet o behind.flat numbers before.quiet behind.quiet) (held : behind.held ≡ before.held) (own : behind.own ≡ before.own) where
-    flags : (i : ℕ) → is_listed behind.held i ≡ is_listed before.held i
+  module _ (law : LocalLaws o) (kept : KeepsTree o before) (e : Event) (h : Happened o before behind kept.shows e) (none : IsNoQuietStep o (tree_in o before) e) (held : behind.schedule.held ≡ before.schedule.held) where
+    flags : (i : ℕ) → is_listed behind.schedule.held i ≡ is_listed before.schedule.held i
     flags i = ap (λ z. is_listed z i) held
 
-    stay : (i : ℕ) (l : S) → IsQuietAt o before.flat i l → is_listed before.held i ≡ true → IsQuietAt o behind.flat i l
+    stay : (i : ℕ) (l : S) → IsQuietAt o before.flat i l → is_listed before.schedule.held i ≡ true → IsQuietAt o behind.flat i l
     stay i l q flag = quiet_stays o law before behind kept e h.leads none h.shows (λ j g t has. changed.only j g t lives has) i l q
 
-    fresh : (i : ℕ) (l : S) → IsQuietAt o behind.flat i l → (is_listed behind.quiet i ≡ true) ⊎ IsQuietAt o before.flat i l
+    pub several_happen : HappensIn o before behind e
+    several_happen = record { leads = h.leads; other = none; same = held_as_before o before behind kept flags stay }
+
+  module _ (law : LocalLaws o) (kept : KeepsTree o before) (e : Event) (h : Happened o before behind kept.shows e) (none : IsNoQuietStep o (tree_in o before) e) (touches : TouchesEach numbers before.flat behind.flat)
+      (again : RequeuesEach o behind.flat numbers before.schedule behind.schedule) where
+    fresh : (i : ℕ) (l : S) → IsQuietAt o behind.flat i l → (is_listed behind.schedule.quiet i ≡ true) ⊎ IsQuietAt o before.flat i l
     fresh i l q = elim (changed.living i q.first l q.has) [
-      | inl g ↦ inl (quiet.mine i l g q)
+      | inl g ↦ inl (again.quiet.mine i l g q)
       | inr was ↦ inr (record { first = q.first; has = was; stands = q.stands })
     ]
 
@@ -66,15 +71,9 @@ module _ {S : Type 0} (o : Ops S) (before behind : FlatTreeView S) (numbers : Li
     several_keep few = keeps_on o law before behind kept (record {
       shows = h.shows;
       few = let more = h.counts in omega (arith, few, more);
-      looks = each_suffices o numbers before.flat behind.flat before.awake behind.awake awake (λ m g. subst (λ z. m < z) (sym awake.as_many) (kept.awakes m (used m g))) touches;
-      awake = awake.kept;
-      quiet = still_listed o before behind kept flags stay quiet.kept fresh;
-      held = still_held o before behind kept flags stay;
-      owns = still_for_all before.flat behind.flat before.own behind.own used_before (ap length own) kept.owns;
-      awakes = still_for_all before.flat behind.flat before.awake behind.awake used_before awake.as_many kept.awakes;
-      quiets = still_for_all before.flat behind.flat before.quiet behind.quiet used_before quiet.as_many kept.quiets;
-      helds = still_for_all before.flat behind.flat before.held behind.held used_before (ap length held) kept.helds;
+      looks = each_suffices o numbers before.flat behind.flat before.schedule.awake behind.schedule.awake again.awake again.within touches;
+      awake = again.awake.kept;
+      quiet = still_listed o before behind kept (flags law kept e h none again.held) (stay law kept e h none again.held) again.quiet.kept fresh;
+      held = still_held o before behind kept (flags law kept e h none again.held) (stay law kept e h none again.held);
+      serves = still_for_all before.flat behind.flat before.schedule.own behind.schedule.own used_before (ap length again.own) kept.serves;
     })
-
-    pub several_happen : HappensIn o before behind e
-    several_happen = record { leads = h.leads; other = none; same = held_as_before o before behind kept flags stay }

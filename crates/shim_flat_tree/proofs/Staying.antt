@@ -7,12 +7,12 @@ use Rattle.shim_local.specs.Laws.{LocalLaws}
 use Rattle.shim_semantics.specs.Nodes.{Live}
 use Rattle.shim_semantics.specs.Places.{at, at_route, branches}
 use Rattle.shim_semantics.specs.Trees.{Event, after}
-use Rattle.shim_laws_records.specs.Seen.{Sort, lives, place}
+use Rattle.shim_laws_records.specs.Seen.{ProcessStatus, lives, place}
 use Rattle.shim_laws_records.proofs.OneChange.{one_state}
 use Rattle.shim_laws_records.proofs.OneTree.{covered}
 use Rattle.shim_laws_replay.specs.Grants.{IsGrantable, IsNoQuietStep}
 use Rattle.shim_laws_replay.proofs.Entries.{out_stays_out}
-use Rattle.shim_laws_keeping.specs.Flats.{HasProcess, Keeps, stands}
+use Rattle.shim_laws_keeping.specs.Flats.{HasProcessState, Keeps, stands}
 use Rattle.shim_laws_waking.specs.Awake.{is_listed}
 use Rattle.shim_flat_tree.specs.FlatTrees.{FlatTreeView, tree_in, IsQuietAt, KeepsTree, QuietAreListed}
 use Rattle.shim_flat_tree.specs.Holding.{SameHeld}
@@ -26,7 +26,7 @@ module _ {S : Type 0} (o : Ops S) where
       let there : at (branches (o.path l)) t.root ≡ Some (Live l) = sym (ap (at_route t.root) (route_from_root _ (o.path l) kept.shows.root_path)) ∙ w.stands.there in
       let c = covered o [] v.flat.states (stands v.flat) kept.shows.rooted t.root kept.shows.agrees (branches (o.path l)) (Live l) there in
       let is = some_same (c.state_is, c.sort_is) (l, lives) c.is_seen in
-      let has : HasProcess v.flat c.number c.first l lives = subst (λ z. HasProcess v.flat c.number c.first z.0 z.1) is c.has in
+      let has : HasProcessState v.flat c.number c.first l lives = subst (λ z. HasProcessState v.flat c.number c.first z.0 z.1) is c.has in
       (c.number, record { first = c.first; has = has; stands = w.stop })
 
   same_place : (rp : Path) (s t : S) → o.path s ≡ o.path t → place o rp s ≡ place o rp t
@@ -35,7 +35,7 @@ module _ {S : Type 0} (o : Ops S) where
   module _ (law : LocalLaws o) (before behind : FlatTreeView S) (kept : KeepsTree o before) where
     -- where each live process behind has the number that it had before
     pub quiet_stays : (e : Event) → after o e (tree_in o before) ≡ Some (tree_in o behind) → IsNoQuietStep o (tree_in o before) e → Keeps o [] behind.flat (tree_in o behind).root
-        → ((j g : ℕ) (t : S) → HasProcess behind.flat j g t lives → (f : ℕ) × (s : S) × (k : Sort) × HasProcess before.flat j f s k × (o.path t ≡ o.path s)) → (i : ℕ) (l : S) → IsQuietAt o before.flat i l → IsQuietAt o behind.flat i l
+        → ((j g : ℕ) (t : S) → HasProcessState behind.flat j g t lives → (f : ℕ) × (s : S) × (k : ProcessStatus) × HasProcessState before.flat j f s k × (o.path t ≡ o.path s)) → (i : ℕ) (l : S) → IsQuietAt o before.flat i l → IsQuietAt o behind.flat i l
     quiet_stays e leads none shows only i l q =
         let there = (out_stays_out o law).events (tree_in o before) (tree_in o behind) e l kept.shows.shows.sound leads none (grantable o law before i l kept.shows q) in
         let n = number_of behind l shows there in
@@ -43,8 +43,8 @@ module _ {S : Type 0} (o : Ops S) where
         let same : n.0 ≡ i = kept.shows.shows.agrees.apart n.0 i was.0 q.first was.1 l was.2 lives was.3 q.has (same_place [] was.1 l (sym was.4)) in
         subst (λ z. IsQuietAt o behind.flat z l) same n.1
 
-  module _ (before behind : FlatTreeView S) (kept : KeepsTree o before) (flags : (i : ℕ) → is_listed behind.held i ≡ is_listed before.held i)
-      (stay : (i : ℕ) (l : S) → IsQuietAt o before.flat i l → is_listed before.held i ≡ true → IsQuietAt o behind.flat i l) where
+  module _ (before behind : FlatTreeView S) (kept : KeepsTree o before) (flags : (i : ℕ) → is_listed behind.schedule.held i ≡ is_listed before.schedule.held i)
+      (stay : (i : ℕ) (l : S) → IsQuietAt o before.flat i l → is_listed before.schedule.held i ≡ true → IsQuietAt o behind.flat i l) where
     -- so the same ones are held
     pub held_as_before : SameHeld o before behind
     held_as_before i l = (
@@ -57,15 +57,15 @@ module _ {S : Type 0} (o : Ops S) where
           record { quiet = subst (IsQuietAt o before.flat i) same was.1; flag = flag },
     )
 
-    pub still_held : (i : ℕ) → is_listed behind.held i ≡ true → (l : S) × IsQuietAt o behind.flat i l
+    pub still_held : (i : ℕ) → is_listed behind.schedule.held i ≡ true → (l : S) × IsQuietAt o behind.flat i l
     still_held i flag =
         let had = sym (flags i) ∙ flag in
         let was = kept.held i had in
         (was.0, stay i was.0 was.1 had)
 
     -- and whoever stands before a quiet step is listed or held, where it is listed anew, or stood so
-    pub still_listed : ((i : ℕ) → is_listed before.quiet i ≡ true → is_listed behind.quiet i ≡ true) → ((i : ℕ) (l : S) → IsQuietAt o behind.flat i l → (is_listed behind.quiet i ≡ true) ⊎ IsQuietAt o before.flat i l)
-        → QuietAreListed o behind.flat behind.quiet behind.held
+    pub still_listed : ((i : ℕ) → is_listed before.schedule.quiet i ≡ true → is_listed behind.schedule.quiet i ≡ true) → ((i : ℕ) (l : S) → IsQuietAt o behind.flat i l → (is_listed behind.schedule.quiet i ≡ true) ⊎ IsQuietAt o before.flat i l)
+        → QuietAreListed o behind.flat behind.schedule.quiet behind.schedule.held
     still_listed more fresh i l q = elim (fresh i l q) [
       | inl e ↦ inl e
       | inr was ↦ elim (kept.quiet i l was) [ inl e ↦ inl (more i e) | inr e ↦ inr (flags i ∙ e) ]

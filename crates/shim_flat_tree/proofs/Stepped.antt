@@ -1,5 +1,5 @@
 -- One process did quiet steps, in place or elsewhere.
-use Rattle.std.proofs.Common.{◌≡◌, ◌≢◌, ◌≤◌, ◌<◌, ◌+◌, ℕ, false, List, length, sym, subst, arith}
+use Rattle.std.proofs.Common.{◌≡◌, ◌≢◌, ◌≤◌, ◌<◌, ◌+◌, ℕ, false, length, sym, subst, arith}
 use Rattle.std.specs.Prelude.{slice_get, Some}
 use Rattle.shim_local.specs.Process.{Ops}
 use Rattle.shim_local.specs.Laws.{LocalLaws}
@@ -13,9 +13,10 @@ use Rattle.shim_laws_replay.proofs.Entries.{pieces_are_entries}
 use Rattle.shim_laws_keeping.specs.Flats.{FlatView, stands}
 use Rattle.shim_laws_keeping.specs.Moves.{AdvancesBy}
 use Rattle.shim_laws_waking.specs.Awake.{is_listed}
-use Rattle.shim_flat.specs.Reading.{IsInUse, IsForAll}
+use Rattle.shim_flat.specs.Reading.{IsInUse}
 use Rattle.shim_flat.specs.Stepping.{HasBecome, IsBeforeQuiet, StepsHere}
 use Rattle.shim_flat.specs.Touching.{TouchesAbove}
+use Rattle.shim_flat_tree.specs.Schedules.{ScheduleView, Serves}
 use Rattle.shim_flat_tree.specs.FlatTrees.{FlatTreeView, tree_in, IsQuietAt, IsHeld, KeepsTree}
 use Rattle.shim_flat_tree.specs.Holding.{Releases, StepsIn}
 use Rattle.shim_flat_tree.specs.Waking.{HasCounted, ListsAwake, ListsQuiet}
@@ -49,30 +50,30 @@ does_steps o before behind number n l q h =
 
 module _ {S : Type 0} (o : Ops S) where
   -- its count, and that of all steps, is so small that these may be added
-  pub few_counted : (v : FlatTreeView S) (number n most : ℕ) (l : S) → IsQuietAt o v.flat number l → n ≤ most → steps (tree_in o v) + most ≤ 4000000 → (count : ℕ) → slice_get v.own number ≡ Some count → count + n ≤ 4000000
+  pub few_counted : (v : FlatTreeView S) (number n most : ℕ) (l : S) → IsQuietAt o v.flat number l → n ≤ most → steps (tree_in o v) + most ≤ 4000000 → (count : ℕ) → slice_get v.schedule.own number ≡ Some count → count + n ≤ 4000000
   few_counted v number n most l q within few count e = let c = count_is_few o v number q.first count l lives q.has e in omega (arith, c, within, few)
 
   module _ (before : FlatTreeView S) (behind : FlatView S) (number n : ℕ) (l : S) (q : IsQuietAt o before.flat number l) (d : DoesSteps o before.flat behind number n l) where
     pub still_used : IsInUse behind number
     still_used = (d.becomes.first, d.last, lives, d.becomes.mine)
 
-    pub still_for_all : {A : Type 0} (xs : List A) → IsForAll before.flat xs → IsForAll behind xs
-    still_for_all xs = for_all_behind before.flat behind number q.first l d.last lives lives q.has d.becomes xs
+    pub still_serves : (s : ScheduleView) → Serves before.flat s → Serves behind s
+    still_serves s = for_all_behind before.flat behind number q.first l d.last lives lives q.has d.becomes s.own
 
 module _ {S : Type 0} (o : Ops S) (law : LocalLaws o) (before behind : FlatTreeView S) (kept : KeepsTree o before) (number n : ℕ) (l : S) (q : IsQuietAt o before.flat number l) (d : DoesSteps o before.flat behind.flat number n l)
-    (flags : (i : ℕ) → i ≢ number → is_listed behind.held i ≡ is_listed before.held i) (free : is_listed behind.held number ≡ false) where
-  module _ (told : SameTold before behind) (counted : HasCounted number n before.own behind.own) where
+    (flags : (i : ℕ) → i ≢ number → is_listed behind.schedule.held i ≡ is_listed before.schedule.held i) (free : is_listed behind.schedule.held number ≡ false) where
+  module _ (told : SameTold before behind) (counted : HasCounted number n before.schedule.own behind.schedule.own) where
     path : o.path d.last ≡ o.path l
     path = ((pieces_are_entries o law).comes (tree_in o before) n l d.last kept.shows.shows.sound (grantable o law before number l kept.shows q) d.chain).1
 
     pub advanced_by : Advanced o law before behind n l d.last
     advanced_by = steps_on o law before behind number n l d.last kept.shows q d.chain d.advances told.output told.histories told.logs (counts_more o before behind number q.first l d.last lives lives q.has d.becomes path told.past n counted) told.events
 
-    pub steps_keep : (forks : ℕ) → steps (tree_in o before) + n ≤ 4000000 → TouchesAbove forks number before.flat behind.flat → ListsAwake o behind.flat forks number before.awake behind.awake → ListsQuiet o behind.flat number before.quiet behind.quiet → length behind.held ≡ length before.held → KeepsTree o behind
-    steps_keep forks few touches awake quiet helds =
+    pub steps_keep : (forks : ℕ) → steps (tree_in o before) + n ≤ 4000000 → TouchesAbove forks number before.flat behind.flat → ListsAwake o behind.flat forks number before.schedule.awake behind.schedule.awake → ListsQuiet o behind.flat number before.schedule.quiet behind.schedule.quiet → number < length behind.schedule.awake → KeepsTree o behind
+    steps_keep forks few touches awake quiet within =
         let a = advanced_by in
         let all = a.counts in
-        one_moved o law before behind kept number q.first l d.last lives lives q.has d.becomes flags free forks a.shows (omega (arith, few, all)) touches awake quiet (as_many_counts number n before.own behind.own counted) helds
+        one_moved o law before behind kept number q.first l d.last lives lives q.has d.becomes flags free forks a.shows (omega (arith, few, all)) touches awake quiet within (as_many_counts number n before.schedule.own behind.schedule.own counted)
 
     -- it was held, and isn't
     pub releases : IsHeld o before number l → (last : S) → QuietSteps o n l last → Releases o before behind number n l last
@@ -85,8 +86,8 @@ module _ {S : Type 0} (o : Ops S) (law : LocalLaws o) (before behind : FlatTreeV
     }
 
   -- it wasn't, and did up to so many in place
-  module _ (told : SameTold before behind) (counted : HasCounted number n before.own behind.own) where
-    pub steps_in : (most : ℕ) (quiet : Quiet) → quiet.taken ≡ n → n ≤ most → (n < most → quiet.short ≡ false → IsBeforeQuiet o number behind.flat false) → is_listed before.held number ≡ false → StepsIn o before behind number most quiet l
+  module _ (told : SameTold before behind) (counted : HasCounted number n before.schedule.own behind.schedule.own) where
+    pub steps_in : (most : ℕ) (quiet : Quiet) → quiet.taken ≡ n → n ≤ most → (n < most → quiet.short ≡ false → IsBeforeQuiet o number behind.flat false) → is_listed before.schedule.held number ≡ false → StepsIn o before behind number most quiet l
     steps_in most quiet e within fewer was = record {
       last = d.last;
       chain = subst (λ z. QuietSteps o z l d.last) (sym e) d.chain;

@@ -8,7 +8,7 @@ use Rattle.shim_laws_records.specs.Seen.{ends}
 use Rattle.shim_records.specs.Members.{IsAmong}
 use Rattle.shim_records.specs.Pairs.{up_in}
 use Rattle.shim_records.specs.Ways.{IsAbove}
-use Rattle.shim_laws_keeping.specs.Flats.{FlatView, HasProcess}
+use Rattle.shim_laws_keeping.specs.Flats.{FlatView, HasProcessState}
 use Rattle.shim_laws_waking.specs.Awake.{is_listed}
 use Rattle.shim_laws_waking.specs.Looks.{IsIdle, has_ended, is_quiet}
 use Rattle.shim_laws_waking.specs.Waking.{Wakes}
@@ -61,7 +61,7 @@ module _ {S : Type 0} (o : Ops S) (v : FlatView S) (number : ℕ) where
   quiet_listed code.Awake awake quiet awakes quiets is put within = record { kept = λ i e. ap (λ z. is_listed z i) put.1 ∙ e; mine = λ l q. absurd (is q.first l q.has q.stands); only = λ i e. inl (ap (λ z. is_listed z i) (sym put.1) ∙ e); as_many = ap length put.1 }
 
 -- one that has ended belongs in no list
-pub ended_nowhere : {S : Type 0} (o : Ops S) (v : FlatView S) (i f : ℕ) (l : S) → HasProcess v i f l ends → ListingIs o v i code.Nowhere
+pub ended_nowhere : {S : Type 0} (o : Ops S) (v : FlatView S) (i f : ℕ) (l : S) → HasProcessState v i f l ends → ListingIs o v i code.Nowhere
 ended_nowhere o v i f l has = (has_ended f l has, λ g m lived stop. absurd (let e = sym has.stands_so ∙ lived.stands_so in cc))
 
 -- as many flags are there as before

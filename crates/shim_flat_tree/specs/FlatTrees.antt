@@ -7,12 +7,12 @@ use Rattle.shim_local.specs.declared.LogWhat.{LogWhat}
 use Rattle.shim_semantics.specs.Nodes.{Node, Live}
 use Rattle.shim_semantics.specs.Trees.{Tree, Met, steps}
 use Rattle.shim_laws_records.specs.Seen.{lives}
-use Rattle.shim_laws_shown.specs.Shown.{tree_of}
+use Rattle.shim_laws_shown.specs.Shown.{shown_tree}
 use Rattle.shim_laws_records.specs.Agrees.{RecordView, used}
-use Rattle.shim_laws_keeping.specs.Flats.{FlatView, HasProcess, Keeps, stands}
+use Rattle.shim_laws_keeping.specs.Flats.{FlatView, HasProcessState, Keeps, stands}
 use Rattle.shim_laws_waking.specs.Awake.{is_listed, AreListed}
-use Rattle.shim_flat.specs.Reading.{IsForAll}
 use Rattle.shim_step_counts.specs.Counted.{StepCount, counted}
+use Rattle.shim_flat_tree.specs.Schedules.{ScheduleView, Serves}
 
 -- what contracts see of a tree of processes kept as states and records
 pub record FlatTreeView (S : Type 0) : Type 0 where
@@ -22,16 +22,12 @@ pub record FlatTreeView (S : Type 0) : Type 0 where
   pub output : List ℕ
   pub histories : finite.FinMap channel_order Met
   pub logs : finite.FinMap path_order (List LogWhat)
-  -- how many steps of its own each process did, by number
-  pub own : List ℕ
+  -- what the scheduler keeps of each process
+  pub schedule : ScheduleView
   -- how many steps of its own each process did whose fork has closed
   pub past : List StepCount
   -- how many events were no process's own step
   pub events : ℕ
-  -- by number: whether something but a quiet step may happen there, whether it may stand before a quiet step, and whether it is held
-  pub awake : List Bool
-  pub quiet : List Bool
-  pub held : List Bool
 
 -- the path of the process of a record, if the record is in use
 abbrev pub path_by : {S : Type 0} → Ops S → Option S → Option RecordView → Option Path
@@ -59,18 +55,18 @@ or_begun l (Some n) = n
 
 -- the tree that it is
 abbrev pub tree_in : {S : Type 0} → Ops S → FlatTreeView S → Tree S
-tree_in o v = record { root = or_begun v.begun (tree_of o v.flat.states (stands v.flat)); output = v.output; histories = v.histories; logs = v.logs; counts = counted (counts_from (path_at o v.flat) v.own ++ v.past); events = v.events }
+tree_in o v = record { root = or_begun v.begun (shown_tree o v.flat.states (stands v.flat)); output = v.output; histories = v.histories; logs = v.logs; counts = counted (counts_from (path_at o v.flat) v.schedule.own ++ v.past); events = v.events }
 
 -- the process with this number lives, and stands before a quiet step
 pub record IsQuietAt {S : Type 0} (o : Ops S) (v : FlatView S) (i : ℕ) (l : S) : Type 0 where
   pub first : ℕ
-  pub has : HasProcess v i first l lives
+  pub has : HasProcessState v i first l lives
   pub stands : o.stop l ≡ AtQuiet
 
 -- it is held
 pub record IsHeld {S : Type 0} (o : Ops S) (v : FlatTreeView S) (i : ℕ) (l : S) : Type 0 where
   pub quiet : IsQuietAt o v.flat i l
-  pub flag : is_listed v.held i ≡ true
+  pub flag : is_listed v.schedule.held i ≡ true
 
 -- whoever stands before a quiet step is listed or held
 abbrev pub QuietAreListed : {S : Type 0} → Ops S → FlatView S → List Bool → List Bool → Type 0
@@ -79,13 +75,10 @@ QuietAreListed {S} o v quiet held = (i : ℕ) (l : S) → IsQuietAt o v i l → 
 -- The records show the tree, and what may happen next is listed: whatever event is enabled is looked for at a number that is listed, and whoever stands before a quiet step is listed or held. Who is held stands before a quiet step.
 pub record KeepsTree {S : Type 0} (o : Ops S) (v : FlatTreeView S) : Type 0 where
   pub shows : Keeps o [] v.flat (tree_in o v).root
-  pub awake : AreListed o v.flat (tree_in o v) v.awake
-  pub quiet : QuietAreListed o v.flat v.quiet v.held
-  pub held : (i : ℕ) → is_listed v.held i ≡ true → (l : S) × IsQuietAt o v.flat i l
-  pub owns : IsForAll v.flat v.own
-  pub awakes : IsForAll v.flat v.awake
-  pub quiets : IsForAll v.flat v.quiet
-  pub helds : IsForAll v.flat v.held
+  pub awake : AreListed o v.flat (tree_in o v) v.schedule.awake
+  pub quiet : QuietAreListed o v.flat v.schedule.quiet v.schedule.held
+  pub held : (i : ℕ) → is_listed v.schedule.held i ≡ true → (l : S) × IsQuietAt o v.flat i l
+  pub serves : Serves v.flat v.schedule
   pub few : steps (tree_in o v) ≤ 4000000
 
 -- what its type keeps, with how many events the code has counted

@@ -10,5 +10,5 @@ use Rattle.shim_laws_keeping.specs.Flats.{FlatView, stands}
 use Rattle.shim_run_log.specs.Waits.{with_waits}
 
 -- where the node of the number is computed by so many levels, those that wait at and below it are added
-abbrev pub Gathers : {S : Type 0} → Ops S → FlatView S → ℕ → ℕ → finite.FinMap path_order NamedChannel → finite.FinMap path_order NamedChannel → Type 0
-Gathers {S} o v levels number before after = (n : Node S) → node_of v.states (stands v) levels number ≡ Some n → after ≡ with_waits before (waiting o n)
+abbrev pub AddsWaits : {S : Type 0} → Ops S → FlatView S → ℕ → ℕ → finite.FinMap path_order NamedChannel → finite.FinMap path_order NamedChannel → Type 0
+AddsWaits {S} o v levels number before after = (n : Node S) → node_of v.states (stands v) levels number ≡ Some n → after ≡ with_waits before (waiting o n)

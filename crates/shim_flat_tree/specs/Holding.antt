@@ -22,13 +22,13 @@ NoneHeld {S} o v = (i : ℕ) (l : S) → IsHeld o v i l → ⊥
 -- the process with this number stands before a quiet step, and isn't held
 pub record IsHomeAt {S : Type 0} (o : Ops S) (v : FlatTreeView S) (i : ℕ) (l : S) : Type 0 where
   pub quiet : IsQuietAt o v.flat i l
-  pub free : is_listed v.held i ≡ false
+  pub free : is_listed v.schedule.held i ≡ false
 
 -- nothing but a list has changed: the tree is the same, the same processes have the same numbers, and the same ones are held
 pub record SameTree {S : Type 0} (o : Ops S) (before after : FlatTreeView S) : Type 0 where
   pub tree : tree_in o after ≡ tree_in o before
   pub flat : after.flat ≡ before.flat
-  pub held : after.held ≡ before.held
+  pub held : after.schedule.held ≡ before.schedule.held
 
 -- whoever stands before a quiet step is held; or the process with this number does, and isn't
 abbrev pub IsNextQuiet : {S : Type 0} → Ops S → FlatTreeView S → FlatTreeView S → Option ℕ → Type 0
@@ -36,7 +36,7 @@ IsNextQuiet {S} o before after None = SameTree o before after × ((l : S) → Is
 IsNextQuiet {S} o before after (Some number) = SameTree o before after × ((l : S) × IsHomeAt o before number l)
 
 -- the process with this number is held now, and all others that were
-pub record Holds {S : Type 0} (o : Ops S) (before after : FlatTreeView S) (number : ℕ) (l : S) : Type 0 where
+pub record BecomesHeld {S : Type 0} (o : Ops S) (before after : FlatTreeView S) (number : ℕ) (l : S) : Type 0 where
   pub is : IsHeld o after number l
   pub others : (i : ℕ) (s : S) → i ≢ number → IsHeld o before i s ↔ IsHeld o after i s
   pub tree : tree_in o after ≡ tree_in o before

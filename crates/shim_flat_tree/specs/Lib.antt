@@ -1,10 +1,12 @@
 -- The definitions of this crate, one module for each subject.
+pub mod Schedules
 pub mod FlatTrees
 pub mod Fields
 pub mod Holding
 pub mod Reading
 pub mod Waking
 pub mod Gathering
+pub mod Receiving
 pub mod Settling
 pub mod PastCounts
 pub mod Room

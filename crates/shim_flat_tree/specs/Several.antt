@@ -1,5 +1,5 @@
 -- What calls list of several numbers.
-use Rattle.std.specs.Prelude.{◌≡◌, ◌⊎◌, ℕ, ◌+◌, Bool, true, List, length}
+use Rattle.std.specs.Prelude.{◌≡◌, ◌<◌, ◌⊎◌, ℕ, ◌+◌, Bool, true, List, length}
 use Rattle.shim_local.specs.Process.{Ops}
 use Rattle.shim_records.specs.Members.{IsAmong}
 use Rattle.shim_records.specs.Pairs.{up_in}
@@ -7,6 +7,7 @@ use Rattle.shim_records.specs.Ways.{IsAbove, most_forks}
 use Rattle.shim_laws_keeping.specs.Flats.{FlatView}
 use Rattle.shim_laws_waking.specs.Awake.{is_listed}
 use Rattle.shim_laws_waking.specs.Looks.{IsIdle}
+use Rattle.shim_flat_tree.specs.Schedules.{ScheduleView}
 use Rattle.shim_flat_tree.specs.FlatTrees.{IsQuietAt}
 
 -- the number is one of these, or that of a fork above one of them
@@ -27,3 +28,11 @@ pub record ListsEachQuiet {S : Type 0} (o : Ops S) (v : FlatView S) (numbers : L
   pub mine : (m : ℕ) (l : S) → IsAmong m numbers → IsQuietAt o v m l → is_listed new m ≡ true
   pub only : (i : ℕ) → is_listed new i ≡ true → (is_listed old i ≡ true) ⊎ IsAmong i numbers
   pub as_many : length new ≡ length old
+
+-- so it is with all lists together, and neither counts nor who is held have changed
+pub record RequeuesEach {S : Type 0} (o : Ops S) (v : FlatView S) (numbers : List ℕ) (before behind : ScheduleView) : Type 0 where
+  pub own : behind.own ≡ before.own
+  pub awake : ListsEach o v numbers before.awake behind.awake
+  pub quiet : ListsEachQuiet o v numbers before.quiet behind.quiet
+  pub held : behind.held ≡ before.held
+  pub within : (m : ℕ) → IsAmong m numbers → m < length behind.awake

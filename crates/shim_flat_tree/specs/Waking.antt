@@ -1,21 +1,22 @@
 -- What calls do to the lists of numbers and to the counts by number.
-use Rattle.std.specs.Prelude.{◌≡◌, ◌⊎◌, ℕ, ◌+◌, Bool, true, false, Option, Some, None, List, length, slice_get, slice_set}
+use Rattle.std.specs.Prelude.{◌≡◌, ◌<◌, ◌⊎◌, ℕ, ◌+◌, Bool, true, false, Option, Some, None, List, length, slice_get, slice_set}
 use Rattle.shim_local.specs.Process.{Ops}
 use Rattle.shim_records.specs.Pairs.{up_in}
-use Rattle.shim_records.specs.Waiting.{Adds}
+use Rattle.shim_records.specs.Waiting.{Enqueues}
 use Rattle.shim_records.specs.Ways.{IsAbove}
 use Rattle.shim_laws_keeping.specs.Flats.{FlatView}
 use Rattle.shim_laws_waking.specs.Awake.{is_listed}
 use Rattle.shim_laws_waking.specs.Looks.{IsIdle}
 use Rattle.shim_flat.specs.declared.listing.Listing.{Listing}
 use Rattle.shim_flat.specs.declared.listing.Listing.TheVariants as code
+use Rattle.shim_flat_tree.specs.Schedules.{ScheduleView}
 use Rattle.shim_flat_tree.specs.FlatTrees.{IsQuietAt, QuietAreListed}
 
 -- the number is added to that list, or to none; no other flag has changed
 abbrev pub IsPutIn : Listing → ℕ → List Bool → List Bool → List Bool → List Bool → Type 0
 IsPutIn code.Nowhere number awake quiet awakes quiets = (awakes ≡ awake) × (quiets ≡ quiet)
-IsPutIn code.Quiet number awake quiet awakes quiets = (awakes ≡ awake) × Adds number quiet quiets
-IsPutIn code.Awake number awake quiet awakes quiets = Adds number awake awakes × (quiets ≡ quiet)
+IsPutIn code.Quiet number awake quiet awakes quiets = (awakes ≡ awake) × Enqueues number quiet quiets
+IsPutIn code.Awake number awake quiet awakes quiets = Enqueues number awake awakes × (quiets ≡ quiet)
 
 -- What was listed is, so are the first n + 1 forks above this number, and so is the number itself unless its record tells of nothing but a quiet step. Nothing else is.
 pub record ListsAwake {S : Type 0} (o : Ops S) (v : FlatView S) (n number : ℕ) (old new : List Bool) : Type 0 where
@@ -47,3 +48,24 @@ pub record StillListed {S : Type 0} (o : Ops S) (v : FlatView S) (held old new :
 abbrev pub IsFirstHome : {S : Type 0} → Ops S → FlatView S → List Bool → List Bool → Option ℕ → Type 0
 IsFirstHome o v held quiet None = (i : ℕ) → is_listed quiet i ≡ false
 IsFirstHome {S} o v held quiet (Some number) = (l : S) × IsQuietAt o v number l × (is_listed held number ≡ false)
+
+-- ---- all lists together
+
+-- The process with this number has changed, and at most the counts of the first n forks above it: whatever of these tells of more than a quiet step is listed, and so are the process, if it stands before one, and the next fork. Who is held stays so.
+pub record Requeues {S : Type 0} (o : Ops S) (v : FlatView S) (n number : ℕ) (before behind : ScheduleView) : Type 0 where
+  pub awake : ListsAwake o v n number before.awake behind.awake
+  pub quiet : ListsQuiet o v number before.quiet behind.quiet
+  pub held : behind.held ≡ before.held
+  pub within : number < length behind.awake
+
+-- the flag that tells whether the process with this number is held is this one, and nothing else has changed
+pub record Checks (number : ℕ) (flag : Bool) (before behind : ScheduleView) : Type 0 where
+  pub is : behind ≡ record { own = before.own; awake = before.awake; quiet = before.quiet; held = slice_set before.held number flag }
+  pub within : number < length before.held
+
+-- nothing but one list has changed
+abbrev pub IsButAwake : ScheduleView → ScheduleView → Type 0
+IsButAwake before behind = behind ≡ record { own = before.own; awake = behind.awake; quiet = before.quiet; held = before.held }
+
+abbrev pub IsButQuiet : ScheduleView → ScheduleView → Type 0
+IsButQuiet before behind = behind ≡ record { own = before.own; awake = before.awake; quiet = behind.quiet; held = before.held }

@@ -12,7 +12,6 @@ ghost use Rattle.shim_flat_tree.specs.Holding.{HappensIn};
 ghost use Rattle.shim_flat_tree.specs.Settling.{StaysAs};
 
 use crate::flat_tree::FlatTree;
-use crate::waking::{count_steps, wake, wake_as};
 use shim_base::{NoMemory, Path, Trap};
 use shim_flat::{Arrival, Listing, Thrown};
 use shim_local::{Local, Log, LogWhat};
@@ -56,15 +55,8 @@ impl<L: Local> FlatTree<L> {
         self.output.reserve(1)?;
         let (byte, arrival) = self.flat.put_here(number);
         tell_byte(&mut self.output, byte);
-        count_steps(&mut self.own, number, 1);
+        self.schedule.acted(&self.flat, number, 1, arrival);
         self.taken += 1;
-        wake_as(
-            &self.flat,
-            number,
-            arrival,
-            &mut self.awake,
-            &mut self.quiet,
-        );
         Ok(event)
     }
 
@@ -80,15 +72,8 @@ impl<L: Local> FlatTree<L> {
         self.logs.reserve(1)?;
         let (thrown, arrival) = self.flat.throw_here(number, label);
         tell_catch(&mut self.logs, path, thrown);
-        count_steps(&mut self.own, number, 1);
+        self.schedule.acted(&self.flat, number, 1, arrival);
         self.taken += 1;
-        wake_as(
-            &self.flat,
-            number,
-            arrival,
-            &mut self.awake,
-            &mut self.quiet,
-        );
         Ok(event)
     }
 
@@ -107,15 +92,12 @@ impl<L: Local> FlatTree<L> {
             path,
             what: LogWhat::Trap(kind, line),
         });
-        count_steps(&mut self.own, number, 1);
+        let gone = Arrival {
+            listing: self.flat.listing(number),
+            forks: u32::MAX,
+        };
+        self.schedule.acted(&self.flat, number, 1, gone);
         self.taken += 1;
-        wake(
-            &self.flat,
-            number,
-            u32::MAX,
-            &mut self.awake,
-            &mut self.quiet,
-        );
         Ok(event)
     }
 
@@ -128,18 +110,13 @@ impl<L: Local> FlatTree<L> {
     {
         let event = Event::End(self.flat.path(number).copy()?);
         let forks = self.flat.finish_here(number);
+        let gone = Arrival {
+            listing: Listing::Nowhere,
+            forks,
+        };
+        self.schedule.requeue(&self.flat, number, gone);
         self.events += 1;
         self.taken += 1;
-        wake_as(
-            &self.flat,
-            number,
-            Arrival {
-                listing: Listing::Nowhere,
-                forks,
-            },
-            &mut self.awake,
-            &mut self.quiet,
-        );
         Ok(event)
     }
 }

@@ -13,9 +13,8 @@ ghost use Rattle.shim_flat_tree.specs.Settling.{StaysAs};
 
 use crate::acting::tell_catch;
 use crate::flat_tree::{FlatTree, PastSteps};
-use crate::waking::wake;
 use shim_base::{NoMemory, Path};
-use shim_flat::{CloseOutcome, Flat};
+use shim_flat::{Arrival, CloseOutcome, Flat};
 use shim_local::{Local, Log};
 use shim_tree::Event;
 use std::alloc::Global;
@@ -67,14 +66,18 @@ impl<L: Local> FlatTree<L> {
         let event = Event::Close(path.copy()?);
         let (first, count) = self.flat.children(number);
         let alloc = *self.output.allocator();
-        let mut gathered = past_of(alloc, &self.flat, self.own.as_slice(), first, count)?;
+        let mut gathered = past_of(alloc, &self.flat, self.schedule.own(), first, count)?;
         self.logs.reserve(1)?;
         self.past.append(&mut gathered)?;
         let (outcome, forks) = self.flat.close_here(number);
         tell_close(&mut self.logs, path, outcome);
+        let arrival = Arrival {
+            listing: self.flat.listing(number),
+            forks,
+        };
+        self.schedule.requeue(&self.flat, number, arrival);
         self.events += 1;
         self.taken += 1;
-        wake(&self.flat, number, forks, &mut self.awake, &mut self.quiet);
         Ok(event)
     }
 }

@@ -184,7 +184,7 @@ impl<L: Local> FlatTree<L> {
             histories: self.histories.list(alloc)?,
             logs: logs_by_path(alloc, self.logs.as_slice())?,
             waits: waits_of(alloc, &self.flat, LEVELS, outcome)?,
-            own: own_steps(alloc, &self.flat, self.own.as_slice(), self.past.as_slice())?,
+            own: own_steps(alloc, &self.flat, self.schedule.own(), self.past.as_slice())?,
             events: self.events,
             steps: self.taken,
             outcome,

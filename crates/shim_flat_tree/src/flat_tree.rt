@@ -7,10 +7,10 @@ ghost use Rattle.shim_semantics.specs.Sound.{SharesItsOwn};
 ghost use Rattle.shim_flat_tree.specs.FlatTrees.{tree_in, KeepsTree};
 ghost use Rattle.shim_flat_tree.specs.Holding.{NoneHeld};
 
+use crate::schedule::Schedule;
 use shim_base::{Chan, NoMemory, Path};
 use shim_flat::{Flat, Sharers};
 use shim_local::{Local, Log};
-use shim_records::Worklist;
 use shim_run_log::Histories;
 use std::alloc::Global;
 use std::marker::Model;
@@ -34,17 +34,10 @@ pub struct FlatTree<L: Local> {
     pub(crate) histories: Histories,
     /// In the order of the events.
     pub(crate) logs: Vec<Log>,
-    /// By number: how many steps of its own each process did.
-    pub(crate) own: Vec<u64>,
+    pub(crate) schedule: Schedule,
     pub(crate) past: Vec<PastSteps>,
     pub(crate) events: u64,
     pub(crate) taken: u64,
-    /// The numbers at which something but a quiet step may happen.
-    pub(crate) awake: Worklist,
-    /// The numbers of processes that may stand before a quiet step.
-    pub(crate) quiet: Worklist,
-    /// By number: whether the process is held.
-    pub(crate) held: Vec<bool>,
     /// Who shares a channel that meets, or on which a child is poisoned. Its room is used again.
     pub(crate) sharers: Sharers,
 }
@@ -60,9 +53,9 @@ impl<L: Local> Model for FlatTree<L> {
 
     ghost coded = { Prim.hlevel (codes, histories_code, logs_code) };
 
-    ghost view = { λ t. view_of t.begun.value t.flat t.output.items t.histories (logged t.logs.items) t.own.items t.past.items t.events t.awake t.quiet t.held.items };
+    ghost view = { λ t. view_of t.begun.value t.flat t.output.items t.histories (logged t.logs.items) t.schedule t.past.items t.events };
 
-    ghost invariant = { λ t. KeepsCounted L.ops (view_of t.begun.value t.flat t.output.items t.histories (logged t.logs.items) t.own.items t.past.items t.events t.awake t.quiet t.held.items) t.taken };
+    ghost invariant = { λ t. KeepsCounted L.ops (view_of t.begun.value t.flat t.output.items t.histories (logged t.logs.items) t.schedule t.past.items t.events) t.taken };
 }
 
 impl<L: Local> FlatTree<L> {
@@ -76,29 +69,17 @@ impl<L: Local> FlatTree<L> {
     {
         let begun = Snapshot::of(&root);
         let flat = Flat::start(alloc, root)?;
-        let mut own = Vec::new(alloc);
-        own.push(0)?;
-        let mut held = Vec::new(alloc);
-        held.push(false)?;
-        let mut awake = Worklist::new(alloc);
-        awake.raise_to(1)?;
-        awake.add(0);
-        let mut quiet = Worklist::new(alloc);
-        quiet.raise_to(1)?;
-        quiet.add(0);
+        let schedule = Schedule::first(alloc)?;
         Ok(FlatTree {
             begun,
             flat,
             output: Vec::new(alloc),
             histories: Histories::new(alloc),
             logs: Vec::new(alloc),
-            own,
+            schedule,
             past: Vec::new(alloc),
             events: 0,
             taken: 0,
-            awake,
-            quiet,
-            held,
             sharers: Sharers::new(alloc),
         })
     }

@@ -4,27 +4,28 @@ ghost use Rattle.shim_local.specs.Process.{AtFork};
 ghost use Rattle.shim_semantics.specs.Trees.{steps, Own};
 ghost use Rattle.shim_laws_records.specs.Seen.{lives};
 ghost use Rattle.shim_records.specs.Blocks.{with_block};
-ghost use Rattle.shim_laws_keeping.specs.Flats.{HasProcess};
+ghost use Rattle.shim_laws_keeping.specs.Flats.{HasProcessState};
 ghost use Rattle.shim_tree.specs.NodeStatus.{event_of};
 ghost use Rattle.shim_flat.specs.Stepping.{LivesAt};
-ghost use Rattle.shim_flat.specs.Forking.{ForkComesTo, how_many};
+ghost use Rattle.shim_flat.specs.Forking.{ForkComesTo, forked_count};
 ghost use Rattle.shim_flat_tree.specs.FlatTrees.{tree_in};
 ghost use Rattle.shim_flat_tree.specs.Holding.{HappensIn};
 ghost use Rattle.shim_flat_tree.specs.Room.{IsLonger, HasMoreRoom, HasRoomFor, block_of};
 ghost use Rattle.shim_flat_tree.specs.Settling.{StaysAs};
 
 use crate::flat_tree::FlatTree;
-use crate::waking::{count_steps, wake};
 use shim_base::NoMemory;
-use shim_flat::{Fork, ForkOutcome};
+use shim_flat::{Arrival, Fork, ForkOutcome};
 use shim_local::Local;
 use shim_records::Worklist;
 use shim_tree::Event;
 
 // Counts of 0 for all numbers below this one that have none. Want of memory changes nothing.
-fn raise_counts(own: &mut Vec<u64>, end: usize) -> Result<(), NoMemory>
+pub(crate) fn raise_counts(own: &mut Vec<u64>, end: usize) -> Result<(), NoMemory>
     ensures longer { IsLonger 0 own.old.items own.new.items }
     ensures ok { OnOk result (end ≤ length own.new.items) }
+    ensures grows { length own.old.items ≤ end → length own.new.items ≤ end }
+    ensures stays { end ≤ length own.old.items → own.new.items ≡ own.old.items }
 {
     if own.len() < end {
         own.resize(end, 0)?;
@@ -33,7 +34,7 @@ fn raise_counts(own: &mut Vec<u64>, end: usize) -> Result<(), NoMemory>
 }
 
 // Flags that aren't set for all numbers below this one that have none. Want of memory changes nothing.
-fn raise_flags(flags: &mut Vec<bool>, end: usize) -> Result<(), NoMemory>
+pub(crate) fn raise_flags(flags: &mut Vec<bool>, end: usize) -> Result<(), NoMemory>
     ensures longer { IsLonger false flags.old.items flags.new.items }
     ensures ok { OnOk result (end ≤ length flags.new.items) }
 {
@@ -44,7 +45,7 @@ fn raise_flags(flags: &mut Vec<bool>, end: usize) -> Result<(), NoMemory>
 }
 
 // The counts of so many numbers from one on begin at 0.
-fn begin_counts(own: &mut Vec<u64>, first: u32, count: u32)
+pub(crate) fn begin_counts(own: &mut Vec<u64>, first: u32, count: u32)
     requires { first + count ≤ vec_len own.old }
     ensures { own.new.items ≡ with_block first (replicate count 0) own.old.items }
 {
@@ -54,7 +55,7 @@ fn begin_counts(own: &mut Vec<u64>, first: u32, count: u32)
 }
 
 // So many numbers from one on are listed.
-fn list_block(list: &mut Worklist, first: u32, count: u32)
+pub(crate) fn list_block(list: &mut Worklist, first: u32, count: u32)
     requires within { first + count ≤ length list.old }
     requires few { first + count ≤ 4294967295 }
     ensures { list.new ≡ with_block first (replicate count true) list.old }
@@ -91,15 +92,12 @@ impl<L: Local> FlatTree<L> {
         Ok(event)
     }
 
-    // Room in all lists for all numbers below this one. Want of memory leaves the tree as it was.
+    // Room for all numbers below this one. Want of memory leaves the tree as it was.
     fn make_room(&mut self, end: usize) -> Result<(), NoMemory>
         ensures same { HasMoreRoom self.old self.new }
-        ensures ok { OnOk result (HasRoomFor end self.new) }
+        ensures ok { OnOk result (HasRoomFor end self.new.schedule) }
     {
-        raise_counts(&mut self.own, end)?;
-        raise_flags(&mut self.held, end)?;
-        self.awake.raise_to(end)?;
-        self.quiet.raise_to(end)?;
+        self.schedule.grow_to(end)?;
         Ok(())
     }
 
@@ -109,19 +107,20 @@ impl<L: Local> FlatTree<L> {
         requires few { steps (tree_in L.ops self.old) < 4000000 }
         requires its { fork.number ≡ number }
         requires comes { ForkComesTo L.ops self.old.flat fork.number fork.parent fork.came }
-        requires room { HasRoomFor (length self.old.flat.records + how_many fork.came) self.old }
-        ensures ok { OnOk result ((f : ℕ) (l : L) → HasProcess self.old.flat number f l lives → HappensIn L.ops self.old self.new (Own (L.ops.path l))) }
+        requires room { HasRoomFor (length self.old.flat.records + forked_count fork.came) self.old.schedule }
+        ensures ok { OnOk result ((f : ℕ) (l : L) → HasProcessState self.old.flat number f l lives → HappensIn L.ops self.old self.new (Own (L.ops.path l))) }
         ensures err { OnErr result (StaysAs L.ops self.old self.new) }
     {
         let alloc = *self.output.allocator();
         let (outcome, forks) = self.flat.put_fork(alloc, fork)?;
         let (first, count) = children_of(outcome);
-        begin_counts(&mut self.own, first, count);
-        list_block(&mut self.awake, first, count);
-        list_block(&mut self.quiet, first, count);
-        count_steps(&mut self.own, number, 1);
+        self.schedule.add_children(first, count);
+        let arrival = Arrival {
+            listing: self.flat.listing(number),
+            forks,
+        };
+        self.schedule.acted(&self.flat, number, 1, arrival);
         self.taken += 1;
-        wake(&self.flat, number, forks, &mut self.awake, &mut self.quiet);
         Ok(())
     }
 }

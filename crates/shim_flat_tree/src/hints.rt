@@ -15,7 +15,7 @@ impl<L: Local> FlatTree<L> {
     /// How many processes are listed as standing before a quiet step: each one that does and isn't held, and
     /// perhaps some that have come to another stop since.
     pub fn listed_quiet(&self) -> usize {
-        self.quiet.numbers().len()
+        self.schedule.quiet().len()
     }
 
     /// How many records it has: those of the root and of all children of forks that haven't closed, and free

@@ -1,16 +1,15 @@
 // Processes that stand before a quiet step: which of them are held, and the steps that they do.
 ghost use Rattle.std.specs.Prelude.{◌≡◌, ◌≤◌, ◌+◌, ℕ, true, false};
 ghost use Rattle.shim_semantics.specs.Trees.{steps};
-ghost use Rattle.shim_laws_records.specs.Seen.{Sort};
-ghost use Rattle.shim_laws_keeping.specs.Flats.{HasProcess};
+ghost use Rattle.shim_laws_records.specs.Seen.{ProcessStatus};
+ghost use Rattle.shim_laws_keeping.specs.Flats.{HasProcessState};
 ghost use Rattle.shim_laws_waking.specs.Awake.{is_listed};
 ghost use Rattle.shim_flat.specs.Reading.{IsInUse, IsForAll};
 ghost use Rattle.shim_flat_tree.specs.FlatTrees.{tree_in, IsQuietAt};
 ghost use Rattle.shim_flat_tree.specs.Waking.{StillListed, IsFirstHome};
-ghost use Rattle.shim_flat_tree.specs.Holding.{IsHomeAt, IsNextQuiet, Holds, HeldComes, Releases, StepsIn};
+ghost use Rattle.shim_flat_tree.specs.Holding.{IsHomeAt, IsNextQuiet, BecomesHeld, HeldComes, Releases, StepsIn};
 
 use crate::flat_tree::FlatTree;
-use crate::waking::{count_steps, wake_as};
 use shim_base::Path;
 use shim_flat::Flat;
 use shim_local::{Local, Quiet};
@@ -30,7 +29,11 @@ fn is_at_home<L: Local>(flat: &Flat<L>, held: &[bool], number: u32) -> bool
 
 // The first listed number of a process that stands before a quiet step and isn't held. The numbers before it
 // are listed no more.
-fn first_at_home<L: Local>(flat: &Flat<L>, held: &[bool], quiet: &mut Worklist) -> Option<u32>
+pub(crate) fn first_at_home<L: Local>(
+    flat: &Flat<L>,
+    held: &[bool],
+    quiet: &mut Worklist,
+) -> Option<u32>
     requires { IsForAll flat.now held.now }
     ensures still { StillListed L.ops flat.now held.now quiet.old quiet.new }
     ensures first { IsFirstHome L.ops flat.now held.now quiet.new result }
@@ -50,13 +53,13 @@ impl<L: Local> FlatTree<L> {
     pub fn next_quiet(&mut self) -> Option<u32>
         ensures { IsNextQuiet L.ops self.old self.new result }
     {
-        first_at_home(&self.flat, self.held.as_slice(), &mut self.quiet)
+        self.schedule.next_at_home(&self.flat)
     }
 
     /// The process with this number, which is in use.
     pub fn process(&self, number: u32) -> &L
         requires { IsInUse self.now.flat number }
-        ensures { (f : ℕ) × (k : Sort) × HasProcess self.now.flat number f result.now k }
+        ensures { (f : ℕ) × (k : ProcessStatus) × HasProcessState self.now.flat number f result.now k }
     {
         self.flat.process(number)
     }
@@ -64,7 +67,7 @@ impl<L: Local> FlatTree<L> {
     /// Its path.
     pub fn path(&self, number: u32) -> &Path
         requires { IsInUse self.now.flat number }
-        ensures { (f : ℕ) (l : L) (k : Sort) → HasProcess self.now.flat number f l k → result.now ≡ L.ops.path l }
+        ensures { (f : ℕ) (l : L) (k : ProcessStatus) → HasProcessState self.now.flat number f l k → result.now ≡ L.ops.path l }
     {
         self.flat.path(number)
     }
@@ -73,9 +76,9 @@ impl<L: Local> FlatTree<L> {
     /// released, it stays as it is. It takes no memory.
     pub fn hold(&mut self, number: u32)
         requires { (l : L) × IsHomeAt L.ops self.old number l }
-        ensures { (l : L) → IsHomeAt L.ops self.old number l → Holds L.ops self.old self.new number l }
+        ensures { (l : L) → IsHomeAt L.ops self.old number l → BecomesHeld L.ops self.old self.new number l }
     {
-        self.held[number as usize] = true;
+        self.schedule.check(&self.flat, number, true);
     }
 
     /// The held process did so many quiet steps elsewhere, which led to this state, and is held no more. It
@@ -86,16 +89,9 @@ impl<L: Local> FlatTree<L> {
         ensures { (l : L) → HeldComes L.ops self.old number taken l last → Releases L.ops self.old self.new number taken l last }
     {
         let arrival = self.flat.advance_here(number, last);
-        self.held[number as usize] = false;
-        count_steps(&mut self.own, number, taken);
+        self.schedule.check(&self.flat, number, false);
+        self.schedule.acted(&self.flat, number, taken, arrival);
         self.taken += taken;
-        wake_as(
-            &self.flat,
-            number,
-            arrival,
-            &mut self.awake,
-            &mut self.quiet,
-        );
     }
 
     /// The process with this number, which stands before a quiet step and isn't held, does up to `most` quiet
@@ -106,15 +102,9 @@ impl<L: Local> FlatTree<L> {
         ensures { (l : L) → IsHomeAt L.ops self.old number l → StepsIn L.ops self.old self.new number most result l }
     {
         let (quiet, arrival) = self.flat.step_here(number, most);
-        count_steps(&mut self.own, number, quiet.taken);
+        self.schedule
+            .acted(&self.flat, number, quiet.taken, arrival);
         self.taken += quiet.taken;
-        wake_as(
-            &self.flat,
-            number,
-            arrival,
-            &mut self.awake,
-            &mut self.quiet,
-        );
         quiet
     }
 }

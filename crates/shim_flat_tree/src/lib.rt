@@ -14,6 +14,7 @@ mod holding;
 mod meeting;
 mod poisoning;
 mod reading;
+mod schedule;
 mod settling;
 mod waits;
 mod waking;

@@ -1,24 +1,29 @@
 // A meeting, and what is told of it.
-ghost use Rattle.std.specs.Prelude.{◌≡◌, ◌<◌, IfOk, OnErr};
+ghost use Rattle.std.specs.Prelude.{◌≡◌, ◌<◌, IfOk, OnOk, OnErr};
 ghost use Rattle.std.specs.Option.{option_copied};
-ghost use Rattle.shim_semantics.specs.Nodes.{next_of};
+ghost use Rattle.shim_semantics.specs.Nodes.{next_channel};
 ghost use Rattle.shim_semantics.specs.Trees.{steps, Meet};
-ghost use Rattle.shim_laws_meetings.specs.Meetings.{IsEnabled, Declares};
+ghost use Rattle.shim_laws_meetings.specs.Sharers.{ListsSharers};
+ghost use Rattle.shim_laws_meetings.specs.Meetings.{IsEnabled, Declares, ReceivesOne, ReceiveAll};
 ghost use Rattle.shim_tree.specs.NodeStatus.{event_of};
 ghost use Rattle.shim_flat.specs.Due.{MeetsAlone, AllThere};
 ghost use Rattle.shim_flat_tree.specs.FlatTrees.{tree_in};
+ghost use Rattle.shim_flat_tree.specs.Schedules.{Serves};
+ghost use Rattle.shim_flat_tree.specs.Receiving.{RecordsValue, PassesOn};
 ghost use Rattle.shim_flat_tree.specs.Holding.{HappensIn};
 ghost use Rattle.shim_flat_tree.specs.Settling.{StaysAs};
 
 use crate::flat_tree::FlatTree;
-use crate::waking_all::wake_each;
+use crate::schedule::Schedule;
 use shim_base::{Chan, NoMemory};
+use shim_flat::{Flat, Sharers};
 use shim_local::{Local, Stop};
+use shim_run_log::Histories;
 use shim_tree::Event;
 
 // The channel at which the process stands, if it stands at one.
 fn awaited<L: Local>(process: &L) -> Option<&Chan>
-    ensures { option_copied result ≡ next_of (L.ops.stop process.now) }
+    ensures { option_copied result ≡ next_channel (L.ops.stop process.now) }
 {
     match process.stop() {
         Stop::Next(chan) => Some(chan),
@@ -28,6 +33,66 @@ fn awaited<L: Local>(process: &L) -> Option<&Chan>
         | Stop::Finish
         | Stop::Throw(_)
         | Stop::Trapped(_, _) => None,
+    }
+}
+
+// The value comes behind the others of the channel, whose home has this number. Its name is looked for at its
+// first meeting alone, since no other one tells it.
+fn record<L: Local>(
+    flat: &Flat<L>,
+    histories: &mut Histories,
+    number: u32,
+    c: &Chan,
+    sharers: &Sharers,
+    value: i64,
+) -> Result<(), NoMemory>
+    requires home { Declares L.ops flat.now number c.now.channel }
+    requires enabled { IsEnabled L.ops (Meet c.now.channel) flat.now }
+    requires sharers { ListsSharers L.ops flat.now c.now.channel number sharers.now }
+    ensures ok { OnOk result (RecordsValue L.ops flat.now c.now.channel value histories.old histories.new) }
+    ensures err { OnErr result (histories.new ≡ histories.old) }
+{
+    let known = histories.record_value(c, value)?;
+    if known {
+        return Ok(());
+    }
+    let name = flat.name_here(number, c, sharers);
+    histories.record(c, name, value)
+}
+
+// Each of these that lives and stands at the channel receives the value, one after the other, and is put in the
+// list in which it then belongs; of the forks above it those are looked at again whose counts changed with it.
+fn receive_each<L: Local>(
+    flat: &mut Flat<L>,
+    c: &Chan,
+    numbers: &[u32],
+    value: i64,
+    schedule: &mut Schedule,
+)
+    requires serves { Serves flat.old schedule.old }
+    ensures receive { ReceiveAll L.ops c.now.channel value numbers.now flat.old flat.new }
+    ensures passes { PassesOn L.ops flat.old schedule.old flat.new schedule.new }
+{
+    for place in 0..numbers.len() {
+        receive_one(flat, c, numbers[place], value, schedule);
+    }
+}
+
+// So it is with one of them.
+fn receive_one<L: Local>(
+    flat: &mut Flat<L>,
+    c: &Chan,
+    number: u32,
+    value: i64,
+    schedule: &mut Schedule,
+)
+    requires serves { Serves flat.old schedule.old }
+    ensures receives { ReceivesOne L.ops c.now.channel value number flat.old flat.new }
+    ensures passes { PassesOn L.ops flat.old schedule.old flat.new schedule.new }
+{
+    match flat.receive(number, c, value) {
+        None => {}
+        Some(arrival) => schedule.requeue(flat, number, arrival),
     }
 }
 
@@ -68,19 +133,24 @@ impl<L: Local> FlatTree<L> {
         ensures ok { IfOk result (λ e. HappensIn L.ops self.old self.new (event_of e)) }
         ensures err { OnErr result (StaysAs L.ops self.old self.new) }
     {
-        self.flat.sharers(number, &chan, &mut self.sharers)?;
-        let value = self.flat.value_met(number, &chan, &self.sharers);
-        let name = self.flat.name_here(number, &chan, &self.sharers);
-        self.histories.record(&chan, name, value)?;
-        self.flat.meet_here(number, &chan, &self.sharers, value);
+        let value = self.flat.plan_meeting(number, &chan, &mut self.sharers)?;
+        record(
+            &self.flat,
+            &mut self.histories,
+            number,
+            &chan,
+            &self.sharers,
+            value,
+        )?;
+        receive_each(
+            &mut self.flat,
+            &chan,
+            self.sharers.numbers(),
+            value,
+            &mut self.schedule,
+        );
         self.events += 1;
         self.taken += 1;
-        wake_each(
-            &self.flat,
-            self.sharers.numbers(),
-            &mut self.awake,
-            &mut self.quiet,
-        );
         Ok(Event::Meet(chan))
     }
 }

@@ -8,7 +8,6 @@ ghost use Rattle.shim_flat_tree.specs.Holding.{HappensIn};
 ghost use Rattle.shim_flat_tree.specs.Settling.{StaysAs};
 
 use crate::flat_tree::FlatTree;
-use crate::waking_all::wake_each;
 use shim_base::NoMemory;
 use shim_local::Local;
 use shim_tree::Event;
@@ -33,14 +32,10 @@ impl<L: Local> FlatTree<L> {
         let label = self.flat.process(number).handlers().saturating_sub(1);
         self.flat.sharers(child, &chan, &mut self.sharers)?;
         self.flat.poison_here(child, &chan, label, &self.sharers);
+        let sharers = self.sharers.numbers();
+        self.schedule.requeue_each(&self.flat, sharers);
         self.events += 1;
         self.taken += 1;
-        wake_each(
-            &self.flat,
-            self.sharers.numbers(),
-            &mut self.awake,
-            &mut self.quiet,
-        );
         Ok(Event::Poison(path, chan))
     }
 }

@@ -41,9 +41,9 @@ impl<L: Local> FlatTree<L> {
         requires { NoneHeld L.ops self.now }
         ensures { IsTrue result ↔ IsQuiescent L.ops (tree_in L.ops self.now) }
     {
-        if !none_quiet(&self.flat, self.quiet.numbers()) {
+        if !none_quiet(&self.flat, self.schedule.quiet()) {
             return false;
         }
-        none_due(&self.flat, self.awake.numbers())
+        none_due(&self.flat, self.schedule.awake())
     }
 }

@@ -26,7 +26,7 @@ pub(crate) fn is_something(due: Due) -> bool
 
 // The next listed number at which something other than a quiet step can happen, and what. It stays listed;
 // those before it are listed no more.
-fn next_due<L: Local>(flat: &Flat<L>, awake: &mut Worklist) -> Option<(u32, Due)>
+pub(crate) fn first_due<L: Local>(flat: &Flat<L>, awake: &mut Worklist) -> Option<(u32, Due)>
     ensures still { StillAwake L.ops flat.now awake.old awake.new }
     ensures due { IsNextDue L.ops flat.now awake.new result }
 {
@@ -48,7 +48,7 @@ impl<L: Local> FlatTree<L> {
         ensures ok { IfOk result (λ event. MatchOption event (RestsIn L.ops self.old self.new) (λ e. HappensIn L.ops self.old self.new (event_of e))) }
         ensures err { OnErr result (StaysAs L.ops self.old self.new) }
     {
-        match next_due(&self.flat, &mut self.awake) {
+        match self.schedule.next_due(&self.flat) {
             None => Ok(None),
             Some((number, due)) => Ok(Some(self.happen(number, due)?)),
         }

@@ -1,9 +1,9 @@
 // Who waits in a flat tree.
 ghost use Rattle.std.specs.Prelude.{◌≡◌, OnOk};
-ghost use Rattle.shim_semantics.specs.Nodes.{next_of};
+ghost use Rattle.shim_semantics.specs.Nodes.{next_channel};
 ghost use Rattle.shim_semantics.specs.Endings.{wait_of};
 ghost use Rattle.shim_run_log.specs.Waits.{with_waits};
-ghost use Rattle.shim_flat_tree.specs.Gathering.{Gathers};
+ghost use Rattle.shim_flat_tree.specs.Gathering.{AddsWaits};
 
 use shim_base::NoMemory;
 use shim_flat::Flat;
@@ -13,7 +13,7 @@ use shim_run_log::Waits;
 
 // Adds this live process, if it stands at a channel.
 fn gather_live<L: Local>(process: &L, waits: &mut Waits) -> Result<(), NoMemory>
-    ensures { OnOk result (waits.new ≡ with_waits waits.old (wait_of (L.ops.path process.now) (next_of (L.ops.stop process.now)))) }
+    ensures { OnOk result (waits.new ≡ with_waits waits.old (wait_of (L.ops.path process.now) (next_channel (L.ops.stop process.now)))) }
 {
     match process.stop() {
         Stop::Next(chan) => waits.add(process.path(), chan),
@@ -34,7 +34,7 @@ pub(crate) fn gather<L: Local>(
     number: usize,
     waits: &mut Waits,
 ) -> Result<(), NoMemory>
-    ensures { OnOk result (Gathers L.ops flat.now levels number waits.old waits.new) }
+    ensures { OnOk result (AddsWaits L.ops flat.now levels number waits.old waits.new) }
 {
     if levels == 0 {
         return Ok(());

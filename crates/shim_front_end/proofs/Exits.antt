@@ -3,7 +3,7 @@ use Rattle.std.proofs.Common.{◌≡◌, ℕ, List, Result, Ok, Err, IsErr, IsEr
 use Rattle.shim_syntax.specs.declared.Program.{Program}
 use Rattle.shim_parser.specs.declared.ParseFault.{ParseFault}
 use Rattle.shim_parser.specs.declared.ParseFault.TheVariants.{Lex, Unexpected, TooDeep, TooMany, NoMemory}
-use Rattle.shim_parser.specs.Parsing.{Answers, IsOnly}
+use Rattle.shim_parser.specs.Parsing.{ParsesAs, IsOnly}
 use Rattle.shim_scopes.specs.declared.form.Form.{Form as Resolved}
 use Rattle.shim_scopes.specs.declared.ScopeFault.{ScopeFault}
 use Rattle.shim_scopes.specs.declared.ScopeFault.TheVariants as scope
@@ -16,16 +16,16 @@ use Rattle.shim_sharing.specs.Accepting as sharing
 use Rattle.shim_sharing.specs.Accepting.{accepted}
 use Rattle.shim_front_end.specs.declared.fault.SourceFault.{SourceFault}
 use Rattle.shim_front_end.specs.declared.fault.SourceFault.TheVariants.{Parse, Scope, Share}
-use Rattle.shim_front_end.specs.Source.{bound, shared}
+use Rattle.shim_front_end.specs.Source.{bound, sharing_result}
 use Rattle.shim_front_end.specs.FrontEnd.{IsOnlyText, IsAnswerTo, IsFirstFault, IsOnlyAccepted, IsProgramAnswerTo}
 use Rattle.shim_front_end.proofs.Faults.{only_fault}
 
 -- the program that the parser answers is the only one, and the text has no fault
-pub only_text : (bytes : List ℕ) (p : Program) → Answers bytes (Ok p) → IsOnly bytes (Ok p) → IsOnlyText bytes p
+pub only_text : (bytes : List ℕ) (p : Program) → ParsesAs bytes (Ok p) → IsOnly bytes (Ok p) → IsOnlyText bytes p
 only_text bytes p text only = record { text = text; only = only.0; faultless = λ fault h. only.1 h.0 h.1 h.2 }
 
 -- the text is of no program
-pub of_text : (bytes : List ℕ) (fault : ParseFault) → Answers bytes (Err fault) → IsOnly bytes (Err fault) → IsFirstFault bytes (Parse fault)
+pub of_text : (bytes : List ℕ) (fault : ParseFault) → ParsesAs bytes (Err fault) → IsOnly bytes (Err fault) → IsFirstFault bytes (Parse fault)
 of_text bytes (Lex x) is only = only_fault bytes (Lex x) (λ e. cc) is only
 of_text bytes (Unexpected at line) is only = only_fault bytes (Unexpected at line) (λ e. cc) is only
 of_text bytes (TooDeep line) is only = only_fault bytes (TooDeep line) (λ e. cc) is only
@@ -39,13 +39,13 @@ of_names bytes p scope.NoMemory text refused = tt
 
 -- its sharing is refused
 pub of_sharing : (bytes : List ℕ) (p : Program) (r : Resolved) (fault : ShareFault) → IsOnlyText bytes p → bind_program p ≡ Ok r → sharing.Gives {T = Form} (Err fault) (accepted r) → IsFirstFault bytes (Share fault)
-of_sharing bytes p r (share.TwoWriters line name first second) text is refused = (p, text, ap bound is ∙ ap shared refused)
-of_sharing bytes p r (share.Alias line name) text is refused = (p, text, ap bound is ∙ ap shared refused)
+of_sharing bytes p r (share.TwoWriters line name first second) text is refused = (p, text, ap bound is ∙ ap sharing_result refused)
+of_sharing bytes p r (share.Alias line name) text is refused = (p, text, ap bound is ∙ ap sharing_result refused)
 of_sharing bytes p r share.NoMemory text is refused = tt
 
 -- it is accepted
 pub of_units : (bytes : List ℕ) (p : Program) (r : Resolved) (units : Form) → IsOnlyText bytes p → bind_program p ≡ Ok r → accepted r ≡ Ok units → IsAnswerTo bytes (Ok units)
-of_units bytes p r units text is accept = (p, text, ap bound is ∙ ap shared accept)
+of_units bytes p r units text is accept = (p, text, ap bound is ∙ ap sharing_result accept)
 
 -- an answer that hands a fault on
 pub handed_on : (bytes : List ℕ) (fault : SourceFault) (r : Result Form SourceFault) → IsErr r × IsErrAnd r (λ e. e ≡ fault) → IsFirstFault bytes fault → IsAnswerTo bytes r
@@ -58,4 +58,4 @@ handed_on_of_program bytes fault (Err e) w is = subst (λ x. IsFirstFault bytes 
 
 -- the program of an accepted text
 pub of_program : (bytes : List ℕ) (p : Program) (r : Resolved) (units : Form) → IsOnlyText bytes p → bind_program p ≡ Ok r → accepted r ≡ Ok units → IsOnlyAccepted bytes p
-of_program bytes p r units text is accept = (text, units, ap bound is ∙ ap shared accept)
+of_program bytes p r units text is accept = (text, units, ap bound is ∙ ap sharing_result accept)

@@ -2,10 +2,10 @@
 use Rattle.std.proofs.Common.{◌≡◌, ℕ, List, Err, refl, sym, ap, ◌∙◌}
 use Rattle.shim_base.specs.Tokens.{Place}
 use Rattle.shim_lexer.specs.declared.token.LexFault.{LexFault}
-use Rattle.shim_syntax.specs.Text.{Fault, HasFault}
+use Rattle.shim_syntax.specs.Text.{FaultCause, HasFault}
 use Rattle.shim_parser.specs.declared.ParseFault.{ParseFault}
 use Rattle.shim_parser.specs.declared.ParseFault.TheVariants.{Lex, Unexpected, TooDeep, TooMany, NoMemory}
-use Rattle.shim_parser.specs.Parsing.{Tells, IsFaultOf, Answers, IsOnly}
+use Rattle.shim_parser.specs.Parsing.{IsReportedAs, IsFaultOf, ParsesAs, IsOnly}
 use Rattle.shim_front_end.specs.FrontEnd.{IsOnlyFault}
 
 -- a fault of a text that can't be cut, by its parts
@@ -13,7 +13,7 @@ same_cut : (x y : LexFault) → x.at ≡ y.at → x.line ≡ y.line → x.kind �
 same_cut x y at line kind = λ k. record { at = at k; line = line k; kind = kind k }
 
 -- what one fault at one place is told as
-tells_once : (a b : ParseFault) (f : Fault) (p : Place) → Tells a f p → Tells b f p → a ≡ b
+tells_once : (a b : ParseFault) (f : FaultCause) (p : Place) → IsReportedAs a f p → IsReportedAs b f p → a ≡ b
 tells_once (Lex x) (Lex y) f p g h =
     let kind : x.kind ≡ y.kind = cc (g.0, h.0) in
     let at : x.at ≡ y.at = ap (λ (q : Place). q.at) (sym g.1 ∙ h.1) in
@@ -40,11 +40,11 @@ tells_once (TooMany what line) (TooMany other behind) f p g h = cc (g.0, h.0, g.
 tells_once NoMemory b f p g h = absurd g
 tells_once a NoMemory f p g h = absurd h
 
-fault_once : (bytes : List ℕ) (fault other : ParseFault) → ((f : Fault) (place : Place) → HasFault bytes f place → Tells fault f place) → IsFaultOf bytes other → other ≡ fault
+fault_once : (bytes : List ℕ) (fault other : ParseFault) → ((f : FaultCause) (place : Place) → HasFault bytes f place → IsReportedAs fault f place) → IsFaultOf bytes other → other ≡ fault
 fault_once bytes fault other only (f, place, has, tells) = tells_once other fault f place tells (only f place has)
 
 -- the fault that the parser answers is the only one
-pub only_fault : (bytes : List ℕ) (fault : ParseFault) → (fault ≡ NoMemory → ⊥) → Answers bytes (Err fault) → IsOnly bytes (Err fault) → IsOnlyFault bytes fault
+pub only_fault : (bytes : List ℕ) (fault : ParseFault) → (fault ≡ NoMemory → ⊥) → ParsesAs bytes (Err fault) → IsOnly bytes (Err fault) → IsOnlyFault bytes fault
 only_fault bytes (Lex x) apart is only = record { faulty = is; only = λ other h. fault_once bytes (Lex x) other only.1 h; textless = only.0 }
 only_fault bytes (Unexpected at line) apart is only = record { faulty = is; only = λ other h. fault_once bytes (Unexpected at line) other only.1 h; textless = only.0 }
 only_fault bytes (TooDeep line) apart is only = record { faulty = is; only = λ other h. fault_once bytes (TooDeep line) other only.1 h; textless = only.0 }

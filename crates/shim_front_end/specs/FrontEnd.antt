@@ -25,8 +25,8 @@ pub record IsOnlyFault (bytes : List ℕ) (fault : ParseFault) : Type 0 where
   pub textless : (program : Program) → IsText bytes program → ⊥
 
 -- the bytes are the text of one program alone, and checking it comes to this
-abbrev pub ComesTo : List ℕ → Result Form SourceFault → Type 0
-ComesTo bytes meant = (program : Program) × IsOnlyText bytes program × (checked program ≡ meant)
+abbrev pub ChecksTo : List ℕ → Result Form SourceFault → Type 0
+ChecksTo bytes meant = (program : Program) × IsOnlyText bytes program × (checked program ≡ meant)
 
 -- the bytes are the text of one program alone, which is accepted
 abbrev pub IsOnlyAccepted : List ℕ → Program → Type 0
@@ -37,13 +37,13 @@ abbrev pub IsFirstFault : List ℕ → SourceFault → Type 0
 IsFirstFault bytes (Parse parse.NoMemory) = Unit {0}
 IsFirstFault bytes (Parse fault) = IsOnlyFault bytes fault
 IsFirstFault bytes (Scope scope.NoMemory) = Unit {0}
-IsFirstFault bytes (Scope fault) = ComesTo bytes (Err (Scope fault))
+IsFirstFault bytes (Scope fault) = ChecksTo bytes (Err (Scope fault))
 IsFirstFault bytes (Share share.NoMemory) = Unit {0}
-IsFirstFault bytes (Share fault) = ComesTo bytes (Err (Share fault))
+IsFirstFault bytes (Share fault) = ChecksTo bytes (Err (Share fault))
 
 -- the units of its accepted program, or its first fault
 abbrev pub IsAnswerTo : List ℕ → Result Form SourceFault → Type 0
-IsAnswerTo bytes (Ok source) = ComesTo bytes (Ok source)
+IsAnswerTo bytes (Ok source) = ChecksTo bytes (Ok source)
 IsAnswerTo bytes (Err fault) = IsFirstFault bytes fault
 
 -- its accepted program, or its first fault

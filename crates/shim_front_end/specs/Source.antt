@@ -16,12 +16,12 @@ use Rattle.shim_front_end.specs.declared.fault.SourceFault.TheVariants.{Parse, S
 abbrev pub Source : Type 0
 Source = Form
 
-abbrev pub shared : Result Form ShareFault → Result Form SourceFault
-shared (Ok form) = Ok form
-shared (Err fault) = Err (Share fault)
+abbrev pub sharing_result : Result Form ShareFault → Result Form SourceFault
+sharing_result (Ok form) = Ok form
+sharing_result (Err fault) = Err (Share fault)
 
 abbrev pub bound : Result Resolved Refusal → Result Form SourceFault
-bound (Ok resolved) = shared (accepted resolved)
+bound (Ok resolved) = sharing_result (accepted resolved)
 bound (Err r) = Err (Scope (Refused r.line r.kind r.name))
 
 -- the units of a program, or its first fault: names are asked about before their sharing

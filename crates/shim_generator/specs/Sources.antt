@@ -47,7 +47,7 @@ template Tree = tree
 template Storm = storm
 
 -- lines as one text, in which each ends with a line feed
-abbrev pub text_of : List (List ℕ) → List ℕ
+abbrev text_of : List (List ℕ) → List ℕ
 text_of = flat_map (λ line. line ++ codes "\n")
 
 -- a text with the size, in decimal, for each letter N (78)

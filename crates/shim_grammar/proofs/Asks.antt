@@ -8,11 +8,11 @@ use Rattle.shim_syntax.specs.declared.limits.Many.TheVariants as many
 use Rattle.shim_syntax.specs.declared.tree.Sort.TheVariants.{Value}
 use Rattle.shim_syntax.specs.Terminals.{Terminal, Name, Sort, Key, Sign, End, is_shim, is_two}
 use Rattle.shim_syntax.specs.Limits.{Nesting, Count}
-use Rattle.shim_syntax.specs.Grammar.{Counts, at_level, new_expression, behind_body}
+use Rattle.shim_syntax.specs.Grammar.{TextCounts, at_level, new_expression, behind_body}
 use Rattle.shim_grammar.specs.declared.punctuation.Punctuation.{Punctuation}
 use Rattle.shim_grammar.specs.declared.punctuation.Punctuation.TheVariants as punctuation
 use Rattle.shim_grammar.specs.Machine as m
-use Rattle.shim_grammar.specs.Machine.{Fixed, Word, Operand, Inside, Expression, Operators, Arguments, MoreArguments, Argument, Declarations, AfterDeclared, MoreDeclarations, Declaration, AfterDeclaration, Statement, Body, Block, AfterWord, AfterEqual, AfterNext, ThrowRest, CatchRest, First, Test, Step, Else, AfterBody, Pars, Branch, Parameters, AfterSort, Throws, MoreParameters, Parameter, Thrown, MoreThrows, Functions, Stack, Ask, Want, ask, go, wants, Source, Version}
+use Rattle.shim_grammar.specs.Machine.{Fixed, Word, Operand, Inside, Expression, Operators, Arguments, MoreArguments, Argument, Declarations, AfterDeclared, MoreDeclarations, Declaration, AfterDeclaration, Statement, Body, Block, AfterWord, AfterEqual, AfterNext, ThrowRest, CatchRest, First, Test, Step, Else, AfterBody, Pars, Branch, Parameters, AfterSort, Throws, MoreParameters, Parameter, Thrown, MoreThrows, Functions, SymbolStack, Ask, Want, ask, go, wants, Source, Version}
 
 abbrev pub NumbersAlone : List Ask → Type 0
 NumbersAlone [] = Unit {0}
@@ -44,7 +44,7 @@ number : (what : Many) (n : ℕ) (o : Option Want) → NoLevel o → NoLevel (as
 number what n None h = tt
 number what n (Some w) h = (what, refl, h)
 
-fixed_asks : (f : Punctuation) (x : Terminal) (k : Stack) (w : Counts) → NoLevel (m.fixed f x k w)
+fixed_asks : (f : Punctuation) (x : Terminal) (k : SymbolStack) (w : TextCounts) → NoLevel (m.fixed f x k w)
 fixed_asks punctuation.LeftParen (Sign g.LeftParen p) k w = tt
 fixed_asks punctuation.RightParen (Sign g.RightParen p) k w = tt
 fixed_asks punctuation.LeftBrace (Sign g.LeftBrace p) k w = tt
@@ -54,13 +54,13 @@ fixed_asks punctuation.Equal (Sign g.Equal p) k w = tt
 fixed_asks punctuation.Catch (Key k.Catch p) k w = tt
 fixed_asks _ _ k w = tt
 
-operand_asks : (x : Terminal) (l : ℕ) (k : Stack) (w : Counts) → NoLevel (m.operand x l k w)
+operand_asks : (x : Terminal) (l : ℕ) (k : SymbolStack) (w : TextCounts) → NoLevel (m.operand x l k w)
 operand_asks (Sign g.Minus p) l k w = (many.Operators, refl, tt)
 operand_asks (Sign g.Bang p) l k w = (many.Operators, refl, tt)
 operand_asks (Sign g.Tilde p) l k w = (many.Operators, refl, tt)
 operand_asks _ l k w = tt
 
-word_asks : (x : Terminal) (k : Stack) (w : Counts) → NoLevel (m.word x k w)
+word_asks : (x : Terminal) (k : SymbolStack) (w : TextCounts) → NoLevel (m.word x k w)
 word_asks (Name y p) k w = tt
 word_asks _ k w = tt
 
@@ -69,46 +69,46 @@ joined : (b : Bool) (o other : Option Want) → OneLevel o → OneLevel other �
 joined true o other h e = h
 joined false o other h e = e
 
-operators_asks : (x : Terminal) (l : ℕ) (k : Stack) (w : Counts) (other : Option Want) → OneLevel other → OneLevel (m.operators x l k w other)
-operators_asks x l k w other h = joined (m.joins x) _ other tt h
+operators_asks : (x : Terminal) (l : ℕ) (k : SymbolStack) (w : TextCounts) (other : Option Want) → OneLevel other → OneLevel (m.operators x l k w other)
+operators_asks x l k w other h = joined (m.is_operator x) _ other tt h
 
-argument_asks : (x : Terminal) (l n : ℕ) (k : Stack) (w : Counts) → NoLevel (m.argument x l n k w)
+argument_asks : (x : Terminal) (l n : ℕ) (k : SymbolStack) (w : TextCounts) → NoLevel (m.wants_argument x l n k w)
 argument_asks x l n k w = number many.Arguments n (m.operand x l (Operators l ∷ MoreArguments l n ∷ k) (new_expression w)) (operand_asks x l _ _)
 
-arguments_asks : (x : Terminal) (l : ℕ) (k : Stack) (w : Counts) → NoLevel (m.arguments x l k w)
+arguments_asks : (x : Terminal) (l : ℕ) (k : SymbolStack) (w : TextCounts) → NoLevel (m.wants_arguments x l k w)
 arguments_asks (Sign g.RightParen p) l k w = tt
 arguments_asks x l k w = argument_asks x l 1 k w
 
-more_arguments_asks : (x : Terminal) (l : ℕ) (n : ℕ) (k : Stack) (w : Counts) → NoLevel (m.more_arguments x l n k w)
+more_arguments_asks : (x : Terminal) (l : ℕ) (n : ℕ) (k : SymbolStack) (w : TextCounts) → NoLevel (m.more_arguments x l n k w)
 more_arguments_asks (Sign g.RightParen p) l n k w = tt
 more_arguments_asks (Sign g.Comma p) l n k w = tt
 more_arguments_asks _ l n k w = tt
 
-declarations_asks : (x : Terminal) (l : ℕ) (k : Stack) (w : Counts) → NoLevel (m.declarations x l k w)
+declarations_asks : (x : Terminal) (l : ℕ) (k : SymbolStack) (w : TextCounts) → NoLevel (m.wants_declarations x l k w)
 declarations_asks (Name y p) l k w = (many.Locals, refl, tt)
 declarations_asks _ l k w = tt
 
-more_declarations_asks : (x : Terminal) (l : ℕ) (k : Stack) (w : Counts) → NoLevel (m.more_declarations x l k w)
+more_declarations_asks : (x : Terminal) (l : ℕ) (k : SymbolStack) (w : TextCounts) → NoLevel (m.more_declarations x l k w)
 more_declarations_asks (Sign g.Comma p) l k w = tt
 more_declarations_asks (Sign g.Semicolon p) l k w = tt
 more_declarations_asks _ l k w = tt
 
-after_declared_asks : (x : Terminal) (l : ℕ) (k : Stack) (w : Counts) → NoLevel (m.after_declared x l k w)
+after_declared_asks : (x : Terminal) (l : ℕ) (k : SymbolStack) (w : TextCounts) → NoLevel (m.after_declared x l k w)
 after_declared_asks (Sign g.Equal p) l k w = tt
 after_declared_asks (Sign g.Comma p) l k w = tt
 after_declared_asks (Sign g.Semicolon p) l k w = tt
 after_declared_asks _ l k w = tt
 
-declaration_asks : (x : Terminal) (l : ℕ) (k : Stack) (w : Counts) → NoLevel (m.declaration x l k w)
+declaration_asks : (x : Terminal) (l : ℕ) (k : SymbolStack) (w : TextCounts) → NoLevel (m.wants_declaration x l k w)
 declaration_asks (Name y p) l k w = (many.Locals, refl, tt)
 declaration_asks _ l k w = tt
 
-after_declaration_asks : (x : Terminal) (l : ℕ) (k : Stack) (w : Counts) → NoLevel (m.after_declaration x l k w)
+after_declaration_asks : (x : Terminal) (l : ℕ) (k : SymbolStack) (w : TextCounts) → NoLevel (m.after_declaration x l k w)
 after_declaration_asks (Sign g.Equal p) l k w = tt
 after_declaration_asks (Sign g.Semicolon p) l k w = tt
 after_declaration_asks _ l k w = tt
 
-statement_asks : (x : Terminal) (l : ℕ) (k : Stack) (w : Counts) → NoLevel (m.statement x l k w)
+statement_asks : (x : Terminal) (l : ℕ) (k : SymbolStack) (w : TextCounts) → NoLevel (m.statement x l k w)
 statement_asks (Sign g.Semicolon p) l k w = tt
 statement_asks (Sort (Value ty) p) l k w = tt
 statement_asks (Name y p) l k w = tt
@@ -122,28 +122,28 @@ statement_asks (Key k.Throw p) l k w = tt
 statement_asks (Sign g.LeftBrace p) l k w = tt
 statement_asks _ l k w = tt
 
-thing_asks : (x : Terminal) (l : ℕ) (k : Stack) (w : Counts) → OneLevel (m.thing x l k w)
+thing_asks : (x : Terminal) (l : ℕ) (k : SymbolStack) (w : TextCounts) → OneLevel (m.thing x l k w)
 thing_asks x l k w = level l (m.statement x l k (at_level l w)) (statement_asks x l k (at_level l w))
 
-block_asks : (x : Terminal) (l : ℕ) (k : Stack) (w : Counts) → OneLevel (m.block x l k w)
+block_asks : (x : Terminal) (l : ℕ) (k : SymbolStack) (w : TextCounts) → OneLevel (m.wants_block x l k w)
 block_asks (Sign g.RightBrace p) l k w = tt
 block_asks x l k w = thing_asks x l (Block l ∷ k) w
 
-body_asks : (x : Terminal) (l : ℕ) (k : Stack) (w : Counts) → OneLevel (m.body x l k w)
+body_asks : (x : Terminal) (l : ℕ) (k : SymbolStack) (w : TextCounts) → OneLevel (m.body x l k w)
 body_asks (Sign g.LeftBrace p) l k w = tt
 body_asks x l k w = thing_asks x l k w
 
-after_word_asks : (x : Terminal) (l : ℕ) (k : Stack) (w : Counts) → NoLevel (m.after_word x l k w)
+after_word_asks : (x : Terminal) (l : ℕ) (k : SymbolStack) (w : TextCounts) → NoLevel (m.after_word x l k w)
 after_word_asks (Sign g.Equal p) l k w = tt
 after_word_asks (Sign g.LeftParen p) l k w = tt
 after_word_asks _ l k w = tt
 
-after_equal_asks : (x : Terminal) (l : ℕ) (k : Stack) (w : Counts) → NoLevel (m.after_equal x l k w)
+after_equal_asks : (x : Terminal) (l : ℕ) (k : SymbolStack) (w : TextCounts) → NoLevel (m.after_equal x l k w)
 after_equal_asks (Key k.Next p) l k w = tt
 after_equal_asks (Key k.Get p) l k w = tt
 after_equal_asks x l k w = operand_asks x l (Operators l ∷ Fixed punctuation.Semicolon ∷ k) (new_expression w)
 
-after_next_asks : (x : Terminal) (l : ℕ) (k : Stack) (w : Counts) → NoLevel (m.after_next x l k w)
+after_next_asks : (x : Terminal) (l : ℕ) (k : SymbolStack) (w : TextCounts) → NoLevel (m.after_next x l k w)
 after_next_asks (Sign g.Semicolon p) l k w = tt
 after_next_asks (Sign g.Equal p) l k w = tt
 after_next_asks _ l k w = tt
@@ -153,96 +153,96 @@ joined_or_none : (b : Bool) (o : Option Want) → NoLevel o → NoLevel (if b th
 joined_or_none true o h = h
 joined_or_none false o h = tt
 
-throw_rest_asks : (x : Terminal) (l : ℕ) (k : Stack) (w : Counts) → NoLevel (m.throw_rest x l k w)
+throw_rest_asks : (x : Terminal) (l : ℕ) (k : SymbolStack) (w : TextCounts) → NoLevel (m.throw_rest x l k w)
 throw_rest_asks (Sign g.Semicolon p) l k w = tt
 throw_rest_asks (Sign g.LeftParen p) l k w = joined_or_none w.two _ tt
 throw_rest_asks _ l k w = tt
 
-catch_rest_asks : (x : Terminal) (k : Stack) (w : Counts) → NoLevel (m.catch_rest x k w)
+catch_rest_asks : (x : Terminal) (k : SymbolStack) (w : TextCounts) → NoLevel (m.catch_rest x k w)
 catch_rest_asks (Sign g.RightParen p) k w = tt
 catch_rest_asks (Name y p) k w = joined_or_none w.two _ (many.Locals, refl, tt)
 catch_rest_asks _ k w = tt
 
-first_asks : (x : Terminal) (l : ℕ) (k : Stack) (w : Counts) → OneLevel (m.first_of_for x l k w)
+first_asks : (x : Terminal) (l : ℕ) (k : SymbolStack) (w : TextCounts) → OneLevel (m.first_of_for x l k w)
 first_asks (Sign g.Semicolon p) l k w = tt
 first_asks (Sort (Value ty) p) l k w = tt
 first_asks (Name y p) l k w = tt
 first_asks _ l k w = tt
 
-test_asks : (x : Terminal) (l : ℕ) (k : Stack) (w : Counts) → NoLevel (m.test_of_for x l k w)
+test_asks : (x : Terminal) (l : ℕ) (k : SymbolStack) (w : TextCounts) → NoLevel (m.test_of_for x l k w)
 test_asks (Sign g.Semicolon p) l k w = tt
 test_asks x l k w = operand_asks x l (Operators l ∷ Fixed punctuation.Semicolon ∷ k) (new_expression w)
 
-step_asks : (x : Terminal) (l : ℕ) (k : Stack) (w : Counts) → OneLevel (m.step_of_for x l k w)
+step_asks : (x : Terminal) (l : ℕ) (k : SymbolStack) (w : TextCounts) → OneLevel (m.step_of_for x l k w)
 step_asks (Sign g.RightParen p) l k w = tt
 step_asks (Name y p) l k w = tt
 step_asks _ l k w = tt
 
-else_asks : (x : Terminal) (l : ℕ) (k : Stack) (w : Counts) (other : Option Want) (h : OneLevel other) → OneLevel (m.or_else x l k w other)
+else_asks : (x : Terminal) (l : ℕ) (k : SymbolStack) (w : TextCounts) (other : Option Want) (h : OneLevel other) → OneLevel (m.wants_or_else x l k w other)
 else_asks (Key k.Else p) l k w other h = tt
 else_asks _ l k w other h = h
 
-pars_asks : (x : Terminal) (l : ℕ) (n : ℕ) (k : Stack) (w : Counts) (other : Option Want) (h : OneLevel other) → OneLevel (m.pars x l n k w other)
+pars_asks : (x : Terminal) (l : ℕ) (n : ℕ) (k : SymbolStack) (w : TextCounts) (other : Option Want) (h : OneLevel other) → OneLevel (m.pars x l n k w other)
 pars_asks (Key k.Par p) l n k w other h = tt
 pars_asks _ l n k w other h = h
 
-after_body_asks : (x : Terminal) (l : ℕ) (d : ℕ) (k : Stack) (w : Counts) (other : Option Want) (h : OneLevel other) → OneLevel (m.after_body x l d k w other)
+after_body_asks : (x : Terminal) (l : ℕ) (d : ℕ) (k : SymbolStack) (w : TextCounts) (other : Option Want) (h : OneLevel other) → OneLevel (m.after_body x l d k w other)
 after_body_asks (Key k.Par p) l d k w other h = tt
 after_body_asks _ l d k w other h = h
 
-branch_asks : (x : Terminal) (l : ℕ) (n : ℕ) (k : Stack) (w : Counts) → NoLevel (m.branch x l n k w)
+branch_asks : (x : Terminal) (l : ℕ) (n : ℕ) (k : SymbolStack) (w : TextCounts) → NoLevel (m.branch x l n k w)
 branch_asks (Sign g.LeftBrace p) l n k w = (many.Branches, refl, tt)
 branch_asks (Name y p) l n k w = (many.Branches, refl, tt)
 branch_asks _ l n k w = tt
 
-parameter_asks : (x : Terminal) (n : ℕ) (k : Stack) (w : Counts) → NoLevel (m.parameter x n k w)
+parameter_asks : (x : Terminal) (n : ℕ) (k : SymbolStack) (w : TextCounts) → NoLevel (m.parameter x n k w)
 parameter_asks (Sort sort p) n k w = (many.Parameters, refl, tt)
 parameter_asks _ n k w = tt
 
-parameters_asks : (x : Terminal) (k : Stack) (w : Counts) → NoLevel (m.parameters x k w)
+parameters_asks : (x : Terminal) (k : SymbolStack) (w : TextCounts) → NoLevel (m.wants_parameters x k w)
 parameters_asks (Sign g.RightParen p) k w = tt
 parameters_asks (Key k.Void p) k w = tt
 parameters_asks (Sort sort p) k w = (many.Parameters, refl, tt)
 parameters_asks _ k w = tt
 
-more_parameters_asks : (x : Terminal) (n : ℕ) (k : Stack) (w : Counts) → NoLevel (m.more_parameters x n k w)
+more_parameters_asks : (x : Terminal) (n : ℕ) (k : SymbolStack) (w : TextCounts) → NoLevel (m.more_parameters x n k w)
 more_parameters_asks (Sign g.RightParen p) n k w = tt
 more_parameters_asks (Sign g.Comma p) n k w = tt
 more_parameters_asks _ n k w = tt
 
-after_sort_asks : (x : Terminal) (k : Stack) (w : Counts) → NoLevel (m.after_sort x k w)
+after_sort_asks : (x : Terminal) (k : SymbolStack) (w : TextCounts) → NoLevel (m.after_sort x k w)
 after_sort_asks (Name y p) k w = tt
 after_sort_asks (Sign g.Amp p) k w = tt
 after_sort_asks _ k w = tt
 
-throws_asks : (x : Terminal) (k : Stack) (w : Counts) → NoLevel (m.throws x k w)
+throws_asks : (x : Terminal) (k : SymbolStack) (w : TextCounts) → NoLevel (m.wants_throws x k w)
 throws_asks (Sign g.LeftBrace p) k w = tt
 throws_asks (Key k.Throws p) k w = tt
 throws_asks _ k w = tt
 
-thrown_asks : (x : Terminal) (n : ℕ) (k : Stack) (w : Counts) → NoLevel (m.thrown x n k w)
+thrown_asks : (x : Terminal) (n : ℕ) (k : SymbolStack) (w : TextCounts) → NoLevel (m.wants_thrown x n k w)
 thrown_asks (Name y p) n k w = (many.Throws, refl, tt)
 thrown_asks _ n k w = tt
 
-more_throws_asks : (x : Terminal) (n : ℕ) (k : Stack) (w : Counts) → NoLevel (m.more_throws x n k w)
+more_throws_asks : (x : Terminal) (n : ℕ) (k : SymbolStack) (w : TextCounts) → NoLevel (m.more_throws x n k w)
 more_throws_asks (Sign g.LeftBrace p) n k w = tt
 more_throws_asks (Sign g.Comma p) n k w = tt
 more_throws_asks _ n k w = tt
 
-functions_asks : (x : Terminal) (n : ℕ) (k : Stack) (w : Counts) → NoLevel (m.functions x n k w)
+functions_asks : (x : Terminal) (n : ℕ) (k : SymbolStack) (w : TextCounts) → NoLevel (m.functions x n k w)
 functions_asks (End p) n k w = tt
 functions_asks (Key k.Void p) n k w = (many.Functions, refl, tt)
 functions_asks _ n k w = tt
 
-source_by : (x : Terminal) (k : Stack) (w : Counts) (b : Bool) → is_shim x ≡ b → NoLevel (m.source x k w)
+source_by : (x : Terminal) (k : SymbolStack) (w : TextCounts) (b : Bool) → is_shim x ≡ b → NoLevel (m.source x k w)
 source_by x k w true e = rw e tt
 source_by x k w false e = rw e (functions_asks x 0 k w)
 
-version_by : (x : Terminal) (k : Stack) (w : Counts) (b : Bool) → is_two x ≡ b → NoLevel (m.version x k w)
+version_by : (x : Terminal) (k : SymbolStack) (w : TextCounts) (b : Bool) → is_two x ≡ b → NoLevel (m.version x k w)
 version_by x k w true e = rw e tt
 version_by x k w false e = rw e tt
 
-pub level_first : (k : Stack) (x : Terminal) (w : Counts) → IfSome (wants k x w) (λ n. LevelFirst n.asks)
+pub level_first : (k : SymbolStack) (x : Terminal) (w : TextCounts) → IfSome (wants k x w) (λ n. LevelFirst n.asks)
 level_first [] x w = tt
 level_first (Fixed f ∷ k) x w = one _ (fixed_asks f x k w)
 level_first (Word ∷ k) x w = one _ (word_asks x k w)

@@ -5,8 +5,8 @@ use Rattle.shim_syntax.specs.declared.limits.Many.{Many}
 use Rattle.shim_syntax.specs.declared.limits.Many.TheVariants as many
 use Rattle.shim_syntax.specs.Terminals.{Terminal}
 use Rattle.shim_syntax.specs.Limits.{Limit, Nesting, Count, limits, nesting_and, is_same}
-use Rattle.shim_syntax.specs.Grammar.{Counts}
-use Rattle.shim_grammar.specs.Machine.{Stack, Ask, Want, At, Unwanted, Past, Whole, run, wants}
+use Rattle.shim_syntax.specs.Grammar.{TextCounts}
+use Rattle.shim_grammar.specs.Machine.{SymbolStack, Ask, Want, At, Unwanted, Past, AllTaken, run_parser, wants}
 use Rattle.shim_grammar.proofs.Gives.{Allowed}
 use Rattle.shim_grammar.proofs.Runs.{run_on}
 use Rattle.shim_grammar.proofs.Judged.{Refused, judge_allowed, allowed_more, halts_here, halts_later, no_sooner}
@@ -50,23 +50,23 @@ module _ (a u : Many) (other : is_same a u ≡ false) where
   )
 
   counted_here : (x : Terminal) (s : List Terminal) (o : Option Want) → IfSome o (λ n. OneNumber n.asks) → run_on limits x s o ≡ At (Past (Count u)) (x ∷ s)
-      → run_on (nesting_and a) x [] o ≡ Whole
+      → run_on (nesting_and a) x [] o ≡ AllTaken
   counted_here x s None z e = absurd (cc)
   counted_here x s (Some n) z e =
       let h = halts_here limits (Past (Count u)) x s n e in
       let i : h.0 ≡ Count u = let g = h.1 in cc in
-      judge_allowed (nesting_and a) (x ∷ []) n.asks Whole (refused_allowed (x ∷ s) (x ∷ []) n.asks z (subst (λ limit. Refused limits (x ∷ s) n.asks limit) i h.2))
+      judge_allowed (nesting_and a) (x ∷ []) n.asks AllTaken (refused_allowed (x ∷ s) (x ∷ []) n.asks z (subst (λ limit. Refused limits (x ∷ s) n.asks limit) i h.2))
 
   counted_there : (x : Terminal) (s : List Terminal) (y : Terminal) (r : List Terminal) (o : Option Want) → run_on limits y (r ++ x ∷ s) o ≡ At (Past (Count u)) (x ∷ s)
-      → ((k : Stack) (w : Counts) → run limits (r ++ x ∷ s) k w ≡ At (Past (Count u)) (x ∷ s) → run (nesting_and a) (r ++ x ∷ []) k w ≡ Whole)
-      → run_on (nesting_and a) y (r ++ x ∷ []) o ≡ Whole
+      → ((k : SymbolStack) (w : TextCounts) → run_parser limits (r ++ x ∷ s) k w ≡ At (Past (Count u)) (x ∷ s) → run_parser (nesting_and a) (r ++ x ∷ []) k w ≡ AllTaken)
+      → run_on (nesting_and a) y (r ++ x ∷ []) o ≡ AllTaken
   counted_there x s y r None e h = absurd (no_sooner (Past (Count u)) Unwanted r s x y e)
   counted_there x s y r (Some n) e h =
-      let q = halts_later limits (Past (Count u)) x y r s n.asks (run limits (r ++ x ∷ s) n.stack n.counts) e in
-      judge_allowed (nesting_and a) (y ∷ r ++ x ∷ []) n.asks (run (nesting_and a) (r ++ x ∷ []) n.stack n.counts)
+      let q = halts_later limits (Past (Count u)) x y r s n.asks (run_parser limits (r ++ x ∷ s) n.stack n.counts) e in
+      judge_allowed (nesting_and a) (y ∷ r ++ x ∷ []) n.asks (run_parser (nesting_and a) (r ++ x ∷ []) n.stack n.counts)
       (allowed_more limits (nesting_and a) (y ∷ r ++ x ∷ s) (y ∷ r ++ x ∷ []) (nesting_and_passes a (y ∷ r ++ x ∷ s) (y ∷ r ++ x ∷ [])) n.asks q.0)
       ∙ h n.stack n.counts q.1
 
-  pub counted : (x : Terminal) (s r : List Terminal) (k : Stack) (w : Counts) → run limits (r ++ x ∷ s) k w ≡ At (Past (Count u)) (x ∷ s) → run (nesting_and a) (r ++ x ∷ []) k w ≡ Whole
+  pub counted : (x : Terminal) (s r : List Terminal) (k : SymbolStack) (w : TextCounts) → run_parser limits (r ++ x ∷ s) k w ≡ At (Past (Count u)) (x ∷ s) → run_parser (nesting_and a) (r ++ x ∷ []) k w ≡ AllTaken
   counted x s [] k w e = counted_here x s (wants k x w) (one_number k x w) e
   counted x s (y ∷ r) k w e = counted_there x s y r (wants k y w) e (counted x s r)

@@ -8,9 +8,9 @@ use Rattle.shim_syntax.specs.declared.tree.Sort.TheVariants.{Value}
 use Rattle.shim_syntax.specs.Terminals.{Terminal, Name, Number, Sort, Sign, End, first}
 use Rattle.shim_syntax.specs.Limits.{Limits}
 use Rattle.shim_syntax.specs.Grammar as is
-use Rattle.shim_syntax.specs.Grammar.{Counts, new_function, with_local, new_expression, with_operator, at_level, new_body, behind_body, is_else, is_par}
+use Rattle.shim_syntax.specs.Grammar.{TextCounts, new_function, with_local, new_expression, with_operator, at_level, new_body, behind_body, is_else, is_par}
 use Rattle.shim_grammar.specs.declared.punctuation.Punctuation.TheVariants as punctuation
-use Rattle.shim_grammar.specs.Machine.{Symbol, Fixed, Word, Operand, Inside, Expression, Operators, Arguments, MoreArguments, Argument, Declarations, AfterDeclared, MoreDeclarations, Declaration, AfterDeclaration, Statement, Body, Block, AfterWord, AfterEqual, AfterNext, ThrowRest, CatchRest, First, Test, Else, AfterBody, Pars, Branch, Parameters, AfterSort, Throws, MoreParameters, Parameter, Thrown, MoreThrows, Functions, Stack, wants, Source, Version}
+use Rattle.shim_grammar.specs.Machine.{Symbol, Fixed, Word, Operand, Inside, Expression, Operators, Arguments, MoreArguments, Argument, Declarations, AfterDeclared, MoreDeclarations, Declaration, AfterDeclaration, Statement, Body, Block, AfterWord, AfterEqual, AfterNext, ThrowRest, CatchRest, First, Test, Else, AfterBody, Pars, Branch, Parameters, AfterSort, Throws, MoreParameters, Parameter, Thrown, MoreThrows, Functions, SymbolStack, wants, Source, Version}
 use Rattle.shim_grammar.specs.Machine.{Step as StepOfFor}
 use Rattle.shim_grammar.proofs.Gives.{terminal_of, Gives, Takes, Step, Free}
 use Rattle.shim_grammar.proofs.Joins.{lift}
@@ -19,7 +19,7 @@ use Rattle.shim_grammar.proofs.GoesStmt as st
 use Rattle.shim_grammar.proofs.GoesFunction as f
 
 -- what the stack behind a terminal takes, the stack before it takes with it
-pub sound : (c : Limits) (k : Stack) (x : Terminal) (w : Counts) → Step c x k w (wants k x w)
+pub sound : (c : Limits) (k : SymbolStack) (x : Terminal) (w : TextCounts) → Step c x k w (wants k x w)
 sound c [] x w = tt
 sound c (Fixed y ∷ k) x w = e.fixed_sound c y x k w
 sound c (Word ∷ k) x w = e.word_sound c x k w
@@ -62,7 +62,7 @@ sound c (Source ∷ k) x w = f.source_sound c x k w
 sound c (Version ∷ k) x w = f.version_sound c x k w
 
 -- terminals that give what a stack still wants
-abbrev pub finish : Stack → List Terminal
+abbrev pub finish : SymbolStack → List Terminal
 finish [] = []
 finish (Fixed y ∷ k) = terminal_of y start ∷ finish k
 finish (Word ∷ k) = Name [] start ∷ finish k
@@ -105,7 +105,7 @@ finish (Source ∷ k) = End start ∷ finish k
 finish (Version ∷ k) = Number (pos 2) start ∷ finish k
 
 -- a symbol that falls through begins as what stands below it
-pub no_else : (k : Stack) → is_else (first (finish k)) ≡ false
+pub no_else : (k : SymbolStack) → is_else (first (finish k)) ≡ false
 no_else [] = refl
 no_else (Fixed punctuation.Catch ∷ k) = refl
 no_else (Fixed y ∷ k) = refl
@@ -115,7 +115,7 @@ no_else (AfterBody l d ∷ k) = no_else k
 no_else (Pars l n ∷ k) = no_else k
 no_else (y ∷ k) = refl
 
-pub no_par : (k : Stack) → is_par (first (finish k)) ≡ false
+pub no_par : (k : SymbolStack) → is_par (first (finish k)) ≡ false
 no_par [] = refl
 no_par (Fixed punctuation.Catch ∷ k) = refl
 no_par (Fixed y ∷ k) = refl
@@ -126,7 +126,7 @@ no_par (Pars l n ∷ k) = no_par k
 no_par (y ∷ k) = refl
 
 -- what is counted behind the terminals that finish a symbol
-abbrev counted : Symbol → Counts → Counts
+abbrev counted : Symbol → TextCounts → TextCounts
 counted (Inside l) w = at_level l w
 counted (Expression l) w = new_expression w
 counted (Argument l n) w = new_expression w
@@ -139,14 +139,14 @@ counted (AfterEqual l) w = new_expression w
 counted (AfterBody l d) w = behind_body d w
 counted _ w = w
 
-finish_longer : (y : Symbol) (k : Stack) → length (finish k) ≤ length (finish (y ∷ k))
+finish_longer : (y : Symbol) (k : SymbolStack) → length (finish k) ≤ length (finish (y ∷ k))
 finish_longer (Operators l) k = omega arith
 finish_longer _ k = omega arith
 
-free_behind : (c : Limits) (y : Symbol) (k : Stack) → Free c (finish (y ∷ k)) → Free c (finish k)
+free_behind : (c : Limits) (y : Symbol) (k : SymbolStack) → Free c (finish (y ∷ k)) → Free c (finish k)
 free_behind c y k f = λ s limit n h. f s limit n (omega (arith, h, finish_longer y k))
 
-finish_gives : (c : Limits) (y : Symbol) (k : Stack) (w : Counts) → Free c (finish (y ∷ k)) → Gives c y w (counted y w) (finish (y ∷ k)) (finish k)
+finish_gives : (c : Limits) (y : Symbol) (k : SymbolStack) (w : TextCounts) → Free c (finish (y ∷ k)) → Gives c y w (counted y w) (finish (y ∷ k)) (finish k)
 finish_gives c (Fixed y) k w f = (start, refl, refl)
 finish_gives c Word k w f = ([], start, refl, refl)
 finish_gives c (Operand l) k w f = (_, is.number)
@@ -187,6 +187,6 @@ finish_gives c (Functions n) k w f = (_, is.program_end)
 finish_gives c Source k w f = (_, is.version_1 is.program_end)
 finish_gives c Version k w f = (_, refl, refl, refl)
 
-pub finishes : (c : Limits) (k : Stack) (w : Counts) → Free c (finish k) → Takes c k w (finish k)
+pub finishes : (c : Limits) (k : SymbolStack) (w : TextCounts) → Free c (finish k) → Takes c k w (finish k)
 finishes c [] w f = refl
 finishes c (y ∷ k) w f = (finish k, counted y w, finish_gives c y k w f, finishes c k (counted y w) (free_behind c y k f))

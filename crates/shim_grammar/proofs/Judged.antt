@@ -3,8 +3,8 @@ use Rattle.std.proofs.Common.{◌≡◌, ◌≤◌, ℕ, suc, List, [], ◌∷�
 use Rattle.shim_syntax.specs.declared.limits.Many.{Many}
 use Rattle.shim_syntax.specs.Terminals.{Terminal}
 use Rattle.shim_syntax.specs.Limits.{Limit, Count, Limits}
-use Rattle.shim_syntax.specs.Grammar.{Counts}
-use Rattle.shim_grammar.specs.Machine.{Stack, Ask, Want, Halt, At, Cause, Past, judge, run, wants}
+use Rattle.shim_syntax.specs.Grammar.{TextCounts}
+use Rattle.shim_grammar.specs.Machine.{SymbolStack, Ask, Want, Halt, At, Cause, Past, judge, run_parser, wants}
 use Rattle.shim_grammar.proofs.Gives.{Allowed}
 use Rattle.shim_grammar.proofs.Runs.{run_on}
 use Rattle.shim_grammar.proofs.Asks.{NumbersAlone, LevelFirst}
@@ -67,16 +67,16 @@ shorter_judged c x s asks h e = elim (judged c (x ∷ s) asks) [
   | inr r ↦ rw (judge_refused c (x ∷ s) asks h r.0 r.1) (omega arith)
 ]
 
-shorter_step : (c : Limits) (x : Terminal) (s : List Terminal) (o : Option Want) → ((k : Stack) (w : Counts) → length (left_of (run c s k w)) ≤ length s)
+shorter_step : (c : Limits) (x : Terminal) (s : List Terminal) (o : Option Want) → ((k : SymbolStack) (w : TextCounts) → length (left_of (run_parser c s k w)) ≤ length s)
     → length (left_of (run_on c x s o)) ≤ suc (length s)
 shorter_step c x s None f = omega arith
-shorter_step c x s (Some n) f = shorter_judged c x s n.asks (run c s n.stack n.counts) (f n.stack n.counts)
+shorter_step c x s (Some n) f = shorter_judged c x s n.asks (run_parser c s n.stack n.counts) (f n.stack n.counts)
 
-pub shorter : (c : Limits) (s : List Terminal) (k : Stack) (w : Counts) → length (left_of (run c s k w)) ≤ length s
+pub shorter : (c : Limits) (s : List Terminal) (k : SymbolStack) (w : TextCounts) → length (left_of (run_parser c s k w)) ≤ length s
 shorter c [] k w = omega arith
 shorter c (x ∷ s) k w = shorter_step c x s (wants k x w) (shorter c s)
 
-pub no_later : (c : Limits) (f : Cause) (x : Terminal) (s : List Terminal) (k : Stack) (w : Counts) → run c s k w ≡ At f (x ∷ s) → ⊥
+pub no_later : (c : Limits) (f : Cause) (x : Terminal) (s : List Terminal) (k : SymbolStack) (w : TextCounts) → run_parser c s k w ≡ At f (x ∷ s) → ⊥
 no_later c f x s k w e = omega (arith, shorter c s k w, ap (λ h. length (left_of h)) e)
 
 pub no_sooner : (f g : Cause) (b s : List Terminal) (x y : Terminal) → At g (y ∷ b ++ x ∷ s) ≡ At f (x ∷ s) → ⊥
@@ -86,7 +86,7 @@ no_sooner f g b s x y e = omega (arith, ap (λ h. length (left_of h)) e, length-
 pub halts_here : (c : Limits) (f : Cause) (x : Terminal) (s : List Terminal) (n : Want) → run_on c x s (Some n) ≡ At f (x ∷ s) → (limit : Limit) × (f ≡ Past limit) × Refused c (x ∷ s) n.asks limit
 halts_here c f x s n e = elim (judged c (x ∷ s) n.asks) [
   | inl a ↦ absurd (no_later c f x s n.stack n.counts (sym (judge_allowed c (x ∷ s) n.asks _ a) ∙ e))
-  | inr r ↦ let g = sym (judge_refused c (x ∷ s) n.asks (run c s n.stack n.counts) r.0 r.1) ∙ e in (r.0, cc, r.1)
+  | inr r ↦ let g = sym (judge_refused c (x ∷ s) n.asks (run_parser c s n.stack n.counts) r.0 r.1) ∙ e in (r.0, cc, r.1)
 ]
 
 pub halts_later : (c : Limits) (f : Cause) (x y : Terminal) (r s : List Terminal) (asks : List Ask) (h : Halt) → judge c (y ∷ r ++ x ∷ s) asks h ≡ At f (x ∷ s)

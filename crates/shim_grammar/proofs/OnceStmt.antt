@@ -9,7 +9,7 @@ use Rattle.shim_syntax.specs.declared.tree.Branch.{Branch}
 use Rattle.shim_syntax.specs.Terminals.{Terminal, Key, Sign, first}
 use Rattle.shim_syntax.specs.Limits.{Limits}
 use Rattle.shim_syntax.specs.Grammar as is
-use Rattle.shim_syntax.specs.Grammar.{Counts, IsTest, IsStep, IsCatchRest, IsBlock, IsStmt, IsBody, IsPlain, IsBranches, IsBranch, is_else, is_par}
+use Rattle.shim_syntax.specs.Grammar.{TextCounts, IsTest, IsStep, IsCatchRest, IsBlock, IsStmt, IsBody, IsPlain, IsBranches, IsBranch, is_else, is_par}
 use Rattle.shim_grammar.proofs.OnceExpr.{whole_once, arguments_once, no_keyword, tail_same}
 use Rattle.shim_grammar.proofs.OnceParts.{declarations_once, first_once, test_once, step_once, throw_rest_once, catch_rest_once}
 
@@ -17,22 +17,22 @@ pub same_more : {A : Type 0} {x x' : A} {xs xs' : List A} → x ≡ x' → xs �
 same_more {x' = x'} {xs = xs} p q = ap (λ u. u ∷ xs) p ∙ ap (λ u. x' ∷ u) q
 
 -- the same things by another name of the terminals
-at_test : {c : Limits} {l : ℕ} {v w : Counts} {s t r : List Terminal} {x : Option Expr} → s ≡ t → IsTest c l v w t r x → IsTest c l v w s r x
+at_test : {c : Limits} {l : ℕ} {v w : TextCounts} {s t r : List Terminal} {x : Option Expr} → s ≡ t → IsTest c l v w t r x → IsTest c l v w s r x
 at_test {c = c} {l = l} {v = v} {w = w} {r = r} {x = x} p i = subst (λ u. IsTest c l v w u r x) (sym p) i
 
-at_step : {c : Limits} {l : ℕ} {v w : Counts} {s t r : List Terminal} {xs : List Stmt} → s ≡ t → IsStep c l v w t r xs → IsStep c l v w s r xs
+at_step : {c : Limits} {l : ℕ} {v w : TextCounts} {s t r : List Terminal} {xs : List Stmt} → s ≡ t → IsStep c l v w t r xs → IsStep c l v w s r xs
 at_step {c = c} {l = l} {v = v} {w = w} {r = r} {xs = xs} p i = subst (λ u. IsStep c l v w u r xs) (sym p) i
 
-at_catch_rest : {c : Limits} {v w : Counts} {s t r : List Terminal} {x : Option (List ℕ)} → s ≡ t → IsCatchRest c v w t r x → IsCatchRest c v w s r x
+at_catch_rest : {c : Limits} {v w : TextCounts} {s t r : List Terminal} {x : Option (List ℕ)} → s ≡ t → IsCatchRest c v w t r x → IsCatchRest c v w s r x
 at_catch_rest {c = c} {v = v} {w = w} {r = r} {x = x} p i = subst (λ u. IsCatchRest c v w u r x) (sym p) i
 
-at_block : {c : Limits} {l : ℕ} {v w : Counts} {s t r : List Terminal} {xs : List Stmt} → s ≡ t → IsBlock c l v w t r xs → IsBlock c l v w s r xs
+at_block : {c : Limits} {l : ℕ} {v w : TextCounts} {s t r : List Terminal} {xs : List Stmt} → s ≡ t → IsBlock c l v w t r xs → IsBlock c l v w s r xs
 at_block {c = c} {l = l} {v = v} {w = w} {r = r} {xs = xs} p i = subst (λ u. IsBlock c l v w u r xs) (sym p) i
 
-at_body : {c : Limits} {l : ℕ} {v w : Counts} {s t r : List Terminal} {xs : List Stmt} → s ≡ t → IsBody c l v w t r xs → IsBody c l v w s r xs
+at_body : {c : Limits} {l : ℕ} {v w : TextCounts} {s t r : List Terminal} {xs : List Stmt} → s ≡ t → IsBody c l v w t r xs → IsBody c l v w s r xs
 at_body {c = c} {l = l} {v = v} {w = w} {r = r} {xs = xs} p i = subst (λ u. IsBody c l v w u r xs) (sym p) i
 
-at_branches : {c : Limits} {l n : ℕ} {v w : Counts} {s t r : List Terminal} {bs : List Branch} → s ≡ t → IsBranches c l n v w t r bs → IsBranches c l n v w s r bs
+at_branches : {c : Limits} {l n : ℕ} {v w : TextCounts} {s t r : List Terminal} {bs : List Branch} → s ≡ t → IsBranches c l n v w t r bs → IsBranches c l n v w s r bs
 at_branches {c = c} {l = l} {n = n} {v = v} {w = w} {r = r} {bs = bs} p i = subst (λ u. IsBranches c l n v w u r bs) (sym p) i
 
 meets_par : {r m : List Terminal} {p : Place} → r ≡ Key k.Par p ∷ m → is_par (first r) ≡ false → ⊥
@@ -42,15 +42,15 @@ meets_else : {r m : List Terminal} {p : Place} → r ≡ Key k.Else p ∷ m → 
 meets_else e h = absurd (let i = sym (ap (λ s. is_else (first s)) e) ∙ h in cc)
 
 -- no statement begins with a right brace
-no_brace : {c : Limits} {l : ℕ} {v w : Counts} {p : Place} {s r : List Terminal} {xs : List Stmt} → IsStmt c l v w (Sign g.RightBrace p ∷ s) r xs → ⊥
+no_brace : {c : Limits} {l : ℕ} {v w : TextCounts} {p : Place} {s r : List Terminal} {xs : List Stmt} → IsStmt c l v w (Sign g.RightBrace p ∷ s) r xs → ⊥
 no_brace (is.plain a) = elim a [ ]
 
 -- and no plain one with a left brace
-no_plain : {c : Limits} {l : ℕ} {v w : Counts} {p : Place} {s r : List Terminal} {xs : List Stmt} → IsPlain c l v w (Sign g.LeftBrace p ∷ s) r xs → ⊥
+no_plain : {c : Limits} {l : ℕ} {v w : TextCounts} {p : Place} {s r : List Terminal} {xs : List Stmt} → IsPlain c l v w (Sign g.LeftBrace p ∷ s) r xs → ⊥
 no_plain a = elim a [ ]
 
 mutual
-  pub block_once : {c d : Limits} {l l' : ℕ} {v w v' w' : Counts} {s r r' : List Terminal} {xs ys : List Stmt} → IsBlock c l v w s r xs → IsBlock d l' v' w' s r' ys
+  pub block_once : {c d : Limits} {l l' : ℕ} {v w v' w' : TextCounts} {s r r' : List Terminal} {xs ys : List Stmt} → IsBlock c l v w s r xs → IsBlock d l' v' w' s r' ys
       → (r ≡ r') × (xs ≡ ys)
   block_once is.block_end is.block_end = (refl, refl)
   block_once is.block_end (is.stmt h a b) = absurd (no_brace a)
@@ -60,7 +60,7 @@ mutual
       let q = block_once b (at_block p.0 b') in
       (q.0, (let x = p.1 in let y = q.1 in cc))
 
-  pub stmt_once : {c d : Limits} {l l' : ℕ} {v w v' w' : Counts} {s r r' : List Terminal} {xs ys : List Stmt} → IsStmt c l v w s r xs → IsStmt d l' v' w' s r' ys
+  pub stmt_once : {c d : Limits} {l l' : ℕ} {v w v' w' : TextCounts} {s r r' : List Terminal} {xs ys : List Stmt} → IsStmt c l v w s r xs → IsStmt d l' v' w' s r' ys
       → (r ≡ r') × (xs ≡ ys)
   stmt_once (is.block a h) (is.block a' h') = let p = block_once a a' in (p.0, (let x = p.1 in cc))
   stmt_once (is.block a h) (is.block_fork a' b') = absurd (meets_par ((block_once a a').0) h)
@@ -75,7 +75,7 @@ mutual
   stmt_once (is.plain a) (is.block_fork a' b') = absurd (no_plain a)
   stmt_once (is.plain a) (is.plain a') = plain_once a a'
 
-  pub body_once : {c d : Limits} {l l' : ℕ} {v w v' w' : Counts} {s r r' : List Terminal} {xs ys : List Stmt} → IsBody c l v w s r xs → IsBody d l' v' w' s r' ys
+  pub body_once : {c d : Limits} {l l' : ℕ} {v w v' w' : TextCounts} {s r r' : List Terminal} {xs ys : List Stmt} → IsBody c l v w s r xs → IsBody d l' v' w' s r' ys
       → (r ≡ r') × (xs ≡ ys)
   body_once (is.body_block a h) (is.body_block a' h') = block_once a a'
   body_once (is.body_block a h) (is.body_fork a' i' b') = absurd (meets_par ((block_once a a').0) h)
@@ -90,7 +90,7 @@ mutual
   body_once (is.body_plain i a) (is.body_fork a' i' b') = absurd (no_plain a)
   body_once (is.body_plain i a) (is.body_plain i' a') = plain_once a a'
 
-  pub plain_once : {c d : Limits} {l l' : ℕ} {v w v' w' : Counts} {s r r' : List Terminal} {xs ys : List Stmt} → IsPlain c l v w s r xs → IsPlain d l' v' w' s r' ys
+  pub plain_once : {c d : Limits} {l l' : ℕ} {v w v' w' : TextCounts} {s r r' : List Terminal} {xs ys : List Stmt} → IsPlain c l v w s r xs → IsPlain d l' v' w' s r' ys
       → (r ≡ r') × (xs ≡ ys)
   plain_once is.empty is.empty = (refl, refl)
   plain_once (is.declare a) (is.declare a') = declarations_once a a'
@@ -144,7 +144,7 @@ mutual
       (q.0, (let x = p.1 in let y = q.1 in let z = o.1 in cc))
   plain_once (is.throw a) (is.throw a') = let p = throw_rest_once a a' in (p.0, (let x = p.1 in cc))
 
-  pub branches_once : {c d : Limits} {l l' n n' : ℕ} {v w v' w' : Counts} {s r r' : List Terminal} {bs cs : List Branch} → IsBranches c l n v w s r bs → IsBranches d l' n' v' w' s r' cs
+  pub branches_once : {c d : Limits} {l l' n n' : ℕ} {v w v' w' : TextCounts} {s r r' : List Terminal} {bs cs : List Branch} → IsBranches c l n v w s r bs → IsBranches d l' n' v' w' s r' cs
       → (r ≡ r') × (bs ≡ cs)
   branches_once (is.last_branch i b h) (is.last_branch i' b' h') = let p = branch_once b b' in (p.0, same_more p.1 refl)
   branches_once (is.last_branch i b h) (is.branch i' b' a') = absurd (meets_par ((branch_once b b').0) h)
@@ -154,6 +154,6 @@ mutual
       let q = branches_once a (at_branches (tail_same p.0) a') in
       (q.0, same_more p.1 q.1)
 
-  pub branch_once : {c d : Limits} {l l' : ℕ} {v w v' w' : Counts} {s r r' : List Terminal} {b b' : Branch} → IsBranch c l v w s r b → IsBranch d l' v' w' s r' b' → (r ≡ r') × (b ≡ b')
+  pub branch_once : {c d : Limits} {l l' : ℕ} {v w v' w' : TextCounts} {s r r' : List Terminal} {b b' : Branch} → IsBranch c l v w s r b → IsBranch d l' v' w' s r' b' → (r ≡ r') × (b ≡ b')
   branch_once (is.block_branch a) (is.block_branch a') = let p = block_once a a' in (p.0, (let x = p.1 in cc))
   branch_once (is.call_branch a) (is.call_branch a') = let p = arguments_once a a' in (tail_same p.0, (let x = p.1 in cc))

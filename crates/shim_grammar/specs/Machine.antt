@@ -8,7 +8,7 @@ use Rattle.shim_syntax.specs.declared.limits.Many.TheVariants as m
 use Rattle.shim_syntax.specs.declared.tree.Sort.TheVariants.{Value}
 use Rattle.shim_syntax.specs.Terminals.{Terminal, Name, Number, Sort, Key, Sign, End, is_shim, is_two}
 use Rattle.shim_syntax.specs.Limits.{Limit, Nesting, Count, Limits}
-use Rattle.shim_syntax.specs.Grammar.{Counts, in_version_2, new_function, with_local, new_expression, with_operator, at_level, new_body, behind_body, as_branch}
+use Rattle.shim_syntax.specs.Grammar.{TextCounts, in_version_2, new_function, with_local, new_expression, with_operator, at_level, new_body, behind_body, as_branch}
 use Rattle.shim_grammar.specs.declared.punctuation.Punctuation.{Punctuation}
 use Rattle.shim_grammar.specs.declared.punctuation.Punctuation.TheVariants as punctuation
 
@@ -37,8 +37,8 @@ pub data Symbol : Type 0 where
   Source Version : Symbol
   MoreParameters Parameter Thrown MoreThrows Functions : ℕ → Symbol
 
-abbrev pub Stack : Type 0
-Stack = List Symbol
+abbrev pub SymbolStack : Type 0
+SymbolStack = List Symbol
 
 -- what a limit is asked for
 pub record Ask : Type 0 where
@@ -48,17 +48,17 @@ pub record Ask : Type 0 where
 -- what a terminal asks of the limits, what must follow it, and what is counted with it
 pub record Want : Type 0 where
   pub asks : List Ask
-  pub stack : Stack
-  pub counts : Counts
+  pub stack : SymbolStack
+  pub counts : TextCounts
 
-abbrev pub go : Stack → Counts → Option Want
+abbrev pub go : SymbolStack → TextCounts → Option Want
 go k w = Some (record { asks = []; stack = k; counts = w })
 
 abbrev pub ask : Limit → ℕ → Option Want → Option Want
 ask limit n None = None
 ask limit n (Some w) = Some (record { asks = record { limit = limit; number = n } ∷ w.asks; stack = w.stack; counts = w.counts })
 
-abbrev pub fixed : Punctuation → Terminal → Stack → Counts → Option Want
+abbrev pub fixed : Punctuation → Terminal → SymbolStack → TextCounts → Option Want
 fixed punctuation.LeftParen (Sign g.LeftParen p) k w = go k w
 fixed punctuation.RightParen (Sign g.RightParen p) k w = go k w
 fixed punctuation.LeftBrace (Sign g.LeftBrace p) k w = go k w
@@ -68,11 +68,11 @@ fixed punctuation.Equal (Sign g.Equal p) k w = go k w
 fixed punctuation.Catch (Key k.Catch p) k w = go k w
 fixed _ _ k w = None
 
-abbrev pub word : Terminal → Stack → Counts → Option Want
+abbrev pub word : Terminal → SymbolStack → TextCounts → Option Want
 word (Name x p) k w = go k w
 word _ k w = None
 
-abbrev pub operand : Terminal → ℕ → Stack → Counts → Option Want
+abbrev pub operand : Terminal → ℕ → SymbolStack → TextCounts → Option Want
 operand (Number n p) l k w = go k w
 operand (Name x p) l k w = go k w
 operand (Sign g.LeftParen p) l k w = go (Inside (suc l) ∷ Operators (suc l) ∷ Fixed punctuation.RightParen ∷ k) w
@@ -103,48 +103,48 @@ joins_sign g.AndAnd = true
 joins_sign g.OrOr = true
 joins_sign _ = false
 
-abbrev pub joins : Terminal → Bool
-joins (Sign sign p) = joins_sign sign
-joins _ = false
+abbrev pub is_operator : Terminal → Bool
+is_operator (Sign sign p) = joins_sign sign
+is_operator _ = false
 
-abbrev pub operators : Terminal → ℕ → Stack → Counts → Option Want → Option Want
-operators x l k w other = if joins x then ask (Count m.Operators) (suc w.operators) (go (Operand l ∷ Operators l ∷ k) (with_operator w)) else other
+abbrev pub operators : Terminal → ℕ → SymbolStack → TextCounts → Option Want → Option Want
+operators x l k w other = if is_operator x then ask (Count m.Operators) (suc w.operators) (go (Operand l ∷ Operators l ∷ k) (with_operator w)) else other
 
-abbrev pub argument : Terminal → ℕ → ℕ → Stack → Counts → Option Want
-argument x l n k w = ask (Count m.Arguments) n (operand x l (Operators l ∷ MoreArguments l n ∷ k) (new_expression w))
+abbrev pub wants_argument : Terminal → ℕ → ℕ → SymbolStack → TextCounts → Option Want
+wants_argument x l n k w = ask (Count m.Arguments) n (operand x l (Operators l ∷ MoreArguments l n ∷ k) (new_expression w))
 
-abbrev pub arguments : Terminal → ℕ → Stack → Counts → Option Want
-arguments (Sign g.RightParen p) l k w = go k w
-arguments x l k w = argument x l 1 k w
+abbrev pub wants_arguments : Terminal → ℕ → SymbolStack → TextCounts → Option Want
+wants_arguments (Sign g.RightParen p) l k w = go k w
+wants_arguments x l k w = wants_argument x l 1 k w
 
-abbrev pub more_arguments : Terminal → ℕ → ℕ → Stack → Counts → Option Want
+abbrev pub more_arguments : Terminal → ℕ → ℕ → SymbolStack → TextCounts → Option Want
 more_arguments (Sign g.RightParen p) l n k w = go k w
 more_arguments (Sign g.Comma p) l n k w = go (Argument l (suc n) ∷ k) w
 more_arguments _ l n k w = None
 
-abbrev pub declarations : Terminal → ℕ → Stack → Counts → Option Want
-declarations (Name x p) l k w = ask (Count m.Locals) (suc w.locals) (go (AfterDeclared l ∷ k) (with_local w))
-declarations _ l k w = None
+abbrev pub wants_declarations : Terminal → ℕ → SymbolStack → TextCounts → Option Want
+wants_declarations (Name x p) l k w = ask (Count m.Locals) (suc w.locals) (go (AfterDeclared l ∷ k) (with_local w))
+wants_declarations _ l k w = None
 
-abbrev pub more_declarations : Terminal → ℕ → Stack → Counts → Option Want
+abbrev pub more_declarations : Terminal → ℕ → SymbolStack → TextCounts → Option Want
 more_declarations (Sign g.Comma p) l k w = go (Declarations l ∷ k) w
 more_declarations (Sign g.Semicolon p) l k w = go k w
 more_declarations _ l k w = None
 
-abbrev pub after_declared : Terminal → ℕ → Stack → Counts → Option Want
+abbrev pub after_declared : Terminal → ℕ → SymbolStack → TextCounts → Option Want
 after_declared (Sign g.Equal p) l k w = go (Expression l ∷ Operators l ∷ MoreDeclarations l ∷ k) w
 after_declared x l k w = more_declarations x l k w
 
-abbrev pub declaration : Terminal → ℕ → Stack → Counts → Option Want
-declaration (Name x p) l k w = ask (Count m.Locals) (suc w.locals) (go (AfterDeclaration l ∷ k) (with_local w))
-declaration _ l k w = None
+abbrev pub wants_declaration : Terminal → ℕ → SymbolStack → TextCounts → Option Want
+wants_declaration (Name x p) l k w = ask (Count m.Locals) (suc w.locals) (go (AfterDeclaration l ∷ k) (with_local w))
+wants_declaration _ l k w = None
 
-abbrev pub after_declaration : Terminal → ℕ → Stack → Counts → Option Want
+abbrev pub after_declaration : Terminal → ℕ → SymbolStack → TextCounts → Option Want
 after_declaration (Sign g.Equal p) l k w = go (Expression l ∷ Operators l ∷ Fixed punctuation.Semicolon ∷ k) w
 after_declaration (Sign g.Semicolon p) l k w = go k w
 after_declaration _ l k w = None
 
-abbrev pub statement : Terminal → ℕ → Stack → Counts → Option Want
+abbrev pub statement : Terminal → ℕ → SymbolStack → TextCounts → Option Want
 statement (Sign g.Semicolon p) l k w = go k w
 statement (Sort (Value ty) p) l k w = go (Declarations l ∷ k) w
 statement (Name x p) l k w = go (AfterWord l ∷ k) w
@@ -160,127 +160,127 @@ statement (Sign g.LeftBrace p) l k w = go (Block (suc l) ∷ Pars l 1 ∷ k) w
 statement _ l k w = None
 
 -- a statement as a thing that begins
-abbrev pub thing : Terminal → ℕ → Stack → Counts → Option Want
+abbrev pub thing : Terminal → ℕ → SymbolStack → TextCounts → Option Want
 thing x l k w = ask Nesting l (statement x l k (at_level l w))
 
-abbrev pub block : Terminal → ℕ → Stack → Counts → Option Want
-block (Sign g.RightBrace p) l k w = go k w
-block x l k w = thing x l (Block l ∷ k) w
+abbrev pub wants_block : Terminal → ℕ → SymbolStack → TextCounts → Option Want
+wants_block (Sign g.RightBrace p) l k w = go k w
+wants_block x l k w = thing x l (Block l ∷ k) w
 
-abbrev pub body : Terminal → ℕ → Stack → Counts → Option Want
+abbrev pub body : Terminal → ℕ → SymbolStack → TextCounts → Option Want
 body (Sign g.LeftBrace p) l k w = go (Block l ∷ AfterBody l w.deepest ∷ k) (new_body w)
 body x l k w = thing x l k w
 
-abbrev pub after_word : Terminal → ℕ → Stack → Counts → Option Want
+abbrev pub after_word : Terminal → ℕ → SymbolStack → TextCounts → Option Want
 after_word (Sign g.Equal p) l k w = go (AfterEqual l ∷ k) w
 after_word (Sign g.LeftParen p) l k w = go (Arguments l ∷ Fixed punctuation.Semicolon ∷ Pars l 1 ∷ k) w
 after_word _ l k w = None
 
-abbrev pub after_equal : Terminal → ℕ → Stack → Counts → Option Want
+abbrev pub after_equal : Terminal → ℕ → SymbolStack → TextCounts → Option Want
 after_equal (Key k.Next p) l k w = go (Word ∷ Fixed punctuation.Semicolon ∷ k) w
 after_equal (Key k.Get p) l k w = go (Word ∷ Fixed punctuation.Semicolon ∷ k) w
 after_equal x l k w = operand x l (Operators l ∷ Fixed punctuation.Semicolon ∷ k) (new_expression w)
 
-abbrev pub after_next : Terminal → ℕ → Stack → Counts → Option Want
+abbrev pub after_next : Terminal → ℕ → SymbolStack → TextCounts → Option Want
 after_next (Sign g.Semicolon p) l k w = go k w
 after_next (Sign g.Equal p) l k w = go (Expression l ∷ Operators l ∷ Fixed punctuation.Semicolon ∷ k) w
 after_next _ l k w = None
 
 -- version 2 alone has a number behind the exception
-abbrev pub throw_rest : Terminal → ℕ → Stack → Counts → Option Want
+abbrev pub throw_rest : Terminal → ℕ → SymbolStack → TextCounts → Option Want
 throw_rest (Sign g.Semicolon p) l k w = go k w
 throw_rest (Sign g.LeftParen p) l k w = if w.two then go (Expression l ∷ Operators l ∷ Fixed punctuation.RightParen ∷ Fixed punctuation.Semicolon ∷ k) w else None
 throw_rest _ l k w = None
 
 -- version 2 alone has a variable there
-abbrev pub catch_rest : Terminal → Stack → Counts → Option Want
+abbrev pub catch_rest : Terminal → SymbolStack → TextCounts → Option Want
 catch_rest (Sign g.RightParen p) k w = go (Fixed punctuation.LeftBrace ∷ k) w
 catch_rest (Name x p) k w =
     if w.two then ask (Count m.Locals) (suc w.locals) (go (Fixed punctuation.RightParen ∷ Fixed punctuation.LeftBrace ∷ k) (with_local w))
     else None
 catch_rest _ k w = None
 
-abbrev pub first_of_for : Terminal → ℕ → Stack → Counts → Option Want
+abbrev pub first_of_for : Terminal → ℕ → SymbolStack → TextCounts → Option Want
 first_of_for (Sign g.Semicolon p) l k w = go k w
 first_of_for (Sort (Value ty) p) l k w = ask Nesting l (go (Declaration l ∷ k) (at_level l w))
 first_of_for (Name x p) l k w = ask Nesting l (go (Fixed punctuation.Equal ∷ Expression l ∷ Operators l ∷ Fixed punctuation.Semicolon ∷ k) (at_level l w))
 first_of_for _ l k w = None
 
-abbrev pub test_of_for : Terminal → ℕ → Stack → Counts → Option Want
+abbrev pub test_of_for : Terminal → ℕ → SymbolStack → TextCounts → Option Want
 test_of_for (Sign g.Semicolon p) l k w = go k w
 test_of_for x l k w = operand x l (Operators l ∷ Fixed punctuation.Semicolon ∷ k) (new_expression w)
 
-abbrev pub step_of_for : Terminal → ℕ → Stack → Counts → Option Want
+abbrev pub step_of_for : Terminal → ℕ → SymbolStack → TextCounts → Option Want
 step_of_for (Sign g.RightParen p) l k w = go k w
 step_of_for (Name x p) l k w = ask Nesting l (go (Fixed punctuation.Equal ∷ Expression l ∷ Operators l ∷ Fixed punctuation.RightParen ∷ k) (at_level l w))
 step_of_for _ l k w = None
 
 -- what an `else` or a `par` does, and what is done where another terminal stands
-abbrev pub or_else : Terminal → ℕ → Stack → Counts → Option Want → Option Want
-or_else (Key k.Else p) l k w other = go (Body l ∷ k) w
-or_else _ l k w other = other
+abbrev pub wants_or_else : Terminal → ℕ → SymbolStack → TextCounts → Option Want → Option Want
+wants_or_else (Key k.Else p) l k w other = go (Body l ∷ k) w
+wants_or_else _ l k w other = other
 
-abbrev pub pars : Terminal → ℕ → ℕ → Stack → Counts → Option Want → Option Want
+abbrev pub pars : Terminal → ℕ → ℕ → SymbolStack → TextCounts → Option Want → Option Want
 pars (Key k.Par p) l n k w other = go (Branch l (suc n) ∷ Pars l (suc n) ∷ k) w
 pars _ l n k w other = other
 
 -- with `par` the block of a body turns out to be the first branch of a fork
-abbrev pub after_body : Terminal → ℕ → ℕ → Stack → Counts → Option Want → Option Want
+abbrev pub after_body : Terminal → ℕ → ℕ → SymbolStack → TextCounts → Option Want → Option Want
 after_body (Key k.Par p) l d k w other = ask Nesting (as_branch l w) (go (Branch l 2 ∷ Pars l 2 ∷ k) (at_level (as_branch l w) (behind_body d w)))
 after_body _ l d k w other = other
 
-abbrev pub branch : Terminal → ℕ → ℕ → Stack → Counts → Option Want
+abbrev pub branch : Terminal → ℕ → ℕ → SymbolStack → TextCounts → Option Want
 branch (Sign g.LeftBrace p) l n k w = ask (Count m.Branches) n (go (Block (suc l) ∷ k) w)
 branch (Name x p) l n k w = ask (Count m.Branches) n (go (Fixed punctuation.LeftParen ∷ Arguments l ∷ Fixed punctuation.Semicolon ∷ k) w)
 branch _ l n k w = None
 
-abbrev pub parameter : Terminal → ℕ → Stack → Counts → Option Want
+abbrev pub parameter : Terminal → ℕ → SymbolStack → TextCounts → Option Want
 parameter (Sort sort p) n k w = ask (Count m.Parameters) n (go (AfterSort ∷ MoreParameters n ∷ k) w)
 parameter _ n k w = None
 
-abbrev pub parameters : Terminal → Stack → Counts → Option Want
-parameters (Sign g.RightParen p) k w = go k w
-parameters (Key k.Void p) k w = go (Fixed punctuation.RightParen ∷ k) w
-parameters x k w = parameter x 1 k w
+abbrev pub wants_parameters : Terminal → SymbolStack → TextCounts → Option Want
+wants_parameters (Sign g.RightParen p) k w = go k w
+wants_parameters (Key k.Void p) k w = go (Fixed punctuation.RightParen ∷ k) w
+wants_parameters x k w = parameter x 1 k w
 
-abbrev pub more_parameters : Terminal → ℕ → Stack → Counts → Option Want
+abbrev pub more_parameters : Terminal → ℕ → SymbolStack → TextCounts → Option Want
 more_parameters (Sign g.RightParen p) n k w = go k w
 more_parameters (Sign g.Comma p) n k w = go (Parameter (suc n) ∷ k) w
 more_parameters _ n k w = None
 
-abbrev pub after_sort : Terminal → Stack → Counts → Option Want
+abbrev pub after_sort : Terminal → SymbolStack → TextCounts → Option Want
 after_sort (Name x p) k w = go k w
 after_sort (Sign g.Amp p) k w = go (Word ∷ k) w
 after_sort _ k w = None
 
-abbrev pub throws : Terminal → Stack → Counts → Option Want
-throws (Sign g.LeftBrace p) k w = go k w
-throws (Key k.Throws p) k w = go (Thrown 1 ∷ k) w
-throws _ k w = None
+abbrev pub wants_throws : Terminal → SymbolStack → TextCounts → Option Want
+wants_throws (Sign g.LeftBrace p) k w = go k w
+wants_throws (Key k.Throws p) k w = go (Thrown 1 ∷ k) w
+wants_throws _ k w = None
 
-abbrev pub thrown : Terminal → ℕ → Stack → Counts → Option Want
-thrown (Name x p) n k w = ask (Count m.Throws) n (go (MoreThrows n ∷ k) w)
-thrown _ n k w = None
+abbrev pub wants_thrown : Terminal → ℕ → SymbolStack → TextCounts → Option Want
+wants_thrown (Name x p) n k w = ask (Count m.Throws) n (go (MoreThrows n ∷ k) w)
+wants_thrown _ n k w = None
 
-abbrev pub more_throws : Terminal → ℕ → Stack → Counts → Option Want
+abbrev pub more_throws : Terminal → ℕ → SymbolStack → TextCounts → Option Want
 more_throws (Sign g.LeftBrace p) n k w = go k w
 more_throws (Sign g.Comma p) n k w = go (Thrown (suc n) ∷ k) w
 more_throws _ n k w = None
 
 -- behind n functions
-abbrev pub functions : Terminal → ℕ → Stack → Counts → Option Want
+abbrev pub functions : Terminal → ℕ → SymbolStack → TextCounts → Option Want
 functions (End p) n k w = go k w
 functions (Key k.Void p) n k w = ask (Count m.Functions) (suc n) (go (Word ∷ Fixed punctuation.LeftParen ∷ Parameters ∷ Throws ∷ Block 1 ∷ Functions (suc n) ∷ k) (new_function w))
 functions _ n k w = None
 
 -- `shim` begins a text of version 2
-abbrev pub source : Terminal → Stack → Counts → Option Want
+abbrev pub source : Terminal → SymbolStack → TextCounts → Option Want
 source x k w = if is_shim x then go (Version ∷ Fixed punctuation.Semicolon ∷ Functions 0 ∷ k) (in_version_2 w) else functions x 0 k w
 
-abbrev pub version : Terminal → Stack → Counts → Option Want
+abbrev pub version : Terminal → SymbolStack → TextCounts → Option Want
 version x k w = if is_two x then go k w else None
 
-abbrev pub wants : Stack → Terminal → Counts → Option Want
+abbrev pub wants : SymbolStack → Terminal → TextCounts → Option Want
 wants [] x w = None
 wants (Fixed f ∷ k) x w = fixed f x k w
 wants (Word ∷ k) x w = word x k w
@@ -288,17 +288,17 @@ wants (Operand l ∷ k) x w = operand x l k w
 wants (Inside l ∷ k) x w = ask Nesting l (operand x l k (at_level l w))
 wants (Expression l ∷ k) x w = operand x l k (new_expression w)
 wants (Operators l ∷ k) x w = operators x l k w (wants k x w)
-wants (Arguments l ∷ k) x w = arguments x l k w
+wants (Arguments l ∷ k) x w = wants_arguments x l k w
 wants (MoreArguments l n ∷ k) x w = more_arguments x l n k w
-wants (Argument l n ∷ k) x w = argument x l n k w
-wants (Declarations l ∷ k) x w = declarations x l k w
+wants (Argument l n ∷ k) x w = wants_argument x l n k w
+wants (Declarations l ∷ k) x w = wants_declarations x l k w
 wants (AfterDeclared l ∷ k) x w = after_declared x l k w
 wants (MoreDeclarations l ∷ k) x w = more_declarations x l k w
-wants (Declaration l ∷ k) x w = declaration x l k w
+wants (Declaration l ∷ k) x w = wants_declaration x l k w
 wants (AfterDeclaration l ∷ k) x w = after_declaration x l k w
 wants (Statement l ∷ k) x w = thing x l k w
 wants (Body l ∷ k) x w = body x l k w
-wants (Block l ∷ k) x w = block x l k w
+wants (Block l ∷ k) x w = wants_block x l k w
 wants (AfterWord l ∷ k) x w = after_word x l k w
 wants (AfterEqual l ∷ k) x w = after_equal x l k w
 wants (AfterNext l ∷ k) x w = after_next x l k w
@@ -307,16 +307,16 @@ wants (CatchRest ∷ k) x w = catch_rest x k w
 wants (First l ∷ k) x w = first_of_for x l k w
 wants (Test l ∷ k) x w = test_of_for x l k w
 wants (Step l ∷ k) x w = step_of_for x l k w
-wants (Else l ∷ k) x w = or_else x l k w (wants k x w)
+wants (Else l ∷ k) x w = wants_or_else x l k w (wants k x w)
 wants (AfterBody l d ∷ k) x w = after_body x l d k w (wants k x (behind_body d w))
 wants (Pars l n ∷ k) x w = pars x l n k w (wants k x w)
 wants (Branch l n ∷ k) x w = branch x l n k w
-wants (Parameters ∷ k) x w = parameters x k w
+wants (Parameters ∷ k) x w = wants_parameters x k w
 wants (AfterSort ∷ k) x w = after_sort x k w
-wants (Throws ∷ k) x w = throws x k w
+wants (Throws ∷ k) x w = wants_throws x k w
 wants (MoreParameters n ∷ k) x w = more_parameters x n k w
 wants (Parameter n ∷ k) x w = parameter x n k w
-wants (Thrown n ∷ k) x w = thrown x n k w
+wants (Thrown n ∷ k) x w = wants_thrown x n k w
 wants (MoreThrows n ∷ k) x w = more_throws x n k w
 wants (Functions n ∷ k) x w = functions x n k w
 wants (Source ∷ k) x w = source x k w
@@ -332,14 +332,14 @@ pub data Halt : Type 0 where
   At : Cause → List Terminal → Halt
 
 -- all was taken
-abbrev pub Whole : Halt
-Whole = At Unwanted []
+abbrev pub AllTaken : Halt
+AllTaken = At Unwanted []
 
 -- the limits that the first of these terminals asks for are judged in turn
 abbrev pub judge : Limits → List Terminal → List Ask → Halt → Halt
 judge c s [] go_on = go_on
 judge c s (a ∷ asks) go_on = if c s a.limit a.number then judge c s asks go_on else At (Past a.limit) s
 
-abbrev pub run : Limits → List Terminal → Stack → Counts → Halt
-run c [] k w = Whole
-run c (x ∷ s) k w = elim (wants k x w) [ None ↦ At Unwanted (x ∷ s) | Some n ↦ judge c (x ∷ s) n.asks (run c s n.stack n.counts) ]
+abbrev pub run_parser : Limits → List Terminal → SymbolStack → TextCounts → Halt
+run_parser c [] k w = AllTaken
+run_parser c (x ∷ s) k w = elim (wants k x w) [ None ↦ At Unwanted (x ∷ s) | Some n ↦ judge c (x ∷ s) n.asks (run_parser c s n.stack n.counts) ]

@@ -3,7 +3,7 @@ ghost use Rattle.std.specs.Prelude.{ℕ, List, ◌≡◌, ◌⊎◌, true, false
 ghost use Rattle.shim_base.specs.Tokens.{Place};
 ghost use Rattle.shim_syntax.specs.declared.tree.Program.{Program};
 ghost use Rattle.shim_syntax.specs.Terminals.{begins_two};
-ghost use Rattle.shim_syntax.specs.Text.{IsText, Fault, HasFault};
+ghost use Rattle.shim_syntax.specs.Text.{IsText, FaultCause, HasFault};
 
 /// A text is that of one program at most.
 pub fn one_program()
@@ -12,12 +12,12 @@ pub fn one_program()
 
 /// A text has one fault at most: one place where it stops being a program, and one cause for it.
 pub fn one_fault()
-    ensures { (bytes : List ℕ) (f g : Fault) (p q : Place) → HasFault bytes f p → HasFault bytes g q → (f ≡ g) × (p ≡ q) }
+    ensures { (bytes : List ℕ) (f g : FaultCause) (p q : Place) → HasFault bytes f p → HasFault bytes g q → (f ≡ g) × (p ≡ q) }
 {}
 
 /// No text is the text of a program and has a fault as well.
 pub fn never_both()
-    ensures { (bytes : List ℕ) (p : Program) (f : Fault) (place : Place) → IsText bytes p → HasFault bytes f place → ⊥ }
+    ensures { (bytes : List ℕ) (p : Program) (f : FaultCause) (place : Place) → IsText bytes p → HasFault bytes f place → ⊥ }
 {}
 
 /// A text that begins with `shim`, a number of value 2 and `;` is that of a program of version 2, and any

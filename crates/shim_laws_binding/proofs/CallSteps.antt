@@ -9,7 +9,7 @@ use Rattle.shim_scopes.specs.declared.tree.RWhat.TheVariants as r
 use Rattle.shim_scopes.specs.declared.tree.RBranch.{RBranch, fold-RBranch, fold-roll-RBranch}
 use Rattle.shim_scopes.specs.declared.tree.RBranchWhat.{RBranchWhat, RBranchWhat-F, fold-RBranchWhat, fold-roll-RBranchWhat, map-RBranchWhat, roll-RBranchWhat}
 use Rattle.shim_scopes.specs.declared.tree.RBranchWhat.TheVariants as rb
-use Rattle.shim_laws_binding.specs.TextOrder.{together}
+use Rattle.shim_laws_binding.specs.TextOrder.{concat}
 use Rattle.shim_laws_binding.specs.HandedOn.{Calls, branch_what_calls, what_calls, stmt_calls, calls_among}
 
 abbrev pub calls_of_branch_what : RBranchWhat → Calls
@@ -22,7 +22,7 @@ abbrev pub calls_of_branch : RBranch → Calls
 calls_of_branch = fold-RBranch Calls Calls Calls Calls branch_what_calls what_calls (λ b. b.what) (λ s. s.what)
 
 abbrev pub calls_of_branches : List RBranch → Calls
-calls_of_branches branches = together (map calls_of_branch branches)
+calls_of_branches branches = concat (map calls_of_branch branches)
 
 pub calls_stmt : (line : ℕ) (t : RWhat) → stmt_calls (record { line = line; what = t }) ≡ calls_of_what t
 calls_stmt line t = fold-roll-RStmt Calls Calls Calls Calls branch_what_calls what_calls (λ b. b.what) (λ s. s.what) (record { line = line; what = t })

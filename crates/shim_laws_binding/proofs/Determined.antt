@@ -13,7 +13,7 @@ use Rattle.shim_syntax.specs.declared.tree.What.TheVariants as st
 use Rattle.shim_syntax.specs.declared.tree.Branch.{Branch, Branch-F, fold-Branch, fold-roll-Branch}
 use Rattle.shim_syntax.specs.declared.tree.BranchWhat.{BranchWhat, BranchWhat-F, fold-BranchWhat, fold-roll-BranchWhat, map-BranchWhat, roll-BranchWhat}
 use Rattle.shim_syntax.specs.declared.tree.BranchWhat.TheVariants as br
-use Rattle.shim_scopes.specs.declared.scope.Local.{Local}
+use Rattle.shim_scopes.specs.declared.scope.LocalDeclaration.{LocalDeclaration}
 use Rattle.shim_scopes.specs.declared.scope.Handled.{Handled}
 use Rattle.shim_scopes.specs.declared.tree.UExpr.{UExpr}
 use Rattle.shim_scopes.specs.declared.tree.UExpr.TheVariants as u
@@ -25,7 +25,7 @@ use Rattle.shim_scopes.specs.declared.tree.RBranch.{RBranch}
 use Rattle.shim_scopes.specs.declared.tree.RBranchWhat.{RBranchWhat}
 use Rattle.shim_scopes.specs.declared.tree.RBranchWhat.TheVariants as rb
 use Rattle.shim_syntax.specs.Names.{Texts}
-use Rattle.shim_scopes.specs.Binding.{slot_at, slot_of, placed, placed_all, placed_option, number_at, exception_number}
+use Rattle.shim_scopes.specs.Binding.{slot_at, slot_of, placed, placed_all, placed_option, number_or_zero_of, exception_number}
 use Rattle.shim_scopes.specs.Calls.{function_number, function_of}
 use Rattle.shim_laws_binding.specs.Innermost.{exception_name, local_name, IsNumberOfInnermost, IsSlotOfInnermost}
 use Rattle.shim_laws_binding.specs.LexicalScope as is
@@ -33,11 +33,11 @@ use Rattle.shim_laws_binding.specs.LexicalScope.{Point, Pairwise, behind_declara
 use Rattle.shim_laws_binding.proofs.InnermostLemmas.{innermost_found}
 use Rattle.shim_laws_binding.proofs.NamedExprs.{placed_number, placed_variable, placed_unary, placed_binary}
 
-slot_told : (x : List ℕ) (around : List Local) (slot : ℕ) → IsSlotOfInnermost x around slot → slot ≡ slot_of around x
-slot_told x around slot i = sym i.2 ∙ sym (ap (λ (o : Option Local). slot_at (option_map (λ (l : Local). l.bound) o)) (innermost_found local_name x around i.0 i.1))
+slot_told : (x : List ℕ) (around : List LocalDeclaration) (slot : ℕ) → IsSlotOfInnermost x around slot → slot ≡ slot_of around x
+slot_told x around slot i = sym i.2 ∙ sym (ap (λ (o : Option LocalDeclaration). slot_at (option_map (λ (l : LocalDeclaration). l.bound) o)) (innermost_found local_name x around i.0 i.1))
 
 number_told : (x : List ℕ) (around : List Handled) (number : ℕ) → IsNumberOfInnermost x around number → number ≡ exception_number around x
-number_told x around number i = sym i.2 ∙ sym (ap (λ (o : Option Handled). number_at (option_map (λ (h : Handled). h.number) o)) (innermost_found exception_name x around i.0 i.1))
+number_told x around number i = sym i.2 ∙ sym (ap (λ (o : Option Handled). number_or_zero_of (option_map (λ (h : Handled). h.number) o)) (innermost_found exception_name x around i.0 i.1))
 
 numbers_told : (around : List Handled) (xs : Texts) (numbers : List ℕ) → Pairwise (λ x number. IsNumberOfInnermost x around number) xs numbers → numbers ≡ map (exception_number around) xs
 numbers_told around [] [] h = refl
@@ -45,18 +45,18 @@ numbers_told around [] (n ∷ ns) h = absurd h
 numbers_told around (x ∷ xs) [] h = absurd h
 numbers_told around (x ∷ xs) (n ∷ ns) h = ap (λ i. i ∷ ns) (number_told x around n h.0) ∙ ap (λ more. exception_number around x ∷ more) (numbers_told around xs ns h.1)
 
-expr_told : {around : List Local} {a : Expr} {r : UExpr} → BindsExpr around a r → r ≡ placed around a
+expr_told : {around : List LocalDeclaration} {a : Expr} {r : UExpr} → BindsExpr around a r → r ≡ placed around a
 expr_told {around = around} (is.number {n = n}) = sym (placed_number around n)
 expr_told {around = around} (is.variable {x = x} {slot = slot} i) = ap u.Var (slot_told x around slot i) ∙ sym (placed_variable around x)
 expr_told {around = around} (is.unary {op = op} {a = a} h) = ap (u.Unary op) (expr_told h) ∙ sym (placed_unary around op a)
 expr_told {around = around} (is.binary {op = op} {a = a} {b = b} {s = s} h k) =
     ap (λ x. u.Binary op x s) (expr_told h) ∙ ap (u.Binary op (placed around a)) (expr_told k) ∙ sym (placed_binary around op a b)
 
-option_told : {around : List Local} {a : Option Expr} {r : Option UExpr} → BindsOption around a r → r ≡ placed_option around a
+option_told : {around : List LocalDeclaration} {a : Option Expr} {r : Option UExpr} → BindsOption around a r → r ≡ placed_option around a
 option_told is.missing = refl
 option_told (is.given h) = ap Some (expr_told h)
 
-exprs_told : (around : List Local) (es : List Expr) (rs : List UExpr) → Pairwise (BindsExpr around) es rs → rs ≡ placed_all around es
+exprs_told : (around : List LocalDeclaration) (es : List Expr) (rs : List UExpr) → Pairwise (BindsExpr around) es rs → rs ≡ placed_all around es
 exprs_told around [] [] h = refl
 exprs_told around [] (r ∷ rs) h = absurd h
 exprs_told around (a ∷ es) [] h = absurd h

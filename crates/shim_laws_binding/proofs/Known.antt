@@ -10,7 +10,7 @@ use Rattle.std.proofs.lemmas.List.Folds.{find-append, find_at}
 use Rattle.std.proofs.lemmas.Option.{slice_get_cases, slice_get_within, get_or_from_slice_get}
 use Rattle.std.proofs.lemmas.Slice.Eq.{bytes_eq-Decides}
 use Rattle.shim_syntax.specs.declared.tree.Function.{Function}
-use Rattle.shim_syntax.specs.Names.{Texts, unless_there, with_name, with_texts, with_functions, position_else, number_of}
+use Rattle.shim_syntax.specs.Names.{Texts, unless_there, with_name, with_texts, with_functions, position_else, name_index}
 use Rattle.shim_scopes.specs.Calls.{function_number, function_of}
 use Rattle.shim_syntax.specs.Occurrences.{identifiers}
 use Rattle.shim_syntax.proofs.OccurrenceLemmas.{names_are_the_identifiers}
@@ -58,7 +58,7 @@ IsThere names x = (y : List ℕ) × (find (λ n. bytes_eq n x) names ≡ Some y)
 
 -- the name stands at its number
 abbrev pub IsKnown : Texts → List ℕ → Type 0
-IsKnown names x = name_at names (number_of names x) ≡ x
+IsKnown names x = name_at names (name_index names x) ≡ x
 
 is_known : (names : Texts) (x : List ℕ) → IsThere names x → IsKnown names x
 is_known names x t =
@@ -112,9 +112,9 @@ identifiers_known fs =
     (subst (λ names. Each (IsThere names) (identifiers fs)) (sym (names_are_the_identifiers fs)) (all_there (identifiers fs) []))
 
 -- the names at the numbers of known names are these
-pub known_back : (names xs : Texts) → Each (IsKnown names) xs → names_at names (map (number_of names) xs) ≡ xs
+pub known_back : (names xs : Texts) → Each (IsKnown names) xs → names_at names (map (name_index names) xs) ≡ xs
 known_back names [] h = refl
-known_back names (x ∷ xs) h = ap (λ y. y ∷ names_at names (map (number_of names) xs)) h.0 ∙ ap (λ ys. x ∷ ys) (known_back names xs h.1)
+known_back names (x ∷ xs) h = ap (λ y. y ∷ names_at names (map (name_index names) xs)) h.0 ∙ ap (λ ys. x ∷ ys) (known_back names xs h.1)
 
 pub function_stands_at : (fs : List Function) (x : List ℕ) (f : Function) → function_of fs x ≡ Some f → slice_get fs (function_number fs x) ≡ Some f
 function_stands_at fs x f h = let s = stands_at (λ (f : Function). bytes_eq f.name x) fs f h in ap (slice_get fs) s.place ∙ s.at

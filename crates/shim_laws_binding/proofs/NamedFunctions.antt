@@ -11,15 +11,15 @@ use Rattle.shim_scopes.specs.declared.form.Form.{Form}
 use Rattle.shim_scopes.specs.declared.scope.Handled.{Handled}
 use Rattle.shim_scopes.specs.declared.tree.RFunction.{RFunction}
 use Rattle.shim_scopes.specs.declared.tree.RStmt.{RStmt}
-use Rattle.shim_syntax.specs.Names.{Texts, number_of, param_names}
-use Rattle.shim_syntax.specs.Occurrences.{joined, in_stmt, in_function, identifiers}
+use Rattle.shim_syntax.specs.Names.{Texts, name_index, param_names}
+use Rattle.shim_syntax.specs.Occurrences.{concatenated, in_stmt, in_function, identifiers}
 use Rattle.shim_scopes.specs.Statements.{Whole, Before, BoundTo, local_of}
 use Rattle.shim_scopes.specs.Functions.{placed_param, with_param, params_from, placed_params, handled_from, numbers_of, function_begin, made_function, bind_function, bind_functions, bind_program}
 use Rattle.shim_scopes.specs.Calls.{function_number}
 use Rattle.shim_scopes.specs.Bodies.{bind_stmts}
 use Rattle.shim_scopes.specs.declared.tree.RCall.{RCall}
 use Rattle.shim_laws_binding.specs.Naming.{name_at, names_at, param_named, naming_of, function_named, functions_named}
-use Rattle.shim_laws_binding.specs.TextOrder.{Declarations, declarations, tries_among, declared_param, all_declarations, numbers_of_declared}
+use Rattle.shim_laws_binding.specs.TextOrder.{Declarations, declarations_in, tries_among, declared_param, all_declarations, numbers_of_declared}
 use Rattle.shim_laws_binding.specs.HandedOn.{calls_among, HandsOn, AllHandOn}
 use Rattle.shim_laws_binding.proofs.TextOrderLemmas.{params_grow, around_body, IsMade, is_made, all_grown, is_form}
 use Rattle.shim_laws_binding.proofs.Lists.{all_of_each, Each, each_of_both, each_of_first, each_of_second, AreFrom, earlier, later}
@@ -82,17 +82,17 @@ record AllKnown (names : Texts) (f : Function) : Type 0 where
   name : IsKnown names f.name
   params : Each (IsKnown names) (param_names f.params)
   throws : Each (IsKnown names) f.throws
-  declared : Each (DeclaredSo (IsKnown names)) (declarations f.body)
+  declared : Each (DeclaredSo (IsKnown names)) (declarations_in f.body)
   tries : Each (IsKnown names) (tries_among f.body)
 
 function_known : (names : Texts) (f : Function) → Each (IsKnown names) (in_function f) → AllKnown names f
 function_known names f h =
-    let behind_params = each_of_second (IsKnown names) (param_names f.params) (f.throws ++ joined (map in_stmt f.body)) h.1 in
-    let body = body_passes (IsKnown names) f.body (each_of_second (IsKnown names) f.throws (joined (map in_stmt f.body)) behind_params) in
+    let behind_params = each_of_second (IsKnown names) (param_names f.params) (f.throws ++ concatenated (map in_stmt f.body)) h.1 in
+    let body = body_passes (IsKnown names) f.body (each_of_second (IsKnown names) f.throws (concatenated (map in_stmt f.body)) behind_params) in
     record {
       name = h.0;
-      params = each_of_first (IsKnown names) (param_names f.params) (f.throws ++ joined (map in_stmt f.body)) h.1;
-      throws = each_of_first (IsKnown names) f.throws (joined (map in_stmt f.body)) behind_params;
+      params = each_of_first (IsKnown names) (param_names f.params) (f.throws ++ concatenated (map in_stmt f.body)) h.1;
+      throws = each_of_first (IsKnown names) f.throws (concatenated (map in_stmt f.body)) behind_params;
       declared = body.0;
       tries = body.1;
     }
@@ -172,10 +172,10 @@ module _ (fs : List Function) (form : Form) (known : Each (IsKnown form.names) (
       let n = naming_of form r in
       let g = all_grown (with_names fs form) f body e in
       let slots : names_at names body.before.slot_names ≡ map declared_name (all_declarations f) =
-      ap (names_at names) g.slot_names ∙ declared_known names (all_declarations f) (each_of_both (DeclaredSo (IsKnown names)) (map declared_param f.params) (declarations f.body) (params_known names f.params k.params) k.declared) in
-      let numbers : map (number_of names) f.throws ++ body.before.tries ≡ map (number_of names) (exceptions f) =
-      ap (λ ts. map (number_of names) f.throws ++ ts) g.tries ∙ sym (map-append (number_of names) f.throws (tries_among f.body)) in
-      let raised : names_at names (map (number_of names) f.throws ++ body.before.tries) ≡ exceptions f =
+      ap (names_at names) g.slot_names ∙ declared_known names (all_declarations f) (each_of_both (DeclaredSo (IsKnown names)) (map declared_param f.params) (declarations_in f.body) (params_known names f.params k.params) k.declared) in
+      let numbers : map (name_index names) f.throws ++ body.before.tries ≡ map (name_index names) (exceptions f) =
+      ap (λ ts. map (name_index names) f.throws ++ ts) g.tries ∙ sym (map-append (name_index names) f.throws (tries_among f.body)) in
+      let raised : names_at names (map (name_index names) f.throws ++ body.before.tries) ≡ exceptions f =
       ap (names_at names) numbers ∙ known_back names (exceptions f) (each_of_both (IsKnown names) f.throws (tries_among f.body) k.throws k.tries) in
       let variables : AreFrom declared_name n.variable 0 (all_declarations f) =
       subst (λ (xs : Texts). AreFrom declared_name (name_at xs) 0 (all_declarations f)) (sym slots) (from_first declared_name (all_declarations f)) in
@@ -184,11 +184,11 @@ module _ (fs : List Function) (form : Form) (known : Each (IsKnown form.names) (
       let place : length f.throws + 0 ≡ 0 + length f.throws = omega arith in
       let to_come : AreToCome n (around_body f) function_begin (all_declarations f) (tries_among f.body) =
       record { slots = variables; tries = later own_name n.exception 0 f.throws (tries_among f.body) (length f.throws + 0) place in_turn } in
-      let behind = next_to_come n names [] (around_body f) function_begin (params_from names function_begin f.params) (map declared_param f.params) (declarations f.body) [] (tries_among f.body)
+      let behind = next_to_come n names [] (around_body f) function_begin (params_from names function_begin f.params) (map declared_param f.params) (declarations_in f.body) [] (tries_among f.body)
       (params_grow names f.params function_begin) to_come in
       let named : IsNamed n (around_body f) (params_from names function_begin f.params) = record {
         outer = tt;
-        own = params_named n.variable names f.params function_begin tt (earlier declared_name n.variable 0 (map declared_param f.params) (declarations f.body) variables);
+        own = params_named n.variable names f.params function_begin tt (earlier declared_name n.variable 0 (map declared_param f.params) (declarations_in f.body) variables);
         handled = throws_named n.exception f.throws [] tt (earlier own_name n.exception 0 f.throws (tries_among f.body) in_turn);
       } in
       body_back n (Handed r) (with_names fs form) (functions_are_named r) (calls_hand_on r) f.body (around_body f) (params_from names function_begin f.params) body e named behind

@@ -13,7 +13,7 @@ use Rattle.shim_syntax.specs.declared.tree.Stmt.{Stmt}
 use Rattle.shim_syntax.specs.declared.tree.What.{What}
 use Rattle.shim_syntax.specs.declared.tree.What.TheVariants as st
 use Rattle.shim_scopes.specs.declared.fault.ScopeKind.TheVariants.{UnknownName, UnknownException, Twice, WrongKind, Arity}
-use Rattle.shim_scopes.specs.declared.scope.Local.{Local}
+use Rattle.shim_scopes.specs.declared.scope.LocalDeclaration.{LocalDeclaration}
 use Rattle.shim_scopes.specs.declared.scope.Handled.{Handled}
 use Rattle.shim_scopes.specs.declared.tree.RCall.{RCall}
 use Rattle.shim_scopes.specs.declared.tree.RStmt.{RStmt}
@@ -21,11 +21,11 @@ use Rattle.shim_scopes.specs.declared.tree.RWhat.{RWhat}
 use Rattle.shim_scopes.specs.declared.tree.RWhat.TheVariants as bt
 use Rattle.shim_scopes.specs.declared.tree.UExpr.{UExpr}
 use Rattle.shim_scopes.specs.Binding.{unknown, unknown_in, unknown_in_option, unknown_in_all, stream_in, stream_in_option, no_number, no_input, no_output, slot_of, placed, placed_all, placed_option, exception_number, unhandled}
-use Rattle.shim_syntax.specs.Names.{Texts, number_of}
+use Rattle.shim_syntax.specs.Names.{Texts, name_index}
 use Rattle.shim_scopes.specs.Refusals.{refused_for}
-use Rattle.shim_scopes.specs.Statements.{Whole, Around, Before, BoundTo, Bind, declared, local_of, within, opened, closed, caught, tried, variable_declared, variable_slot, bind_handler, bind_declare, bind_store, bind_next, bind_assign_next, bind_get, bind_put, bind_throw, bind_block, on_tree, bind_two, bind_test, bind_if, bind_while, bind_try, bind_parts, bind_first_test, bind_for, visible, declared_in, unknown_in_both, unknown_of_two}
+use Rattle.shim_scopes.specs.Statements.{Whole, Around, Before, BoundTo, Bind, with_declaration, local_of, inside_block, opened, after_block, with_handled, tried, variable_declared, variable_slot, bind_handler, bind_declare, bind_store, bind_next, bind_assign_next, bind_get, bind_put, bind_throw, bind_block, on_tree, bind_two, bind_test, bind_if, bind_while, bind_try, bind_parts, bind_first_test, bind_for, visible, declared_in, unknown_in_both, unknown_of_two}
 use Rattle.shim_scopes.specs.Calls.{function_number, function_of, unhandled_of_all, if_false, wrong_in_all, bind_known, bind_call, bind_called}
-use Rattle.shim_scopes.specs.Bodies.{nothing}
+use Rattle.shim_scopes.specs.Bodies.{no_locals}
 use Rattle.shim_laws_binding.specs.Naming.{Naming, expr_named, option_named, slot_named, call_named}
 use Rattle.shim_laws_binding.specs.TextOrder.{Declaration, Declarations, declared_variable, sorts_of}
 use Rattle.shim_laws_binding.specs.HandedOn.{Calls, calls_among}
@@ -81,11 +81,11 @@ pub first_to_come : (n : Naming) (a : Around) (b : Before) (ds es : Declarations
 first_to_come n a b ds es ts us c = record { slots = earlier declared_name n.variable (length b.slots) ds es c.slots; tries = earlier own_name n.exception (a.throws + length b.tries) ts us c.tries }
 
 -- behind the first of them the others are still to come
-pub next_to_come : (n : Naming) (names : Texts) (ls : List Local) (a : Around) (b c : Before) (ds es : Declarations) (ts us : Texts)
+pub next_to_come : (n : Naming) (names : Texts) (ls : List LocalDeclaration) (a : Around) (b c : Before) (ds es : Declarations) (ts us : Texts)
     → IsGrown names ls ds ts b c → AreToCome n a b (ds ++ es) (ts ++ us) → AreToCome n a c es us
 next_to_come n names ls a b c ds es ts us g t =
     let slots : length c.slots ≡ length b.slots + length ds = omega (arith, ap length g.slots, length-append b.slots (sorts_of ds), length-map ds (λ (d : Declaration). d.sort)) in
-    let tries : a.throws + length c.tries ≡ (a.throws + length b.tries) + length ts = omega (arith, ap length g.tries, length-append b.tries (map (number_of names) ts), length-map ts (number_of names)) in
+    let tries : a.throws + length c.tries ≡ (a.throws + length b.tries) + length ts = omega (arith, ap length g.tries, length-append b.tries (map (name_index names) ts), length-map ts (name_index names)) in
     record { slots = later declared_name n.variable (length b.slots) ds es (length c.slots) slots t.slots; tries = later own_name n.exception (a.throws + length b.tries) ts us (a.throws + length c.tries) tries t.tries }
 
 pub answered : {T S : Type 0} (n : Naming) (H : RCall → Type 0) (back : Reading T S) (s : S) (t : T) (b : Before) (r : BoundTo T)
@@ -94,9 +94,9 @@ answered n H back s t b r e p q c = subst (λ r. IsBack n H back s r) (sym (is_b
 
 pub block_back : {T S : Type 0} (n : Naming) (H : RCall → Type 0) (back : Reading T S) (s : S) (ds : Declarations) (ts : Texts) (f : Bind T) → GoesBack n H back s ds ts f → GoesBack n H back s ds ts (bind_block f)
 block_back n H back s ds ts f k a b r h named t =
-    let p = first_ok (f (within a b) (opened b)) _ r h in
-    let q = k (within a b) (opened b) p.0 p.1 (record { outer = all_named n a b named; own = tt; handled = named.handled }) (record { slots = t.slots; tries = t.tries }) in
-    answered n H back s p.0.tree (closed b p.0.before) r p.2 q.tree named.own q.calls
+    let p = first_ok (f (inside_block a b) (opened b)) _ r h in
+    let q = k (inside_block a b) (opened b) p.0 p.1 (record { outer = all_named n a b named; own = tt; handled = named.handled }) (record { slots = t.slots; tries = t.tries }) in
+    answered n H back s p.0.tree (after_block b p.0.before) r p.2 q.tree named.own q.calls
 
 pub tree_back : {R S T U : Type 0} (n : Naming) (H : RCall → Type 0) (back : Reading R S) (s : S) (over : Reading T U) (u : U) (g : R → T) (ds : Declarations) (ts : Texts) (f : Bind R)
     → ((x : R) → back.named x ≡ s → over.named (g x) ≡ u) → ((x : R) → over.calls (g x) ≡ back.calls x) → GoesBack n H back s ds ts f → GoesBack n H over u ds ts (on_tree g f)
@@ -109,12 +109,12 @@ pub behind_named : (n : Naming) (a : Around) (b c : Before) → IsNamed n a b �
 behind_named n a b c named own = record { outer = named.outer; own = own; handled = named.handled }
 
 -- what is known with what is sure to be declared is so behind all that was
-pub known_grown : (names : Texts) (ls : List Local) (ds : Declarations) (ts : Texts) (a : Around) (b c : Before) → IsGrown names ls ds ts b c → b.own ≡ [] → (x : List ℕ) → unknown (a.outer ++ ls) x ≡ None → unknown (visible a c) x ≡ None
+pub known_grown : (names : Texts) (ls : List LocalDeclaration) (ds : Declarations) (ts : Texts) (a : Around) (b c : Before) → IsGrown names ls ds ts b c → b.own ≡ [] → (x : List ℕ) → unknown (a.outer ++ ls) x ≡ None → unknown (visible a c) x ≡ None
 known_grown names ls ds ts a b c g none x e =
     let whole : visible a c ≡ (a.outer ++ ls) ++ g.own.more = ap (λ l. a.outer ++ l) g.own.whole ∙ ap (λ l. a.outer ++ (l ++ (ls ++ g.own.more))) none ∙ sym (append_assoc a.outer ls g.own.more) in
-    subst (λ (v : List Local). unknown v x ≡ None) (sym whole) (known_behind (a.outer ++ ls) g.own.more x e)
+    subst (λ (v : List LocalDeclaration). unknown v x ≡ None) (sym whole) (known_behind (a.outer ++ ls) g.own.more x e)
 
-pub same_known : (around : List Local) (x : List ℕ) → unknown around x ≡ None → unknown around x ≡ None
+pub same_known : (around : List LocalDeclaration) (x : List ℕ) → unknown around x ≡ None → unknown around x ≡ None
 same_known around x e = e
 
 module _ (n : Naming) (H : RCall → Type 0) (w : Whole) where
@@ -136,12 +136,12 @@ module _ (n : Naming) (H : RCall → Type 0) (w : Whole) where
 
   pub declare_back : (ty : Ty) (x : List ℕ) (e : Option Expr) (line : ℕ) → WhatBack (st.Declare ty x e) (record { name = x; sort = Value ty } ∷ []) [] (bind_declare w ty x e line)
   declare_back ty x e line a b r h named t =
-      let v : List Local = visible a b in
+      let v : List LocalDeclaration = visible a b in
       let known = asked line UnknownName (unknown_in_option v e) _ r h in
       let p = passed line UnknownName (unknown_in_option v e) _ r h in
       let q = passed line Twice (declared_in b.own x) _ r p in
       let s = passed line WrongKind (stream_in_option v e) _ r q in
-      answered n H (whats n) (st.Declare ty x e) (bt.Declare ty (length b.slots) (placed_option v e)) (declared w.names x (Value ty) b) r s
+      answered n H (whats n) (st.Declare ty x e) (bt.Declare ty (length b.slots) (placed_option v e)) (with_declaration w.names x (Value ty) b) r s
       (named_declare n ty (length b.slots) (placed_option v e) ∙ ap (λ y. st.Declare ty y (option_named n.variable (placed_option v e))) t.slots.0
       ∙ ap (λ y. st.Declare ty x y) (option_back n.variable v v (same_known v) (all_named n a b named) e known))
       (each_of_both (VariableNamed n.variable) b.own (local_of x (Value ty) (length b.slots) ∷ []) named.own (t.slots.0, tt))
@@ -156,7 +156,7 @@ module _ (n : Naming) (H : RCall → Type 0) (w : Whole) where
   store_back : (g : ℕ → UExpr → RWhat) (made : List ℕ → Expr → What) (x : List ℕ) (e : Expr) (line : ℕ)
       → ((slot : ℕ) (a : UExpr) → what_named n (g slot a) ≡ made (n.variable slot) (expr_named n.variable a)) → ((slot : ℕ) (a : UExpr) → calls_of_what (g slot a) ≡ []) → WhatBack (made x e) [] [] (bind_store g x e line)
   store_back g made x e line step calls a b r h named t =
-      let v : List Local = visible a b in
+      let v : List LocalDeclaration = visible a b in
       two_asked line (unknown_in_both v x e) (option_or (no_number v x) (stream_in v e)) (made x e) (g (slot_of v x) (placed v e)) b r h named.own (calls (slot_of v x) (placed v e)) (λ none.
       let both = neither (unknown v x) (unknown_in v e) none in
       step (slot_of v x) (placed v e) ∙ ap (λ y. made y (expr_named n.variable (placed v e))) (slot_is_back a b x named both.0) ∙ ap (λ y. made x y) (expr_is_back a b e named both.1))
@@ -169,33 +169,33 @@ module _ (n : Naming) (H : RCall → Type 0) (w : Whole) where
 
   pub put_back : (x : List ℕ) (e : Expr) (line : ℕ) → WhatBack (st.Put x e) [] [] (bind_put x e line)
   put_back x e line a b r h named t =
-      let v : List Local = visible a b in
+      let v : List LocalDeclaration = visible a b in
       two_asked line (unknown_in_both v x e) (option_or (no_output v x) (stream_in v e)) (st.Put x e) (bt.Put (slot_of v x) (placed v e)) b r h named.own (calls_put (slot_of v x) (placed v e)) (λ none.
       let both = neither (unknown v x) (unknown_in v e) none in
       named_put n (slot_of v x) (placed v e) ∙ ap (λ y. st.Put y (expr_named n.variable (placed v e))) (slot_is_back a b x named both.0) ∙ ap (λ y. st.Put x y) (expr_is_back a b e named both.1))
 
   pub next_back : (x : List ℕ) (line : ℕ) → WhatBack (st.Next x) [] [] (bind_next x line)
   next_back x line a b r h named t =
-      let v : List Local = visible a b in
+      let v : List LocalDeclaration = visible a b in
       two_asked line (unknown v x) (no_number v x) (st.Next x) (bt.Next (slot_of v x)) b r h named.own (calls_next (slot_of v x)) (λ none. named_next n (slot_of v x) ∙ ap st.Next (slot_is_back a b x named none))
 
   pub assign_next_back : (x y : List ℕ) (line : ℕ) → WhatBack (st.AssignNext x y) [] [] (bind_assign_next x y line)
   assign_next_back x y line a b r h named t =
-      let v : List Local = visible a b in
+      let v : List LocalDeclaration = visible a b in
       two_asked line (unknown_of_two v x y) (option_or (no_number v x) (no_number v y)) (st.AssignNext x y) (bt.AssignNext (slot_of v x) (slot_of v y)) b r h named.own (calls_assign_next (slot_of v x) (slot_of v y)) (λ none.
       let both = neither (unknown v x) (unknown v y) none in
       named_assign_next n (slot_of v x) (slot_of v y) ∙ ap (λ z. st.AssignNext z (n.variable (slot_of v y))) (slot_is_back a b x named both.0) ∙ ap (λ z. st.AssignNext x z) (slot_is_back a b y named both.1))
 
   pub get_back : (x y : List ℕ) (line : ℕ) → WhatBack (st.Get x y) [] [] (bind_get x y line)
   get_back x y line a b r h named t =
-      let v : List Local = visible a b in
+      let v : List LocalDeclaration = visible a b in
       two_asked line (unknown_of_two v x y) (option_or (no_number v x) (no_input v y)) (st.Get x y) (bt.Get (slot_of v x) (slot_of v y)) b r h named.own (calls_get (slot_of v x) (slot_of v y)) (λ none.
       let both = neither (unknown v x) (unknown v y) none in
       named_get n (slot_of v x) (slot_of v y) ∙ ap (λ z. st.Get z (n.variable (slot_of v y))) (slot_is_back a b x named both.0) ∙ ap (λ z. st.Get x z) (slot_is_back a b y named both.1))
 
   pub throw_back : (x : List ℕ) (e : Option Expr) (line : ℕ) → WhatBack (st.Throw x e) [] [] (bind_throw x e line)
   throw_back x e line a b r h named t =
-      let v : List Local = visible a b in
+      let v : List LocalDeclaration = visible a b in
       let number : ℕ = exception_number a.handled x in
       let known = asked line UnknownName (unknown_in_option v e) _ r h in
       let p = passed line UnknownName (unknown_in_option v e) _ r h in
@@ -228,7 +228,7 @@ module _ (n : Naming) (H : RCall → Type 0) (w : Whole) where
 
   call_back : FunctionsNamed → (c : Call) (line : ℕ) (a : Around) (b : Before) (r : RCall) → bind_call w c line a b ≡ Ok r → IsNamed n a b → call_named n r ≡ c
   call_back fs c line a b r h named =
-      let v : List Local = visible a b in
+      let v : List LocalDeclaration = visible a b in
       known_call_back fs (function_of w.functions c.function) c line a b r refl (passed line UnknownName (unknown_in_all v c.args) _ r h)
       (exprs_back n.variable v v (same_known v) (all_named n a b named) c.args (asked line UnknownName (unknown_in_all v c.args) _ r h))
 
@@ -274,7 +274,7 @@ module _ (n : Naming) (H : RCall → Type 0) (w : Whole) where
 
   test_back : (e : Expr) (line : ℕ) (a : Around) (b : Before) (t : UExpr) → bind_test e line a b ≡ Ok t → IsNamed n a b → expr_named n.variable t ≡ e
   test_back e line a b t h named =
-      let v : List Local = visible a b in
+      let v : List LocalDeclaration = visible a b in
       let p = passed line WrongKind (stream_in v e) _ t (passed line UnknownName (unknown_in v e) _ t h) in
       let same : placed v e ≡ t = cc p in
       ap (expr_named n.variable) (sym same) ∙ expr_is_back a b e named (asked line UnknownName (unknown_in v e) _ t h)
@@ -283,7 +283,7 @@ module _ (n : Naming) (H : RCall → Type 0) (w : Whole) where
   both_hold t p q e x y = each_same H (calls_of_what t) (calls_among p ++ calls_among q) e (each_of_both H (calls_among p) (calls_among q) x y)
 
   -- one block and then another
-  two_back : (g : List RStmt → List RStmt → RWhat) (x : What) (s u : List Stmt) (ls : ℕ → List Local) (ds es : Declarations) (ts us : Texts) (f h : Bind (List RStmt))
+  two_back : (g : List RStmt → List RStmt → RWhat) (x : What) (s u : List Stmt) (ls : ℕ → List LocalDeclaration) (ds es : Declarations) (ts us : Texts) (f h : Bind (List RStmt))
       → ((p q : List RStmt) → stmts_named n p ≡ s → stmts_named n q ≡ u → what_named n (g p q) ≡ x) → ((p q : List RStmt) → calls_of_what (g p q) ≡ calls_among p ++ calls_among q)
       → Grows w.names ls ds ts f → StmtsBack s ds ts f → StmtsBack u es us h → WhatBack x (ds ++ es) (ts ++ us) (bind_two g f h)
   two_back g x s u ls ds es ts us f h up calls grows k l a b r e named t =
@@ -295,12 +295,12 @@ module _ (n : Naming) (H : RCall → Type 0) (w : Whole) where
       answered n H (whats n) x (g p.0.tree q.0.tree) q.0.before r q.2 (up p.0.tree q.0.tree pb.tree qb.tree) qb.own
       (both_hold (g p.0.tree q.0.tree) p.0.tree q.0.tree (calls p.0.tree q.0.tree) pb.calls qb.calls)
 
-  pub if_back : (e : Expr) (s u : List Stmt) (ls : ℕ → List Local) (ds es : Declarations) (ts us : Texts) (f h : Bind (List RStmt)) (line : ℕ)
+  pub if_back : (e : Expr) (s u : List Stmt) (ls : ℕ → List LocalDeclaration) (ds es : Declarations) (ts us : Texts) (f h : Bind (List RStmt)) (line : ℕ)
       → Grows w.names ls ds ts f → StmtsBack s ds ts f → StmtsBack u es us h → WhatBack (st.If e s u) (ds ++ es) (ts ++ us) (bind_if e f h line)
   if_back e s u ls ds es ts us f h line grows k l a b r is named t =
       let p = first_ok (bind_test e line a b) _ r is in
       let te : expr_named n.variable p.0 ≡ e = test_back e line a b p.0 p.1 named in
-      two_back (bt.If p.0) (st.If e s u) s u nothing ds es ts us (bind_block f) (bind_block h)
+      two_back (bt.If p.0) (st.If e s u) s u no_locals ds es ts us (bind_block f) (bind_block h)
       (λ first other one two. named_if n p.0 first other ∙ ap (λ y. st.If y (stmts_named n first) (stmts_named n other)) te ∙ ap (λ y. st.If e y (stmts_named n other)) one ∙ ap (λ y. st.If e s y) two) (calls_if p.0)
       (block_grows w.names ls ds ts f grows) (block_back n H (bodies n) s ds ts f k) (block_back n H (bodies n) u es us h l) a b r p.2 named t
 
@@ -326,10 +326,10 @@ module _ (n : Naming) (H : RCall → Type 0) (w : Whole) where
       k a (variable_declared w.names y b) r is (behind_named n a b (variable_declared w.names y b) named (variable_named y es us a b named t))
       (next_to_come n w.names [] a b (variable_declared w.names y b) (declared_variable y) es [] us (variable_grown w y b) t)
 
-  pub try_back : (x : List ℕ) (y : Option (List ℕ)) (s u : List Stmt) (ls : ℕ → List Local) (ds es : Declarations) (ts us : Texts) (f h : Bind (List RStmt))
+  pub try_back : (x : List ℕ) (y : Option (List ℕ)) (s u : List Stmt) (ls : ℕ → List LocalDeclaration) (ds es : Declarations) (ts us : Texts) (f h : Bind (List RStmt))
       → Grows w.names ls ds ts f → StmtsBack s ds ts f → StmtsBack u es us h → WhatBack (st.Try s x y u) (ds ++ (declared_variable y ++ es)) (x ∷ (ts ++ us)) (bind_try w x y f h)
   try_back x y s u ls ds es ts us f h grows k l a b r is named t =
-      let p = first_ok (bind_block f (caught x a b) (tried w x b)) _ r is in
+      let p = first_ok (bind_block f (with_handled x a b) (tried w x b)) _ r is in
       let q = first_ok (bind_block (bind_handler w y h) a p.0.before) _ r p.2 in
       let number : ℕ = a.throws + length b.tries in
       let slot : Option ℕ = variable_slot y p.0.before in
@@ -339,9 +339,9 @@ module _ (n : Naming) (H : RCall → Type 0) (w : Whole) where
       let first = first_to_come n a (tried w x b) ds all ts us inside in
       let known : n.exception (a.throws + length b.tries) ≡ x = t.tries.0 in
       let in_force = each_of_both (ExceptionNamed n.exception) a.handled (record { name = x; number = a.throws + length b.tries } ∷ []) named.handled (known, tt) in
-      let pb = block_back n H (bodies n) s ds ts f k (caught x a b) (tried w x b) p.0 p.1 (record { outer = named.outer; own = named.own; handled = in_force }) (record { slots = first.slots; tries = first.tries }) in
+      let pb = block_back n H (bodies n) s ds ts f k (with_handled x a b) (tried w x b) p.0 p.1 (record { outer = named.outer; own = named.own; handled = in_force }) (record { slots = first.slots; tries = first.tries }) in
       let behind : AreToCome n a p.0.before all us =
-      next_to_come n w.names [] a (tried w x b) p.0.before ds all ts us (block_grows w.names ls ds ts f grows (caught x a b) (tried w x b) p.0 p.1) inside in
+      next_to_come n w.names [] a (tried w x b) p.0.before ds all ts us (block_grows w.names ls ds ts f grows (with_handled x a b) (tried w x b) p.0 p.1) inside in
       let qb = block_back n H (bodies n) u all us (bind_handler w y h) (handler_back y u es us h l) a p.0.before q.0 q.1 (behind_named n a b p.0.before named pb.own) behind in
       answered n H (whats n) (st.Try s x y u) (bt.Try p.0.tree number slot q.0.tree) q.0.before r q.2
       (named_try n p.0.tree number slot q.0.tree ∙ ap (λ z. st.Try z (n.exception number) (slot_named n.variable slot) (stmts_named n q.0.tree)) pb.tree
@@ -350,7 +350,7 @@ module _ (n : Naming) (H : RCall → Type 0) (w : Whole) where
       (both_hold (bt.Try p.0.tree number slot q.0.tree) p.0.tree q.0.tree (calls_try p.0.tree number slot q.0.tree) pb.calls qb.calls)
 
   -- the test is bound behind the first statement, whose declaration was known when it was examined
-  parts_back : (declares : ℕ → List Local) (test : Option Expr) (s u z : List Stmt) (ks js : ℕ → List Local) (ds es fs : Declarations) (ts us vs : Texts) (f g h : Bind (List RStmt))
+  parts_back : (declares : ℕ → List LocalDeclaration) (test : Option Expr) (s u z : List Stmt) (ks js : ℕ → List LocalDeclaration) (ds es fs : Declarations) (ts us vs : Texts) (f g h : Bind (List RStmt))
       (a : Around) (b : Before) (r : BoundTo RWhat)
       → Grows w.names declares ds ts f → Grows w.names ks es us g → StmtsBack s ds ts f → StmtsBack u es us g → StmtsBack z fs vs h
       → b.own ≡ [] → unknown_in_option (a.outer ++ declares (length b.slots)) test ≡ None → bind_parts test f g h a b ≡ Ok r → IsNamed n a b
@@ -377,13 +377,13 @@ module _ (n : Naming) (H : RCall → Type 0) (w : Whole) where
       (each_same H _ (calls_among p.0.tree ++ (calls_among q.0.tree ++ calls_among o.0.tree)) (calls_for p.0.tree (placed_option (visible a p.0.before) test) q.0.tree o.0.tree)
       (each_of_both H (calls_among p.0.tree) (calls_among q.0.tree ++ calls_among o.0.tree) pb.calls (each_of_both H (calls_among q.0.tree) (calls_among o.0.tree) qb.calls ob.calls)))
 
-  pub for_back : (declares : ℕ → List Local) (test : Option Expr) (s u z : List Stmt) (ks js : ℕ → List Local) (ds es fs : Declarations) (ts us vs : Texts) (f g h : Bind (List RStmt)) (line : ℕ)
+  pub for_back : (declares : ℕ → List LocalDeclaration) (test : Option Expr) (s u z : List Stmt) (ks js : ℕ → List LocalDeclaration) (ds es fs : Declarations) (ts us vs : Texts) (f g h : Bind (List RStmt)) (line : ℕ)
       → Grows w.names declares ds ts f → Grows w.names ks es us g → StmtsBack s ds ts f → StmtsBack u es us g → StmtsBack z fs vs h
       → WhatBack (st.For s test u z) (ds ++ (es ++ fs)) (ts ++ (us ++ vs)) (bind_for declares test f g h line)
   for_back declares test s u z ks js ds es fs ts us vs f g h line fg gg k l m a b r is named t =
       let p = first_ok (bind_first_test declares test line a b) _ r is in
       let known = asked line UnknownName (unknown_in_option (visible a b ++ declares (length b.slots)) test) _ p.0 p.1 in
-      let q = first_ok (bind_parts test f g h (within a b) (opened b)) _ r p.2 in
-      let qb = parts_back declares test s u z ks js ds es fs ts us vs f g h (within a b) (opened b) q.0 fg gg k l m refl known q.1
+      let q = first_ok (bind_parts test f g h (inside_block a b) (opened b)) _ r p.2 in
+      let qb = parts_back declares test s u z ks js ds es fs ts us vs f g h (inside_block a b) (opened b) q.0 fg gg k l m refl known q.1
       (record { outer = all_named n a b named; own = tt; handled = named.handled }) (record { slots = t.slots; tries = t.tries }) in
-      answered n H (whats n) (st.For s test u z) q.0.tree (closed b q.0.before) r q.2 qb.tree named.own qb.calls
+      answered n H (whats n) (st.For s test u z) q.0.tree (after_block b q.0.before) r q.2 qb.tree named.own qb.calls

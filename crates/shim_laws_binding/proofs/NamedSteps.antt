@@ -20,33 +20,33 @@ use Rattle.shim_scopes.specs.declared.tree.RWhat.TheVariants as r
 use Rattle.shim_scopes.specs.declared.tree.RBranch.{RBranch, fold-RBranch, fold-roll-RBranch}
 use Rattle.shim_scopes.specs.declared.tree.RBranchWhat.{RBranchWhat, RBranchWhat-F, fold-RBranchWhat, fold-roll-RBranchWhat, map-RBranchWhat, roll-RBranchWhat}
 use Rattle.shim_scopes.specs.declared.tree.RBranchWhat.TheVariants as rb
-use Rattle.shim_laws_binding.specs.Naming.{Naming, expr_step, expr_named, option_named, slot_named, call_named, branch_what_step, what_step, branch_step, stmt_step, stmt_named}
+use Rattle.shim_laws_binding.specs.Naming.{Naming, name_expr_step, expr_named, option_named, slot_named, call_named, name_branch_what_step, name_what_step, name_branch_step, name_stmt_step, stmt_named}
 
 pub named_number : (v : ℕ → List ℕ) (n : ℤ) → expr_named v (u.Number n) ≡ e.Number n
 unfolding expr_named roll-UExpr denote.Hole.Carrier.roll
-named_number v n = fold-roll-UExpr Expr (expr_step v) (UExpr-F.Number n)
+named_number v n = fold-roll-UExpr Expr (name_expr_step v) (UExpr-F.Number n)
 
 pub named_variable : (v : ℕ → List ℕ) (slot : ℕ) → expr_named v (u.Var slot) ≡ e.Var (v slot)
 unfolding expr_named roll-UExpr denote.Hole.Carrier.roll
-named_variable v slot = fold-roll-UExpr Expr (expr_step v) (UExpr-F.Var slot)
+named_variable v slot = fold-roll-UExpr Expr (name_expr_step v) (UExpr-F.Var slot)
 
 pub named_unary : (v : ℕ → List ℕ) (op : UnOp) (a : UExpr) → expr_named v (u.Unary op a) ≡ e.Unary op (expr_named v a)
 unfolding expr_named roll-UExpr denote.Hole.Carrier.roll
-named_unary v op a = fold-roll-UExpr Expr (expr_step v) (UExpr-F.Unary op a)
+named_unary v op a = fold-roll-UExpr Expr (name_expr_step v) (UExpr-F.Unary op a)
 
 pub named_binary : (v : ℕ → List ℕ) (op : BinOp) (a b : UExpr) → expr_named v (u.Binary op a b) ≡ e.Binary op (expr_named v a) (expr_named v b)
 unfolding expr_named roll-UExpr denote.Hole.Carrier.roll
-named_binary v op a b = fold-roll-UExpr Expr (expr_step v) (UExpr-F.Binary op a b)
+named_binary v op a b = fold-roll-UExpr Expr (name_expr_step v) (UExpr-F.Binary op a b)
 
 module _ (n : Naming) where
   abbrev pub branch_what_named : RBranchWhat → BranchWhat
-  branch_what_named = fold-RBranchWhat BranchWhat What Branch Stmt (branch_what_step n) (what_step n) branch_step stmt_step
+  branch_what_named = fold-RBranchWhat BranchWhat What Branch Stmt (name_branch_what_step n) (name_what_step n) name_branch_step name_stmt_step
 
   abbrev pub what_named : RWhat → What
-  what_named = fold-RWhat BranchWhat What Branch Stmt (branch_what_step n) (what_step n) branch_step stmt_step
+  what_named = fold-RWhat BranchWhat What Branch Stmt (name_branch_what_step n) (name_what_step n) name_branch_step name_stmt_step
 
   abbrev pub branch_named : RBranch → Branch
-  branch_named = fold-RBranch BranchWhat What Branch Stmt (branch_what_step n) (what_step n) branch_step stmt_step
+  branch_named = fold-RBranch BranchWhat What Branch Stmt (name_branch_what_step n) (name_what_step n) name_branch_step name_stmt_step
 
   abbrev pub stmts_named : List RStmt → List Stmt
   stmts_named body = map (stmt_named n) body
@@ -55,16 +55,16 @@ module _ (n : Naming) where
   branches_named branches = map branch_named branches
 
   pub named_stmt : (line : ℕ) (t : RWhat) → stmt_named n (record { line = line; what = t }) ≡ record { line = line; what = what_named t }
-  named_stmt line t = fold-roll-RStmt BranchWhat What Branch Stmt (branch_what_step n) (what_step n) branch_step stmt_step (record { line = line; what = t })
+  named_stmt line t = fold-roll-RStmt BranchWhat What Branch Stmt (name_branch_what_step n) (name_what_step n) name_branch_step name_stmt_step (record { line = line; what = t })
 
   pub named_branch : (line : ℕ) (t : RBranchWhat) → branch_named (record { line = line; what = t }) ≡ record { line = line; what = branch_what_named t }
-  named_branch line t = fold-roll-RBranch BranchWhat What Branch Stmt (branch_what_step n) (what_step n) branch_step stmt_step (record { line = line; what = t })
+  named_branch line t = fold-roll-RBranch BranchWhat What Branch Stmt (name_branch_what_step n) (name_what_step n) name_branch_step name_stmt_step (record { line = line; what = t })
 
   abbrev mapped : RWhat-F RBranchWhat RWhat RBranch RStmt → What
-  mapped y = what_step n (map-RWhat RBranchWhat RWhat RBranch RStmt BranchWhat What Branch Stmt branch_what_named what_named branch_named (stmt_named n) y)
+  mapped y = name_what_step n (map-RWhat RBranchWhat RWhat RBranch RStmt BranchWhat What Branch Stmt branch_what_named what_named branch_named (stmt_named n) y)
 
   at_what : (y : RWhat-F RBranchWhat RWhat RBranch RStmt) → what_named (roll-RWhat y) ≡ mapped y
-  at_what y = fold-roll-RWhat BranchWhat What Branch Stmt (branch_what_step n) (what_step n) branch_step stmt_step y
+  at_what y = fold-roll-RWhat BranchWhat What Branch Stmt (name_branch_what_step n) (name_what_step n) name_branch_step name_stmt_step y
 
   pub named_declare : (ty : Ty) (slot : ℕ) (a : Option UExpr) → what_named (r.Declare ty slot a) ≡ st.Declare ty (n.variable slot) (option_named n.variable a)
   unfolding roll-RWhat denote.Hole.Carrier.roll
@@ -129,8 +129,8 @@ module _ (n : Naming) where
   named_par branches = at_what (RWhat-F.Par branches)
 
   at_branch : (y : RBranchWhat-F RBranchWhat RWhat RBranch RStmt)
-      → branch_what_named (roll-RBranchWhat y) ≡ branch_what_step n (map-RBranchWhat RBranchWhat RWhat RBranch RStmt BranchWhat What Branch Stmt branch_what_named what_named branch_named (stmt_named n) y)
-  at_branch y = fold-roll-RBranchWhat BranchWhat What Branch Stmt (branch_what_step n) (what_step n) branch_step stmt_step y
+      → branch_what_named (roll-RBranchWhat y) ≡ name_branch_what_step n (map-RBranchWhat RBranchWhat RWhat RBranch RStmt BranchWhat What Branch Stmt branch_what_named what_named branch_named (stmt_named n) y)
+  at_branch y = fold-roll-RBranchWhat BranchWhat What Branch Stmt (name_branch_what_step n) (name_what_step n) name_branch_step name_stmt_step y
 
   pub named_block_branch : (body : List RStmt) → branch_what_named (rb.Block body) ≡ br.Block (stmts_named body)
   unfolding roll-RBranchWhat denote.Hole.Carrier.roll

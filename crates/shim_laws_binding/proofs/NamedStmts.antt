@@ -6,7 +6,7 @@ use Rattle.shim_syntax.specs.declared.tree.What.TheVariants as st
 use Rattle.shim_syntax.specs.declared.tree.Branch.{Branch, Branch-F, fold-roll-Branch, map-Branch, roll-Branch}
 use Rattle.shim_syntax.specs.declared.tree.BranchWhat.{BranchWhat, BranchWhat-F, fold-roll-BranchWhat, map-BranchWhat, roll-BranchWhat}
 use Rattle.shim_syntax.specs.declared.tree.BranchWhat.TheVariants as br
-use Rattle.shim_scopes.specs.declared.scope.Local.{Local}
+use Rattle.shim_scopes.specs.declared.scope.LocalDeclaration.{LocalDeclaration}
 use Rattle.shim_scopes.specs.declared.tree.RStmt.{RStmt}
 use Rattle.shim_scopes.specs.declared.tree.RBranch.{RBranch}
 use Rattle.shim_scopes.specs.declared.tree.RWhat.{RWhat}
@@ -15,10 +15,10 @@ use Rattle.shim_scopes.specs.declared.tree.RBranchWhat.{RBranchWhat}
 use Rattle.shim_scopes.specs.declared.tree.RBranchWhat.TheVariants as bb
 use Rattle.shim_syntax.specs.Names.{Texts}
 use Rattle.shim_scopes.specs.Statements.{Whole, Bind}
-use Rattle.shim_scopes.specs.Bodies.{WhatMeans, StmtMeans, BranchMeans, BranchWhatMeans, bind_all, bind_fork, first_declares, branch_what_step, what_step, branch_step, stmt_step, meaning, bind_stmts, bind_branch}
+use Rattle.shim_scopes.specs.Bodies.{WhatMeans, StmtMeans, BranchMeans, BranchWhatMeans, bind_all, bind_fork, first_declares, bind_branch_what_step, bind_what_step, bind_branch_step, bind_stmt_step, stmt_meaning, bind_stmts, bind_branch}
 use Rattle.shim_scopes.specs.declared.tree.RCall.{RCall}
 use Rattle.shim_laws_binding.specs.Naming.{Naming, stmt_named}
-use Rattle.shim_laws_binding.specs.TextOrder.{Declarations, together, branch_declares, what_declares, stmt_declares, declarations, branch_tries, what_tries, stmt_tries, tries_among}
+use Rattle.shim_laws_binding.specs.TextOrder.{Declarations, concat, branch_declares, what_declares, stmt_declares, declarations_in, branch_tries, what_tries, stmt_tries, tries_among}
 use Rattle.shim_laws_binding.specs.HandedOn.{stmt_calls, calls_among}
 use Rattle.shim_laws_binding.proofs.Growth.{Grows, declared_by_branch_what, declared_by_what, declared_by_branch, tried_by_branch_what, tried_by_what, tried_by_branch, branch_what_means, what_means, stmt_grows, branch_grows, body_grows}
 use Rattle.shim_laws_binding.proofs.NamedSteps.{branch_what_named, what_named, branch_named, stmts_named, branches_named, named_stmt, named_branch, named_block, named_call, named_par, named_block_branch, named_call_branch}
@@ -50,7 +50,7 @@ module _ (n : Naming) (H : RCall → Type 0) (w : Whole) (functions : FunctionsN
   OfBranch b = GoesBack n H one_branch b (declared_by_branch w b) (tried_by_branch w b) (bind_branch w b)
 
   abbrev OfStmt : Stmt → Type 0
-  OfStmt s = GoesBack n H one_stmt s (stmt_declares s) (stmt_tries s) (meaning w s).bind
+  OfStmt s = GoesBack n H one_stmt s (stmt_declares s) (stmt_tries s) (stmt_meaning w s).bind
 
   -- a part that goes back
   abbrev BackBranchWhat : Type 0
@@ -71,27 +71,27 @@ module _ (n : Naming) (H : RCall → Type 0) (w : Whole) (functions : FunctionsN
   abbrev branches : List BackBranch → List Branch
   branches ys = map (λ (e : BackBranch). e.0) ys
 
-  one_then : (s : Stmt) (body : List Stmt) → OfStmt s → GoesBack n H (bodies n) body (declarations body) (tries_among body) (bind_all (map (meaning w) body))
-      → GoesBack n H (bodies n) (s ∷ body) (stmt_declares s ++ declarations body) (stmt_tries s ++ tries_among body) (bind_all (map (meaning w) (s ∷ body)))
+  one_then : (s : Stmt) (body : List Stmt) → OfStmt s → GoesBack n H (bodies n) body (declarations_in body) (tries_among body) (bind_all (map (stmt_meaning w) body))
+      → GoesBack n H (bodies n) (s ∷ body) (stmt_declares s ++ declarations_in body) (stmt_tries s ++ tries_among body) (bind_all (map (stmt_meaning w) (s ∷ body)))
   one_then s body k l a b r is named t =
-      let p = first_ok ((meaning w s).bind a b) _ r is in
-      let q = first_ok (bind_all (map (meaning w) body) a p.0.before) _ r p.2 in
-      let pb = k a b p.0 p.1 named (first_to_come n a b (stmt_declares s) (declarations body) (stmt_tries s) (tries_among body) t) in
+      let p = first_ok ((stmt_meaning w s).bind a b) _ r is in
+      let q = first_ok (bind_all (map (stmt_meaning w) body) a p.0.before) _ r p.2 in
+      let pb = k a b p.0 p.1 named (first_to_come n a b (stmt_declares s) (declarations_in body) (stmt_tries s) (tries_among body) t) in
       let qb = l a p.0.before q.0 q.1 (behind_named n a b p.0.before named pb.own)
-      (next_to_come n w.names ((meaning w s).declares (length b.slots)) a b p.0.before (stmt_declares s) (declarations body) (stmt_tries s) (tries_among body) (stmt_grows w s a b p.0 p.1) t) in
+      (next_to_come n w.names ((stmt_meaning w s).declares (length b.slots)) a b p.0.before (stmt_declares s) (declarations_in body) (stmt_tries s) (tries_among body) (stmt_grows w s a b p.0 p.1) t) in
       answered n H (bodies n) (s ∷ body) (p.0.tree ∷ q.0.tree) q.0.before r q.2 (ap (λ y. y ∷ stmts_named n q.0.tree) pb.tree ∙ ap (λ ys. s ∷ ys) qb.tree) qb.own
       (each_of_both H (stmt_calls p.0.tree) (calls_among q.0.tree) pb.calls qb.calls)
 
-  stmts_back : (ys : List BackStmt) → GoesBack n H (bodies n) (stmts ys) (declarations (stmts ys)) (tries_among (stmts ys)) (bind_all (map (meaning w) (stmts ys)))
+  stmts_back : (ys : List BackStmt) → GoesBack n H (bodies n) (stmts ys) (declarations_in (stmts ys)) (tries_among (stmts ys)) (bind_all (map (stmt_meaning w) (stmts ys)))
   stmts_back [] a b r is named t = answered n H (bodies n) [] [] b r is refl named.own tt
   stmts_back (y ∷ ys) a b r is named t = one_then y.0 (stmts ys) y.1 (stmts_back ys) a b r is named t
 
   one_branch_then : (c : Branch) (bs : List Branch) → OfBranch c
-      → GoesBack n H all_branches bs (together (map (declared_by_branch w) bs)) (together (map (tried_by_branch w) bs)) (bind_fork (map (bind_branch w) bs))
-      → GoesBack n H all_branches (c ∷ bs) (together (map (declared_by_branch w) (c ∷ bs))) (together (map (tried_by_branch w) (c ∷ bs))) (bind_fork (map (bind_branch w) (c ∷ bs)))
+      → GoesBack n H all_branches bs (concat (map (declared_by_branch w) bs)) (concat (map (tried_by_branch w) bs)) (bind_fork (map (bind_branch w) bs))
+      → GoesBack n H all_branches (c ∷ bs) (concat (map (declared_by_branch w) (c ∷ bs))) (concat (map (tried_by_branch w) (c ∷ bs))) (bind_fork (map (bind_branch w) (c ∷ bs)))
   one_branch_then c bs k l a b r is named t =
-      let ds = together (map (declared_by_branch w) bs) in
-      let ts = together (map (tried_by_branch w) bs) in
+      let ds = concat (map (declared_by_branch w) bs) in
+      let ts = concat (map (tried_by_branch w) bs) in
       let p = first_ok (bind_branch w c a b) _ r is in
       let q = first_ok (bind_fork (map (bind_branch w) bs) a p.0.before) _ r p.2 in
       let pb = k a b p.0 p.1 named (first_to_come n a b (declared_by_branch w c) ds (tried_by_branch w c) ts t) in
@@ -101,7 +101,7 @@ module _ (n : Naming) (H : RCall → Type 0) (w : Whole) (functions : FunctionsN
       (each_of_both H (calls_of_branch p.0.tree) (calls_of_branches q.0.tree) pb.calls qb.calls)
 
   branches_back : (ys : List BackBranch)
-      → GoesBack n H all_branches (branches ys) (together (map (declared_by_branch w) (branches ys))) (together (map (tried_by_branch w) (branches ys))) (bind_fork (map (bind_branch w) (branches ys)))
+      → GoesBack n H all_branches (branches ys) (concat (map (declared_by_branch w) (branches ys))) (concat (map (tried_by_branch w) (branches ys))) (bind_fork (map (bind_branch w) (branches ys)))
   branches_back [] a b r is named t = answered n H all_branches [] [] b r is refl named.own tt
   branches_back (y ∷ ys) a b r is named t = one_branch_then y.0 (branches ys) y.1 (branches_back ys) a b r is named t
 
@@ -126,7 +126,7 @@ module _ (n : Naming) (H : RCall → Type 0) (w : Whole) (functions : FunctionsN
 
   abbrev means_at : BranchWhat-F BackBranchWhat BackWhat BackBranch BackStmt → BranchWhatMeans
   means_at y =
-      branch_what_step w (map-BranchWhat BranchWhat What Branch Stmt BranchWhatMeans WhatMeans BranchMeans StmtMeans (branch_what_means w) (what_means w) (bind_branch w) (meaning w) (branch_what_of y))
+      bind_branch_what_step w (map-BranchWhat BranchWhat What Branch Stmt BranchWhatMeans WhatMeans BranchMeans StmtMeans (branch_what_means w) (what_means w) (bind_branch w) (stmt_meaning w) (branch_what_of y))
 
   branch_what_layer : (y : BranchWhat-F BackBranchWhat BackWhat BackBranch BackStmt) (line : ℕ)
       → GoesBack n H branch_whats (roll-BranchWhat (branch_what_of y)) (declared_at y) (tried_at y) (means_at y line)
@@ -142,12 +142,12 @@ module _ (n : Naming) (H : RCall → Type 0) (w : Whole) (functions : FunctionsN
   what_tried_at y = what_tries (map-What BranchWhat What Branch Stmt Texts Texts Texts Texts (tried_by_branch_what w) (tried_by_what w) (tried_by_branch w) stmt_tries (what_of y))
 
   abbrev what_means_at : What-F BackBranchWhat BackWhat BackBranch BackStmt → WhatMeans
-  what_means_at y = what_step w (map-What BranchWhat What Branch Stmt BranchWhatMeans WhatMeans BranchMeans StmtMeans (branch_what_means w) (what_means w) (bind_branch w) (meaning w) (what_of y))
+  what_means_at y = bind_what_step w (map-What BranchWhat What Branch Stmt BranchWhatMeans WhatMeans BranchMeans StmtMeans (branch_what_means w) (what_means w) (bind_branch w) (stmt_meaning w) (what_of y))
 
-  abbrev first_of : List BackStmt → ℕ → List Local
-  first_of ys = first_declares (map (meaning w) (stmts ys))
+  abbrev first_of : List BackStmt → ℕ → List LocalDeclaration
+  first_of ys = first_declares (map (stmt_meaning w) (stmts ys))
 
-  stmts_grow : (ys : List BackStmt) → Grows w.names (first_of ys) (declarations (stmts ys)) (tries_among (stmts ys)) (bind_all (map (meaning w) (stmts ys)))
+  stmts_grow : (ys : List BackStmt) → Grows w.names (first_of ys) (declarations_in (stmts ys)) (tries_among (stmts ys)) (bind_all (map (stmt_meaning w) (stmts ys)))
   stmts_grow ys = body_grows w (stmts ys)
 
   what_layer : (y : What-F BackBranchWhat BackWhat BackBranch BackStmt) (line : ℕ) → GoesBack n H (whats n) (roll-What (what_of y)) (what_declared_at y) (what_tried_at y) ((what_means_at y).bind line)
@@ -160,17 +160,17 @@ module _ (n : Naming) (H : RCall → Type 0) (w : Whole) (functions : FunctionsN
   what_layer (What-F.Get x y) line = get_back n H w x y line
   what_layer (What-F.Put x e) line = put_back n H w x e line
   what_layer (What-F.If e first other) line =
-      if_back n H w e (stmts first) (stmts other) (first_of first) (declarations (stmts first)) (declarations (stmts other)) (tries_among (stmts first)) (tries_among (stmts other)) _ _ line
+      if_back n H w e (stmts first) (stmts other) (first_of first) (declarations_in (stmts first)) (declarations_in (stmts other)) (tries_among (stmts first)) (tries_among (stmts other)) _ _ line
       (stmts_grow first) (stmts_back first) (stmts_back other)
-  what_layer (What-F.While e body) line = while_back n H w e (stmts body) (declarations (stmts body)) (tries_among (stmts body)) _ line (stmts_back body)
+  what_layer (What-F.While e body) line = while_back n H w e (stmts body) (declarations_in (stmts body)) (tries_among (stmts body)) _ line (stmts_back body)
   what_layer (What-F.For first test step body) line =
-      for_back n H w (first_of first) test (stmts first) (stmts step) (stmts body) (first_of step) (first_of body) (declarations (stmts first)) (declarations (stmts step)) (declarations (stmts body))
+      for_back n H w (first_of first) test (stmts first) (stmts step) (stmts body) (first_of step) (first_of body) (declarations_in (stmts first)) (declarations_in (stmts step)) (declarations_in (stmts body))
       (tries_among (stmts first)) (tries_among (stmts step)) (tries_among (stmts body)) _ _ _ line (stmts_grow first) (stmts_grow step) (stmts_back first) (stmts_back step) (stmts_back body)
   what_layer (What-F.What::Block body) line =
       tree_back n H (bodies n) (stmts body) (whats n) (st.Block (stmts body)) bt.Block _ _ _ (λ x e. named_block n x ∙ ap st.Block e) calls_block (block_back n H (bodies n) (stmts body) _ _ _ (stmts_back body))
   what_layer (What-F.What::Call c) line = called_back n H w functions holds (whats n) st.Call bt.Call c line (named_call n) calls_call
   what_layer (What-F.Try body x y handler) line =
-      try_back n H w x y (stmts body) (stmts handler) (first_of body) (declarations (stmts body)) (declarations (stmts handler)) (tries_among (stmts body)) (tries_among (stmts handler)) _ _
+      try_back n H w x y (stmts body) (stmts handler) (first_of body) (declarations_in (stmts body)) (declarations_in (stmts handler)) (tries_among (stmts body)) (tries_among (stmts handler)) _ _
       (stmts_grow body) (stmts_back body) (stmts_back handler)
   what_layer (What-F.Throw x e) line = throw_back n H w x e line
   what_layer (What-F.Par bs) line = tree_back n H all_branches (branches bs) (whats n) (st.Par (branches bs)) bt.Par _ _ _ (λ x e. named_par n x ∙ ap st.Par e) calls_par (branches_back bs)
@@ -185,7 +185,7 @@ module _ (n : Naming) (H : RCall → Type 0) (w : Whole) (functions : FunctionsN
       same_back branch_whats (roll-BranchWhat (branch_what_of y)) _ _ _ _ _ _
       (fold-roll-BranchWhat Declarations Declarations Declarations Declarations branch_declares what_declares (λ b. b.what) (λ s. s.what) (branch_what_of y))
       (fold-roll-BranchWhat Texts Texts Texts Texts branch_tries what_tries (λ b. b.what) (λ s. s.what) (branch_what_of y))
-      (ap (λ (k : BranchWhatMeans). k line) (fold-roll-BranchWhat BranchWhatMeans WhatMeans BranchMeans StmtMeans (branch_what_step w) (what_step w) branch_step stmt_step (branch_what_of y)))
+      (ap (λ (k : BranchWhatMeans). k line) (fold-roll-BranchWhat BranchWhatMeans WhatMeans BranchMeans StmtMeans (bind_branch_what_step w) (bind_what_step w) bind_branch_step bind_stmt_step (branch_what_of y)))
       (branch_what_layer y line))
 
   what_case : (x : What-F BranchWhat What Branch Stmt) (y : What-F BackBranchWhat BackWhat BackBranch BackStmt) → what_of y ≡ x → OfWhat (roll-What x)
@@ -193,7 +193,7 @@ module _ (n : Naming) (H : RCall → Type 0) (w : Whole) (functions : FunctionsN
       same_back (whats n) (roll-What (what_of y)) _ _ _ _ _ _
       (fold-roll-What Declarations Declarations Declarations Declarations branch_declares what_declares (λ b. b.what) (λ s. s.what) (what_of y))
       (fold-roll-What Texts Texts Texts Texts branch_tries what_tries (λ b. b.what) (λ s. s.what) (what_of y))
-      (ap (λ (k : WhatMeans). k.bind line) (fold-roll-What BranchWhatMeans WhatMeans BranchMeans StmtMeans (branch_what_step w) (what_step w) branch_step stmt_step (what_of y)))
+      (ap (λ (k : WhatMeans). k.bind line) (fold-roll-What BranchWhatMeans WhatMeans BranchMeans StmtMeans (bind_branch_what_step w) (bind_what_step w) bind_branch_step bind_stmt_step (what_of y)))
       (what_layer y line))
 
   line_and_branch : (line : ℕ) (x : BranchWhat) (t : RBranchWhat) → branch_what_named n t ≡ x → branch_named n (record { line = line; what = t }) ≡ record { line = line; what = x }
@@ -204,7 +204,7 @@ module _ (n : Naming) (H : RCall → Type 0) (w : Whole) (functions : FunctionsN
       (same_back one_branch (roll-Branch (branch_of y)) _ _ _ _ _ _
       (fold-roll-Branch Declarations Declarations Declarations Declarations branch_declares what_declares (λ b. b.what) (λ s. s.what) (branch_of y))
       (fold-roll-Branch Texts Texts Texts Texts branch_tries what_tries (λ b. b.what) (λ s. s.what) (branch_of y))
-      (fold-roll-Branch BranchWhatMeans WhatMeans BranchMeans StmtMeans (branch_what_step w) (what_step w) branch_step stmt_step (branch_of y))
+      (fold-roll-Branch BranchWhatMeans WhatMeans BranchMeans StmtMeans (bind_branch_what_step w) (bind_what_step w) bind_branch_step bind_stmt_step (branch_of y))
       (tree_back n H branch_whats y.what.0 one_branch (roll-Branch (branch_of y)) (λ t. record { line = y.line; what = t }) _ _ _ (line_and_branch y.line y.what.0) (calls_branch y.line) (y.what.1 y.line)))
 
   line_and_stmt : (line : ℕ) (x : What) (t : RWhat) → what_named n t ≡ x → stmt_named n (record { line = line; what = t }) ≡ record { line = line; what = x }
@@ -215,12 +215,12 @@ module _ (n : Naming) (H : RCall → Type 0) (w : Whole) (functions : FunctionsN
       (same_back one_stmt (roll-Stmt (stmt_of y)) _ _ _ _ _ _
       (fold-roll-Stmt Declarations Declarations Declarations Declarations branch_declares what_declares (λ b. b.what) (λ s. s.what) (stmt_of y))
       (fold-roll-Stmt Texts Texts Texts Texts branch_tries what_tries (λ b. b.what) (λ s. s.what) (stmt_of y))
-      (ap (λ (k : StmtMeans). k.bind) (fold-roll-Stmt BranchWhatMeans WhatMeans BranchMeans StmtMeans (branch_what_step w) (what_step w) branch_step stmt_step (stmt_of y)))
+      (ap (λ (k : StmtMeans). k.bind) (fold-roll-Stmt BranchWhatMeans WhatMeans BranchMeans StmtMeans (bind_branch_what_step w) (bind_what_step w) bind_branch_step bind_stmt_step (stmt_of y)))
       (tree_back n H (whats n) y.what.0 one_stmt (roll-Stmt (stmt_of y)) (λ t. record { line = y.line; what = t }) _ _ _ (line_and_stmt y.line y.what.0) (calls_stmt y.line) (y.what.1 y.line)))
 
   stmt_back : (s : Stmt) → OfStmt s
   stmt_back = ind-Stmt OfBranchWhat OfWhat OfBranch OfStmt branch_what_case what_case branch_case stmt_case
 
-  pub body_back : (body : List Stmt) → GoesBack n H (bodies n) body (declarations body) (tries_among body) (bind_stmts w body)
+  pub body_back : (body : List Stmt) → GoesBack n H (bodies n) body (declarations_in body) (tries_among body) (bind_stmts w body)
   body_back [] a b r is named t = answered n H (bodies n) [] [] b r is refl named.own tt
   body_back (s ∷ body) a b r is named t = one_then s body (stmt_back s) (body_back body) a b r is named t

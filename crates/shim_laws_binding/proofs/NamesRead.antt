@@ -19,7 +19,7 @@ use Rattle.shim_syntax.specs.Terminals.{Terminal, Name, Sign, is_shim, is_two}
 use Rattle.shim_syntax.specs.Limits.{Limits}
 use Rattle.shim_syntax.specs.Text.{IsText}
 use Rattle.shim_syntax.specs.Grammar as is
-use Rattle.shim_syntax.specs.Grammar.{Counts, operator_of_sign, IsExpr, IsChain, IsArguments, IsMoreArguments, IsDeclared, IsDeclarations, IsFirst, IsTest, IsStep, IsBlock, IsStmt, IsBody, IsPlain, IsBranches, IsBranch, IsThrowRest, IsCatchRest, IsParam, IsParams, IsMoreParams, IsThrows, IsMoreThrows, IsFunction, IsFunctions, Derives}
+use Rattle.shim_syntax.specs.Grammar.{TextCounts, operator_of_sign, IsExpr, IsChain, IsArguments, IsMoreArguments, IsDeclared, IsDeclarations, IsFirst, IsTest, IsStep, IsBlock, IsStmt, IsBody, IsPlain, IsBranches, IsBranch, IsThrowRest, IsCatchRest, IsParam, IsParams, IsMoreParams, IsThrows, IsMoreThrows, IsFunction, IsFunctions, Derives}
 use Rattle.shim_syntax.specs.Names.{Texts, param_names}
 use Rattle.shim_syntax.specs.Occurrences as occurs
 use Rattle.shim_syntax.specs.Occurrences.{in_expr, in_exprs, in_option, in_call, in_stmt, in_function, identifiers}
@@ -37,7 +37,7 @@ are_those : (a b : Texts) (s r : List Terminal) → a ≡ b → Take b s r → T
 are_those a b s r e p = p ∙ ap (λ l. l ++ names_among r) (sym e)
 
 mutual
-  expr_read : {c : Limits} {n l : ℕ} {v w : Counts} {s r : List Terminal} {x : Expr} → IsExpr c n l v w s r x → Take (in_expr x) s r
+  expr_read : {c : Limits} {n l : ℕ} {v w : TextCounts} {s r : List Terminal} {x : Expr} → IsExpr c n l v w s r x → Take (in_expr x) s r
   expr_read (is.number {n = n} {p = p} {r = r}) = ap (λ l. l ++ names_among r) (sym (in_number n))
   expr_read (is.variable {x = x} {r = r}) = ap (λ l. l ++ names_among r) (sym (in_variable x))
   expr_read (is.parens h d) = expr_read d
@@ -47,28 +47,28 @@ mutual
   expr_read (is.row d t) = expr_read d ∙ chain_read t
 
   -- the operators of a row and what they join to the operand before them
-  chain_read : {c : Limits} {n l : ℕ} {v w : Counts} {s r : List Terminal} {x y : Expr} → IsChain c n l v w s r x y → in_expr x ++ names_among s ≡ in_expr y ++ names_among r
+  chain_read : {c : Limits} {n l : ℕ} {v w : TextCounts} {s r : List Terminal} {x y : Expr} → IsChain c n l v w s r x y → in_expr x ++ names_among s ≡ in_expr y ++ names_among r
   chain_read is.stop = refl
   chain_read (is.join {o = o} {m = m} {x = x} {y = y} e h d t) =
       ap (λ l. in_expr x ++ l) (expr_read d) ∙ sym (append_assoc (in_expr x) (in_expr y) (names_among m)) ∙ ap (λ l. l ++ names_among m) (sym (in_binary (operator_of_sign o) x y)) ∙ chain_read t
 
-more_arguments_read : {c : Limits} {l n : ℕ} {v w : Counts} {s r : List Terminal} {xs : List Expr} → IsMoreArguments c l n v w s r xs → Take (in_exprs xs) s r
+more_arguments_read : {c : Limits} {l n : ℕ} {v w : TextCounts} {s r : List Terminal} {xs : List Expr} → IsMoreArguments c l n v w s r xs → Take (in_exprs xs) s r
 more_arguments_read is.arguments_end = refl
 more_arguments_read (is.argument {s = s} {m = m} {r = r} {x = x} {xs = xs} h d t) = one_then (in_expr x) (in_exprs xs) s m r (expr_read d) (more_arguments_read t)
 
-arguments_read : {c : Limits} {l : ℕ} {v w : Counts} {s r : List Terminal} {xs : List Expr} → IsArguments c l v w s r xs → Take (in_exprs xs) s r
+arguments_read : {c : Limits} {l : ℕ} {v w : TextCounts} {s r : List Terminal} {xs : List Expr} → IsArguments c l v w s r xs → Take (in_exprs xs) s r
 arguments_read is.no_arguments = refl
 arguments_read (is.arguments {s = s} {m = m} {r = r} {x = x} {xs = xs} h d t) = one_then (in_expr x) (in_exprs xs) s m r (expr_read d) (more_arguments_read t)
 
-throw_rest_read : {c : Limits} {l : ℕ} {v w : Counts} {s r : List Terminal} {value : Option Expr} → IsThrowRest c l v w s r value → Take (in_option value) s r
+throw_rest_read : {c : Limits} {l : ℕ} {v w : TextCounts} {s r : List Terminal} {value : Option Expr} → IsThrowRest c l v w s r value → Take (in_option value) s r
 throw_rest_read is.no_number = refl
 throw_rest_read (is.thrown_number two d) = expr_read d
 
-catch_read : {c : Limits} {v w : Counts} {s r : List Terminal} {y : Option (List ℕ)} → IsCatchRest c v w s r y → Take (occurs.in_variable y) s r
+catch_read : {c : Limits} {v w : TextCounts} {s r : List Terminal} {y : Option (List ℕ)} → IsCatchRest c v w s r y → Take (occurs.in_variable y) s r
 catch_read is.no_variable = refl
 catch_read (is.catch_variable two h) = refl
 
-declared_read : {c : Limits} {l : ℕ} {v w : Counts} {s r : List Terminal} {x : List ℕ} {value : Option Expr} → IsDeclared c l v w s r x value → Take (x ∷ in_option value) s r
+declared_read : {c : Limits} {l : ℕ} {v w : TextCounts} {s r : List Terminal} {x : List ℕ} {value : Option Expr} → IsDeclared c l v w s r x value → Take (x ∷ in_option value) s r
 declared_read (is.without_value h) = refl
 declared_read (is.with_value {x = x} h d) = ap (λ l. x ∷ l) (expr_read d)
 
@@ -80,24 +80,24 @@ in_both (x ∷ xs) ys = ap (λ l. in_stmt x ++ l) (in_both xs ys) ∙ sym (appen
 single : (line : ℕ) (x : What) (t : Texts) (s r : List Terminal) → in_what x ≡ t → Take t s r → Take (in_stmts (record { line = line; what = x } ∷ [])) s r
 single line x t s r e p = are_those (in_stmts (record { line = line; what = x } ∷ [])) t s r (in_single line x t e) p
 
-declarations_read : {c : Limits} {l line : ℕ} {ty : Ty} {v w : Counts} {s r : List Terminal} {xs : List Stmt} → IsDeclarations c l ty line v w s r xs → Take (in_stmts xs) s r
+declarations_read : {c : Limits} {l line : ℕ} {ty : Ty} {v w : TextCounts} {s r : List Terminal} {xs : List Stmt} → IsDeclarations c l ty line v w s r xs → Take (in_stmts xs) s r
 declarations_read (is.last_declared {line = line} {ty = ty} {s = s} {r = r} {x = x} {value = value} d) =
     single line (st.Declare ty x value) (x ∷ in_option value) s r (in_declare ty x value) (declared_read d)
 declarations_read (is.declared {line = line} {ty = ty} {s = s} {m = m} {r = r} {x = x} {value = value} {xs = xs} d t) =
     one_then (in_stmt (record { line = line; what = st.Declare ty x value })) (in_stmts xs) s m r
     (are_those _ (x ∷ in_option value) s m (in_one line (st.Declare ty x value) (x ∷ in_option value) (in_declare ty x value)) (declared_read d)) (declarations_read t)
 
-first_read : {c : Limits} {l : ℕ} {v w : Counts} {s r : List Terminal} {xs : List Stmt} → IsFirst c l v w s r xs → Take (in_stmts xs) s r
+first_read : {c : Limits} {l : ℕ} {v w : TextCounts} {s r : List Terminal} {xs : List Stmt} → IsFirst c l v w s r xs → Take (in_stmts xs) s r
 first_read is.no_first = refl
 first_read (is.first_declare {ty = ty} {p = p} {s = s} {r = r} {x = x} {value = value} h d) = single p.line (st.Declare ty x value) (x ∷ in_option value) s r (in_declare ty x value) (declared_read d)
 first_read (is.first_assign {x = x} {p = p} {q = q} {s = s} {r = r} {value = value} h d) =
     single p.line (st.Assign x value) (x ∷ in_expr value) (Name x p ∷ s) r (in_assign x value) (ap (λ l. x ∷ l) (expr_read d))
 
-test_read : {c : Limits} {l : ℕ} {v w : Counts} {s r : List Terminal} {x : Option Expr} → IsTest c l v w s r x → Take (in_option x) s r
+test_read : {c : Limits} {l : ℕ} {v w : TextCounts} {s r : List Terminal} {x : Option Expr} → IsTest c l v w s r x → Take (in_option x) s r
 test_read is.no_test = refl
 test_read (is.test d) = expr_read d
 
-step_read : {c : Limits} {l : ℕ} {v w : Counts} {s r : List Terminal} {xs : List Stmt} → IsStep c l v w s r xs → Take (in_stmts xs) s r
+step_read : {c : Limits} {l : ℕ} {v w : TextCounts} {s r : List Terminal} {xs : List Stmt} → IsStep c l v w s r xs → Take (in_stmts xs) s r
 step_read is.no_step = refl
 step_read (is.step {x = x} {p = p} {s = s} {r = r} {value = value} h d) =
     single p.line (st.Assign x value) (x ∷ in_expr value) (Name x p ∷ s) r (in_assign x value) (ap (λ l. x ∷ l) (expr_read d))
@@ -111,23 +111,23 @@ abbrev call_of : List ℕ → List Expr → Call
 call_of f xs = record { function = f; args = xs }
 
 mutual
-  block_read : {c : Limits} {l : ℕ} {v w : Counts} {s r : List Terminal} {xs : List Stmt} → IsBlock c l v w s r xs → Take (in_stmts xs) s r
+  block_read : {c : Limits} {l : ℕ} {v w : TextCounts} {s r : List Terminal} {xs : List Stmt} → IsBlock c l v w s r xs → Take (in_stmts xs) s r
   block_read is.block_end = refl
   block_read (is.stmt {s = s} {m = m} {r = r} {xs = xs} {ys = ys} h d t) = are_those _ _ s r (in_both xs ys) (one_then (in_stmts xs) (in_stmts ys) s m r (stmt_read d) (block_read t))
 
-  stmt_read : {c : Limits} {l : ℕ} {v w : Counts} {s r : List Terminal} {xs : List Stmt} → IsStmt c l v w s r xs → Take (in_stmts xs) s r
+  stmt_read : {c : Limits} {l : ℕ} {v w : TextCounts} {s r : List Terminal} {xs : List Stmt} → IsStmt c l v w s r xs → Take (in_stmts xs) s r
   stmt_read (is.block {p = p} {s = s} {r = r} {xs = xs} d h) = single p.line (st.Block xs) (in_stmts xs) s r (in_block xs) (block_read d)
   stmt_read (is.block_fork {p = p} {s = s} {m = m} {r = r} {xs = xs} {bs = bs} d b) =
       fork p.line (record { line = p.line; what = br.Block xs }) bs (in_stmts xs) s m r (in_block_branch p.line xs) (block_read d) (branches_read b)
   stmt_read (is.plain d) = plain_read d
 
-  body_read : {c : Limits} {l : ℕ} {v w : Counts} {s r : List Terminal} {xs : List Stmt} → IsBody c l v w s r xs → Take (in_stmts xs) s r
+  body_read : {c : Limits} {l : ℕ} {v w : TextCounts} {s r : List Terminal} {xs : List Stmt} → IsBody c l v w s r xs → Take (in_stmts xs) s r
   body_read (is.body_block d h) = block_read d
   body_read (is.body_fork {p = p} {s = s} {m = m} {r = r} {xs = xs} {bs = bs} d h b) =
       fork p.line (record { line = p.line; what = br.Block xs }) bs (in_stmts xs) s m r (in_block_branch p.line xs) (block_read d) (branches_read b)
   body_read (is.body_plain h d) = plain_read d
 
-  plain_read : {c : Limits} {l : ℕ} {v w : Counts} {s r : List Terminal} {xs : List Stmt} → IsPlain c l v w s r xs → Take (in_stmts xs) s r
+  plain_read : {c : Limits} {l : ℕ} {v w : TextCounts} {s r : List Terminal} {xs : List Stmt} → IsPlain c l v w s r xs → Take (in_stmts xs) s r
   plain_read is.empty = refl
   plain_read (is.declare d) = declarations_read d
   plain_read (is.assign {x = x} {p = p} {s = s} {r = r} {value = value} d) =
@@ -163,11 +163,11 @@ mutual
   plain_read (is.throw {x = x} {p = p} {q = q} {s = s} {r = r} {value = a} d) =
       single p.line (st.Throw x a) (x ∷ in_option a) (Name x q ∷ s) r (in_throw x a) (ap (λ l. x ∷ l) (throw_rest_read d))
 
-  branches_read : {c : Limits} {l n : ℕ} {v w : Counts} {s r : List Terminal} {bs : List Branch} → IsBranches c l n v w s r bs → Take (in_branches bs) s r
+  branches_read : {c : Limits} {l n : ℕ} {v w : TextCounts} {s r : List Terminal} {bs : List Branch} → IsBranches c l n v w s r bs → Take (in_branches bs) s r
   branches_read (is.last_branch {s = s} {r = r} {b = b} h d a) = are_those (in_branches (b ∷ [])) (in_branch b) s r (append-nil (in_branch b)) (branch_read d)
   branches_read (is.branch {s = s} {m = m} {r = r} {b = b} {bs = bs} h d t) = one_then (in_branch b) (in_branches bs) s m r (branch_read d) (branches_read t)
 
-  branch_read : {c : Limits} {l : ℕ} {v w : Counts} {s r : List Terminal} {b : Branch} → IsBranch c l v w s r b → Take (in_branch b) s r
+  branch_read : {c : Limits} {l : ℕ} {v w : TextCounts} {s r : List Terminal} {b : Branch} → IsBranch c l v w s r b → Take (in_branch b) s r
   branch_read (is.block_branch {p = p} {s = s} {r = r} {xs = xs} d) = are_those (in_branch (record { line = p.line; what = br.Block xs })) (in_stmts xs) s r (in_block_branch p.line xs) (block_read d)
   branch_read (is.call_branch {f = f} {p = p} {s = s} {r = r} {xs = xs} d) =
       are_those (in_branch (record { line = p.line; what = br.Call (call_of f xs) })) (in_call (call_of f xs)) (Name f p ∷ s) r (in_call_branch p.line (call_of f xs)) (ap (λ l. f ∷ l) (arguments_read d))
@@ -193,16 +193,16 @@ throws_read : {c : Limits} {s r : List Terminal} {xs : Texts} → IsThrows c s r
 throws_read is.no_throws = refl
 throws_read (is.throws {x = x} h t) = ap (λ l. x ∷ l) (more_throws_read t)
 
-function_read : {c : Limits} {v w : Counts} {s r : List Terminal} {f : Function} → IsFunction c v w s r f → Take (in_function f) s r
+function_read : {c : Limits} {v w : TextCounts} {s r : List Terminal} {f : Function} → IsFunction c v w s r f → Take (in_function f) s r
 function_read (is.function {f = f} {s = s} {m = m} {i = i} {r = r} {xs = xs} {ts = ts} {ys = ys} p t b) =
     ap (λ l. f ∷ l) (one_then (param_names xs) (ts ++ in_stmts ys) s m r (params_read p) (one_then ts (in_stmts ys) m i r (throws_read t) (block_read b)))
 
-functions_read : {c : Limits} {n : ℕ} {v : Counts} {s r : List Terminal} {fs : List Function} → IsFunctions c n v s r fs → Take (identifiers fs) s r
+functions_read : {c : Limits} {n : ℕ} {v : TextCounts} {s r : List Terminal} {fs : List Function} → IsFunctions c n v s r fs → Take (identifiers fs) s r
 functions_read is.program_end = refl
 functions_read (is.another_function {s = s} {m = m} {r = r} {f = f} {fs = fs} h d t) = one_then (in_function f) (identifiers fs) s m r (function_read d) (functions_read t)
 
 -- no function begins as version 2 does
-no_header : {c : Limits} {n : ℕ} {v : Counts} {s r : List Terminal} {fs : List Function} → IsFunctions c n v s r fs → of_functions s ≡ s
+no_header : {c : Limits} {n : ℕ} {v : TextCounts} {s r : List Terminal} {fs : List Function} → IsFunctions c n v s r fs → of_functions s ≡ s
 no_header is.program_end = refl
 no_header (is.another_function h (is.function p t b) f) = refl
 

@@ -7,7 +7,7 @@ use Rattle.shim_base.specs.declared.token.Keyword.{Keyword}
 use Rattle.shim_base.specs.declared.token.Keyword.TheVariants as k
 use Rattle.shim_base.specs.declared.token.TokenKind.{TokenKind}
 use Rattle.shim_base.specs.declared.token.TokenKind.TheVariants.{Word, Key as KeyKind, Number as NumberKind, Sign as SignKind}
-use Rattle.shim_base.specs.Tokens.{Fault, Place, Token, start, after}
+use Rattle.shim_base.specs.Tokens.{Fault, Place, Token, start, place_after}
 use Rattle.shim_syntax.specs.declared.tree.Program.{Program}
 use Rattle.shim_syntax.specs.Terminals.{Terminal, Name, Number, Sort, Key, Sign, End, Broken, begins_two, in_version, new_word, of_end, of_keyword, of_kind, of_token, of_tokens, of_version, of_word, rest}
 use Rattle.shim_syntax.specs.Distinct.{IsNew}
@@ -16,7 +16,7 @@ use Rattle.shim_syntax.specs.Occurrences.{identifiers}
 use Rattle.shim_syntax.specs.Text.{IsText}
 use Rattle.shim_syntax.proofs.Programs.{version_seen}
 use Rattle.shim_syntax.proofs.Standing.{header_seen}
-use Rattle.shim_laws_binding.specs.TextNames.{has_new_type, is_new_type, name_in, names_among, of_functions}
+use Rattle.shim_laws_binding.specs.TextNames.{has_new_type, is_new_type, terminal_name, names_among, of_functions}
 use Rattle.shim_laws_binding.proofs.NamesRead.{identifiers_are_the_names_of_the_text}
 
 new_in_both : (x : List ℕ) (ns ms : Texts) → IsNew x ns → IsNew x ms → IsNew x (ns ++ ms)
@@ -27,11 +27,11 @@ new_in_second : (x : List ℕ) (ns ms : Texts) → IsNew x (ns ++ ms) → IsNew 
 new_in_second x [] ms a = a
 new_in_second x (n ∷ ns) ms a = new_in_second x ns ms a.1
 
-word_is_new_by : (x : List ℕ) (p : Place) → (bytes_eq x new_word ≡ true) ⊎ (bytes_eq x new_word ≡ false) → IsNew new_word (name_in (of_word true x p))
+word_is_new_by : (x : List ℕ) (p : Place) → (bytes_eq x new_word ≡ true) ⊎ (bytes_eq x new_word ≡ false) → IsNew new_word (terminal_name (of_word true x p))
 word_is_new_by x p (inl e) = rw e tt
 word_is_new_by x p (inr e) = rw e ((λ same. absurd (cc (e, (bytes_eq-Decides x new_word).1 same))), tt)
 
-word_is_new_in_one : (t : Terminal) → IsNew new_word (name_in (of_version true t))
+word_is_new_in_one : (t : Terminal) → IsNew new_word (terminal_name (of_version true t))
 word_is_new_in_one (Name x p) = word_is_new_by x p (cases_Bool (bytes_eq x new_word))
 word_is_new_in_one (Number n p) = tt
 word_is_new_in_one (Sort sort p) = tt
@@ -42,11 +42,11 @@ word_is_new_in_one (Broken kind p) = tt
 
 word_is_new : (ts : List Terminal) → IsNew new_word (names_among (map (of_version true) ts))
 word_is_new [] = tt
-word_is_new (t ∷ ts) = new_in_both new_word (name_in (of_version true t)) (names_among (map (of_version true) ts)) (word_is_new_in_one t) (word_is_new ts)
+word_is_new (t ∷ ts) = new_in_both new_word (terminal_name (of_version true t)) (names_among (map (of_version true) ts)) (word_is_new_in_one t) (word_is_new ts)
 
 new_in_rest : (x : List ℕ) (ts : List Terminal) → IsNew x (names_among ts) → IsNew x (names_among (rest ts))
 new_in_rest x [] new = tt
-new_in_rest x (t ∷ ts) new = new_in_second x (name_in t) (names_among ts) new
+new_in_rest x (t ∷ ts) new = new_in_second x (terminal_name t) (names_among ts) new
 
 new_in_functions_by : (x : List ℕ) (two : Bool) (ts : List Terminal) → IsNew x (names_among ts) → IsNew x (names_among (if two then rest (rest (rest ts)) else ts))
 new_in_functions_by x true ts new = new_in_rest x (rest (rest ts)) (new_in_rest x (rest ts) (new_in_rest x ts new))
@@ -116,7 +116,7 @@ module _ (bytes : List ℕ) (p : Program) (text : IsText bytes p) where
   IsOfVersion = ((begins_two text.terminals ≡ true) × (p.version ≡ 2)) ⊎ ((begins_two text.terminals ≡ false) × (p.version ≡ 1))
 
   raw : List Terminal
-  raw = of_tokens text.read.tokens (of_end (after start bytes) text.read.end)
+  raw = of_tokens text.read.tokens (of_end (place_after start bytes) text.read.end)
 
   seen_in : (two : Bool) → begins_two text.terminals ≡ two → text.terminals ≡ map (of_version two) raw
   unfolding raw
@@ -134,7 +134,7 @@ module _ (bytes : List ℕ) (p : Program) (text : IsText bytes p) where
   unfolding raw
   type_by (inl (two, is)) version = absurd (cc (is, version))
   type_by (inr (none, is)) version =
-      ap has_new_type (seen_in false none) ∙ none_is_seen raw ∙ none_is text.read.tokens (of_end (after start bytes) text.read.end) (end_is_not (after start bytes) text.read.end)
+      ap has_new_type (seen_in false none) ∙ none_is_seen raw ∙ none_is text.read.tokens (of_end (place_after start bytes) text.read.end) (end_is_not (place_after start bytes) text.read.end)
 
 pub new_word_is_no_identifier : (bytes : List ℕ) (p : Program) (text : IsText bytes p) → p.version ≡ 2 → IsNew new_word (identifiers p.functions)
 new_word_is_no_identifier bytes p text version = word_by bytes p text (version_seen text.terminals p text.derives) version

@@ -15,7 +15,7 @@ use Rattle.shim_syntax.specs.declared.tree.BranchWhat.{BranchWhat, BranchWhat-F,
 use Rattle.shim_syntax.specs.declared.tree.BranchWhat.TheVariants as br
 use Rattle.shim_syntax.specs.Names.{Texts}
 use Rattle.shim_syntax.specs.Occurrences as occurs
-use Rattle.shim_syntax.specs.Occurrences.{joined, expr_occurs, in_expr, in_option, in_call, branch_occurs, what_occurs, in_stmt}
+use Rattle.shim_syntax.specs.Occurrences.{concatenated, expr_occurs, in_expr, in_option, in_call, branch_occurs, what_occurs, in_stmt}
 
 pub in_number : (n : ℤ) → in_expr (e.Number n) ≡ []
 unfolding roll-Expr denote.Hole.Carrier.roll
@@ -43,10 +43,10 @@ pub in_branch : Branch → Texts
 in_branch = fold-Branch Texts Texts Texts Texts branch_occurs what_occurs (λ b. b.what) (λ s. s.what)
 
 abbrev pub in_stmts : List Stmt → Texts
-in_stmts body = joined (map in_stmt body)
+in_stmts body = concatenated (map in_stmt body)
 
 abbrev pub in_branches : List Branch → Texts
-in_branches branches = joined (map in_branch branches)
+in_branches branches = concatenated (map in_branch branches)
 
 of_stmt : (s : Stmt) → in_stmt s ≡ in_what s.what
 unfolding in_what

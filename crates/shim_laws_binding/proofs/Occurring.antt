@@ -5,8 +5,8 @@ use Rattle.shim_syntax.specs.declared.tree.What.{What, What-F, fold-What, fold-r
 use Rattle.shim_syntax.specs.declared.tree.Branch.{Branch, Branch-F, fold-Branch, fold-roll-Branch, map-Branch, roll-Branch}
 use Rattle.shim_syntax.specs.declared.tree.BranchWhat.{BranchWhat, BranchWhat-F, fold-BranchWhat, fold-roll-BranchWhat, map-BranchWhat, roll-BranchWhat}
 use Rattle.shim_syntax.specs.Names.{Texts}
-use Rattle.shim_syntax.specs.Occurrences.{joined, in_expr, in_option, in_variable, branch_occurs, what_occurs, in_stmt}
-use Rattle.shim_laws_binding.specs.TextOrder.{Declaration, Declarations, declared_variable, together, branch_declares, what_declares, stmt_declares, declarations, branch_tries, what_tries, stmt_tries, tries_among}
+use Rattle.shim_syntax.specs.Occurrences.{concatenated, in_expr, in_option, in_variable, branch_occurs, what_occurs, in_stmt}
+use Rattle.shim_laws_binding.specs.TextOrder.{Declaration, Declarations, declared_variable, concat, branch_declares, what_declares, stmt_declares, declarations_in, branch_tries, what_tries, stmt_tries, tries_among}
 use Rattle.shim_laws_binding.proofs.Lists.{Each, each_of_both, each_of_first, each_of_second}
 
 module _ (P : List ℕ → Type 0) where
@@ -95,15 +95,15 @@ module _ (P : List ℕ → Type 0) where
   abbrev branches : List PassedBranch → List Branch
   branches ys = map (λ (e : PassedBranch). e.0) ys
 
-  stmts_pass : (ys : List PassedStmt) → Passes (joined (map in_stmt (stmts ys))) (declarations (stmts ys)) (tries_among (stmts ys))
+  stmts_pass : (ys : List PassedStmt) → Passes (concatenated (map in_stmt (stmts ys))) (declarations_in (stmts ys)) (tries_among (stmts ys))
   stmts_pass [] h = (tt, tt)
   stmts_pass (y ∷ ys) h =
-      both_pass (in_stmt y.0) (joined (map in_stmt (stmts ys))) (stmt_declares y.0) (declarations (stmts ys)) (stmt_tries y.0) (tries_among (stmts ys)) y.1 (stmts_pass ys) h
+      both_pass (in_stmt y.0) (concatenated (map in_stmt (stmts ys))) (stmt_declares y.0) (declarations_in (stmts ys)) (stmt_tries y.0) (tries_among (stmts ys)) y.1 (stmts_pass ys) h
 
-  branches_pass : (ys : List PassedBranch) → Passes (joined (map in_branch (branches ys))) (together (map declared_by_branch (branches ys))) (together (map tried_by_branch (branches ys)))
+  branches_pass : (ys : List PassedBranch) → Passes (concatenated (map in_branch (branches ys))) (concat (map declared_by_branch (branches ys))) (concat (map tried_by_branch (branches ys)))
   branches_pass [] h = (tt, tt)
   branches_pass (y ∷ ys) h =
-      both_pass (in_branch y.0) (joined (map in_branch (branches ys))) (declared_by_branch y.0) (together (map declared_by_branch (branches ys))) (tried_by_branch y.0) (together (map tried_by_branch (branches ys)))
+      both_pass (in_branch y.0) (concatenated (map in_branch (branches ys))) (declared_by_branch y.0) (concat (map declared_by_branch (branches ys))) (tried_by_branch y.0) (concat (map tried_by_branch (branches ys)))
       y.1 (branches_pass ys) h
 
   abbrev branch_what_of : BranchWhat-F PassedBranchWhat PassedWhat PassedBranch PassedStmt → BranchWhat-F BranchWhat What Branch Stmt
@@ -126,10 +126,10 @@ module _ (P : List ℕ → Type 0) where
   branch_what_layer (BranchWhat-F.BranchWhat::Call c) h = (tt, tt)
 
   abbrev texts : List PassedStmt → Texts
-  texts ys = joined (map in_stmt (stmts ys))
+  texts ys = concatenated (map in_stmt (stmts ys))
 
   abbrev ds : List PassedStmt → Declarations
-  ds ys = declarations (stmts ys)
+  ds ys = declarations_in (stmts ys)
 
   abbrev ts : List PassedStmt → Texts
   ts ys = tries_among (stmts ys)
@@ -176,6 +176,6 @@ module _ (P : List ℕ → Type 0) where
       (fold-roll-Stmt Declarations Declarations Declarations Declarations branch_declares what_declares (λ b. b.what) (λ s. s.what) (stmt_of y))
       (fold-roll-Stmt Texts Texts Texts Texts branch_tries what_tries (λ b. b.what) (λ s. s.what) (stmt_of y)) y.what.1))
 
-  pub body_passes : (body : List Stmt) → Passes (joined (map in_stmt body)) (declarations body) (tries_among body)
+  pub body_passes : (body : List Stmt) → Passes (concatenated (map in_stmt body)) (declarations_in body) (tries_among body)
   body_passes [] h = (tt, tt)
-  body_passes (s ∷ body) h = both_pass (in_stmt s) (joined (map in_stmt body)) (stmt_declares s) (declarations body) (stmt_tries s) (tries_among body) (stmt_passes s) (body_passes body) h
+  body_passes (s ∷ body) h = both_pass (in_stmt s) (concatenated (map in_stmt body)) (stmt_declares s) (declarations_in body) (stmt_tries s) (tries_among body) (stmt_passes s) (body_passes body) h

@@ -6,11 +6,11 @@ use Rattle.shim_syntax.specs.declared.tree.Expr.TheVariants as e
 use Rattle.shim_syntax.specs.declared.tree.Call.{Call}
 use Rattle.shim_syntax.specs.declared.tree.Function.{Function}
 use Rattle.shim_scopes.specs.declared.fault.ScopeKind.TheVariants.{UnknownName, UnknownException, Arity, WrongKind}
-use Rattle.shim_scopes.specs.declared.scope.Local.{Local}
+use Rattle.shim_scopes.specs.declared.scope.LocalDeclaration.{LocalDeclaration}
 use Rattle.shim_scopes.specs.declared.scope.Handled.{Handled}
 use Rattle.shim_scopes.specs.declared.tree.RCall.{RCall}
 use Rattle.shim_syntax.specs.Names.{Texts}
-use Rattle.shim_scopes.specs.Binding.{unless_bound, unknown, unknown_in, slot_at, slot_of, placed, unknown_in_all, placed_all, unknown_in_option, placed_option, number_at, exception_number, unless_handled, unhandled}
+use Rattle.shim_scopes.specs.Binding.{unless_bound, unknown, unknown_in, slot_at, slot_of, placed, unknown_in_all, placed_all, unknown_in_option, placed_option, number_or_zero_of, exception_number, unless_handled, unhandled}
 use Rattle.shim_scopes.specs.Statements.{Whole, Around, Before, visible}
 use Rattle.shim_scopes.specs.Calls.{function_number, function_of, unhandled_of_all, if_false, wrong_in_all, bind_known, bind_call}
 use Rattle.shim_laws_binding.specs.Innermost.{exception_name, local_name, IsNumberOfInnermost, IsSlotOfInnermost}
@@ -23,16 +23,16 @@ use Rattle.shim_laws_binding.proofs.NamedExprs.{unknown_variable, unknown_unary,
 use Rattle.shim_laws_binding.proofs.NamedParts.{same_known}
 use Rattle.shim_scopes.proofs.Refusals.{passed}
 
-slot_by : (x : List ℕ) (around : List Local) (o : Option Local) → Found local_name x around o
-    → unless_bound x (option_map (λ (l : Local). l.bound) o) ≡ None → IsSlotOfInnermost x around (slot_at (option_map (λ (l : Local). l.bound) o))
+slot_by : (x : List ℕ) (around : List LocalDeclaration) (o : Option LocalDeclaration) → Found local_name x around o
+    → unless_bound x (option_map (λ (l : LocalDeclaration). l.bound) o) ≡ None → IsSlotOfInnermost x around (slot_at (option_map (λ (l : LocalDeclaration). l.bound) o))
 slot_by x around None f e = absurd (cc e)
 slot_by x around (Some l) f e = (l, f, refl)
 
-pub slot_is_innermost : (x : List ℕ) (around : List Local) → unknown around x ≡ None → IsSlotOfInnermost x around (slot_of around x)
+pub slot_is_innermost : (x : List ℕ) (around : List LocalDeclaration) → unknown around x ≡ None → IsSlotOfInnermost x around (slot_of around x)
 slot_is_innermost x around e = slot_by x around (found local_name x around) (is_found local_name x around) e
 
 number_by : (x : List ℕ) (around : List Handled) (o : Option Handled) → Found exception_name x around o
-    → unless_handled x (option_map (λ (h : Handled). h.number) o) ≡ None → IsNumberOfInnermost x around (number_at (option_map (λ (h : Handled). h.number) o))
+    → unless_handled x (option_map (λ (h : Handled). h.number) o) ≡ None → IsNumberOfInnermost x around (number_or_zero_of (option_map (λ (h : Handled). h.number) o))
 number_by x around None f e = absurd (cc e)
 number_by x around (Some h) f e = (h, f, refl)
 
@@ -46,7 +46,7 @@ throws_are_innermost around (x ∷ xs) e =
     (number_is_innermost x around both.0, throws_are_innermost around xs both.1)
 
 -- what is known among the declarations `asked` is so among those around
-module _ (asked around : List Local) (further : (x : List ℕ) → unknown asked x ≡ None → unknown around x ≡ None) where
+module _ (asked around : List LocalDeclaration) (further : (x : List ℕ) → unknown asked x ≡ None → unknown around x ≡ None) where
   abbrev IsPlaced : Expr → Type 0
   IsPlaced a = unknown_in asked a ≡ None → BindsExpr around a (placed around a)
 

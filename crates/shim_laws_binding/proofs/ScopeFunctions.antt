@@ -10,7 +10,7 @@ use Rattle.shim_syntax.specs.declared.tree.Program.{Program}
 use Rattle.shim_scopes.specs.declared.form.Form.{Form}
 use Rattle.shim_scopes.specs.declared.scope.Handled.{Handled}
 use Rattle.shim_scopes.specs.declared.tree.RFunction.{RFunction}
-use Rattle.shim_syntax.specs.Names.{Texts, number_of}
+use Rattle.shim_syntax.specs.Names.{Texts, name_index}
 use Rattle.shim_scopes.specs.Statements.{Whole, Before, local_of}
 use Rattle.shim_scopes.specs.Functions.{with_param, params_from, handled_from, function_begin, bind_function, bind_functions, bind_program, main_at}
 use Rattle.shim_laws_binding.specs.LexicalScope.{Pairwise, Point, params_around, throws_around, body_begins, BindsStmts, BindsFunction, BindsProgram}
@@ -61,7 +61,7 @@ function_bound w f r m =
     let before = params_from w.names function_begin f.params in
     let body = subst (λ (x : Point). BindsStmts w.functions x f.body m.body.tree (point (around_body f) m.body.before)) (point_begins w.names f) (body_by_rules w f.body (around_body f) before m.body m.bound) in
     subst (λ (x : RFunction). BindsFunction w.functions f x) m.made
-    (record { end = point (around_body f) m.body.before; body = body; slots = refl; exceptions = omega (arith, length-map f.throws (number_of w.names)) })
+    (record { end = point (around_body f) m.body.before; body = body; slots = refl; exceptions = omega (arith, length-map f.throws (name_index w.names)) })
 
 functions_bound : (w : Whole) (earlier : Texts) (fs : List Function) (rs : List RFunction) → bind_functions w earlier fs ≡ Ok rs → Pairwise (BindsFunction w.functions) fs rs
 functions_bound w earlier [] rs e = let none : [] ≡ rs = cc in subst (λ (l : List RFunction). Pairwise (BindsFunction w.functions) [] l) none tt

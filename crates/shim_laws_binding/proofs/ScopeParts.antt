@@ -12,7 +12,7 @@ use Rattle.shim_syntax.specs.declared.tree.Stmt.{Stmt}
 use Rattle.shim_syntax.specs.declared.tree.What.{What}
 use Rattle.shim_syntax.specs.declared.tree.What.TheVariants as st
 use Rattle.shim_scopes.specs.declared.fault.ScopeKind.TheVariants.{UnknownName, UnknownException, Twice, WrongKind}
-use Rattle.shim_scopes.specs.declared.scope.Local.{Local}
+use Rattle.shim_scopes.specs.declared.scope.LocalDeclaration.{LocalDeclaration}
 use Rattle.shim_scopes.specs.declared.scope.Handled.{Handled}
 use Rattle.shim_scopes.specs.declared.tree.RCall.{RCall}
 use Rattle.shim_scopes.specs.declared.tree.RStmt.{RStmt}
@@ -20,9 +20,9 @@ use Rattle.shim_scopes.specs.declared.tree.RWhat.{RWhat}
 use Rattle.shim_scopes.specs.declared.tree.RWhat.TheVariants as rt
 use Rattle.shim_scopes.specs.declared.tree.UExpr.{UExpr}
 use Rattle.shim_scopes.specs.Binding.{unknown, unknown_in, unknown_in_option, stream_in, stream_in_option, no_number, no_input, no_output, slot_of, placed, placed_option, exception_number, unhandled}
-use Rattle.shim_syntax.specs.Names.{Texts, number_of}
+use Rattle.shim_syntax.specs.Names.{Texts, name_index}
 use Rattle.shim_scopes.specs.Refusals.{refused_for}
-use Rattle.shim_scopes.specs.Statements.{Whole, Around, Before, BoundTo, Bind, declared, local_of, within, opened, closed, caught, tried, variable_declared, variable_slot, bind_handler, bind_declare, bind_store, bind_next, bind_assign_next, bind_get, bind_put, bind_throw, bind_block, on_tree, bind_test, bind_if, bind_while, bind_try, bind_parts, bind_first_test, bind_for, visible, declared_in, unknown_in_both, unknown_of_two}
+use Rattle.shim_scopes.specs.Statements.{Whole, Around, Before, BoundTo, Bind, with_declaration, local_of, inside_block, opened, after_block, with_handled, tried, variable_declared, variable_slot, bind_handler, bind_declare, bind_store, bind_next, bind_assign_next, bind_get, bind_put, bind_throw, bind_block, on_tree, bind_test, bind_if, bind_while, bind_try, bind_parts, bind_first_test, bind_for, visible, declared_in, unknown_in_both, unknown_of_two}
 use Rattle.shim_scopes.specs.Calls.{bind_call, bind_called}
 use Rattle.shim_laws_binding.specs.TextOrder.{Declarations}
 use Rattle.shim_laws_binding.specs.LexicalScope.{Point, behind_declaration, inside_try, behind_block, behind_variable, slot_of_variable, BindsExpr, BindsOption, BindsCall, BindsWhat, declare, assign, next, next_assign, assign_next, get, put, if_else, while, for_loop, try, throw, BindsStmts, BindsBlock, in_block}
@@ -41,28 +41,28 @@ ByRules {T = T} Rule s f = (a : Around) (b : Before) (r : BoundTo T) → f a b �
 pub by_answer : {T S : Type 0} (Rule : Point → S → T → Point → Type 0) (s : S) (p : Point) (a : Around) (t : T) (b : Before) (r : BoundTo T) → bound t b ≡ Ok r → Rule p s t (point a b) → Rule p s r.tree (point a r.before)
 by_answer {T = T} Rule s p a t b r e h = subst (λ (x : BoundTo T). Rule p s x.tree (point a x.before)) (sym (is_bound t b r e)) h
 
-abbrev pub point_of : List Local → List Handled → ℕ → ℕ → Point
+abbrev pub point_of : List LocalDeclaration → List Handled → ℕ → ℕ → Point
 point_of ls hs m i = record { declared = ls; handled = hs; slots = m; exceptions = i }
 
-pub same_point : (ls ks : List Local) (hs gs : List Handled) (m n i j : ℕ) → ls ≡ ks → hs ≡ gs → m ≡ n → i ≡ j → point_of ls hs m i ≡ point_of ks gs n j
+pub same_point : (ls ks : List LocalDeclaration) (hs gs : List Handled) (m n i j : ℕ) → ls ≡ ks → hs ≡ gs → m ≡ n → i ≡ j → point_of ls hs m i ≡ point_of ks gs n j
 same_point ls ks hs gs m n i j p o q r =
     ap (λ l. point_of l hs m i) p ∙ ap (λ l. point_of ks l m i) o ∙ ap (λ l. point_of ks gs l i) q ∙ ap (point_of ks gs n) r
 
-point_declared : (names : Texts) (x : List ℕ) (sort : Sort) (a : Around) (b : Before) → point a (declared names x sort b) ≡ behind_declaration x sort (point a b)
+point_declared : (names : Texts) (x : List ℕ) (sort : Sort) (a : Around) (b : Before) → point a (with_declaration names x sort b) ≡ behind_declaration x sort (point a b)
 point_declared names x sort a b =
     same_point (a.outer ++ (b.own ++ local_of x sort (length b.slots) ∷ [])) ((a.outer ++ b.own) ++ local_of x sort (length b.slots) ∷ []) a.handled a.handled
     (length (b.slots ++ sort ∷ [])) (suc (length b.slots)) (a.throws + length b.tries) (a.throws + length b.tries)
     (sym (append_assoc a.outer b.own (local_of x sort (length b.slots) ∷ []))) refl (omega (arith, length-append b.slots (sort ∷ []))) refl
 
 -- a block begins at the point where it stands
-point_within : (a : Around) (b : Before) → point (within a b) (opened b) ≡ point a b
+point_within : (a : Around) (b : Before) → point (inside_block a b) (opened b) ≡ point a b
 point_within a b = same_point ((a.outer ++ b.own) ++ []) (a.outer ++ b.own) a.handled a.handled (length b.slots) (length b.slots) (a.throws + length b.tries) (a.throws + length b.tries) (append-nil (a.outer ++ b.own)) refl refl refl
 
-point_tried : (w : Whole) (x : List ℕ) (a : Around) (b : Before) → point (caught x a b) (tried w x b) ≡ inside_try x (point a b)
+point_tried : (w : Whole) (x : List ℕ) (a : Around) (b : Before) → point (with_handled x a b) (tried w x b) ≡ inside_try x (point a b)
 point_tried w x a b =
     let inside : List Handled = a.handled ++ record { name = x; number = a.throws + length b.tries } ∷ [] in
     same_point (a.outer ++ b.own) (a.outer ++ b.own) inside inside (length b.slots) (length b.slots)
-    (a.throws + length (b.tries ++ number_of w.names x ∷ [])) (suc (a.throws + length b.tries)) refl refl refl (omega (arith, length-append b.tries (number_of w.names x ∷ [])))
+    (a.throws + length (b.tries ++ name_index w.names x ∷ [])) (suc (a.throws + length b.tries)) refl refl refl (omega (arith, length-append b.tries (name_index w.names x ∷ [])))
 
 -- and behind a handler's variable, where it has one
 point_variable : (names : Texts) (y : Option (List ℕ)) (a : Around) (b : Before) → point a (variable_declared names y b) ≡ behind_variable y (point a b)
@@ -81,9 +81,9 @@ module _ (w : Whole) where
 
   pub block_by_rules : (body : List Stmt) (f : Bind (List RStmt)) → ByRules Stmts body f → ByRules Block body (bind_block f)
   block_by_rules body f k a b r h =
-      let p = first_ok (f (within a b) (opened b)) _ r h in
-      let q = subst (λ (x : Point). Stmts x body p.0.tree (point (within a b) p.0.before)) (point_within a b) (k (within a b) (opened b) p.0 p.1) in
-      by_answer Block body (point a b) a p.0.tree (closed b p.0.before) r p.2 (in_block q)
+      let p = first_ok (f (inside_block a b) (opened b)) _ r h in
+      let q = subst (λ (x : Point). Stmts x body p.0.tree (point (inside_block a b) p.0.before)) (point_within a b) (k (inside_block a b) (opened b) p.0 p.1) in
+      by_answer Block body (point a b) a p.0.tree (after_block b p.0.before) r p.2 (in_block q)
 
   pub tree_by_rules : {R T S U : Type 0} (Rule : Point → S → R → Point → Type 0) (Over : Point → U → T → Point → Type 0) (s : S) (v : U) (g : R → T) (f : Bind R)
       → ((p q : Point) (t : R) → Rule p s t q → Over p v (g t) q) → ByRules Rule s f → ByRules Over v (on_tree g f)
@@ -99,12 +99,12 @@ module _ (w : Whole) where
 
   pub declare_by_rules : (ty : Ty) (x : List ℕ) (e : Option Expr) (line : ℕ) → ByRules Whats (st.Declare ty x e) (bind_declare w ty x e line)
   declare_by_rules ty x e line a b r h =
-      let v : List Local = visible a b in
+      let v : List LocalDeclaration = visible a b in
       let known = asked line UnknownName (unknown_in_option v e) _ r h in
       let p = passed line UnknownName (unknown_in_option v e) _ r h in
       let q = passed line Twice (declared_in b.own x) _ r p in
       let s = passed line WrongKind (stream_in_option v e) _ r q in
-      by_answer Whats (st.Declare ty x e) (point a b) a (rt.Declare ty (length b.slots) (placed_option v e)) (declared w.names x (Value ty) b) r s
+      by_answer Whats (st.Declare ty x e) (point a b) a (rt.Declare ty (length b.slots) (placed_option v e)) (with_declaration w.names x (Value ty) b) r s
       (subst (λ (z : Point). Whats (point a b) (st.Declare ty x e) (rt.Declare ty (length b.slots) (placed_option v e)) z) (sym (point_declared w.names x (Value ty) a b))
       (declare {p = point a b} {ty = ty} {x = x} (option_placed v v (same_known v) e known)))
 
@@ -116,7 +116,7 @@ module _ (w : Whole) where
   store_by_rules : (g : ℕ → UExpr → RWhat) (made : List ℕ → Expr → What) (x : List ℕ) (e : Expr) (line : ℕ)
       → ((p : Point) (slot : ℕ) (t : UExpr) → IsSlotOfInnermost x p.declared slot → BindsExpr p.declared e t → Whats p (made x e) (g slot t) p) → ByRules Whats (made x e) (bind_store g x e line)
   store_by_rules g made x e line rule a b r h =
-      let v : List Local = visible a b in
+      let v : List LocalDeclaration = visible a b in
       two_asked line (unknown_in_both v x e) (option_or (no_number v x) (stream_in v e)) (made x e) (g (slot_of v x) (placed v e)) a b r h (λ none.
       let both = neither (unknown v x) (unknown_in v e) none in
       rule (point a b) (slot_of v x) (placed v e) (slot_by_rules a b x both.0) (expr_by_rules a b e both.1))
@@ -129,33 +129,33 @@ module _ (w : Whole) where
 
   pub put_by_rules : (x : List ℕ) (e : Expr) (line : ℕ) → ByRules Whats (st.Put x e) (bind_put x e line)
   put_by_rules x e line a b r h =
-      let v : List Local = visible a b in
+      let v : List LocalDeclaration = visible a b in
       two_asked line (unknown_in_both v x e) (option_or (no_output v x) (stream_in v e)) (st.Put x e) (rt.Put (slot_of v x) (placed v e)) a b r h (λ none.
       let both = neither (unknown v x) (unknown_in v e) none in
       put {p = point a b} (slot_by_rules a b x both.0) (expr_by_rules a b e both.1))
 
   pub next_by_rules : (x : List ℕ) (line : ℕ) → ByRules Whats (st.Next x) (bind_next x line)
   next_by_rules x line a b r h =
-      let v : List Local = visible a b in
+      let v : List LocalDeclaration = visible a b in
       two_asked line (unknown v x) (no_number v x) (st.Next x) (rt.Next (slot_of v x)) a b r h (λ none. next {p = point a b} (slot_by_rules a b x none))
 
   pub assign_next_by_rules : (x y : List ℕ) (line : ℕ) → ByRules Whats (st.AssignNext x y) (bind_assign_next x y line)
   assign_next_by_rules x y line a b r h =
-      let v : List Local = visible a b in
+      let v : List LocalDeclaration = visible a b in
       two_asked line (unknown_of_two v x y) (option_or (no_number v x) (no_number v y)) (st.AssignNext x y) (rt.AssignNext (slot_of v x) (slot_of v y)) a b r h (λ none.
       let both = neither (unknown v x) (unknown v y) none in
       assign_next {p = point a b} (slot_by_rules a b x both.0) (slot_by_rules a b y both.1))
 
   pub get_by_rules : (x y : List ℕ) (line : ℕ) → ByRules Whats (st.Get x y) (bind_get x y line)
   get_by_rules x y line a b r h =
-      let v : List Local = visible a b in
+      let v : List LocalDeclaration = visible a b in
       two_asked line (unknown_of_two v x y) (option_or (no_number v x) (no_input v y)) (st.Get x y) (rt.Get (slot_of v x) (slot_of v y)) a b r h (λ none.
       let both = neither (unknown v x) (unknown v y) none in
       get {p = point a b} (slot_by_rules a b x both.0) (slot_by_rules a b y both.1))
 
   pub throw_by_rules : (x : List ℕ) (e : Option Expr) (line : ℕ) → ByRules Whats (st.Throw x e) (bind_throw x e line)
   throw_by_rules x e line a b r h =
-      let v : List Local = visible a b in
+      let v : List LocalDeclaration = visible a b in
       let known = asked line UnknownName (unknown_in_option v e) _ r h in
       let p = passed line UnknownName (unknown_in_option v e) _ r h in
       let q = passed line UnknownException (unhandled a.handled x) _ r p in
@@ -171,7 +171,7 @@ module _ (w : Whole) where
 
   test_by_rules : (e : Expr) (line : ℕ) (a : Around) (b : Before) (t : UExpr) → bind_test e line a b ≡ Ok t → BindsExpr (visible a b) e t
   test_by_rules e line a b t h =
-      let v : List Local = visible a b in
+      let v : List LocalDeclaration = visible a b in
       let p = passed line WrongKind (stream_in v e) _ t (passed line UnknownName (unknown_in v e) _ t h) in
       let same : placed v e ≡ t = cc p in
       subst (λ (x : UExpr). BindsExpr v e x) same (expr_by_rules a b e (asked line UnknownName (unknown_in v e) _ t h))
@@ -194,8 +194,8 @@ module _ (w : Whole) where
   -- behind a block the declarations of the block before it go on
   block_keeps : (f : Bind (List RStmt)) (a : Around) (b : Before) (r : BoundTo (List RStmt)) → bind_block f a b ≡ Ok r → r.before.own ≡ b.own
   block_keeps f a b r h =
-      let p = first_ok (f (within a b) (opened b)) _ r h in
-      ap (λ (c : Before). c.own) (sym (its_before p.0.tree (closed b p.0.before) r p.2))
+      let p = first_ok (f (inside_block a b) (opened b)) _ r h in
+      ap (λ (c : Before). c.own) (sym (its_before p.0.tree (after_block b p.0.before) r p.2))
 
   -- the slot of a handler's variable is that of its declaration
   same_slot : (y : Option (List ℕ)) (a : Around) (b : Before) → slot_of_variable y (point a b) ≡ variable_slot y b
@@ -204,34 +204,34 @@ module _ (w : Whole) where
 
   pub try_by_rules : (x : List ℕ) (y : Option (List ℕ)) (s z : List Stmt) (f h : Bind (List RStmt)) → ByRules Stmts s f → ByRules Stmts z h → ByRules Whats (st.Try s x y z) (bind_try w x y f h)
   try_by_rules x y s z f h k l a b r is =
-      let p = first_ok (bind_block f (caught x a b) (tried w x b)) _ r is in
+      let p = first_ok (bind_block f (with_handled x a b) (tried w x b)) _ r is in
       let q = first_ok (bind_block (bind_handler w y h) a p.0.before) _ r p.2 in
       let begun : Before = variable_declared w.names y (opened p.0.before) in
-      let o = first_ok (h (within a p.0.before) begun) _ q.0 q.1 in
+      let o = first_ok (h (inside_block a p.0.before) begun) _ q.0 q.1 in
       let number : ℕ = a.throws + length b.tries in
-      let body = subst (λ (v : Point). Block v s p.0.tree (point (caught x a b) p.0.before)) (point_tried w x a b) (block_by_rules s f k (caught x a b) (tried w x b) p.0 p.1) in
-      let own : visible a p.0.before ≡ visible a b = ap (λ ls. a.outer ++ ls) (block_keeps f (caught x a b) (tried w x b) p.0 p.1) in
-      let behind : point a p.0.before ≡ behind_block (point a b) (point (caught x a b) p.0.before) =
+      let body = subst (λ (v : Point). Block v s p.0.tree (point (with_handled x a b) p.0.before)) (point_tried w x a b) (block_by_rules s f k (with_handled x a b) (tried w x b) p.0 p.1) in
+      let own : visible a p.0.before ≡ visible a b = ap (λ ls. a.outer ++ ls) (block_keeps f (with_handled x a b) (tried w x b) p.0 p.1) in
+      let behind : point a p.0.before ≡ behind_block (point a b) (point (with_handled x a b) p.0.before) =
       same_point (visible a p.0.before) (visible a b) a.handled a.handled (length p.0.before.slots) (length p.0.before.slots) (a.throws + length p.0.before.tries) (a.throws + length p.0.before.tries) own refl refl refl in
-      let begins : point (within a p.0.before) begun ≡ behind_variable y (behind_block (point a b) (point (caught x a b) p.0.before)) =
-      point_variable w.names y (within a p.0.before) (opened p.0.before) ∙ ap (λ v. behind_variable y v) (point_within a p.0.before ∙ behind) in
-      let handler = subst (λ (v : Point). Stmts v z o.0.tree (point (within a p.0.before) o.0.before)) begins (l (within a p.0.before) begun o.0 o.1) in
-      let after : behind_block (point a b) (point (within a p.0.before) o.0.before) ≡ point a (closed p.0.before o.0.before) =
+      let begins : point (inside_block a p.0.before) begun ≡ behind_variable y (behind_block (point a b) (point (with_handled x a b) p.0.before)) =
+      point_variable w.names y (inside_block a p.0.before) (opened p.0.before) ∙ ap (λ v. behind_variable y v) (point_within a p.0.before ∙ behind) in
+      let handler = subst (λ (v : Point). Stmts v z o.0.tree (point (inside_block a p.0.before) o.0.before)) begins (l (inside_block a p.0.before) begun o.0 o.1) in
+      let after : behind_block (point a b) (point (inside_block a p.0.before) o.0.before) ≡ point a (after_block p.0.before o.0.before) =
       same_point (visible a b) (visible a p.0.before) a.handled a.handled (length o.0.before.slots) (length o.0.before.slots) (a.throws + length o.0.before.tries) (a.throws + length o.0.before.tries)
       (sym own) refl refl refl in
       let rule = try {p = point a b} {x = x} {y = y} body handler in
-      let placed : Whats (point a b) (st.Try s x y z) (rt.Try p.0.tree number (variable_slot y p.0.before) o.0.tree) (point a (closed p.0.before o.0.before)) =
+      let placed : Whats (point a b) (st.Try s x y z) (rt.Try p.0.tree number (variable_slot y p.0.before) o.0.tree) (point a (after_block p.0.before o.0.before)) =
       subst (λ (v : Point). Whats (point a b) (st.Try s x y z) (rt.Try p.0.tree number (variable_slot y p.0.before) o.0.tree) v) after
-      (subst (λ v. Whats (point a b) (st.Try s x y z) (rt.Try p.0.tree number v o.0.tree) (behind_block (point a b) (point (within a p.0.before) o.0.before))) (same_slot y (caught x a b) p.0.before) rule) in
+      (subst (λ v. Whats (point a b) (st.Try s x y z) (rt.Try p.0.tree number v o.0.tree) (behind_block (point a b) (point (inside_block a p.0.before) o.0.before))) (same_slot y (with_handled x a b) p.0.before) rule) in
       by_answer Whats (st.Try s x y z) (point a b) a (rt.Try p.0.tree number (variable_slot y p.0.before) q.0.tree) q.0.before r q.2
       (subst (λ (v : BoundTo (List RStmt)). Whats (point a b) (st.Try s x y z) (rt.Try p.0.tree number (variable_slot y p.0.before) v.tree) (point a v.before))
-      (sym (is_bound o.0.tree (closed p.0.before o.0.before) q.0 o.2)) placed)
+      (sym (is_bound o.0.tree (after_block p.0.before o.0.before) q.0 o.2)) placed)
 
   behind_parts : (x : What) (p : Point) (a : Around) (t : RWhat) (b : Before) (r : BoundTo RWhat) → bound t b ≡ Ok r → Whats p x t (behind_block p (point a b)) → Whats p x r.tree (behind_block p (point a r.before))
   behind_parts x p a t b r e h = subst (λ (y : BoundTo RWhat). Whats p x y.tree (behind_block p (point a y.before))) (sym (is_bound t b r e)) h
 
   -- the test is bound behind the first statement, whose declaration was known when it was examined
-  parts_by_rules : (declares : ℕ → List Local) (test : Option Expr) (s v z : List Stmt) (ds : Declarations) (ts : Texts) (f g h : Bind (List RStmt)) (a : Around) (b : Before) (r : BoundTo RWhat)
+  parts_by_rules : (declares : ℕ → List LocalDeclaration) (test : Option Expr) (s v z : List Stmt) (ds : Declarations) (ts : Texts) (f g h : Bind (List RStmt)) (a : Around) (b : Before) (r : BoundTo RWhat)
       → Grows w.names declares ds ts f → ByRules Stmts s f → ByRules Stmts v g → ByRules Stmts z h → b.own ≡ [] → unknown_in_option (a.outer ++ declares (length b.slots)) test ≡ None
       → bind_parts test f g h a b ≡ Ok r → Whats (point a b) (st.For s test v z) r.tree (behind_block (point a b) (point a r.before))
   parts_by_rules declares test s v z ds ts f g h a b r grows k l m none known is =
@@ -245,12 +245,12 @@ module _ (w : Whole) where
       let made : RWhat = rt.For p.0.tree (placed_option (visible a p.0.before) test) q.0.tree o.0.tree in
       behind_parts (st.For s test v z) (point a b) a made o.0.before r o.2 parts
 
-  pub for_by_rules : (declares : ℕ → List Local) (test : Option Expr) (s v z : List Stmt) (ds : Declarations) (ts : Texts) (f g h : Bind (List RStmt)) (line : ℕ)
+  pub for_by_rules : (declares : ℕ → List LocalDeclaration) (test : Option Expr) (s v z : List Stmt) (ds : Declarations) (ts : Texts) (f g h : Bind (List RStmt)) (line : ℕ)
       → Grows w.names declares ds ts f → ByRules Stmts s f → ByRules Stmts v g → ByRules Stmts z h → ByRules Whats (st.For s test v z) (bind_for declares test f g h line)
   for_by_rules declares test s v z ds ts f g h line grows k l m a b r is =
       let p = first_ok (bind_first_test declares test line a b) _ r is in
       let known = asked line UnknownName (unknown_in_option (visible a b ++ declares (length b.slots)) test) _ p.0 p.1 in
-      let q = first_ok (bind_parts test f g h (within a b) (opened b)) _ r p.2 in
-      let parts = parts_by_rules declares test s v z ds ts f g h (within a b) (opened b) q.0 grows k l m refl known q.1 in
-      by_answer Whats (st.For s test v z) (point a b) a q.0.tree (closed b q.0.before) r q.2
-      (subst (λ (y : Point). Whats y (st.For s test v z) q.0.tree (behind_block y (point (within a b) q.0.before))) (point_within a b) parts)
+      let q = first_ok (bind_parts test f g h (inside_block a b) (opened b)) _ r p.2 in
+      let parts = parts_by_rules declares test s v z ds ts f g h (inside_block a b) (opened b) q.0 grows k l m refl known q.1 in
+      by_answer Whats (st.For s test v z) (point a b) a q.0.tree (after_block b q.0.before) r q.2
+      (subst (λ (y : Point). Whats y (st.For s test v z) q.0.tree (behind_block y (point (inside_block a b) q.0.before))) (point_within a b) parts)

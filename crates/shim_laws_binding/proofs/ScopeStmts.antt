@@ -13,8 +13,8 @@ use Rattle.shim_scopes.specs.declared.tree.RBranch.{RBranch}
 use Rattle.shim_scopes.specs.declared.tree.RBranchWhat.{RBranchWhat}
 use Rattle.shim_scopes.specs.declared.tree.RBranchWhat.TheVariants as rb
 use Rattle.shim_scopes.specs.Statements.{Whole, Bind}
-use Rattle.shim_scopes.specs.Bodies.{WhatMeans, StmtMeans, BranchMeans, BranchWhatMeans, bind_all, bind_fork, first_declares, branch_what_step, what_step, branch_step, stmt_step, meaning, bind_stmts, bind_branch}
-use Rattle.shim_laws_binding.specs.TextOrder.{declarations, tries_among}
+use Rattle.shim_scopes.specs.Bodies.{WhatMeans, StmtMeans, BranchMeans, BranchWhatMeans, bind_all, bind_fork, first_declares, bind_branch_what_step, bind_what_step, bind_branch_step, bind_stmt_step, stmt_meaning, bind_stmts, bind_branch}
+use Rattle.shim_laws_binding.specs.TextOrder.{declarations_in, tries_among}
 use Rattle.shim_laws_binding.specs.LexicalScope.{Point, BindsWhat, block, call, par, BindsStmt, stmt, BindsStmts, no_stmts, stmts, BindsBlock, BindsBranchWhat, block_branch, call_branch, BindsBranch, branch, BindsBranches, no_branches, branches}
 use Rattle.shim_laws_binding.proofs.Growth.{branch_what_means, what_means, body_grows}
 use Rattle.shim_laws_binding.proofs.ScopeExprs.{point}
@@ -53,7 +53,7 @@ module _ (w : Whole) where
   OfBranch b = ByRules OneBranch b (bind_branch w b)
 
   abbrev OfStmt : Stmt → Type 0
-  OfStmt s = ByRules OneStmt s (meaning w s).bind
+  OfStmt s = ByRules OneStmt s (stmt_meaning w s).bind
 
   -- a part that is bound by the rules
   abbrev RuledBranchWhat : Type 0
@@ -74,13 +74,13 @@ module _ (w : Whole) where
   abbrev forks : List RuledBranch → List Branch
   forks ys = map (λ (e : RuledBranch). e.0) ys
 
-  one_then : (s : Stmt) (body : List Stmt) → OfStmt s → ByRules Stmts body (bind_all (map (meaning w) body)) → ByRules Stmts (s ∷ body) (bind_all (map (meaning w) (s ∷ body)))
+  one_then : (s : Stmt) (body : List Stmt) → OfStmt s → ByRules Stmts body (bind_all (map (stmt_meaning w) body)) → ByRules Stmts (s ∷ body) (bind_all (map (stmt_meaning w) (s ∷ body)))
   one_then s body k l a b r is =
-      let p = first_ok ((meaning w s).bind a b) _ r is in
-      let q = first_ok (bind_all (map (meaning w) body) a p.0.before) _ r p.2 in
+      let p = first_ok ((stmt_meaning w s).bind a b) _ r is in
+      let q = first_ok (bind_all (map (stmt_meaning w) body) a p.0.before) _ r p.2 in
       by_answer Stmts (s ∷ body) (point a b) a (p.0.tree ∷ q.0.tree) q.0.before r q.2 (stmts (k a b p.0 p.1) (l a p.0.before q.0 q.1))
 
-  parts_by_rules : (ys : List RuledStmt) → ByRules Stmts (parts ys) (bind_all (map (meaning w) (parts ys)))
+  parts_by_rules : (ys : List RuledStmt) → ByRules Stmts (parts ys) (bind_all (map (stmt_meaning w) (parts ys)))
   parts_by_rules [] a b r is = by_answer Stmts [] (point a b) a [] b r is no_stmts
   parts_by_rules (y ∷ ys) a b r is = one_then y.0 (parts ys) y.1 (parts_by_rules ys) a b r is
 
@@ -108,7 +108,7 @@ module _ (w : Whole) where
 
   branch_what_layer : (y : BranchWhat-F RuledBranchWhat RuledWhat RuledBranch RuledStmt) (line : ℕ)
       → ByRules OneBranchWhat (roll-BranchWhat (branch_what_of y))
-      (branch_what_step w (map-BranchWhat BranchWhat What Branch Stmt BranchWhatMeans WhatMeans BranchMeans StmtMeans (branch_what_means w) (what_means w) (bind_branch w) (meaning w) (branch_what_of y)) line)
+      (bind_branch_what_step w (map-BranchWhat BranchWhat What Branch Stmt BranchWhatMeans WhatMeans BranchMeans StmtMeans (branch_what_means w) (what_means w) (bind_branch w) (stmt_meaning w) (branch_what_of y)) line)
   unfolding roll-BranchWhat denote.Hole.Carrier.roll
   branch_what_layer (BranchWhat-F.BranchWhat::Block body) line =
       tree_by_rules w Blocks OneBranchWhat (parts body) (br.Block (parts body)) rb.Block _ (λ p q t h. block_branch h) (block_by_rules w (parts body) _ (parts_by_rules body))
@@ -116,7 +116,7 @@ module _ (w : Whole) where
 
   what_layer : (y : What-F RuledBranchWhat RuledWhat RuledBranch RuledStmt) (line : ℕ)
       → ByRules OneWhat (roll-What (what_of y))
-      ((what_step w (map-What BranchWhat What Branch Stmt BranchWhatMeans WhatMeans BranchMeans StmtMeans (branch_what_means w) (what_means w) (bind_branch w) (meaning w) (what_of y))).bind line)
+      ((bind_what_step w (map-What BranchWhat What Branch Stmt BranchWhatMeans WhatMeans BranchMeans StmtMeans (branch_what_means w) (what_means w) (bind_branch w) (stmt_meaning w) (what_of y))).bind line)
   unfolding roll-What denote.Hole.Carrier.roll
   what_layer (What-F.Declare ty x e) line = declare_by_rules w ty x e line
   what_layer (What-F.Assign x e) line = assign_by_rules w x e line
@@ -128,7 +128,7 @@ module _ (w : Whole) where
   what_layer (What-F.If e first other) line = if_by_rules w e (parts first) (parts other) _ _ line (parts_by_rules first) (parts_by_rules other)
   what_layer (What-F.While e body) line = while_by_rules w e (parts body) _ line (parts_by_rules body)
   what_layer (What-F.For first test step body) line =
-      for_by_rules w (first_declares (map (meaning w) (parts first))) test (parts first) (parts step) (parts body) (declarations (parts first)) (tries_among (parts first)) _ _ _ line
+      for_by_rules w (first_declares (map (stmt_meaning w) (parts first))) test (parts first) (parts step) (parts body) (declarations_in (parts first)) (tries_among (parts first)) _ _ _ line
       (body_grows w (parts first)) (parts_by_rules first) (parts_by_rules step) (parts_by_rules body)
   what_layer (What-F.What::Block body) line =
       tree_by_rules w Blocks OneWhat (parts body) (st.Block (parts body)) rt.Block _ (λ p q t h. block h) (block_by_rules w (parts body) _ (parts_by_rules body))
@@ -144,25 +144,25 @@ module _ (w : Whole) where
   branch_what_case : (x : BranchWhat-F BranchWhat What Branch Stmt) (y : BranchWhat-F RuledBranchWhat RuledWhat RuledBranch RuledStmt) → branch_what_of y ≡ x → OfBranchWhat (roll-BranchWhat x)
   branch_what_case x y is = subst (λ z. OfBranchWhat (roll-BranchWhat z)) is (λ line.
       same_rule OneBranchWhat (roll-BranchWhat (branch_what_of y)) _ _
-      (ap (λ (k : BranchWhatMeans). k line) (fold-roll-BranchWhat BranchWhatMeans WhatMeans BranchMeans StmtMeans (branch_what_step w) (what_step w) branch_step stmt_step (branch_what_of y)))
+      (ap (λ (k : BranchWhatMeans). k line) (fold-roll-BranchWhat BranchWhatMeans WhatMeans BranchMeans StmtMeans (bind_branch_what_step w) (bind_what_step w) bind_branch_step bind_stmt_step (branch_what_of y)))
       (branch_what_layer y line))
 
   what_case : (x : What-F BranchWhat What Branch Stmt) (y : What-F RuledBranchWhat RuledWhat RuledBranch RuledStmt) → what_of y ≡ x → OfWhat (roll-What x)
   what_case x y is = subst (λ z. OfWhat (roll-What z)) is (λ line.
       same_rule OneWhat (roll-What (what_of y)) _ _
-      (ap (λ (k : WhatMeans). k.bind line) (fold-roll-What BranchWhatMeans WhatMeans BranchMeans StmtMeans (branch_what_step w) (what_step w) branch_step stmt_step (what_of y)))
+      (ap (λ (k : WhatMeans). k.bind line) (fold-roll-What BranchWhatMeans WhatMeans BranchMeans StmtMeans (bind_branch_what_step w) (bind_what_step w) bind_branch_step bind_stmt_step (what_of y)))
       (what_layer y line))
 
   branch_case : (x : Branch-F BranchWhat What Branch Stmt) (y : Branch-F RuledBranchWhat RuledWhat RuledBranch RuledStmt) → branch_of y ≡ x → OfBranch (roll-Branch x)
   branch_case x y is = subst (λ z. OfBranch (roll-Branch z)) is
       (same_rule OneBranch (roll-Branch (branch_of y)) _ _
-      (fold-roll-Branch BranchWhatMeans WhatMeans BranchMeans StmtMeans (branch_what_step w) (what_step w) branch_step stmt_step (branch_of y))
+      (fold-roll-Branch BranchWhatMeans WhatMeans BranchMeans StmtMeans (bind_branch_what_step w) (bind_what_step w) bind_branch_step bind_stmt_step (branch_of y))
       (tree_by_rules w OneBranchWhat OneBranch y.what.0 (roll-Branch (branch_of y)) (λ t. record { line = y.line; what = t }) _ (λ p q t h. branch {line = y.line} h) (y.what.1 y.line)))
 
   stmt_case : (x : Stmt-F BranchWhat What Branch Stmt) (y : Stmt-F RuledBranchWhat RuledWhat RuledBranch RuledStmt) → stmt_of y ≡ x → OfStmt (roll-Stmt x)
   stmt_case x y is = subst (λ z. OfStmt (roll-Stmt z)) is
       (same_rule OneStmt (roll-Stmt (stmt_of y)) _ _
-      (ap (λ (k : StmtMeans). k.bind) (fold-roll-Stmt BranchWhatMeans WhatMeans BranchMeans StmtMeans (branch_what_step w) (what_step w) branch_step stmt_step (stmt_of y)))
+      (ap (λ (k : StmtMeans). k.bind) (fold-roll-Stmt BranchWhatMeans WhatMeans BranchMeans StmtMeans (bind_branch_what_step w) (bind_what_step w) bind_branch_step bind_stmt_step (stmt_of y)))
       (tree_by_rules w OneWhat OneStmt y.what.0 (roll-Stmt (stmt_of y)) (λ t. record { line = y.line; what = t }) _ (λ p q t h. stmt {line = y.line} h) (y.what.1 y.line)))
 
   stmt_by_rules : (s : Stmt) → OfStmt s

@@ -12,7 +12,7 @@ use Rattle.shim_syntax.specs.Names.{Texts, with_functions, param_names}
 use Rattle.shim_scopes.specs.Statements.{Whole, Around, Before, BoundTo, local_of}
 use Rattle.shim_scopes.specs.Functions.{name_in, twice_after, wrong_main, with_param, params_from, handled_from, function_begin, made_function, bind_function, bind_functions, bind_program, main_of}
 use Rattle.shim_scopes.specs.Bodies.{bind_stmts}
-use Rattle.shim_laws_binding.specs.TextOrder.{declarations, tries_among, declared_param, IsInTextOrder, AreInTextOrder}
+use Rattle.shim_laws_binding.specs.TextOrder.{declarations_in, tries_among, declared_param, IsInTextOrder, AreInTextOrder}
 use Rattle.shim_laws_binding.proofs.Growth.{IsGrown, unchanged, grown_twice, body_grows}
 use Rattle.shim_scopes.proofs.Refusals.{passed, first_ok}
 
@@ -46,9 +46,9 @@ is_made w earlier f r h =
     record { body = b.0; bound = b.1; made = same }
 
 abbrev pub all_grown : (w : Whole) (f : Function) (r : BoundTo (List RStmt)) → bind_stmts w f.body (around_body f) (params_from w.names function_begin f.params) ≡ Ok r
-    → IsGrown w.names [] (map declared_param f.params ++ declarations f.body) (tries_among f.body) function_begin r.before
+    → IsGrown w.names [] (map declared_param f.params ++ declarations_in f.body) (tries_among f.body) function_begin r.before
 all_grown w f r e =
-    grown_twice w.names [] _ (map declared_param f.params) (declarations f.body) [] (tries_among f.body) function_begin (params_from w.names function_begin f.params) r.before
+    grown_twice w.names [] _ (map declared_param f.params) (declarations_in f.body) [] (tries_among f.body) function_begin (params_from w.names function_begin f.params) r.before
     (params_grow w.names f.params function_begin) (body_grows w f.body (around_body f) (params_from w.names function_begin f.params) r e)
 
 pub function_in_order : (w : Whole) (f : Function) (r : RFunction) → IsMade w f r → IsInTextOrder w.names f r

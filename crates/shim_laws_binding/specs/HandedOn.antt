@@ -7,23 +7,23 @@ use Rattle.shim_scopes.specs.declared.tree.RStmt.{RStmt, fold-RStmt}
 use Rattle.shim_scopes.specs.declared.tree.RWhat.{RWhat-F}
 use Rattle.shim_scopes.specs.declared.tree.RBranchWhat.{RBranchWhat-F}
 use Rattle.shim_laws_binding.specs.Naming.{names_at, Naming, naming_of}
-use Rattle.shim_laws_binding.specs.TextOrder.{together}
+use Rattle.shim_laws_binding.specs.TextOrder.{concat}
 
 abbrev pub Calls : Type 0
 Calls = List RCall
 
 abbrev pub branch_what_calls : RBranchWhat-F Calls Calls Calls Calls → Calls
-branch_what_calls (RBranchWhat-F.RBranchWhat::Block body) = together body
+branch_what_calls (RBranchWhat-F.RBranchWhat::Block body) = concat body
 branch_what_calls (RBranchWhat-F.RBranchWhat::Call c) = c ∷ []
 
 abbrev pub what_calls : RWhat-F Calls Calls Calls Calls → Calls
-what_calls (RWhat-F.If test first other) = together first ++ together other
-what_calls (RWhat-F.While test body) = together body
-what_calls (RWhat-F.For first test step body) = together first ++ (together step ++ together body)
-what_calls (RWhat-F.RWhat::Block body) = together body
+what_calls (RWhat-F.If test first other) = concat first ++ concat other
+what_calls (RWhat-F.While test body) = concat body
+what_calls (RWhat-F.For first test step body) = concat first ++ (concat step ++ concat body)
+what_calls (RWhat-F.RWhat::Block body) = concat body
 what_calls (RWhat-F.RWhat::Call c) = c ∷ []
-what_calls (RWhat-F.Try body number slot handler) = together body ++ together handler
-what_calls (RWhat-F.Par branches) = together branches
+what_calls (RWhat-F.Try body number slot handler) = concat body ++ concat handler
+what_calls (RWhat-F.Par branches) = concat branches
 what_calls _ = []
 
 abbrev pub stmt_calls : RStmt → Calls
@@ -31,7 +31,7 @@ stmt_calls = fold-RStmt Calls Calls Calls Calls branch_what_calls what_calls (λ
 
 -- the calls of some statements and of those inside them
 abbrev pub calls_among : List RStmt → Calls
-calls_among body = together (map stmt_calls body)
+calls_among body = concat (map stmt_calls body)
 
 -- The number of a call is that of a function. It gives as many arguments as that function takes, and for each of its exceptions the caller's one of the same name.
 pub record HandsOn (form : Form) (n : Naming) (c : RCall) : Type 0 where

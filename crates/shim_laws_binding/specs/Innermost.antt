@@ -1,6 +1,6 @@
 -- The innermost of the things around a place that have a name.
 use Rattle.std.specs.Prelude.{◌≡◌, ◌≢◌, ℕ, List, [], ◌∷◌, ◌++◌}
-use Rattle.shim_scopes.specs.declared.scope.Local.{Local}
+use Rattle.shim_scopes.specs.declared.scope.LocalDeclaration.{LocalDeclaration}
 use Rattle.shim_scopes.specs.declared.scope.Handled.{Handled}
 
 -- none of these has the name
@@ -23,9 +23,9 @@ exception_name h = h.name
 abbrev pub IsNumberOfInnermost : List ℕ → List Handled → ℕ → Type 0
 IsNumberOfInnermost x around number = (at : Handled) × IsInnermost exception_name x around at × (at.number ≡ number)
 
-abbrev pub local_name : Local → List ℕ
+abbrev pub local_name : LocalDeclaration → List ℕ
 local_name l = l.name
 
 -- the innermost declaration that has the name has this slot
-abbrev pub IsSlotOfInnermost : List ℕ → List Local → ℕ → Type 0
-IsSlotOfInnermost x around slot = (at : Local) × IsInnermost local_name x around at × (at.bound.slot ≡ slot)
+abbrev pub IsSlotOfInnermost : List ℕ → List LocalDeclaration → ℕ → Type 0
+IsSlotOfInnermost x around slot = (at : LocalDeclaration) × IsInnermost local_name x around at × (at.bound.slot ≡ slot)

@@ -19,7 +19,7 @@ use Rattle.shim_syntax.specs.declared.tree.Branch.{Branch}
 use Rattle.shim_syntax.specs.declared.tree.BranchWhat.{BranchWhat}
 use Rattle.shim_syntax.specs.declared.tree.BranchWhat.TheVariants as br
 use Rattle.shim_scopes.specs.declared.form.Form.{Form}
-use Rattle.shim_scopes.specs.declared.scope.Local.{Local}
+use Rattle.shim_scopes.specs.declared.scope.LocalDeclaration.{LocalDeclaration}
 use Rattle.shim_scopes.specs.declared.scope.Handled.{Handled}
 use Rattle.shim_scopes.specs.declared.tree.UExpr.{UExpr}
 use Rattle.shim_scopes.specs.declared.tree.UExpr.TheVariants as u
@@ -43,7 +43,7 @@ Pairwise R (s ∷ ss) (t ∷ ts) = R s t × Pairwise R ss ts
 
 -- A point in the text of a function. Around it are these declarations, and these exceptions are in force, the outermost first, each with its number. Before it, in whatever block, the function has so many declarations, its parameters among them, and so many exceptions, of its `throws` and of each `try`: the next of each gets that number.
 pub record Point : Type 0 where
-  pub declared : List Local
+  pub declared : List LocalDeclaration
   pub handled : List Handled
   pub slots : ℕ
   pub exceptions : ℕ
@@ -71,14 +71,14 @@ slot_of_variable None p = None
 slot_of_variable (Some y) p = Some p.slots
 
 -- an expression: each variable has the slot of the innermost declaration of its name
-pub data BindsExpr (around : List Local) : Expr → UExpr → Type 0 where
+pub data BindsExpr (around : List LocalDeclaration) : Expr → UExpr → Type 0 where
   number : {n : ℤ} → BindsExpr around (e.Number n) (u.Number n)
   variable : {x : List ℕ} {slot : ℕ} → IsSlotOfInnermost x around slot → BindsExpr around (e.Var x) (u.Var slot)
   unary : {op : UnOp} {a : Expr} {r : UExpr} → BindsExpr around a r → BindsExpr around (e.Unary op a) (u.Unary op r)
   binary : {op : BinOp} {a b : Expr} {r s : UExpr} → BindsExpr around a r → BindsExpr around b s → BindsExpr around (e.Binary op a b) (u.Binary op r s)
 
 -- an expression that may be missing
-pub data BindsOption (around : List Local) : Option Expr → Option UExpr → Type 0 where
+pub data BindsOption (around : List LocalDeclaration) : Option Expr → Option UExpr → Type 0 where
   missing : BindsOption around None None
   given : {a : Expr} {r : UExpr} → BindsExpr around a r → BindsOption around (Some a) (Some r)
 
@@ -170,7 +170,7 @@ mutual
         → BindsBranches functions p (b ∷ bs) (r ∷ rs) q
 
 -- these parameters as declarations, the first of which has that slot
-abbrev pub params_around : ℕ → List Param → List Local
+abbrev pub params_around : ℕ → List Param → List LocalDeclaration
 params_around slot [] = []
 params_around slot (p ∷ ps) = record { name = p.name; bound = record { slot = slot; sort = p.sort } } ∷ params_around (suc slot) ps
 

@@ -36,14 +36,14 @@ pub record Naming : Type 0 where
   pub exception : ℕ → List ℕ
   pub function : ℕ → List ℕ
 
-abbrev pub expr_step : (ℕ → List ℕ) → UExpr-F Expr → Expr
-expr_step variable (UExpr-F.Number n) = e.Number n
-expr_step variable (UExpr-F.Var slot) = e.Var (variable slot)
-expr_step variable (UExpr-F.Unary op a) = e.Unary op a
-expr_step variable (UExpr-F.Binary op a b) = e.Binary op a b
+abbrev pub name_expr_step : (ℕ → List ℕ) → UExpr-F Expr → Expr
+name_expr_step variable (UExpr-F.Number n) = e.Number n
+name_expr_step variable (UExpr-F.Var slot) = e.Var (variable slot)
+name_expr_step variable (UExpr-F.Unary op a) = e.Unary op a
+name_expr_step variable (UExpr-F.Binary op a b) = e.Binary op a b
 
 unfoldable pub expr_named : (ℕ → List ℕ) → UExpr → Expr
-expr_named variable = fold-UExpr Expr (expr_step variable)
+expr_named variable = fold-UExpr Expr (name_expr_step variable)
 
 abbrev pub option_named : (ℕ → List ℕ) → Option UExpr → Option Expr
 option_named variable None = None
@@ -57,35 +57,35 @@ slot_named variable (Some slot) = Some (variable slot)
 abbrev pub call_named : Naming → RCall → Call
 call_named n c = record { function = n.function c.function; args = map (expr_named n.variable) c.args }
 
-abbrev pub branch_what_step : Naming → RBranchWhat-F BranchWhat What Branch Stmt → BranchWhat
-branch_what_step n (RBranchWhat-F.RBranchWhat::Block body) = br.Block body
-branch_what_step n (RBranchWhat-F.RBranchWhat::Call c) = br.Call (call_named n c)
+abbrev pub name_branch_what_step : Naming → RBranchWhat-F BranchWhat What Branch Stmt → BranchWhat
+name_branch_what_step n (RBranchWhat-F.RBranchWhat::Block body) = br.Block body
+name_branch_what_step n (RBranchWhat-F.RBranchWhat::Call c) = br.Call (call_named n c)
 
-abbrev pub what_step : Naming → RWhat-F BranchWhat What Branch Stmt → What
-what_step n (RWhat-F.Declare ty slot a) = st.Declare ty (n.variable slot) (option_named n.variable a)
-what_step n (RWhat-F.Assign slot a) = st.Assign (n.variable slot) (expr_named n.variable a)
-what_step n (RWhat-F.Next slot) = st.Next (n.variable slot)
-what_step n (RWhat-F.NextAssign slot a) = st.NextAssign (n.variable slot) (expr_named n.variable a)
-what_step n (RWhat-F.AssignNext slot other) = st.AssignNext (n.variable slot) (n.variable other)
-what_step n (RWhat-F.Get slot stream) = st.Get (n.variable slot) (n.variable stream)
-what_step n (RWhat-F.Put stream a) = st.Put (n.variable stream) (expr_named n.variable a)
-what_step n (RWhat-F.If test first other) = st.If (expr_named n.variable test) first other
-what_step n (RWhat-F.While test body) = st.While (expr_named n.variable test) body
-what_step n (RWhat-F.For first test step body) = st.For first (option_named n.variable test) step body
-what_step n (RWhat-F.RWhat::Block body) = st.Block body
-what_step n (RWhat-F.RWhat::Call c) = st.Call (call_named n c)
-what_step n (RWhat-F.Try body number slot handler) = st.Try body (n.exception number) (slot_named n.variable slot) handler
-what_step n (RWhat-F.Throw number a) = st.Throw (n.exception number) (option_named n.variable a)
-what_step n (RWhat-F.Par branches) = st.Par branches
+abbrev pub name_what_step : Naming → RWhat-F BranchWhat What Branch Stmt → What
+name_what_step n (RWhat-F.Declare ty slot a) = st.Declare ty (n.variable slot) (option_named n.variable a)
+name_what_step n (RWhat-F.Assign slot a) = st.Assign (n.variable slot) (expr_named n.variable a)
+name_what_step n (RWhat-F.Next slot) = st.Next (n.variable slot)
+name_what_step n (RWhat-F.NextAssign slot a) = st.NextAssign (n.variable slot) (expr_named n.variable a)
+name_what_step n (RWhat-F.AssignNext slot other) = st.AssignNext (n.variable slot) (n.variable other)
+name_what_step n (RWhat-F.Get slot stream) = st.Get (n.variable slot) (n.variable stream)
+name_what_step n (RWhat-F.Put stream a) = st.Put (n.variable stream) (expr_named n.variable a)
+name_what_step n (RWhat-F.If test first other) = st.If (expr_named n.variable test) first other
+name_what_step n (RWhat-F.While test body) = st.While (expr_named n.variable test) body
+name_what_step n (RWhat-F.For first test step body) = st.For first (option_named n.variable test) step body
+name_what_step n (RWhat-F.RWhat::Block body) = st.Block body
+name_what_step n (RWhat-F.RWhat::Call c) = st.Call (call_named n c)
+name_what_step n (RWhat-F.Try body number slot handler) = st.Try body (n.exception number) (slot_named n.variable slot) handler
+name_what_step n (RWhat-F.Throw number a) = st.Throw (n.exception number) (option_named n.variable a)
+name_what_step n (RWhat-F.Par branches) = st.Par branches
 
-abbrev pub branch_step : RBranch-F BranchWhat What Branch Stmt → Branch
-branch_step b = record { line = b.line; what = b.what }
+abbrev pub name_branch_step : RBranch-F BranchWhat What Branch Stmt → Branch
+name_branch_step b = record { line = b.line; what = b.what }
 
-abbrev pub stmt_step : RStmt-F BranchWhat What Branch Stmt → Stmt
-stmt_step s = record { line = s.line; what = s.what }
+abbrev pub name_stmt_step : RStmt-F BranchWhat What Branch Stmt → Stmt
+name_stmt_step s = record { line = s.line; what = s.what }
 
 abbrev pub stmt_named : Naming → RStmt → Stmt
-stmt_named n = fold-RStmt BranchWhat What Branch Stmt (branch_what_step n) (what_step n) branch_step stmt_step
+stmt_named n = fold-RStmt BranchWhat What Branch Stmt (name_branch_what_step n) (name_what_step n) name_branch_step name_stmt_step
 
 abbrev pub param_named : Texts → UParam → Param
 param_named names p = record { sort = p.sort; by_ref = p.by_ref; name = name_at names p.name }

@@ -6,14 +6,14 @@ use Rattle.shim_syntax.specs.Terminals.{Terminal, Name, Sort, rest, begins_two}
 use Rattle.shim_syntax.specs.Names.{Texts}
 
 -- the name that a terminal is, where it is one
-abbrev pub name_in : Terminal → Texts
-name_in (Name x place) = x ∷ []
-name_in _ = []
+abbrev pub terminal_name : Terminal → Texts
+terminal_name (Name x place) = x ∷ []
+terminal_name _ = []
 
 -- the names among the terminals
 abbrev pub names_among : List Terminal → Texts
 names_among [] = []
-names_among (t ∷ ts) = name_in t ++ names_among ts
+names_among (t ∷ ts) = terminal_name t ++ names_among ts
 
 -- the terminals of a text's functions: in version 2 those behind its first three
 abbrev pub of_functions : List Terminal → List Terminal

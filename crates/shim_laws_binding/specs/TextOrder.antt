@@ -9,7 +9,7 @@ use Rattle.shim_syntax.specs.declared.tree.Stmt.{Stmt, fold-Stmt}
 use Rattle.shim_syntax.specs.declared.tree.What.{What-F}
 use Rattle.shim_syntax.specs.declared.tree.BranchWhat.{BranchWhat-F}
 use Rattle.shim_scopes.specs.declared.tree.RFunction.{RFunction}
-use Rattle.shim_syntax.specs.Names.{Texts, number_of}
+use Rattle.shim_syntax.specs.Names.{Texts, name_index}
 
 -- a name that is declared, and what it holds
 pub record Declaration : Type 0 where
@@ -20,9 +20,9 @@ abbrev pub Declarations : Type 0
 Declarations = List Declaration
 
 -- the lists one after another
-abbrev pub together : {T : Type 0} → List (List T) → List T
-together [] = []
-together (t ∷ ts) = t ++ together ts
+abbrev pub concat : {T : Type 0} → List (List T) → List T
+concat [] = []
+concat (t ∷ ts) = t ++ concat ts
 
 -- the variable of a handler, where it has one
 abbrev pub declared_variable : Option (List ℕ) → Declarations
@@ -30,38 +30,38 @@ declared_variable None = []
 declared_variable (Some x) = record { name = x; sort = Value Int32 } ∷ []
 
 abbrev pub branch_declares : BranchWhat-F Declarations Declarations Declarations Declarations → Declarations
-branch_declares (BranchWhat-F.BranchWhat::Block body) = together body
+branch_declares (BranchWhat-F.BranchWhat::Block body) = concat body
 branch_declares (BranchWhat-F.BranchWhat::Call c) = []
 
 abbrev pub what_declares : What-F Declarations Declarations Declarations Declarations → Declarations
 what_declares (What-F.Declare ty x e) = record { name = x; sort = Value ty } ∷ []
-what_declares (What-F.If e first other) = together first ++ together other
-what_declares (What-F.While e body) = together body
-what_declares (What-F.For first test step body) = together first ++ (together step ++ together body)
-what_declares (What-F.What::Block body) = together body
-what_declares (What-F.Try body x y handler) = together body ++ (declared_variable y ++ together handler)
-what_declares (What-F.Par branches) = together branches
+what_declares (What-F.If e first other) = concat first ++ concat other
+what_declares (What-F.While e body) = concat body
+what_declares (What-F.For first test step body) = concat first ++ (concat step ++ concat body)
+what_declares (What-F.What::Block body) = concat body
+what_declares (What-F.Try body x y handler) = concat body ++ (declared_variable y ++ concat handler)
+what_declares (What-F.Par branches) = concat branches
 what_declares _ = []
 
 abbrev pub stmt_declares : Stmt → Declarations
 stmt_declares = fold-Stmt Declarations Declarations Declarations Declarations branch_declares what_declares (λ b. b.what) (λ s. s.what)
 
 -- the declarations of some statements and of those inside them
-abbrev pub declarations : List Stmt → Declarations
-declarations body = together (map stmt_declares body)
+abbrev pub declarations_in : List Stmt → Declarations
+declarations_in body = concat (map stmt_declares body)
 
 abbrev pub branch_tries : BranchWhat-F Texts Texts Texts Texts → Texts
-branch_tries (BranchWhat-F.BranchWhat::Block body) = together body
+branch_tries (BranchWhat-F.BranchWhat::Block body) = concat body
 branch_tries (BranchWhat-F.BranchWhat::Call c) = []
 
 -- a `try` stands before those inside it
 abbrev pub what_tries : What-F Texts Texts Texts Texts → Texts
-what_tries (What-F.If e first other) = together first ++ together other
-what_tries (What-F.While e body) = together body
-what_tries (What-F.For first test step body) = together first ++ (together step ++ together body)
-what_tries (What-F.What::Block body) = together body
-what_tries (What-F.Try body x y handler) = x ∷ (together body ++ together handler)
-what_tries (What-F.Par branches) = together branches
+what_tries (What-F.If e first other) = concat first ++ concat other
+what_tries (What-F.While e body) = concat body
+what_tries (What-F.For first test step body) = concat first ++ (concat step ++ concat body)
+what_tries (What-F.What::Block body) = concat body
+what_tries (What-F.Try body x y handler) = x ∷ (concat body ++ concat handler)
+what_tries (What-F.Par branches) = concat branches
 what_tries _ = []
 
 abbrev pub stmt_tries : Stmt → Texts
@@ -69,30 +69,30 @@ stmt_tries = fold-Stmt Texts Texts Texts Texts branch_tries what_tries (λ b. b.
 
 -- the names of the `try` statements among some statements and inside them
 abbrev pub tries_among : List Stmt → Texts
-tries_among body = together (map stmt_tries body)
+tries_among body = concat (map stmt_tries body)
 
 abbrev pub declared_param : Param → Declaration
 declared_param p = record { name = p.name; sort = p.sort }
 
 -- the parameters are the first
 abbrev pub all_declarations : Function → Declarations
-all_declarations f = map declared_param f.params ++ declarations f.body
+all_declarations f = map declared_param f.params ++ declarations_in f.body
 
 abbrev pub sorts_of : Declarations → List Sort
 sorts_of ds = map (λ (d : Declaration). d.sort) ds
 
 abbrev pub numbers_of_declared : Texts → Declarations → List ℕ
-numbers_of_declared names ds = map (λ (d : Declaration). number_of names d.name) ds
+numbers_of_declared names ds = map (λ (d : Declaration). name_index names d.name) ds
 
 -- what a function has for its line, its name, its slots, its exceptions and its parameters
 pub record IsInTextOrder (names : Texts) (f : Function) (r : RFunction) : Type 0 where
   pub line : r.line ≡ f.line
-  pub name : r.name ≡ number_of names f.name
+  pub name : r.name ≡ name_index names f.name
   pub slots : r.slots ≡ sorts_of (all_declarations f)
   pub slot_names : r.slot_names ≡ numbers_of_declared names (all_declarations f)
-  pub throws : r.throws ≡ map (number_of names) f.throws
-  pub tries : r.tries ≡ map (number_of names) (tries_among f.body)
-  pub params : r.params ≡ map (λ (p : Param). record { sort = p.sort; by_ref = p.by_ref; name = number_of names p.name }) f.params
+  pub throws : r.throws ≡ map (name_index names) f.throws
+  pub tries : r.tries ≡ map (name_index names) (tries_among f.body)
+  pub params : r.params ≡ map (λ (p : Param). record { sort = p.sort; by_ref = p.by_ref; name = name_index names p.name }) f.params
 
 -- each function and its form, one after another
 abbrev pub AreInTextOrder : Texts → List Function → List RFunction → Type 0

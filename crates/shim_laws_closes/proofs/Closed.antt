@@ -8,17 +8,17 @@ use Rattle.shim_base.proofs.Facts.{some_same, none_some, cond_some}
 use Rattle.shim_local.specs.Process.{Ops}
 use Rattle.shim_local.specs.Laws.{LocalLaws}
 use Rattle.shim_semantics.specs.Nodes.{Node, Nodes, Live, Forked, Dead, Death, handed, state, states as states_of, all_done, prevailing_death}
-use Rattle.shim_semantics.specs.Acts.{Acted, act_here, thrown, closed, nothing, catching}
+use Rattle.shim_semantics.specs.Acts.{Acted, act_here, thrown, closed, nothing, catch_logged}
 use Rattle.shim_semantics.specs.Places.{at, branches, route}
 use Rattle.shim_semantics.specs.Trees.{Tree, Close, after}
 use Rattle.shim_semantics.proofs.Follows.{Keeps as NodeKeeps}
 use Rattle.shim_semantics.proofs.Leading.{route_rest}
 use Rattle.shim_semantics.proofs.Replaced.{sound_at}
 use Rattle.shim_semantics.proofs.SoundEvents.{here_keeps}
-use Rattle.shim_laws_records.specs.Seen.{Sort, forks, sort, is_leaf, place, how_many_nodes}
+use Rattle.shim_laws_records.specs.Seen.{ProcessStatus, forks, process_status, is_leaf, place, how_many_nodes}
 use Rattle.shim_laws_records.specs.Agrees.{RecordView, Has, Shows}
 use Rattle.shim_laws_records.specs.Places.{IsReplaced, HasActed}
-use Rattle.shim_laws_records.specs.Changes.{HasClosed, block, prevailing_among}
+use Rattle.shim_laws_records.specs.Changes.{HasClosed, segment, prevailing_among}
 use Rattle.shim_laws_records.specs.Counts.{going_of}
 use Rattle.shim_laws_records.specs.Tallied.{OnTheWay, HaveCounts}
 use Rattle.shim_laws_records.specs.Updating.{AreLinked, AreAtMost}
@@ -37,7 +37,7 @@ use Rattle.shim_records.specs.declared.record.Record.{Record}
 use Rattle.shim_records.proofs.Showing.{blocks_show}
 use Rattle.shim_records.proofs.Stepping.{set_there, set_elsewhere}
 use Rattle.shim_laws_keeping.specs.Flats.{IsFit, Keeps}
-use Rattle.shim_laws_closes.specs.Closing.{Beside, beside_of, AreFreed, HasCome}
+use Rattle.shim_laws_closes.specs.Closing.{RecordWithoutStatus, without_status, AreFreed, HasCome}
 use Rattle.shim_laws_closes.proofs.Saying.{map_length, from_map, said_alike, part, same_counts_at, same_labels_at, same_parent_at, said, said_stands, said_ups, said_counts, said_labels, said_order}
 
 some_of : {A : Type 0} (x : Option A) → x ≢ None → (y : A) × (x ≡ Some y)
@@ -47,7 +47,7 @@ some_of (Some y) h = (y, refl)
 thrown_leaf : {S : Type 0} (o : Ops S) (l : S) (d : Death) → is_leaf (thrown o l d).node ≡ true
 thrown_leaf {S = S} o l d = on (ltb d.label (o.base l))
   where
-    on : (b : Bool) → is_leaf (cond {A = Acted S} b (record { node = Dead l d; effects = nothing }) (record { node = Live (o.unwind l d.label (handed d.given)); effects = catching (o.handler l d.label) })).node ≡ true
+    on : (b : Bool) → is_leaf (cond {A = Acted S} b (record { node = Dead l d; effects = nothing }) (record { node = Live (o.unwind l d.label (handed d.given)); effects = catch_logged (o.handler l d.label) })).node ≡ true
     on true = refl
     on false = refl
 
@@ -56,7 +56,7 @@ closed_leaf o l ks None = refl
 closed_leaf o l ks (Some d) = thrown_leaf o (o.join l ks false) d
 
 -- Records that show the tree behind, where counts and labels above a place are still those of the tree before.
-pub record Begins {S : Type 0} (o : Ops S) (rp : Path) (states : List S) (old new : Node S) (q : List ℕ) (i : ℕ) (s : S) (k : Sort) (rs : List Record) : Type 0 where
+pub record Begins {S : Type 0} (o : Ops S) (rp : Path) (states : List S) (old new : Node S) (q : List ℕ) (i : ℕ) (s : S) (k : ProcessStatus) (rs : List Record) : Type 0 where
   pub shown : Shows o rp states (map stands_of rs) new
   pub linked : AreLinked states (map stands_of rs) (up_in rs)
   pub few : AreAtMost 4294967295 states (map stands_of rs)
@@ -68,7 +68,7 @@ pub record Begins {S : Type 0} (o : Ops S) (rp : Path) (states : List S) (old ne
   pub labels : (c : Channel) → LabelsOnTheWay o rp states (map stands_of rs) c (counts_in c rs) (leasts_in c rs) old new q
 
 -- so do records that say the same
-pub begins_too : {S : Type 0} (o : Ops S) (rp : Path) (states : List S) (old new : Node S) (q : List ℕ) (i : ℕ) (s : S) (k : Sort) (rs left : List Record) → map said left ≡ map said rs → Begins o rp states old new q i s k rs → Begins o rp states old new q i s k left
+pub begins_too : {S : Type 0} (o : Ops S) (rp : Path) (states : List S) (old new : Node S) (q : List ℕ) (i : ℕ) (s : S) (k : ProcessStatus) (rs left : List Record) → map said left ≡ map said rs → Begins o rp states old new q i s k rs → Begins o rp states old new q i s k left
 begins_too o rp states old new q i s k rs left h b =
     let st = sym (said_stands rs left h) in
     let counts = λ (c : Channel). sym (said_counts rs left h c) in
@@ -92,23 +92,23 @@ pub record Behind {S : Type 0} (o : Ops S) (rp : Path) (t : Tree S) (states : Li
   pub enabled : after o (Close (o.path l)) t ≡ Some tree
   pub children : Nodes S
   pub done : all_done children ≡ true
-  pub prevails : prevailing_death children ≡ prevailing_among (block g n (map stands_of rs))
+  pub prevails : prevailing_death children ≡ prevailing_among (segment g n (map stands_of rs))
   pub acts : act_here o (Forked l children) ≡ Some a
   pub replaced : IsReplaced (place o rp (state a.node)) (Forked l children) a.node t.root tree.root
   pub leaf : is_leaf a.node ≡ true
   pub same_place : place o rp (state a.node) ≡ place o rp l
-  pub closes : HasClosed states (slice_set states i (state a.node)) (map stands_of rs) (map stands_of now) i g n (state a.node) (sort a.node)
-  pub begins : Begins o rp (slice_set states i (state a.node)) t.root tree.root (place o rp (state a.node)) i (state a.node) (sort a.node) now
+  pub closes : HasClosed states (slice_set states i (state a.node)) (map stands_of rs) (map stands_of now) i g n (state a.node) (process_status a.node)
+  pub begins : Begins o rp (slice_set states i (state a.node)) t.root tree.root (place o rp (state a.node)) i (state a.node) (process_status a.node) now
   pub near : length (place o rp (state a.node)) ≤ 4294967295
   -- of its record, of another one, and of all
   pub fits : (z w : Record) → slice_get now i ≡ Some z → w.path ≡ z.path → IsFit o rp (state a.node) w
-  pub other : (j : ℕ) → j ≢ i → option_map beside_of (slice_get now j) ≡ option_map beside_of (slice_get rs j)
+  pub other : (j : ℕ) → j ≢ i → option_map without_status (slice_get now j) ≡ option_map without_status (slice_get rs j)
   pub ups : up_in now ≡ up_in rs
   pub long : length now ≡ length rs
 
 module _ {S : Type 0} (o : Ops S) (law : LocalLaws o) (rp : Path) (t : Tree S) (states : List S) (rs : List Record) (i g n : ℕ) (l : S) (q : Record) (a : Acted S)
     (kept : Keeps o rp (record { states = states; records = rs }) t.root) (has : Has states (map stands_of rs) i g l (forks n)) (at_q : slice_get rs i ≡ Some q) (none : q.going ≡ 0)
-    (is : a ≡ closed o l (block g n states) (prevailing_among (block g n (map stands_of rs)))) where
+    (is : a ≡ closed o l (segment g n states) (prevailing_among (segment g n (map stands_of rs)))) where
   abbrev stood : List RecordView
   stood = map stands_of rs
 
@@ -132,7 +132,7 @@ module _ {S : Type 0} (o : Ops S) (law : LocalLaws o) (rp : Path) (t : Tree S) (
   abbrev new : Node S
   new = next.0.root
 
-  told : (how_many_nodes fork.0 ≡ n) × (states_of fork.0 ≡ block g n states) × (prevailing_death fork.0 ≡ prevailing_among (block g n stood))
+  told : (how_many_nodes fork.0 ≡ n) × (states_of fork.0 ≡ segment g n states) × (prevailing_death fork.0 ≡ prevailing_among (segment g n stood))
   told = children_are_shown o rp states stood t.root i g n l fork.0 kept.shows.agrees has fork.1
 
   acted : HasActed o (o.path l) t.root new
@@ -164,7 +164,7 @@ module _ {S : Type 0} (o : Ops S) (law : LocalLaws o) (rp : Path) (t : Tree S) (
   })
 
   leaf : is_leaf a.node ≡ true
-  leaf = ap (λ (z : Acted S). is_leaf z.node) is ∙ closed_leaf o l (block g n states) (prevailing_among (block g n stood))
+  leaf = ap (λ (z : Acted S). is_leaf z.node) is ∙ closed_leaf o l (segment g n states) (prevailing_among (segment g n stood))
 
   keeps : NodeKeeps o m a.node
   keeps = here_keeps o law m a (sound_at o (place o rp l) t.root m kept.shows.sound.below fork.1) acts
@@ -184,15 +184,15 @@ module _ {S : Type 0} (o : Ops S) (law : LocalLaws o) (rp : Path) (t : Tree S) (
 
   -- ---- the records
 
-  module _ (freed : List Record) (r : Record) (free : AreFreed g n rs freed) (come : HasCome q r (sort a.node)) where
+  module _ (freed : List Record) (r : Record) (free : AreFreed g n rs freed) (come : HasCome q r (process_status a.node)) where
     abbrev now : List Record
     now = slice_set freed i r
 
     abbrev stands : List RecordView
     stands = map stands_of now
 
-    closes : HasClosed states states' stood stands i g n (state a.node) (sort a.node)
-    closes = (blocks_show o).close rp states rs freed t.root i g n come.first l (state a.node) (sort a.node) r kept.shows.agrees has free.freed come.stands_so
+    closes : HasClosed states states' stood stands i g n (state a.node) (process_status a.node)
+    closes = (blocks_show o).close rp states rs freed t.root i g n come.first l (state a.node) (process_status a.node) r kept.shows.agrees has free.freed come.stands_so
 
     -- a fork was one before
     was_fork : (j d w : ℕ) (s : S) → Has states' stands j d s (forks w) → (j ≢ i) × Has states stood j d s (forks w)
@@ -203,23 +203,23 @@ module _ {S : Type 0} (o : Ops S) (law : LocalLaws o) (rp : Path) (t : Tree S) (
 
     its : slice_get now i ≡ Some r
     its =
-        let w = from_map beside_of (slice_get freed i) (beside_of q) (said_alike beside_of rs freed free.beside i ∙ ap (option_map beside_of) at_q) in
+        let w = from_map without_status (slice_get freed i) (without_status q) (said_alike without_status rs freed free.beside i ∙ ap (option_map without_status) at_q) in
         set_there freed i w.0 r w.1
 
     -- another record says the same beside what came of its process
-    other : (j : ℕ) → j ≢ i → option_map beside_of (slice_get now j) ≡ option_map beside_of (slice_get rs j)
-    other j far = ap (option_map beside_of) (set_elsewhere freed i j r far) ∙ said_alike beside_of rs freed free.beside j
+    other : (j : ℕ) → j ≢ i → option_map without_status (slice_get now j) ≡ option_map without_status (slice_get rs j)
+    other j far = ap (option_map without_status) (set_elsewhere freed i j r far) ∙ said_alike without_status rs freed free.beside j
 
     counts_other : (c : Channel) (j : ℕ) → j ≢ i → counts_in c now j ≡ counts_in c rs j
-    counts_other c j far = same_counts_at c (slice_get now j) (slice_get rs j) (part beside_of (λ (z : Beside). z.pairs) (slice_get now j) (slice_get rs j) (other j far))
+    counts_other c j far = same_counts_at c (slice_get now j) (slice_get rs j) (part without_status (λ (z : RecordWithoutStatus). z.pairs) (slice_get now j) (slice_get rs j) (other j far))
 
     labels_other : (c : Channel) (j : ℕ) → j ≢ i → leasts_in c now j ≡ leasts_in c rs j
-    labels_other c j far = same_labels_at c (slice_get now j) (slice_get rs j) (part beside_of (λ (z : Beside). z.pairs) (slice_get now j) (slice_get rs j) (other j far))
+    labels_other c j far = same_labels_at c (slice_get now j) (slice_get rs j) (part without_status (λ (z : RecordWithoutStatus). z.pairs) (slice_get now j) (slice_get rs j) (other j far))
 
     parent_is : (j : ℕ) → up_in now j ≡ up_in rs j
     parent_is j = elim (same_or_not j i) [
       | inl w ↦ ap (up_in now) w ∙ (ap up_at its ∙ (come.parent ∙ (sym (ap up_at at_q) ∙ ap (up_in rs) (sym w))))
-      | inr w ↦ same_parent_at (slice_get now j) (slice_get rs j) (part beside_of (λ (z : Beside). z.parent) (slice_get now j) (slice_get rs j) (other j w))
+      | inr w ↦ same_parent_at (slice_get now j) (slice_get rs j) (part without_status (λ (z : RecordWithoutStatus). z.parent) (slice_get now j) (slice_get rs j) (other j w))
     ]
 
     ups : up_in now ≡ up_in rs
@@ -234,11 +234,11 @@ module _ {S : Type 0} (o : Ops S) (law : LocalLaws o) (rp : Path) (t : Tree S) (
           let is_r : r ≡ w = some_same r w (sym its ∙ (ap (slice_get now) (sym x) ∙ e)) in
           subst (λ z. IsOrdered (chans_of z)) (sym come.no_pairs ∙ ap (λ (z : Record). z.pairs.items) is_r) (record { order = λ x y c d less u v. none_some c u })
       | inr x ↦
-          let v = from_map beside_of (slice_get rs j) (beside_of w) (sym (other j x) ∙ ap (option_map beside_of) e) in
-          subst (λ z. IsOrdered (chans_of z)) (ap (λ (z : Beside). z.pairs) v.2) (kept.ordered j v.0 v.1)
+          let v = from_map without_status (slice_get rs j) (without_status w) (sym (other j x) ∙ ap (option_map without_status) e) in
+          subst (λ z. IsOrdered (chans_of z)) (ap (λ (z : RecordWithoutStatus). z.pairs) v.2) (kept.ordered j v.0 v.1)
     ]
 
-    begins : Begins o rp states' t.root new (place o rp l) i (state a.node) (sort a.node) now
+    begins : Begins o rp states' t.root new (place o rp l) i (state a.node) (process_status a.node) now
     begins = record {
       shown = (events_are_shown o law).closed rp states states' stood stands t next.0 i g n l a kept.shows has next.1 is closes;
       linked = subst (AreLinked states' stands) (sym ups) ((links_follow o).closed states states' stood stands i g n a.node (up_in rs) leaf closes kept.linked);
@@ -273,10 +273,10 @@ module _ {S : Type 0} (o : Ops S) (law : LocalLaws o) (rp : Path) (t : Tree S) (
       leaf = leaf;
       same_place = same_place;
       closes = closes;
-      begins = subst (λ z. Begins o rp states' t.root new z i (state a.node) (sort a.node) now) (sym same_place) begins;
+      begins = subst (λ z. Begins o rp states' t.root new z i (state a.node) (process_status a.node) now) (sym same_place) begins;
       near = subst (λ z. length z ≤ 4294967295) (sym same_place) (kept.fit i g l (forks n) q has at_q).near;
       fits = fits;
       other = other;
       ups = ups;
-      long = length-set freed i r ∙ (sym (map_length beside_of freed) ∙ (ap length free.beside ∙ map_length beside_of rs));
+      long = length-set freed i r ∙ (sym (map_length without_status freed) ∙ (ap length free.beside ∙ map_length without_status rs));
     }

@@ -11,10 +11,10 @@ use Rattle.shim_semantics.specs.Nodes.{Node, Nodes, Live, Forked, Ended, Dead, D
 use Rattle.shim_semantics.specs.Acts.{Acted, closed}
 use Rattle.shim_semantics.specs.Places.{at}
 use Rattle.shim_semantics.specs.Trees.{Tree}
-use Rattle.shim_laws_records.specs.Seen.{Sort, lives, forks, ends, dies, sort, place}
+use Rattle.shim_laws_records.specs.Seen.{ProcessStatus, lives, forks, ends, dies, process_status, place}
 use Rattle.shim_laws_records.specs.Agrees.{RecordView, Has, Shows}
 use Rattle.shim_laws_records.specs.Places.{IsReplaced}
-use Rattle.shim_laws_records.specs.Changes.{block, prevailing_among}
+use Rattle.shim_laws_records.specs.Changes.{segment, prevailing_among}
 use Rattle.shim_laws_records.specs.Counts.{Reading as Read, going_of}
 use Rattle.shim_laws_records.specs.Tallied.{Tallied, HaveCounts}
 use Rattle.shim_laws_records.specs.Updating.{AreLinked, AreAtMost}
@@ -25,7 +25,7 @@ use Rattle.shim_laws_records.proofs.Suffices.{given_suffice}
 use Rattle.shim_laws_records.specs.Sufficing.{read_leaf}
 use Rattle.shim_records.specs.Acted.{acting, AllUpdated}
 use Rattle.shim_records.specs.AllWays.{AllUpdatedAbove, none_left, one_more}
-use Rattle.shim_records.specs.Pairs.{stands_of, up_in, counts_in, leasts_in, rest_of, Rest}
+use Rattle.shim_records.specs.Pairs.{stands_of, up_in, counts_in, leasts_in, rest_of, UncountedRecord}
 use Rattle.shim_records.specs.Leaving.{HasLeft}
 use Rattle.shim_records.specs.declared.record.Record.{Record}
 use Rattle.shim_records.proofs.Acting.{acted_brings}
@@ -35,7 +35,7 @@ use Rattle.shim_records.proofs.WholeWay.{rest_ups, kept_order}
 use Rattle.shim_laws_keeping.specs.Flats.{IsFit, Keeps}
 use Rattle.shim_laws_keeping.proofs.Forks.{as_many}
 use Rattle.shim_laws_closes.specs.Laws.{ClosesKeep}
-use Rattle.shim_laws_closes.specs.Closing.{Beside, beside_of, LeavesIf, RecountedIf}
+use Rattle.shim_laws_closes.specs.Closing.{RecordWithoutStatus, without_status, LeavesIf, RecountedIf}
 use Rattle.shim_laws_closes.proofs.Saying.{leaves_said, map_length, was_item, from_map, Said, said, said_stands, going_elsewhere, going_less}
 use Rattle.shim_laws_closes.proofs.Closed.{Begins, begins_too, Behind, behind as behind_close}
 use Rattle.shim_laws_closes.proofs.Goings.{still_go}
@@ -52,19 +52,19 @@ rest_if o states s n x between behind None e = ap (map rest_of) e
 rest_if o states s n x between behind (Some d) e = rest_recounted o states n x e.recounted
 
 -- what came of processes stands as where the close began
-pub stands_stay : {S : Type 0} (o : Ops S) (states : List S) (s : S) (k : Sort) (n x : ℕ) (now left between behind : List Record) (d : Option Death) → LeavesIf k x now left → AllUpdated o s k n x left between → RecountedIf d o states s n x between behind
+pub stands_stay : {S : Type 0} (o : Ops S) (states : List S) (s : S) (k : ProcessStatus) (n x : ℕ) (now left between behind : List Record) (d : Option Death) → LeavesIf k x now left → AllUpdated o s k n x left between → RecountedIf d o states s n x between behind
     → map stands_of behind ≡ map stands_of now
 stands_stay o states s k n x now left between behind d leaves walked again =
     same_stands left behind (rest_if o states s n x between behind d again ∙ rest_same (acting o s) (λ c. read_leaf o c s k) n x walked.updated) ∙ said_stands now left (leaves_said k x now left leaves)
 
 -- whether a process of this sort goes on
-abbrev goes_on : Sort → Bool
+abbrev goes_on : ProcessStatus → Bool
 goes_on lives = true
 goes_on (forks n) = true
 goes_on ends = false
 goes_on (dies d) = false
 
-told_going : {S : Type 0} (n : Node S) → goes n ≡ goes_on (sort n)
+told_going : {S : Type 0} (n : Node S) → goes n ≡ goes_on (process_status n)
 told_going (Live l) = refl
 told_going (Forked l ks) = refl
 told_going (Ended l) = refl
@@ -77,14 +77,14 @@ one_less : (x y z : ℕ) → x ≡ z - 1 → y + 1 ≡ z → x ≡ y
 one_less x y z e f = omega (arith, e, f)
 
 module _ {S : Type 0} (o : Ops S) (law : LocalLaws o) (rp : Path) (t : Tree S) (states : List S) (rs now left between behind : List Record) (i g n : ℕ) (l : S) (a : Acted S)
-    (kept : Keeps o rp (record { states = states; records = rs }) t.root) (has : Has states (map stands_of rs) i g l (forks n)) (is : a ≡ closed o l (block g n states) (prevailing_among (block g n (map stands_of rs))))
-    (b : Behind o rp t states rs i g n l a now) (leaves : LeavesIf (sort a.node) i now left) (walked : AllUpdated o (state a.node) (sort a.node) 4294967295 i left between)
-    (again : RecountedIf (prevailing_among (block g n (map stands_of rs))) o (slice_set states i (state a.node)) (state a.node) 4294967295 i between behind) where
+    (kept : Keeps o rp (record { states = states; records = rs }) t.root) (has : Has states (map stands_of rs) i g l (forks n)) (is : a ≡ closed o l (segment g n states) (prevailing_among (segment g n (map stands_of rs))))
+    (b : Behind o rp t states rs i g n l a now) (leaves : LeavesIf (process_status a.node) i now left) (walked : AllUpdated o (state a.node) (process_status a.node) 4294967295 i left between)
+    (again : RecountedIf (prevailing_among (segment g n (map stands_of rs))) o (slice_set states i (state a.node)) (state a.node) 4294967295 i between behind) where
   abbrev s : S
   s = state a.node
 
-  abbrev k : Sort
-  k = sort a.node
+  abbrev k : ProcessStatus
+  k = process_status a.node
 
   abbrev states' : List S
   states' = slice_set states i (state a.node)
@@ -99,7 +99,7 @@ module _ {S : Type 0} (o : Ops S) (law : LocalLaws o) (rp : Path) (t : Tree S) (
   q = place o rp (state a.node)
 
   abbrev died : Option Death
-  died = prevailing_among (block g n (map stands_of rs))
+  died = prevailing_among (segment g n (map stands_of rs))
 
   -- ---- where one child less goes on
 
@@ -152,7 +152,7 @@ module _ {S : Type 0} (o : Ops S) (law : LocalLaws o) (rp : Path) (t : Tree S) (
     where
       on : (d : Option Death) → died ≡ d → RecountedIf d o states' s 4294967295 i between behind → Labelled o rp states' stands c (counts_in c between) (leasts_in c behind) new
       on None e same = subst (λ z. Labelled o rp states' stands c (counts_in c between) (leasts_in c z) new) (sym same)
-          (as_before o rp states' stands c (counts_in c between) (leasts_in c between) t.root new a.node q l b.children b.replaced b.leaf b.done (b.prevails ∙ e) (no_label o c l (block g n states) a died is e) (labels_on_way c))
+          (as_before o rp states' stands c (counts_in c between) (leasts_in c between) t.root new a.node q l b.children b.replaced b.leaf b.done (b.prevails ∙ e) (no_label o c l (segment g n states) a died is e) (labels_on_way c))
       on (Some d) e y = elim (among_or_not c y.chans) [
         | inl w ↦ brings_right o law rp states' between t.root new m a.node 4294967295 i begun.first s k shown linked mine b.replaced (λ c. (brought.1 c).1) b.near c y.recounted y.shared w
             (at_first o law rp states' between t.root new m a.node 4294967295 i begun.first s k shown linked mine b.replaced (λ c. (brought.1 c).1) b.near) (labels_on_way c)
@@ -178,8 +178,8 @@ module _ {S : Type 0} (o : Ops S) (law : LocalLaws o) (rp : Path) (t : Tree S) (
   was_now : (j : ℕ) (x : Record) → slice_get left j ≡ Some x → (z : Record) × (slice_get now j ≡ Some z) × (said z ≡ said x)
   was_now j x e = was_item said now left said_same j x e
 
-  was_first : (j : ℕ) (z : Record) → j ≢ i → slice_get now j ≡ Some z → (y : Record) × (slice_get rs j ≡ Some y) × (beside_of y ≡ beside_of z)
-  was_first j z far e = from_map beside_of (slice_get rs j) (beside_of z) (sym (b.other j far) ∙ ap (option_map beside_of) e)
+  was_first : (j : ℕ) (z : Record) → j ≢ i → slice_get now j ≡ Some z → (y : Record) × (slice_get rs j ≡ Some y) × (without_status y ≡ without_status z)
+  was_first j z far e = from_map without_status (slice_get rs j) (without_status z) (sym (b.other j far) ∙ ap (option_map without_status) e)
 
   going : (j d w : ℕ) (u v : S) (ks : Nodes S) (r : Record) → Has states' (map stands_of now) j d u (forks w) → slice_get behind j ≡ Some r → at (place o rp u) new ≡ Some (Forked v ks) → r.going ≡ going_of ks
   going j d w u v ks r fork e there = elim (b.closes.only j d u (forks w) fork) [
@@ -188,7 +188,7 @@ module _ {S : Type 0} (o : Ops S) (law : LocalLaws o) (rp : Path) (t : Tree S) (
         let y = was_left j r e in
         let z = was_now j y.0 y.1 in
         let p = was_first j z.0 x.0 z.1 in
-        ap (λ (z : Rest). z.going) (sym y.2) ∙ on k refl leaves y.0 z.0 p.0 y.1 z.1 p.1 (ap (λ (z : Beside). z.going) p.2) x.2
+        ap (λ (z : UncountedRecord). z.going) (sym y.2) ∙ on k refl leaves y.0 z.0 p.0 y.1 z.1 p.1 (ap (λ (z : RecordWithoutStatus). z.going) p.2) x.2
   ]
     where
       less : goes a.node ≡ false → HasLeft i now left → (y z p : Record) → slice_get left j ≡ Some y → slice_get now j ≡ Some z → slice_get rs j ≡ Some p → p.going ≡ z.going → Has states (map stands_of rs) j d u (forks w) → y.going ≡ going_of ks
@@ -200,7 +200,7 @@ module _ {S : Type 0} (o : Ops S) (law : LocalLaws o) (rp : Path) (t : Tree S) (
             | inr x ↦ ap (λ (z : Record). z.going) (some_same y z (sym ey ∙ (going_elsewhere i now left fewer j (λ e. x.0 (ap (λ f. f i) (sym b.ups) ∙ e)) ∙ ez))) ∙ (sym so ∙ (first ∙ sym x.1))
           ]
 
-      on : (h : Sort) → k ≡ h → LeavesIf h i now left → (y z p : Record) → slice_get left j ≡ Some y → slice_get now j ≡ Some z → slice_get rs j ≡ Some p → p.going ≡ z.going → Has states (map stands_of rs) j d u (forks w) → y.going ≡ going_of ks
+      on : (h : ProcessStatus) → k ≡ h → LeavesIf h i now left → (y z p : Record) → slice_get left j ≡ Some y → slice_get now j ≡ Some z → slice_get rs j ≡ Some p → p.going ≡ z.going → Has states (map stands_of rs) j d u (forks w) → y.going ≡ going_of ks
       on lives f same y z p ey ez ep so was =
           let h = as_many o q m a.node t.root new b.replaced b.leaf (told_going a.node ∙ ap goes_on f) (place o rp u) v ks there in
           ap (λ (z : Record). z.going) (some_same y z (sym ey ∙ (ap (λ z. slice_get z j) same ∙ ez))) ∙ (sym so ∙ (kept.going j d w u v h.children p was ep h.there ∙ sym h.same))
@@ -210,17 +210,17 @@ module _ {S : Type 0} (o : Ops S) (law : LocalLaws o) (rp : Path) (t : Tree S) (
       on ends f fewer y z p ey ez ep so was = less (told_going a.node ∙ ap goes_on f) fewer y z p ey ez ep so was
       on (dies x) f fewer y z p ey ez ep so was = less (told_going a.node ∙ ap goes_on f) fewer y z p ey ez ep so was
 
-  fit : (j d : ℕ) (u : S) (h : Sort) (r : Record) → Has states' (map stands_of now) j d u h → slice_get behind j ≡ Some r → IsFit o rp u r
+  fit : (j d : ℕ) (u : S) (h : ProcessStatus) (r : Record) → Has states' (map stands_of now) j d u h → slice_get behind j ≡ Some r → IsFit o rp u r
   fit j d u h r held e =
       let y = was_left j r e in
       let z = was_now j y.0 y.1 in
-      let path : r.path ≡ z.0.path = ap (λ (z : Rest). z.path) (sym y.2) ∙ ap (λ (z : Said). z.path) (sym z.2) in
+      let path : r.path ≡ z.0.path = ap (λ (z : UncountedRecord). z.path) (sym y.2) ∙ ap (λ (z : Said). z.path) (sym z.2) in
       elim (b.closes.only j d u h held) [
         | inl x ↦ subst (λ w. IsFit o rp w r) (sym x.1) (b.fits z.0 r (ap (slice_get now) (sym x.0) ∙ z.1) path)
         | inr x ↦
             let p = was_first j z.0 x.0 z.1 in
             let was = kept.fit j d u h p.0 x.2 p.1 in
-            record { path = path ∙ (ap (λ (z : Beside). z.path) (sym p.2) ∙ was.path); near = was.near; few = was.few }
+            record { path = path ∙ (ap (λ (z : RecordWithoutStatus). z.path) (sym p.2) ∙ was.path); near = was.near; few = was.few }
       ]
 
   pub keeps : Keeps o rp (record { states = states'; records = behind }) new

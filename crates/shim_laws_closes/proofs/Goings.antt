@@ -7,7 +7,7 @@ use Rattle.shim_semantics.specs.Nodes.{Node, Nodes, Forked, goes}
 use Rattle.shim_semantics.specs.Places.{at, child_at}
 use Rattle.shim_semantics.proofs.HowMany.{clash}
 use Rattle.shim_semantics.proofs.ReplacedNodes.{put, put_child}
-use Rattle.shim_laws_records.specs.Seen.{Sort, forks, seen, is_leaf, place, how_many_nodes, IsAside}
+use Rattle.shim_laws_records.specs.Seen.{ProcessStatus, forks, seen, is_leaf, place, how_many_nodes, IsAside}
 use Rattle.shim_laws_records.specs.Agrees.{RecordView, Has, Shows}
 use Rattle.shim_laws_records.specs.Places.{IsReplaced}
 use Rattle.shim_laws_records.specs.Counts.{bit, going_of}
@@ -34,7 +34,7 @@ too_long r b d e t h =
     longer : (r t x y : ℕ) → x ≡ r + suc (suc t) → y ≡ r + 1 → x ≡ y → ⊥
     longer r t x y e f g = omega (arith, e, f, g)
 
-module _ {S : Type 0} (o : Ops S) (rp : Path) (states : List S) (stood : List RecordView) (up : ℕ → Option ℕ) (old new m a : Node S) (i f : ℕ) (l : S) (k : Sort) (shown : Shows o rp states stood old) (linked : AreLinked states stood up)
+module _ {S : Type 0} (o : Ops S) (rp : Path) (states : List S) (stood : List RecordView) (up : ℕ → Option ℕ) (old new m a : Node S) (i f : ℕ) (l : S) (k : ProcessStatus) (shown : Shows o rp states stood old) (linked : AreLinked states stood up)
     (has : Has states stood i f l k) (rep : IsReplaced (place o rp l) m a old new) (leaf : is_leaf a ≡ true) (went : goes m ≡ true) (stays : goes a ≡ false) where
   abbrev q : List ℕ
   q = place o rp l

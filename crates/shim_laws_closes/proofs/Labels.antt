@@ -10,7 +10,7 @@ use Rattle.shim_local.specs.Laws.{LocalLaws}
 use Rattle.shim_semantics.specs.Nodes.{Node, Nodes, Live, Forked, Ended, Dead, Death, no_node, node_and, all_done, prevailing, prevailing_death}
 use Rattle.shim_semantics.specs.Places.{at}
 use Rattle.shim_semantics.proofs.HowMany.{clash}
-use Rattle.shim_laws_records.specs.Seen.{Sort, forks, is_leaf, place}
+use Rattle.shim_laws_records.specs.Seen.{ProcessStatus, forks, is_leaf, place}
 use Rattle.shim_laws_records.specs.Agrees.{RecordView, Has, Shows}
 use Rattle.shim_laws_records.specs.Places.{IsReplaced}
 use Rattle.shim_laws_records.specs.Counts.{Tally}
@@ -24,7 +24,7 @@ use Rattle.shim_laws_records.proofs.Recounts.{labels_recount}
 use Rattle.shim_laws_records.proofs.SameTrees.{seen_fork}
 use Rattle.shim_records.specs.Members.{IsAmong}
 use Rattle.shim_records.specs.Labels.{OnlyLabels}
-use Rattle.shim_records.specs.Pairs.{stands_of, up_in, counts_at, counts_in, least_at, leasts_in, rest_of, pair_of, label_of, tally}
+use Rattle.shim_records.specs.Pairs.{stands_of, up_in, counts_at, counts_in, least_at, leasts_in, rest_of, pair_of, least_label_of, tally}
 use Rattle.shim_records.specs.Recounting.{IsRecounted}
 use Rattle.shim_records.specs.declared.pair.Pair.{Pair}
 use Rattle.shim_records.specs.declared.record.Record.{Record}
@@ -43,7 +43,7 @@ unlabelled : (c : Channel) (x : Option Record) → counts_at c x ≡ None → le
 unlabelled c None e = refl
 unlabelled c (Some r) e = on (pair_of c r.pairs.items) e
   where
-    on : (p : Option Pair) → option_map tally p ≡ None → label_of p ≡ None
+    on : (p : Option Pair) → option_map tally p ≡ None → least_label_of p ≡ None
     on None e = refl
     on (Some p) e = none_some (tally p) (sym e)
 
@@ -82,7 +82,7 @@ as_before o rp states stands c counts labels old new a q l ks rep leaf done none
 
 -- ---- where some were read off again
 
-module _ {S : Type 0} (o : Ops S) (law : LocalLaws o) (rp : Path) (states : List S) (base : List Record) (old new m a : Node S) (n x f : ℕ) (s : S) (k : Sort) (shown : Shows o rp states (map stands_of base) new)
+module _ {S : Type 0} (o : Ops S) (law : LocalLaws o) (rp : Path) (states : List S) (base : List Record) (old new m a : Node S) (n x f : ℕ) (s : S) (k : ProcessStatus) (shown : Shows o rp states (map stands_of base) new)
     (linked : AreLinked states (map stands_of base) (up_in base)) (has : Has states (map stands_of base) x f s k) (rep : IsReplaced (place o rp s) m a old new)
     (have : (c : Channel) → HaveCounts o rp states (map stands_of base) c (counts_in c base) new) (near : length (place o rp s) ≤ n) where
   abbrev stands : List RecordView

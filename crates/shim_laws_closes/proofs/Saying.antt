@@ -6,10 +6,10 @@ use Rattle.shim_base.specs.Paths.{Path, Channel}
 use Rattle.shim_base.proofs.Facts.{some_same, none_some}
 use Rattle.shim_laws_records.specs.Agrees.{RecordView}
 use Rattle.shim_laws_records.specs.Counts.{Tally}
-use Rattle.shim_laws_records.specs.Seen.{Sort, lives, forks, ends, dies}
+use Rattle.shim_laws_records.specs.Seen.{ProcessStatus, lives, forks, ends, dies}
 use Rattle.shim_laws_closes.specs.Closing.{LeavesIf}
 use Rattle.shim_records.specs.Leaving.{HasLeft, alone, lost, below}
-use Rattle.shim_records.specs.Pairs.{stands_of, up_at, up_in, counts_at, counts_in, least_at, leasts_in, find, label_of, pair_of, chans_of, IsOrdered, AreOrdered}
+use Rattle.shim_records.specs.Pairs.{stands_of, up_at, up_in, counts_at, counts_in, least_at, leasts_in, tally_for, least_label_of, pair_of, chans_of, IsOrdered, AreOrdered}
 use Rattle.shim_records.specs.declared.pair.Pair.{Pair}
 use Rattle.shim_records.specs.declared.record.Record.{Record}
 use Rattle.shim_records.proofs.Showing.{map_get}
@@ -45,11 +45,11 @@ said r = record { stands = stands_of r; parent = r.parent; path = r.path; pairs 
 
 abbrev pub counts_of : Channel → Option (List Pair) → Option Tally
 counts_of c None = None
-counts_of c (Some ps) = find c ps
+counts_of c (Some ps) = tally_for c ps
 
 abbrev pub labels_of : Channel → Option (List Pair) → Option ℕ
 labels_of c None = None
-labels_of c (Some ps) = label_of (pair_of c ps)
+labels_of c (Some ps) = least_label_of (pair_of c ps)
 
 abbrev pub pairs_in : Record → List Pair
 pairs_in r = r.pairs.items
@@ -114,7 +114,7 @@ left_said x before behind (alone e same) = ap (map said) same
 left_said x before behind (lost j up e same) = ap (map said) same
 left_said x before behind (below j r up e same) = ap (map said) same ∙ map_set said before j r (record { status = r.status; first = r.first; parent = r.parent; path = r.path; going = r.going - 1; pairs = r.pairs }) e refl
 
-pub leaves_said : (k : Sort) (x : ℕ) (before behind : List Record) → LeavesIf k x before behind → map said behind ≡ map said before
+pub leaves_said : (k : ProcessStatus) (x : ℕ) (before behind : List Record) → LeavesIf k x before behind → map said behind ≡ map said before
 leaves_said lives x before behind e = ap (map said) e
 leaves_said (forks n) x before behind e = ap (map said) e
 leaves_said ends x before behind e = left_said x before behind e

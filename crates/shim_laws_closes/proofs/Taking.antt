@@ -12,7 +12,7 @@ use Rattle.shim_semantics.proofs.CloseStays.{label_below}
 use Rattle.shim_semantics.proofs.Replaced.{sound_at, states_sound}
 use Rattle.shim_laws_records.specs.Seen.{forks, place, how_many_nodes}
 use Rattle.shim_laws_records.specs.Agrees.{Has}
-use Rattle.shim_laws_records.specs.Changes.{block, prevailing_among}
+use Rattle.shim_laws_records.specs.Changes.{segment, prevailing_among}
 use Rattle.shim_laws_records.proofs.Children.{children_are_shown}
 use Rattle.shim_laws_records.proofs.Forking.{no_shorter}
 use Rattle.shim_laws_records.proofs.SameTrees.{seen_fork}
@@ -52,18 +52,18 @@ module _ {S : Type 0} (o : Ops S) (law : LocalLaws o) (rp : Path) (states : List
   fork : (ks : Nodes S) × (at (place o rp l) root ≡ Some (Forked l ks)) × (how_many_nodes ks ≡ n)
   fork = seen_fork (at (place o rp l) root) l n (kept.shows.agrees.shown i g l (forks n) has)
 
-  told : (how_many_nodes fork.0 ≡ n) × (states_of fork.0 ≡ block g n states) × (prevailing_death fork.0 ≡ prevailing_among (block g n (map stands_of rs)))
+  told : (how_many_nodes fork.0 ≡ n) × (states_of fork.0 ≡ segment g n states) × (prevailing_death fork.0 ≡ prevailing_among (segment g n (map stands_of rs)))
   told = children_are_shown o rp states (map stands_of rs) root i g n l fork.0 kept.shows.agrees has fork.1
 
   sound : IsFork o l fork.0 (λ f. SoundChildren o l f 0 fork.0)
   sound = sound_at o (place o rp l) root (Forked l fork.0) kept.shows.sound.below fork.1
 
   -- they are born of it
-  pub born : o.born l (block g n states)
+  pub born : o.born l (segment g n states)
   born = subst (o.born l) told.1 sound.born
 
   -- and the label that prevails is one of its exception places
-  pub below : (d : Death) → prevailing_among (block g n (map stands_of rs)) ≡ Some d → d.label < o.handlers (o.join l (block g n states) false)
+  pub below : (d : Death) → prevailing_among (segment g n (map stands_of rs)) ≡ Some d → d.label < o.handlers (o.join l (segment g n states) false)
   below d e =
       let all : AllOf o.sound (states_of fork.0) = states_sound o l sound.number 0 fork.0 sound.children in
       let is = law.join_handlers l (states_of fork.0) sound.sound all sound.born in

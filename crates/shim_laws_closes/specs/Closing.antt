@@ -4,7 +4,7 @@ use Rattle.shim_base.specs.Paths.{Path, Channel}
 use Rattle.shim_local.specs.Process.{Ops}
 use Rattle.shim_local.specs.Laws.{IsGiven}
 use Rattle.shim_semantics.specs.Nodes.{Death}
-use Rattle.shim_laws_records.specs.Seen.{Sort, lives, forks, ends, dies}
+use Rattle.shim_laws_records.specs.Seen.{ProcessStatus, lives, forks, ends, dies}
 use Rattle.shim_laws_records.specs.Agrees.{used}
 use Rattle.shim_records.specs.Members.{IsAmong}
 use Rattle.shim_records.specs.Blocks.{IsFreed}
@@ -15,7 +15,7 @@ use Rattle.shim_records.specs.declared.pair.Pair.{Pair}
 use Rattle.shim_records.specs.declared.record.Record.{Record}
 
 -- what a record says beside what came of its process
-pub record Beside : Type 0 where
+pub record RecordWithoutStatus : Type 0 where
   pub first : ℕ
   pub parent : Option ℕ
   pub path : Path
@@ -23,16 +23,16 @@ pub record Beside : Type 0 where
   pub pairs : List Pair
 
 -- what this record says beside that
-abbrev pub beside_of : Record → Beside
-beside_of r = record { first = r.first; parent = r.parent; path = r.path; going = r.going; pairs = r.pairs.items }
+abbrev pub without_status : Record → RecordWithoutStatus
+without_status r = record { first = r.first; parent = r.parent; path = r.path; going = r.going; pairs = r.pairs.items }
 
 -- from the number g on n records are free, and nothing else has changed
 pub record AreFreed (g n : ℕ) (before behind : List Record) : Type 0 where
   pub freed : IsFreed g n before behind
-  pub beside : map beside_of behind ≡ map beside_of before
+  pub beside : map without_status behind ≡ map without_status before
 
 -- the record of a process whose fork has closed: this came of it
-pub record HasCome (before behind : Record) (k : Sort) : Type 0 where
+pub record HasCome (before behind : Record) (k : ProcessStatus) : Type 0 where
   pub first : ℕ
   pub stands_so : stands_of behind ≡ used first k
   pub parent : behind.parent ≡ before.parent
@@ -40,7 +40,7 @@ pub record HasCome (before behind : Record) (k : Sort) : Type 0 where
   pub no_pairs : behind.pairs.items ≡ []
 
 -- where it ended or died, one child less of its parent goes on
-abbrev pub LeavesIf : Sort → ℕ → List Record → List Record → Type 0
+abbrev pub LeavesIf : ProcessStatus → ℕ → List Record → List Record → Type 0
 LeavesIf lives x before behind = behind ≡ before
 LeavesIf (forks n) x before behind = behind ≡ before
 LeavesIf ends x before behind = HasLeft x before behind

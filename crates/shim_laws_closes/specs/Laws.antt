@@ -5,21 +5,21 @@ use Rattle.shim_local.specs.Process.{Ops}
 use Rattle.shim_semantics.specs.Nodes.{Node, state}
 use Rattle.shim_semantics.specs.Acts.{Acted, closed}
 use Rattle.shim_semantics.specs.Trees.{Tree, Close, after}
-use Rattle.shim_laws_records.specs.Seen.{forks, sort}
+use Rattle.shim_laws_records.specs.Seen.{forks, process_status}
 use Rattle.shim_laws_records.specs.Agrees.{free}
-use Rattle.shim_laws_records.specs.Changes.{block, prevailing_among}
+use Rattle.shim_laws_records.specs.Changes.{segment, prevailing_among}
 use Rattle.shim_records.specs.Acted.{AllUpdated}
 use Rattle.shim_records.specs.Pairs.{stands_of}
 use Rattle.shim_records.specs.declared.record.Record.{Record}
-use Rattle.shim_laws_keeping.specs.Flats.{HasProcess, Keeps}
+use Rattle.shim_laws_keeping.specs.Flats.{HasProcessState, Keeps}
 use Rattle.shim_laws_closes.specs.Closing.{AreFreed, HasCome, LeavesIf, RecountedIf}
 
 -- Of the fork of l, with the record i, no child goes on. Its children's records were freed; its own has the state and says what came of it; where it died, its parent counts one less; and above it the counts were brought up to date, and where a child died the labels. Then the fork can close, and the tree behind is shown.
 abbrev pub ClosesKeep : {S : Type 0} → Ops S → Type 0
 ClosesKeep {S} o = (rp : Path) (t : Tree S) (states : List S) (rs freed left between behind : List Record) (i g n : ℕ) (l : S) (q r : Record) (a : Acted S) → Keeps o rp (record { states = states; records = rs }) t.root
-    → HasProcess (record { states = states; records = rs }) i g l (forks n) → slice_get rs i ≡ Some q → q.going ≡ 0 → a ≡ closed o l (block g n states) (prevailing_among (block g n (map stands_of rs)))
-    → AreFreed g n rs freed → HasCome q r (sort a.node) → LeavesIf (sort a.node) i (slice_set freed i r) left → AllUpdated o (state a.node) (sort a.node) 4294967295 i left between
-    → RecountedIf (prevailing_among (block g n (map stands_of rs))) o (slice_set states i (state a.node)) (state a.node) 4294967295 i between behind
+    → HasProcessState (record { states = states; records = rs }) i g l (forks n) → slice_get rs i ≡ Some q → q.going ≡ 0 → a ≡ closed o l (segment g n states) (prevailing_among (segment g n (map stands_of rs)))
+    → AreFreed g n rs freed → HasCome q r (process_status a.node) → LeavesIf (process_status a.node) i (slice_set freed i r) left → AllUpdated o (state a.node) (process_status a.node) 4294967295 i left between
+    → RecountedIf (prevailing_among (segment g n (map stands_of rs))) o (slice_set states i (state a.node)) (state a.node) 4294967295 i between behind
     → (u : Tree S) × (after o (Close (o.path l)) t ≡ Some u) × Keeps o rp (record { states = slice_set states i (state a.node); records = behind }) u.root
 
 -- free records at the end are none of the tree's

@@ -9,7 +9,7 @@ use Rattle.shim_local.specs.Laws.{LocalLaws, by_fork}
 use Rattle.shim_semantics.specs.Nodes.{Live, Forked, all_live}
 use Rattle.shim_semantics.specs.Acts.{nothing, act_live, parted}
 use Rattle.shim_semantics.specs.Trees.{Tree, Own, after}
-use Rattle.shim_laws_records.specs.Seen.{Sort, lives, place}
+use Rattle.shim_laws_records.specs.Seen.{ProcessStatus, lives, place}
 use Rattle.shim_laws_records.specs.Agrees.{RecordView, Shows}
 use Rattle.shim_laws_records.specs.Places.{IsReplaced}
 use Rattle.shim_laws_records.specs.Changes.{HasForked}
@@ -21,12 +21,12 @@ use Rattle.shim_records.specs.Showing.{AllLive}
 use Rattle.shim_records.specs.declared.record.Record.{Record}
 use Rattle.shim_records.proofs.Stepping.{set_there, set_elsewhere}
 use Rattle.shim_records.proofs.Showing.{block_in, block_out, blocks_show}
-use Rattle.shim_laws_keeping.specs.Flats.{FlatView, HasProcess, Keeps}
+use Rattle.shim_laws_keeping.specs.Flats.{FlatView, HasProcessState, Keeps}
 use Rattle.shim_laws_forks.specs.Forking.{IsOfChild, ForksAt}
 use Rattle.shim_laws_forks.proofs.OwnSteps.{is_sound, own_replaced}
 
 module _ {S : Type 0} (o : Ops S) (law : LocalLaws o) (rp : Path) (t : Tree S) (before behind : FlatView S) (x g f : ℕ) (l p : S) (ks : List S)
-    (kept : Keeps o rp before t.root) (has : HasProcess before x f l lives) (forked : ForksAt o x g p ks before behind) where
+    (kept : Keeps o rp before t.root) (has : HasProcessState before x f l lives) (forked : ForksAt o x g p ks before behind) where
   abbrev pub stood : List RecordView
   stood = map stands_of before.records
 
@@ -44,16 +44,16 @@ module _ {S : Type 0} (o : Ops S) (law : LocalLaws o) (rp : Path) (t : Tree S) (
   fits = let a = length-set before.records x forked.is in let b = forked.inside in omega (arith, a, b)
 
   -- a record in use is none of the block's
-  used_far : (j d : ℕ) (s : S) (k : Sort) → HasProcess before j d s k → (b : ℕ) → b < length ks → j ≢ g + b
-  used_far j d s k h b less e = forked.unused b d s k less (subst (λ z. HasProcess before z d s k) e h)
+  used_far : (j d : ℕ) (s : S) (k : ProcessStatus) → HasProcessState before j d s k → (b : ℕ) → b < length ks → j ≢ g + b
+  used_far j d s k h b less e = forked.unused b d s k less (subst (λ z. HasProcessState before z d s k) e h)
 
-  born_far : (j d : ℕ) (s : S) (k : Sort) → HasProcess before j d s k → (b : ℕ) → b < length forked.born → j ≢ g + b
+  born_far : (j d : ℕ) (s : S) (k : ProcessStatus) → HasProcessState before j d s k → (b : ℕ) → b < length forked.born → j ≢ g + b
   born_far j d s k h b less = let a = forked.children.as_many in used_far j d s k h b (omega (arith, a, less))
 
   pub its_own : slice_get records x ≡ Some forked.is
   its_own = block_out g forked.born (slice_set before.records x forked.is) x fits (born_far x f l lives has) ∙ set_there before.records x forked.was forked.is forked.had
 
-  pub as_before : (j d : ℕ) (s : S) (k : Sort) → HasProcess before j d s k → j ≢ x → slice_get records j ≡ slice_get before.records j
+  pub as_before : (j d : ℕ) (s : S) (k : ProcessStatus) → HasProcessState before j d s k → j ≢ x → slice_get records j ≡ slice_get before.records j
   as_before j d s k h other = block_out g forked.born (slice_set before.records x forked.is) j fits (born_far j d s k h) ∙ set_elsewhere before.records x j forked.is other
 
   -- the record of a child

@@ -8,7 +8,7 @@ use Rattle.shim_local.specs.Process.{Ops, AtFork, Parted}
 use Rattle.shim_local.specs.Laws.{LocalLaws, AllOf, AnyOf, IsGiven, AreChildren, how_many}
 use Rattle.shim_semantics.specs.Nodes.{Node, Live, Forked, all_live, is_next}
 use Rattle.shim_semantics.specs.Places.{at, branches}
-use Rattle.shim_laws_records.specs.Seen.{Sort, lives, forks, place}
+use Rattle.shim_laws_records.specs.Seen.{ProcessStatus, lives, forks, place}
 use Rattle.shim_laws_records.specs.Agrees.{RecordView, Shows}
 use Rattle.shim_laws_records.specs.Places.{IsReplaced}
 use Rattle.shim_laws_records.specs.Changes.{HasForked}
@@ -28,12 +28,12 @@ use Rattle.shim_laws_records.proofs.Leasts.{leasts_follow}
 use Rattle.shim_laws_records.proofs.Suffices.{below_or_not}
 use Rattle.shim_laws_records.proofs.Hanging.{tied, counts_share, none_above}
 use Rattle.shim_records.specs.Members.{IsAmong}
-use Rattle.shim_records.specs.Pairs.{tally, find, pair_of, label_of, counts_at, counts_in, least_at, leasts_in, up_in, stands_of}
+use Rattle.shim_records.specs.Pairs.{tally, tally_for, pair_of, least_label_of, counts_at, counts_in, least_at, leasts_in, up_in, stands_of}
 use Rattle.shim_records.specs.Fresh.{FreshPairs}
 use Rattle.shim_records.specs.declared.record.Record.{Record}
 use Rattle.shim_records.proofs.ManyWays.{others, its_way, among_or_not}
 use Rattle.shim_records.proofs.Showing.{pairs_begin}
-use Rattle.shim_laws_keeping.specs.Flats.{FlatView, HasProcess, Keeps}
+use Rattle.shim_laws_keeping.specs.Flats.{FlatView, HasProcessState, Keeps}
 use Rattle.shim_laws_forks.specs.Forking.{ready_chans, EachUpdatedAbove}
 use Rattle.shim_laws_forks.proofs.Above.{fork_was}
 use Rattle.shim_laws_forks.proofs.Readied.{joining, all_ways, ready_pair, found_pair, ready_once, is_ready}
@@ -77,8 +77,8 @@ module _ {S : Type 0} (o : Ops S) (l : S) (c : Channel) where
   shared_given base n i (k ∷ ks) child share give out (inr any) = let w = shared_given base n (i + 1) ks child.2 share.1 give.1 out any in (w.0, inr w.1)
 
 module _ {S : Type 0} (o : Ops S) (law : LocalLaws o) (rp : Path) (old new : Node S) (before : FlatView S) (states : List S) (records : List Record) (x g f : ℕ) (l p : S) (ks : List S) (is : Record)
-    (kept : Keeps o rp before old) (has : HasProcess before x f l lives) (sound : o.sound l) (stop : o.stop l ≡ AtFork) (parts : o.fork l ≡ Parted p ks)
-    (its_own : slice_get records x ≡ Some is) (as_before : (j d : ℕ) (s : S) (k : Sort) → HasProcess before j d s k → j ≢ x → slice_get records j ≡ slice_get before.records j)
+    (kept : Keeps o rp before old) (has : HasProcessState before x f l lives) (sound : o.sound l) (stop : o.stop l ≡ AtFork) (parts : o.fork l ≡ Parted p ks)
+    (its_own : slice_get records x ≡ Some is) (as_before : (j d : ℕ) (s : S) (k : ProcessStatus) → HasProcessState before j d s k → j ≢ x → slice_get records j ≡ slice_get before.records j)
     (forked : HasForked before.states states (map stands_of before.records) (map stands_of records) x g p ks) (shown : Shows o rp states (map stands_of records) new)
     (rep : IsReplaced (place o rp l) (Live l) (Forked p (all_live ks)) old new) (path : o.path p ≡ o.path l) (given : o.given p ≡ o.given l) (pairs : FreshPairs o p ks is.pairs.items)
     (linked : AreLinked states (map stands_of records) (up_in records)) (few : AreAtMost 4294967295 states (map stands_of records)) (near : length (place o rp p) ≤ 4294967295) (c : Channel) where
@@ -97,19 +97,19 @@ module _ {S : Type 0} (o : Ops S) (law : LocalLaws o) (rp : Path) (old new : Nod
   abbrev said : ℕ → Option ℕ
   said = with_was x (leasts_in c before.records) say
 
-  was_is : (j d : ℕ) (s : S) (k : Sort) → HasProcess before j d s k → was j ≡ counts_in c before.records j
+  was_is : (j d : ℕ) (s : S) (k : ProcessStatus) → HasProcessState before j d s k → was j ≡ counts_in c before.records j
   was_is j d s k h = elim (same_or_not j x) [
     | inl w ↦ ap was w ∙ (was_there x (counts_in c before.records) now ∙ ap (counts_in c before.records) (sym w))
     | inr w ↦ sym (was_elsewhere x (counts_in c before.records) now j w) ∙ ap (counts_at c) (as_before j d s k h w)
   ]
 
-  said_is : (j d : ℕ) (s : S) (k : Sort) → HasProcess before j d s k → said j ≡ leasts_in c before.records j
+  said_is : (j d : ℕ) (s : S) (k : ProcessStatus) → HasProcessState before j d s k → said j ≡ leasts_in c before.records j
   said_is j d s k h = elim (same_or_not j x) [
     | inl w ↦ ap said w ∙ (was_there x (leasts_in c before.records) say ∙ ap (leasts_in c before.records) (sym w))
     | inr w ↦ sym (was_elsewhere x (leasts_in c before.records) say j w) ∙ ap (least_at c) (as_before j d s k h w)
   ]
 
-  begins : AreOf o c p (all_live ks) (find c is.pairs.items) × (label_of (pair_of c is.pairs.items) ≡ least_among o c (all_live ks))
+  begins : AreOf o c p (all_live ks) (tally_for c is.pairs.items) × (least_label_of (pair_of c is.pairs.items) ≡ least_among o c (all_live ks))
   begins = pairs_begin o p ks is.pairs.items pairs c
 
   mine : AreOf o c p (all_live ks) (now x)
@@ -198,7 +198,7 @@ module _ {S : Type 0} (o : Ops S) (law : LocalLaws o) (rp : Path) (old new : Nod
       let children = law.fork_children l p ks sound (stop, parts) in
       let any = some_live (λ s. o.shares s c) ks (is_zero (fresh_tally o c ks).not_ready && is_zero (fresh_tally o c ks).dead) e in
       let w = shared_given o l c (o.handlers l) children.0 0 ks children.1 (law.children_share l p ks c sound (stop, parts)) (law.children_given l p ks c sound (stop, parts)) (λ r z. out r (z ∙ ap (λ q. q ++ r) (sym path))) any in
-      let z = some_counts (find c is.pairs.items) ((pairs.there c).1 (shares_same ∙ w.0, w.1)) in
+      let z = some_counts (tally_for c is.pairs.items) ((pairs.there c).1 (shares_same ∙ w.0, w.1)) in
       is_ready c is.pairs.items z.0 z.1 (ap all_there (pairs.right c z.0 z.1) ∙ e)
 
   updated : (end : ℕ → Option Tally) → IsAmong c (ready_chans is.pairs.items) → UpdatedAbove (up_in records) 4294967295 4294967295 now x (joining false c) (joining true c) end → Both end

@@ -9,8 +9,8 @@ use Rattle.shim_local.specs.Process.{Ops, AtFork, Parted}
 use Rattle.shim_local.specs.Laws.{LocalLaws}
 use Rattle.shim_semantics.specs.Nodes.{Nodes, Live, Forked, all_live}
 use Rattle.shim_semantics.specs.Places.{at, branches}
-use Rattle.shim_semantics.specs.Trees.{Tree, Own, after, kind_of_stop}
-use Rattle.shim_laws_records.specs.Seen.{Sort, lives, forks, place}
+use Rattle.shim_semantics.specs.Trees.{Tree, Own, after, own_action_at}
+use Rattle.shim_laws_records.specs.Seen.{ProcessStatus, lives, forks, place}
 use Rattle.shim_laws_records.specs.Agrees.{Has, Shows}
 use Rattle.shim_laws_records.specs.Places.{IsReplaced}
 use Rattle.shim_laws_records.specs.Changes.{HasForked}
@@ -23,13 +23,13 @@ use Rattle.shim_laws_records.proofs.Forking.{there_is}
 use Rattle.shim_laws_records.proofs.Begun.{fork_parts, lives_no_fork, none_there}
 use Rattle.shim_laws_records.proofs.Linked.{links_follow}
 use Rattle.shim_laws_records.proofs.Tallies.{counts_tell}
-use Rattle.shim_records.specs.Pairs.{Rest, rest_of, stands_of, up_at, up_in, counts_in, leasts_in, AreOrdered}
+use Rattle.shim_records.specs.Pairs.{UncountedRecord, rest_of, stands_of, up_at, up_in, counts_in, leasts_in, AreOrdered}
 use Rattle.shim_records.specs.declared.record.Record.{Record}
 use Rattle.shim_records.proofs.ManyWays.{rest_same}
 use Rattle.shim_records.proofs.ReadOff.{same_stands}
 use Rattle.shim_records.proofs.Showing.{map_get}
 use Rattle.shim_records.proofs.WholeWay.{rest_ups, kept_order}
-use Rattle.shim_laws_keeping.specs.Flats.{FlatView, HasProcess, IsFit, Keeps}
+use Rattle.shim_laws_keeping.specs.Flats.{FlatView, HasProcessState, IsFit, Keeps}
 use Rattle.shim_laws_forks.specs.Forking.{ForksAt, ForksMove}
 use Rattle.shim_laws_forks.proofs.Above.{fork_was, same_aside, as_many_go}
 use Rattle.shim_laws_forks.proofs.Block as block
@@ -58,7 +58,7 @@ was_record : (before behind : List Record) (i : ℕ) (r : Record) → map rest_o
 was_record before behind i r h e = from_map rest_of (slice_get before i) (rest_of r) (sym (map_get rest_of before i) ∙ (ap (λ z. slice_get z i) (sym h) ∙ (map_get rest_of behind i ∙ ap (option_map rest_of) e)))
 
 module _ {S : Type 0} (o : Ops S) (law : LocalLaws o) (rp : Path) (t u : Tree S) (before behind : FlatView S) (x g f : ℕ) (l p : S) (ks : List S)
-    (kept : Keeps o rp before t.root) (has : HasProcess before x f l lives) (forked : ForksAt o x g p ks before behind) (stop : o.stop l ≡ AtFork) (parts : o.fork l ≡ Parted p ks)
+    (kept : Keeps o rp before t.root) (has : HasProcessState before x f l lives) (forked : ForksAt o x g p ks before behind) (stop : o.stop l ≡ AtFork) (parts : o.fork l ≡ Parted p ks)
     (happens : after o (Own (o.path l)) t ≡ Some u) where
   abbrev states : List S
   states = block.states o law rp t before behind x g f l p ks kept has forked
@@ -72,7 +72,7 @@ module _ {S : Type 0} (o : Ops S) (law : LocalLaws o) (rp : Path) (t u : Tree S)
   its_own : slice_get records x ≡ Some its
   its_own = block.its_own o law rp t before behind x g f l p ks kept has forked
 
-  as_before : (j d : ℕ) (s : S) (k : Sort) → HasProcess before j d s k → j ≢ x → slice_get records j ≡ slice_get before.records j
+  as_before : (j d : ℕ) (s : S) (k : ProcessStatus) → HasProcessState before j d s k → j ≢ x → slice_get records j ≡ slice_get before.records j
   as_before = block.as_before o law rp t before behind x g f l p ks kept has forked
 
   born_at : (b : ℕ) (k : S) → slice_get ks b ≡ Some k → block.Born o law rp t before behind x g f l p ks kept has forked b k
@@ -151,7 +151,7 @@ module _ {S : Type 0} (o : Ops S) (law : LocalLaws o) (rp : Path) (t u : Tree S)
 
   -- ---- how many go on
 
-  fork_before : (j d n : ℕ) (s m : S) (js : Nodes S) (r : Record) → HasProcess before j d s (forks n) → slice_get before.records j ≡ Some r → at (place o rp s) u.root ≡ Some (Forked m js) → r.going ≡ going_of js
+  fork_before : (j d n : ℕ) (s m : S) (js : Nodes S) (r : Record) → HasProcessState before j d s (forks n) → slice_get before.records j ≡ Some r → at (place o rp s) u.root ≡ Some (Forked m js) → r.going ≡ going_of js
   fork_before j d n s m js r h e there = elim (aside_or_further (place o rp l) (place o rp s)) [
     | inr w ↦ none_there o rp before.states (map stands_of before.records) t.root l n j d s w.0 kept.shows.agrees h (live_there o law rp before.states (map stands_of before.records) t x f l kept.shows has) w.1
     | inl far ↦ on far (is_above (place o rp s) (place o rp l)) refl
@@ -175,7 +175,7 @@ module _ {S : Type 0} (o : Ops S) (law : LocalLaws o) (rp : Path) (t u : Tree S)
 
   -- ---- paths
 
-  fit : (j d : ℕ) (s : S) (k : Sort) (r : Record) → Has states (map stands_of records) j d s k → slice_get records j ≡ Some r → IsFit o rp s r
+  fit : (j d : ℕ) (s : S) (k : ProcessStatus) (r : Record) → Has states (map stands_of records) j d s k → slice_get records j ≡ Some r → IsFit o rp s r
   fit j d s k r h e = elim (has_forked.only j d s k h) [
     | inl w ↦
         let is : its ≡ r = some_same its r (sym its_own ∙ (ap (slice_get records) (sym w.0) ∙ e)) in
@@ -196,16 +196,16 @@ module _ {S : Type 0} (o : Ops S) (law : LocalLaws o) (rp : Path) (t u : Tree S)
     | inr (inr w) ↦ kept.fit j d s k r w.1 (sym (as_before j d s k w.1 w.0) ∙ e)
   ]
 
-  fit_behind : (j d : ℕ) (s : S) (k : Sort) (r : Record) → Has states (map stands_of records) j d s k → slice_get behind.records j ≡ Some r → IsFit o rp s r
+  fit_behind : (j d : ℕ) (s : S) (k : ProcessStatus) (r : Record) → Has states (map stands_of records) j d s k → slice_get behind.records j ≡ Some r → IsFit o rp s r
   fit_behind j d s k r h e =
       let q = was_record records behind.records j r rest e in
       let fit_was = fit j d s k q.0 h q.1 in
-      record { path = sym (ap (λ (z : Rest). z.path) q.2) ∙ fit_was.path; near = fit_was.near; few = fit_was.few }
+      record { path = sym (ap (λ (z : UncountedRecord). z.path) q.2) ∙ fit_was.path; near = fit_was.near; few = fit_was.few }
 
   going_behind : (j d n : ℕ) (s m : S) (js : Nodes S) (r : Record) → Has states (map stands_of records) j d s (forks n) → slice_get behind.records j ≡ Some r → at (place o rp s) u.root ≡ Some (Forked m js) → r.going ≡ going_of js
   going_behind j d n s m js r h e there =
       let q = was_record records behind.records j r rest e in
-      ap (λ (z : Rest). z.going) (sym q.2) ∙ going j d n s m js q.0 h q.1 there
+      ap (λ (z : UncountedRecord). z.going) (sym q.2) ∙ going j d n s m js q.0 h q.1 there
 
   beside : length states ≡ length behind.records
   beside =
@@ -230,15 +230,15 @@ module _ {S : Type 0} (o : Ops S) (law : LocalLaws o) (rp : Path) (t u : Tree S)
 
 pub forks_move : {S : Type 0} (o : Ops S) → LocalLaws o → ForksMove o
 forks_move o law x g f l p ks before behind has stop parts forked rp t kept =
-    let next = can_step o law rp before.states (map stands_of before.records) t x f l kept.shows has (ap kind_of_stop stop) in (
+    let next = can_step o law rp before.states (map stands_of before.records) t x f l kept.shows has (ap own_action_at stop) in (
       next.0,
       next.1,
       subst (λ z. Keeps o rp (record { states = z; records = behind.records }) next.0.root) (sym forked.states) (keeps o law rp t next.0 before behind x g f l p ks kept has forked stop parts next.1),
     )
 
 -- what the states and records behind say
-pub forks_say : {S : Type 0} (o : Ops S) → LocalLaws o → (x g f : ℕ) (l p : S) (ks : List S) (before behind : FlatView S) → HasProcess before x f l lives → o.stop l ≡ AtFork → o.fork l ≡ Parted p ks → ForksAt o x g p ks before behind
+pub forks_say : {S : Type 0} (o : Ops S) → LocalLaws o → (x g f : ℕ) (l p : S) (ks : List S) (before behind : FlatView S) → HasProcessState before x f l lives → o.stop l ≡ AtFork → o.fork l ≡ Parted p ks → ForksAt o x g p ks before behind
     → (rp : Path) (t : Tree S) → Keeps o rp before t.root → HasForked before.states behind.states (map stands_of before.records) (map stands_of behind.records) x g p ks
 forks_say o law x g f l p ks before behind has stop parts forked rp t kept =
-    let next = can_step o law rp before.states (map stands_of before.records) t x f l kept.shows has (ap kind_of_stop stop) in
+    let next = can_step o law rp before.states (map stands_of before.records) t x f l kept.shows has (ap own_action_at stop) in
     says o law rp t next.0 before behind x g f l p ks kept has forked stop parts next.1

@@ -7,7 +7,7 @@ use Rattle.shim_local.specs.Laws.{LocalLaws}
 use Rattle.shim_semantics.specs.Nodes.{Live}
 use Rattle.shim_semantics.specs.Acts.{Acted, act_here, act_live}
 use Rattle.shim_semantics.specs.Places.{at, route}
-use Rattle.shim_semantics.specs.Trees.{Tree, Own, Steps, after, kind_of_stop}
+use Rattle.shim_semantics.specs.Trees.{Tree, Own, Steps, after, own_action_at}
 use Rattle.shim_semantics.proofs.Leading.{route_rest}
 use Rattle.shim_semantics.proofs.Replaced.{sound_at}
 use Rattle.shim_laws_records.specs.Seen.{lives, place}
@@ -28,7 +28,7 @@ module _ {S : Type 0} (o : Ops S) (law : LocalLaws o) (rp : Path) (states : List
   pub is_sound : o.sound l
   is_sound = sound_at o (place o rp l) t.root (Live l) shows.sound.below live_there
 
-  pub can_step : kind_of_stop (o.stop l) ≡ Steps → (u : Tree S) × (after o (Own (o.path l)) t ≡ Some u)
+  pub can_step : own_action_at (o.stop l) ≡ Steps → (u : Tree S) × (after o (Own (o.path l)) t ≡ Some u)
   can_step e = some_of (after o (Own (o.path l)) t) (((enabled_by_records o law).steps rp states stands t x f l shows has).1 e)
 
   pub own_replaced : (u : Tree S) (a : Acted S) → after o (Own (o.path l)) t ≡ Some u → act_live o l (o.stop l) ≡ Some a → IsReplaced (place o rp l) (Live l) a.node t.root u.root

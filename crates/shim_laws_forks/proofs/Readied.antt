@@ -10,7 +10,7 @@ use Rattle.shim_base.proofs.SamePaths.{same_channel_is, same_channel_refl}
 use Rattle.shim_semantics.proofs.HowMany.{clash}
 use Rattle.shim_laws_records.specs.Counts.{Tally, Reading as Read, all_there}
 use Rattle.shim_records.specs.Members.{IsAmong}
-use Rattle.shim_records.specs.Pairs.{tally, chans_of, pair_of, find, leasts_in, IsOrdered}
+use Rattle.shim_records.specs.Pairs.{tally, chans_of, pair_of, tally_for, leasts_in, IsOrdered}
 use Rattle.shim_records.specs.AllWays.{AllUpdatedAbove, none_left as no_way, one_more as one_way}
 use Rattle.shim_records.specs.declared.pair.Pair.{Pair}
 use Rattle.shim_records.specs.declared.record.Record.{Record}
@@ -69,7 +69,7 @@ first_apart : (c d : Channel) (cs : List Channel) → IsOrdered (c ∷ cs) → I
 first_apart c d cs h g = channel_ties c d ∙ ap is_eq (h.order 0 (suc g.0) c d (omega arith) refl g.1)
 
 -- it is that of the channel
-pub found_pair : (c : Channel) (ps : List Pair) (i : ℕ) (p : Pair) → IsOrdered (chans_of ps) → slice_get ps i ≡ Some p → p.chan.channel ≡ c → find c ps ≡ Some (tally p)
+pub found_pair : (c : Channel) (ps : List Pair) (i : ℕ) (p : Pair) → IsOrdered (chans_of ps) → slice_get ps i ≡ Some p → p.chan.channel ≡ c → tally_for c ps ≡ Some (tally p)
 found_pair c [] i p h e is = none_some p e
 found_pair c (q ∷ ps) zero p h e is =
     let same = some_same q p e in
@@ -92,7 +92,7 @@ ready_once (p ∷ ps) h = on (all_there (tally p)) (ready_once ps (tail_order p.
     on false once = once
 
 -- a channel is one of them where its pair says so
-pub is_ready : (c : Channel) (ps : List Pair) (y : Tally) → find c ps ≡ Some y → all_there y ≡ true → IsAmong c (ready_chans ps)
+pub is_ready : (c : Channel) (ps : List Pair) (y : Tally) → tally_for c ps ≡ Some y → all_there y ≡ true → IsAmong c (ready_chans ps)
 is_ready c [] y e w = none_some y e
 is_ready c (p ∷ ps) y e w = on (same_channel p.chan.channel c) refl e (λ h. behind (all_there (tally p)) (is_ready c ps y h w))
   where
@@ -100,7 +100,7 @@ is_ready c (p ∷ ps) y e w = on (same_channel p.chan.channel c) refl e (λ h. b
     behind true g = (suc g.0, g.1)
     behind false g = g
 
-    on : (b : Bool) → same_channel p.chan.channel c ≡ b → option_map tally (cond b (Some p) (pair_of c ps)) ≡ Some y → (find c ps ≡ Some y → IsAmong c (at_tail c p ps (all_there (tally p)))) → IsAmong c (at_tail c p ps (all_there (tally p)))
+    on : (b : Bool) → same_channel p.chan.channel c ≡ b → option_map tally (cond b (Some p) (pair_of c ps)) ≡ Some y → (tally_for c ps ≡ Some y → IsAmong c (at_tail c p ps (all_there (tally p)))) → IsAmong c (at_tail c p ps (all_there (tally p)))
     on true s f h =
         let its : all_there (tally p) ≡ true = ap all_there (some_same (tally p) y f) ∙ w in
         subst (λ b. IsAmong c (at_tail c p ps b)) (sym its) (0, ap Some (same_channel_is p.chan.channel c s))

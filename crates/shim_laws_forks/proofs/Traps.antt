@@ -5,7 +5,7 @@ use Rattle.shim_local.specs.Process.{Ops, AtFork, Trapped}
 use Rattle.shim_local.specs.Laws.{LocalLaws, by_trap}
 use Rattle.shim_semantics.specs.Nodes.{Live, is_next}
 use Rattle.shim_semantics.specs.Acts.{nothing, act_live, parted}
-use Rattle.shim_semantics.specs.Trees.{Own, kind_of_stop}
+use Rattle.shim_semantics.specs.Trees.{Own, own_action_at}
 use Rattle.shim_laws_records.specs.Seen.{lives}
 use Rattle.shim_laws_records.specs.Changes.{HasChanged}
 use Rattle.shim_laws_records.proofs.Shown.{events_are_shown}
@@ -24,7 +24,7 @@ module _ {S : Type 0} (o : Ops S) (law : LocalLaws o) where
   traps_move x f l m before has stop traps rp t kept =
       let st = map stands_of before.records in
       let sound = is_sound o law rp before.states st t x f l kept.shows has in
-      let next = can_step o law rp before.states st t x f l kept.shows has (ap kind_of_stop stop) in
+      let next = can_step o law rp before.states st t x f l kept.shows has (ap own_action_at stop) in
       let does : act_live o l (o.stop l) ≡ Some (record { node = Live m; effects = nothing }) = ap (act_live o l) stop ∙ ap (λ z. Some (record { node = parted z; effects = nothing })) traps in
       let change : HasChanged before.states (slice_set before.states x m) st st x m lives = record {
         first = f;

@@ -3,7 +3,7 @@ use Rattle.std.specs.Prelude.{◌≡◌, ◌<◌, ◌≤◌, ℕ, ◌+◌, true,
 use Rattle.shim_base.specs.Paths.{Channel}
 use Rattle.shim_local.specs.Process.{Ops, AtFork, Parted, Trapped}
 use Rattle.shim_semantics.specs.Trees.{Own}
-use Rattle.shim_laws_records.specs.Seen.{Sort, lives, forks}
+use Rattle.shim_laws_records.specs.Seen.{ProcessStatus, lives, forks}
 use Rattle.shim_laws_records.specs.Agrees.{used}
 use Rattle.shim_laws_records.specs.Counts.{live_reading, all_there}
 use Rattle.shim_records.specs.Pairs.{tally, reading_of, stands_of}
@@ -13,7 +13,7 @@ use Rattle.shim_records.specs.Blocks.{with_block}
 use Rattle.shim_records.specs.declared.pair.Pair.{Pair}
 use Rattle.shim_records.specs.declared.pair.Reading.{Reading}
 use Rattle.shim_records.specs.declared.record.Record.{Record}
-use Rattle.shim_laws_keeping.specs.Flats.{FlatView, HasProcess}
+use Rattle.shim_laws_keeping.specs.Flats.{FlatView, HasProcessState}
 use Rattle.shim_laws_keeping.specs.Moves.{MovesBy}
 
 -- the record of a child that has done nothing yet, made by the process with the number x
@@ -24,7 +24,7 @@ pub record IsOfChild {S : Type 0} (o : Ops S) (x : ℕ) (k : S) (r : Record) : T
   pub no_pairs : r.pairs.items ≡ []
 
 -- a child is not too far from the root, and wasn't given too many channels
-pub record IsWithin {S : Type 0} (o : Ops S) (k : S) : Type 0 where
+pub record FitsRecords {S : Type 0} (o : Ops S) (k : S) : Type 0 where
   pub near : length (o.path k) ≤ 4294967295
   pub few : length (o.given k) ≤ 18446744073709551615
 
@@ -32,7 +32,7 @@ pub record IsWithin {S : Type 0} (o : Ops S) (k : S) : Type 0 where
 pub record AreOfChildren {S : Type 0} (o : Ops S) (x : ℕ) (ks : List S) (born : List Record) : Type 0 where
   pub as_many : length born ≡ length ks
   pub each : (b : ℕ) (k : S) (r : Record) → slice_get ks b ≡ Some k → slice_get born b ≡ Some r → IsOfChild o x k r
-  pub within : (b : ℕ) (k : S) → slice_get ks b ≡ Some k → IsWithin o k
+  pub within : (b : ℕ) (k : S) → slice_get ks b ≡ Some k → FitsRecords o k
 
 -- the record of a process that has forked, whose first child has the number g
 pub record IsOfFork {S : Type 0} (o : Ops S) (g : ℕ) (p : S) (ks : List S) (before r : Record) : Type 0 where
@@ -61,7 +61,7 @@ pub record ForksAt {S : Type 0} (o : Ops S) (x g : ℕ) (p : S) (ks : List S) (b
   pub born : List Record
   pub had : slice_get before.records x ≡ Some was
   pub inside : g ≤ length before.records
-  pub unused : (b d : ℕ) (t : S) (k : Sort) → b < length ks → HasProcess before (g + b) d t k → ⊥
+  pub unused : (b d : ℕ) (t : S) (k : ProcessStatus) → b < length ks → HasProcessState before (g + b) d t k → ⊥
   pub few : length ks ≤ 4294967295
   pub children : AreOfChildren o x ks born
   pub parent : IsOfFork o g p ks was is
@@ -70,10 +70,10 @@ pub record ForksAt {S : Type 0} (o : Ops S) (x g : ℕ) (p : S) (ks : List S) (b
 
 -- so the tree moves by the process's own step
 abbrev pub ForksMove : {S : Type 0} → Ops S → Type 0
-ForksMove {S} o = (x g f : ℕ) (l p : S) (ks : List S) (before behind : FlatView S) → HasProcess before x f l lives → o.stop l ≡ AtFork → o.fork l ≡ Parted p ks → ForksAt o x g p ks before behind
+ForksMove {S} o = (x g f : ℕ) (l p : S) (ks : List S) (before behind : FlatView S) → HasProcessState before x f l lives → o.stop l ≡ AtFork → o.fork l ≡ Parted p ks → ForksAt o x g p ks before behind
     → MovesBy o (Own (o.path l)) before behind
 
 -- So it does where the fork trapped: the process lives on, and no record changes.
 abbrev pub TrapsMove : {S : Type 0} → Ops S → Type 0
-TrapsMove {S} o = (x f : ℕ) (l m : S) (before : FlatView S) → HasProcess before x f l lives → o.stop l ≡ AtFork → o.fork l ≡ Trapped m
+TrapsMove {S} o = (x f : ℕ) (l m : S) (before : FlatView S) → HasProcessState before x f l lives → o.stop l ≡ AtFork → o.fork l ≡ Trapped m
     → MovesBy o (Own (o.path l)) before (record { states = slice_set before.states x m; records = before.records })

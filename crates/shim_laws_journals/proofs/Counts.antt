@@ -4,7 +4,7 @@ use Rattle.std.proofs.lemmas.List.{length-append, length-replicate}
 use Rattle.shim_base.proofs.Facts.{some_same}
 use Rattle.shim_local.specs.Process.{Ops}
 use Rattle.shim_semantics.specs.Trees.{Tree, Own, start, steps}
-use Rattle.shim_semantics.specs.Systems.{run, go_on}
+use Rattle.shim_semantics.specs.Systems.{run, on_some}
 use Rattle.shim_laws_schedules.proofs.Lengths.{went_on}
 use Rattle.shim_laws_replay.specs.Journals.{Entry, Quiet, Did, replay, entry_after, events_of, all_events}
 use Rattle.shim_laws_replay.proofs.Runs.{run_counts, entry_run}
@@ -27,7 +27,7 @@ run_apart step [] gs t v r = (t, refl, r)
 run_apart step (e ∷ es) gs t v r =
     let x = went_on (run step (es ++ gs)) (step e t) v r in
     let w = run_apart step es gs x.0 v x.2 in
-    (w.0, ap (go_on (run step es)) x.1 ∙ w.1, w.2)
+    (w.0, ap (on_some (run step es)) x.1 ∙ w.1, w.2)
 
 module _ {S : Type 0} (o : Ops S) where
   pub replay_earlier : (root : S) (js ks : List Entry) (u : Tree S) → replay o root (js ++ ks) ≡ Some u → (t : Tree S) × (replay o root js ≡ Some t) × (run (entry_after o) ks t ≡ Some u)

@@ -7,12 +7,12 @@ use Rattle.shim_local.specs.Laws.{LocalLaws}
 use Rattle.shim_semantics.specs.Nodes.{Live, state, is_next}
 use Rattle.shim_semantics.specs.Acts.{Acted, act_live}
 use Rattle.shim_semantics.specs.Places.{at}
-use Rattle.shim_semantics.specs.Trees.{Tree, Own, End, after, kind_of_stop}
+use Rattle.shim_semantics.specs.Trees.{Tree, Own, End, after, own_action_at}
 use Rattle.shim_semantics.proofs.Follows as follows
 use Rattle.shim_semantics.proofs.Replaced.{sound_at}
 use Rattle.shim_semantics.proofs.ReplacedNodes.{put}
 use Rattle.shim_semantics.proofs.SoundEvents.{here_keeps}
-use Rattle.shim_laws_records.specs.Seen.{lives, sort, is_leaf, place}
+use Rattle.shim_laws_records.specs.Seen.{lives, process_status, is_leaf, place}
 use Rattle.shim_laws_records.specs.Agrees.{RecordView, Has, Shows}
 use Rattle.shim_laws_records.specs.Places.{IsReplaced, IsBy}
 use Rattle.shim_laws_records.specs.Changes.{HasChanged}
@@ -50,7 +50,7 @@ module _ {S : Type 0} (o : Ops S) (law : LocalLaws o) where
       on (AtTrap kind line) e = refl
 
   module _ (rp : Path) (states states' : List S) (stood stands : List RecordView) (t : Tree S) (x f : ℕ) (l : S) (a : Acted S) (shows : Shows o rp states stood t.root) (has : Has states stood x f l lives) (does : act_live o l (o.stop l) ≡ Some a) (leaf : is_leaf a.node ≡ true)
-      (change : HasChanged states states' stood stands x (state a.node) (sort a.node)) where
+      (change : HasChanged states states' stood stands x (state a.node) (process_status a.node)) where
     there : at (place o rp l) t.root ≡ Some (Live l)
     there = seen_live (at (place o rp l) t.root) l (shows.agrees.shown x f l lives has)
 
@@ -62,12 +62,12 @@ module _ {S : Type 0} (o : Ops S) (law : LocalLaws o) where
       where
         on : (s : StopView) → o.stop l ≡ s → act_live o l s ≡ Some a → (u : Tree S) × (after o (event_at_stop s (o.path l)) t ≡ Some u)
         on (AtNext c) e d = none_some a d
-        on AtFinish e d = some_of (after o (End (o.path l)) t) (((enabled_by_records o law).ends rp states stood t x f l shows has).1 (ap kind_of_stop e))
-        on AtQuiet e d = some_of (after o (Own (o.path l)) t) (((enabled_by_records o law).steps rp states stood t x f l shows has).1 (ap kind_of_stop e))
-        on AtPut e d = some_of (after o (Own (o.path l)) t) (((enabled_by_records o law).steps rp states stood t x f l shows has).1 (ap kind_of_stop e))
-        on AtFork e d = some_of (after o (Own (o.path l)) t) (((enabled_by_records o law).steps rp states stood t x f l shows has).1 (ap kind_of_stop e))
-        on (AtThrow label) e d = some_of (after o (Own (o.path l)) t) (((enabled_by_records o law).steps rp states stood t x f l shows has).1 (ap kind_of_stop e))
-        on (AtTrap kind line) e d = some_of (after o (Own (o.path l)) t) (((enabled_by_records o law).steps rp states stood t x f l shows has).1 (ap kind_of_stop e))
+        on AtFinish e d = some_of (after o (End (o.path l)) t) (((enabled_by_records o law).ends rp states stood t x f l shows has).1 (ap own_action_at e))
+        on AtQuiet e d = some_of (after o (Own (o.path l)) t) (((enabled_by_records o law).steps rp states stood t x f l shows has).1 (ap own_action_at e))
+        on AtPut e d = some_of (after o (Own (o.path l)) t) (((enabled_by_records o law).steps rp states stood t x f l shows has).1 (ap own_action_at e))
+        on AtFork e d = some_of (after o (Own (o.path l)) t) (((enabled_by_records o law).steps rp states stood t x f l shows has).1 (ap own_action_at e))
+        on (AtThrow label) e d = some_of (after o (Own (o.path l)) t) (((enabled_by_records o law).steps rp states stood t x f l shows has).1 (ap own_action_at e))
+        on (AtTrap kind line) e d = some_of (after o (Own (o.path l)) t) (((enabled_by_records o law).steps rp states stood t x f l shows has).1 (ap own_action_at e))
 
     pub shown : Shows o rp states' stands next.0.root
     shown = (events_are_shown o law).stepped rp states states' stood stands t next.0 (event_at_stop (o.stop l) (o.path l)) x f l a shows has (by_event (o.stop l) (o.path l)) next.1 does leaf change

@@ -11,7 +11,7 @@ use Rattle.shim_semantics.specs.Acts.{Acted, Effects, act_live}
 use Rattle.shim_semantics.specs.Places.{at}
 use Rattle.shim_semantics.proofs.HowMany.{clash}
 use Rattle.shim_semantics.proofs.ReplacedNodes.{put, put_child}
-use Rattle.shim_laws_records.specs.Seen.{Sort, lives, forks, sort, is_leaf, place, IsAside}
+use Rattle.shim_laws_records.specs.Seen.{ProcessStatus, lives, forks, process_status, is_leaf, place, IsAside}
 use Rattle.shim_laws_records.specs.Agrees.{RecordView, used, Has, Shows}
 use Rattle.shim_laws_records.specs.Places.{IsReplaced}
 use Rattle.shim_laws_records.specs.Changes.{HasChanged}
@@ -32,7 +32,7 @@ use Rattle.shim_laws_records.proofs.Leasts.{leasts_follow}
 use Rattle.shim_laws_records.proofs.LabelsLowering.{labels_lowered, not_above_root}
 use Rattle.shim_laws_records.proofs.Suffices.{given_suffice}
 use Rattle.shim_records.specs.Pairs.{stands_of, up_in, up_at, counts_in, counts_at, leasts_in, least_at, rest_of, chans_of, IsOrdered, AreOrdered}
-use Rattle.shim_records.specs.Acted.{sort_of}
+use Rattle.shim_records.specs.Acted.{process_status_of}
 use Rattle.shim_records.specs.AllWays.{AllUpdatedAbove, none_left, one_more}
 use Rattle.shim_records.specs.Died.{IsTaken}
 use Rattle.shim_records.specs.Leaving.{HasLeft, alone, lost, below}
@@ -122,20 +122,20 @@ module _ {S : Type 0} (o : Ops S) (law : LocalLaws o) (rp : Path) (states : List
   st' = map stands_of ms
 
   -- its record says what came of it
-  mine : Has states st' x was.first l (sort_of k)
+  mine : Has states st' x was.first l (process_status_of k)
   mine = marks.mine o states rs behind l k x f has leaves gone
 
-  changed : HasChanged states states st st' x l (sort_of k)
+  changed : HasChanged states states st st' x l (process_status_of k)
   changed = marks.changed o states rs behind l k x f has leaves gone
 
-  change : HasChanged states states st st' x (state (left_by l k)) (sort (left_by l k))
+  change : HasChanged states states st st' x (state (left_by l k)) (process_status (left_by l k))
   change = marks.change o states rs behind l k x f has leaves gone
 
   module _ (shown : Shows o rp states st' new) (rep : IsReplaced (place o rp l) (Live l) (left_by l k) old new) where
     -- a fork was one before
     was_fork : (j d n : ℕ) (t : S) → Has states st' j d t (forks n) → (j ≢ x) × Has states st j d t (forks n)
     was_fork j d n t h = elim (same_or_not j x) [
-      | inl w ↦ no_fork (left_by l k) n (left_leaf l k) (left_sort l k gone ∙ sym (one_sort states st' j d was.first t l (forks n) (sort_of k) h (subst (λ z. Has states st' z was.first l (sort_of k)) (sym w) mine)))
+      | inl w ↦ no_fork (left_by l k) n (left_leaf l k) (left_sort l k gone ∙ sym (one_sort states st' j d was.first t l (forks n) (process_status_of k) h (subst (λ z. Has states st' z was.first l (process_status_of k)) (sym w) mine)))
       | inr w ↦ (w, changed.only j d t (forks n) w h)
     ]
 
@@ -185,10 +185,10 @@ module _ {S : Type 0} (o : Ops S) (law : LocalLaws o) (rp : Path) (states : List
     with_death c y is taken = elim (among_or_not c taken.chans) [
       | inl g ↦
           let label : Some y ≡ least o c (left_by l k) = sym (is ∙ ap (λ z. cond z (Some y) None) (taken.shared c g)) in
-          labels_lowered o law rp states st' (up_in ms) c old new (Live l) (left_by l k) 4294967295 x was.first l (sort_of k) (counts_in c ms) (leasts_in c ms) (leasts_in c leaves.labelled) shown linked mine rep refl (taken.shared c g) (have c) near (labels_way c)
+          labels_lowered o law rp states st' (up_in ms) c old new (Live l) (left_by l k) 4294967295 x was.first l (process_status_of k) (counts_in c ms) (leasts_in c ms) (leasts_in c leaves.labelled) shown linked mine rep refl (taken.shared c g) (have c) near (labels_way c)
           (subst (λ z. LoweredAbove (up_in ms) (counts_in c ms) z 4294967295 (leasts_in c ms) x (leasts_in c leaves.labelled)) label (labels_above.its_way y 4294967295 x c taken.is_lowered g).way)
       | inr out ↦ subst (λ z. Labelled o rp states st' c (counts_in c ms) z new) (sym (labels_above.others y 4294967295 x c taken.is_lowered out))
-          ((given_suffice o law).labels rp states st' c old new (Live l) a x was.first l (sort_of k) (counts_in c ms) (leasts_in c ms) kept.shows.sound shown mine rep acts (λ given shares. out (taken.all c given shares)) (have c) (labels_way c))
+          ((given_suffice o law).labels rp states st' c old new (Live l) a x was.first l (process_status_of k) (counts_in c ms) (leasts_in c ms) kept.shows.sound shown mine rep acts (λ given shares. out (taken.all c given shares)) (have c) (labels_way c))
     ]
 
     -- what was done to the labels, by what came of the process
@@ -229,9 +229,9 @@ module _ {S : Type 0} (o : Ops S) (law : LocalLaws o) (rp : Path) (states : List
     brought : (map rest_of leaves.counted ≡ map rest_of leaves.labelled)
         × ((c : Channel) → Tallied o rp states (map stands_of leaves.counted) c (counts_in c leaves.counted) new × HaveCounts o rp states (map stands_of leaves.counted) c (counts_in c leaves.counted) new)
     brought =
-        acted_brings o law rp states leaves.labelled leaves.counted old new (Live l) a 4294967295 x was.first l (sort_of k) kept.shows.sound (subst (λ z. Shows o rp states z new) (sym stands_labelled) shown)
+        acted_brings o law rp states leaves.labelled leaves.counted old new (Live l) a 4294967295 x was.first l (process_status_of k) kept.shows.sound (subst (λ z. Shows o rp states z new) (sym stands_labelled) shown)
         (subst (λ z. AreLinked states z (up_in leaves.labelled)) (sym stands_labelled) (subst (AreLinked states st') (sym ups_labelled) linked)) (subst (AreAtMost 4294967295 states) (sym stands_labelled) few)
-        (subst (λ z. Has states z x was.first l (sort_of k)) (sym stands_labelled) mine) rep acts (left_leaf l k) near
+        (subst (λ z. Has states z x was.first l (process_status_of k)) (sym stands_labelled) mine) rep acts (left_leaf l k) near
         (λ c. subst (λ z. HaveCounts o rp states z c (counts_in c leaves.labelled) new) (sym stands_labelled) (subst (λ z. HaveCounts o rp states st' c z new) (sym (taken.counts c)) (have c)))
         (λ c. subst (λ z. OnTheWay o rp states z c (counts_in c leaves.labelled) old new (place o rp l)) (sym stands_labelled) (subst (λ z. OnTheWay o rp states st' c z old new (place o rp l)) (sym (taken.counts c)) (way c))) leaves.updated
 
@@ -283,12 +283,12 @@ module _ {S : Type 0} (o : Ops S) (law : LocalLaws o) (rp : Path) (states : List
     ordered : AreOrdered behind
     ordered i r e = let w = found (λ (r : Record). chans_of r.pairs.items) rs behind i r chans e in subst IsOrdered w.2 (kept.ordered i w.0 w.1)
 
-    fit : (j d : ℕ) (t : S) (h : Sort) (r : Record) → Has states st' j d t h → slice_get behind j ≡ Some r → IsFit o rp t r
+    fit : (j d : ℕ) (t : S) (h : ProcessStatus) (r : Record) → Has states st' j d t h → slice_get behind j ≡ Some r → IsFit o rp t r
     fit j d t h r p e =
         let w = found (λ (r : Record). r.path) rs behind j r paths e in
         elim (same_or_not j x) [
           | inl v ↦
-              let is : t ≡ l = one_state states st' j d was.first t l h (sort_of k) p (subst (λ z. Has states st' z was.first l (sort_of k)) (sym v) mine) in
+              let is : t ≡ l = one_state states st' j d was.first t l h (process_status_of k) p (subst (λ z. Has states st' z was.first l (process_status_of k)) (sym v) mine) in
               let before = kept.fit x f l lives w.0 has (ap (slice_get rs) (sym v) ∙ w.1) in
               subst (λ z. IsFit o rp z r) (sym is) (record { path = sym w.2 ∙ before.path; near = before.near; few = before.few })
           | inr v ↦ let before = kept.fit j d t h w.0 (changed.only j d t h v p) w.1 in record { path = sym w.2 ∙ before.path; near = before.near; few = before.few }
@@ -311,21 +311,21 @@ module _ {S : Type 0} (o : Ops S) (law : LocalLaws o) (rp : Path) (states : List
         where
           on : HasLeft x leaves.counted behind → r.going ≡ going_of ks
           on (alone none same) =
-              let top = topmost o rp states st' new shown (up_in ms) linked x was.first l (sort_of k) mine (ap (λ z. z x) (sym ups_counted) ∙ none) in
+              let top = topmost o rp states st' new shown (up_in ms) linked x was.first l (process_status_of k) mine (ap (λ z. z x) (sym ups_counted) ∙ none) in
               stays_going (ap (λ z. slice_get z j) (sym same) ∙ e)
               (λ is js above was' is'. absurd (clash (is_above (place o rp t) []) (ap (is_above (place o rp t)) (sym top) ∙ above) (not_above_root (place o rp t))))
           on (lost i up none same) =
-              let b = tied o rp states st' new shown (up_in ms) linked x was.first i l (sort_of k) mine (ap (λ z. z x) (sym ups_counted) ∙ up) in
+              let b = tied o rp states st' new shown (up_in ms) linked x was.first i l (process_status_of k) mine (ap (λ z. z x) (sym ups_counted) ∙ up) in
               none_some (used b.0.first (forks b.0.many))
               (ap (option_map stands_of) (sym none) ∙ (sym (map_get stands_of leaves.counted i) ∙ (ap (λ z. slice_get z i) stands_counted ∙ (ap (slice_get st') (sym b.1) ∙ b.0.has.stands_so))))
           on (below i above_it up there same) =
-              let b = tied o rp states st' new shown (up_in ms) linked x was.first i l (sort_of k) mine (ap (λ z. z x) (sym ups_counted) ∙ up) in
+              let b = tied o rp states st' new shown (up_in ms) linked x was.first i l (process_status_of k) mine (ap (λ z. z x) (sym ups_counted) ∙ up) in
               elim (same_or_not j i) [
                 | inl v ↦ right_above b.0 (b.1 ∙ sym v) i above_it v there same
                 | inr v ↦ stays_going (sym (set_elsewhere leaves.counted i j (less_going above_it) v) ∙ (ap (λ z. slice_get z j) (sym same) ∙ e)) (λ is js above was' is'. further b.0 (λ w. v (w ∙ b.1)) is js (way_from (place o rp t) (place o rp l) above) was' is')
               ]
             where
-              right_above : (b : Below o rp states st' new shown x was.first l (sort_of k)) → b.number ≡ j → (i : ℕ) (above_it : Record) → j ≡ i → slice_get leaves.counted i ≡ Some above_it → behind ≡ slice_set leaves.counted i (less_going above_it) → r.going ≡ going_of ks
+              right_above : (b : Below o rp states st' new shown x was.first l (process_status_of k)) → b.number ≡ j → (i : ℕ) (above_it : Record) → j ≡ i → slice_get leaves.counted i ≡ Some above_it → behind ≡ slice_set leaves.counted i (less_going above_it) → r.going ≡ going_of ks
               right_above b at_j i above_it v there same =
                   let w = found (λ (r : Record). r.going) rs leaves.counted i above_it goings there in
                   let lessened : r ≡ less_going above_it = some_same r (less_going above_it) (sym e ∙ (ap (λ z. slice_get z j) same ∙ (ap (slice_get (slice_set leaves.counted i (less_going above_it))) v ∙ set_there leaves.counted i above_it (less_going above_it) there))) in
@@ -337,7 +337,7 @@ module _ {S : Type 0} (o : Ops S) (law : LocalLaws o) (rp : Path) (states : List
                   ((going_follow o).right_above old new (Live l) (left_by l k) (place o rp t) b.branch u before.children ks (subst (λ z. IsReplaced z (Live l) (left_by l k) old new) its_place rep) before.there now)
                   (ap bit gone)
 
-              further : (b : Below o rp states st' new shown x was.first l (sort_of k)) → j ≢ b.number → (is js : Nodes S) → Above (place o rp t) (place o rp l) → at (place o rp t) old ≡ Some (Forked u is) → at (place o rp t) new ≡ Some (Forked u js) → going_of js ≡ going_of is
+              further : (b : Below o rp states st' new shown x was.first l (process_status_of k)) → j ≢ b.number → (is js : Nodes S) → Above (place o rp t) (place o rp l) → at (place o rp t) old ≡ Some (Forked u is) → at (place o rp t) new ≡ Some (Forked u js) → going_of js ≡ going_of is
               further b other is js y was' is' = by_rest y.rest y.is
                 where
                   by_rest : (rest : List ℕ) → place o rp l ≡ place o rp t ++ y.branch ∷ rest → going_of js ≡ going_of is

@@ -12,7 +12,7 @@ use Rattle.shim_semantics.specs.Nodes.{Node, Nodes, Live, Forked, is_next}
 use Rattle.shim_semantics.specs.Places.{at, branches}
 use Rattle.shim_semantics.proofs.HowMany.{clash}
 use Rattle.shim_semantics.proofs.Replaced.{sound_at}
-use Rattle.shim_laws_records.specs.Seen.{Sort, lives, forks, place}
+use Rattle.shim_laws_records.specs.Seen.{ProcessStatus, lives, forks, place}
 use Rattle.shim_laws_records.specs.Agrees.{RecordView, used, Has, Shows}
 use Rattle.shim_laws_records.specs.Places.{IsReplaced}
 use Rattle.shim_laws_records.specs.Changes.{HasChanged}
@@ -29,7 +29,7 @@ use Rattle.shim_laws_records.proofs.Brought.{counts_follow}
 use Rattle.shim_laws_records.proofs.Linked.{links_follow}
 use Rattle.shim_laws_records.proofs.Hanging.{tied, counts_share, none_above}
 use Rattle.shim_laws_records.proofs.Leasts.{leasts_follow}
-use Rattle.shim_records.specs.Pairs.{stands_of, up_in, counts_in, leasts_in, rest_of, reading_of, Rest}
+use Rattle.shim_records.specs.Pairs.{stands_of, up_in, counts_in, leasts_in, rest_of, reading_of, UncountedRecord}
 use Rattle.shim_records.specs.declared.record.Record.{Record}
 use Rattle.shim_records.proofs.Stepping.{set_there, set_elsewhere}
 use Rattle.shim_records.proofs.Showing.{map_get}
@@ -201,12 +201,12 @@ module _ {S : Type 0} (o : Ops S) (law : LocalLaws o) (rp : Path) (states : List
   going j d n t u ks r fork e now =
       let w = as_many o (place o rp l) (Live l) (Live s) old new rep refl refl (place o rp t) u ks now in
       let q = was_record rs behind j r rest e in
-      ap (λ (z : Rest). z.going) (sym q.2) ∙ (kept.going j d n t u w.children q.0 (was_fork j d n t fork).1 q.1 w.there ∙ sym w.same)
+      ap (λ (z : UncountedRecord). z.going) (sym q.2) ∙ (kept.going j d n t u w.children q.0 (was_fork j d n t fork).1 q.1 w.there ∙ sym w.same)
 
-  fit : (j d : ℕ) (t : S) (k : Sort) (r : Record) → Has states' st j d t k → slice_get behind j ≡ Some r → IsFit o rp t r
+  fit : (j d : ℕ) (t : S) (k : ProcessStatus) (r : Record) → Has states' st j d t k → slice_get behind j ≡ Some r → IsFit o rp t r
   fit j d t k r h e =
       let q = was_record rs behind j r rest e in
-      let path = ap (λ (z : Rest). z.path) q.2 in
+      let path = ap (λ (z : UncountedRecord). z.path) q.2 in
       elim (same_or_not j x) [
         | inl w ↦
             let is : t ≡ s = one_state states' st j d f t s k lives h (subst (λ z. Has states' st z f s lives) (sym w) mine) in

@@ -4,7 +4,7 @@ use Rattle.std.specs.Prelude.{slice_get}
 use Rattle.std.specs.Option.{option_map}
 use Rattle.shim_base.specs.Paths.{Channel}
 use Rattle.shim_laws_records.proofs.SameTrees.{same_or_not}
-use Rattle.shim_records.specs.Pairs.{up_in, counts_at, counts_in, least_at, leasts_in, up_at, stands_of, rest_of, Rest}
+use Rattle.shim_records.specs.Pairs.{up_in, counts_at, counts_in, least_at, leasts_in, up_at, stands_of, rest_of, UncountedRecord}
 use Rattle.shim_records.specs.Leaving.{HasLeft, alone, lost, below}
 use Rattle.shim_records.specs.declared.record.Record.{Record}
 use Rattle.shim_records.proofs.Stepping.{set_there, set_elsewhere, map_set}
@@ -26,11 +26,11 @@ pub found : {X : Type 0} (F : Record → X) (before behind : List Record) (i : �
 found F before behind i r h e = from_map F (slice_get before i) (F r) (sym (map_get F before i) ∙ (ap (λ z. slice_get z i) (sym h) ∙ (map_get F behind i ∙ ap (option_map F) e)))
 
 -- what records say beside their counts, by parts
-pub by_rest : {X : Type 0} (G : Rest → X) (rs : List Record) → map G (map rest_of rs) ≡ map (λ r. G (rest_of r)) rs
+pub by_rest : {X : Type 0} (G : UncountedRecord → X) (rs : List Record) → map G (map rest_of rs) ≡ map (λ r. G (rest_of r)) rs
 by_rest G [] = refl
 by_rest G (r ∷ rs) = ap (λ z. G (rest_of r) ∷ z) (by_rest G rs)
 
-pub same_rest : {X : Type 0} (G : Rest → X) (before behind : List Record) → map rest_of behind ≡ map rest_of before → map (λ r. G (rest_of r)) behind ≡ map (λ r. G (rest_of r)) before
+pub same_rest : {X : Type 0} (G : UncountedRecord → X) (before behind : List Record) → map rest_of behind ≡ map rest_of before → map (λ r. G (rest_of r)) behind ≡ map (λ r. G (rest_of r)) before
 same_rest G before behind h = sym (by_rest G behind) ∙ (ap (map G) h ∙ by_rest G before)
 
 module _ (x : ℕ) (before behind : List Record) where

@@ -9,7 +9,7 @@ use Rattle.shim_semantics.specs.Nodes.{Node, Live}
 use Rattle.shim_semantics.specs.Places.{branches}
 use Rattle.shim_semantics.specs.Sound.{SharesItsOwn}
 use Rattle.shim_semantics.proofs.SoundEvents.{events_keep_sound}
-use Rattle.shim_laws_records.specs.Seen.{Sort, lives, forks, place}
+use Rattle.shim_laws_records.specs.Seen.{ProcessStatus, lives, forks, place}
 use Rattle.shim_laws_records.specs.Agrees.{used, Has, Shows}
 use Rattle.shim_laws_records.proofs.Shown.{start_shows}
 use Rattle.shim_records.specs.Pairs.{stands_of, chans_of, IsOrdered}
@@ -27,7 +27,7 @@ module _ {S : Type 0} (o : Ops S) (law : LocalLaws o) (root : S) (r : Record) (o
   no_forks zero f n s h = absurd (no_fork_lives n (sort_same f n (sym (some_same (stands_of r) (used f (forks n)) h.stands_so) ∙ of_root.lives_on)))
   no_forks (suc i) f n s h = none_some s h.state_is
 
-  fit : (i f : ℕ) (s : S) (k : Sort) (q : Record) → Has (root ∷ []) (stands_of r ∷ []) i f s k → slice_get (r ∷ []) i ≡ Some q → IsFit o [] s q
+  fit : (i f : ℕ) (s : S) (k : ProcessStatus) (q : Record) → Has (root ∷ []) (stands_of r ∷ []) i f s k → slice_get (r ∷ []) i ≡ Some q → IsFit o [] s q
   fit zero f s k q h e =
       let is : root ≡ s = some_same root s h.state_is in
       let same : r ≡ q = some_same r q e in

@@ -12,8 +12,8 @@ use Rattle.shim_semantics.specs.Nodes.{Node, Live, is_next}
 use Rattle.shim_semantics.specs.Acts.{Acted, nothing, act_live}
 use Rattle.shim_semantics.specs.Places.{at}
 use Rattle.shim_semantics.specs.Quiets.{Advances}
-use Rattle.shim_semantics.specs.Systems.{run, go_on}
-use Rattle.shim_semantics.specs.Trees.{Tree, Own, after, kind_of_stop}
+use Rattle.shim_semantics.specs.Systems.{run, on_some}
+use Rattle.shim_semantics.specs.Trees.{Tree, Own, after, own_action_at}
 use Rattle.shim_semantics.proofs.Replaced.{sound_at}
 use Rattle.shim_laws_records.specs.Seen.{lives, place}
 use Rattle.shim_laws_records.specs.Agrees.{RecordView, Has, Shows}
@@ -83,13 +83,13 @@ module _ {S : Type 0} (o : Ops S) (law : LocalLaws o) where
         let first = first_quiet o n l last taken in
         let there : at (place o rp l) t.root ≡ Some (Live l) = seen_live (at (place o rp l) t.root) l (shows.agrees.shown x f l lives has) in
         let sound = sound_at o (place o rp l) t.root (Live l) shows.sound.below there in
-        let can = ((enabled_by_records o law).steps rp states stands t x f l shows has).1 (ap kind_of_stop first.0) in
+        let can = ((enabled_by_records o law).steps rp states stands t x f l shows has).1 (ap own_action_at first.0) in
         let next = some_of (after o (Own (o.path l)) t) can in
         let change = set_changed states x f l (o.quiet l) has in
         let does : act_live o l (o.stop l) ≡ Some (record { node = Live (o.quiet l); effects = nothing }) = ap (act_live o l) first.0 in
         let shown = (events_are_shown o law).stepped rp states (slice_set states x (o.quiet l)) stands stands t next.0 (Own (o.path l)) x f l (record { node = Live (o.quiet l); effects = nothing }) shows has refl next.1 does refl change in
         let more = can_advance n x f (slice_set states x (o.quiet l)) next.0 (o.quiet l) last p shown (has_set states x f l (o.quiet l) has) (is ∙ sym (law.moved_path l (o.quiet l) sound (by_quiet first.0 refl))) first.1 in
-        (more.0, ap (go_on (run (after o) (replicate n (Own p)))) (ap (λ z. after o (Own z) t) is ∙ next.1) ∙ more.1)
+        (more.0, ap (on_some (run (after o) (replicate n (Own p)))) (ap (λ z. after o (Own z) t) is ∙ next.1) ∙ more.1)
 
   unread : (l : S) → o.stop l ≡ AtQuiet → (c : Channel) → is_next (o.stop l) c ≡ false
   unread l e c = ap (λ z. is_next z c) e

@@ -6,13 +6,13 @@ use Rattle.shim_semantics.specs.Nodes.{Node, Live, Ended, Dead, goes}
 use Rattle.shim_semantics.specs.Acts.{Effects, act_live}
 use Rattle.shim_semantics.specs.Trees.{Event, Own, End}
 use Rattle.shim_laws_records.specs.Seen.{lives}
-use Rattle.shim_records.specs.Acted.{sort_of, AllUpdated}
+use Rattle.shim_records.specs.Acted.{process_status_of, AllUpdated}
 use Rattle.shim_records.specs.Died.{IsTaken}
 use Rattle.shim_records.specs.Leaving.{HasLeft}
 use Rattle.shim_records.specs.declared.record.Record.{Record}
 use Rattle.shim_records.specs.declared.record.Status.{Status}
 use Rattle.shim_records.specs.declared.record.Status.TheVariants as code
-use Rattle.shim_laws_keeping.specs.Flats.{HasProcess}
+use Rattle.shim_laws_keeping.specs.Flats.{HasProcessState}
 use Rattle.shim_laws_keeping.specs.Moves.{MovesBy}
 use Rattle.shim_laws_keeping.specs.Arriving.{Arrives}
 
@@ -53,15 +53,15 @@ pub record Leaves {S : Type 0} (o : Ops S) (s : S) (k : Status) (n x : ℕ) (bef
   pub labelled : List Record
   pub counted : List Record
   pub takes : TakesIn o s k n x (slice_set before x (marked k was)) labelled
-  pub updated : AllUpdated o s (sort_of k) n x labelled counted
+  pub updated : AllUpdated o s (process_status_of k) n x labelled counted
   pub left : HasLeft x counted behind
 
 -- Where a live process did something by itself that leaves it alive, and came where it stands, the tree moves by that event.
 abbrev pub LivesOnKeeps : {S : Type 0} → Ops S → Type 0
-LivesOnKeeps {S} o = (states : List S) (rs behind : List Record) (x f : ℕ) (l s : S) (effects : Effects) → HasProcess (record { states = states; records = rs }) x f l lives → act_live o l (o.stop l) ≡ Some (record { node = Live s; effects = effects })
+LivesOnKeeps {S} o = (states : List S) (rs behind : List Record) (x f : ℕ) (l s : S) (effects : Effects) → HasProcessState (record { states = states; records = rs }) x f l lives → act_live o l (o.stop l) ≡ Some (record { node = Live s; effects = effects })
     → Arrives o s 4294967295 x rs behind → MovesBy o (event_at_stop (o.stop l) (o.path l)) (record { states = states; records = rs }) (record { states = slice_set states x s; records = behind })
 
 -- Where a live process did something by itself by which it ends or dies, and the records say so, the tree moves by that event.
 abbrev pub LeavesKeep : {S : Type 0} → Ops S → Type 0
-LeavesKeep {S} o = (states : List S) (rs behind : List Record) (x f : ℕ) (l : S) (k : Status) (effects : Effects) → HasProcess (record { states = states; records = rs }) x f l lives → act_live o l (o.stop l) ≡ Some (record { node = left_by l k; effects = effects })
+LeavesKeep {S} o = (states : List S) (rs behind : List Record) (x f : ℕ) (l : S) (k : Status) (effects : Effects) → HasProcessState (record { states = states; records = rs }) x f l lives → act_live o l (o.stop l) ≡ Some (record { node = left_by l k; effects = effects })
     → goes (left_by l k) ≡ false → Leaves o l k 4294967295 x rs behind → MovesBy o (event_at_stop (o.stop l) (o.path l)) (record { states = states; records = rs }) (record { states = states; records = behind })

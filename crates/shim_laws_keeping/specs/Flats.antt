@@ -4,7 +4,7 @@ use Rattle.shim_base.specs.Paths.{Path, Channel}
 use Rattle.shim_local.specs.Process.{Ops}
 use Rattle.shim_semantics.specs.Nodes.{Node, Nodes, Forked}
 use Rattle.shim_semantics.specs.Places.{at}
-use Rattle.shim_laws_records.specs.Seen.{Sort, lives, forks, place}
+use Rattle.shim_laws_records.specs.Seen.{ProcessStatus, lives, forks, place}
 use Rattle.shim_laws_records.specs.Agrees.{RecordView, used, Has, Shows}
 use Rattle.shim_laws_records.specs.Counts.{going_of}
 use Rattle.shim_laws_records.specs.Tallied.{Tallied, HaveCounts}
@@ -23,8 +23,8 @@ abbrev pub stands : {S : Type 0} → FlatView S → List RecordView
 stands v = map stands_of v.records
 
 -- The process with this number stands so: the number of its first child, its state, and what came of it.
-abbrev pub HasProcess : {S : Type 0} → FlatView S → ℕ → ℕ → S → Sort → Type 0
-HasProcess v i first s k = Has v.states (stands v) i first s k
+abbrev pub HasProcessState : {S : Type 0} → FlatView S → ℕ → ℕ → S → ProcessStatus → Type 0
+HasProcessState v i first s k = Has v.states (stands v) i first s k
 
 -- what the records keep for a channel is right: there are counts just where they belong, and they and the labels are those of the tree
 pub record IsRight {S : Type 0} (o : Ops S) (rp : Path) (v : FlatView S) (root : Node S) (c : Channel) : Type 0 where
@@ -34,7 +34,7 @@ pub record IsRight {S : Type 0} (o : Ops S) (rp : Path) (v : FlatView S) (root :
 
 -- of each fork as many children go on as its record says
 abbrev pub GoRight : {S : Type 0} → Ops S → Path → FlatView S → Node S → Type 0
-GoRight {S} o rp v root = (i f n : ℕ) (s l : S) (ks : Nodes S) (r : Record) → HasProcess v i f s (forks n) → slice_get v.records i ≡ Some r → at (place o rp s) root ≡ Some (Forked l ks) → r.going ≡ going_of ks
+GoRight {S} o rp v root = (i f n : ℕ) (s l : S) (ks : Nodes S) (r : Record) → HasProcessState v i f s (forks n) → slice_get v.records i ≡ Some r → at (place o rp s) root ≡ Some (Forked l ks) → r.going ≡ going_of ks
 
 -- a record in use has the path of its process, which isn't too far from the root, and wasn't given too many channels
 pub record IsFit {S : Type 0} (o : Ops S) (rp : Path) (s : S) (r : Record) : Type 0 where
@@ -50,7 +50,7 @@ pub record Keeps {S : Type 0} (o : Ops S) (rp : Path) (v : FlatView S) (root : N
   pub ordered : AreOrdered v.records
   pub right : (c : Channel) → IsRight o rp v root c
   pub going : GoRight o rp v root
-  pub fit : (i f : ℕ) (s : S) (k : Sort) (r : Record) → HasProcess v i f s k → slice_get v.records i ≡ Some r → IsFit o rp s r
+  pub fit : (i f : ℕ) (s : S) (k : ProcessStatus) (r : Record) → HasProcessState v i f s k → slice_get v.records i ≡ Some r → IsFit o rp s r
   pub beside : length v.states ≡ length v.records
 
 -- there is a tree that they show so

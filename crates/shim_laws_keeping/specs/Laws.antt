@@ -9,7 +9,7 @@ use Rattle.shim_semantics.specs.Sound.{SharesItsOwn}
 use Rattle.shim_semantics.specs.Trees.{Tree}
 use Rattle.shim_laws_records.specs.Seen.{lives}
 use Rattle.shim_records.specs.declared.record.Record.{Record}
-use Rattle.shim_laws_keeping.specs.Flats.{FlatView, HasProcess, Keeps, IsOfRoot}
+use Rattle.shim_laws_keeping.specs.Flats.{FlatView, HasProcessState, Keeps, IsOfRoot}
 use Rattle.shim_laws_keeping.specs.Arriving.{Arrives}
 
 -- one record of a root shows the tree in which it lives
@@ -18,5 +18,5 @@ StartKeeps {S} o = (root : S) (r : Record) → IsOfRoot o root r → o.sound roo
 
 -- Where a live process stands before a quiet step, it can do so many as lead on from its state; and where its state is the last one, and the way up was walked for the channel to which it came, the tree behind them is shown.
 abbrev pub AdvancesKeep : {S : Type 0} → Ops S → Type 0
-AdvancesKeep {S} o = (rp : Path) (t : Tree S) (states : List S) (rs behind : List Record) (n x f : ℕ) (l last : S) → Keeps o rp (record { states = states; records = rs }) t.root → HasProcess (record { states = states; records = rs }) x f l lives
+AdvancesKeep {S} o = (rp : Path) (t : Tree S) (states : List S) (rs behind : List Record) (n x f : ℕ) (l last : S) → Keeps o rp (record { states = states; records = rs }) t.root → HasProcessState (record { states = states; records = rs }) x f l lives
     → o.stop l ≡ AtQuiet → QuietSteps o n l last → Arrives o last 4294967295 x rs behind → (u : Tree S) × Advances o (o.path l) n t u × Keeps o rp (record { states = slice_set states x last; records = behind }) u.root

@@ -10,7 +10,7 @@ use Rattle.shim_semantics.specs.Places.{at, branches, meets}
 use Rattle.shim_semantics.specs.Trees.{Tree, Meet, met, after}
 use Rattle.shim_semantics.proofs.Routes.{at_path}
 use Rattle.shim_laws_schedules.proofs.Homes.{all_wait_home, meets_all_wait}
-use Rattle.shim_laws_records.specs.Seen.{Sort, place}
+use Rattle.shim_laws_records.specs.Seen.{ProcessStatus, place}
 use Rattle.shim_laws_records.specs.Agrees.{RecordView, Has, Shows}
 use Rattle.shim_laws_records.specs.Enabled.{Can}
 use Rattle.shim_laws_records.proofs.SameTrees.{seen_some}
@@ -36,11 +36,11 @@ module _ {S : Type 0} (o : Ops S) (rp : Path) (records : List S) (stands : List 
   pub place_at : (q : List ℕ) (n : Node S) → at q root ≡ Some n → place o rp (state n) ≡ q
   place_at q n e = let w = path_at q n e in place_of (state n) w.0 w.1 ∙ w.2
 
-  pub node_at : (i f : ℕ) (t : S) (k : Sort) → Has records stands i f t k → (n : Node S) × (at (place o rp t) root ≡ Some n) × (state n ≡ t)
+  pub node_at : (i f : ℕ) (t : S) (k : ProcessStatus) → Has records stands i f t k → (n : Node S) × (at (place o rp t) root ≡ Some n) × (state n ≡ t)
   node_at i f t k has = let w = seen_some (at (place o rp t) root) t k (s.agrees.shown i f t k has) in (w.0, w.1, w.2)
 
   -- a path further along is a place further along
-  pub further_place : (i f : ℕ) (t u : S) (k : Sort) (r : Path) → Has records stands i f t k → o.path u ≡ o.path t ++ r → place o rp u ≡ place o rp t ++ branches r
+  pub further_place : (i f : ℕ) (t u : S) (k : ProcessStatus) (r : Path) → Has records stands i f t k → o.path u ≡ o.path t ++ r → place o rp u ≡ place o rp t ++ branches r
   further_place i f t u k r has e =
       let n = node_at i f t k has in
       let w = path_at (place o rp t) n.0 n.1 in
@@ -48,14 +48,14 @@ module _ {S : Type 0} (o : Ops S) (rp : Path) (records : List S) (stands : List 
       place_of u (w.0 ++ r) (e ∙ (ap (λ z. z ++ r) path ∙ append_assoc rp w.0 r)) ∙ (branches_both w.0 r ∙ ap (λ z. z ++ branches r) w.2)
 
   -- who shares a channel stands at its home or below
-  pub below_home : (c : Channel) (i j f g : ℕ) (h t : S) (k x : Sort) → Has records stands i f h k → o.path h ≡ c.home → Has records stands j g t x → o.shares t c ≡ true → (r : List ℕ) × (place o rp t ≡ place o rp h ++ r)
+  pub below_home : (c : Channel) (i j f g : ℕ) (h t : S) (k x : ProcessStatus) → Has records stands i f h k → o.path h ≡ c.home → Has records stands j g t x → o.shares t c ≡ true → (r : List ℕ) × (place o rp t ≡ place o rp h ++ r)
   below_home c i j f g h t k x home its has shares =
       let n = node_at j g t x has in
       let w = home_above o c (place o rp t) root n.0 s.sound.below (λ y. ([], sym (s.sound.own c y) ∙ sym (append-nil c.home))) n.1 (ap (λ z. o.shares z c) n.2 ∙ shares) in
       (branches w.0, further_place i f h t k w.0 home (ap o.path (sym n.2) ∙ (w.1 ∙ ap (λ z. z ++ w.0) (sym its))))
 
   -- the home of a channel that can meet shares it
-  pub home_shares : LocalLaws o → (c : Channel) (i f : ℕ) (h : S) (k : Sort) → Has records stands i f h k → o.path h ≡ c.home → meets o c root ≡ true → o.shares h c ≡ true
+  pub home_shares : LocalLaws o → (c : Channel) (i f : ℕ) (h : S) (k : ProcessStatus) → Has records stands i f h k → o.path h ≡ c.home → meets o c root ≡ true → o.shares h c ≡ true
   home_shares law c i f h k has its meet =
       let w = meets_all_wait o law c root s.sound meet in
       let y = all_wait_home o c root s.sound.below (s.sound.own c) w.0 w.1 in

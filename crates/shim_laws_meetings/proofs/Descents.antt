@@ -12,7 +12,7 @@ use Rattle.shim_semantics.proofs.Replaced.{sound_at}
 use Rattle.shim_semantics.proofs.HowMany.{clash}
 use Rattle.shim_laws_schedules.specs.Waiting.{is_unshared, all_unshared}
 use Rattle.shim_laws_schedules.proofs.Homes.{Outside, unshared_is_unshared}
-use Rattle.shim_laws_records.specs.Seen.{Sort, lives, forks, ends, dies, seen, place, how_many_nodes}
+use Rattle.shim_laws_records.specs.Seen.{ProcessStatus, lives, forks, ends, dies, seen, place, how_many_nodes}
 use Rattle.shim_laws_records.specs.Sources.{is_before}
 use Rattle.shim_laws_records.proofs.Aside.{at_split}
 use Rattle.shim_laws_records.proofs.SameTrees.{child_counted, seen_some, seen_fork}
@@ -21,9 +21,9 @@ use Rattle.shim_laws_records.proofs.Way.{fork_above}
 use Rattle.shim_laws_records.proofs.Leasts.{child_sound, shared_not_below}
 use Rattle.shim_records.specs.Members.{IsAmong}
 use Rattle.shim_records.specs.Pairs.{stands_of}
-use Rattle.shim_laws_keeping.specs.Flats.{FlatView, HasProcess, Keeps}
+use Rattle.shim_laws_keeping.specs.Flats.{FlatView, HasProcessState, Keeps}
 use Rattle.shim_laws_meetings.specs.Sharers.{SharesFrom, Precedes, InOrder}
-use Rattle.shim_laws_meetings.specs.Descents.{children, numbers_from, Descends, at_end, passes, finds, DescentsFind}
+use Rattle.shim_laws_meetings.specs.Descents.{children, numbers_of_length, Descends, at_end, passes, finds, DescentsFind}
 use Rattle.shim_laws_meetings.proofs.Among.{none_among, among_later, among_split}
 
 -- ---- lists
@@ -150,8 +150,8 @@ module _ {S : Type 0} (o : Ops S) (rp : Path) (v : FlatView S) (c : Channel) (ro
   pub record Stands (i : ℕ) (q : List ℕ) : Type 0 where
     pub first : ℕ
     pub state_is : S
-    pub sort : Sort
-    pub has : HasProcess v i first state_is sort
+    pub sort : ProcessStatus
+    pub has : HasProcessState v i first state_is sort
     pub is_there : place o rp state_is ≡ q
     pub outside : o.shares state_is c ≡ false → Outside c (o.path state_is)
 
@@ -170,11 +170,11 @@ module _ {S : Type 0} (o : Ops S) (rp : Path) (v : FlatView S) (c : Channel) (ro
   From q i = SharesFrom o rp v c q i
 
   -- the node of a record
-  node_at : (i f : ℕ) (s : S) (k : Sort) → HasProcess v i f s k → (n : Node S) × (at (place o rp s) root ≡ Some n) × (state n ≡ s)
+  node_at : (i f : ℕ) (s : S) (k : ProcessStatus) → HasProcessState v i f s k → (n : Node S) × (at (place o rp s) root ≡ Some n) × (state n ≡ s)
   node_at i f s k has = let w = seen_some (at (place o rp s) root) s k (kept.shows.agrees.shown i f s k has) in (w.0, w.1, w.2)
 
   -- below a process that doesn't share it nobody does
-  none_below : (i f : ℕ) (s : S) (k : Sort) (j : ℕ) → HasProcess v i f s k → o.shares s c ≡ false → Outside c (o.path s) → From (place o rp s) j → ⊥
+  none_below : (i f : ℕ) (s : S) (k : ProcessStatus) (j : ℕ) → HasProcessState v i f s k → o.shares s c ≡ false → Outside c (o.path s) → From (place o rp s) j → ⊥
   none_below i f s k j has lacks out from =
       let n = node_at i f s k has in
       let m = node_at j from.first from.state from.sort from.has in
@@ -183,11 +183,11 @@ module _ {S : Type 0} (o : Ops S) (rp : Path) (v : FlatView S) (c : Channel) (ro
       clash (o.shares from.state c) from.shares (ap (λ z. o.shares z c) (sym m.2) ∙ unshared_at o c from.further n.0 m.0 (sym (at_split (place o rp s) from.further root n.0 n.1) ∙ (ap (λ z. at z root) (sym from.is_there) ∙ m.1)) quiet)
 
   -- the children of a process that shares it stand in their places
-  module _ (i f : ℕ) (s : S) (k : Sort) (has : HasProcess v i f s k) (shares : o.shares s c ≡ true) where
+  module _ (i f : ℕ) (s : S) (k : ProcessStatus) (has : HasProcessState v i f s k) (shares : o.shares s c ≡ true) where
     abbrev its_place : List ℕ
     its_place = place o rp s
 
-    child_outside : (n b : ℕ) (g : ℕ) (t : S) (h : Sort) → HasProcess v i f s (forks n) → HasProcess v (f + b) g t h → place o rp t ≡ its_place ++ b ∷ [] → Outside c (o.path t)
+    child_outside : (n b : ℕ) (g : ℕ) (t : S) (h : ProcessStatus) → HasProcessState v i f s (forks n) → HasProcessState v (f + b) g t h → place o rp t ≡ its_place ++ b ∷ [] → Outside c (o.path t)
     child_outside n b g t h fork child is r e =
         let w = seen_fork (at its_place root) s n (kept.shows.agrees.shown i f s (forks n) fork) in
         let m = node_at (f + b) g t h child in
@@ -195,31 +195,31 @@ module _ {S : Type 0} (o : Ops S) (rp : Path) (v : FlatView S) (c : Channel) (ro
         let y = child_sound o s sound.number 0 b w.0 m.0 sound.children (sym (at_split its_place (b ∷ []) root (Forked s w.0) w.1) ∙ (ap (λ z. at z root) (sym is) ∙ m.1)) in
         shared_not_below o root its_place (Forked s w.0) c kept.shows.sound w.1 shares (sound.number, y.1) r (e ∙ (ap (λ z. o.path z ++ r) (sym m.2) ∙ y.2 r))
 
-    fork_children : (n b m : ℕ) → HasProcess v i f s (forks n) → b + m ≡ n → AllStand (numbers_from (f + b) m) (places_from its_place b m)
+    fork_children : (n b m : ℕ) → HasProcessState v i f s (forks n) → b + m ≡ n → AllStand (numbers_of_length (f + b) m) (places_from its_place b m)
     fork_children n b zero fork e = tt
     fork_children n b (suc m) fork e =
         let z = kept.shows.agrees.below i f n s fork b (omega (arith, e)) in (
           record { first = z.0; state_is = z.1; sort = z.2; has = z.3; is_there = z.4; outside = λ lacks. child_outside n b z.0 z.1 z.2 fork z.3 z.4 },
-          subst (λ y. AllStand (numbers_from y m) (places_from its_place (suc b) m)) (next f b) (fork_children n (suc b) m fork (omega (arith, e))),
+          subst (λ y. AllStand (numbers_of_length y m) (places_from its_place (suc b) m)) (next f b) (fork_children n (suc b) m fork (omega (arith, e))),
         )
       where
         next : (f b : ℕ) → f + suc b ≡ suc (f + b)
         next f b = omega arith
 
-    children_stand : AllStand (numbers_from f (children k)) (places_from its_place 0 (children k))
+    children_stand : AllStand (numbers_of_length f (children k)) (places_from its_place 0 (children k))
     children_stand = on k has
       where
         start : (f : ℕ) → f + 0 ≡ f
         start f = omega arith
 
-        on : (k : Sort) → HasProcess v i f s k → AllStand (numbers_from f (children k)) (places_from its_place 0 (children k))
+        on : (k : ProcessStatus) → HasProcessState v i f s k → AllStand (numbers_of_length f (children k)) (places_from its_place 0 (children k))
         on lives h = tt
-        on (forks n) h = subst (λ y. AllStand (numbers_from y n) (places_from its_place 0 n)) (start f) (fork_children n 0 n h (zero_and n))
+        on (forks n) h = subst (λ y. AllStand (numbers_of_length y n) (places_from its_place 0 n)) (start f) (fork_children n 0 n h (zero_and n))
         on ends h = tt
         on (dies d) h = tt
 
     -- who stands below it stands at or below a child
-    below_child : (j : ℕ) (b : ℕ) (r : List ℕ) (g : ℕ) (t : S) (h : Sort) → HasProcess v j g t h → place o rp t ≡ its_place ++ b ∷ r → IsAmong (its_place ++ b ∷ []) (places_from its_place 0 (children k))
+    below_child : (j : ℕ) (b : ℕ) (r : List ℕ) (g : ℕ) (t : S) (h : ProcessStatus) → HasProcessState v j g t h → place o rp t ≡ its_place ++ b ∷ r → IsAmong (its_place ++ b ∷ []) (places_from its_place 0 (children k))
     below_child j b r g t h there is =
         let m = node_at j g t h there in
         let w = fork_above its_place b r root m.0 (ap (λ z. at z root) (sym is) ∙ m.1) in
@@ -237,7 +237,7 @@ module _ {S : Type 0} (o : Ops S) (rp : Path) (v : FlatView S) (c : Channel) (ro
       let here : place o rp s ≡ q = ap (place o rp) same ∙ stand.0.is_there in
       elim (among_split j i found g) [
         | inl e ↦ (q, (0, refl), subst (From q) e (record { first = f; state = s; sort = k; has = has; shares = shares; further = []; is_there = here ∙ sym (append-nil q) }))
-        | inr h ↦ let w = found_there more (places_from (place o rp s) 0 (children k) ++ qs) (both_stand (numbers_from f (children k)) ahead (places_from (place o rp s) 0 (children k)) qs (children_stand i f s k has shares) stand.1) j h in
+        | inr h ↦ let w = found_there more (places_from (place o rp s) 0 (children k) ++ qs) (both_stand (numbers_of_length f (children k)) ahead (places_from (place o rp s) 0 (children k)) qs (children_stand i f s k has shares) stand.1) j h in
             elim (among_parts w.0 (places_from (place o rp s) 0 (children k)) qs w.1) [
               | inl u ↦
                   let b = any_child (place o rp s) w.0 (children k) u in (
@@ -274,13 +274,13 @@ module _ {S : Type 0} (o : Ops S) (rp : Path) (v : FlatView S) (c : Channel) (ro
       let same : s ≡ stand.0.state_is = one_state v.states (map stands_of v.records) i f stand.0.first s stand.0.state_is k stand.0.sort has stand.0.has in
       let here : place o rp s ≡ p = ap (place o rp) same ∙ stand.0.is_there in
       let places = places_from (place o rp s) 0 (children k) in
-      let next = both_stand (numbers_from f (children k)) ahead places qs (children_stand i f s k has shares) stand.1 in
+      let next = both_stand (numbers_of_length f (children k)) ahead places qs (children_stand i f s k has shares) stand.1 in
       elim (among_split q p qs g) [
         | inl e ↦ on (all_found more) next from.further (from.is_there ∙ ap (λ z. z ++ from.further) (sym e ∙ sym here))
         | inr h ↦ among_later j i found (all_found more (places ++ qs) next q (among_right q places qs h) j from)
       ]
     where
-      on : ((ps : List (List ℕ)) → AllStand (numbers_from f (children k) ++ ahead) ps → (y : List ℕ) → IsAmong y ps → (j : ℕ) → From y j → IsAmong j found) → AllStand (numbers_from f (children k) ++ ahead) (places_from (place o rp s) 0 (children k) ++ qs) → (r : List ℕ) → place o rp from.state ≡ place o rp s ++ r → IsAmong j (i ∷ found)
+      on : ((ps : List (List ℕ)) → AllStand (numbers_of_length f (children k) ++ ahead) ps → (y : List ℕ) → IsAmong y ps → (j : ℕ) → From y j → IsAmong j found) → AllStand (numbers_of_length f (children k) ++ ahead) (places_from (place o rp s) 0 (children k) ++ qs) → (r : List ℕ) → place o rp from.state ≡ place o rp s ++ r → IsAmong j (i ∷ found)
       on ih next [] is = (0, ap Some (kept.shows.agrees.apart i j f from.first s from.state k from.sort has from.has (sym (is ∙ append-nil (place o rp s)))))
       on ih next (b ∷ r) is =
           let child = below_child i f s k has shares j b r from.first from.state from.sort from.has is in
@@ -297,7 +297,7 @@ module _ {S : Type 0} (o : Ops S) (rp : Path) (v : FlatView S) (c : Channel) (ro
       let same : s ≡ stand.0.state_is = one_state v.states (map stands_of v.records) i f stand.0.first s stand.0.state_is k stand.0.sort has stand.0.has in
       let here : place o rp s ≡ q = ap (place o rp) same ∙ stand.0.is_there in
       let places = places_from (place o rp s) 0 (children k) in
-      let next = both_stand (numbers_from f (children k)) ahead places qs (children_stand i f s k has shares) stand.1 in
+      let next = both_stand (numbers_of_length f (children k)) ahead places qs (children_stand i f s k has shares) stand.1 in
       let left' : (p : List ℕ) → IsAmong p qs → LeftOf (place o rp s) p = λ p g. subst (λ z. LeftOf z p) (sym here) (left.0 p g) in (
         (λ j g x y t u a b mine its.
             let w = found_there more (places ++ qs) next j g in

@@ -4,7 +4,7 @@ use Rattle.std.specs.Prelude.{slice_get, slice_set}
 use Rattle.std.specs.Option.{option_map}
 use Rattle.shim_base.proofs.Facts.{some_same}
 use Rattle.shim_laws_records.proofs.SameTrees.{same_or_not}
-use Rattle.shim_records.specs.Pairs.{rest_of, Rest}
+use Rattle.shim_records.specs.Pairs.{rest_of, UncountedRecord}
 use Rattle.shim_records.specs.declared.record.Record.{Record}
 use Rattle.shim_records.proofs.Stepping.{set_there, set_elsewhere}
 use Rattle.shim_records.proofs.Showing.{map_get}
@@ -23,7 +23,7 @@ abbrev pub SamePaths : List Record → List Record → Type 0
 SamePaths before behind = (i : ℕ) (r : Record) → slice_get behind i ≡ Some r → (q : Record) × (slice_get before i ≡ Some q) × (q.path ≡ r.path)
 
 pub rest_paths : (before behind : List Record) → map rest_of behind ≡ map rest_of before → SamePaths before behind
-rest_paths before behind rest i r e = let q = was_record before behind i r rest e in (q.0, q.1, ap (λ (z : Rest). z.path) q.2)
+rest_paths before behind rest i r e = let q = was_record before behind i r rest e in (q.0, q.1, ap (λ (z : UncountedRecord). z.path) q.2)
 
 pub set_paths : (rs : List Record) (x : ℕ) (r q : Record) → slice_get rs x ≡ Some r → q.path ≡ r.path → SamePaths rs (slice_set rs x q)
 set_paths rs x r q e same i p h = elim (same_or_not i x) [
@@ -39,7 +39,7 @@ abbrev pub going_at : Option Record → ℕ
 going_at None = 0
 going_at (Some r) = r.going
 
-abbrev going_rest : Option Rest → ℕ
+abbrev going_rest : Option UncountedRecord → ℕ
 going_rest None = 0
 going_rest (Some r) = r.going
 

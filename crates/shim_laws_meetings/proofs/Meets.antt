@@ -11,7 +11,7 @@ use Rattle.shim_semantics.specs.Places.{at, meets}
 use Rattle.shim_semantics.specs.Trees.{Tree, Meet, met, after}
 use Rattle.shim_semantics.proofs.Replaced.{sound_at}
 use Rattle.shim_laws_schedules.proofs.Unshared.{stands_shares}
-use Rattle.shim_laws_records.specs.Seen.{Sort, lives, forks, ends, dies, place}
+use Rattle.shim_laws_records.specs.Seen.{ProcessStatus, lives, forks, ends, dies, place}
 use Rattle.shim_laws_records.specs.Agrees.{RecordView, Shows}
 use Rattle.shim_laws_records.specs.Places.{got}
 use Rattle.shim_laws_records.specs.Changes.{HaveReceived}
@@ -24,7 +24,7 @@ use Rattle.shim_records.specs.Members.{IsAmong}
 use Rattle.shim_records.specs.Pairs.{stands_of}
 use Rattle.shim_records.proofs.Stepping.{set_there, set_elsewhere}
 use Rattle.shim_records.proofs.ReadOff.{same_stands}
-use Rattle.shim_laws_keeping.specs.Flats.{FlatView, HasProcess, Keeps}
+use Rattle.shim_laws_keeping.specs.Flats.{FlatView, HasProcessState, Keeps}
 use Rattle.shim_laws_meetings.specs.Sharers.{AreSharers, ListsSharers}
 use Rattle.shim_laws_meetings.specs.Meetings.{ReceivesOne, stands_elsewhere, received, ReceiveAll, none_left, one_more, IsEnabled, Declares, HasValue, MeetingsMove}
 use Rattle.shim_laws_meetings.proofs.Among.{none_among, among_later, among_split, among_or_not, AreDistinct, distinct}
@@ -51,15 +51,15 @@ module _ {S : Type 0} (o : Ops S) (law : LocalLaws o) (c : Channel) (v : ℤ) wh
   one_untouched i j before behind (stands_elsewhere none same) far = ap (λ z. slice_get z.states j) same
   one_untouched i j before behind (received f l d has stop is states moves) far = ap (λ z. slice_get z j) states ∙ set_elsewhere before.states i j (o.receive l v) far
 
-  got_none : (k : Sort) (s : S) → (k ≡ lives → is_next (o.stop s) c ≡ false) → got o c v k s ≡ s
+  got_none : (k : ProcessStatus) (s : S) → (k ≡ lives → is_next (o.stop s) c ≡ false) → got o c v k s ≡ s
   got_none lives s h = ap (λ b. cond b (o.receive s v) s) (h refl)
   got_none (forks n) s h = refl
   got_none ends s h = refl
   got_none (dies d) s h = refl
 
-  one_gets : (i f : ℕ) (s : S) (k : Sort) (before behind : FlatView S) → ReceivesOne o c v i before behind → HasProcess before i f s k → slice_get behind.states i ≡ Some (got o c v k s)
+  one_gets : (i f : ℕ) (s : S) (k : ProcessStatus) (before behind : FlatView S) → ReceivesOne o c v i before behind → HasProcessState before i f s k → slice_get behind.states i ≡ Some (got o c v k s)
   one_gets i f s k before behind (stands_elsewhere none same) has =
-      ap (λ z. slice_get z.states i) same ∙ (has.state_is ∙ ap Some (sym (got_none k s (λ e. none f s (subst (HasProcess before i f s) e has)))))
+      ap (λ z. slice_get z.states i) same ∙ (has.state_is ∙ ap Some (sym (got_none k s (λ e. none f s (subst (HasProcessState before i f s) e has)))))
   one_gets i f s k before behind (received g l d mine stop is states moves) has =
       let is_l = one_state before.states (stands before) i f g s l k lives has mine in
       let is_live = one_sort before.states (stands before) i f g s l k lives has mine in
@@ -88,12 +88,12 @@ module _ {S : Type 0} (o : Ops S) (law : LocalLaws o) (c : Channel) (v : ℤ) wh
   untouched j (one_more i is before between behind first more) out =
       untouched j more (λ g. out (among_later j i is g)) ∙ one_untouched i j before between first (λ e. out (0, ap Some (sym e)))
 
-  all_get : {numbers : List ℕ} {before behind : FlatView S} (j f : ℕ) (s : S) (k : Sort) → ReceiveAll o c v numbers before behind → AreDistinct numbers → HasProcess before j f s k → IsAmong j numbers → slice_get behind.states j ≡ Some (got o c v k s)
+  all_get : {numbers : List ℕ} {before behind : FlatView S} (j f : ℕ) (s : S) (k : ProcessStatus) → ReceiveAll o c v numbers before behind → AreDistinct numbers → HasProcessState before j f s k → IsAmong j numbers → slice_get behind.states j ≡ Some (got o c v k s)
   all_get j f s k (none_left w) apart has g = none_among j g
   all_get j f s k (one_more i is before between behind first more) apart has g = on (same_or_not j i) (λ h. all_get j f s k more apart.1 h)
     where
-      on : (j ≡ i) ⊎ (j ≢ i) → (HasProcess between j f s k → IsAmong j is → slice_get behind.states j ≡ Some (got o c v k s)) → slice_get behind.states j ≡ Some (got o c v k s)
-      on (inl w) ih = untouched j more (λ h. apart.0 j h (sym w)) ∙ (ap (slice_get between.states) w ∙ one_gets i f s k before between first (subst (λ z. HasProcess before z f s k) w has))
+      on : (j ≡ i) ⊎ (j ≢ i) → (HasProcessState between j f s k → IsAmong j is → slice_get behind.states j ≡ Some (got o c v k s)) → slice_get behind.states j ≡ Some (got o c v k s)
+      on (inl w) ih = untouched j more (λ h. apart.0 j h (sym w)) ∙ (ap (slice_get between.states) w ∙ one_gets i f s k before between first (subst (λ z. HasProcessState before z f s k) w has))
       on (inr n) ih = elim (among_split j i is g) [
         | inl e ↦ absurd (n (sym e))
         | inr h ↦ ih (record { state_is = one_untouched i j before between first n ∙ has.state_is; stands_so = ap (λ z. slice_get z j) (one_stands i before between first) ∙ has.stands_so }) h
@@ -118,11 +118,11 @@ module _ {S : Type 0} (o : Ops S) (law : LocalLaws o) (before behind : FlatView 
   chain = all_keep o law c x rp t.root all kept
 
   -- who isn't among them doesn't stand at the channel
-  not_there : (j f : ℕ) (s : S) (k : Sort) → HasProcess before j f s k → (IsAmong j numbers → ⊥) → k ≡ lives → is_next (o.stop s) c ≡ false
+  not_there : (j f : ℕ) (s : S) (k : ProcessStatus) → HasProcessState before j f s k → (IsAmong j numbers → ⊥) → k ≡ lives → is_next (o.stop s) c ≡ false
   not_there j f s k has out is_live = elim (true_or_false (is_next (o.stop s) c)) [
     | inr e ↦ e
     | inl e ↦
-        let has' : HasProcess before j f s lives = subst (HasProcess before j f s) is_live has in
+        let has' : HasProcessState before j f s lives = subst (HasProcessState before j f s) is_live has in
         let there = seen_live (at (place o rp s) t.root) s (kept.shows.agrees.shown j f s lives has') in
         let shares = stands_shares o law c s (sound_at o (place o rp s) t.root (Live s) kept.shows.sound.below there) e in
         let w = below_home o rp before.states (map stands_of before.records) t.root kept.shows c i j home.first f home.state s home.sort k home.has home.its has shares in

@@ -19,7 +19,7 @@ use Rattle.shim_laws_records.proofs.Hanging.{tree_of}
 use Rattle.shim_laws_records.proofs.Sources.{sources_by_records}
 use Rattle.shim_records.specs.Members.{IsAmong}
 use Rattle.shim_records.specs.Pairs.{stands_of}
-use Rattle.shim_laws_keeping.specs.Flats.{FlatView, HasProcess}
+use Rattle.shim_laws_keeping.specs.Flats.{FlatView, HasProcessState}
 use Rattle.shim_laws_meetings.specs.Sharers.{Precedes, InOrder, AreSharers}
 use Rattle.shim_laws_meetings.specs.Names.{IsFirstName, nobody, later, first, NamesFound}
 use Rattle.shim_laws_meetings.proofs.Among.{none_among, among_split, not_before, not_behind}
@@ -40,9 +40,9 @@ module _ {S : Type 0} (o : Ops S) (c : Channel) where
   module _ (rp : Path) (v : FlatView S) where
     -- who stands first of these, if one does
     pub data Firsts (numbers : List ℕ) (x : Option ℕ) : Type 0 where
-      none_stands : x ≡ None → ((j g : ℕ) (t : S) → IsAmong j numbers → HasProcess v j g t lives → is_next (o.stop t) c ≡ false) → Firsts numbers x
-      one_stands : (i f : ℕ) (l : S) (d : NamedChannel) → HasProcess v i f l lives → o.stop l ≡ AtNext d → d.channel ≡ c → x ≡ Some d.name
-          → ((j g : ℕ) (t : S) → IsAmong j numbers → HasProcess v j g t lives → is_next (o.stop t) c ≡ true → is_before (place o rp t) (place o rp l) ≡ false) → Firsts numbers x
+      none_stands : x ≡ None → ((j g : ℕ) (t : S) → IsAmong j numbers → HasProcessState v j g t lives → is_next (o.stop t) c ≡ false) → Firsts numbers x
+      one_stands : (i f : ℕ) (l : S) (d : NamedChannel) → HasProcessState v i f l lives → o.stop l ≡ AtNext d → d.channel ≡ c → x ≡ Some d.name
+          → ((j g : ℕ) (t : S) → IsAmong j numbers → HasProcessState v j g t lives → is_next (o.stop t) c ≡ true → is_before (place o rp t) (place o rp l) ≡ false) → Firsts numbers x
 
     firsts : {numbers : List ℕ} {x : Option ℕ} → IsFirstName o v c numbers x → InOrder (Precedes o rp v) numbers → Firsts numbers x
     firsts nobody ordered = none_stands refl (λ j g t among has. none_among j among)
@@ -50,16 +50,16 @@ module _ {S : Type 0} (o : Ops S) (c : Channel) where
       where
         on : Firsts is x → Firsts (i ∷ is) x
         on (none_stands e rest) = none_stands e (λ j g t among has. elim (among_split j i is among) [
-          | inl same ↦ none g t (subst (λ z. HasProcess v z g t lives) (sym same) has)
+          | inl same ↦ none g t (subst (λ z. HasProcessState v z g t lives) (sym same) has)
           | inr h ↦ rest j g t h has
         ])
         on (one_stands j f l d has stop its e rest) = one_stands j f l d has stop its e (λ k g t among status y. elim (among_split k i is among) [
-          | inl same ↦ clash (is_next (o.stop t) c) y (none g t (subst (λ z. HasProcess v z g t lives) (sym same) status))
+          | inl same ↦ clash (is_next (o.stop t) c) y (none g t (subst (λ z. HasProcessState v z g t lives) (sym same) status))
           | inr h ↦ rest k g t h status y
         ])
     firsts (first i f l d is has stop its) ordered = one_stands i f l d has stop its refl (λ j g t among status y. elim (among_split j i is among) [
       | inl same ↦
-          let is_l : t ≡ l = one_state v.states (map stands_of v.records) i g f t l lives lives (subst (λ z. HasProcess v z g t lives) (sym same) status) has in
+          let is_l : t ≡ l = one_state v.states (map stands_of v.records) i g f t l lives lives (subst (λ z. HasProcessState v z g t lives) (sym same) status) has in
           ap (λ z. is_before (place o rp z) (place o rp l)) is_l ∙ not_before (place o rp l)
       | inr h ↦ not_behind (place o rp l) (place o rp t) (ordered.0 j h f g l t lives lives has status)
     ])
@@ -71,7 +71,7 @@ names_found {S} o law v c i numbers x home enabled lists named rp root kept = ap
     are = lists rp root home.first home.state home.sort kept home.has (home_shares o rp v.states (map stands_of v.records) root kept.shows law c i home.first home.state home.sort home.has home.its (can_meet o (tree_of o root) c (enabled rp (tree_of o root) kept)).0)
 
     -- whoever stands at the channel shares it, and so is among them
-    stander_among : (j g : ℕ) (t : S) → HasProcess v j g t lives → is_next (o.stop t) c ≡ true → IsAmong j numbers
+    stander_among : (j g : ℕ) (t : S) → HasProcessState v j g t lives → is_next (o.stop t) c ≡ true → IsAmong j numbers
     stander_among j g t has y =
         let there = seen_live (at (place o rp t) root) t (kept.shows.agrees.shown j g t lives has) in
         let shares = stands_shares o law c t (sound_at o (place o rp t) root (Live t) kept.shows.sound.below there) y in
@@ -82,7 +82,7 @@ names_found {S} o law v c i numbers x home enabled lists named rp root kept = ap
     on (none_stands e none) = nobody_named o c root (λ p t there y.
         let w = covered o rp v.states (map stands_of v.records) kept.shows.rooted root kept.shows.agrees p (Live t) there in
         let same = some_same (w.state_is, w.sort_is) (t, lives) w.is_seen in
-        let has : HasProcess v w.number w.first t lives = subst (λ z. HasProcess v w.number w.first t z) (ap (λ z. z.1) same) (subst (λ z. HasProcess v w.number w.first z w.sort_is) (ap (λ z. z.0) same) w.has) in
+        let has : HasProcessState v w.number w.first t lives = subst (λ z. HasProcessState v w.number w.first t z) (ap (λ z. z.1) same) (subst (λ z. HasProcessState v w.number w.first z w.sort_is) (ap (λ z. z.0) same) w.has) in
         clash (is_next (o.stop t) c) y (none w.number w.first t (stander_among w.number w.first t has y) has)) ∙ sym e
     on (one_stands j f l d has stop its e before) =
         (sources_by_records o).name rp v.states (map stands_of v.records) root c j f l d kept.shows has stop its (λ k g t status y. before k g t (stander_among k g t status y) status y) ∙ sym e

@@ -14,7 +14,7 @@ use Rattle.shim_semantics.proofs.HowMany.{clash}
 use Rattle.shim_laws_schedules.specs.Waiting.{has_sharer}
 use Rattle.shim_laws_schedules.proofs.Homes.{unshared_is_unshared, ready_has_sharer}
 use Rattle.shim_laws_schedules.proofs.Unshared.{is_unshared_still}
-use Rattle.shim_laws_records.specs.Seen.{Sort, lives, forks, ends, dies, place}
+use Rattle.shim_laws_records.specs.Seen.{ProcessStatus, lives, forks, ends, dies, place}
 use Rattle.shim_laws_records.specs.Agrees.{RecordView, free, used, Shows}
 use Rattle.shim_laws_records.specs.Places.{killed}
 use Rattle.shim_laws_records.specs.Changes.{HaveDied}
@@ -31,7 +31,7 @@ use Rattle.shim_laws_records.proofs.Hanging.{tree_of}
 use Rattle.shim_records.specs.Members.{IsAmong}
 use Rattle.shim_records.specs.Pairs.{stands_of}
 use Rattle.shim_records.proofs.Stepping.{set_there, set_elsewhere}
-use Rattle.shim_laws_keeping.specs.Flats.{FlatView, HasProcess, Keeps}
+use Rattle.shim_laws_keeping.specs.Flats.{FlatView, HasProcessState, Keeps}
 use Rattle.shim_laws_keeping.proofs.Steps.{some_of}
 use Rattle.shim_laws_meetings.specs.Sharers.{AreSharers, ListsSharers}
 use Rattle.shim_laws_meetings.specs.Dying.{DiesAt}
@@ -41,14 +41,14 @@ use Rattle.shim_laws_meetings.proofs.Among.{none_among, among_later, among_split
 use Rattle.shim_laws_meetings.proofs.AtHome.{node_at}
 use Rattle.shim_laws_meetings.proofs.Dies.{died_keeps, stands_now}
 
-used_so : (f g : ℕ) (k h : Sort) → used f k ≡ used g h → (f ≡ g) × (k ≡ h)
+used_so : (f g : ℕ) (k h : ProcessStatus) → used f k ≡ used g h → (f ≡ g) × (k ≡ h)
 used_so f g k h e = (ap (first_of f) e, ap (sort_is k) e)
   where
     first_of : ℕ → RecordView → ℕ
     first_of d free = d
     first_of d (used f k) = f
 
-    sort_is : Sort → RecordView → Sort
+    sort_is : ProcessStatus → RecordView → ProcessStatus
     sort_is d free = d
     sort_is d (used f k) = k
 
@@ -60,7 +60,7 @@ module _ {S : Type 0} (o : Ops S) (label : ℕ) where
   stands w = map stands_of w.records
 
   -- what came of a process that lived and died so, or of one that didn't live
-  abbrev killed_to : Sort → Sort
+  abbrev killed_to : ProcessStatus → ProcessStatus
   killed_to lives = dies (death label)
   killed_to (forks n) = forks n
   killed_to ends = ends
@@ -78,25 +78,25 @@ module _ {S : Type 0} (o : Ops S) (label : ℕ) where
     one_untouched j (was_killed f l has low states is_killed) far =
         ap (λ z. slice_get z j) (stands_now o before.states before.records behind.records i f label l has is_killed) ∙ set_elsewhere (stands before) i j (used f (dies (death label))) far
 
-    still : (k : Sort) → (k ≡ lives → ⊥) → killed_to k ≡ k
+    still : (k : ProcessStatus) → (k ≡ lives → ⊥) → killed_to k ≡ k
     still lives h = absurd (h refl)
     still (forks n) h = refl
     still ends h = refl
     still (dies d) h = refl
 
-    one_dies : ((f : ℕ) (l : S) → HasProcess before i f l lives → label < o.base l) → (f : ℕ) (s : S) (k : Sort) → DiesOne o label i before behind → HasProcess before i f s k → slice_get (stands behind) i ≡ Some (used f (killed_to k))
+    one_dies : ((f : ℕ) (l : S) → HasProcessState before i f l lives → label < o.base l) → (f : ℕ) (s : S) (k : ProcessStatus) → DiesOne o label i before behind → HasProcessState before i f s k → slice_get (stands behind) i ≡ Some (used f (killed_to k))
     one_dies less f s k (survived none same) has =
-        ap (λ z. slice_get (stands z) i) same ∙ (has.stands_so ∙ ap (λ z. Some (used f z)) (sym (still k (λ e. let now = subst (HasProcess before i f s) e has in none f s now (less f s now)))))
+        ap (λ z. slice_get (stands z) i) same ∙ (has.stands_so ∙ ap (λ z. Some (used f z)) (sym (still k (λ e. let now = subst (HasProcessState before i f s) e has in none f s now (less f s now)))))
     one_dies less f s k (was_killed g l mine low states is_killed) has =
         let same = used_so f g k lives (some_same (used f k) (used g lives) (sym has.stands_so ∙ mine.stands_so)) in
         ap (λ z. slice_get z i) (stands_now o before.states before.records behind.records i g label l mine is_killed)
         ∙ (set_there (stands before) i (used g lives) (used g (dies (death label))) mine.stands_so ∙ (λ j. Some (used (sym same.0 j) (killed_to (sym same.1 j)))))
 
-    killed_stands : (g : ℕ) (l : S) → HasProcess before i g l lives → DiesAt o l label 4294967295 i before.records behind.records → slice_get (stands behind) i ≡ Some (used g (dies (death label)))
+    killed_stands : (g : ℕ) (l : S) → HasProcessState before i g l lives → DiesAt o l label 4294967295 i before.records behind.records → slice_get (stands behind) i ≡ Some (used g (dies (death label)))
     killed_stands g l mine is_killed =
         ap (λ z. slice_get z i) (stands_now o before.states before.records behind.records i g label l mine is_killed) ∙ set_there (stands before) i (used g lives) (used g (dies (death label))) mine.stands_so
 
-    one_had : (j f : ℕ) (k : Sort) → DiesOne o label i before behind → slice_get (stands behind) j ≡ Some (used f k) → (h : Sort) × (slice_get (stands before) j ≡ Some (used f h))
+    one_had : (j f : ℕ) (k : ProcessStatus) → DiesOne o label i before behind → slice_get (stands behind) j ≡ Some (used f k) → (h : ProcessStatus) × (slice_get (stands before) j ≡ Some (used f h))
     one_had j f k (survived none same) e = (k, ap (λ z. slice_get (stands z) j) (sym same) ∙ e)
     one_had j f k (was_killed g l mine low states is_killed) e = elim (same_or_not j i) [
       | inl w ↦
@@ -107,18 +107,18 @@ module _ {S : Type 0} (o : Ops S) (label : ℕ) where
     ]
 
     -- who lives behind it lived before
-    one_lived : ((f : ℕ) (l : S) → HasProcess before i f l lives → label < o.base l) → (j f : ℕ) (l : S) → DiesOne o label i before behind → HasProcess behind j f l lives → HasProcess before j f l lives
+    one_lived : ((f : ℕ) (l : S) → HasProcessState before i f l lives → label < o.base l) → (j f : ℕ) (l : S) → DiesOne o label i before behind → HasProcessState behind j f l lives → HasProcessState before j f l lives
     one_lived less j f l is_killed has = elim (same_or_not j i) [
       | inl w ↦
           let was = one_had j f lives is_killed has.stands_so in
-          let its : HasProcess before j f l was.0 = record { state_is = ap (λ z. slice_get z j) (sym (one_states is_killed)) ∙ has.state_is; stands_so = was.1 } in
-          let now : slice_get (stands behind) j ≡ Some (used f (killed_to was.0)) = ap (slice_get (stands behind)) w ∙ one_dies less f l was.0 is_killed (subst (λ z. HasProcess before z f l was.0) w its) in
+          let its : HasProcessState before j f l was.0 = record { state_is = ap (λ z. slice_get z j) (sym (one_states is_killed)) ∙ has.state_is; stands_so = was.1 } in
+          let now : slice_get (stands behind) j ≡ Some (used f (killed_to was.0)) = ap (slice_get (stands behind)) w ∙ one_dies less f l was.0 is_killed (subst (λ z. HasProcessState before z f l was.0) w its) in
           let same = used_so f f lives (killed_to was.0) (some_same (used f lives) (used f (killed_to was.0)) (sym has.stands_so ∙ now)) in
           absurd (no_more was.0 (sym same.1))
       | inr w ↦ record { state_is = ap (λ z. slice_get z j) (sym (one_states is_killed)) ∙ has.state_is; stands_so = sym (one_untouched j is_killed w) ∙ has.stands_so }
     ]
       where
-        no_more : (k : Sort) → killed_to k ≡ lives → ⊥
+        no_more : (k : ProcessStatus) → killed_to k ≡ lives → ⊥
         no_more lives e = cc
         no_more (forks n) e = cc
         no_more ends e = cc
@@ -133,21 +133,21 @@ module _ {S : Type 0} (o : Ops S) (label : ℕ) where
   -- ---- all of them
 
   abbrev AllLess : FlatView S → List ℕ → Type 0
-  AllLess w numbers = (i : ℕ) → IsAmong i numbers → (f : ℕ) (l : S) → HasProcess w i f l lives → label < o.base l
+  AllLess w numbers = (i : ℕ) → IsAmong i numbers → (f : ℕ) (l : S) → HasProcessState w i f l lives → label < o.base l
 
   pub record AreKilled (rp : Path) (numbers : List ℕ) (before behind : FlatView S) : Type 0 where
     pub states : behind.states ≡ before.states
     pub root : Node S
     pub keeps : Keeps o rp behind root
     pub untouched : (j : ℕ) → (IsAmong j numbers → ⊥) → slice_get (stands behind) j ≡ slice_get (stands before) j
-    pub is_killed : (j f : ℕ) (s : S) (k : Sort) → HasProcess before j f s k → IsAmong j numbers → slice_get (stands behind) j ≡ Some (used f (killed_to k))
-    pub had : (j f : ℕ) (k : Sort) → slice_get (stands behind) j ≡ Some (used f k) → (h : Sort) × (slice_get (stands before) j ≡ Some (used f h))
+    pub is_killed : (j f : ℕ) (s : S) (k : ProcessStatus) → HasProcessState before j f s k → IsAmong j numbers → slice_get (stands behind) j ≡ Some (used f (killed_to k))
+    pub had : (j f : ℕ) (k : ProcessStatus) → slice_get (stands behind) j ≡ Some (used f k) → (h : ProcessStatus) × (slice_get (stands before) j ≡ Some (used f h))
 
   all_die : {numbers : List ℕ} {before behind : FlatView S} → LocalLaws o → (rp : Path) (root : Node S) → AllDie o label numbers before behind → AreDistinct numbers → Keeps o rp before root → AllLess before numbers → AreKilled rp numbers before behind
   all_die law rp root (none_left w) apart kept less = record { states = refl; root = root; keeps = kept; untouched = λ j out. refl; is_killed = λ j f s k has g. none_among j g; had = λ j f k e. (k, e) }
   all_die law rp root (one_more i is before between behind first more) apart kept less = joined (all_die law rp next.0 more apart.1 next.1 (λ j g f l has. less j (among_later j i is g) f l (one_lived i before between here j f l first has)))
     where
-      here : (f : ℕ) (l : S) → HasProcess before i f l lives → label < o.base l
+      here : (f : ℕ) (l : S) → HasProcessState before i f l lives → label < o.base l
       here f l has = less i (0, refl) f l has
 
       next : (new : Node S) × Keeps o rp between new
@@ -160,7 +160,7 @@ module _ {S : Type 0} (o : Ops S) (label : ℕ) where
         keeps = w.keeps;
         untouched = λ j out. w.untouched j (λ g. out (among_later j i is g)) ∙ one_untouched i before between j first (λ e. out (0, ap Some (sym e)));
         is_killed = λ j f s k has g. elim (same_or_not j i) [
-          | inl e ↦ w.untouched j (λ h. apart.0 j h (sym e)) ∙ (ap (slice_get (stands between)) e ∙ one_dies i before between here f s k first (subst (λ z. HasProcess before z f s k) e has))
+          | inl e ↦ w.untouched j (λ h. apart.0 j h (sym e)) ∙ (ap (slice_get (stands between)) e ∙ one_dies i before between here f s k first (subst (λ z. HasProcessState before z f s k) e has))
           | inr n ↦ elim (among_split j i is g) [
             | inl e ↦ absurd (n (sym e))
             | inr h ↦ w.is_killed j f s k (record { state_is = ap (λ z. slice_get z j) (one_states i before between first) ∙ has.state_is; stands_so = one_untouched i before between j first n ∙ has.stands_so }) h
@@ -177,8 +177,8 @@ module _ {S : Type 0} (o : Ops S) (law : LocalLaws o) (before behind : FlatView 
   fork : (ks : Nodes S) × (at (place o rp l) t.root ≡ Some (Forked l ks))
   fork = let w = seen_fork (at (place o rp l) t.root) l child.many (kept.shows.agrees.shown child.parent child.first l (forks child.many) child.fork) in (w.0, w.1)
 
-  its : HasProcess before (child.first + child.branch) child.own_first k child.sort
-  its = subst (λ z. HasProcess before z child.own_first k child.sort) child.mine child.has
+  its : HasProcessState before (child.first + child.branch) child.own_first k child.sort
+  its = subst (λ z. HasProcessState before z child.own_first k child.sort) child.mine child.has
 
   -- its place
   its_place : place o rp k ≡ place o rp l ++ child.branch ∷ []
@@ -209,7 +209,7 @@ module _ {S : Type 0} (o : Ops S) (law : LocalLaws o) (before behind : FlatView 
   are = lists rp t.root child.own_first k child.sort kept child.has shares
 
   -- none of them has a handler for it
-  below_base : (j : ℕ) → IsAmong j numbers → (f : ℕ) (s : S) → HasProcess before j f s lives → label < o.base s
+  below_base : (j : ℕ) → IsAmong j numbers → (f : ℕ) (s : S) → HasProcessState before j f s lives → label < o.base s
   below_base j g f s has =
       let from = are.only j g in
       let m = node_at o rp before.states (map stands_of before.records) t.root kept.shows j f s lives has in
@@ -225,19 +225,19 @@ module _ {S : Type 0} (o : Ops S) (law : LocalLaws o) (before behind : FlatView 
   as_dead : AreKilled o label rp numbers before behind
   as_dead = all_die o label law rp t.root all (distinct o rp before c (place o rp k) numbers are) kept below_base
 
-  killed_so : (x : Sort) (s : S) → o.shares s c ≡ true → killed_to o label x ≡ killed o c (death label) s x
+  killed_so : (x : ProcessStatus) (s : S) → o.shares s c ≡ true → killed_to o label x ≡ killed o c (death label) s x
   killed_so lives s e = sym (ap (λ b. cond b (dies (death label)) lives) e)
   killed_so (forks n) s e = refl
   killed_so ends s e = refl
   killed_so (dies d) s e = refl
 
-  survives_so : (x : Sort) (s : S) → o.shares s c ≡ false → x ≡ killed o c (death label) s x
+  survives_so : (x : ProcessStatus) (s : S) → o.shares s c ≡ false → x ≡ killed o c (death label) s x
   survives_so lives s e = sym (ap (λ b. cond b (dies (death label)) lives) e)
   survives_so (forks n) s e = refl
   survives_so ends s e = refl
   survives_so (dies d) s e = refl
 
-  from_there : (j f : ℕ) (s : S) (x : Sort) (r : List ℕ) → HasProcess before j f s x → place o rp s ≡ place o rp k ++ r → o.shares s c ≡ true → IsAmong j numbers
+  from_there : (j f : ℕ) (s : S) (x : ProcessStatus) (r : List ℕ) → HasProcessState before j f s x → place o rp s ≡ place o rp k ++ r → o.shares s c ≡ true → IsAmong j numbers
   from_there j f s x r has there e = are.all j (record { first = f; state = s; sort = x; has = has; shares = e; further = r; is_there = there })
 
   have : HaveDied o rp (place o rp k) c (death label) before.states (map stands_of before.records) (map stands_of behind.records)
@@ -262,7 +262,7 @@ module _ {S : Type 0} (o : Ops S) (law : LocalLaws o) (before behind : FlatView 
   moved : (u : Tree S) × (after o (Poison (o.path k) c) t ≡ Some u) × Keeps o rp behind u.root
   moved = (can.0, can.1, subst (Keeps o rp behind) same as_dead.keeps)
 
-  died_so : (f : ℕ) (s : S) (x : Sort) → HasProcess before i f s x → (behind.states ≡ before.states) × HaveDied o rp (place o rp s) c (death label) before.states (map stands_of before.records) (map stands_of behind.records)
+  died_so : (f : ℕ) (s : S) (x : ProcessStatus) → HasProcessState before i f s x → (behind.states ≡ before.states) × HaveDied o rp (place o rp s) c (death label) before.states (map stands_of before.records) (map stands_of behind.records)
   died_so f s x has = (
     as_dead.states,
     subst (λ z. HaveDied o rp (place o rp z) c (death label) before.states (map stands_of before.records) (map stands_of behind.records)) (one_state before.states (map stands_of before.records) i child.own_first f k s child.sort x child.has has) have,

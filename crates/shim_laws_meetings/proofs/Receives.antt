@@ -19,14 +19,14 @@ use Rattle.shim_laws_records.specs.Counts.{Tally, Reading as Read, live_reading,
 use Rattle.shim_laws_records.specs.Updating.{UpdatedAbove}
 use Rattle.shim_laws_records.proofs.SameTrees.{seen_live, put_replaces}
 use Rattle.shim_laws_records.proofs.Singles.{singles_are_shown}
-use Rattle.shim_records.specs.Pairs.{stands_of, up_in, counts_in, leasts_in, rest_of, reading_of, Rest}
+use Rattle.shim_records.specs.Pairs.{stands_of, up_in, counts_in, leasts_in, rest_of, reading_of, UncountedRecord}
 use Rattle.shim_records.specs.declared.record.Record.{Record}
 use Rattle.shim_records.proofs.Stepping.{set_there, set_elsewhere}
 use Rattle.shim_records.proofs.ReadOff.{same_stands}
 use Rattle.shim_records.proofs.WholeWay.{rest_ups, kept_order}
 use Rattle.shim_laws_keeping.specs.Flats.{GoRight, Keeps}
 use Rattle.shim_laws_keeping.proofs.Forks.{as_many}
-use Rattle.shim_laws_meetings.specs.Receiving.{ComesTo, no_other, other, MovesOn}
+use Rattle.shim_laws_meetings.specs.Receiving.{UpdatesOtherNext, no_other, other, MovesOn}
 use Rattle.shim_laws_meetings.specs.Laws.{ReceivedKeeps}
 use Rattle.shim_laws_records.specs.LoweredLabels.{Labelled}
 use Rattle.shim_laws_keeping.proofs.Moved.{set_length, was_record}
@@ -37,7 +37,7 @@ use Rattle.shim_laws_meetings.proofs.Replacing.{Both, was_fork, unread, walked, 
 pub moves_on_rest : {S : Type 0} {o : Ops S} {s : S} {c : Channel} {n x : ℕ} {before behind : List Record} → MovesOn o s c n x before behind → map rest_of behind ≡ map rest_of before
 moves_on_rest {o = o} {s = s} {c = c} {n = n} {x = x} {behind = behind} on = came_rest on.came ∙ on.left.1.rest
   where
-    came_rest : ComesTo o s c n x on.between behind → map rest_of behind ≡ map rest_of on.between
+    came_rest : UpdatesOtherNext o s c n x on.between behind → map rest_of behind ≡ map rest_of on.between
     came_rest (no_other e same) = ap (map rest_of) same
     came_rest (other e was is g far u w updated) = updated.1.rest
 
@@ -102,7 +102,7 @@ module _ {S : Type 0} (o : Ops S) (law : LocalLaws o) (rp : Path) (root : Node S
   labels_same : (c : Channel) → leasts_in c behind ≡ leasts_in c rs
   labels_same c = on_came on.came ∙ (λ t i. on.left.1.labels c i t)
     where
-      on_came : ComesTo o s d.channel 4294967295 x on.between behind → leasts_in c behind ≡ leasts_in c on.between
+      on_came : UpdatesOtherNext o s d.channel 4294967295 x on.between behind → leasts_in c behind ≡ leasts_in c on.between
       on_came (no_other e is) = ap (leasts_in c) is
       on_came (other e was is g far u w updated) = λ t i. updated.1.labels c i t
 
@@ -137,7 +137,7 @@ module _ {S : Type 0} (o : Ops S) (law : LocalLaws o) (rp : Path) (root : Node S
             (subst (λ z. UpdatedAbove (up_in rs) 4294967295 4294967295 (counts_in d.channel rs) x (live_reading true) z (counts_in d.channel on.between)) on.stands
             (subst (λ z. UpdatedAbove (up_in rs) 4294967295 4294967295 (counts_in d.channel rs) x z (reading_of on.is) (counts_in d.channel on.between)) on.stood on.left.0))
 
-        kept_counts : ComesTo o s d.channel 4294967295 x on.between behind → counts_in c behind ≡ counts_in c on.between
+        kept_counts : UpdatesOtherNext o s d.channel 4294967295 x on.between behind → counts_in c behind ≡ counts_in c on.between
         kept_counts (no_other e b) = ap (counts_in c) b
         kept_counts (other e was is' g far u y updated) = λ t i. updated.1.elsewhere c (ap (λ z. same_channel e.channel z) (sym is) ∙ not_same e.channel far) i t
           where
@@ -154,7 +154,7 @@ module _ {S : Type 0} (o : Ops S) (law : LocalLaws o) (rp : Path) (root : Node S
         between_same : counts_in c on.between ≡ counts_in c rs
         between_same = λ t i. on.left.1.elsewhere c far i t
 
-        on_came : ComesTo o s d.channel 4294967295 x on.between behind → B (counts_in c behind)
+        on_came : UpdatesOtherNext o s d.channel 4294967295 x on.between behind → B (counts_in c behind)
         on_came (no_other e b) = subst B (sym (ap (counts_in c) b ∙ between_same)) (still far (e c far))
         on_came (other e was is g out u y updated) = at_channel (same_channel e.channel c) refl
           where
@@ -180,7 +180,7 @@ module _ {S : Type 0} (o : Ops S) (law : LocalLaws o) (rp : Path) (root : Node S
   going j g n t u ks r fork e now =
       let w = as_many o (place o rp l) (Live l) (Live s) root new rep refl refl (place o rp t) u ks now in
       let q = was_record rs behind j r rest e in
-      ap (λ (z : Rest). z.going) (sym q.2) ∙ (kept.going j g n t u w.children q.0 (was_fork o law rp states states' rs behind root new l (Live s) x f kept has changed refl path given rep shown ups j g n t fork).1 q.1 w.there ∙ sym w.same)
+      ap (λ (z : UncountedRecord). z.going) (sym q.2) ∙ (kept.going j g n t u w.children q.0 (was_fork o law rp states states' rs behind root new l (Live s) x f kept has changed refl path given rep shown ups j g n t fork).1 q.1 w.there ∙ sym w.same)
 
   pub received : (new : Node S) × IsReplaced (place o rp l) (Live l) (Live s) root new × Keeps o rp (record { states = states'; records = behind }) new
   received = (

@@ -6,7 +6,7 @@ use Rattle.shim_local.specs.Process.{Ops}
 use Rattle.shim_local.specs.Laws.{LocalLaws}
 use Rattle.shim_semantics.specs.Nodes.{Node, Live, state}
 use Rattle.shim_semantics.specs.Places.{branches}
-use Rattle.shim_laws_records.specs.Seen.{Sort, lives, forks, sort, is_leaf, place}
+use Rattle.shim_laws_records.specs.Seen.{ProcessStatus, lives, forks, process_status, is_leaf, place}
 use Rattle.shim_laws_records.specs.Agrees.{RecordView, used, Has, Shows}
 use Rattle.shim_laws_records.specs.Places.{IsReplaced}
 use Rattle.shim_laws_records.specs.Changes.{HasChanged}
@@ -32,7 +32,7 @@ use Rattle.shim_laws_meetings.proofs.Lists.{SamePaths}
 
 module _ {S : Type 0} (o : Ops S) (law : LocalLaws o) (rp : Path) (states states' : List S) (rs behind : List Record) (old new : Node S) (l : S) (a : Node S) (x f : ℕ)
     (kept : Keeps o rp (record { states = states; records = rs }) old) (has : Has states (map stands_of rs) x f l lives)
-    (changed : HasChanged states states' (map stands_of rs) (map stands_of behind) x (state a) (sort a)) (leaf : is_leaf a ≡ true)
+    (changed : HasChanged states states' (map stands_of rs) (map stands_of behind) x (state a) (process_status a)) (leaf : is_leaf a ≡ true)
     (path : o.path (state a) ≡ o.path l) (given : o.given (state a) ≡ o.given l) (rep : IsReplaced (place o rp l) (Live l) a old new)
     (shown : Shows o rp states' (map stands_of behind) new) (ups : up_in behind ≡ up_in rs) where
   abbrev st : List RecordView
@@ -50,7 +50,7 @@ module _ {S : Type 0} (o : Ops S) (law : LocalLaws o) (rp : Path) (states states
   -- a fork was one before
   pub was_fork : (j d n : ℕ) (t : S) → Has states' st' j d t (forks n) → (j ≢ x) × Has states st j d t (forks n)
   was_fork j d n t h = elim (same_or_not j x) [
-    | inl w ↦ no_fork a n leaf (sym (one_sort states' st' j d changed.first t (state a) (forks n) (sort a) h (subst (λ z. Has states' st' z changed.first (state a) (sort a)) (sym w) changed.mine)))
+    | inl w ↦ no_fork a n leaf (sym (one_sort states' st' j d changed.first t (state a) (forks n) (process_status a) h (subst (λ z. Has states' st' z changed.first (state a) (process_status a)) (sym w) changed.mine)))
     | inr w ↦ (w, changed.only j d t (forks n) w h)
   ]
 
@@ -82,11 +82,11 @@ module _ {S : Type 0} (o : Ops S) (law : LocalLaws o) (rp : Path) (states states
 
     -- nor for one of its own
     pub its_own : (r : Path) → c.home ≡ o.path (state a) ++ r → Both (counts_in c rs)
-    its_own r home = ((counts_follow o law).own rp states' st' c old new x changed.first (state a) (sort a) r (counts_in c rs) shown changed.mine home begun.1 way, begun.1)
+    its_own r home = ((counts_follow o law).own rp states' st' c old new x changed.first (state a) (process_status a) r (counts_in c rs) shown changed.mine home begun.1 way, begun.1)
 
     -- for others the way up was walked
     pub walked : (was is : Read) (after : ℕ → Option Tally) → reading o c (Live l) ≡ was → reading o c a ≡ is → o.shares (state a) c ≡ true → UpdatedAbove (up_in behind) 4294967295 4294967295 (counts_in c rs) x was is after → Both after
-    walked was is after e g shares updated = (counts_follow o law).updated rp states' st' (up_in behind) c old new (Live l) a 4294967295 4294967295 x changed.first (state a) (sort a) was is (counts_in c rs) after shown linked few changed.mine rep' e g near shares begun.1 way updated
+    walked was is after e g shares updated = (counts_follow o law).updated rp states' st' (up_in behind) c old new (Live l) a 4294967295 4294967295 x changed.first (state a) (process_status a) was is (counts_in c rs) after shown linked few changed.mine rep' e g near shares begun.1 way updated
 
     pub labels_begun : LabelsOnTheWay o rp states' st' c (counts_in c rs) (leasts_in c rs) old new (place o rp (state a))
     labels_begun = subst (LabelsOnTheWay o rp states' st' c (counts_in c rs) (leasts_in c rs) old new) (sym same_place)
@@ -101,12 +101,12 @@ module _ {S : Type 0} (o : Ops S) (law : LocalLaws o) (rp : Path) (states states
         let w = carried o (place o rp l) (Live l) a old new rep leaf (least_among o c) (λ r v is js above was is'. (leasts_follow o).stays c old new (Live l) a (place o rp l) r v is js rep none above was is') (place o rp t) u ks now in
         (kept.right c).labels j d n t u w.children (was_fork j d n t fork).1 ((begun.1 j d n t u ks fork now).1 ((have j d n t u ks fork now).0 counted)) w.there ∙ sym w.same
 
-  fit : SamePaths rs behind → (j d : ℕ) (t : S) (k : Sort) (r : Record) → Has states' st' j d t k → slice_get behind j ≡ Some r → IsFit o rp t r
+  fit : SamePaths rs behind → (j d : ℕ) (t : S) (k : ProcessStatus) (r : Record) → Has states' st' j d t k → slice_get behind j ≡ Some r → IsFit o rp t r
   fit paths j d t k r h e =
       let q = paths j r e in
       elim (same_or_not j x) [
         | inl w ↦
-            let is : t ≡ state a = one_state states' st' j d changed.first t (state a) k (sort a) h (subst (λ z. Has states' st' z changed.first (state a) (sort a)) (sym w) changed.mine) in
+            let is : t ≡ state a = one_state states' st' j d changed.first t (state a) k (process_status a) h (subst (λ z. Has states' st' z changed.first (state a) (process_status a)) (sym w) changed.mine) in
             let was = kept.fit x f l lives q.0 has (ap (slice_get rs) (sym w) ∙ q.1) in
             subst (λ z. IsFit o rp z r) (sym is) (record { path = sym q.2 ∙ (was.path ∙ sym path); near = near; few = subst (λ z. length z ≤ 18446744073709551615) (sym given) was.few })
         | inr w ↦ let was = kept.fit j d t k q.0 (changed.only j d t k w h) q.1 in record { path = sym q.2 ∙ was.path; near = was.near; few = was.few }

@@ -6,12 +6,12 @@ use Rattle.shim_local.specs.Laws.{LocalLaws}
 use Rattle.shim_semantics.specs.Nodes.{state, value_of, source}
 use Rattle.shim_semantics.proofs.Replaced.{sound_at, state_sound}
 use Rattle.shim_semantics.proofs.HowMany.{clash}
-use Rattle.shim_laws_records.specs.Seen.{Sort, place}
+use Rattle.shim_laws_records.specs.Seen.{ProcessStatus, place}
 use Rattle.shim_laws_records.proofs.Hanging.{tree_of}
 use Rattle.shim_laws_records.proofs.Sources.{sources_by_records}
 use Rattle.shim_records.specs.Members.{IsAmong}
 use Rattle.shim_records.specs.Pairs.{stands_of}
-use Rattle.shim_laws_keeping.specs.Flats.{HasProcess}
+use Rattle.shim_laws_keeping.specs.Flats.{HasProcessState}
 use Rattle.shim_laws_meetings.specs.Sharers.{AreSharers}
 use Rattle.shim_laws_meetings.specs.Values.{IsValueAmong, carried, nobody, ValuesFound}
 use Rattle.shim_laws_meetings.proofs.AtHome.{below_home, home_shares, can_meet, node_at}
@@ -23,7 +23,7 @@ values_found {S} o law v c i numbers x home enabled lists among rp root kept = o
     are = lists rp root home.first home.state home.sort kept home.has (home_shares o rp v.states (map stands_of v.records) root kept.shows law c i home.first home.state home.sort home.has home.its (can_meet o (tree_of o root) c (enabled rp (tree_of o root) kept)).0)
 
     -- whoever carries the channel shares it, and so is among them
-    carrier_among : (j f : ℕ) (s : S) (k : Sort) → HasProcess v j f s k → o.carries s c ≡ true → IsAmong j numbers
+    carrier_among : (j f : ℕ) (s : S) (k : ProcessStatus) → HasProcessState v j f s k → o.carries s c ≡ true → IsAmong j numbers
     carrier_among j f s k has e =
         let n = node_at o rp v.states (map stands_of v.records) root kept.shows j f s k has in
         let sound = state_sound o n.0 (sound_at o (place o rp s) root n.0 kept.shows.sound.below n.1) in

@@ -4,18 +4,18 @@ use Rattle.shim_base.specs.Paths.{Path, Channel, NamedChannel}
 use Rattle.shim_local.specs.Process.{Ops, AtNext}
 use Rattle.shim_semantics.specs.Nodes.{Node, is_next, source, value_of}
 use Rattle.shim_semantics.specs.Trees.{Tree, Event, Meet}
-use Rattle.shim_laws_records.specs.Seen.{Sort, lives}
+use Rattle.shim_laws_records.specs.Seen.{ProcessStatus, lives}
 use Rattle.shim_laws_records.specs.Changes.{HaveReceived}
 use Rattle.shim_laws_records.specs.Enabled.{Can}
-use Rattle.shim_laws_keeping.specs.Flats.{FlatView, stands, HasProcess, Keeps}
+use Rattle.shim_laws_keeping.specs.Flats.{FlatView, stands, HasProcessState, Keeps}
 use Rattle.shim_laws_keeping.specs.Moves.{MovesBy}
 use Rattle.shim_laws_meetings.specs.Receiving.{MovesOn}
 use Rattle.shim_laws_meetings.specs.Sharers.{ListsSharers}
 
 -- the process with this number has received the value, if it lives and stands at the channel
 pub data ReceivesOne {S : Type 0} (o : Ops S) (c : Channel) (v : ℤ) (i : ℕ) (before behind : FlatView S) : Type 0 where
-  stands_elsewhere : ((f : ℕ) (l : S) → HasProcess before i f l lives → is_next (o.stop l) c ≡ false) → behind ≡ before → ReceivesOne o c v i before behind
-  received : (f : ℕ) (l : S) (d : NamedChannel) → HasProcess before i f l lives → o.stop l ≡ AtNext d → d.channel ≡ c → behind.states ≡ slice_set before.states i (o.receive l v)
+  stands_elsewhere : ((f : ℕ) (l : S) → HasProcessState before i f l lives → is_next (o.stop l) c ≡ false) → behind ≡ before → ReceivesOne o c v i before behind
+  received : (f : ℕ) (l : S) (d : NamedChannel) → HasProcessState before i f l lives → o.stop l ≡ AtNext d → d.channel ≡ c → behind.states ≡ slice_set before.states i (o.receive l v)
       → MovesOn o (o.receive l v) d.channel 4294967295 i before.records behind.records → ReceivesOne o c v i before behind
 
 -- all of them, one after the other
@@ -31,8 +31,8 @@ IsEnabled {S} o e v = (rp : Path) (t : Tree S) → Keeps o rp v t.root → Can o
 pub record Declares {S : Type 0} (o : Ops S) (v : FlatView S) (i : ℕ) (c : Channel) : Type 0 where
   pub first : ℕ
   pub state : S
-  pub sort : Sort
-  pub has : HasProcess v i first state sort
+  pub sort : ProcessStatus
+  pub has : HasProcessState v i first state sort
   pub its : o.path state ≡ c.home
 
 -- the channel's source has this value, or there is none and it is 0

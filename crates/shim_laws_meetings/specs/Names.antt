@@ -5,15 +5,15 @@ use Rattle.shim_local.specs.Process.{Ops, AtNext}
 use Rattle.shim_semantics.specs.Nodes.{Node, is_next, first_name}
 use Rattle.shim_semantics.specs.Trees.{Meet}
 use Rattle.shim_laws_records.specs.Seen.{lives}
-use Rattle.shim_laws_keeping.specs.Flats.{FlatView, HasProcess, Keeps}
+use Rattle.shim_laws_keeping.specs.Flats.{FlatView, HasProcessState, Keeps}
 use Rattle.shim_laws_meetings.specs.Sharers.{ListsSharers}
 use Rattle.shim_laws_meetings.specs.Meetings.{IsEnabled, Declares}
 
 -- it is the name that the first of these has for the channel which lives and stands at it; or none of them does
 pub data IsFirstName {S : Type 0} (o : Ops S) (v : FlatView S) (c : Channel) : List ℕ → Option ℕ → Type 0 where
   nobody : IsFirstName o v c [] None
-  later : (i : ℕ) (is : List ℕ) (x : Option ℕ) → ((f : ℕ) (l : S) → HasProcess v i f l lives → is_next (o.stop l) c ≡ false) → IsFirstName o v c is x → IsFirstName o v c (i ∷ is) x
-  first : (i f : ℕ) (l : S) (d : NamedChannel) (is : List ℕ) → HasProcess v i f l lives → o.stop l ≡ AtNext d → d.channel ≡ c → IsFirstName o v c (i ∷ is) (Some d.name)
+  later : (i : ℕ) (is : List ℕ) (x : Option ℕ) → ((f : ℕ) (l : S) → HasProcessState v i f l lives → is_next (o.stop l) c ≡ false) → IsFirstName o v c is x → IsFirstName o v c (i ∷ is) x
+  first : (i f : ℕ) (l : S) (d : NamedChannel) (is : List ℕ) → HasProcessState v i f l lives → o.stop l ≡ AtNext d → d.channel ≡ c → IsFirstName o v c (i ∷ is) (Some d.name)
 
 -- a meeting of the channel brings this name, if it is the first one
 abbrev pub HasName : {S : Type 0} → Ops S → FlatView S → Channel → ℕ → Type 0

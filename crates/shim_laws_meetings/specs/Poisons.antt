@@ -4,9 +4,9 @@ use Rattle.shim_base.specs.Paths.{Path, Channel}
 use Rattle.shim_local.specs.Process.{Ops}
 use Rattle.shim_semantics.specs.Nodes.{Node, death}
 use Rattle.shim_semantics.specs.Trees.{Poison}
-use Rattle.shim_laws_records.specs.Seen.{Sort, lives, forks, place}
+use Rattle.shim_laws_records.specs.Seen.{ProcessStatus, lives, forks, place}
 use Rattle.shim_laws_records.specs.Changes.{HaveDied}
-use Rattle.shim_laws_keeping.specs.Flats.{FlatView, stands, HasProcess, Keeps}
+use Rattle.shim_laws_keeping.specs.Flats.{FlatView, stands, HasProcessState, Keeps}
 use Rattle.shim_laws_keeping.specs.Moves.{MovesBy}
 use Rattle.shim_laws_meetings.specs.Dying.{DiesAt}
 use Rattle.shim_laws_meetings.specs.Sharers.{ListsSharers}
@@ -14,8 +14,8 @@ use Rattle.shim_laws_meetings.specs.Meetings.{IsEnabled}
 
 -- the process with this number has died of an exception with this label, if it lived and had no handler for it
 pub data DiesOne {S : Type 0} (o : Ops S) (label i : ℕ) (before behind : FlatView S) : Type 0 where
-  survived : ((f : ℕ) (l : S) → HasProcess before i f l lives → label < o.base l → ⊥) → behind ≡ before → DiesOne o label i before behind
-  was_killed : (f : ℕ) (l : S) → HasProcess before i f l lives → label < o.base l → behind.states ≡ before.states → DiesAt o l label 4294967295 i before.records behind.records → DiesOne o label i before behind
+  survived : ((f : ℕ) (l : S) → HasProcessState before i f l lives → label < o.base l → ⊥) → behind ≡ before → DiesOne o label i before behind
+  was_killed : (f : ℕ) (l : S) → HasProcessState before i f l lives → label < o.base l → behind.states ≡ before.states → DiesAt o l label 4294967295 i before.records behind.records → DiesOne o label i before behind
 
 -- all of them, one after the other
 pub data AllDie {S : Type 0} (o : Ops S) (label : ℕ) : List ℕ → FlatView S → FlatView S → Type 0 where
@@ -27,17 +27,17 @@ pub record IsChildOf {S : Type 0} (v : FlatView S) (i : ℕ) (k l : S) : Type 0 
   pub parent : ℕ
   pub first : ℕ
   pub many : ℕ
-  pub fork : HasProcess v parent first l (forks many)
+  pub fork : HasProcessState v parent first l (forks many)
   pub branch : ℕ
   pub within : branch < many
   pub mine : i ≡ first + branch
   pub own_first : ℕ
-  pub sort : Sort
-  pub has : HasProcess v i own_first k sort
+  pub sort : ProcessStatus
+  pub has : HasProcessState v i own_first k sort
 
 -- each live process that shared the channel at or below the one with this number has died so, and nothing else has changed of what is shown
 abbrev pub AllDied : {S : Type 0} → Ops S → Channel → ℕ → ℕ → FlatView S → FlatView S → Type 0
-AllDied {S} o c label i before behind = (rp : Path) (root : Node S) (f : ℕ) (k : S) (x : Sort) → Keeps o rp before root → HasProcess before i f k x
+AllDied {S} o c label i before behind = (rp : Path) (root : Node S) (f : ℕ) (k : S) (x : ProcessStatus) → Keeps o rp before root → HasProcessState before i f k x
     → (behind.states ≡ before.states) × HaveDied o rp (place o rp k) c (death label) before.states (stands before) (stands behind)
 
 -- Where a child's poison is enabled, and all that live and share the channel at and below it die one after the other of the innermost label in force at its fork, the tree moves by the poison.

@@ -10,9 +10,9 @@ use Rattle.shim_records.specs.declared.pair.Reading.{Reading}
 use Rattle.shim_records.specs.declared.record.Record.{Record}
 
 -- where it stands at another channel than c now, the way up was walked for that from the record x, through at most n forks
-pub data ComesTo {S : Type 0} (o : Ops S) (s : S) (c : Channel) (n x : ℕ) (before behind : List Record) : Type 0 where
-  no_other : ((d : Channel) → same_channel c d ≡ false → is_next (o.stop s) d ≡ false) → behind ≡ before → ComesTo o s c n x before behind
-  other : (d : NamedChannel) (was is : Reading) → o.stop s ≡ AtNext d → same_channel c d.channel ≡ false → reading_of was ≡ live_reading false → reading_of is ≡ live_reading true → IsUpdatedAbove d.channel n x was is before behind → ComesTo o s c n x before behind
+pub data UpdatesOtherNext {S : Type 0} (o : Ops S) (s : S) (c : Channel) (n x : ℕ) (before behind : List Record) : Type 0 where
+  no_other : ((d : Channel) → same_channel c d ≡ false → is_next (o.stop s) d ≡ false) → behind ≡ before → UpdatesOtherNext o s c n x before behind
+  other : (d : NamedChannel) (was is : Reading) → o.stop s ≡ AtNext d → same_channel c d.channel ≡ false → reading_of was ≡ live_reading false → reading_of is ≡ live_reading true → IsUpdatedAbove d.channel n x was is before behind → UpdatesOtherNext o s c n x before behind
 
 -- a process that stood at c is s now: the way was walked for c, and for another one at which it stands
 pub record MovesOn {S : Type 0} (o : Ops S) (s : S) (c : Channel) (n x : ℕ) (before behind : List Record) : Type 0 where
@@ -22,4 +22,4 @@ pub record MovesOn {S : Type 0} (o : Ops S) (s : S) (c : Channel) (n x : ℕ) (b
   pub stood : reading_of was ≡ live_reading true
   pub stands : reading_of is ≡ live_reading (is_next (o.stop s) c)
   pub left : IsUpdatedAbove c n x was is before between
-  pub came : ComesTo o s c n x between behind
+  pub came : UpdatesOtherNext o s c n x between behind

@@ -10,7 +10,7 @@ use Rattle.shim_semantics.specs.Nodes.{Node, Nodes, Live, Forked, Ended, Dead, n
 use Rattle.shim_semantics.specs.Places.{at, child_at, branches}
 use Rattle.shim_semantics.proofs.ReplacedNodes.{put, put_child}
 use Rattle.shim_base.proofs.Facts.{some_same, none_some}
-use Rattle.shim_laws_records.specs.Seen.{Sort, lives, forks, sort, place, IsAside}
+use Rattle.shim_laws_records.specs.Seen.{ProcessStatus, lives, forks, process_status, place, IsAside}
 use Rattle.shim_laws_records.specs.Agrees.{RecordView, Has, Agrees}
 use Rattle.shim_laws_records.specs.Places.{IsReplaced}
 use Rattle.shim_laws_records.specs.Counts.{Tally, tally_of}
@@ -131,7 +131,7 @@ module _ {S : Type 0} (o : Ops S) (rp : Path) (before behind : List S) (stood st
   both_begun = (begun, have_now)
 
 module _ {S : Type 0} (o : Ops S) where
-  pub lives_no_fork : {B : Type 0} (n : ℕ) (k : Sort) → k ≡ lives → k ≡ forks n → B
+  pub lives_no_fork : {B : Type 0} (n : ℕ) (k : ProcessStatus) → k ≡ lives → k ≡ forks n → B
   lives_no_fork n k e f = no_lives n (sym e ∙ f)
     where
       no_lives : {B : Type 0} (n : ℕ) → lives ≡ forks n → B
@@ -160,7 +160,7 @@ module _ {S : Type 0} (o : Ops S) where
     changed = λ rp before behind stood stands c old new m a i counts rep leaf given changed right have.
         both_begun o rp before behind stood stands c old new m a (place o rp (state m)) counts counts rep given
         (λ j f n s has far. elim (same_or_not j i) [
-          | inl w ↦ no_fork a n leaf (sym (one_sort behind stands j f changed.first s (state a) (forks n) (sort a) has (subst (λ z. Has behind stands z changed.first (state a) (sort a)) (sym w) changed.mine)))
+          | inl w ↦ no_fork a n leaf (sym (one_sort behind stands j f changed.first s (state a) (forks n) (process_status a) has (subst (λ z. Has behind stands z changed.first (state a) (process_status a)) (sym w) changed.mine)))
           | inr w ↦ (f, changed.only j f s (forks n) w has, refl)
         ])
         (λ j f n s r l ks has e g. leaf_no_fork r a l ks leaf g) right have;

@@ -12,10 +12,10 @@ use Rattle.shim_laws_schedules.specs.Waiting.{has_sharer}
 use Rattle.shim_laws_schedules.proofs.Unshared.{is_unshared_still}
 use Rattle.shim_laws_schedules.proofs.Homes.{unshared_is_unshared, ready_has_sharer}
 use Rattle.shim_base.proofs.Facts.{some_same, none_some, and_false, false_unless}
-use Rattle.shim_laws_records.specs.Seen.{Sort, forks, seen, place, how_many_nodes}
+use Rattle.shim_laws_records.specs.Seen.{ProcessStatus, forks, seen, place, how_many_nodes}
 use Rattle.shim_laws_records.specs.Agrees.{RecordView, Has, Agrees, Shows}
 use Rattle.shim_laws_records.specs.Places.{IsReplaced}
-use Rattle.shim_laws_records.specs.Counts.{Tally, tally_of, joins, isnt_ready, fails, count, bit, is_missing, Reading, reading, read_of, all_there, Moved}
+use Rattle.shim_laws_records.specs.Counts.{Tally, tally_of, joins, isnt_ready, fails, count, bit, is_missing, Reading, reading, read_of, all_there, IsExchanged}
 use Rattle.shim_laws_records.specs.Tallied.{Tallied, OnTheWay, is_above, HaveCounts}
 use Rattle.shim_laws_records.specs.Updating.{AreLinked, AreAtMost, CanMove, AreMoved, UpdatedAbove, too_far, at_top, no_counts, stays, goes_on, CountsFollow}
 use Rattle.shim_laws_records.proofs.Aside.{as_many}
@@ -82,7 +82,7 @@ module _ {S : Type 0} (o : Ops S) (rp : Path) (records : List S) (stands : List 
     pub child : child_at branch [] children ≡ Some m
     pub as_many_are : how_many_nodes children ≡ many
 
-  up_from : (x j f : ℕ) (s : S) (k : Sort) → up x ≡ Some j → Has records stands x f s k → (t : List ℕ) (m : Node S) → q ≡ place o rp s ++ t → at (place o rp s) root ≡ Some m → Up x j s t m
+  up_from : (x j f : ℕ) (s : S) (k : ProcessStatus) → up x ≡ Some j → Has records stands x f s k → (t : List ℕ) (m : Node S) → q ≡ place o rp s ++ t → at (place o rp s) root ≡ Some m → Up x j s t m
   up_from x j f s k above has t m split there =
       let w = tied o rp records stands new shown up linked x f j s k has above in
       let b = w.0 in
@@ -140,8 +140,8 @@ module _ {S : Type 0} (o : Ops S) (rp : Path) (records : List S) (stands : List 
         let dead = moves (fails o c) was.failing is.failing y.dead (ap (λ w. w.failing) read) (ap (λ w. w.failing) reads) (ap (λ w. w.dead) e) in
         record { live = live.0; not_ready = not_ready.0; dead = dead.0; live_fits = live.1; not_ready_fits = not_ready.1; dead_fits = dead.1 }
 
-    moved : Moved (reading o c m) (reading o c (put t a m)) y z
-    moved = subst (λ w. Moved w (reading o c (put t a m)) y z) (sym read) (subst (λ w. Moved was w y z) (sym reads) (step.moved can))
+    moved : IsExchanged (reading o c m) (reading o c (put t a m)) y z
+    moved = subst (λ w. IsExchanged w (reading o c (put t a m)) y z) (sym read) (subst (λ w. IsExchanged was w y z) (sym reads) (step.moved can))
 
     up_one : OnTheWay o rp records stands c behind root (put (r ++ u.branch ∷ t) a root) r
         × (reading o c (Forked u.fork u.children) ≡ read_of (o.shares u.fork c) y)
@@ -182,7 +182,7 @@ module _ {S : Type 0} (o : Ops S) (rp : Path) (records : List S) (stands : List 
   at_the_top counts p e way = topped o rp records stands c counts root (put q a root) (subst (On counts) e way)
 
   -- where no fork above has counts, all that are kept are those of the new tree
-  pub cut_off : (counts : ℕ → Option Tally) → HaveCounts o rp records stands c counts new → (x f : ℕ) (s : S) (k : Sort) (r : Path) → Has records stands x f s k → c.home ≡ o.path s ++ r → On counts (place o rp s) → Done counts
+  pub cut_off : (counts : ℕ → Option Tally) → HaveCounts o rp records stands c counts new → (x f : ℕ) (s : S) (k : ProcessStatus) (r : Path) → Has records stands x f s k → c.home ≡ o.path s ++ r → On counts (place o rp s) → Done counts
   cut_off counts have x f s k r has home way i d e z y l ks its w at_z = on (is_above (place o rp z) (place o rp s)) refl
     where
       on : (v : Bool) → is_above (place o rp z) (place o rp s) ≡ v → y ≡ tally_of o c ks
@@ -190,7 +190,7 @@ module _ {S : Type 0} (o : Ops S) (rp : Path) (records : List S) (stands : List 
       on true v = absurd (none_above o rp records stands new shown c x f i d e s z k r has home its v (counts_share o rp records stands new shown c counts have i d e z y its w))
 
   pub go : LocalLaws o → {n x : ℕ} {was is : Reading} {before behind : ℕ → Option Tally} → UpdatedAbove up most n before x was is behind → HaveCounts o rp records stands c before new
-      → (f : ℕ) (s : S) (k : Sort) → Has records stands x f s k → o.shares s c ≡ true → (t : List ℕ) (m : Node S)
+      → (f : ℕ) (s : S) (k : ProcessStatus) → Has records stands x f s k → o.shares s c ≡ true → (t : List ℕ) (m : Node S)
       → q ≡ place o rp s ++ t → at (place o rp s) root ≡ Some m → reading o c m ≡ was → reading o c (put t a m) ≡ is → length (place o rp s) ≤ n
       → On before (place o rp s) → Done behind × HaveCounts o rp records stands c behind new
   go law (too_far before x was is) have f s k has shares t m split there read reads far way = (at_the_top before (place o rp s) (too_long (place o rp s) far) way, have)
@@ -214,7 +214,7 @@ module _ {S : Type 0} (o : Ops S) (rp : Path) (records : List S) (stands : List 
       (way_on x j f s t m u before between was is y z step have read reads way)
 
 module _ {S : Type 0} (o : Ops S) (law : LocalLaws o) where
-  updated : (rp : Path) (records : List S) (stands : List RecordView) (up : ℕ → Option ℕ) (c : Channel) (old new m a : Node S) (most n x f : ℕ) (s : S) (k : Sort) (was is : Reading) (before behind : ℕ → Option Tally)
+  updated : (rp : Path) (records : List S) (stands : List RecordView) (up : ℕ → Option ℕ) (c : Channel) (old new m a : Node S) (most n x f : ℕ) (s : S) (k : ProcessStatus) (was is : Reading) (before behind : ℕ → Option Tally)
       → Shows o rp records stands new → AreLinked records stands up → AreAtMost most records stands → Has records stands x f s k → IsReplaced (place o rp s) m a old new
       → reading o c m ≡ was → reading o c a ≡ is → length (place o rp s) ≤ n → o.shares s c ≡ true
       → HaveCounts o rp records stands c before new → OnTheWay o rp records stands c before old new (place o rp s) → UpdatedAbove up most n before x was is behind
@@ -234,7 +234,7 @@ module _ {S : Type 0} (o : Ops S) (law : LocalLaws o) where
       subst (Tallied o rp records stands c counts) (sym (is ∙ e))
       (ended o rp records stands c counts old m a q [] rep.was same (subst (λ z. OnTheWay o rp records stands c counts old z q) (is ∙ e) way))
 
-  own : (rp : Path) (records : List S) (stands : List RecordView) (c : Channel) (old new : Node S) (x f : ℕ) (s : S) (k : Sort) (r : Path) (counts : ℕ → Option Tally)
+  own : (rp : Path) (records : List S) (stands : List RecordView) (c : Channel) (old new : Node S) (x f : ℕ) (s : S) (k : ProcessStatus) (r : Path) (counts : ℕ → Option Tally)
       → Shows o rp records stands new → Has records stands x f s k → c.home ≡ o.path s ++ r
       → HaveCounts o rp records stands c counts new → OnTheWay o rp records stands c counts old new (place o rp s) → Tallied o rp records stands c counts new
   own rp records stands c old new x f s k r counts shown has home have way i d e z y l ks its w at_z = on (is_above (place o rp z) (place o rp s)) refl

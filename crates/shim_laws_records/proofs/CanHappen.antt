@@ -6,8 +6,8 @@ use Rattle.shim_local.specs.Laws.{LocalLaws}
 use Rattle.shim_semantics.specs.Nodes.{Node, Nodes, Live, Forked, Ended, Dead, no_node, node_and, state, states, goes, all_done, prevailing_death, ready, source, value_of}
 use Rattle.shim_semantics.specs.Acts.{Acted, act_here, act_live, closed}
 use Rattle.shim_semantics.specs.Poison.{can_poison, poison, poison_route, to_fork, last_branch}
-use Rattle.shim_semantics.specs.Places.{at, child_at, route, at_route, led_to, is_ready_at, meets, has_path}
-use Rattle.shim_semantics.specs.Trees.{Tree, Event, Own, Meet, Poison, Close, End, Kind, Steps, Ends, Closes, Nothing, kind_of, kind_of_stop, same_kind, after, met, poisons, change_nodes}
+use Rattle.shim_semantics.specs.Places.{at, child_at, route, at_route, led_to, home_is_ready, meets, has_path}
+use Rattle.shim_semantics.specs.Trees.{Tree, Event, Own, Meet, Poison, Close, End, OwnAction, Steps, Ends, Closes, Nothing, own_action_of, own_action_at, same_own_action, after, met, poisons, change_nodes}
 use Rattle.shim_semantics.proofs.Alone.{doer, does, IsAlone}
 use Rattle.shim_semantics.proofs.Routes.{route_of}
 use Rattle.shim_semantics.proofs.PoisonsListed.{fork_and_last, at_child as child_there, poisons_at, poison_of, route_poisons}
@@ -15,7 +15,7 @@ use Rattle.shim_laws_schedules.proofs.Opened.{opened, its_path, its_kind, shut}
 use Rattle.shim_laws_schedules.proofs.PoisonDiamond.{nodes_changed_some}
 use Rattle.shim_base.proofs.Facts.{some_same, none_some, first_holds, second_holds, both_hold, cond_some, cond_there, not_false, false_not}
 use Rattle.shim_base.proofs.SamePaths.{same_path_is, same_path_refl}
-use Rattle.shim_laws_records.specs.Seen.{Sort, lives, forks, sort, place, how_many_nodes}
+use Rattle.shim_laws_records.specs.Seen.{ProcessStatus, lives, forks, process_status, place, how_many_nodes}
 use Rattle.shim_laws_records.specs.Agrees.{RecordView, Has, Shows}
 use Rattle.shim_laws_records.specs.Counts.{going_of, all_there}
 use Rattle.shim_laws_records.specs.Dooms.{least_among, is_below}
@@ -38,13 +38,13 @@ there_is (Some y) h = (y, refl)
 not_none : {A : Type 0} (x : Option A) (y : A) → x ≡ Some y → x ≢ None
 not_none x y e f = none_some y (sym f ∙ e)
 
-steps_is : (k : Kind) → same_kind Steps k ≡ true → k ≡ Steps
+steps_is : (k : OwnAction) → same_own_action Steps k ≡ true → k ≡ Steps
 steps_is Steps e = refl
 steps_is Ends e = absurd cc
 steps_is Closes e = absurd cc
 steps_is Nothing e = absurd cc
 
-ends_is : (k : Kind) → same_kind Ends k ≡ true → k ≡ Ends
+ends_is : (k : OwnAction) → same_own_action Ends k ≡ true → k ≡ Ends
 ends_is Steps e = absurd cc
 ends_is Ends e = refl
 ends_is Closes e = absurd cc
@@ -65,7 +65,7 @@ all_are_done (node_and k ks) e = on (goes k) refl e (all_are_done ks)
     on false w h f = both_hold (not (goes k)) (all_done ks) (false_not (goes k) w) (f h)
 
 module _ {S : Type 0} (o : Ops S) where
-  live_acts : (l : S) (k : Kind) (s : StopView) → same_kind k (kind_of_stop s) ≡ true → (a : Acted S) × (act_live o l s ≡ Some a)
+  live_acts : (l : S) (k : OwnAction) (s : StopView) → same_own_action k (own_action_at s) ≡ true → (a : Acted S) × (act_live o l s ≡ Some a)
   live_acts l k AtQuiet e = (_, refl)
   live_acts l k AtPut e = (_, refl)
   live_acts l k AtFork e = (_, refl)
@@ -83,24 +83,24 @@ module _ {S : Type 0} (o : Ops S) where
       led = route_of o t.root m (place o rp l) (o.path l) s.sound.below there (ap o.path is)
 
       -- an event of the process by itself
-      alone_kind : (e : Event) → IsAlone e → doer e ≡ o.path l → Can o t e → same_kind (does e) (kind_of o m) ≡ true
+      alone_kind : (e : Event) → IsAlone e → doer e ≡ o.path l → Can o t e → same_own_action (does e) (own_action_of o m) ≡ true
       alone_kind e d its can =
           let u = there_is (after o e t) can in
           let x = opened o e t u.0 d u.1 in
           let place_is : x.place ≡ place o rp l = some_same x.place (place o rp l) (sym x.route_is ∙ (ap (route (o.path (state t.root))) its ∙ led)) in
           let same : x.old ≡ m = some_same x.old m (sym x.there ∙ (ap (λ z. at z t.root) place_is ∙ there)) in
-          ap (λ z. same_kind (does e) (kind_of o z)) (sym same) ∙ its_kind o e t u.0 x
+          ap (λ z. same_own_action (does e) (own_action_of o z)) (sym same) ∙ its_kind o e t u.0 x
 
-      alone_can : (e : Event) (a : Acted S) → IsAlone e → doer e ≡ o.path l → same_kind (does e) (kind_of o m) ≡ true → act_here o m ≡ Some a → Can o t e
+      alone_can : (e : Event) (a : Acted S) → IsAlone e → doer e ≡ o.path l → same_own_action (does e) (own_action_of o m) ≡ true → act_here o m ≡ Some a → Can o t e
       alone_can e a d its kind acts =
           not_none (after o e t) _ (shut o e t (place o rp l) m a d (ap (route (o.path (state t.root))) its ∙ led) there
-          (both_hold (same_path (o.path (state m)) (doer e)) (same_kind (does e) (kind_of o m)) (ap (λ z. same_path z (doer e)) (ap o.path is ∙ sym its) ∙ same_path_refl (doer e)) kind) acts)
+          (both_hold (same_path (o.path (state m)) (doer e)) (same_own_action (does e) (own_action_of o m)) (ap (λ z. same_path z (doer e)) (ap o.path is ∙ sym its) ∙ same_path_refl (doer e)) kind) acts)
 
       -- the meeting of a channel that it declared
       meets_is : (c : Channel) → o.path l ≡ c.home → meets o c t.root ≡ ready o c m
       meets_is c home =
-          ap (λ z. is_ready_at o c (at_route t.root z)) (ap (route (o.path (state t.root))) (sym home) ∙ led)
-          ∙ (ap (is_ready_at o c) there ∙ ap (λ b. b && ready o c m) (ap (λ z. same_path z c.home) (ap o.path is ∙ home) ∙ same_path_refl c.home))
+          ap (λ z. home_is_ready o c (at_route t.root z)) (ap (route (o.path (state t.root))) (sym home) ∙ led)
+          ∙ (ap (home_is_ready o c) there ∙ ap (λ b. b && ready o c m) (ap (λ z. same_path z c.home) (ap o.path is ∙ home) ∙ same_path_refl c.home))
 
       meet_can : (c : Channel) → o.path l ≡ c.home → Can o t (Meet c) ↔ (ready o c m ≡ true)
       meet_can c home =
@@ -112,17 +112,17 @@ module _ {S : Type 0} (o : Ops S) where
     live_there : (i f : ℕ) (l : S) → Has records stands i f l lives → at (place o rp l) t.root ≡ Some (Live l)
     live_there i f l has = seen_live (at (place o rp l) t.root) l (s.agrees.shown i f l lives has)
 
-    steps : (i f : ℕ) (l : S) → Has records stands i f l lives → Can o t (Own (o.path l)) ↔ (kind_of_stop (o.stop l) ≡ Steps)
+    steps : (i f : ℕ) (l : S) → Has records stands i f l lives → Can o t (Own (o.path l)) ↔ (own_action_at (o.stop l) ≡ Steps)
     steps i f l has = (
-      (λ can. steps_is (kind_of_stop (o.stop l)) (alone_kind l (Live l) (live_there i f l has) refl (Own (o.path l)) (λ z. cc) refl can)),
-      (λ e. let k : same_kind Steps (kind_of_stop (o.stop l)) ≡ true = ap (same_kind Steps) e in let a = live_acts l Steps (o.stop l) k in
+      (λ can. steps_is (own_action_at (o.stop l)) (alone_kind l (Live l) (live_there i f l has) refl (Own (o.path l)) (λ z. cc) refl can)),
+      (λ e. let k : same_own_action Steps (own_action_at (o.stop l)) ≡ true = ap (same_own_action Steps) e in let a = live_acts l Steps (o.stop l) k in
           alone_can l (Live l) (live_there i f l has) refl (Own (o.path l)) a.0 (λ z. cc) refl k a.1),
     )
 
-    ends : (i f : ℕ) (l : S) → Has records stands i f l lives → Can o t (End (o.path l)) ↔ (kind_of_stop (o.stop l) ≡ Ends)
+    ends : (i f : ℕ) (l : S) → Has records stands i f l lives → Can o t (End (o.path l)) ↔ (own_action_at (o.stop l) ≡ Ends)
     ends i f l has = (
-      (λ can. ends_is (kind_of_stop (o.stop l)) (alone_kind l (Live l) (live_there i f l has) refl (End (o.path l)) (λ z. cc) refl can)),
-      (λ e. let k : same_kind Ends (kind_of_stop (o.stop l)) ≡ true = ap (same_kind Ends) e in let a = live_acts l Ends (o.stop l) k in
+      (λ can. ends_is (own_action_at (o.stop l)) (alone_kind l (Live l) (live_there i f l has) refl (End (o.path l)) (λ z. cc) refl can)),
+      (λ e. let k : same_own_action Ends (own_action_at (o.stop l)) ≡ true = ap (same_own_action Ends) e in let a = live_acts l Ends (o.stop l) k in
           alone_can l (Live l) (live_there i f l has) refl (End (o.path l)) a.0 (λ z. cc) refl k a.1),
     )
 
@@ -149,7 +149,7 @@ module _ {S : Type 0} (o : Ops S) where
         let at_its : has_path o p (led_to o t.root p) ≡ true = ap (λ z. has_path o p (at_route t.root z)) led ∙ (ap (has_path o p) there ∙ (ap (λ z. same_path z p) its ∙ same_path_refl p)) in
         ap (λ z. cond z (poison_route o c t.root (route (o.path (state t.root)) p)) None) at_its ∙ (ap (poison_route o c t.root) led ∙ (route_poisons o c b t.root q ∙ e))
 
-    module _ (law : LocalLaws o) (c : Channel) (i g n b f : ℕ) (l k : S) (x : Sort) (ks : Nodes S) (m : Node S) (fork : Has records stands i g l (forks n)) (child : Has records stands (g + b) f k x) (less : b < n)
+    module _ (law : LocalLaws o) (c : Channel) (i g n b f : ℕ) (l k : S) (x : ProcessStatus) (ks : Nodes S) (m : Node S) (fork : Has records stands i g l (forks n)) (child : Has records stands (g + b) f k x) (less : b < n)
         (there : at (place o rp l) t.root ≡ Some (Forked l ks)) (is_child : child_at b [] ks ≡ Some m) where
       child_place : place o rp k ≡ place o rp l ++ b ∷ []
       child_place = let z = s.agrees.below i g n l fork b less in ap (place o rp) (one_state records stands (g + b) f z.0 k z.1 x z.2 child z.3) ∙ z.4
@@ -194,13 +194,13 @@ module _ {S : Type 0} (o : Ops S) where
     record Found (q : List ℕ) (m : Node S) : Type 0 where
       pub number : ℕ
       pub first : ℕ
-      pub has : Has records stands number first (state m) (sort m)
+      pub has : Has records stands number first (state m) (process_status m)
       pub placed : place o rp (state m) ≡ q
 
     found : (q : List ℕ) (m : Node S) → at q t.root ≡ Some m → Found q m
     found q m e =
         let c = covered o rp records stands s.rooted t.root s.agrees q m e in
-        let same = some_same (c.state_is, c.sort_is) (state m, sort m) c.is_seen in
+        let same = some_same (c.state_is, c.sort_is) (state m, process_status m) c.is_seen in
         record {
           number = c.number;
           first = c.first;
@@ -208,7 +208,7 @@ module _ {S : Type 0} (o : Ops S) where
           placed = ap (place o rp) (sym (ap (λ z. z.0) same)) ∙ c.is_there;
         }
 
-    live_of : (m : Node S) → kind_of o m ≡ Steps ⊎ kind_of o m ≡ Ends → sort m ≡ lives
+    live_of : (m : Node S) → own_action_of o m ≡ Steps ⊎ own_action_of o m ≡ Ends → process_status m ≡ lives
     live_of (Live l) e = refl
     live_of (Forked l ks) (inl e) = absurd cc
     live_of (Forked l ks) (inr e) = absurd cc
@@ -217,10 +217,10 @@ module _ {S : Type 0} (o : Ops S) where
     live_of (Dead l d) (inl e) = absurd cc
     live_of (Dead l d) (inr e) = absurd cc
 
-    fork_of : (m : Node S) → same_kind Closes (kind_of o m) ≡ true → (n : ℕ) × (sort m ≡ forks n)
+    fork_of : (m : Node S) → same_own_action Closes (own_action_of o m) ≡ true → (n : ℕ) × (process_status m ≡ forks n)
     fork_of (Live l) e = never (o.stop l) e
       where
-        never : {B : Type 0} (v : StopView) → same_kind Closes (kind_of_stop v) ≡ true → B
+        never : {B : Type 0} (v : StopView) → same_own_action Closes (own_action_at v) ≡ true → B
         never AtQuiet w = absurd cc
         never AtPut w = absurd cc
         never AtFork w = absurd cc
@@ -232,18 +232,18 @@ module _ {S : Type 0} (o : Ops S) where
     fork_of (Ended l) e = absurd cc
     fork_of (Dead l d) e = absurd cc
 
-    goes_of : (c : Channel) (m : Node S) → ready o c m ≡ true → (sort m ≡ lives) ⊎ ((n : ℕ) × (sort m ≡ forks n))
+    goes_of : (c : Channel) (m : Node S) → ready o c m ≡ true → (process_status m ≡ lives) ⊎ ((n : ℕ) × (process_status m ≡ forks n))
     goes_of c (Live l) e = inl refl
     goes_of c (Forked l ks) e = inr (how_many_nodes ks, refl)
     goes_of c (Ended l) e = absurd cc
     goes_of c (Dead l d) e = absurd cc
 
     -- where a channel's meeting is enabled its home is there and ready
-    ready_home : (c : Channel) (r : Option (List ℕ)) → is_ready_at o c (at_route t.root r) ≡ true → (q : List ℕ) × (m : Node S) × (at q t.root ≡ Some m) × (o.path (state m) ≡ c.home) × (ready o c m ≡ true)
+    ready_home : (c : Channel) (r : Option (List ℕ)) → home_is_ready o c (at_route t.root r) ≡ true → (q : List ℕ) × (m : Node S) × (at q t.root ≡ Some m) × (o.path (state m) ≡ c.home) × (ready o c m ≡ true)
     ready_home c None e = absurd cc
     ready_home c (Some q) e = on (at q t.root) refl e
       where
-        on : (x : Option (Node S)) → at q t.root ≡ x → is_ready_at o c x ≡ true → (q : List ℕ) × (m : Node S) × (at q t.root ≡ Some m) × (o.path (state m) ≡ c.home) × (ready o c m ≡ true)
+        on : (x : Option (Node S)) → at q t.root ≡ x → home_is_ready o c x ≡ true → (q : List ℕ) × (m : Node S) × (at q t.root ≡ Some m) × (o.path (state m) ≡ c.home) × (ready o c m ≡ true)
         on None w h = absurd cc
         on (Some m) w h = (q, m, w, same_path_is (o.path (state m)) c.home (first_holds (same_path (o.path (state m)) c.home) (ready o c m) h), second_holds (same_path (o.path (state m)) c.home) (ready o c m) h)
 
@@ -252,12 +252,12 @@ module _ {S : Type 0} (o : Ops S) where
         let u = there_is (after o (Own p) t) can in
         let x = opened o (Own p) t u.0 (λ z. cc) u.1 in
         let w = found x.place x.old x.there in
-        (w.number, at_step w.number w.first (state x.old) p (subst (Has records stands w.number w.first (state x.old)) (live_of x.old (inl (steps_is (kind_of o x.old) (its_kind o (Own p) t u.0 x)))) w.has) (its_path o (Own p) t u.0 x))
+        (w.number, at_step w.number w.first (state x.old) p (subst (Has records stands w.number w.first (state x.old)) (live_of x.old (inl (steps_is (own_action_of o x.old) (its_kind o (Own p) t u.0 x)))) w.has) (its_path o (Own p) t u.0 x))
     found_at (End p) can =
         let u = there_is (after o (End p) t) can in
         let x = opened o (End p) t u.0 (λ z. cc) u.1 in
         let w = found x.place x.old x.there in
-        (w.number, at_end w.number w.first (state x.old) p (subst (Has records stands w.number w.first (state x.old)) (live_of x.old (inr (ends_is (kind_of o x.old) (its_kind o (End p) t u.0 x)))) w.has) (its_path o (End p) t u.0 x))
+        (w.number, at_end w.number w.first (state x.old) p (subst (Has records stands w.number w.first (state x.old)) (live_of x.old (inr (ends_is (own_action_of o x.old) (its_kind o (End p) t u.0 x)))) w.has) (its_path o (End p) t u.0 x))
     found_at (Close p) can =
         let u = there_is (after o (Close p) t) can in
         let x = opened o (Close p) t u.0 (λ z. cc) u.1 in
@@ -267,7 +267,7 @@ module _ {S : Type 0} (o : Ops S) where
     found_at (Meet c) can =
         let y = ready_home c (route (o.path (state t.root)) c.home) (cond_there (meets o c t.root) (Some (met o c (value_of o c (source o c t.root)) t)) can).0 in
         let w = found y.0 y.1 y.2 in
-        (w.number, at_home w.number w.first (state y.1) (sort y.1) c w.has (goes_of c y.1 y.4) y.3)
+        (w.number, at_home w.number w.first (state y.1) (process_status y.1) c w.has (goes_of c y.1 y.4) y.3)
     found_at (Poison p c) can =
         let u = there_is (after o (Poison p c) t) can in
         let v = nodes_changed_some t u.0 (poisons o p c t.root) u.1 in

@@ -6,7 +6,7 @@ use Rattle.shim_base.specs.Paths.{Path, Channel}
 use Rattle.shim_local.specs.Process.{Ops, StopView, ForkedView, AtQuiet, AtNext, AtPut, AtFork, AtFinish, AtThrow, AtTrap, Parted, Trapped}
 use Rattle.shim_local.specs.Laws.{LocalLaws, Moved, by_quiet, by_call, by_unwind, by_fork, by_trap, by_join, by_put, by_thrown, by_label, AllOf, IsGiven}
 use Rattle.shim_semantics.specs.Nodes.{Node, Nodes, Live, Forked, Ended, Dead, Death, death_with, handed, state, states, all_done, prevailing_death}
-use Rattle.shim_semantics.specs.Acts.{Acted, act_here, act_live, thrown, throwing, closed, parted, nothing, catching}
+use Rattle.shim_semantics.specs.Acts.{Acted, act_here, act_live, thrown, throwing, closed, parted, nothing, catch_logged}
 use Rattle.shim_semantics.specs.Places.{at, SoundBelow}
 use Rattle.shim_semantics.specs.Sound.{IsSound}
 use Rattle.shim_semantics.proofs.HowMany.{clash}
@@ -26,8 +26,8 @@ use Rattle.shim_laws_records.proofs.Hanging.{tree_of}
 module _ {S : Type 0} (o : Ops S) (law : LocalLaws o) where
   thrown_given : (l : S) (d : Death) → o.sound l → d.label < o.handlers l → o.given (state (thrown o l d).node) ≡ o.given l
   thrown_given l d s below = elim (true_or_false (ltb d.label (o.base l))) [
-    | inl e ↦ ap (λ b. o.given (state (cond {A = Acted S} b (record { node = Dead l d; effects = nothing }) (record { node = Live (o.unwind l d.label (handed d.given)); effects = catching (o.handler l d.label) })).node)) e
-    | inr e ↦ ap (λ b. o.given (state (cond {A = Acted S} b (record { node = Dead l d; effects = nothing }) (record { node = Live (o.unwind l d.label (handed d.given)); effects = catching (o.handler l d.label) })).node)) e
+    | inl e ↦ ap (λ b. o.given (state (cond {A = Acted S} b (record { node = Dead l d; effects = nothing }) (record { node = Live (o.unwind l d.label (handed d.given)); effects = catch_logged (o.handler l d.label) })).node)) e
+    | inr e ↦ ap (λ b. o.given (state (cond {A = Acted S} b (record { node = Dead l d; effects = nothing }) (record { node = Live (o.unwind l d.label (handed d.given)); effects = catch_logged (o.handler l d.label) })).node)) e
         ∙ law.moved_given l (o.unwind l d.label (handed d.given)) s (by_unwind (by_label d.label (handed d.given) (ltb-false d.label (o.base l) e) below refl))
   ]
 

@@ -7,7 +7,7 @@ use Rattle.shim_semantics.specs.Nodes.{Node, Live, Forked, all_live}
 use Rattle.shim_semantics.specs.Places.{at, child_at}
 use Rattle.shim_semantics.proofs.ReplacedNodes.{put}
 use Rattle.shim_base.proofs.Facts.{some_same, none_some}
-use Rattle.shim_laws_records.specs.Seen.{Sort, lives, forks, seen, place, how_many_nodes, IsAside}
+use Rattle.shim_laws_records.specs.Seen.{ProcessStatus, lives, forks, seen, place, how_many_nodes, IsAside}
 use Rattle.shim_laws_records.specs.Agrees.{RecordView, used, Has, Agrees}
 use Rattle.shim_laws_records.specs.Changes.{HasForked}
 use Rattle.shim_laws_records.proofs.Aside.{there, outside, at_split}
@@ -55,7 +55,7 @@ module _ {S : Type 0} (o : Ops S) (rp : Path) (before after : List S) (stood sta
   fork_there = there q (Live l) fork root is_there
 
   -- no other record stands there or below
-  aside : (j d : ℕ) (t : S) (x : Sort) → j ≢ i → Has before stood j d t x → IsAside (place o rp t) q
+  aside : (j d : ℕ) (t : S) (x : ProcessStatus) → j ≢ i → Has before stood j d t x → IsAside (place o rp t) q
   aside j d t x n h [] e = n (ok.apart j i d f t l x lives h has (e ∙ append_nil' q))
     where
       append_nil' : (r : List ℕ) → r ++ [] ≡ r
@@ -63,7 +63,7 @@ module _ {S : Type 0} (o : Ops S) (rp : Path) (before after : List S) (stood sta
       append_nil' (y ∷ r) = ap (λ z. y ∷ z) (append_nil' r)
   aside j d t x n h (b ∷ s) e = none_some (t, x) (sym (ap (λ z. seen (at z root)) e ∙ ap seen (at_split q (b ∷ s) root (Live l) is_there)) ∙ ok.shown j d t x h)
 
-  shown_now : (j d : ℕ) (t : S) (x : Sort) → Has after stands j d t x → seen (at (place o rp t) root') ≡ Some (t, x)
+  shown_now : (j d : ℕ) (t : S) (x : ProcessStatus) → Has after stands j d t x → seen (at (place o rp t) root') ≡ Some (t, x)
   shown_now j d t x h = elim (forked.only j d t x h) [
     | inl (u, v, w) ↦ ap (λ z. seen (at z root')) (ap (place o rp) v ∙ stays) ∙ (ap seen fork_there ∙ (λ z. Some (sym v z, (ap forks (so_many ks) ∙ sym w) z)))
     | inr (inl (b, u, v, w)) ↦
@@ -73,9 +73,9 @@ module _ {S : Type 0} (o : Ops S) (rp : Path) (before after : List S) (stood sta
 
   -- which of the three a record is tells its place
   abbrev Kind : ℕ → S → Type 0
-  Kind j t = ((j ≡ i) × (place o rp t ≡ q)) ⊎ (((b : ℕ) × (place o rp t ≡ q ++ b ∷ []) × (j ≡ g + b)) ⊎ ((d : ℕ) × (x : Sort) × (j ≢ i) × Has before stood j d t x))
+  Kind j t = ((j ≡ i) × (place o rp t ≡ q)) ⊎ (((b : ℕ) × (place o rp t ≡ q ++ b ∷ []) × (j ≡ g + b)) ⊎ ((d : ℕ) × (x : ProcessStatus) × (j ≢ i) × Has before stood j d t x))
 
-  kind : (j d : ℕ) (t : S) (x : Sort) → Has after stands j d t x → Kind j t
+  kind : (j d : ℕ) (t : S) (x : ProcessStatus) → Has after stands j d t x → Kind j t
   kind j d t x h = elim (forked.only j d t x h) [
     | inl (u, v, w) ↦ inl (u, ap (place o rp) v ∙ stays)
     | inr (inl (b, u, v, w)) ↦ inr (inl (b, its b t u, v))
@@ -98,9 +98,9 @@ module _ {S : Type 0} (o : Ops S) (rp : Path) (before after : List S) (stood sta
   two j c s t (inr (inr a)) (inr (inr b)) e = ok.apart j c a.0 b.0 s t a.1 b.1 a.3 b.3 e
 
   abbrev Child : S → ℕ → ℕ → Type 0
-  Child s c b = (d : ℕ) × (t : S) × (k : Sort) × Has after stands c d t k × (place o rp t ≡ place o rp s ++ b ∷ [])
+  Child s c b = (d : ℕ) × (t : S) × (k : ProcessStatus) × Has after stands c d t k × (place o rp t ≡ place o rp s ++ b ∷ [])
 
-  old_child : (s : S) (c b d : ℕ) (t : S) (k : Sort) → Has before stood c d t k → place o rp t ≡ place o rp s ++ b ∷ [] → Child s c b
+  old_child : (s : S) (c b d : ℕ) (t : S) (k : ProcessStatus) → Has before stood c d t k → place o rp t ≡ place o rp s ++ b ∷ [] → Child s c b
   old_child s c b d t k h e = elim (same_or_not c i) [
     | inl w ↦
         let same : t ≡ l = some_same t l (sym h.state_is ∙ (ap (slice_get before) w ∙ has.state_is)) in
@@ -122,7 +122,7 @@ module _ {S : Type 0} (o : Ops S) (rp : Path) (before after : List S) (stood sta
     | inr (inr (u, v)) ↦ let z = ok.below j d n s v b less in old_child s (d + b) b z.0 z.1 z.2 z.3 z.4
   ]
     where
-      first_same : {m : ℕ} {k h : Sort} → used d k ≡ used m h → d ≡ m
+      first_same : {m : ℕ} {k h : ProcessStatus} → used d k ≡ used m h → d ≡ m
       first_same e = cc
 
       lives_forks : (m : ℕ) → lives ≡ forks m → ⊥

@@ -14,7 +14,7 @@ use Rattle.shim_semantics.proofs.Replaced.{sound_at}
 use Rattle.shim_semantics.proofs.Routes.{at_path}
 use Rattle.shim_base.proofs.Facts.{some_same, none_some}
 use Rattle.shim_base.proofs.SamePaths.{same_path_is, same_path_refl}
-use Rattle.shim_laws_records.specs.Seen.{Sort, forks, place, how_many_nodes}
+use Rattle.shim_laws_records.specs.Seen.{ProcessStatus, forks, place, how_many_nodes}
 use Rattle.shim_laws_records.specs.Agrees.{RecordView, Has, Shows}
 use Rattle.shim_laws_records.specs.Counts.{Tally}
 use Rattle.shim_laws_records.specs.Tallied.{is_above, HaveCounts}
@@ -80,23 +80,23 @@ module _ {S : Type 0} (o : Ops S) where
 
   module _ (rp : Path) (records : List S) (stands : List RecordView) (root : Node S) (s : Shows o rp records stands root) where
     -- the node of a record
-    pub record Node_of (i f : ℕ) (l : S) (k : Sort) : Type 0 where
+    pub record Node_of (i f : ℕ) (l : S) (k : ProcessStatus) : Type 0 where
       pub node : Node S
       pub there : at (place o rp l) root ≡ Some node
       pub state_is : state node ≡ l
 
-    pub node_of : (i f : ℕ) (l : S) (k : Sort) → Has records stands i f l k → Node_of i f l k
+    pub node_of : (i f : ℕ) (l : S) (k : ProcessStatus) → Has records stands i f l k → Node_of i f l k
     node_of i f l k has = let w = seen_some (at (place o rp l) root) l k (s.agrees.shown i f l k has) in record { node = w.0; there = w.1; state_is = w.2 }
 
     -- its path is as long as the root's and its place
-    long : (i f : ℕ) (l : S) (k : Sort) → Has records stands i f l k → length (o.path l) ≡ length rp + length (place o rp l)
+    long : (i f : ℕ) (l : S) (k : ProcessStatus) → Has records stands i f l k → length (o.path l) ≡ length rp + length (place o rp l)
     long i f l k has =
         let w = node_of i f l k has in
         let p = at_path o root w.node (place o rp l) s.sound.below w.there in
         ap (λ z. length (o.path z)) (sym w.state_is) ∙ (ap length p.1 ∙ (length-append (o.path (state root)) p.0 ∙ ((λ j. length (o.path (state root)) + sym (same_lengths p.0) j) ∙ (λ j. length (s.root_path j) + length (p.2 j)))))
 
     -- no fork above a process shares a channel that was declared there or below
-    pub none_above : (c : Channel) (x f i g n : ℕ) (l u : S) (k : Sort) (r : Path) → Has records stands x f l k → c.home ≡ o.path l ++ r → Has records stands i g u (forks n) → is_above (place o rp u) (place o rp l) ≡ true → o.shares u c ≡ true → ⊥
+    pub none_above : (c : Channel) (x f i g n : ℕ) (l u : S) (k : ProcessStatus) (r : Path) → Has records stands x f l k → c.home ≡ o.path l ++ r → Has records stands i g u (forks n) → is_above (place o rp u) (place o rp l) ≡ true → o.shares u c ≡ true → ⊥
     none_above c x f i g n l u k r has home fork above shared =
         let w = node_of i g u (forks n) fork in
         let h = home_above c (place o rp u) root w.node s.sound.below (λ y. ([], sym (s.sound.own c y) ∙ sym (append-nil c.home))) w.there (ap (λ z. o.shares z c) w.state_is ∙ shared) in
@@ -108,7 +108,7 @@ module _ {S : Type 0} (o : Ops S) where
     -- ---- parents
 
     -- what is known of a record that has a parent
-    pub record Below (x f : ℕ) (l : S) (k : Sort) : Type 0 where
+    pub record Below (x f : ℕ) (l : S) (k : ProcessStatus) : Type 0 where
       pub number : ℕ
       pub first : ℕ
       pub many : ℕ
@@ -119,7 +119,7 @@ module _ {S : Type 0} (o : Ops S) where
       pub within : branch < many
       pub mine : x ≡ first + branch
 
-    below_of : (x f : ℕ) (l : S) (k : Sort) → Has records stands x f l k → (r : List ℕ) (b : ℕ) → place o rp l ≡ r ++ b ∷ [] → Below x f l k
+    below_of : (x f : ℕ) (l : S) (k : ProcessStatus) → Has records stands x f l k → (r : List ℕ) (b : ℕ) → place o rp l ≡ r ++ b ∷ [] → Below x f l k
     below_of x f l k has r b e =
         let w = node_of x f l k has in
         let v = fork_above r b [] root w.node (ap (λ z. at z root) (sym e) ∙ w.there) in
@@ -143,7 +143,7 @@ module _ {S : Type 0} (o : Ops S) where
 
     module _ (up : ℕ → Option ℕ) (linked : AreLinked records stands up) where
       -- a record has the parent that it knows
-      pub tied : (x f j : ℕ) (l : S) (k : Sort) → Has records stands x f l k → up x ≡ Some j → (b : Below x f l k) × (b.number ≡ j)
+      pub tied : (x f j : ℕ) (l : S) (k : ProcessStatus) → Has records stands x f l k → up x ≡ Some j → (b : Below x f l k) × (b.number ≡ j)
       tied x f j l k has e = elim (ends_of (place o rp l)) [
         | inl w ↦
             let is_root : x ≡ 0 = s.agrees.apart x 0 f s.rooted.first l s.rooted.state k s.rooted.sort has s.rooted.has (w ∙ sym s.rooted.at_root) in
@@ -154,7 +154,7 @@ module _ {S : Type 0} (o : Ops S) where
       ]
 
       -- and one that knows none is the root's
-      pub topmost : (x f : ℕ) (l : S) (k : Sort) → Has records stands x f l k → up x ≡ None → place o rp l ≡ []
+      pub topmost : (x f : ℕ) (l : S) (k : ProcessStatus) → Has records stands x f l k → up x ≡ None → place o rp l ≡ []
       topmost x f l k has e = elim (ends_of (place o rp l)) [
         | inl w ↦ w
         | inr w ↦
@@ -172,7 +172,7 @@ module _ {S : Type 0} (o : Ops S) where
           ((have i f n l l w.0 has w.1).0 (λ z. none_some y (sym z ∙ e))).0
 
       -- where a child shares a channel for which its fork has no counts, it has declared it
-      pub declared : LocalLaws o → (x f : ℕ) (l : S) (k : Sort) → Has records stands x f l k → o.shares l c ≡ true → (b : Below x f l k) → counts b.number ≡ None → c.home ≡ o.path l
+      pub declared : LocalLaws o → (x f : ℕ) (l : S) (k : ProcessStatus) → Has records stands x f l k → o.shares l c ≡ true → (b : Below x f l k) → counts b.number ≡ None → c.home ≡ o.path l
       declared law x f l k has shared b without = on (same_path c.home (o.path l)) refl
         where
           on : (t : Bool) → same_path c.home (o.path l) ≡ t → c.home ≡ o.path l

@@ -7,7 +7,7 @@ use Rattle.shim_local.specs.Process.{Ops}
 use Rattle.shim_semantics.specs.Nodes.{Node, Nodes, Live, Forked, state, all_live}
 use Rattle.shim_semantics.specs.Places.{at, branches}
 use Rattle.shim_semantics.proofs.ReplacedNodes.{put}
-use Rattle.shim_laws_records.specs.Seen.{forks, sort, place, IsAside}
+use Rattle.shim_laws_records.specs.Seen.{forks, process_status, place, IsAside}
 use Rattle.shim_laws_records.specs.Agrees.{RecordView, Has}
 use Rattle.shim_laws_records.specs.Places.{IsReplaced}
 use Rattle.shim_laws_records.specs.Counts.{Tally}
@@ -66,7 +66,7 @@ module _ {S : Type 0} (o : Ops S) where
     changed = λ rp before behind stood stands c old new m a i counts labels rep leaf changed right.
         begun o rp before behind stood stands c old new m a (place o rp (state m)) counts counts labels labels rep
         (λ j f n s has far. elim (same_or_not j i) [
-          | inl w ↦ no_fork a n leaf (sym (one_sort behind stands j f changed.first s (state a) (forks n) (sort a) has (subst (λ z. Has behind stands z changed.first (state a) (sort a)) (sym w) changed.mine)))
+          | inl w ↦ no_fork a n leaf (sym (one_sort behind stands j f changed.first s (state a) (forks n) (process_status a) has (subst (λ z. Has behind stands z changed.first (state a) (process_status a)) (sym w) changed.mine)))
           | inr w ↦ (f, changed.only j f s (forks n) w has, refl, refl)
         ])
         (λ j f n s r l ks has e g. leaf_no_fork r a l ks leaf g) right;

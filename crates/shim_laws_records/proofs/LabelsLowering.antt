@@ -8,7 +8,7 @@ use Rattle.shim_local.specs.Laws.{LocalLaws}
 use Rattle.shim_semantics.specs.Nodes.{Node, Nodes, Forked}
 use Rattle.shim_semantics.specs.Places.{at}
 use Rattle.shim_semantics.proofs.ReplacedNodes.{put, put_child}
-use Rattle.shim_laws_records.specs.Seen.{Sort, forks, place}
+use Rattle.shim_laws_records.specs.Seen.{ProcessStatus, forks, place}
 use Rattle.shim_laws_records.specs.Agrees.{RecordView, Has, Shows}
 use Rattle.shim_laws_records.specs.Places.{IsReplaced}
 use Rattle.shim_laws_records.specs.Counts.{Tally}
@@ -57,7 +57,7 @@ module _ {S : Type 0} (o : Ops S) (law : LocalLaws o) (rp : Path) (records : Lis
       on (Some y) e = (y, e)
 
   -- no fork further up counts the channel
-  cut_off : (labels : ℕ → Option ℕ) (x f : ℕ) (s : S) (k : Sort) → Has records stands x f s k → c.home ≡ o.path s → On labels (place o rp s) → Done labels
+  cut_off : (labels : ℕ → Option ℕ) (x f : ℕ) (s : S) (k : ProcessStatus) → Has records stands x f s k → c.home ≡ o.path s → On labels (place o rp s) → Done labels
   cut_off labels x f s k has home way i d n u l ks fork counted there = on (is_above (place o rp u) (place o rp s)) refl
     where
       on : (b : Bool) → is_above (place o rp u) (place o rp s) ≡ b → labels i ≡ least_among o c ks
@@ -67,7 +67,7 @@ module _ {S : Type 0} (o : Ops S) (law : LocalLaws o) (rp : Path) (records : Lis
           absurd (none_above o rp records stands new shown c x f i d n s u k [] has (home ∙ sym (append-nil (o.path s))) fork w (counts_share o rp records stands new shown c counts have i d n u y.0 fork y.1))
 
   -- the fork of a record on the way, before and behind
-  record Above (x : ℕ) (s : S) (t : List ℕ) (f : ℕ) (k : Sort) (j : ℕ) : Type 0 where
+  record Above (x : ℕ) (s : S) (t : List ℕ) (f : ℕ) (k : ProcessStatus) (j : ℕ) : Type 0 where
     pub below : Below o rp records stands new shown x f s k
     pub number : below.number ≡ j
     pub split : q ≡ place o rp below.parent ++ below.branch ∷ t
@@ -78,7 +78,7 @@ module _ {S : Type 0} (o : Ops S) (law : LocalLaws o) (rp : Path) (records : Lis
     pub is : at (place o rp below.parent) new ≡ Some (Forked state js)
     pub taken_in : least_among o c js ≡ lesser (least_among o c ks) (least o c a)
 
-  above_of : (x j f : ℕ) (s : S) (k : Sort) (t : List ℕ) → Has records stands x f s k → up x ≡ Some j → q ≡ place o rp s ++ t → Above x s t f k j
+  above_of : (x j f : ℕ) (s : S) (k : ProcessStatus) (t : List ℕ) → Has records stands x f s k → up x ≡ Some j → q ≡ place o rp s ++ t → Above x s t f k j
   above_of x j f s k t has e split =
       let w = tied o rp records stands new shown up linked x f j s k has e in
       let b = w.0 in
@@ -98,7 +98,7 @@ module _ {S : Type 0} (o : Ops S) (law : LocalLaws o) (rp : Path) (records : Lis
         taken_in = (leasts_follow o).taken_in c old new m a q r v.state v.children (put_child b.branch t a v.children) rep clear (ap (is_above r) far ∙ above_further r b.branch t) v.there now;
       }
 
-  module _ (x j f : ℕ) (s : S) (k : Sort) (t : List ℕ) (u : Above x s t f k j) (before : ℕ → Option ℕ) (counted : counts j ≢ None) (way : On before (place o rp s)) where
+  module _ (x j f : ℕ) (s : S) (k : ProcessStatus) (t : List ℕ) (u : Above x s t f k j) (before : ℕ → Option ℕ) (counted : counts j ≢ None) (way : On before (place o rp s)) where
     abbrev r : List ℕ
     r = place o rp u.below.parent
 
@@ -156,7 +156,7 @@ module _ {S : Type 0} (o : Ops S) (law : LocalLaws o) (rp : Path) (records : Lis
             let law' = (leasts_follow o).stays c old new (Forked u.state u.ks) (Forked u.state u.js) r (place o rp v) f'.state f'.children (put_child y.branch y.rest (Forked u.state u.js) f'.children) replaced_fork stays w f'.there now in
             way' i d n v f'.state f'.children h is_counted (ap (λ z. at (place o rp v) (cond z old new)) w ∙ f'.there) ∙ (sym law' ∙ ap (least_among o c) (sym same.1))
 
-  go : {n x : ℕ} {before behind : ℕ → Option ℕ} → LoweredAbove up counts (least o c a) n before x behind → (f : ℕ) (s : S) (k : Sort) → Has records stands x f s k → o.shares s c ≡ true → (t : List ℕ) → q ≡ place o rp s ++ t → length (place o rp s) ≤ n
+  go : {n x : ℕ} {before behind : ℕ → Option ℕ} → LoweredAbove up counts (least o c a) n before x behind → (f : ℕ) (s : S) (k : ProcessStatus) → Has records stands x f s k → o.shares s c ≡ true → (t : List ℕ) → q ≡ place o rp s ++ t → length (place o rp s) ≤ n
       → On before (place o rp s) → Done behind
   go (all_the_way before x) f s k has shares t split far way = at_top before (place o rp s) (too_long (place o rp s) far) way
   go (at_the_root n before x e) f s k has shares t split far way = at_top before (place o rp s) (topmost o rp records stands new shown up linked x f s k has e) way

@@ -6,7 +6,7 @@ use Rattle.shim_semantics.specs.Nodes.{Node, Nodes, Live, Forked, Ended, Dead, n
 use Rattle.shim_semantics.specs.Places.{at, child_at}
 use Rattle.shim_semantics.proofs.ReplacedNodes.{put, put_child}
 use Rattle.shim_base.proofs.Facts.{some_same}
-use Rattle.shim_laws_records.specs.Seen.{Sort, forks, sort}
+use Rattle.shim_laws_records.specs.Seen.{ProcessStatus, forks, process_status}
 use Rattle.shim_laws_records.specs.Agrees.{RecordView, free, used, Has}
 use Rattle.shim_laws_records.specs.Places.{IsReplaced}
 use Rattle.shim_laws_records.specs.Counts.{bit, going_of}
@@ -22,7 +22,7 @@ abbrev first_of : ℕ → RecordView → ℕ
 first_of d free = d
 first_of d (used f k) = f
 
-one_first : {S : Type 0} (states : List S) (stands : List RecordView) (i f g : ℕ) (s t : S) (k h : Sort) → Has states stands i f s k → Has states stands i g t h → f ≡ g
+one_first : {S : Type 0} (states : List S) (stands : List RecordView) (i f g : ℕ) (s t : S) (k h : ProcessStatus) → Has states stands i f s k → Has states stands i g t h → f ≡ g
 one_first states stands i f g s t k h a b = ap (first_of f) (some_same (used f k) (used g h) (sym a.stands_so ∙ b.stands_so))
 
 module _ {S : Type 0} (o : Ops S) where
@@ -30,7 +30,7 @@ module _ {S : Type 0} (o : Ops S) where
   links_follow = record {
     changed = λ before behind stood stands i a up leaf changed linked. record {
       parents = λ j d n s has b less. elim (same_or_not j i) [
-        | inl w ↦ no_fork a n leaf (sym (one_sort behind stands j d changed.first s (state a) (forks n) (sort a) has (subst (λ z. Has behind stands z changed.first (state a) (sort a)) (sym w) changed.mine)))
+        | inl w ↦ no_fork a n leaf (sym (one_sort behind stands j d changed.first s (state a) (forks n) (process_status a) has (subst (λ z. Has behind stands z changed.first (state a) (process_status a)) (sym w) changed.mine)))
         | inr w ↦ linked.parents j d n s (changed.only j d s (forks n) w has) b less
       ];
       top = linked.top;

@@ -6,7 +6,7 @@ use Rattle.shim_local.specs.Process.{Ops}
 use Rattle.shim_semantics.specs.Nodes.{Node, Nodes, Live, Forked, Ended, Dead, no_node, node_and, received, all_received}
 use Rattle.shim_semantics.specs.Places.{at, child_at}
 use Rattle.shim_base.proofs.Facts.{some_same}
-use Rattle.shim_laws_records.specs.Seen.{Sort, forks, seen, place, how_many_nodes}
+use Rattle.shim_laws_records.specs.Seen.{ProcessStatus, forks, seen, place, how_many_nodes}
 use Rattle.shim_laws_records.specs.Agrees.{RecordView, Has, Agrees}
 use Rattle.shim_laws_records.specs.Places.{got, seen_met}
 use Rattle.shim_laws_records.specs.Changes.{HaveReceived}
@@ -33,20 +33,20 @@ module _ {S : Type 0} (o : Ops S) (c : Channel) (v : ℤ) where
     seen_received_in (suc b) p (node_and k ks) = seen_received_in b p ks
 
   module _ (rp : Path) (before after : List S) (stands : List RecordView) (root : Node S) (h : HaveReceived o c v stands before after)
-      (stays : (i f : ℕ) (s : S) (k : Sort) → Has before stands i f s k → place o rp (got o c v k s) ≡ place o rp s) (ok : Agrees o rp before stands root) where
+      (stays : (i f : ℕ) (s : S) (k : ProcessStatus) → Has before stands i f s k → place o rp (got o c v k s) ≡ place o rp s) (ok : Agrees o rp before stands root) where
     -- what a record had before
-    record Was (i f : ℕ) (s : S) (k : Sort) : Type 0 where
+    record Was (i f : ℕ) (s : S) (k : ProcessStatus) : Type 0 where
       pub old : S
       pub had : Has before stands i f old k
       pub is : s ≡ got o c v k old
 
-    was : (i f : ℕ) (s : S) (k : Sort) → Has after stands i f s k → Was i f s k
+    was : (i f : ℕ) (s : S) (k : ProcessStatus) → Has after stands i f s k → Was i f s k
     was i f s k x =
         let w = h.had i s x.state_is in
         let y : Has before stands i f w.0 k = record { state_is = w.1; stands_so = x.stands_so } in
         record { old = w.0; had = y; is = some_same s (got o c v k w.0) (sym x.state_is ∙ h.gets i f w.0 k y) }
 
-    its_place : (i f : ℕ) (s : S) (k : Sort) (w : Was i f s k) → place o rp s ≡ place o rp w.old
+    its_place : (i f : ℕ) (s : S) (k : ProcessStatus) (w : Was i f s k) → place o rp s ≡ place o rp w.old
     its_place i f s k w = ap (place o rp) w.is ∙ stays i f w.old k w.had
 
     pub agrees_met : Agrees o rp after stands (received o c v root)

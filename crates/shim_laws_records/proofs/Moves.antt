@@ -9,7 +9,7 @@ use Rattle.shim_semantics.proofs.ReplacedNodes.{put, put_child}
 use Rattle.shim_base.proofs.Facts.{some_same}
 use Rattle.shim_laws_records.specs.Seen.{forks, place}
 use Rattle.shim_laws_records.specs.Agrees.{RecordView, Has, Agrees}
-use Rattle.shim_laws_records.specs.Counts.{Tally, tally_of, joins, isnt_ready, fails, count, reading, read_of, Moved}
+use Rattle.shim_laws_records.specs.Counts.{Tally, tally_of, joins, isnt_ready, fails, count, reading, read_of, IsExchanged}
 use Rattle.shim_laws_records.specs.Tallied.{is_above, OnTheWay}
 use Rattle.shim_laws_records.proofs.Tallies.{count_changed, fork_read}
 use Rattle.shim_laws_records.proofs.SameTrees.{same_or_not}
@@ -21,7 +21,7 @@ cancelled a d x y m n e f g = omega (arith, e, f, g)
 module _ {S : Type 0} (o : Ops S) (rp : Path) (states : List S) (stands : List RecordView) (c : Channel) (before after : ℕ → Option Tally) (root k a : Node S) (l s : S) (ks : Nodes S) (r t : List ℕ) (b j f n : ℕ) (y z : Tally)
     (ok : Agrees o rp states stands (put (r ++ b ∷ t) a root)) (has : Has states stands j f s (forks n)) (its : place o rp s ≡ r)
     (there : at r root ≡ Some (Forked l ks)) (child : child_at b [] ks ≡ Some k)
-    (moved : Moved (reading o c k) (reading o c (put t a k)) y z) (stood : before j ≡ Some y) (stands_now : after j ≡ Some z) (others : (i : ℕ) → i ≢ j → after i ≡ before i)
+    (moved : IsExchanged (reading o c k) (reading o c (put t a k)) y z) (stood : before j ≡ Some y) (stands_now : after j ≡ Some z) (others : (i : ℕ) → i ≢ j → after i ≡ before i)
     (way : OnTheWay o rp states stands c before root (put (r ++ b ∷ t) a root) (r ++ b ∷ [])) where
   abbrev pub new : Node S
   new = put (r ++ b ∷ t) a root

@@ -6,7 +6,7 @@ use Rattle.shim_local.specs.Process.{Ops}
 use Rattle.shim_semantics.specs.Nodes.{Node, Live, Forked, Ended, Dead}
 use Rattle.shim_semantics.specs.Places.{at}
 use Rattle.shim_base.proofs.Facts.{some_same, none_some}
-use Rattle.shim_laws_records.specs.Seen.{Sort, forks, seen, place, how_many_nodes}
+use Rattle.shim_laws_records.specs.Seen.{ProcessStatus, forks, seen, place, how_many_nodes}
 use Rattle.shim_laws_records.specs.Agrees.{RecordView, Has, Agrees, Rooted, OneTree}
 use Rattle.shim_laws_records.proofs.Aside.{at_split}
 use Rattle.shim_laws_records.proofs.SameTrees.{same_tree, child_counted, through}
@@ -17,7 +17,7 @@ module _ {S : Type 0} (o : Ops S) (rp : Path) (states : List S) (stands : List R
     pub number : ℕ
     pub first : ℕ
     pub state_is : S
-    pub sort_is : Sort
+    pub sort_is : ProcessStatus
     pub has : Has states stands number first state_is sort_is
     pub is_there : place o rp state_is ≡ q
     pub is_seen : Some (state_is, sort_is) ≡ seen (Some n)

@@ -8,7 +8,7 @@ use Rattle.shim_semantics.specs.Poison.{poisoned, all_poisoned, one_poisoned, ca
 use Rattle.shim_semantics.proofs.ReplacedNodes.{put, put_child}
 use Rattle.shim_semantics.proofs.PoisonStays.{above_some, before_some, after_some}
 use Rattle.shim_base.proofs.Facts.{some_same, none_some, chosen}
-use Rattle.shim_laws_records.specs.Seen.{Sort, lives, forks, ends, dies, seen, place, how_many_nodes}
+use Rattle.shim_laws_records.specs.Seen.{ProcessStatus, lives, forks, ends, dies, seen, place, how_many_nodes}
 use Rattle.shim_laws_records.specs.Agrees.{RecordView, used, Has, Agrees}
 use Rattle.shim_laws_records.specs.Places.{killed, seen_killed, SameAside}
 use Rattle.shim_laws_records.specs.Changes.{HaveDied}
@@ -101,26 +101,26 @@ module _ {S : Type 0} (o : Ops S) (c : Channel) where
       (ok : Agrees o rp states stood root) (died : HaveDied o rp q c d states stood stands)
       (shows : (s : List ℕ) → seen (at (q ++ s) new) ≡ seen_killed o c d (seen (at (q ++ s) root))) (aside : SameAside q root new) where
     -- what a record said before
-    record Was (i f : ℕ) (s : S) (k : Sort) : Type 0 where
-      pub old : Sort
+    record Was (i f : ℕ) (s : S) (k : ProcessStatus) : Type 0 where
+      pub old : ProcessStatus
       pub had : Has states stood i f s old
       pub shown : seen (at (place o rp s) new) ≡ Some (s, k)
       pub fork : (n : ℕ) → k ≡ forks n → old ≡ forks n
 
-    used_sort : (f : ℕ) (k h : Sort) → Some (used f k) ≡ Some (used f h) → k ≡ h
+    used_sort : (f : ℕ) (k h : ProcessStatus) → Some (used f k) ≡ Some (used f h) → k ≡ h
     used_sort f k h e = cc
 
     dead_no_fork : (b : Bool) (n : ℕ) → cond b (dies d) lives ≡ forks n → lives ≡ forks n
     dead_no_fork true n e = absurd cc
     dead_no_fork false n e = e
 
-    still_fork : (s : S) (h : Sort) (n : ℕ) → killed o c d s h ≡ forks n → h ≡ forks n
+    still_fork : (s : S) (h : ProcessStatus) (n : ℕ) → killed o c d s h ≡ forks n → h ≡ forks n
     still_fork s lives n e = dead_no_fork (o.shares s c) n e
     still_fork s (forks m) n e = e
     still_fork s ends n e = absurd cc
     still_fork s (dies x) n e = absurd cc
 
-    was : (i f : ℕ) (s : S) (k : Sort) → Has states stands i f s k → Was i f s k
+    was : (i f : ℕ) (s : S) (k : ProcessStatus) → Has states stands i f s k → Was i f s k
     was i f s k h =
         let w = died.had i f k h.stands_so in
         let y : Has states stood i f s w.0 = record { state_is = h.state_is; stands_so = w.1 } in
@@ -139,7 +139,7 @@ module _ {S : Type 0} (o : Ops S) (c : Channel) where
         ]
 
     -- a record that was in use still is
-    still : (i f : ℕ) (s : S) (k : Sort) → Has states stood i f s k → (h : Sort) × Has states stands i f s h
+    still : (i f : ℕ) (s : S) (k : ProcessStatus) → Has states stood i f s k → (h : ProcessStatus) × Has states stands i f s h
     still i f s k h = elim (aside_or_further q (place o rp s)) [
       | inl z ↦ (k, record { state_is = h.state_is; stands_so = died.aside i f s k h z })
       | inr z ↦ (killed o c d s k, record { state_is = h.state_is; stands_so = died.below i f s k z.0 h z.1 })

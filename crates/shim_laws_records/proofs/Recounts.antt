@@ -12,7 +12,7 @@ use Rattle.shim_semantics.proofs.ReplacedNodes.{put, put_child}
 use Rattle.shim_semantics.proofs.Replaced.{sound_at}
 use Rattle.shim_semantics.proofs.PoisonsListed.{at_child as child_there}
 use Rattle.shim_base.proofs.Facts.{none_some}
-use Rattle.shim_laws_records.specs.Seen.{Sort, forks, seen, sort, place, how_many_nodes}
+use Rattle.shim_laws_records.specs.Seen.{ProcessStatus, forks, seen, process_status, place, how_many_nodes}
 use Rattle.shim_laws_records.specs.Agrees.{RecordView, used, Has, Shows}
 use Rattle.shim_laws_records.specs.Places.{IsReplaced}
 use Rattle.shim_laws_records.specs.Counts.{Tally}
@@ -20,7 +20,7 @@ use Rattle.shim_laws_records.specs.Tallied.{is_above, HaveCounts}
 use Rattle.shim_laws_records.specs.Updating.{AreLinked}
 use Rattle.shim_laws_records.specs.Dooms.{lesser, least, least_among}
 use Rattle.shim_laws_records.specs.LoweredLabels.{Labelled, LabelsOnTheWay}
-use Rattle.shim_laws_records.specs.Recounting.{read_label, read_record, label_at, label_among, NoneUncounted, IsReadOff, Recounted, all_the_way, at_the_root, uncounted, as_before, recounts, LabelsRecount}
+use Rattle.shim_laws_records.specs.Recounting.{read_label, read_record, label_at, least_label_among, NoneUncounted, IsReadOff, Recounted, all_the_way, at_the_root, uncounted, as_before, recounts, LabelsRecount}
 use Rattle.shim_laws_records.proofs.SameTrees.{same_or_not, is_put, seen_state, seen_sort, child_counted, fork_count}
 use Rattle.shim_laws_records.proofs.OneChange.{one_state}
 use Rattle.shim_laws_records.proofs.Way.{way_from, not_above_itself, above_its_own, above_same, with_split, fork_above}
@@ -32,7 +32,7 @@ use Rattle.shim_laws_records.proofs.LabelsLowering.{not_above_root, shorter, too
 -- ---- one fork's label, read off its children
 
 module _ {S : Type 0} (o : Ops S) (c : Channel) (records : List S) (stands : List RecordView) (labels : ℕ → Option ℕ) where
-  read_all : (ks : Nodes S) (g : ℕ) → ((b : ℕ) (k : Node S) → child_at b [] ks ≡ Some k → label_at o c records stands labels (g + b) ≡ least o c k) → label_among o c records stands labels g (how_many_nodes ks) ≡ least_among o c ks
+  read_all : (ks : Nodes S) (g : ℕ) → ((b : ℕ) (k : Node S) → child_at b [] ks ≡ Some k → label_at o c records stands labels (g + b) ≡ least o c k) → least_label_among o c records stands labels g (how_many_nodes ks) ≡ least_among o c ks
   read_all no_node g f = refl
   read_all (node_and k ks) g f =
       let here : g + 0 ≡ g = omega arith in
@@ -42,10 +42,10 @@ module _ {S : Type 0} (o : Ops S) (c : Channel) (records : List S) (stands : Lis
       next g b = omega arith
 
   -- what is read of a record of a node
-  read_one : (i f : ℕ) (k : Node S) → Has records stands i f (state k) (sort k) → ((l : S) (js : Nodes S) → k ≡ Forked l js → labels i ≡ least_among o c js) → label_at o c records stands labels i ≡ least o c k
+  read_one : (i f : ℕ) (k : Node S) → Has records stands i f (state k) (process_status k) → ((l : S) (js : Nodes S) → k ≡ Forked l js → labels i ≡ least_among o c js) → label_at o c records stands labels i ≡ least o c k
   read_one i f k h forked = (λ t. read_record o c (h.state_is t) (h.stands_so t) (labels i)) ∙ by_sort k forked
     where
-      by_sort : (k : Node S) → ((l : S) (js : Nodes S) → k ≡ Forked l js → labels i ≡ least_among o c js) → read_label o c (state k) (sort k) (labels i) ≡ least o c k
+      by_sort : (k : Node S) → ((l : S) (js : Nodes S) → k ≡ Forked l js → labels i ≡ least_among o c js) → read_label o c (state k) (process_status k) (labels i) ≡ least o c k
       by_sort (Live l) g = refl
       by_sort (Forked l js) g = g l js refl
       by_sort (Ended l) g = refl
@@ -65,15 +65,15 @@ module _ {S : Type 0} (o : Ops S) (law : LocalLaws o) (rp : Path) (records : Lis
         let see : seen (Some k) ≡ Some (z.1, z.2) = sym (ap seen at_k) ∙ shown.agrees.shown (g + b) z.0 z.1 z.2 z.3 in
         let state_is = seen_state k z.1 z.2 see in
         let sort_is = seen_sort k z.1 z.2 see in
-        let its : Has records stands (g + b) z.0 (state k) (sort k) = record { state_is = z.3.state_is ∙ ap Some (sym state_is); stands_so = z.3.stands_so ∙ ap (λ x. Some (used z.0 x)) (sym sort_is) } in
+        let its : Has records stands (g + b) z.0 (state k) (process_status k) = record { state_is = z.3.state_is ∙ ap Some (sym state_is); stands_so = z.3.stands_so ∙ ap (λ x. Some (used z.0 x)) (sym sort_is) } in
         read_one o c records stands labels (g + b) z.0 k its
         (λ u js is. forked b k e (omega (arith, less, many)) z.0 z.1 its at_k u js is state_is)
       where
-        forked : (b : ℕ) (k : Node S) → child_at b [] ks ≡ Some k → b < n → (f : ℕ) (t : S) → Has records stands (g + b) f (state k) (sort k) → at (place o rp t) new ≡ Some k → (u : S) (js : Nodes S) → k ≡ Forked u js → state k ≡ t → labels (g + b) ≡ least_among o c js
+        forked : (b : ℕ) (k : Node S) → child_at b [] ks ≡ Some k → b < n → (f : ℕ) (t : S) → Has records stands (g + b) f (state k) (process_status k) → at (place o rp t) new ≡ Some k → (u : S) (js : Nodes S) → k ≡ Forked u js → state k ≡ t → labels (g + b) ≡ least_among o c js
         forked b k e less f t its at_k u js is same = on (counts (g + b)) refl
           where
             has' : Has records stands (g + b) f u (forks (how_many_nodes js))
-            has' = record { state_is = its.state_is ∙ ap (λ z. Some (state z)) is; stands_so = its.stands_so ∙ ap (λ z. Some (used f (sort z))) is }
+            has' = record { state_is = its.state_is ∙ ap (λ z. Some (state z)) is; stands_so = its.stands_so ∙ ap (λ z. Some (used f (process_status z))) is }
 
             at_u : at (place o rp u) new ≡ Some (Forked u js)
             at_u = ap (λ z. at (place o rp z) new) (sym (ap state is) ∙ same) ∙ (at_k ∙ ap Some is)
@@ -87,8 +87,8 @@ module _ {S : Type 0} (o : Ops S) (law : LocalLaws o) (rp : Path) (records : Lis
                 (λ x r h. shared_not_below o new (place o rp s) (Forked l ks) c shown.sound there shares (sound.number, v.1) (x ∷ r) (h ∙ (ap (λ z. o.path (state z) ++ x ∷ r) (sym is) ∙ v.2 (x ∷ r))))
                 (λ counted. (have (g + b) f (how_many_nodes js) u u js has' at_u).1 counted w))
 
-    pub read_off : label_among o c records stands labels g n ≡ least_among o c ks
-    read_off = ap (label_among o c records stands labels g) (sym many) ∙ read_all o c records stands labels ks g child
+    pub read_off : least_label_among o c records stands labels g n ≡ least_among o c ks
+    read_off = ap (least_label_among o c records stands labels g) (sym many) ∙ read_all o c records stands labels ks g child
 
 -- ---- the way up
 
@@ -110,7 +110,7 @@ module _ {S : Type 0} (o : Ops S) (law : LocalLaws o) (rp : Path) (records : Lis
       on None e = absurd (h e)
       on (Some y) e = (y, e)
 
-  cut_off : (labels : ℕ → Option ℕ) (x f : ℕ) (s : S) (k : Sort) → Has records stands x f s k → c.home ≡ o.path s → On labels (place o rp s) → Done labels
+  cut_off : (labels : ℕ → Option ℕ) (x f : ℕ) (s : S) (k : ProcessStatus) → Has records stands x f s k → c.home ≡ o.path s → On labels (place o rp s) → Done labels
   cut_off labels x f s k has home way i d n u l ks fork counted there = on (is_above (place o rp u) (place o rp s)) refl
     where
       on : (b : Bool) → is_above (place o rp u) (place o rp s) ≡ b → labels i ≡ least_among o c ks
@@ -120,7 +120,7 @@ module _ {S : Type 0} (o : Ops S) (law : LocalLaws o) (rp : Path) (records : Lis
           absurd (none_above o rp records stands new shown c x f i d n s u k [] has (home ∙ sym (append-nil (o.path s))) fork w (counts_share o rp records stands new shown c counts have i d n u y.0 fork y.1))
 
   -- the fork of a record on the way, before and behind
-  pub record Above (x : ℕ) (s : S) (t : List ℕ) (f : ℕ) (k : Sort) (j : ℕ) : Type 0 where
+  pub record Above (x : ℕ) (s : S) (t : List ℕ) (f : ℕ) (k : ProcessStatus) (j : ℕ) : Type 0 where
     pub below : Below o rp records stands new shown x f s k
     pub number : below.number ≡ j
     pub split : q ≡ place o rp below.parent ++ below.branch ∷ t
@@ -130,7 +130,7 @@ module _ {S : Type 0} (o : Ops S) (law : LocalLaws o) (rp : Path) (records : Lis
     pub was : at (place o rp below.parent) old ≡ Some (Forked state ks)
     pub is : at (place o rp below.parent) new ≡ Some (Forked state js)
 
-  above_of : (x j f : ℕ) (s : S) (k : Sort) (t : List ℕ) → Has records stands x f s k → up x ≡ Some j → q ≡ place o rp s ++ t → Above x s t f k j
+  above_of : (x j f : ℕ) (s : S) (k : ProcessStatus) (t : List ℕ) → Has records stands x f s k → up x ≡ Some j → q ≡ place o rp s ++ t → Above x s t f k j
   above_of x j f s k t has e split =
       let w = tied o rp records stands new shown up linked x f j s k has e in
       let b = w.0 in
@@ -148,7 +148,7 @@ module _ {S : Type 0} (o : Ops S) (law : LocalLaws o) (rp : Path) (records : Lis
         is = ap (at r) (is_put q m a old new rep) ∙ (ap (λ z. at r (put z a old)) far ∙ with_split r (b.branch ∷ t) a old (Forked v.state v.children) v.there);
       }
 
-  module _ (x j f : ℕ) (s : S) (k : Sort) (t : List ℕ) (u : Above x s t f k j) (before : ℕ → Option ℕ) (counted : counts j ≢ None) (empty : NoneUncounted counts before) (way : On before (place o rp s)) where
+  module _ (x j f : ℕ) (s : S) (k : ProcessStatus) (t : List ℕ) (u : Above x s t f k j) (before : ℕ → Option ℕ) (counted : counts j ≢ None) (empty : NoneUncounted counts before) (way : On before (place o rp s)) where
     abbrev r : List ℕ
     r = place o rp u.below.parent
 
@@ -227,7 +227,7 @@ module _ {S : Type 0} (o : Ops S) (law : LocalLaws o) (rp : Path) (records : Lis
             let law' = (leasts_follow o).stays c old new (Forked u.state u.ks) (Forked u.state u.js) r (place o rp v) f'.state f'.children (put_child y.branch y.rest (Forked u.state u.js) f'.children) replaced_fork stays w f'.there now in
             way' i d n v f'.state f'.children h is_counted (ap (λ z. at (place o rp v) (cond z old new)) w ∙ f'.there) ∙ (sym law' ∙ ap (least_among o c) (sym same.1))
 
-  go : {n x : ℕ} {before behind : ℕ → Option ℕ} → Recounted o c records stands up counts n before x behind → NoneUncounted counts before → (f : ℕ) (s : S) (k : Sort) → Has records stands x f s k → o.shares s c ≡ true → (t : List ℕ) → q ≡ place o rp s ++ t → length (place o rp s) ≤ n
+  go : {n x : ℕ} {before behind : ℕ → Option ℕ} → Recounted o c records stands up counts n before x behind → NoneUncounted counts before → (f : ℕ) (s : S) (k : ProcessStatus) → Has records stands x f s k → o.shares s c ≡ true → (t : List ℕ) → q ≡ place o rp s ++ t → length (place o rp s) ≤ n
       → On before (place o rp s) → Done behind
   go (all_the_way before x) empty f s k has shares t split far way = at_top before (place o rp s) (too_long (place o rp s) far) way
   go (at_the_root n before x e) empty f s k has shares t split far way = at_top before (place o rp s) (topmost o rp records stands new shown up linked x f s k has e) way

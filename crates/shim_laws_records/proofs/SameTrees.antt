@@ -5,37 +5,37 @@ use Rattle.shim_semantics.specs.Nodes.{Node, Nodes, Live, Forked, Ended, Dead, D
 use Rattle.shim_semantics.specs.Places.{at, child_at}
 use Rattle.shim_semantics.proofs.ReplacedNodes.{put}
 use Rattle.shim_base.proofs.Facts.{some_same, none_some}
-use Rattle.shim_laws_records.specs.Seen.{Sort, lives, forks, ends, dies, seen, sort, is_leaf, how_many_nodes, IsAside}
+use Rattle.shim_laws_records.specs.Seen.{ProcessStatus, lives, forks, ends, dies, seen, process_status, is_leaf, how_many_nodes, IsAside}
 use Rattle.shim_laws_records.specs.Places.{IsReplaced, NodesAreReplaced}
 use Rattle.shim_laws_records.proofs.Aside.{there, outside, at_split}
 
 -- two sorts
-abbrev sort_number : Sort → ℕ
+abbrev sort_number : ProcessStatus → ℕ
 sort_number lives = 0
 sort_number (forks n) = 1
 sort_number ends = 2
 sort_number (dies x) = 3
 
-abbrev sort_count : Sort → ℕ
+abbrev sort_count : ProcessStatus → ℕ
 sort_count lives = 0
 sort_count (forks n) = n
 sort_count ends = 0
 sort_count (dies x) = 0
 
-abbrev sort_death : Sort → Death
+abbrev sort_death : ProcessStatus → Death
 sort_death lives = death 0
 sort_death (forks n) = death 0
 sort_death ends = death 0
 sort_death (dies d) = d
 
-two_sorts : {B : Type 0} (k h : Sort) (m n : ℕ) → sort_number k ≡ m → sort_number h ≡ n → m ≢ n → k ≡ h → B
+two_sorts : {B : Type 0} (k h : ProcessStatus) (m n : ℕ) → sort_number k ≡ m → sort_number h ≡ n → m ≢ n → k ≡ h → B
 two_sorts k h m n e f d w = absurd (d (sym e ∙ (ap sort_number w ∙ f)))
 
-sorts_of : {S : Type 0} (n m : Node S) → seen (Some n) ≡ seen (Some m) → sort n ≡ sort m
-sorts_of n m e = ap (λ z. z.1) (some_same (state n, sort n) (state m, sort m) e)
+sorts_of : {S : Type 0} (n m : Node S) → seen (Some n) ≡ seen (Some m) → process_status n ≡ process_status m
+sorts_of n m e = ap (λ z. z.1) (some_same (state n, process_status n) (state m, process_status m) e)
 
 states_of : {S : Type 0} (n m : Node S) → seen (Some n) ≡ seen (Some m) → state n ≡ state m
-states_of n m e = ap (λ z. z.0) (some_same (state n, sort n) (state m, sort m) e)
+states_of n m e = ap (λ z. z.0) (some_same (state n, process_status n) (state m, process_status m) e)
 
 pub same_or_not : (j i : ℕ) → (j ≡ i) ⊎ (j ≢ i)
 same_or_not zero zero = inl refl
@@ -78,13 +78,13 @@ mutual
       λ i. node_and (one i) (rest i)
 
 -- what is seen where a node stands
-pub seen_sort : {S : Type 0} (n : Node S) (s : S) (k : Sort) → seen (Some n) ≡ Some (s, k) → sort n ≡ k
-seen_sort n s k e = ap (λ z. z.1) (some_same (state n, sort n) (s, k) e)
+pub seen_sort : {S : Type 0} (n : Node S) (s : S) (k : ProcessStatus) → seen (Some n) ≡ Some (s, k) → process_status n ≡ k
+seen_sort n s k e = ap (λ z. z.1) (some_same (state n, process_status n) (s, k) e)
 
-pub seen_state : {S : Type 0} (n : Node S) (s : S) (k : Sort) → seen (Some n) ≡ Some (s, k) → state n ≡ s
-seen_state n s k e = ap (λ z. z.0) (some_same (state n, sort n) (s, k) e)
+pub seen_state : {S : Type 0} (n : Node S) (s : S) (k : ProcessStatus) → seen (Some n) ≡ Some (s, k) → state n ≡ s
+seen_state n s k e = ap (λ z. z.0) (some_same (state n, process_status n) (s, k) e)
 
-pub seen_some : {S : Type 0} (x : Option (Node S)) (s : S) (k : Sort) → seen x ≡ Some (s, k) → (n : Node S) × (x ≡ Some n) × (state n ≡ s) × (sort n ≡ k)
+pub seen_some : {S : Type 0} (x : Option (Node S)) (s : S) (k : ProcessStatus) → seen x ≡ Some (s, k) → (n : Node S) × (x ≡ Some n) × (state n ≡ s) × (process_status n ≡ k)
 seen_some None s k e = none_some (s, k) e
 seen_some (Some n) s k e = (n, refl, seen_state n s k e, seen_sort n s k e)
 
@@ -117,7 +117,7 @@ seen_fork (Some (Forked l ks)) s n e = (ks, ap (λ z. Some (Forked z ks)) (seen_
 seen_fork (Some (Ended l)) s n e = two_sorts ends (forks n) 2 1 refl refl (λ w. absurd cc) (seen_sort (Ended l) s (forks n) e)
 seen_fork (Some (Dead l x)) s n e = two_sorts (dies x) (forks n) 3 1 refl refl (λ w. absurd cc) (seen_sort (Dead l x) s (forks n) e)
 
-pub no_fork : {S : Type 0} {B : Type 0} (n : Node S) (m : ℕ) → is_leaf n ≡ true → sort n ≡ forks m → B
+pub no_fork : {S : Type 0} {B : Type 0} (n : Node S) (m : ℕ) → is_leaf n ≡ true → process_status n ≡ forks m → B
 no_fork (Live l) m e f = two_sorts lives (forks m) 0 1 refl refl (λ w. absurd cc) f
 no_fork (Forked l ks) m e f = absurd cc
 no_fork (Ended l) m e f = two_sorts ends (forks m) 2 1 refl refl (λ w. absurd cc) f

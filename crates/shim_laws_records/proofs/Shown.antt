@@ -8,7 +8,7 @@ use Rattle.shim_local.specs.Quiets.{QuietSteps}
 use Rattle.shim_local.specs.Laws.{LocalLaws, AreChildren, by_quiet}
 use Rattle.shim_local.proofs.Quiets.{first_quiet}
 use Rattle.shim_semantics.specs.Nodes.{Node, Nodes, Live, Forked, Dead, Death, death, handed, state, states, all_live, all_done, prevailing_death, source, value_of, received}
-use Rattle.shim_semantics.specs.Acts.{Acted, act_here, act_live, thrown, closed, parted, nothing, catching}
+use Rattle.shim_semantics.specs.Acts.{Acted, act_here, act_live, thrown, closed, parted, nothing, catch_logged}
 use Rattle.shim_semantics.specs.Places.{at, branches, route}
 use Rattle.shim_semantics.specs.Quiets.{Advances}
 use Rattle.shim_semantics.specs.Systems.{run}
@@ -20,10 +20,10 @@ use Rattle.shim_semantics.proofs.SoundEvents.{here_keeps, events_keep_sound, run
 use Rattle.shim_semantics.proofs.MeetStays.{meeting_stays}
 use Rattle.shim_laws_schedules.proofs.Lengths.{went_on}
 use Rattle.shim_base.proofs.Facts.{some_same, none_some, cond_some}
-use Rattle.shim_laws_records.specs.Seen.{Sort, lives, forks, ends, dies, seen, sort, is_leaf, place}
+use Rattle.shim_laws_records.specs.Seen.{ProcessStatus, lives, forks, ends, dies, seen, process_status, is_leaf, place}
 use Rattle.shim_laws_records.specs.Agrees.{RecordView, used, Has, Agrees, Rooted, Shows, StartShows}
 use Rattle.shim_laws_records.specs.Places.{IsBy, IsReplaced, got, killed, seen_killed}
-use Rattle.shim_laws_records.specs.Changes.{HasChanged, HasForked, HasClosed, HaveReceived, HaveDied, block, prevailing_among, EventsAreShown, OneIsShown}
+use Rattle.shim_laws_records.specs.Changes.{HasChanged, HasForked, HasClosed, HaveReceived, HaveDied, segment, prevailing_among, EventsAreShown, OneIsShown}
 use Rattle.shim_laws_records.proofs.SameTrees.{same_or_not, aside_or_further, is_put, seen_live, seen_fork}
 use Rattle.shim_laws_records.proofs.OneChange.{one_state, agrees_changed}
 use Rattle.shim_laws_records.proofs.Forking.{agrees_forked}
@@ -49,7 +49,7 @@ nothing_before b (x ∷ q) e = cc
 thrown_leaf : {S : Type 0} (o : Ops S) (l : S) (d : Death) → is_leaf (thrown o l d).node ≡ true
 thrown_leaf {S = S} o l d = on (ltb d.label (o.base l))
   where
-    on : (b : Bool) → is_leaf (cond {A = Acted S} b (record { node = Dead l d; effects = nothing }) (record { node = Live (o.unwind l d.label (handed d.given)); effects = catching (o.handler l d.label) })).node ≡ true
+    on : (b : Bool) → is_leaf (cond {A = Acted S} b (record { node = Dead l d; effects = nothing }) (record { node = Live (o.unwind l d.label (handed d.given)); effects = catch_logged (o.handler l d.label) })).node ≡ true
     on true = refl
     on false = refl
 
@@ -99,7 +99,7 @@ module _ {S : Type 0} (o : Ops S) (law : LocalLaws o) where
 
   -- ---- one record that has changed
 
-  pub rooted_changed : (rp : Path) (before behind : List S) (stood stands : List RecordView) (i f : ℕ) (l m : S) (x k : Sort) → Rooted o rp before stood → Has before stood i f l x → o.path m ≡ o.path l → HasChanged before behind stood stands i m k → Rooted o rp behind stands
+  pub rooted_changed : (rp : Path) (before behind : List S) (stood stands : List RecordView) (i f : ℕ) (l m : S) (x k : ProcessStatus) → Rooted o rp before stood → Has before stood i f l x → o.path m ≡ o.path l → HasChanged before behind stood stands i m k → Rooted o rp behind stands
   rooted_changed rp before behind stood stands i f l m x k r has same changed = elim (same_or_not 0 i) [
     | inl w ↦
         let old : r.state ≡ l = one_state before stood 0 r.first f r.state l r.sort x r.has (subst (λ z. Has before stood z f l x) (sym w) has) in
@@ -109,7 +109,7 @@ module _ {S : Type 0} (o : Ops S) (law : LocalLaws o) where
 
   stepped : (rp : Path) (before behind : List S) (stood stands : List RecordView) (t u : Tree S) (e : Event) (i f : ℕ) (l : S) (a : Acted S)
       → Shows o rp before stood t.root → Has before stood i f l lives → IsBy (o.path l) e → after o e t ≡ Some u → act_live o l (o.stop l) ≡ Some a → is_leaf a.node ≡ true
-      → HasChanged before behind stood stands i (state a.node) (sort a.node) → Shows o rp behind stands u.root
+      → HasChanged before behind stood stands i (state a.node) (process_status a.node) → Shows o rp behind stands u.root
   stepped rp before behind stood stands t u e i f l a s has by h act leaf changed =
       let there : at (place o rp l) t.root ≡ Some (Live l) = seen_live (at (place o rp l) t.root) l (s.agrees.shown i f l lives has) in
       let x = acts_by rp l (Live l) t u e s.root_path by h there in
@@ -117,7 +117,7 @@ module _ {S : Type 0} (o : Ops S) (law : LocalLaws o) where
       let path : o.path (state a.node) ≡ o.path l = act_path (place o rp l) t.root (Live l) a s.sound there act in
       let rest : IsReplaced (place o rp l) (Live l) a.node t.root u.root = subst (λ (z : Acted S). IsReplaced (place o rp l) (Live l) z.node t.root u.root) same x.replaced in
       let ok = agrees_changed o rp before behind stood stands t.root (Live l) a.node i f s.agrees has there refl leaf (place_same rp l (state a.node) path) changed in
-      shows_after rp before behind stood stands t u e s h (rooted_changed rp before behind stood stands i f l (state a.node) lives (sort a.node) s.rooted has path changed)
+      shows_after rp before behind stood stands t u e s h (rooted_changed rp before behind stood stands i f l (state a.node) lives (process_status a.node) s.rooted has path changed)
       (subst (Agrees o rp behind stands) (sym (is_put (place o rp l) (Live l) a.node t.root u.root rest)) ok)
 
   -- ---- many quiet steps
@@ -219,8 +219,8 @@ module _ {S : Type 0} (o : Ops S) (law : LocalLaws o) where
   closed_there l ks a e = cond_some (all_done ks) (closed o l (states ks) (prevailing_death ks)) a e
 
   has_closed : (rp : Path) (before behind : List S) (stood stands : List RecordView) (t u : Tree S) (i g n : ℕ) (l : S) (a : Acted S)
-      → Shows o rp before stood t.root → Has before stood i g l (forks n) → after o (Close (o.path l)) t ≡ Some u → a ≡ closed o l (block g n before) (prevailing_among (block g n stood))
-      → HasClosed before behind stood stands i g n (state a.node) (sort a.node) → Shows o rp behind stands u.root
+      → Shows o rp before stood t.root → Has before stood i g l (forks n) → after o (Close (o.path l)) t ≡ Some u → a ≡ closed o l (segment g n before) (prevailing_among (segment g n stood))
+      → HasClosed before behind stood stands i g n (state a.node) (process_status a.node) → Shows o rp behind stands u.root
   has_closed rp before behind stood stands t u i g n l a s has h is changed =
       let q = place o rp l in
       let k = seen_fork (at q t.root) l n (s.agrees.shown i g l (forks n) has) in
@@ -232,17 +232,17 @@ module _ {S : Type 0} (o : Ops S) (law : LocalLaws o) where
       let same : x.acted ≡ a = sym w.1 ∙ ((λ j. closed o l (kids.1 j) (kids.2 j)) ∙ sym is) in
       let rest : IsReplaced (place o rp l) (Forked l ks) a.node t.root u.root = subst (λ (z : Acted S). IsReplaced q (Forked l ks) z.node t.root u.root) same x.replaced in
       let path : o.path (state a.node) ≡ o.path l = act_path q t.root (Forked l ks) a s.sound there (x.acts ∙ ap Some same) in
-      let leaf : is_leaf a.node ≡ true = ap (λ (z : Acted S). is_leaf z.node) is ∙ closed_leaf o l (block g n before) (prevailing_among (block g n stood)) in
+      let leaf : is_leaf a.node ≡ true = ap (λ (z : Acted S). is_leaf z.node) is ∙ closed_leaf o l (segment g n before) (prevailing_among (segment g n stood)) in
       let many = kids.0 in
       let ok = agrees_closed o rp before behind stood stands t.root i g l ks a.node s.agrees (subst (λ z. Has before stood i g l (forks z)) (sym many) has) there w.0
-      (subst (λ z. HasClosed before behind stood stands i g z (state a.node) (sort a.node)) (sym many) changed) leaf (place_same rp l (state a.node) path) in
+      (subst (λ z. HasClosed before behind stood stands i g z (state a.node) (process_status a.node)) (sym many) changed) leaf (place_same rp l (state a.node) path) in
       shows_after rp before behind stood stands t u (Close (o.path l)) s h (root path) (subst (Agrees o rp behind stands) (sym (is_put q (Forked l ks) a.node t.root u.root rest)) ok)
     where
       root : o.path (state a.node) ≡ o.path l → Rooted o rp behind stands
       root path = elim (same_or_not 0 i) [
         | inl w ↦
             let old : s.rooted.state ≡ l = one_state before stood 0 s.rooted.first g s.rooted.state l s.rooted.sort (forks n) s.rooted.has (subst (λ z. Has before stood z g l (forks n)) (sym w) has) in
-            record { first = changed.first; state = state a.node; sort = sort a.node; has = subst (λ z. Has behind stands z changed.first (state a.node) (sort a.node)) (sym w) changed.parent; at_root = place_same rp l (state a.node) path ∙ (ap (place o rp) (sym old) ∙ s.rooted.at_root) }
+            record { first = changed.first; state = state a.node; sort = process_status a.node; has = subst (λ z. Has behind stands z changed.first (state a.node) (process_status a.node)) (sym w) changed.parent; at_root = place_same rp l (state a.node) path ∙ (ap (place o rp) (sym old) ∙ s.rooted.at_root) }
         | inr other ↦ record {
           first = s.rooted.first;
           state = s.rooted.state;
@@ -258,7 +258,7 @@ module _ {S : Type 0} (o : Ops S) (law : LocalLaws o) where
 
   -- ---- a meeting
 
-  got_path : (rp : Path) (c : Channel) (v : ℤ) (s : S) (k : Sort) → (k ≡ lives → o.sound s) → o.path (got o c v k s) ≡ o.path s
+  got_path : (rp : Path) (c : Channel) (v : ℤ) (s : S) (k : ProcessStatus) → (k ≡ lives → o.sound s) → o.path (got o c v k s) ≡ o.path s
   got_path rp c v s lives sound = (meeting_stays o law c v (Live s) (sound refl)).follows.path
   got_path rp c v s (forks n) sound = refl
   got_path rp c v s ends sound = refl
@@ -273,13 +273,13 @@ module _ {S : Type 0} (o : Ops S) (law : LocalLaws o) where
       (record { first = r.first; state = got o c v r.sort r.state; sort = r.sort; has = record { state_is = changed.gets 0 r.first r.state r.sort r.has; stands_so = r.has.stands_so }; at_root = stays 0 r.first r.state r.sort r.has ∙ r.at_root })
       (subst (Agrees o rp behind stands) (sym (met_root o t u c h ∙ ap (λ z. received o c z t.root) (sym is))) ok)
     where
-      stays : (i f : ℕ) (l : S) (k : Sort) → Has before stands i f l k → place o rp (got o c v k l) ≡ place o rp l
+      stays : (i f : ℕ) (l : S) (k : ProcessStatus) → Has before stands i f l k → place o rp (got o c v k l) ≡ place o rp l
       stays i f l k has = place_same rp l (got o c v k l) (got_path rp c v l k (λ e.
           sound_at o (place o rp l) t.root (Live l) s.sound.below (seen_live (at (place o rp l) t.root) l (s.agrees.shown i f l k has ∙ ap (λ z. Some (l, z)) e))))
 
   -- ---- a poison
 
-  has_poisoned : (rp : Path) (states' : List S) (stood stands : List RecordView) (t u : Tree S) (c : Channel) (i f g b n : ℕ) (l k : S) (x : Sort)
+  has_poisoned : (rp : Path) (states' : List S) (stood stands : List RecordView) (t u : Tree S) (c : Channel) (i f g b n : ℕ) (l k : S) (x : ProcessStatus)
       → Shows o rp states' stood t.root → Has states' stood i g l (forks n) → b < n → Has states' stood (g + b) f k x → after o (Poison (o.path k) c) t ≡ Some u
       → HaveDied o rp (place o rp k) c (death (o.handlers l - 1)) states' stood stands → Shows o rp states' stands u.root
   has_poisoned rp states' stood stands t u c i f g b n l k x s has less child h changed =
@@ -324,10 +324,10 @@ module _ {S : Type 0} (o : Ops S) where
   own_branches (x ∷ p) = own_branches p
 
   module _ (l : S) where
-    abbrev One : ℕ → ℕ → S → Sort → Type 0
+    abbrev One : ℕ → ℕ → S → ProcessStatus → Type 0
     One i f t k = Has (l ∷ []) (used 0 lives ∷ []) i f t k
 
-    is_one : (i f : ℕ) (t : S) (k : Sort) → One i f t k → (i ≡ 0) × (t ≡ l) × (k ≡ lives)
+    is_one : (i f : ℕ) (t : S) (k : ProcessStatus) → One i f t k → (i ≡ 0) × (t ≡ l) × (k ≡ lives)
     is_one zero f t k h = (refl, sym (some_same l t h.state_is), sort_same (some_same (used 0 lives) (used f k) h.stands_so))
       where
         sort_same : used 0 lives ≡ used f k → k ≡ lives

@@ -13,7 +13,7 @@ use Rattle.shim_semantics.proofs.ReplacedNodes.{put}
 use Rattle.shim_semantics.proofs.Replaced.{sound_at, replaced}
 use Rattle.shim_laws_schedules.proofs.Stood.{base_below}
 use Rattle.shim_base.proofs.Facts.{some_same}
-use Rattle.shim_laws_records.specs.Seen.{lives, sort, is_leaf, place}
+use Rattle.shim_laws_records.specs.Seen.{lives, process_status, is_leaf, place}
 use Rattle.shim_laws_records.specs.Agrees.{RecordView, Has, Agrees, Shows}
 use Rattle.shim_laws_records.specs.Places.{IsReplaced}
 use Rattle.shim_laws_records.specs.Changes.{HasChanged}
@@ -31,7 +31,7 @@ module _ {S : Type 0} (o : Ops S) (law : LocalLaws o) where
   root_put (i ∷ q) (Dead l d) m a e same = refl
 
   single : (rp : Path) (before behind : List S) (stood stands : List RecordView) (old new : Node S) (i f : ℕ) (l : S) (a : Node S) → Shows o rp before stood old → Has before stood i f l lives → Keeps o (Live l) a → is_leaf a ≡ true
-      → IsReplaced (place o rp l) (Live l) a old new → HasChanged before behind stood stands i (state a) (sort a) → Shows o rp behind stands new
+      → IsReplaced (place o rp l) (Live l) a old new → HasChanged before behind stood stands i (state a) (process_status a) → Shows o rp behind stands new
   single rp before behind stood stands old new i f l a s has keeps leaf rep changed =
       let q = place o rp l in
       let is = is_put q (Live l) a old new rep in
@@ -39,7 +39,7 @@ module _ {S : Type 0} (o : Ops S) (law : LocalLaws o) where
       record {
         sound = subst (IsSound o) (sym is) (replaced o law q old (Live l) a s.sound rep.was keeps);
         root_path = ap (λ z. o.path (state z)) is ∙ (root_put q old (Live l) a rep.was path ∙ s.root_path);
-        rooted = rooted_changed o law rp before behind stood stands i f l (state a) lives (sort a) s.rooted has path changed;
+        rooted = rooted_changed o law rp before behind stood stands i f l (state a) lives (process_status a) s.rooted has path changed;
         agrees = subst (Agrees o rp behind stands) (sym is) (agrees_changed o rp before behind stood stands old (Live l) a i f s.agrees has rep.was refl leaf (ap (λ z. branches (drop (length rp) z)) path) changed);
       }
 

@@ -4,14 +4,14 @@ use Rattle.std.specs.Prelude.{eqb}
 use Rattle.std.proofs.lemmas.Bool.{lt-ltb, eq-eqb}
 use Rattle.shim_base.specs.Paths.{Path, Channel, same_channel}
 use Rattle.shim_local.specs.Process.{Ops}
-use Rattle.shim_semantics.specs.Nodes.{Node, Nodes, Live, Forked, Ended, Dead, no_node, node_and, state, is_next, next_of, name_at, or_else, source, source_among, first_name, first_name_among}
+use Rattle.shim_semantics.specs.Nodes.{Node, Nodes, Live, Forked, Ended, Dead, no_node, node_and, state, is_next, next_channel, name_for, or_else, source, source_among, first_name, first_name_among}
 use Rattle.shim_semantics.specs.Places.{at, child_at}
 use Rattle.shim_semantics.proofs.HowMany.{clash}
 use Rattle.shim_laws_schedules.proofs.Two.{two_count}
 use Rattle.shim_laws_schedules.proofs.Unshared.{no_name}
 use Rattle.shim_base.proofs.Facts.{some_same, none_some, true_or_false, false_unless, or_left, or_right}
 use Rattle.shim_base.proofs.SamePaths.{same_channel_refl}
-use Rattle.shim_laws_records.specs.Seen.{Sort, lives, sort, place}
+use Rattle.shim_laws_records.specs.Seen.{ProcessStatus, lives, process_status, place}
 use Rattle.shim_laws_records.specs.Agrees.{RecordView, Has, Shows}
 use Rattle.shim_laws_records.specs.Sources.{is_before, SourcesByRecords}
 use Rattle.shim_laws_records.proofs.SameTrees.{seen_live, seen_some}
@@ -114,7 +114,7 @@ module _ {S : Type 0} (o : Ops S) (c : Channel) where
       | inr w ↦ w
     ]
 
-    source_is : (i f : ℕ) (l : S) (k : Sort) → Has records stands i f l k → o.carries l c ≡ true → source o c root ≡ Some l
+    source_is : (i f : ℕ) (l : S) (k : ProcessStatus) → Has records stands i f l k → o.carries l c ≡ true → source o c root ≡ Some l
     source_is i f l k has carries = on (source o c root) refl
       where
         on : (x : Option S) → source o c root ≡ x → source o c root ≡ Some l
@@ -128,7 +128,7 @@ module _ {S : Type 0} (o : Ops S) (c : Channel) where
             let same : y.node ≡ w.0 = some_same y.node w.0 (sym y.there ∙ (ap (λ z. at z root) places ∙ w.1)) in
             e ∙ ap Some (sym y.is ∙ (ap state same ∙ w.2))
 
-    no_source : ((i f : ℕ) (l : S) (k : Sort) → Has records stands i f l k → o.carries l c ≡ false) → source o c root ≡ None
+    no_source : ((i f : ℕ) (l : S) (k : ProcessStatus) → Has records stands i f l k → o.carries l c ≡ false) → source o c root ≡ None
     no_source none = on (source o c root) refl
       where
         on : (x : Option S) → source o c root ≡ x → source o c root ≡ None
@@ -136,10 +136,10 @@ module _ {S : Type 0} (o : Ops S) (c : Channel) where
         on (Some x) e =
             let y = source_found root x e in
             let w = covered o rp records stands s.rooted root s.agrees y.branches y.node y.there in
-            let same : w.state_is ≡ x = ap (λ z. z.0) (some_same (w.state_is, w.sort_is) (state y.node, sort y.node) w.is_seen) ∙ y.is in
+            let same : w.state_is ≡ x = ap (λ z. z.0) (some_same (w.state_is, w.sort_is) (state y.node, process_status y.node) w.is_seen) ∙ y.is in
             clash (o.carries x c) y.carries (ap (λ z. o.carries z c) (sym same) ∙ none w.number w.first w.state_is w.sort_is w.has)
 
-    carry_once : (i j f g : ℕ) (l m : S) (k h : Sort) → Has records stands i f l k → Has records stands j g m h → o.carries l c ≡ true → o.carries m c ≡ true → i ≡ j
+    carry_once : (i j f g : ℕ) (l m : S) (k h : ProcessStatus) → Has records stands i f l k → Has records stands j g m h → o.carries l c ≡ true → o.carries m c ≡ true → i ≡ j
     carry_once i j f g l m k h a b x y =
         let v = seen_some (at (place o rp l) root) l k (s.agrees.shown i f l k a) in
         let w = seen_some (at (place o rp m) root) m h (s.agrees.shown j g m h b) in
@@ -161,7 +161,7 @@ module _ {S : Type 0} (o : Ops S) (c : Channel) where
     nobody_in no_node h = refl
     nobody_in (node_and k ks) h = ap (λ z. or_else z (first_name_among o c ks)) (nobody_named k (λ p t e y. h 0 p t e y)) ∙ nobody_in ks (λ i p t e y. h (suc i) p t e y)
 
-  module _ (l : S) (x : ℕ) (named : name_at c (next_of (o.stop l)) ≡ Some x) where
+  module _ (l : S) (x : ℕ) (named : name_for c (next_channel (o.stop l)) ≡ Some x) where
     mutual
       first_is : (q : List ℕ) (n : Node S) → at q n ≡ Some (Live l) → ((p : List ℕ) (t : S) → at p n ≡ Some (Live t) → StandsAt t → is_before p q ≡ false) → first_name o c n ≡ Some x
       first_is [] n e h = ap (first_name o c) (some_same n (Live l) e) ∙ named
@@ -190,7 +190,7 @@ module _ {S : Type 0} (o : Ops S) where
     none = λ rp records stands root c s none. no_source o c rp records stands root s none;
     once = λ rp records stands root c i j f g l m k h s a b x y. carry_once o c rp records stands root s i j f g l m k h a b x y;
     name = λ rp records stands root c i f l d s has stop is first.
-        let named : name_at c (next_of (o.stop l)) ≡ Some d.name = ap (λ z. name_at c (next_of z)) stop ∙ ap (λ b. cond b (Some d.name) None) (ap (same_channel d.channel) (sym is) ∙ same_channel_refl d.channel) in
+        let named : name_for c (next_channel (o.stop l)) ≡ Some d.name = ap (λ z. name_for c (next_channel z)) stop ∙ ap (λ b. cond b (Some d.name) None) (ap (same_channel d.channel) (sym is) ∙ same_channel_refl d.channel) in
         first_is o c l d.name named (place o rp l) root (seen_live (at (place o rp l) root) l (s.agrees.shown i f l lives has))
         (λ p t e y.
         let w = covered o rp records stands s.rooted root s.agrees p (Live t) e in

@@ -15,7 +15,7 @@ use Rattle.shim_semantics.proofs.ReplacedNodes.{put, put_child}
 use Rattle.shim_semantics.proofs.Replaced.{sound_at}
 use Rattle.shim_semantics.proofs.SoundEvents.{here_keeps}
 use Rattle.shim_laws_schedules.proofs.Homes.{unshared_is_unshared}
-use Rattle.shim_laws_records.specs.Seen.{Sort, sort, is_leaf, place}
+use Rattle.shim_laws_records.specs.Seen.{ProcessStatus, process_status, is_leaf, place}
 use Rattle.shim_laws_records.specs.Agrees.{RecordView, Has, Shows}
 use Rattle.shim_laws_records.specs.Places.{IsReplaced}
 use Rattle.shim_laws_records.specs.Counts.{Tally, reading}
@@ -55,7 +55,7 @@ some_counts : (o : Option Tally) → o ≢ None → (y : Tally) × (o ≡ Some y
 some_counts None h = absurd (h refl)
 some_counts (Some y) h = (y, refl)
 
-module _ {S : Type 0} (o : Ops S) (law : LocalLaws o) (rp : Path) (records : List S) (stands : List RecordView) (c : Channel) (old new m : Node S) (a : Acted S) (x f : ℕ) (s : S) (k : Sort)
+module _ {S : Type 0} (o : Ops S) (law : LocalLaws o) (rp : Path) (records : List S) (stands : List RecordView) (c : Channel) (old new m : Node S) (a : Acted S) (x f : ℕ) (s : S) (k : ProcessStatus)
     (sound : IsSound o old) (shown : Shows o rp records stands new) (has : Has records stands x f s k) (rep : IsReplaced (place o rp s) m a.node old new) (acts : act_here o m ≡ Some a) (not_given : IsGiven o s c → o.shares s c ≡ true → ⊥) where
   abbrev q : List ℕ
   q = place o rp s
@@ -165,7 +165,7 @@ module _ {S : Type 0} (o : Ops S) where
   before c (Ended l) a e = none_some a e
   before c (Dead l d) a e = none_some a e
 
-  behind : (c : Channel) (a : Node S) → is_leaf a ≡ true → reading o c a ≡ read_leaf o c (state a) (sort a)
+  behind : (c : Channel) (a : Node S) → is_leaf a ≡ true → reading o c a ≡ read_leaf o c (state a) (process_status a)
   behind c (Live l) e = refl
   behind c (Forked l ks) e = absurd cc
   behind c (Ended l) e = refl

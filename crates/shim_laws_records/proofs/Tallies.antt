@@ -8,7 +8,7 @@ use Rattle.shim_semantics.specs.Places.{at, child_at}
 use Rattle.shim_semantics.proofs.ReplacedNodes.{put, put_child}
 use Rattle.shim_base.proofs.Facts.{some_same, none_some}
 use Rattle.shim_laws_records.specs.Places.{IsReplaced}
-use Rattle.shim_laws_records.specs.Counts.{joins, isnt_ready, fails, count, all_there, tally_of, bit, Reading, reading, Moved, CountsTell}
+use Rattle.shim_laws_records.specs.Counts.{joins, isnt_ready, fails, count, all_there, tally_of, bit, Reading, reading, IsExchanged, CountsTell}
 use Rattle.shim_laws_records.proofs.SameTrees.{is_put}
 use Rattle.shim_laws_records.proofs.Readiness.{by_counts}
 
@@ -109,7 +109,7 @@ counts_tell o = record {
   fork = fork_read o;
   moves = λ c l ks js b p m a k h x e f.
       let w = child_of l b p ks js m a k h x e f in
-      subst (λ z. Moved (reading o c k) (reading o c h) (tally_of o c ks) (tally_of o c z)) (sym w.0) (subst (λ z. Moved (reading o c k) (reading o c z) (tally_of o c ks) (tally_of o c (put_child b p a ks))) (sym w.1) (record {
+      subst (λ z. IsExchanged (reading o c k) (reading o c h) (tally_of o c ks) (tally_of o c z)) (sym w.0) (subst (λ z. IsExchanged (reading o c k) (reading o c z) (tally_of o c ks) (tally_of o c (put_child b p a ks))) (sym w.1) (record {
         live = count_changed (joins o c) b p ks k a e;
         not_ready = count_changed (isnt_ready o c) b p ks k a e;
         dead = count_changed (fails o c) b p ks k a e;

@@ -15,7 +15,7 @@ use Rattle.shim_laws_schedules.proofs.PoisonDiamond.{with_root, nodes_changed_so
 use Rattle.shim_base.proofs.Facts.{some_same, cond_some}
 use Rattle.shim_laws_records.specs.Seen.{lives, forks, place}
 use Rattle.shim_laws_records.specs.Agrees.{RecordView, Shows}
-use Rattle.shim_laws_records.specs.Changes.{block, prevailing_among}
+use Rattle.shim_laws_records.specs.Changes.{segment, prevailing_among}
 use Rattle.shim_laws_records.specs.Told.{EventsTell}
 use Rattle.shim_laws_records.proofs.SameTrees.{seen_live, seen_fork}
 use Rattle.shim_laws_records.proofs.Children.{children_are_shown}
@@ -44,7 +44,7 @@ module _ {S : Type 0} (o : Ops S) where
     close = λ rp records stands t u i g n l s has h.
         let k = seen_fork (at (place o rp l) t.root) l n (s.agrees.shown i g l (forks n) has) in
         let kids = children_are_shown o rp records stands t.root i g n l k.0 s.agrees has k.1 in
-        let a : Acted S = closed o l (block g n records) (prevailing_among (block g n stands)) in
+        let a : Acted S = closed o l (segment g n records) (prevailing_among (segment g n stands)) in
         tells rp records stands t u l (Forked l k.0) a s k.1 refl (Close (o.path l)) (λ z. cc) refl h
         (λ b e. sym (cond_some (all_done k.0) (closed o l (states k.0) (prevailing_death k.0)) b e).1 ∙ (λ j. closed o l (kids.1 j) (kids.2 j)));
     meet = λ t u c h. same_met t u c (cond_some (meets o c t.root) (met o c (value_of o c (source o c t.root)) t) u h).1;

@@ -74,7 +74,7 @@ abbrev pub is_missing : Reading → Bool
 is_missing r = r.joining && not r.readiness
 
 -- the counts with one child's reading taken away and another one brought in
-pub record Moved (was is : Reading) (y z : Tally) : Type 0 where
+pub record IsExchanged (was is : Reading) (y z : Tally) : Type 0 where
   pub live : z.live + bit was.joining ≡ y.live + bit is.joining
   pub not_ready : z.not_ready + bit (is_missing was) ≡ y.not_ready + bit (is_missing is)
   pub dead : z.dead + bit was.failing ≡ y.dead + bit is.failing
@@ -93,7 +93,7 @@ pub record CountsTell {S : Type 0} (o : Ops S) : Type 0 where
   pub fork : (c : Channel) (l : S) (ks : Nodes S) → reading o c (Forked l ks) ≡ read_of (o.shares l c) (tally_of o c ks)
   -- where a node at or below a child changes, the counts move with what is read of the child
   pub moves : (c : Channel) (l : S) (ks js : Nodes S) (b : ℕ) (p : List ℕ) (m a k h : Node S) → IsReplaced (b ∷ p) m a (Forked l ks) (Forked l js)
-      → child_at b [] ks ≡ Some k → child_at b [] js ≡ Some h → Moved (reading o c k) (reading o c h) (tally_of o c ks) (tally_of o c js)
+      → child_at b [] ks ≡ Some k → child_at b [] js ≡ Some h → IsExchanged (reading o c k) (reading o c h) (tally_of o c ks) (tally_of o c js)
   -- and so many go on as before, but for the child
   pub going : (l : S) (ks js : Nodes S) (b : ℕ) (p : List ℕ) (m a k h : Node S) → IsReplaced (b ∷ p) m a (Forked l ks) (Forked l js)
       → child_at b [] ks ≡ Some k → child_at b [] js ≡ Some h → going_of js + bit (goes k) ≡ going_of ks + bit (goes h)

@@ -4,7 +4,7 @@ use Rattle.shim_base.specs.Paths.{Path, Channel}
 use Rattle.shim_local.specs.Process.{Ops}
 use Rattle.shim_semantics.specs.Nodes.{Node, Nodes, Forked}
 use Rattle.shim_semantics.specs.Places.{at}
-use Rattle.shim_laws_records.specs.Seen.{Sort, forks, place}
+use Rattle.shim_laws_records.specs.Seen.{ProcessStatus, forks, place}
 use Rattle.shim_laws_records.specs.Agrees.{RecordView, Has, Shows}
 use Rattle.shim_laws_records.specs.Places.{IsReplaced}
 use Rattle.shim_laws_records.specs.Counts.{Tally}
@@ -39,7 +39,7 @@ pub data LoweredAbove (up : ℕ → Option ℕ) (counts : ℕ → Option Tally) 
 
 -- Where a node without dead sharers made room for one, and that was taken into the labels above, all labels are those of the tree behind.
 abbrev pub LabelsLowered : {S : Type 0} → Ops S → Type 0
-LabelsLowered {S} o = (rp : Path) (records : List S) (stands : List RecordView) (up : ℕ → Option ℕ) (c : Channel) (old new m a : Node S) (n x f : ℕ) (s : S) (k : Sort) (counts : ℕ → Option Tally) (before behind : ℕ → Option ℕ)
+LabelsLowered {S} o = (rp : Path) (records : List S) (stands : List RecordView) (up : ℕ → Option ℕ) (c : Channel) (old new m a : Node S) (n x f : ℕ) (s : S) (k : ProcessStatus) (counts : ℕ → Option Tally) (before behind : ℕ → Option ℕ)
     → Shows o rp records stands new → AreLinked records stands up → Has records stands x f s k → IsReplaced (place o rp s) m a old new → least o c m ≡ None → o.shares s c ≡ true
     → HaveCounts o rp records stands c counts new → length (place o rp s) ≤ n → LabelsOnTheWay o rp records stands c counts before old new (place o rp s) → LoweredAbove up counts (least o c a) n before x behind
     → Labelled o rp records stands c counts behind new

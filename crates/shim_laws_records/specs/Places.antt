@@ -7,7 +7,7 @@ use Rattle.shim_semantics.specs.Acts.{Acted, act_here}
 use Rattle.shim_semantics.specs.Places.{at, route}
 use Rattle.shim_semantics.specs.Laws.{IsSoundTree}
 use Rattle.shim_semantics.specs.Trees.{Tree, Event, Own, Meet, Poison, Close, End, after}
-use Rattle.shim_laws_records.specs.Seen.{Sort, lives, forks, ends, dies, seen, IsAside}
+use Rattle.shim_laws_records.specs.Seen.{ProcessStatus, lives, forks, ends, dies, seen, IsAside}
 
 -- nothing is seen otherwise in the second tree but from the place q on
 abbrev pub SameAside : {S : Type 0} → List ℕ → Node S → Node S → Type 0
@@ -38,26 +38,26 @@ pub record HasActed {S : Type 0} (o : Ops S) (p : Path) (old new : Node S) : Typ
   pub replaced : IsReplaced place node acted.node old new
 
 -- what a meeting on c leaves of a state of this sort
-abbrev pub got : {S : Type 0} → Ops S → Channel → ℤ → Sort → S → S
+abbrev pub got : {S : Type 0} → Ops S → Channel → ℤ → ProcessStatus → S → S
 got o c v lives s = cond (is_next (o.stop s) c) (o.receive s v) s
 got o c v (forks n) s = s
 got o c v ends s = s
 got o c v (dies d) s = s
 
 -- what is seen where a node was seen, behind the meeting
-abbrev pub seen_met : {S : Type 0} → Ops S → Channel → ℤ → Option (S × Sort) → Option (S × Sort)
+abbrev pub seen_met : {S : Type 0} → Ops S → Channel → ℤ → Option (S × ProcessStatus) → Option (S × ProcessStatus)
 seen_met o c v None = None
 seen_met o c v (Some x) = Some (got o c v x.1 x.0, x.1)
 
 -- what a poison on c leaves of the sort of a state at or below the child
-abbrev pub killed : {S : Type 0} → Ops S → Channel → Death → S → Sort → Sort
+abbrev pub killed : {S : Type 0} → Ops S → Channel → Death → S → ProcessStatus → ProcessStatus
 killed o c d s lives = cond (o.shares s c) (dies d) lives
 killed o c d s (forks n) = forks n
 killed o c d s ends = ends
 killed o c d s (dies e) = dies e
 
 -- what is seen where a node was seen, behind the poison
-abbrev pub seen_killed : {S : Type 0} → Ops S → Channel → Death → Option (S × Sort) → Option (S × Sort)
+abbrev pub seen_killed : {S : Type 0} → Ops S → Channel → Death → Option (S × ProcessStatus) → Option (S × ProcessStatus)
 seen_killed o c d None = None
 seen_killed o c d (Some x) = Some (x.0, killed o c d x.0 x.1)
 

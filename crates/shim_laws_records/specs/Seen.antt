@@ -6,11 +6,11 @@ use Rattle.shim_semantics.specs.Nodes.{Node, Nodes, Live, Forked, Ended, Dead, D
 use Rattle.shim_semantics.specs.Places.{branches}
 
 -- it lives, has forked into so many, has ended, or has died so
-pub data Sort : Type 0 where
-  lives : Sort
-  forks : ℕ → Sort
-  ends : Sort
-  dies : Death → Sort
+pub data ProcessStatus : Type 0 where
+  lives : ProcessStatus
+  forks : ℕ → ProcessStatus
+  ends : ProcessStatus
+  dies : Death → ProcessStatus
 
 -- how many nodes there are
 abbrev pub how_many_nodes : {S : Type 0} → Nodes S → ℕ
@@ -18,16 +18,16 @@ how_many_nodes no_node = 0
 how_many_nodes (node_and k ks) = suc (how_many_nodes ks)
 
 -- what came of the process of a node
-abbrev pub sort : {S : Type 0} → Node S → Sort
-sort (Live l) = lives
-sort (Forked l ks) = forks (how_many_nodes ks)
-sort (Ended l) = ends
-sort (Dead l d) = dies d
+abbrev pub process_status : {S : Type 0} → Node S → ProcessStatus
+process_status (Live l) = lives
+process_status (Forked l ks) = forks (how_many_nodes ks)
+process_status (Ended l) = ends
+process_status (Dead l d) = dies d
 
 -- what is seen of a node, where there is one
-abbrev pub seen : {S : Type 0} → Option (Node S) → Option (S × Sort)
+abbrev pub seen : {S : Type 0} → Option (Node S) → Option (S × ProcessStatus)
 seen None = None
-seen (Some n) = Some (state n, sort n)
+seen (Some n) = Some (state n, process_status n)
 
 -- there is nothing below it
 abbrev pub is_leaf : {S : Type 0} → Node S → Bool

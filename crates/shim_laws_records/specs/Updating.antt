@@ -4,10 +4,10 @@ use Rattle.shim_base.specs.Paths.{Path, Channel}
 use Rattle.shim_local.specs.Process.{Ops}
 use Rattle.shim_semantics.specs.Nodes.{Node, state}
 use Rattle.shim_semantics.specs.Places.{SoundBelow}
-use Rattle.shim_laws_records.specs.Seen.{Sort, forks, place}
+use Rattle.shim_laws_records.specs.Seen.{ProcessStatus, forks, place}
 use Rattle.shim_laws_records.specs.Agrees.{RecordView, Has, Shows}
 use Rattle.shim_laws_records.specs.Places.{IsReplaced}
-use Rattle.shim_laws_records.specs.Counts.{Tally, Reading, reading, bit, is_missing, all_there, read_of, Moved}
+use Rattle.shim_laws_records.specs.Counts.{Tally, Reading, reading, bit, is_missing, all_there, read_of, IsExchanged}
 use Rattle.shim_laws_records.specs.Tallied.{Tallied, OnTheWay, HaveCounts}
 
 -- each child of a fork knows the fork's number, and the root knows none
@@ -32,7 +32,7 @@ pub record CanMove (most : ℕ) (was is : Reading) (y : Tally) : Type 0 where
 pub record AreMoved (most : ℕ) (before : ℕ → Option Tally) (j : ℕ) (was is : Reading) (y z : Tally) (behind : ℕ → Option Tally) : Type 0 where
   pub old : before j ≡ Some y
   pub new : behind j ≡ Some z
-  pub moved : CanMove most was is y → Moved was is y z
+  pub moved : CanMove most was is y → IsExchanged was is y z
   pub others : (i : ℕ) → i ≢ j → behind i ≡ before i
 
 -- From the record x, of which was read the one and is read the other, at most so many forks up: each one's counts are moved, until there is no fork further up, or one without counts, or one that is read as before.
@@ -48,7 +48,7 @@ pub data UpdatedAbove (up : ℕ → Option ℕ) (most : ℕ) : ℕ → (ℕ → 
 -- Another node stands at a process's place, and so far the counts above are those of the tree before. Of each channel they are then those of the tree behind:
 pub record CountsFollow {S : Type 0} (o : Ops S) : Type 0 where
   -- where the way up was walked
-  pub updated : (rp : Path) (records : List S) (stands : List RecordView) (up : ℕ → Option ℕ) (c : Channel) (old new m a : Node S) (most n x f : ℕ) (s : S) (k : Sort) (was is : Reading) (before behind : ℕ → Option Tally)
+  pub updated : (rp : Path) (records : List S) (stands : List RecordView) (up : ℕ → Option ℕ) (c : Channel) (old new m a : Node S) (most n x f : ℕ) (s : S) (k : ProcessStatus) (was is : Reading) (before behind : ℕ → Option Tally)
       → Shows o rp records stands new → AreLinked records stands up → AreAtMost most records stands → Has records stands x f s k → IsReplaced (place o rp s) m a old new
       → reading o c m ≡ was → reading o c a ≡ is → length (place o rp s) ≤ n → o.shares s c ≡ true
       → HaveCounts o rp records stands c before new → OnTheWay o rp records stands c before old new (place o rp s) → UpdatedAbove up most n before x was is behind
@@ -57,7 +57,7 @@ pub record CountsFollow {S : Type 0} (o : Ops S) : Type 0 where
   pub alike : (rp : Path) (records : List S) (stands : List RecordView) (c : Channel) (old new m a : Node S) (q : List ℕ) (counts : ℕ → Option Tally)
       → IsReplaced q m a old new → reading o c m ≡ reading o c a → OnTheWay o rp records stands c counts old new q → Tallied o rp records stands c counts new
   -- where the channel was declared by the process, or by one below it, with nothing done
-  pub own : (rp : Path) (records : List S) (stands : List RecordView) (c : Channel) (old new : Node S) (x f : ℕ) (s : S) (k : Sort) (r : Path) (counts : ℕ → Option Tally)
+  pub own : (rp : Path) (records : List S) (stands : List RecordView) (c : Channel) (old new : Node S) (x f : ℕ) (s : S) (k : ProcessStatus) (r : Path) (counts : ℕ → Option Tally)
       → Shows o rp records stands new → Has records stands x f s k → c.home ≡ o.path s ++ r
       → HaveCounts o rp records stands c counts new → OnTheWay o rp records stands c counts old new (place o rp s) → Tallied o rp records stands c counts new
   -- and of a channel that a process doesn't share and that was declared neither by it nor below, nothing is read

@@ -4,8 +4,8 @@ use Rattle.std.proofs.lemmas.List.{length-append}
 use Rattle.shim_local.specs.Process.{Ops}
 use Rattle.shim_local.specs.Laws.{LocalLaws}
 use Rattle.shim_semantics.specs.Trees.{Tree, Event, after, start, steps, IsQuiescent}
-use Rattle.shim_semantics.specs.Systems.{run, go_on}
-use Rattle.shim_semantics.specs.Walks.{first, after_first, or_stay, meaning}
+use Rattle.shim_semantics.specs.Systems.{run, on_some}
+use Rattle.shim_semantics.specs.Walks.{first_event, after_first, or_stay, meaning}
 use Rattle.shim_semantics.specs.Endings.{ended}
 use Rattle.shim_semantics.specs.Laws.{IsSoundTree}
 use Rattle.shim_semantics.proofs.SoundEvents.{events_keep_sound}
@@ -52,24 +52,24 @@ pub record EndsWithin {S : Type 0} (o : Ops S) (b : ℕ) (t u : Tree S) : Type 0
 module _ {S : Type 0} (o : Ops S) where
   -- ---- the first events of the walk
 
-  stays : (b : ℕ) (t : Tree S) → first o t ≡ None → meaning o b t ≡ t
+  stays : (b : ℕ) (t : Tree S) → first_event o t ≡ None → meaning o b t ≡ t
   unfolding meaning
   stays zero t none = refl
   stays (suc b) t none = ap (λ e. meaning o b (after_first o t e)) none ∙ stays b t none
 
   module _ (law : LocalLaws o) (b : ℕ) (rest : (v : Tree S) → IsSoundTree o v → EndsWithin o b v (meaning o b v)) where
-    by_event : (t : Tree S) (e : Event) (x : Option (Tree S)) → IsSoundTree o t → first o t ≡ Some e → after o e t ≡ x → EndsWithin o (suc b) t (meaning o b (or_stay t x))
+    by_event : (t : Tree S) (e : Event) (x : Option (Tree S)) → IsSoundTree o t → first_event o t ≡ Some e → after o e t ≡ x → EndsWithin o (suc b) t (meaning o b (or_stay t x))
     by_event t e None s is h = absurd (first_enabled o t e s.below (sym is) h)
     by_event t e (Some v) s is h =
         let w = rest v ((events_keep_sound o law).kept t s e v h) in
         record {
           events = e ∷ w.events;
-          leads = ap (go_on (run (after o) w.events)) h ∙ w.leads;
+          leads = ap (on_some (run (after o) w.events)) h ∙ w.leads;
           few = omega (arith, w.few);
           ends = elim w.ends [ inl q ↦ inl q | inr q ↦ inr (omega (arith, q)) ];
         }
 
-    by_first : (t : Tree S) (f : Option Event) → IsSoundTree o t → first o t ≡ f → EndsWithin o (suc b) t (meaning o b (after_first o t f))
+    by_first : (t : Tree S) (f : Option Event) → IsSoundTree o t → first_event o t ≡ f → EndsWithin o (suc b) t (meaning o b (after_first o t f))
     by_first t None s is =
         let same = stays b t is in
         record {
@@ -83,7 +83,7 @@ module _ {S : Type 0} (o : Ops S) where
   pub meaning_ends : LocalLaws o → (b : ℕ) (t : Tree S) → IsSoundTree o t → EndsWithin o b t (meaning o b t)
   unfolding meaning
   meaning_ends law zero t s = record { events = []; leads = refl; few = omega arith; ends = inr refl }
-  meaning_ends law (suc b) t s = by_first law b (meaning_ends law b) t (first o t) s refl
+  meaning_ends law (suc b) t s = by_first law b (meaning_ends law b) t (first_event o t) s refl
 
   -- ---- the events of a journal
 

@@ -10,9 +10,9 @@ use Rattle.shim_local.proofs.Quiets.{first_quiet}
 use Rattle.shim_semantics.specs.Nodes.{Node, Live, Forked, Ended, Dead, state}
 use Rattle.shim_semantics.specs.Acts.{Acted, act_here}
 use Rattle.shim_semantics.specs.Places.{StandsAt, at, route, led_to}
-use Rattle.shim_semantics.specs.Trees.{Tree, Event, Own, Steps, kind_of, kind_of_stop, same_kind, after}
+use Rattle.shim_semantics.specs.Trees.{Tree, Event, Own, Steps, own_action_of, own_action_at, same_own_action, after}
 use Rattle.shim_semantics.specs.Quiets.{ComesBy, Advances}
-use Rattle.shim_semantics.specs.Systems.{run, go_on}
+use Rattle.shim_semantics.specs.Systems.{run, on_some}
 use Rattle.shim_semantics.specs.Laws.{IsSoundTree}
 use Rattle.shim_semantics.proofs.Alone.{doer}
 use Rattle.shim_semantics.proofs.ReplacedNodes.{put}
@@ -78,13 +78,13 @@ module _ {S : Type 0} (o : Ops S) where
         let one : quiet_step o p t ≡ Some x.0 = ap (λ b. cond b (after o (Own p) t) None) (before_quiet t p l there is first.0) ∙ x.1 in
         let path = law.moved_path l (o.quiet l) (state_there t p l s there) (by_quiet first.0 refl) in
         let rest = steps_entry n (o.quiet l) last p x.0 u first.1 ((events_keep_sound o law).kept t s (Own p) x.0 x.1) (moved_there t x.0 p l s there first.0 x.1) (path ∙ is) x.2 in
-        (ap (go_on (quiet_steps o p n)) one ∙ rest.0, rest.1)
+        (ap (on_some (quiet_steps o p n)) one ∙ rest.0, rest.1)
 
     -- they can be done
     can_step : (t : Tree S) (p : Path) (l : S) → led_to o t.root p ≡ Some (Live l) → o.path l ≡ p → o.stop l ≡ AtQuiet → (u : Tree S) × (after o (Own p) t ≡ Some u)
     can_step t p l there is stop =
         let w = led_by t.root (route (o.path (state t.root)) p) (Live l) there in
-        let its = both_hold (same_path (o.path l) p) (same_kind Steps (kind_of o (Live l))) (ap (λ z. same_path z p) is ∙ same_path_refl p) (ap (λ s. same_kind Steps (kind_of_stop s)) stop) in
+        let its = both_hold (same_path (o.path l) p) (same_own_action Steps (own_action_of o (Live l))) (ap (λ z. same_path z p) is ∙ same_path_refl p) (ap (λ s. same_own_action Steps (own_action_at s)) stop) in
         (_, shut o (Own p) t w.branches (Live l) (quieted o l) (λ z. cc) w.is w.there its (steps_here o l stop))
 
     steps_lead : (n : ℕ) (l last : S) (p : Path) (t : Tree S) → QuietSteps o n l last → IsSoundTree o t → led_to o t.root p ≡ Some (Live l) → o.path l ≡ p → (u : Tree S) × (run (after o) (replicate n (Own p)) t ≡ Some u)
@@ -94,7 +94,7 @@ module _ {S : Type 0} (o : Ops S) where
         let v = can_step t p l there is first.0 in
         let path = law.moved_path l (o.quiet l) (state_there t p l s there) (by_quiet first.0 refl) in
         let rest = steps_lead n (o.quiet l) last p v.0 first.1 ((events_keep_sound o law).kept t s (Own p) v.0 v.1) (moved_there t v.0 p l s there first.0 v.1) (path ∙ is) in
-        (rest.0, ap (go_on (run (after o) (replicate n (Own p)))) v.1 ∙ rest.1)
+        (rest.0, ap (on_some (run (after o) (replicate n (Own p)))) v.1 ∙ rest.1)
 
     -- the other way: what such an entry does are quiet steps of the state that stands there
     quiet_first : (n : ℕ) (l last : S) → is_quiet (o.stop l) ≡ true → QuietSteps o n (o.quiet l) last → QuietSteps o (suc n) l last

@@ -6,7 +6,7 @@ use Rattle.shim_local.specs.Process.{Ops}
 use Rattle.shim_local.specs.Laws.{LocalLaws}
 use Rattle.shim_semantics.specs.Places.{led_to}
 use Rattle.shim_semantics.specs.Trees.{Tree, Event, Own, after, start, steps}
-use Rattle.shim_semantics.specs.Systems.{run, go_on}
+use Rattle.shim_semantics.specs.Systems.{run, on_some}
 use Rattle.shim_semantics.specs.Sound.{SharesItsOwn}
 use Rattle.shim_semantics.specs.Laws.{IsSoundTree}
 use Rattle.shim_semantics.proofs.Counting.{event_counts, none_counted}
@@ -23,7 +23,7 @@ run_apart step [] gs t v r = (t, refl, r)
 run_apart step (e ∷ es) gs t v r =
     let x = went_on (run step (es ++ gs)) (step e t) v r in
     let w = run_apart step es gs x.0 v x.2 in
-    (w.0, ap (go_on (run step es)) x.1 ∙ w.1, w.2)
+    (w.0, ap (on_some (run step es)) x.1 ∙ w.1, w.2)
 
 module _ {S : Type 0} (o : Ops S) where
   -- a run counts as many steps as it has events
@@ -44,7 +44,7 @@ module _ {S : Type 0} (o : Ops S) where
   quiet_steps_run p (suc n) t u e =
       let x = went_on (quiet_steps o p n) (quiet_step o p t) u e in
       let own = (chosen (is_before_quiet o p (led_to o t.root p)) (after o (Own p) t) x.0 x.1).1 in
-      ap (go_on (run (after o) (replicate n (Own p)))) own ∙ quiet_steps_run p n x.0 u x.2
+      ap (on_some (run (after o) (replicate n (Own p)))) own ∙ quiet_steps_run p n x.0 u x.2
 
   pub entry_run : (j : Entry) (t u : Tree S) → entry_after o j t ≡ Some u → run (after o) (events_of j) t ≡ Some u
   entry_run (Quiet p n) t u e = quiet_steps_run p n t u e

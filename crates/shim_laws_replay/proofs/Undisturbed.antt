@@ -7,7 +7,7 @@ use Rattle.shim_semantics.specs.Nodes.{Node, Live, state, received}
 use Rattle.shim_semantics.specs.Acts.{Acted, act_here, act_live, nothing}
 use Rattle.shim_semantics.specs.Places.{at, route, at_route, led_to, has_path}
 use Rattle.shim_semantics.specs.Poison.{poison_route, to_fork, last_branch}
-use Rattle.shim_semantics.specs.Trees.{Tree, Event, Own, Meet, Poison, Close, End, after, poisons, kind_of, kind_of_stop, same_kind}
+use Rattle.shim_semantics.specs.Trees.{Tree, Event, Own, Meet, Poison, Close, End, after, poisons, own_action_of, own_action_at, same_own_action}
 use Rattle.shim_semantics.specs.Laws.{IsSoundTree}
 use Rattle.shim_semantics.proofs.Alone.{doer, does, IsAlone}
 use Rattle.shim_semantics.proofs.ReplacedNodes.{put}
@@ -43,12 +43,12 @@ module _ {S : Type 0} (o : Ops S) where
   steps_here l e = ap (act_live o l) e
 
   -- at a quiet stop a process does nothing by itself but step
-  own_step : (e : Event) (l : S) → IsAlone e → o.path l ≡ doer e → o.stop l ≡ AtQuiet → same_kind (does e) (kind_of o (Live l)) ≡ true → e ≡ Own (o.path l)
+  own_step : (e : Event) (l : S) → IsAlone e → o.path l ≡ doer e → o.stop l ≡ AtQuiet → same_own_action (does e) (own_action_of o (Live l)) ≡ true → e ≡ Own (o.path l)
   own_step (Own p) l d is stop k = ap Own (sym is)
   own_step (Meet c) l d is stop k = absurd (d refl)
   own_step (Poison p c) l d is stop k = absurd (d refl)
-  own_step (Close p) l d is stop k = absurd (let same = ap (λ s. same_kind (does (Close p)) (kind_of_stop s)) stop in cc (sym same ∙ k))
-  own_step (End p) l d is stop k = absurd (let same = ap (λ s. same_kind (does (End p)) (kind_of_stop s)) stop in cc (sym same ∙ k))
+  own_step (Close p) l d is stop k = absurd (let same = ap (λ s. same_own_action (does (Close p)) (own_action_at s)) stop in cc (sym same ∙ k))
+  own_step (End p) l d is stop k = absurd (let same = ap (λ s. same_own_action (does (End p)) (own_action_at s)) stop in cc (sym same ∙ k))
 
   -- the node is found by its path again, where the path of the root stays
   pub again : (root new : Node S) (p : Path) (q : List ℕ) (n : Node S) → o.path (state new) ≡ o.path (state root) → route (o.path (state root)) p ≡ Some q → at q new ≡ Some n → led_to o new p ≡ Some n
@@ -59,7 +59,7 @@ module _ {S : Type 0} (o : Ops S) where
     alone : (e : Event) (u : Tree S) → IsAlone e → e ≢ Own (o.path l) → Opened o e t u → led_to o u.root (o.path l) ≡ Some (Live l)
     alone e u d other x =
         let same : x.place ≡ w.branches → x.old ≡ Live l = λ z. some_same x.old (Live l) (sym x.there ∙ (ap (λ y. at y t.root) z ∙ w.there)) in
-        let places : x.place ≡ w.branches → ⊥ = λ z. other (own_step e l d (sym (ap (λ y. o.path (state y)) (same z)) ∙ its_path o e t u x) stop (sym (ap (λ y. same_kind (does e) (kind_of o y)) (same z)) ∙ its_kind o e t u x)) in
+        let places : x.place ≡ w.branches → ⊥ = λ z. other (own_step e l d (sym (ap (λ y. o.path (state y)) (same z)) ∙ its_path o e t u x) stop (sym (ap (λ y. same_own_action (does e) (own_action_of o y)) (same z)) ∙ its_kind o e t u x)) in
         let a = apart o x.place w.branches t.root x.old (Live l) x.new.node (quieted l).node x.new (quieted l) places x.there w.there x.here (steps_here l stop) in
         let root = root_path o law x.place t.root x.old x.new s.below x.there x.here in
         subst (λ (z : Tree S). led_to o z.root (o.path l) ≡ Some (Live l)) x.is (again t.root (put x.place x.new.node t.root) (o.path l) w.branches (Live l) root w.is a.second)

@@ -6,7 +6,7 @@ use Rattle.shim_local.specs.Quiets.{is_quiet}
 use Rattle.shim_semantics.specs.Nodes.{Node, Live, Forked, Ended, Dead}
 use Rattle.shim_semantics.specs.Places.{led_to}
 use Rattle.shim_semantics.specs.Trees.{Tree, Event, Own, after, start, steps}
-use Rattle.shim_semantics.specs.Systems.{run, go_on}
+use Rattle.shim_semantics.specs.Systems.{run, on_some}
 
 pub data Entry : Type 0 where
   -- so many quiet steps of the process of this path, one after another
@@ -29,7 +29,7 @@ quiet_step o p t = cond (is_before_quiet o p (led_to o t.root p)) (after o (Own 
 -- as many as that
 abbrev pub quiet_steps : {S : Type 0} → Ops S → Path → ℕ → Tree S → Option (Tree S)
 quiet_steps o p zero t = Some t
-quiet_steps o p (suc n) t = go_on (quiet_steps o p n) (quiet_step o p t)
+quiet_steps o p (suc n) t = on_some (quiet_steps o p n) (quiet_step o p t)
 
 -- the tree after all that an entry tells of, where each of it is enabled in its turn
 abbrev pub entry_after : {S : Type 0} → Ops S → Entry → Tree S → Option (Tree S)

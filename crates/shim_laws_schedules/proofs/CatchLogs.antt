@@ -11,9 +11,9 @@ use Rattle.shim_local.specs.Process.{Ops, StopView, AtQuiet, AtNext, AtPut, AtFo
 use Rattle.shim_local.specs.declared.LogWhat.{LogWhat}
 use Rattle.shim_local.specs.declared.LogWhat.TheVariants.{Caught, Trap as LoggedTrap}
 use Rattle.shim_semantics.specs.Nodes.{handed, Node, Nodes, Live, Forked, Ended, Dead, death_with, Death, state, states, all_done, prevailing_death, source, value_of}
-use Rattle.shim_semantics.specs.Acts.{Acted, nothing, putting, catching, thrown, throwing, closed, act_live, act_here}
+use Rattle.shim_semantics.specs.Acts.{Acted, nothing, putting, catch_logged, thrown, throwing, closed, act_live, act_here}
 use Rattle.shim_semantics.specs.Places.{at, at_route, route, meets, StandsAt}
-use Rattle.shim_semantics.specs.Trees.{Tree, Event, Own, Meet, Poison, Close, End, kind_of, kind_of_stop, same_kind, logs_at, with_logs, change_nodes, poisons, met, after}
+use Rattle.shim_semantics.specs.Trees.{Tree, Event, Own, Meet, Poison, Close, End, own_action_of, own_action_at, same_own_action, logs_at, with_logs, change_nodes, poisons, met, after}
 use Rattle.shim_semantics.proofs.Alone.{does, doer, does_close}
 use Rattle.shim_laws_schedules.proofs.Entries.{get_other}
 use Rattle.shim_laws_schedules.proofs.Elsewhere.{closing}
@@ -46,16 +46,16 @@ nodes_changed_logs t u r e = ap (λ z. z.logs) (sym (nodes_changed_some t u r e)
 module _ {S : Type 0} (o : Ops S) where
   -- ---- what a throw logs
 
-  caught_logs : (l : S) (x : Death) → o.base l ≤ x.label → (thrown o l x).effects ≡ catching (o.handler l x.label)
+  caught_logs : (l : S) (x : Death) → o.base l ≤ x.label → (thrown o l x).effects ≡ catch_logged (o.handler l x.label)
   caught_logs l x h =
       let dies : Acted S = record { node = Dead l x; effects = nothing } in
-      let goes_on : Acted S = record { node = Live (o.unwind l x.label (handed x.given)); effects = catching (o.handler l x.label) } in
+      let goes_on : Acted S = record { node = Live (o.unwind l x.label (handed x.given)); effects = catch_logged (o.handler l x.label) } in
       ap (λ b. (cond b dies goes_on).effects) (le-ltb x.label (o.base l) h)
 
   logs_caught : (l : S) (x : Death) (name line : ℕ) (more : List LogWhat) → (thrown o l x).effects.logs ≡ Caught name line ∷ more → (o.base l ≤ x.label) × (o.handler l x.label ≡ (name, line))
   logs_caught l x name line more e =
       let dies : Acted S = record { node = Dead l x; effects = nothing } in
-      let goes_on : Acted S = record { node = Live (o.unwind l x.label (handed x.given)); effects = catching (o.handler l x.label) } in
+      let goes_on : Acted S = record { node = Live (o.unwind l x.label (handed x.given)); effects = catch_logged (o.handler l x.label) } in
       elim (true_or_false (ltb x.label (o.base l))) [
         | inl y ↦ let none : [] ≡ Caught name line ∷ more = sym (ap (λ b. (cond b dies goes_on).effects.logs) y) ∙ e in absurd (cc none)
         | inr n ↦
@@ -117,11 +117,11 @@ module _ {S : Type 0} (o : Ops S) where
     -- a catch that it logs
     tells : (p : Path) (name line : ℕ) → p ≡ doer e → NodeCatches w.old name line → (x : ℕ) × (v : ℤ) × (c : Catches o t e p x v) × (o.handler (catcher c) x ≡ (name, line))
     tells p name line at (at_throw k x v live throws gives low handler) =
-        let is : e ≡ Own (doer e) = does_steps e (ap (same_kind (does e)) (sym (ap (kind_of o) live ∙ ap kind_of_stop throws)) ∙ its_kind o e t u w) in
+        let is : e ≡ Own (doer e) = does_steps e (ap (same_own_action (does e)) (sym (ap (own_action_of o) live ∙ ap own_action_at throws)) ∙ its_kind o e t u w) in
         let c : Throws o t e p x v = record { is = is ∙ ap Own (sym at); thrower = k; stands = opened_stands o e t u w p (Live k) at live; throws = throws; gives = gives } in
         (x, v, by_throw c low, handler)
     tells p name line at (at_close k ks x forked done least low handler) =
-        let is : e ≡ Close (doer e) = does_close e (ap (same_kind (does e)) (sym (ap (kind_of o) forked)) ∙ its_kind o e t u w) in
+        let is : e ≡ Close (doer e) = does_close e (ap (same_own_action (does e)) (sym (ap (own_action_of o) forked)) ∙ its_kind o e t u w) in
         let c : ClosesWith o t e p x.label (handed x.given) = record { is = is ∙ ap Close (sym at); parent = k; children = ks; stands = opened_stands o e t u w p (Forked k ks) at forked; done = done; death = x; prevails = least; labelled = refl; hands = refl } in
         (x.label, handed x.given, by_close c low, handler)
 
@@ -150,8 +150,8 @@ module _ {S : Type 0} (o : Ops S) where
         let joined = o.join c.parent (states c.children) false in
         let left = closing o c.parent c.children w.new (ap (act_here o) (sym old) ∙ w.here) in
         let new : thrown o joined c.death ≡ w.new = sym (ap (closed o c.parent (states c.children)) c.prevails) ∙ left.1 in
-        let caught : (thrown o joined c.death).effects ≡ catching (o.handler joined x) =
-        caught_logs joined c.death (subst (λ z. o.base joined ≤ z) (sym c.labelled) low) ∙ ap (λ z. catching (o.handler joined z)) c.labelled in
+        let caught : (thrown o joined c.death).effects ≡ catch_logged (o.handler joined x) =
+        caught_logs joined c.death (subst (λ z. o.base joined ≤ z) (sym c.labelled) low) ∙ ap (λ z. catch_logged (o.handler joined z)) c.labelled in
         alone_logs p at ∙ ap (λ z. logs_at t.logs p ++ z.logs) (sym (ap (λ z. z.effects) new) ∙ caught)
 
   -- ---- every event

@@ -6,7 +6,7 @@ use Rattle.shim_base.specs.Paths.{Path, Channel}
 use Rattle.shim_local.specs.Process.{Ops}
 use Rattle.shim_local.specs.Laws.{LocalLaws, AllOf, Moved, by_join}
 use Rattle.shim_semantics.specs.Nodes.{handed, Node, Nodes, Live, Forked, Ended, Dead, outermost, Death, no_node, node_and, state, states, all_done, prevailing_death, prevailing, ready}
-use Rattle.shim_semantics.specs.Acts.{Acted, act_here, thrown, closed, nothing, catching}
+use Rattle.shim_semantics.specs.Acts.{Acted, act_here, thrown, closed, nothing, catch_logged}
 use Rattle.shim_semantics.specs.Poison.{dooms, any_dooms, is_doomed, is_ready_child}
 use Rattle.shim_semantics.specs.Places.{at, child_at, SoundBelow, SoundChildren}
 use Rattle.shim_semantics.proofs.HowMany.{clash, no_less, no_less_than}
@@ -157,7 +157,7 @@ module _ {S : Type 0} (o : Ops S) where
   thrown_dooms : (h : ℕ) (c : Channel) (y : Death) (m : S) → y.label < h → h ≤ o.base m → o.shares m c ≡ true → dooms o h c (thrown o m y).node ≡ true
   thrown_dooms h c y m a b e =
       let dies : Acted S = record { node = Dead m y; effects = nothing } in
-      let goes_on : Acted S = record { node = Live (o.unwind m y.label (handed y.given)); effects = catching (o.handler m y.label) } in
+      let goes_on : Acted S = record { node = Live (o.unwind m y.label (handed y.given)); effects = catch_logged (o.handler m y.label) } in
       ap (λ z. dooms o h c (cond z dies goes_on).node) (lt-ltb y.label (o.base m) (label_below_base y.label h (o.base m) a b)) ∙ both_hold (o.shares m c) (ltb y.label h) e (lt-ltb y.label h a)
 
   close_dooms : LocalLaws o → (h : ℕ) (c : Channel) (l : S) (ks : Nodes S) (a : Acted S) → SoundBelow o (Forked l ks) → NotBelow c (o.path l) → h ≤ o.base l → any_dooms o h c ks ≡ true → act_here o (Forked l ks) ≡ Some a → dooms o h c a.node ≡ true

@@ -8,7 +8,7 @@ use Rattle.std.specs.declared.cmp.Ordering.{Ordering}
 use Rattle.std.specs.declared.cmp.Ordering.TheVariants.{Less, Equal, Greater}
 use Rattle.shim_base.specs.Paths.{Channel, channel_order}
 use Rattle.shim_base.specs.PathLaws.{channel_order_total, exact_channel}
-use Rattle.shim_semantics.specs.Trees.{Met, with_value, recorded}
+use Rattle.shim_semantics.specs.Trees.{Met, with_met, recorded}
 use Rattle.shim_base.proofs.Facts.{true_or_false}
 
 tied : (r : Ordering) → is_eq r ≡ true → r ≡ Equal
@@ -54,4 +54,4 @@ module _ {K X : Type 0} {R : K → K → Ordering} (o : IsTotalOrder R) (exact :
 
 -- the values of two channels may be recorded in either order
 pub recorded_swap : (m : map.FinMap channel_order Met) (c d : Channel) (a b : ℕ) (v w : ℤ) → (c ≡ d → ⊥) → recorded (recorded m c a v) d b w ≡ recorded (recorded m d b w) c a v
-recorded_swap m c d a b v w n = change_swap channel_order_total exact_channel m c d (with_value a v) (with_value b w) n
+recorded_swap m c d a b v w n = change_swap channel_order_total exact_channel m c d (with_met a v) (with_met b w) n

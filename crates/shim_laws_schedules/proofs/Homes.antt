@@ -5,7 +5,7 @@ use Rattle.shim_base.specs.Paths.{Path, Channel, same_path}
 use Rattle.shim_local.specs.Process.{Ops}
 use Rattle.shim_local.specs.Laws.{LocalLaws}
 use Rattle.shim_semantics.specs.Nodes.{Node, Nodes, Live, Forked, Ended, Dead, no_node, node_and, state, goes, is_dead, any_sharer, is_next, ready, all_ready}
-use Rattle.shim_semantics.specs.Places.{at, child_at, route, at_route, is_ready_at, meets, SoundBelow, SoundChildren, IsChild}
+use Rattle.shim_semantics.specs.Places.{at, child_at, route, at_route, home_is_ready, meets, SoundBelow, SoundChildren, IsChild}
 use Rattle.shim_semantics.specs.Sound.{IsSound}
 use Rattle.shim_semantics.proofs.HowMany.{clash, no_less}
 use Rattle.shim_semantics.proofs.Sameness.{further}
@@ -285,21 +285,21 @@ module _ {S : Type 0} (o : Ops S) where
   pub meets_all_wait : LocalLaws o → (c : Channel) (n : Node S) → IsSound o n → meets o c n ≡ true → (all_wait o c n ≡ true) × (has_sharer o c n ≡ true)
   meets_all_wait law c n s h = by_route (route (o.path (state n)) c.home) h
     where
-      found : (q : List ℕ) (x : Option (Node S)) → at q n ≡ x → is_ready_at o c x ≡ true → (all_wait o c n ≡ true) × (has_sharer o c n ≡ true)
+      found : (q : List ℕ) (x : Option (Node S)) → at q n ≡ x → home_is_ready o c x ≡ true → (all_wait o c n ≡ true) × (has_sharer o c n ≡ true)
       found q None e h = absurd cc
       found q (Some m) e h =
           let path = same_path_is (o.path (state m)) c.home (first_holds (same_path (o.path (state m)) c.home) (ready o c m) h) in
           let r = second_holds (same_path (o.path (state m)) c.home) (ready o c m) h in
           (home_all_wait c n m q s.below (s.own c) e path r, has_sharer_at c q n m e (ready_has_sharer law c m (sound_at o q n m s.below e) r))
 
-      by_route : (q : Option (List ℕ)) → is_ready_at o c (at_route n q) ≡ true → (all_wait o c n ≡ true) × (has_sharer o c n ≡ true)
+      by_route : (q : Option (List ℕ)) → home_is_ready o c (at_route n q) ≡ true → (all_wait o c n ≡ true) × (has_sharer o c n ≡ true)
       by_route None h = absurd cc
       by_route (Some q) h = found q (at q n) refl h
 
   pub home_meets : (c : Channel) (n : Node S) → SoundBelow o n → Home c n → meets o c n ≡ true
   home_meets c n s x =
-      ap (λ z. is_ready_at o c (at_route n z)) (route_of o n x.node x.branches c.home s x.there x.path)
-      ∙ (ap (is_ready_at o c) x.there ∙ both_hold _ _ (ap (λ z. same_path z c.home) x.path ∙ same_path_refl c.home) x.is_ready)
+      ap (λ z. home_is_ready o c (at_route n z)) (route_of o n x.node x.branches c.home s x.there x.path)
+      ∙ (ap (home_is_ready o c) x.there ∙ both_hold _ _ (ap (λ z. same_path z c.home) x.path ∙ same_path_refl c.home) x.is_ready)
 
   pub all_wait_meets : (c : Channel) (n : Node S) → IsSound o n → all_wait o c n ≡ true → has_sharer o c n ≡ true → meets o c n ≡ true
   all_wait_meets c n s h t = home_meets c n s.below (all_wait_home c n s.below (s.own c) h t)

@@ -3,7 +3,7 @@ use Rattle.std.proofs.Common.{◌≡◌, ◌≤◌, ℕ, ℤ, pos, zero, suc, tr
 use Rattle.shim_local.specs.Process.{Ops, ForkedView, Parted, Trapped, StopView, AtQuiet, AtNext, AtPut, AtFork, AtFinish, AtThrow, AtTrap}
 use Rattle.shim_local.specs.Laws.{LocalLaws, Moved, by_join}
 use Rattle.shim_semantics.specs.Nodes.{handed, Node, Nodes, Live, Forked, Ended, Dead, death_with, Death, state, states, all_live, all_done, prevailing_death}
-use Rattle.shim_semantics.specs.Acts.{Acted, nothing, catching, thrown, throwing, closed, parted, act_live, act_here}
+use Rattle.shim_semantics.specs.Acts.{Acted, nothing, catch_logged, thrown, throwing, closed, parted, act_live, act_here}
 use Rattle.shim_semantics.specs.Places.{at, child_at, SoundBelow}
 use Rattle.shim_semantics.proofs.HowMany.{no_less_than}
 use Rattle.shim_semantics.proofs.Replaced.{states_sound}
@@ -23,7 +23,7 @@ module _ {S : Type 0} (o : Ops S) where
   thrown_dead : (l : S) (x : Death) (t : ℕ) → t ≤ o.base l → dead_below t (thrown o l x).node ≡ ltb x.label t
   thrown_dead l x t h =
       let dies : Acted S = record { node = Dead l x; effects = nothing } in
-      let goes_on : Acted S = record { node = Live (o.unwind l x.label (handed x.given)); effects = catching (o.handler l x.label) } in
+      let goes_on : Acted S = record { node = Live (o.unwind l x.label (handed x.given)); effects = catch_logged (o.handler l x.label) } in
       elim (true_or_false (ltb x.label (o.base l))) [
         | inl y ↦ ap (λ b. dead_below t (cond b dies goes_on).node) y
         | inr n ↦ ap (λ b. dead_below t (cond b dies goes_on).node) n ∙ sym (le-ltb x.label t (no_less_than x.label (o.base l) t h (ltb-false x.label (o.base l) n)))
@@ -92,7 +92,7 @@ module _ {S : Type 0} (o : Ops S) where
   thrown_no_fork : (k : S) (x : Death) → NoFork (thrown o k x).node
   thrown_no_fork k x =
       let dies : Acted S = record { node = Dead k x; effects = nothing } in
-      let goes_on : Acted S = record { node = Live (o.unwind k x.label (handed x.given)); effects = catching (o.handler k x.label) } in
+      let goes_on : Acted S = record { node = Live (o.unwind k x.label (handed x.given)); effects = catch_logged (o.handler k x.label) } in
       elim (ltb x.label (o.base k)) as (λ b. NoFork (cond b dies goes_on).node) [ true ↦ dead_no_fork k x | false ↦ live_no_fork (o.unwind k x.label (handed x.given)) ]
 
   pub closed_no_fork : (k : S) (js : List S) (r : Option Death) → NoFork (closed o k js r).node

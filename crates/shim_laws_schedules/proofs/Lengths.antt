@@ -1,10 +1,10 @@
 -- In a system in which events may change places, all runs that come to rest are as long and end at the same.
 use Rattle.std.proofs.Common.{◌≡◌, suc, Option, Some, None, List, [], ◌∷◌, length, ◌⊎◌, refl, sym, ap, subst, ◌∙◌, inl, inr, arith}
-use Rattle.shim_semantics.specs.Systems.{go_on, run, IsInvariant}
+use Rattle.shim_semantics.specs.Systems.{on_some, run, IsInvariant}
 use Rattle.shim_laws_schedules.specs.Orders.{IsAtRest, IsDiamond, HasOneLength}
 use Rattle.shim_base.proofs.Facts.{some_same, none_some}
 
-pub went_on : {T : Type 0} (f : T → Option T) (x : Option T) (u : T) → go_on f x ≡ Some u → (t : T) × (x ≡ Some t) × (f t ≡ Some u)
+pub went_on : {T : Type 0} (f : T → Option T) (x : Option T) (u : T) → on_some f x ≡ Some u → (t : T) × (x ≡ Some t) × (f t ≡ Some u)
 went_on f None u e = none_some u e
 went_on f (Some t) u e = (t, refl, e)
 
@@ -25,7 +25,7 @@ module _ {E T : Type 0} (step : E → T → Option T) (sound : T → Type 0) (sa
         | inr n ↦
             let d = diamond g f t x.0 b s n x.1 e in
             let rest = left x.0 u d.0 es f (kept t s g x.0 x.1) x.2 q d.1 in
-            (g ∷ rest.0, ap (go_on (run step rest.0)) d.2 ∙ rest.1, omega (arith, rest.2, one_longer g es, one_longer g rest.0))
+            (g ∷ rest.0, ap (on_some (run step rest.0)) d.2 ∙ rest.1, omega (arith, rest.2, one_longer g es, one_longer g rest.0))
       ]
 
   -- a run of no event that is at rest is the only one

@@ -11,7 +11,7 @@ use Rattle.shim_local.specs.Process.{Ops}
 use Rattle.shim_semantics.specs.Nodes.{Node, source, value_of, first_name}
 use Rattle.shim_semantics.specs.Acts.{Acted}
 use Rattle.shim_semantics.specs.Places.{meets}
-use Rattle.shim_semantics.specs.Trees.{Tree, Met, Event, Own, Meet, Poison, Close, End, Steps, Ends, Closes, acts, count_own, count_event, change_nodes, poisons, with_value, recorded, met, after}
+use Rattle.shim_semantics.specs.Trees.{Tree, Met, Event, Own, Meet, Poison, Close, End, Steps, Ends, Closes, acts, count_own, count_event, change_nodes, poisons, with_met, recorded, met, after}
 use Rattle.shim_semantics.specs.Systems.{run}
 use Rattle.shim_laws_schedules.proofs.Entries.{tied_same}
 use Rattle.shim_laws_schedules.proofs.PoisonDiamond.{nodes_changed_some}
@@ -46,21 +46,21 @@ grows_further x y z f g h e =
     let b = g (record { name = h.name; values = h.values ++ a.0 }) a.1 in
     (a.0 ++ b.0, b.1 ∙ ap (with_values h) (append_assoc h.values a.0 b.0))
 
-value_more : (name : ℕ) (v : ℤ) (x : Option Met) → Grows x (Some (with_value name v x))
+value_more : (name : ℕ) (v : ℤ) (x : Option Met) → Grows x (Some (with_met name v x))
 value_more name v None h e = none_some h e
 value_more name v (Some k) h e = (v ∷ [], ap (λ (m : Met). with_values m (m.values ++ v ∷ [])) (some_same k h e))
 
 recorded_more : (m : map.FinMap channel_order Met) (d : Channel) (name : ℕ) (v : ℤ) (c : Channel) → Grows (map.get m c) (map.get (recorded m d name v) c)
 recorded_more m d name v c =
-    let read = get-insert channel_order_total m d (with_value name v (map.get m d)) c in
+    let read = get-insert channel_order_total m d (with_met name v (map.get m d)) c in
     elim (true_or_false (eq_by_cmp channel_order c d)) [
       | inl y ↦
           let is : c ≡ d = tied_same exact_channel c d y in
-          let now : map.get (recorded m d name v) c ≡ Some (with_value name v (map.get m c)) =
-          read ∙ (ap (λ b. cond b (Some (with_value name v (map.get m d))) (map.get m c)) y ∙ ap (λ z. Some (with_value name v (map.get m z))) (sym is)) in
+          let now : map.get (recorded m d name v) c ≡ Some (with_met name v (map.get m c)) =
+          read ∙ (ap (λ b. cond b (Some (with_met name v (map.get m d))) (map.get m c)) y ∙ ap (λ z. Some (with_met name v (map.get m z))) (sym is)) in
           subst (λ z. Grows (map.get m c) z) (sym now) (value_more name v (map.get m c))
       | inr n ↦
-          let now : map.get (recorded m d name v) c ≡ map.get m c = read ∙ ap (λ b. cond b (Some (with_value name v (map.get m d))) (map.get m c)) n in
+          let now : map.get (recorded m d name v) c ≡ map.get m c = read ∙ ap (λ b. cond b (Some (with_met name v (map.get m d))) (map.get m c)) n in
           subst (λ z. Grows (map.get m c) z) (sym now) (grows_same (map.get m c))
     ]
 

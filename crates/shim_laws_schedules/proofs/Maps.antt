@@ -5,11 +5,11 @@ use Rattle.std.specs.FinMap as map
 use Rattle.shim_base.specs.Paths.{Path, path_order}
 use Rattle.shim_base.specs.PathLaws.{path_order_total, exact_path}
 use Rattle.shim_local.specs.declared.LogWhat.{LogWhat}
-use Rattle.shim_semantics.specs.Trees.{one_more, with_logs}
+use Rattle.shim_semantics.specs.Trees.{with_step_counted, with_logs}
 use Rattle.shim_laws_schedules.proofs.Entries.{change_swap}
 
 -- the counts of steps of two processes
-pub counts_swap : (p q : Path) (m : map.FinMap path_order ℕ) → (p ≡ q → ⊥) → one_more (one_more m p) q ≡ one_more (one_more m q) p
+pub counts_swap : (p q : Path) (m : map.FinMap path_order ℕ) → (p ≡ q → ⊥) → with_step_counted (with_step_counted m p) q ≡ with_step_counted (with_step_counted m q) p
 counts_swap p q m n = change_swap path_order_total exact_path m p q (λ z. unwrap_or z 0 + 1) (λ z. unwrap_or z 0 + 1) n
 
 -- what is logged of two processes

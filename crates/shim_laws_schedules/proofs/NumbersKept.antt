@@ -4,7 +4,7 @@ use Rattle.shim_base.specs.Paths.{Channel}
 use Rattle.shim_local.specs.Process.{Ops, ForkedView, Parted, Trapped, StopView, AtQuiet, AtNext, AtPut, AtFork, AtFinish, AtThrow, AtTrap}
 use Rattle.shim_local.specs.Laws.{LocalLaws}
 use Rattle.shim_semantics.specs.Nodes.{Node, Nodes, Live, Forked, Ended, Dead, Death, death, death_with, handed, no_node, node_and, state, states, all_done, prevailing_death, received, all_received}
-use Rattle.shim_semantics.specs.Acts.{Acted, nothing, catching, thrown, throwing, closed, parted, act_live, act_here}
+use Rattle.shim_semantics.specs.Acts.{Acted, nothing, catch_logged, thrown, throwing, closed, parted, act_live, act_here}
 use Rattle.shim_semantics.specs.Poison.{can_poison, poisoned, all_poisoned, one_poisoned, poison, poison_child, poison_route, to_fork, last_branch}
 use Rattle.shim_semantics.specs.Places.{at, child_at, SoundBelow}
 use Rattle.shim_semantics.proofs.HowMany.{clash}
@@ -45,7 +45,7 @@ module _ {S : Type 0} (o : Ops S) where
   thrown_died : (l : S) (d : Death) (x : ℕ) (v : ℤ) → DiedWith x v (thrown o l d).node → (d.label ≡ x) × (d.given ≡ Some v)
   thrown_died l d x v h =
       let dies : Acted S = record { node = Dead l d; effects = nothing } in
-      let goes_on : Acted S = record { node = Live (o.unwind l d.label (handed d.given)); effects = catching (o.handler l d.label) } in
+      let goes_on : Acted S = record { node = Live (o.unwind l d.label (handed d.given)); effects = catch_logged (o.handler l d.label) } in
       elim (ltb d.label (o.base l)) as (λ b. DiedWith x v (cond b dies goes_on).node → (d.label ≡ x) × (d.given ≡ Some v)) [ true ↦ λ z. z | false ↦ λ z. absurd z ] h
 
   parted_died : (r : ForkedView S) (x : ℕ) (v : ℤ) → DiedWith x v (parted r) → ⊥

@@ -5,9 +5,9 @@ use Rattle.shim_base.specs.Paths.{Path, path_order, same_path}
 use Rattle.shim_local.specs.Process.{Ops}
 use Rattle.shim_local.specs.Laws.{LocalLaws}
 use Rattle.shim_semantics.specs.Nodes.{Node, Nodes, Live, Forked, Ended, Dead, no_node, node_and, state}
-use Rattle.shim_semantics.specs.Acts.{Effects, Acted, act, act_child, act_here, within, in_front, behind}
+use Rattle.shim_semantics.specs.Acts.{Effects, Acted, act, act_child, act_here, within, in_front, in_later}
 use Rattle.shim_semantics.specs.Places.{at, child_at, route, at_route, led_to, SoundBelow}
-use Rattle.shim_semantics.specs.Trees.{Tree, Event, Own, Meet, Poison, Close, End, Kind, Steps, Ends, Closes, Nothing, kind_of, same_kind, is_its, act_route, acts, count_own, count_event, one_more, with_logs, after}
+use Rattle.shim_semantics.specs.Trees.{Tree, Event, Own, Meet, Poison, Close, End, OwnAction, Steps, Ends, Closes, Nothing, own_action_of, same_own_action, is_its, act_route, acts, count_own, count_event, with_step_counted, with_logs, after}
 use Rattle.shim_semantics.proofs.Alone.{does, doer, IsAlone}
 use Rattle.shim_semantics.proofs.ReplacedNodes.{put, put_child, acts_there}
 use Rattle.shim_semantics.proofs.Replaced.{sound_at}
@@ -18,7 +18,7 @@ use Rattle.shim_base.proofs.SamePaths.{same_path_is}
 
 -- the own steps of each process after the event, and how many events were none
 abbrev pub counted : Event → map.FinMap path_order ℕ → map.FinMap path_order ℕ
-counted (Own p) m = one_more m p
+counted (Own p) m = with_step_counted m p
 counted (Meet c) m = m
 counted (Poison p c) m = m
 counted (Close p) m = m
@@ -39,7 +39,7 @@ later_twice (Close p) n = refl
 later_twice (End p) n = refl
 
 -- the event by which the process of the path does something of this kind
-abbrev made : Kind → Path → Event
+abbrev made : OwnAction → Path → Event
 made Steps p = Own p
 made Ends p = End p
 made Closes p = Close p
@@ -52,7 +52,7 @@ made_is (Poison p c) d = absurd (d refl)
 made_is (Close p) d = refl
 made_is (End p) d = refl
 
-kinds_same : (k j : Kind) → same_kind k j ≡ true → k ≡ j
+kinds_same : (k j : OwnAction) → same_own_action k j ≡ true → k ≡ j
 kinds_same Steps Steps e = refl
 kinds_same Ends Ends e = refl
 kinds_same Closes Closes e = refl
@@ -103,7 +103,7 @@ module _ {S : Type 0} (o : Ops S) where
     act_put_in : (i : ℕ) (q : List ℕ) (ks : Nodes S) (m : Node S) (a : Acted S) → child_at i q ks ≡ Some m → act_here o m ≡ Some a → act_child o i q ks ≡ Some (put_child i q a.node ks, a.effects)
     act_put_in i q no_node m a e h = none_some m e
     act_put_in zero q (node_and k ks) m a e h = ap (in_front ks) (act_put q k m a e h)
-    act_put_in (suc i) q (node_and k ks) m a e h = ap (behind k) (act_put_in i q ks m a e h)
+    act_put_in (suc i) q (node_and k ks) m a e h = ap (in_later k) (act_put_in i q ks m a e h)
 
   -- and the path of the root stays
   pub root_path : LocalLaws o → (q : List ℕ) (n m : Node S) (a : Acted S) → SoundBelow o n → at q n ≡ Some m → act_here o m ≡ Some a → o.path (state (put q a.node n)) ≡ o.path (state n)
@@ -144,17 +144,17 @@ module _ {S : Type 0} (o : Ops S) where
 
   -- the node is of the event's process, and does what the event has it do
   pub its_path : (e : Event) (t a : Tree S) → (x : Opened e t a) → o.path (state x.old) ≡ doer e
-  its_path e t a x = same_path_is (o.path (state x.old)) (doer e) (first_holds (same_path (o.path (state x.old)) (doer e)) (same_kind (does e) (kind_of o x.old)) x.its)
+  its_path e t a x = same_path_is (o.path (state x.old)) (doer e) (first_holds (same_path (o.path (state x.old)) (doer e)) (same_own_action (does e) (own_action_of o x.old)) x.its)
 
-  pub its_kind : (e : Event) (t a : Tree S) → (x : Opened e t a) → same_kind (does e) (kind_of o x.old) ≡ true
-  its_kind e t a x = second_holds (same_path (o.path (state x.old)) (doer e)) (same_kind (does e) (kind_of o x.old)) x.its
+  pub its_kind : (e : Event) (t a : Tree S) → (x : Opened e t a) → same_own_action (does e) (own_action_of o x.old) ≡ true
+  its_kind e t a x = second_holds (same_path (o.path (state x.old)) (doer e)) (same_own_action (does e) (own_action_of o x.old)) x.its
 
   -- so two events of one node are one
   pub one_event : (e f : Event) (t a b : Tree S) → IsAlone e → IsAlone f → (x : Opened e t a) → (y : Opened f t b) → x.place ≡ y.place → e ≡ f
   one_event e f t a b d g x y h =
       let same : x.old ≡ y.old = some_same x.old y.old (sym x.there ∙ (ap (λ z. at z t.root) h ∙ y.there)) in
       let path : doer e ≡ doer f = sym (its_path e t a x) ∙ (ap (λ z. o.path (state z)) same ∙ its_path f t b y) in
-      let kind : does e ≡ does f = kinds_same (does e) (kind_of o x.old) (its_kind e t a x) ∙ (ap (kind_of o) same ∙ sym (kinds_same (does f) (kind_of o y.old) (its_kind f t b y))) in
+      let kind : does e ≡ does f = kinds_same (does e) (own_action_of o x.old) (its_kind e t a x) ∙ (ap (own_action_of o) same ∙ sym (kinds_same (does f) (own_action_of o y.old) (its_kind f t b y))) in
       sym (made_is e d) ∙ ((λ i. made (kind i) (path i)) ∙ made_is f g)
 
   -- put together again

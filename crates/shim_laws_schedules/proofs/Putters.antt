@@ -5,7 +5,7 @@ use Rattle.std.proofs.lemmas.List.{append-nil}
 use Rattle.shim_local.specs.Process.{Ops, StopView, AtQuiet, AtNext, AtPut, AtFork, AtFinish, AtThrow, AtTrap}
 use Rattle.shim_local.specs.Laws.{LocalLaws}
 use Rattle.shim_semantics.specs.Nodes.{handed, Node, Live, Forked, Ended, Dead, death_with, Death, state, states, prevailing_death}
-use Rattle.shim_semantics.specs.Acts.{Acted, nothing, catching, thrown, throwing, closed, act_here, act_live}
+use Rattle.shim_semantics.specs.Acts.{Acted, nothing, catch_logged, thrown, throwing, closed, act_here, act_live}
 use Rattle.shim_semantics.specs.Places.{at, SoundBelow}
 use Rattle.shim_semantics.specs.Sound.{IsSound, holders}
 use Rattle.shim_semantics.proofs.Replaced.{sound_at}
@@ -17,7 +17,7 @@ module _ {S : Type 0} (o : Ops S) where
   thrown_silent : (l : S) (x : Death) → (thrown o l x).effects.bytes ≡ []
   thrown_silent l x = by_test (ltb x.label (o.base l))
     where
-      by_test : (b : Bool) → (cond {A = Acted S} b (record { node = Dead l x; effects = nothing }) (record { node = Live (o.unwind l x.label (handed x.given)); effects = catching (o.handler l x.label) })).effects.bytes ≡ []
+      by_test : (b : Bool) → (cond {A = Acted S} b (record { node = Dead l x; effects = nothing }) (record { node = Live (o.unwind l x.label (handed x.given)); effects = catch_logged (o.handler l x.label) })).effects.bytes ≡ []
       by_test true = refl
       by_test false = refl
 

@@ -1,6 +1,6 @@
 -- In a system in which events may change places, a run leads on to what as many rounds give.
 use Rattle.std.proofs.Common.{◌≡◌, ℕ, zero, suc, ◌≤◌, Option, Some, None, List, [], ◌∷◌, ◌++◌, length, ◌⊎◌, refl, sym, ap, subst, ◌∙◌, inl, inr, arith}
-use Rattle.shim_semantics.specs.Systems.{go_on, run, IsInvariant}
+use Rattle.shim_semantics.specs.Systems.{on_some, run, IsInvariant}
 use Rattle.shim_semantics.specs.Listing.{IsAmong}
 use Rattle.shim_semantics.proofs.HowMany.{no_less_than}
 use Rattle.shim_laws_schedules.specs.Orders.{IsDiamond, or_same, do_all, rounds_of}
@@ -22,10 +22,10 @@ module _ {E T : Type 0} (step : E → T → Option T) where
   run_on [] gs t u v r q = ap (run step gs) (some_same t u r) ∙ q
   run_on (e ∷ es) gs t u v r q =
       let x = went_on (run step es) (step e t) u r in
-      ap (go_on (run step (es ++ gs))) x.1 ∙ run_on es gs x.0 u v x.2 q
+      ap (on_some (run step (es ++ gs))) x.1 ∙ run_on es gs x.0 u v x.2 q
 
   pub run_one : (e : E) (t u : T) → step e t ≡ Some u → run step (e ∷ []) t ≡ Some u
-  run_one e t u h = ap (go_on (run step [])) h
+  run_one e t u h = ap (on_some (run step [])) h
 
 module _ {E T : Type 0} (step : E → T → Option T) (sound : T → Type 0) (kept : IsInvariant step sound) where
   pub run_kept : (es : List E) (t u : T) → sound t → run step es t ≡ Some u → sound u
@@ -39,7 +39,7 @@ module _ {E T : Type 0} (step : E → T → Option T) (sound : T → Type 0) (ke
     where
       by_case : (x : Option T) → ((u : T) → sound u → (gs : List E) × (run step gs u ≡ Some (do_all step es u))) → step e t ≡ x → (gs : List E) × (run step gs t ≡ Some (do_all step es (or_same t x)))
       by_case None later p = later t s
-      by_case (Some u) later p = let w = later u (kept t s e u p) in (e ∷ w.0, ap (go_on (run step w.0)) p ∙ w.1)
+      by_case (Some u) later p = let w = later u (kept t s e u p) in (e ∷ w.0, ap (on_some (run step w.0)) p ∙ w.1)
 
 module _ {E T : Type 0} (step : E → T → Option T) (sound : T → Type 0) (same : (e f : E) → (e ≡ f) ⊎ (e ≡ f → ⊥)) (diamond : IsDiamond step sound) (kept : IsInvariant step sound) where
   -- two runs from one state, after which both are at the same: what the one still does is no longer than the other was
@@ -69,7 +69,7 @@ module _ {E T : Type 0} (step : E → T → Option T) (sound : T → Type 0) (sa
         | inr n ↦
             let d = diamond g f t x.0 b s n x.1 e in
             let w = one_run x.0 u d.0 es f (kept t s g x.0 x.1) x.2 d.1 in
-            record { end = w.end; from_second = g ∷ w.from_second; from_first = w.from_first; second = ap (go_on (run step w.from_second)) d.2 ∙ w.second; first = w.first; no_longer = both_longer g w.from_second es w.no_longer }
+            record { end = w.end; from_second = g ∷ w.from_second; from_first = w.from_first; second = ap (on_some (run step w.from_second)) d.2 ∙ w.second; first = w.first; no_longer = both_longer g w.from_second es w.no_longer }
       ]
 
   two_runs : (t u w : T) (es rs : List E) → sound t → run step es t ≡ Some u → run step rs t ≡ Some w → Meets es u w
@@ -105,7 +105,7 @@ module _ {E T : Type 0} (step : E → T → Option T) (sound : T → Type 0) (sa
         | inr n ↦
             let d = diamond e f t a u s n p q in
             let w = later u d.0 (kept t s f u q) (rest n) d.2 in
-            (f ∷ w.0, ap (go_on (run step w.0)) d.1 ∙ w.1)
+            (f ∷ w.0, ap (on_some (run step w.0)) d.1 ∙ w.1)
       ]
 
   pub leads_to_rounds : (walk : T → List E) → ListsAll step walk → LeadsToRounds step sound walk

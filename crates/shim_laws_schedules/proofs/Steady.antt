@@ -3,7 +3,7 @@ use Rattle.std.proofs.Common.{◌≡◌, ℕ, zero, suc, ◌-◌, true, false, O
 use Rattle.shim_base.specs.Paths.{Channel}
 use Rattle.shim_local.specs.Process.{Ops}
 use Rattle.shim_semantics.specs.Nodes.{handed, Node, Nodes, Live, Forked, Ended, Dead, Death, death, no_node, node_and, state, states, prevailing_death}
-use Rattle.shim_semantics.specs.Acts.{Acted, act_here, thrown, closed, nothing, catching}
+use Rattle.shim_semantics.specs.Acts.{Acted, act_here, thrown, closed, nothing, catch_logged}
 use Rattle.shim_semantics.specs.Poison.{poisoned, one_poisoned, can_poison, poison, poison_child}
 use Rattle.shim_semantics.specs.Places.{at, child_at}
 use Rattle.shim_semantics.proofs.ReplacedNodes.{put, put_child}
@@ -20,7 +20,7 @@ module _ {S : Type 0} (o : Ops S) where
   thrown_alone : (l : S) (x : Death) (b : ℕ) (w : List ℕ) → at (b ∷ w) (thrown o l x).node ≡ None
   thrown_alone l x b w =
       let dies : Acted S = record { node = Dead l x; effects = nothing } in
-      let goes_on : Acted S = record { node = Live (o.unwind l x.label (handed x.given)); effects = catching (o.handler l x.label) } in
+      let goes_on : Acted S = record { node = Live (o.unwind l x.label (handed x.given)); effects = catch_logged (o.handler l x.label) } in
       elim (ltb x.label (o.base l)) as (λ z. at (b ∷ w) (cond z dies goes_on).node ≡ None) [ true ↦ refl | false ↦ refl ]
 
   closed_alone : (l : S) (ks : List S) (r : Option Death) (b : ℕ) (w : List ℕ) → at (b ∷ w) (closed o l ks r).node ≡ None

@@ -5,7 +5,7 @@ use Rattle.shim_base.specs.Paths.{Path}
 use Rattle.shim_local.specs.Process.{Ops}
 use Rattle.shim_semantics.specs.Nodes.{Node, Live, Forked, state}
 use Rattle.shim_semantics.specs.Places.{at, at_route, branches, route, SoundBelow, StandsAt}
-use Rattle.shim_semantics.specs.Trees.{Tree, Event, Own, Meet, Poison, Close, End, Steps, kind_of, kind_of_stop, same_kind, after}
+use Rattle.shim_semantics.specs.Trees.{Tree, Event, Own, Meet, Poison, Close, End, Steps, own_action_of, own_action_at, same_own_action, after}
 use Rattle.shim_semantics.specs.Systems.{run}
 use Rattle.shim_semantics.proofs.Members.{among_either}
 use Rattle.shim_semantics.proofs.Alone.{does, doer}
@@ -15,7 +15,7 @@ use Rattle.shim_laws_schedules.specs.Throws.{ThrewBelow}
 use Rattle.shim_laws_schedules.proofs.Opened.{Opened, its_path, its_kind}
 use Rattle.shim_laws_schedules.proofs.Stood.{ThrowsBelow}
 
-pub does_steps : (e : Event) → same_kind (does e) Steps ≡ true → e ≡ Own (doer e)
+pub does_steps : (e : Event) → same_own_action (does e) Steps ≡ true → e ≡ Own (doer e)
 does_steps (Own p) h = refl
 does_steps (Meet c) h = absurd cc
 does_steps (Poison p c) h = absurd cc
@@ -61,8 +61,8 @@ module _ {S : Type 0} (o : Ops S) where
   threw_now from t u es e q l x v s r w h =
       let fork = Forked l h.children in
       let path = at_path o fork w.old (h.branch ∷ h.rest) (sound_at o q t.root fork s h.there) h.leads in
-      let steps : kind_of o w.old ≡ Steps = ap (kind_of o) h.live ∙ ap kind_of_stop h.throws in
-      let is : e ≡ Own (doer e) = does_steps e (ap (same_kind (does e)) (sym steps) ∙ its_kind o e t u w) in
+      let steps : own_action_of o w.old ≡ Steps = ap (own_action_of o) h.live ∙ ap own_action_at h.throws in
+      let is : e ≡ Own (doer e) = does_steps e (ap (same_own_action (does e)) (sym steps) ∙ its_kind o e t u w) in
       let to : doer e ≡ o.path l ++ path.0 = sym (its_path o e t u w) ∙ path.1 in
       record {
         before = es;

@@ -3,7 +3,7 @@ use Rattle.std.proofs.Common.{◌≡◌, ℕ, ℤ, ◌+◌, true, false, Some, N
 use Rattle.shim_base.specs.Paths.{Channel, NamedChannel}
 use Rattle.shim_local.specs.Process.{Ops, StopView, AtQuiet, AtNext, AtPut, AtFork, AtFinish, AtThrow, AtTrap}
 use Rattle.shim_local.specs.Laws.{LocalLaws}
-use Rattle.shim_semantics.specs.Nodes.{Node, Nodes, Live, Forked, Ended, Dead, no_node, node_and, state, goes, any_sharer, is_next, next_of, source, source_among, name_at, first_name, first_name_among, received, all_received}
+use Rattle.shim_semantics.specs.Nodes.{Node, Nodes, Live, Forked, Ended, Dead, no_node, node_and, state, goes, any_sharer, is_next, next_channel, source, source_among, name_for, first_name, first_name_among, received, all_received}
 use Rattle.shim_semantics.specs.Places.{SoundBelow, SoundChildren}
 use Rattle.shim_semantics.proofs.HowMany.{clash}
 use Rattle.shim_laws_schedules.specs.Waiting.{all_wait, all_wait_below, has_sharer, any_has_sharer, is_unshared, all_unshared}
@@ -23,7 +23,7 @@ stands_at (AtThrow label) c e = absurd cc
 stands_at (AtTrap kind line) c e = absurd cc
 
 -- who doesn't stand at the channel has no name for it
-pub no_name : (s : StopView) (c : Channel) → is_next s c ≡ false → name_at c (next_of s) ≡ None
+pub no_name : (s : StopView) (c : Channel) → is_next s c ≡ false → name_for c (next_channel s) ≡ None
 no_name (AtNext d) c e = ap (λ b. cond b (Some d.name) None) e
 no_name AtQuiet c e = refl
 no_name AtPut c e = refl

@@ -6,11 +6,11 @@ use Rattle.shim_base.proofs.Facts.{some_same, none_some}
 use Rattle.shim_local.specs.Process.{Ops}
 use Rattle.shim_semantics.specs.Nodes.{Node, Nodes, Live, Forked, Ended, Dead, no_node, node_and, state}
 use Rattle.shim_semantics.specs.Places.{at, child_at, branches}
-use Rattle.shim_laws_records.specs.Seen.{Sort, lives, forks, ends, dies, seen, sort, place, how_many_nodes}
+use Rattle.shim_laws_records.specs.Seen.{ProcessStatus, lives, forks, ends, dies, seen, process_status, place, how_many_nodes}
 use Rattle.shim_laws_records.specs.Agrees.{RecordView, used, Has, Agrees, Shows}
 use Rattle.shim_laws_records.proofs.Aside.{at_split}
 use Rattle.shim_laws_records.proofs.SameTrees.{seen_sort, seen_state}
-use Rattle.shim_laws_shown.specs.Shown.{node_in_front, nodes_from, fork_over, node_by, node_in, node_of, lengths_of, tree_of, TreeIsComputed}
+use Rattle.shim_laws_shown.specs.Shown.{node_in_front, nodes_from, fork_over, node_by, node_in, node_of, lengths_of, shown_tree, TreeIsComputed}
 
 branches_length : (p : Path) → length (branches p) ≡ length p
 branches_length [] = refl
@@ -32,7 +32,7 @@ one_more (x ∷ q) b = let w = one_more q b in omega (arith, w)
 
 -- no process of the records is further from the root than that
 abbrev pub AreNear : {S : Type 0} → Ops S → Path → List S → List RecordView → ℕ → Type 0
-AreNear {S} o rp states stands most = (i f : ℕ) (s : S) (k : Sort) → Has states stands i f s k → length (place o rp s) ≤ most
+AreNear {S} o rp states stands most = (i f : ℕ) (s : S) (k : ProcessStatus) → Has states stands i f s k → length (place o rp s) ≤ most
 
 near_lengths : {S : Type 0} (o : Ops S) (rp : Path) (states : List S) (stands : List RecordView) → AreNear o rp states stands (lengths_of o states)
 near_lengths o rp states stands i f s k h =
@@ -44,7 +44,7 @@ near_lengths o rp states stands i f s k h =
 module _ {S : Type 0} (o : Ops S) (rp : Path) (states : List S) (stands : List RecordView) (root : Node S) (ok : Agrees o rp states stands root) (most : ℕ) (near : AreNear o rp states stands most) where
   -- so many levels are enough for the nodes at and below these branches
   abbrev Computed : ℕ → Type 0
-  Computed m = (i f : ℕ) (s : S) (k : Sort) (n : Node S) → Has states stands i f s k → at (place o rp s) root ≡ Some n → suc most ≤ m + length (place o rp s) → node_of states stands m i ≡ Some n
+  Computed m = (i f : ℕ) (s : S) (k : ProcessStatus) (n : Node S) → Has states stands i f s k → at (place o rp s) root ≡ Some n → suc most ≤ m + length (place o rp s) → node_of states stands m i ≡ Some n
 
   -- some children of a fork, from one of them on
   among : (m : ℕ) → Computed m → (l : S) (ks js : Nodes S) (i f n b : ℕ) → Has states stands i f l (forks n) → at (place o rp l) root ≡ Some (Forked l ks) → suc most ≤ suc m + length (place o rp l)
@@ -75,7 +75,7 @@ module _ {S : Type 0} (o : Ops S) (rp : Path) (states : List S) (stands : List R
   from_none c = omega arith
 
   -- what is in a record with a state and a sort
-  in_record : (m i f : ℕ) (s : S) (k : Sort) → Has states stands i f s k → node_of states stands (suc m) i ≡ node_by (node_of states stands m) s f k
+  in_record : (m i f : ℕ) (s : S) (k : ProcessStatus) → Has states stands i f s k → node_of states stands (suc m) i ≡ node_by (node_of states stands m) s f k
   in_record m i f s k h = λ t. node_in (node_of states stands m) (h.state_is t) (h.stands_so t)
 
   pub computed : (m : ℕ) → Computed m
@@ -88,10 +88,10 @@ module _ {S : Type 0} (o : Ops S) (rp : Path) (states : List S) (stands : List R
       shown : seen (Some n) ≡ Some (s, k)
       shown = sym (ap seen e) ∙ ok.shown i f s k h
 
-      given : (x : Sort) → x ≡ k → node_of states stands (suc m) i ≡ node_by (node_of states stands m) s f x
+      given : (x : ProcessStatus) → x ≡ k → node_of states stands (suc m) i ≡ node_by (node_of states stands m) s f x
       given x w = in_record m i f s k h ∙ ap (node_by (node_of states stands m) s f) (sym w)
 
-      on : Computed m → (n : Node S) → state n ≡ s → sort n ≡ k → at (place o rp s) root ≡ Some n → node_of states stands (suc m) i ≡ Some n
+      on : Computed m → (n : Node S) → state n ≡ s → process_status n ≡ k → at (place o rp s) root ≡ Some n → node_of states stands (suc m) i ≡ Some n
       on all (Live l) u w e = given lives w ∙ ap (λ z. Some (Live z)) (sym u)
       on all (Ended l) u w e = given ends w ∙ ap (λ z. Some (Ended z)) (sym u)
       on all (Dead l d) u w e = given (dies d) w ∙ ap (λ z. Some (Dead z d)) (sym u)

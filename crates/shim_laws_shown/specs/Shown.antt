@@ -3,7 +3,7 @@ use Rattle.std.specs.Prelude.{◌≡◌, ℕ, zero, suc, ◌+◌, Option, Some, 
 use Rattle.shim_base.specs.Paths.{Path}
 use Rattle.shim_local.specs.Process.{Ops}
 use Rattle.shim_semantics.specs.Nodes.{Node, Nodes, Live, Forked, Ended, Dead, no_node, node_and}
-use Rattle.shim_laws_records.specs.Seen.{Sort, lives, forks, ends, dies}
+use Rattle.shim_laws_records.specs.Seen.{ProcessStatus, lives, forks, ends, dies}
 use Rattle.shim_laws_records.specs.Agrees.{RecordView, used, Shows}
 
 -- a node in front of others, where there are all of them
@@ -22,7 +22,7 @@ fork_over l None = None
 fork_over l (Some ks) = Some (Forked l ks)
 
 -- the node of a record with this state and sort, whose children are the nodes of the records from a number on
-abbrev pub node_by : {S : Type 0} → (ℕ → Option (Node S)) → S → ℕ → Sort → Option (Node S)
+abbrev pub node_by : {S : Type 0} → (ℕ → Option (Node S)) → S → ℕ → ProcessStatus → Option (Node S)
 node_by node s first lives = Some (Live s)
 node_by node s first (forks n) = fork_over s (nodes_from node first n)
 node_by node s first ends = Some (Ended s)
@@ -44,9 +44,9 @@ lengths_of o [] = 0
 lengths_of o (s ∷ ss) = length (o.path s) + lengths_of o ss
 
 -- the tree of the root's record
-abbrev pub tree_of : {S : Type 0} → Ops S → List S → List RecordView → Option (Node S)
-tree_of o states stands = node_of states stands (suc (lengths_of o states)) 0
+abbrev pub shown_tree : {S : Type 0} → Ops S → List S → List RecordView → Option (Node S)
+shown_tree o states stands = node_of states stands (suc (lengths_of o states)) 0
 
 -- where records show a tree, it is the one that is computed
 abbrev pub TreeIsComputed : {S : Type 0} → Ops S → Type 0
-TreeIsComputed {S} o = (rp : Path) (states : List S) (stands : List RecordView) (root : Node S) → Shows o rp states stands root → tree_of o states stands ≡ Some root
+TreeIsComputed {S} o = (rp : Path) (states : List S) (stands : List RecordView) (root : Node S) → Shows o rp states stands root → shown_tree o states stands ≡ Some root

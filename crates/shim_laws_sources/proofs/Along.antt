@@ -3,7 +3,7 @@ use Rattle.std.proofs.Common.{◌≡◌, ℕ, zero, suc, ℤ, Bool, true, Option
 use Rattle.shim_local.specs.Process.{Ops, Trapped, AtQuiet, AtPut, AtFork}
 use Rattle.shim_local.specs.Laws.{AllOf, Forks}
 use Rattle.shim_semantics.specs.Nodes.{Node, Nodes, Live, Forked, Ended, Dead, Death, death_with, handed, no_node, node_and, states, all_live, all_done}
-use Rattle.shim_semantics.specs.Acts.{Acted, thrown, throwing, catching, nothing}
+use Rattle.shim_semantics.specs.Acts.{Acted, thrown, throwing, catch_logged, nothing}
 use Rattle.shim_semantics.specs.Places.{at, child_at}
 use Rattle.shim_semantics.proofs.ReplacedNodes.{put, put_child}
 use Rattle.shim_base.proofs.Facts.{some_same, none_some, choose}
@@ -56,7 +56,7 @@ module _ {S : Type 0} (o : Ops S) (R : Node S → Node S → Type 0) where
   pub thrown_related : Relates o R → (l : S) (x : Death) → o.sound l → R (Live l) (thrown o l x).node
   thrown_related r l x s =
       let dies : Acted S = record { node = Dead l x; effects = nothing } in
-      let goes_on : Acted S = record { node = Live (o.unwind l x.label (handed x.given)); effects = catching (o.handler l x.label) } in
+      let goes_on : Acted S = record { node = Live (o.unwind l x.label (handed x.given)); effects = catch_logged (o.handler l x.label) } in
       choose (λ (z : Acted S). R (Live l) z.node) (ltb x.label (o.base l)) dies goes_on (r.dies l x) (r.unwinds l x.label (handed x.given) s)
 
   pub throwing_related : Relates o R → (l : S) (x : ℕ) (v : Option ℤ) → o.sound l → R (Live l) (throwing o l x v).node

@@ -9,7 +9,7 @@ use Rattle.shim_semantics.specs.Poison.{poisoned, all_poisoned, one_poisoned, ca
 use Rattle.shim_semantics.specs.Places.{led_to, route, has_path, meets, SoundBelow, SoundChildren}
 use Rattle.shim_semantics.specs.Sound.{IsSound}
 use Rattle.shim_semantics.specs.Systems.{run}
-use Rattle.shim_semantics.specs.Trees.{Tree, Event, Own, Meet, Poison, Close, End, Kind, Steps, Ends, Closes, is_its, act_route, acts, count_own, count_event, change_nodes, poisons, met, after}
+use Rattle.shim_semantics.specs.Trees.{Tree, Event, Own, Meet, Poison, Close, End, OwnAction, Steps, Ends, Closes, is_its, act_route, acts, count_own, count_event, change_nodes, poisons, met, after}
 use Rattle.shim_semantics.proofs.ReplacedNodes.{acts_there}
 use Rattle.shim_semantics.proofs.Replaced.{sound_at, states_sound}
 use Rattle.shim_semantics.proofs.SoundEvents.{events_keep_sound, went_on}
@@ -58,7 +58,7 @@ module _ {S : Type 0} (o : Ops S) (R : Node S → Node S → Type 0) where
   route_related law g None n a s e = none_some a e
   route_related law g (Some q) n a s e = act_related law g q n a s e
 
-  acts_related : LocalLaws o → Relates o R → (k : Kind) (p : Path) (n : Node S) (a : Acted S) → SoundBelow o n → acts o k p n ≡ Some a → R n a.node
+  acts_related : LocalLaws o → Relates o R → (k : OwnAction) (p : Path) (n : Node S) (a : Acted S) → SoundBelow o n → acts o k p n ≡ Some a → R n a.node
   acts_related law g k p n a s e =
       route_related law g (route (o.path (state n)) p) n a s (chosen (is_its o k p (led_to o n p)) (act_route o n (route (o.path (state n)) p)) a e).1
 

@@ -8,7 +8,7 @@ use Rattle.shim_syntax.specs.declared.tree.Expr.{Expr}
 use Rattle.shim_syntax.specs.declared.tree.Sort.TheVariants.{Value}
 use Rattle.shim_scopes.specs.declared.fault.ScopeKind.{ScopeKind}
 use Rattle.shim_scopes.specs.declared.fault.ScopeKind.TheVariants.{UnknownName, UnknownException, Twice, WrongKind}
-use Rattle.shim_scopes.specs.declared.scope.Local.{Local}
+use Rattle.shim_scopes.specs.declared.scope.LocalDeclaration.{LocalDeclaration}
 use Rattle.shim_scopes.specs.declared.tree.RBranch.{RBranch}
 use Rattle.shim_scopes.specs.declared.tree.RCall.{RCall}
 use Rattle.shim_scopes.specs.declared.tree.RStmt.{RStmt}
@@ -17,7 +17,7 @@ use Rattle.shim_scopes.specs.declared.tree.RWhat.TheVariants as to
 use Rattle.shim_scopes.specs.declared.tree.UExpr.{UExpr}
 use Rattle.shim_scopes.specs.Binding.{unknown, unknown_in_option, stream_in, stream_in_option, no_number, no_input, no_output, slot_of, placed, placed_option, exception_number, unhandled}
 use Rattle.shim_scopes.specs.Refusals.{refused_for}
-use Rattle.shim_scopes.specs.Statements.{Whole, Around, Before, BoundTo, Bind, declared, within, opened, closed, caught, tried, variable_declared, variable_slot, bind_handler, bind_declare, bind_store, bind_next, bind_assign_next, bind_get, bind_put, bind_throw, bind_block, on_tree, bind_two, bind_test, bind_if, bind_while, bind_try, bind_parts, bind_first_test, bind_for, visible, declared_in, unknown_in_both, unknown_of_two}
+use Rattle.shim_scopes.specs.Statements.{Whole, Around, Before, BoundTo, Bind, with_declaration, inside_block, opened, after_block, with_handled, tried, variable_declared, variable_slot, bind_handler, bind_declare, bind_store, bind_next, bind_assign_next, bind_get, bind_put, bind_throw, bind_block, on_tree, bind_two, bind_test, bind_if, bind_while, bind_try, bind_parts, bind_first_test, bind_for, visible, declared_in, unknown_in_both, unknown_of_two}
 use Rattle.shim_scopes.specs.Calls.{bind_call, bind_called}
 use Rattle.shim_units.specs.Own.{some_slot}
 use Rattle.shim_units.specs.PartFold.{declares_in}
@@ -59,9 +59,9 @@ asked_two own line kind other o p t b r nothing h = stays own t b r nothing (pas
 
 pub block_adds : {T : Type 0} (own : T → List ℕ) (f : Bind T) → Adds own f → Adds own (bind_block f)
 block_adds own f k a b r h =
-    let p = first_ok (f (within a b) (opened b)) _ r h in
-    let g = k (within a b) (opened b) p.0 p.1 in
-    at_answer own b (closed b p.0.before) p.0.tree r p.2 g.longer g.behind
+    let p = first_ok (f (inside_block a b) (opened b)) _ r h in
+    let g = k (inside_block a b) (opened b) p.0 p.1 in
+    at_answer own b (after_block b p.0.before) p.0.tree r p.2 g.longer g.behind
 
 -- the tree around it declares the same, or nothing
 pub tree_adds : {S T : Type 0} (own : S → List ℕ) (all : T → List ℕ) (g : S → T) (f : Bind S) → ((n : ℕ) (s : S) → AllFrom n (own s) → AllFrom n (all (g s))) → Adds own f → Adds all (on_tree g f)
@@ -98,38 +98,38 @@ declare_adds w ty x e line place a b r h =
     let s = passed line WrongKind (stream_in_option (visible a b) e) _ r q in
     let slot : ℕ = length b.slots in
     let made : Option UExpr = placed_option (visible a b) e in
-    at_answer (own_what place) b (declared w.names x (Value ty) b) (to.Declare ty slot made) r s
+    at_answer (own_what place) b (with_declaration w.names x (Value ty) b) (to.Declare ty slot made) r s
     (omega (arith, length-append b.slots (Value ty ∷ [])))
     (same_from slot (own_what place (to.Declare ty slot made)) (slot ∷ []) (own_declare place ty slot made) (omega arith, tt))
 
 pub store_adds : (g : ℕ → UExpr → RWhat) (x : List ℕ) (e : Expr) → ((place slot : ℕ) (a : UExpr) → own_what place (g slot a) ≡ []) → WhatAdds (bind_store g x e)
 store_adds g x e nothing line place a b r h =
-    let v : List Local = visible a b in
+    let v : List LocalDeclaration = visible a b in
     asked_two (own_what place) line UnknownName WrongKind (unknown_in_both v x e) (option_or (no_number v x) (stream_in v e)) (g (slot_of v x) (placed v e)) b r (nothing place (slot_of v x) (placed v e)) h
 
 pub next_adds : (x : List ℕ) → WhatAdds (bind_next x)
 next_adds x line place a b r h =
-    let v : List Local = visible a b in
+    let v : List LocalDeclaration = visible a b in
     asked_two (own_what place) line UnknownName WrongKind (unknown v x) (no_number v x) (to.Next (slot_of v x)) b r (own_next place (slot_of v x)) h
 
 pub assign_next_adds : (x y : List ℕ) → WhatAdds (bind_assign_next x y)
 assign_next_adds x y line place a b r h =
-    let v : List Local = visible a b in
+    let v : List LocalDeclaration = visible a b in
     asked_two (own_what place) line UnknownName WrongKind (unknown_of_two v x y) (option_or (no_number v x) (no_number v y)) (to.AssignNext (slot_of v x) (slot_of v y)) b r (own_assign_next place (slot_of v x) (slot_of v y)) h
 
 pub get_adds : (x y : List ℕ) → WhatAdds (bind_get x y)
 get_adds x y line place a b r h =
-    let v : List Local = visible a b in
+    let v : List LocalDeclaration = visible a b in
     asked_two (own_what place) line UnknownName WrongKind (unknown_of_two v x y) (option_or (no_number v x) (no_input v y)) (to.Get (slot_of v x) (slot_of v y)) b r (own_get place (slot_of v x) (slot_of v y)) h
 
 pub put_adds : (x : List ℕ) (e : Expr) → WhatAdds (bind_put x e)
 put_adds x e line place a b r h =
-    let v : List Local = visible a b in
+    let v : List LocalDeclaration = visible a b in
     asked_two (own_what place) line UnknownName WrongKind (unknown_in_both v x e) (option_or (no_output v x) (stream_in v e)) (to.Put (slot_of v x) (placed v e)) b r (own_put place (slot_of v x) (placed v e)) h
 
 pub throw_adds : (x : List ℕ) (e : Option Expr) → WhatAdds (bind_throw x e)
 throw_adds x e line place a b r h =
-    let v : List Local = visible a b in
+    let v : List LocalDeclaration = visible a b in
     let number : ℕ = exception_number a.handled x in
     asked_two (own_what place) line UnknownException WrongKind (unhandled a.handled x) (stream_in_option v e) (to.Throw number (placed_option v e)) b r (own_throw place number (placed_option v e))
     (passed line UnknownName (unknown_in_option v e) _ r h)
@@ -166,9 +166,9 @@ handler_adds w y h k a b r is =
 
 pub try_adds : (w : Whole) (x : List ℕ) (y : Option (List ℕ)) (f h : Bind (List RStmt)) → Adds declares_in f → Adds declares_in h → (place : ℕ) → Adds (own_what place) (bind_try w x y f h)
 try_adds w x y f h k l place a b r is =
-    let p = first_ok (bind_block f (caught x a b) (tried w x b)) _ r is in
+    let p = first_ok (bind_block f (with_handled x a b) (tried w x b)) _ r is in
     let q = first_ok (bind_block (bind_handler w y h) a p.0.before) _ r p.2 in
-    let m = block_adds declares_in f k (caught x a b) (tried w x b) p.0 p.1 in
+    let m = block_adds declares_in f k (with_handled x a b) (tried w x b) p.0 p.1 in
     let n = block_adds declares_in (bind_handler w y h) (handler_adds w y h l) a p.0.before q.0 q.1 in
     let number : ℕ = a.throws + length b.tries in
     let slot : Option ℕ = variable_slot y p.0.before in
@@ -193,7 +193,7 @@ parts_add test f g h j k l place a b r is =
     (both_from (length b.slots) (declares_in q.0.tree ++ declares_in s.0.tree) (declares_in q.0.tree) (declares_in s.0.tree) refl
     (from_less _ _ (declares_in q.0.tree) m.longer n.behind) (from_less _ _ (declares_in s.0.tree) (omega (arith, m.longer, n.longer)) o.behind)))
 
-pub for_adds : (declares : ℕ → List Local) (test : Option Expr) (f g h : Bind (List RStmt)) → Adds declares_in f → Adds declares_in g → Adds declares_in h → WhatAdds (bind_for declares test f g h)
+pub for_adds : (declares : ℕ → List LocalDeclaration) (test : Option Expr) (f g h : Bind (List RStmt)) → Adds declares_in f → Adds declares_in g → Adds declares_in h → WhatAdds (bind_for declares test f g h)
 for_adds declares test f g h j k l line place a b r is =
     let p = first_ok (bind_first_test declares test line a b) _ r is in
     block_adds (own_what place) (bind_parts test f g h) (parts_add test f g h j k l place) a b r p.2

@@ -18,7 +18,7 @@ use Rattle.shim_scopes.specs.declared.tree.RWhat.TheVariants as to
 use Rattle.shim_scopes.specs.declared.tree.RBranchWhat.{RBranchWhat}
 use Rattle.shim_scopes.specs.declared.tree.RBranchWhat.TheVariants as branch
 use Rattle.shim_scopes.specs.Statements.{Whole, Before, Bind, bind_block}
-use Rattle.shim_scopes.specs.Bodies.{WhatMeans, StmtMeans, BranchMeans, BranchWhatMeans, bind_all, bind_fork, first_declares, branch_what_step, what_step, branch_step, stmt_step, meaning, bind_stmts, bind_branch}
+use Rattle.shim_scopes.specs.Bodies.{WhatMeans, StmtMeans, BranchMeans, BranchWhatMeans, bind_all, bind_fork, first_declares, bind_branch_what_step, bind_what_step, bind_branch_step, bind_stmt_step, stmt_meaning, bind_stmts, bind_branch}
 use Rattle.shim_scopes.specs.Functions.{bind_function, bind_functions, bind_program, made_function, params_from, with_param, function_begin, placed_param}
 use Rattle.shim_units.specs.PartFold.{declares_in}
 use Rattle.shim_laws_binding.proofs.Lists.{Each, each_of_both}
@@ -29,10 +29,10 @@ use Rattle.shim_scopes.proofs.Refusals.{first_ok}
 
 module _ (w : Whole) where
   abbrev branch_what_means : BranchWhat → BranchWhatMeans
-  branch_what_means = fold-BranchWhat BranchWhatMeans WhatMeans BranchMeans StmtMeans (branch_what_step w) (what_step w) branch_step stmt_step
+  branch_what_means = fold-BranchWhat BranchWhatMeans WhatMeans BranchMeans StmtMeans (bind_branch_what_step w) (bind_what_step w) bind_branch_step bind_stmt_step
 
   abbrev what_means : What → WhatMeans
-  what_means = fold-What BranchWhatMeans WhatMeans BranchMeans StmtMeans (branch_what_step w) (what_step w) branch_step stmt_step
+  what_means = fold-What BranchWhatMeans WhatMeans BranchMeans StmtMeans (bind_branch_what_step w) (bind_what_step w) bind_branch_step bind_stmt_step
 
   abbrev BranchWhatAdds : BranchWhatMeans → Type 0
   BranchWhatAdds f = (line : ℕ) → Adds none (f line)
@@ -53,7 +53,7 @@ module _ (w : Whole) where
   AddingBranch = (b : Branch) × Adds none (bind_branch w b)
 
   abbrev AddingStmt : Type 0
-  AddingStmt = (s : Stmt) × OfStmt (meaning w s)
+  AddingStmt = (s : Stmt) × OfStmt (stmt_meaning w s)
 
   abbrev stmts : List AddingStmt → List Stmt
   stmts ys = map (λ (e : AddingStmt). e.0) ys
@@ -78,9 +78,9 @@ module _ (w : Whole) where
       let j = l a p.0.before q.0 q.1 in
       at_answer none b q.0.before (p.0.tree ∷ q.0.tree) r q.2 (omega (arith, i.longer, j.longer)) tt
 
-  stmts_add : (ys : List AddingStmt) → Adds declares_in (bind_all (map (meaning w) (stmts ys)))
+  stmts_add : (ys : List AddingStmt) → Adds declares_in (bind_all (map (stmt_meaning w) (stmts ys)))
   stmts_add [] a b r is = stays declares_in [] b r refl is
-  stmts_add (y ∷ ys) a b r is = one_then (meaning w y.0) (map (meaning w) (stmts ys)) y.1 (stmts_add ys) a b r is
+  stmts_add (y ∷ ys) a b r is = one_then (stmt_meaning w y.0) (map (stmt_meaning w) (stmts ys)) y.1 (stmts_add ys) a b r is
 
   branches_add : (ys : List AddingBranch) → Adds none (bind_fork (map (bind_branch w) (branches ys)))
   branches_add [] a b r is = stays none [] b r refl is
@@ -99,13 +99,13 @@ module _ (w : Whole) where
   stmt_of y = map-Stmt AddingBranchWhat AddingWhat AddingBranch AddingStmt BranchWhat What Branch Stmt (λ e. e.0) (λ e. e.0) (λ e. e.0) (λ e. e.0) y
 
   branch_what_layer : (y : BranchWhat-F AddingBranchWhat AddingWhat AddingBranch AddingStmt)
-      → BranchWhatAdds (branch_what_step w (map-BranchWhat BranchWhat What Branch Stmt BranchWhatMeans WhatMeans BranchMeans StmtMeans branch_what_means what_means (bind_branch w) (meaning w) (branch_what_of y)))
+      → BranchWhatAdds (bind_branch_what_step w (map-BranchWhat BranchWhat What Branch Stmt BranchWhatMeans WhatMeans BranchMeans StmtMeans branch_what_means what_means (bind_branch w) (stmt_meaning w) (branch_what_of y)))
   branch_what_layer (BranchWhat-F.BranchWhat::Block body) line =
-      tree_adds declares_in none branch.Block (bind_block (bind_all (map (meaning w) (stmts body)))) (λ n s i. tt) (block_adds declares_in (bind_all (map (meaning w) (stmts body))) (stmts_add body))
+      tree_adds declares_in none branch.Block (bind_block (bind_all (map (stmt_meaning w) (stmts body)))) (λ n s i. tt) (block_adds declares_in (bind_all (map (stmt_meaning w) (stmts body))) (stmts_add body))
   branch_what_layer (BranchWhat-F.BranchWhat::Call c) line = called_adds w none branch.Call c line (λ d. refl)
 
   what_layer : (y : What-F AddingBranchWhat AddingWhat AddingBranch AddingStmt)
-      → OfWhat (what_step w (map-What BranchWhat What Branch Stmt BranchWhatMeans WhatMeans BranchMeans StmtMeans branch_what_means what_means (bind_branch w) (meaning w) (what_of y)))
+      → OfWhat (bind_what_step w (map-What BranchWhat What Branch Stmt BranchWhatMeans WhatMeans BranchMeans StmtMeans branch_what_means what_means (bind_branch w) (stmt_meaning w) (what_of y)))
   what_layer (What-F.Declare ty x e) line place = declare_adds w ty x e line place
   what_layer (What-F.Assign x e) line place = store_adds to.Assign x e own_assign line place
   what_layer (What-F.Next x) line place = next_adds x line place
@@ -115,7 +115,7 @@ module _ (w : Whole) where
   what_layer (What-F.Put x e) line place = put_adds x e line place
   what_layer (What-F.If e first other) line place = if_adds e _ _ (stmts_add first) (stmts_add other) line place
   what_layer (What-F.While e body) line place = while_adds e _ (stmts_add body) line place
-  what_layer (What-F.For first test step body) line place = for_adds (first_declares (map (meaning w) (stmts first))) test _ _ _ (stmts_add first) (stmts_add step) (stmts_add body) line place
+  what_layer (What-F.For first test step body) line place = for_adds (first_declares (map (stmt_meaning w) (stmts first))) test _ _ _ (stmts_add first) (stmts_add step) (stmts_add body) line place
   what_layer (What-F.What::Block body) line place = inner_adds _ (stmts_add body) place
   what_layer (What-F.What::Call c) line place = called_adds w (own_what place) to.Call c line (own_call place)
   what_layer (What-F.Try body x y handler) line place = try_adds w x y _ _ (stmts_add body) (stmts_add handler) place
@@ -124,29 +124,29 @@ module _ (w : Whole) where
 
   branch_what_case : (x : BranchWhat-F BranchWhat What Branch Stmt) (y : BranchWhat-F AddingBranchWhat AddingWhat AddingBranch AddingStmt) → branch_what_of y ≡ x → BranchWhatAdds (branch_what_means (roll-BranchWhat x))
   branch_what_case x y is = subst (λ z. BranchWhatAdds (branch_what_means (roll-BranchWhat z))) is
-      (subst BranchWhatAdds (sym (fold-roll-BranchWhat BranchWhatMeans WhatMeans BranchMeans StmtMeans (branch_what_step w) (what_step w) branch_step stmt_step (branch_what_of y))) (branch_what_layer y))
+      (subst BranchWhatAdds (sym (fold-roll-BranchWhat BranchWhatMeans WhatMeans BranchMeans StmtMeans (bind_branch_what_step w) (bind_what_step w) bind_branch_step bind_stmt_step (branch_what_of y))) (branch_what_layer y))
 
   what_case : (x : What-F BranchWhat What Branch Stmt) (y : What-F AddingBranchWhat AddingWhat AddingBranch AddingStmt) → what_of y ≡ x → OfWhat (what_means (roll-What x))
   what_case x y is = subst (λ z. OfWhat (what_means (roll-What z))) is
-      (subst OfWhat (sym (fold-roll-What BranchWhatMeans WhatMeans BranchMeans StmtMeans (branch_what_step w) (what_step w) branch_step stmt_step (what_of y))) (what_layer y))
+      (subst OfWhat (sym (fold-roll-What BranchWhatMeans WhatMeans BranchMeans StmtMeans (bind_branch_what_step w) (bind_what_step w) bind_branch_step bind_stmt_step (what_of y))) (what_layer y))
 
   branch_case : (x : Branch-F BranchWhat What Branch Stmt) (y : Branch-F AddingBranchWhat AddingWhat AddingBranch AddingStmt) → branch_of y ≡ x → Adds none (bind_branch w (roll-Branch x))
   branch_case x y is = subst (λ z. Adds none (bind_branch w (roll-Branch z))) is
-      (subst (λ (f : Bind RBranch). Adds none f) (sym (fold-roll-Branch BranchWhatMeans WhatMeans BranchMeans StmtMeans (branch_what_step w) (what_step w) branch_step stmt_step (branch_of y)))
+      (subst (λ (f : Bind RBranch). Adds none f) (sym (fold-roll-Branch BranchWhatMeans WhatMeans BranchMeans StmtMeans (bind_branch_what_step w) (bind_what_step w) bind_branch_step bind_stmt_step (branch_of y)))
       (tree_adds none none (λ (t : RBranchWhat). let b : RBranch = record { line = y.line; what = t } in b) (branch_what_means y.what.0 y.line) (λ n s i. tt) (y.what.1 y.line)))
 
-  stmt_case : (x : Stmt-F BranchWhat What Branch Stmt) (y : Stmt-F AddingBranchWhat AddingWhat AddingBranch AddingStmt) → stmt_of y ≡ x → OfStmt (meaning w (roll-Stmt x))
-  stmt_case x y is = subst (λ z. OfStmt (meaning w (roll-Stmt z))) is
-      (subst OfStmt (sym (fold-roll-Stmt BranchWhatMeans WhatMeans BranchMeans StmtMeans (branch_what_step w) (what_step w) branch_step stmt_step (stmt_of y)))
+  stmt_case : (x : Stmt-F BranchWhat What Branch Stmt) (y : Stmt-F AddingBranchWhat AddingWhat AddingBranch AddingStmt) → stmt_of y ≡ x → OfStmt (stmt_meaning w (roll-Stmt x))
+  stmt_case x y is = subst (λ z. OfStmt (stmt_meaning w (roll-Stmt z))) is
+      (subst OfStmt (sym (fold-roll-Stmt BranchWhatMeans WhatMeans BranchMeans StmtMeans (bind_branch_what_step w) (bind_what_step w) bind_branch_step bind_stmt_step (stmt_of y)))
       (tree_adds (own_what y.line) own_stmt (λ (t : RWhat). let s : RStmt = record { line = y.line; what = t } in s) ((what_means y.what.0).bind y.line)
       (λ n t i. same_from n (own_stmt (record { line = y.line; what = t })) (own_what y.line t) (own_in_line y.line t) i) (y.what.1 y.line y.line)))
 
-  stmt_adds : (s : Stmt) → OfStmt (meaning w s)
-  stmt_adds = ind-Stmt (λ x. BranchWhatAdds (branch_what_means x)) (λ x. OfWhat (what_means x)) (λ b. Adds none (bind_branch w b)) (λ s. OfStmt (meaning w s)) branch_what_case what_case branch_case stmt_case
+  stmt_adds : (s : Stmt) → OfStmt (stmt_meaning w s)
+  stmt_adds = ind-Stmt (λ x. BranchWhatAdds (branch_what_means x)) (λ x. OfWhat (what_means x)) (λ b. Adds none (bind_branch w b)) (λ s. OfStmt (stmt_meaning w s)) branch_what_case what_case branch_case stmt_case
 
   body_adds : (body : List Stmt) → Adds declares_in (bind_stmts w body)
   body_adds [] a b r is = stays declares_in [] b r refl is
-  body_adds (s ∷ body) a b r is = one_then (meaning w s) (map (meaning w) body) (stmt_adds s) (body_adds body) a b r is
+  body_adds (s ∷ body) a b r is = one_then (stmt_meaning w s) (map (stmt_meaning w) body) (stmt_adds s) (body_adds body) a b r is
 
 -- as many slots as parameters stand before the body
 params_before : (names : Texts) (b : Before) (ps : List Param) → length (params_from names b ps).slots ≡ length b.slots + length ps

@@ -23,8 +23,8 @@ use Rattle.shim_process.specs.StatementViews.{statement_view}
 use Rattle.shim_process.specs.Stops.{at_next, at_put, at_fork, what_stop, stmt_stop, stop_or, stop}
 use Rattle.shim_process.specs.Todo.{next_stmt}
 use Rattle.shim_laws_sources.proofs.Ownerships.{own_or_lent, by_ownership}
-use Rattle.shim_laws_sources.specs.Anchored.{OwnedOn, IsAnchored, IsWhole}
-use Rattle.shim_laws_sources.specs.Homes.{GivesBack, OneGivesBack, HasOn, IsGivenBy, Waits, IsHome, AreHome}
+use Rattle.shim_laws_sources.specs.Anchored.{OwnedOn, IsAnchored, IsAnchoredWhole}
+use Rattle.shim_laws_sources.specs.Homes.{GivesBack, OneGivesBack, HasOn, IsGivenBy, IsWaitingFor, IsHome, AreHome}
 use Rattle.shim_base.proofs.Facts.{some_same, none_some, choose}
 use Rattle.shim_base.proofs.SamePaths.{same_path_refl, same_path_is}
 use Rattle.shim_process.proofs.JoinLocations.{OneCarries}
@@ -40,7 +40,7 @@ in_second (l ∷ ls) ms c h = inr (in_second ls ms c h)
 
 -- a channel's own variable, here or with a child, is carried here or below
 
-whole_carries : (l : LocalState) (n : ℕ) (c : Channel) → IsWhole l → OwnedOn l.locations n c → carries l c ≡ true
+whole_carries : (l : LocalState) (n : ℕ) (c : Channel) → IsAnchoredWhole l → OwnedOn l.locations n c → carries l c ≡ true
 whole_carries l n c h w = elim (own_or_lent w.place.ownership w.owned) [
   | inl own ↦ carries_at l c n w.place w.at own w.on
   | inr lent ↦ absurd (h.1 n w.place w.at lent)
@@ -54,7 +54,7 @@ given_back slots j (Ref x ∷ rest) k n c (inr g) = given_back slots (j + 1) res
 given_back slots j (Pass x ∷ rest) k n c g = given_back slots (j + 1) rest k n c g
 given_back slots j (Fresh e ∷ rest) k n c g = given_back slots (j + 1) rest k n c g
 
-lent_of : (l : LocalState) (ks : Nodes LocalState) → Waits l (states ks) → (n : ℕ) (x : Location) → at_number l.locations n ≡ Some x → x.ownership ≡ Lent → OneGivesBack l.frame.slots (item_branches l.frame.todo) (states ks) n x.channel.channel
+lent_of : (l : LocalState) (ks : Nodes LocalState) → IsWaitingFor l (states ks) → (n : ℕ) (x : Location) → at_number l.locations n ≡ Some x → x.ownership ≡ Lent → OneGivesBack l.frame.slots (item_branches l.frame.todo) (states ks) n x.channel.channel
 lent_of l ks h n x e lent = h.lent n x e lent
 
 mutual
@@ -100,7 +100,7 @@ anchored_here : (n : Node LocalState) → IsHome n → IsAnchored (state n)
 anchored_here (Live l) h = h.0
 anchored_here (Forked l ks) h = waiting l ks h.0
   where
-    waiting : (l : LocalState) (ks : Nodes LocalState) → Waits l (states ks) → IsAnchored l
+    waiting : (l : LocalState) (ks : Nodes LocalState) → IsWaitingFor l (states ks) → IsAnchored l
     waiting l ks h = h.anchored
 anchored_here (Ended l) h = h.0
 anchored_here (Dead l x) h = h.0
@@ -135,7 +135,7 @@ parents p k c h f = elim (h f.place f.given f.there) [
   | inr w ↦ subst (HasOn p.locations) f.is w
 ]
 
-given_of : (l : LocalState) (ks : List LocalState) → Waits l ks → AllOf (IsGivenBy l) ks
+given_of : (l : LocalState) (ks : List LocalState) → IsWaitingFor l ks → AllOf (IsGivenBy l) ks
 given_of l ks h = h.given
 
 mutual

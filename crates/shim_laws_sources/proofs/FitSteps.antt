@@ -9,7 +9,7 @@ use Rattle.shim_units.specs.declared.unit.UCall.{UCall}
 use Rattle.shim_units.specs.declared.unit.UStmt.{UStmt, fold-roll-UStmt}
 use Rattle.shim_units.specs.declared.unit.UWhat.{UWhat, UWhat-F, fold-UWhat, fold-roll-UWhat, map-UWhat, roll-UWhat}
 use Rattle.shim_units.specs.declared.unit.UWhat.TheVariants as u
-use Rattle.shim_process.specs.OwnSlots.{suits, all_suit, is_own_slot, is_own_variable, what_fits, fits, all_fit}
+use Rattle.shim_process.specs.OwnSlots.{has_arguments, all_suit, is_own_slot, is_own_variable, what_fits, fits, all_fit}
 
 module _ (p : Form) (o : UnitOf) where
   abbrev pub fits_what : UWhat → Bool
@@ -66,7 +66,7 @@ module _ (p : Form) (o : UnitOf) where
   unfolding roll-UWhat denote.Hole.Carrier.roll
   fits_block body = at_what (UWhat-F.Block body)
 
-  pub fits_call : (c : UCall) → fits_what (u.Call c) ≡ suits p c
+  pub fits_call : (c : UCall) → fits_what (u.Call c) ≡ has_arguments p c
   unfolding roll-UWhat denote.Hole.Carrier.roll
   fits_call c = at_what (UWhat-F.Call c)
 

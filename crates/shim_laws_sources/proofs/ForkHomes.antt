@@ -19,7 +19,7 @@ use Rattle.shim_process.proofs.ForkKeeps.{kept_sound}
 use Rattle.shim_process.proofs.ForkLending.{given_away, Suit, all_suit, lends_one}
 use Rattle.shim_laws_sources.proofs.Ownerships.{own_not_copy, own_not_lent, copy_not_lent}
 use Rattle.shim_process.specs.FittingFrames.{parameters_of}
-use Rattle.shim_laws_sources.specs.Anchored.{IsAnchored, IsWhole, Stays}
+use Rattle.shim_laws_sources.specs.Anchored.{IsAnchored, IsAnchoredWhole, Stays}
 use Rattle.shim_laws_sources.specs.Homes.{GivesBack, OneGivesBack, HasOn, IsGivenBy, IsHome, AreHome}
 use Rattle.shim_laws_sources.proofs.AtPlaces.{Onward, onward_same, onward_both}
 use Rattle.shim_process.proofs.ChildChannels.{stand_child}
@@ -67,7 +67,7 @@ same_slots m (b ∷ bs) = same_slots (lending m b) bs
 
 -- a child
 
-child_whole : (m : LocalState) (i : ℕ) (b : UBranch) (g : List Argument) → Sound m → IsAnchored m → length g ≡ length (unit_at m.program b.call.unit).params → IsWhole (child m i b g)
+child_whole : (m : LocalState) (i : ℕ) (b : UBranch) (g : List Argument) → Sound m → IsAnchored m → length g ≡ length (unit_at m.program b.call.unit).params → IsAnchoredWhole (child m i b g)
 child_whole m i b g s h many =
     let u : UnitOf = unit_at m.program b.call.unit in
     let passed : Locations = branch_locations (below m i) m.locations 0 g in (
@@ -100,7 +100,7 @@ child_given m i b g at d e =
     ]
 
 abbrev IsWell : LocalState → LocalState → Type 0
-IsWell p k = IsWhole k × IsGivenBy p k
+IsWell p k = IsAnchoredWhole k × IsGivenBy p k
 
 all_well : (m : LocalState) (i : ℕ) (bs : List UBranch) (given : List (List Argument)) → Sound m → IsAnchored m → AllMatch m.frame.slots m.program bs given → AllOf (IsWell (all_lending m bs)) (children_from m i bs given)
 all_well m i [] given s h match = tt
@@ -154,7 +154,7 @@ states_live : (ks : List LocalState) → states (all_live ks) ≡ ks
 states_live [] = refl
 states_live (k ∷ ks) = ap (λ z. k ∷ z) (states_live ks)
 
-parted_waits : (l : LocalState) (given : List (List Argument)) → Sound l → IsWhole l → all_arguments l (branches l) ≡ Ok given → IsHome (Forked (parent l (branches l)) (all_live (children_from l 0 (branches l) given)))
+parted_waits : (l : LocalState) (given : List (List Argument)) → Sound l → IsAnchoredWhole l → all_arguments l (branches l) ≡ Ok given → IsHome (Forked (parent l (branches l)) (all_live (children_from l 0 (branches l) given)))
 parted_waits l given s h e =
     let bs : List UBranch = branches l in
     let kids : List LocalState = children_from l 0 bs given in
@@ -177,7 +177,7 @@ parted_waits l given s h e =
 one_more_fork : (l m : LocalState) (n : ℕ) → Stays l m → Stays l (record m { forks = n })
 one_more_fork l m n s = record { path = s.path; given = s.given; many = s.many; owned = s.owned }
 
-pub fork_home : (l p : LocalState) (ks : List LocalState) → Sound l → IsWhole l → Forks process_ops l p ks → IsHome (Forked p (all_live ks)) × Stays l p
+pub fork_home : (l p : LocalState) (ks : List LocalState) → Sound l → IsAnchoredWhole l → Forks process_ops l p ks → IsHome (Forked p (all_live ks)) × Stays l p
 fork_home l p ks s h at =
     let w : Parts l p ks = parts_of l p ks at in
     let stays : Stays l (parent l (branches l)) = one_more_fork l (all_lending l (branches l)) (l.forks + 1) (all_stays l (branches l)) in (

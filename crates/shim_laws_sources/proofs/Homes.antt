@@ -10,8 +10,8 @@ use Rattle.shim_units.specs.declared.unit.Arg.TheVariants.{Ref, Pass, Fresh}
 use Rattle.shim_units.specs.declared.unit.UBranch.{UBranch}
 use Rattle.shim_process.specs.Forks.{item_branches}
 use Rattle.shim_process.specs.LocalState.{LocalState}
-use Rattle.shim_laws_sources.specs.Anchored.{IsWhole, Stays}
-use Rattle.shim_laws_sources.specs.Homes.{GivesBack, OneGivesBack, IsGivenBy, Waits, IsHome, AreHome}
+use Rattle.shim_laws_sources.specs.Anchored.{IsAnchoredWhole, Stays}
+use Rattle.shim_laws_sources.specs.Homes.{GivesBack, OneGivesBack, IsGivenBy, IsWaitingFor, IsHome, AreHome}
 use Rattle.shim_laws_sources.proofs.Along.{behind, Relates}
 use Rattle.shim_laws_sources.proofs.ForkHomes.{fork_home}
 use Rattle.shim_laws_sources.proofs.WholeEnds.{stays_same, stays_both}
@@ -57,7 +57,7 @@ children_home (x ∷ ns) k m ks r h = let w = children_home ns k m ks r h.1 in (
 
 within_home : (l : LocalState) (ns : List (Node LocalState)) (k m : Node LocalState) (ks : Nodes LocalState) → StaysHome k m → StaysHome (Forked l (behind ns (node_and k ks))) (Forked l (behind ns (node_and m ks)))
 within_home l ns k m ks r h =
-    let waits : Waits l (states (behind ns (node_and k ks))) = h.0 in
+    let waits : IsWaitingFor l (states (behind ns (node_and k ks))) = h.0 in
     let w = children_home ns k m ks r h.1 in (
       (
         record {
@@ -71,7 +71,7 @@ within_home l ns k m ks r h =
     )
 
 -- children that are done are whole
-done_whole : (ks : Nodes LocalState) → all_done ks ≡ true → AreHome ks → AllOf IsWhole (states ks)
+done_whole : (ks : Nodes LocalState) → all_done ks ≡ true → AreHome ks → AllOf IsAnchoredWhole (states ks)
 done_whole no_node e h = tt
 done_whole (node_and (Live l) ks) e h = absurd cc
 done_whole (node_and (Forked l js) ks) e h = absurd cc

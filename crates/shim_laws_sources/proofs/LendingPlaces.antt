@@ -9,7 +9,7 @@ use Rattle.shim_units.specs.declared.unit.Arg.TheVariants.{Ref, Pass, Fresh}
 use Rattle.shim_process.specs.Values.{value}
 use Rattle.shim_process.specs.Locations.{Location, Locations, Ownership, Own, Lent, Copy, at_number, kept, with_kept, moved, with_moved, lend_at}
 use Rattle.shim_process.specs.LocalState.{LocalState, number_of}
-use Rattle.shim_process.specs.Arguments.{Argument, ByReference, ByCopy, ByValue, arguments, copied, new_location, branch_locations}
+use Rattle.shim_process.specs.Arguments.{Argument, ByReference, ByCopy, ByValue, arguments, copied_location, new_location, branch_locations}
 use Rattle.shim_process.specs.Forks.{lent}
 use Rattle.shim_process.specs.Sound.{IsOwned}
 use Rattle.shim_process.proofs.PlaceLocations.{at_set}
@@ -116,7 +116,7 @@ branch_back slots (Ref v ∷ rest) (ByCopy t i ∷ given) child xs s j k n x mat
 branch_back slots (Ref v ∷ rest) (ByValue t name w ∷ given) child xs s j k n x match stand many e lent = absurd match
 branch_back slots (Pass v ∷ rest) (ByReference i ∷ given) child xs s j k n x match stand many e lent = absurd match
 branch_back slots (Pass v ∷ rest) (ByCopy t i ∷ given) child xs s j k n x match stand many e lent =
-    branch_back slots rest given child xs s (j + 1) k n x match.1 (stand_next k.locations j (copied t (at_number xs i)) (branch_locations child xs s given) stand) (omega (arith, many)) e lent
+    branch_back slots rest given child xs s (j + 1) k n x match.1 (stand_next k.locations j (copied_location t (at_number xs i)) (branch_locations child xs s given) stand) (omega (arith, many)) e lent
 branch_back slots (Pass v ∷ rest) (ByValue t name w ∷ given) child xs s j k n x match stand many e lent = absurd match
 branch_back slots (Fresh v ∷ rest) (ByReference i ∷ given) child xs s j k n x match stand many e lent = absurd match
 branch_back slots (Fresh v ∷ rest) (ByCopy t i ∷ given) child xs s j k n x match stand many e lent = absurd match
@@ -141,7 +141,7 @@ reference_kind xs k (Some w) x at e =
       | inr copy ↦ inr (ap (λ (r : Location). r.ownership) (sym same) ∙ copy, record { number = k; place = w; at = at; on = ap (λ (r : Location). r.channel) same })
     ]
 
-copy_kind : (xs : Locations) (k : ℕ) (t : Ty) (o : Option Location) (x : Location) → at_number xs k ≡ o → copied t o ≡ Some x → IsKind xs x
+copy_kind : (xs : Locations) (k : ℕ) (t : Ty) (o : Option Location) (x : Location) → at_number xs k ≡ o → copied_location t o ≡ Some x → IsKind xs x
 copy_kind xs k t None x at e = absurd cc
 copy_kind xs k t (Some w) x at e =
     let same : record w { ty = t; value = stored t w.value; ownership = Copy } ≡ x = some_same (record w { ty = t; value = stored t w.value; ownership = Copy }) x e in

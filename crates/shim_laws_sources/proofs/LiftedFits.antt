@@ -12,15 +12,15 @@ use Rattle.shim_units.specs.declared.unit.UStmt.{UStmt}
 use Rattle.shim_units.specs.declared.unit.UWhat.{UWhat}
 use Rattle.shim_units.specs.declared.unit.UWhat.TheVariants.{Declare, Assign, Next, NextAssign, AssignNext, Get, Put, If, While, For, Block, Call, Try, Throw, Par}
 use Rattle.shim_units.specs.declared.slot_map.SlotMap.{SlotMap}
-use Rattle.shim_units.specs.Moving.{slot_index_of, slot_index_of_option, moved, moved_option, moved_call}
+use Rattle.shim_units.specs.Moving.{slot_index_of, slot_index_of_option, renumbered, moved_option, moved_call}
 use Rattle.shim_units.specs.Parts.{LiftContext, Part, all_uses, all_declares, Lifts}
 use Rattle.shim_units.specs.Uses.{names_in, names_in_option, variable_uses}
 use Rattle.shim_units.specs.Own.{some_slot}
-use Rattle.shim_units.specs.Lifting.{lift_all, whole, on_tree}
+use Rattle.shim_units.specs.Lifting.{lift_all, unlifted, on_tree}
 use Rattle.shim_units.specs.PartFold.{branch_what_step, what_step, branch_step, stmt_step, in_line, part, parts, branch_part, branch_parts}
 use Rattle.shim_laws_binding.specs.HandedOn.{Calls, branch_what_calls, what_calls, stmt_calls, calls_among}
 use Rattle.shim_laws_binding.proofs.CallSteps.{calls_of_branch_what, calls_of_what, calls_of_branch, calls_of_branches, calls_stmt, calls_branch}
-use Rattle.shim_process.specs.OwnSlots.{suits, all_suit, is_own_variable, fits, all_fit}
+use Rattle.shim_process.specs.OwnSlots.{has_arguments, all_suit, is_own_variable, fits, all_fit}
 use Rattle.shim_laws_sources.proofs.FitSteps.{fits_what, fits_line, fits_declare, fits_assign, fits_next, fits_next_assign, fits_assign_next, fits_get, fits_put, fits_if, fits_while, fits_for, fits_block, fits_call, fits_try, fits_throw, fits_par}
 use Rattle.shim_laws_sources.proofs.Lifting.{AreDeclared, IsOwn, declared_in_both, declared_behind, LiftFits, PartFits, PartsFit, alone, around, two, three, block_branch, moved_suits}
 use Rattle.shim_laws_sources.proofs.Placing.{declares_it}
@@ -51,13 +51,13 @@ handler_fits form y ds cs f h = record {
 
 module _ (form : Form) where
   abbrev fit_call : UnitOf → UCall → Bool
-  fit_call u c = suits form c
+  fit_call u c = has_arguments form c
 
   abbrev fit_what : UnitOf → UWhat → Bool
   fit_what u t = fits_what form u t
 
   abbrev fit_branch : UnitOf → UBranch → Bool
-  fit_branch u b = suits form b.call
+  fit_branch u b = has_arguments form b.call
 
   abbrev fit_fork : UnitOf → List UBranch → Bool
   fit_fork u bs = all_suit form bs
@@ -123,7 +123,7 @@ module _ (form : Form) where
   stmt_of y = map-RStmt FittingBranchWhat FittingWhat FittingBranch FittingStmt RBranchWhat RWhat RBranch RStmt (λ e. e.0) (λ e. e.0) (λ e. e.0) (λ e. e.0) y
 
   -- what has no declarations, no calls and no parts fits
-  plain : (f : LiftContext → SlotMap → UWhat) → ((context : LiftContext) (w : SlotMap) (u : UnitOf) → fits_what form u (f context w) ≡ true) → LiftFits form fit_what [] [] (λ context w n. whole (f context w))
+  plain : (f : LiftContext → SlotMap → UWhat) → ((context : LiftContext) (w : SlotMap) (u : UnitOf) → fits_what form u (f context w) ≡ true) → LiftFits form fit_what [] [] (λ context w n. unlifted (f context w))
   plain f h = alone form fit_what [] [] f (λ context w u own given. h context w u)
 
   branch_what_layer : (y : RBranchWhat-F FittingBranchWhat FittingWhat FittingBranch FittingStmt)
@@ -141,28 +141,28 @@ module _ (form : Form) where
     lifts = alone form fit_what (x ∷ []) [] (λ context w. Declare ty (slot_index_of w.slots x) (moved_option w.slots a))
         (λ context w u own given. fits_declare form u ty (slot_index_of w.slots x) (moved_option w.slots a) ∙ own.0);
   }
-  what_layer (RWhat-F.Assign x a) line = record { declared = λ fs. tt; lifts = plain (λ context w. Assign (slot_index_of w.slots x) (moved w.slots a)) (λ context w u. fits_assign form u (slot_index_of w.slots x) (moved w.slots a)) }
+  what_layer (RWhat-F.Assign x a) line = record { declared = λ fs. tt; lifts = plain (λ context w. Assign (slot_index_of w.slots x) (renumbered w.slots a)) (λ context w u. fits_assign form u (slot_index_of w.slots x) (renumbered w.slots a)) }
   what_layer (RWhat-F.Next x) line = record { declared = λ fs. tt; lifts = plain (λ context w. Next (slot_index_of w.slots x)) (λ context w u. fits_next form u (slot_index_of w.slots x)) }
   what_layer (RWhat-F.NextAssign x a) line =
-      record { declared = λ fs. tt; lifts = plain (λ context w. NextAssign (slot_index_of w.slots x) (moved w.slots a)) (λ context w u. fits_next_assign form u (slot_index_of w.slots x) (moved w.slots a)) }
+      record { declared = λ fs. tt; lifts = plain (λ context w. NextAssign (slot_index_of w.slots x) (renumbered w.slots a)) (λ context w u. fits_next_assign form u (slot_index_of w.slots x) (renumbered w.slots a)) }
   what_layer (RWhat-F.AssignNext x y) line =
       record { declared = λ fs. tt; lifts = plain (λ context w. AssignNext (slot_index_of w.slots x) (slot_index_of w.slots y)) (λ context w u. fits_assign_next form u (slot_index_of w.slots x) (slot_index_of w.slots y)) }
   what_layer (RWhat-F.Get x y) line = record { declared = λ fs. tt; lifts = plain (λ context w. Get (slot_index_of w.slots x) (slot_index_of w.slots y)) (λ context w u. fits_get form u (slot_index_of w.slots x) (slot_index_of w.slots y)) }
-  what_layer (RWhat-F.Put x a) line = record { declared = λ fs. tt; lifts = plain (λ context w. Put (slot_index_of w.slots x) (moved w.slots a)) (λ context w u. fits_put form u (slot_index_of w.slots x) (moved w.slots a)) }
+  what_layer (RWhat-F.Put x a) line = record { declared = λ fs. tt; lifts = plain (λ context w. Put (slot_index_of w.slots x) (renumbered w.slots a)) (λ context w u. fits_put form u (slot_index_of w.slots x) (renumbered w.slots a)) }
   what_layer (RWhat-F.If a first other) line =
       let one = stmts_fit first in
       let rest = stmts_fit other in
       record {
         declared = λ fs. declared_behind (names_in a) _ _ (declared_in_both (all_uses fs (parts (stmts first))) (all_uses fs (parts (stmts other))) _ _ (one.declared fs) (rest.declared fs));
         lifts = two form (all_fit form) (all_fit form) fit_what (all_declares (parts (stmts first))) (all_declares (parts (stmts other))) (calls_among (stmts first)) (calls_among (stmts other))
-            (λ w r s. If (moved w.slots a) r s) (lift_all (parts (stmts first))) (lift_all (parts (stmts other))) (λ u w r s. fits_if form u (moved w.slots a) r s) one.lifts rest.lifts;
+            (λ w r s. If (renumbered w.slots a) r s) (lift_all (parts (stmts first))) (lift_all (parts (stmts other))) (λ u w r s. fits_if form u (renumbered w.slots a) r s) one.lifts rest.lifts;
       }
   what_layer (RWhat-F.While a body) line =
       let one = stmts_fit body in
       record {
         declared = λ fs. declared_behind (names_in a) _ _ (one.declared fs);
-        lifts = around form (all_fit form) fit_what (all_declares (parts (stmts body))) (calls_among (stmts body)) (λ w s. While (moved w.slots a) s) (lift_all (parts (stmts body)))
-            (λ u w s. fits_while form u (moved w.slots a) s) one.lifts;
+        lifts = around form (all_fit form) fit_what (all_declares (parts (stmts body))) (calls_among (stmts body)) (λ w s. While (renumbered w.slots a) s) (lift_all (parts (stmts body)))
+            (λ u w s. fits_while form u (renumbered w.slots a) s) one.lifts;
       }
   what_layer (RWhat-F.For first test step body) line =
       let one = stmts_fit first in

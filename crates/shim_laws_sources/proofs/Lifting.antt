@@ -15,18 +15,18 @@ use Rattle.shim_units.specs.Calls.{behind_first, params_at}
 use Rattle.shim_process.specs.LocalState.{unit_at}
 use Rattle.shim_units.specs.Moving.{slot_index_of, args_of, moved_call}
 use Rattle.shim_units.specs.Parts.{LiftContext, Part, Lifts, all_uses, all_declares, all_tries}
-use Rattle.shim_units.specs.Captures.{declares}
-use Rattle.shim_units.specs.Lifting.{lift_all, whole, on_tree, lift_two, lift_three, sort_of, branch_arg, branch_param, branch_call, branch_unit, branch_captures, branch_slots, branch_exceptions, branch_inner, lift_branch, is_among}
+use Rattle.shim_units.specs.Captures.{declares_variable}
+use Rattle.shim_units.specs.Lifting.{lift_all, unlifted, on_tree, lift_two, lift_three, sort_of, branch_arg, branch_param, branch_call, branch_unit, branch_captures, branch_slots, branch_exceptions, branch_inner, lift_branch, is_among}
 use Rattle.shim_laws_binding.specs.HandedOn.{Calls}
 use Rattle.shim_laws_binding.proofs.Lists.{Each, each_of_both, each_of_first, each_of_second}
-use Rattle.shim_process.specs.OwnSlots.{suits, is_own_slot, all_fit}
+use Rattle.shim_process.specs.OwnSlots.{has_arguments, is_own_slot, all_fit}
 use Rattle.shim_laws_sources.proofs.Lists.{each_by_two}
 use Rattle.shim_laws_sources.proofs.Placing.{all_among, declared_not_taken, some_first, some_second, own_place}
 use Rattle.shim_base.proofs.Facts.{both_hold}
 
 -- the text declares each of these
 abbrev pub AreDeclared : List Use → List ℕ → Type 0
-AreDeclared us ys = Each (λ y. declares us y ≡ true) ys
+AreDeclared us ys = Each (λ y. declares_variable us y ≡ true) ys
 
 pub declared_before : (us vs : List Use) (ys : List ℕ) → AreDeclared us ys → AreDeclared (us ++ vs) ys
 declared_before us vs [] h = tt
@@ -37,7 +37,7 @@ declared_behind us vs [] h = tt
 declared_behind us vs (y ∷ ys) h = (some_second _ us vs h.0, declared_behind us vs ys h.1)
 
 pub declared_in_both : (us vs : List Use) (ys zs : List ℕ) → AreDeclared us ys → AreDeclared vs zs → AreDeclared (us ++ vs) (ys ++ zs)
-declared_in_both us vs ys zs h k = each_of_both (λ y. declares (us ++ vs) y ≡ true) ys zs (declared_before us vs ys h) (declared_behind us vs zs k)
+declared_in_both us vs ys zs h k = each_of_both (λ y. declares_variable (us ++ vs) y ≡ true) ys zs (declared_before us vs ys h) (declared_behind us vs zs k)
 
 module _ (form : Form) where
   -- the units stand in the form from that number on
@@ -72,7 +72,7 @@ module _ (form : Form) where
 
   -- a part that nothing is lifted out of
   pub alone : {T : Type 0} (good : UnitOf → T → Bool) (ds : List ℕ) (cs : Calls) (f : LiftContext → SlotMap → T)
-      → ((context : LiftContext) (w : SlotMap) (u : UnitOf) → Each (IsOwn u w) ds → Each IsGiven cs → good u (f context w) ≡ true) → LiftFits good ds cs (λ context w n. whole (f context w))
+      → ((context : LiftContext) (w : SlotMap) (u : UnitOf) → Each (IsOwn u w) ds → Each IsGiven cs → good u (f context w) ≡ true) → LiftFits good ds cs (λ context w n. unlifted (f context w))
   alone good ds cs f h = record { tree = λ context w n u own given stand. h context w u own given; units = λ context w n given stand. tt }
 
   -- with something around the tree
@@ -131,7 +131,7 @@ module _ (form : Form) where
       → Each (IsOwn (branch_unit context n (branch_captures context ps) (branch_slots context ps w) (branch_exceptions ps w) (branch_inner context ps w) (all_tries ps) body) (branch_inner context ps w)) (all_declares ps)
   own_in_branch context w n ps body h =
       let unit = branch_unit context n (branch_captures context ps) (branch_slots context ps w) (branch_exceptions ps w) (branch_inner context ps w) (all_tries ps) body in
-      each_by_two (λ y. declares (all_uses context.functions ps) y ≡ true) (λ y. is_among (all_declares ps) y ≡ true) (IsOwn unit (branch_inner context ps w))
+      each_by_two (λ y. declares_variable (all_uses context.functions ps) y ≡ true) (λ y. is_among (all_declares ps) y ≡ true) (IsOwn unit (branch_inner context ps w))
       (λ y declared among. own_place unit (branch_slots context ps w) (all_declares ps) y
       (length-map (branch_slots context ps w) (branch_param context.function (branch_captures context ps)))
       (length-map (branch_slots context ps w ++ all_declares ps) (sort_of context.function))
@@ -139,10 +139,10 @@ module _ (form : Form) where
       (all_declares ps) h (all_among (all_declares ps))
 
   -- as many arguments as parameters
-  suits_unit : (c : UCall) (u : UnitOf) → unit_at form c.unit ≡ u → length c.args ≡ length u.params → suits form c ≡ true
+  suits_unit : (c : UCall) (u : UnitOf) → unit_at form c.unit ≡ u → length c.args ≡ length u.params → has_arguments form c ≡ true
   suits_unit c u there same = eq-eqb (length c.args) (length (unit_at form c.unit).params) (same ∙ ap (λ (v : UnitOf). length v.params) (sym there))
 
-  pub block_branch : (cs : Calls) (ps : List (Part UStmt)) → PartsFit (all_fit form) cs ps → LiftFits (λ u c. suits form c) [] cs (lift_branch ps)
+  pub block_branch : (cs : Calls) (ps : List (Part UStmt)) → PartsFit (all_fit form) cs ps → LiftFits (λ u c. has_arguments form c) [] cs (lift_branch ps)
   block_branch cs ps one = record {
     tree = λ context w n u own given stand.
         suits_unit (branch_call w n (branch_captures context ps) (branch_slots context ps w) (branch_exceptions ps w)) _ stand.0
@@ -160,5 +160,5 @@ module _ (form : Form) where
   args_kept slots ps [] = refl
   args_kept slots ps (e ∷ es) = omega (arith, args_kept slots (behind_first ps) es)
 
-  pub moved_suits : (fs : List RFunction) (c : RCall) (w : SlotMap) → IsGiven c → suits form (moved_call fs c w) ≡ true
+  pub moved_suits : (fs : List RFunction) (c : RCall) (w : SlotMap) → IsGiven c → has_arguments form (moved_call fs c w) ≡ true
   moved_suits fs c w h = suits_unit (moved_call fs c w) (unit_at form c.function) refl (args_kept w.slots (params_at fs c.function) c.args ∙ h)

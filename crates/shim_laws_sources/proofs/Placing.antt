@@ -8,7 +8,7 @@ use Rattle.shim_units.specs.declared.found.Use.{Use}
 use Rattle.shim_units.specs.declared.unit.Unit.{Unit as UnitOf}
 use Rattle.shim_units.specs.Lifting.{taken, is_among}
 use Rattle.shim_units.specs.Moving.{position_else, slot_index_of}
-use Rattle.shim_units.specs.Captures.{Captures, captures, taken_of, is_taken, some, declares}
+use Rattle.shim_units.specs.Captures.{Captures, captures, taken_of, is_taken, some, declares_variable}
 use Rattle.shim_units.specs.declared.found.How.TheVariants.{Declared}
 use Rattle.shim_units.specs.Units.{upto}
 use Rattle.shim_units.specs.Uses.{used}
@@ -68,8 +68,8 @@ not_among_taken : (t : Captures) (slots : List ℕ) (y : ℕ) → is_taken (t y)
 not_among_taken t [] y h = refl
 not_among_taken t (x ∷ slots) y h = kept_by (is_taken (t x)) x (taken t slots) y (other_than t x y h) (not_among_taken t slots y h)
 
-pub declared_not_taken : (sorts : List Sort) (us : List Use) (slots : List ℕ) (y : ℕ) → declares us y ≡ true → is_among (taken (captures sorts us) slots) y ≡ false
-declared_not_taken sorts us slots y h = not_among_taken (captures sorts us) slots y (not_taken_of _ (declares us y) _ _ h)
+pub declared_not_taken : (sorts : List Sort) (us : List Use) (slots : List ℕ) (y : ℕ) → declares_variable us y ≡ true → is_among (taken (captures sorts us) slots) y ≡ false
+declared_not_taken sorts us slots y h = not_among_taken (captures sorts us) slots y (not_taken_of _ (declares_variable us y) _ _ h)
 
 -- the uses of a part are among those of the whole
 
@@ -127,5 +127,5 @@ own_place u xs ds y p s h k =
     ap (is_own_slot u) (place_is (xs ++ ds) y b.under) ∙ between u (length xs) (length (xs ++ ds)) (index_of (xs ++ ds) y) p s b
 
 -- a declaration is the first use
-pub declares_it : (y : ℕ) (us : List Use) → declares (used Declared y ∷ us) y ≡ true
-declares_it y us = elim (eqb_tells y y) [ inl e ↦ ap (λ (b : Bool). (b && true) || declares us y) e.0 | inr e ↦ absurd (e.1 refl) ]
+pub declares_it : (y : ℕ) (us : List Use) → declares_variable (used Declared y ∷ us) y ≡ true
+declares_it y us = elim (eqb_tells y y) [ inl e ↦ ap (λ (b : Bool). (b && true) || declares_variable us y) e.0 | inr e ↦ absurd (e.1 refl) ]

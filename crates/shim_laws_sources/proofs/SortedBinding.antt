@@ -11,7 +11,7 @@ use Rattle.shim_syntax.specs.declared.tree.Sort.{Sort}
 use Rattle.shim_syntax.specs.declared.tree.Sort.TheVariants.{Value}
 use Rattle.shim_scopes.specs.declared.fault.ScopeKind.{ScopeKind}
 use Rattle.shim_scopes.specs.declared.fault.ScopeKind.TheVariants.{UnknownName, UnknownException, Twice, WrongKind}
-use Rattle.shim_scopes.specs.declared.scope.Local.{Local}
+use Rattle.shim_scopes.specs.declared.scope.LocalDeclaration.{LocalDeclaration}
 use Rattle.shim_scopes.specs.declared.tree.RBranch.{RBranch}
 use Rattle.shim_scopes.specs.declared.tree.RCall.{RCall}
 use Rattle.shim_scopes.specs.declared.tree.RStmt.{RStmt}
@@ -20,7 +20,7 @@ use Rattle.shim_scopes.specs.declared.tree.RWhat.TheVariants as to
 use Rattle.shim_scopes.specs.declared.tree.UExpr.{UExpr}
 use Rattle.shim_scopes.specs.Binding.{unknown, unknown_in_option, stream_in, stream_in_option, no_number, no_input, no_output, slot_of, placed, placed_option, exception_number, unhandled}
 use Rattle.shim_scopes.specs.Refusals.{refused_for}
-use Rattle.shim_scopes.specs.Statements.{Whole, Around, Before, BoundTo, Bind, declared, within, opened, closed, caught, tried, variable_declared, variable_slot, bind_handler, bind_declare, bind_store, bind_next, bind_assign_next, bind_get, bind_put, bind_throw, bind_block, on_tree, bind_two, bind_test, bind_if, bind_while, bind_try, bind_parts, bind_first_test, bind_for, visible, declared_in, unknown_in_both, unknown_of_two}
+use Rattle.shim_scopes.specs.Statements.{Whole, Around, Before, BoundTo, Bind, with_declaration, inside_block, opened, after_block, with_handled, tried, variable_declared, variable_slot, bind_handler, bind_declare, bind_store, bind_next, bind_assign_next, bind_get, bind_put, bind_throw, bind_block, on_tree, bind_two, bind_test, bind_if, bind_while, bind_try, bind_parts, bind_first_test, bind_for, visible, declared_in, unknown_in_both, unknown_of_two}
 use Rattle.shim_scopes.specs.Calls.{bind_call, bind_called}
 use Rattle.shim_laws_binding.proofs.Bound.{is_bound}
 use Rattle.shim_laws_sources.proofs.Lists.{at_length}
@@ -61,9 +61,9 @@ asked_two line kind other o p t b r so h = stays WhatSorted t b r so (passed lin
 
 pub block_sorts : {T : Type 0} (right : List Sort → T → Type 0) (f : Bind T) → Sorts right f → Sorts right (bind_block f)
 block_sorts right f k a b r h =
-    let p = first_ok (f (within a b) (opened b)) _ r h in
-    let g = k (within a b) (opened b) p.0 p.1 in
-    at_answer right b (closed b p.0.before) p.0.tree r p.2 g.slots g.tree
+    let p = first_ok (f (inside_block a b) (opened b)) _ r h in
+    let g = k (inside_block a b) (opened b) p.0 p.1 in
+    at_answer right b (after_block b p.0.before) p.0.tree r p.2 g.slots g.tree
 
 pub tree_sorts : {S T : Type 0} (right : List Sort → S → Type 0) (better : List Sort → T → Type 0) (g : S → T) (f : Bind S) → ((all : List Sort) (s : S) → right all s → better all (g s)) → Sorts right f → Sorts better (on_tree g f)
 tree_sorts right better g f so k a b r h =
@@ -96,36 +96,36 @@ declare_sorts w ty x e line a b r h =
     let s = passed line WrongKind (stream_in_option (visible a b) e) _ r q in
     let slot : ℕ = length b.slots in
     let made : Option UExpr = placed_option (visible a b) e in
-    at_answer WhatSorted b (declared w.names x (Value ty) b) (to.Declare ty slot made) r s (record { more = Value ty ∷ []; whole = refl }) (λ all on. part_declare all ty slot made (declared_at b.slots ty all on))
+    at_answer WhatSorted b (with_declaration w.names x (Value ty) b) (to.Declare ty slot made) r s (record { more = Value ty ∷ []; whole = refl }) (λ all on. part_declare all ty slot made (declared_at b.slots ty all on))
 
 pub store_sorts : (g : ℕ → UExpr → RWhat) (x : List ℕ) (e : Expr) → ((all : List Sort) (slot : ℕ) (a : UExpr) → WhatSorted all (g slot a)) → WhatSorts (bind_store g x e)
 store_sorts g x e so line a b r h =
-    let v : List Local = visible a b in
+    let v : List LocalDeclaration = visible a b in
     asked_two line UnknownName WrongKind (unknown_in_both v x e) (option_or (no_number v x) (stream_in v e)) (g (slot_of v x) (placed v e)) b r (λ all. so all (slot_of v x) (placed v e)) h
 
 pub next_sorts : (x : List ℕ) → WhatSorts (bind_next x)
 next_sorts x line a b r h =
-    let v : List Local = visible a b in
+    let v : List LocalDeclaration = visible a b in
     asked_two line UnknownName WrongKind (unknown v x) (no_number v x) (to.Next (slot_of v x)) b r (λ all. part_next all (slot_of v x)) h
 
 pub assign_next_sorts : (x y : List ℕ) → WhatSorts (bind_assign_next x y)
 assign_next_sorts x y line a b r h =
-    let v : List Local = visible a b in
+    let v : List LocalDeclaration = visible a b in
     asked_two line UnknownName WrongKind (unknown_of_two v x y) (option_or (no_number v x) (no_number v y)) (to.AssignNext (slot_of v x) (slot_of v y)) b r (λ all. part_assign_next all (slot_of v x) (slot_of v y)) h
 
 pub get_sorts : (x y : List ℕ) → WhatSorts (bind_get x y)
 get_sorts x y line a b r h =
-    let v : List Local = visible a b in
+    let v : List LocalDeclaration = visible a b in
     asked_two line UnknownName WrongKind (unknown_of_two v x y) (option_or (no_number v x) (no_input v y)) (to.Get (slot_of v x) (slot_of v y)) b r (λ all. part_get all (slot_of v x) (slot_of v y)) h
 
 pub put_sorts : (x : List ℕ) (e : Expr) → WhatSorts (bind_put x e)
 put_sorts x e line a b r h =
-    let v : List Local = visible a b in
+    let v : List LocalDeclaration = visible a b in
     asked_two line UnknownName WrongKind (unknown_in_both v x e) (option_or (no_output v x) (stream_in v e)) (to.Put (slot_of v x) (placed v e)) b r (λ all. part_put all (slot_of v x) (placed v e)) h
 
 pub throw_sorts : (x : List ℕ) (e : Option Expr) → WhatSorts (bind_throw x e)
 throw_sorts x e line a b r h =
-    let v : List Local = visible a b in
+    let v : List LocalDeclaration = visible a b in
     let number : ℕ = exception_number a.handled x in
     asked_two line UnknownException WrongKind (unhandled a.handled x) (stream_in_option v e) (to.Throw number (placed_option v e)) b r (λ all. part_throw all number (placed_option v e))
     (passed line UnknownName (unknown_in_option v e) _ r h)
@@ -161,15 +161,15 @@ handler_sorts : (w : Whole) (y : Option (List ℕ)) (h : Bind (List RStmt)) (a :
     → HandlerSorts (variable_declared w.names y (opened b)).slots r
 handler_sorts w y h a b r k is =
     let begun : Before = variable_declared w.names y (opened b) in
-    let o = first_ok (h (within a b) begun) _ r is in
-    let n = k (within a b) begun o.0 o.1 in
-    subst (λ (v : BoundTo (List RStmt)). HandlerSorts begun.slots v) (sym (is_bound o.0.tree (closed b o.0.before) r o.2)) (record { slots = n.slots; tree = n.tree })
+    let o = first_ok (h (inside_block a b) begun) _ r is in
+    let n = k (inside_block a b) begun o.0 o.1 in
+    subst (λ (v : BoundTo (List RStmt)). HandlerSorts begun.slots v) (sym (is_bound o.0.tree (after_block b o.0.before) r o.2)) (record { slots = n.slots; tree = n.tree })
 
 pub try_sorts : (w : Whole) (x : List ℕ) (y : Option (List ℕ)) (f h : Bind (List RStmt)) → Sorts BodySorted f → Sorts BodySorted h → Sorts WhatSorted (bind_try w x y f h)
 try_sorts w x y f h k l a b r is =
-    let p = first_ok (bind_block f (caught x a b) (tried w x b)) _ r is in
+    let p = first_ok (bind_block f (with_handled x a b) (tried w x b)) _ r is in
     let q = first_ok (bind_block (bind_handler w y h) a p.0.before) _ r p.2 in
-    let m = block_sorts BodySorted f k (caught x a b) (tried w x b) p.0 p.1 in
+    let m = block_sorts BodySorted f k (with_handled x a b) (tried w x b) p.0 p.1 in
     let begun : List Sort = (variable_declared w.names y (opened p.0.before)).slots in
     let n = handler_sorts w y h a p.0.before q.0 l q.1 in
     let from : GoesOn p.0.before.slots q.0.before.slots = goes_twice p.0.before.slots begun q.0.before.slots (variable_goes w.names y (opened p.0.before)) n.slots in
@@ -191,7 +191,7 @@ parts_sort test f g h j k l a b r is =
     at_answer WhatSorted b s.0.before (to.For p.0.tree tested q.0.tree s.0.tree) r s.2 (goes_twice b.slots p.0.before.slots s.0.before.slots m.slots rest)
     (λ all on. part_for all p.0.tree tested q.0.tree s.0.tree (m.tree all (goes_twice p.0.before.slots s.0.before.slots all rest on)) (n.tree all (goes_twice q.0.before.slots s.0.before.slots all o.slots on)) (o.tree all on))
 
-pub for_sorts : (declares : ℕ → List Local) (test : Option Expr) (f g h : Bind (List RStmt)) → Sorts BodySorted f → Sorts BodySorted g → Sorts BodySorted h → WhatSorts (bind_for declares test f g h)
+pub for_sorts : (declares : ℕ → List LocalDeclaration) (test : Option Expr) (f g h : Bind (List RStmt)) → Sorts BodySorted f → Sorts BodySorted g → Sorts BodySorted h → WhatSorts (bind_for declares test f g h)
 for_sorts declares test f g h j k l line a b r is =
     let p = first_ok (bind_first_test declares test line a b) _ r is in
     block_sorts WhatSorted (bind_parts test f g h) (parts_sort test f g h j k l) a b r p.2

@@ -18,10 +18,10 @@ use Rattle.shim_units.specs.declared.unit.UStmt.{UStmt}
 use Rattle.shim_units.specs.declared.unit.UWhat.{UWhat}
 use Rattle.shim_units.specs.declared.unit.UWhat.TheVariants as u
 use Rattle.shim_units.specs.declared.slot_map.SlotMap.{SlotMap}
-use Rattle.shim_units.specs.Moving.{slot_index_of, slot_index_of_option, moved, moved_option, moved_call}
+use Rattle.shim_units.specs.Moving.{slot_index_of, slot_index_of_option, renumbered, moved_option, moved_call}
 use Rattle.shim_units.specs.Own.{some_slot}
 use Rattle.shim_units.specs.Parts.{LiftContext, Part, Lifts, all_declares}
-use Rattle.shim_units.specs.Lifting.{lift_all, whole, on_tree, lift_two, sort_of, sort_or_bool, is_among, branch_slots, branch_inner, lift_branch}
+use Rattle.shim_units.specs.Lifting.{lift_all, unlifted, on_tree, lift_two, sort_of, sort_or_bool, is_among, branch_slots, branch_inner, lift_branch}
 use Rattle.shim_units.specs.PartFold.{branch_what_step, what_step, branch_step, stmt_step, part, parts, branch_part, branch_parts, declares_in}
 use Rattle.shim_units.proofs.PartSteps.{branch_what_part, what_part}
 use Rattle.shim_laws_binding.proofs.Lists.{Each, each_of_both, each_of_first, each_of_second}
@@ -67,7 +67,7 @@ pub record LiftsSorted {T : Type 0} (good : List Sort → T → Type 0) (all : L
 
 -- a part that nothing is lifted out of
 alone : {T : Type 0} (good : List Sort → T → Type 0) (all : List Sort) (ds : List ℕ) (f : LiftContext → SlotMap → T)
-    → ((context : LiftContext) (w : SlotMap) → context.function.slots ≡ all → AreAmong w.slots ds → good (slots_of context w) (f context w)) → LiftsSorted good all ds (λ context w n. whole (f context w))
+    → ((context : LiftContext) (w : SlotMap) → context.function.slots ≡ all → AreAmong w.slots ds → good (slots_of context w) (f context w)) → LiftsSorted good all ds (λ context w n. unlifted (f context w))
 alone good all ds f h = record { tree = λ context w n is among. h context w is among; units = λ context w n is. tt }
 
 -- with something around the tree
@@ -138,7 +138,7 @@ module _ (all : List Sort) where
       → PartSorted all (what_part (roll-RWhat y) line)
   at_part line y h = subst (λ (p : ℕ → Part UWhat). PartSorted all (p line)) (sym (fold-roll-RWhat (ℕ → Part UCall) (ℕ → Part UWhat) (Part UBranch) (Part UStmt) branch_what_step what_step branch_step stmt_step y)) h
 
-  plain : (f : LiftContext → SlotMap → UWhat) → ((context : LiftContext) (w : SlotMap) → WhatIsSorted (slots_of context w) (f context w)) → LiftsSorted WhatIsSorted all [] (λ context w n. whole (f context w))
+  plain : (f : LiftContext → SlotMap → UWhat) → ((context : LiftContext) (w : SlotMap) → WhatIsSorted (slots_of context w) (f context w)) → LiftsSorted WhatIsSorted all [] (λ context w n. unlifted (f context w))
   plain f h = alone WhatIsSorted all [] f (λ context w is among. h context w)
 
   pub part_declare : (ty : Ty) (x : ℕ) (e : Option UExpr) → slice_get all x ≡ Some (Value ty) → WhatSorted all (r.Declare ty x e)
@@ -148,7 +148,7 @@ module _ (all : List Sort) where
 
   pub part_assign : (x : ℕ) (e : UExpr) → WhatSorted all (r.Assign x e)
   unfolding roll-RWhat denote.Hole.Carrier.roll
-  part_assign x e line = at_part line (RWhat-F.Assign x e) (plain (λ context w. u.Assign (slot_index_of w.slots x) (moved w.slots e)) (λ context w. sorted_assign (slots_of context w) (slot_index_of w.slots x) (moved w.slots e)))
+  part_assign x e line = at_part line (RWhat-F.Assign x e) (plain (λ context w. u.Assign (slot_index_of w.slots x) (renumbered w.slots e)) (λ context w. sorted_assign (slots_of context w) (slot_index_of w.slots x) (renumbered w.slots e)))
 
   pub part_next : (x : ℕ) → WhatSorted all (r.Next x)
   unfolding roll-RWhat denote.Hole.Carrier.roll
@@ -157,7 +157,7 @@ module _ (all : List Sort) where
   pub part_next_assign : (x : ℕ) (e : UExpr) → WhatSorted all (r.NextAssign x e)
   unfolding roll-RWhat denote.Hole.Carrier.roll
   part_next_assign x e line =
-      at_part line (RWhat-F.NextAssign x e) (plain (λ context w. u.NextAssign (slot_index_of w.slots x) (moved w.slots e)) (λ context w. sorted_next_assign (slots_of context w) (slot_index_of w.slots x) (moved w.slots e)))
+      at_part line (RWhat-F.NextAssign x e) (plain (λ context w. u.NextAssign (slot_index_of w.slots x) (renumbered w.slots e)) (λ context w. sorted_next_assign (slots_of context w) (slot_index_of w.slots x) (renumbered w.slots e)))
 
   pub part_assign_next : (x y : ℕ) → WhatSorted all (r.AssignNext x y)
   unfolding roll-RWhat denote.Hole.Carrier.roll
@@ -170,16 +170,16 @@ module _ (all : List Sort) where
 
   pub part_put : (x : ℕ) (e : UExpr) → WhatSorted all (r.Put x e)
   unfolding roll-RWhat denote.Hole.Carrier.roll
-  part_put x e line = at_part line (RWhat-F.Put x e) (plain (λ context w. u.Put (slot_index_of w.slots x) (moved w.slots e)) (λ context w. sorted_put (slots_of context w) (slot_index_of w.slots x) (moved w.slots e)))
+  part_put x e line = at_part line (RWhat-F.Put x e) (plain (λ context w. u.Put (slot_index_of w.slots x) (renumbered w.slots e)) (λ context w. sorted_put (slots_of context w) (slot_index_of w.slots x) (renumbered w.slots e)))
 
   pub part_if : (e : UExpr) (a b : List RStmt) → BodySorted all a → BodySorted all b → WhatSorted all (r.If e a b)
   unfolding roll-RWhat denote.Hole.Carrier.roll
-  part_if e a b h k line = at_part line (RWhat-F.If e a b) (two AreSorted AreSorted WhatIsSorted all (declares_in a) (declares_in b) (λ w q s. u.If (moved w.slots e) q s) (lift_all (parts a)) (lift_all (parts b))
-      (λ slots w q s i j. sorted_if slots (moved w.slots e) q s i j) h k)
+  part_if e a b h k line = at_part line (RWhat-F.If e a b) (two AreSorted AreSorted WhatIsSorted all (declares_in a) (declares_in b) (λ w q s. u.If (renumbered w.slots e) q s) (lift_all (parts a)) (lift_all (parts b))
+      (λ slots w q s i j. sorted_if slots (renumbered w.slots e) q s i j) h k)
 
   pub part_while : (e : UExpr) (body : List RStmt) → BodySorted all body → WhatSorted all (r.While e body)
   unfolding roll-RWhat denote.Hole.Carrier.roll
-  part_while e body h line = at_part line (RWhat-F.While e body) (around AreSorted WhatIsSorted all (declares_in body) (λ w s. u.While (moved w.slots e) s) (lift_all (parts body)) (λ slots w s i. sorted_while slots (moved w.slots e) s i) h)
+  part_while e body h line = at_part line (RWhat-F.While e body) (around AreSorted WhatIsSorted all (declares_in body) (λ w s. u.While (renumbered w.slots e) s) (lift_all (parts body)) (λ slots w s i. sorted_while slots (renumbered w.slots e) s i) h)
 
   -- three parts are one and then two
   pub part_for : (a : List RStmt) (test : Option UExpr) (b c : List RStmt) → BodySorted all a → BodySorted all b → BodySorted all c → WhatSorted all (r.For a test b c)

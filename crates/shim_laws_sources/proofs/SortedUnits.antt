@@ -14,7 +14,7 @@ use Rattle.shim_units.specs.declared.unit.UWhat.{UWhat, UWhat-F}
 use Rattle.shim_units.specs.OfText.{IsUnitsOfText, IsAcceptedForm}
 use Rattle.shim_units.specs.Parts.{LiftContext}
 use Rattle.shim_units.specs.PartFold.{declares_in}
-use Rattle.shim_units.specs.Units.{upto, text_of, function_slot_map, lift_function, lift_functions, lifted}
+use Rattle.shim_units.specs.Units.{upto, name_or_mark, function_slot_map, lift_function, lift_functions, lifted}
 use Rattle.shim_process.specs.LocalState.{unit_or, unit_at}
 use Rattle.shim_laws_binding.proofs.Lists.{Each, each_of_both}
 use Rattle.shim_laws_sources.specs.DeclaredSorts.{HasItsSort, HasDeclaredSorts}
@@ -36,7 +36,7 @@ record FunctionsSorted (names : List (List ℕ)) (all : List RFunction) (number 
 functions_sorted : (names : List (List ℕ)) (all : List RFunction) (number next : ℕ) (fs : List RFunction) → Each FunctionSorted fs → FunctionsSorted names all number next fs
 functions_sorted names all number next [] h = record { own = tt; lifted = tt }
 functions_sorted names all number next (f ∷ fs) h =
-    let context : LiftContext = record { functions = all; function = f; number = number; name = text_of names f.name; first = next } in
+    let context : LiftContext = record { functions = all; function = f; number = number; name = name_or_mark names f.name; first = next } in
     let r = lift_function names all number next f in
     let m : ℕ = next + length r.lifted in
     let rest = lift_functions names all (number + 1) m fs in

@@ -15,7 +15,7 @@ use Rattle.shim_process.specs.LocalState.{unit_or, unit_at}
 use Rattle.shim_units.specs.PartFold.{declares_in}
 use Rattle.shim_units.specs.OfText.{IsUnitsOfText, IsAcceptedForm}
 use Rattle.shim_units.specs.Parts.{LiftContext}
-use Rattle.shim_units.specs.Units.{upto, text_of, function_slot_map, lift_function, lift_functions, lifted}
+use Rattle.shim_units.specs.Units.{upto, name_or_mark, function_slot_map, lift_function, lift_functions, lifted}
 use Rattle.shim_laws_binding.specs.HandedOn.{HandsOn, calls_among}
 use Rattle.shim_laws_binding.specs.Naming.{naming_of}
 use Rattle.shim_laws_binding.proofs.Lists.{Each, each_of_both}
@@ -45,7 +45,7 @@ fit_at form (u ∷ us) (suc n) h = fit_at form us n h.1
 
 module _ (form : Form) (names : List (List ℕ)) (all : List RFunction) where
   abbrev context_of : ℕ → ℕ → RFunction → LiftContext
-  context_of number next f = record { functions = all; function = f; number = number; name = text_of names f.name; first = next }
+  context_of number next f = record { functions = all; function = f; number = number; name = name_or_mark names f.name; first = next }
 
   own_in_function : (number next : ℕ) (f : RFunction) → IsBehindParams f → Each (IsOwn form (lift_function names all number next f).own (function_slot_map f)) (declares_in f.body)
   own_in_function number next f behind =

@@ -10,7 +10,7 @@ use Rattle.shim_process.specs.Steps.{pushed, called}
 use Rattle.shim_process.specs.Sound.{IsOwned}
 use Rattle.shim_process.proofs.CallLocations.{Passed, by_copy, by_value, at_passed}
 use Rattle.shim_process.proofs.PlaceLocations.{at_append, at_empty}
-use Rattle.shim_laws_sources.specs.Anchored.{Anchor, Anchored, IsAnchored, NoneLent, IsWhole}
+use Rattle.shim_laws_sources.specs.Anchored.{Anchor, Anchored, IsAnchored, NoneLent, IsAnchoredWhole}
 use Rattle.shim_laws_sources.proofs.AtPlaces.{at_below, at_before}
 use Rattle.shim_process.proofs.FittingSteps.{fitting_called}
 use Rattle.shim_laws_sources.proofs.WholeEnds.{Moves, moves_on, settled_whole}
@@ -72,7 +72,7 @@ passed_ownership l given j x (by_value own at least most is) lent = own_not_lent
 at_least : (m n j : ℕ) → m ≡ n + j → n ≤ m
 at_least m n j e = omega (arith, e)
 
-pub called_whole : (unit : ℕ) (given : List Argument) (labels : List ℕ) (l : LocalState) → IsWhole l → length given ≡ length (unit_at l.program unit).params → Moves l (called unit given labels l)
+pub called_whole : (unit : ℕ) (given : List Argument) (labels : List ℕ) (l : LocalState) → IsAnchoredWhole l → length given ≡ length (unit_at l.program unit).params → Moves l (called unit given labels l)
 unfolding called pushed
 called_whole unit given labels l h many =
     let u : UnitOf = unit_at l.program unit in

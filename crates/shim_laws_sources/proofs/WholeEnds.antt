@@ -8,7 +8,7 @@ use Rattle.shim_process.specs.LocalState.{LocalState, Frame}
 use Rattle.shim_process.specs.Ends.{went, is_over, settled, gone}
 use Rattle.shim_process.proofs.PlaceLocations.{at_take}
 use Rattle.shim_process.specs.FittingFrames.{parameters, parameters_of}
-use Rattle.shim_laws_sources.specs.Anchored.{IsFloor, Anchor, Anchored, NoneLent, IsWhole, Stays}
+use Rattle.shim_laws_sources.specs.Anchored.{IsFloor, Anchor, Anchored, NoneLent, IsAnchoredWhole, Stays}
 use Rattle.shim_laws_sources.proofs.AtPlaces.{take_below, at_taken}
 use Rattle.shim_process.proofs.FittingEnds.{fitting_on, fitting_left}
 use Rattle.shim_process.proofs.FittingFrames.{GoesOn, went_fits, inner_fits, same_parameters}
@@ -17,7 +17,7 @@ use Rattle.shim_base.proofs.Facts.{choose}
 
 -- a state that is whole, of the same process
 abbrev pub Moves : LocalState → LocalState → Type 0
-Moves l m = IsWhole m × Stays l m
+Moves l m = IsAnchoredWhole m × Stays l m
 
 pub stays_same : (l : LocalState) → Stays l l
 stays_same l = record { path = refl; given = refl; many = refl; owned = λ n c h w. w }
@@ -95,7 +95,7 @@ settled_whole (c ∷ cs) f l h none =
 pub frame_stays : (l : LocalState) (g : Frame) → g.unit ≡ l.frame.unit → Stays l (record l { frame = g })
 frame_stays l g unit = record { path = refl; given = refl; many = same_parameters l.path l.program l.frame g l.callers unit; owned = λ n c h w. w }
 
-pub gone_whole : (successor : Successor) (l : LocalState) → IsWhole l → Moves l (gone successor l)
+pub gone_whole : (successor : Successor) (l : LocalState) → IsAnchoredWhole l → Moves l (gone successor l)
 unfolding gone
 gone_whole successor l h =
     let w : GoesOn l.program (parameters_of l) l.frame (went successor l.frame) = went_fits l.program (parameters_of l) successor l.frame (inner_fits l.program (parameters_of l) l.frame l.callers h.0.fitting.fit) in

@@ -16,8 +16,8 @@ use Rattle.shim_process.specs.Sound.{IsOwned}
 use Rattle.shim_process.specs.Born.{Born}
 use Rattle.shim_process.proofs.JoinLocations.{Kept, same_ownership, came_back, OneCarries, all_kept}
 use Rattle.shim_laws_sources.proofs.Ownerships.{own_not_lent}
-use Rattle.shim_laws_sources.specs.Anchored.{OwnedOn, NoneLent, IsWhole, Stays}
-use Rattle.shim_laws_sources.specs.Homes.{GivesBack, OneGivesBack, Waits}
+use Rattle.shim_laws_sources.specs.Anchored.{OwnedOn, NoneLent, IsAnchoredWhole, Stays}
+use Rattle.shim_laws_sources.specs.Homes.{GivesBack, OneGivesBack, IsWaitingFor}
 use Rattle.shim_laws_sources.proofs.AtPlaces.{still_at, put_at, Onward, onward_same, onward_both, onward_put, onward_owned, IsGentle}
 use Rattle.shim_laws_sources.proofs.WholeEnds.{Moves, moves_on, gone_whole}
 use Rattle.shim_laws_sources.proofs.WholeStores.{onward_anchored, onward_stays}
@@ -143,7 +143,7 @@ gives slots j (Ref v ∷ rest) k n c xs none (inr g) w =
 gives slots j (Pass v ∷ rest) k n c xs none g w = gives slots (j + 1) rest k n c xs none g w
 gives slots j (Fresh e ∷ rest) k n c xs none g w = gives slots (j + 1) rest k n c xs none g w
 
-one_gives : (slots : List ℕ) (bs : List UBranch) (ks : List LocalState) (n : ℕ) (c : Channel) (xs : Locations) → AllOf IsWhole ks → OneGivesBack slots bs ks n c → OwnedOn xs n c → IsOwnAt (all_back slots bs ks xs) n
+one_gives : (slots : List ℕ) (bs : List UBranch) (ks : List LocalState) (n : ℕ) (c : Channel) (xs : Locations) → AllOf IsAnchoredWhole ks → OneGivesBack slots bs ks n c → OwnedOn xs n c → IsOwnAt (all_back slots bs ks xs) n
 one_gives slots [] ks n c xs all g w = absurd g
 one_gives slots (b ∷ bs) [] n c xs all g w = absurd g
 one_gives slots (b ∷ bs) (k ∷ ks) n c xs all (inl g) w = own_all slots bs ks (taken_back slots 0 b.call.args k.locations xs) n (gives slots 0 b.call.args k n c xs all.0.1 g w)
@@ -153,7 +153,7 @@ one_gives slots (b ∷ bs) (k ∷ ks) n c xs all (inr g) w =
 
 -- so nothing is lent any more
 
-joined_none : (l : LocalState) (ks : List LocalState) → Waits l ks → AllOf IsWhole ks → Born l ks → NoneLent (joined l ks).locations
+joined_none : (l : LocalState) (ks : List LocalState) → IsWaitingFor l ks → AllOf IsAnchoredWhole ks → Born l ks → NoneLent (joined l ks).locations
 joined_none l ks h all born n y e lent = by_kept (all_kept l born.fork 0 (item_branches l.frame.todo) ks l.locations n y born.places (λ j. refl) e)
   where
     by_kept : Kept (OneCarries ks) l.locations n y → ⊥
@@ -165,7 +165,7 @@ joined_none l ks h all born n y e lent = by_kept (all_kept l born.fork 0 (item_b
         (record { place = w.location; at = w.there; owned = subst IsOwned (sym was) tt; on = refl }) in
         own_not_lent y.ownership (ap (λ (r : Location). r.ownership) (some_same y o.place (sym e ∙ o.at)) ∙ o.own) lent
 
-joined_whole : (l : LocalState) (ks : List LocalState) → Waits l ks → AllOf IsWhole ks → Born l ks → Moves l (joined l ks)
+joined_whole : (l : LocalState) (ks : List LocalState) → IsWaitingFor l ks → AllOf IsAnchoredWhole ks → Born l ks → Moves l (joined l ks)
 joined_whole l ks h all born =
     let bs : List UBranch = item_branches l.frame.todo in
     let ys : Locations = all_back l.frame.slots bs ks l.locations in
@@ -173,7 +173,7 @@ joined_whole l ks h all born =
     let s : Stays l (record l { locations = ys }) = onward_stays l ys w in
     ((onward_anchored l ys h.anchored w, joined_none l ks h all born), record { path = refl; given = refl; many = refl; owned = s.owned })
 
-pub join_whole : (l : LocalState) (ks : List LocalState) (goes_on : Bool) → Waits l ks → AllOf IsWhole ks → Born l ks → Moves l (join l ks goes_on)
+pub join_whole : (l : LocalState) (ks : List LocalState) (goes_on : Bool) → IsWaitingFor l ks → AllOf IsAnchoredWhole ks → Born l ks → Moves l (join l ks goes_on)
 unfolding join
 join_whole l ks goes_on h all born =
     let w : Moves l (joined l ks) = joined_whole l ks h all born in

@@ -10,7 +10,7 @@ use Rattle.shim_process.specs.Steps.{stored_in, made_in, next_byte, read_in}
 use Rattle.shim_process.proofs.PlaceLocations.{Was, at_store, at_set}
 use Rattle.shim_process.specs.OwnSlots.{is_own_slot}
 use Rattle.shim_process.specs.FittingFrames.{FrameFits, parameters_of}
-use Rattle.shim_laws_sources.specs.Anchored.{IsFloor, Anchor, Anchored, IsAnchored, NoneLent, IsWhole, Stays}
+use Rattle.shim_laws_sources.specs.Anchored.{IsFloor, Anchor, Anchored, IsAnchored, NoneLent, IsAnchoredWhole, Stays}
 use Rattle.shim_laws_sources.proofs.AtPlaces.{still_at, Onward, IsGentle, onward_put, onward_owned}
 use Rattle.shim_process.proofs.PlaceChannels.{length_put}
 use Rattle.shim_process.proofs.FittingFrames.{inner_fits}
@@ -51,12 +51,12 @@ store_onward xs k v = onward_put xs k (with_value v (at_number xs k)) (stored_ge
 store_none : (xs : Locations) (k : ℕ) (v : ℤ) → NoneLent xs → NoneLent (store_at xs k v)
 store_none xs k v h = λ n x e lent. let w : Was xs n x = at_store xs k v n x e in h n w.location w.there (w.ownership ∙ lent)
 
-pub stored_whole : (x : ℕ) (v : ℤ) (l : LocalState) → IsWhole l → Moves l (stored_in x v l)
+pub stored_whole : (x : ℕ) (v : ℤ) (l : LocalState) → IsAnchoredWhole l → Moves l (stored_in x v l)
 stored_whole x v l h =
     let w = store_onward l.locations (number_of l.frame.slots x) v in
     ((onward_anchored l (store_at l.locations (number_of l.frame.slots x) v) h.0 w, store_none l.locations (number_of l.frame.slots x) v h.1), onward_stays l (store_at l.locations (number_of l.frame.slots x) v) w)
 
-pub read_whole : (x : ℕ) (l : LocalState) → IsWhole l → Moves l (read_in x l)
+pub read_whole : (x : ℕ) (l : LocalState) → IsAnchoredWhole l → Moves l (read_in x l)
 read_whole x l h =
     let v : ℤ = next_byte l.input_at l.input in
     let w = stored_whole x v l h in
@@ -86,7 +86,7 @@ put_anchor f cs xs k o m c most a = record {
   behind = a.behind;
 }
 
-pub made_whole : (t : Ty) (x : ℕ) (v : ℤ) (l : LocalState) → IsWhole l → is_own_slot (unit_at l.program l.frame.unit) x ≡ true → Moves l (made_in t x v l)
+pub made_whole : (t : Ty) (x : ℕ) (v : ℤ) (l : LocalState) → IsAnchoredWhole l → is_own_slot (unit_at l.program l.frame.unit) x ≡ true → Moves l (made_in t x v l)
 made_whole t x v l h own =
     let xs : Locations = l.locations in
     let k : ℕ = number_of l.frame.slots x in

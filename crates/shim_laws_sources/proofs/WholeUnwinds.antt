@@ -14,7 +14,7 @@ use Rattle.shim_process.proofs.PlaceChannels.{length_put}
 use Rattle.shim_process.proofs.FittingEnds.{catching_around, fitting_over}
 use Rattle.shim_process.proofs.FittingItems.{place_at, variable_at}
 use Rattle.shim_process.proofs.FittingFrames.{GoesOn, handling_fits, inner_fits}
-use Rattle.shim_laws_sources.specs.Anchored.{Anchored, NoneLent, IsWhole}
+use Rattle.shim_laws_sources.specs.Anchored.{Anchored, NoneLent, IsAnchoredWhole}
 use Rattle.shim_laws_sources.proofs.AtPlaces.{still_at}
 use Rattle.shim_laws_sources.proofs.Floors.{floors_below}
 use Rattle.shim_laws_sources.proofs.Ownerships.{own_not_copy, own_not_lent}
@@ -100,6 +100,6 @@ unwound_whole (c ∷ cs) f n v l h none =
     (unwound_whole cs c n v out (anchored_left l.path l.program f c cs l.locations h) (none_taken f.floor l.locations none)))
     (stopped l f (c ∷ cs) (n - f.outer) v h none)
 
-pub unwind_whole : (l : LocalState) (label : ℕ) (v : ℤ) → IsWhole l → Moves l (unwind l label v)
+pub unwind_whole : (l : LocalState) (label : ℕ) (v : ℤ) → IsAnchoredWhole l → Moves l (unwind l label v)
 unfolding unwind
 unwind_whole l label v h = unwound_whole l.callers l.frame (label - l.base) v l h.0 h.1

@@ -41,8 +41,8 @@ abbrev pub NoneLent : Locations → Type 0
 NoneLent locations = (n : ℕ) (x : Location) → at_number locations n ≡ Some x → x.ownership ≡ Lent → ⊥
 
 -- what a process has that doesn't wait for children
-abbrev pub IsWhole : LocalState → Type 0
-IsWhole l = IsAnchored l × NoneLent l.locations
+abbrev pub IsAnchoredWhole : LocalState → Type 0
+IsAnchoredWhole l = IsAnchored l × NoneLent l.locations
 
 -- What a fork may rely on: the second state is that of the same process, later, and what its parameters' locations owned they own.
 pub record Stays (l m : LocalState) : Type 0 where

@@ -10,7 +10,7 @@ use Rattle.shim_process.specs.Locations.{Location, Locations, Lent, at_number}
 use Rattle.shim_process.specs.LocalState.{LocalState, number_of}
 use Rattle.shim_process.specs.Forks.{item_branches}
 use Rattle.shim_process.specs.FittingFrames.{parameters_of}
-use Rattle.shim_laws_sources.specs.Anchored.{OwnedOn, IsAnchored, IsWhole}
+use Rattle.shim_laws_sources.specs.Anchored.{OwnedOn, IsAnchored, IsAnchoredWhole}
 
 -- The child gives back the own variable of the channel, for the location at number n of its parent: an argument by reference, of those whose first one has the number j in the child.
 abbrev pub GivesBack : List ℕ → ℕ → List Arg → LocalState → ℕ → Channel → Type 0
@@ -37,7 +37,7 @@ abbrev pub IsGivenBy : LocalState → LocalState → Type 0
 IsGivenBy l k = (at : ℕ) (d : NamedChannel) → slice_get k.given at ≡ Some d → (d.channel.home ≡ k.path) ⊎ HasOn l.locations d.channel
 
 -- what a process has that waits for these children
-pub record Waits (l : LocalState) (ks : List LocalState) : Type 0 where
+pub record IsWaitingFor (l : LocalState) (ks : List LocalState) : Type 0 where
   pub anchored : IsAnchored l
   pub lent : (n : ℕ) (x : Location) → at_number l.locations n ≡ Some x → x.ownership ≡ Lent → OneGivesBack l.frame.slots (item_branches l.frame.todo) ks n x.channel.channel
   pub given : AllOf (IsGivenBy l) ks
@@ -45,10 +45,10 @@ pub record Waits (l : LocalState) (ks : List LocalState) : Type 0 where
 -- Each process of the tree has what it needs for its channels.
 abbrev mutual
   pub IsHome : Node LocalState → Type 0
-  IsHome (Live l) = IsWhole l
-  IsHome (Ended l) = IsWhole l
-  IsHome (Dead l x) = IsWhole l
-  IsHome (Forked l ks) = Waits l (states ks) × AreHome ks
+  IsHome (Live l) = IsAnchoredWhole l
+  IsHome (Ended l) = IsAnchoredWhole l
+  IsHome (Dead l x) = IsAnchoredWhole l
+  IsHome (Forked l ks) = IsWaitingFor l (states ks) × AreHome ks
 
   pub AreHome : Nodes LocalState → Type 0
   AreHome no_node = Unit {0}

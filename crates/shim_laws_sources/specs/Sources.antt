@@ -14,20 +14,20 @@ use Rattle.shim_process.specs.LocalState.{LocalState}
 use Rattle.shim_process.specs.Sharers.{carries}
 
 -- a run of enabled events leads to the tree from the one process of the program
-abbrev pub IsReached : Form → List ℕ → Tree LocalState → Type 0
-IsReached program input t = (es : List Event) × (run (after process_ops) es (start (root program input)) ≡ Some t)
+abbrev pub IsReachable : Form → List ℕ → Tree LocalState → Type 0
+IsReachable program input t = (es : List Event) × (run (after process_ops) es (start (root program input)) ≡ Some t)
 
 abbrev pub is_place : Option ℕ → Bool
 is_place None = false
 is_place (Some n) = true
 
 -- the process has the input, at some place in it
-abbrev pub has_input : LocalState → Bool
-has_input l = is_place l.input_at
+abbrev pub holds_input : LocalState → Bool
+holds_input l = is_place l.input_at
 
 -- at most one process of the tree has the input, whatever came of it
 abbrev pub HasOneInput : Tree LocalState → Type 0
-HasOneInput t = how_many has_input (everyone t.root) ≤ 1
+HasOneInput t = how_many holds_input (everyone t.root) ≤ 1
 
 -- a process of the tree carries the channel, whatever came of it
 abbrev pub IsCarried : Node LocalState → Channel → Type 0

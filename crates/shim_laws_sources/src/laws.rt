@@ -6,7 +6,7 @@ ghost use Rattle.shim_process.specs.LocalState.{LocalState};
 ghost use Rattle.shim_units.specs.OfText.{IsAcceptedForm};
 ghost use Rattle.shim_process.specs.OwnSlots.{UsesOwnSlots};
 ghost use Rattle.shim_laws_sources.specs.DeclaredSorts.{HasDeclaredSorts};
-ghost use Rattle.shim_laws_sources.specs.Sources.{IsReached, HasOneInput, HasSources};
+ghost use Rattle.shim_laws_sources.specs.Sources.{IsReachable, HasOneInput, HasSources};
 
 /// The units of an accepted program declare slots of their own, which stand behind those of their
 /// parameters, and each call and each branch has one argument for each parameter.
@@ -23,6 +23,6 @@ pub fn declared_slots_have_their_sorts()
 /// In each tree that a run of an accepted program reaches at most one process has the input, and where a
 /// live process stands at a `next`, some process of the tree has the own variable of that channel.
 pub fn sources()
-    ensures input { (program : Form) (input : List ℕ) (t : Tree LocalState) → IsAcceptedForm program → IsReached program input t → HasOneInput t }
-    ensures carried { (program : Form) (input : List ℕ) (t : Tree LocalState) → IsAcceptedForm program → IsReached program input t → HasSources t }
+    ensures input { (program : Form) (input : List ℕ) (t : Tree LocalState) → IsAcceptedForm program → IsReachable program input t → HasOneInput t }
+    ensures carried { (program : Form) (input : List ℕ) (t : Tree LocalState) → IsAcceptedForm program → IsReachable program input t → HasSources t }
 {}

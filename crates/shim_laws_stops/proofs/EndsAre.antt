@@ -16,7 +16,7 @@ use Rattle.shim_process.specs.Todo.{Item, Do, Leave, next_stmt}
 use Rattle.shim_base.proofs.Facts.{first_holds, second_holds}
 use Rattle.shim_laws_stops.specs.InScope.{is_input_at, is_output_at, has_number, has_input, has_output, reads_right}
 use Rattle.shim_laws_stops.specs.Named.{IsThere}
-use Rattle.shim_laws_stops.specs.Named.{StandsAt, next, next_assign, assign_next}
+use Rattle.shim_laws_stops.specs.Named.{IsAtStmt, next, next_assign, assign_next}
 use Rattle.shim_laws_stops.specs.StreamHolders.{Stream, TheInput, TheOutput, is_at, is_there, has_stream, waiting_units, HoldsStream}
 use Rattle.shim_laws_stops.specs.Ends.{HasNothingLeft}
 use Rattle.shim_laws_stops.specs.SettledFrames.{StartsRight, IsSettled}
@@ -29,7 +29,7 @@ use Rattle.shim_laws_stops.proofs.StreamUnits.{slot_takes}
 stream_here : (stream : Stream) (l : LocalState) (x : ℕ) → HoldsStream stream l → is_at stream (slice_get (unit_at l.program l.frame.unit).slots x) ≡ true → has_stream stream l ≡ true
 stream_here stream l x h is = h.holds (takes_first stream l.program l.frame.unit (waiting_units l) h.taking (slot_takes stream l.program l.frame.unit x h.named.units is))
 
-pub put_holds : (l : LocalState) (o : ℕ) (e : UExpr) → HoldsStream TheOutput l → StandsAt l (UWhat-F.Put o e) → l.holds_output ≡ true
+pub put_holds : (l : LocalState) (o : ℕ) (e : UExpr) → HoldsStream TheOutput l → IsAtStmt l (UWhat-F.Put o e) → l.holds_output ≡ true
 put_holds l o e h at =
     let u : UnitOf = unit_at l.program l.frame.unit in
     let r = stands_right l (UWhat-F.Put o e) h.named at in
@@ -40,7 +40,7 @@ its_place : (o : Option ℕ) → is_there o ≡ true → (n : ℕ) × (o ≡ Som
 its_place None h = absurd (cc h)
 its_place (Some n) h = (n, refl)
 
-pub get_holds : (l : LocalState) (x i : ℕ) → HoldsStream TheInput l → StandsAt l (UWhat-F.Get x i) → (n : ℕ) × (l.input_at ≡ Some n)
+pub get_holds : (l : LocalState) (x i : ℕ) → HoldsStream TheInput l → IsAtStmt l (UWhat-F.Get x i) → (n : ℕ) × (l.input_at ≡ Some n)
 get_holds l x i h at =
     let u : UnitOf = unit_at l.program l.frame.unit in
     let r = stands_right l (UWhat-F.Get x i) h.named at in
@@ -69,7 +69,7 @@ next_or_half : (b : Bool) (o : Option Location) → IsThere o → cond b (at_nex
 next_or_half true o h e = there_no_end o h e
 next_or_half false o h e = cc e
 
-what_no_end : (l : LocalState) (w : UWhat-F UWhat UStmt) → HoldsStream TheOutput l → StandsAt l w → what_stop w (statement_view l) ≡ AtFinish → ⊥
+what_no_end : (l : LocalState) (w : UWhat-F UWhat UStmt) → HoldsStream TheOutput l → IsAtStmt l w → what_stop w (statement_view l) ≡ AtFinish → ⊥
 what_no_end l (UWhat-F.Next x) h at e = there_no_end (location_of l.locations l.frame.slots x) (location_there l x (next_has l x next (stands_right l (UWhat-F.Next x) h.named at))) e
 what_no_end l (UWhat-F.NextAssign x v) h at e = next_or_half l.frame.halfway (location_of l.locations l.frame.slots x) (location_there l x (next_has l x (next_assign v) (stands_right l (UWhat-F.NextAssign x v) h.named at))) e
 what_no_end l (UWhat-F.AssignNext y x) h at e = half_or_next l.frame.halfway (location_of l.locations l.frame.slots x) (location_there l x (next_has l x (assign_next y) (stands_right l (UWhat-F.AssignNext y x) h.named at))) e

@@ -4,7 +4,7 @@ use Rattle.std.specs.Prelude.{slice_get}
 use Rattle.std.proofs.lemmas.Bool.{and_parts}
 use Rattle.shim_units.specs.declared.form.Form.{Form}
 use Rattle.shim_units.specs.declared.unit.UCall.{UCall}
-use Rattle.shim_process.specs.LocalState.{LocalState, number, number_of, unit_at}
+use Rattle.shim_process.specs.LocalState.{LocalState, number_or_any, number_of, unit_at}
 use Rattle.shim_process.specs.StatementViews.{statement_view, exceptions_of, label_among, label_of, passed_labels}
 use Rattle.shim_base.proofs.Facts.{choose, either_holds}
 use Rattle.shim_laws_stops.specs.InForce.{are_among, hands_on}
@@ -26,7 +26,7 @@ label_least x first (e ∷ es) given least (inr h) =
     by_case (inl is) = inl (found_by (nat_eq e x) first given is least)
     by_case (inr there) = inr there
 
-number_least : (labels : List ℕ) (x : ℕ) → AreLabels labels → x < length labels → 1 ≤ number (slice_get labels x)
+number_least : (labels : List ℕ) (x : ℕ) → AreLabels labels → x < length labels → 1 ≤ number_or_any (slice_get labels x)
 number_least [] x h below = absurd (omega (arith, below))
 number_least (y ∷ ys) zero h below = h.0
 number_least (y ∷ ys) (suc x) h below = number_least ys x h.1 (omega (arith, below))

@@ -18,7 +18,7 @@ use Rattle.shim_process.specs.Arguments.{Argument, arguments, entered, call_slot
 use Rattle.shim_process.specs.Ends.{gone, settled}
 use Rattle.shim_process.specs.Forks.{fork}
 use Rattle.shim_process.specs.Steps.{Action, Go, Store, StoreFirst, Make, Read, Enter, Install, Trapped, Wait, action, limited, value_or, try_name, what_action, stmt_action, next_action, line_of, stored_in, made_in, read_in, half, variable_in, installing, pushed, called, done, quiet}
-use Rattle.shim_process.specs.Stops.{put_value, after_put, put, thrown_value, after_throw, thrown, what_receive, stmt_receive, receive}
+use Rattle.shim_process.specs.Stops.{put_value, after_put, put, thrown_value, after_throw, throw_evaluated, what_receive, stmt_receive, receive}
 use Rattle.shim_process.proofs.CallKeeps.{fork_trapped}
 use Rattle.shim_base.proofs.Facts.{choose, second_holds}
 use Rattle.shim_laws_stops.specs.InForce.{all_throw, AllInForce}
@@ -176,8 +176,8 @@ after_throw_moves : (r : Value) (l : LocalState) → HasLabels l → Moves l (af
 after_throw_moves (Ok v) l h = moves_none l h
 after_throw_moves (Err t) l h = trapped_moves t (line_of l.frame.todo) l h
 
-pub thrown_moves : (l : LocalState) → HasLabels l → Moves l (thrown l)
-unfolding thrown
+pub thrown_moves : (l : LocalState) → HasLabels l → Moves l (throw_evaluated l)
+unfolding throw_evaluated
 thrown_moves l h = after_throw_moves (thrown_value l) l h
 
 what_moves : (w : UWhat-F UWhat UStmt) (v : ℤ) (l : LocalState) → HasLabels l → Moves l (what_receive w v l)

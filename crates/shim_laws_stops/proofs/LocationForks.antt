@@ -23,7 +23,7 @@ use Rattle.shim_process.specs.Stops.{what_stop, stmt_stop, stop_or, stop}
 use Rattle.shim_process.specs.Todo.{Item, Do, Leave, On, next_stmt}
 use Rattle.shim_process.proofs.ForkLending.{from_value, ok_same}
 use Rattle.shim_process.specs.OwnSlots as own
-use Rattle.shim_process.specs.OwnSlots.{suits}
+use Rattle.shim_process.specs.OwnSlots.{has_arguments}
 use Rattle.shim_laws_sources.proofs.Along.{behind, Relates}
 use Rattle.shim_process.proofs.CallSlots.{own_slot, from_number, given_many}
 use Rattle.shim_process.proofs.ChildChannels.{branch_length}
@@ -156,7 +156,7 @@ all_given l xs (b ∷ bs) given has right suit e =
     let u : UnitOf = unit_at l.program l.frame.unit in
     let w = from_value (λ one. on_value (λ others. Ok (one ∷ others)) (all_arguments l bs)) (arguments l.locations l.frame.slots (unit_at l.program b.call.unit).params b.call.args) given e in
     let o = from_value (λ others. Ok (w.0 ∷ others)) (all_arguments l bs) given w.2 in
-    let s = and_parts (suits l.program b.call) (own.all_suit l.program bs) suit in
+    let s = and_parts (has_arguments l.program b.call) (own.all_suit l.program bs) suit in
     let r = and_parts (call_right l.program u xs b.call) (all_calls_right l.program u xs bs) right in
     let a = and_parts (arguments_right u xs (unit_at l.program b.call.unit).params b.call.args) (distinct (references b.call.args)) r.0 in
     subst (AllGiven l.program l.locations (b ∷ bs)) (ok_same (w.0 ∷ o.0) given o.2) (

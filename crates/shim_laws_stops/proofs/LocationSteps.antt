@@ -25,9 +25,9 @@ use Rattle.shim_process.specs.Arguments.{Argument, arguments, entered, call_slot
 use Rattle.shim_process.specs.Ends.{gone}
 use Rattle.shim_process.specs.Forks.{fork}
 use Rattle.shim_process.specs.Steps.{Action, Go, Store, StoreFirst, Make, Read, Enter, Install, Trapped, Wait, action, limited, value_or, try_name, what_action, stmt_action, next_action, line_of, stored_in, made_in, read_in, next_byte, half, installed, variable_in, installing, pushed, called, done, quiet}
-use Rattle.shim_process.specs.Stops.{put_value, after_put, put, thrown_value, after_throw, thrown, what_receive, stmt_receive, receive}
+use Rattle.shim_process.specs.Stops.{put_value, after_put, put, thrown_value, after_throw, throw_evaluated, what_receive, stmt_receive, receive}
 use Rattle.shim_process.proofs.CallKeeps.{fork_trapped}
-use Rattle.shim_process.specs.OwnSlots.{is_own_slot, is_own_variable, suits, all_fit}
+use Rattle.shim_process.specs.OwnSlots.{is_own_slot, is_own_variable, has_arguments, all_fit}
 use Rattle.shim_process.specs.FittingFrames.{ItemsFit}
 use Rattle.shim_laws_sources.proofs.AtPlaces.{at_before}
 use Rattle.shim_process.proofs.CallSlots.{called_slot, given_many}
@@ -73,7 +73,7 @@ abbrev behind : UWhat-F UWhat UStmt → ℕ → UStmt → List Item → Successo
 behind w n s k successor = follow_what w successor n s k
 
 -- the arguments of a call are there, and as many as the parameters
-call_given : (l : LocalState) (c : UCall) (given : List Argument) (xs : List ℕ) → ((x : ℕ) → Among xs x → Has l x) → call_right l.program (unit_of l) xs c ≡ true → suits l.program c ≡ true → arguments l.locations l.frame.slots (unit_in (statement_view l) c.unit).params c.args ≡ Ok given
+call_given : (l : LocalState) (c : UCall) (given : List Argument) (xs : List ℕ) → ((x : ℕ) → Among xs x → Has l x) → call_right l.program (unit_of l) xs c ≡ true → has_arguments l.program c ≡ true → arguments l.locations l.frame.slots (unit_in (statement_view l) c.unit).params c.args ≡ Ok given
     → GivenThere l.locations (unit_at l.program c.unit).params given × (length given ≡ length (unit_at l.program c.unit).params)
 unfolding unit_at
 call_given l c given xs has right suit e = (
@@ -277,8 +277,8 @@ after_throw_has : (r : Value) (l : LocalState) → HasLocations l → HasLocatio
 after_throw_has (Ok v) l h = h
 after_throw_has (Err t) l h = trapped_has t (line_of l.frame.todo) l h
 
-pub thrown_has : (l : LocalState) → HasLocations l → HasLocations (thrown l)
-unfolding thrown
+pub thrown_has : (l : LocalState) → HasLocations l → HasLocations (throw_evaluated l)
+unfolding throw_evaluated
 thrown_has l h = after_throw_has (thrown_value l) l h
 
 -- a meeting

@@ -7,7 +7,7 @@ use Rattle.shim_syntax.specs.declared.tree.Function.{Function}
 use Rattle.shim_syntax.specs.declared.tree.Param.{Param}
 use Rattle.shim_syntax.specs.declared.tree.Sort.{Sort}
 use Rattle.shim_syntax.specs.declared.tree.Sort.TheVariants.{Value, Input, Output}
-use Rattle.shim_syntax.specs.Names.{Texts, number_of, param_names}
+use Rattle.shim_syntax.specs.Names.{Texts, name_index, param_names}
 use Rattle.shim_scopes.specs.declared.fault.ScopeKind.TheVariants.{Twice, MainParameters}
 use Rattle.shim_scopes.specs.declared.form.Form.{Form as Resolved}
 use Rattle.shim_scopes.specs.declared.tree.RFunction.{RFunction}
@@ -57,7 +57,7 @@ same_step Output input output f g h e = both output (f input true) (g input true
     both false b c h e = h e
 
 suited : (names : Texts) (ps : List Param) (input output : Bool) → suits_main input output ps ≡ true
-    → streams_once input output (map (λ (p : Param). let q : UParam = record { sort = p.sort; by_ref = p.by_ref; name = number_of names p.name } in q) ps) ≡ true
+    → streams_once input output (map (λ (p : Param). let q : UParam = record { sort = p.sort; by_ref = p.by_ref; name = name_index names p.name } in q) ps) ≡ true
 suited names [] input output h = refl
 suited names (p ∷ ps) input output h = same_step p.sort input output (λ i o. suits_main i o ps) _ (λ i o k. suited names ps i o k) h
 

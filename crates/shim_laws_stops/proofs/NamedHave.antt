@@ -11,12 +11,12 @@ use Rattle.shim_units.specs.declared.unit.UCall.{UCall}
 use Rattle.shim_units.specs.declared.unit.UStmt.{UStmt}
 use Rattle.shim_units.specs.declared.unit.UWhat.{UWhat, UWhat-F, out-UWhat}
 use Rattle.shim_process.specs.Locations.{Locations, at_number}
-use Rattle.shim_process.specs.LocalState.{LocalState, unit_at, number, number_of, location_of}
+use Rattle.shim_process.specs.LocalState.{LocalState, unit_at, number_or_any, number_of, location_of}
 use Rattle.shim_process.specs.Todo.{Item, Do, Leave, next_stmt}
 use Rattle.shim_base.proofs.Facts.{some_same, none_some, both_hold, first_holds, second_holds}
-use Rattle.shim_laws_stops.specs.InScope.{is_number, same_kind, has_number, has_input, has_output, variables_in, variables_in_option, have_numbers, reads_right, option_right, argument_right, arguments_right, references, distinct, call_right, all_calls_right, are_some, branches_apart}
+use Rattle.shim_laws_stops.specs.InScope.{is_number, same_kind, has_number, has_input, has_output, variables_read, variables_in_option, have_numbers, reads_right, option_right, argument_right, arguments_right, references, distinct, call_right, all_calls_right, are_some, branches_apart}
 use Rattle.shim_laws_stops.specs.FrameLocations.{item_right, ItemsScoped, FrameScoped, HasLocations}
-use Rattle.shim_laws_stops.specs.Named.{IsThere, StandsAt, HasItsLocation, IsNextOf, next, next_assign, assign_next, arguments_read, branches_read, variables_at, ArgumentHasLocation, AllHaveLocations, CallHasLocations, BranchesHaveLocations}
+use Rattle.shim_laws_stops.specs.Named.{IsThere, IsAtStmt, HasItsLocation, IsNextOf, next, next_assign, assign_next, arguments_read, branches_read, variables_at, ArgumentHasLocation, AllHaveLocations, CallHasLocations, BranchesHaveLocations}
 use Rattle.shim_laws_stops.proofs.Among.{Among, none_among, among_cases, among_either}
 use Rattle.shim_laws_stops.proofs.ScopeEntries.{number_of_kind}
 use Rattle.shim_laws_stops.proofs.ScopeFrames.{inner_scoped}
@@ -34,8 +34,8 @@ some_sort : (o : Option Sort) → is_number o ≡ true → (s : Sort) × (o ≡ 
 some_sort None h = absurd (cc h)
 some_sort (Some s) h = (s, refl)
 
-number_there : (locations : Locations) (o : Option ℕ) (n : ℕ) → o ≡ Some n → IsThere (at_number locations (number o)) → IsThere (at_number locations n)
-number_there locations o n e h = subst (λ z. IsThere (at_number locations (number z))) e h
+number_there : (locations : Locations) (o : Option ℕ) (n : ℕ) → o ≡ Some n → IsThere (at_number locations (number_or_any o)) → IsThere (at_number locations n)
+number_there locations o n e h = subst (λ z. IsThere (at_number locations (number_or_any z))) e h
 
 -- the slot has its location, where the unit has a number in it
 abbrev IsLocated : LocalState → ℕ → Type 0
@@ -51,7 +51,7 @@ numbered l x many h is =
 -- and so by the look-up that has a default
 pub location_there : (l : LocalState) (x : ℕ) → HasItsLocation l x → IsThere (location_of l.locations l.frame.slots x)
 unfolding number_of
-location_there l x h = subst (λ z. IsThere (at_number l.locations (number z))) (sym h.1) h.2
+location_there l x h = subst (λ z. IsThere (at_number l.locations (number_or_any z))) (sym h.1) h.2
 
 -- what the statement names has its location
 pub record IsRight (l : LocalState) (w : UWhat-F UWhat UStmt) : Type 0 where
@@ -66,7 +66,7 @@ item_is_right l (Do n r ∷ k) s many h e =
     let same : r ≡ s = some_same r s e in
     subst (λ (z : UStmt). IsRight l (out-UWhat z.what)) same (record { slots = h.0.slots; has = λ x a. numbered l x many (known_here l r h.0 x a); right = h.0.right })
 
-pub stands_right : (l : LocalState) (w : UWhat-F UWhat UStmt) → HasLocations l → StandsAt l w → IsRight l w
+pub stands_right : (l : LocalState) (w : UWhat-F UWhat UStmt) → HasLocations l → IsAtStmt l w → IsRight l w
 stands_right l w h (s, at, is) =
     let f : FrameScoped l.program l.locations l.frame = inner_scoped l.program l.locations l.frame l.callers h.frames in
     subst (IsRight l) is (item_is_right l l.frame.todo s f.slots f.todo at)
@@ -127,8 +127,8 @@ module _ (l : LocalState) where
       ]
   arguments_read_there xs (p ∷ ps) (Fresh e ∷ rest) x has h a =
       let w = and_parts (argument_right u xs p (Fresh e)) (arguments_right u xs ps rest) h in
-      elim (among_either (variables_in e) (arguments_read rest) x a) [
-        | inl b ↦ read_has xs (variables_in e) x has (second_holds (is_number (Some p.sort)) (reads_right u xs e) w.0) b
+      elim (among_either (variables_read e) (arguments_read rest) x a) [
+        | inl b ↦ read_has xs (variables_read e) x has (second_holds (is_number (Some p.sort)) (reads_right u xs e) w.0) b
         | inr b ↦ arguments_read_there xs ps rest x has w.1 b
       ]
 
@@ -143,17 +143,17 @@ module _ (l : LocalState) where
 
   pub variables_there : (w : UWhat-F UWhat UStmt) (x : ℕ) → IsRight l w → Among (variables_at w) x → HasItsLocation l x
   variables_there (UWhat-F.Declare t y e) x r a = read_has r.slots (variables_in_option e) x r.has r.right a
-  variables_there (UWhat-F.Assign y e) x r a = read_has r.slots (y ∷ variables_in e) x r.has r.right a
+  variables_there (UWhat-F.Assign y e) x r a = read_has r.slots (y ∷ variables_read e) x r.has r.right a
   variables_there (UWhat-F.Next y) x r a = elim (among_cases y [] x a) [ inl e ↦ subst (HasItsLocation l) e (a_number r.slots y r.has r.right) | inr b ↦ none_among x b ]
-  variables_there (UWhat-F.NextAssign y e) x r a = read_has r.slots (y ∷ variables_in e) x r.has r.right a
+  variables_there (UWhat-F.NextAssign y e) x r a = read_has r.slots (y ∷ variables_read e) x r.has r.right a
   variables_there (UWhat-F.AssignNext y z) x r a =
       let w = and_parts (has_number u r.slots y) (has_number u r.slots z) r.right in
       read_has r.slots (y ∷ z ∷ []) x r.has (both_hold (has_number u r.slots y) (has_number u r.slots z && true) w.0 (both_hold (has_number u r.slots z) true w.1 refl)) a
   variables_there (UWhat-F.Get y i) x r a =
       elim (among_cases y [] x a) [ inl e ↦ subst (HasItsLocation l) e (a_number r.slots y r.has (first_holds (has_number u r.slots y) (has_input u r.slots i) r.right)) | inr b ↦ none_among x b ]
-  variables_there (UWhat-F.Put o e) x r a = read_has r.slots (variables_in e) x r.has (second_holds (has_output u r.slots o) (reads_right u r.slots e) r.right) a
-  variables_there (UWhat-F.If e first other) x r a = read_has r.slots (variables_in e) x r.has (first_holds (reads_right u r.slots e) _ r.right) a
-  variables_there (UWhat-F.While e body) x r a = read_has r.slots (variables_in e) x r.has (first_holds (reads_right u r.slots e) _ r.right) a
+  variables_there (UWhat-F.Put o e) x r a = read_has r.slots (variables_read e) x r.has (second_holds (has_output u r.slots o) (reads_right u r.slots e) r.right) a
+  variables_there (UWhat-F.If e first other) x r a = read_has r.slots (variables_read e) x r.has (first_holds (reads_right u r.slots e) _ r.right) a
+  variables_there (UWhat-F.While e body) x r a = read_has r.slots (variables_read e) x r.has (first_holds (reads_right u r.slots e) _ r.right) a
   variables_there (UWhat-F.For first test step body) x r a = read_has r.slots (variables_in_option test) x r.has (first_holds (option_right u r.slots test) _ r.right) a
   variables_there (UWhat-F.Block body) x r a = none_among x a
   variables_there (UWhat-F.Call c) x r a = call_reads_there r.slots c x r.has r.right a

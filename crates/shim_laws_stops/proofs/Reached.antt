@@ -19,14 +19,14 @@ use Rattle.shim_process.specs.Locations.{Locations}
 use Rattle.shim_process.specs.Forks.{root, labels_from}
 use Rattle.shim_process.specs.LocalState.{LocalState, unit_at}
 use Rattle.shim_process.proofs.PlaceStops.{throw_below}
-use Rattle.shim_laws_sources.specs.Sources.{IsReached}
+use Rattle.shim_laws_sources.specs.Sources.{IsReachable}
 use Rattle.shim_laws_sources.proofs.Along.{Relates}
 use Rattle.shim_laws_sources.proofs.AlongEvents.{run_related}
 use Rattle.shim_process.proofs.CallSlots.{own_slot, from_number}
 use Rattle.shim_laws_sources.proofs.Units.{units_use_slots_of_their_own}
 use Rattle.shim_laws_stops.specs.FrameLabels.{AreLabels, HasLabels}
 use Rattle.shim_laws_stops.specs.FrameLocations.{HasLocations}
-use Rattle.shim_laws_stops.specs.Named.{IsLive, NextsHaveLocations, VariablesHaveLocations, ForksHaveBranches, ArgumentsHaveLocations}
+use Rattle.shim_laws_stops.specs.Named.{IsLiveIn, NextsHaveLocations, VariablesHaveLocations, ForksHaveBranches, ArgumentsHaveLocations}
 use Rattle.shim_laws_stops.specs.Ends.{EndsHaveNothingLeft}
 use Rattle.shim_laws_stops.specs.SettledFrames.{IsSettled}
 use Rattle.shim_laws_stops.specs.Streams.{PutsHaveOutput, GetsHaveInput}
@@ -52,10 +52,10 @@ start_sound : (program : Form) (input : List ℕ) → IsAcceptedForm program →
 start_sound program input kept = (events_keep_sound process_ops process_laws).starts (root program input) (root_sound program input (units_use_slots_of_their_own program kept)) (λ c e. absurd (true≢false (sym e ∙ root_shares_nothing program input c)))
 
 -- what is related along each run is related to that tree
-pub reached_related : (R : Node LocalState → Node LocalState → Type 0) → Relates process_ops R → (program : Form) (input : List ℕ) (t : Tree LocalState) → IsAcceptedForm program → IsReached program input t → R (Live (root program input)) t.root
+pub reached_related : (R : Node LocalState → Node LocalState → Type 0) → Relates process_ops R → (program : Form) (input : List ℕ) (t : Tree LocalState) → IsAcceptedForm program → IsReachable program input t → R (Live (root program input)) t.root
 reached_related R g program input t kept h = run_related process_ops R process_laws g h.0 (start (root program input)) t (start_sound program input kept) h.1
 
-pub reached_sound : (program : Form) (input : List ℕ) (t : Tree LocalState) → IsAcceptedForm program → IsReached program input t → IsSound process_ops t.root
+pub reached_sound : (program : Form) (input : List ℕ) (t : Tree LocalState) → IsAcceptedForm program → IsReachable program input t → IsSound process_ops t.root
 reached_sound program input t kept h = runs_stay_sound process_ops process_laws (start (root program input)) t h.0 (start_sound program input kept) h.1
 
 -- exceptions
@@ -86,7 +86,7 @@ root_base : (program : Form) (input : List ℕ) → (root program input).base �
 unfolding root
 root_base program input = refl
 
-pub thrown_have_places : (program : Form) (input : List ℕ) (t : Tree LocalState) → IsAcceptedForm program → IsReached program input t → ThrownHavePlaces program t
+pub thrown_have_places : (program : Form) (input : List ℕ) (t : Tree LocalState) → IsAcceptedForm program → IsReachable program input t → ThrownHavePlaces program t
 thrown_have_places program input t kept h q l label there stands =
     let w = reached_related KeepsLabels labels_relate program input t kept h (root_labels program input kept) in
     let below : SoundBelow process_ops t.root = (reached_sound program input t kept h).below in
@@ -120,19 +120,19 @@ root_locations program input kept =
     }
 
 -- each live process has the locations of what it names
-live_locations : (program : Form) (input : List ℕ) (t : Tree LocalState) → IsAcceptedForm program → IsReached program input t → (l : LocalState) → IsLive t l → HasLocations l
+live_locations : (program : Form) (input : List ℕ) (t : Tree LocalState) → IsAcceptedForm program → IsReachable program input t → (l : LocalState) → IsLiveIn t l → HasLocations l
 live_locations program input t kept h l live = live_has live.0 t.root l (reached_related KeepsLocations locations_relate program input t kept h (root_locations program input kept)) live.1
 
-pub nexts_have_locations : (program : Form) (input : List ℕ) (t : Tree LocalState) → IsAcceptedForm program → IsReached program input t → NextsHaveLocations t
+pub nexts_have_locations : (program : Form) (input : List ℕ) (t : Tree LocalState) → IsAcceptedForm program → IsReachable program input t → NextsHaveLocations t
 nexts_have_locations program input t kept h l w x live at is = next_has l x is (stands_right l w (live_locations program input t kept h l live) at)
 
-pub variables_have_locations : (program : Form) (input : List ℕ) (t : Tree LocalState) → IsAcceptedForm program → IsReached program input t → VariablesHaveLocations t
+pub variables_have_locations : (program : Form) (input : List ℕ) (t : Tree LocalState) → IsAcceptedForm program → IsReachable program input t → VariablesHaveLocations t
 variables_have_locations program input t kept h l w x live at named = variables_there l w x (stands_right l w (live_locations program input t kept h l live) at) named
 
-pub forks_have_branches : (program : Form) (input : List ℕ) (t : Tree LocalState) → IsAcceptedForm program → IsReached program input t → ForksHaveBranches t
+pub forks_have_branches : (program : Form) (input : List ℕ) (t : Tree LocalState) → IsAcceptedForm program → IsReachable program input t → ForksHaveBranches t
 forks_have_branches program input t kept h l bs live at none = some_branch l bs (stands_right l (UWhat-F.Par bs) (live_locations program input t kept h l live) at) none
 
-pub arguments_have_locations : (program : Form) (input : List ℕ) (t : Tree LocalState) → IsAcceptedForm program → IsReached program input t → ArgumentsHaveLocations t
+pub arguments_have_locations : (program : Form) (input : List ℕ) (t : Tree LocalState) → IsAcceptedForm program → IsReachable program input t → ArgumentsHaveLocations t
 arguments_have_locations program input t kept h = record {
   forks = λ l bs live at. at_fork l bs (stands_right l (UWhat-F.Par bs) (live_locations program input t kept h l live) at);
   calls = λ l c live at. at_call l c (stands_right l (UWhat-F.Call c) (live_locations program input t kept h l live) at);
@@ -149,13 +149,13 @@ root_stream stream program input kept = record {
 }
 
 -- each live process has it where it should
-live_stream : (stream : Stream) (program : Form) (input : List ℕ) (t : Tree LocalState) → IsAcceptedForm program → IsReached program input t → (l : LocalState) → IsLive t l → HoldsStream stream l
+live_stream : (stream : Stream) (program : Form) (input : List ℕ) (t : Tree LocalState) → IsAcceptedForm program → IsReachable program input t → (l : LocalState) → IsLiveIn t l → HoldsStream stream l
 live_stream stream program input t kept h l live = live_holds stream live.0 t.root l (reached_related (KeepsStream stream) (stream_relates stream) program input t kept h (root_stream stream program input kept)).0 live.1
 
-pub puts_have_output : (program : Form) (input : List ℕ) (t : Tree LocalState) → IsAcceptedForm program → IsReached program input t → PutsHaveOutput t
+pub puts_have_output : (program : Form) (input : List ℕ) (t : Tree LocalState) → IsAcceptedForm program → IsReachable program input t → PutsHaveOutput t
 puts_have_output program input t kept h l o e live at = put_holds l o e (live_stream TheOutput program input t kept h l live) at
 
-pub gets_have_input : (program : Form) (input : List ℕ) (t : Tree LocalState) → IsAcceptedForm program → IsReached program input t → GetsHaveInput t
+pub gets_have_input : (program : Form) (input : List ℕ) (t : Tree LocalState) → IsAcceptedForm program → IsReachable program input t → GetsHaveInput t
 gets_have_input program input t kept h l x i live at = get_holds l x i (live_stream TheInput program input t kept h l live) at
 
 -- ends
@@ -164,6 +164,6 @@ root_settled : (program : Form) (input : List ℕ) → IsSettled (root program i
 unfolding root
 root_settled program input = begins_settled (root program input) (unit_at program program.main).body refl refl
 
-pub ends_have_nothing_left : (program : Form) (input : List ℕ) (t : Tree LocalState) → IsAcceptedForm program → IsReached program input t → EndsHaveNothingLeft t
+pub ends_have_nothing_left : (program : Form) (input : List ℕ) (t : Tree LocalState) → IsAcceptedForm program → IsReachable program input t → EndsHaveNothingLeft t
 ends_have_nothing_left program input t kept h l live stands =
     end_has_nothing_left l (live_stream TheOutput program input t kept h l live) (live_settled live.0 t.root l (reached_related KeepsSettled settled_relates program input t kept h (root_settled program input)) live.1) stands

@@ -13,7 +13,7 @@ use Rattle.shim_syntax.specs.declared.tree.Sort.TheVariants.{Value}
 use Rattle.shim_syntax.specs.Names.{Texts}
 use Rattle.shim_laws_binding.specs.TextOrder.{Declarations}
 use Rattle.shim_scopes.specs.declared.fault.ScopeKind.TheVariants.{UnknownName, UnknownException, Twice, WrongKind, Arity}
-use Rattle.shim_scopes.specs.declared.scope.Local.{Local}
+use Rattle.shim_scopes.specs.declared.scope.LocalDeclaration.{LocalDeclaration}
 use Rattle.shim_scopes.specs.declared.tree.RCall.{RCall}
 use Rattle.shim_scopes.specs.declared.tree.RFunction.{RFunction}
 use Rattle.shim_scopes.specs.declared.tree.RStmt.{RStmt}
@@ -23,7 +23,7 @@ use Rattle.shim_scopes.specs.declared.tree.UExpr.{UExpr}
 use Rattle.shim_scopes.specs.declared.tree.UParam.{UParam}
 use Rattle.shim_scopes.specs.Binding.{unknown, unknown_in, unknown_in_all, unknown_in_option, stream_in, stream_in_option, no_number, no_input, no_output, slot_of, placed, placed_all, placed_option, exception_number, unhandled}
 use Rattle.shim_scopes.specs.Refusals.{refused_for}
-use Rattle.shim_scopes.specs.Statements.{Whole, Around, Before, BoundTo, Bind, local_of, declared, within, opened, closed, caught, tried, variable_slot, bind_handler, bind_declare, bind_store, bind_next, bind_assign_next, bind_get, bind_put, bind_throw, bind_block, on_tree, bind_test, bind_if, bind_while, bind_try, bind_parts, bind_first_test, bind_for, visible, declared_in, unknown_in_both, unknown_of_two}
+use Rattle.shim_scopes.specs.Statements.{Whole, Around, Before, BoundTo, Bind, local_of, with_declaration, inside_block, opened, after_block, with_handled, tried, variable_slot, bind_handler, bind_declare, bind_store, bind_next, bind_assign_next, bind_get, bind_put, bind_throw, bind_block, on_tree, bind_test, bind_if, bind_while, bind_try, bind_parts, bind_first_test, bind_for, visible, declared_in, unknown_in_both, unknown_of_two}
 use Rattle.shim_scopes.specs.Calls.{function_number, function_of, unhandled_of_all, if_false, wrong_arg, wrong_in_all, bind_known, bind_call, bind_called}
 use Rattle.shim_units.specs.declared.form.Form.{Form}
 use Rattle.shim_units.specs.Calls.{params_at, lends}
@@ -49,7 +49,7 @@ use Rattle.shim_laws_stops.proofs.ScopeParts.{BodyIn, HandlerIn, handler_is_in, 
 pub longer : (xs ys : List Sort) → GoesOn xs ys → length xs ≤ length ys
 longer xs ys g = let e : length ys ≡ length (xs ++ g.more) = ap length g.whole in omega (arith, e, length-append xs g.more)
 
-pub placed_later : (m n : ℕ) (all : List Sort) (ls : List Local) → m ≤ n → ArePlaced m all ls → ArePlaced n all ls
+pub placed_later : (m n : ℕ) (all : List Sort) (ls : List LocalDeclaration) → m ≤ n → ArePlaced m all ls → ArePlaced n all ls
 placed_later m n all ls less h = each_weaker (IsPlaced m all) (IsPlaced n all) (λ l p. let below = p.below in record { sort = p.sort; below = omega (arith, below, less) }) ls h
 
 -- What is right is told by the slots in scope, how many slots stand before and behind, all slots of the function, and those that come into scope.
@@ -59,7 +59,7 @@ Right T = List ℕ → ℕ → ℕ → List Sort → List ℕ → T → Type 0
 -- The slots go on from those before, so do the declarations of the block, and the tree is right in a function whose slots go on from these.
 pub record IsScopedBy {T : Type 0} (right : Right T) (a : Around) (old : Before) (r : BoundTo T) : Type 0 where
   pub slots_on : GoesOn old.slots r.before.slots
-  pub more : List Local
+  pub more : List LocalDeclaration
   pub own : r.before.own ≡ old.own ++ more
   pub placed : (all : List Sort) → GoesOn r.before.slots all → ArePlaced (length r.before.slots) all more
   pub tree : (all : List Sort) → GoesOn r.before.slots all → ArePlaced (length old.slots) all (visible a old) → right (slots (visible a old)) (length old.slots) (length r.before.slots) all (slots more) r.tree
@@ -90,10 +90,10 @@ pub record IsBlockBy {T : Type 0} (right : Right T) (a : Around) (old : Before) 
 
 pub block_scoped : {T : Type 0} (right : Right T) (f : Bind T) → Scopes right f → (a : Around) (b : Before) (r : BoundTo T) → bind_block f a b ≡ Ok r → IsBlockBy right a b r
 block_scoped {T = T} right f k a b r h =
-    let p = first_ok (f (within a b) (opened b)) _ r h in
-    let g = k (within a b) (opened b) p.0 p.1 in
-    let same : visible (within a b) (opened b) ≡ visible a b = append-nil (visible a b) in
-    let made : BoundTo T = record { tree = p.0.tree; before = closed b p.0.before } in
+    let p = first_ok (f (inside_block a b) (opened b)) _ r h in
+    let g = k (inside_block a b) (opened b) p.0 p.1 in
+    let same : visible (inside_block a b) (opened b) ≡ visible a b = append-nil (visible a b) in
+    let made : BoundTo T = record { tree = p.0.tree; before = after_block b p.0.before } in
     let here : IsBlockBy right a b made = record {
       slots_on = g.slots_on;
       own = refl;
@@ -101,7 +101,7 @@ block_scoped {T = T} right f k a b r h =
       tree = λ all on placed.
           subst (λ ls. right (slots ls) (length b.slots) (length p.0.before.slots) all (slots g.more) p.0.tree) same (g.tree all on (subst (ArePlaced (length b.slots) all) (sym same) placed));
     } in
-    subst (λ (s : BoundTo T). IsBlockBy right a b s) (sym (is_bound p.0.tree (closed b p.0.before) r p.2)) here
+    subst (λ (s : BoundTo T). IsBlockBy right a b s) (sym (is_bound p.0.tree (after_block b p.0.before) r p.2)) here
 
 -- the parameters of a function, as in its text
 
@@ -122,7 +122,7 @@ pub told_true : (x : List ℕ) (b : Bool) → if_false x b ≡ None → b ≡ tr
 told_true x true h = refl
 told_true x false h = absurd (cc h)
 
-module _ (ls : List Local) (lo : ℕ) (all : List Sort) (are : ArePlaced lo all ls) where
+module _ (ls : List LocalDeclaration) (lo : ℕ) (all : List Sort) (are : ArePlaced lo all ls) where
   args_suit : (ps : List Param) (qs : List UParam) (es : List Expr) (rs : List UExpr) → ParamsSuit ps qs → Pairwise (BindsExpr ls) es rs → length es ≡ length ps → wrong_in_all ls ps es ≡ None → ArgsSuit all qs rs × OnlyNames (slots ls) (args_uses qs rs)
   args_suit [] [] [] [] s b many none = (tt, only_none (slots ls))
   args_suit [] [] [] (r ∷ rs) s b many none = absurd b
@@ -140,14 +140,14 @@ module _ (ls : List Local) (lo : ℕ) (all : List Sort) (are : ArePlaced lo all 
 
 module _ (w : Whole) (form : Form) (fs : List RFunction) (headers : HeadersSuit form fs w.functions) where
   -- what a call comes to
-  pub record CallComes (ls : List Local) (r : RCall) : Type 0 where
+  pub record CallComes (ls : List LocalDeclaration) (r : RCall) : Type 0 where
     pub suits : (lo : ℕ) (all : List Sort) → ArePlaced lo all ls → CallSuits fs (slots ls) all r
     pub params : (unit_at form r.function).params ≡ params_at fs r.function
 
   known_comes : (o : Option Function) (c : Call) (line : ℕ) (a : Around) (b : Before) (r : RCall) → function_of w.functions c.function ≡ o → bind_known o w.functions c line a b ≡ Ok r → unknown_in_all (visible a b) c.args ≡ None → CallComes (visible a b) r
   known_comes None c line a b r is h known = absurd (cc h)
   known_comes (Some f) c line a b r is h known =
-      let v : List Local = visible a b in
+      let v : List LocalDeclaration = visible a b in
       let p = passed line UnknownException (unhandled_of_all a.handled f.throws) _ r h in
       let many : length c.args ≡ length f.params = eqb-true (length c.args) (length f.params) (told_true c.function (nat_eq (length c.args) (length f.params)) (asked line Arity (if_false c.function (nat_eq (length c.args) (length f.params))) _ r p)) in
       let q = passed line Arity (if_false c.function (nat_eq (length c.args) (length f.params))) _ r p in
@@ -169,7 +169,7 @@ module _ (w : Whole) (form : Form) (fs : List RFunction) (headers : HeadersSuit 
       known_comes (function_of w.functions c.function) c line a b r refl (passed line UnknownName (unknown_in_all (visible a b) c.args) _ r h) (asked line UnknownName (unknown_in_all (visible a b) c.args) _ r h)
 
   pub called_scopes : {T : Type 0} (right : Right T) (g : RCall → T) (c : Call) (line : ℕ)
-      → ((ls : List Local) (lo : ℕ) (all : List Sort) (d : RCall) → ArePlaced lo all ls → CallSuits fs (slots ls) all d → (unit_at form d.function).params ≡ params_at fs d.function → right (slots ls) lo lo all [] (g d)) → Scopes right (bind_called g w c line)
+      → ((ls : List LocalDeclaration) (lo : ℕ) (all : List Sort) (d : RCall) → ArePlaced lo all ls → CallSuits fs (slots ls) all d → (unit_at form d.function).params ≡ params_at fs d.function → right (slots ls) lo lo all [] (g d)) → Scopes right (bind_called g w c line)
   called_scopes right g c line so a b r h =
       let p = first_ok (bind_call w c line a b) _ r h in
       let k = call_comes c line a b p.0 p.1 in
@@ -197,16 +197,16 @@ module _ (w : Whole) (form : Form) (fs : List RFunction) (headers : HeadersSuit 
       stays what_right a t b r (so (asked line UnknownName o _ r h) (asked line WrongKind p _ r q)) (passed line WrongKind p _ r q)
 
   -- an expression of which no name is unknown or a stream
-  expr_right : (ls : List Local) (lo : ℕ) (all : List Sort) (e : Expr) → ArePlaced lo all ls → unknown_in ls e ≡ None → stream_in ls e ≡ None → ReadsNumbers (slots ls) all (names_in (placed ls e))
+  expr_right : (ls : List LocalDeclaration) (lo : ℕ) (all : List Sort) (e : Expr) → ArePlaced lo all ls → unknown_in ls e ≡ None → stream_in ls e ≡ None → ReadsNumbers (slots ls) all (names_in (placed ls e))
   expr_right ls lo all e are h none = expr_reads ls ls lo all are (λ x k. k) (expr_placed ls ls (same_known ls) e h) none
 
-  option_right : (ls : List Local) (lo : ℕ) (all : List Sort) (e : Option Expr) → ArePlaced lo all ls → unknown_in_option ls e ≡ None → stream_in_option ls e ≡ None → ReadsNumbers (slots ls) all (names_in_option (placed_option ls e))
+  option_right : (ls : List LocalDeclaration) (lo : ℕ) (all : List Sort) (e : Option Expr) → ArePlaced lo all ls → unknown_in_option ls e ≡ None → stream_in_option ls e ≡ None → ReadsNumbers (slots ls) all (names_in_option (placed_option ls e))
   option_right ls lo all e are h none = option_reads ls ls lo all are (λ x k. k) (option_placed ls ls (same_known ls) e h) none
 
-  is_around : (ls : List Local) (x : List ℕ) → unknown ls x ≡ None → Among (slots ls) (slot_of ls x)
+  is_around : (ls : List LocalDeclaration) (x : List ℕ) → unknown ls x ≡ None → Among (slots ls) (slot_of ls x)
   is_around ls x h = slot_among x ls (slot_of ls x) (slot_is_innermost x ls h)
 
-  a_number : (ls : List Local) (lo : ℕ) (all : List Sort) (x : List ℕ) → ArePlaced lo all ls → unknown ls x ≡ None → no_number ls x ≡ None → is_number (slice_get all (slot_of ls x)) ≡ true
+  a_number : (ls : List LocalDeclaration) (lo : ℕ) (all : List Sort) (x : List ℕ) → ArePlaced lo all ls → unknown ls x ≡ None → no_number ls x ≡ None → is_number (slice_get all (slot_of ls x)) ≡ true
   a_number ls lo all x are h none = number_bound ls lo all x (slot_of ls x) are (slot_is_innermost x ls h) none
 
   -- the slot of a declaration is the next one, and has its sort
@@ -215,7 +215,7 @@ module _ (w : Whole) (form : Form) (fs : List RFunction) (headers : HeadersSuit 
 
   pub declare_scopes : (ty : Ty) (x : List ℕ) (e : Option Expr) → WhatScopes (bind_declare w ty x e)
   declare_scopes ty x e line a b r h =
-      let v : List Local = visible a b in
+      let v : List LocalDeclaration = visible a b in
       let none = asked line UnknownName (unknown_in_option v e) _ r h in
       let p = passed line UnknownName (unknown_in_option v e) _ r h in
       let q = passed line Twice (declared_in b.own x) _ r p in
@@ -223,7 +223,7 @@ module _ (w : Whole) (form : Form) (fs : List RFunction) (headers : HeadersSuit 
       let s = passed line WrongKind (stream_in_option v e) _ r q in
       let slot : ℕ = length b.slots in
       let long : length (b.slots ++ Value ty ∷ []) ≡ length b.slots + 1 = length-append b.slots (Value ty ∷ []) in
-      at_answer what_right a b (declared w.names x (Value ty) b) (to.Declare ty slot (placed_option v e)) r s (record {
+      at_answer what_right a b (with_declaration w.names x (Value ty) b) (to.Declare ty slot (placed_option v e)) r s (record {
         slots_on = record { more = Value ty ∷ []; whole = refl };
         more = local_of x (Value ty) slot ∷ [];
         own = refl;
@@ -235,7 +235,7 @@ module _ (w : Whole) (form : Form) (fs : List RFunction) (headers : HeadersSuit 
   pub store_scopes : (g : ℕ → UExpr → RWhat) (x : List ℕ) (e : Expr)
       → ((around : List ℕ) (lo : ℕ) (all : List Sort) (y : ℕ) (a : UExpr) → Among around y → is_number (slice_get all y) ≡ true → ReadsNumbers around all (names_in a) → WhatIn form fs around lo lo all [] (g y a)) → WhatScopes (bind_store g x e)
   store_scopes g x e so line a b r h =
-      let v : List Local = visible a b in
+      let v : List LocalDeclaration = visible a b in
       two_asked line (unknown_in_both v x e) (option_or (no_number v x) (stream_in v e)) a (g (slot_of v x) (placed v e)) b r
       (λ none kinds all are.
       let both = neither (unknown v x) (unknown_in v e) none in
@@ -245,13 +245,13 @@ module _ (w : Whole) (form : Form) (fs : List RFunction) (headers : HeadersSuit 
 
   pub next_scopes : (x : List ℕ) → WhatScopes (bind_next x)
   next_scopes x line a b r h =
-      let v : List Local = visible a b in
+      let v : List LocalDeclaration = visible a b in
       two_asked line (unknown v x) (no_number v x) a (to.Next (slot_of v x)) b r
       (λ none kind all are. part_next form fs (slots v) (length b.slots) all (slot_of v x) (is_around v x none) (a_number v (length b.slots) all x are none kind)) h
 
   pub assign_next_scopes : (x y : List ℕ) → WhatScopes (bind_assign_next x y)
   assign_next_scopes x y line a b r h =
-      let v : List Local = visible a b in
+      let v : List LocalDeclaration = visible a b in
       two_asked line (unknown_of_two v x y) (option_or (no_number v x) (no_number v y)) a (to.AssignNext (slot_of v x) (slot_of v y)) b r
       (λ none kinds all are.
       let both = neither (unknown v x) (unknown v y) none in
@@ -261,7 +261,7 @@ module _ (w : Whole) (form : Form) (fs : List RFunction) (headers : HeadersSuit 
 
   pub get_scopes : (x y : List ℕ) → WhatScopes (bind_get x y)
   get_scopes x y line a b r h =
-      let v : List Local = visible a b in
+      let v : List LocalDeclaration = visible a b in
       two_asked line (unknown_of_two v x y) (option_or (no_number v x) (no_input v y)) a (to.Get (slot_of v x) (slot_of v y)) b r
       (λ none kinds all are.
       let both = neither (unknown v x) (unknown v y) none in
@@ -272,7 +272,7 @@ module _ (w : Whole) (form : Form) (fs : List RFunction) (headers : HeadersSuit 
 
   pub put_scopes : (x : List ℕ) (e : Expr) → WhatScopes (bind_put x e)
   put_scopes x e line a b r h =
-      let v : List Local = visible a b in
+      let v : List LocalDeclaration = visible a b in
       two_asked line (unknown_in_both v x e) (option_or (no_output v x) (stream_in v e)) a (to.Put (slot_of v x) (placed v e)) b r
       (λ none kinds all are.
       let both = neither (unknown v x) (unknown_in v e) none in
@@ -282,7 +282,7 @@ module _ (w : Whole) (form : Form) (fs : List RFunction) (headers : HeadersSuit 
 
   pub throw_scopes : (x : List ℕ) (e : Option Expr) → WhatScopes (bind_throw x e)
   throw_scopes x e line a b r h =
-      let v : List Local = visible a b in
+      let v : List LocalDeclaration = visible a b in
       let number : ℕ = exception_number a.handled x in
       let none = asked line UnknownName (unknown_in_option v e) _ r h in
       let p = passed line UnknownName (unknown_in_option v e) _ r h in
@@ -297,7 +297,7 @@ module _ (w : Whole) (form : Form) (fs : List RFunction) (headers : HeadersSuit 
   -- the test of an `if` or a `while`
   test_right : (e : Expr) (line : ℕ) (a : Around) (b : Before) (t : UExpr) (all : List Sort) → ArePlaced (length b.slots) all (visible a b) → bind_test e line a b ≡ Ok t → ReadsNumbers (slots (visible a b)) all (names_in t)
   test_right e line a b t all are h =
-      let v : List Local = visible a b in
+      let v : List LocalDeclaration = visible a b in
       let k = passed line UnknownName (unknown_in v e) _ t h in
       let p = passed line WrongKind (stream_in v e) _ t k in
       let same : placed v e ≡ t = cc p in
@@ -347,13 +347,13 @@ module _ (w : Whole) (form : Form) (fs : List RFunction) (headers : HeadersSuit 
 
   -- behind statements their declarations are in scope, too
 
-  pub behind_visible : (a : Around) (b c : Before) (more : List Local) → c.own ≡ b.own ++ more → visible a c ≡ visible a b ++ more
+  pub behind_visible : (a : Around) (b c : Before) (more : List LocalDeclaration) → c.own ≡ b.own ++ more → visible a c ≡ visible a b ++ more
   behind_visible a b c more own = ap (λ ls. a.outer ++ ls) own ∙ sym (append_assoc a.outer b.own more)
 
-  pub behind_slots : (a : Around) (b c : Before) (more : List Local) → c.own ≡ b.own ++ more → slots (visible a c) ≡ slots (visible a b) ++ slots more
-  behind_slots a b c more own = ap slots (behind_visible a b c more own) ∙ map-append (λ (l : Local). l.bound.slot) (visible a b) more
+  pub behind_slots : (a : Around) (b c : Before) (more : List LocalDeclaration) → c.own ≡ b.own ++ more → slots (visible a c) ≡ slots (visible a b) ++ slots more
+  behind_slots a b c more own = ap slots (behind_visible a b c more own) ∙ map-append (λ (l : LocalDeclaration). l.bound.slot) (visible a b) more
 
-  pub behind_placed : (a : Around) (b c : Before) (more : List Local) (all : List Sort) → c.own ≡ b.own ++ more → GoesOn b.slots c.slots → ArePlaced (length b.slots) all (visible a b) → ArePlaced (length c.slots) all more → ArePlaced (length c.slots) all (visible a c)
+  pub behind_placed : (a : Around) (b c : Before) (more : List LocalDeclaration) (all : List Sort) → c.own ≡ b.own ++ more → GoesOn b.slots c.slots → ArePlaced (length b.slots) all (visible a b) → ArePlaced (length c.slots) all more → ArePlaced (length c.slots) all (visible a c)
   behind_placed a b c more all own on are placed =
       subst (ArePlaced (length c.slots) all) (sym (behind_visible a b c more own))
       (each_of_both (IsPlaced (length c.slots) all) (visible a b) more (placed_later (length b.slots) (length c.slots) all (visible a b) (longer b.slots c.slots on) are) placed)
@@ -386,8 +386,8 @@ module _ (w : Whole) (form : Form) (fs : List RFunction) (headers : HeadersSuit 
       }
   handler_scopes (Some y) h l a b r is =
       let slot : ℕ = length b.slots in
-      let begun : Before = declared w.names y (Value Int32) b in
-      let d : Local = local_of y (Value Int32) slot in
+      let begun : Before = with_declaration w.names y (Value Int32) b in
+      let d : LocalDeclaration = local_of y (Value Int32) slot in
       let n = l a begun r is in
       let goes : GoesOn b.slots begun.slots = record { more = Value Int32 ∷ []; whole = refl } in
       let long : length begun.slots ≡ length b.slots + 1 = length-append b.slots (Value Int32 ∷ []) in
@@ -407,9 +407,9 @@ module _ (w : Whole) (form : Form) (fs : List RFunction) (headers : HeadersSuit 
 
   pub try_scopes : (x : List ℕ) (y : Option (List ℕ)) (f h : Bind (List RStmt)) → Scopes body_right f → Scopes body_right h → Scopes what_right (bind_try w x y f h)
   try_scopes x y f h k l a b r is =
-      let p = first_ok (bind_block f (caught x a b) (tried w x b)) _ r is in
+      let p = first_ok (bind_block f (with_handled x a b) (tried w x b)) _ r is in
       let q = first_ok (bind_block (bind_handler w y h) a p.0.before) _ r p.2 in
-      let m = block_scoped body_right f k (caught x a b) (tried w x b) p.0 p.1 in
+      let m = block_scoped body_right f k (with_handled x a b) (tried w x b) p.0 p.1 in
       let n = block_scoped (handler_right y) (bind_handler w y h) (handler_scopes y h l) a p.0.before q.0 q.1 in
       let number : ℕ = a.throws + length b.tries in
       let mi : ℕ = length p.0.before.slots in
@@ -421,7 +421,7 @@ module _ (w : Whole) (form : Form) (fs : List RFunction) (headers : HeadersSuit 
       (subst (λ z. HandlerIn form fs z (slots (visible a b)) mi hi all q.0.tree) (same_slot y p.0.before)
       (second_of (handler_right y) a b p.0.before all n.top hi q.0.tree m.own (n.tree all on (still_placed a b p.0.before all m.own m.slots_on are)))))
 
-  none_more : (xs ys : List Local) → xs ++ ys ≡ xs → ys ≡ []
+  none_more : (xs ys : List LocalDeclaration) → xs ++ ys ≡ xs → ys ≡ []
   none_more [] ys e = e
   none_more (x ∷ xs) ys e = none_more xs ys (cc e)
 
@@ -429,16 +429,16 @@ module _ (w : Whole) (form : Form) (fs : List RFunction) (headers : HeadersSuit 
   abbrev pub KeepsOwn : Bind (List RStmt) → Type 0
   KeepsOwn f = (a : Around) (b : Before) (r : BoundTo (List RStmt)) → f a b ≡ Ok r → r.before.own ≡ b.own
 
-  same_behind : (xs ys zs : List Local) → xs ++ ys ≡ xs ++ zs → ys ≡ zs
+  same_behind : (xs ys zs : List LocalDeclaration) → xs ++ ys ≡ xs ++ zs → ys ≡ zs
   same_behind [] ys zs e = e
   same_behind (x ∷ xs) ys zs e = same_behind xs ys zs (cc e)
 
   -- what is no stream with what is sure to be declared is none behind all that was, of numbers
-  number_grown : (ls : List Local) (ds : Declarations) (ts : Texts) (a : Around) (b c : Before) (more : List Local) → IsGrown w.names ls ds ts b c → c.own ≡ b.own ++ more → b.own ≡ [] → Each IsNumber more → (x : List ℕ) → no_number (a.outer ++ ls) x ≡ None → no_number (visible a c) x ≡ None
+  number_grown : (ls : List LocalDeclaration) (ds : Declarations) (ts : Texts) (a : Around) (b c : Before) (more : List LocalDeclaration) → IsGrown w.names ls ds ts b c → c.own ≡ b.own ++ more → b.own ≡ [] → Each IsNumber more → (x : List ℕ) → no_number (a.outer ++ ls) x ≡ None → no_number (visible a c) x ≡ None
   number_grown ls ds ts a b c more g own none numbers x e =
       let whole : visible a c ≡ (a.outer ++ ls) ++ g.own.more = ap (λ l. a.outer ++ l) g.own.whole ∙ ap (λ l. a.outer ++ (l ++ (ls ++ g.own.more))) none ∙ sym (append_assoc a.outer ls g.own.more) in
       let same : more ≡ ls ++ g.own.more = same_behind b.own more (ls ++ g.own.more) (sym own ∙ g.own.whole) in
-      subst (λ (v : List Local). no_number v x ≡ None) (sym whole) (number_behind (a.outer ++ ls) g.own.more (each_of_second IsNumber ls g.own.more (subst (Each IsNumber) same numbers)) x e)
+      subst (λ (v : List LocalDeclaration). no_number v x ≡ None) (sym whole) (number_behind (a.outer ++ ls) g.own.more (each_of_second IsNumber ls g.own.more (subst (Each IsNumber) same numbers)) x e)
 
   -- what binding of a `for` comes to, with the slots that it added
   abbrev ForScopes : Around → Before → BoundTo RWhat → Type 0
@@ -447,7 +447,7 @@ module _ (w : Whole) (form : Form) (fs : List RFunction) (headers : HeadersSuit 
   for_answer : (a : Around) (old new : Before) (t : RWhat) (r : BoundTo RWhat) → bound t new ≡ Ok r → ForScopes a old (record { tree = t; before = new }) → ForScopes a old r
   for_answer a old new t r e h = subst (ForScopes a old) (sym (is_bound t new r e)) h
 
-  parts_scope : (declares : ℕ → List Local) (test : Option Expr) (ds : Declarations) (ts : Texts) (f g h : Bind (List RStmt)) → Grows w.names declares ds ts f → Scopes body_right f → Scopes body_right g → KeepsOwn g → Scopes body_right h
+  parts_scope : (declares : ℕ → List LocalDeclaration) (test : Option Expr) (ds : Declarations) (ts : Texts) (f g h : Bind (List RStmt)) → Grows w.names declares ds ts f → Scopes body_right f → Scopes body_right g → KeepsOwn g → Scopes body_right h
       → (a : Around) (b : Before) (r : BoundTo RWhat) → b.own ≡ [] → unknown_in_option (a.outer ++ declares (length b.slots)) test ≡ None → stream_in_option (a.outer ++ declares (length b.slots)) test ≡ None
       → bind_parts test f g h a b ≡ Ok r → ForScopes a b r
   parts_scope declares test ds ts f g h grows j k keeps l a b r none known kind is =
@@ -483,13 +483,13 @@ module _ (w : Whole) (form : Form) (fs : List RFunction) (headers : HeadersSuit 
       (subst (λ ls. body_right ls (length q.0.before.slots) (length s.0.before.slots) all o.top s.0.tree) here (second_block a p.0.before q.0.before all o.top (length s.0.before.slots) s.0.tree own body)) in
       for_answer a b s.0.before (to.For p.0.tree tested q.0.tree s.0.tree) r s.2 (goes_twice b.slots p.0.before.slots s.0.before.slots m.slots_on rest, tree)
 
-  pub for_scopes : (declares : ℕ → List Local) (test : Option Expr) (ds : Declarations) (ts : Texts) (f g h : Bind (List RStmt)) → Grows w.names declares ds ts f → Scopes body_right f → Scopes body_right g → KeepsOwn g → Scopes body_right h → WhatScopes (bind_for declares test f g h)
+  pub for_scopes : (declares : ℕ → List LocalDeclaration) (test : Option Expr) (ds : Declarations) (ts : Texts) (f g h : Bind (List RStmt)) → Grows w.names declares ds ts f → Scopes body_right f → Scopes body_right g → KeepsOwn g → Scopes body_right h → WhatScopes (bind_for declares test f g h)
   for_scopes declares test ds ts f g h grows j k keeps l line a b r is =
       let p = first_ok (bind_first_test declares test line a b) _ r is in
       let known = asked line UnknownName (unknown_in_option (visible a b ++ declares (length b.slots)) test) _ p.0 p.1 in
       let kind = asked line WrongKind (stream_in_option (visible a b ++ declares (length b.slots)) test) _ p.0 (passed line UnknownName (unknown_in_option (visible a b ++ declares (length b.slots)) test) _ p.0 p.1) in
-      let q = first_ok (bind_parts test f g h (within a b) (opened b)) _ r p.2 in
-      let m = parts_scope declares test ds ts f g h grows j k keeps l (within a b) (opened b) q.0 refl known kind q.1 in
-      let same : visible (within a b) (opened b) ≡ visible a b = append-nil (visible a b) in
-      from_blocks a b (closed b q.0.before) q.0.tree r q.2 m.0 refl
+      let q = first_ok (bind_parts test f g h (inside_block a b) (opened b)) _ r p.2 in
+      let m = parts_scope declares test ds ts f g h grows j k keeps l (inside_block a b) (opened b) q.0 refl known kind q.1 in
+      let same : visible (inside_block a b) (opened b) ≡ visible a b = append-nil (visible a b) in
+      from_blocks a b (after_block b q.0.before) q.0.tree r q.2 m.0 refl
       (λ all on are. subst (λ ls. what_right (slots ls) (length b.slots) (length q.0.before.slots) all [] q.0.tree) same (m.1 all on (subst (ArePlaced (length b.slots) all) (sym same) are)))

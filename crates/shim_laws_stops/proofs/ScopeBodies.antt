@@ -17,11 +17,11 @@ use Rattle.shim_syntax.specs.declared.tree.Stmt.{Stmt, fold-roll-Stmt}
 use Rattle.shim_syntax.specs.declared.tree.What.{What, What-F, fold-roll-What, map-What, roll-What}
 use Rattle.shim_syntax.specs.declared.tree.What.TheVariants as st
 use Rattle.shim_syntax.specs.Grammar as is
-use Rattle.shim_syntax.specs.Grammar.{Counts, IsDeclarations, IsFirst, IsStep, IsBlock, IsStmt, IsBody, IsPlain, IsBranches, IsBranch, IsParam, IsParams, IsMoreParams, IsFunction, IsFunctions, Derives}
+use Rattle.shim_syntax.specs.Grammar.{TextCounts, IsDeclarations, IsFirst, IsStep, IsBlock, IsStmt, IsBody, IsPlain, IsBranches, IsBranch, IsParam, IsParams, IsMoreParams, IsFunction, IsFunctions, Derives}
 use Rattle.shim_syntax.specs.Limits.{limits}
 use Rattle.shim_syntax.specs.Terminals.{Terminal}
 use Rattle.shim_scopes.specs.declared.fault.ScopeKind.TheVariants.{UnknownName, WrongKind}
-use Rattle.shim_scopes.specs.declared.scope.Local.{Local}
+use Rattle.shim_scopes.specs.declared.scope.LocalDeclaration.{LocalDeclaration}
 use Rattle.shim_scopes.specs.declared.tree.RBranch.{RBranch}
 use Rattle.shim_scopes.specs.declared.tree.RBranchWhat.{RBranchWhat}
 use Rattle.shim_scopes.specs.declared.tree.RBranchWhat.TheVariants as branch
@@ -33,7 +33,7 @@ use Rattle.shim_scopes.specs.declared.tree.UExpr.{UExpr}
 use Rattle.shim_scopes.specs.Binding.{no_number, stream_in, slot_of, placed}
 use Rattle.shim_scopes.specs.Calls.{bind_call}
 use Rattle.shim_scopes.specs.Statements.{Whole, Around, Before, BoundTo, Bind, visible, unknown_in_both, bind_store, bind_block, on_tree}
-use Rattle.shim_scopes.specs.Bodies.{WhatMeans, StmtMeans, BranchMeans, BranchWhatMeans, bind_all, first_declares, branch_what_step, what_step, branch_step, stmt_step, meaning, bind_stmts, bind_branch, bind_branches}
+use Rattle.shim_scopes.specs.Bodies.{WhatMeans, StmtMeans, BranchMeans, BranchWhatMeans, bind_all, first_declares, bind_branch_what_step, bind_what_step, bind_branch_step, bind_stmt_step, stmt_meaning, bind_stmts, bind_branch, bind_branches}
 use Rattle.shim_units.specs.declared.form.Form.{Form}
 use Rattle.shim_laws_binding.proofs.Bound.{is_bound, its_before}
 use Rattle.shim_laws_binding.proofs.Growth.{branch_what_means, what_means, body_grows}
@@ -51,7 +51,7 @@ module _ (w : Whole) (form : Form) (fs : List RFunction) (headers : HeadersSuit 
   OfWhat m = WhatScopes w form fs headers m.bind
 
   abbrev StmtScopes : Stmt → Type 0
-  StmtScopes s = Scopes (stmt_right w form fs headers) (meaning w s).bind
+  StmtScopes s = Scopes (stmt_right w form fs headers) (stmt_meaning w s).bind
 
   abbrev AllScope : List Stmt → Type 0
   AllScope xs = Each StmtScopes xs
@@ -67,8 +67,8 @@ module _ (w : Whole) (form : Form) (fs : List RFunction) (headers : HeadersSuit 
       let q = first_ok (bind_all ms a p.0.before) _ r p.2 in
       let x = k a b p.0 p.1 in
       let y = l a p.0.before q.0 q.1 in
-      let more : List Local = x.more ++ y.more in
-      let tops : slots (x.more ++ y.more) ≡ slots x.more ++ slots y.more = map-append (λ (n : Local). n.bound.slot) x.more y.more in
+      let more : List LocalDeclaration = x.more ++ y.more in
+      let tops : slots (x.more ++ y.more) ≡ slots x.more ++ slots y.more = map-append (λ (n : LocalDeclaration). n.bound.slot) x.more y.more in
       at_answer body a b q.0.before (p.0.tree ∷ q.0.tree) r q.2 (record {
         slots_on = goes_twice b.slots p.0.before.slots q.0.before.slots x.slots_on y.slots_on;
         more = x.more ++ y.more;
@@ -87,12 +87,12 @@ module _ (w : Whole) (form : Form) (fs : List RFunction) (headers : HeadersSuit 
 
   pub stmts_scope : (xs : List Stmt) → AllScope xs → Scopes body (bind_stmts w xs)
   stmts_scope [] h a b r is = stays body a [] b r (λ all are. no_stmts form fs (slots (visible a b)) (length b.slots) all) is
-  stmts_scope (s ∷ xs) h a b r is = one_then (meaning w s) (map (meaning w) xs) h.0 (stmts_scope xs h.1) a b r is
+  stmts_scope (s ∷ xs) h a b r is = one_then (stmt_meaning w s) (map (stmt_meaning w) xs) h.0 (stmts_scope xs h.1) a b r is
 
   -- a statement in its line
   of_stmt : (line : ℕ) (t : What) → OfWhat (what_means w t) → StmtScopes (record { line = line; what = t })
   of_stmt line t h =
-      subst (λ (m : StmtMeans). Scopes (stmt_right w form fs headers) m.bind) (sym (fold-roll-Stmt BranchWhatMeans WhatMeans BranchMeans StmtMeans (branch_what_step w) (what_step w) branch_step stmt_step (record { line = line; what = t })))
+      subst (λ (m : StmtMeans). Scopes (stmt_right w form fs headers) m.bind) (sym (fold-roll-Stmt BranchWhatMeans WhatMeans BranchMeans StmtMeans (bind_branch_what_step w) (bind_what_step w) bind_branch_step bind_stmt_step (record { line = line; what = t })))
       (λ a b r is.
       let p = first_ok ((what_means w t).bind line a b) _ r is in
       let m = h line a b p.0 p.1 in
@@ -108,8 +108,8 @@ module _ (w : Whole) (form : Form) (fs : List RFunction) (headers : HeadersSuit 
   one : (line : ℕ) (t : What) → OfWhat (what_means w t) → AllScope (record { line = line; what = t } ∷ [])
   one line t h = (of_stmt line t h, tt)
 
-  at_what : (y : What-F BranchWhat What Branch Stmt) → OfWhat (what_step w (map-What BranchWhat What Branch Stmt BranchWhatMeans WhatMeans BranchMeans StmtMeans (branch_what_means w) (what_means w) (bind_branch w) (meaning w) y)) → OfWhat (what_means w (roll-What y))
-  at_what y h = subst OfWhat (sym (fold-roll-What BranchWhatMeans WhatMeans BranchMeans StmtMeans (branch_what_step w) (what_step w) branch_step stmt_step y)) h
+  at_what : (y : What-F BranchWhat What Branch Stmt) → OfWhat (bind_what_step w (map-What BranchWhat What Branch Stmt BranchWhatMeans WhatMeans BranchMeans StmtMeans (branch_what_means w) (what_means w) (bind_branch w) (stmt_meaning w) y)) → OfWhat (what_means w (roll-What y))
+  at_what y h = subst OfWhat (sym (fold-roll-What BranchWhatMeans WhatMeans BranchMeans StmtMeans (bind_branch_what_step w) (bind_what_step w) bind_branch_step bind_stmt_step y)) h
 
   of_declare : (ty : Ty) (x : List ℕ) (e : Option Expr) → OfWhat (what_means w (st.Declare ty x e))
   unfolding roll-What denote.Hole.Carrier.roll
@@ -150,7 +150,7 @@ module _ (w : Whole) (form : Form) (fs : List RFunction) (headers : HeadersSuit 
   of_for : (a : List Stmt) (test : Option Expr) (b c : List Stmt) → AllScope a → AllScope b → KeepsOwn w form fs headers (bind_stmts w b) → AllScope c → OfWhat (what_means w (st.For a test b c))
   unfolding roll-What denote.Hole.Carrier.roll
   of_for a test b c h k keeps l =
-      at_what (What-F.For a test b c) (for_scopes w form fs headers (first_declares (map (meaning w) a)) test _ _ (bind_stmts w a) (bind_stmts w b) (bind_stmts w c) (body_grows w a) (stmts_scope a h) (stmts_scope b k) keeps (stmts_scope c l))
+      at_what (What-F.For a test b c) (for_scopes w form fs headers (first_declares (map (stmt_meaning w) a)) test _ _ (bind_stmts w a) (bind_stmts w b) (bind_stmts w c) (body_grows w a) (stmts_scope a h) (stmts_scope b k) keeps (stmts_scope c l))
 
   of_block : (a : List Stmt) → AllScope a → OfWhat (what_means w (st.Block a))
   unfolding roll-What denote.Hole.Carrier.roll
@@ -188,9 +188,9 @@ module _ (w : Whole) (form : Form) (fs : List RFunction) (headers : HeadersSuit 
   abbrev OfBranchWhat : BranchWhatMeans → Type 0
   OfBranchWhat f = (line : ℕ) → Blocks branch_what_right (f line)
 
-  at_branch_what : (y : BranchWhat-F BranchWhat What Branch Stmt) → OfBranchWhat (branch_what_step w (map-BranchWhat BranchWhat What Branch Stmt BranchWhatMeans WhatMeans BranchMeans StmtMeans (branch_what_means w) (what_means w) (bind_branch w) (meaning w) y))
+  at_branch_what : (y : BranchWhat-F BranchWhat What Branch Stmt) → OfBranchWhat (bind_branch_what_step w (map-BranchWhat BranchWhat What Branch Stmt BranchWhatMeans WhatMeans BranchMeans StmtMeans (branch_what_means w) (what_means w) (bind_branch w) (stmt_meaning w) y))
       → OfBranchWhat (branch_what_means w (roll-BranchWhat y))
-  at_branch_what y h = subst OfBranchWhat (sym (fold-roll-BranchWhat BranchWhatMeans WhatMeans BranchMeans StmtMeans (branch_what_step w) (what_step w) branch_step stmt_step y)) h
+  at_branch_what y h = subst OfBranchWhat (sym (fold-roll-BranchWhat BranchWhatMeans WhatMeans BranchMeans StmtMeans (bind_branch_what_step w) (bind_what_step w) bind_branch_step bind_stmt_step y)) h
 
   of_block_branch : (xs : List Stmt) → AllScope xs → OfBranchWhat (branch_what_means w (br.Block xs))
   unfolding roll-BranchWhat denote.Hole.Carrier.roll
@@ -219,7 +219,7 @@ module _ (w : Whole) (form : Form) (fs : List RFunction) (headers : HeadersSuit 
 
   of_branch : (line : ℕ) (t : BranchWhat) → OfBranchWhat (branch_what_means w t) → Blocks branch_right (bind_branch w (record { line = line; what = t }))
   of_branch line t h =
-      subst (λ (f : BranchMeans). Blocks branch_right f) (sym (fold-roll-Branch BranchWhatMeans WhatMeans BranchMeans StmtMeans (branch_what_step w) (what_step w) branch_step stmt_step (record { line = line; what = t })))
+      subst (λ (f : BranchMeans). Blocks branch_right f) (sym (fold-roll-Branch BranchWhatMeans WhatMeans BranchMeans StmtMeans (bind_branch_what_step w) (bind_what_step w) bind_branch_step bind_stmt_step (record { line = line; what = t })))
       (λ a b r is.
       let p = first_ok (branch_what_means w t line a b) _ r is in
       let m = h line a b p.0 p.1 in
@@ -278,60 +278,60 @@ module _ (w : Whole) (form : Form) (fs : List RFunction) (headers : HeadersSuit 
 
   store_keeps : (g : ℕ → UExpr → RWhat) (x : List ℕ) (e : Expr) (line : ℕ) (a : Around) (b : Before) (r : BoundTo RWhat) → bind_store g x e line a b ≡ Ok r → r.before.own ≡ b.own
   store_keeps g x e line a b r h =
-      let v : List Local = visible a b in
+      let v : List LocalDeclaration = visible a b in
       ap (λ (c : Before). c.own)
       (sym (its_before (g (slot_of v x) (placed v e)) b r (passed line WrongKind (option_or (no_number v x) (stream_in v e)) _ r (passed line UnknownName (unknown_in_both v x e) _ r h))))
 
-  assign_keeps : (line : ℕ) (x : List ℕ) (e : Expr) (a : Around) (b : Before) (r : BoundTo RStmt) → (meaning w (record { line = line; what = st.Assign x e })).bind a b ≡ Ok r → r.before.own ≡ b.own
+  assign_keeps : (line : ℕ) (x : List ℕ) (e : Expr) (a : Around) (b : Before) (r : BoundTo RStmt) → (stmt_meaning w (record { line = line; what = st.Assign x e })).bind a b ≡ Ok r → r.before.own ≡ b.own
   unfolding roll-What denote.Hole.Carrier.roll
   assign_keeps line x e a b r h =
-      let means : what_means w (roll-What (What-F.Assign x e)) ≡ what_step w (What-F.Assign x e) = fold-roll-What BranchWhatMeans WhatMeans BranchMeans StmtMeans (branch_what_step w) (what_step w) branch_step stmt_step (What-F.Assign x e) in
+      let means : what_means w (roll-What (What-F.Assign x e)) ≡ bind_what_step w (What-F.Assign x e) = fold-roll-What BranchWhatMeans WhatMeans BranchMeans StmtMeans (bind_branch_what_step w) (bind_what_step w) bind_branch_step bind_stmt_step (What-F.Assign x e) in
       let is : on_tree (λ (t : RWhat). let s : RStmt = record { line = line; what = t } in s) (bind_store to.Assign x e line) a b ≡ Ok r =
       ap (λ (m : WhatMeans). on_tree (λ (t : RWhat). let s : RStmt = record { line = line; what = t } in s) (m.bind line) a b) (sym means)
-      ∙ ap (λ (m : StmtMeans). m.bind a b) (sym (fold-roll-Stmt BranchWhatMeans WhatMeans BranchMeans StmtMeans (branch_what_step w) (what_step w) branch_step stmt_step (record { line = line; what = st.Assign x e })))
+      ∙ ap (λ (m : StmtMeans). m.bind a b) (sym (fold-roll-Stmt BranchWhatMeans WhatMeans BranchMeans StmtMeans (bind_branch_what_step w) (bind_what_step w) bind_branch_step bind_stmt_step (record { line = line; what = st.Assign x e })))
       ∙ h in
       let p = first_ok (bind_store to.Assign x e line a b) _ r is in
       ap (λ (c : Before). c.own) (sym (its_before _ p.0.before r p.2)) ∙ store_keeps to.Assign x e line a b p.0 p.1
 
-  step_keeps : {l : ℕ} {v u : Counts} {s r : List Terminal} {xs : List Stmt} → IsStep limits l v u s r xs → KeepsOwn w form fs headers (bind_stmts w xs)
+  step_keeps : {l : ℕ} {v u : TextCounts} {s r : List Terminal} {xs : List Stmt} → IsStep limits l v u s r xs → KeepsOwn w form fs headers (bind_stmts w xs)
   step_keeps is.no_step a b r h = ap (λ (c : Before). c.own) (sym (its_before [] b r h))
   step_keeps (is.step {x = x} {p = p} {value = value} g d) a b r h =
-      let o = first_ok ((meaning w (record { line = p.line; what = st.Assign x value })).bind a b) _ r h in
+      let o = first_ok ((stmt_meaning w (record { line = p.line; what = st.Assign x value })).bind a b) _ r h in
       ap (λ (c : Before). c.own) (sym (its_before (o.0.tree ∷ []) o.0.before r o.2)) ∙ assign_keeps p.line x value a b o.0 o.1
 
   -- by the derivation
 
-  declarations_scope : {l line : ℕ} {ty : Ty} {v u : Counts} {s r : List Terminal} {xs : List Stmt} → IsDeclarations limits l ty line v u s r xs → AllScope xs
+  declarations_scope : {l line : ℕ} {ty : Ty} {v u : TextCounts} {s r : List Terminal} {xs : List Stmt} → IsDeclarations limits l ty line v u s r xs → AllScope xs
   declarations_scope (is.last_declared {line = line} {ty = ty} {x = x} {value = value} d) = one line (st.Declare ty x value) (of_declare ty x value)
   declarations_scope (is.declared {line = line} {ty = ty} {x = x} {value = value} d t) = (of_stmt line (st.Declare ty x value) (of_declare ty x value), declarations_scope t)
 
-  first_scope : {l : ℕ} {v u : Counts} {s r : List Terminal} {xs : List Stmt} → IsFirst limits l v u s r xs → AllScope xs
+  first_scope : {l : ℕ} {v u : TextCounts} {s r : List Terminal} {xs : List Stmt} → IsFirst limits l v u s r xs → AllScope xs
   first_scope is.no_first = tt
   first_scope (is.first_declare {ty = ty} {p = p} {x = x} {value = value} h d) = one p.line (st.Declare ty x value) (of_declare ty x value)
   first_scope (is.first_assign {x = x} {p = p} {value = value} h d) = one p.line (st.Assign x value) (of_assign x value)
 
-  step_scope : {l : ℕ} {v u : Counts} {s r : List Terminal} {xs : List Stmt} → IsStep limits l v u s r xs → AllScope xs
+  step_scope : {l : ℕ} {v u : TextCounts} {s r : List Terminal} {xs : List Stmt} → IsStep limits l v u s r xs → AllScope xs
   step_scope is.no_step = tt
   step_scope (is.step {x = x} {p = p} {value = value} h d) = one p.line (st.Assign x value) (of_assign x value)
 
   mutual
-    pub block_scope : {l : ℕ} {v u : Counts} {s r : List Terminal} {xs : List Stmt} → IsBlock limits l v u s r xs → AllScope xs
+    pub block_scope : {l : ℕ} {v u : TextCounts} {s r : List Terminal} {xs : List Stmt} → IsBlock limits l v u s r xs → AllScope xs
     block_scope is.block_end = tt
     block_scope (is.stmt {xs = xs} {ys = ys} h d t) = each_of_both StmtScopes xs ys (stmt_scope d) (block_scope t)
 
-    stmt_scope : {l : ℕ} {v u : Counts} {s r : List Terminal} {xs : List Stmt} → IsStmt limits l v u s r xs → AllScope xs
+    stmt_scope : {l : ℕ} {v u : TextCounts} {s r : List Terminal} {xs : List Stmt} → IsStmt limits l v u s r xs → AllScope xs
     stmt_scope (is.block {p = p} {xs = xs} d h) = one p.line (st.Block xs) (of_block xs (block_scope d))
     stmt_scope (is.block_fork {p = p} {xs = xs} {bs = bs} d b) =
         one p.line (st.Par (record { line = p.line; what = br.Block xs } ∷ bs)) (of_par (record { line = p.line; what = br.Block xs }) bs (of_branch p.line (br.Block xs) (of_block_branch xs (block_scope d))) (branches_of b))
     stmt_scope (is.plain d) = plain_scope d
 
-    body_scope : {l : ℕ} {v u : Counts} {s r : List Terminal} {xs : List Stmt} → IsBody limits l v u s r xs → AllScope xs
+    body_scope : {l : ℕ} {v u : TextCounts} {s r : List Terminal} {xs : List Stmt} → IsBody limits l v u s r xs → AllScope xs
     body_scope (is.body_block d h) = block_scope d
     body_scope (is.body_fork {p = p} {xs = xs} {bs = bs} d h b) =
         one p.line (st.Par (record { line = p.line; what = br.Block xs } ∷ bs)) (of_par (record { line = p.line; what = br.Block xs }) bs (of_branch p.line (br.Block xs) (of_block_branch xs (block_scope d))) (branches_of b))
     body_scope (is.body_plain h d) = plain_scope d
 
-    plain_scope : {l : ℕ} {v u : Counts} {s r : List Terminal} {xs : List Stmt} → IsPlain limits l v u s r xs → AllScope xs
+    plain_scope : {l : ℕ} {v u : TextCounts} {s r : List Terminal} {xs : List Stmt} → IsPlain limits l v u s r xs → AllScope xs
     plain_scope is.empty = tt
     plain_scope (is.declare d) = declarations_scope d
     plain_scope (is.assign {x = x} {p = p} {value = value} d) = one p.line (st.Assign x value) (of_assign x value)
@@ -351,11 +351,11 @@ module _ (w : Whole) (form : Form) (fs : List RFunction) (headers : HeadersSuit 
     plain_scope (is.try {x = x} {y = y} {p = p} {xs = xs} {ys = ys} d c b) = one p.line (st.Try xs x y ys) (of_try xs x y ys (block_scope d) (block_scope b))
     plain_scope (is.throw {x = x} {p = p} {value = e} d) = one p.line (st.Throw x e) (of_throw x e)
 
-    branches_of : {l n : ℕ} {v u : Counts} {s r : List Terminal} {bs : List Branch} → IsBranches limits l n v u s r bs → AllBranches bs
+    branches_of : {l n : ℕ} {v u : TextCounts} {s r : List Terminal} {bs : List Branch} → IsBranches limits l n v u s r bs → AllBranches bs
     branches_of (is.last_branch h d a) = (branch_of d, tt)
     branches_of (is.branch h d t) = (branch_of d, branches_of t)
 
-    branch_of : {l : ℕ} {v u : Counts} {s r : List Terminal} {b : Branch} → IsBranch limits l v u s r b → Blocks branch_right (bind_branch w b)
+    branch_of : {l : ℕ} {v u : TextCounts} {s r : List Terminal} {b : Branch} → IsBranch limits l v u s r b → Blocks branch_right (bind_branch w b)
     branch_of (is.block_branch {p = p} {xs = xs} d) = of_branch p.line (br.Block xs) (of_block_branch xs (block_scope d))
     branch_of (is.call_branch {f = f} {p = p} {xs = xs} d) = let c : CallOf = record { function = f; args = xs } in of_branch p.line (br.Call c) (of_call_branch c)
 
@@ -387,10 +387,10 @@ pub record FunctionText (w : Whole) (f : Function) : Type 0 where
   pub params : Each ByValueNumber f.params
   pub body : (form : Form) (fs : List RFunction) (headers : HeadersSuit form fs w.functions) → Scopes (body_right w form fs headers) (bind_stmts w f.body)
 
-function_text : (w : Whole) {v u : Counts} {s r : List Terminal} {f : Function} → IsFunction limits v u s r f → FunctionText w f
+function_text : (w : Whole) {v u : TextCounts} {s r : List Terminal} {f : Function} → IsFunction limits v u s r f → FunctionText w f
 function_text w (is.function {xs = xs} {ys = ys} p t b) = record { params = params_numbers p; body = λ form fs headers. stmts_scope w form fs headers ys (block_scope w form fs headers b) }
 
-functions_text : (w : Whole) {n : ℕ} {v : Counts} {s r : List Terminal} {fs : List Function} → IsFunctions limits n v s r fs → Each (FunctionText w) fs
+functions_text : (w : Whole) {n : ℕ} {v : TextCounts} {s r : List Terminal} {fs : List Function} → IsFunctions limits n v s r fs → Each (FunctionText w) fs
 functions_text w is.program_end = tt
 functions_text w (is.another_function h d t) = (function_text w d, functions_text w t)
 

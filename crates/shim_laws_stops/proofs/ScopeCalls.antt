@@ -14,9 +14,9 @@ use Rattle.shim_units.specs.declared.unit.Arg.{Arg}
 use Rattle.shim_units.specs.declared.unit.UBranch.{UBranch}
 use Rattle.shim_units.specs.declared.unit.UCall.{UCall}
 use Rattle.shim_units.specs.declared.slot_map.SlotMap.{SlotMap}
-use Rattle.shim_units.specs.Calls.{lends, lends_first, behind_first, params_at, bare, given}
-use Rattle.shim_units.specs.Captures.{captures, taken_of, declares, writes, names, is_reference}
-use Rattle.shim_units.specs.Moving.{slot_index_of, by_mode, moved, arg_of, args_of, moved_call}
+use Rattle.shim_units.specs.Calls.{lends, lends_first, behind_first, params_at, bare, paired_arguments}
+use Rattle.shim_units.specs.Captures.{captures, taken_of, declares_variable, writes, names, is_reference}
+use Rattle.shim_units.specs.Moving.{slot_index_of, by_mode, renumbered, arg_of, args_of, moved_call}
 use Rattle.shim_units.specs.Rule.{is_bare, stands_in, GivesOnce, IsDisjointFromAll, ArePairwiseDisjoint}
 use Rattle.shim_units.specs.Uses.{used, names_in, arg_uses, args_uses, call_uses, lent_uses}
 use Rattle.shim_units.specs.Lifting.{is_among, sort_of, sort_or_bool}
@@ -69,7 +69,7 @@ module _ (all : List Sort) (f : RFunction) (same : f.slots ≡ all) (w : SlotMap
   -- an argument is right where all that it names is here
   arg_right : (b : Bool) (p : UParam) (a : UExpr) (o : Option ℕ) → bare a ≡ o → ArgSuits b all p a → ((x : ℕ) → bare a ≡ Some x → Names (arg_uses b a) x) → ((x : ℕ) → Names (arg_uses b a) x → IsHere x) → argument_right u xs p (arg_of w.slots b o a) ≡ true
   arg_right true p a None e (y, k, kind) named h = absurd (cc (sym e ∙ k))
-  arg_right false p a None e (number, others) named h = both_hold (is_number (Some p.sort)) (reads_right u xs (moved w.slots a)) number (reads_moved w.slots u xs a (λ y n. number_here y (h y n) (others y n)))
+  arg_right false p a None e (number, others) named h = both_hold (is_number (Some p.sort)) (reads_right u xs (renumbered w.slots a)) number (reads_moved w.slots u xs a (λ y n. number_here y (h y n) (others y n)))
   arg_right b p a (Some x) e suits named h = bare_right b p x a suits e (named x e) (h x (named x e))
 
   -- a variable alone is named by its argument
@@ -156,13 +156,13 @@ module _ (slots : List ℕ) where
   ref_bare false a (Some x) rest j e h = inr h
   ref_bare true a (Some x) rest j e h = elim (among_cases (slot_index_of slots x) (references rest) j h) [ inl same ↦ inl (x, e, same) | inr k ↦ inr k ]
 
-  refs_given : (ps : List UParam) (es : List UExpr) (j : ℕ) → Among (references (args_of slots ps es)) j → IsGivenAt (given ps es) j
+  refs_given : (ps : List UParam) (es : List UExpr) (j : ℕ) → Among (references (args_of slots ps es)) j → IsGivenAt (paired_arguments ps es) j
   refs_given ps [] j h = none_among j h
   refs_given ps (a ∷ es) j h = elim (ref_bare (lends_first ps) a (bare a) (args_of slots (behind_first ps) es) j refl h) [
-    | inl k ↦ record { variable = k.0; place = k.2; stands = bare_there k.0 (given (behind_first ps) es) (record { lent = lends_first ps; bare = bare a }) k.1 }
+    | inl k ↦ record { variable = k.0; place = k.2; stands = bare_there k.0 (paired_arguments (behind_first ps) es) (record { lent = lends_first ps; bare = bare a }) k.1 }
     | inr k ↦
         let r = refs_given (behind_first ps) es j k in
-        record { variable = r.variable; place = r.place; stands = stands_behind r.variable (given (behind_first ps) es) (record { lent = lends_first ps; bare = bare a }) r.stands }
+        record { variable = r.variable; place = r.place; stands = stands_behind r.variable (paired_arguments (behind_first ps) es) (record { lent = lends_first ps; bare = bare a }) r.stands }
   ]
 
   either_more : (x : ℕ) (g : Given) (before after : List Given) → (stands_in x before || stands_in x after) ≡ true → (stands_in x (g ∷ before) || stands_in x after) ≡ true
@@ -183,10 +183,10 @@ module _ (slots : List ℕ) where
   ref_once true a (Some x) rest e h f = once_more (slot_index_of slots x) (references rest) (f x refl e) h
 
   -- no two arguments by reference have one place
-  pub refs_once : (ps : List UParam) (es : List UExpr) → ((y : ℕ) → stands_in y (given ps es) ≡ true → Among slots y) → GivesOnce (given ps es) → distinct (references (args_of slots ps es)) ≡ true
+  pub refs_once : (ps : List UParam) (es : List UExpr) → ((y : ℕ) → stands_in y (paired_arguments ps es) ≡ true → Among slots y) → GivesOnce (paired_arguments ps es) → distinct (references (args_of slots ps es)) ≡ true
   refs_once ps [] there h = refl
   refs_once ps (a ∷ es) there h =
-      let gs : List Given = given (behind_first ps) es in
+      let gs : List Given = paired_arguments (behind_first ps) es in
       let g : Given = record { lent = lends_first ps; bare = bare a } in
       ref_once (lends_first ps) a (bare a) (args_of slots (behind_first ps) es) refl
       (refs_once (behind_first ps) es (λ y k. there y (stands_behind y gs g k)) (once_behind g gs h))
@@ -208,11 +208,11 @@ alone_there true a (Some x) y e f k =
     subst (λ (o : Option ℕ). Names (lent_uses o (names_in a)) y) (sym e) (subst (λ z. Names (used Written x ∷ []) z) one (first_of x []))
 alone_there false a o y e f k = f y (e ∙ is_it y o k)
 
-alone_named : (all : List Sort) (ps : List UParam) (es : List UExpr) (y : ℕ) → ArgsSuit all ps es → stands_in y (given ps es) ≡ true → Names (args_uses ps es) y
+alone_named : (all : List Sort) (ps : List UParam) (es : List UExpr) (y : ℕ) → ArgsSuit all ps es → stands_in y (paired_arguments ps es) ≡ true → Names (args_uses ps es) y
 alone_named all [] [] y s h = absurd (cc h)
 alone_named all [] (a ∷ es) y s h = absurd s
 alone_named all (p ∷ ps) [] y s h = absurd s
-alone_named all (p ∷ ps) (a ∷ es) y s h = elim (either_holds (is_bare y (bare a)) (stands_in y (given ps es)) h) [
+alone_named all (p ∷ ps) (a ∷ es) y s h = elim (either_holds (is_bare y (bare a)) (stands_in y (paired_arguments ps es)) h) [
   | inl k ↦ names_first (arg_uses (lends p) a) (args_uses ps es) y (alone_there (lends p) a (bare a) y refl s.1 k)
   | inr k ↦ names_second (arg_uses (lends p) a) (args_uses ps es) y (alone_named all ps es y s.2 k)
 ]
@@ -221,7 +221,7 @@ alone_named all (p ∷ ps) (a ∷ es) y s h = elim (either_holds (is_bare y (bar
 
 module _ (form : Form) (fs : List RFunction) (around : List ℕ) (all : List Sort) (c : RCall) (suits : CallSuits fs around all c) (params : (unit_at form c.function).params ≡ params_at fs c.function) where
   pub moved_right : (f : RFunction) (w : SlotMap) (u : UnitOf) (xs : List ℕ) → f.slots ≡ all → u.slots ≡ map (sort_of f) w.slots → ((y : ℕ) → Names (call_uses fs c) y → Among w.slots y) → ((y : ℕ) → Names (call_uses fs c) y → Among xs (slot_index_of w.slots y))
-      → GivesOnce (given (params_at fs c.function) c.args) → call_right form u xs (moved_call fs c w) ≡ true
+      → GivesOnce (paired_arguments (params_at fs c.function) c.args) → call_right form u xs (moved_call fs c w) ≡ true
   moved_right f w u xs same is there known once =
       both_hold _ _
       (ap (λ (ps : List UParam). arguments_right u xs ps (args_of w.slots (params_at fs c.function) c.args)) params
@@ -248,7 +248,7 @@ call_refers fs around lo all c w is only there j h =
     let us : List Use = call_uses fs c in
     let n : Names us y = writes_names us y r.written in
     let at = is y (only.among y n) in
-    (y, there y n, r.place, taken_written (slice_get all y) at.1 (declares us y) (writes us y) (names us y) at.2 (only.none y) r.written)
+    (y, there y n, r.place, taken_written (slice_get all y) at.1 (declares_variable us y) (writes us y) (names us y) at.2 (only.none y) r.written)
 
 abbrev pub Refer : List Sort → SlotMap → List UBranch → List (List Use) → Type 0
 Refer all w [] [] = Unit {0}

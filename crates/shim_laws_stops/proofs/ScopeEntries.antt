@@ -17,7 +17,7 @@ use Rattle.shim_units.specs.Units.{upto}
 use Rattle.shim_process.specs.Values.{value}
 use Rattle.shim_process.specs.Locations.{Location, Locations, Copy, at_number, kept, moved, lend_at, with_kept, with_moved}
 use Rattle.shim_process.specs.LocalState.{number_of, unit_at, env_of, type_of}
-use Rattle.shim_process.specs.Arguments.{Argument, ByReference, ByCopy, ByValue, on_value, arguments, copied, new_location, call_locations, branch_locations, declared_slots, empties, numbers_from, call_slots, entered}
+use Rattle.shim_process.specs.Arguments.{Argument, ByReference, ByCopy, ByValue, on_value, arguments, copied_location, new_location, call_locations, branch_locations, declared_slots, empties, numbers_from, call_slots, entered}
 use Rattle.shim_process.specs.Todo.{items_all}
 use Rattle.shim_process.proofs.ForkLending.{from_value, ok_same}
 use Rattle.shim_process.specs.OwnSlots.{is_own_slot, UsesOwnSlots}
@@ -110,7 +110,7 @@ has_less ys j zs rest h i x e = h i x (at_before zs rest i x e)
 abbrev pub ParamsThere : Locations → List ℕ → List UParam → Type 0
 ParamsThere ys slots ps = (i : ℕ) (p : UParam) → slice_get ps i ≡ Some p → is_number (Some p.sort) ≡ true → IsThere (at_number ys (number_of slots i))
 
-copied_there : (t : Ty) (o : Option Location) → IsThere o → IsThere (copied t o)
+copied_there : (t : Ty) (o : Option Location) → IsThere o → IsThere (copied_location t o)
 copied_there t None h = absurd (cc h.1)
 copied_there t (Some x) h = (record x { ty = t; value = stored t x.value; ownership = Copy }, refl)
 
@@ -142,9 +142,9 @@ call_params first xs ys home serial (q ∷ ps) (ByReference n ∷ given) ss h ol
 call_params first xs ys home serial (q ∷ ps) (ByReference n ∷ given) ss h old new (suc i) p e number = call_params first xs ys home serial ps given ss h.1 old new i p e number
 call_params first xs ys home serial (q ∷ ps) (ByCopy t n ∷ given) ss h old new zero p e number =
     let same : q ≡ p = some_same q p e in
-    put_there ys first (copied t (at_number xs n)) (call_locations home xs serial given) new (copied_there t (at_number xs n) (h.0 (ap (λ (z : UParam). is_number (Some z.sort)) same ∙ number)))
+    put_there ys first (copied_location t (at_number xs n)) (call_locations home xs serial given) new (copied_there t (at_number xs n) (h.0 (ap (λ (z : UParam). is_number (Some z.sort)) same ∙ number)))
 call_params first xs ys home serial (q ∷ ps) (ByCopy t n ∷ given) ss h old new (suc i) p e number =
-    call_params (first + 1) xs ys home serial ps given ss h.1 old (has_next ys first (copied t (at_number xs n)) (call_locations home xs serial given) new) i p e number
+    call_params (first + 1) xs ys home serial ps given ss h.1 old (has_next ys first (copied_location t (at_number xs n)) (call_locations home xs serial given) new) i p e number
 call_params first xs ys home serial (q ∷ ps) (ByValue t name v ∷ given) ss h old new zero p e number =
     (new_location home serial name t v, has_first ys first (new_location home serial name t v) (call_locations home xs (serial + 1) given) new)
 call_params first xs ys home serial (q ∷ ps) (ByValue t name v ∷ given) ss h old new (suc i) p e number =
@@ -164,10 +164,10 @@ branch_params child xs ys j serial (q ∷ ps) (ByReference n ∷ given) h new (s
     (w.0, ap (at_number ys) (let e2 : j + suc i ≡ (j + 1) + i = omega arith in e2) ∙ w.1)
 branch_params child xs ys j serial (q ∷ ps) (ByCopy t n ∷ given) h new zero p e number =
     let same : q ≡ p = some_same q p e in
-    let w = put_there ys j (copied t (at_number xs n)) (branch_locations child xs serial given) new (copied_there t (at_number xs n) (h.0 (ap (λ (z : UParam). is_number (Some z.sort)) same ∙ number))) in
+    let w = put_there ys j (copied_location t (at_number xs n)) (branch_locations child xs serial given) new (copied_there t (at_number xs n) (h.0 (ap (λ (z : UParam). is_number (Some z.sort)) same ∙ number))) in
     (w.0, ap (at_number ys) (let e2 : j + 0 ≡ j = omega arith in e2) ∙ w.1)
 branch_params child xs ys j serial (q ∷ ps) (ByCopy t n ∷ given) h new (suc i) p e number =
-    let w = branch_params child xs ys (j + 1) serial ps given h.1 (has_next ys j (copied t (at_number xs n)) (branch_locations child xs serial given) new) i p e number in
+    let w = branch_params child xs ys (j + 1) serial ps given h.1 (has_next ys j (copied_location t (at_number xs n)) (branch_locations child xs serial given) new) i p e number in
     (w.0, ap (at_number ys) (let e2 : j + suc i ≡ (j + 1) + i = omega arith in e2) ∙ w.1)
 branch_params child xs ys j serial (q ∷ ps) (ByValue t name v ∷ given) h new zero p e number =
     (new_location child serial name t v, ap (at_number ys) (let e2 : j + 0 ≡ j = omega arith in e2) ∙ has_first ys j (new_location child serial name t v) (branch_locations child xs (serial + 1) given) new)

@@ -13,7 +13,7 @@ use Rattle.shim_syntax.specs.declared.tree.Param.{Param}
 use Rattle.shim_syntax.specs.declared.tree.Sort.{Sort}
 use Rattle.shim_syntax.specs.declared.tree.Sort.TheVariants.{Value, Input, Output}
 use Rattle.shim_scopes.specs.declared.scope.Bound.{Bound}
-use Rattle.shim_scopes.specs.declared.scope.Local.{Local}
+use Rattle.shim_scopes.specs.declared.scope.LocalDeclaration.{LocalDeclaration}
 use Rattle.shim_scopes.specs.declared.tree.UExpr.{UExpr, UExpr-F, fold-roll-UExpr, roll-UExpr}
 use Rattle.shim_scopes.specs.declared.tree.UExpr.TheVariants as u
 use Rattle.shim_scopes.specs.declared.tree.UParam.{UParam}
@@ -36,14 +36,14 @@ use Rattle.shim_laws_stops.proofs.ScopeLists.{Names, names_either, declares_eith
 use Rattle.shim_laws_stops.proofs.ScopeLifting.{OnlyNames, ReadsNumbers, IsAround}
 
 -- the slots of declarations
-abbrev pub slots : List Local → List ℕ
-slots ls = map (λ (l : Local). l.bound.slot) ls
+abbrev pub slots : List LocalDeclaration → List ℕ
+slots ls = map (λ (l : LocalDeclaration). l.bound.slot) ls
 
-stands_among : (before inner : List Local) (at : Local) (n : ℕ) → at.bound.slot ≡ n → Among (slots (before ++ at ∷ inner)) n
+stands_among : (before inner : List LocalDeclaration) (at : LocalDeclaration) (n : ℕ) → at.bound.slot ≡ n → Among (slots (before ++ at ∷ inner)) n
 stands_among [] inner at n e = subst (λ k. Among (slots (at ∷ inner)) k) e (first_of at.bound.slot (slots inner))
 stands_among (l ∷ before) inner at n e = among_behind l.bound.slot (slots (before ++ at ∷ inner)) n (stands_among before inner at n e)
 
-pub slot_among : (x : List ℕ) (ls : List Local) (n : ℕ) → IsSlotOfInnermost x ls n → Among (slots ls) n
+pub slot_among : (x : List ℕ) (ls : List LocalDeclaration) (n : ℕ) → IsSlotOfInnermost x ls n → Among (slots ls) n
 slot_among x ls n i = subst (λ l. Among (slots l) n) (sym i.1.whole) (stands_among i.1.outer i.1.inner i.0 n i.2)
 
 -- names
@@ -130,19 +130,19 @@ name_binary : (op : BinOp) (a b : Expr) → scopes.bare (e.Binary op a b) ≡ No
 unfolding scopes.bare roll-Expr denote.Hole.Carrier.roll
 name_binary op a b = fold-roll-Expr (Option (List ℕ)) scopes.bare_step (Expr-F.Binary op a b)
 
-stream_variable : (ls : List Local) (x : List ℕ) → stream_in ls (e.Var x) ≡ no_number ls x
+stream_variable : (ls : List LocalDeclaration) (x : List ℕ) → stream_in ls (e.Var x) ≡ no_number ls x
 unfolding stream_in roll-Expr denote.Hole.Carrier.roll
 stream_variable ls x = fold-roll-Expr (Option (List ℕ)) (stream_step ls) (Expr-F.Var x)
 
-stream_unary : (ls : List Local) (op : UnOp) (a : Expr) → stream_in ls (e.Unary op a) ≡ stream_in ls a
+stream_unary : (ls : List LocalDeclaration) (op : UnOp) (a : Expr) → stream_in ls (e.Unary op a) ≡ stream_in ls a
 unfolding stream_in roll-Expr denote.Hole.Carrier.roll
 stream_unary ls op a = fold-roll-Expr (Option (List ℕ)) (stream_step ls) (Expr-F.Unary op a)
 
-stream_binary : (ls : List Local) (op : BinOp) (a b : Expr) → stream_in ls (e.Binary op a b) ≡ option_or (stream_in ls a) (stream_in ls b)
+stream_binary : (ls : List LocalDeclaration) (op : BinOp) (a b : Expr) → stream_in ls (e.Binary op a b) ≡ option_or (stream_in ls a) (stream_in ls b)
 unfolding stream_in roll-Expr denote.Hole.Carrier.roll
 stream_binary ls op a b = fold-roll-Expr (Option (List ℕ)) (stream_step ls) (Expr-F.Binary op a b)
 
-pub expr_names : {ls : List Local} {a : Expr} {r : UExpr} → BindsExpr ls a r → OnlyNames (slots ls) (names_in r)
+pub expr_names : {ls : List LocalDeclaration} {a : Expr} {r : UExpr} → BindsExpr ls a r → OnlyNames (slots ls) (names_in r)
 expr_names {ls = ls} (is.number {n = n}) = subst (OnlyNames (slots ls)) (sym (names_number n)) (only_none (slots ls))
 expr_names {ls = ls} (is.variable {x = x} {slot = slot} i) = subst (OnlyNames (slots ls)) (sym (names_variable slot)) (only_named (slots ls) slot (slot_among x ls slot i))
 expr_names {ls = ls} (is.unary {op = op} {r = r} h) = subst (OnlyNames (slots ls)) (sym (names_unary op r)) (expr_names h)
@@ -168,7 +168,7 @@ itself_named x = or_false (nat_eq x x) (same x)
 pub itself_written : (x : ℕ) → Names (used Written x ∷ []) x
 itself_written x = first_of x []
 
-pub bare_named : {ls : List Local} {a : Expr} {r : UExpr} → BindsExpr ls a r → (x : ℕ) → bare r ≡ Some x → Names (names_in r) x
+pub bare_named : {ls : List LocalDeclaration} {a : Expr} {r : UExpr} → BindsExpr ls a r → (x : ℕ) → bare r ≡ Some x → Names (names_in r) x
 bare_named (is.number {n = n}) x e = absurd (none_is (u.Number n) x (bare_number n) e)
 bare_named (is.variable {slot = slot} i) x e = subst (λ us. Names us x) (sym (names_variable slot)) (subst (λ y. Names (used Named slot ∷ []) y) (some_is (u.Var slot) slot x (bare_variable slot) e) (itself_named slot))
 bare_named (is.unary {op = op} {r = r} h) x e = absurd (none_is (u.Unary op r) x (bare_unary op r) e)
@@ -177,14 +177,14 @@ bare_named (is.binary {op = op} {r = r} {s = s} h k) x e = absurd (none_is (u.Bi
 -- what slots hold
 
 -- the declaration has its slot below this one, with its sort among these
-pub record IsPlaced (lo : ℕ) (all : List Sort) (l : Local) : Type 0 where
+pub record IsPlaced (lo : ℕ) (all : List Sort) (l : LocalDeclaration) : Type 0 where
   pub sort : slice_get all l.bound.slot ≡ Some l.bound.sort
   pub below : l.bound.slot < lo
 
-abbrev pub ArePlaced : ℕ → List Sort → List Local → Type 0
+abbrev pub ArePlaced : ℕ → List Sort → List LocalDeclaration → Type 0
 ArePlaced lo all ls = Each (IsPlaced lo all) ls
 
-pub placed_around : (lo : ℕ) (all : List Sort) (ls : List Local) → ArePlaced lo all ls → IsAround (slots ls) lo all
+pub placed_around : (lo : ℕ) (all : List Sort) (ls : List LocalDeclaration) → ArePlaced lo all ls → IsAround (slots ls) lo all
 placed_around lo all [] h y a = none_among y a
 placed_around lo all (l ∷ ls) h y a = elim (among_cases l.bound.slot (slots ls) y a) [
   | inl same ↦ (subst (λ z. z < lo) same h.0.below, l.bound.sort, ap (slice_get all) (sym same) ∙ h.0.sort)
@@ -192,15 +192,15 @@ placed_around lo all (l ∷ ls) h y a = elim (among_cases l.bound.slot (slots ls
 ]
 
 -- what a name is bound to
-pub record IsBoundTo (ls : List Local) (all : List Sort) (x : List ℕ) (slot : ℕ) : Type 0 where
+pub record IsBoundTo (ls : List LocalDeclaration) (all : List Sort) (x : List ℕ) (slot : ℕ) : Type 0 where
   pub bound : Bound
   pub binding : binding_of x ls ≡ Some bound
   pub at : slice_get all slot ≡ Some bound.sort
 
-pub its_binding : (ls : List Local) (lo : ℕ) (all : List Sort) (x : List ℕ) (slot : ℕ) → ArePlaced lo all ls → IsSlotOfInnermost x ls slot → IsBoundTo ls all x slot
+pub its_binding : (ls : List LocalDeclaration) (lo : ℕ) (all : List Sort) (x : List ℕ) (slot : ℕ) → ArePlaced lo all ls → IsSlotOfInnermost x ls slot → IsBoundTo ls all x slot
 its_binding ls lo all x slot h i = record {
   bound = i.0.bound;
-  binding = ap (λ (o : Option Local). option_map (λ (l : Local). l.bound) o) (innermost_found local_name x ls i.0 i.1);
+  binding = ap (λ (o : Option LocalDeclaration). option_map (λ (l : LocalDeclaration). l.bound) o) (innermost_found local_name x ls i.0 i.1);
   at = ap (slice_get all) (sym i.2) ∙ (at_place (IsPlaced lo all) ls i.1.outer i.0 i.1.inner i.1.whole h).sort;
 }
 
@@ -223,27 +223,27 @@ bound_if : (f : List ℕ → Sort → Option (List ℕ)) (x : List ℕ) (o : Opt
 bound_if f x None b e h = absurd (cc e)
 bound_if f x (Some c) b e h = let same : c ≡ b = cc e in subst (λ (z : Bound). f x z.sort ≡ None) same h
 
-pub number_bound : (ls : List Local) (lo : ℕ) (all : List Sort) (x : List ℕ) (slot : ℕ) → ArePlaced lo all ls → IsSlotOfInnermost x ls slot → no_number ls x ≡ None → is_number (slice_get all slot) ≡ true
+pub number_bound : (ls : List LocalDeclaration) (lo : ℕ) (all : List Sort) (x : List ℕ) (slot : ℕ) → ArePlaced lo all ls → IsSlotOfInnermost x ls slot → no_number ls x ≡ None → is_number (slice_get all slot) ≡ true
 number_bound ls lo all x slot h i none =
     let b = its_binding ls lo all x slot h i in
     ap is_number b.at ∙ not_stream x b.bound.sort (bound_if if_stream x (binding_of x ls) b.bound b.binding none)
 
-pub input_bound : (ls : List Local) (lo : ℕ) (all : List Sort) (x : List ℕ) (slot : ℕ) → ArePlaced lo all ls → IsSlotOfInnermost x ls slot → no_input ls x ≡ None → is_input_at (slice_get all slot) ≡ true
+pub input_bound : (ls : List LocalDeclaration) (lo : ℕ) (all : List Sort) (x : List ℕ) (slot : ℕ) → ArePlaced lo all ls → IsSlotOfInnermost x ls slot → no_input ls x ≡ None → is_input_at (slice_get all slot) ≡ true
 input_bound ls lo all x slot h i none =
     let b = its_binding ls lo all x slot h i in
     ap is_input_at b.at ∙ is_input x b.bound.sort (bound_if unless_input x (binding_of x ls) b.bound b.binding none)
 
-pub output_bound : (ls : List Local) (lo : ℕ) (all : List Sort) (x : List ℕ) (slot : ℕ) → ArePlaced lo all ls → IsSlotOfInnermost x ls slot → no_output ls x ≡ None → is_output_at (slice_get all slot) ≡ true
+pub output_bound : (ls : List LocalDeclaration) (lo : ℕ) (all : List Sort) (x : List ℕ) (slot : ℕ) → ArePlaced lo all ls → IsSlotOfInnermost x ls slot → no_output ls x ≡ None → is_output_at (slice_get all slot) ≡ true
 output_bound ls lo all x slot h i none =
     let b = its_binding ls lo all x slot h i in
     ap is_output_at b.at ∙ is_output x b.bound.sort (bound_if unless_output x (binding_of x ls) b.bound b.binding none)
 
 -- what is no stream among some declarations is none behind further ones, of numbers
 
-abbrev pub IsNumber : Local → Type 0
+abbrev pub IsNumber : LocalDeclaration → Type 0
 IsNumber l = is_number (Some l.bound.sort) ≡ true
 
-pub placed_numbers : (lo : ℕ) (all : List Sort) (ls : List Local) → ArePlaced lo all ls → ((y : ℕ) → Among (slots ls) y → is_number (slice_get all y) ≡ true) → Each IsNumber ls
+pub placed_numbers : (lo : ℕ) (all : List Sort) (ls : List LocalDeclaration) → ArePlaced lo all ls → ((y : ℕ) → Among (slots ls) y → is_number (slice_get all y) ≡ true) → Each IsNumber ls
 placed_numbers lo all [] h f = tt
 placed_numbers lo all (l ∷ ls) h f =
     (ap is_number (sym h.0.sort) ∙ f l.bound.slot (first_of l.bound.slot (slots ls)), placed_numbers lo all ls h.1 (λ y a. f y (among_behind l.bound.slot (slots ls) y a)))
@@ -253,21 +253,21 @@ number_not_stream x (Value t) h = refl
 number_not_stream x Input h = absurd (cc h)
 number_not_stream x Output h = absurd (cc h)
 
-abbrev stream_found : List ℕ → Option Local → Option (List ℕ)
-stream_found x o = if_bound if_stream x (option_map (λ (l : Local). l.bound) o)
+abbrev stream_found : List ℕ → Option LocalDeclaration → Option (List ℕ)
+stream_found x o = if_bound if_stream x (option_map (λ (l : LocalDeclaration). l.bound) o)
 
-number_by : (x : List ℕ) (ls more : List Local) (o : Option Local) → Found local_name x more o → Each IsNumber more → no_number ls x ≡ None → stream_found x (option_or o (found local_name x ls)) ≡ None
+number_by : (x : List ℕ) (ls more : List LocalDeclaration) (o : Option LocalDeclaration) → Found local_name x more o → Each IsNumber more → no_number ls x ≡ None → stream_found x (option_or o (found local_name x ls)) ≡ None
 number_by x ls more None f h e = e
 number_by x ls more (Some l) f h e = number_not_stream x l.bound.sort (at_place IsNumber more f.outer l f.inner f.whole h)
 
-found_both : (x : List ℕ) (ls more : List Local) → found local_name x (ls ++ more) ≡ option_or (found local_name x more) (found local_name x ls)
-found_both x ls more = ap (find (λ (l : Local). bytes_eq l.name x)) (reverse-append ls more) ∙ find-append (λ (l : Local). bytes_eq l.name x) (reverse more) (reverse ls)
+found_both : (x : List ℕ) (ls more : List LocalDeclaration) → found local_name x (ls ++ more) ≡ option_or (found local_name x more) (found local_name x ls)
+found_both x ls more = ap (find (λ (l : LocalDeclaration). bytes_eq l.name x)) (reverse-append ls more) ∙ find-append (λ (l : LocalDeclaration). bytes_eq l.name x) (reverse more) (reverse ls)
 
-pub number_behind : (ls more : List Local) → Each IsNumber more → (x : List ℕ) → no_number ls x ≡ None → no_number (ls ++ more) x ≡ None
+pub number_behind : (ls more : List LocalDeclaration) → Each IsNumber more → (x : List ℕ) → no_number ls x ≡ None → no_number (ls ++ more) x ≡ None
 number_behind ls more h x e = ap (stream_found x) (found_both x ls more) ∙ number_by x ls more (found local_name x more) (is_found local_name x more) h e
 
 -- the variables of an expression are numbers, where what is one among the declarations `asked` is one among those around
-module _ (asked ls : List Local) (lo : ℕ) (all : List Sort) (placed : ArePlaced lo all ls) (further : (x : List ℕ) → no_number asked x ≡ None → no_number ls x ≡ None) where
+module _ (asked ls : List LocalDeclaration) (lo : ℕ) (all : List Sort) (placed : ArePlaced lo all ls) (further : (x : List ℕ) → no_number asked x ≡ None → no_number ls x ≡ None) where
   pub expr_numbers : {a : Expr} {r : UExpr} → BindsExpr ls a r → stream_in asked a ≡ None → (y : ℕ) → Names (names_in r) y → is_number (slice_get all y) ≡ true
   expr_numbers (is.number {n = n}) h y k = none_named y (subst (λ us. Names us y) (names_number n) k)
   expr_numbers (is.variable {x = x} {slot = slot} i) h y k =
@@ -307,19 +307,19 @@ is_told : (x : List ℕ) (b : Bool) → if_false x b ≡ None → b ≡ true
 is_told x true h = refl
 is_told x false h = absurd (cc h)
 
-fits_bound : (s : Sort) (o : Option Bound) (b : Bound) → o ≡ Some b → sc.fits s o ≡ true → same_sort s b.sort ≡ true
+fits_bound : (s : Sort) (o : Option Bound) (b : Bound) → o ≡ Some b → sc.sort_fits s o ≡ true → same_sort s b.sort ≡ true
 fits_bound s None b e h = absurd (cc e)
 fits_bound s (Some c) b e h = let same : c ≡ b = cc e in subst (λ (z : Bound). same_sort s z.sort ≡ true) same h
 
-no_name : {A : Type 0} (ls : List Local) (p : Param) (o : Option (List ℕ)) → o ≡ None → wrong_ref ls p o ≡ None → A
+no_name : {A : Type 0} (ls : List LocalDeclaration) (p : Param) (o : Option (List ℕ)) → o ≡ None → wrong_ref ls p o ≡ None → A
 no_name ls p None e h = absurd (cc h)
 no_name ls p (Some x) e h = absurd (cc e)
 
-one_name : (ls : List Local) (p : Param) (o : Option (List ℕ)) (x : List ℕ) → o ≡ Some x → wrong_ref ls p o ≡ None → sc.fits p.sort (binding_of x ls) ≡ true
+one_name : (ls : List LocalDeclaration) (p : Param) (o : Option (List ℕ)) (x : List ℕ) → o ≡ Some x → wrong_ref ls p o ≡ None → sc.sort_fits p.sort (binding_of x ls) ≡ true
 one_name ls p None x e h = absurd (cc e)
-one_name ls p (Some y) x e h = let same : y ≡ x = cc e in subst (λ z. sc.fits p.sort (binding_of z ls) ≡ true) same (is_told y (sc.fits p.sort (binding_of y ls)) h)
+one_name ls p (Some y) x e h = let same : y ≡ x = cc e in subst (λ z. sc.sort_fits p.sort (binding_of z ls) ≡ true) same (is_told y (sc.sort_fits p.sort (binding_of y ls)) h)
 
-module _ (ls : List Local) (lo : ℕ) (all : List Sort) (placed : ArePlaced lo all ls) where
+module _ (ls : List LocalDeclaration) (lo : ℕ) (all : List Sort) (placed : ArePlaced lo all ls) where
   lent_suits : {a : Expr} {r : UExpr} → BindsExpr ls a r → (p : Param) (q : UParam) → q.sort ≡ p.sort → wrong_ref ls p (scopes.bare a) ≡ None → ArgSuits true all q r
   lent_suits (is.number {n = n}) p q same h = no_name ls p (scopes.bare (e.Number n)) (name_number n) h
   lent_suits (is.variable {x = x} {slot = slot} i) p q same h =
@@ -345,10 +345,10 @@ module _ (ls : List Local) (lo : ℕ) (all : List Sort) (placed : ArePlaced lo a
 
 -- what an argument names
 
-lent_names : (ls : List Local) (o : Option ℕ) (us : List Use) → OnlyNames (slots ls) us → ((x : ℕ) → o ≡ Some x → Among (slots ls) x) → OnlyNames (slots ls) (lent_uses o us)
+lent_names : (ls : List LocalDeclaration) (o : Option ℕ) (us : List Use) → OnlyNames (slots ls) us → ((x : ℕ) → o ≡ Some x → Among (slots ls) x) → OnlyNames (slots ls) (lent_uses o us)
 lent_names ls None us h f = h
 lent_names ls (Some x) us h f = only_written (slots ls) x (f x refl)
 
-pub arg_names : (b : Bool) {ls : List Local} {a : Expr} {r : UExpr} → BindsExpr ls a r → OnlyNames (slots ls) (arg_uses b r)
+pub arg_names : (b : Bool) {ls : List LocalDeclaration} {a : Expr} {r : UExpr} → BindsExpr ls a r → OnlyNames (slots ls) (arg_uses b r)
 arg_names true {ls = ls} {r = r} k = lent_names ls (bare r) (names_in r) (expr_names k) (λ x e. (expr_names k).among x (bare_named k x e))
 arg_names false k = expr_names k

@@ -12,9 +12,9 @@ use Rattle.shim_units.specs.declared.unit.Unit.{Unit as UnitOf}
 use Rattle.shim_units.specs.declared.unit.Arg.{Arg}
 use Rattle.shim_units.specs.declared.unit.UStmt.{UStmt}
 use Rattle.shim_units.specs.declared.slot_map.SlotMap.{SlotMap}
-use Rattle.shim_units.specs.Captures.{Captures, captures, taken_of, declares, writes, names, is_reference, is_taken}
+use Rattle.shim_units.specs.Captures.{Captures, captures, taken_of, declares_variable, writes, names, is_reference, is_taken}
 use Rattle.shim_units.specs.Moving.{slot_index_of, by_mode}
-use Rattle.shim_units.specs.Parts.{LiftContext, Part, Place, Lifts, all_uses, all_places, all_declares, all_tries}
+use Rattle.shim_units.specs.Parts.{LiftContext, Part, SharingPlace, Lifts, all_uses, all_places, all_declares, all_tries}
 use Rattle.shim_units.specs.Rule.{Obey}
 use Rattle.shim_units.specs.Lifting.{lift_all, on_tree, lift_two, is_among, sort_of, sort_or_bool, branch_param, branch_arg, branch_call, branch_unit, branch_captures, branch_slots, branch_exceptions, branch_inner, lift_branch}
 use Rattle.shim_units.specs.Units.{upto}
@@ -134,11 +134,11 @@ pub stands_some : (around : List ℕ) (ns us : List Use) (ds : List ℕ) (w : Sl
 stands_some around ns us ds w xs f s = record { there = λ y h k. s.there y h (f y k); known = λ y h k. s.known y h (f y k); own = λ y h. none_among y h; once = s.once }
 
 -- the places of two parts
-pub obeys_first : (sorts : List Sort) (ps qs : List Place) → Obey sorts (ps ++ qs) → Obey sorts ps
+pub obeys_first : (sorts : List Sort) (ps qs : List SharingPlace) → Obey sorts (ps ++ qs) → Obey sorts ps
 obeys_first sorts [] qs h = tt
 obeys_first sorts (p ∷ ps) qs h = (h.0, obeys_first sorts ps qs h.1)
 
-pub obeys_second : (sorts : List Sort) (ps qs : List Place) → Obey sorts (ps ++ qs) → Obey sorts qs
+pub obeys_second : (sorts : List Sort) (ps qs : List SharingPlace) → Obey sorts (ps ++ qs) → Obey sorts qs
 obeys_second sorts [] qs h = h
 obeys_second sorts (p ∷ ps) qs h = obeys_second sorts ps qs h.1
 
@@ -157,13 +157,13 @@ module _ (form : Form) (fs : List RFunction) where
   UnitInScope u = unit_scoped form u ≡ true
 
   -- A part whose places obey the sharing rule. Its tree is right wherever it stands, and puts these into the scope of what follows it; the units that are lifted out of it are right.
-  pub record LiftsScoped {T : Type 0} (check : UnitOf → T → Scoped) (around : List ℕ) (all : List Sort) (top : List ℕ) (us : List Use) (ds : List ℕ) (ps : List Place) (f : Lifts T) : Type 0 where
+  pub record LiftsScoped {T : Type 0} (check : UnitOf → T → Scoped) (around : List ℕ) (all : List Sort) (top : List ℕ) (us : List Use) (ds : List ℕ) (ps : List SharingPlace) (f : Lifts T) : Type 0 where
     pub tree : (context : LiftContext) (w : SlotMap) (n : ℕ) (u : UnitOf) (xs : List ℕ) → Lies all context w u → Stands around us ds w xs → Obey all ps → StandFrom form n (f context w n).units → (check u (f context w n).tree).right xs ≡ true
     pub declared : (context : LiftContext) (w : SlotMap) (n : ℕ) (u : UnitOf) (y : ℕ) → Among top y → Among (check u (f context w n).tree).declares (slot_index_of w.slots y)
     pub units : (context : LiftContext) (w : SlotMap) (n : ℕ) (u : UnitOf) (xs : List ℕ) → Lies all context w u → Stands around us ds w xs → Obey all ps → StandFrom form n (f context w n).units → Each UnitInScope (f context w n).units
 
   -- with something around the tree
-  pub on_it : {S T : Type 0} (check : UnitOf → S → Scoped) (better : UnitOf → T → Scoped) (around : List ℕ) (all : List Sort) (top all_top : List ℕ) (us : List Use) (ds : List ℕ) (ps : List Place) (g : SlotMap → S → T) (f : Lifts S)
+  pub on_it : {S T : Type 0} (check : UnitOf → S → Scoped) (better : UnitOf → T → Scoped) (around : List ℕ) (all : List Sort) (top all_top : List ℕ) (us : List Use) (ds : List ℕ) (ps : List SharingPlace) (g : SlotMap → S → T) (f : Lifts S)
       → ((u : UnitOf) (w : SlotMap) (s : S) (xs : List ℕ) → (better u (g w s)).right xs ≡ (check u s).right xs)
       → ((u : UnitOf) (w : SlotMap) (s : S) (y : ℕ) → ((z : ℕ) → Among top z → Among (check u s).declares (slot_index_of w.slots z)) → Among all_top y → Among (better u (g w s)).declares (slot_index_of w.slots y))
       → LiftsScoped check around all top us ds ps f → LiftsScoped better around all all_top us ds ps (λ context w n. on_tree (g w) (f context w n))
@@ -174,7 +174,7 @@ module _ (form : Form) (fs : List RFunction) where
   }
 
   -- behind what is read first, which puts nothing into scope
-  pub after_reads : {S T : Type 0} (check : UnitOf → S → Scoped) (better : UnitOf → T → Scoped) (around : List ℕ) (all : List Sort) (top : List ℕ) (ns us : List Use) (ds : List ℕ) (ps : List Place) (g : SlotMap → S → T) (f : Lifts S) (reads : SlotMap → UnitOf → List ℕ → Bool)
+  pub after_reads : {S T : Type 0} (check : UnitOf → S → Scoped) (better : UnitOf → T → Scoped) (around : List ℕ) (all : List Sort) (top : List ℕ) (ns us : List Use) (ds : List ℕ) (ps : List SharingPlace) (g : SlotMap → S → T) (f : Lifts S) (reads : SlotMap → UnitOf → List ℕ → Bool)
       → ((u : UnitOf) (w : SlotMap) (s : S) (xs : List ℕ) → (better u (g w s)).right xs ≡ (reads w u xs && (check u s).right xs))
       → ((context : LiftContext) (w : SlotMap) (u : UnitOf) (xs : List ℕ) → Lies all context w u → Stands around ns [] w xs → reads w u xs ≡ true)
       → LiftsScoped check around all top us ds ps f → LiftsScoped better around all [] (ns ++ us) ds ps (λ context w n. on_tree (g w) (f context w n))
@@ -188,7 +188,7 @@ module _ (form : Form) (fs : List RFunction) where
   }
 
   -- two, one after the other; the second one has these in scope, by those of the first
-  pub two : {R S T : Type 0} (check : UnitOf → R → Scoped) (fine : UnitOf → S → Scoped) (better : UnitOf → T → Scoped) (around next : List ℕ) (all : List Sort) (top more all_top : List ℕ) (us vs : List Use) (ds es : List ℕ) (ps qs : List Place)
+  pub two : {R S T : Type 0} (check : UnitOf → R → Scoped) (fine : UnitOf → S → Scoped) (better : UnitOf → T → Scoped) (around next : List ℕ) (all : List Sort) (top more all_top : List ℕ) (us vs : List Use) (ds es : List ℕ) (ps qs : List SharingPlace)
       (g : SlotMap → R → S → T) (f : Lifts R) (h : Lifts S) (scope : UnitOf → R → List ℕ → List ℕ)
       → ((y : ℕ) → Among next y → Among around y ⊎ Among ds y)
       → ((u : UnitOf) (w : SlotMap) (r : R) (xs : List ℕ) → ((z : ℕ) → Among top z → Among (check u r).declares (slot_index_of w.slots z)) → ((z : ℕ) → Among around z → Names (us ++ vs) z → Among xs (slot_index_of w.slots z))
@@ -292,12 +292,12 @@ module _ (form : Form) (fs : List RFunction) where
     not_declared y h d = let low = (is_around y h).0 in let high = facts.fresh y d in absurd (omega (arith, low, high))
 
     around_taken : (y : ℕ) → Among around y → Names us y → is_taken (takes y) ≡ true
-    around_taken y h n = let w = is_around y h in named_taken (slice_get all y) w.1 (declares us y) (writes us y) (names us y) w.2 (not_declared y h) n
+    around_taken y h n = let w = is_around y h in named_taken (slice_get all y) w.1 (declares_variable us y) (writes us y) (names us y) w.2 (not_declared y h) n
 
     -- a number that is taken is around the branch, and named in it
     taken_around : (y : ℕ) → is_taken (takes y) ≡ true → Among around y × Names us y
     taken_around y h =
-        let w = taken_named (slice_get all y) (declares us y) (writes us y) (names us y) h in
+        let w = taken_named (slice_get all y) (declares_variable us y) (writes us y) (names us y) h in
         let n : Names us y = elim w.1 [ inl e ↦ e | inr e ↦ writes_names us y e ] in
         elim (facts.used y n) [ inl a ↦ (a, n) | inr d ↦ absurd (true≢false (sym d ∙ w.0)) ]
 
@@ -346,7 +346,7 @@ module _ (form : Form) (fs : List RFunction) where
           let at : slice_get u.slots i ≡ Some (sort_of context.function y) = sort_there w u y e (its_slots w y h) in
           let number : is_reference (branch_captures context ps y) ≡ false → is_number (Some (sort_of context.function y)) ≡ true = λ no.
           ap (λ (l : List Sort). is_number (Some (sort_or_bool (slice_get l y)))) same_slots
-          ∙ number_there (slice_get all y) (copied_number (slice_get all y) (declares us y) (writes us y) (names us y) (its_taken w y h) (ap (λ (c : Captures). is_reference (c y)) (sym same_captures) ∙ no)) in
+          ∙ number_there (slice_get all y) (copied_number (slice_get all y) (declares_variable us y) (writes us y) (names us y) (its_taken w y h) (ap (λ (c : Captures). is_reference (c y)) (sym same_captures) ∙ no)) in
           by_mode_right (is_reference (branch_captures context ps y)) u xs (branch_param context.function (branch_captures context ps) y) i (s.known y t.0 t.1)
           (ap (same_kind (sort_of context.function y)) at ∙ same_kind_itself (sort_of context.function y)) number (λ no. ap is_number at ∙ number no)
 

@@ -3,7 +3,7 @@ use Rattle.std.proofs.Common.{ℕ, suc, ◌+◌, ◌≡◌, ◌∙◌, ◌⊎◌
 use Rattle.std.specs.List.{filter}
 use Rattle.std.proofs.lemmas.Bool.{and_parts}
 use Rattle.shim_units.specs.declared.found.Use.{Use}
-use Rattle.shim_units.specs.Captures.{some, declares, writes, names, is_written}
+use Rattle.shim_units.specs.Captures.{some, declares_variable, writes, names, is_written}
 use Rattle.shim_units.specs.Lifting.{is_among}
 use Rattle.shim_units.specs.Moving.{slot_index_of}
 use Rattle.shim_laws_sources.proofs.Placing.{index_of, some_first, some_second}
@@ -17,7 +17,7 @@ abbrev pub Names : List Use → ℕ → Type 0
 Names us y = names us y ≡ true
 
 abbrev pub Declares : List Use → ℕ → Type 0
-Declares us y = declares us y ≡ true
+Declares us y = declares_variable us y ≡ true
 
 some_either : (p : Use → Bool) (us vs : List Use) → some p (us ++ vs) ≡ true → (some p us ≡ true) ⊎ (some p vs ≡ true)
 some_either p [] vs h = inr h

@@ -22,13 +22,13 @@ use Rattle.shim_units.specs.declared.unit.UWhat.{UWhat}
 use Rattle.shim_units.specs.declared.unit.UWhat.TheVariants as u
 use Rattle.shim_units.specs.declared.slot_map.SlotMap.{SlotMap}
 use Rattle.shim_units.specs.Calls.{params_at}
-use Rattle.shim_units.specs.Moving.{slot_index_of, slot_index_of_option, moved, moved_option, moved_call}
-use Rattle.shim_units.specs.Parts.{LiftContext, Part, Place, Lifts, all_uses, all_places, all_declares, each_uses}
+use Rattle.shim_units.specs.Moving.{slot_index_of, slot_index_of_option, renumbered, moved_option, moved_call}
+use Rattle.shim_units.specs.Parts.{LiftContext, Part, SharingPlace, Lifts, all_uses, all_places, all_declares, each_uses}
 use Rattle.shim_units.specs.Uses.{used, names_in, names_in_option, variable_uses, call_uses}
 use Rattle.shim_units.specs.Own.{some_slot}
 use Rattle.shim_units.specs.Places.{call_place}
 use Rattle.shim_units.specs.Rule.{Obey}
-use Rattle.shim_units.specs.Lifting.{lift_all, whole, on_tree, lift_two, is_among, sort_of, sort_or_bool, branch_slots}
+use Rattle.shim_units.specs.Lifting.{lift_all, unlifted, on_tree, lift_two, is_among, sort_of, sort_or_bool, branch_slots}
 use Rattle.shim_units.specs.PartFold.{branch_what_step, what_step, branch_step, stmt_step, part, parts, branch_part, branch_parts}
 use Rattle.shim_units.proofs.PartSteps.{branch_what_part, what_part}
 use Rattle.shim_process.specs.LocalState.{unit_at}
@@ -64,7 +64,7 @@ only_facts around lo all us n = record {
 }
 
 module _ (form : Form) (fs : List RFunction) where
-  pub record InScope {T : Type 0} (check : UnitOf → T → Scoped) (around : List ℕ) (lo hi : ℕ) (all : List Sort) (top : List ℕ) (us : List Use) (ds : List ℕ) (ps : List Place) (f : Lifts T) : Type 0 where
+  pub record InScope {T : Type 0} (check : UnitOf → T → Scoped) (around : List ℕ) (lo hi : ℕ) (all : List Sort) (top : List ℕ) (us : List Use) (ds : List ℕ) (ps : List SharingPlace) (f : Lifts T) : Type 0 where
     pub facts : Facts around lo hi all us ds
     pub tops : (y : ℕ) → Among top y → Among ds y
     pub lifts : LiftsScoped form fs check around all top us ds ps f
@@ -93,7 +93,7 @@ module _ (form : Form) (fs : List RFunction) where
   calls_in u bs = declares_none (λ xs. all_calls_right form u xs bs)
 
   -- what a branch is, and what it takes by reference
-  pub record OneBranch {T : Type 0} (check : UnitOf → T → Scoped) (its : T → UCall) (around : List ℕ) (lo hi : ℕ) (all : List Sort) (us : List Use) (ps : List Place) (f : Lifts T) : Type 0 where
+  pub record OneBranch {T : Type 0} (check : UnitOf → T → Scoped) (its : T → UCall) (around : List ℕ) (lo hi : ℕ) (all : List Sort) (us : List Use) (ps : List SharingPlace) (f : Lifts T) : Type 0 where
     pub inside : InScope check around lo hi all [] us [] ps f
     pub refers : (context : LiftContext) (w : SlotMap) (n : ℕ) → context.function.slots ≡ all → context.functions ≡ fs → ((y : ℕ) → Among around y → Names us y → Among w.slots y) → RefersTo all w us (its (f context w n).tree)
 
@@ -120,9 +120,9 @@ module _ (form : Form) (fs : List RFunction) where
   right_of c d xs e = ap (λ (z : Scoped). z.right xs) e
 
   -- a statement that declares nothing and has no parts
-  plain : (around : List ℕ) (lo : ℕ) (all : List Sort) (us : List Use) (ps : List Place) (f : LiftContext → SlotMap → UWhat) → OnlyNames around us
+  plain : (around : List ℕ) (lo : ℕ) (all : List Sort) (us : List Use) (ps : List SharingPlace) (f : LiftContext → SlotMap → UWhat) → OnlyNames around us
       → ((context : LiftContext) (w : SlotMap) (v : UnitOf) (xs : List ℕ) → Lies form fs all context w v → Stands around us [] w xs → Obey all ps → (what_in form v (f context w)).right xs ≡ true)
-      → InScope (what_in form) around lo lo all [] us [] ps (λ context w n. whole (f context w))
+      → InScope (what_in form) around lo lo all [] us [] ps (λ context w n. unlifted (f context w))
   plain around lo all us ps f n h = record {
     facts = only_facts around lo all us n;
     tops = λ y a. a;
@@ -208,9 +208,9 @@ module _ (form : Form) (fs : List RFunction) where
   unfolding roll-RWhat denote.Hole.Carrier.roll
   part_assign around lo all x e a number n line =
       let us : List Use = used Written x ∷ names_in e in
-      at_part around lo lo all [] line (RWhat-F.Assign x e) (plain around lo all us [] (λ context w. u.Assign (slot_index_of w.slots x) (moved w.slots e)) (only_both around (used Written x ∷ []) (names_in e) (only_written around x a) n.names)
-      (λ context w v xs lies s o. right_of _ _ xs (in_assign form v (slot_index_of w.slots x) (moved w.slots e))
-      ∙ both_hold (has_number v xs (slot_index_of w.slots x)) (reads_right v xs (moved w.slots e)) (number_here around all us context w v xs lies s x a (first_written x (names_in e)) number)
+      at_part around lo lo all [] line (RWhat-F.Assign x e) (plain around lo all us [] (λ context w. u.Assign (slot_index_of w.slots x) (renumbered w.slots e)) (only_both around (used Written x ∷ []) (names_in e) (only_written around x a) n.names)
+      (λ context w v xs lies s o. right_of _ _ xs (in_assign form v (slot_index_of w.slots x) (renumbered w.slots e))
+      ∙ both_hold (has_number v xs (slot_index_of w.slots x)) (reads_right v xs (renumbered w.slots e)) (number_here around all us context w v xs lies s x a (first_written x (names_in e)) number)
       (reads_moved w.slots v xs e (read_here around all (names_in e) us [] n (λ y k. names_second (used Written x ∷ []) (names_in e) y k) context w v xs lies s))))
 
   pub part_next : (around : List ℕ) (lo : ℕ) (all : List Sort) (x : ℕ) → Among around x → is_number (slice_get all x) ≡ true → WhatIn around lo lo all [] (r.Next x)
@@ -224,9 +224,9 @@ module _ (form : Form) (fs : List RFunction) where
   unfolding roll-RWhat denote.Hole.Carrier.roll
   part_next_assign around lo all x e a number n line =
       let us : List Use = used Written x ∷ names_in e in
-      at_part around lo lo all [] line (RWhat-F.NextAssign x e) (plain around lo all us [] (λ context w. u.NextAssign (slot_index_of w.slots x) (moved w.slots e)) (only_both around (used Written x ∷ []) (names_in e) (only_written around x a) n.names)
-      (λ context w v xs lies s o. right_of _ _ xs (in_next_assign form v (slot_index_of w.slots x) (moved w.slots e))
-      ∙ both_hold (has_number v xs (slot_index_of w.slots x)) (reads_right v xs (moved w.slots e)) (number_here around all us context w v xs lies s x a (first_written x (names_in e)) number)
+      at_part around lo lo all [] line (RWhat-F.NextAssign x e) (plain around lo all us [] (λ context w. u.NextAssign (slot_index_of w.slots x) (renumbered w.slots e)) (only_both around (used Written x ∷ []) (names_in e) (only_written around x a) n.names)
+      (λ context w v xs lies s o. right_of _ _ xs (in_next_assign form v (slot_index_of w.slots x) (renumbered w.slots e))
+      ∙ both_hold (has_number v xs (slot_index_of w.slots x)) (reads_right v xs (renumbered w.slots e)) (number_here around all us context w v xs lies s x a (first_written x (names_in e)) number)
       (reads_moved w.slots v xs e (read_here around all (names_in e) us [] n (λ y k. names_second (used Written x ∷ []) (names_in e) y k) context w v xs lies s))))
 
   pub part_assign_next : (around : List ℕ) (lo : ℕ) (all : List Sort) (x y : ℕ) → Among around x → is_number (slice_get all x) ≡ true → Among around y → is_number (slice_get all y) ≡ true → WhatIn around lo lo all [] (r.AssignNext x y)
@@ -253,9 +253,9 @@ module _ (form : Form) (fs : List RFunction) where
   unfolding roll-RWhat denote.Hole.Carrier.roll
   part_put around lo all x e a output n line =
       let us : List Use = used Named x ∷ names_in e in
-      at_part around lo lo all [] line (RWhat-F.Put x e) (plain around lo all us [] (λ context w. u.Put (slot_index_of w.slots x) (moved w.slots e)) (only_both around (used Named x ∷ []) (names_in e) (only_named around x a) n.names)
-      (λ context w v xs lies s o. right_of _ _ xs (in_put form v (slot_index_of w.slots x) (moved w.slots e))
-      ∙ both_hold (has_output v xs (slot_index_of w.slots x)) (reads_right v xs (moved w.slots e)) (output_here around all us context w v xs lies s x a (first_named x (names_in e)) output)
+      at_part around lo lo all [] line (RWhat-F.Put x e) (plain around lo all us [] (λ context w. u.Put (slot_index_of w.slots x) (renumbered w.slots e)) (only_both around (used Named x ∷ []) (names_in e) (only_named around x a) n.names)
+      (λ context w v xs lies s o. right_of _ _ xs (in_put form v (slot_index_of w.slots x) (renumbered w.slots e))
+      ∙ both_hold (has_output v xs (slot_index_of w.slots x)) (reads_right v xs (renumbered w.slots e)) (output_here around all us context w v xs lies s x a (first_named x (names_in e)) output)
       (reads_moved w.slots v xs e (read_here around all (names_in e) us [] n (λ y k. names_second (used Named x ∷ []) (names_in e) y k) context w v xs lies s))))
 
   pub part_throw : (around : List ℕ) (lo : ℕ) (all : List Sort) (x : ℕ) (e : Option UExpr) → ReadsNumbers around all (names_in_option e) → WhatIn around lo lo all [] (r.Throw x e)
@@ -287,7 +287,7 @@ module _ (form : Form) (fs : List RFunction) where
     from_top top ds h y a = elim (among_either around top y a) [ inl b ↦ inl b | inr b ↦ inr (h y b) ]
 
     -- two, of which the second one has what the first declares in scope
-    pub sequence : {R S T : Type 0} (check : UnitOf → R → Scoped) (fine : UnitOf → S → Scoped) (better : UnitOf → T → Scoped) (top more all_top : List ℕ) (us vs : List Use) (ds es : List ℕ) (ps qs : List Place) (g : SlotMap → R → S → T) (f : Lifts R) (h : Lifts S)
+    pub sequence : {R S T : Type 0} (check : UnitOf → R → Scoped) (fine : UnitOf → S → Scoped) (better : UnitOf → T → Scoped) (top more all_top : List ℕ) (us vs : List Use) (ds es : List ℕ) (ps qs : List SharingPlace) (g : SlotMap → R → S → T) (f : Lifts R) (h : Lifts S)
         → ((v : UnitOf) (w : SlotMap) (x : R) (y : S) (xs : List ℕ) → (better v (g w x y)).right xs ≡ ((check v x).right xs && (fine v y).right ((check v x).declares ++ xs)))
         → ((v : UnitOf) (w : SlotMap) (x : R) (y : S) (z : ℕ) → ((i : ℕ) → Among top i → Among (check v x).declares (slot_index_of w.slots i)) → ((i : ℕ) → Among more i → Among (fine v y).declares (slot_index_of w.slots i))
         → Among all_top z → Among (better v (g w x y)).declares (slot_index_of w.slots z))
@@ -305,7 +305,7 @@ module _ (form : Form) (fs : List RFunction) where
     }
 
     -- two blocks
-    pub blocks : {R S T : Type 0} (check : UnitOf → R → Scoped) (fine : UnitOf → S → Scoped) (better : UnitOf → T → Scoped) (top more : List ℕ) (us vs : List Use) (ds es : List ℕ) (ps qs : List Place) (g : SlotMap → R → S → T) (f : Lifts R) (h : Lifts S)
+    pub blocks : {R S T : Type 0} (check : UnitOf → R → Scoped) (fine : UnitOf → S → Scoped) (better : UnitOf → T → Scoped) (top more : List ℕ) (us vs : List Use) (ds es : List ℕ) (ps qs : List SharingPlace) (g : SlotMap → R → S → T) (f : Lifts R) (h : Lifts S)
         → ((v : UnitOf) (w : SlotMap) (x : R) (y : S) (xs : List ℕ) → (better v (g w x y)).right xs ≡ ((check v x).right xs && (fine v y).right xs))
         → InScope check around lo mi all top us ds ps f → InScope fine around mi hi all more vs es qs h → InScope better around lo hi all [] (us ++ vs) (ds ++ es) (ps ++ qs) (λ context w n. lift_two (g w) f h context w n)
     blocks check fine better top more us vs ds es ps qs g f h same a b = record {
@@ -315,7 +315,7 @@ module _ (form : Form) (fs : List RFunction) where
     }
 
   -- something around one, which declares nothing
-  pub enclosed : {S T : Type 0} (check : UnitOf → S → Scoped) (better : UnitOf → T → Scoped) (around : List ℕ) (lo hi : ℕ) (all : List Sort) (top : List ℕ) (us : List Use) (ds : List ℕ) (ps : List Place) (g : SlotMap → S → T) (f : Lifts S)
+  pub enclosed : {S T : Type 0} (check : UnitOf → S → Scoped) (better : UnitOf → T → Scoped) (around : List ℕ) (lo hi : ℕ) (all : List Sort) (top : List ℕ) (us : List Use) (ds : List ℕ) (ps : List SharingPlace) (g : SlotMap → S → T) (f : Lifts S)
       → ((v : UnitOf) (w : SlotMap) (s : S) (xs : List ℕ) → (better v (g w s)).right xs ≡ (check v s).right xs)
       → InScope check around lo hi all top us ds ps f → InScope better around lo hi all [] us ds ps (λ context w n. on_tree (g w) (f context w n))
   enclosed check better around lo hi all top us ds ps g f same h = record {
@@ -325,7 +325,7 @@ module _ (form : Form) (fs : List RFunction) where
   }
 
   -- something around one, which reads first, and declares nothing
-  pub behind_reads : {S T : Type 0} (check : UnitOf → S → Scoped) (better : UnitOf → T → Scoped) (around : List ℕ) (lo hi : ℕ) (all : List Sort) (top : List ℕ) (ns us : List Use) (ds : List ℕ) (ps : List Place) (g : SlotMap → S → T) (f : Lifts S) (reads : SlotMap → UnitOf → List ℕ → Bool)
+  pub behind_reads : {S T : Type 0} (check : UnitOf → S → Scoped) (better : UnitOf → T → Scoped) (around : List ℕ) (lo hi : ℕ) (all : List Sort) (top : List ℕ) (ns us : List Use) (ds : List ℕ) (ps : List SharingPlace) (g : SlotMap → S → T) (f : Lifts S) (reads : SlotMap → UnitOf → List ℕ → Bool)
       → ((v : UnitOf) (w : SlotMap) (s : S) (xs : List ℕ) → (better v (g w s)).right xs ≡ (reads w v xs && (check v s).right xs))
       → ReadsNumbers around all ns → ((w : SlotMap) (v : UnitOf) (xs : List ℕ) → AreRight w.slots v xs ns → reads w v xs ≡ true)
       → InScope check around lo hi all top us ds ps f → InScope better around lo hi all [] (ns ++ us) ds ps (λ context w n. on_tree (g w) (f context w n))
@@ -367,15 +367,15 @@ module _ (form : Form) (fs : List RFunction) where
       let f : Lifts (List UStmt × List UStmt) = λ context w i. lift_two (λ x y. (x, y)) (lift_all (parts a)) (lift_all (parts b)) context w i in
       at_part around lo hi all [] line (RWhat-F.If e a b)
       (behind_reads pair_in (what_in form) around lo hi all [] (names_in e) (us ++ vs) (all_declares (parts a) ++ all_declares (parts b)) (all_places fs (parts a) ++ all_places fs (parts b))
-      (λ w x. u.If (moved w.slots e) x.0 x.1) f (λ w v xs. reads_right v xs (moved w.slots e)) (λ v w x xs. right_of _ _ xs (in_if form v (moved w.slots e) x.0 x.1)) n (λ w v xs h. reads_moved w.slots v xs e h)
+      (λ w x. u.If (renumbered w.slots e) x.0 x.1) f (λ w v xs. reads_right v xs (renumbered w.slots e)) (λ v w x xs. right_of _ _ xs (in_if form v (renumbered w.slots e) x.0 x.1)) n (λ w v xs h. reads_moved w.slots v xs e h)
       (blocks around lo mi hi all (all_in form) (all_in form) pair_in top more us vs (all_declares (parts a)) (all_declares (parts b)) (all_places fs (parts a)) (all_places fs (parts b)) (λ w x y. (x, y)) (lift_all (parts a)) (lift_all (parts b)) (λ v w x y xs. refl) h k))
 
   pub part_while : (around : List ℕ) (lo hi : ℕ) (all : List Sort) (top : List ℕ) (e : UExpr) (body : List RStmt) → ReadsNumbers around all (names_in e) → BodyIn around lo hi all top body → WhatIn around lo hi all [] (r.While e body)
   unfolding roll-RWhat denote.Hole.Carrier.roll
   part_while around lo hi all top e body n h line =
       at_part around lo hi all [] line (RWhat-F.While e body)
-      (behind_reads (all_in form) (what_in form) around lo hi all top (names_in e) (all_uses fs (parts body)) (all_declares (parts body)) (all_places fs (parts body)) (λ w s. u.While (moved w.slots e) s) (lift_all (parts body))
-      (λ w v xs. reads_right v xs (moved w.slots e)) (λ v w s xs. right_of _ _ xs (in_while form v (moved w.slots e) s)) n (λ w v xs h. reads_moved w.slots v xs e h) h)
+      (behind_reads (all_in form) (what_in form) around lo hi all top (names_in e) (all_uses fs (parts body)) (all_declares (parts body)) (all_places fs (parts body)) (λ w s. u.While (renumbered w.slots e) s) (lift_all (parts body))
+      (λ w v xs. reads_right v xs (renumbered w.slots e)) (λ v w s xs. right_of _ _ xs (in_while form v (renumbered w.slots e) s)) n (λ w v xs h. reads_moved w.slots v xs e h) h)
 
   -- the test of a loop, and its step and its body
   abbrev loop_in : UnitOf → Option UExpr × List UStmt × List UStmt → Scoped

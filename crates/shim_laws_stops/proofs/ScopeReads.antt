@@ -7,48 +7,48 @@ use Rattle.shim_scopes.specs.declared.tree.UExpr.{UExpr, UExpr-F, fold-roll-UExp
 use Rattle.shim_scopes.specs.declared.tree.UExpr.TheVariants as to
 use Rattle.shim_units.specs.declared.found.Use.{Use}
 use Rattle.shim_units.specs.declared.unit.Unit.{Unit as UnitOf}
-use Rattle.shim_units.specs.Moving.{slot_index_of, moved_step, moved, moved_option}
+use Rattle.shim_units.specs.Moving.{slot_index_of, moved_step, renumbered, moved_option}
 use Rattle.shim_units.specs.Uses.{names_in, names_in_option}
 use Rattle.shim_base.proofs.Facts.{both_hold}
-use Rattle.shim_laws_stops.specs.InScope.{has_number, variables_step, variables_in, have_numbers, reads_right, option_right}
+use Rattle.shim_laws_stops.specs.InScope.{has_number, variables_step, variables_read, have_numbers, reads_right, option_right}
 use Rattle.shim_laws_stops.proofs.Among.{first_of}
 use Rattle.shim_laws_stops.proofs.ScopeLists.{Names, names_first, names_second}
 use Rattle.shim_laws_stops.proofs.ScopeExprs.{names_variable, names_unary, names_binary}
 
 -- what an expression of each kind reads
 
-variables_number : (n : ℤ) → variables_in (to.Number n) ≡ []
-unfolding variables_in roll-UExpr denote.Hole.Carrier.roll
+variables_number : (n : ℤ) → variables_read (to.Number n) ≡ []
+unfolding variables_read roll-UExpr denote.Hole.Carrier.roll
 variables_number n = fold-roll-UExpr (List ℕ) variables_step (UExpr-F.Number n)
 
-pub variables_variable : (x : ℕ) → variables_in (to.Var x) ≡ x ∷ []
-unfolding variables_in roll-UExpr denote.Hole.Carrier.roll
+pub variables_variable : (x : ℕ) → variables_read (to.Var x) ≡ x ∷ []
+unfolding variables_read roll-UExpr denote.Hole.Carrier.roll
 variables_variable x = fold-roll-UExpr (List ℕ) variables_step (UExpr-F.Var x)
 
-variables_unary : (op : UnOp) (a : UExpr) → variables_in (to.Unary op a) ≡ variables_in a
-unfolding variables_in roll-UExpr denote.Hole.Carrier.roll
+variables_unary : (op : UnOp) (a : UExpr) → variables_read (to.Unary op a) ≡ variables_read a
+unfolding variables_read roll-UExpr denote.Hole.Carrier.roll
 variables_unary op a = fold-roll-UExpr (List ℕ) variables_step (UExpr-F.Unary op a)
 
-variables_binary : (op : BinOp) (a b : UExpr) → variables_in (to.Binary op a b) ≡ variables_in a ++ variables_in b
-unfolding variables_in roll-UExpr denote.Hole.Carrier.roll
+variables_binary : (op : BinOp) (a b : UExpr) → variables_read (to.Binary op a b) ≡ variables_read a ++ variables_read b
+unfolding variables_read roll-UExpr denote.Hole.Carrier.roll
 variables_binary op a b = fold-roll-UExpr (List ℕ) variables_step (UExpr-F.Binary op a b)
 
 -- an expression of each kind over a unit's slots
 
-moved_number : (slots : List ℕ) (n : ℤ) → moved slots (to.Number n) ≡ to.Number n
-unfolding moved roll-UExpr denote.Hole.Carrier.roll
+moved_number : (slots : List ℕ) (n : ℤ) → renumbered slots (to.Number n) ≡ to.Number n
+unfolding renumbered roll-UExpr denote.Hole.Carrier.roll
 moved_number slots n = fold-roll-UExpr UExpr (moved_step slots) (UExpr-F.Number n)
 
-moved_variable : (slots : List ℕ) (x : ℕ) → moved slots (to.Var x) ≡ to.Var (slot_index_of slots x)
-unfolding moved roll-UExpr denote.Hole.Carrier.roll
+moved_variable : (slots : List ℕ) (x : ℕ) → renumbered slots (to.Var x) ≡ to.Var (slot_index_of slots x)
+unfolding renumbered roll-UExpr denote.Hole.Carrier.roll
 moved_variable slots x = fold-roll-UExpr UExpr (moved_step slots) (UExpr-F.Var x)
 
-moved_unary : (slots : List ℕ) (op : UnOp) (a : UExpr) → moved slots (to.Unary op a) ≡ to.Unary op (moved slots a)
-unfolding moved roll-UExpr denote.Hole.Carrier.roll
+moved_unary : (slots : List ℕ) (op : UnOp) (a : UExpr) → renumbered slots (to.Unary op a) ≡ to.Unary op (renumbered slots a)
+unfolding renumbered roll-UExpr denote.Hole.Carrier.roll
 moved_unary slots op a = fold-roll-UExpr UExpr (moved_step slots) (UExpr-F.Unary op a)
 
-moved_binary : (slots : List ℕ) (op : BinOp) (a b : UExpr) → moved slots (to.Binary op a b) ≡ to.Binary op (moved slots a) (moved slots b)
-unfolding moved roll-UExpr denote.Hole.Carrier.roll
+moved_binary : (slots : List ℕ) (op : BinOp) (a b : UExpr) → renumbered slots (to.Binary op a b) ≡ to.Binary op (renumbered slots a) (renumbered slots b)
+unfolding renumbered roll-UExpr denote.Hole.Carrier.roll
 moved_binary slots op a b = fold-roll-UExpr UExpr (moved_step slots) (UExpr-F.Binary op a b)
 
 module _ (slots : List ℕ) (u : UnitOf) (xs : List ℕ) where
@@ -57,7 +57,7 @@ module _ (slots : List ℕ) (u : UnitOf) (xs : List ℕ) where
   AreRight us = (y : ℕ) → Names us y → has_number u xs (slot_index_of slots y) ≡ true
 
   abbrev IsRight : UExpr → Type 0
-  IsRight e = AreRight (names_in e) → reads_right u xs (moved slots e) ≡ true
+  IsRight e = AreRight (names_in e) → reads_right u xs (renumbered slots e) ≡ true
 
   numbers_both : (ys zs : List ℕ) → have_numbers u xs ys ≡ true → have_numbers u xs zs ≡ true → have_numbers u xs (ys ++ zs) ≡ true
   numbers_both [] zs h k = k
@@ -75,14 +75,14 @@ module _ (slots : List ℕ) (u : UnitOf) (xs : List ℕ) where
       let named = subst (λ us. Names us x) (sym (names_variable x)) (first_of x []) in
       ap (reads_right u xs) (moved_variable slots x) ∙ ap (have_numbers u xs) (variables_variable (slot_index_of slots x)) ∙ both_hold (has_number u xs (slot_index_of slots x)) true (h x named) refl
   by_kind (UExpr-F.Unary op a) h =
-      ap (reads_right u xs) (moved_unary slots op a.0) ∙ ap (have_numbers u xs) (variables_unary op (moved slots a.0)) ∙ a.1 (λ y n. h y (subst (λ us. Names us y) (sym (names_unary op a.0)) n))
+      ap (reads_right u xs) (moved_unary slots op a.0) ∙ ap (have_numbers u xs) (variables_unary op (renumbered slots a.0)) ∙ a.1 (λ y n. h y (subst (λ us. Names us y) (sym (names_unary op a.0)) n))
   by_kind (UExpr-F.Binary op a b) h =
-      ap (reads_right u xs) (moved_binary slots op a.0 b.0) ∙ ap (have_numbers u xs) (variables_binary op (moved slots a.0) (moved slots b.0))
-      ∙ numbers_both (variables_in (moved slots a.0)) (variables_in (moved slots b.0))
+      ap (reads_right u xs) (moved_binary slots op a.0 b.0) ∙ ap (have_numbers u xs) (variables_binary op (renumbered slots a.0) (renumbered slots b.0))
+      ∙ numbers_both (variables_read (renumbered slots a.0)) (variables_read (renumbered slots b.0))
       (a.1 (λ y n. h y (subst (λ us. Names us y) (sym (names_binary op a.0 b.0)) (names_first (names_in a.0) (names_in b.0) y n))))
       (b.1 (λ y n. h y (subst (λ us. Names us y) (sym (names_binary op a.0 b.0)) (names_second (names_in a.0) (names_in b.0) y n))))
 
-  pub reads_moved : (e : UExpr) → AreRight (names_in e) → reads_right u xs (moved slots e) ≡ true
+  pub reads_moved : (e : UExpr) → AreRight (names_in e) → reads_right u xs (renumbered slots e) ≡ true
   reads_moved = ind-UExpr IsRight (λ x y is. subst (λ z. IsRight (roll-UExpr z)) is (by_kind y))
 
   pub option_moved : (e : Option UExpr) → AreRight (names_in_option e) → option_right u xs (moved_option slots e) ≡ true

@@ -4,9 +4,9 @@ use Rattle.std.proofs.lemmas.List.{length-map}
 use Rattle.shim_syntax.specs.declared.tree.Function.{Function}
 use Rattle.shim_syntax.specs.declared.tree.Param.{Param}
 use Rattle.shim_syntax.specs.declared.tree.Sort.{Sort}
-use Rattle.shim_syntax.specs.Names.{Texts, number_of}
+use Rattle.shim_syntax.specs.Names.{Texts, name_index}
 use Rattle.shim_scopes.specs.declared.form.Form.{Form as Resolved}
-use Rattle.shim_scopes.specs.declared.scope.Local.{Local}
+use Rattle.shim_scopes.specs.declared.scope.LocalDeclaration.{LocalDeclaration}
 use Rattle.shim_scopes.specs.declared.tree.RFunction.{RFunction}
 use Rattle.shim_scopes.specs.declared.tree.UParam.{UParam}
 use Rattle.shim_scopes.specs.Functions.{bind_function, bind_functions, params_from, with_param, function_begin}
@@ -22,11 +22,11 @@ use Rattle.shim_units.specs.Parts.{LiftContext}
 use Rattle.shim_units.specs.PartFold.{uses_in, declares_in}
 use Rattle.shim_units.specs.Rule.{ObeyAll, Obeys}
 use Rattle.shim_units.specs.Lifting.{sort_of, sort_or_bool}
-use Rattle.shim_units.specs.Units.{upto, text_of, function_slot_map, lift_function, lift_functions, lifted}
+use Rattle.shim_units.specs.Units.{upto, name_or_mark, function_slot_map, lift_function, lift_functions, lifted}
 use Rattle.shim_units.proofs.Counting.{upto_length}
 use Rattle.shim_process.specs.LocalState.{unit_or, unit_at}
 use Rattle.shim_laws_binding.specs.LexicalScope.{Pairwise}
-use Rattle.shim_laws_binding.specs.TextOrder.{AreInTextOrder, IsInTextOrder, Declaration, declared_param, declarations}
+use Rattle.shim_laws_binding.specs.TextOrder.{AreInTextOrder, IsInTextOrder, Declaration, declared_param, declarations_in}
 use Rattle.shim_laws_binding.proofs.Lists.{Each, each_of_both}
 use Rattle.shim_laws_binding.proofs.TextOrderLemmas.{around_body, IsMade, is_made, whole_of, is_form, slots_are_in_text_order}
 use Rattle.shim_laws_sources.proofs.Lists.{at_length, at_first}
@@ -102,7 +102,7 @@ right_by (p ∷ ps) (s ∷ ss) f g =
 
 -- headers
 
-params_suit : (names : Texts) (ps : List Param) → Each ByValueNumber ps → ParamsSuit ps (map (λ (p : Param). let q : UParam = record { sort = p.sort; by_ref = p.by_ref; name = number_of names p.name } in q) ps)
+params_suit : (names : Texts) (ps : List Param) → Each ByValueNumber ps → ParamsSuit ps (map (λ (p : Param). let q : UParam = record { sort = p.sort; by_ref = p.by_ref; name = name_index names p.name } in q) ps)
 params_suit names [] h = tt
 params_suit names (p ∷ ps) h = (refl, refl, h.0, params_suit names ps h.1)
 
@@ -126,7 +126,7 @@ headers_suit p w order texts n f e =
 
 -- where a body begins its parameters are declared
 
-placed_on : (lo : ℕ) (xs ys : List Sort) (ls : List Local) → ArePlaced lo xs ls → ArePlaced lo (xs ++ ys) ls
+placed_on : (lo : ℕ) (xs ys : List Sort) (ls : List LocalDeclaration) → ArePlaced lo xs ls → ArePlaced lo (xs ++ ys) ls
 placed_on lo xs ys [] h = tt
 placed_on lo xs ys (l ∷ ls) h = (record { sort = at_first xs ys l.bound.slot l.bound.sort h.0.sort; below = h.0.below }, placed_on lo xs ys ls h.1)
 
@@ -134,7 +134,7 @@ params_placed : (names : Texts) (ps : List Param) (b : Before) → ArePlaced (le
 params_placed names [] b h = h
 params_placed names (p ∷ ps) b h =
     let long : length (b.slots ++ p.sort ∷ []) ≡ length b.slots + 1 = length-append b.slots (p.sort ∷ []) in
-    let l : Local = local_of p.name p.sort (length b.slots) in
+    let l : LocalDeclaration = local_of p.name p.sort (length b.slots) in
     params_placed names ps (with_param names b p)
     (each_of_both (IsPlaced (length (b.slots ++ p.sort ∷ [])) (b.slots ++ p.sort ∷ [])) b.own (l ∷ [])
     (placed_later (length b.slots) (length (b.slots ++ p.sort ∷ [])) (b.slots ++ p.sort ∷ []) b.own (omega (arith, long)) (placed_on (length b.slots) b.slots (p.sort ∷ []) b.own h))
@@ -144,7 +144,7 @@ params_many : (names : Texts) (b : Before) (ps : List Param) → length (params_
 params_many names b [] = omega arith
 params_many names b (p ∷ ps) = omega (arith, params_many names (with_param names b p) ps, length-append b.slots (p.sort ∷ []))
 
-below_of : (lo : ℕ) (all : List Sort) (ls : List Local) (y : ℕ) → ArePlaced lo all ls → Among (slots ls) y → y < lo
+below_of : (lo : ℕ) (all : List Sort) (ls : List LocalDeclaration) (y : ℕ) → ArePlaced lo all ls → Among (slots ls) y → y < lo
 below_of lo all [] y h a = none_among y a
 below_of lo all (l ∷ ls) y h a = elim (among_cases l.bound.slot (slots ls) y a) [ inl e ↦ subst (λ z. z < lo) e h.0.below | inr b ↦ below_of lo all ls y h.1 b ]
 
@@ -198,11 +198,11 @@ module _ (w : Whole) (form : Form) (fs : List RFunction) (headers : HeadersSuit 
 
   params_first : (names : Texts) (f : Function) (r : RFunction) (i : ℕ) (p : UParam) → IsInTextOrder names f r → slice_get r.params i ≡ Some p → slice_get r.slots i ≡ Some p.sort
   params_first names f r i p order e =
-      let g : Param → UParam = λ q. record { sort = q.sort; by_ref = q.by_ref; name = number_of names q.name } in
+      let g : Param → UParam = λ q. record { sort = q.sort; by_ref = q.by_ref; name = name_index names q.name } in
       let q = of_map g f.params i p (ap (λ l. slice_get l i) (sym order.params) ∙ e) in
       ap (λ l. slice_get l i) order.slots
-      ∙ map_at (λ (d : Declaration). d.sort) (map declared_param f.params ++ declarations f.body) i (declared_param q.0)
-      (at_first (map declared_param f.params) (declarations f.body) i (declared_param q.0) (map_at declared_param f.params i q.0 q.1))
+      ∙ map_at (λ (d : Declaration). d.sort) (map declared_param f.params ++ declarations_in f.body) i (declared_param q.0)
+      (at_first (map declared_param f.params) (declarations_in f.body) i (declared_param q.0) (map_at declared_param f.params i q.0 q.1))
       ∙ ap (λ (z : UParam). Some z.sort) q.2
 
   slots_are_right : (names : Texts) (f : Function) (r : RFunction) → IsInTextOrder names f r → ((y : ℕ) → Among (declares_in r.body) y → is_number (slice_get r.slots y) ≡ true) → slots_right r.params (map (sort_of r) (function_slot_map r).slots) ≡ true
@@ -230,7 +230,7 @@ module _ (w : Whole) (form : Form) (fs : List RFunction) (headers : HeadersSuit 
   functions_in names number next [] (r ∷ rs) made order texts obeys stand = absurd made
   functions_in names number next (g ∷ gs) [] made order texts obeys stand = absurd made
   functions_in names number next (g ∷ gs) (r ∷ rs) made order texts obeys stand =
-      let context : LiftContext = record { functions = fs; function = r; number = number; name = text_of names r.name; first = next } in
+      let context : LiftContext = record { functions = fs; function = r; number = number; name = name_or_mark names r.name; first = next } in
       let l = lift_function names fs number next r in
       let m : ℕ = next + length l.lifted in
       let rest = lift_functions names fs (number + 1) m rs in

@@ -18,7 +18,7 @@ use Rattle.shim_process.specs.Unwinding.{handling, catching, unwound, unwind}
 use Rattle.shim_process.specs.Forks.{item_branches, child, children_from, all_lending, parent, fork, joined, join}
 use Rattle.shim_process.specs.Ops.{process_ops}
 use Rattle.shim_process.specs.Steps.{Action, Go, Store, StoreFirst, Make, Read, Enter, Install, Trapped, Wait, next_action, line_of, stored_in, made_in, read_in, half, installing, pushed, called, done, quiet}
-use Rattle.shim_process.specs.Stops.{put_value, after_put, put, thrown_value, after_throw, thrown, what_receive, stmt_receive, receive}
+use Rattle.shim_process.specs.Stops.{put_value, after_put, put, thrown_value, after_throw, throw_evaluated, what_receive, stmt_receive, receive}
 use Rattle.shim_process.proofs.CallKeeps.{fork_trapped}
 use Rattle.shim_process.proofs.ForkLending.{lends_all, Lends}
 use Rattle.shim_process.proofs.ForkParts.{Parts, parts_of, each_child}
@@ -184,8 +184,8 @@ after_throw_is : (r : Value) (l : LocalState) → IsSettled l → IsSettled (aft
 after_throw_is (Ok v) l h = h
 after_throw_is (Err t) l h = same_units l (trapped t (line_of l.frame.todo) l) refl refl h
 
-thrown_is : (l : LocalState) → IsSettled l → IsSettled (thrown l)
-unfolding thrown
+thrown_is : (l : LocalState) → IsSettled l → IsSettled (throw_evaluated l)
+unfolding throw_evaluated
 thrown_is l h = after_throw_is (thrown_value l) l h
 
 what_is : (w : UWhat-F UWhat UStmt) (v : ℤ) (l : LocalState) → IsSettled l → IsSettled (what_receive w v l)

@@ -18,7 +18,7 @@ use Rattle.shim_process.specs.Ends.{without_last, past_ends, went, is_over, sett
 use Rattle.shim_process.specs.Unwinding.{handling, taking, catching, unwound, unwind}
 use Rattle.shim_process.specs.Forks.{fork}
 use Rattle.shim_process.specs.Steps.{Action, Go, Store, StoreFirst, Make, Read, Enter, Install, Trapped, Wait, action, limited, value_or, try_name, what_action, stmt_action, next_action, stored_in, made_in, read_on, read_in, installing, pushed, called, done, quiet}
-use Rattle.shim_process.specs.Stops.{put_value, after_put, put, thrown_value, after_throw, thrown, what_receive, stmt_receive, receive}
+use Rattle.shim_process.specs.Stops.{put_value, after_put, put, thrown_value, after_throw, throw_evaluated, what_receive, stmt_receive, receive}
 use Rattle.shim_process.proofs.CallKeeps.{fork_trapped}
 use Rattle.shim_base.proofs.Facts.{choose}
 use Rattle.shim_laws_stops.specs.InScope.{AllInScope}
@@ -205,8 +205,8 @@ module _ (stream : Stream) where
   after_throw_moves (Ok v) l h = moves_none l h
   after_throw_moves (Err t) l h = record { taking = h; holds = refl; first = refl; program = refl }
 
-  pub thrown_moves : (l : LocalState) → IsTaking stream l → Moves l (thrown l)
-  unfolding thrown
+  pub thrown_moves : (l : LocalState) → IsTaking stream l → Moves l (throw_evaluated l)
+  unfolding throw_evaluated
   thrown_moves l h = after_throw_moves (thrown_value l) l h
 
   what_moves : (w : UWhat-F UWhat UStmt) (v : ℤ) (l : LocalState) → IsTaking stream l → Moves l (what_receive w v l)

@@ -14,7 +14,7 @@ use Rattle.shim_units.specs.Units.{upto}
 use Rattle.shim_process.specs.LocalState.{unit_at}
 use Rattle.shim_base.proofs.Facts.{some_same, either_holds, or_left, or_right, first_holds, second_holds, not_false}
 use Rattle.shim_laws_stops.specs.InScope.{is_number, same_kind, has_number, reads_right, argument_right, arguments_right, references, distinct, call_right, all_calls_right, are_apart, apart_from_all, branches_apart, all_numbers, slots_right, all_scoped, AllInScope}
-use Rattle.shim_laws_stops.specs.StreamHolders.{Stream, TheInput, TheOutput, is_of, is_at, takes_stream, takes, HasOneSlot}
+use Rattle.shim_laws_stops.specs.StreamHolders.{Stream, TheInput, TheOutput, is_of_stream, is_at, takes_stream, takes, HasOneSlot}
 use Rattle.shim_laws_stops.proofs.Among.{Among, first_of, among_behind}
 use Rattle.shim_laws_stops.proofs.ScopeLists.{once_first, once_rest, apart_not}
 use Rattle.shim_laws_stops.proofs.MainStreams.{stream_then, streams_once}
@@ -32,7 +32,7 @@ nothing_at : (stream : Stream) → is_at stream None ≡ true → ⊥
 nothing_at TheInput h = cc h
 nothing_at TheOutput h = cc h
 
-kind_stream : (stream : Stream) (s r : Sort) → same_kind s (Some r) ≡ true → is_at stream (Some r) ≡ true → is_of stream s ≡ true
+kind_stream : (stream : Stream) (s r : Sort) → same_kind s (Some r) ≡ true → is_at stream (Some r) ≡ true → is_of_stream stream s ≡ true
 kind_stream stream (Value t) r h k = absurd (number_not_stream stream (Some r) h k)
 kind_stream TheInput Input r h k = refl
 kind_stream TheInput Output (Value t) h k = absurd (cc h)
@@ -43,7 +43,7 @@ kind_stream TheOutput Input (Value t) h k = absurd (cc h)
 kind_stream TheOutput Input Input h k = absurd (cc k)
 kind_stream TheOutput Input Output h k = absurd (cc h)
 
-stream_kind : (stream : Stream) (s : Sort) (o : Option Sort) → is_of stream s ≡ true → same_kind s o ≡ true → is_at stream o ≡ true
+stream_kind : (stream : Stream) (s : Sort) (o : Option Sort) → is_of_stream stream s ≡ true → same_kind s o ≡ true → is_at stream o ≡ true
 stream_kind TheInput Input o h k = k
 stream_kind TheInput Output o h k = absurd (cc h)
 stream_kind TheOutput Input o h k = absurd (cc h)
@@ -51,7 +51,7 @@ stream_kind TheOutput Output o h k = k
 stream_kind TheInput (Value t) o h k = absurd (cc h)
 stream_kind TheOutput (Value t) o h k = absurd (cc h)
 
-stream_not_number : (stream : Stream) (s : Sort) → is_of stream s ≡ true → is_number (Some s) ≡ true → ⊥
+stream_not_number : (stream : Stream) (s : Sort) → is_of_stream stream s ≡ true → is_number (Some s) ≡ true → ⊥
 stream_not_number TheInput (Value t) h k = cc h
 stream_not_number TheOutput (Value t) h k = cc h
 stream_not_number stream Input h k = cc k
@@ -61,7 +61,7 @@ none_take : (stream : Stream) → takes_stream stream [] ≡ true → ⊥
 none_take TheInput h = cc h
 none_take TheOutput h = cc h
 
-takes_more : (stream : Stream) (p : UParam) (ps : List UParam) → takes_stream stream (p ∷ ps) ≡ (is_of stream p.sort || takes_stream stream ps)
+takes_more : (stream : Stream) (p : UParam) (ps : List UParam) → takes_stream stream (p ∷ ps) ≡ (is_of_stream stream p.sort || takes_stream stream ps)
 takes_more TheInput p ps = refl
 takes_more TheOutput p ps = refl
 
@@ -75,7 +75,7 @@ record AfterOne (stream : Stream) (s : Sort) (i o : Bool) (f : Bool → Bool →
   input : Bool
   output : Bool
   rest : f input output ≡ true
-  first : is_of stream s ≡ true → (came stream i o ≡ false) × (came stream input output ≡ true)
+  first : is_of_stream stream s ≡ true → (came stream i o ≡ false) × (came stream input output ≡ true)
   stays : came stream i o ≡ true → came stream input output ≡ true
 
 after_one : (stream : Stream) (s : Sort) (i o : Bool) (f : Bool → Bool → Bool) → stream_then s i o f ≡ true → AfterOne stream s i o f
@@ -99,7 +99,7 @@ module _ (stream : Stream) where
   record IsStreamParam (ps : List UParam) (x : ℕ) : Type 0 where
     param : UParam
     there : slice_get ps x ≡ Some param
-    suits : is_of stream param.sort ≡ true
+    suits : is_of_stream stream param.sort ≡ true
 
   numbers_none : (ss : List Sort) (x : ℕ) → all_numbers ss ≡ true → is_at stream (slice_get ss x) ≡ true → ⊥
   numbers_none [] x h k = none_there x k
@@ -114,8 +114,8 @@ module _ (stream : Stream) where
 
   param_takes : (ps : List UParam) (x : ℕ) → IsStreamParam ps x → takes_stream stream ps ≡ true
   param_takes [] x w = absurd (cc w.there)
-  param_takes (p ∷ ps) zero w = takes_more stream p ps ∙ or_left (is_of stream p.sort) (takes_stream stream ps) (ap (λ (z : UParam). is_of stream z.sort) (some_same p w.param w.there) ∙ w.suits)
-  param_takes (p ∷ ps) (suc x) w = takes_more stream p ps ∙ or_right (is_of stream p.sort) (takes_stream stream ps) (param_takes ps x (record { param = w.param; there = w.there; suits = w.suits }))
+  param_takes (p ∷ ps) zero w = takes_more stream p ps ∙ or_left (is_of_stream stream p.sort) (takes_stream stream ps) (ap (λ (z : UParam). is_of_stream stream z.sort) (some_same p w.param w.there) ∙ w.suits)
+  param_takes (p ∷ ps) (suc x) w = takes_more stream p ps ∙ or_right (is_of_stream stream p.sort) (takes_stream stream ps) (param_takes ps x (record { param = w.param; there = w.there; suits = w.suits }))
 
   -- so the unit takes the stream
   pub slot_takes : (program : Form) (n x : ℕ) → AllInScope program → is_at stream (slice_get (unit_at program n).slots x) ≡ true → takes stream program n ≡ true
@@ -135,7 +135,7 @@ module _ (stream : Stream) where
   later_gives u (Fresh e) args w = record { slot = w.slot; among = w.among; suits = w.suits }
 
   -- the argument for a parameter that takes the stream
-  first_gives : (u : UnitOf) (xs : List ℕ) (p : UParam) (a : Arg) (args : List Arg) → is_of stream p.sort ≡ true → argument_right u xs p a ≡ true → (x : ℕ) × (a ≡ Ref x) × (is_at stream (slice_get u.slots x) ≡ true)
+  first_gives : (u : UnitOf) (xs : List ℕ) (p : UParam) (a : Arg) (args : List Arg) → is_of_stream stream p.sort ≡ true → argument_right u xs p a ≡ true → (x : ℕ) × (a ≡ Ref x) × (is_at stream (slice_get u.slots x) ≡ true)
   first_gives u xs p (Ref x) args h k = (x, refl, stream_kind stream p.sort (slice_get u.slots x) h (and_parts _ (same_kind p.sort (slice_get u.slots x)) k).1)
   first_gives u xs p (Pass x) args h k = absurd (stream_not_number stream p.sort h (and_parts (is_number (Some p.sort)) (has_number u xs x) k).0)
   first_gives u xs p (Fresh e) args h k = absurd (stream_not_number stream p.sort h (and_parts (is_number (Some p.sort)) (reads_right u xs e) k).0)
@@ -147,14 +147,14 @@ module _ (stream : Stream) where
   param_gives u xs [] args i h w = absurd (cc w.there)
   param_gives u xs (p ∷ ps) [] i h w = absurd (cc h)
   param_gives u xs (p ∷ ps) (a ∷ args) zero h w =
-      let r = first_gives u xs p a args (ap (λ (z : UParam). is_of stream z.sort) (some_same p w.param w.there) ∙ w.suits) (and_parts (argument_right u xs p a) (arguments_right u xs ps args) h).0 in
+      let r = first_gives u xs p a args (ap (λ (z : UParam). is_of_stream stream z.sort) (some_same p w.param w.there) ∙ w.suits) (and_parts (argument_right u xs p a) (arguments_right u xs ps args) h).0 in
       reference_gives u a args r.0 r.1 r.2
   param_gives u xs (p ∷ ps) (a ∷ args) (suc i) h w =
       later_gives u a args (param_gives u xs ps args i (and_parts (argument_right u xs p a) (arguments_right u xs ps args) h).1 (record { param = w.param; there = w.there; suits = w.suits }))
 
   takes_param : (ps : List UParam) → takes_stream stream ps ≡ true → (i : ℕ) × IsStreamParam ps i
   takes_param [] h = absurd (none_take stream h)
-  takes_param (p ∷ ps) h = elim (either_holds (is_of stream p.sort) (takes_stream stream ps) (sym (takes_more stream p ps) ∙ h)) [
+  takes_param (p ∷ ps) h = elim (either_holds (is_of_stream stream p.sort) (takes_stream stream ps) (sym (takes_more stream p ps) ∙ h)) [
     | inl e ↦ (0, record { param = p; there = refl; suits = e })
     | inr e ↦ let w = takes_param ps e in (suc w.0, record { param = w.1.param; there = w.1.there; suits = w.1.suits })
   ]
@@ -181,11 +181,11 @@ module _ (stream : Stream) where
   one_param u xs (p ∷ ps) (a ∷ args) zero zero one h once w v = refl
   one_param u xs (p ∷ ps) (a ∷ args) zero (suc j) one h once w v =
       let s = and_parts (argument_right u xs p a) (arguments_right u xs ps args) h in
-      let r = first_gives u xs p a args (ap (λ (z : UParam). is_of stream z.sort) (some_same p w.param w.there) ∙ w.suits) s.0 in
+      let r = first_gives u xs p a args (ap (λ (z : UParam). is_of_stream stream z.sort) (some_same p w.param w.there) ∙ w.suits) s.0 in
       absurd (not_again u a args r.0 one r.1 r.2 once (param_gives u xs ps args j s.1 (record { param = v.param; there = v.there; suits = v.suits })))
   one_param u xs (p ∷ ps) (a ∷ args) (suc i) zero one h once w v =
       let s = and_parts (argument_right u xs p a) (arguments_right u xs ps args) h in
-      let r = first_gives u xs p a args (ap (λ (z : UParam). is_of stream z.sort) (some_same p v.param v.there) ∙ v.suits) s.0 in
+      let r = first_gives u xs p a args (ap (λ (z : UParam). is_of_stream stream z.sort) (some_same p v.param v.there) ∙ v.suits) s.0 in
       absurd (not_again u a args r.0 one r.1 r.2 once (param_gives u xs ps args i s.1 (record { param = w.param; there = w.there; suits = w.suits })))
   one_param u xs (p ∷ ps) (a ∷ args) (suc i) (suc j) one h once w v =
       ap suc (one_param u xs ps args i j one (and_parts (argument_right u xs p a) (arguments_right u xs ps args) h).1 (rest_once a args once) (record { param = w.param; there = w.there; suits = w.suits }) (record { param = v.param; there = v.there; suits = v.suits }))
@@ -245,7 +245,7 @@ module _ (stream : Stream) where
   once_before [] i o x before h w = cc w.there
   once_before (p ∷ ps) i o zero before h w =
       let t = after_one stream p.sort i o (λ j k. streams_once j k ps) h in
-      true≢false (sym before ∙ (t.first (ap (λ (z : UParam). is_of stream z.sort) (some_same p w.param w.there) ∙ w.suits)).0)
+      true≢false (sym before ∙ (t.first (ap (λ (z : UParam). is_of_stream stream z.sort) (some_same p w.param w.there) ∙ w.suits)).0)
   once_before (p ∷ ps) i o (suc x) before h w =
       let t = after_one stream p.sort i o (λ j k. streams_once j k ps) h in
       once_before ps t.input t.output x (t.stays before) t.rest (record { param = w.param; there = w.there; suits = w.suits })
@@ -255,10 +255,10 @@ module _ (stream : Stream) where
   once_param (p ∷ ps) i o zero zero h w v = refl
   once_param (p ∷ ps) i o zero (suc y) h w v =
       let t = after_one stream p.sort i o (λ j k. streams_once j k ps) h in
-      absurd (once_before ps t.input t.output y (t.first (ap (λ (z : UParam). is_of stream z.sort) (some_same p w.param w.there) ∙ w.suits)).1 t.rest (record { param = v.param; there = v.there; suits = v.suits }))
+      absurd (once_before ps t.input t.output y (t.first (ap (λ (z : UParam). is_of_stream stream z.sort) (some_same p w.param w.there) ∙ w.suits)).1 t.rest (record { param = v.param; there = v.there; suits = v.suits }))
   once_param (p ∷ ps) i o (suc x) zero h w v =
       let t = after_one stream p.sort i o (λ j k. streams_once j k ps) h in
-      absurd (once_before ps t.input t.output x (t.first (ap (λ (z : UParam). is_of stream z.sort) (some_same p v.param v.there) ∙ v.suits)).1 t.rest (record { param = w.param; there = w.there; suits = w.suits }))
+      absurd (once_before ps t.input t.output x (t.first (ap (λ (z : UParam). is_of_stream stream z.sort) (some_same p v.param v.there) ∙ v.suits)).1 t.rest (record { param = w.param; there = w.there; suits = w.suits }))
   once_param (p ∷ ps) i o (suc x) (suc y) h w v =
       let t = after_one stream p.sort i o (λ j k. streams_once j k ps) h in
       ap suc (once_param ps t.input t.output x y t.rest (record { param = w.param; there = w.there; suits = w.suits }) (record { param = v.param; there = v.there; suits = v.suits }))

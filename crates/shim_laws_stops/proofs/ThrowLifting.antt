@@ -10,7 +10,7 @@ use Rattle.shim_units.specs.declared.unit.UStmt.{UStmt}
 use Rattle.shim_units.specs.declared.slot_map.SlotMap.{SlotMap}
 use Rattle.shim_units.specs.Moving.{slot_index_of, slot_indices_of, moved_call}
 use Rattle.shim_units.specs.Parts.{LiftContext, Part, Lifts, all_raises, all_tries}
-use Rattle.shim_units.specs.Lifting.{lift_all, whole, on_tree, lift_two, is_among, branch_call, branch_captures, branch_slots, branch_exceptions, branch_inner, lift_branch}
+use Rattle.shim_units.specs.Lifting.{lift_all, unlifted, on_tree, lift_two, is_among, branch_call, branch_captures, branch_slots, branch_exceptions, branch_inner, lift_branch}
 use Rattle.shim_units.specs.Units.{upto}
 use Rattle.shim_process.specs.LocalState.{unit_at}
 use Rattle.shim_laws_binding.proofs.Lists.{Each, each_of_both}
@@ -93,7 +93,7 @@ module _ (form : Form) where
     pub units : (context : LiftContext) (w : SlotMap) (n : ℕ) (xs : List ℕ) → Stands hs lo hi rs ts w xs → StandFrom form n (f context w n).units → Each (ThrowsInForce form) (f context w n).units
 
   pub alone : {T : Type 0} (right : T → InForce) (hs : List ℕ) (lo hi : ℕ) (rs ts : List ℕ) (f : LiftContext → SlotMap → T)
-      → ((context : LiftContext) (w : SlotMap) (xs : List ℕ) → Stands hs lo hi rs ts w xs → right (f context w) xs ≡ true) → LiftsRight right hs lo hi rs ts (λ context w n. whole (f context w))
+      → ((context : LiftContext) (w : SlotMap) (xs : List ℕ) → Stands hs lo hi rs ts w xs → right (f context w) xs ≡ true) → LiftsRight right hs lo hi rs ts (λ context w n. unlifted (f context w))
   alone right hs lo hi rs ts f h = record { tree = λ context w n xs s stand. h context w xs s; units = λ context w n xs s stand. tt }
 
   -- with something around the tree

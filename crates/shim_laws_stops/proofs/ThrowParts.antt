@@ -24,9 +24,9 @@ use Rattle.shim_units.specs.declared.unit.UStmt.{UStmt}
 use Rattle.shim_units.specs.declared.unit.UWhat.{UWhat}
 use Rattle.shim_units.specs.declared.unit.UWhat.TheVariants as u
 use Rattle.shim_units.specs.declared.slot_map.SlotMap.{SlotMap}
-use Rattle.shim_units.specs.Moving.{slot_index_of, slot_index_of_option, moved, moved_option, moved_call}
+use Rattle.shim_units.specs.Moving.{slot_index_of, slot_index_of_option, renumbered, moved_option, moved_call}
 use Rattle.shim_units.specs.Parts.{LiftContext, Part, Lifts, all_raises, all_tries}
-use Rattle.shim_units.specs.Lifting.{lift_all, whole, on_tree, lift_two}
+use Rattle.shim_units.specs.Lifting.{lift_all, unlifted, on_tree, lift_two}
 use Rattle.shim_units.specs.PartFold.{branch_what_step, what_step, branch_step, stmt_step, part, parts, branch_part, branch_parts}
 use Rattle.shim_units.proofs.PartSteps.{branch_what_part, what_part}
 use Rattle.shim_process.specs.LocalState.{unit_at}
@@ -103,7 +103,7 @@ module _ (form : Form) where
 
   -- what throws nothing and has no parts
   plain : (p q : Point) (f : LiftContext → SlotMap → UWhat) → q.handled ≡ p.handled → q.exceptions ≡ p.exceptions → ((context : LiftContext) (w : SlotMap) (xs : List ℕ) → throws_what form (f context w) xs ≡ true)
-      → Throwing (throws_what form) p q [] [] (λ context w n. whole (f context w))
+      → Throwing (throws_what form) p q [] [] (λ context w n. unlifted (f context w))
   plain p q f same still h = record {
     same = same;
     numbered = subst (λ n. Numbered (numbers p.handled) p.exceptions n [] []) (sym still) (numbered_none (numbers p.handled) p.exceptions);
@@ -167,7 +167,7 @@ module _ (form : Form) where
 
   part_assign : (p : Point) (x : ℕ) (e : UExpr) → WhatThrows p p (r.Assign x e)
   unfolding roll-RWhat denote.Hole.Carrier.roll
-  part_assign p x e line = at_part p p line (RWhat-F.Assign x e) (plain p p (λ context w. u.Assign (slot_index_of w.slots x) (moved w.slots e)) refl refl (λ context w xs. throws_assign form (slot_index_of w.slots x) (moved w.slots e) xs))
+  part_assign p x e line = at_part p p line (RWhat-F.Assign x e) (plain p p (λ context w. u.Assign (slot_index_of w.slots x) (renumbered w.slots e)) refl refl (λ context w xs. throws_assign form (slot_index_of w.slots x) (renumbered w.slots e) xs))
 
   part_next : (p : Point) (x : ℕ) → WhatThrows p p (r.Next x)
   unfolding roll-RWhat denote.Hole.Carrier.roll
@@ -176,7 +176,7 @@ module _ (form : Form) where
   part_next_assign : (p : Point) (x : ℕ) (e : UExpr) → WhatThrows p p (r.NextAssign x e)
   unfolding roll-RWhat denote.Hole.Carrier.roll
   part_next_assign p x e line =
-      at_part p p line (RWhat-F.NextAssign x e) (plain p p (λ context w. u.NextAssign (slot_index_of w.slots x) (moved w.slots e)) refl refl (λ context w xs. throws_next_assign form (slot_index_of w.slots x) (moved w.slots e) xs))
+      at_part p p line (RWhat-F.NextAssign x e) (plain p p (λ context w. u.NextAssign (slot_index_of w.slots x) (renumbered w.slots e)) refl refl (λ context w xs. throws_next_assign form (slot_index_of w.slots x) (renumbered w.slots e) xs))
 
   part_assign_next : (p : Point) (x y : ℕ) → WhatThrows p p (r.AssignNext x y)
   unfolding roll-RWhat denote.Hole.Carrier.roll
@@ -189,18 +189,18 @@ module _ (form : Form) where
 
   part_put : (p : Point) (x : ℕ) (e : UExpr) → WhatThrows p p (r.Put x e)
   unfolding roll-RWhat denote.Hole.Carrier.roll
-  part_put p x e line = at_part p p line (RWhat-F.Put x e) (plain p p (λ context w. u.Put (slot_index_of w.slots x) (moved w.slots e)) refl refl (λ context w xs. throws_put form (slot_index_of w.slots x) (moved w.slots e) xs))
+  part_put p x e line = at_part p p line (RWhat-F.Put x e) (plain p p (λ context w. u.Put (slot_index_of w.slots x) (renumbered w.slots e)) refl refl (λ context w xs. throws_put form (slot_index_of w.slots x) (renumbered w.slots e) xs))
 
   part_if : (p m q : Point) (e : UExpr) (a b : List RStmt) → BodyThrows p m a → BodyThrows m q b → WhatThrows p q (r.If e a b)
   unfolding roll-RWhat denote.Hole.Carrier.roll
   part_if p m q e a b h k line = at_part p q line (RWhat-F.If e a b)
-      (both_parts (all_throw form) (all_throw form) (throws_what form) p m q (all_raises (parts a)) (all_raises (parts b)) (all_tries (parts a)) (all_tries (parts b)) (λ w x y. u.If (moved w.slots e) x y) (lift_all (parts a)) (lift_all (parts b))
-      (λ w x y xs. throws_if form (moved w.slots e) x y xs) h k)
+      (both_parts (all_throw form) (all_throw form) (throws_what form) p m q (all_raises (parts a)) (all_raises (parts b)) (all_tries (parts a)) (all_tries (parts b)) (λ w x y. u.If (renumbered w.slots e) x y) (lift_all (parts a)) (lift_all (parts b))
+      (λ w x y xs. throws_if form (renumbered w.slots e) x y xs) h k)
 
   part_while : (p q : Point) (e : UExpr) (body : List RStmt) → BodyThrows p q body → WhatThrows p q (r.While e body)
   unfolding roll-RWhat denote.Hole.Carrier.roll
   part_while p q e body h line = at_part p q line (RWhat-F.While e body)
-      (with_around (all_throw form) (throws_what form) p q (all_raises (parts body)) (all_tries (parts body)) (λ w s. u.While (moved w.slots e) s) (lift_all (parts body)) (λ w s xs. throws_while form (moved w.slots e) s xs) h)
+      (with_around (all_throw form) (throws_what form) p q (all_raises (parts body)) (all_tries (parts body)) (λ w s. u.While (renumbered w.slots e) s) (lift_all (parts body)) (λ w s xs. throws_while form (renumbered w.slots e) s xs) h)
 
   -- three parts are one and then two
   part_for : (p m n q : Point) (a : List RStmt) (test : Option UExpr) (b c : List RStmt) → BodyThrows p m a → BodyThrows m n b → BodyThrows n q c → WhatThrows p q (r.For a test b c)

@@ -4,7 +4,7 @@ use Rattle.std.proofs.lemmas.Bool.{cases_Bool, true≢false}
 use Rattle.std.proofs.lemmas.Grind.{not_there}
 use Rattle.std.proofs.lemmas.List.{length-map}
 use Rattle.shim_syntax.specs.declared.tree.Function.{Function}
-use Rattle.shim_syntax.specs.Names.{Texts, number_of}
+use Rattle.shim_syntax.specs.Names.{Texts, name_index}
 use Rattle.shim_scopes.specs.declared.form.Form.{Form as Resolved}
 use Rattle.shim_scopes.specs.declared.tree.RFunction.{RFunction}
 use Rattle.shim_scopes.specs.Resolving.{IsFormOfText}
@@ -15,7 +15,7 @@ use Rattle.shim_units.specs.Moving.{slot_index_of}
 use Rattle.shim_units.specs.OfText.{IsUnitsOfText, IsAcceptedForm}
 use Rattle.shim_units.specs.Parts.{LiftContext}
 use Rattle.shim_units.specs.PartFold.{tries_in, raises_in}
-use Rattle.shim_units.specs.Units.{upto, text_of, function_slot_map, lift_function, lift_functions, lifted, throws_of}
+use Rattle.shim_units.specs.Units.{upto, name_or_mark, function_slot_map, lift_function, lift_functions, lifted, throws_of}
 use Rattle.shim_units.proofs.Counting.{upto_length}
 use Rattle.shim_process.specs.LocalState.{unit_or, unit_at}
 use Rattle.shim_laws_binding.specs.LexicalScope.{Pairwise, body_begins, throws_around, BindsFunction}
@@ -77,7 +77,7 @@ in_order_at names (g ∷ fs) (r ∷ rs) zero f h e = let same : g ≡ f = cc e i
 in_order_at names (g ∷ fs) (r ∷ rs) (suc n) f h e = let w = in_order_at names fs rs n f h.1 e in record { function = w.function; there = w.there; order = w.order }
 
 pub as_many_throws : (names : Texts) (f : Function) (r : RFunction) → IsInTextOrder names f r → length r.throws ≡ length f.throws
-as_many_throws names f r h = ap length h.throws ∙ length-map f.throws (number_of names)
+as_many_throws names f r h = ap length h.throws ∙ length-map f.throws (name_index names)
 
 have_units : (p : Resolved) (fs : List Function) → AreInTextOrder p.names fs p.functions → HaveUnits (lifted p) fs
 unfolding unit_at
@@ -123,7 +123,7 @@ module _ (form : Form) (names : List (List ℕ)) (all : List RFunction) where
   functions_right functions units number next [] (f ∷ fs) bound order stand = absurd bound
   functions_right functions units number next (g ∷ gs) [] bound order stand = absurd bound
   functions_right functions units number next (g ∷ gs) (f ∷ fs) bound order stand =
-      let context : LiftContext = record { functions = all; function = f; number = number; name = text_of names f.name; first = next } in
+      let context : LiftContext = record { functions = all; function = f; number = number; name = name_or_mark names f.name; first = next } in
       let r = lift_function names all number next f in
       let m : ℕ = next + length r.lifted in
       let rest = lift_functions names all (number + 1) m fs in

@@ -15,7 +15,7 @@ use Rattle.shim_process.specs.Ops.{process_ops}
 use Rattle.shim_process.specs.StatementViews.{statement_view}
 use Rattle.shim_process.specs.Stops.{at_next, at_put, at_fork, what_stop, stmt_stop, stop_or, stop}
 use Rattle.shim_process.specs.Todo.{Item, Do, Leave, next_stmt}
-use Rattle.shim_process.specs.Unwinding.{place_in}
+use Rattle.shim_process.specs.Unwinding.{exception_place_in}
 use Rattle.shim_process.specs.Sound.{Sound}
 use Rattle.shim_base.proofs.Facts.{choose, some_same, none_some}
 use Rattle.shim_laws_stops.specs.FrameLabels.{AreKnown, ItemsThrow, FrameLabels, FramesLabels, HasLabels}
@@ -32,17 +32,17 @@ in_list [] i h = absurd (omega (arith, h))
 in_list (e ∷ es) zero h = (e, refl)
 in_list (e ∷ es) (suc i) h = in_list es i (omega (arith, h))
 
-place_there : (program : Form) (f : Frame) (n : ℕ) (cs : List Frame) → FramesLabels program f cs → n < f.outer + length f.places → (e : ExceptionPlace) × (place_in f n cs ≡ Some e)
+place_there : (program : Form) (f : Frame) (n : ℕ) (cs : List Frame) → FramesLabels program f cs → n < f.outer + length f.places → (e : ExceptionPlace) × (exception_place_in f n cs ≡ Some e)
 place_there program f n [] h below = let none = h.1 in in_list f.places (n - f.outer) (omega (arith, below, none))
 place_there program f n (c ∷ cs) h below = elim (cases_Bool (nat_lt n f.outer)) [
   | inl low ↦
       let less : n < f.outer = ltb-true n f.outer low in
       let outer : f.outer ≡ c.outer + length c.places = h.1 in
       let w = place_there program c n cs h.2 (omega (arith, less, outer)) in
-      (w.0, ap (λ b. cond b (place_in c n cs) (slice_get f.places (n - f.outer))) low ∙ w.1)
+      (w.0, ap (λ b. cond b (exception_place_in c n cs) (slice_get f.places (n - f.outer))) low ∙ w.1)
   | inr high ↦
       let w = in_list f.places (n - f.outer) (least n f.outer (length f.places) below high) in
-      (w.0, ap (λ b. cond b (place_in c n cs) (slice_get f.places (n - f.outer))) high ∙ w.1)
+      (w.0, ap (λ b. cond b (exception_place_in c n cs) (slice_get f.places (n - f.outer))) high ∙ w.1)
 ]
   where
     least : (n outer many : ℕ) → n < outer + many → nat_lt n outer ≡ false → n - outer < many

@@ -62,12 +62,12 @@ variables_step (UExpr-F.Unary op a) = a
 variables_step (UExpr-F.Binary op a b) = a ++ b
 
 -- the variables that the expression reads
-unfoldable pub variables_in : UExpr → List ℕ
-variables_in = fold-UExpr (List ℕ) variables_step
+unfoldable pub variables_read : UExpr → List ℕ
+variables_read = fold-UExpr (List ℕ) variables_step
 
 abbrev pub variables_in_option : Option UExpr → List ℕ
 variables_in_option None = []
-variables_in_option (Some e) = variables_in e
+variables_in_option (Some e) = variables_read e
 
 -- each of the second list is among the first, and holds a number
 abbrev pub have_numbers : UnitOf → List ℕ → List ℕ → Bool
@@ -76,7 +76,7 @@ have_numbers u xs (y ∷ ys) = has_number u xs y && have_numbers u xs ys
 
 -- so is each variable that the expression reads
 abbrev pub reads_right : UnitOf → List ℕ → UExpr → Bool
-reads_right u xs e = have_numbers u xs (variables_in e)
+reads_right u xs e = have_numbers u xs (variables_read e)
 
 abbrev pub option_right : UnitOf → List ℕ → Option UExpr → Bool
 option_right u xs e = have_numbers u xs (variables_in_option e)

@@ -15,23 +15,23 @@ use Rattle.shim_units.specs.Lifting.{is_among}
 use Rattle.shim_process.specs.Locations.{Location, at_number}
 use Rattle.shim_process.specs.Todo.{next_stmt}
 use Rattle.shim_process.specs.LocalState.{LocalState, unit_at}
-use Rattle.shim_laws_stops.specs.InScope.{is_number, variables_in, variables_in_option}
+use Rattle.shim_laws_stops.specs.InScope.{is_number, variables_read, variables_in_option}
 
 -- there is a location
 abbrev pub IsThere : Option Location → Type 0
 IsThere o = (x : Location) × (o ≡ Some x)
 
 -- the statement that is next for the process does this
-abbrev pub StandsAt : LocalState → UWhat-F UWhat UStmt → Type 0
-StandsAt l w = (s : UStmt) × (next_stmt l.frame.todo ≡ Some s) × (out-UWhat s.what ≡ w)
+abbrev pub IsAtStmt : LocalState → UWhat-F UWhat UStmt → Type 0
+IsAtStmt l w = (s : UStmt) × (next_stmt l.frame.todo ≡ Some s) × (out-UWhat s.what ≡ w)
 
 -- the variable of this slot has a location: the frame in which the process is has a number for the slot, and the location of that number is there
 abbrev pub HasItsLocation : LocalState → ℕ → Type 0
 HasItsLocation l x = (n : ℕ) × (slice_get l.frame.slots x ≡ Some n) × IsThere (at_number l.locations n)
 
 -- a live process of the tree
-abbrev pub IsLive : Tree LocalState → LocalState → Type 0
-IsLive t l = (q : List ℕ) × (at q t.root ≡ Some (Live l))
+abbrev pub IsLiveIn : Tree LocalState → LocalState → Type 0
+IsLiveIn t l = (q : List ℕ) × (at q t.root ≡ Some (Live l))
 
 -- `next x;`, `next x = e;` and `y = next x;`
 pub data IsNextOf (x : ℕ) : UWhat-F UWhat UStmt → Type 0 where
@@ -41,14 +41,14 @@ pub data IsNextOf (x : ℕ) : UWhat-F UWhat UStmt → Type 0 where
 
 -- each `next` at which a live process stands has a location
 abbrev pub NextsHaveLocations : Tree LocalState → Type 0
-NextsHaveLocations t = (l : LocalState) (w : UWhat-F UWhat UStmt) (x : ℕ) → IsLive t l → StandsAt l w → IsNextOf x w → HasItsLocation l x
+NextsHaveLocations t = (l : LocalState) (w : UWhat-F UWhat UStmt) (x : ℕ) → IsLiveIn t l → IsAtStmt l w → IsNextOf x w → HasItsLocation l x
 
 -- the variables whose values arguments take: those of their expressions, and each that is given as a copy
 abbrev pub arguments_read : List Arg → List ℕ
 arguments_read [] = []
 arguments_read (Ref x ∷ rest) = arguments_read rest
 arguments_read (Pass x ∷ rest) = x ∷ arguments_read rest
-arguments_read (Fresh e ∷ rest) = variables_in e ++ arguments_read rest
+arguments_read (Fresh e ∷ rest) = variables_read e ++ arguments_read rest
 
 abbrev pub branches_read : List UBranch → List ℕ
 branches_read [] = []
@@ -57,14 +57,14 @@ branches_read (b ∷ branches) = arguments_read b.call.args ++ branches_read bra
 -- The variables that a process which stands at this statement may read or store in; at a loop it stands at the test. What a declaration declares isn't among them.
 abbrev pub variables_at : UWhat-F UWhat UStmt → List ℕ
 variables_at (UWhat-F.Declare t x e) = variables_in_option e
-variables_at (UWhat-F.Assign x e) = x ∷ variables_in e
+variables_at (UWhat-F.Assign x e) = x ∷ variables_read e
 variables_at (UWhat-F.Next x) = x ∷ []
-variables_at (UWhat-F.NextAssign x e) = x ∷ variables_in e
+variables_at (UWhat-F.NextAssign x e) = x ∷ variables_read e
 variables_at (UWhat-F.AssignNext x y) = x ∷ y ∷ []
 variables_at (UWhat-F.Get x i) = x ∷ []
-variables_at (UWhat-F.Put o e) = variables_in e
-variables_at (UWhat-F.If e first second) = variables_in e
-variables_at (UWhat-F.While e body) = variables_in e
+variables_at (UWhat-F.Put o e) = variables_read e
+variables_at (UWhat-F.If e first second) = variables_read e
+variables_at (UWhat-F.While e body) = variables_read e
 variables_at (UWhat-F.For first test step body) = variables_in_option test
 variables_at (UWhat-F.Call c) = arguments_read c.args
 variables_at (UWhat-F.Throw x e) = variables_in_option e
@@ -73,11 +73,11 @@ variables_at _ = []
 
 -- each variable that is read or stored in at the statement at which a live process stands has a location
 abbrev pub VariablesHaveLocations : Tree LocalState → Type 0
-VariablesHaveLocations t = (l : LocalState) (w : UWhat-F UWhat UStmt) (x : ℕ) → IsLive t l → StandsAt l w → is_among (variables_at w) x ≡ true → HasItsLocation l x
+VariablesHaveLocations t = (l : LocalState) (w : UWhat-F UWhat UStmt) (x : ℕ) → IsLiveIn t l → IsAtStmt l w → is_among (variables_at w) x ≡ true → HasItsLocation l x
 
 -- each fork at which one stands has a branch
 abbrev pub ForksHaveBranches : Tree LocalState → Type 0
-ForksHaveBranches t = (l : LocalState) (branches : List UBranch) → IsLive t l → StandsAt l (UWhat-F.Par branches) → branches ≡ [] → ⊥
+ForksHaveBranches t = (l : LocalState) (branches : List UBranch) → IsLiveIn t l → IsAtStmt l (UWhat-F.Par branches) → branches ≡ [] → ⊥
 
 -- an argument that is a variable has its location, where its parameter is a number; a stream has none
 abbrev pub ArgumentHasLocation : LocalState → UParam → Arg → Type 0
@@ -101,5 +101,5 @@ BranchesHaveLocations l (b ∷ branches) = CallHasLocations l b.call × Branches
 
 -- each argument of a branch of a fork at which a live process stands has a location, and so has each of a call
 pub record ArgumentsHaveLocations (t : Tree LocalState) : Type 0 where
-  pub forks : (l : LocalState) (branches : List UBranch) → IsLive t l → StandsAt l (UWhat-F.Par branches) → BranchesHaveLocations l branches
-  pub calls : (l : LocalState) (c : UCall) → IsLive t l → StandsAt l (UWhat-F.Call c) → CallHasLocations l c
+  pub forks : (l : LocalState) (branches : List UBranch) → IsLiveIn t l → IsAtStmt l (UWhat-F.Par branches) → BranchesHaveLocations l branches
+  pub calls : (l : LocalState) (c : UCall) → IsLiveIn t l → IsAtStmt l (UWhat-F.Call c) → CallHasLocations l c

@@ -16,9 +16,9 @@ pub data Stream : Type 0 where
   TheOutput : Stream
 
 -- the sort is that of the stream
-abbrev pub is_of : Stream → Sort → Bool
-is_of TheInput s = is_input s
-is_of TheOutput s = is_output s
+abbrev pub is_of_stream : Stream → Sort → Bool
+is_of_stream TheInput s = is_input s
+is_of_stream TheOutput s = is_output s
 
 -- a slot that holds this holds the stream
 abbrev pub is_at : Stream → Option Sort → Bool

@@ -7,13 +7,13 @@ use Rattle.shim_semantics.specs.Trees.{Tree}
 use Rattle.shim_units.specs.declared.form.Form.{Form}
 use Rattle.shim_process.specs.LocalState.{LocalState, ExceptionPlace}
 use Rattle.shim_process.specs.Ops.{process_ops}
-use Rattle.shim_process.specs.Unwinding.{place_in}
+use Rattle.shim_process.specs.Unwinding.{exception_place_in}
 
 -- the exception place of this label is one of the process's own, and in force
 pub record HasPlace (l : LocalState) (label : ℕ) : Type 0 where
   pub own : l.base ≤ label
   pub place : ExceptionPlace
-  pub there : place_in l.frame (label - l.base) l.callers ≡ Some place
+  pub there : exception_place_in l.frame (label - l.base) l.callers ≡ Some place
 
 -- it is one of a process on the way from the root to the one to which these branches lead, or of that one
 pub record HasPlaceOnWay (t : Tree LocalState) (q : List ℕ) (label : ℕ) : Type 0 where

@@ -4,7 +4,7 @@ ghost use Rattle.shim_semantics.specs.Trees.{Tree};
 ghost use Rattle.shim_units.specs.declared.form.Form.{Form};
 ghost use Rattle.shim_units.specs.OfText.{IsAcceptedForm};
 ghost use Rattle.shim_process.specs.LocalState.{LocalState};
-ghost use Rattle.shim_laws_sources.specs.Sources.{IsReached};
+ghost use Rattle.shim_laws_sources.specs.Sources.{IsReachable};
 ghost use Rattle.shim_laws_stops.specs.InForce.{AllInForce};
 ghost use Rattle.shim_laws_stops.specs.InScope.{AllInScope};
 ghost use Rattle.shim_laws_stops.specs.Ends.{EndsHaveNothingLeft};
@@ -33,14 +33,14 @@ pub fn what_is_named_is_in_scope()
 /// place: that of a `try` in force, its own or one of a process that waits around it, or else it is one
 /// of those that `main` throws.
 pub fn thrown_exceptions_have_places()
-    ensures { (program : Form) (input : List ℕ) (t : Tree LocalState) → IsAcceptedForm program → IsReached program input t → ThrownHavePlaces program t }
+    ensures { (program : Form) (input : List ℕ) (t : Tree LocalState) → IsAcceptedForm program → IsReachable program input t → ThrownHavePlaces program t }
 {}
 
 /// In each tree that a run of an accepted program reaches the variable of each `next` at which a live
 /// process stands has a location: the frame in which the process is has a number for the variable's slot,
 /// and the location of that number is there. So it is meant in the next laws, too.
 pub fn nexts_have_locations()
-    ensures { (program : Form) (input : List ℕ) (t : Tree LocalState) → IsAcceptedForm program → IsReached program input t → NextsHaveLocations t }
+    ensures { (program : Form) (input : List ℕ) (t : Tree LocalState) → IsAcceptedForm program → IsReachable program input t → NextsHaveLocations t }
 {}
 
 /// In each such tree each variable that the statement at which a live process stands may read or store in
@@ -48,32 +48,32 @@ pub fn nexts_have_locations()
 /// an argument that is given as a copy; and as the target of an assignment, a `next` or a `get`. What a
 /// declaration declares isn't among them: it gets its location there.
 pub fn variables_have_locations()
-    ensures { (program : Form) (input : List ℕ) (t : Tree LocalState) → IsAcceptedForm program → IsReached program input t → VariablesHaveLocations t }
+    ensures { (program : Form) (input : List ℕ) (t : Tree LocalState) → IsAcceptedForm program → IsReachable program input t → VariablesHaveLocations t }
 {}
 
 /// In each such tree each fork at which a live process stands has a branch.
 pub fn forks_have_branches()
-    ensures { (program : Form) (input : List ℕ) (t : Tree LocalState) → IsAcceptedForm program → IsReached program input t → ForksHaveBranches t }
+    ensures { (program : Form) (input : List ℕ) (t : Tree LocalState) → IsAcceptedForm program → IsReachable program input t → ForksHaveBranches t }
 {}
 
 /// In each such tree each argument of a branch or a call at which a live process stands has a location
 /// where it is a variable that holds a number, and there is one argument for each parameter.
 pub fn arguments_have_locations()
-    ensures { (program : Form) (input : List ℕ) (t : Tree LocalState) → IsAcceptedForm program → IsReached program input t → ArgumentsHaveLocations t }
+    ensures { (program : Form) (input : List ℕ) (t : Tree LocalState) → IsAcceptedForm program → IsReachable program input t → ArgumentsHaveLocations t }
 {}
 
 /// In each such tree each live process that stands at a `put` has the output.
 pub fn puts_have_output()
-    ensures { (program : Form) (input : List ℕ) (t : Tree LocalState) → IsAcceptedForm program → IsReached program input t → PutsHaveOutput t }
+    ensures { (program : Form) (input : List ℕ) (t : Tree LocalState) → IsAcceptedForm program → IsReachable program input t → PutsHaveOutput t }
 {}
 
 /// In each such tree each live process that stands at a `get` has the input.
 pub fn gets_have_input()
-    ensures { (program : Form) (input : List ℕ) (t : Tree LocalState) → IsAcceptedForm program → IsReached program input t → GetsHaveInput t }
+    ensures { (program : Form) (input : List ℕ) (t : Tree LocalState) → IsAcceptedForm program → IsReachable program input t → GetsHaveInput t }
 {}
 
 /// In each such tree a live process stands at its end only where nothing is left to do, in any unit that
 /// it is in. So no `next`, no `put` and no fork comes to the stop of an end.
 pub fn ends_have_nothing_left()
-    ensures { (program : Form) (input : List ℕ) (t : Tree LocalState) → IsAcceptedForm program → IsReached program input t → EndsHaveNothingLeft t }
+    ensures { (program : Form) (input : List ℕ) (t : Tree LocalState) → IsAcceptedForm program → IsReachable program input t → EndsHaveNothingLeft t }
 {}

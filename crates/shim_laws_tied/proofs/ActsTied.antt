@@ -3,7 +3,7 @@ use Rattle.std.proofs.Common.{◌≡◌, ◌<◌, ℕ, ℤ, true, false, List, [
 use Rattle.shim_local.specs.Process.{Ops, StopView, ForkedView, AtQuiet, AtNext, AtPut, AtFork, AtFinish, AtThrow, AtTrap, Parted, Trapped}
 use Rattle.shim_local.specs.Laws.{LocalLaws, by_join}
 use Rattle.shim_semantics.specs.Nodes.{Node, Nodes, Live, Forked, Ended, Dead, Death, death_with, handed, states, all_live, all_done, prevailing_death}
-use Rattle.shim_semantics.specs.Acts.{Acted, nothing, putting, catching, parted, thrown, throwing, closed, act_live, act_here}
+use Rattle.shim_semantics.specs.Acts.{Acted, nothing, putting, catch_logged, parted, thrown, throwing, closed, act_live, act_here}
 use Rattle.shim_laws_tied.specs.Ties.{KeepsTied, AreTied, AllTied, ForksTied}
 use Rattle.shim_laws_tied.specs.TiedTrees.{NodesTied, ChildrenTied}
 use Rattle.shim_laws_tied.proofs.Both.{BothOrNone, both_chosen}
@@ -33,13 +33,13 @@ parted_tied R (Trapped l) (Parted m ms) h = absurd h
 module _ {A B : Type 0} (o : Ops A) (p : Ops B) (R : A → B → Type 0) (one : LocalLaws o) (other : LocalLaws p) (keeps : KeepsTied o p R) where
   thrown_tied : (l : A) (m : B) (d : Death) → AreTied o p R l m → d.label < o.handlers l → ActedTied R (thrown o l d) (thrown p m d)
   thrown_tied l m d h below = both_chosen (ActedTied R) (ltb d.label (o.base l)) (ltb d.label (p.base m))
-      (record { node = Dead l d; effects = nothing }) (record { node = Live (o.unwind l d.label (handed d.given)); effects = catching (o.handler l d.label) })
-      (record { node = Dead m d; effects = nothing }) (record { node = Live (p.unwind m d.label (handed d.given)); effects = catching (p.handler m d.label) })
+      (record { node = Dead l d; effects = nothing }) (record { node = Live (o.unwind l d.label (handed d.given)); effects = catch_logged (o.handler l d.label) })
+      (record { node = Dead m d; effects = nothing }) (record { node = Live (p.unwind m d.label (handed d.given)); effects = catch_logged (p.handler m d.label) })
       (ap (ltb d.label) (keeps.base l m h))
       (λ e. record { node = (h.2, refl); effects = refl })
       (λ e. record {
         node = keeps.unwind l m d.label (handed d.given) h (ltb-false d.label (o.base l) e) below;
-        effects = ap catching (keeps.handler l m d.label h (ltb-false d.label (o.base l) e) below);
+        effects = ap catch_logged (keeps.handler l m d.label h (ltb-false d.label (o.base l) e) below);
       })
 
   -- the states behind a join

@@ -5,7 +5,7 @@ use Rattle.shim_local.specs.Process.{Ops}
 use Rattle.shim_local.specs.Laws.{LocalLaws}
 use Rattle.shim_semantics.specs.Nodes.{Node, Nodes, Live, Forked, Ended, Dead, no_node, node_and, state}
 use Rattle.shim_semantics.specs.Descents.{Ascent, apply_at, apply_among}
-use Rattle.shim_semantics.specs.Acts.{Effects, Acted, within, in_front, behind, done_above, act_here}
+use Rattle.shim_semantics.specs.Acts.{Effects, Acted, within, in_front, in_later, done_above, act_here}
 use Rattle.shim_semantics.specs.Poison.{above, before_rest, after_one, changed_above, poison_here, poison_route, last_branch, to_fork}
 use Rattle.shim_semantics.specs.Places.{found_above, at, at_route, route, led_to}
 use Rattle.shim_semantics.specs.Trees.{act_route}
@@ -69,7 +69,7 @@ module _ {A B : Type 0} (o : Ops A) (p : Ops B) (R : A → B → Type 0) where
   in_front_tied ks js (Some x) None h g = absurd g
   in_front_tied ks js None (Some y) h g = absurd g
 
-  behind_tied : (k : Node A) (j : Node B) (x : Option (Nodes A × Effects)) (y : Option (Nodes B × Effects)) → NodesTied R k j → BothOrNone (RestTied R) x y → BothOrNone (RestTied R) (behind k x) (behind j y)
+  behind_tied : (k : Node A) (j : Node B) (x : Option (Nodes A × Effects)) (y : Option (Nodes B × Effects)) → NodesTied R k j → BothOrNone (RestTied R) x y → BothOrNone (RestTied R) (in_later k x) (in_later j y)
   behind_tied k j (Some x) (Some y) h g = ((h, g.0), g.1)
   behind_tied k j None None h g = tt
   behind_tied k j (Some x) None h g = absurd g

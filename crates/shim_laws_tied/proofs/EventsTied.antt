@@ -6,8 +6,8 @@ use Rattle.shim_local.specs.Laws.{LocalLaws}
 use Rattle.shim_semantics.specs.Nodes.{Node, state, source, value_of}
 use Rattle.shim_semantics.specs.Acts.{Acted}
 use Rattle.shim_semantics.specs.Poison.{poison_route}
-use Rattle.shim_semantics.specs.Places.{route, led_to, has_path, is_ready_at, meets}
-use Rattle.shim_semantics.specs.Trees.{Tree, Event, Own, Meet, Poison, Close, End, Kind, Steps, Ends, Closes, same_kind, is_its, act_route, acts, one_more, with_logs, count_own, count_event, change_nodes, poisons, recorded, met, after}
+use Rattle.shim_semantics.specs.Places.{route, led_to, has_path, home_is_ready, meets}
+use Rattle.shim_semantics.specs.Trees.{Tree, Event, Own, Meet, Poison, Close, End, OwnAction, Steps, Ends, Closes, same_own_action, is_its, act_route, acts, with_step_counted, with_logs, count_own, count_event, change_nodes, poisons, recorded, met, after}
 use Rattle.shim_laws_tied.specs.Ties.{KeepsTied}
 use Rattle.shim_laws_tied.specs.TiedTrees.{NodesTied, TreesTied}
 use Rattle.shim_laws_tied.proofs.Both.{BothOrNone, both_chosen}
@@ -27,7 +27,7 @@ module _ {A B : Type 0} (R : A → B → Type 0) where
     output = λ i. h.output i ++ (g.effects i).bytes;
     histories = h.histories;
     logs = λ i. with_logs (h.logs i) x (g.effects i).logs;
-    counts = λ i. one_more (h.counts i) x;
+    counts = λ i. with_step_counted (h.counts i) x;
     events = h.events;
   }
   own_counted x t u None None h g = tt
@@ -54,8 +54,8 @@ module _ {A B : Type 0} (R : A → B → Type 0) where
   change_counted t u None (Some m) h g = absurd g
 
 module _ {A B : Type 0} (o : Ops A) (p : Ops B) (R : A → B → Type 0) (keeps : KeepsTied o p R) where
-  its_alike : (k : Kind) (x : Path) (n : Option (Node A)) (m : Option (Node B)) → BothOrNone (Tied o p R) n m → is_its o k x n ≡ is_its p k x m
-  its_alike k x (Some n) (Some m) h = λ i. same_path (path_alike o p R keeps n m h i) x && same_kind k (kind_alike o p R keeps n m h i)
+  its_alike : (k : OwnAction) (x : Path) (n : Option (Node A)) (m : Option (Node B)) → BothOrNone (Tied o p R) n m → is_its o k x n ≡ is_its p k x m
+  its_alike k x (Some n) (Some m) h = λ i. same_path (path_alike o p R keeps n m h i) x && same_own_action k (kind_alike o p R keeps n m h i)
   its_alike k x None None h = refl
   its_alike k x (Some n) None h = absurd h
   its_alike k x None (Some m) h = absurd h
@@ -66,7 +66,7 @@ module _ {A B : Type 0} (o : Ops A) (p : Ops B) (R : A → B → Type 0) (keeps 
   there_alike x (Some n) None h = absurd h
   there_alike x None (Some m) h = absurd h
 
-  ready_at_alike : (c : Channel) (n : Option (Node A)) (m : Option (Node B)) → BothOrNone (Tied o p R) n m → is_ready_at o c n ≡ is_ready_at p c m
+  ready_at_alike : (c : Channel) (n : Option (Node A)) (m : Option (Node B)) → BothOrNone (Tied o p R) n m → home_is_ready o c n ≡ home_is_ready p c m
   ready_at_alike c (Some n) (Some m) h = λ i. same_path (path_alike o p R keeps n m h i) c.home && ready_alike o p R keeps c n m h i
   ready_at_alike c None None h = refl
   ready_at_alike c (Some n) None h = absurd h
@@ -94,7 +94,7 @@ module _ {A B : Type 0} (o : Ops A) (p : Ops B) (R : A → B → Type 0) (keeps 
       }
 
   module _ (one : LocalLaws o) (other : LocalLaws p) where
-    acts_tied : (k : Kind) (x : Path) (n : Node A) (m : Node B) → Tied o p R n m → BothOrNone (ActedTied R) (acts o k x n) (acts p k x m)
+    acts_tied : (k : OwnAction) (x : Path) (n : Node A) (m : Node B) → Tied o p R n m → BothOrNone (ActedTied R) (acts o k x n) (acts p k x m)
     acts_tied k x n m h =
         both_chosen (BothOrNone (ActedTied R)) (is_its o k x (led_to o n x)) (is_its p k x (led_to p m x))
         (act_route o n (route (o.path (state n)) x)) None (act_route p m (route (p.path (state m)) x)) None

@@ -3,7 +3,7 @@ use Rattle.std.proofs.Common.{◌≡◌, ◌&&◌, not, refl, ap}
 use Rattle.shim_local.specs.Process.{Ops}
 use Rattle.shim_local.specs.Laws.{AllOf}
 use Rattle.shim_semantics.specs.Nodes.{Node, Nodes, Live, Forked, Ended, Dead, no_node, node_and, state, states, goes, is_dead, all_done, prevailing, prevailing_death}
-use Rattle.shim_semantics.specs.Trees.{kind_of, kind_of_stop}
+use Rattle.shim_semantics.specs.Trees.{own_action_of, own_action_at}
 use Rattle.shim_laws_tied.specs.Ties.{KeepsTied, AreTied, AllTied}
 use Rattle.shim_laws_tied.proofs.SoundTies.{Tied, EachTied}
 
@@ -61,8 +61,8 @@ module _ {A B : Type 0} (o : Ops A) (p : Ops B) (R : A → B → Type 0) where
   prevailing_alike (node_and k ks) (node_and j js) h = one_more_prevails k j ks js h.0 (prevailing_alike ks js h.1)
   prevailing_alike ks js h = absurd h
 
-  pub kind_alike : KeepsTied o p R → (n : Node A) (m : Node B) → Tied o p R n m → kind_of o n ≡ kind_of p m
-  kind_alike keeps (Live l) (Live m) h = ap kind_of_stop (keeps.stop l m h)
+  pub kind_alike : KeepsTied o p R → (n : Node A) (m : Node B) → Tied o p R n m → own_action_of o n ≡ own_action_of p m
+  kind_alike keeps (Live l) (Live m) h = ap own_action_at (keeps.stop l m h)
   kind_alike keeps (Ended l) (Ended m) h = refl
   kind_alike keeps (Dead l d) (Dead m e) h = refl
   kind_alike keeps (Forked l ks) (Forked m js) h = refl

@@ -3,9 +3,9 @@ use Rattle.std.proofs.Common.{◌≡◌, ℕ, zero, suc, Option, Some, None, Lis
 use Rattle.shim_local.specs.Process.{Ops}
 use Rattle.shim_local.specs.Laws.{LocalLaws}
 use Rattle.shim_semantics.specs.Trees.{Tree, Event, after, start}
-use Rattle.shim_semantics.specs.Systems.{go_on, run}
+use Rattle.shim_semantics.specs.Systems.{on_some, run}
 use Rattle.shim_semantics.specs.Sound.{SharesItsOwn}
-use Rattle.shim_semantics.specs.Walks.{head, first, or_stay, after_first, meaning}
+use Rattle.shim_semantics.specs.Walks.{head, first_event, or_stay, after_first, meaning}
 use Rattle.shim_semantics.proofs.SoundEvents.{events_keep_sound, went_on}
 use Rattle.shim_base.proofs.Facts.{some_same}
 use Rattle.shim_laws_tied.specs.Ties.{KeepsTied}
@@ -18,7 +18,7 @@ use Rattle.shim_laws_tied.proofs.EventsTied.{event_tied}
 use Rattle.shim_laws_tied.proofs.EndsAlike.{ends_alike}
 
 event_and_run : {E T : Type 0} (step : E → T → Option T) (e : E) (es : List E) (t u v : T) → step e t ≡ Some u → run step es u ≡ Some v → run step (e ∷ es) t ≡ Some v
-event_and_run step e es t u v here rest = ap (go_on (run step es)) here ∙ rest
+event_and_run step e es t u v here rest = ap (on_some (run step es)) here ∙ rest
 
 module _ {A B : Type 0} (o : Ops A) (p : Ops B) (R : A → B → Type 0) (keeps : KeepsTied o p R) where
   roots_tied : (t : Tree A) (u : Tree B) → SoundAndTied o p R t u → Tied o p R t.root u.root
@@ -63,13 +63,13 @@ module _ {A B : Type 0} (o : Ops A) (p : Ops B) (R : A → B → Type 0) (keeps 
     behind_first t u h None = h
     behind_first t u h (Some e) = stay_or_go t u e h (after o e t) (after p e u) refl refl (behind_event e t u h)
 
-    one_first : (t : Tree A) (u : Tree B) → SoundAndTied o p R t u → SoundAndTied o p R (after_first o t (first o t)) (after_first p u (first p u))
-    one_first t u h = subst (λ x. SoundAndTied o p R (after_first o t (first o t)) (after_first p u x)) (ap head (same_walks t u h)) (behind_first t u h (first o t))
+    one_first : (t : Tree A) (u : Tree B) → SoundAndTied o p R t u → SoundAndTied o p R (after_first o t (first_event o t)) (after_first p u (first_event p u))
+    one_first t u h = subst (λ x. SoundAndTied o p R (after_first o t (first_event o t)) (after_first p u x)) (ap head (same_walks t u h)) (behind_first t u h (first_event o t))
 
     meanings_tied : (b : ℕ) (t : Tree A) (u : Tree B) → SoundAndTied o p R t u → SoundAndTied o p R (meaning o b t) (meaning p b u)
     unfolding meaning
     meanings_tied zero t u h = h
-    meanings_tied (suc b) t u h = meanings_tied b (after_first o t (first o t)) (after_first p u (first p u)) (one_first t u h)
+    meanings_tied (suc b) t u h = meanings_tied b (after_first o t (first_event o t)) (after_first p u (first_event p u)) (one_first t u h)
 
     pub same_meanings : SameMeanings o p R
     same_meanings l m b s r h own =

@@ -2,7 +2,7 @@
 use Rattle.std.proofs.Common.{◌≡◌, true, Option, Some, None, cond, refl, ap}
 use Rattle.shim_base.specs.Paths.{Channel}
 use Rattle.shim_local.specs.Process.{Ops}
-use Rattle.shim_semantics.specs.Nodes.{Node, Nodes, Live, Forked, Ended, Dead, no_node, node_and, next_of, or_else, source, source_among, value_of, name_at, first_name, first_name_among}
+use Rattle.shim_semantics.specs.Nodes.{Node, Nodes, Live, Forked, Ended, Dead, no_node, node_and, next_channel, or_else, source, source_among, value_of, name_for, first_name, first_name_among}
 use Rattle.shim_laws_tied.specs.Ties.{KeepsTied, AreTied}
 use Rattle.shim_laws_tied.proofs.Both.{BothOrNone, both_chosen, both_or_else}
 use Rattle.shim_laws_tied.proofs.SoundTies.{Tied, EachTied}
@@ -41,7 +41,7 @@ module _ {A B : Type 0} (o : Ops A) (p : Ops B) (R : A → B → Type 0) (keeps 
 
   mutual
     pub name_alike : (c : Channel) (n : Node A) (m : Node B) → Tied o p R n m → first_name o c n ≡ first_name p c m
-    name_alike c (Live l) (Live m) h = ap (λ s. name_at c (next_of s)) (keeps.stop l m h)
+    name_alike c (Live l) (Live m) h = ap (λ s. name_for c (next_channel s)) (keeps.stop l m h)
     name_alike c (Ended l) (Ended m) h = refl
     name_alike c (Dead l d) (Dead m e) h = refl
     name_alike c (Forked l ks) (Forked m js) h = name_among_alike c ks js h.1

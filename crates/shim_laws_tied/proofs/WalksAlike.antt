@@ -2,7 +2,7 @@
 use Rattle.std.proofs.Common.{◌≡◌, ℕ, ◌+◌, ◌&&◌, [], ◌∷◌, ◌++◌, map, filter, cond, refl, ap, ◌∙◌}
 use Rattle.shim_base.specs.Paths.{same_path}
 use Rattle.shim_local.specs.Process.{Ops}
-use Rattle.shim_semantics.specs.Nodes.{Node, Nodes, Live, Forked, Ended, Dead, no_node, node_and, state, next_of}
+use Rattle.shim_semantics.specs.Nodes.{Node, Nodes, Live, Forked, Ended, Dead, no_node, node_and, state, next_channel}
 use Rattle.shim_semantics.specs.Poison.{is_doomed}
 use Rattle.shim_semantics.specs.Trees.{Meet, Poison, Close}
 use Rattle.shim_semantics.specs.Walks.{as_list, waited, all_waited, in_order, own_events, meets_here, poisons_here, here, poisons_of, walk, walk_all}
@@ -18,7 +18,7 @@ module _ {A B : Type 0} (o : Ops A) (p : Ops B) (R : A → B → Type 0) (keeps 
 
   mutual
     waited_alike : (n : Node A) (m : Node B) → Tied o p R n m → waited o n ≡ waited p m
-    waited_alike (Live l) (Live m) h = ap (λ s. as_list (next_of s)) (keeps.stop l m h)
+    waited_alike (Live l) (Live m) h = ap (λ s. as_list (next_channel s)) (keeps.stop l m h)
     waited_alike (Ended l) (Ended m) h = refl
     waited_alike (Dead l d) (Dead m e) h = refl
     waited_alike (Forked l ks) (Forked m js) h = all_waited_alike ks js h.1
@@ -31,7 +31,7 @@ module _ {A B : Type 0} (o : Ops A) (p : Ops B) (R : A → B → Type 0) (keeps 
 
   mutual
     pub waiting_alike : (n : Node A) (m : Node B) → Tied o p R n m → waiting o n ≡ waiting p m
-    waiting_alike (Live l) (Live m) h = λ i. wait_of (keeps.path l m h i) (next_of (keeps.stop l m h i))
+    waiting_alike (Live l) (Live m) h = λ i. wait_of (keeps.path l m h i) (next_channel (keeps.stop l m h i))
     waiting_alike (Ended l) (Ended m) h = refl
     waiting_alike (Dead l d) (Dead m e) h = refl
     waiting_alike (Forked l ks) (Forked m js) h = all_waiting_alike ks js h.1

@@ -14,7 +14,7 @@ use Rattle.shim_syntax.specs.declared.tree.Branch.{Branch, Branch-F, fold-Branch
 use Rattle.shim_syntax.specs.declared.tree.BranchWhat.{BranchWhat, BranchWhat-F, fold-BranchWhat, fold-roll-BranchWhat, map-BranchWhat, roll-BranchWhat}
 use Rattle.shim_syntax.specs.declared.tree.BranchWhat.TheVariants as br
 use Rattle.shim_syntax.specs.Names.{Texts, unless_there, with_name, with_texts, param_names, with_functions}
-use Rattle.shim_syntax.specs.Occurrences.{joined, expr_occurs, in_expr, in_exprs, in_option, in_variable, in_call, branch_occurs, what_occurs, in_stmt, in_function, identifiers}
+use Rattle.shim_syntax.specs.Occurrences.{concatenated, expr_occurs, in_expr, in_exprs, in_option, in_variable, in_call, branch_occurs, what_occurs, in_stmt, in_function, identifiers}
 use Rattle.shim_syntax.proofs.OccurrenceLemmas.{names_are_the_identifiers}
 use Rattle.shim_up.specs.Renaming as ren
 use Rattle.shim_up.specs.Renaming.{Renaming, renamed_expr, renamed_option, renamed_variable, renamed_call, renamed_stmt, renamed_param, renamed_function, renamed_functions}
@@ -114,16 +114,16 @@ module _ (f g : Renaming) where
   branches ys = map (λ (e : PartBranch). e.0) ys
 
   abbrev texts : List PartStmt → Texts
-  texts ys = joined (map in_stmt (stmts ys))
+  texts ys = concatenated (map in_stmt (stmts ys))
 
   stmts_agree : (ys : List PartStmt) → Agree (texts ys) → map (renamed_stmt f) (stmts ys) ≡ map (renamed_stmt g) (stmts ys)
   stmts_agree [] h = refl
   stmts_agree (y ∷ ys) h = same_parts (λ x xs. x ∷ xs) _ _ _ _ (y.1 (agree_first (in_stmt y.0) (texts ys) h)) (stmts_agree ys (agree_second (in_stmt y.0) (texts ys) h))
 
-  branches_agree : (ys : List PartBranch) → Agree (joined (map in_branch (branches ys))) → map (renamed_branch f) (branches ys) ≡ map (renamed_branch g) (branches ys)
+  branches_agree : (ys : List PartBranch) → Agree (concatenated (map in_branch (branches ys))) → map (renamed_branch f) (branches ys) ≡ map (renamed_branch g) (branches ys)
   branches_agree [] h = refl
   branches_agree (y ∷ ys) h =
-      same_parts (λ x xs. x ∷ xs) _ _ _ _ (y.1 (agree_first (in_branch y.0) (joined (map in_branch (branches ys))) h)) (branches_agree ys (agree_second (in_branch y.0) (joined (map in_branch (branches ys))) h))
+      same_parts (λ x xs. x ∷ xs) _ _ _ _ (y.1 (agree_first (in_branch y.0) (concatenated (map in_branch (branches ys))) h)) (branches_agree ys (agree_second (in_branch y.0) (concatenated (map in_branch (branches ys))) h))
 
   abbrev branch_what_of : BranchWhat-F PartBranchWhat PartWhat PartBranch PartStmt → BranchWhat-F BranchWhat What Branch Stmt
   branch_what_of y = map-BranchWhat PartBranchWhat PartWhat PartBranch PartStmt BranchWhat What Branch Stmt (λ e. e.0) (λ e. e.0) (λ e. e.0) (λ e. e.0) y
@@ -150,10 +150,10 @@ module _ (f g : Renaming) where
   rolled_what z = fold-roll-What Texts Texts Texts Texts branch_occurs what_occurs (λ b. b.what) (λ s. s.what) z
 
   branch_what_below : Renaming → BranchWhat-F BranchWhat What Branch Stmt → BranchWhat
-  branch_what_below u z = ren.branch_what_step u (map-BranchWhat BranchWhat What Branch Stmt BranchWhat What Branch Stmt (renamed_branch_what u) (renamed_what u) (renamed_branch u) (renamed_stmt u) z)
+  branch_what_below u z = ren.rename_branch_what_step u (map-BranchWhat BranchWhat What Branch Stmt BranchWhat What Branch Stmt (renamed_branch_what u) (renamed_what u) (renamed_branch u) (renamed_stmt u) z)
 
   what_below : Renaming → What-F BranchWhat What Branch Stmt → What
-  what_below u z = ren.what_step u (map-What BranchWhat What Branch Stmt BranchWhat What Branch Stmt (renamed_branch_what u) (renamed_what u) (renamed_branch u) (renamed_stmt u) z)
+  what_below u z = ren.rename_what_step u (map-What BranchWhat What Branch Stmt BranchWhat What Branch Stmt (renamed_branch_what u) (renamed_what u) (renamed_branch u) (renamed_stmt u) z)
 
   branch_what_layer : (y : BranchWhat-F PartBranchWhat PartWhat PartBranch PartStmt) → Agree (branch_what_at (branch_what_of y)) → branch_what_below f (branch_what_of y) ≡ branch_what_below g (branch_what_of y)
   unfolding branch_what_below
@@ -197,11 +197,11 @@ module _ (f g : Renaming) where
 
   below_branch_what : (u : Renaming) (z : BranchWhat-F BranchWhat What Branch Stmt) → renamed_branch_what u (roll-BranchWhat z) ≡ branch_what_below u z
   unfolding branch_what_below
-  below_branch_what u z = fold-roll-BranchWhat BranchWhat What Branch Stmt (ren.branch_what_step u) (ren.what_step u) ren.branch_step ren.stmt_step z
+  below_branch_what u z = fold-roll-BranchWhat BranchWhat What Branch Stmt (ren.rename_branch_what_step u) (ren.rename_what_step u) ren.rename_branch_step ren.rename_stmt_step z
 
   below_what : (u : Renaming) (z : What-F BranchWhat What Branch Stmt) → renamed_what u (roll-What z) ≡ what_below u z
   unfolding what_below
-  below_what u z = fold-roll-What BranchWhat What Branch Stmt (ren.branch_what_step u) (ren.what_step u) ren.branch_step ren.stmt_step z
+  below_what u z = fold-roll-What BranchWhat What Branch Stmt (ren.rename_branch_what_step u) (ren.rename_what_step u) ren.rename_branch_step ren.rename_stmt_step z
 
   stmt_of_line : (line : ℕ) (x : What) → in_stmt (record { line = line; what = x }) ≡ in_what x
   stmt_of_line line x = fold-roll-Stmt Texts Texts Texts Texts branch_occurs what_occurs (λ b. b.what) (λ s. s.what) (record { line = line; what = x })
@@ -231,9 +231,9 @@ module _ (f g : Renaming) where
       (λ x y is. subst (λ z. OfBranch (roll-Branch z)) is (of_branch y.line y.what.0 y.what.1))
       (λ x y is. subst (λ z. OfStmt (roll-Stmt z)) is (of_stmt y.line y.what.0 y.what.1))
 
-  body_agrees : (body : List Stmt) → Agree (joined (map in_stmt body)) → map (renamed_stmt f) body ≡ map (renamed_stmt g) body
+  body_agrees : (body : List Stmt) → Agree (concatenated (map in_stmt body)) → map (renamed_stmt f) body ≡ map (renamed_stmt g) body
   body_agrees [] h = refl
-  body_agrees (s ∷ body) h = same_parts (λ x xs. x ∷ xs) _ _ _ _ (stmt_agrees s (agree_first (in_stmt s) (joined (map in_stmt body)) h)) (body_agrees body (agree_second (in_stmt s) (joined (map in_stmt body)) h))
+  body_agrees (s ∷ body) h = same_parts (λ x xs. x ∷ xs) _ _ _ _ (stmt_agrees s (agree_first (in_stmt s) (concatenated (map in_stmt body)) h)) (body_agrees body (agree_second (in_stmt s) (concatenated (map in_stmt body)) h))
 
   params_agree : (ps : List Param) → Agree (param_names ps) → map (renamed_param f) ps ≡ map (renamed_param g) ps
   params_agree [] h = refl
@@ -245,12 +245,12 @@ module _ (f g : Renaming) where
 
   function_agrees : (k : Function) → Agree (in_function k) → renamed_function f k ≡ renamed_function g k
   function_agrees k h =
-      let rest = k.throws ++ joined (map in_stmt k.body) in
+      let rest = k.throws ++ concatenated (map in_stmt k.body) in
       let made : List ℕ → List Param → Texts → List Stmt → Function = λ x ps ts body. record { line = k.line; name = x; params = ps; throws = ts; body = body } in
       let second = agree_second (param_names k.params) rest h.1 in
       same_parts (λ x ps. made x ps (map f k.throws) (map (renamed_stmt f) k.body)) _ _ _ _ h.0 (params_agree k.params (agree_first (param_names k.params) rest h.1))
       ∙ same_parts (λ ts body. made (g k.name) (map (renamed_param g) k.params) ts body) _ _ _ _
-      (texts_agree k.throws (agree_first k.throws (joined (map in_stmt k.body)) second)) (body_agrees k.body (agree_second k.throws (joined (map in_stmt k.body)) second))
+      (texts_agree k.throws (agree_first k.throws (concatenated (map in_stmt k.body)) second)) (body_agrees k.body (agree_second k.throws (concatenated (map in_stmt k.body)) second))
 
   pub functions_agree : (fs : List Function) → Agree (identifiers fs) → renamed_functions f fs ≡ renamed_functions g fs
   functions_agree [] h = refl

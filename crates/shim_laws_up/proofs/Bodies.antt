@@ -5,11 +5,11 @@ use Rattle.shim_syntax.specs.declared.tree.Stmt.{Stmt, Stmt-F, fold-roll-Stmt, i
 use Rattle.shim_syntax.specs.declared.tree.What.{What, What-F, fold-What, fold-roll-What, map-What, roll-What}
 use Rattle.shim_syntax.specs.declared.tree.Branch.{Branch, Branch-F, fold-roll-Branch, map-Branch, roll-Branch}
 use Rattle.shim_syntax.specs.declared.tree.BranchWhat.{BranchWhat, BranchWhat-F, fold-BranchWhat, fold-roll-BranchWhat, map-BranchWhat, roll-BranchWhat}
-use Rattle.shim_scopes.specs.declared.scope.Local.{Local}
+use Rattle.shim_scopes.specs.declared.scope.LocalDeclaration.{LocalDeclaration}
 use Rattle.shim_scopes.specs.declared.tree.RWhat.TheVariants as bt
 use Rattle.shim_scopes.specs.declared.tree.RBranchWhat.TheVariants as bb
 use Rattle.shim_scopes.specs.Statements.{Whole, bind_block}
-use Rattle.shim_scopes.specs.Bodies.{WhatMeans, StmtMeans, BranchMeans, BranchWhatMeans, bind_all, bind_fork, first_declares, branch_what_step, what_step, branch_step, stmt_step, meaning, bind_stmts, bind_branch}
+use Rattle.shim_scopes.specs.Bodies.{WhatMeans, StmtMeans, BranchMeans, BranchWhatMeans, bind_all, bind_fork, first_declares, bind_branch_what_step, bind_what_step, bind_branch_step, bind_stmt_step, stmt_meaning, bind_stmts, bind_branch}
 use Rattle.shim_up.specs.Renaming as ren
 use Rattle.shim_up.specs.Renaming.{Renaming, renamed_stmt}
 use Rattle.shim_laws_up.specs.Around.{local_renamed, whole_renamed, bound_renamed, Follows}
@@ -20,16 +20,16 @@ use Rattle.shim_laws_up.proofs.Layers.{branch_what_layer_renamed, what_layer_ren
 
 module _ (w : Whole) where
   abbrev pub branch_what_means : BranchWhat → BranchWhatMeans
-  branch_what_means = fold-BranchWhat BranchWhatMeans WhatMeans BranchMeans StmtMeans (branch_what_step w) (what_step w) branch_step stmt_step
+  branch_what_means = fold-BranchWhat BranchWhatMeans WhatMeans BranchMeans StmtMeans (bind_branch_what_step w) (bind_what_step w) bind_branch_step bind_stmt_step
 
   abbrev pub what_means : What → WhatMeans
-  what_means = fold-What BranchWhatMeans WhatMeans BranchMeans StmtMeans (branch_what_step w) (what_step w) branch_step stmt_step
+  what_means = fold-What BranchWhatMeans WhatMeans BranchMeans StmtMeans (bind_branch_what_step w) (bind_what_step w) bind_branch_step bind_stmt_step
 
 module _ (f : Renaming) (same : (x y : List ℕ) → bytes_eq (f x) (f y) ≡ bytes_eq x y) (w : Whole) where
   abbrev v : Whole
   v = whole_renamed f w
 
-  abbrev locals : List Local → List Local
+  abbrev locals : List LocalDeclaration → List LocalDeclaration
   locals around = map (local_renamed f) around
 
   abbrev BranchWhatsFollow : BranchWhatMeans → BranchWhatMeans → Type 0
@@ -53,7 +53,7 @@ module _ (f : Renaming) (same : (x y : List ℕ) → bytes_eq (f x) (f y) ≡ by
   OfBranch b = Follows f (bind_branch w b) (bind_branch v (renamed_branch f b))
 
   abbrev OfStmt : Stmt → Type 0
-  OfStmt s = StmtsFollow (meaning w s) (meaning v (renamed_stmt f s))
+  OfStmt s = StmtsFollow (stmt_meaning w s) (stmt_meaning v (renamed_stmt f s))
 
   -- a part that follows
   abbrev PartBranchWhat : Type 0
@@ -75,15 +75,15 @@ module _ (f : Renaming) (same : (x y : List ℕ) → bytes_eq (f x) (f y) ≡ by
   branches ys = map (λ (e : PartBranch). e.0) ys
 
   abbrev old : List PartStmt → List StmtMeans
-  old ys = map (meaning w) (stmts ys)
+  old ys = map (stmt_meaning w) (stmts ys)
 
   abbrev new : List PartStmt → List StmtMeans
-  new ys = map (meaning v) (map (renamed_stmt f) (stmts ys))
+  new ys = map (stmt_meaning v) (map (renamed_stmt f) (stmts ys))
 
   stmts_follow : (ys : List PartStmt) → Follows f (bind_all (old ys)) (bind_all (new ys))
   stmts_follow [] a b = refl
   stmts_follow (y ∷ ys) a b =
-      followed f (bound_renamed f) (bound_renamed f) ((meaning w y.0).bind a b) _ _ _ (y.1.binds a b) (λ r.
+      followed f (bound_renamed f) (bound_renamed f) ((stmt_meaning w y.0).bind a b) _ _ _ (y.1.binds a b) (λ r.
       followed f (bound_renamed f) (bound_renamed f) (bind_all (old ys) a r.before) _ _ _ (stmts_follow ys a r.before) (λ s. refl))
 
   first_follows : (ys : List PartStmt) (slot : ℕ) → first_declares (new ys) slot ≡ locals (first_declares (old ys) slot)
@@ -117,25 +117,25 @@ module _ (f : Renaming) (same : (x y : List ℕ) → bytes_eq (f x) (f y) ≡ by
 
   module _ (u : Whole) where
     abbrev branch_what_at : BranchWhat-F BranchWhat What Branch Stmt → BranchWhatMeans
-    branch_what_at z = branch_what_step u (map-BranchWhat BranchWhat What Branch Stmt BranchWhatMeans WhatMeans BranchMeans StmtMeans (branch_what_means u) (what_means u) (bind_branch u) (meaning u) z)
+    branch_what_at z = bind_branch_what_step u (map-BranchWhat BranchWhat What Branch Stmt BranchWhatMeans WhatMeans BranchMeans StmtMeans (branch_what_means u) (what_means u) (bind_branch u) (stmt_meaning u) z)
 
     abbrev what_at : What-F BranchWhat What Branch Stmt → WhatMeans
-    what_at z = what_step u (map-What BranchWhat What Branch Stmt BranchWhatMeans WhatMeans BranchMeans StmtMeans (branch_what_means u) (what_means u) (bind_branch u) (meaning u) z)
+    what_at z = bind_what_step u (map-What BranchWhat What Branch Stmt BranchWhatMeans WhatMeans BranchMeans StmtMeans (branch_what_means u) (what_means u) (bind_branch u) (stmt_meaning u) z)
 
     rolled_branch_what : (z : BranchWhat-F BranchWhat What Branch Stmt) → branch_what_means u (roll-BranchWhat z) ≡ branch_what_at z
-    rolled_branch_what z = fold-roll-BranchWhat BranchWhatMeans WhatMeans BranchMeans StmtMeans (branch_what_step u) (what_step u) branch_step stmt_step z
+    rolled_branch_what z = fold-roll-BranchWhat BranchWhatMeans WhatMeans BranchMeans StmtMeans (bind_branch_what_step u) (bind_what_step u) bind_branch_step bind_stmt_step z
 
     rolled_what : (z : What-F BranchWhat What Branch Stmt) → what_means u (roll-What z) ≡ what_at z
-    rolled_what z = fold-roll-What BranchWhatMeans WhatMeans BranchMeans StmtMeans (branch_what_step u) (what_step u) branch_step stmt_step z
+    rolled_what z = fold-roll-What BranchWhatMeans WhatMeans BranchMeans StmtMeans (bind_branch_what_step u) (bind_what_step u) bind_branch_step bind_stmt_step z
 
   new_branch_what : (z : BranchWhat-F BranchWhat What Branch Stmt) → branch_what_means v (renamed_branch_what f (roll-BranchWhat z)) ≡ branch_what_at v (branch_what_layer_renamed f (branch_what_below z))
   new_branch_what z =
-      ap (branch_what_means v) (fold-roll-BranchWhat BranchWhat What Branch Stmt (ren.branch_what_step f) (ren.what_step f) ren.branch_step ren.stmt_step z ∙ branch_what_rolled f (branch_what_below z))
+      ap (branch_what_means v) (fold-roll-BranchWhat BranchWhat What Branch Stmt (ren.rename_branch_what_step f) (ren.rename_what_step f) ren.rename_branch_step ren.rename_stmt_step z ∙ branch_what_rolled f (branch_what_below z))
       ∙ rolled_branch_what v (branch_what_layer_renamed f (branch_what_below z))
 
   new_what : (z : What-F BranchWhat What Branch Stmt) → what_means v (renamed_what f (roll-What z)) ≡ what_at v (what_layer_renamed f (what_below z))
   new_what z =
-      ap (what_means v) (fold-roll-What BranchWhat What Branch Stmt (ren.branch_what_step f) (ren.what_step f) ren.branch_step ren.stmt_step z ∙ what_rolled f (what_below z))
+      ap (what_means v) (fold-roll-What BranchWhat What Branch Stmt (ren.rename_branch_what_step f) (ren.rename_what_step f) ren.rename_branch_step ren.rename_stmt_step z ∙ what_rolled f (what_below z))
       ∙ rolled_what v (what_layer_renamed f (what_below z))
 
   branch_what_layer : (y : BranchWhat-F PartBranchWhat PartWhat PartBranch PartStmt) → BranchWhatsFollow (branch_what_at w (branch_what_of y)) (branch_what_at v (branch_what_layer_renamed f (branch_what_below (branch_what_of y))))
@@ -143,7 +143,7 @@ module _ (f : Renaming) (same : (x y : List ℕ) → bytes_eq (f x) (f y) ≡ by
       tree_follows f same bb.Block (bind_block (bind_all (old body))) (bind_block (bind_all (new body))) (block_follows f same (bind_all (old body)) (bind_all (new body)) (stmts_follow body))
   branch_what_layer (BranchWhat-F.BranchWhat::Call c) line = called_follows f same bb.Call w c line
 
-  nothing_declared : (slot : ℕ) → (let none : List Local = [] in none) ≡ locals []
+  nothing_declared : (slot : ℕ) → (let none : List LocalDeclaration = [] in none) ≡ locals []
   nothing_declared slot = refl
 
   what_layer : (y : What-F PartBranchWhat PartWhat PartBranch PartStmt) → WhatsFollow (what_at w (what_of y)) (what_at v (what_layer_renamed f (what_below (what_of y))))
@@ -190,16 +190,16 @@ module _ (f : Renaming) (same : (x y : List ℕ) → bytes_eq (f x) (f y) ≡ by
       (subst (λ n. WhatsFollow (what_at w (what_of y)) n) (sym (new_what (what_of y))) (what_layer y)))
 
   abbrev branch_at : (u : Whole) → ℕ → BranchWhat → BranchMeans
-  branch_at u line x = branch_step (record { line = line; what = branch_what_means u x })
+  branch_at u line x = bind_branch_step (record { line = line; what = branch_what_means u x })
 
   abbrev stmt_at : (u : Whole) → ℕ → What → StmtMeans
-  stmt_at u line x = stmt_step (record { line = line; what = what_means u x })
+  stmt_at u line x = bind_stmt_step (record { line = line; what = what_means u x })
 
   branch_means : (u : Whole) (line : ℕ) (x : BranchWhat) → bind_branch u (record { line = line; what = x }) ≡ branch_at u line x
-  branch_means u line x = fold-roll-Branch BranchWhatMeans WhatMeans BranchMeans StmtMeans (branch_what_step u) (what_step u) branch_step stmt_step (record { line = line; what = x })
+  branch_means u line x = fold-roll-Branch BranchWhatMeans WhatMeans BranchMeans StmtMeans (bind_branch_what_step u) (bind_what_step u) bind_branch_step bind_stmt_step (record { line = line; what = x })
 
-  stmt_means : (u : Whole) (line : ℕ) (x : What) → meaning u (record { line = line; what = x }) ≡ stmt_at u line x
-  stmt_means u line x = fold-roll-Stmt BranchWhatMeans WhatMeans BranchMeans StmtMeans (branch_what_step u) (what_step u) branch_step stmt_step (record { line = line; what = x })
+  stmt_means : (u : Whole) (line : ℕ) (x : What) → stmt_meaning u (record { line = line; what = x }) ≡ stmt_at u line x
+  stmt_means u line x = fold-roll-Stmt BranchWhatMeans WhatMeans BranchMeans StmtMeans (bind_branch_what_step u) (bind_what_step u) bind_branch_step bind_stmt_step (record { line = line; what = x })
 
   of_branch : (line : ℕ) (x : BranchWhat) → OfBranchWhat x → OfBranch (record { line = line; what = x })
   of_branch line x k =
@@ -209,8 +209,8 @@ module _ (f : Renaming) (same : (x y : List ℕ) → bytes_eq (f x) (f y) ≡ by
 
   of_stmt : (line : ℕ) (x : What) → OfWhat x → OfStmt (record { line = line; what = x })
   of_stmt line x k =
-      subst (λ m. StmtsFollow m (meaning v (renamed_stmt f (record { line = line; what = x })))) (sym (stmt_means w line x))
-      (subst (λ n. StmtsFollow (stmt_at w line x) n) (sym (ap (meaning v) (stmt_at_line f line x) ∙ stmt_means v line (renamed_what f x)))
+      subst (λ m. StmtsFollow m (stmt_meaning v (renamed_stmt f (record { line = line; what = x })))) (sym (stmt_means w line x))
+      (subst (λ n. StmtsFollow (stmt_at w line x) n) (sym (ap (stmt_meaning v) (stmt_at_line f line x) ∙ stmt_means v line (renamed_what f x)))
       (record { binds = tree_follows f same (λ t. record { line = line; what = t }) ((what_means w x).bind line) ((what_means v (renamed_what f x)).bind line) (k.binds line); declares = k.declares }))
 
   branch_case : (x : Branch-F BranchWhat What Branch Stmt) (y : Branch-F PartBranchWhat PartWhat PartBranch PartStmt) → branch_of y ≡ x → OfBranch (roll-Branch x)
@@ -225,5 +225,5 @@ module _ (f : Renaming) (same : (x y : List ℕ) → bytes_eq (f x) (f y) ≡ by
   pub body_follows : (body : List Stmt) → Follows f (bind_stmts w body) (bind_stmts v (map (renamed_stmt f) body))
   body_follows [] a b = refl
   body_follows (s ∷ body) a b =
-      followed f (bound_renamed f) (bound_renamed f) ((meaning w s).bind a b) _ _ _ ((stmt_follows s).binds a b) (λ r.
+      followed f (bound_renamed f) (bound_renamed f) ((stmt_meaning w s).bind a b) _ _ _ ((stmt_follows s).binds a b) (λ r.
       followed f (bound_renamed f) (bound_renamed f) (bind_stmts w body a r.before) _ _ _ (body_follows body a r.before) (λ s. refl))

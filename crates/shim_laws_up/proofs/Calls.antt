@@ -12,13 +12,13 @@ use Rattle.shim_scopes.specs.declared.tree.RCall.{RCall}
 use Rattle.shim_scopes.specs.declared.tree.UExpr.{UExpr}
 use Rattle.shim_scopes.specs.declared.fault.ScopeKind.TheVariants.{UnknownName, UnknownException, Arity, WrongKind}
 use Rattle.shim_scopes.specs.declared.scope.Bound.{Bound}
-use Rattle.shim_scopes.specs.declared.scope.Local.{Local}
+use Rattle.shim_scopes.specs.declared.scope.LocalDeclaration.{LocalDeclaration}
 use Rattle.shim_scopes.specs.declared.scope.Handled.{Handled}
 use Rattle.shim_syntax.specs.Names.{Texts, position_else}
 use Rattle.shim_scopes.specs.Binding.{binding_of, bare, unknown_in_all, placed_all, exception_number}
 use Rattle.shim_scopes.specs.Refusals.{Refusal}
 use Rattle.shim_scopes.specs.Statements.{Whole, Around, Before, visible}
-use Rattle.shim_scopes.specs.Calls.{function_number, function_of, unhandled_of_all, fits, if_false, wrong_ref, wrong_by, wrong_in_all, bind_known, bind_call, bind_called}
+use Rattle.shim_scopes.specs.Calls.{function_number, function_of, unhandled_of_all, sort_fits, if_false, wrong_ref, wrong_by, wrong_in_all, bind_known, bind_call, bind_called}
 use Rattle.shim_up.specs.Renaming.{Renaming, renamed_expr, renamed_call, renamed_param, renamed_function, renamed_functions}
 use Rattle.shim_laws_up.specs.Around.{local_renamed, handled_renamed, whole_renamed, around_renamed, before_renamed, bound_renamed, answer_renamed, Follows}
 use Rattle.shim_laws_up.proofs.Around.{refused, followed}
@@ -27,7 +27,7 @@ use Rattle.shim_laws_up.proofs.Exprs.{expr_is, all_unknown, all_placed}
 use Rattle.shim_laws_up.proofs.Statements.{seen}
 
 module _ (f : Renaming) (same : (x y : List ℕ) → bytes_eq (f x) (f y) ≡ bytes_eq x y) where
-  abbrev locals : List Local → List Local
+  abbrev locals : List LocalDeclaration → List LocalDeclaration
   locals around = map (local_renamed f) around
 
   function_of_same : (fs : List Function) (x : List ℕ) → function_of (renamed_functions f fs) (f x) ≡ option_map (renamed_function f) (function_of fs x)
@@ -50,15 +50,15 @@ module _ (f : Renaming) (same : (x y : List ℕ) → bytes_eq (f x) (f y) ≡ by
   if_false_renamed x true = refl
   if_false_renamed x false = refl
 
-  wrong_ref_same : (around : List Local) (p : Param) (o : Option (List ℕ)) → wrong_ref (locals around) (renamed_param f p) (option_map f o) ≡ option_map f (wrong_ref around p o)
+  wrong_ref_same : (around : List LocalDeclaration) (p : Param) (o : Option (List ℕ)) → wrong_ref (locals around) (renamed_param f p) (option_map f o) ≡ option_map f (wrong_ref around p o)
   wrong_ref_same around p None = refl
-  wrong_ref_same around p (Some x) = ap (λ (o : Option Bound). if_false (f x) (fits p.sort o)) (binding_same f same around x) ∙ if_false_renamed x (fits p.sort (binding_of x around))
+  wrong_ref_same around p (Some x) = ap (λ (o : Option Bound). if_false (f x) (sort_fits p.sort o)) (binding_same f same around x) ∙ if_false_renamed x (sort_fits p.sort (binding_of x around))
 
-  wrong_by_same : (r : Bool) (around : List Local) (p : Param) (e : Expr) → wrong_by r (locals around) (renamed_param f p) (renamed_expr f e) ≡ option_map f (wrong_by r around p e)
+  wrong_by_same : (r : Bool) (around : List LocalDeclaration) (p : Param) (e : Expr) → wrong_by r (locals around) (renamed_param f p) (renamed_expr f e) ≡ option_map f (wrong_by r around p e)
   wrong_by_same true around p e = ap (wrong_ref (locals around) (renamed_param f p)) ((expr_is f same e).bare) ∙ wrong_ref_same around p (bare e)
   wrong_by_same false around p e = (expr_is f same e).stream around
 
-  wrong_all_same : (around : List Local) (ps : List Param) (es : List Expr) → wrong_in_all (locals around) (map (renamed_param f) ps) (map (renamed_expr f) es) ≡ option_map f (wrong_in_all around ps es)
+  wrong_all_same : (around : List LocalDeclaration) (ps : List Param) (es : List Expr) → wrong_in_all (locals around) (map (renamed_param f) ps) (map (renamed_expr f) es) ≡ option_map f (wrong_in_all around ps es)
   wrong_all_same around [] es = refl
   wrong_all_same around (p ∷ ps) [] = refl
   wrong_all_same around (p ∷ ps) (e ∷ es) = both_or f _ _ _ _ (wrong_by_same p.by_ref around p e) (wrong_all_same around ps es)
@@ -66,7 +66,7 @@ module _ (f : Renaming) (same : (x y : List ℕ) → bytes_eq (f x) (f y) ≡ by
   counts_same : (es : List Expr) (ps : List Param) → nat_eq (length (map (renamed_expr f) es)) (length (map (renamed_param f) ps)) ≡ nat_eq (length es) (length ps)
   counts_same es ps = ap (λ (n : ℕ). nat_eq n (length (map (renamed_param f) ps))) (length-map es (renamed_expr f)) ∙ ap (λ (n : ℕ). nat_eq (length es) n) (length-map ps (renamed_param f))
 
-  seen_by : Around → Before → List Local
+  seen_by : Around → Before → List LocalDeclaration
   seen_by a b = visible (around_renamed f a) (before_renamed f b)
 
   known_follows : (o : Option Function) (fs : List Function) (c : CallOf) (line : ℕ) (a : Around) (b : Before)

@@ -15,9 +15,9 @@ use Rattle.shim_syntax.specs.declared.tree.Function.{Function}
 use Rattle.shim_syntax.specs.Terminals.{Terminal, Name, Number, Sort, Key, Sign, End, Broken, first}
 use Rattle.shim_syntax.specs.Limits.{limits}
 use Rattle.shim_syntax.specs.Grammar as is
-use Rattle.shim_syntax.specs.Grammar.{Counts, is_else, is_par, operator_of_sign, IsExpr, IsChain, IsArguments, IsMoreArguments, IsDeclared, IsDeclarations, IsFirst, IsTest, IsStep, IsBlock, IsStmt, IsBody, IsPlain, IsBranches, IsBranch, IsThrowRest, IsCatchRest, IsParam, IsParams, IsMoreParams, IsThrows, IsMoreThrows, IsFunction, IsFunctions}
+use Rattle.shim_syntax.specs.Grammar.{TextCounts, is_else, is_par, operator_of_sign, IsExpr, IsChain, IsArguments, IsMoreArguments, IsDeclared, IsDeclarations, IsFirst, IsTest, IsStep, IsBlock, IsStmt, IsBody, IsPlain, IsBranches, IsBranch, IsThrowRest, IsCatchRest, IsParam, IsParams, IsMoreParams, IsThrows, IsMoreThrows, IsFunction, IsFunctions}
 use Rattle.shim_up.specs.Renaming.{Renaming, renamed_expr, renamed_option, renamed_variable, renamed_stmt, renamed_param, renamed_function, renamed_functions}
-use Rattle.shim_laws_up.specs.Rewriting.{moved, rewritten}
+use Rattle.shim_laws_up.specs.Rewriting.{at_byte, rewritten}
 use Rattle.shim_laws_up.proofs.Layers.{renamed_branch}
 use Rattle.shim_laws_up.proofs.RenamedSteps.{renamed_number, name_renamed, renamed_unary, renamed_binary, declare_renamed, assign_renamed, next_renamed, next_assign_renamed, assign_next_renamed, get_renamed, put_renamed, if_renamed, while_renamed, for_renamed, block_renamed, call_renamed, try_renamed, throw_renamed, par_renamed, block_branch_renamed, call_branch_renamed}
 
@@ -91,7 +91,7 @@ module _ (f : Renaming) (later : Bool) (end : Place) (place : ℕ → ℕ) where
   new s = rewritten f end place s
 
   -- and what was read, of a text of version 2 where this is asked for
-  abbrev seen : Counts → Counts
+  abbrev seen : TextCounts → TextCounts
   seen v = record v { two = either later v.two }
 
   abbrev stmts : List Stmt → List Stmt
@@ -105,7 +105,7 @@ module _ (f : Renaming) (later : Bool) (end : Place) (place : ℕ → ℕ) where
   par_same (Name x p ∷ r) h = h
   par_same (Number n p ∷ r) h = h
   par_same (Sort s p ∷ r) h = h
-  par_same (Key w p ∷ r) h = key_par w p (moved _ p) ∙ h
+  par_same (Key w p ∷ r) h = key_par w p (at_byte _ p) ∙ h
   par_same (Sign s p ∷ r) h = h
   par_same (End p ∷ r) h = h
   par_same (Broken w p ∷ r) h = h
@@ -115,17 +115,17 @@ module _ (f : Renaming) (later : Bool) (end : Place) (place : ℕ → ℕ) where
   else_same (Name x p ∷ r) h = h
   else_same (Number n p ∷ r) h = h
   else_same (Sort s p ∷ r) h = h
-  else_same (Key w p ∷ r) h = key_else w p (moved _ p) ∙ h
+  else_same (Key w p ∷ r) h = key_else w p (at_byte _ p) ∙ h
   else_same (Sign s p ∷ r) h = h
   else_same (End p ∷ r) h = h
   else_same (Broken w p ∷ r) h = h
 
-  module _ (n l : ℕ) (v w : Counts) (s r : List Terminal) where
+  module _ (n l : ℕ) (v w : TextCounts) (s r : List Terminal) where
     as_expr : (x y : Expr) → x ≡ y → IsExpr limits n l v w s r y → IsExpr limits n l v w s r x
     as_expr x y q d = subst (λ z. IsExpr limits n l v w s r z) (sym q) d
 
   mutual
-    expr_rewritten : {n l : ℕ} {v w : Counts} {s r : List Terminal} {x : Expr} → IsExpr limits n l v w s r x → IsExpr limits n l (seen v) (seen w) (new s) (new r) (renamed_expr f x)
+    expr_rewritten : {n l : ℕ} {v w : TextCounts} {s r : List Terminal} {x : Expr} → IsExpr limits n l v w s r x → IsExpr limits n l (seen v) (seen w) (new s) (new r) (renamed_expr f x)
     expr_rewritten (is.number {n = n}) = as_expr _ _ _ _ _ _ _ _ (renamed_number f n) is.number
     expr_rewritten (is.variable {x = x}) = as_expr _ _ _ _ _ _ _ _ (name_renamed f x) is.variable
     expr_rewritten (is.parens h d) = is.parens h (expr_rewritten d)
@@ -134,21 +134,21 @@ module _ (f : Renaming) (later : Bool) (end : Place) (place : ℕ → ℕ) where
     expr_rewritten (is.complement {x = x} h i d) = as_expr _ _ _ _ _ _ _ _ (renamed_unary f Flip x) (is.complement h i (expr_rewritten d))
     expr_rewritten (is.row d c) = is.row (expr_rewritten d) (chain_rewritten c)
 
-    chain_rewritten : {n l : ℕ} {v w : Counts} {s r : List Terminal} {x y : Expr} → IsChain limits n l v w s r x y → IsChain limits n l (seen v) (seen w) (new s) (new r) (renamed_expr f x) (renamed_expr f y)
+    chain_rewritten : {n l : ℕ} {v w : TextCounts} {s r : List Terminal} {x y : Expr} → IsChain limits n l v w s r x y → IsChain limits n l (seen v) (seen w) (new s) (new r) (renamed_expr f x) (renamed_expr f y)
     chain_rewritten is.stop = is.stop
     chain_rewritten (is.join {n = n} {l = l} {u = u} {w = w} {o = o} {m = m} {r = r} {x = x} {y = y} {z = z} h i d c) =
         is.join h i (expr_rewritten d) (subst (λ q. IsChain limits n l (seen u) (seen w) (new m) (new r) q (renamed_expr f z)) (renamed_binary f (operator_of_sign o) x y) (chain_rewritten c))
 
   mutual
-    arguments_rewritten : {l : ℕ} {v w : Counts} {s r : List Terminal} {xs : List Expr} → IsArguments limits l v w s r xs → IsArguments limits l (seen v) (seen w) (new s) (new r) (map (renamed_expr f) xs)
+    arguments_rewritten : {l : ℕ} {v w : TextCounts} {s r : List Terminal} {xs : List Expr} → IsArguments limits l v w s r xs → IsArguments limits l (seen v) (seen w) (new s) (new r) (map (renamed_expr f) xs)
     arguments_rewritten is.no_arguments = is.no_arguments
     arguments_rewritten (is.arguments h d m) = is.arguments h (expr_rewritten d) (more_arguments_rewritten m)
 
-    more_arguments_rewritten : {l n : ℕ} {v w : Counts} {s r : List Terminal} {xs : List Expr} → IsMoreArguments limits l n v w s r xs → IsMoreArguments limits l n (seen v) (seen w) (new s) (new r) (map (renamed_expr f) xs)
+    more_arguments_rewritten : {l n : ℕ} {v w : TextCounts} {s r : List Terminal} {xs : List Expr} → IsMoreArguments limits l n v w s r xs → IsMoreArguments limits l n (seen v) (seen w) (new s) (new r) (map (renamed_expr f) xs)
     more_arguments_rewritten is.arguments_end = is.arguments_end
     more_arguments_rewritten (is.argument h d m) = is.argument h (expr_rewritten d) (more_arguments_rewritten m)
 
-  declared_rewritten : {l : ℕ} {v w : Counts} {s r : List Terminal} {x : List ℕ} {a : Option Expr} → IsDeclared limits l v w s r x a → IsDeclared limits l (seen v) (seen w) (new s) (new r) (f x) (renamed_option f a)
+  declared_rewritten : {l : ℕ} {v w : TextCounts} {s r : List Terminal} {x : List ℕ} {a : Option Expr} → IsDeclared limits l v w s r x a → IsDeclared limits l (seen v) (seen w) (new s) (new r) (f x) (renamed_option f a)
   declared_rewritten (is.without_value h) = is.without_value h
   declared_rewritten (is.with_value h d) = is.with_value h (expr_rewritten d)
 
@@ -156,37 +156,37 @@ module _ (f : Renaming) (later : Bool) (end : Place) (place : ℕ → ℕ) where
   one_and : (x y : Stmt) (xs ys : List Stmt) → x ≡ y → xs ≡ ys → x ∷ xs ≡ y ∷ ys
   one_and x y xs ys p q = ap (λ z. z ∷ xs) p ∙ ap (λ zs. y ∷ zs) q
 
-  declarations_rewritten : {l line : ℕ} {ty : Ty} {v w : Counts} {s r : List Terminal} {xs : List Stmt} → IsDeclarations limits l ty line v w s r xs → IsDeclarations limits l ty line (seen v) (seen w) (new s) (new r) (stmts xs)
+  declarations_rewritten : {l line : ℕ} {ty : Ty} {v w : TextCounts} {s r : List Terminal} {xs : List Stmt} → IsDeclarations limits l ty line v w s r xs → IsDeclarations limits l ty line (seen v) (seen w) (new s) (new r) (stmts xs)
   declarations_rewritten {l = l} {line = line} {ty = ty} {v = v} {w = w} {s = s} {r = r} (is.last_declared {x = x} {value = a} d) =
       subst (λ zs. IsDeclarations limits l ty line (seen v) (seen w) (new s) (new r) zs) (sym (one_and _ _ _ _ (declare_renamed f line ty x a) refl)) (is.last_declared (declared_rewritten d))
   declarations_rewritten {l = l} {line = line} {ty = ty} {v = v} {w = w} {s = s} {r = r} (is.declared {x = x} {value = a} d m) =
       subst (λ zs. IsDeclarations limits l ty line (seen v) (seen w) (new s) (new r) zs) (sym (one_and _ _ _ _ (declare_renamed f line ty x a) refl)) (is.declared (declared_rewritten d) (declarations_rewritten m))
 
-  first_rewritten : {l : ℕ} {v w : Counts} {s r : List Terminal} {xs : List Stmt} → IsFirst limits l v w s r xs → IsFirst limits l (seen v) (seen w) (new s) (new r) (stmts xs)
+  first_rewritten : {l : ℕ} {v w : TextCounts} {s r : List Terminal} {xs : List Stmt} → IsFirst limits l v w s r xs → IsFirst limits l (seen v) (seen w) (new s) (new r) (stmts xs)
   first_rewritten is.no_first = is.no_first
   first_rewritten {l = l} {v = v} {w = w} {s = s} {r = r} (is.first_declare {ty = ty} {p = p} {x = x} {value = a} h d) =
       subst (λ zs. IsFirst limits l (seen v) (seen w) (new s) (new r) zs) (sym (one_and _ _ _ _ (declare_renamed f p.line ty x a) refl)) (is.first_declare h (declared_rewritten d))
   first_rewritten {l = l} {v = v} {w = w} {s = s} {r = r} (is.first_assign {x = x} {p = p} {value = a} h d) =
       subst (λ zs. IsFirst limits l (seen v) (seen w) (new s) (new r) zs) (sym (one_and _ _ _ _ (assign_renamed f p.line x a) refl)) (is.first_assign h (expr_rewritten d))
 
-  test_rewritten : {l : ℕ} {v w : Counts} {s r : List Terminal} {a : Option Expr} → IsTest limits l v w s r a → IsTest limits l (seen v) (seen w) (new s) (new r) (renamed_option f a)
+  test_rewritten : {l : ℕ} {v w : TextCounts} {s r : List Terminal} {a : Option Expr} → IsTest limits l v w s r a → IsTest limits l (seen v) (seen w) (new s) (new r) (renamed_option f a)
   test_rewritten is.no_test = is.no_test
   test_rewritten (is.test d) = is.test (expr_rewritten d)
 
-  step_rewritten : {l : ℕ} {v w : Counts} {s r : List Terminal} {xs : List Stmt} → IsStep limits l v w s r xs → IsStep limits l (seen v) (seen w) (new s) (new r) (stmts xs)
+  step_rewritten : {l : ℕ} {v w : TextCounts} {s r : List Terminal} {xs : List Stmt} → IsStep limits l v w s r xs → IsStep limits l (seen v) (seen w) (new s) (new r) (stmts xs)
   step_rewritten is.no_step = is.no_step
   step_rewritten {l = l} {v = v} {w = w} {s = s} {r = r} (is.step {x = x} {p = p} {value = a} h d) =
       subst (λ zs. IsStep limits l (seen v) (seen w) (new s) (new r) zs) (sym (one_and _ _ _ _ (assign_renamed f p.line x a) refl)) (is.step h (expr_rewritten d))
 
-  throw_rewritten : {l : ℕ} {v w : Counts} {s r : List Terminal} {a : Option Expr} → IsThrowRest limits l v w s r a → IsThrowRest limits l (seen v) (seen w) (new s) (new r) (renamed_option f a)
+  throw_rewritten : {l : ℕ} {v w : TextCounts} {s r : List Terminal} {a : Option Expr} → IsThrowRest limits l v w s r a → IsThrowRest limits l (seen v) (seen w) (new s) (new r) (renamed_option f a)
   throw_rewritten is.no_number = is.no_number
   throw_rewritten (is.thrown_number {v = v} two d) = is.thrown_number (of_version_2 later v.two two) (expr_rewritten d)
 
-  catch_rewritten : {v w : Counts} {s r : List Terminal} {y : Option (List ℕ)} → IsCatchRest limits v w s r y → IsCatchRest limits (seen v) (seen w) (new s) (new r) (renamed_variable f y)
+  catch_rewritten : {v w : TextCounts} {s r : List Terminal} {y : Option (List ℕ)} → IsCatchRest limits v w s r y → IsCatchRest limits (seen v) (seen w) (new s) (new r) (renamed_variable f y)
   catch_rewritten is.no_variable = is.no_variable
   catch_rewritten (is.catch_variable {v = v} two h) = is.catch_variable (of_version_2 later v.two two) h
 
-  module _ (l : ℕ) (v w : Counts) (s r : List Terminal) where
+  module _ (l : ℕ) (v w : TextCounts) (s r : List Terminal) where
     as_plain : (x y : Stmt) → x ≡ y → IsPlain limits l v w s r (y ∷ []) → IsPlain limits l v w s r (x ∷ [])
     as_plain x y q d = subst (λ z. IsPlain limits l v w s r (z ∷ [])) (sym q) d
 
@@ -206,22 +206,22 @@ module _ (f : Renaming) (later : Bool) (end : Place) (place : ℕ → ℕ) where
   fork_renamed line b c bs q = par_renamed f line (b ∷ bs) ∙ ap (λ z. fork line z (branches bs)) q
 
   mutual
-    block_rewritten : {l : ℕ} {v w : Counts} {s r : List Terminal} {xs : List Stmt} → IsBlock limits l v w s r xs → IsBlock limits l (seen v) (seen w) (new s) (new r) (stmts xs)
+    block_rewritten : {l : ℕ} {v w : TextCounts} {s r : List Terminal} {xs : List Stmt} → IsBlock limits l v w s r xs → IsBlock limits l (seen v) (seen w) (new s) (new r) (stmts xs)
     block_rewritten is.block_end = is.block_end
     block_rewritten {l = l} {v = v} {w = w} {s = s} {r = r} (is.stmt {xs = xs} {ys = ys} h d b) =
         subst (λ zs. IsBlock limits l (seen v) (seen w) (new s) (new r) zs) (sym (map-append (renamed_stmt f) xs ys)) (is.stmt h (stmt_rewritten d) (block_rewritten b))
 
-    stmt_rewritten : {l : ℕ} {v w : Counts} {s r : List Terminal} {xs : List Stmt} → IsStmt limits l v w s r xs → IsStmt limits l (seen v) (seen w) (new s) (new r) (stmts xs)
+    stmt_rewritten : {l : ℕ} {v w : TextCounts} {s r : List Terminal} {xs : List Stmt} → IsStmt limits l v w s r xs → IsStmt limits l (seen v) (seen w) (new s) (new r) (stmts xs)
     stmt_rewritten {r = r} (is.block {p = p} {xs = xs} b h) = as_stmt _ _ _ _ _ _ _ (block_renamed f p.line xs) (is.block (block_rewritten b) (par_same r h))
     stmt_rewritten (is.block_fork {p = p} {xs = xs} {bs = bs} b t) = as_stmt _ _ _ _ _ _ _ (fork_renamed p.line _ _ bs (block_branch_renamed f p.line xs)) (is.block_fork (block_rewritten b) (branches_rewritten t))
     stmt_rewritten (is.plain d) = is.plain (plain_rewritten d)
 
-    body_rewritten : {l : ℕ} {v w : Counts} {s r : List Terminal} {xs : List Stmt} → IsBody limits l v w s r xs → IsBody limits l (seen v) (seen w) (new s) (new r) (stmts xs)
+    body_rewritten : {l : ℕ} {v w : TextCounts} {s r : List Terminal} {xs : List Stmt} → IsBody limits l v w s r xs → IsBody limits l (seen v) (seen w) (new s) (new r) (stmts xs)
     body_rewritten {r = r} (is.body_block b h) = is.body_block (block_rewritten b) (par_same r h)
     body_rewritten (is.body_fork {p = p} {xs = xs} {bs = bs} b h t) = as_body _ _ _ _ _ _ _ (fork_renamed p.line _ _ bs (block_branch_renamed f p.line xs)) (is.body_fork (block_rewritten b) h (branches_rewritten t))
     body_rewritten (is.body_plain h d) = is.body_plain h (plain_rewritten d)
 
-    plain_rewritten : {l : ℕ} {v w : Counts} {s r : List Terminal} {xs : List Stmt} → IsPlain limits l v w s r xs → IsPlain limits l (seen v) (seen w) (new s) (new r) (stmts xs)
+    plain_rewritten : {l : ℕ} {v w : TextCounts} {s r : List Terminal} {xs : List Stmt} → IsPlain limits l v w s r xs → IsPlain limits l (seen v) (seen w) (new s) (new r) (stmts xs)
     plain_rewritten is.empty = is.empty
     plain_rewritten (is.declare d) = is.declare (declarations_rewritten d)
     plain_rewritten (is.assign {x = x} {p = p} {value = a} d) = as_plain _ _ _ _ _ _ _ (assign_renamed f p.line x a) (is.assign (expr_rewritten d))
@@ -242,11 +242,11 @@ module _ (f : Renaming) (later : Bool) (end : Place) (place : ℕ → ℕ) where
         as_plain _ _ _ _ _ _ _ (try_renamed f p.line xs x y ys) (is.try (block_rewritten b) (catch_rewritten c) (block_rewritten d))
     plain_rewritten (is.throw {x = x} {p = p} {value = a} d) = as_plain _ _ _ _ _ _ _ (throw_renamed f p.line x a) (is.throw (throw_rewritten d))
 
-    branches_rewritten : {l n : ℕ} {v w : Counts} {s r : List Terminal} {bs : List Branch} → IsBranches limits l n v w s r bs → IsBranches limits l n (seen v) (seen w) (new s) (new r) (branches bs)
+    branches_rewritten : {l n : ℕ} {v w : TextCounts} {s r : List Terminal} {bs : List Branch} → IsBranches limits l n v w s r bs → IsBranches limits l n (seen v) (seen w) (new s) (new r) (branches bs)
     branches_rewritten {r = r} (is.last_branch h b i) = is.last_branch h (branch_rewritten b) (par_same r i)
     branches_rewritten (is.branch h b t) = is.branch h (branch_rewritten b) (branches_rewritten t)
 
-    branch_rewritten : {l : ℕ} {v w : Counts} {s r : List Terminal} {b : Branch} → IsBranch limits l v w s r b → IsBranch limits l (seen v) (seen w) (new s) (new r) (renamed_branch f b)
+    branch_rewritten : {l : ℕ} {v w : TextCounts} {s r : List Terminal} {b : Branch} → IsBranch limits l v w s r b → IsBranch limits l (seen v) (seen w) (new s) (new r) (renamed_branch f b)
     branch_rewritten (is.block_branch {p = p} {xs = xs} b) = as_branch_of _ _ _ _ _ _ _ (block_branch_renamed f p.line xs) (is.block_branch (block_rewritten b))
     branch_rewritten (is.call_branch {f = h} {p = p} {xs = xs} d) = as_branch_of _ _ _ _ _ _ _ (call_branch_renamed f p.line (record { function = h; args = xs })) (is.call_branch (arguments_rewritten d))
 
@@ -272,9 +272,9 @@ module _ (f : Renaming) (later : Bool) (end : Place) (place : ℕ → ℕ) where
   throws_rewritten is.no_throws = is.no_throws
   throws_rewritten (is.throws h m) = is.throws h (more_throws_rewritten m)
 
-  function_rewritten : {v w : Counts} {s r : List Terminal} {h : Function} → IsFunction limits v w s r h → IsFunction limits (seen v) (seen w) (new s) (new r) (renamed_function f h)
+  function_rewritten : {v w : TextCounts} {s r : List Terminal} {h : Function} → IsFunction limits v w s r h → IsFunction limits (seen v) (seen w) (new s) (new r) (renamed_function f h)
   function_rewritten (is.function a t b) = is.function (params_rewritten a) (throws_rewritten t) (block_rewritten b)
 
-  pub functions_rewritten : {n : ℕ} {v : Counts} {s r : List Terminal} {fs : List Function} → IsFunctions limits n v s r fs → IsFunctions limits n (seen v) (new s) (new r) (renamed_functions f fs)
+  pub functions_rewritten : {n : ℕ} {v : TextCounts} {s r : List Terminal} {fs : List Function} → IsFunctions limits n v s r fs → IsFunctions limits n (seen v) (new s) (new r) (renamed_functions f fs)
   functions_rewritten is.program_end = is.program_end
   functions_rewritten (is.another_function h d t) = is.another_function h (function_rewritten d) (functions_rewritten t)

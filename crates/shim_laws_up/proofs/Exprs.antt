@@ -6,7 +6,7 @@ use Rattle.shim_base.specs.declared.operators.BinOp.{BinOp}
 use Rattle.shim_base.specs.declared.operators.UnOp.{UnOp}
 use Rattle.shim_syntax.specs.declared.tree.Expr.{Expr, Expr-F, ind-Expr, map-Expr, roll-Expr}
 use Rattle.shim_syntax.specs.declared.tree.Expr.TheVariants as e
-use Rattle.shim_scopes.specs.declared.scope.Local.{Local}
+use Rattle.shim_scopes.specs.declared.scope.LocalDeclaration.{LocalDeclaration}
 use Rattle.shim_scopes.specs.declared.tree.UExpr.TheVariants as u
 use Rattle.shim_scopes.specs.Binding.{unknown_in, unknown_in_all, unknown_in_option, stream_in, stream_in_option, bare, placed, placed_all, placed_option}
 use Rattle.shim_up.specs.Renaming.{Renaming, renamed_expr, renamed_option}
@@ -16,14 +16,14 @@ use Rattle.shim_laws_up.proofs.RenamedSteps.{renamed_number, name_renamed, renam
 use Rattle.shim_laws_up.proofs.ExprSteps.{unknown_number, unknown_variable, unknown_unary, unknown_binary, stream_number, stream_variable, stream_unary, stream_binary, placed_number, placed_variable, placed_unary, placed_binary, bare_number, bare_variable, bare_unary, bare_binary}
 
 module _ (f : Renaming) (same : (x y : List ℕ) → bytes_eq (f x) (f y) ≡ bytes_eq x y) where
-  abbrev locals : List Local → List Local
+  abbrev locals : List LocalDeclaration → List LocalDeclaration
   locals around = map (local_renamed f) around
 
   -- all that is asked of an expression
   pub record IsSame (a : Expr) : Type 0 where
-    pub unknown : (around : List Local) → unknown_in (locals around) (renamed_expr f a) ≡ option_map f (unknown_in around a)
-    pub stream : (around : List Local) → stream_in (locals around) (renamed_expr f a) ≡ option_map f (stream_in around a)
-    pub placed : (around : List Local) → placed (locals around) (renamed_expr f a) ≡ placed around a
+    pub unknown : (around : List LocalDeclaration) → unknown_in (locals around) (renamed_expr f a) ≡ option_map f (unknown_in around a)
+    pub stream : (around : List LocalDeclaration) → stream_in (locals around) (renamed_expr f a) ≡ option_map f (stream_in around a)
+    pub placed : (around : List LocalDeclaration) → placed (locals around) (renamed_expr f a) ≡ placed around a
     pub bare : bare (renamed_expr f a) ≡ option_map f (bare a)
 
   number_is : (n : ℤ) → IsSame (e.Number n)
@@ -74,22 +74,22 @@ module _ (f : Renaming) (same : (x y : List ℕ) → bytes_eq (f x) (f y) ≡ by
   pub expr_is : (a : Expr) → IsSame a
   expr_is = ind-Expr IsSame (λ x y is. subst (λ z. IsSame (roll-Expr z)) is (expr_layer y))
 
-  pub option_unknown : (around : List Local) (a : Option Expr) → unknown_in_option (locals around) (renamed_option f a) ≡ option_map f (unknown_in_option around a)
+  pub option_unknown : (around : List LocalDeclaration) (a : Option Expr) → unknown_in_option (locals around) (renamed_option f a) ≡ option_map f (unknown_in_option around a)
   option_unknown around None = refl
   option_unknown around (Some a) = (expr_is a).unknown around
 
-  pub option_stream : (around : List Local) (a : Option Expr) → stream_in_option (locals around) (renamed_option f a) ≡ option_map f (stream_in_option around a)
+  pub option_stream : (around : List LocalDeclaration) (a : Option Expr) → stream_in_option (locals around) (renamed_option f a) ≡ option_map f (stream_in_option around a)
   option_stream around None = refl
   option_stream around (Some a) = (expr_is a).stream around
 
-  pub option_placed : (around : List Local) (a : Option Expr) → placed_option (locals around) (renamed_option f a) ≡ placed_option around a
+  pub option_placed : (around : List LocalDeclaration) (a : Option Expr) → placed_option (locals around) (renamed_option f a) ≡ placed_option around a
   option_placed around None = refl
   option_placed around (Some a) = ap Some ((expr_is a).placed around)
 
-  pub all_unknown : (around : List Local) (es : List Expr) → unknown_in_all (locals around) (map (renamed_expr f) es) ≡ option_map f (unknown_in_all around es)
+  pub all_unknown : (around : List LocalDeclaration) (es : List Expr) → unknown_in_all (locals around) (map (renamed_expr f) es) ≡ option_map f (unknown_in_all around es)
   all_unknown around [] = refl
   all_unknown around (a ∷ es) = both_or f _ _ _ _ ((expr_is a).unknown around) (all_unknown around es)
 
-  pub all_placed : (around : List Local) (es : List Expr) → placed_all (locals around) (map (renamed_expr f) es) ≡ placed_all around es
+  pub all_placed : (around : List LocalDeclaration) (es : List Expr) → placed_all (locals around) (map (renamed_expr f) es) ≡ placed_all around es
   all_placed around [] = refl
   all_placed around (a ∷ es) = ap (λ x. x ∷ placed_all (locals around) (map (renamed_expr f) es)) ((expr_is a).placed around) ∙ ap (λ xs. placed around a ∷ xs) (all_placed around es)

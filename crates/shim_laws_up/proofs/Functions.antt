@@ -10,7 +10,7 @@ use Rattle.shim_syntax.specs.declared.tree.Sort.TheVariants.{Value, Input, Outpu
 use Rattle.shim_syntax.specs.declared.tree.Param.{Param}
 use Rattle.shim_syntax.specs.declared.tree.Function.{Function}
 use Rattle.shim_syntax.specs.declared.tree.Program.{Program}
-use Rattle.shim_syntax.specs.Names.{Texts, number_of, param_names, with_functions}
+use Rattle.shim_syntax.specs.Names.{Texts, name_index, param_names, with_functions}
 use Rattle.shim_scopes.specs.declared.tree.RStmt.{RStmt}
 use Rattle.shim_scopes.specs.declared.tree.UParam.{UParam}
 use Rattle.shim_scopes.specs.declared.tree.RFunction.{RFunction}
@@ -84,7 +84,7 @@ module _ (f : Renaming) (same : (x y : List ℕ) → bytes_eq (f x) (f y) ≡ by
 
   numbers_same : (names xs : Texts) → numbers_of (map f names) (map f xs) ≡ numbers_of names xs
   numbers_same names [] = refl
-  numbers_same names (x ∷ xs) = ap (λ (n : ℕ). n ∷ numbers_of (map f names) (map f xs)) (number_of_same f same names x) ∙ ap (λ (ns : List ℕ). number_of names x ∷ ns) (numbers_same names xs)
+  numbers_same names (x ∷ xs) = ap (λ (n : ℕ). n ∷ numbers_of (map f names) (map f xs)) (number_of_same f same names x) ∙ ap (λ (ns : List ℕ). name_index names x ∷ ns) (numbers_same names xs)
 
   placed_same : (names : Texts) (ps : List Param) → placed_params (map f names) (map (renamed_param f) ps) ≡ placed_params names ps
   placed_same names [] = refl
@@ -107,8 +107,8 @@ module _ (f : Renaming) (same : (x y : List ℕ) → bytes_eq (f x) (f y) ≡ by
   made_same : (w : Whole) (g : Function) (r : BoundTo (List RStmt)) → made_function (whole_renamed f w) (renamed_function f g) (bound_renamed f r) ≡ made_function w g r
   made_same w g r =
       ap (λ (n : ℕ). made g r n (placed_params (map f w.names) (map (renamed_param f) g.params)) (numbers_of (map f w.names) (map f g.throws))) (number_of_same f same w.names g.name)
-      ∙ ap (λ us. made g r (number_of w.names g.name) us (numbers_of (map f w.names) (map f g.throws))) (placed_same w.names g.params)
-      ∙ ap (λ (ns : List ℕ). made g r (number_of w.names g.name) (placed_params w.names g.params) ns) (numbers_same w.names g.throws)
+      ∙ ap (λ us. made g r (name_index w.names g.name) us (numbers_of (map f w.names) (map f g.throws))) (placed_same w.names g.params)
+      ∙ ap (λ (ns : List ℕ). made g r (name_index w.names g.name) (placed_params w.names g.params) ns) (numbers_same w.names g.throws)
 
   abbrev around_body : Texts → Around
   around_body xs = record { outer = []; handled = handled_from [] xs; throws = length xs }

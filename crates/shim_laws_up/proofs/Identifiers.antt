@@ -13,7 +13,7 @@ use Rattle.shim_syntax.specs.declared.tree.What.{What, What-F, fold-What, fold-r
 use Rattle.shim_syntax.specs.declared.tree.Branch.{Branch, Branch-F, fold-Branch, fold-roll-Branch, map-Branch, roll-Branch}
 use Rattle.shim_syntax.specs.declared.tree.BranchWhat.{BranchWhat, BranchWhat-F, fold-BranchWhat, fold-roll-BranchWhat, map-BranchWhat, roll-BranchWhat}
 use Rattle.shim_syntax.specs.Names.{Texts, unless_there, with_name, with_texts, param_names, with_functions}
-use Rattle.shim_syntax.specs.Occurrences.{joined, expr_occurs, in_expr, in_exprs, in_option, in_variable, in_call, branch_occurs, what_occurs, in_stmt, in_function, identifiers}
+use Rattle.shim_syntax.specs.Occurrences.{concatenated, expr_occurs, in_expr, in_exprs, in_option, in_variable, in_call, branch_occurs, what_occurs, in_stmt, in_function, identifiers}
 use Rattle.shim_syntax.proofs.OccurrenceLemmas.{names_are_the_identifiers}
 use Rattle.shim_up.specs.Renaming as ren
 use Rattle.shim_up.specs.Renaming.{Renaming, renamed_expr, renamed_option, renamed_variable, renamed_call, renamed_stmt, renamed_param, renamed_function, renamed_functions}
@@ -95,11 +95,11 @@ module _ (f : Renaming) where
   abbrev branches : List PartBranch → List Branch
   branches ys = map (λ (e : PartBranch). e.0) ys
 
-  stmts_mapped : (ys : List PartStmt) → joined (map in_stmt (map (renamed_stmt f) (stmts ys))) ≡ map f (joined (map in_stmt (stmts ys)))
+  stmts_mapped : (ys : List PartStmt) → concatenated (map in_stmt (map (renamed_stmt f) (stmts ys))) ≡ map f (concatenated (map in_stmt (stmts ys)))
   stmts_mapped [] = refl
   stmts_mapped (y ∷ ys) = both_mapped _ _ _ _ y.1 (stmts_mapped ys)
 
-  branches_mapped : (ys : List PartBranch) → joined (map in_branch (map (renamed_branch f) (branches ys))) ≡ map f (joined (map in_branch (branches ys)))
+  branches_mapped : (ys : List PartBranch) → concatenated (map in_branch (map (renamed_branch f) (branches ys))) ≡ map f (concatenated (map in_branch (branches ys)))
   branches_mapped [] = refl
   branches_mapped (y ∷ ys) = both_mapped _ _ _ _ y.1 (branches_mapped ys)
 
@@ -161,12 +161,12 @@ module _ (f : Renaming) where
 
   new_branch_what : (z : BranchWhat-F BranchWhat What Branch Stmt) → in_branch_what (renamed_branch_what f (roll-BranchWhat z)) ≡ branch_what_at (branch_what_layer_renamed f (branch_what_below z))
   new_branch_what z =
-      ap in_branch_what (fold-roll-BranchWhat BranchWhat What Branch Stmt (ren.branch_what_step f) (ren.what_step f) ren.branch_step ren.stmt_step z ∙ branch_what_rolled f (branch_what_below z))
+      ap in_branch_what (fold-roll-BranchWhat BranchWhat What Branch Stmt (ren.rename_branch_what_step f) (ren.rename_what_step f) ren.rename_branch_step ren.rename_stmt_step z ∙ branch_what_rolled f (branch_what_below z))
       ∙ rolled_branch_what (branch_what_layer_renamed f (branch_what_below z))
 
   new_what : (z : What-F BranchWhat What Branch Stmt) → in_what (renamed_what f (roll-What z)) ≡ what_at (what_layer_renamed f (what_below z))
   new_what z =
-      ap in_what (fold-roll-What BranchWhat What Branch Stmt (ren.branch_what_step f) (ren.what_step f) ren.branch_step ren.stmt_step z ∙ what_rolled f (what_below z))
+      ap in_what (fold-roll-What BranchWhat What Branch Stmt (ren.rename_branch_what_step f) (ren.rename_what_step f) ren.rename_branch_step ren.rename_stmt_step z ∙ what_rolled f (what_below z))
       ∙ rolled_what (what_layer_renamed f (what_below z))
 
   stmt_of_line : (line : ℕ) (x : What) → in_stmt (record { line = line; what = x }) ≡ in_what x
@@ -192,7 +192,7 @@ module _ (f : Renaming) where
       (λ x y is. subst (λ z. OfBranch (roll-Branch z)) is (of_branch y.line y.what.0 y.what.1))
       (λ x y is. subst (λ z. OfStmt (roll-Stmt z)) is (of_stmt y.line y.what.0 y.what.1))
 
-  body_mapped : (body : List Stmt) → joined (map in_stmt (map (renamed_stmt f) body)) ≡ map f (joined (map in_stmt body))
+  body_mapped : (body : List Stmt) → concatenated (map in_stmt (map (renamed_stmt f) body)) ≡ map f (concatenated (map in_stmt body))
   body_mapped [] = refl
   body_mapped (s ∷ body) = both_mapped _ _ _ _ (stmt_mapped s) (body_mapped body)
 

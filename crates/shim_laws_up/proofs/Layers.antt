@@ -29,12 +29,12 @@ what_layer_renamed f (What-F.Try body x y handler) = What-F.Try body (f x) (rena
 what_layer_renamed f (What-F.Throw x a) = What-F.Throw (f x) (renamed_option f a)
 what_layer_renamed f (What-F.Par branches) = What-F.Par branches
 
-pub branch_what_rolled : (f : Renaming) (z : BranchWhat-F BranchWhat What Branch Stmt) → ren.branch_what_step f z ≡ roll-BranchWhat (branch_what_layer_renamed f z)
+pub branch_what_rolled : (f : Renaming) (z : BranchWhat-F BranchWhat What Branch Stmt) → ren.rename_branch_what_step f z ≡ roll-BranchWhat (branch_what_layer_renamed f z)
 unfolding roll-BranchWhat denote.Hole.Carrier.roll
 branch_what_rolled f (BranchWhat-F.BranchWhat::Block body) = refl
 branch_what_rolled f (BranchWhat-F.BranchWhat::Call c) = refl
 
-pub what_rolled : (f : Renaming) (z : What-F BranchWhat What Branch Stmt) → ren.what_step f z ≡ roll-What (what_layer_renamed f z)
+pub what_rolled : (f : Renaming) (z : What-F BranchWhat What Branch Stmt) → ren.rename_what_step f z ≡ roll-What (what_layer_renamed f z)
 unfolding roll-What denote.Hole.Carrier.roll
 what_rolled f (What-F.Declare ty x a) = refl
 what_rolled f (What-F.Assign x a) = refl
@@ -54,16 +54,16 @@ what_rolled f (What-F.Par branches) = refl
 
 module _ (f : Renaming) where
   abbrev pub renamed_branch_what : BranchWhat → BranchWhat
-  renamed_branch_what = fold-BranchWhat BranchWhat What Branch Stmt (ren.branch_what_step f) (ren.what_step f) ren.branch_step ren.stmt_step
+  renamed_branch_what = fold-BranchWhat BranchWhat What Branch Stmt (ren.rename_branch_what_step f) (ren.rename_what_step f) ren.rename_branch_step ren.rename_stmt_step
 
   abbrev pub renamed_what : What → What
-  renamed_what = fold-What BranchWhat What Branch Stmt (ren.branch_what_step f) (ren.what_step f) ren.branch_step ren.stmt_step
+  renamed_what = fold-What BranchWhat What Branch Stmt (ren.rename_branch_what_step f) (ren.rename_what_step f) ren.rename_branch_step ren.rename_stmt_step
 
   abbrev pub renamed_branch : Branch → Branch
-  renamed_branch = fold-Branch BranchWhat What Branch Stmt (ren.branch_what_step f) (ren.what_step f) ren.branch_step ren.stmt_step
+  renamed_branch = fold-Branch BranchWhat What Branch Stmt (ren.rename_branch_what_step f) (ren.rename_what_step f) ren.rename_branch_step ren.rename_stmt_step
 
   pub stmt_at_line : (line : ℕ) (x : What) → renamed_stmt f (record { line = line; what = x }) ≡ record { line = line; what = renamed_what x }
-  stmt_at_line line x = fold-roll-Stmt BranchWhat What Branch Stmt (ren.branch_what_step f) (ren.what_step f) ren.branch_step ren.stmt_step (record { line = line; what = x })
+  stmt_at_line line x = fold-roll-Stmt BranchWhat What Branch Stmt (ren.rename_branch_what_step f) (ren.rename_what_step f) ren.rename_branch_step ren.rename_stmt_step (record { line = line; what = x })
 
   pub branch_at_line : (line : ℕ) (x : BranchWhat) → renamed_branch (record { line = line; what = x }) ≡ record { line = line; what = renamed_branch_what x }
-  branch_at_line line x = fold-roll-Branch BranchWhat What Branch Stmt (ren.branch_what_step f) (ren.what_step f) ren.branch_step ren.stmt_step (record { line = line; what = x })
+  branch_at_line line x = fold-roll-Branch BranchWhat What Branch Stmt (ren.rename_branch_what_step f) (ren.rename_what_step f) ren.rename_branch_step ren.rename_stmt_step (record { line = line; what = x })

@@ -14,11 +14,11 @@ use Rattle.shim_units.specs.declared.unit.UWhat.TheVariants.{If, While, For, Blo
 use Rattle.shim_units.specs.declared.unit.UBranch.{UBranch}
 use Rattle.shim_units.specs.declared.unit.Unit.{Unit as UnitOf}
 use Rattle.shim_units.specs.declared.slot_map.SlotMap.{SlotMap}
-use Rattle.shim_units.specs.Moving.{slot_index_of, slot_index_of_option, moved, moved_option}
+use Rattle.shim_units.specs.Moving.{slot_index_of, slot_index_of_option, renumbered, moved_option}
 use Rattle.shim_units.specs.Parts.{LiftContext, Lifted, Lifts, Part, all_tries}
 use Rattle.shim_units.specs.Lifting.{lift_all, lift_two, lift_three, lift_branch, branch_inner, branch_captures, branch_slots, branch_exceptions, branch_unit, made_unit}
 use Rattle.shim_units.specs.PartFold.{branch_what_step, what_step, branch_step, stmt_step, part, branch_part, parts, branch_parts, lift_in, tries_in}
-use Rattle.shim_units.specs.Units.{function_slot_map, text_of, lift_functions, lifted}
+use Rattle.shim_units.specs.Units.{function_slot_map, name_or_mark, lift_functions, lifted}
 use Rattle.shim_units.proofs.PartSteps.{branch_what_part, what_part}
 use Rattle.shim_up.specs.Renaming.{Renaming}
 use Rattle.shim_laws_up.specs.Around.{form_renamed}
@@ -158,8 +158,8 @@ what_layer (RWhat-F.AssignNext x y) line = λ c x w n. record { tree = refl; uni
 what_layer (RWhat-F.Get x y) line = λ c x w n. record { tree = refl; units = refl }
 what_layer (RWhat-F.Put x a) line = λ c x w n. record { tree = refl; units = refl }
 what_layer (RWhat-F.If a first other) line =
-    two_alike (λ w r s. If (moved w.slots a) r s) (lift_all (parts (stmts first))) (lift_all (parts (stmts other))) (stmts_alike first) (stmts_alike other)
-what_layer (RWhat-F.While a body) line = tree_alike (λ w t. While (moved w.slots a) t) (lift_all (parts (stmts body))) (stmts_alike body)
+    two_alike (λ w r s. If (renumbered w.slots a) r s) (lift_all (parts (stmts first))) (lift_all (parts (stmts other))) (stmts_alike first) (stmts_alike other)
+what_layer (RWhat-F.While a body) line = tree_alike (λ w t. While (renumbered w.slots a) t) (lift_all (parts (stmts body))) (stmts_alike body)
 what_layer (RWhat-F.For first test step body) line =
     three_alike (λ w p r s. For p (moved_option w.slots test) r s) (lift_all (parts (stmts first))) (lift_all (parts (stmts step))) (lift_all (parts (stmts body))) (stmts_alike first) (stmts_alike step) (stmts_alike body)
 what_layer (RWhat-F.RWhat::Block body) line = tree_alike (λ w t. Block t) (lift_all (parts (stmts body))) (stmts_alike body)
@@ -206,10 +206,10 @@ record FunctionsAlike (names others : List (List ℕ)) (all : List RFunction) (n
 functions_alike : (names others : List (List ℕ)) (all : List RFunction) (number next last : ℕ) (fs : List RFunction) → next ≡ last → FunctionsAlike names others all number next last fs
 functions_alike names others all number next last [] e = record { own = refl; lifted = refl }
 functions_alike names others all number next last (f ∷ fs) e =
-    let c : LiftContext = record { functions = all; function = f; number = number; name = text_of names f.name; first = next } in
-    let d : LiftContext = record { functions = all; function = f; number = number; name = text_of others f.name; first = next } in
+    let c : LiftContext = record { functions = all; function = f; number = number; name = name_or_mark names f.name; first = next } in
+    let d : LiftContext = record { functions = all; function = f; number = number; name = name_or_mark others f.name; first = next } in
     let w = function_slot_map f in
-    let r = body_alike f.body c (text_of others f.name) w next in
+    let r = body_alike f.body c (name_or_mark others f.name) w next in
     let a = lift_in f.body c w next in
     let b = lift_in f.body d w next in
     let own : untitled (made_unit c c.name f.params (length f.throws) w (tries_in f.body) a.tree) ≡ untitled (made_unit d d.name f.params (length f.throws) w (tries_in f.body) b.tree) =

@@ -6,13 +6,13 @@ use Rattle.std.specs.Option.{option_map, option_or}
 use Rattle.std.specs.Str.{bytes_eq}
 use Rattle.std.proofs.lemmas.List.{map-append, reverse-append, length-map}
 use Rattle.shim_scopes.specs.declared.scope.Bound.{Bound}
-use Rattle.shim_scopes.specs.declared.scope.Local.{Local}
+use Rattle.shim_scopes.specs.declared.scope.LocalDeclaration.{LocalDeclaration}
 use Rattle.shim_scopes.specs.declared.scope.Handled.{Handled}
-use Rattle.shim_scopes.specs.Binding.{binding_of, exception_of, unless_bound, unknown, if_stream, unless_input, unless_output, if_bound, no_number, no_input, no_output, slot_at, slot_of, number_at, exception_number, unless_handled, unhandled}
+use Rattle.shim_scopes.specs.Binding.{binding_of, exception_of, unless_bound, unknown, if_stream, unless_input, unless_output, if_bound, no_number, no_input, no_output, slot_at, slot_of, number_or_zero_of, exception_number, unless_handled, unhandled}
 use Rattle.shim_scopes.specs.Statements.{if_found, declared_in}
 use Rattle.shim_syntax.specs.declared.tree.Sort.{Sort}
 use Rattle.shim_syntax.specs.declared.tree.Sort.TheVariants.{Value, Input, Output}
-use Rattle.shim_syntax.specs.Names.{Texts, number_of, position_else}
+use Rattle.shim_syntax.specs.Names.{Texts, name_index, position_else}
 use Rattle.shim_up.specs.Renaming.{Renaming}
 use Rattle.shim_laws_up.specs.Around.{local_renamed, handled_renamed}
 
@@ -46,7 +46,7 @@ module _ (f : Renaming) (same : (x y : List ℕ) → bytes_eq (f x) (f y) ≡ by
     pub find_last_same : (ts : List T) → find (λ u. bytes_eq (other u) (f x)) (reverse (map g ts)) ≡ option_map g (find (λ t. bytes_eq (name t) x) (reverse ts))
     find_last_same ts = ap (λ l. find (λ u. bytes_eq (other u) (f x)) l) (sym (map-reverse g ts)) ∙ find_same (reverse ts)
 
-  over_bound : (o : Option Local) → option_map (λ (l : Local). l.bound) (option_map (local_renamed f) o) ≡ option_map (λ (l : Local). l.bound) o
+  over_bound : (o : Option LocalDeclaration) → option_map (λ (l : LocalDeclaration). l.bound) (option_map (local_renamed f) o) ≡ option_map (λ (l : LocalDeclaration). l.bound) o
   over_bound None = refl
   over_bound (Some l) = refl
 
@@ -54,10 +54,10 @@ module _ (f : Renaming) (same : (x y : List ℕ) → bytes_eq (f x) (f y) ≡ by
   over_number None = refl
   over_number (Some l) = refl
 
-  pub binding_same : (around : List Local) (x : List ℕ) → binding_of (f x) (map (local_renamed f) around) ≡ binding_of x around
+  pub binding_same : (around : List LocalDeclaration) (x : List ℕ) → binding_of (f x) (map (local_renamed f) around) ≡ binding_of x around
   binding_same around x =
-      ap (λ (o : Option Local). option_map (λ (l : Local). l.bound) o) (find_last_same (λ (l : Local). l.name) (λ (l : Local). l.name) (local_renamed f) (λ l. refl) x around)
-      ∙ over_bound (find (λ (l : Local). bytes_eq l.name x) (reverse around))
+      ap (λ (o : Option LocalDeclaration). option_map (λ (l : LocalDeclaration). l.bound) o) (find_last_same (λ (l : LocalDeclaration). l.name) (λ (l : LocalDeclaration). l.name) (local_renamed f) (λ l. refl) x around)
+      ∙ over_bound (find (λ (l : LocalDeclaration). bytes_eq l.name x) (reverse around))
 
   pub exception_same : (around : List Handled) (x : List ℕ) → exception_of (f x) (map (handled_renamed f) around) ≡ exception_of x around
   exception_same around x =
@@ -68,7 +68,7 @@ module _ (f : Renaming) (same : (x y : List ℕ) → bytes_eq (f x) (f y) ≡ by
   unless_renamed x None = refl
   unless_renamed x (Some b) = refl
 
-  pub unknown_same : (around : List Local) (x : List ℕ) → unknown (map (local_renamed f) around) (f x) ≡ option_map f (unknown around x)
+  pub unknown_same : (around : List LocalDeclaration) (x : List ℕ) → unknown (map (local_renamed f) around) (f x) ≡ option_map f (unknown around x)
   unknown_same around x = ap (unless_bound (f x)) (binding_same around x) ∙ unless_renamed x (binding_of x around)
 
   unless_handled_renamed : (x : List ℕ) (o : Option ℕ) → unless_handled (f x) o ≡ option_map f (unless_handled x o)
@@ -79,9 +79,9 @@ module _ (f : Renaming) (same : (x y : List ℕ) → bytes_eq (f x) (f y) ≡ by
   unhandled_same around x = ap (unless_handled (f x)) (exception_same around x) ∙ unless_handled_renamed x (exception_of x around)
 
   pub number_same : (around : List Handled) (x : List ℕ) → exception_number (map (handled_renamed f) around) (f x) ≡ exception_number around x
-  number_same around x = ap number_at (exception_same around x)
+  number_same around x = ap number_or_zero_of (exception_same around x)
 
-  pub slot_same : (around : List Local) (x : List ℕ) → slot_of (map (local_renamed f) around) (f x) ≡ slot_of around x
+  pub slot_same : (around : List LocalDeclaration) (x : List ℕ) → slot_of (map (local_renamed f) around) (f x) ≡ slot_of around x
   slot_same around x = ap slot_at (binding_same around x)
 
   if_stream_renamed : (x : List ℕ) (s : Sort) → if_stream (f x) s ≡ option_map f (if_stream x s)
@@ -103,22 +103,22 @@ module _ (f : Renaming) (same : (x y : List ℕ) → bytes_eq (f x) (f y) ≡ by
   if_bound_renamed t each x None = refl
   if_bound_renamed t each x (Some b) = each x b.sort
 
-  pub no_number_same : (around : List Local) (x : List ℕ) → no_number (map (local_renamed f) around) (f x) ≡ option_map f (no_number around x)
+  pub no_number_same : (around : List LocalDeclaration) (x : List ℕ) → no_number (map (local_renamed f) around) (f x) ≡ option_map f (no_number around x)
   no_number_same around x = ap (if_bound if_stream (f x)) (binding_same around x) ∙ if_bound_renamed if_stream if_stream_renamed x (binding_of x around)
 
-  pub no_input_same : (around : List Local) (x : List ℕ) → no_input (map (local_renamed f) around) (f x) ≡ option_map f (no_input around x)
+  pub no_input_same : (around : List LocalDeclaration) (x : List ℕ) → no_input (map (local_renamed f) around) (f x) ≡ option_map f (no_input around x)
   no_input_same around x = ap (if_bound unless_input (f x)) (binding_same around x) ∙ if_bound_renamed unless_input unless_input_renamed x (binding_of x around)
 
-  pub no_output_same : (around : List Local) (x : List ℕ) → no_output (map (local_renamed f) around) (f x) ≡ option_map f (no_output around x)
+  pub no_output_same : (around : List LocalDeclaration) (x : List ℕ) → no_output (map (local_renamed f) around) (f x) ≡ option_map f (no_output around x)
   no_output_same around x = ap (if_bound unless_output (f x)) (binding_same around x) ∙ if_bound_renamed unless_output unless_output_renamed x (binding_of x around)
 
-  if_found_renamed : (x : List ℕ) (o : Option Local) → if_found (f x) (option_map (local_renamed f) o) ≡ option_map f (if_found x o)
+  if_found_renamed : (x : List ℕ) (o : Option LocalDeclaration) → if_found (f x) (option_map (local_renamed f) o) ≡ option_map f (if_found x o)
   if_found_renamed x None = refl
   if_found_renamed x (Some l) = refl
 
-  pub declared_in_same : (own : List Local) (x : List ℕ) → declared_in (map (local_renamed f) own) (f x) ≡ option_map f (declared_in own x)
+  pub declared_in_same : (own : List LocalDeclaration) (x : List ℕ) → declared_in (map (local_renamed f) own) (f x) ≡ option_map f (declared_in own x)
   declared_in_same own x =
-      ap (if_found (f x)) (find_same (λ (l : Local). l.name) (λ (l : Local). l.name) (local_renamed f) (λ l. refl) x own) ∙ if_found_renamed x (find (λ (l : Local). bytes_eq l.name x) own)
+      ap (if_found (f x)) (find_same (λ (l : LocalDeclaration). l.name) (λ (l : LocalDeclaration). l.name) (local_renamed f) (λ l. refl) x own) ∙ if_found_renamed x (find (λ (l : LocalDeclaration). bytes_eq l.name x) own)
 
   pub declared_name_same : (seen : List (List ℕ)) (x : List ℕ) → find (λ n. bytes_eq n (f x)) (map f seen) ≡ option_map f (find (λ n. bytes_eq n x) seen)
   declared_name_same seen x = find_same (λ n. n) (λ n. n) f (λ n. refl) x seen
@@ -135,5 +135,5 @@ module _ (f : Renaming) (same : (x y : List ℕ) → bytes_eq (f x) (f y) ≡ by
         ap (λ (n : ℕ). cond (nat_lt n (length (map g ts))) (Some n) None) (place_same ts)
         ∙ ap (λ (l : ℕ). cond (nat_lt (position_or_len (λ t. bytes_eq (name t) x) ts) l) (Some (position_or_len (λ t. bytes_eq (name t) x) ts)) None) (length-map ts g)
 
-  pub number_of_same : (names : Texts) (x : List ℕ) → number_of (map f names) (f x) ≡ number_of names x
+  pub number_of_same : (names : Texts) (x : List ℕ) → name_index (map f names) (f x) ≡ name_index names x
   number_of_same names x = ap (λ (o : Option ℕ). position_else (length (map f names)) o) (position_same (λ n. n) (λ n. n) f (λ n. refl) x names) ∙ ap (λ (l : ℕ). position_else l (position (λ n. bytes_eq n x) names)) (length-map names f)

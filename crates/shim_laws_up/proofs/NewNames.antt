@@ -15,7 +15,7 @@ use Rattle.shim_base.specs.Tokens.{Place, Spells, IsWithinLimits, is_digit, is_n
 use Rattle.shim_base.proofs.FirstToken.{both_true, entry-passes}
 use Rattle.shim_syntax.specs.Terminals.{Name, new_word, of_word}
 use Rattle.shim_laws_up.specs.Keeping.{KeepsNames, feeds_in}
-use Rattle.shim_up.specs.Up.{numbered, replaced}
+use Rattle.shim_up.specs.Up.{fresh_name, replaced}
 
 abbrev AreDigits : List ℕ → Type 0
 AreDigits ds = list_all is_digit ds ≡ true
@@ -80,18 +80,18 @@ module _ (n : ℕ) (small : n < 2 ^ 64) where
   digits : AreDigits (decimal n)
   digits = digits_decimal model n small
 
-  short : length (numbered n) ≤ 64
+  short : length (fresh_name n) ≤ 64
   short = let l = length-decimal-le 20 n (omega arith) (omega (arith, small)) small in omega (arith, l)
 
-  replaced_by : (P : List ℕ → Type 0) (x : List ℕ) → (bytes_eq x new_word ≡ true) ⊎ (bytes_eq x new_word ≡ false) → P (numbered n) → P x → P (replaced (numbered n) x)
+  replaced_by : (P : List ℕ → Type 0) (x : List ℕ) → (bytes_eq x new_word ≡ true) ⊎ (bytes_eq x new_word ≡ false) → P (fresh_name n) → P x → P (replaced (fresh_name n) x)
   replaced_by P x (inl e) a b = rw e a
   replaced_by P x (inr e) a b = rw e b
 
-  other_by : (x : List ℕ) (q : Place) → (bytes_eq x new_word ≡ true) ⊎ (bytes_eq x new_word ≡ false) → of_word true (replaced (numbered n) x) q ≡ Name (replaced (numbered n) x) q
+  other_by : (x : List ℕ) (q : Place) → (bytes_eq x new_word ≡ true) ⊎ (bytes_eq x new_word ≡ false) → of_word true (replaced (fresh_name n) x) q ≡ Name (replaced (fresh_name n) x) q
   other_by x q (inl e) = rw e refl
   other_by x q (inr e) = rw (e, e) refl
 
-  pub keeps_names : KeepsNames (replaced (numbered n))
+  pub keeps_names : KeepsNames (replaced (fresh_name n))
   keeps_names = record {
     spells = λ x s l. replaced_by (λ y. Spells y Word) x (cases_Bool (bytes_eq x new_word)) (name_of_digits (decimal n) digits (decimal_is_IsNumeral n small).0.0) s;
     fits = λ x s l. replaced_by (λ y. IsWithinLimits y Word) x (cases_Bool (bytes_eq x new_word)) short l;

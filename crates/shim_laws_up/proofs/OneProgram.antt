@@ -5,7 +5,7 @@ use Rattle.std.proofs.lemmas.Bool.{cases_Bool}
 use Rattle.std.proofs.lemmas.Bool.Decides.{nat_tests}
 use Rattle.shim_syntax.specs.Names.{Texts}
 use Rattle.shim_syntax.specs.Occurrences.{identifiers}
-use Rattle.shim_up.specs.Up.{IsLeastNew, IsUp, numbered, with_name_for_word, unchanged, changed}
+use Rattle.shim_up.specs.Up.{IsLeastNew, IsUp, fresh_name, with_name_for_word, unchanged, changed}
 use Rattle.shim_syntax.specs.declared.tree.Program.{Program}
 
 one_least_by : (xs : Texts) (k m : ℕ) → IsLeastNew xs k → IsLeastNew xs m → (nat_lt k m ≡ true) ⊎ (nat_lt k m ≡ false) → (nat_lt m k ≡ true) ⊎ (nat_lt m k ≡ false) → k ≡ m
@@ -24,4 +24,4 @@ one_program p q r (unchanged two is) (unchanged also same) = is ∙ sym same
 one_program p q r (unchanged two is) (changed other m least same) = absurd (other two)
 one_program p q r (changed other k least is) (unchanged two same) = absurd (other two)
 one_program p q r (changed other k least is) (changed also m less same) =
-    is ∙ ap (λ (n : ℕ). with_name_for_word (numbered n) p) (one_least (identifiers p.functions) k m least less) ∙ sym same
+    is ∙ ap (λ (n : ℕ). with_name_for_word (fresh_name n) p) (one_least (identifiers p.functions) k m least less) ∙ sym same

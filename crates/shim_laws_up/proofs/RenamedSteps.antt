@@ -13,24 +13,24 @@ use Rattle.shim_syntax.specs.declared.tree.Branch.{Branch}
 use Rattle.shim_syntax.specs.declared.tree.BranchWhat.{BranchWhat, BranchWhat-F, fold-roll-BranchWhat, map-BranchWhat, roll-BranchWhat}
 use Rattle.shim_syntax.specs.declared.tree.BranchWhat.TheVariants as br
 use Rattle.shim_up.specs.Renaming as ren
-use Rattle.shim_up.specs.Renaming.{Renaming, expr_step, renamed_expr, renamed_option, renamed_variable, renamed_call, renamed_stmt}
+use Rattle.shim_up.specs.Renaming.{Renaming, rename_expr_step, renamed_expr, renamed_option, renamed_variable, renamed_call, renamed_stmt}
 use Rattle.shim_laws_up.proofs.Layers.{renamed_branch_what, renamed_what, renamed_branch, stmt_at_line, branch_at_line}
 
 pub renamed_number : (f : Renaming) (n : ℤ) → renamed_expr f (e.Number n) ≡ e.Number n
 unfolding renamed_expr roll-Expr denote.Hole.Carrier.roll
-renamed_number f n = fold-roll-Expr (Expr) (expr_step f) (Expr-F.Number n)
+renamed_number f n = fold-roll-Expr (Expr) (rename_expr_step f) (Expr-F.Number n)
 
 pub name_renamed : (f : Renaming) (x : List ℕ) → renamed_expr f (e.Var x) ≡ e.Var (f x)
 unfolding renamed_expr roll-Expr denote.Hole.Carrier.roll
-name_renamed f x = fold-roll-Expr (Expr) (expr_step f) (Expr-F.Var x)
+name_renamed f x = fold-roll-Expr (Expr) (rename_expr_step f) (Expr-F.Var x)
 
 pub renamed_unary : (f : Renaming) (op : UnOp) (a : Expr) → renamed_expr f (e.Unary op a) ≡ e.Unary op (renamed_expr f a)
 unfolding renamed_expr roll-Expr denote.Hole.Carrier.roll
-renamed_unary f op a = fold-roll-Expr (Expr) (expr_step f) (Expr-F.Unary op a)
+renamed_unary f op a = fold-roll-Expr (Expr) (rename_expr_step f) (Expr-F.Unary op a)
 
 pub renamed_binary : (f : Renaming) (op : BinOp) (a b : Expr) → renamed_expr f (e.Binary op a b) ≡ e.Binary op (renamed_expr f a) (renamed_expr f b)
 unfolding renamed_expr roll-Expr denote.Hole.Carrier.roll
-renamed_binary f op a b = fold-roll-Expr (Expr) (expr_step f) (Expr-F.Binary op a b)
+renamed_binary f op a b = fold-roll-Expr (Expr) (rename_expr_step f) (Expr-F.Binary op a b)
 
 module _ (f : Renaming) where
   abbrev made : ℕ → What → Stmt
@@ -39,12 +39,12 @@ module _ (f : Renaming) where
   abbrev made_branch : ℕ → BranchWhat → Branch
   made_branch line x = record { line = line; what = x }
 
-  at_what : (y : What-F BranchWhat What Branch Stmt) → renamed_what f (roll-What y) ≡ ren.what_step f (map-What BranchWhat What Branch Stmt BranchWhat What Branch Stmt (renamed_branch_what f) (renamed_what f) (renamed_branch f) (renamed_stmt f) y)
-  at_what y = fold-roll-What BranchWhat What Branch Stmt (ren.branch_what_step f) (ren.what_step f) ren.branch_step ren.stmt_step y
+  at_what : (y : What-F BranchWhat What Branch Stmt) → renamed_what f (roll-What y) ≡ ren.rename_what_step f (map-What BranchWhat What Branch Stmt BranchWhat What Branch Stmt (renamed_branch_what f) (renamed_what f) (renamed_branch f) (renamed_stmt f) y)
+  at_what y = fold-roll-What BranchWhat What Branch Stmt (ren.rename_branch_what_step f) (ren.rename_what_step f) ren.rename_branch_step ren.rename_stmt_step y
 
   at_branch_what : (y : BranchWhat-F BranchWhat What Branch Stmt)
-      → renamed_branch_what f (roll-BranchWhat y) ≡ ren.branch_what_step f (map-BranchWhat BranchWhat What Branch Stmt BranchWhat What Branch Stmt (renamed_branch_what f) (renamed_what f) (renamed_branch f) (renamed_stmt f) y)
-  at_branch_what y = fold-roll-BranchWhat BranchWhat What Branch Stmt (ren.branch_what_step f) (ren.what_step f) ren.branch_step ren.stmt_step y
+      → renamed_branch_what f (roll-BranchWhat y) ≡ ren.rename_branch_what_step f (map-BranchWhat BranchWhat What Branch Stmt BranchWhat What Branch Stmt (renamed_branch_what f) (renamed_what f) (renamed_branch f) (renamed_stmt f) y)
+  at_branch_what y = fold-roll-BranchWhat BranchWhat What Branch Stmt (ren.rename_branch_what_step f) (ren.rename_what_step f) ren.rename_branch_step ren.rename_stmt_step y
 
   pub declare_renamed : (line : ℕ) (ty : Ty) (x : List ℕ) (a : Option Expr) → renamed_stmt f (made line (st.Declare ty x a)) ≡ made line (st.Declare ty (f x) (renamed_option f a))
   unfolding roll-What denote.Hole.Carrier.roll

@@ -13,7 +13,7 @@ use Rattle.shim_syntax.specs.Terminals.{begins_two}
 use Rattle.shim_syntax.specs.Text.{IsText}
 use Rattle.shim_syntax.specs.declared.tree.Program.{Program}
 use Rattle.shim_syntax.proofs.Programs.{canonical_is_text, version_seen}
-use Rattle.shim_up.specs.Up.{numbered, IsLeastNew, IsUp, with_name_for_word, unchanged, changed}
+use Rattle.shim_up.specs.Up.{fresh_name, IsLeastNew, IsUp, with_name_for_word, unchanged, changed}
 use Rattle.shim_up.proofs.LeastNew.{none_with}
 use Rattle.shim_laws_up.proofs.LeastNumber.{has_text_in_version_2, not_all_are_taken}
 
@@ -29,15 +29,15 @@ decided x (n ∷ ns) = decided_by x n ns (decided x ns) (cases_Bool (bytes_eq n 
 
 -- some number has a new name, and no lesser one, or none below k has
 abbrev IsFound : Texts → ℕ → Type 0
-IsFound ns k = ((n : ℕ) × IsLeastNew ns n) ⊎ ((m : ℕ) → m < k → IsNew (numbered m) ns → ⊥)
+IsFound ns k = ((n : ℕ) × IsLeastNew ns n) ⊎ ((m : ℕ) → m < k → IsNew (fresh_name m) ns → ⊥)
 
-found_at : (ns : Texts) (k : ℕ) → ((m : ℕ) → m < k → IsNew (numbered m) ns → ⊥) → IsNew (numbered k) ns ⊎ (IsNew (numbered k) ns → ⊥) → IsFound ns (suc k)
+found_at : (ns : Texts) (k : ℕ) → ((m : ℕ) → m < k → IsNew (fresh_name m) ns → ⊥) → IsNew (fresh_name k) ns ⊎ (IsNew (fresh_name k) ns → ⊥) → IsFound ns (suc k)
 found_at ns k before (inl new) = inl (k, record { new = new; least = before })
 found_at ns k before (inr old) = inr (λ m lt new. none_with ns k before old m (omega (arith, lt)) new)
 
 found_with : (ns : Texts) (k : ℕ) → IsFound ns k → IsFound ns (suc k)
 found_with ns k (inl least) = inl least
-found_with ns k (inr before) = found_at ns k before (decided (numbered k) ns)
+found_with ns k (inr before) = found_at ns k before (decided (fresh_name k) ns)
 
 found_below : (ns : Texts) (k : ℕ) → IsFound ns k
 found_below ns zero = inr (λ m lt new. omega (arith, lt))
@@ -58,7 +58,7 @@ module _ (p : Program) (has : HasText p) where
   some_by (inl (begins, two)) = (p, unchanged two refl)
   some_by (inr (begins, one)) =
       let least = least_of p has (found_below (identifiers p.functions) 1048578) in
-      (with_name_for_word (numbered least.0) p, changed (λ two. absurd (cc (one, two))) least.0 least.1 refl)
+      (with_name_for_word (fresh_name least.0) p, changed (λ two. absurd (cc (one, two))) least.0 least.1 refl)
 
   text_by : (q : Program) → IsOfVersion → IsUp p q → (bytes : List ℕ) × IsText bytes q
   text_by q version (unchanged two is) = (has.bytes, subst (λ r. IsText has.bytes r) (sym is) has.text)

@@ -9,14 +9,14 @@ use Rattle.shim_syntax.specs.declared.tree.Sort.{Sort}
 use Rattle.shim_syntax.specs.declared.tree.Sort.TheVariants.{Value}
 use Rattle.shim_syntax.specs.declared.tree.Expr.{Expr}
 use Rattle.shim_scopes.specs.declared.fault.ScopeKind.TheVariants.{UnknownName, UnknownException, Twice, WrongKind}
-use Rattle.shim_scopes.specs.declared.scope.Local.{Local}
+use Rattle.shim_scopes.specs.declared.scope.LocalDeclaration.{LocalDeclaration}
 use Rattle.shim_scopes.specs.declared.tree.RStmt.{RStmt}
 use Rattle.shim_scopes.specs.declared.tree.RWhat.{RWhat}
 use Rattle.shim_scopes.specs.declared.tree.RWhat.TheVariants as bt
 use Rattle.shim_scopes.specs.declared.tree.UExpr.{UExpr}
 use Rattle.shim_scopes.specs.Binding.{unknown, unknown_in, unknown_in_option, stream_in, stream_in_option, no_number, no_input, no_output, slot_of, placed, placed_option, exception_number}
-use Rattle.shim_syntax.specs.Names.{Texts, number_of}
-use Rattle.shim_scopes.specs.Statements.{Whole, Around, Before, Bind, declared, local_of, within, opened, caught, tried, variable_declared, variable_slot, bind_handler, bind_declare, bind_store, bind_next, bind_assign_next, bind_get, bind_put, bind_throw, bind_block, on_tree, bind_two, bind_test, bind_if, bind_while, bind_try, bind_parts, bind_first_test, bind_for, visible}
+use Rattle.shim_syntax.specs.Names.{Texts, name_index}
+use Rattle.shim_scopes.specs.Statements.{Whole, Around, Before, Bind, with_declaration, local_of, inside_block, opened, with_handled, tried, variable_declared, variable_slot, bind_handler, bind_declare, bind_store, bind_next, bind_assign_next, bind_get, bind_put, bind_throw, bind_block, on_tree, bind_two, bind_test, bind_if, bind_while, bind_try, bind_parts, bind_first_test, bind_for, visible}
 use Rattle.shim_scopes.proofs.Refusals.{bound}
 use Rattle.shim_up.specs.Renaming.{Renaming, renamed_expr, renamed_option, renamed_variable}
 use Rattle.shim_laws_up.specs.Around.{local_renamed, handled_renamed, whole_renamed, around_renamed, before_renamed, bound_renamed, answer_renamed, Follows}
@@ -29,10 +29,10 @@ pub bound_same : {T : Type 0} (t u : T) (b c : Before) → t ≡ u → b ≡ c �
 bound_same t u b c p q = ap (λ x. bound x b) p ∙ ap (λ y. bound u y) q
 
 module _ (f : Renaming) (same : (x y : List ℕ) → bytes_eq (f x) (f y) ≡ bytes_eq x y) where
-  abbrev locals : List Local → List Local
+  abbrev locals : List LocalDeclaration → List LocalDeclaration
   locals around = map (local_renamed f) around
 
-  abbrev seen_by : Around → Before → List Local
+  abbrev seen_by : Around → Before → List LocalDeclaration
   seen_by a b = visible (around_renamed f a) (before_renamed f b)
 
   pub seen : (a : Around) (b : Before) → seen_by a b ≡ locals (visible a b)
@@ -71,10 +71,10 @@ module _ (f : Renaming) (same : (x y : List ℕ) → bytes_eq (f x) (f y) ≡ by
   slot_name : (a : Around) (b : Before) (x : List ℕ) → slot_of (seen_by a b) (f x) ≡ slot_of (visible a b) x
   slot_name a b x = ap (λ ls. slot_of ls (f x)) (seen a b) ∙ slot_same f same (visible a b) x
 
-  pub declared_same : (names : Texts) (x : List ℕ) (sort : Sort) (b : Before) → declared (map f names) (f x) sort (before_renamed f b) ≡ before_renamed f (declared names x sort b)
+  pub declared_same : (names : Texts) (x : List ℕ) (sort : Sort) (b : Before) → with_declaration (map f names) (f x) sort (before_renamed f b) ≡ before_renamed f (with_declaration names x sort b)
   declared_same names x sort b =
       ap (λ (n : ℕ). let c : Before = record { own = locals b.own ++ local_of (f x) sort (length b.slots) ∷ []; slots = b.slots ++ sort ∷ []; slot_names = b.slot_names ++ n ∷ []; tries = b.tries } in c) (number_of_same f same names x)
-      ∙ ap (λ (ls : List Local). let c : Before = record { own = ls; slots = b.slots ++ sort ∷ []; slot_names = b.slot_names ++ number_of names x ∷ []; tries = b.tries } in c) (sym (map-append (local_renamed f) b.own (local_of x sort (length b.slots) ∷ [])))
+      ∙ ap (λ (ls : List LocalDeclaration). let c : Before = record { own = ls; slots = b.slots ++ sort ∷ []; slot_names = b.slot_names ++ name_index names x ∷ []; tries = b.tries } in c) (sym (map-append (local_renamed f) b.own (local_of x sort (length b.slots) ∷ [])))
 
   pub declare_follows : (w : Whole) (ty : Ty) (x : List ℕ) (e : Option Expr) (line : ℕ) → Follows f (bind_declare w ty x e line) (bind_declare (whole_renamed f w) ty (f x) (renamed_option f e) line)
   declare_follows w ty x e line a b =
@@ -124,13 +124,13 @@ module _ (f : Renaming) (same : (x y : List ℕ) → bytes_eq (f x) (f y) ≡ by
       (bound_same _ _ _ _ (ap (λ (n : ℕ). bt.Throw n (placed_option (seen_by a b) (renamed_option f e))) (number_same f same a.handled x)
       ∙ ap (λ (o : Option UExpr). bt.Throw (exception_number a.handled x) o) (placed_opt a b e)) refl)))
 
-  within_same : (a : Around) (b : Before) → within (around_renamed f a) (before_renamed f b) ≡ around_renamed f (within a b)
-  within_same a b = ap (λ (ls : List Local). let c : Around = record { outer = ls; handled = map (handled_renamed f) a.handled; throws = a.throws } in c) (seen a b)
+  within_same : (a : Around) (b : Before) → inside_block (around_renamed f a) (before_renamed f b) ≡ around_renamed f (inside_block a b)
+  within_same a b = ap (λ (ls : List LocalDeclaration). let c : Around = record { outer = ls; handled = map (handled_renamed f) a.handled; throws = a.throws } in c) (seen a b)
 
   pub block_follows : {T : Type 0} (g h : Bind T) → Follows f g h → Follows f (bind_block g) (bind_block h)
   block_follows g h k a b =
-      followed f (bound_renamed f) (bound_renamed f) (g (within a b) (opened b)) _ _ _
-      (ap (λ c. h c (opened (before_renamed f b))) (within_same a b) ∙ k (within a b) (opened b)) (λ r. refl)
+      followed f (bound_renamed f) (bound_renamed f) (g (inside_block a b) (opened b)) _ _ _
+      (ap (λ c. h c (opened (before_renamed f b))) (within_same a b) ∙ k (inside_block a b) (opened b)) (λ r. refl)
 
   pub tree_follows : {S T : Type 0} (t : S → T) (g h : Bind S) → Follows f g h → Follows f (on_tree t g) (on_tree t h)
   tree_follows t g h k a b = followed f (bound_renamed f) (bound_renamed f) (g a b) _ _ _ (k a b) (λ r. refl)
@@ -155,7 +155,7 @@ module _ (f : Renaming) (same : (x y : List ℕ) → bytes_eq (f x) (f y) ≡ by
       followed f (λ (u : UExpr). u) (bound_renamed f) (bind_test e line a b) _ _ _ (test_follows e line a b)
       (λ test. tree_follows (bt.While test) (bind_block g) (bind_block h) (block_follows g h k) a b)
 
-  caught_same : (x : List ℕ) (a : Around) (b : Before) → caught (f x) (around_renamed f a) (before_renamed f b) ≡ around_renamed f (caught x a b)
+  caught_same : (x : List ℕ) (a : Around) (b : Before) → with_handled (f x) (around_renamed f a) (before_renamed f b) ≡ around_renamed f (with_handled x a b)
   caught_same x a b =
       ap (λ hs. let c : Around = record { outer = locals a.outer; handled = hs; throws = a.throws } in c)
       (sym (map-append (handled_renamed f) a.handled (record { name = x; number = a.throws + length b.tries } ∷ [])))
@@ -178,10 +178,10 @@ module _ (f : Renaming) (same : (x y : List ℕ) → bytes_eq (f x) (f y) ≡ by
   pub try_follows : (w : Whole) (x : List ℕ) (y : Option (List ℕ)) (g h i j : Bind (List RStmt)) → Follows f g h → Follows f i j
       → Follows f (bind_try w x y g i) (bind_try (whole_renamed f w) (f x) (renamed_variable f y) h j)
   try_follows w x y g h i j k l a b =
-      followed f (bound_renamed f) (bound_renamed f) (bind_block g (caught x a b) (tried w x b)) _ _ _
+      followed f (bound_renamed f) (bound_renamed f) (bind_block g (with_handled x a b) (tried w x b)) _ _ _
       (ap (λ c. bind_block h c (tried (whole_renamed f w) (f x) (before_renamed f b))) (caught_same x a b)
-      ∙ ap (λ c. bind_block h (around_renamed f (caught x a b)) c) (tried_same w x b)
-      ∙ block_follows g h k (caught x a b) (tried w x b))
+      ∙ ap (λ c. bind_block h (around_renamed f (with_handled x a b)) c) (tried_same w x b)
+      ∙ block_follows g h k (with_handled x a b) (tried w x b))
       (λ r. followed f (bound_renamed f) (bound_renamed f) (bind_block (bind_handler w y i) a r.before) _ _ _
       (block_follows (bind_handler w y i) (bind_handler (whole_renamed f w) (renamed_variable f y) j) (handler_follows w y i j l) a r.before)
       (λ s. bound_same _ _ _ _ (ap (λ (o : Option ℕ). bt.Try r.tree (a.throws + length b.tries) o s.tree) (variable_slot_same y r.before)) refl))
@@ -193,7 +193,7 @@ module _ (f : Renaming) (same : (x y : List ℕ) → bytes_eq (f x) (f y) ≡ by
       followed f (bound_renamed f) (bound_renamed f) (bind_block k a t.before) _ _ _ (block_follows k l s a t.before) (λ u.
       bound_same _ _ _ _ (ap (λ (o : Option UExpr). bt.For r.tree o t.tree u.tree) (placed_opt a r.before test)) refl)))
 
-  first_test_follows : (declares others : ℕ → List Local) → ((slot : ℕ) → others slot ≡ locals (declares slot)) → (test : Option Expr) (line : ℕ) (a : Around) (b : Before)
+  first_test_follows : (declares others : ℕ → List LocalDeclaration) → ((slot : ℕ) → others slot ≡ locals (declares slot)) → (test : Option Expr) (line : ℕ) (a : Around) (b : Before)
       → bind_first_test others (renamed_option f test) line (around_renamed f a) (before_renamed f b) ≡ answer_renamed f (λ (u : Unit {0}). u) (bind_first_test declares test line a b)
   first_test_follows declares others each test line a b =
       let around : seen_by a b ++ others (length b.slots) ≡ locals (visible a b ++ declares (length b.slots)) =
@@ -202,7 +202,7 @@ module _ (f : Renaming) (same : (x y : List ℕ) → bytes_eq (f x) (f y) ≡ by
       (refused f (λ (u : Unit {0}). u) line WrongKind _ _ _ _ (ap (λ ls. stream_in_option ls (renamed_option f test)) around ∙ option_stream f same (visible a b ++ declares (length b.slots)) test)
       refl)
 
-  pub for_follows : (declares others : ℕ → List Local) → ((slot : ℕ) → others slot ≡ locals (declares slot)) → (test : Option Expr) (g h i j k l : Bind (List RStmt)) (line : ℕ)
+  pub for_follows : (declares others : ℕ → List LocalDeclaration) → ((slot : ℕ) → others slot ≡ locals (declares slot)) → (test : Option Expr) (g h i j k l : Bind (List RStmt)) (line : ℕ)
       → Follows f g h → Follows f i j → Follows f k l → Follows f (bind_for declares test g i k line) (bind_for others (renamed_option f test) h j l line)
   for_follows declares others each test g h i j k l line p q s a b =
       followed f (λ (u : Unit {0}). u) (bound_renamed f) (bind_first_test declares test line a b) _ _ _ (first_test_follows declares others each test line a b)

@@ -8,7 +8,7 @@ use Rattle.shim_syntax.specs.Terminals.{new_word}
 use Rattle.shim_syntax.specs.Distinct.{IsNew}
 use Rattle.shim_syntax.specs.Names.{Texts}
 use Rattle.shim_up.specs.Renaming.{Renaming}
-use Rattle.shim_up.specs.Up.{numbered, replaced}
+use Rattle.shim_up.specs.Up.{fresh_name, replaced}
 use Rattle.shim_laws_up.proofs.Agreeing.{Agree}
 
 equal : (x y : List ℕ) → x ≡ y → bytes_eq x y ≡ true
@@ -69,5 +69,5 @@ module _ (v : List ℕ) where
   agree_without_name (x ∷ xs) h = (same_unless_name x (unequal x v h.0) (cases_Bool (bytes_eq x new_word)), agree_without_name xs h.1)
 
 -- `main` is neither
-pub main_stays : (k : ℕ) → swapped (numbered k) (codes "main") ≡ codes "main"
-main_stays k = swapped_other (numbered k) (codes "main") refl refl
+pub main_stays : (k : ℕ) → swapped (fresh_name k) (codes "main") ≡ codes "main"
+main_stays k = swapped_other (fresh_name k) (codes "main") refl refl

@@ -4,7 +4,7 @@ use Rattle.std.specs.Prelude.{codes, pos}
 use Rattle.std.proofs.lemmas.Int.{ints}
 use Rattle.shim_base.specs.declared.TokenKind.TheVariants.{Word, Number as NumberKind, Sign as SignKind}
 use Rattle.shim_base.specs.declared.Sign.TheVariants as g
-use Rattle.shim_base.specs.Tokens.{Token, Place, Fault, Spells, Cuts, after, start, keyword_of, sign_of}
+use Rattle.shim_base.specs.Tokens.{Token, Place, Fault, Spells, Cuts, place_after, start, keyword_of, sign_of}
 use Rattle.shim_syntax.specs.declared.tree.Function.{Function}
 use Rattle.shim_syntax.specs.declared.tree.Program.{Program}
 use Rattle.shim_syntax.specs.Terminals.{Terminal, Name, Number, Sort, Key, Sign, End, Broken, of_token, of_tokens, of_end, of_version, in_version, begins_two}
@@ -14,7 +14,7 @@ use Rattle.shim_syntax.specs.Grammar.{in_version_2, nothing_read, IsFunctions, D
 use Rattle.shim_syntax.specs.Text.{IsText}
 use Rattle.shim_syntax.proofs.Programs.{no_header}
 use Rattle.shim_syntax.proofs.Standing.{header_seen}
-use Rattle.shim_grammar.specs.Machine.{Source, run}
+use Rattle.shim_grammar.specs.Machine.{Source, run_parser}
 use Rattle.shim_grammar.proofs.RunsStmt.{program_runs}
 use Rattle.shim_grammar.proofs.Passed.{broken_ends}
 use Rattle.shim_up.specs.Renaming.{Renaming, renamed_functions}
@@ -54,7 +54,7 @@ cut_whole : (at : Place) (tokens : List Token) (end : Option Fault) (fs : List F
 cut_whole at tokens None fs d = refl
 cut_whole at tokens (Some fault) fs d =
     let b = ends_in_last tokens (of_end at (Some fault)) in
-    absurd (broken_ends limits fault.kind (record { at = fault.at; line = fault.line }) b.0 (Source ∷ []) nothing_read (sym (ap (λ s. run limits s (Source ∷ []) nothing_read) b.1) ∙ program_runs (is.version_1 d)))
+    absurd (broken_ends limits fault.kind (record { at = fault.at; line = fault.line }) b.0 (Source ∷ []) nothing_read (sym (ap (λ s. run_parser limits s (Source ∷ []) nothing_read) b.1) ∙ program_runs (is.version_1 d)))
 
 shim_spells : Spells (codes "shim") Word
 unfolding keyword_of
@@ -96,7 +96,7 @@ module _ (f : Renaming) (keeps : KeepsNames f) where
   pub text_in_version_2 : (bytes : List ℕ) (p : Program) → p.version ≡ 1 → IsText bytes p → (others : List ℕ) × IsText others (record { version = 2; functions = renamed_functions f p.functions })
   text_in_version_2 bytes p one h =
       let cut = h.read in
-      let last = after start bytes in
+      let last = place_after start bytes in
       let raw = of_tokens cut.tokens (of_end last cut.end) in
       let functions = of_version_1 h.derives one in
       let of_raw = subst (λ ts. IsFunctions limits 0 nothing_read ts [] p.functions) (raw_is raw h.terminals p.functions cut.are functions) functions in
@@ -104,7 +104,7 @@ module _ (f : Renaming) (keeps : KeepsNames f) where
       let old = of_tokens cut.tokens (End last) in
       let derived : IsFunctions limits 0 nothing_read old [] p.functions = subst (λ end. IsFunctions limits 0 nothing_read (of_tokens cut.tokens (of_end last end)) [] p.functions) none of_raw in
       let r = respelled f keeps behind_header start bytes cut.tokens cut.end none (omega arith) cut.cut in
-      let end = after start (header r.bytes) in
+      let end = place_after start (header r.bytes) in
       let new = map (of_version true) (of_tokens r.others (End end)) in
       let is_new = aligned f keeps end (places f keeps new) old new (r.alike last end) (λ n lt. refl) in
       let done = subst (λ s. IsFunctions limits 0 (in_version_2 nothing_read) s [] (renamed_functions f p.functions)) is_new (functions_rewritten f true end (places f keeps new) derived) in (

@@ -5,7 +5,7 @@ use Rattle.shim_syntax.specs.Names.{with_functions}
 use Rattle.shim_syntax.specs.Occurrences.{identifiers}
 use Rattle.shim_up.specs.Renaming.{renamed}
 use Rattle.shim_syntax.specs.ShortText.{HasText}
-use Rattle.shim_up.specs.Up.{IsUp, numbered, replaced, with_name_for_word, unchanged, changed}
+use Rattle.shim_up.specs.Up.{IsUp, fresh_name, replaced, with_name_for_word, unchanged, changed}
 use Rattle.shim_syntax.specs.declared.tree.Program.{Program}
 use Rattle.shim_syntax.specs.declared.tree.Function.{Function}
 use Rattle.shim_scopes.specs.declared.form.Form.{Form as Resolved}
@@ -34,10 +34,10 @@ abbrev in_version_2 : List Function → Program
 in_version_2 fs = record { version = 2; functions = fs }
 
 -- the new name and the new word change places in all of the program, though only the word stands there
-bound_in_version_2 : (p : Program) (form : Resolved) (k : ℕ) → IsNew (numbered k) (identifiers p.functions) → bind_program p ≡ Ok form
-    → bind_program (with_name_for_word (numbered k) p) ≡ Ok (form_renamed (replaced (numbered k)) form)
+bound_in_version_2 : (p : Program) (form : Resolved) (k : ℕ) → IsNew (fresh_name k) (identifiers p.functions) → bind_program p ≡ Ok form
+    → bind_program (with_name_for_word (fresh_name k) p) ≡ Ok (form_renamed (replaced (fresh_name k)) form)
 bound_in_version_2 p form k new bound =
-    let v = numbered k in
+    let v = fresh_name k in
     let agrees = agree_without_name v (identifiers p.functions) new in
     let one : with_name_for_word v p ≡ renamed (swapped v) (in_version_2 p.functions) = ap in_version_2 (functions_agree (replaced v) (swapped v) p.functions agrees) in
     let names : map (swapped v) form.names ≡ map (replaced v) form.names =
@@ -59,5 +59,5 @@ up_is_accepted p q form one has bound obeys (changed other k least is) =
       least = least;
       bound = ap bind_program is ∙ bound_in_version_2 p form k least.new bound;
       obeys = obeys;
-      alike = lifted_alike (replaced (numbered k)) form;
+      alike = lifted_alike (replaced (fresh_name k)) form;
     }

@@ -2,7 +2,7 @@
 use Rattle.std.specs.Prelude.{◌≡◌, ℕ, List, Ok}
 use Rattle.shim_syntax.specs.Occurrences.{identifiers}
 use Rattle.shim_syntax.specs.Text.{IsText}
-use Rattle.shim_up.specs.Up.{IsLeastNew, numbered, replaced}
+use Rattle.shim_up.specs.Up.{IsLeastNew, fresh_name, replaced}
 use Rattle.shim_syntax.specs.declared.tree.Program.{Program}
 use Rattle.shim_scopes.specs.declared.form.Form.{Form as Resolved}
 use Rattle.shim_scopes.specs.Functions.{bind_program}
@@ -18,6 +18,6 @@ pub record IsAcceptedInVersion2 (p q : Program) (form : Resolved) : Type 0 where
   pub version : q.version ≡ 2
   pub number : ℕ
   pub least : IsLeastNew (identifiers p.functions) number
-  pub bound : bind_program q ≡ Ok (form_renamed (replaced (numbered number)) form)
-  pub obeys : Obeys (form_renamed (replaced (numbered number)) form)
-  pub alike : AreAlike (replaced (numbered number)) (lifted form) (lifted (form_renamed (replaced (numbered number)) form))
+  pub bound : bind_program q ≡ Ok (form_renamed (replaced (fresh_name number)) form)
+  pub obeys : Obeys (form_renamed (replaced (fresh_name number)) form)
+  pub alike : AreAlike (replaced (fresh_name number)) (lifted form) (lifted (form_renamed (replaced (fresh_name number)) form))

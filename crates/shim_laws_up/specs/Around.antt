@@ -1,14 +1,14 @@
 -- What stands around a place, with the names replaced, and answers whose refusals tell the replaced names.
 use Rattle.std.specs.Prelude.{◌≡◌, Result, Ok, Err, map}
 use Rattle.shim_scopes.specs.declared.form.Form.{Form}
-use Rattle.shim_scopes.specs.declared.scope.Local.{Local}
+use Rattle.shim_scopes.specs.declared.scope.LocalDeclaration.{LocalDeclaration}
 use Rattle.shim_scopes.specs.declared.scope.Handled.{Handled}
 use Rattle.shim_scopes.specs.Refusals.{Refusal}
 use Rattle.shim_scopes.specs.Statements.{Whole, Around, Before, BoundTo, Bind}
 use Rattle.shim_up.specs.Renaming.{Renaming, renamed_functions}
 
 module _ (f : Renaming) where
-  abbrev pub local_renamed : Local → Local
+  abbrev pub local_renamed : LocalDeclaration → LocalDeclaration
   local_renamed l = record { name = f l.name; bound = l.bound }
 
   abbrev pub handled_renamed : Handled → Handled

@@ -4,18 +4,18 @@ use Rattle.shim_base.specs.Tokens.{Place}
 use Rattle.shim_syntax.specs.Terminals.{Terminal, Name, Number, Sort, Key, Sign, End, Broken}
 use Rattle.shim_up.specs.Renaming.{Renaming}
 
-abbrev pub moved : ℕ → Place → Place
-moved at p = record { at = at; line = p.line }
+abbrev pub at_byte : ℕ → Place → Place
+at_byte at p = record { at = at; line = p.line }
 
 -- an end of the text stands at the place given for it
 abbrev pub rewritten_one : Renaming → Place → ℕ → Terminal → Terminal
-rewritten_one f end at (Name x p) = Name (f x) (moved at p)
-rewritten_one f end at (Number n p) = Number n (moved at p)
-rewritten_one f end at (Sort sort p) = Sort sort (moved at p)
-rewritten_one f end at (Key key p) = Key key (moved at p)
-rewritten_one f end at (Sign sign p) = Sign sign (moved at p)
+rewritten_one f end at (Name x p) = Name (f x) (at_byte at p)
+rewritten_one f end at (Number n p) = Number n (at_byte at p)
+rewritten_one f end at (Sort sort p) = Sort sort (at_byte at p)
+rewritten_one f end at (Key key p) = Key key (at_byte at p)
+rewritten_one f end at (Sign sign p) = Sign sign (at_byte at p)
 rewritten_one f end at (End p) = End end
-rewritten_one f end at (Broken kind p) = Broken kind (moved at p)
+rewritten_one f end at (Broken kind p) = Broken kind (at_byte at p)
 
 -- `place` tells where a terminal stands by how many follow it
 abbrev pub rewritten : Renaming → Place → (ℕ → ℕ) → List Terminal → List Terminal

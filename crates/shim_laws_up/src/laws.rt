@@ -2,7 +2,7 @@
 ghost use Rattle.std.specs.Prelude.{ℕ, List, [], ◌≡◌, ◌<◌, ◌^◌, codes, Ok};
 ghost use Rattle.std.specs.Str.{bytes_eq};
 ghost use Rattle.shim_base.specs.Tokens.{Place};
-ghost use Rattle.shim_syntax.specs.Grammar.{Counts, IsFunctions};
+ghost use Rattle.shim_syntax.specs.Grammar.{TextCounts, IsFunctions};
 ghost use Rattle.shim_syntax.specs.Limits.{limits};
 ghost use Rattle.shim_syntax.specs.Occurrences.{identifiers};
 ghost use Rattle.shim_up.specs.Renaming.{Renaming, renamed, renamed_functions};
@@ -11,7 +11,7 @@ ghost use Rattle.shim_syntax.specs.Same.{IsTextOfSame};
 ghost use Rattle.shim_syntax.specs.ShortText.{HasText};
 ghost use Rattle.shim_syntax.specs.Terminals.{Terminal};
 ghost use Rattle.shim_syntax.specs.Text.{IsText};
-ghost use Rattle.shim_up.specs.Up.{IsLeastNew, IsUp, numbered, replaced, with_name_for_word};
+ghost use Rattle.shim_up.specs.Up.{IsLeastNew, IsUp, fresh_name, replaced, with_name_for_word};
 ghost use Rattle.shim_syntax.specs.declared.tree.Function.{Function};
 ghost use Rattle.shim_syntax.specs.declared.tree.Program.{Program};
 ghost use Rattle.shim_scopes.specs.declared.form.Form.{Form as Resolved};
@@ -27,7 +27,7 @@ ghost use Rattle.shim_laws_up.specs.Titles.{AreAlike};
 /// What derives functions derives them with their identifiers replaced where those of the terminals
 /// are, wherever the terminals stand in their lines.
 pub fn derivations_keep_to_replaced_names()
-    ensures { (f : Renaming) (end : Place) (place : ℕ → ℕ) (n : ℕ) (v : Counts) (s : List Terminal) (fs : List Function) → IsFunctions limits n v s [] fs → IsFunctions limits n v (rewritten f end place s) [] (renamed_functions f fs) }
+    ensures { (f : Renaming) (end : Place) (place : ℕ → ℕ) (n : ℕ) (v : TextCounts) (s : List Terminal) (fs : List Function) → IsFunctions limits n v s [] fs → IsFunctions limits n v (rewritten f end place s) [] (renamed_functions f fs) }
 {}
 
 /// A program that has a text of version 1 has one of version 2 with its identifiers replaced, where names
@@ -38,13 +38,13 @@ pub fn replaced_names_have_a_text_of_version_2()
 
 /// `v` and a number below 2 ^ 64 is a name that may stand in place of the new word.
 pub fn numbered_name_may_replace_the_word()
-    ensures { (n : ℕ) → n < 2 ^ 64 → KeepsNames (replaced (numbered n)) }
+    ensures { (n : ℕ) → n < 2 ^ 64 → KeepsNames (replaced (fresh_name n)) }
 {}
 
 /// A program of version 1 with a text of at most 1,048,576 bytes has a text of version 2, with the least
 /// new name for the new word.
 pub fn least_new_name_gives_a_text()
-    ensures { (p : Program) (k : ℕ) → p.version ≡ 1 → HasText p → IsLeastNew (identifiers p.functions) k → (bytes : List ℕ) × IsText bytes (with_name_for_word (numbered k) p) }
+    ensures { (p : Program) (k : ℕ) → p.version ≡ 1 → HasText p → IsLeastNew (identifiers p.functions) k → (bytes : List ℕ) × IsText bytes (with_name_for_word (fresh_name k) p) }
 {}
 
 /// Where two names become equal exactly if they were, and `main` stays, a program with its names replaced

@@ -6,10 +6,10 @@ use Rattle.shim_local.specs.Process.{Ops, StopView, AtQuiet, AtNext, AtPut, AtFo
 use Rattle.shim_local.specs.Laws.{LocalLaws}
 use Rattle.shim_semantics.specs.Trees.{Event, Own, Meet, Poison, Close, End}
 use Rattle.shim_semantics.proofs.HowMany.{clash}
-use Rattle.shim_laws_records.specs.Seen.{Sort, lives, forks}
+use Rattle.shim_laws_records.specs.Seen.{ProcessStatus, lives, forks}
 use Rattle.shim_laws_records.proofs.OneChange.{one_state}
 use Rattle.shim_laws_records.proofs.SameTrees.{same_or_not}
-use Rattle.shim_laws_keeping.specs.Flats.{FlatView, HasProcess, stands}
+use Rattle.shim_laws_keeping.specs.Flats.{FlatView, HasProcessState, stands}
 use Rattle.shim_laws_records.specs.Enabled.{at_step, at_end, at_close, at_home, at_child}
 use Rattle.shim_laws_waking.specs.Waking.{IsAtNumber}
 use Rattle.shim_laws_waking.specs.Looks.{IsQuietStepAt}
@@ -34,8 +34,8 @@ module _ {S : Type 0} (o : Ops S) where
   record InUse (v : FlatView S) (i : ℕ) : Type 0 where
     first : ℕ
     process : S
-    sort_is : Sort
-    has : HasProcess v i first process sort_is
+    sort_is : ProcessStatus
+    has : HasProcessState v i first process sort_is
 
   -- the record at which an event is looked for
   in_use : {v : FlatView S} {e : Event} {i : ℕ} → IsAtNumber o v e i → InUse v i
@@ -47,7 +47,7 @@ module _ {S : Type 0} (o : Ops S) where
 
   -- an event is a quiet step, or isn't one
   module _ (v : FlatView S) where
-    a_step : (i f : ℕ) (l : S) (p : Path) → HasProcess v i f l lives → o.path l ≡ p → (s : StopView) → o.stop l ≡ s → IsQuietStepAt o v i (Own p) ⊎ (IsQuietStepAt o v i (Own p) → ⊥)
+    a_step : (i f : ℕ) (l : S) (p : Path) → HasProcessState v i f l lives → o.path l ≡ p → (s : StopView) → o.stop l ≡ s → IsQuietStepAt o v i (Own p) ⊎ (IsQuietStepAt o v i (Own p) → ⊥)
     a_step i f l p has path s e = on s e
       where
         other : (x : StopView) → o.stop l ≡ x → (x ≡ AtQuiet → ⊥) → IsQuietStepAt o v i (Own p) → ⊥

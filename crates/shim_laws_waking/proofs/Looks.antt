@@ -12,7 +12,7 @@ use Rattle.shim_semantics.specs.Trees.{Tree, Event, Own, Meet, Poison, Close, En
 use Rattle.shim_semantics.proofs.PoisonsListed.{at_child as child_there}
 use Rattle.shim_semantics.proofs.Replaced.{sound_at}
 use Rattle.shim_laws_schedules.proofs.Homes.{NotBelow, no_further, child_further}
-use Rattle.shim_laws_records.specs.Seen.{Sort, lives, forks, place, how_many_nodes}
+use Rattle.shim_laws_records.specs.Seen.{ProcessStatus, lives, forks, place, how_many_nodes}
 use Rattle.shim_laws_records.specs.Counts.{Tally, tally_of, all_there}
 use Rattle.shim_laws_records.specs.Dooms.{least_among, is_below}
 use Rattle.shim_laws_records.specs.Enabled.{Can, EnabledByRecords, at_step, at_end, at_close, at_home, at_child}
@@ -24,7 +24,7 @@ use Rattle.shim_laws_records.proofs.SameTrees.{seen_some, seen_fork}
 use Rattle.shim_records.specs.Pairs.{tally, pair_of, counts_in}
 use Rattle.shim_records.specs.declared.pair.Pair.{Pair}
 use Rattle.shim_records.specs.declared.record.Record.{Record}
-use Rattle.shim_laws_keeping.specs.Flats.{FlatView, HasProcess, Keeps, stands}
+use Rattle.shim_laws_keeping.specs.Flats.{FlatView, HasProcessState, Keeps, stands}
 use Rattle.shim_laws_waking.specs.Waking.{IsAtNumber}
 use Rattle.shim_laws_waking.specs.Looks.{IsDue, to_step, to_end, to_meet, to_close, to_meet_below, to_poison}
 use Rattle.shim_laws_waking.proofs.PairsFound.{pair_at, place_of_pair, record_of, counts_of, label_by, pair_by, counts_there}
@@ -50,7 +50,7 @@ module _ {S : Type 0} (o : Ops S) (law : LocalLaws o) (rp : Path) (v : FlatView 
   by = enabled_by_records o law
 
   -- the children of a fork's record
-  fork_node : (i f n : ℕ) (l : S) → HasProcess v i f l (forks n) → (ks : Nodes S) × (at (place o rp l) t.root ≡ Some (Forked l ks)) × (how_many_nodes ks ≡ n)
+  fork_node : (i f n : ℕ) (l : S) → HasProcessState v i f l (forks n) → (ks : Nodes S) × (at (place o rp l) t.root ≡ Some (Forked l ks)) × (how_many_nodes ks ≡ n)
   fork_node i f n l has = seen_fork (at (place o rp l) t.root) l n (kept.shows.agrees.shown i f l (forks n) has)
 
   declared_here : (c : Channel) (l : S) → o.path l ≡ c.home → NotBelow c (o.path l)
@@ -67,7 +67,7 @@ module _ {S : Type 0} (o : Ops S) (law : LocalLaws o) (rp : Path) (v : FlatView 
     there : at (place o rp k) t.root ≡ Some node
     further : (c : Channel) → NotBelow c (o.path l) → NotBelow c (o.path k)
 
-  child_of : (i g n b f : ℕ) (l k : S) (x : Sort) (ks : Nodes S) → HasProcess v i g l (forks n) → b < n → HasProcess v (g + b) f k x → at (place o rp l) t.root ≡ Some (Forked l ks) → Child l ks b k
+  child_of : (i g n b f : ℕ) (l k : S) (x : ProcessStatus) (ks : Nodes S) → HasProcessState v i g l (forks n) → b < n → HasProcessState v (g + b) f k x → at (place o rp l) t.root ≡ Some (Forked l ks) → Child l ks b k
   child_of i g n b f l k x ks fork less has there =
       let w = kept.shows.agrees.below i g n l fork b less in
       let same : w.1 ≡ k = one_state v.states (stands v) (g + b) w.0 f w.1 k w.2 x w.3 has in
@@ -91,7 +91,7 @@ module _ {S : Type 0} (o : Ops S) (law : LocalLaws o) (rp : Path) (v : FlatView 
     counts : tally y ≡ tally_of o c ks
     label : y.least ≡ least_among o c ks
 
-  counted : (i f n q : ℕ) (l : S) (ks : Nodes S) (r : Record) (y : Pair) (c : Channel) → HasProcess v i f l (forks n) → at (place o rp l) t.root ≡ Some (Forked l ks) → slice_get v.records i ≡ Some r → slice_get r.pairs.items q ≡ Some y → y.chan.channel ≡ c → Counted i l ks y c
+  counted : (i f n q : ℕ) (l : S) (ks : Nodes S) (r : Record) (y : Pair) (c : Channel) → HasProcessState v i f l (forks n) → at (place o rp l) t.root ≡ Some (Forked l ks) → slice_get v.records i ≡ Some r → slice_get r.pairs.items q ≡ Some y → y.chan.channel ≡ c → Counted i l ks y c
   counted i f n q l ks r y c has there re e same =
       let p = pair_found i q r y c re e same in
       let w = counts_of c v.records i r y re p in
@@ -132,7 +132,7 @@ module _ {S : Type 0} (o : Ops S) (law : LocalLaws o) (rp : Path) (v : FlatView 
 
   -- ---- what can happen is told by a record
 
-  forked_due : (i f n : ℕ) (l : S) (c : Channel) → HasProcess v i f l (forks n) → o.path l ≡ c.home → Can o t (Meet c) → IsDue o v i (Meet c)
+  forked_due : (i f n : ℕ) (l : S) (c : Channel) → HasProcessState v i f l (forks n) → o.path l ≡ c.home → Can o t (Meet c) → IsDue o v i (Meet c)
   forked_due i f n l c has home can =
       let w = fork_node i f n l has in
       let all : all_there (tally_of o c w.0) ≡ true = (by.meets_forked rp v.states (stands v) t c i f n l w.0 kept.shows has home w.1).0 can in
@@ -143,7 +143,7 @@ module _ {S : Type 0} (o : Ops S) (law : LocalLaws o) (rp : Path) (v : FlatView 
       to_meet_below f n q.0 l r.0 p.0 c has r.1 q.1 q.2 home (all_by p.0 y.0 p.2 y.2)
 
   -- the pair by which the fork of a child that can be poisoned counts
-  doomed_pair : (i g n : ℕ) (l : S) (ks : Nodes S) (c : Channel) → HasProcess v i g l (forks n) → at (place o rp l) t.root ≡ Some (Forked l ks) → o.shares l c ≡ true → is_below (least_among o c ks) (o.handlers l) ≡ true → (y : Tally) × (counts_in c v.records i ≡ Some y)
+  doomed_pair : (i g n : ℕ) (l : S) (ks : Nodes S) (c : Channel) → HasProcessState v i g l (forks n) → at (place o rp l) t.root ≡ Some (Forked l ks) → o.shares l c ≡ true → is_below (least_among o c ks) (o.handlers l) ≡ true → (y : Tally) × (counts_in c v.records i ≡ Some y)
   doomed_pair i g n l ks c has there shared low = on (counts_in c v.records i) refl
     where
       nothing_below : (x : Option ℕ) → x ≡ None → is_below x (o.handlers l) ≡ true → ⊥
@@ -165,10 +165,10 @@ module _ {S : Type 0} (o : Ops S) (law : LocalLaws o) (rp : Path) (v : FlatView 
       let r = record_of v.records i f (forks n) has.stands_so in
       to_close f n l r.0 p has r.1 (kept.going i f n l l w.0 r.0 has r.1 w.1 ∙ (by.closes rp v.states (stands v) t i f n l w.0 kept.shows has w.1).0 (subst (λ z. Can o t (Close z)) (sym path) can)) path
   can_due can (at_home i f l k c has (inl lively) home) =
-      let is : HasProcess v i f l lives = subst (HasProcess v i f l) lively has in
+      let is : HasProcessState v i f l lives = subst (HasProcessState v i f l) lively has in
       let d = next_is (o.stop l) c ((by.meets_alone rp v.states (stands v) t c i f l kept.shows is home).0 can) in
       to_meet f l d.0 c is d.1 d.2 home
-  can_due can (at_home i f l k c has (inr fork) home) = forked_due i f fork.0 l c (subst (HasProcess v i f l) fork.1 has) home can
+  can_due can (at_home i f l k c has (inr fork) home) = forked_due i f fork.0 l c (subst (HasProcessState v i f l) fork.1 has) home can
   can_due can (at_child i g n b f l k x p c has less child path) =
       let w = fork_node i g n l has in
       let m = child_of i g n b f l k x w.0 has less child w.1 in

@@ -8,9 +8,9 @@ use Rattle.shim_base.specs.PathLaws.{channel_ties}
 use Rattle.shim_base.proofs.Facts.{some_same, none_some}
 use Rattle.shim_base.proofs.SamePaths.{same_channel_is, same_channel_refl}
 use Rattle.shim_laws_records.specs.Agrees.{used}
-use Rattle.shim_laws_records.specs.Seen.{Sort}
+use Rattle.shim_laws_records.specs.Seen.{ProcessStatus}
 use Rattle.shim_laws_records.specs.Counts.{Tally, all_there}
-use Rattle.shim_records.specs.Pairs.{stands_of, tally, chans_of, pair_of, label_of, counts_in, counts_at, leasts_in, least_at, IsOrdered}
+use Rattle.shim_records.specs.Pairs.{stands_of, tally, chans_of, pair_of, least_label_of, counts_in, counts_at, leasts_in, least_at, IsOrdered}
 use Rattle.shim_records.specs.declared.pair.Pair.{Pair}
 use Rattle.shim_records.specs.declared.record.Record.{Record}
 use Rattle.shim_records.proofs.Showing.{map_get}
@@ -48,7 +48,7 @@ from_map f None y e = none_some y e
 from_map f (Some z) y e = (z, refl, some_same (f z) y e)
 
 -- the record of a process
-pub record_of : (rs : List Record) (i f : ℕ) (k : Sort) → slice_get (map stands_of rs) i ≡ Some (used f k) → (r : Record) × (slice_get rs i ≡ Some r)
+pub record_of : (rs : List Record) (i f : ℕ) (k : ProcessStatus) → slice_get (map stands_of rs) i ≡ Some (used f k) → (r : Record) × (slice_get rs i ≡ Some r)
 record_of rs i f k e = let w = from_map stands_of (slice_get rs i) (used f k) (sym (map_get stands_of rs i) ∙ e) in (w.0, w.1)
 
 -- what a record has for the channel of one of its pairs
@@ -56,7 +56,7 @@ pub counts_of : (c : Channel) (rs : List Record) (i : ℕ) (r : Record) (p : Pai
 counts_of c rs i r p e f = ap (counts_at c) e ∙ ap (option_map tally) f
 
 pub label_by : (c : Channel) (rs : List Record) (i : ℕ) (r : Record) (p : Pair) → slice_get rs i ≡ Some r → pair_of c r.pairs.items ≡ Some p → leasts_in c rs i ≡ p.least
-label_by c rs i r p e f = ap (least_at c) e ∙ ap label_of f
+label_by c rs i r p e f = ap (least_at c) e ∙ ap least_label_of f
 
 -- and the pair by which it has counts
 pub pair_by : (c : Channel) (rs : List Record) (i : ℕ) (r : Record) (y : Tally) → slice_get rs i ≡ Some r → counts_in c rs i ≡ Some y → (p : Pair) × (pair_of c r.pairs.items ≡ Some p) × (tally p ≡ y)

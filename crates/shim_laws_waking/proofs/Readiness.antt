@@ -9,14 +9,14 @@ use Rattle.shim_semantics.specs.Places.{at, child_at, IsChild, SoundChildren}
 use Rattle.shim_semantics.proofs.PoisonsListed.{at_child as child_there}
 use Rattle.shim_semantics.proofs.Replaced.{sound_at}
 use Rattle.shim_laws_schedules.proofs.Homes.{NotBelow}
-use Rattle.shim_laws_records.specs.Seen.{Sort, lives, forks, ends, dies, place}
+use Rattle.shim_laws_records.specs.Seen.{ProcessStatus, lives, forks, ends, dies, place}
 use Rattle.shim_laws_records.specs.Counts.{Tally, all_there}
 use Rattle.shim_laws_records.specs.Tallied.{IsCounted}
 use Rattle.shim_laws_records.proofs.Hanging.{given_child, given_place}
 use Rattle.shim_laws_records.proofs.Readiness.{by_counts}
 use Rattle.shim_laws_records.proofs.SameTrees.{seen_live, seen_fork, seen_ended, seen_dead}
 use Rattle.shim_records.specs.Pairs.{counts_in}
-use Rattle.shim_laws_keeping.specs.Flats.{FlatView, HasProcess, Keeps}
+use Rattle.shim_laws_keeping.specs.Flats.{FlatView, HasProcessState, Keeps}
 use Rattle.shim_laws_waking.specs.Looks.{counts_ready, ready_by}
 
 module _ {S : Type 0} (o : Ops S) where
@@ -45,7 +45,7 @@ module _ {S : Type 0} (o : Ops S) where
         let given = given_place o law root q w.0 w.1 c kept.shows.sound (child_there q w.0 root l ks there ∙ w.2) far w.3 in
         (elim (h.1.shares c w.3) [ inl z ↦ z | inr z ↦ absurd (far z) ], given_child o w.0 ks w.1 c w.2 given)
 
-    pub fork_ready : (j f n : ℕ) (l : S) (ks : Nodes S) (c : Channel) → HasProcess v j f l (forks n) → at (place o rp l) root ≡ Some (Forked l ks) → NotBelow c (o.path l) → ready o c (Forked l ks) ≡ counts_ready (counts_in c v.records j)
+    pub fork_ready : (j f n : ℕ) (l : S) (ks : Nodes S) (c : Channel) → HasProcessState v j f l (forks n) → at (place o rp l) root ≡ Some (Forked l ks) → NotBelow c (o.path l) → ready o c (Forked l ks) ≡ counts_ready (counts_in c v.records j)
     fork_ready j f n l ks c has there out = on (counts_in c v.records j) refl
       where
         on : (x : Option Tally) → counts_in c v.records j ≡ x → ready o c (Forked l ks) ≡ counts_ready (counts_in c v.records j)
@@ -53,7 +53,7 @@ module _ {S : Type 0} (o : Ops S) where
         on None e = false_unless (ready o c (Forked l ks)) (λ w. ((kept.right c).there j f n l l ks has there).1 (ready_counted (place o rp l) l ks c there out w) e) ∙ ap counts_ready (sym e)
 
     -- and so of any process
-    pub ready_is : (j f : ℕ) (k : S) (x : Sort) (m : Node S) (c : Channel) → HasProcess v j f k x → at (place o rp k) root ≡ Some m → NotBelow c (o.path k) → ready o c m ≡ ready_by o c k x (counts_in c v.records j)
+    pub ready_is : (j f : ℕ) (k : S) (x : ProcessStatus) (m : Node S) (c : Channel) → HasProcessState v j f k x → at (place o rp k) root ≡ Some m → NotBelow c (o.path k) → ready o c m ≡ ready_by o c k x (counts_in c v.records j)
     ready_is j f k lives m c has there out = ap (ready o c) (some_same m (Live k) (sym there ∙ seen_live (at (place o rp k) root) k (kept.shows.agrees.shown j f k lives has)))
     ready_is j f k (forks n) m c has there out =
         let w = seen_fork (at (place o rp k) root) k n (kept.shows.agrees.shown j f k (forks n) has) in

@@ -5,20 +5,20 @@ use Rattle.std.specs.Option.{option_map}
 use Rattle.shim_base.specs.Paths.{Channel}
 use Rattle.shim_base.proofs.Facts.{true_or_false}
 use Rattle.shim_semantics.proofs.HowMany.{clash}
-use Rattle.shim_laws_records.specs.Seen.{Sort}
-use Rattle.shim_records.specs.Pairs.{stands_of, stands_by, tally, pair_of, counts_at, least_at, up_in, up_at, rest_of, Rest, AreOrdered}
+use Rattle.shim_laws_records.specs.Seen.{ProcessStatus}
+use Rattle.shim_records.specs.Pairs.{stands_of, stands_by, tally, pair_of, counts_at, least_at, up_in, up_at, rest_of, UncountedRecord, AreOrdered}
 use Rattle.shim_records.specs.declared.pair.Pair.{Pair}
 use Rattle.shim_records.specs.declared.record.Record.{Record}
 use Rattle.shim_records.proofs.Showing.{map_get}
-use Rattle.shim_laws_keeping.specs.Flats.{FlatView, HasProcess}
+use Rattle.shim_laws_keeping.specs.Flats.{FlatView, HasProcessState}
 use Rattle.shim_laws_waking.specs.Waking.{IsAsBefore, Wakes}
 use Rattle.shim_laws_waking.proofs.PairsFound.{from_map, pair_at, place_of_pair, counts_of, label_by, pair_by}
 
-stands_rest : (x : Option Record) → option_map stands_of x ≡ option_map (λ (z : Rest). stands_by z.first z.status) (option_map rest_of x)
+stands_rest : (x : Option Record) → option_map stands_of x ≡ option_map (λ (z : UncountedRecord). stands_by z.first z.status) (option_map rest_of x)
 stands_rest None = refl
 stands_rest (Some r) = refl
 
-abbrev parent_of : Option Rest → Option ℕ
+abbrev parent_of : Option UncountedRecord → Option ℕ
 parent_of None = None
 parent_of (Some r) = r.parent
 
@@ -33,11 +33,11 @@ neither false b e = (refl, e)
 module _ {S : Type 0} where
   module _ (before behind : FlatView S) (i : ℕ) (same : IsAsBefore before behind i) where
     -- a process whose record is as before was there
-    pub had : (f : ℕ) (s : S) (k : Sort) → HasProcess behind i f s k → HasProcess before i f s k
+    pub had : (f : ℕ) (s : S) (k : ProcessStatus) → HasProcessState behind i f s k → HasProcessState before i f s k
     had f s k has = record {
       state_is = sym same.state ∙ has.state_is;
       stands_so =
-          map_get stands_of before.records i ∙ (stands_rest (slice_get before.records i) ∙ (ap (option_map (λ (z : Rest). stands_by z.first z.status)) (sym same.rest)
+          map_get stands_of before.records i ∙ (stands_rest (slice_get before.records i) ∙ (ap (option_map (λ (z : UncountedRecord). stands_by z.first z.status)) (sym same.rest)
           ∙ (sym (stands_rest (slice_get behind.records i)) ∙ (sym (map_get stands_of behind.records i) ∙ has.stands_so))));
     }
 
@@ -48,7 +48,7 @@ module _ {S : Type 0} where
     pub record_before : (r : Record) → slice_get behind.records i ≡ Some r → (q : Record) × (slice_get before.records i ≡ Some q) × (q.going ≡ r.going)
     record_before r e =
         let w = from_map rest_of (slice_get before.records i) (rest_of r) (sym same.rest ∙ ap (option_map rest_of) e) in
-        (w.0, w.1, ap (λ (z : Rest). z.going) w.2)
+        (w.0, w.1, ap (λ (z : UncountedRecord). z.going) w.2)
 
     -- and the pair of a channel
     pub record PairBefore (y : Pair) (c : Channel) : Type 0 where
@@ -92,7 +92,7 @@ module _ {S : Type 0} where
 
   -- each record in use is as before, or is among them with its parent
   pub wakes_by : (before behind : FlatView S) (again : ℕ → Bool)
-      → ((i f : ℕ) (s : S) (k : Sort) → HasProcess behind i f s k → IsAsBefore before behind i ⊎ ((again i ≡ true) × ((j : ℕ) → up_in behind.records i ≡ Some j → again j ≡ true))) → Wakes before behind again
+      → ((i f : ℕ) (s : S) (k : ProcessStatus) → HasProcessState behind i f s k → IsAsBefore before behind i ⊎ ((again i ≡ true) × ((j : ℕ) → up_in behind.records i ≡ Some j → again j ≡ true))) → Wakes before behind again
   wakes_by before behind again h = record {
     itself = λ i f s k has out. elim (h i f s k has) [ inl w ↦ w | inr w ↦ clash (again i) w.0 out ];
     children = λ i j f s k has up out. elim (h j f s k has) [ inl w ↦ w | inr w ↦ clash (again i) (w.1 i up) out ];

@@ -6,13 +6,13 @@ use Rattle.shim_local.specs.Laws.{LocalLaws}
 use Rattle.shim_semantics.specs.Nodes.{Node}
 use Rattle.shim_semantics.specs.Places.{branches}
 use Rattle.shim_semantics.specs.Trees.{Event, Own, Meet, Poison, Close, End}
-use Rattle.shim_laws_records.specs.Seen.{Sort, lives, forks, place}
+use Rattle.shim_laws_records.specs.Seen.{ProcessStatus, lives, forks, place}
 use Rattle.shim_laws_records.specs.Enabled.{at_step, at_end, at_close, at_home, at_child}
 use Rattle.shim_laws_records.proofs.CanHappen.{enabled_are_found}
 use Rattle.shim_laws_records.proofs.Closing.{one_less}
 use Rattle.shim_laws_records.proofs.OneChange.{one_state}
 use Rattle.shim_records.specs.Pairs.{tally}
-use Rattle.shim_laws_keeping.specs.Flats.{FlatView, HasProcess, Keeps, stands}
+use Rattle.shim_laws_keeping.specs.Flats.{FlatView, HasProcessState, Keeps, stands}
 use Rattle.shim_laws_waking.specs.Waking.{IsAtNumber, Wakes, WakingSuffices, LookedFor}
 use Rattle.shim_laws_waking.specs.Looks.{ready_by, IsDue, to_step, to_end, to_meet, to_close, to_meet_below, to_poison}
 use Rattle.shim_laws_waking.proofs.Looks.{all_by, low_by, due_can, can_due}
@@ -67,8 +67,8 @@ module _ {S : Type 0} (o : Ops S) (rp : Path) (v : FlatView S) where
   record Placed (e : Event) (i : ℕ) : Type 0 where
     first : ℕ
     process : S
-    sort_is : Sort
-    has : HasProcess v i first process sort_is
+    sort_is : ProcessStatus
+    has : HasProcessState v i first process sort_is
     for : IsFor e (place o rp process)
 
   module _ (root : Node S) (kept : Keeps o rp v root) where

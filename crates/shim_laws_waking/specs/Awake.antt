@@ -3,9 +3,9 @@ use Rattle.std.specs.Prelude.{◌≡◌, ◌≢◌, ◌⊎◌, ℕ, Bool, true, 
 use Rattle.shim_base.specs.Paths.{Path}
 use Rattle.shim_local.specs.Process.{Ops}
 use Rattle.shim_semantics.specs.Trees.{Tree, Event}
-use Rattle.shim_laws_records.specs.Seen.{Sort}
+use Rattle.shim_laws_records.specs.Seen.{ProcessStatus}
 use Rattle.shim_laws_records.specs.Enabled.{Can}
-use Rattle.shim_laws_keeping.specs.Flats.{FlatView, HasProcess, Keeps}
+use Rattle.shim_laws_keeping.specs.Flats.{FlatView, HasProcessState, Keeps}
 use Rattle.shim_laws_waking.specs.Waking.{IsAtNumber, Wakes}
 use Rattle.shim_laws_waking.specs.Looks.{IsIdle, IsQuietStepAt}
 
@@ -25,7 +25,7 @@ AreListed {S} o v t flags = (e : Event) (i : ℕ) → Can o t e → IsAtNumber o
 -- Of such a list:
 pub record ListingStays {S : Type 0} (o : Ops S) : Type 0 where
   -- one that lists each record in use is one
-  pub all : (v : FlatView S) (t : Tree S) (flags : List Bool) → ((i f : ℕ) (s : S) (k : Sort) → HasProcess v i f s k → is_listed flags i ≡ true) → AreListed o v t flags
+  pub all : (v : FlatView S) (t : Tree S) (flags : List Bool) → ((i f : ℕ) (s : S) (k : ProcessStatus) → HasProcessState v i f s k → is_listed flags i ≡ true) → AreListed o v t flags
   -- where something has happened, so is one that lists what was listed, and of whatever records aren't as before, and their parents, all that tell of more than a quiet step
   pub moves : (rp : Path) (before behind : FlatView S) (t u : Tree S) (flags now : List Bool) (again : ℕ → Bool) → Keeps o rp before t.root → Keeps o rp behind u.root → AreListed o before t flags
       → ((i : ℕ) → is_listed flags i ≡ true → is_listed now i ≡ true) → Wakes before behind again → ((i : ℕ) → again i ≡ true → (is_listed now i ≡ true) ⊎ IsIdle o behind i) → AreListed o behind u now

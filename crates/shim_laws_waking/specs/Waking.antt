@@ -5,10 +5,10 @@ use Rattle.shim_base.specs.Paths.{Path, Channel}
 use Rattle.shim_local.specs.Process.{Ops}
 use Rattle.shim_semantics.specs.Nodes.{Node}
 use Rattle.shim_semantics.specs.Trees.{Tree, Event}
-use Rattle.shim_laws_records.specs.Seen.{Sort}
+use Rattle.shim_laws_records.specs.Seen.{ProcessStatus}
 use Rattle.shim_laws_records.specs.Enabled.{Can, IsAt}
 use Rattle.shim_records.specs.Pairs.{up_in, rest_of, counts_in, leasts_in}
-use Rattle.shim_laws_keeping.specs.Flats.{FlatView, HasProcess, Keeps, stands}
+use Rattle.shim_laws_keeping.specs.Flats.{FlatView, HasProcessState, Keeps, stands}
 
 -- the event is looked for at the record with this number
 abbrev pub IsAtNumber : {S : Type 0} → Ops S → FlatView S → Event → ℕ → Type 0
@@ -24,9 +24,9 @@ pub record IsAsBefore {S : Type 0} (before behind : FlatView S) (i : ℕ) : Type
 -- Some numbers are to be looked at again. Whatever record in use isn't as before is among them, and so is its parent:
 pub record Wakes {S : Type 0} (before behind : FlatView S) (again : ℕ → Bool) : Type 0 where
   -- a record that isn't among them is as before
-  pub itself : (i f : ℕ) (s : S) (k : Sort) → HasProcess behind i f s k → again i ≡ false → IsAsBefore before behind i
+  pub itself : (i f : ℕ) (s : S) (k : ProcessStatus) → HasProcessState behind i f s k → again i ≡ false → IsAsBefore before behind i
   -- and so is each child of one that isn't
-  pub children : (i j f : ℕ) (s : S) (k : Sort) → HasProcess behind j f s k → up_in behind.records j ≡ Some i → again i ≡ false → IsAsBefore before behind j
+  pub children : (i j f : ℕ) (s : S) (k : ProcessStatus) → HasProcessState behind j f s k → up_in behind.records j ≡ Some i → again i ≡ false → IsAsBefore before behind j
 
 -- What can happen behind, and is looked for at a number that isn't among them, could happen before, and was looked for there.
 abbrev pub WakingSuffices : {S : Type 0} → Ops S → Type 0

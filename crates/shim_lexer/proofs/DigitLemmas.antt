@@ -1,7 +1,7 @@
 -- The value of digits, read from the front.
 use Rattle.std.proofs.Common.{◌≡◌, ◌≤◌, ◌<◌, ℕ, suc, ◌+◌, ◌-◌, ◌*◌, ◌^◌, List, [], ◌∷◌, length, drop, get_or, ap, arith, drop-cons}
 use Rattle.std.specs.Prelude.{fold}
-use Rattle.shim_base.specs.Tokens.{with_digit, value, hex_digit_value, with_hex_digit, hex_value}
+use Rattle.shim_base.specs.Tokens.{with_digit, decimal_value, hex_digit_value, with_hex_digit, hex_value}
 
 -- more decimal digits make no smaller number
 grows : (n : ℕ) (digits : List ℕ) → n ≤ fold with_digit n digits
@@ -9,7 +9,7 @@ grows n [] = omega arith
 grows n (d ∷ ds) = let h : n * 10 + (d - 48) ≤ fold with_digit (n * 10 + (d - 48)) ds = grows (n * 10 + (d - 48)) ds in omega arith
 
 -- what is read up to the next decimal digit is no more than the value
-pub next-le-value : (digits : List ℕ) (n i : ℕ) → i < length digits → fold with_digit n (drop i digits) ≡ value digits → n * 10 + (get_or digits i 0 - 48) ≤ value digits
+pub next-le-value : (digits : List ℕ) (n i : ℕ) → i < length digits → fold with_digit n (drop i digits) ≡ decimal_value digits → n * 10 + (get_or digits i 0 - 48) ≤ decimal_value digits
 next-le-value digits n i lt e =
     let one : fold with_digit n (drop i digits) ≡ fold with_digit (n * 10 + (get_or digits i 0 - 48)) (drop (suc i) digits) = ap (λ (l : List ℕ). fold with_digit n l) (drop-cons digits i 0 lt) in
     let h : n * 10 + (get_or digits i 0 - 48) ≤ fold with_digit (n * 10 + (get_or digits i 0 - 48)) (drop (suc i) digits) = grows (n * 10 + (get_or digits i 0 - 48)) (drop (suc i) digits) in

@@ -5,11 +5,11 @@ use Rattle.std.specs.List.{between}
 use Rattle.std.proofs.lemmas.List.{drop-drop, length-take-le, length-drop}
 use Rattle.shim_base.specs.declared.TokenKind.{TokenKind}
 use Rattle.shim_base.specs.declared.LexKind.{LexKind}
-use Rattle.shim_base.specs.Tokens.{Token, Place, after, Fault, Cuts, ended, passed, token, faulty, Passes, IsFault, Spells, IsWithinLimits}
+use Rattle.shim_base.specs.Tokens.{Token, Place, place_after, Fault, Cuts, ended, passed, token, faulty, Skips, IsFault, Spells, IsWithinLimits}
 use Rattle.shim_base.proofs.FirstToken.{token_has_no_feed}
 use Rattle.shim_base.proofs.Front.{pass_takes}
 use Rattle.shim_base.proofs.Cutting.{first_takes, token_at}
-use Rattle.shim_lexer.specs.Scanned.{IsPassed, IsTaken}
+use Rattle.shim_lexer.specs.Scanned.{IsPassed, IsFittingToken}
 use Rattle.shim_lexer.specs.Lexing.{IsNext, token_of}
 
 -- the text from the first place up to this one is passed over
@@ -21,7 +21,7 @@ pub record IsPassedTo (text : List ℕ) (from : Place) (at line : ℕ) : Type 0 
 
 -- the place behind the first bytes of the rest
 place_behind : (at line len feeds : ℕ) (rest : List ℕ) → len ≤ length rest → feeds ≡ count_by (λ b. b == 10) (take len rest) →
-    (let p : Place = record { at = at + len; line = line + feeds } in p) ≡ after (record { at = at; line = line }) (take len rest)
+    (let p : Place = record { at = at + len; line = line + feeds } in p) ≡ place_after (record { at = at; line = line }) (take len rest)
 place_behind at line len feeds rest within feeds_are =
     let size : len ≡ length (take len rest) = sym (length-take-le len rest within) in
     ap (λ (n : ℕ). (let p : Place = record { at = at + n; line = line + feeds } in p)) size
@@ -69,17 +69,17 @@ passed_all text rest from at line h rest_is none =
 
 -- a fault is the end
 pub passed_fault : (text rest : List ℕ) (from : Place) (at line : ℕ) (kind : LexKind) → IsPassedTo text from at line → rest ≡ drop at text →
-    ((over behind : List ℕ) → Passes rest over behind → ⊥) → IsFault kind rest → Cuts from (drop from.at text) [] (Some (record { at = at; line = line; kind = kind }))
+    ((over behind : List ℕ) → Skips rest over behind → ⊥) → IsFault kind rest → Cuts from (drop from.at text) [] (Some (record { at = at; line = line; kind = kind }))
 passed_fault text rest from at line kind h rest_is no_pass fault =
     let P : List ℕ → Type 0 = λ l. Cuts (record { at = at; line = line }) l [] (Some (record { at = at; line = line; kind = kind })) in
     h.joins [] (Some (record { at = at; line = line; kind = kind })) (subst P rest_is (faulty (record { at = at; line = line }) rest kind no_pass fault))
 
 -- a token is the next one
-pub passed_token : (text rest : List ℕ) (from : Place) (at line len : ℕ) (kind : TokenKind) → IsPassedTo text from at line → rest ≡ drop at text → IsTaken rest kind len →
+pub passed_token : (text rest : List ℕ) (from : Place) (at line len : ℕ) (kind : TokenKind) → IsPassedTo text from at line → rest ≡ drop at text → IsFittingToken rest kind len →
     IsNext text from (record { kind = kind; at = at; past = at + len; line = line })
 passed_token text rest from at line len kind h rest_is taken =
-    let P : List ℕ → Type 0 = λ l. IsTaken l kind len in
-    let q : IsTaken (drop at text) kind len = subst P rest_is taken in
+    let P : List ℕ → Type 0 = λ l. IsFittingToken l kind len in
+    let q : IsFittingToken (drop at text) kind len = subst P rest_is taken in
     let in_rest = q.within in
     let in_text = h.within in
     let size = length-take-le len (drop at text) q.within in

@@ -8,33 +8,33 @@ use Rattle.shim_base.specs.declared.TokenKind.TheVariants.{Word, Number, Sign as
 use Rattle.shim_base.specs.declared.LexKind.TheVariants.{BadByte, LongName, BigNumber, OpenComment}
 use Rattle.shim_base.specs.declared.Keyword.{Keyword}
 use Rattle.shim_base.specs.declared.Sign.{Sign}
-use Rattle.shim_base.specs.Tokens.{is_spacing, is_digit, is_letter, is_name_byte, is_hex_digit, is_hex_numeral, keyword_of, sign_of, value, hex_value, Begins, IsComment, line_opener, block_opener, block_closer, IsFirst, IsWithinLimits, Passes, spacing, IsFault}
+use Rattle.shim_base.specs.Tokens.{is_spacing, is_digit, is_letter, is_name_byte, is_hex_digit, is_hex_numeral, keyword_of, sign_of, decimal_value, hex_value, Begins, IsComment, line_opener, block_opener, block_closer, IsLongestToken, IsWithinLimits, Skips, spacing, IsFault}
 use Rattle.shim_base.proofs.FirstToken.{name_kind, front_of, name_is_first, decimal_is_first, hex_is_first, sign_is_first, no_sign_no_first}
 use Rattle.shim_base.proofs.Passing.{line_passes, IsCloserAt as ClosesAt, block_passes, block_open, no_pass, no_pass_of_open, no_pass_of_token}
 use Rattle.shim_base.proofs.Front.{pass_takes}
-use Rattle.shim_lexer.specs.Scanned.{is_on_line, IsCloserAt, IsTokenPlace, IsPassed, IsTaken}
+use Rattle.shim_lexer.specs.Scanned.{is_on_line, IsCloserAt, IsTokenPlace, IsPassed, IsFittingToken}
 
 -- what is passed over, by its length
-pub is_passed : (text over rest : List ℕ) (len : ℕ) → Passes text over rest → length over ≡ len → IsPassed text len
+pub is_passed : (text over rest : List ℕ) (len : ℕ) → Skips text over rest → length over ≡ len → IsPassed text len
 is_passed text over rest len h size =
     let whole = (pass_takes text over rest h).1 in
     let f = front_of text over rest whole in
     let sum : length text ≡ length over + length rest = ap (λ (l : List ℕ). length l) whole ∙ length-append over rest in
     let over_is : over ≡ take len text = f.0 ∙ ap (λ (m : ℕ). take m text) size in
     let rest_is : rest ≡ drop len text = f.1 ∙ ap (λ (m : ℕ). drop m text) size in
-    let P : List ℕ → Type 0 = λ l. Passes text l rest in
-    let Q : List ℕ → Type 0 = λ l. Passes text (take len text) l in
+    let P : List ℕ → Type 0 = λ l. Skips text l rest in
+    let Q : List ℕ → Type 0 = λ l. Skips text (take len text) l in
     record { within = omega (arith, sum, size); passes = subst Q rest_is (subst P over_is h) }
 
 -- a first token within limits, by its length
-pub is_taken : (text front rest : List ℕ) (kind : TokenKind) (len : ℕ) → (IsComment text → ⊥) → IsFirst text front rest kind → IsWithinLimits front kind → length front ≡ len → IsTaken text kind len
+pub is_taken : (text front rest : List ℕ) (kind : TokenKind) (len : ℕ) → (IsComment text → ⊥) → IsLongestToken text front rest kind → IsWithinLimits front kind → length front ≡ len → IsFittingToken text kind len
 is_taken text front rest kind len no_comment h fits size =
     let f = front_of text front rest h.whole in
     let sum : length text ≡ length front + length rest = ap (λ (l : List ℕ). length l) h.whole ∙ length-append front rest in
     let front_is : front ≡ take len text = f.0 ∙ ap (λ (m : ℕ). take m text) size in
     let rest_is : rest ≡ drop len text = f.1 ∙ ap (λ (m : ℕ). drop m text) size in
-    let P : List ℕ → Type 0 = λ l. IsFirst text l rest kind in
-    let Q : List ℕ → Type 0 = λ l. IsFirst text (take len text) l kind in
+    let P : List ℕ → Type 0 = λ l. IsLongestToken text l rest kind in
+    let Q : List ℕ → Type 0 = λ l. IsLongestToken text (take len text) l kind in
     let R : List ℕ → Type 0 = λ l. IsWithinLimits l kind in
     record {
       within = omega (arith, sum, size);
@@ -96,7 +96,7 @@ block_passed text inside k begins is c before =
 
 -- a block comment without a closer is a fault
 pub block_is_open : (text inside : List ℕ) → Begins text block_opener → inside ≡ drop 2 text → ((k : ℕ) → IsCloserAt inside k → ⊥) →
-    ((over rest : List ℕ) → Passes text over rest → ⊥) × IsFault OpenComment text
+    ((over rest : List ℕ) → Skips text over rest → ⊥) × IsFault OpenComment text
 block_is_open text inside begins is none =
     let tail : inside ≡ begins.0 = is ∙ ap (λ (l : List ℕ). drop 2 l) begins.1 in
     let same : 47 ∷ 42 ∷ inside ≡ text = ap (λ (l : List ℕ). 47 ∷ 42 ∷ l) tail ∙ sym begins.1 in
@@ -106,30 +106,30 @@ block_is_open text inside begins is none =
 
 -- where a letter stands, the name is the first token
 pub name_first : (text : List ℕ) (n : ℕ) (name : List ℕ) (found : Option Keyword) → 1 ≤ length text → is_letter (get_or text 0 0) ≡ true → n ≡ prefix_len is_name_byte text →
-    name ≡ take n text → found ≡ keyword_of name → IsFirst text name (drop n text) (name_kind found)
+    name ≡ take n text → found ≡ keyword_of name → IsLongestToken text name (drop n text) (name_kind found)
 name_first [] n name found some l is front found_is = absurd (omega arith)
 name_first (b ∷ bytes) n name found some l is front found_is =
-    let P : List ℕ → Type 0 = λ t. IsFirst (b ∷ bytes) t (drop n (b ∷ bytes)) (name_kind (keyword_of t)) in
-    let Q : Option Keyword → Type 0 = λ f. IsFirst (b ∷ bytes) name (drop n (b ∷ bytes)) (name_kind f) in
+    let P : List ℕ → Type 0 = λ t. IsLongestToken (b ∷ bytes) t (drop n (b ∷ bytes)) (name_kind (keyword_of t)) in
+    let Q : Option Keyword → Type 0 = λ f. IsLongestToken (b ∷ bytes) name (drop n (b ∷ bytes)) (name_kind f) in
     subst Q (sym found_is) (subst P (sym front) (name_is_first b bytes n l is))
 
 -- a name that is too long is a fault
-pub name_is_long : (text name rest : List ℕ) → (IsComment text → ⊥) → IsFirst text name rest Word → 64 < length name → ((over behind : List ℕ) → Passes text over behind → ⊥) × IsFault LongName text
+pub name_is_long : (text name rest : List ℕ) → (IsComment text → ⊥) → IsLongestToken text name rest Word → 64 < length name → ((over behind : List ℕ) → Skips text over behind → ⊥) × IsFault LongName text
 name_is_long text name rest no_comment first long = ((λ over behind. no_pass_of_token text name rest over behind Word no_comment first), (no_comment, name, rest, first, long))
 
 -- where a digit and no hexadecimal numeral stands, the numeral is the first token
 pub decimal_first : (text : List ℕ) (n : ℕ) (digits : List ℕ) → 1 ≤ length text → is_digit (get_or text 0 0) ≡ true → is_hex_numeral (take 3 text) ≡ false → n ≡ prefix_len is_digit text →
-    digits ≡ take n text → IsFirst text digits (drop n text) (Number (pos (value digits)))
+    digits ≡ take n text → IsLongestToken text digits (drop n text) (Number (pos (decimal_value digits)))
 decimal_first [] n digits some d no_hex is front = absurd (omega arith)
 decimal_first (b ∷ bytes) n digits some d no_hex is front =
-    let P : List ℕ → Type 0 = λ t. IsFirst (b ∷ bytes) t (drop n (b ∷ bytes)) (Number (pos (value t))) in
+    let P : List ℕ → Type 0 = λ t. IsLongestToken (b ∷ bytes) t (drop n (b ∷ bytes)) (Number (pos (decimal_value t))) in
     subst P (sym front) (decimal_is_first b bytes n d no_hex is)
 
 -- a hexadecimal numeral that is the first token
 pub record IsHexFirst (text digits : List ℕ) : Type 0 where
   pub front : List ℕ
   pub rest : List ℕ
-  pub first : IsFirst text front rest (Number (pos (hex_value digits)))
+  pub first : IsLongestToken text front rest (Number (pos (hex_value digits)))
   pub size : length front ≡ length digits + 2
 
 -- where a hexadecimal numeral stands, it is the first token
@@ -148,31 +148,31 @@ hex_first (b ∷ x ∷ d ∷ bytes) behind n digits hex behind_is is front =
     })
 
 -- a number below 2 ^ 63 is taken
-pub number_taken : (text front rest : List ℕ) (n len : ℕ) (number : ℤ) → (IsComment text → ⊥) → IsFirst text front rest (Number (pos n)) → number ≡ pos n → n < 2 ^ 63 → length front ≡ len →
-    IsTaken text (Number number) len
+pub number_taken : (text front rest : List ℕ) (n len : ℕ) (number : ℤ) → (IsComment text → ⊥) → IsLongestToken text front rest (Number (pos n)) → number ≡ pos n → n < 2 ^ 63 → length front ≡ len →
+    IsFittingToken text (Number number) len
 number_taken text front rest n len number no_comment first is small size =
-    let P : ℤ → Type 0 = λ m. IsFirst text front rest (Number m) in
+    let P : ℤ → Type 0 = λ m. IsLongestToken text front rest (Number m) in
     is_taken text front rest (Number number) len no_comment (subst P (sym is) first) (omega (arith, ints, is, small)) size
 
 -- a greater one is a fault
-pub number_is_big : (text front rest : List ℕ) (n : ℕ) → (IsComment text → ⊥) → IsFirst text front rest (Number (pos n)) → 2 ^ 63 ≤ n → ((over behind : List ℕ) → Passes text over behind → ⊥) × IsFault BigNumber text
+pub number_is_big : (text front rest : List ℕ) (n : ℕ) → (IsComment text → ⊥) → IsLongestToken text front rest (Number (pos n)) → 2 ^ 63 ≤ n → ((over behind : List ℕ) → Skips text over behind → ⊥) × IsFault BigNumber text
 number_is_big text front rest n no_comment first big = ((λ over behind. no_pass_of_token text front rest over behind (Number (pos n)) no_comment first), (no_comment, front, rest, n, first, big))
 
 -- where neither a letter nor a digit stands and a sign was found, it is the first token
 sign_first : (text : List ℕ) (n : ℕ) (sign : Sign) → 1 ≤ length text → is_letter (get_or text 0 0) ≡ false → is_digit (get_or text 0 0) ≡ false → n ≤ length text →
-    sign_of (take n text) ≡ Some sign → ((m : ℕ) → n < m → m ≤ 2 → m ≤ length text → sign_of (take m text) ≡ None) → IsFirst text (take n text) (drop n text) (SignKind sign)
+    sign_of (take n text) ≡ Some sign → ((m : ℕ) → n < m → m ≤ 2 → m ≤ length text → sign_of (take m text) ≡ None) → IsLongestToken text (take n text) (drop n text) (SignKind sign)
 sign_first [] n sign some l d within spelled longest = absurd (omega arith)
 sign_first (b ∷ bytes) n sign some l d within spelled longest = sign_is_first b bytes n sign l d within spelled longest
 
 -- and is taken
 pub sign_taken : (text : List ℕ) (n : ℕ) (sign : Sign) → IsTokenPlace text → is_letter (get_or text 0 0) ≡ false → is_digit (get_or text 0 0) ≡ false → n ≤ length text →
-    sign_of (take n text) ≡ Some sign → ((m : ℕ) → n < m → m ≤ 2 → m ≤ length text → sign_of (take m text) ≡ None) → IsTaken text (SignKind sign) n
+    sign_of (take n text) ≡ Some sign → ((m : ℕ) → n < m → m ≤ 2 → m ≤ length text → sign_of (take m text) ≡ None) → IsFittingToken text (SignKind sign) n
 sign_taken text n sign place l d within spelled longest =
     is_taken text (take n text) (drop n text) (SignKind sign) n place.no_comment (sign_first text n sign place.some l d within spelled longest) tt (length-take-le n text within)
 
 -- where no sign was found either, the byte begins nothing
 pub byte_is_bad : (text : List ℕ) → IsTokenPlace text → is_letter (get_or text 0 0) ≡ false → is_digit (get_or text 0 0) ≡ false →
-    ((m : ℕ) → 1 ≤ m → m ≤ 2 → sign_of (take m text) ≡ None) → ((over rest : List ℕ) → Passes text over rest → ⊥) × IsFault BadByte text
+    ((m : ℕ) → 1 ≤ m → m ≤ 2 → sign_of (take m text) ≡ None) → ((over rest : List ℕ) → Skips text over rest → ⊥) × IsFault BadByte text
 byte_is_bad [] place l d none = absurd (let some = place.some in omega arith)
 byte_is_bad (b ∷ bytes) place l d none = (
   (λ over rest. no_pass b bytes over rest place.no_spacing place.no_comment),

@@ -1,7 +1,7 @@
 -- A text that is being cut into tokens, as contracts see it, and what the next call gives.
 use Rattle.std.specs.Prelude.{ℕ, ◌+◌, ◌<◌, ◌≤◌, ◌≡◌, List, [], ◌∷◌, length, drop, Option, Some, None, Result, Ok, Err}
 use Rattle.std.specs.List.{between}
-use Rattle.shim_base.specs.Tokens.{Token, Place, after, Spells, IsWithinLimits, Fault, Cuts}
+use Rattle.shim_base.specs.Tokens.{Token, Place, place_after, Spells, IsWithinLimits, Fault, Cuts}
 use Rattle.shim_lexer.specs.declared.token.Token.{Token as Given}
 use Rattle.shim_lexer.specs.declared.token.LexFault.{LexFault}
 
@@ -14,8 +14,8 @@ pub record Lexing : Type 0 where
   pub fault : Option Fault
 
 -- what is left to read
-abbrev pub rest : Lexing → List ℕ
-rest lexing = drop lexing.place.at lexing.text
+abbrev pub unread : Lexing → List ℕ
+unread lexing = drop lexing.place.at lexing.text
 
 -- the bytes of a token of the text
 abbrev pub bytes_of : List ℕ → Given → List ℕ
@@ -55,19 +55,19 @@ IsInText text (Ok None) = Unit {0}
 IsInText text (Err f) = (f.at ≤ length text) × (f.line ≤ 1 + f.at)
 
 -- where the reading stands after that
-abbrev pub behind : Lexing → Result (Option Given) LexFault → Lexing
-behind old (Ok (Some t)) = record old { place = record { at = t.past; line = t.line } }
-behind old (Ok None) = record old { place = after old.place (rest old) }
-behind old (Err f) = record old { place = record { at = f.at; line = f.line }; fault = Some (fault_of f) }
+abbrev pub place_behind : Lexing → Result (Option Given) LexFault → Lexing
+place_behind old (Ok (Some t)) = record old { place = record { at = t.past; line = t.line } }
+place_behind old (Ok None) = record old { place = place_after old.place (unread old) }
+place_behind old (Err f) = record old { place = record { at = f.at; line = f.line }; fault = Some (fault_of f) }
 
 -- What a call answers, by the fault that was answered before: this fault again, or what stands in the rest.
-abbrev pub Answers : Option Fault → Lexing → Lexing → Result (Option Given) LexFault → Type 0
-Answers (Some fault) old new result = (new ≡ old) × ((f : LexFault) × (result ≡ Err f) × (fault_of f ≡ fault))
-Answers None old new result = (new ≡ behind old result) × Finds old.text old.place result
+abbrev pub AnswersNext : Option Fault → Lexing → Lexing → Result (Option Given) LexFault → Type 0
+AnswersNext (Some fault) old new result = (new ≡ old) × ((f : LexFault) × (result ≡ Err f) × (fault_of f ≡ fault))
+AnswersNext None old new result = (new ≡ place_behind old result) × Finds old.text old.place result
 
 -- The answers of one call after the other, from here up to the first that is no token.
 pub data Run : Lexing → List Token → Option Fault → Type 0 where
-  over : (old new : Lexing) → Answers None old new (Ok None) → Run old [] None
-  faulty : (old new : Lexing) (f : LexFault) → Answers None old new (Err f) → Run old [] (Some (fault_of f))
-  token : (old new : Lexing) (t : Given) (tokens : List Token) (end : Option Fault) → Answers None old new (Ok (Some t)) → Run new tokens end
+  over : (old new : Lexing) → AnswersNext None old new (Ok None) → Run old [] None
+  faulty : (old new : Lexing) (f : LexFault) → AnswersNext None old new (Err f) → Run old [] (Some (fault_of f))
+  token : (old new : Lexing) (t : Given) (tokens : List Token) (end : Option Fault) → AnswersNext None old new (Ok (Some t)) → Run new tokens end
       → Run old (token_of old.text t ∷ tokens) end

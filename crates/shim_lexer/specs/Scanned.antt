@@ -1,7 +1,7 @@
 -- What stands at the front of a text, as the functions that look for it tell it.
 use Rattle.std.specs.Prelude.{ℕ, ◌+◌, ◌≤◌, ◌<◌, ◌^◌, ◌≡◌, ℤ, pos, Bool, false, ◌==◌, List, [], length, take, drop, Option, Some, None, slice_index, not}
 use Rattle.shim_base.specs.declared.TokenKind.{TokenKind}
-use Rattle.shim_base.specs.Tokens.{is_spacing, IsWithinLimits, IsFirst, IsComment, Passes, IsFault}
+use Rattle.shim_base.specs.Tokens.{is_spacing, IsWithinLimits, IsLongestToken, IsComment, Skips, IsFault}
 use Rattle.shim_lexer.specs.declared.scanner.Scanned.{Scanned}
 use Rattle.shim_lexer.specs.declared.scanner.Scanned.TheVariants.{End, Passed, Token, Fault}
 
@@ -21,9 +21,9 @@ FindsCloser text (Some k) = IsCloserAt text k × ((j : ℕ) → j < k → IsClos
 FindsCloser text None = (k : ℕ) → IsCloserAt text k → ⊥
 
 -- the number, if it is below 2 ^ 63
-abbrev pub Holds : ℕ → Option ℤ → Type 0
-Holds n (Some number) = (number ≡ pos n) × (n < 2 ^ 63)
-Holds n None = 2 ^ 63 ≤ n
+abbrev pub FitsNumber : ℕ → Option ℤ → Type 0
+FitsNumber n (Some number) = (number ≡ pos n) × (n < 2 ^ 63)
+FitsNumber n None = 2 ^ 63 ≤ n
 
 -- neither the end nor spacing nor a comment stands here
 pub record IsTokenPlace (text : List ℕ) : Type 0 where
@@ -34,17 +34,17 @@ pub record IsTokenPlace (text : List ℕ) : Type 0 where
 -- so many bytes are passed over at once
 pub record IsPassed (text : List ℕ) (len : ℕ) : Type 0 where
   pub within : len ≤ length text
-  pub passes : Passes text (take len text) (drop len text)
+  pub passes : Skips text (take len text) (drop len text)
 
 -- so many bytes are the first token, within limits
-pub record IsTaken (text : List ℕ) (kind : TokenKind) (len : ℕ) : Type 0 where
+pub record IsFittingToken (text : List ℕ) (kind : TokenKind) (len : ℕ) : Type 0 where
   pub within : len ≤ length text
   pub no_comment : IsComment text → ⊥
-  pub first : IsFirst text (take len text) (drop len text) kind
+  pub first : IsLongestToken text (take len text) (drop len text) kind
   pub fits : IsWithinLimits (take len text) kind
 
-abbrev pub Stands : List ℕ → Scanned → Type 0
-Stands text End = text ≡ []
-Stands text (Passed len) = IsPassed text len
-Stands text (Token kind len) = IsTaken text kind len
-Stands text (Fault kind) = ((over rest : List ℕ) → Passes text over rest → ⊥) × IsFault kind text
+abbrev pub IsScanned : List ℕ → Scanned → Type 0
+IsScanned text End = text ≡ []
+IsScanned text (Passed len) = IsPassed text len
+IsScanned text (Token kind len) = IsFittingToken text kind len
+IsScanned text (Fault kind) = ((over rest : List ℕ) → Skips text over rest → ⊥) × IsFault kind text

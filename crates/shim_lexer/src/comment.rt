@@ -1,7 +1,7 @@
 // Comments.
 ghost use Rattle.std.specs.Prelude.{◌≡◌, ◌↔◌, IsTrue};
 ghost use Rattle.shim_base.specs.Tokens.{Begins, block_opener, line_opener};
-ghost use Rattle.shim_lexer.specs.Scanned.{FindsCloser, Stands};
+ghost use Rattle.shim_lexer.specs.Scanned.{FindsCloser, IsScanned};
 
 use crate::bytes::line_len;
 use crate::scanner::Scanned;
@@ -17,7 +17,7 @@ pub(crate) fn begins(text: &[u8], front: &[u8]) -> bool
 /// What a comment is that `//` begins: it ends before the next line feed.
 pub(crate) fn line_comment(text: &[u8]) -> Scanned
     requires { Begins text.now line_opener }
-    ensures { Stands text.now result }
+    ensures { IsScanned text.now result }
 {
     Scanned::Passed(line_len(text))
 }
@@ -39,7 +39,7 @@ fn closer_at(text: &[u8]) -> Option<usize>
 /// What a comment is that `/*` begins: it ends behind the next `*/`, and is open without one.
 pub(crate) fn block_comment(text: &[u8]) -> Scanned
     requires { Begins text.now block_opener }
-    ensures { Stands text.now result }
+    ensures { IsScanned text.now result }
 {
     let (_, inside) = text.split_at(2);
     match closer_at(inside) {

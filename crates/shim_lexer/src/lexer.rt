@@ -1,7 +1,7 @@
 // A text that is cut into its tokens, one at a time.
 ghost use Rattle.std.specs.Prelude.{◌≡◌, ◌≤◌, ◌+◌, length, None};
 ghost use Rattle.shim_base.specs.Tokens.{start};
-ghost use Rattle.shim_lexer.specs.Lexing.{Answers, Finds, IsInText};
+ghost use Rattle.shim_lexer.specs.Lexing.{AnswersNext, Finds, IsInText};
 
 use crate::bytes::line_feeds;
 use crate::scanner::{Scanned, scan};
@@ -51,7 +51,7 @@ impl<'a> Lexer<'a> {
     /// The next token; `None` where only spacing and comments are left. A fault is answered again
     /// from then on.
     pub fn next(&mut self) -> Result<Option<Token>, LexFault>
-        ensures { Answers self.old.fault self.old self.new result }
+        ensures { AnswersNext self.old.fault self.old self.new result }
     {
         if let Some(fault) = self.fault {
             return Err(fault);

@@ -1,7 +1,7 @@
 // Numbers.
 ghost use Rattle.std.specs.Prelude.{◌≡◌, false, IsTrue, slice_index, take};
 ghost use Rattle.shim_base.specs.Tokens as tokens;
-ghost use Rattle.shim_lexer.specs.Scanned.{Holds, IsTokenPlace, Stands};
+ghost use Rattle.shim_lexer.specs.Scanned.{FitsNumber, IsTokenPlace, IsScanned};
 
 use crate::bytes::{digits_len, hex_digits_len, is_digit, is_hex_digit};
 use crate::scanner::Scanned;
@@ -9,7 +9,7 @@ use shim_base::{LexKind, TokenKind};
 
 /// The number that decimal digits stand for, if it is below 2^63.
 fn decimal_value(digits: &[u8]) -> Option<i64>
-    ensures { Holds (tokens.value digits.now) result }
+    ensures { FitsNumber (tokens.decimal_value digits.now) result }
 {
     let mut number: u64 = 0;
     for digit in digits {
@@ -33,7 +33,7 @@ fn hex_digit_value(digit: u8) -> u8
 
 /// The number that hexadecimal digits stand for, if it is below 2^63.
 fn hex_value_of(digits: &[u8]) -> Option<i64>
-    ensures { Holds (tokens.hex_value digits.now) result }
+    ensures { FitsNumber (tokens.hex_value digits.now) result }
 {
     let mut number: u64 = 0;
     for digit in digits {
@@ -56,7 +56,7 @@ fn begins_hex(text: &[u8]) -> bool
 fn hex_number(text: &[u8]) -> Scanned
     requires place { IsTokenPlace text.now }
     requires hex { IsTrue (tokens.is_hex_numeral (take 3 text.now)) }
-    ensures { Stands text.now result }
+    ensures { IsScanned text.now result }
 {
     let (_, behind) = text.split_at(2);
     let (digits, _) = behind.split_at(hex_digits_len(behind));
@@ -70,7 +70,7 @@ fn decimal_number(text: &[u8]) -> Scanned
     requires place { IsTokenPlace text.now }
     requires digit { IsTrue (tokens.is_digit (slice_index text.now 0)) }
     requires no_hex { tokens.is_hex_numeral (take 3 text.now) ≡ false }
-    ensures { Stands text.now result }
+    ensures { IsScanned text.now result }
 {
     let (digits, _) = text.split_at(digits_len(text));
     match decimal_value(digits) {
@@ -83,7 +83,7 @@ fn decimal_number(text: &[u8]) -> Scanned
 pub(crate) fn number(text: &[u8]) -> Scanned
     requires place { IsTokenPlace text.now }
     requires digit { IsTrue (tokens.is_digit (slice_index text.now 0)) }
-    ensures { Stands text.now result }
+    ensures { IsScanned text.now result }
 {
     if begins_hex(text) {
         hex_number(text)

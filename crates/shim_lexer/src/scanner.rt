@@ -1,5 +1,5 @@
 // What stands at the front of a text.
-ghost use Rattle.shim_lexer.specs.Scanned.{Stands};
+ghost use Rattle.shim_lexer.specs.Scanned.{IsScanned};
 
 use crate::bytes::{is_digit, is_letter, is_spacing};
 use crate::comment::{begins, block_comment, line_comment};
@@ -19,7 +19,7 @@ pub(crate) enum Scanned {
 }
 
 pub(crate) fn scan(text: &[u8]) -> Scanned
-    ensures { Stands text.now result }
+    ensures { IsScanned text.now result }
 {
     let [first, ..] = text else {
         return Scanned::End;

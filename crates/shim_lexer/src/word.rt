@@ -1,7 +1,7 @@
 // Names, keywords and signs.
 ghost use Rattle.std.specs.Prelude.{◌≡◌, ◌<◌, ◌≤◌, length, map, take, ℕ, false, IsNone, IfSome, IsTrue, slice_index};
 ghost use Rattle.shim_base.specs.Tokens as tokens;
-ghost use Rattle.shim_lexer.specs.Scanned.{IsTokenPlace, Stands};
+ghost use Rattle.shim_lexer.specs.Scanned.{IsTokenPlace, IsScanned};
 
 use crate::bytes::name_len;
 use crate::scanner::Scanned;
@@ -42,7 +42,7 @@ const KEYWORDS: [(&[u8], Keyword); 25] = [
 // What a table has beside a spelling. The table is a parameter, since goals about a constant repeat
 // all of its rows.
 fn entry<T: Copy>(table: &[(&[u8], T)], text: &[u8]) -> Option<T>
-    ensures { result ≡ tokens.entry (map (λ row. (row.0.now, row.1)) table.now) text.now }
+    ensures { result ≡ tokens.row_for (map (λ row. (row.0.now, row.1)) table.now) text.now }
 {
     for (spelling, value) in table {
         if *spelling == text {
@@ -99,7 +99,7 @@ fn sign_of(text: &[u8]) -> Option<Sign>
 pub(crate) fn name(text: &[u8]) -> Scanned
     requires place { IsTokenPlace text.now }
     requires letter { IsTrue (tokens.is_letter (slice_index text.now 0)) }
-    ensures { Stands text.now result }
+    ensures { IsScanned text.now result }
 {
     let (name, _) = text.split_at(name_len(text));
     match keyword_of(name) {
@@ -131,7 +131,7 @@ pub(crate) fn sign(text: &[u8]) -> Scanned
     requires place { IsTokenPlace text.now }
     requires no_letter { tokens.is_letter (slice_index text.now 0) ≡ false }
     requires no_digit { tokens.is_digit (slice_index text.now 0) ≡ false }
-    ensures { Stands text.now result }
+    ensures { IsScanned text.now result }
 {
     match sign_at(text) {
         Some((sign, len)) => Scanned::Token(TokenKind::Sign(sign), len),

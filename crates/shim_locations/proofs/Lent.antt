@@ -4,14 +4,14 @@ use lib.Dec.{eqb-zero-suc, eqb-suc-zero, eqb-suc-suc}
 use Rattle.shim_base.specs.declared.types.Ty.{Ty}
 use Rattle.shim_base.specs.Paths.{Path}
 use Rattle.shim_process.specs.Locations.{Ownership, Own, Lent, Copy, Location, Locations, at_number, lend_at, kept, moved, with_kept, with_moved}
-use Rattle.shim_process.specs.Arguments.{Argument as ArgumentOf, ByReference, ByCopy, copied, branch_locations}
+use Rattle.shim_process.specs.Arguments.{Argument as ArgumentOf, ByReference, ByCopy, copied_location, branch_locations}
 use Rattle.shim_scopes.specs.declared.tree.UParam.{UParam}
 use Rattle.shim_syntax.specs.declared.tree.Sort.TheVariants as sort
 use Rattle.shim_units.specs.declared.unit.Arg.{Arg}
 use Rattle.shim_units.specs.declared.unit.Arg.TheVariants.{Ref, Pass, Fresh}
 use Rattle.shim_locations.proofs.Given.{nil_of}
 use Rattle.shim_process.specs.Forks.{lent}
-use Rattle.shim_locations.specs.Lendings.{is_taken, lent_at}
+use Rattle.shim_locations.specs.Lendings.{is_lent_out, lent_at}
 
 kept_again : (m : Ownership) → kept (kept m) ≡ kept m
 kept_again Own = refl
@@ -43,9 +43,9 @@ once false true o = refl
 once false false o = refl
 
 -- what is kept at a number
-pub at_lent : (taken : List ℕ) (x : Locations) (n : ℕ) → at_number (lent_at taken x) n ≡ (if is_taken n taken then with_kept (at_number x n) else at_number x n)
+pub at_lent : (taken : List ℕ) (x : Locations) (n : ℕ) → at_number (lent_at taken x) n ≡ (if is_lent_out n taken then with_kept (at_number x n) else at_number x n)
 at_lent [] x n = refl
-at_lent (m ∷ ms) x n = at_lent ms (lend_at x m) n ∙ ap (λ o. if is_taken n ms then with_kept o else o) (at_lend x m n) ∙ once (nat_eq m n) (is_taken n ms) (at_number x n)
+at_lent (m ∷ ms) x n = at_lent ms (lend_at x m) n ∙ ap (λ o. if is_lent_out n ms then with_kept o else o) (at_lend x m n) ∙ once (nat_eq m n) (is_lent_out n ms) (at_number x n)
 
 pub lent_more : (taken : List ℕ) (n : ℕ) (x : Locations) → lent_at (taken ++ n ∷ []) x ≡ lend_at (lent_at taken x) n
 lent_more [] n x = refl
@@ -66,22 +66,22 @@ moved_some false l = refl
 
 -- a branch gets none where there is none
 pub none_moved : (taken : List ℕ) (x : Locations) (n : ℕ) → None ≡ at_number x n → None ≡ with_moved (at_number (lent_at taken x) n)
-none_moved taken x n e = sym (ap with_moved (at_lent taken x n) ∙ ap (λ o. with_moved (if is_taken n taken then with_kept o else o)) (sym e) ∙ moved_none (is_taken n taken))
+none_moved taken x n e = sym (ap with_moved (at_lent taken x n) ∙ ap (λ o. with_moved (if is_lent_out n taken then with_kept o else o)) (sym e) ∙ moved_none (is_lent_out n taken))
 
 -- and else a copy of what was given before, or the location with its ownership
-pub some_moved : (taken : List ℕ) (x : Locations) (n : ℕ) (l : Location) (m : Ownership) → Some l ≡ at_number x n → m ≡ (if is_taken n taken then Copy else moved l.ownership) → Some (record l { ownership = m }) ≡ with_moved (at_number (lent_at taken x) n)
+pub some_moved : (taken : List ℕ) (x : Locations) (n : ℕ) (l : Location) (m : Ownership) → Some l ≡ at_number x n → m ≡ (if is_lent_out n taken then Copy else moved l.ownership) → Some (record l { ownership = m }) ≡ with_moved (at_number (lent_at taken x) n)
 some_moved taken x n l m e em =
     ap (λ k. Some (record l { ownership = k })) em
-    ∙ sym (ap with_moved (at_lent taken x n) ∙ ap (λ o. with_moved (if is_taken n taken then with_kept o else o)) (sym e) ∙ moved_some (is_taken n taken) l)
+    ∙ sym (ap with_moved (at_lent taken x n) ∙ ap (λ o. with_moved (if is_lent_out n taken then with_kept o else o)) (sym e) ∙ moved_some (is_lent_out n taken) l)
 
-copied_kept : (t : Ty) (b : Bool) (o : Option Location) → copied t (if b then with_kept o else o) ≡ copied t o
+copied_kept : (t : Ty) (b : Bool) (o : Option Location) → copied_location t (if b then with_kept o else o) ≡ copied_location t o
 copied_kept t true None = refl
 copied_kept t true (Some l) = refl
 copied_kept t false o = refl
 
 -- a copy doesn't see what was given before
-pub copied_lent : (t : Ty) (taken : List ℕ) (x : Locations) (n : ℕ) → copied t (at_number (lent_at taken x) n) ≡ copied t (at_number x n)
-copied_lent t taken x n = ap (copied t) (at_lent taken x n) ∙ copied_kept t (is_taken n taken) (at_number x n)
+pub copied_lent : (t : Ty) (taken : List ℕ) (x : Locations) (n : ℕ) → copied_location t (at_number (lent_at taken x) n) ≡ copied_location t (at_number x n)
+copied_lent t taken x n = ap (copied_location t) (at_lent taken x n) ∙ copied_kept t (is_lent_out n taken) (at_number x n)
 
 -- the next argument of a branch is by reference, or by copy
 pub one_by_reference : (home : Path) (locations passed more : Locations) (taken after : List ℕ) (made n : ℕ) (location : Option Location) → location ≡ with_moved (at_number (lent_at taken locations) n) → more ≡ passed ++ location ∷ [] → after ≡ taken ++ n ∷ []
@@ -93,7 +93,7 @@ one_by_reference home locations passed more taken after made n location e em ea 
     ∙ append_assoc passed (location ∷ []) (branch_locations home (lend_at (lent_at taken locations) n) made rest)
     ∙ ap (λ k. passed ++ (k ∷ branch_locations home (lend_at (lent_at taken locations) n) made rest)) e
 
-pub one_by_copy : (home : Path) (locations passed more : Locations) (taken : List ℕ) (made n : ℕ) (t : Ty) (location : Option Location) → location ≡ copied t (at_number locations n) → more ≡ passed ++ location ∷ []
+pub one_by_copy : (home : Path) (locations passed more : Locations) (taken : List ℕ) (made n : ℕ) (t : Ty) (location : Option Location) → location ≡ copied_location t (at_number locations n) → more ≡ passed ++ location ∷ []
     → (rest : List ArgumentOf) → more ++ branch_locations home (lent_at taken locations) made rest ≡ passed ++ branch_locations home (lent_at taken locations) made (ByCopy t n ∷ rest)
 one_by_copy home locations passed more taken made n t location e em rest =
     ap (λ m. m ++ branch_locations home (lent_at taken locations) made rest) em

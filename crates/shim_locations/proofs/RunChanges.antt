@@ -5,7 +5,7 @@ use Rattle.std.specs.Prelude.{eqb, nat_le, nat_lt, ◌||◌}
 use Rattle.std.proofs.lemmas.List.{reverse-append, take_at, drop_at, length-take-le}
 use Rattle.std.proofs.lemmas.Bool.{leb-true, ltb-true, eqb-true}
 use Rattle.shim_process.specs.declared.serial_run.SerialRun.{SerialRun}
-use Rattle.shim_process.specs.SerialRuns.{last, is_in_run, is_in_runs, with_serial, run_without, without_serial, without_some, above, below}
+use Rattle.shim_process.specs.SerialRuns.{last_serial, is_in_run, is_in_runs, with_serial, run_without, without_serial, without_some, run_above, run_below}
 use Rattle.shim_base.proofs.Facts.{first_holds, second_holds, some_same, none_some, or_left, or_right}
 use Rattle.shim_locations.specs.Runs.{AreBelow, IsFound}
 use Rattle.shim_locations.proofs.Runs.{AreAbove, one_changes, none_stay, has_turned}
@@ -19,31 +19,31 @@ pub weaker : (a b : ℕ) (rs : List SerialRun) → a ≤ b → AreBelow a rs →
 weaker a b [] le h = tt
 weaker a b (r ∷ rs) le h = let low = h.0 in (omega (arith, low, le), h.1)
 
-with_by : (t : Bool) (b n : ℕ) (r : SerialRun) (rs : List SerialRun) → eqb n (suc (last r)) ≡ t → n < b → last r < n → AreBelow r.first rs
+with_by : (t : Bool) (b n : ℕ) (r : SerialRun) (rs : List SerialRun) → eqb n (suc (last_serial r)) ≡ t → n < b → last_serial r < n → AreBelow r.first rs
     → AreBelow b (cond t (record { first = r.first; more = suc r.more } ∷ rs) (record { first = n; more = 0 } ∷ r ∷ rs))
-with_by true b n r rs e lt low h = let at : n ≡ suc (last r) = eqb-true n (suc (last r)) e in (omega (arith, lt, at), h)
+with_by true b n r rs e lt low h = let at : n ≡ suc (last_serial r) = eqb-true n (suc (last_serial r)) e in (omega (arith, lt, at), h)
 with_by false b n r rs e lt low h = (omega (arith, lt), (low, h))
 
 pub with_below : (b n : ℕ) (rs : List SerialRun) → n < b → AreBelow n rs → AreBelow b (with_serial n rs)
 with_below b n [] lt h = (omega (arith, lt), empty_below n)
-with_below b n (r ∷ rs) lt h = with_by (eqb n (suc (last r))) b n r rs refl lt h.0 h.1
+with_below b n (r ∷ rs) lt h = with_by (eqb n (suc (last_serial r))) b n r rs refl lt h.0 h.1
 
 abbrev upper : ℕ → SerialRun → SerialRun
-upper n r = record { first = suc n; more = last r - suc n }
+upper n r = record { first = suc n; more = last_serial r - suc n }
 
 abbrev lower : ℕ → SerialRun → SerialRun
 lower n r = record { first = r.first; more = n - suc r.first }
 
-parts_below : (hi lo : Bool) (b n : ℕ) (r : SerialRun) (rest : List SerialRun) → nat_lt n (last r) ≡ hi → nat_lt r.first n ≡ lo → r.first ≤ n → n ≤ last r → last r < b → AreBelow r.first rest
+parts_below : (hi lo : Bool) (b n : ℕ) (r : SerialRun) (rest : List SerialRun) → nat_lt n (last_serial r) ≡ hi → nat_lt r.first n ≡ lo → r.first ≤ n → n ≤ last_serial r → last_serial r < b → AreBelow r.first rest
     → AreBelow b ((cond hi (upper n r ∷ []) [] ++ cond lo (lower n r ∷ []) []) ++ rest)
-parts_below true true b n r rest e f least most lt h = let up = ltb-true n (last r) e in let down = ltb-true r.first n f in (omega (arith, up, lt), (omega (arith, down), h))
-parts_below true false b n r rest e f least most lt h = let up = ltb-true n (last r) e in (omega (arith, up, lt), weaker r.first (suc n) rest (omega (arith, least)) h)
+parts_below true true b n r rest e f least most lt h = let up = ltb-true n (last_serial r) e in let down = ltb-true r.first n f in (omega (arith, up, lt), (omega (arith, down), h))
+parts_below true false b n r rest e f least most lt h = let up = ltb-true n (last_serial r) e in (omega (arith, up, lt), weaker r.first (suc n) rest (omega (arith, least)) h)
 parts_below false true b n r rest e f least most lt h = let down = ltb-true r.first n f in (omega (arith, down, most, lt), h)
 parts_below false false b n r rest e f least most lt h = weaker r.first b rest (omega (arith, least, most, lt)) h
 
-run_below_by : (t : Bool) (b n : ℕ) (r : SerialRun) (rest : List SerialRun) → is_in_run n r ≡ t → last r < b → AreBelow r.first rest → AreBelow b (cond t (above n r ++ below n r) (r ∷ []) ++ rest)
+run_below_by : (t : Bool) (b n : ℕ) (r : SerialRun) (rest : List SerialRun) → is_in_run n r ≡ t → last_serial r < b → AreBelow r.first rest → AreBelow b (cond t (run_above n r ++ run_below n r) (r ∷ []) ++ rest)
 run_below_by true b n r rest e lt h =
-    parts_below (nat_lt n (last r)) (nat_lt r.first n) b n r rest refl refl (leb-true r.first n (first_holds (nat_le r.first n) (nat_le n (last r)) e)) (leb-true n (last r) (second_holds (nat_le r.first n) (nat_le n (last r)) e)) lt h
+    parts_below (nat_lt n (last_serial r)) (nat_lt r.first n) b n r rest refl refl (leb-true r.first n (first_holds (nat_le r.first n) (nat_le n (last_serial r)) e)) (leb-true n (last_serial r) (second_holds (nat_le r.first n) (nat_le n (last_serial r)) e)) lt h
 run_below_by false b n r rest e lt h = (lt, h)
 
 pub without_below : (b n : ℕ) (rs : List SerialRun) → AreBelow b rs → AreBelow b (without_serial n rs)
@@ -59,10 +59,10 @@ some_below b (Some n) rs h = without_below b n rs h
 
 -- between the ends of a run
 from_first : (n : ℕ) (r : SerialRun) → is_in_run n r ≡ true → r.first ≤ n
-from_first n r e = leb-true r.first n (first_holds (nat_le r.first n) (nat_le n (last r)) e)
+from_first n r e = leb-true r.first n (first_holds (nat_le r.first n) (nat_le n (last_serial r)) e)
 
-to_last : (n : ℕ) (r : SerialRun) → is_in_run n r ≡ true → n ≤ last r
-to_last n r e = leb-true n (last r) (second_holds (nat_le r.first n) (nat_le n (last r)) e)
+to_last : (n : ℕ) (r : SerialRun) → is_in_run n r ≡ true → n ≤ last_serial r
+to_last n r e = leb-true n (last_serial r) (second_holds (nat_le r.first n) (nat_le n (last_serial r)) e)
 
 -- the look for a run
 
@@ -135,12 +135,12 @@ turned_parts before mid behind =
     ∙ append_assoc (reverse behind) (reverse mid) (reverse before)
 
 -- the run is below the bound
-under : (b : ℕ) (greater : List SerialRun) (r : SerialRun) (rest : List SerialRun) → AreBelow b (greater ++ r ∷ rest) → last r < b
+under : (b : ℕ) (greater : List SerialRun) (r : SerialRun) (rest : List SerialRun) → AreBelow b (greater ++ r ∷ rest) → last_serial r < b
 under b [] r rest h = h.0
 under b (g ∷ gs) r rest h = let low = h.0 in let lt = under g.first gs r rest h.1 in omega (arith, low, lt)
 
 -- those before it are above its numbers
-greater_above : (b n : ℕ) (greater : List SerialRun) (r : SerialRun) (rest : List SerialRun) → n ≤ last r → AreBelow b (greater ++ r ∷ rest) → AreAbove n greater
+greater_above : (b n : ℕ) (greater : List SerialRun) (r : SerialRun) (rest : List SerialRun) → n ≤ last_serial r → AreBelow b (greater ++ r ∷ rest) → AreAbove n greater
 greater_above b n [] r rest le h = tt
 greater_above b n (g ∷ gs) r rest le h = let lt = under g.first gs r rest h.1 in (omega (arith, lt, le), greater_above g.first n gs r rest le h.1)
 
@@ -148,11 +148,11 @@ rest_below : (b : ℕ) (greater : List SerialRun) (r : SerialRun) (rest : List S
 rest_below b [] r rest h = h.1
 rest_below b (g ∷ gs) r rest h = rest_below g.first gs r rest h.1
 
-pub run_ends : (b i : ℕ) (rs : List SerialRun) (r : SerialRun) → slice_get rs i ≡ Some r → AreBelow b (reverse rs) → last r < b
+pub run_ends : (b i : ℕ) (rs : List SerialRun) (r : SerialRun) → slice_get rs i ≡ Some r → AreBelow b (reverse rs) → last_serial r < b
 run_ends b i rs r e h = under b (reverse (drop (i + 1) rs)) r (reverse (take i rs)) (subst (AreBelow b) (ap reverse (around_it i rs r e) ∙ turned_around (take i rs) r (drop (i + 1) rs)) h)
 
-parts_of : (n : ℕ) (r : SerialRun) → is_in_run n r ≡ true → above n r ++ below n r ≡ run_without n r
-parts_of n r e = ap (λ b. cond b (above n r ++ below n r) (r ∷ [])) (sym e)
+parts_of : (n : ℕ) (r : SerialRun) → is_in_run n r ≡ true → run_above n r ++ run_below n r ≡ run_without n r
+parts_of n r e = ap (λ b. cond b (run_above n r ++ run_below n r) (r ∷ [])) (sym e)
 
 one_turned : (o : Option SerialRun) → reverse (option_to_list o) ≡ option_to_list o
 one_turned None = refl
@@ -180,7 +180,7 @@ put_in i rs removed once new low high le e f g =
     ∙ ap (λ l. take i rs ++ l) (sym (append_assoc (option_to_list low) (option_to_list high) behind))
 
 pub taken_from : (b n i : ℕ) (rs removed once new : List SerialRun) (r : SerialRun) (low high : Option SerialRun) → slice_get rs i ≡ Some r → is_in_run n r ≡ true → AreBelow b (reverse rs)
-    → option_to_list high ≡ above n r → option_to_list low ≡ below n r
+    → option_to_list high ≡ run_above n r → option_to_list low ≡ run_below n r
     → removed ≡ take i rs ++ drop (i + 1) rs → once ≡ take i removed ++ (option_to_list high ++ drop i removed) → new ≡ take i once ++ (option_to_list low ++ drop i once)
     → reverse new ≡ without_serial n (reverse rs)
 taken_from b n i rs removed once new r low high at has order up down e f g =
@@ -191,7 +191,7 @@ taken_from b n i rs removed once new r low high at has order up down e f g =
     let sorted : AreBelow b (reverse behind ++ r ∷ reverse before) = subst (AreBelow b) whole order in
     ap reverse (put_in i rs removed once new low high (omega (arith, lt)) e f g)
     ∙ turned_parts before (option_to_list low ++ option_to_list high) behind
-    ∙ ap (λ l. reverse behind ++ (l ++ reverse before)) (mid_turned low high ∙ ap (λ l. l ++ option_to_list low) up ∙ ap (λ l. above n r ++ l) down ∙ parts_of n r has)
+    ∙ ap (λ l. reverse behind ++ (l ++ reverse before)) (mid_turned low high ∙ ap (λ l. l ++ option_to_list low) up ∙ ap (λ l. run_above n r ++ l) down ∙ parts_of n r has)
     ∙ sym (ap (without_serial n) whole ∙ one_changes n (reverse behind) r (reverse before) (greater_above b n (reverse behind) r (reverse before) (to_last n r has) sorted) (from_first n r has) (rest_below b (reverse behind) r (reverse before) sorted))
 
 -- there is no such number

@@ -4,7 +4,7 @@ use Rattle.std.specs.Prelude.{nat_le}
 use Rattle.std.proofs.lemmas.List.{reverse-append}
 use Rattle.std.proofs.lemmas.Bool.{leb-true}
 use Rattle.shim_process.specs.declared.serial_run.SerialRun.{SerialRun}
-use Rattle.shim_process.specs.SerialRuns.{last, is_in_run, is_in_runs, run_without, without_serial, above, below}
+use Rattle.shim_process.specs.SerialRuns.{last_serial, is_in_run, is_in_runs, run_without, without_serial, run_above, run_below}
 use Rattle.shim_base.proofs.Facts.{first_holds, second_holds}
 use Rattle.shim_locations.specs.Runs.{AreBelow}
 
@@ -13,7 +13,7 @@ without_both n [] ss = refl
 without_both n (r ∷ rs) ss = ap (λ l. run_without n r ++ l) (without_both n rs ss) ∙ sym (append_assoc (run_without n r) (without_serial n rs) (without_serial n ss))
 
 -- a run that hasn't the number stays
-stays_by : (b : Bool) (n : ℕ) (r : SerialRun) → (b ≡ true → ⊥) → cond b (above n r ++ below n r) (r ∷ []) ≡ r ∷ []
+stays_by : (b : Bool) (n : ℕ) (r : SerialRun) → (b ≡ true → ⊥) → cond b (run_above n r ++ run_below n r) (r ∷ []) ≡ r ∷ []
 stays_by true n r none = absurd (none refl)
 stays_by false n r none = refl
 
@@ -40,14 +40,14 @@ pub above_stay : (n : ℕ) (rs : List SerialRun) → AreAbove n rs → without_s
 above_stay n [] h = refl
 above_stay n (r ∷ rs) h =
     let low = h.0 in
-    ap (λ l. l ++ without_serial n rs) (run_stays n r (λ e. let least = leb-true r.first n (first_holds (nat_le r.first n) (nat_le n (last r)) e) in omega (arith, low, least)))
+    ap (λ l. l ++ without_serial n rs) (run_stays n r (λ e. let least = leb-true r.first n (first_holds (nat_le r.first n) (nat_le n (last_serial r)) e) in omega (arith, low, least)))
     ∙ ap (λ l. r ∷ l) (above_stay n rs h.1)
 
 pub below_stay : (n bound : ℕ) (rs : List SerialRun) → bound ≤ n → AreBelow bound rs → without_serial n rs ≡ rs
 below_stay n bound [] le h = refl
 below_stay n bound (r ∷ rs) le h =
     let high = h.0 in
-    ap (λ l. l ++ without_serial n rs) (run_stays n r (λ e. let most = leb-true n (last r) (second_holds (nat_le r.first n) (nat_le n (last r)) e) in omega (arith, high, most, le)))
+    ap (λ l. l ++ without_serial n rs) (run_stays n r (λ e. let most = leb-true n (last_serial r) (second_holds (nat_le r.first n) (nat_le n (last_serial r)) e) in omega (arith, high, most, le)))
     ∙ ap (λ l. r ∷ l) (below_stay n r.first rs (omega (arith, high, le)) h.1)
 
 -- of runs in order only the first that begins at the number or below it changes

@@ -13,10 +13,10 @@ Gives (Ok given) meant = meant ≡ Ok (arguments_of given)
 Gives (Err (Trapped t)) meant = meant ≡ Err t
 Gives (Err NoMemory) meant = Unit {0}
 
-abbrev pub one_of : Result Argument Trap → Result ArgumentOf Trap
-one_of (Ok a) = Ok (argument_of a)
-one_of (Err t) = Err t
+abbrev pub argument_result : Result Argument Trap → Result ArgumentOf Trap
+argument_result (Ok a) = Ok (argument_of a)
+argument_result (Err t) = Err t
 
 -- these, and then others
-abbrev pub behind : List Argument → Result (List ArgumentOf) Trap → Result (List ArgumentOf) Trap
-behind given rest = on_value (λ others. Ok (arguments_of given ++ others)) rest
+abbrev pub arguments_before : List Argument → Result (List ArgumentOf) Trap → Result (List ArgumentOf) Trap
+arguments_before given rest = on_value (λ others. Ok (arguments_of given ++ others)) rest

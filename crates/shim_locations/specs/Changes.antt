@@ -4,13 +4,13 @@ use Rattle.shim_base.specs.Value.{stored}
 use Rattle.shim_process.specs.Locations.{Location, kept, regained}
 
 -- the value is stored by its type
-abbrev pub valued : ℤ → Location → Location
-valued v l = record l { value = stored l.ty v }
+abbrev pub with_stored : ℤ → Location → Location
+with_stored v l = record l { value = stored l.ty v }
 
 -- what is kept of it
-abbrev pub keeping : Location → Location
-keeping l = record l { ownership = kept l.ownership }
+abbrev pub kept_location : Location → Location
+kept_location l = record l { ownership = kept l.ownership }
 
 -- the value and the ownership of another one come back
-abbrev pub returned : Location → Location → Location
-returned back l = record l { value = back.value; ownership = regained back.ownership l.ownership }
+abbrev pub given_back : Location → Location → Location
+given_back back l = record l { value = back.value; ownership = regained back.ownership l.ownership }

@@ -5,9 +5,9 @@ use Rattle.shim_process.specs.LocalState.{LocalState}
 use Rattle.shim_locations.specs.declared.remainder.Remainder.{Remainder}
 
 -- the number is one of these
-abbrev pub is_taken : ℕ → List ℕ → Bool
-is_taken n [] = false
-is_taken n (m ∷ ms) = nat_eq m n || is_taken n ms
+abbrev pub is_lent_out : ℕ → List ℕ → Bool
+is_lent_out n [] = false
+is_lent_out n (m ∷ ms) = nat_eq m n || is_lent_out n ms
 
 -- what is kept where the locations of these numbers were given by reference, one after another
 abbrev pub lent_at : List ℕ → Locations → Locations

@@ -1,7 +1,7 @@
 -- Runs of serial numbers that are kept in order, with room for takes.
 use Rattle.std.specs.Prelude.{◌≡◌, ◌<◌, ◌≤◌, ℕ, ◌+◌, true, List, [], ◌∷◌, Some, slice_get}
 use Rattle.shim_process.specs.declared.serial_run.SerialRun.{SerialRun}
-use Rattle.shim_process.specs.SerialRuns.{last, is_in_run}
+use Rattle.shim_process.specs.SerialRuns.{last_serial, is_in_run}
 
 -- the greatest run first, and how many can be added or taken before memory is needed
 pub record RunsView : Type 0 where
@@ -11,11 +11,11 @@ pub record RunsView : Type 0 where
 -- each run ends below the one before it, and the first one below this number
 abbrev pub AreBelow : ℕ → List SerialRun → Type 0
 AreBelow bound [] = Unit {0}
-AreBelow bound (r ∷ rs) = (last r < bound) × AreBelow r.first rs
+AreBelow bound (r ∷ rs) = (last_serial r < bound) × AreBelow r.first rs
 
 -- a take may split a run
-abbrev pub IsWithin : ℕ → ℕ → ℕ → Type 0
-IsWithin many room capacity = many + room ≤ capacity
+abbrev pub HasCapacity : ℕ → ℕ → ℕ → Type 0
+HasCapacity many room capacity = many + room ≤ capacity
 
 -- the run of this index is this one, and has the number
 abbrev pub IsFound : ℕ → List SerialRun → ℕ → SerialRun → Type 0

@@ -3,7 +3,7 @@ ghost use Rattle.std.specs.Prelude.{◌≡◌, ◌++◌, ◌≤◌, length, IfOk
 ghost use Rattle.shim_process.specs.Arguments as passing;
 ghost use Rattle.shim_process.specs.LocalState.{type_of};
 ghost use Rattle.shim_locations.specs.Given.{arguments_of};
-ghost use Rattle.shim_locations.specs.ArgumentFaults.{Gives, one_of};
+ghost use Rattle.shim_locations.specs.ArgumentFaults.{Gives, argument_result};
 
 use crate::argument::Argument;
 use crate::argument_fault::ArgumentFault;
@@ -31,7 +31,7 @@ fn argument(
     param: &UParam,
     arg: &Arg,
 ) -> Result<Argument, Trap>
-    ensures { one_of result ≡ passing.argument locations.now slots.now param.now arg.now }
+    ensures { argument_result result ≡ passing.argument locations.now slots.now param.now arg.now }
 {
     match arg {
         Arg::Ref(slot) => Ok(Argument::ByReference(number_of(slots, *slot))),

@@ -2,7 +2,7 @@
 ghost use Rattle.std.specs.Prelude.{◌≡◌, IfOk};
 ghost use Rattle.shim_base.specs.Value.{stored};
 ghost use Rattle.shim_process.specs.Locations.{Own, Copy, is_own};
-ghost use Rattle.shim_locations.specs.Changes.{keeping, returned, valued};
+ghost use Rattle.shim_locations.specs.Changes.{kept_location, given_back, with_stored};
 ghost use Rattle.shim_locations.specs.Ownerships.{ownership_of};
 
 use crate::ownership::{Ownership, is_own, kept, regained};
@@ -75,21 +75,25 @@ impl Location {
 
     /// The value is stored by its type.
     pub fn set(&mut self, value: i64)
-        ensures { self.new ≡ valued value self.old }
+        ensures { self.new ≡ with_stored value self.old }
     {
-        self.value = store(self.ty, value);
+        self.value = match self.ty {
+            // Most variables are of this type: a test of it alone is cheaper than a jump by all types.
+            Ty::Int32 => store(Ty::Int32, value),
+            ty => store(ty, value),
+        };
     }
 
     /// A branch takes it by reference: if it is its channel's own variable, it is lent.
     pub fn lend(&mut self)
-        ensures { self.new ≡ keeping self.old }
+        ensures { self.new ≡ kept_location self.old }
     {
         self.ownership = kept(self.ownership);
     }
 
     /// The value and the ownership of another one come back.
     pub fn take_back(&mut self, other: &Location)
-        ensures { self.new ≡ returned other.now self.old }
+        ensures { self.new ≡ given_back other.now self.old }
     {
         self.value = other.value;
         self.ownership = regained(other.ownership, self.ownership);

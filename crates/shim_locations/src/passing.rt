@@ -1,7 +1,7 @@
 // The locations and the slots that a call or a branch makes for its arguments.
 ghost use Rattle.std.specs.Prelude.{◌≡◌, ◌∷◌, ◌++◌, ◌+◌, [], List as ListOf, Some, if◌then◌else◌, IfOk, OnOk};
 ghost use Rattle.std.specs.Arc.{arc_value};
-ghost use Rattle.shim_process.specs.Arguments.{Argument as ArgumentOf, copied, new_location, branch_locations, call_locations, channels_of, empties, new_channels};
+ghost use Rattle.shim_process.specs.Arguments.{Argument as ArgumentOf, copied_location, new_location, branch_locations, call_locations, channels_of, empties, new_channels};
 ghost use Rattle.shim_process.specs.Locations.{Copy, at_number, moved, with_moved};
 ghost use Rattle.shim_locations.specs.Given.{argument_of, arguments_of};
 ghost use Rattle.shim_locations.specs.Lendings.{lent_at};
@@ -11,7 +11,7 @@ use crate::argument::Argument;
 use crate::location::Location;
 use crate::locations::location_at;
 use crate::ownership::{Ownership, moved as moved_ownership};
-use crate::remainder::is_taken;
+use crate::remainder::is_lent_out;
 use shim_base::{Chan, List, NoMemory, Path, Ty};
 use shim_syntax::Sort;
 use std::alloc::Global;
@@ -30,7 +30,7 @@ fn copied(
     number: usize,
     ty: Ty,
 ) -> Result<Option<Location>, NoMemory>
-    ensures { IfOk result (λ location. location ≡ copied ty (at_number locations.now number)) }
+    ensures { IfOk result (λ location. location ≡ copied_location ty (at_number locations.now number)) }
 {
     match location_at(locations, number) {
         None => Ok(None),
@@ -135,7 +135,7 @@ fn moved(
     match location_at(locations, number) {
         None => Ok(None),
         Some(location) => {
-            let ownership = ownership_there(location.ownership(), is_taken(number, taken));
+            let ownership = ownership_there(location.ownership(), is_lent_out(number, taken));
             Ok(Some(location.with_ownership(ownership)?))
         }
     }

@@ -5,7 +5,7 @@ ghost use Rattle.shim_process.specs.Forks.{lent, lent_by, takes_input, takes_out
 ghost use Rattle.shim_process.specs.Locations.{Locations};
 ghost use Rattle.shim_scopes.specs.declared.tree.UParam.{UParam};
 ghost use Rattle.shim_locations.specs.Given.{argument_of, arguments_of};
-ghost use Rattle.shim_locations.specs.Lendings.{is_taken, lent_at};
+ghost use Rattle.shim_locations.specs.Lendings.{is_lent_out, lent_at};
 
 use crate::argument::Argument;
 use crate::locations::number_of;
@@ -26,8 +26,8 @@ pub struct Remainder {
 }
 
 /// Whether the number is one of these.
-pub fn is_taken(number: usize, taken: &[usize]) -> bool
-    ensures { result ≡ is_taken number taken.now }
+pub fn is_lent_out(number: usize, taken: &[usize]) -> bool
+    ensures { result ≡ is_lent_out number taken.now }
 {
     for one in taken {
         if *one == number {

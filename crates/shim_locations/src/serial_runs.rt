@@ -1,7 +1,7 @@
 // The serial numbers of channels that no handler has taken.
 ghost use Rattle.std.specs.Prelude.{◌≡◌, ◌<◌, ◌≤◌, ◌+◌, ◌-◌, ◌^◌, suc, eqb, true, false, [], ◌++◌, take, drop, reverse, None, MatchOption, vec_len, vec_capacity, IfOk, OnOk, OnErr, OnSome};
 ghost use Rattle.std.specs.Option.{option_to_list};
-ghost use Rattle.shim_process.specs.SerialRuns.{last, is_in_run, is_in_runs, with_serial, without_serial, without_some, above, below};
+ghost use Rattle.shim_process.specs.SerialRuns.{last_serial, is_in_run, is_in_runs, with_serial, without_serial, without_some, run_above, run_below};
 ghost use Rattle.shim_locations.specs.Runs.{AreBelow, IsFound};
 
 use shim_base::NoMemory;
@@ -19,13 +19,13 @@ pub struct SerialRuns {
 
 impl Model for SerialRuns {
     ghost use Rattle.std.specs.Prelude.{reverse, ◌^◌, vec_len, vec_capacity};
-    ghost use Rattle.shim_locations.specs.Runs.{RunsView, AreBelow, IsWithin};
+    ghost use Rattle.shim_locations.specs.Runs.{RunsView, AreBelow, HasCapacity};
 
     ghost Value = { RunsView };
 
     ghost view = { λ c. record { runs = reverse c.runs.items; room = c.room } };
 
-    ghost invariant = { λ c. IsWithin (vec_len c.runs) c.room (vec_capacity c.runs) × AreBelow (2 ^ 32) (reverse c.runs.items) };
+    ghost invariant = { λ c. HasCapacity (vec_len c.runs) c.room (vec_capacity c.runs) × AreBelow (2 ^ 32) (reverse c.runs.items) };
 }
 
 impl SerialRuns {
@@ -120,8 +120,8 @@ impl SerialRuns {
 
 // The number stands right behind this run.
 fn follows(run: SerialRun, serial: u32) -> bool
-    requires { last run < serial }
-    ensures { result ≡ eqb serial (suc (last run)) }
+    requires { last_serial run < serial }
+    ensures { result ≡ eqb serial (suc (last_serial run)) }
 {
     serial - run.first - 1 == run.more
 }
@@ -157,8 +157,8 @@ fn push_serial(runs: &mut Vec<SerialRun>, serial: u32)
 // What a run has above one of its numbers.
 fn above(run: SerialRun, serial: u32) -> Option<SerialRun>
     requires inside { is_in_run serial run ≡ true }
-    requires bound { last run < 2 ^ 32 }
-    ensures { option_to_list result ≡ above serial run }
+    requires bound { last_serial run < 2 ^ 32 }
+    ensures { option_to_list result ≡ run_above serial run }
 {
     let many = run.more - (serial - run.first);
     if many == 0 {
@@ -173,7 +173,7 @@ fn above(run: SerialRun, serial: u32) -> Option<SerialRun>
 // What it has below it.
 fn below(run: SerialRun, serial: u32) -> Option<SerialRun>
     requires { is_in_run serial run ≡ true }
-    ensures { option_to_list result ≡ below serial run }
+    ensures { option_to_list result ≡ run_below serial run }
 {
     let many = serial - run.first;
     if many == 0 {

@@ -18,8 +18,8 @@ use Rattle.shim_code.specs.declared.instr.MarkKind.{MarkKind}
 use Rattle.shim_code.specs.declared.instr.MarkKind.TheVariants as kind
 use Rattle.shim_code.specs.declared.machine_instr.MachineInstr.{MachineInstr}
 use Rattle.shim_code.specs.declared.machine_instr.MachineInstr.TheVariants.{Num, Var, Un, Bin, Bool, Jump, JumpZ, Declare, Set, Get, Put, Next, Ref, Pass, Fresh, Call, Branch, Fork, Untry, Throw, End}
-use Rattle.shim_code.specs.Layout.{all, arms, behind, loop, one}
-use Rattle.shim_code.specs.MachineCode.{MachineCode, begins, begun, callee_of, first_name, first_sort, machine_arg, machine_args, machine_branch, machine_branches, machine_call, machine_expr, machine_expr_or, machine_expr_step, machine_fork, machine_looped, machine_marked, machine_stmt, machine_stmts, machine_unit, numbered, params_in, statements_in, try_instr, with_number}
+use Rattle.shim_code.specs.Layout.{all, arms, sequence, loop, one}
+use Rattle.shim_code.specs.MachineCode.{MachineCode, begin_mark, begun, callee_of, first_name, first_sort, machine_arg, machine_args, machine_branch, machine_branches, machine_call, machine_expr, machine_expr_or, machine_expr_step, machine_fork, machine_looped, machine_marked, machine_stmt, machine_stmts, machine_unit, numbered, params_in, statements_in, try_instr, with_number}
 use Rattle.shim_machine.specs.Machine.{CodedUnit, fetch}
 use Rattle.shim_machine.specs.Stands.{HasAt, kind_code}
 use Rattle.shim_machine.specs.StackHeights.{HasHeight, height_after, height_at, height_of}
@@ -95,11 +95,11 @@ module _ (u : CodedUnit) where
   num_rises v n pc h has e = (next pc (Num v) has.0 ∙ ap (λ h. h + 1) e, (tt, tt))
 
   -- an instruction that leaves a number in place of one
-  same_rises : (c : MachineCode) (i : MachineInstr) → ((p m : ℕ) → 1 ≤ H p → HasHeight u p (with_number m i)) → ((h m : ℕ) → height_after h (with_number m i) ≡ h) → Rises 1 c → Rises 1 (behind c (one i))
+  same_rises : (c : MachineCode) (i : MachineInstr) → ((p m : ℕ) → 1 ≤ H p → HasHeight u p (with_number m i)) → ((h m : ℕ) → height_after h (with_number m i) ≡ h) → Rises 1 c → Rises 1 (sequence c (one i))
   same_rises c i fits is r n pc h has e =
       then_one n pc (h + 1) (h + 1) (c pc) i has (r n pc h (has_front u n pc (c pc) (i ∷ []) has) e) (λ p m e. fits p m (let z : 1 ≤ H p = omega (arith, e) in z)) (is (h + 1))
 
-  operator : (op : BinOp) (a b : Such) → Rises 1 (behind (machine_expr a.0) (behind (machine_expr b.0) (one (Bin op))))
+  operator : (op : BinOp) (a b : Such) → Rises 1 (sequence (machine_expr a.0) (sequence (machine_expr b.0) (one (Bin op))))
   operator op a b n pc h has e =
       let ca = machine_expr a.0 pc in
       let at = pc + length ca in
@@ -135,7 +135,7 @@ module _ (u : CodedUnit) where
       let z : pc + length (arms Jump JumpZ a b pc) ≡ end = omega (arith, length-append ca (Jump end ∷ cb)) in
       (ap H z ∙ lb.0, (to_second, both n0 (pc + 1) ca (Jump end ∷ cb) la.1 (to_end, lb.1)))
 
-  chosen : (c : Such) (a b : MachineCode) → Rises 1 a → Rises 1 b → Rises 1 (behind (machine_expr c.0) (arms Jump JumpZ a b))
+  chosen : (c : Such) (a b : MachineCode) → Rises 1 a → Rises 1 b → Rises 1 (sequence (machine_expr c.0) (arms Jump JumpZ a b))
   chosen c a b ra rb n pc h has e =
       let ce = machine_expr c.0 pc in
       let at = pc + length ce in
@@ -143,15 +143,15 @@ module _ (u : CodedUnit) where
       let less : h + 1 - 1 ≡ h = omega arith in
       then_more n pc (h + 1) ce (arms Jump JumpZ a b at) lc.1 (arms_leave a b h (h + 1) (λ n pc has e. ra n pc h has e) (λ n pc has e. rb n pc h has e) less (n + statements_in ce) at (has_back u n pc ce (arms Jump JumpZ a b at) has) lc.0)
 
-  as_truth : (b : Such) → Rises 1 (behind (machine_expr b.0) (one Bool))
+  as_truth : (b : Such) → Rises 1 (sequence (machine_expr b.0) (one Bool))
   as_truth b = same_rises (machine_expr b.0) Bool (λ p m e. e) (λ h m. refl) b.1
 
   by_kind : (y : UExpr-F Such) → layer (bare y)
   by_kind (UExpr-F.Number v) n pc h has e = num_rises v n pc h has e
   by_kind (UExpr-F.Var x) n pc h has e = (next pc (Var x) has.0 ∙ ap (λ h. h + 1) e, (tt, tt))
   by_kind (UExpr-F.Unary op a) n pc h has e = same_rises (machine_expr a.0) (Un op) (λ p m e. e) (λ h m. refl) a.1 n pc h has e
-  by_kind (UExpr-F.Binary And a b) n pc h has e = chosen a (behind (machine_expr b.0) (one Bool)) (one (Num (pos 0))) (as_truth b) (num_rises (pos 0)) n pc h has e
-  by_kind (UExpr-F.Binary Or a b) n pc h has e = chosen a (one (Num (pos 1))) (behind (machine_expr b.0) (one Bool)) (num_rises (pos 1)) (as_truth b) n pc h has e
+  by_kind (UExpr-F.Binary And a b) n pc h has e = chosen a (sequence (machine_expr b.0) (one Bool)) (one (Num (pos 0))) (as_truth b) (num_rises (pos 0)) n pc h has e
+  by_kind (UExpr-F.Binary Or a b) n pc h has e = chosen a (one (Num (pos 1))) (sequence (machine_expr b.0) (one Bool)) (num_rises (pos 1)) (as_truth b) n pc h has e
   by_kind (UExpr-F.Binary Mul a b) n pc h has e = operator Mul a b n pc h has e
   by_kind (UExpr-F.Binary Div a b) n pc h has e = operator Div a b n pc h has e
   by_kind (UExpr-F.Binary Rem a b) n pc h has e = operator Rem a b n pc h has e
@@ -183,10 +183,10 @@ module _ (u : CodedUnit) where
   Level c = Between 0 0 c
 
   -- an expression and an instruction that takes its value off
-  takes : (c : MachineCode) (i : MachineInstr) → ((p m : ℕ) → H p ≡ 1 → HasHeight u p (with_number m i)) → ((m : ℕ) → height_after 1 (with_number m i) ≡ 0) → Rises 1 c → Level (behind c (one i))
+  takes : (c : MachineCode) (i : MachineInstr) → ((p m : ℕ) → H p ≡ 1 → HasHeight u p (with_number m i)) → ((m : ℕ) → height_after 1 (with_number m i) ≡ 0) → Rises 1 c → Level (sequence c (one i))
   takes c i fits is r n pc has e = then_one n pc 1 0 (c pc) i has (r n pc 0 (has_front u n pc (c pc) (i ∷ []) has) e) fits is
 
-  behind_level : (a b : MachineCode) → Level a → Level b → Level (behind a b)
+  behind_level : (a b : MachineCode) → Level a → Level b → Level (sequence a b)
   behind_level a b la lb n pc has e =
       let ca = a pc in
       let at = pc + length ca in
@@ -219,13 +219,13 @@ module _ (u : CodedUnit) where
   -- behind a mark
   marked : (k : MarkKind) (line : ℕ) (half : TruthValue) (c : MachineCode) → Level c → Level (machine_marked k line half c)
   marked k line half c l n pc has e =
-      let m = n + begun (begins k line half) in
-      let inner = l m (pc + 1) has.1 (next pc (with_number n (begins k line half)) has.0 ∙ e) in
-      let z : pc + length (begins k line half ∷ c (pc + 1)) ≡ pc + 1 + length (c (pc + 1)) = omega arith in
+      let m = n + begun (begin_mark k line half) in
+      let inner = l m (pc + 1) has.1 (next pc (with_number n (begin_mark k line half)) has.0 ∙ e) in
+      let z : pc + length (begin_mark k line half ∷ c (pc + 1)) ≡ pc + 1 + length (c (pc + 1)) = omega arith in
       (ap H z ∙ inner.0, (e, inner.1))
 
   -- a test and two pieces
-  tested : (c a b : MachineCode) → Rises 1 c → Level a → Level b → Level (behind c (arms Jump JumpZ a b))
+  tested : (c a b : MachineCode) → Rises 1 c → Level a → Level b → Level (sequence c (arms Jump JumpZ a b))
   tested c a b rc la lb n pc has e =
       let t = c pc in
       let at = pc + length t in
@@ -234,7 +234,7 @@ module _ (u : CodedUnit) where
       then_more n pc 0 t (arms Jump JumpZ a b at) lc.1 (arms_leave a b 0 0 la lb less (n + statements_in t) at (has_back u n pc t (arms Jump JumpZ a b at) has) lc.0)
 
   -- a test and a body, with the way back to a place where the stack is empty
-  looped : (start : ℕ) (c body : MachineCode) → H start ≡ 0 → Rises 1 c → Level body → Level (behind c (loop Jump JumpZ start body))
+  looped : (start : ℕ) (c body : MachineCode) → H start ≡ 0 → Rises 1 c → Level body → Level (sequence c (loop Jump JumpZ start body))
   looped start c body begun_at rc lb n pc has e =
       let t = c pc in
       let at = pc + length t in
@@ -259,16 +259,16 @@ module _ (u : CodedUnit) where
 
   loop_level : (line : ℕ) (c body : MachineCode) → Rises 1 c → Level body → Level (machine_looped line c body)
   loop_level line c body rc lb n pc has e =
-      let i = begins kind.Quiet line false in
-      let rest = behind c (loop Jump JumpZ pc body) (pc + 1) in
+      let i = begin_mark kind.Quiet line false in
+      let rest = sequence c (loop Jump JumpZ pc body) (pc + 1) in
       let inner = looped pc c body e rc lb (n + begun i) (pc + 1) has.1 (next pc (with_number n i) has.0 ∙ e) in
       let z : pc + length (i ∷ rest) ≡ pc + 1 + length rest = omega arith in
       (ap H z ∙ inner.0, (e, inner.1))
 
   -- the block of a `try`, and its handler
-  try_level : (x : ℕ) (y : Option ℕ) (a b : MachineCode) → Level a → Level b → Level (arms Jump (λ h. try_instr h x y) (behind a (one Untry)) b)
+  try_level : (x : ℕ) (y : Option ℕ) (a b : MachineCode) → Level a → Level b → Level (arms Jump (λ h. try_instr h x y) (sequence a (one Untry)) b)
   try_level x y a b la lb n pc has e =
-      let body = behind a (one Untry) in
+      let body = sequence a (one Untry) in
       let ca = body (pc + 1) in
       let jump = pc + 1 + length ca in
       let second = jump + 1 in
@@ -309,7 +309,7 @@ module _ (u : CodedUnit) where
   such_level [] = none_level
   such_level (s ∷ ss) = behind_level (machine_stmt u.units s.0) (machine_stmts u.units (plain ss)) s.1 (such_level ss)
 
-  store_level : (c : MachineCode) (x : ℕ) → Rises 1 c → Level (behind c (one (Set x)))
+  store_level : (c : MachineCode) (x : ℕ) → Rises 1 c → Level (sequence c (one (Set x)))
   store_level c x r = takes c (Set x) (λ p m e. let z : 1 ≤ H p = omega (arith, e) in z) (λ m. refl) r
 
   next_level : (x : ℕ) → Level (one (Next x))
@@ -325,21 +325,21 @@ module _ (u : CodedUnit) where
   KindLevel x = (l : ℕ) → Level (kind_code u.units x l)
 
   kind_level : (y : UWhat-F SuchWhat SuchStmt) → KindLevel (bare_what y)
-  kind_level (UWhat-F.Declare t x e) l = marked kind.Quiet l false (behind (machine_expr_or (pos 0) e) (one (Declare t x))) (takes (machine_expr_or (pos 0) e) (Declare t x) (λ p m e. let z : 1 ≤ H p = omega (arith, e) in z) (λ m. refl) (option_rises (pos 0) e))
-  kind_level (UWhat-F.Assign x e) l = marked kind.Quiet l false (behind (machine_expr e) (one (Set x))) (store_level (machine_expr e) x (expr_rises e))
+  kind_level (UWhat-F.Declare t x e) l = marked kind.Quiet l false (sequence (machine_expr_or (pos 0) e) (one (Declare t x))) (takes (machine_expr_or (pos 0) e) (Declare t x) (λ p m e. let z : 1 ≤ H p = omega (arith, e) in z) (λ m. refl) (option_rises (pos 0) e))
+  kind_level (UWhat-F.Assign x e) l = marked kind.Quiet l false (sequence (machine_expr e) (one (Set x))) (store_level (machine_expr e) x (expr_rises e))
   kind_level (UWhat-F.Next x) l = marked kind.Next l false (one (Next x)) (next_level x)
   kind_level (UWhat-F.NextAssign x e) l =
-      behind_level (machine_marked kind.Quiet l false (behind (machine_expr e) (one (Set x)))) (machine_marked kind.Next l true (one (Next x)))
-      (marked kind.Quiet l false (behind (machine_expr e) (one (Set x))) (store_level (machine_expr e) x (expr_rises e))) (marked kind.Next l true (one (Next x)) (next_level x))
+      behind_level (machine_marked kind.Quiet l false (sequence (machine_expr e) (one (Set x)))) (machine_marked kind.Next l true (one (Next x)))
+      (marked kind.Quiet l false (sequence (machine_expr e) (one (Set x))) (store_level (machine_expr e) x (expr_rises e))) (marked kind.Next l true (one (Next x)) (next_level x))
   kind_level (UWhat-F.AssignNext x y) l =
-      behind_level (machine_marked kind.Next l false (one (Next y))) (machine_marked kind.Quiet l true (behind (one (Var y)) (one (Set x))))
-      (marked kind.Next l false (one (Next y)) (next_level y)) (marked kind.Quiet l true (behind (one (Var y)) (one (Set x))) (store_level (one (Var y)) x (var_rises y)))
-  kind_level (UWhat-F.Get x i) l = marked kind.Quiet l false (behind (one (Get i)) (one (Set x))) (store_level (one (Get i)) x (get_rises i))
-  kind_level (UWhat-F.Put o e) l = marked kind.Put l false (behind (machine_expr e) (one (Put o))) (takes (machine_expr e) (Put o) (λ p m e. let z : 1 ≤ H p = omega (arith, e) in z) (λ m. refl) (expr_rises e))
-  kind_level (UWhat-F.If e a b) l = marked kind.Quiet l false (behind (machine_expr e) (arms Jump JumpZ (machine_stmts u.units (plain a)) (machine_stmts u.units (plain b)))) (tested (machine_expr e) (machine_stmts u.units (plain a)) (machine_stmts u.units (plain b)) (expr_rises e) (such_level a) (such_level b))
+      behind_level (machine_marked kind.Next l false (one (Next y))) (machine_marked kind.Quiet l true (sequence (one (Var y)) (one (Set x))))
+      (marked kind.Next l false (one (Next y)) (next_level y)) (marked kind.Quiet l true (sequence (one (Var y)) (one (Set x))) (store_level (one (Var y)) x (var_rises y)))
+  kind_level (UWhat-F.Get x i) l = marked kind.Quiet l false (sequence (one (Get i)) (one (Set x))) (store_level (one (Get i)) x (get_rises i))
+  kind_level (UWhat-F.Put o e) l = marked kind.Put l false (sequence (machine_expr e) (one (Put o))) (takes (machine_expr e) (Put o) (λ p m e. let z : 1 ≤ H p = omega (arith, e) in z) (λ m. refl) (expr_rises e))
+  kind_level (UWhat-F.If e a b) l = marked kind.Quiet l false (sequence (machine_expr e) (arms Jump JumpZ (machine_stmts u.units (plain a)) (machine_stmts u.units (plain b)))) (tested (machine_expr e) (machine_stmts u.units (plain a)) (machine_stmts u.units (plain b)) (expr_rises e) (such_level a) (such_level b))
   kind_level (UWhat-F.While e a) l = loop_level l (machine_expr e) (machine_stmts u.units (plain a)) (expr_rises e) (such_level a)
   kind_level (UWhat-F.For first e step body) l =
-      let ms = behind (machine_stmts u.units (plain body)) (machine_stmts u.units (plain step)) in
+      let ms = sequence (machine_stmts u.units (plain body)) (machine_stmts u.units (plain step)) in
       behind_level (machine_stmts u.units (plain first)) (machine_looped l (machine_expr_or (pos 1) e) ms) (such_level first)
       (loop_level l (machine_expr_or (pos 1) e) ms (option_rises (pos 1) e) (behind_level (machine_stmts u.units (plain body)) (machine_stmts u.units (plain step)) (such_level body) (such_level step)))
   kind_level (UWhat-F.Block a) l = such_level a
@@ -349,9 +349,9 @@ module _ (u : CodedUnit) where
   kind_level (UWhat-F.Try a x y b) l =
       let ma = machine_stmts u.units (plain a) in
       let mb = machine_stmts u.units (plain b) in
-      marked kind.Quiet l false (arms Jump (λ h. try_instr h x y) (behind ma (one Untry)) mb) (try_level x y ma mb (such_level a) (such_level b))
+      marked kind.Quiet l false (arms Jump (λ h. try_instr h x y) (sequence ma (one Untry)) mb) (try_level x y ma mb (such_level a) (such_level b))
   kind_level (UWhat-F.Throw x e) l =
-      marked kind.Throw l false (behind (machine_expr_or (pos 0) e) (one (Throw x))) (takes (machine_expr_or (pos 0) e) (Throw x) (λ p m e. let z : 1 ≤ H p = omega (arith, e) in z) (λ m. refl) (option_rises (pos 0) e))
+      marked kind.Throw l false (sequence (machine_expr_or (pos 0) e) (one (Throw x))) (takes (machine_expr_or (pos 0) e) (Throw x) (λ p m e. let z : 1 ≤ H p = omega (arith, e) in z) (λ m. refl) (option_rises (pos 0) e))
   kind_level (UWhat-F.Par bs) l = marked kind.Fork l false (machine_fork u.units bs) (behind_level (machine_branches u.units bs) (one (Fork (length bs))) (branches_level bs) (one_level (Fork (length bs)) (λ p m e. tt) (λ m. refl)))
 
   what_level : (x : UWhat-F UWhat UStmt) → KindLevel x → WhatLevel (roll-UWhat x)

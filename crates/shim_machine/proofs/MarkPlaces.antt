@@ -13,8 +13,8 @@ use Rattle.shim_code.specs.declared.instr.MarkKind.TheVariants as kind
 use Rattle.shim_code.specs.declared.machine_instr.Mark.{Mark as MarkOf}
 use Rattle.shim_code.specs.declared.machine_instr.MachineInstr.{MachineInstr}
 use Rattle.shim_code.specs.declared.machine_instr.MachineInstr.TheVariants.{Mark, Var, Jump, JumpZ, Declare, Set, Get, Put, Next, Call, Branch, Fork, Untry, Throw, End}
-use Rattle.shim_code.specs.Layout.{arms, behind, loop, one}
-use Rattle.shim_code.specs.MachineCode.{MachineCode, begins, begun, callee_of, machine_args, machine_branch, machine_branches, machine_expr, machine_expr_or, machine_looped, machine_marked, machine_stmt, machine_stmts, machine_unit, numbered, params_in, try_instr, with_number}
+use Rattle.shim_code.specs.Layout.{arms, sequence, loop, one}
+use Rattle.shim_code.specs.MachineCode.{MachineCode, begin_mark, begun, callee_of, machine_args, machine_branch, machine_branches, machine_expr, machine_expr_or, machine_looped, machine_marked, machine_stmt, machine_stmts, machine_unit, numbered, params_in, try_instr, with_number}
 use Rattle.shim_machine.specs.Machine.{CodedUnit, fetch}
 use Rattle.shim_machine.specs.Stands.{kind_code}
 use Rattle.shim_machine.proofs.Computing.{AllCompute, AllGather, Computes, Gathering, args_gather, expr_computes, option_computes}
@@ -109,10 +109,10 @@ expr_plain : (e : UExpr) → Plain (machine_expr e)
 expr_plain e pc = all_compute_plain (machine_expr e pc) (expr_computes e pc)
 
 -- one instruction behind a piece
-then_plain : (c : MachineCode) (i : MachineInstr) → IsPlain i → Plain c → Plain (behind c (one i))
+then_plain : (c : MachineCode) (i : MachineInstr) → IsPlain i → Plain c → Plain (sequence c (one i))
 then_plain c i hi h pc = both_plain (c pc) (i ∷ []) (h pc) (hi, tt)
 
-behind_orderly : (a b : MachineCode) → Orderly a → Orderly b → Orderly (behind a b)
+behind_orderly : (a b : MachineCode) → Orderly a → Orderly b → Orderly (sequence a b)
 behind_orderly a b ha hb pc o = both_orderly o (a pc) (b (pc + length (a pc))) (ha pc o) (hb (pc + length (a pc)))
 
 tried_plain : (h x : ℕ) (y : Option ℕ) → IsPlain (try_instr h x y)
@@ -143,11 +143,11 @@ looped : (line : ℕ) (test body : MachineCode) → Plain test → Orderly body 
 looped line test body ht hb pc o = (not_second o, behind_orderly test (loop Jump JumpZ pc body) (of_plain test ht) (loop_orderly pc body hb) (pc + 1) true)
 
 -- a statement of two parts
-halves : (k k' : MarkKind) (line : ℕ) (a b : MachineCode) → Plain a → Plain b → Orderly (behind (machine_marked k line false a) (machine_marked k' line true b))
+halves : (k k' : MarkKind) (line : ℕ) (a b : MachineCode) → Plain a → Plain b → Orderly (sequence (machine_marked k line false a) (machine_marked k' line true b))
 halves k k' line a b ha hb pc o =
     let ca = a (pc + 1) in
-    let at = pc + length (begins k line false ∷ ca) in
-    (not_second o, then_orderly true ca (begins k' line true ∷ b (at + 1)) (ha (pc + 1)) ((λ e. refl), plain_orderly false (b (at + 1)) (hb (at + 1))))
+    let at = pc + length (begin_mark k line false ∷ ca) in
+    (not_second o, then_orderly true ca (begin_mark k' line true ∷ b (at + 1)) (ha (pc + 1)) ((λ e. refl), plain_orderly false (b (at + 1)) (hb (at + 1))))
 
 -- Statements.
 module _ (units : List UnitOf) where
@@ -183,8 +183,8 @@ module _ (units : List UnitOf) where
   such_orderly (s ∷ ss) = behind_orderly (machine_stmt units s.0) (machine_stmts units (plain ss)) s.1 (such_orderly ss)
 
   -- an expression and an instruction behind it, in a statement of its own
-  simple : (k : MarkKind) (l : ℕ) (c : MachineCode) (i : MachineInstr) → IsPlain i → Plain c → Orderly (machine_marked k l false (behind c (one i)))
-  simple k l c i hi h = marked k l (behind c (one i)) (of_plain (behind c (one i)) (then_plain c i hi h))
+  simple : (k : MarkKind) (l : ℕ) (c : MachineCode) (i : MachineInstr) → IsPlain i → Plain c → Orderly (machine_marked k l false (sequence c (one i)))
+  simple k l c i hi h = marked k l (sequence c (one i)) (of_plain (sequence c (one i)) (then_plain c i hi h))
 
   single : (k : MarkKind) (l : ℕ) (i : MachineInstr) → IsPlain i → Orderly (machine_marked k l false (one i))
   single k l i h = marked k l (one i) (of_plain (one i) (λ pc. (h, tt)))
@@ -196,27 +196,27 @@ module _ (units : List UnitOf) where
   kind_orderly (UWhat-F.Declare t x e) l = simple kind.Quiet l (machine_expr_or (pos 0) e) (Declare t x) tt (λ pc. all_compute_plain (machine_expr_or (pos 0) e pc) (option_computes (pos 0) e pc))
   kind_orderly (UWhat-F.Assign x e) l = simple kind.Quiet l (machine_expr e) (Set x) tt (expr_plain e)
   kind_orderly (UWhat-F.Next x) l = single kind.Next l (Next x) tt
-  kind_orderly (UWhat-F.NextAssign x e) l = halves kind.Quiet kind.Next l (behind (machine_expr e) (one (Set x))) (one (Next x)) (then_plain (machine_expr e) (Set x) tt (expr_plain e)) (λ pc. (tt, tt))
-  kind_orderly (UWhat-F.AssignNext x y) l = halves kind.Next kind.Quiet l (one (Next y)) (behind (one (Var y)) (one (Set x))) (λ pc. (tt, tt)) (λ pc. (tt, (tt, tt)))
+  kind_orderly (UWhat-F.NextAssign x e) l = halves kind.Quiet kind.Next l (sequence (machine_expr e) (one (Set x))) (one (Next x)) (then_plain (machine_expr e) (Set x) tt (expr_plain e)) (λ pc. (tt, tt))
+  kind_orderly (UWhat-F.AssignNext x y) l = halves kind.Next kind.Quiet l (one (Next y)) (sequence (one (Var y)) (one (Set x))) (λ pc. (tt, tt)) (λ pc. (tt, (tt, tt)))
   kind_orderly (UWhat-F.Get x i) l = simple kind.Quiet l (one (Get i)) (Set x) tt (λ pc. (tt, tt))
   kind_orderly (UWhat-F.Put o e) l = simple kind.Put l (machine_expr e) (Put o) tt (expr_plain e)
   kind_orderly (UWhat-F.If e a b) l =
       let ma = machine_stmts units (plain a) in
       let mb = machine_stmts units (plain b) in
-      marked kind.Quiet l (behind (machine_expr e) (arms Jump JumpZ ma mb)) (behind_orderly (machine_expr e) (arms Jump JumpZ ma mb) (of_plain (machine_expr e) (expr_plain e)) (arms_orderly JumpZ ma mb (λ t. tt) (such_orderly a) (such_orderly b)))
+      marked kind.Quiet l (sequence (machine_expr e) (arms Jump JumpZ ma mb)) (behind_orderly (machine_expr e) (arms Jump JumpZ ma mb) (of_plain (machine_expr e) (expr_plain e)) (arms_orderly JumpZ ma mb (λ t. tt) (such_orderly a) (such_orderly b)))
   kind_orderly (UWhat-F.While e a) l = looped l (machine_expr e) (machine_stmts units (plain a)) (expr_plain e) (such_orderly a)
   kind_orderly (UWhat-F.For first e step body) l =
       let mf = machine_stmts units (plain first) in
       let mb = machine_stmts units (plain body) in
       let ms = machine_stmts units (plain step) in
       let test = machine_expr_or (pos 1) e in
-      behind_orderly mf (machine_looped l test (behind mb ms)) (such_orderly first) (looped l test (behind mb ms) (λ pc. all_compute_plain (test pc) (option_computes (pos 1) e pc)) (behind_orderly mb ms (such_orderly body) (such_orderly step)))
+      behind_orderly mf (machine_looped l test (sequence mb ms)) (such_orderly first) (looped l test (sequence mb ms) (λ pc. all_compute_plain (test pc) (option_computes (pos 1) e pc)) (behind_orderly mb ms (such_orderly body) (such_orderly step)))
   kind_orderly (UWhat-F.Block a) l = such_orderly a
   kind_orderly (UWhat-F.Call c) l = simple kind.Quiet l (machine_args (params_in units c.unit) c.args) (Call (callee_of c)) tt (args_plain c)
   kind_orderly (UWhat-F.Try a x y b) l =
       let ma = machine_stmts units (plain a) in
       let mb = machine_stmts units (plain b) in
-      marked kind.Quiet l (arms Jump (λ h. try_instr h x y) (behind ma (one Untry)) mb) (arms_orderly (λ h. try_instr h x y) (behind ma (one Untry)) mb (λ t. tried_plain t x y) (behind_orderly ma (one Untry) (such_orderly a) (of_plain (one Untry) (λ pc. (tt, tt)))) (such_orderly b))
+      marked kind.Quiet l (arms Jump (λ h. try_instr h x y) (sequence ma (one Untry)) mb) (arms_orderly (λ h. try_instr h x y) (sequence ma (one Untry)) mb (λ t. tried_plain t x y) (behind_orderly ma (one Untry) (such_orderly a) (of_plain (one Untry) (λ pc. (tt, tt)))) (such_orderly b))
   kind_orderly (UWhat-F.Throw x e) l = simple kind.Throw l (machine_expr_or (pos 0) e) (Throw x) tt (λ pc. all_compute_plain (machine_expr_or (pos 0) e pc) (option_computes (pos 0) e pc))
   kind_orderly (UWhat-F.Par bs) l = simple kind.Fork l (machine_branches units bs) (Fork (length bs)) tt (branches_plain bs)
 

@@ -15,11 +15,11 @@ use Rattle.shim_code.specs.declared.instr.MarkKind.TheVariants as kind
 use Rattle.shim_code.specs.declared.machine_instr.Mark.{Mark as MarkOf}
 use Rattle.shim_code.specs.declared.machine_instr.MachineInstr.{MachineInstr}
 use Rattle.shim_code.specs.declared.machine_instr.MachineInstr.TheVariants.{Mark, Num, Var, Un, Bin, Bool, Jump, JumpZ, Declare, Set, Get, Put, Next, Ref, Pass, Fresh, Call, Branch, Fork, Try, TryInto, Untry, Throw, End}
-use Rattle.shim_code.specs.Layout.{behind, one}
-use Rattle.shim_code.specs.MachineCode.{MachineCode, begins, begun, callee_of, machine_args, machine_branch, machine_branches, machine_call, machine_expr, machine_expr_or, machine_fork, machine_looped, machine_stmt, machine_stmts, machine_unit, numbered, params_in, statements_in, try_instr, with_number}
+use Rattle.shim_code.specs.Layout.{sequence, one}
+use Rattle.shim_code.specs.MachineCode.{MachineCode, begin_mark, begun, callee_of, machine_args, machine_branch, machine_branches, machine_call, machine_expr, machine_expr_or, machine_fork, machine_looped, machine_stmt, machine_stmts, machine_unit, numbered, params_in, statements_in, try_instr, with_number}
 use Rattle.shim_code.proofs.StatementNumbers.{stmt_counts}
 use Rattle.shim_machine.specs.Machine.{CodedUnit, fetch}
-use Rattle.shim_machine.specs.Stands.{AtHalf, Has, HasAt, HasHalves, Here, IsTold, Stands, at_do, at_half, first_kind, half_what, kind_code, point_code, point_what, stands_back, stands_do, stands_end, stands_jump, stands_leave}
+use Rattle.shim_machine.specs.Stands.{AtHalf, HasStatement, HasAt, HasHalves, Here, IsTold, Stands, at_do, at_half, first_kind, half_what, kind_code, point_code, point_what, stands_back, stands_do, stands_end, stands_jump, stands_leave}
 use Rattle.shim_machine.proofs.Computing.{AllCompute, AllGather, Gathering, args_gather, expr_computes, option_computes}
 use Rattle.shim_machine.proofs.Enters.{code_roll, count_all, count_both, enters_list, point_roll}
 use Rattle.shim_machine.proofs.Exprs.{has_back, has_front}
@@ -166,9 +166,9 @@ module _ (P : List Item → Type 0) (stays : (c : Successor) (k : List Item) →
     told_after l n x k c told = let s = line_of l (roll-UWhat x) in subst (λ z. P (follow_what z c n s k)) (out-roll-UWhat x) (stays c (Do n s ∷ k) told)
 
     -- a statement that begins with its mark
-    marked : (l : ℕ) (x : UWhat-F UWhat UStmt) (kd : MarkKind) → kd ≡ first_kind x → (rest : ℕ → List MachineInstr) → ((pc : ℕ) → kind_code u.units x l pc ≡ point_what u.units x l pc) → ((pc : ℕ) → point_what u.units x l pc ≡ begins kd l false ∷ rest pc)
+    marked : (l : ℕ) (x : UWhat-F UWhat UStmt) (kd : MarkKind) → kd ≡ first_kind x → (rest : ℕ → List MachineInstr) → ((pc : ℕ) → kind_code u.units x l pc ≡ point_what u.units x l pc) → ((pc : ℕ) → point_what u.units x l pc ≡ begin_mark kd l false ∷ rest pc)
         → ((n : ℕ) → items (line_of l (roll-UWhat x)) n ≡ Do n (line_of l (roll-UWhat x)) ∷ []) → ((n : ℕ) (k : List Item) → follow_what x On n (line_of l (roll-UWhat x)) k ≡ k)
-        → ((pc n stop : ℕ) (k : List Item) → (let s = line_of l (roll-UWhat x) in Has u pc n s stop → HasAt u (n + 1) (pc + 1) (rest pc) → stop ≡ pc + 1 + length (rest pc) → Stands u stop k → P (Do n s ∷ k) → AllFound u (n + 1) (pc + 1) (rest pc)))
+        → ((pc n stop : ℕ) (k : List Item) → (let s = line_of l (roll-UWhat x) in HasStatement u pc n s stop → HasAt u (n + 1) (pc + 1) (rest pc) → stop ≡ pc + 1 + length (rest pc) → Stands u stop k → P (Do n s ∷ k) → AllFound u (n + 1) (pc + 1) (rest pc)))
         → MarksOf (line_of l (roll-UWhat x))
     marked l x kd kd_is rest same begun_by is on inner pc n k has st told =
         let s = line_of l (roll-UWhat x) in
@@ -177,14 +177,14 @@ module _ (P : List Item → Type 0) (stays : (c : Successor) (k : List Item) →
         let whole = c ∙ begun_by pc in
         let h = subst (HasAt u n pc) whole has in
         let stop = pc + length (machine_stmt u.units s pc) in
-        let has_s : Has u pc n s stop = record { kind = kd; is_kind = kd_is ∙ ap first_kind (sym (out-roll-UWhat x)); all = subst (HasAt u n pc) p has; ends = ap (λ c. pc + length c) p; marked = h.0 } in
+        let has_s : HasStatement u pc n s stop = record { kind = kd; is_kind = kd_is ∙ ap first_kind (sym (out-roll-UWhat x)); all = subst (HasAt u n pc) p has; ends = ap (λ c. pc + length c) p; marked = h.0 } in
         let t : P (Do n s ∷ k) = subst (λ i. P (i ++ k)) (is n) told in
-        let ends : stop ≡ pc + 1 + length (rest pc) = ap (λ c. pc + length c) whole ∙ (let z : pc + length (begins kd l false ∷ rest pc) ≡ pc + 1 + length (rest pc) = omega arith in z) in
+        let ends : stop ≡ pc + 1 + length (rest pc) = ap (λ c. pc + length c) whole ∙ (let z : pc + length (begin_mark kd l false ∷ rest pc) ≡ pc + 1 + length (rest pc) = omega arith in z) in
         let found : Found P u pc (record { kind = kd; line = l; number = n; halfway = false }) = record { stmt = s; rest = k; told = t; here = at_do pc n stop s k has_s st } in
         (subst (P) (on n k) (told_after l n x k On t), subst (AllFound u n pc) (sym whole) (found, inner pc n stop k has_s h.1 ends st t))
 
     -- one that has no other mark
-    plain : (l : ℕ) (x : UWhat-F UWhat UStmt) (kd : MarkKind) → kd ≡ first_kind x → (rest : ℕ → List MachineInstr) → ((pc : ℕ) → kind_code u.units x l pc ≡ point_what u.units x l pc) → ((pc : ℕ) → point_what u.units x l pc ≡ begins kd l false ∷ rest pc)
+    plain : (l : ℕ) (x : UWhat-F UWhat UStmt) (kd : MarkKind) → kd ≡ first_kind x → (rest : ℕ → List MachineInstr) → ((pc : ℕ) → kind_code u.units x l pc ≡ point_what u.units x l pc) → ((pc : ℕ) → point_what u.units x l pc ≡ begin_mark kd l false ∷ rest pc)
         → ((n : ℕ) → items (line_of l (roll-UWhat x)) n ≡ Do n (line_of l (roll-UWhat x)) ∷ []) → ((n : ℕ) (k : List Item) → follow_what x On n (line_of l (roll-UWhat x)) k ≡ k) → ((n pc : ℕ) → AllFound u n (pc + 1) (rest pc)) → MarksOf (line_of l (roll-UWhat x))
     plain l x kd kd_is rest same begun_by is on none = marked l x kd kd_is rest same begun_by is on (λ pc n stop k whole has ends st told. none (n + 1) pc)
 
@@ -222,7 +222,7 @@ module _ (P : List Item → Type 0) (stays : (c : Successor) (k : List Item) →
             let second = first + length ca + 1 in
             let cb = machine_stmts u.units b second in
             let rest = t ++ JumpZ second ∷ (ca ++ Jump (second + length cb) ∷ cb) in
-            Has u pc n s stop → HasAt u (n + 1) (pc + 1) rest → stop ≡ pc + 1 + length rest → Stands u stop k → P (Do n s ∷ k) → AllFound u (n + 1) (pc + 1) rest)
+            HasStatement u pc n s stop → HasAt u (n + 1) (pc + 1) rest → stop ≡ pc + 1 + length rest → Stands u stop k → P (Do n s ∷ k) → AllFound u (n + 1) (pc + 1) rest)
         inner pc n stop k whole h ends rest told =
             let t = machine_expr e (pc + 1) in
             let pc1 = pc + 1 + length t in
@@ -250,7 +250,7 @@ module _ (P : List Item → Type 0) (stays : (c : Successor) (k : List Item) →
     loop_marks : (l : ℕ) (x : UWhat-F UWhat UStmt) (test body : MachineCode) (inner : List Item → List Item) (pc n stop : ℕ) (k : List Item) → (let s = line_of l (roll-UWhat x) in
         AllCompute (test (pc + 1)) → statements_in (test (pc + 1)) ≡ 0 → follow_what x First n s k ≡ inner (Do n s ∷ k)
         → ((at : ℕ) (k : List Item) → HasAt u (n + 1) at (body at) → Stands u (at + length (body at)) k → P (inner k) → AllFound u (n + 1) at (body at))
-        → Has u pc n s stop → HasAt u n pc (machine_looped l test body pc) → Stands u stop k → P (Do n s ∷ k) → AllFound u n pc (machine_looped l test body pc))
+        → HasStatement u pc n s stop → HasAt u n pc (machine_looped l test body pc) → Stands u stop k → P (Do n s ∷ k) → AllFound u n pc (machine_looped l test body pc))
     loop_marks l x test body inner pc n stop k computes none first found_in whole has rest told =
         let s = line_of l (roll-UWhat x) in
         let t = test (pc + 1) in
@@ -276,7 +276,7 @@ module _ (P : List Item → Type 0) (stays : (c : Successor) (k : List Item) →
         let p : machine_stmt u.units s pc ≡ point_code u.units s pc = c ∙ sym (ap (λ f. f pc) (point_roll u.units l x)) in
         let h = subst (HasAt u n pc) c has in
         let stop = pc + length (machine_stmt u.units s pc) in
-        let whole : Has u pc n s stop = record { kind = kind.Quiet; is_kind = ap first_kind (sym (out-roll-UWhat x)); all = subst (HasAt u n pc) p has; ends = ap (λ c. pc + length c) p; marked = h.0 } in
+        let whole : HasStatement u pc n s stop = record { kind = kind.Quiet; is_kind = ap first_kind (sym (out-roll-UWhat x)); all = subst (HasAt u n pc) p has; ends = ap (λ c. pc + length c) p; marked = h.0 } in
         let t : P (Do n s ∷ k) = subst (λ i. P (i ++ k)) (at_items l x n) told in (
           told_after l n x k On t,
           subst (AllFound u n pc) (sym c)
@@ -295,7 +295,7 @@ module _ (P : List Item → Type 0) (stays : (c : Successor) (k : List Item) →
         let ca = machine_stmts u.units first pc in
         let at = pc + length ca in
         let test = machine_expr_or (pos 1) e in
-        let cl = machine_looped l test (behind (machine_stmts u.units body) (machine_stmts u.units step)) at in
+        let cl = machine_looped l test (sequence (machine_stmts u.units body) (machine_stmts u.units step)) at in
         let c : machine_stmt u.units s pc ≡ ca ++ cl = ap (λ f. f pc) (code_roll u.units l x) in
         let p : point_code u.units s at ≡ cl = ap (λ f. f at) (point_roll u.units l x) in
         let h : HasAt u n pc (ca ++ cl) = subst (HasAt u n pc) c has in
@@ -307,10 +307,10 @@ module _ (P : List Item → Type 0) (stays : (c : Successor) (k : List Item) →
         let stop = at + length cl in
         let e1 : pc + length (machine_stmt u.units s pc) ≡ stop = ap (λ c. pc + length c) c ∙ (let z : pc + length (ca ++ cl) ≡ pc + length ca + length cl = omega (arith, length-append ca cl) in z) in
         let behind_it = subst (λ q. Stands u q k) e1 st in
-        let whole : Has u at m s stop = record { kind = kind.Quiet; is_kind = ap first_kind (sym (out-roll-UWhat x)); all = subst (HasAt u m at) (sym p) hl; ends = ap (λ c. at + length c) (sym p); marked = hl.0 } in
+        let whole : HasStatement u at m s stop = record { kind = kind.Quiet; is_kind = ap first_kind (sym (out-roll-UWhat x)); all = subst (HasAt u m at) (sym p) hl; ends = ap (λ c. at + length c) (sym p); marked = hl.0 } in
         let t = subst (P) (append_assoc (items_all first n) (Do m s ∷ []) k) (subst (λ j. P (j ++ k)) i told) in
         let of_first = in_list first mf pc n (Do m s ∷ k) (has_front u n pc ca cl h) (stands_do at m stop s k whole behind_it) t in
-        let of_loop = loop_marks l x test (behind (machine_stmts u.units body) (machine_stmts u.units step)) (λ k. items_all body (m + 1) ++ (items_all step (m + 1 + size_all body) ++ k)) at m stop k (option_computes (pos 1) e (at + 1)) (no_stmts_or u.units (pos 1) e at) refl
+        let of_loop = loop_marks l x test (sequence (machine_stmts u.units body) (machine_stmts u.units step)) (λ k. items_all body (m + 1) ++ (items_all step (m + 1 + size_all body) ++ k)) at m stop k (option_computes (pos 1) e (at + 1)) (no_stmts_or u.units (pos 1) e at) refl
         (λ place k h stands told.
         let cb = machine_stmts u.units body place in
         let cs = machine_stmts u.units step (place + length cb) in
@@ -334,15 +334,15 @@ module _ (P : List Item → Type 0) (stays : (c : Successor) (k : List Item) →
 
         inner : (pc n stop : ℕ) (k : List Item) → (let s = line_of l (roll-UWhat (UWhat-F.Try a y z b)) in
             let first = pc + 1 + 1 in
-            let body = behind (machine_stmts u.units a) (one Untry) first in
+            let body = sequence (machine_stmts u.units a) (one Untry) first in
             let handler = first + length body + 1 in
             let cb = machine_stmts u.units b handler in
             let rest = try_instr handler y z ∷ (body ++ Jump (handler + length cb) ∷ cb) in
-            Has u pc n s stop → HasAt u (n + 1) (pc + 1) rest → stop ≡ pc + 1 + length rest → Stands u stop k → P (Do n s ∷ k) → AllFound u (n + 1) (pc + 1) rest)
+            HasStatement u pc n s stop → HasAt u (n + 1) (pc + 1) rest → stop ≡ pc + 1 + length rest → Stands u stop k → P (Do n s ∷ k) → AllFound u (n + 1) (pc + 1) rest)
         inner pc n stop k whole h ends rest told =
             let first = pc + 1 + 1 in
             let ca = machine_stmts u.units a first in
-            let body = behind (machine_stmts u.units a) (one Untry) first in
+            let body = sequence (machine_stmts u.units a) (one Untry) first in
             let handler = first + length body + 1 in
             let cb = machine_stmts u.units b handler in
             let end = handler + length cb in

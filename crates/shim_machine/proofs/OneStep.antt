@@ -12,17 +12,17 @@ use Rattle.shim_process.specs.Todo.{Item, Do, On, First, followed, items_all, ne
 use Rattle.shim_process.specs.Values.{value}
 use Rattle.shim_code.specs.declared.instr.MarkKind.TheVariants as kind
 use Rattle.shim_code.specs.declared.machine_instr.MachineInstr.TheVariants.{Var, Set, Get, Declare as Declares}
-use Rattle.shim_code.specs.Layout.{behind, one}
+use Rattle.shim_code.specs.Layout.{sequence, one}
 use Rattle.shim_code.specs.MachineCode.{machine_expr, machine_expr_or, machine_marked, machine_stmts, statements_in}
 use Rattle.shim_machine.specs.Machine.{CodedUnit, Codes, Machine, ReturnPlace, becomes, machine}
-use Rattle.shim_machine.specs.Stands.{Handles, Has, HasAt, HasHalves, Here, IsTold, Returns, Stands, StandsFor, at_do, at_end, at_half, half_what, mark, point_what}
-use Rattle.shim_machine.specs.Leads.{Leads, moved}
-use Rattle.shim_machine.specs.Comes.{AreOf, AreShort, Comes, ComesToTrap, Does, NextSuits, Suits, step_room}
+use Rattle.shim_machine.specs.Stands.{Handles, HasStatement, HasAt, HasHalves, Here, IsTold, Returns, Stands, StandsFor, at_do, at_end, at_half, half_what, mark, point_what}
+use Rattle.shim_machine.specs.Leads.{Leads, machine_at}
+use Rattle.shim_machine.specs.Comes.{AreCodesOf, AreBounded, ComesToMark, ComesToTrap, Does, NextSuits, Suits, step_room}
 use Rattle.shim_machine.proofs.Exprs.{has_front, has_back, leads_one, or_runs, runs, step}
 use Rattle.shim_machine.proofs.Enters.{count_all, count_both, enters_list}
 use Rattle.shim_machine.proofs.Steps.{From, call_case, half_case, if_case, lands_at, loop_case, make_case, no_stmts, no_stmts_or, renumber, store_case, told_after, try_case}
 
-module _ (codes : Codes) (most : ℕ) (short : AreShort codes most) (n : ℕ) (s : UStmt) (k : List Item) (l : LocalState) (back : List ReturnPlace) (hs : List ℕ) (r : Returns codes back l.callers) (hd : Handles (codes l.frame.unit) hs l.frame.places) (same : l.frame.todo ≡ Do n s ∷ k)
+module _ (codes : Codes) (most : ℕ) (short : AreBounded codes most) (n : ℕ) (s : UStmt) (k : List Item) (l : LocalState) (back : List ReturnPlace) (hs : List ℕ) (r : Returns codes back l.callers) (hd : Handles (codes l.frame.unit) hs l.frame.places) (same : l.frame.todo ≡ Do n s ∷ k)
     (told : IsTold (codes l.frame.unit).body (Do n s ∷ k)) where
   abbrev u : CodedUnit
   u = codes l.frame.unit
@@ -39,7 +39,7 @@ module _ (codes : Codes) (most : ℕ) (short : AreShort codes most) (n : ℕ) (s
       let x : UWhat-F UWhat UStmt = UWhat-F.NextAssign y e in
       let m = at (pc + 1) in
       let c = machine_expr e (pc + 1) in
-      let ca = machine_marked kind.Quiet s.line false (behind (machine_expr e) (one (Set y))) pc in
+      let ca = machine_marked kind.Quiet s.line false (sequence (machine_expr e) (one (Set y))) pc in
       let pc1 = pc + 1 + length c in
       let there_at = pc + length ca in
       let second = half_what x s.line there_at in
@@ -69,7 +69,7 @@ module _ (codes : Codes) (most : ℕ) (short : AreShort codes most) (n : ℕ) (s
   unfolding unit_at
   as_tried a y z b pc g = g
 
-  from_kind : (x : UWhat-F UWhat UStmt) (pc stop : ℕ) → AreOf codes l.program → l.frame.halfway ≡ false → Suits x l → out-UWhat s.what ≡ x → Has u pc n s stop → HasAt u n pc (point_what u.units x s.line pc) → stop ≡ pc + length (point_what u.units x s.line pc) → Stands u stop k
+  from_kind : (x : UWhat-F UWhat UStmt) (pc stop : ℕ) → AreCodesOf codes l.program → l.frame.halfway ≡ false → Suits x l → out-UWhat s.what ≡ x → HasStatement u pc n s stop → HasAt u n pc (point_what u.units x s.line pc) → stop ≡ pc + length (point_what u.units x s.line pc) → Stands u stop k
       → Gives (pc + 1) x (what_action x (statement_view l))
   from_kind (UWhat-F.Declare t y e) pc stop of eh fit ex whole has ends rest =
       let m = at (pc + 1) in
@@ -94,7 +94,7 @@ module _ (codes : Codes) (most : ℕ) (short : AreShort codes most) (n : ℕ) (s
       (λ h. runs codes e (at (pc + 1)) (n + 1) h)
       (λ place k h st. enters_list u a place (n + 1) k h st)
   from_kind (UWhat-F.For f e st b) pc stop of eh fit ex whole has ends rest =
-      loop_case codes most short n s k l back hs r hd same told (UWhat-F.For f e st b) (machine_expr_or (pos 1) e) _ (behind (machine_stmts u.units b) (machine_stmts u.units st)) (λ k. items_all b (n + 1) ++ (items_all st (n + 1 + size_all b) ++ k)) pc stop ex (no_stmts_or u.units (pos 1) e pc) whole has ends rest refl refl
+      loop_case codes most short n s k l back hs r hd same told (UWhat-F.For f e st b) (machine_expr_or (pos 1) e) _ (sequence (machine_stmts u.units b) (machine_stmts u.units st)) (λ k. items_all b (n + 1) ++ (items_all st (n + 1 + size_all b) ++ k)) pc stop ex (no_stmts_or u.units (pos 1) e pc) whole has ends rest refl refl
       (λ h. or_runs codes (pos 1) e (at (pc + 1)) (n + 1) h)
       (λ place k h stands.
       let cb = machine_stmts u.units b place in
@@ -119,7 +119,7 @@ module _ (codes : Codes) (most : ℕ) (short : AreShort codes most) (n : ℕ) (s
   from_half (UWhat-F.AssignNext y z) pc stop eh is ex has ends rest =
       let v = env_of l.locations l.frame.slots z in
       let lt : pc + 1 < pc + 1 + 1 = omega arith in
-      let lead = leads_one codes (at (pc + 1)) (moved (at (pc + 1)) (pc + 1 + 1) (v ∷ [])) (Var z) has.1.0 lt (λ go. refl) in
+      let lead = leads_one codes (at (pc + 1)) (machine_at (at (pc + 1)) (pc + 1 + 1) (v ∷ [])) (Var z) has.1.0 lt (λ go. refl) in
       let e1 : stop ≡ pc + 1 + 1 + 1 = omega (arith, ends) in
       subst (λ b. Gives (pc + 1) (UWhat-F.AssignNext y z) (if b then Store y v else Wait)) (sym eh)
       (store_case codes most short n s k l back hs r hd same told (pc + 1) (pc + 1 + 1) stop y (UWhat-F.AssignNext y z) (Ok v) ex refl lead has.1.1.0 e1 rest)
@@ -142,21 +142,21 @@ module _ (codes : Codes) (most : ℕ) (short : AreShort codes most) (n : ℕ) (s
   unfolding gone went
   does pc Wait f = tt
   does pc (Trapped t) f = subst (λ j. ComesToTrap codes (step_room most (length l.callers)) (at pc) (trapped t j l)) (ap line_of (sym same)) f
-  does pc (Go c) f = subst (λ z. Comes codes (step_room most (length l.callers)) (at pc) (settled l.callers (past_ends (followed c z) l.frame.places (record l.frame { halfway = false })) l)) (sym same) f
-  does pc (Store y v) f = subst (λ z. Comes codes (step_room most (length l.callers)) (at pc) (settled l.callers (past_ends (followed On z) l.frame.places (record l.frame { halfway = false })) (stored_in y v l))) (sym same) f
+  does pc (Go c) f = subst (λ z. ComesToMark codes (step_room most (length l.callers)) (at pc) (settled l.callers (past_ends (followed c z) l.frame.places (record l.frame { halfway = false })) l)) (sym same) f
+  does pc (Store y v) f = subst (λ z. ComesToMark codes (step_room most (length l.callers)) (at pc) (settled l.callers (past_ends (followed On z) l.frame.places (record l.frame { halfway = false })) (stored_in y v l))) (sym same) f
   does pc (StoreFirst y v) f = f
-  does pc (Make t y v) f = subst (λ z. Comes codes (step_room most (length l.callers)) (at pc) (settled l.callers (past_ends (followed On z) l.frame.places (record l.frame { halfway = false })) (made_in t y v l))) (sym same) f
-  does pc (Read y) f = subst (λ z. Comes codes (step_room most (length l.callers)) (at pc) (settled l.callers (past_ends (followed On z) l.frame.places (record l.frame { halfway = false })) (read_in y l))) (sym same) f
+  does pc (Make t y v) f = subst (λ z. ComesToMark codes (step_room most (length l.callers)) (at pc) (settled l.callers (past_ends (followed On z) l.frame.places (record l.frame { halfway = false })) (made_in t y v l))) (sym same) f
+  does pc (Read y) f = subst (λ z. ComesToMark codes (step_room most (length l.callers)) (at pc) (settled l.callers (past_ends (followed On z) l.frame.places (record l.frame { halfway = false })) (read_in y l))) (sym same) f
   does pc (Enter unit given labels) f = f
   does pc (Install y name None) f =
       let l' = installing y name None l in
-      subst (λ z. Comes codes (step_room most (length l.callers)) (at pc) (settled l.callers (past_ends (followed First z) l'.frame.places (record l'.frame { halfway = false })) l')) (sym same) f
+      subst (λ z. ComesToMark codes (step_room most (length l.callers)) (at pc) (settled l.callers (past_ends (followed First z) l'.frame.places (record l'.frame { halfway = false })) l')) (sym same) f
   does pc (Install y name (Some x)) f =
       let l' = installing y name (Some x) l in
-      subst (λ z. Comes codes (step_room most (length l.callers)) (at pc) (settled l.callers (past_ends (followed First z) l'.frame.places (record l'.frame { halfway = false })) l')) (sym same) f
+      subst (λ z. ComesToMark codes (step_room most (length l.callers)) (at pc) (settled l.callers (past_ends (followed First z) l'.frame.places (record l'.frame { halfway = false })) l')) (sym same) f
 
 -- by where it stands
-from_mark : (codes : Codes) (most : ℕ) → AreShort codes most → (l : LocalState) (pc : ℕ) (back : List ReturnPlace) (hs : List ℕ) (h : Bool) (todo : List Item) → AreOf codes l.program → l.frame.todo ≡ todo → l.frame.halfway ≡ h → NextSuits todo l → IsTold (codes l.frame.unit).body todo
+from_mark : (codes : Codes) (most : ℕ) → AreBounded codes most → (l : LocalState) (pc : ℕ) (back : List ReturnPlace) (hs : List ℕ) (h : Bool) (todo : List Item) → AreCodesOf codes l.program → l.frame.todo ≡ todo → l.frame.halfway ≡ h → NextSuits todo l → IsTold (codes l.frame.unit).body todo
     → Here (codes l.frame.unit) pc todo h → Handles (codes l.frame.unit) hs l.frame.places → Returns codes back l.callers → Does codes (step_room most (length l.callers)) (machine (pc + 1) hs back (line_of todo) l) (stmt_action (next_stmt todo) (statement_view l)) l
 from_mark codes most short l _ back hs false _ of e eh fit told (at_end pc n h) hd r = tt
 from_mark codes most short l _ back hs false _ of e eh fit told (at_do pc n stop s k has rest) hd r =
@@ -166,7 +166,7 @@ from_mark codes most short l _ back hs true _ of e eh fit told (at_half pc n sto
     does codes most short n s k l back hs r hd e told (pc + 1) (what_action (out-UWhat s.what) (statement_view l))
     (from_half codes most short n s k l back hs r hd e told (out-UWhat s.what) pc stop eh ih refl has.0 has.1 rest)
 
-pub one_step : (codes : Codes) (most : ℕ) (l : LocalState) (pc : ℕ) (handlers : List ℕ) (back : List ReturnPlace) → AreOf codes l.program → AreShort codes most → NextSuits l.frame.todo l → StandsFor codes pc handlers back l
+pub one_step : (codes : Codes) (most : ℕ) (l : LocalState) (pc : ℕ) (handlers : List ℕ) (back : List ReturnPlace) → AreCodesOf codes l.program → AreBounded codes most → NextSuits l.frame.todo l → StandsFor codes pc handlers back l
     → Does codes (step_room most (length l.callers)) (machine (pc + 1) handlers back (line_of l.frame.todo) l) (next_action l) l
 unfolding next_action
 one_step codes most l pc handlers back of short fit st = from_mark codes most short l pc back handlers l.frame.halfway l.frame.todo of refl refl fit st.told st.here st.handles st.returns

@@ -11,10 +11,10 @@ use Rattle.shim_code.specs.declared.instr.MarkKind.{MarkKind}
 use Rattle.shim_code.specs.declared.instr.MarkKind.TheVariants as kind
 use Rattle.shim_code.specs.declared.machine_instr.MachineInstr.TheVariants.{End}
 use Rattle.shim_code.specs.MachineCode.{machine_unit}
-use Rattle.shim_machine.specs.Machine.{At, CodedUnit, Codes, Machine, ReturnPlace, fetch, machine, resting}
+use Rattle.shim_machine.specs.Machine.{At, CodedUnit, Codes, Machine, ReturnPlace, fetch, machine, between_steps}
 use Rattle.shim_machine.specs.Stands.{AtHalf, AtMark, Handles, HasAt, HasHalves, Here, Returns, Stands, StandsFor, at_do, at_end, at_half, half_what, mark, stands_back, stands_do, stands_end, stands_jump, stands_leave}
-use Rattle.shim_machine.specs.Comes.{AreOf, AreShort, Comes, Does, NextSuits, step_room}
-use Rattle.shim_machine.specs.SamePlaces.{AllLeadAlike, ComesTo, DoesTo, GoOnAlike, LeadAlike, LeadsTo, ReturnAlike, is_end, is_mark, past_block, past_jump}
+use Rattle.shim_machine.specs.Comes.{AreCodesOf, AreBounded, ComesToMark, Does, NextSuits, step_room}
+use Rattle.shim_machine.specs.SamePlaces.{AllLeadAlike, ComesToPlace, DoesTo, GoOnAlike, LeadAlike, JumpsTo, ReturnAlike, is_end, is_mark, past_block, past_jump}
 use Rattle.shim_machine.proofs.MarkPlaces.{end_once, mark_once}
 use Rattle.shim_machine.proofs.OneStep.{one_step}
 
@@ -60,7 +60,7 @@ blocks_of (Do n s ∷ k) = 0
 -- where such a place leads
 record Leading (u : CodedUnit) (pc : ℕ) (k : List Item) : Type 0 where
   pub to : ℕ
-  pub leads : LeadsTo u pc (blocks_of k) to
+  pub leads : JumpsTo u pc (blocks_of k) to
   pub at : AtMark u to (behind_blocks k)
 
 leading : (u : CodedUnit) (pc : ℕ) (k : List Item) → Stands u pc k → Leading u pc k
@@ -84,7 +84,7 @@ module _ (u : CodedUnit) (e : u.code ≡ machine_unit u.units u.body) where
       let la = leading u a k ha in
       let lb = leading u b k hb in
       let same : lb.to ≡ la.to = here_once lb.to la.to (behind_blocks k) false lb.at la.at in
-      record { blocks = blocks_of k; to = la.to; first = la.leads; second = subst (LeadsTo u b (blocks_of k)) same lb.leads }
+      record { blocks = blocks_of k; to = la.to; first = la.leads; second = subst (JumpsTo u b (blocks_of k)) same lb.leads }
 
   handlers_alike : (xs ys : List ℕ) (places : List ExceptionPlace) → Handles u xs places → Handles u ys places → AllLeadAlike u xs ys
   handlers_alike [] [] [] ha hb = tt
@@ -97,7 +97,7 @@ module _ (u : CodedUnit) (e : u.code ≡ machine_unit u.units u.body) where
 abbrev HasCodes : Codes → Type 0
 HasCodes codes = (n : ℕ) → (codes n).code ≡ machine_unit (codes n).units (codes n).body
 
-has_codes : (codes : Codes) (program : Form) → AreOf codes program → HasCodes codes
+has_codes : (codes : Codes) (program : Form) → AreCodesOf codes program → HasCodes codes
 has_codes codes program of n = subst (λ u. u.code ≡ machine_unit u.units u.body) (sym (of n)) refl
 
 returns_alike : (codes : Codes) → HasCodes codes → (xs ys : List ReturnPlace) (callers : List Frame) → Returns codes xs callers → Returns codes ys callers → ReturnAlike codes callers xs ys
@@ -110,7 +110,7 @@ returns_alike codes e (x ∷ xs) ys [] ha hb = absurd ha
 returns_alike codes e [] ys (f ∷ callers) ha hb = absurd ha
 returns_alike codes e (x ∷ xs) [] (f ∷ callers) ha hb = absurd hb
 
-pub go_on_alike : (codes : Codes) (program : Form) (l : LocalState) (pc pc' : ℕ) (handlers handlers' : List ℕ) (back back' : List ReturnPlace) → AreOf codes program → StandsFor codes pc handlers back l → StandsFor codes pc' handlers' back' l → (pc ≡ pc') × GoOnAlike codes l handlers back handlers' back'
+pub go_on_alike : (codes : Codes) (program : Form) (l : LocalState) (pc pc' : ℕ) (handlers handlers' : List ℕ) (back back' : List ReturnPlace) → AreCodesOf codes program → StandsFor codes pc handlers back l → StandsFor codes pc' handlers' back' l → (pc ≡ pc') × GoOnAlike codes l handlers back handlers' back'
 go_on_alike codes program l pc pc' handlers handlers' back back' of a b =
     let has = has_codes codes program of in
     let u = codes l.frame.unit in
@@ -119,17 +119,17 @@ go_on_alike codes program l pc pc' handlers handlers' back back' of a b =
       record { caught = handlers_alike u e handlers handlers' l.frame.places a.handles b.handles; returned = returns_alike codes has back back' l.callers a.returns b.returns },
     )
 
-pub comes_to : (codes : Codes) (program : Form) (bound : ℕ) (m : Machine) (l : LocalState) (pc : ℕ) (handlers : List ℕ) (back : List ReturnPlace) → AreOf codes program → Comes codes bound m l → StandsFor codes pc handlers back l → ComesTo codes bound m pc handlers back l
+pub comes_to : (codes : Codes) (program : Form) (bound : ℕ) (m : Machine) (l : LocalState) (pc : ℕ) (handlers : List ℕ) (back : List ReturnPlace) → AreCodesOf codes program → ComesToMark codes bound m l → StandsFor codes pc handlers back l → ComesToPlace codes bound m pc handlers back l
 comes_to codes program bound m l pc handlers back of c st =
     let same = go_on_alike codes program l c.pc pc c.handlers handlers c.back back of c.stands st in
-    record { own_handlers = c.handlers; own_back = c.back; count = c.count; within = c.within; comes = c.comes ∙ ap (λ p. At (resting p c.handlers c.back l)) same.0; alike = same.1 }
+    record { own_handlers = c.handlers; own_back = c.back; count = c.count; within = c.within; comes = c.comes ∙ ap (λ p. At (between_steps p c.handlers c.back l)) same.0; alike = same.1 }
 
-does_to : (codes : Codes) (program : Form) (bound : ℕ) (m : Machine) (a : Action) (l : LocalState) (pc : ℕ) (handlers : List ℕ) (back : List ReturnPlace) → AreOf codes program → Does codes bound m a l → StandsFor codes pc handlers back (done a l) → DoesTo codes bound m a pc handlers back l
+does_to : (codes : Codes) (program : Form) (bound : ℕ) (m : Machine) (a : Action) (l : LocalState) (pc : ℕ) (handlers : List ℕ) (back : List ReturnPlace) → AreCodesOf codes program → Does codes bound m a l → StandsFor codes pc handlers back (done a l) → DoesTo codes bound m a pc handlers back l
 does_to codes program bound m Wait l pc handlers back of d st = tt
 does_to codes program bound m (Trapped t) l pc handlers back of d st = d
 does_to codes program bound m a l pc handlers back of d st = comes_to codes program bound m (done a l) pc handlers back of d st
 
-pub one_step_to : (codes : Codes) (most : ℕ) (l : LocalState) (pc pc' : ℕ) (handlers handlers' : List ℕ) (back back' : List ReturnPlace) → AreOf codes l.program → AreShort codes most → NextSuits l.frame.todo l → StandsFor codes pc handlers back l → StandsFor codes pc' handlers' back' (done (next_action l) l)
+pub one_step_to : (codes : Codes) (most : ℕ) (l : LocalState) (pc pc' : ℕ) (handlers handlers' : List ℕ) (back back' : List ReturnPlace) → AreCodesOf codes l.program → AreBounded codes most → NextSuits l.frame.todo l → StandsFor codes pc handlers back l → StandsFor codes pc' handlers' back' (done (next_action l) l)
     → DoesTo codes (step_room most (length l.callers)) (machine (pc + 1) handlers back (line_of l.frame.todo) l) (next_action l) pc' handlers' back' l
 one_step_to codes most l pc pc' handlers handlers' back back' of short suits st st' =
     let m = machine (pc + 1) handlers back (line_of l.frame.todo) l in

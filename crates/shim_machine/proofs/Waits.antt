@@ -18,10 +18,10 @@ use Rattle.shim_code.specs.declared.instr.MarkKind.TheVariants as kind
 use Rattle.shim_code.specs.declared.machine_instr.MachineInstr.{MachineInstr}
 use Rattle.shim_code.specs.declared.machine_instr.MachineInstr.TheVariants.{Next, Put, Throw}
 use Rattle.shim_code.specs.MachineCode.{machine_expr, machine_expr_or}
-use Rattle.shim_machine.specs.Machine.{At, CodedUnit, Codes, ReturnPlace, Traps, fetch, machine, resting}
+use Rattle.shim_machine.specs.Machine.{At, CodedUnit, Codes, ReturnPlace, Traps, fetch, machine, between_steps}
 use Rattle.shim_machine.specs.Stands.{AtHalf, Handles, HasAt, HasHalves, Here, IsTold, Returns, Stands, StandsFor, at_do, at_end, at_half, half_what, mark, point_what}
-use Rattle.shim_machine.specs.Leads.{Gives, moved}
-use Rattle.shim_machine.specs.Comes.{AreShort, Comes, DoesPut, DoesThrow, MeetsAt, room}
+use Rattle.shim_machine.specs.Leads.{Evaluates, machine_at}
+use Rattle.shim_machine.specs.Comes.{AreBounded, ComesToMark, DoesPut, DoesThrow, MeetsAt, room}
 use Rattle.shim_machine.proofs.Exprs.{has_back, has_front, or_runs, runs, step}
 use Rattle.shim_machine.proofs.Lands.{lands, some_room, within_code}
 use Rattle.shim_machine.proofs.Steps.{renumber}
@@ -95,7 +95,7 @@ fork_throw : (bs : List UBranch) (z : ℕ) → at_fork bs ≡ AtThrow z → ⊥
 fork_throw [] z e = cc
 fork_throw (b ∷ bs) z e = cc
 
-module _ (codes : Codes) (most : ℕ) (short : AreShort codes most) (n : ℕ) (s : UStmt) (k : List Item) (l : LocalState) (back : List ReturnPlace) (hs : List ℕ) (r : Returns codes back l.callers) (hd : Handles (codes l.frame.unit) hs l.frame.places) (same : l.frame.todo ≡ Do n s ∷ k)
+module _ (codes : Codes) (most : ℕ) (short : AreBounded codes most) (n : ℕ) (s : UStmt) (k : List Item) (l : LocalState) (back : List ReturnPlace) (hs : List ℕ) (r : Returns codes back l.callers) (hd : Handles (codes l.frame.unit) hs l.frame.places) (same : l.frame.todo ≡ Do n s ∷ k)
     (told : IsTold (codes l.frame.unit).body (Do n s ∷ k)) where
   abbrev u : CodedUnit
   u = codes l.frame.unit
@@ -107,14 +107,14 @@ module _ (codes : Codes) (most : ℕ) (short : AreShort codes most) (n : ℕ) (s
   near pc i h = let a = within_code u.code pc i h in let b = short l.frame.unit in omega (arith, a, b)
 
   -- on with what follows
-  goes_on : (x : UWhat-F UWhat UStmt) (line pc y : ℕ) (v : ℤ) → out-UWhat s.what ≡ x → follow_what x On n s k ≡ k → Stands u pc k → Comes codes bound (machine pc hs back line (stored_in y v l)) (gone On (stored_in y v l))
+  goes_on : (x : UWhat-F UWhat UStmt) (line pc y : ℕ) (v : ℤ) → out-UWhat s.what ≡ x → follow_what x On n s k ≡ k → Stands u pc k → ComesToMark codes bound (machine pc hs back line (stored_in y v l)) (gone On (stored_in y v l))
   unfolding gone went
   goes_on x line pc y v ex f st =
       let on : k ≡ followed On l.frame.todo = sym (ap (followed On) same ∙ ap (λ z. follow_what z On n s k) ex ∙ f) in
       let t : IsTold u.body (followed On l.frame.todo) = subst (λ z. IsTold u.body (followed On z)) (sym same) (told_followed u.body On (Do n s ∷ k) told) in
       lands codes most short line l.callers back hs l.frame (stored_in y v l) r pc (followed On l.frame.todo) l.frame.places t hd (subst (Stands u pc) on st)
 
-  goes_plain : (x : UWhat-F UWhat UStmt) (line pc : ℕ) → out-UWhat s.what ≡ x → follow_what x On n s k ≡ k → Stands u pc k → Comes codes bound (machine pc hs back line l) (gone On l)
+  goes_plain : (x : UWhat-F UWhat UStmt) (line pc : ℕ) → out-UWhat s.what ≡ x → follow_what x On n s k ≡ k → Stands u pc k → ComesToMark codes bound (machine pc hs back line l) (gone On l)
   unfolding gone went
   goes_plain x line pc ex f st =
       let on : k ≡ followed On l.frame.todo = sym (ap (followed On) same ∙ ap (λ z. follow_what z On n s k) ex ∙ f) in
@@ -130,10 +130,10 @@ module _ (codes : Codes) (most : ℕ) (short : AreShort codes most) (n : ℕ) (s
       pc1 : ℕ
       pc1 = pc + 1 + length (machine_expr e (pc + 1))
 
-      from : (v : Value) → fetch u pc1 ≡ Some (Put o) → Gives codes (machine (pc + 1) hs back s.line l) pc1 v → DoesPut codes bound (machine (pc + 1) hs back s.line l) v l
+      from : (v : Value) → fetch u pc1 ≡ Some (Put o) → Evaluates codes (machine (pc + 1) hs back s.line l) pc1 v → DoesPut codes bound (machine (pc + 1) hs back s.line l) v l
       from (Ok v) h g =
           let m = machine (pc + 1) hs back s.line l in
-          let m1 = moved m pc1 (v ∷ []) in
+          let m1 = machine_at m pc1 (v ∷ []) in
           let a = g.by 1 in
           let lt = near pc1 (Put o) h in
           let some = some_room codes most short s.line l.callers in
@@ -160,9 +160,9 @@ module _ (codes : Codes) (most : ℕ) (short : AreShort codes most) (n : ℕ) (s
       pc1 : ℕ
       pc1 = pc + 1 + length (machine_expr_or (pos 0) e (pc + 1))
 
-      from : (v : Value) → fetch u pc1 ≡ Some (Throw y) → Gives codes (machine (pc + 1) hs back s.line l) pc1 v → DoesThrow codes bound (machine (pc + 1) hs back s.line l) z v l
+      from : (v : Value) → fetch u pc1 ≡ Some (Throw y) → Evaluates codes (machine (pc + 1) hs back s.line l) pc1 v → DoesThrow codes bound (machine (pc + 1) hs back s.line l) z v l
       from (Ok v) h g =
-          let m1 = moved (machine (pc + 1) hs back s.line l) pc1 (v ∷ []) in
+          let m1 = machine_at (machine (pc + 1) hs back s.line l) pc1 (v ∷ []) in
           let a = g.by 1 in
           let lt = near pc1 (Throw y) h in
           let some = some_room codes most short s.line l.callers in
@@ -246,11 +246,11 @@ module _ (codes : Codes) (most : ℕ) (short : AreShort codes most) (n : ℕ) (s
   no_half_put (UWhat-F.Par bs) eh is at = is
 
   abbrev Meets : UWhat-F UWhat UStmt → ℕ → Type 0
-  Meets x pc = (slot : ℕ) × (fetch u (pc + 1) ≡ Some (Next slot)) × ((line : ℕ) (v : ℤ) → Comes codes bound (machine (pc + 1 + 1) hs back line (stored_in slot v l)) (what_receive x v l))
+  Meets x pc = (slot : ℕ) × (fetch u (pc + 1) ≡ Some (Next slot)) × ((line : ℕ) (v : ℤ) → ComesToMark codes bound (machine (pc + 1 + 1) hs back line (stored_in slot v l)) (what_receive x v l))
 
   -- the meeting of a statement that assigns behind it
   meets_first : (y z pc stop : ℕ) → (let x : UWhat-F UWhat UStmt = UWhat-F.AssignNext y z in out-UWhat s.what ≡ x → HasAt u n pc (point_what u.units x s.line pc) → stop ≡ pc + length (point_what u.units x s.line pc) → Stands u stop k
-      → (line : ℕ) (v : ℤ) → Comes codes bound (machine (pc + 1 + 1) hs back line (stored_in z v l)) (record (stored_in z v l) { frame = half l.frame }))
+      → (line : ℕ) (v : ℤ) → ComesToMark codes bound (machine (pc + 1 + 1) hs back line (stored_in z v l)) (record (stored_in z v l) { frame = half l.frame }))
   meets_first y z pc stop ex has ends rest line v =
       let x : UWhat-F UWhat UStmt = UWhat-F.AssignNext y z in
       let at = pc + 1 + 1 in
@@ -272,7 +272,7 @@ module _ (codes : Codes) (most : ℕ) (short : AreShort codes most) (n : ℕ) (s
         back = back;
         count = 1;
         within = omega (arith, lt, some);
-        comes = step codes m (mark kind.Quiet s.line n true) hm 0 ∙ ap (λ t. At (resting at hs back (record l' { frame = record l.frame { todo = t; halfway = true } }))) tail;
+        comes = step codes m (mark kind.Quiet s.line n true) hm 0 ∙ ap (λ t. At (between_steps at hs back (record l' { frame = record l.frame { todo = t; halfway = true } }))) tail;
         stands = record { told = subst (IsTold u.body) (sym same) told; here = subst (AtHalf u at) (sym same) stands; handles = hd; returns = r };
       }
 
@@ -310,35 +310,35 @@ module _ (codes : Codes) (most : ℕ) (short : AreShort codes most) (n : ℕ) (s
   meets_half (UWhat-F.Throw y a) pc stop c eh is at ex has ends rest = absurd is
   meets_half (UWhat-F.Par bs) pc stop c eh is at ex has ends rest = absurd is
 
-puts_at : (codes : Codes) (most : ℕ) → AreShort codes most → (l : LocalState) (pc : ℕ) (back : List ReturnPlace) (hs : List ℕ) (h : Bool) (todo : List Item) → l.frame.todo ≡ todo → l.frame.halfway ≡ h → IsTold (codes l.frame.unit).body todo → Here (codes l.frame.unit) pc todo h
+puts_at : (codes : Codes) (most : ℕ) → AreBounded codes most → (l : LocalState) (pc : ℕ) (back : List ReturnPlace) (hs : List ℕ) (h : Bool) (todo : List Item) → l.frame.todo ≡ todo → l.frame.halfway ≡ h → IsTold (codes l.frame.unit).body todo → Here (codes l.frame.unit) pc todo h
     → Handles (codes l.frame.unit) hs l.frame.places → Returns codes back l.callers → stmt_stop (next_stmt todo) (statement_view l) ≡ AtPut → DoesPut codes (room most (length l.callers)) (machine (pc + 1) hs back (line_of todo) l) (stmt_put (next_stmt todo) (statement_view l)) l
 puts_at codes most short l _ back hs false _ e eh told (at_end pc n h) hd r at = absurd (finish_put at)
 puts_at codes most short l _ back hs false _ e eh told (at_do pc n stop s k has rest) hd r at = puts_kind codes most short n s k l back hs r hd e told (out-UWhat s.what) pc stop eh at refl has.all has.ends rest
 puts_at codes most short l _ back hs true _ e eh told (at_half pc n stop s k ih has rest) hd r at = absurd (no_half_put codes most short n s k l back hs r hd e told (out-UWhat s.what) eh ih at)
 
-pub does_put : (codes : Codes) (most : ℕ) (l : LocalState) (pc : ℕ) (handlers : List ℕ) (back : List ReturnPlace) → AreShort codes most → StandsFor codes pc handlers back l → stop l ≡ AtPut → DoesPut codes (room most (length l.callers)) (machine (pc + 1) handlers back (line_of l.frame.todo) l) (put_value l) l
+pub does_put : (codes : Codes) (most : ℕ) (l : LocalState) (pc : ℕ) (handlers : List ℕ) (back : List ReturnPlace) → AreBounded codes most → StandsFor codes pc handlers back l → stop l ≡ AtPut → DoesPut codes (room most (length l.callers)) (machine (pc + 1) handlers back (line_of l.frame.todo) l) (put_value l) l
 unfolding stop
 does_put codes most l pc handlers back short st at = puts_at codes most short l pc back handlers l.frame.halfway l.frame.todo refl refl st.told st.here st.handles st.returns (untrapped_put l.trap _ at)
 
-throws_at : (codes : Codes) (most : ℕ) → AreShort codes most → (l : LocalState) (pc : ℕ) (back : List ReturnPlace) (hs : List ℕ) (h : Bool) (todo : List Item) (z : ℕ) → l.frame.todo ≡ todo → l.frame.halfway ≡ h → IsTold (codes l.frame.unit).body todo → Here (codes l.frame.unit) pc todo h
+throws_at : (codes : Codes) (most : ℕ) → AreBounded codes most → (l : LocalState) (pc : ℕ) (back : List ReturnPlace) (hs : List ℕ) (h : Bool) (todo : List Item) (z : ℕ) → l.frame.todo ≡ todo → l.frame.halfway ≡ h → IsTold (codes l.frame.unit).body todo → Here (codes l.frame.unit) pc todo h
     → Handles (codes l.frame.unit) hs l.frame.places → Returns codes back l.callers → stmt_stop (next_stmt todo) (statement_view l) ≡ AtThrow z → DoesThrow codes (room most (length l.callers)) (machine (pc + 1) hs back (line_of todo) l) z (stmt_thrown (next_stmt todo) (statement_view l)) l
 throws_at codes most short l _ back hs false _ z e eh told (at_end pc n h) hd r at = absurd (finish_throw z at)
 throws_at codes most short l _ back hs false _ z e eh told (at_do pc n stop s k has rest) hd r at = throws_kind codes most short n s k l back hs r hd e told (out-UWhat s.what) z pc stop eh at has.all
 throws_at codes most short l _ back hs true _ z e eh told (at_half pc n stop s k ih has rest) hd r at = absurd (no_half_throw codes most short n s k l back hs r hd e told (out-UWhat s.what) z eh ih at)
 
-pub does_throw : (codes : Codes) (most : ℕ) (l : LocalState) (pc : ℕ) (handlers : List ℕ) (back : List ReturnPlace) (z : ℕ) → AreShort codes most → StandsFor codes pc handlers back l → stop l ≡ AtThrow z
+pub does_throw : (codes : Codes) (most : ℕ) (l : LocalState) (pc : ℕ) (handlers : List ℕ) (back : List ReturnPlace) (z : ℕ) → AreBounded codes most → StandsFor codes pc handlers back l → stop l ≡ AtThrow z
     → DoesThrow codes (room most (length l.callers)) (machine (pc + 1) handlers back (line_of l.frame.todo) l) z (thrown_value l) l
 unfolding stop
 does_throw codes most l pc handlers back z short st at = throws_at codes most short l pc back handlers l.frame.halfway l.frame.todo z refl refl st.told st.here st.handles st.returns (untrapped_throw l.trap _ z at)
 
-meets_at : (codes : Codes) (most : ℕ) → AreShort codes most → (l : LocalState) (pc : ℕ) (back : List ReturnPlace) (hs : List ℕ) (h : Bool) (todo : List Item) (c : NamedChannel) → l.frame.todo ≡ todo → l.frame.halfway ≡ h → IsTold (codes l.frame.unit).body todo → Here (codes l.frame.unit) pc todo h
+meets_at : (codes : Codes) (most : ℕ) → AreBounded codes most → (l : LocalState) (pc : ℕ) (back : List ReturnPlace) (hs : List ℕ) (h : Bool) (todo : List Item) (c : NamedChannel) → l.frame.todo ≡ todo → l.frame.halfway ≡ h → IsTold (codes l.frame.unit).body todo → Here (codes l.frame.unit) pc todo h
     → Handles (codes l.frame.unit) hs l.frame.places → Returns codes back l.callers → stmt_stop (next_stmt todo) (statement_view l) ≡ AtNext c
-    → (slot : ℕ) × (fetch (codes l.frame.unit) (pc + 1) ≡ Some (Next slot)) × ((line : ℕ) (v : ℤ) → Comes codes (room most (length l.callers)) (machine (pc + 1 + 1) hs back line (stored_in slot v l)) (stmt_receive (next_stmt todo) v l))
+    → (slot : ℕ) × (fetch (codes l.frame.unit) (pc + 1) ≡ Some (Next slot)) × ((line : ℕ) (v : ℤ) → ComesToMark codes (room most (length l.callers)) (machine (pc + 1 + 1) hs back line (stored_in slot v l)) (stmt_receive (next_stmt todo) v l))
 meets_at codes most short l _ back hs false _ c e eh told (at_end pc n h) hd r at = absurd (finish_next c at)
 meets_at codes most short l _ back hs false _ c e eh told (at_do pc n stop s k has rest) hd r at = meets_kind codes most short n s k l back hs r hd e told (out-UWhat s.what) pc stop c eh at refl has.all has.ends rest
 meets_at codes most short l _ back hs true _ c e eh told (at_half pc n stop s k ih has rest) hd r at = meets_half codes most short n s k l back hs r hd e told (out-UWhat s.what) pc stop c eh ih at refl has.0 has.1 rest
 
-pub does_meet : (codes : Codes) (most : ℕ) (l : LocalState) (pc : ℕ) (handlers : List ℕ) (back : List ReturnPlace) (c : NamedChannel) → AreShort codes most → StandsFor codes pc handlers back l → stop l ≡ AtNext c → MeetsAt codes (room most (length l.callers)) pc handlers back l
+pub does_meet : (codes : Codes) (most : ℕ) (l : LocalState) (pc : ℕ) (handlers : List ℕ) (back : List ReturnPlace) (c : NamedChannel) → AreBounded codes most → StandsFor codes pc handlers back l → stop l ≡ AtNext c → MeetsAt codes (room most (length l.callers)) pc handlers back l
 unfolding stop receive
 does_meet codes most l pc handlers back c short st at =
     let m = meets_at codes most short l pc back handlers l.frame.halfway l.frame.todo c refl refl st.told st.here st.handles st.returns (untrapped_next l.trap _ c at) in

@@ -4,22 +4,22 @@ use Rattle.shim_process.specs.LocalState.{Frame, LocalState}
 use Rattle.shim_process.specs.Steps.{Action, Trapped, Wait, done}
 use Rattle.shim_code.specs.declared.machine_instr.Mark.{Mark as MarkOf}
 use Rattle.shim_code.specs.declared.machine_instr.MachineInstr.TheVariants.{Mark, Jump, Untry, End}
-use Rattle.shim_machine.specs.Machine.{At, CodedUnit, Codes, Machine, ReturnPlace, fetch, resting, run}
+use Rattle.shim_machine.specs.Machine.{At, CodedUnit, Codes, Machine, ReturnPlace, fetch, between_steps, run_code}
 use Rattle.shim_machine.specs.Comes.{ComesToTrap}
 
 -- A place leads to that of a mark, or of the unit's end, past jumps and past the ends of so many `try` blocks.
-pub data LeadsTo (u : CodedUnit) : ℕ → ℕ → ℕ → Type 0 where
-  is_mark : (pc : ℕ) (m : MarkOf) → fetch u pc ≡ Some (Mark m) → LeadsTo u pc 0 pc
-  is_end : (pc n : ℕ) → fetch u pc ≡ Some (End n) → LeadsTo u pc 0 pc
-  past_jump : (pc t blocks to : ℕ) → fetch u pc ≡ Some (Jump t) → LeadsTo u t blocks to → LeadsTo u pc blocks to
-  past_block : (pc blocks to : ℕ) → fetch u pc ≡ Some Untry → LeadsTo u (pc + 1) blocks to → LeadsTo u pc (suc blocks) to
+pub data JumpsTo (u : CodedUnit) : ℕ → ℕ → ℕ → Type 0 where
+  is_mark : (pc : ℕ) (m : MarkOf) → fetch u pc ≡ Some (Mark m) → JumpsTo u pc 0 pc
+  is_end : (pc n : ℕ) → fetch u pc ≡ Some (End n) → JumpsTo u pc 0 pc
+  past_jump : (pc t blocks to : ℕ) → fetch u pc ≡ Some (Jump t) → JumpsTo u t blocks to → JumpsTo u pc blocks to
+  past_block : (pc blocks to : ℕ) → fetch u pc ≡ Some Untry → JumpsTo u (pc + 1) blocks to → JumpsTo u pc (suc blocks) to
 
 -- both places lead to the same one, past as many ends
 pub record LeadAlike (u : CodedUnit) (a b : ℕ) : Type 0 where
   pub blocks : ℕ
   pub to : ℕ
-  pub first : LeadsTo u a blocks to
-  pub second : LeadsTo u b blocks to
+  pub first : JumpsTo u a blocks to
+  pub second : JumpsTo u b blocks to
 
 -- so do the places of the handlers, each with its counterpart
 abbrev pub AllLeadAlike : CodedUnit → List ℕ → List ℕ → Type 0
@@ -39,16 +39,16 @@ pub record GoOnAlike (codes : Codes) (l : LocalState) (handlers : List ℕ) (bac
   pub returned : ReturnAlike codes l.callers back back'
 
 -- From a machine one comes to this very place, as this state, and goes on from there as with these handlers and callers.
-pub record ComesTo (codes : Codes) (bound : ℕ) (m : Machine) (pc : ℕ) (handlers : List ℕ) (back : List ReturnPlace) (l : LocalState) : Type 0 where
+pub record ComesToPlace (codes : Codes) (bound : ℕ) (m : Machine) (pc : ℕ) (handlers : List ℕ) (back : List ReturnPlace) (l : LocalState) : Type 0 where
   pub own_handlers : List ℕ
   pub own_back : List ReturnPlace
   pub count : ℕ
   pub within : count + m.pc ≤ bound
-  pub comes : run codes count m ≡ At (resting pc own_handlers own_back l)
+  pub comes : run_code codes count m ≡ At (between_steps pc own_handlers own_back l)
   pub alike : GoOnAlike codes l own_handlers own_back handlers back
 
 -- what the definition says of a statement, the machine does, and comes to this place
 abbrev pub DoesTo : Codes → ℕ → Machine → Action → ℕ → List ℕ → List ReturnPlace → LocalState → Type 0
 DoesTo codes bound m Wait pc handlers back l = Unit {0}
 DoesTo codes bound m (Trapped t) pc handlers back l = ComesToTrap codes bound m (done (Trapped t) l)
-DoesTo codes bound m a pc handlers back l = ComesTo codes bound m pc handlers back (done a l)
+DoesTo codes bound m a pc handlers back l = ComesToPlace codes bound m pc handlers back (done a l)

@@ -18,18 +18,18 @@ ghost use Rattle.shim_code.specs.declared.machine_instr.MachineInstr.{MachineIns
 ghost use Rattle.shim_code.specs.declared.machine_instr.Mark.{Mark as MarkOf};
 ghost use Rattle.shim_code.specs.declared.machine_instr.MachineInstr.TheVariants.{End, Mark};
 ghost use Rattle.shim_code.specs.MachineCode.{machine_args, machine_stmts, machine_unit};
-ghost use Rattle.shim_machine.specs.Machine.{CodedUnit, Codes, Machine, ReturnPlace, fetch, machine, run, unit_of};
+ghost use Rattle.shim_machine.specs.Machine.{CodedUnit, Codes, Machine, ReturnPlace, fetch, machine, run_code, unit_of};
 ghost use Rattle.shim_machine.specs.Stands.{AtMark, Handles, HasAt, Here, IsTold, Returns, Stands, StandsFor};
 ghost use Rattle.shim_process.specs.Stops.{put_value, stop, thrown_value};
-ghost use Rattle.shim_process.specs.Unwinding.{place_in, unwind};
+ghost use Rattle.shim_process.specs.Unwinding.{exception_place_in, unwind};
 ghost use Rattle.shim_machine.specs.Unwinds.{unwinds};
 ghost use Rattle.shim_process.specs.Forks.{all_arguments, item_branches};
 ghost use Rattle.shim_machine.specs.Forking.{DoesFork, JoinsAt};
 ghost use Rattle.shim_machine.specs.StackHeights.{HasHeight, height_after, height_at};
 ghost use Rattle.shim_machine.specs.MarkStops.{place_stop};
-ghost use Rattle.shim_machine.specs.Leads.{Gathers, Runs};
-ghost use Rattle.shim_machine.specs.Comes.{AreOf, AreShort, Comes, ComesFrom, Does, DoesPut, DoesThrow, IsEnd, MeetsAt, NextSuits, room, step_room};
-ghost use Rattle.shim_machine.specs.SamePlaces.{ComesTo, DoesTo, GoOnAlike};
+ghost use Rattle.shim_machine.specs.Leads.{EvaluatesArguments, Runs};
+ghost use Rattle.shim_machine.specs.Comes.{AreCodesOf, AreBounded, ComesToMark, ComesFrom, Does, DoesPut, DoesThrow, HasHalted, MeetsAt, NextSuits, room, step_room};
+ghost use Rattle.shim_machine.specs.SamePlaces.{ComesToPlace, DoesTo, GoOnAlike};
 
 /// The code of an expression gives its value, or its trap, wherever it stands.
 pub fn expressions()
@@ -40,7 +40,7 @@ pub fn expressions()
 /// process stands then, past the ends of `try` blocks and of called units, in so many instructions at
 /// most.
 pub fn landing()
-    ensures { (codes : Codes) (most line pc : ℕ) (handlers : List ℕ) (back : List ReturnPlace) (successor : Successor) (l : LocalState) → AreShort codes most → IsTold (codes l.frame.unit).body l.frame.todo → Handles (codes l.frame.unit) handlers l.frame.places → Returns codes back l.callers → Stands (codes l.frame.unit) pc (followed successor l.frame.todo) → Comes codes (room most (length l.callers)) (machine pc handlers back line l) (gone successor l) }
+    ensures { (codes : Codes) (most line pc : ℕ) (handlers : List ℕ) (back : List ReturnPlace) (successor : Successor) (l : LocalState) → AreBounded codes most → IsTold (codes l.frame.unit).body l.frame.todo → Handles (codes l.frame.unit) handlers l.frame.places → Returns codes back l.callers → Stands (codes l.frame.unit) pc (followed successor l.frame.todo) → ComesToMark codes (room most (length l.callers)) (machine pc handlers back line l) (gone successor l) }
 {}
 
 /// Where the code of some statements stands, what is to be done for them stands, with their numbers.
@@ -56,18 +56,18 @@ pub fn a_unit_begins_at_its_start()
 /// Where there is one for each parameter, the code of the arguments of a call or a branch gathers them
 /// as they are computed from the left, or traps as the first does that has no value.
 pub fn arguments_are_gathered()
-    ensures { (codes : Codes) (params : List UParam) (args : List Arg) → length args ≡ length params → (m : Machine) (n : ℕ) → HasAt (unit_of codes m) n m.pc (machine_args params args m.pc) → Gathers codes m (m.pc + length (machine_args params args m.pc)) (arguments m.state.locations m.state.frame.slots params args) }
+    ensures { (codes : Codes) (params : List UParam) (args : List Arg) → length args ≡ length params → (m : Machine) (n : ℕ) → HasAt (unit_of codes m) n m.pc (machine_args params args m.pc) → EvaluatesArguments codes m (m.pc + length (machine_args params args m.pc)) (arguments m.state.locations m.state.frame.slots params args) }
 {}
 
 /// One step of the machine from a mark is what the statement there asks for: it comes to the mark at
 /// which the process stands then, or traps as the process does.
 pub fn one_step()
-    ensures { (codes : Codes) (most : ℕ) (l : LocalState) (pc : ℕ) (handlers : List ℕ) (back : List ReturnPlace) → AreOf codes l.program → AreShort codes most → NextSuits l.frame.todo l → StandsFor codes pc handlers back l → Does codes (step_room most (length l.callers)) (machine (pc + 1) handlers back (line_of l.frame.todo) l) (next_action l) l }
+    ensures { (codes : Codes) (most : ℕ) (l : LocalState) (pc : ℕ) (handlers : List ℕ) (back : List ReturnPlace) → AreCodesOf codes l.program → AreBounded codes most → NextSuits l.frame.todo l → StandsFor codes pc handlers back l → Does codes (step_room most (length l.callers)) (machine (pc + 1) handlers back (line_of l.frame.todo) l) (next_action l) l }
 {}
 
 /// A stretch of code that has come to its end comes to the same with a larger bound.
 pub fn a_larger_bound()
-    ensures { (codes : Codes) (n more : ℕ) (m : Machine) → n ≤ more → IsEnd (run codes n m) → run codes more m ≡ run codes n m }
+    ensures { (codes : Codes) (n more : ℕ) (m : Machine) → n ≤ more → HasHalted (run_code codes n m) → run_code codes more m ≡ run_code codes n m }
 {}
 
 /// At each mark of a unit's code stands what is left of the unit's text from the mark's number on, with
@@ -89,31 +89,31 @@ pub fn a_mark_tells_the_stop()
 /// From the mark of a `put` the machine comes to the instruction that puts the value, and from behind it
 /// to the next mark, or it traps as the expression does.
 pub fn put()
-    ensures { (codes : Codes) (most : ℕ) (l : LocalState) (pc : ℕ) (handlers : List ℕ) (back : List ReturnPlace) → AreShort codes most → StandsFor codes pc handlers back l → stop l ≡ AtPut → DoesPut codes (room most (length l.callers)) (machine (pc + 1) handlers back (line_of l.frame.todo) l) (put_value l) l }
+    ensures { (codes : Codes) (most : ℕ) (l : LocalState) (pc : ℕ) (handlers : List ℕ) (back : List ReturnPlace) → AreBounded codes most → StandsFor codes pc handlers back l → stop l ≡ AtPut → DoesPut codes (room most (length l.callers)) (machine (pc + 1) handlers back (line_of l.frame.todo) l) (put_value l) l }
 {}
 
 /// From the mark of a throw the machine comes to the instruction that throws the exception of its label with
 /// the number, or it traps as the expression does.
 pub fn throw()
-    ensures { (codes : Codes) (most : ℕ) (l : LocalState) (pc : ℕ) (handlers : List ℕ) (back : List ReturnPlace) (label : ℕ) → AreShort codes most → StandsFor codes pc handlers back l → stop l ≡ AtThrow label → DoesThrow codes (room most (length l.callers)) (machine (pc + 1) handlers back (line_of l.frame.todo) l) label (thrown_value l) l }
+    ensures { (codes : Codes) (most : ℕ) (l : LocalState) (pc : ℕ) (handlers : List ℕ) (back : List ReturnPlace) (label : ℕ) → AreBounded codes most → StandsFor codes pc handlers back l → stop l ≡ AtThrow label → DoesThrow codes (room most (length l.callers)) (machine (pc + 1) handlers back (line_of l.frame.todo) l) label (thrown_value l) l }
 {}
 
 /// Behind the mark of a meeting stands the slot that it is on, and from behind that the machine comes to
 /// where the process stands after the meeting.
 pub fn receive()
-    ensures { (codes : Codes) (most : ℕ) (l : LocalState) (pc : ℕ) (handlers : List ℕ) (back : List ReturnPlace) (c : NamedChannel) → AreShort codes most → StandsFor codes pc handlers back l → stop l ≡ AtNext c → MeetsAt codes (room most (length l.callers)) pc handlers back l }
+    ensures { (codes : Codes) (most : ℕ) (l : LocalState) (pc : ℕ) (handlers : List ℕ) (back : List ReturnPlace) (c : NamedChannel) → AreBounded codes most → StandsFor codes pc handlers back l → stop l ≡ AtNext c → MeetsAt codes (room most (length l.callers)) pc handlers back l }
 {}
 
 /// Where the exception of a label is in force, the machine goes on at its handler and comes to where the
 /// process stands that has caught it.
 pub fn unwind()
-    ensures { (codes : Codes) (most line : ℕ) (l : LocalState) (pc : ℕ) (handlers : List ℕ) (back : List ReturnPlace) (label : ℕ) (v : ℤ) (p : ExceptionPlace) → AreShort codes most → StandsFor codes pc handlers back l → place_in l.frame (label - l.base) l.callers ≡ Some p → ComesFrom codes (room most (length l.callers)) (unwinds back handlers (label - l.base) line v l.callers l.frame l) (unwind l label v) }
+    ensures { (codes : Codes) (most line : ℕ) (l : LocalState) (pc : ℕ) (handlers : List ℕ) (back : List ReturnPlace) (label : ℕ) (v : ℤ) (p : ExceptionPlace) → AreBounded codes most → StandsFor codes pc handlers back l → exception_place_in l.frame (label - l.base) l.callers ≡ Some p → ComesFrom codes (room most (length l.callers)) (unwinds back handlers (label - l.base) line v l.callers l.frame l) (unwind l label v) }
 {}
 
 /// From the mark of a fork the machine comes to the fork of the branches that it gathered, which makes
 /// the children that the definition says, or it traps as the first argument does that has no value.
 pub fn fork()
-    ensures { (codes : Codes) (most : ℕ) (l : LocalState) (pc : ℕ) (handlers : List ℕ) (back : List ReturnPlace) → AreOf codes l.program → AreShort codes most → NextSuits l.frame.todo l → StandsFor codes pc handlers back l → stop l ≡ AtFork → DoesFork codes (room most (length l.callers)) (machine (pc + 1) handlers back (line_of l.frame.todo) l) (all_arguments l (item_branches l.frame.todo)) l }
+    ensures { (codes : Codes) (most : ℕ) (l : LocalState) (pc : ℕ) (handlers : List ℕ) (back : List ReturnPlace) → AreCodesOf codes l.program → AreBounded codes most → NextSuits l.frame.todo l → StandsFor codes pc handlers back l → stop l ≡ AtFork → DoesFork codes (room most (length l.callers)) (machine (pc + 1) handlers back (line_of l.frame.todo) l) (all_arguments l (item_branches l.frame.todo)) l }
 {}
 
 /// What comes back of what the branches of a fork took is told by the code behind the fork's mark, and so
@@ -140,18 +140,18 @@ pub fn room_is_a_product()
 /// the places themselves may differ, since a jump to a mark stands for the mark. A process that runs meets
 /// the premises where it keeps `StandsFor` of its own places over `codes_of` its program.
 pub fn a_state_tells_its_place()
-    ensures { (codes : Codes) (program : Form) (l : LocalState) (pc pc' : ℕ) (handlers handlers' : List ℕ) (back back' : List ReturnPlace) → AreOf codes program → StandsFor codes pc handlers back l → StandsFor codes pc' handlers' back' l → (pc ≡ pc') × GoOnAlike codes l handlers back handlers' back' }
+    ensures { (codes : Codes) (program : Form) (l : LocalState) (pc pc' : ℕ) (handlers handlers' : List ℕ) (back back' : List ReturnPlace) → AreCodesOf codes program → StandsFor codes pc handlers back l → StandsFor codes pc' handlers' back' l → (pc ≡ pc') × GoOnAlike codes l handlers back handlers' back' }
 {}
 
 /// Where the machine comes to a state, it comes to the place at which any process stands that is in that
-/// state and has its places in the code, and goes on from there alike. So it is of all that `Comes` says.
+/// state and has its places in the code, and goes on from there alike. So it is of all that `ComesToMark` says.
 pub fn the_machine_comes_to_the_place()
-    ensures { (codes : Codes) (program : Form) (bound : ℕ) (m : Machine) (l : LocalState) (pc : ℕ) (handlers : List ℕ) (back : List ReturnPlace) → AreOf codes program → Comes codes bound m l → StandsFor codes pc handlers back l → ComesTo codes bound m pc handlers back l }
+    ensures { (codes : Codes) (program : Form) (bound : ℕ) (m : Machine) (l : LocalState) (pc : ℕ) (handlers : List ℕ) (back : List ReturnPlace) → AreCodesOf codes program → ComesToMark codes bound m l → StandsFor codes pc handlers back l → ComesToPlace codes bound m pc handlers back l }
 {}
 
 /// From the mark of a state one step of the machine comes to the place at which a process stands that has
 /// taken the step that the definition says, and has its places in the code then, or it traps as the process
 /// does. The machine may have begun with handlers and callers of its own.
 pub fn one_step_comes_to_the_place()
-    ensures { (codes : Codes) (most : ℕ) (l : LocalState) (pc pc' : ℕ) (handlers handlers' : List ℕ) (back back' : List ReturnPlace) → AreOf codes l.program → AreShort codes most → NextSuits l.frame.todo l → StandsFor codes pc handlers back l → StandsFor codes pc' handlers' back' (done (next_action l) l) → DoesTo codes (step_room most (length l.callers)) (machine (pc + 1) handlers back (line_of l.frame.todo) l) (next_action l) pc' handlers' back' l }
+    ensures { (codes : Codes) (most : ℕ) (l : LocalState) (pc pc' : ℕ) (handlers handlers' : List ℕ) (back back' : List ReturnPlace) → AreCodesOf codes l.program → AreBounded codes most → NextSuits l.frame.todo l → StandsFor codes pc handlers back l → StandsFor codes pc' handlers' back' (done (next_action l) l) → DoesTo codes (step_room most (length l.callers)) (machine (pc + 1) handlers back (line_of l.frame.todo) l) (next_action l) pc' handlers' back' l }
 {}

@@ -1,14 +1,14 @@
 -- No words, not even the program's own name, ask for nothing.
 use Rattle.std.proofs.Common.{◌≡◌, ℕ, [], Option, None, refl, subst}
 use Rattle.clap.proofs.OnLiterals.{clap_on_literals}
-use Rattle.shim_command.specs.Command.{arguments, shim_app}
+use Rattle.shim_command.specs.Command.{command_rules, shim_app}
 use Rattle.shim_command.specs.Jobs.{job}
 use Rattle.shim_command.specs.declared.job.Job.{Job}
 use Rattle.shim_tool.specs.Moments.{FilesAt, SinkAt}
 use Rattle.shim_tool.specs.Call.{Ran}
 
 no_words : job [] ≡ None
-unfolding job shim_app arguments clap_on_literals
+unfolding job shim_app command_rules clap_on_literals
 no_words = refl
 
 -- so a run on none is one on words that ask for nothing

@@ -6,7 +6,7 @@ use Rattle.shim_semantics.specs.Trees.{Tree, steps}
 use Rattle.shim_laws_replay.specs.Journals.{Entry}
 use Rattle.shim_net.specs.Nets.{OpenGrant, NetView, IsNet, reserved_in}
 use Rattle.shim_net.specs.Stepping.{IsHomeNumber}
-use Rattle.shim_net.specs.Granting.{IsAtHome, NoneAtHome, Gives, GivesNone}
+use Rattle.shim_net.specs.Granting.{IsAtHome, NoneAtHome, Grants, GivesNone}
 
 -- what is given is left
 pub has_room : (left b s r most n : ℕ) → left ≡ b - (s + r) → s + r ≤ b → n ≡ min most left → s + r + n ≤ b
@@ -19,11 +19,11 @@ home_number o v w number l home root = record { process = l; home = home; root_i
 module _ {S : Type 0} (o : Ops S) (v : NetView S) (w : IsNet o v) (l : S) (home : IsAtHome o v.tree v.grants l) where
   pub gives : (most slot round left n : ℕ) → left ≡ v.budget - (steps v.tree + reserved_in v.grants) → n ≡ min most left → 1 ≤ n → (number : ℕ) → (number ≡ 0) ↔ (o.path l ≡ []) → (pid : ℕ) (start : S) (grant : ℕ) → pid ≡ number → start ≡ l → grant ≡ n
       → (after : NetView S) → after ≡ record { root = v.root; budget = v.budget; tree = v.tree; journal = v.journal; grants = v.grants ++ record { pid = number; slot = slot; round = round; most = n; start = l } ∷ [] }
-      → Gives o v after most slot round pid start grant
+      → Grants o v after most slot round pid start grant
   gives most slot round left n is least some number at_root pid start grant pid_is start_is grant_is after after_is =
-      subst (λ p. Gives o v after most slot round p start grant) (sym pid_is)
-      (subst (λ s. Gives o v after most slot round number s grant) (sym start_is)
-      (subst (λ m. Gives o v after most slot round number l m) (sym grant_is) (record {
+      subst (λ p. Grants o v after most slot round p start grant) (sym pid_is)
+      (subst (λ s. Grants o v after most slot round number s grant) (sym start_is)
+      (subst (λ m. Grants o v after most slot round number l m) (sym grant_is) (record {
         process = home;
         lesser = least ∙ ap (min most) is;
         some = some;

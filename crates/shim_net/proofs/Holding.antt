@@ -15,13 +15,13 @@ use Rattle.shim_semantics.specs.Trees.{Tree}
 use Rattle.shim_semantics.proofs.HowMany.{clash}
 use Rattle.shim_laws_replay.specs.Grants.{IsGrantable}
 use Rattle.shim_laws_replay.specs.Journals.{Entry}
-use Rattle.shim_laws_records.specs.Seen.{Sort, lives, place}
+use Rattle.shim_laws_records.specs.Seen.{ProcessStatus, lives, place}
 use Rattle.shim_laws_records.proofs.OneChange.{one_state}
 use Rattle.shim_laws_records.proofs.SameTrees.{same_or_not}
-use Rattle.shim_laws_keeping.specs.Flats.{HasProcess, stands}
+use Rattle.shim_laws_keeping.specs.Flats.{HasProcessState, stands}
 use Rattle.shim_laws_waking.specs.Awake.{is_listed}
 use Rattle.shim_flat_tree.specs.FlatTrees.{FlatTreeView, tree_in, IsQuietAt, IsHeld, KeepsTree}
-use Rattle.shim_flat_tree.specs.Holding.{SameHeld, NoneHeld, IsHomeAt, SameTree, Holds, Releases}
+use Rattle.shim_flat_tree.specs.Holding.{SameHeld, NoneHeld, IsHomeAt, SameTree, BecomesHeld, Releases}
 use Rattle.shim_flat_tree.proofs.Advanced.{grantable}
 use Rattle.shim_net.specs.Nets.{OpenGrant, IsNet, HaveOtherPids}
 use Rattle.shim_net.specs.Granting.{IsAtHome, NoneAtHome}
@@ -100,21 +100,21 @@ module _ {S : Type 0} (o : Ops S) where
 
   module _ (law : LocalLaws o) (v : FlatTreeView S) (kept : KeepsTree o v) where
     -- one place has one number
-    one_number : (i j f g : ℕ) (s t : S) (k h : Sort) → HasProcess v.flat i f s k → HasProcess v.flat j g t h → o.path s ≡ o.path t → i ≡ j
+    one_number : (i j f g : ℕ) (s t : S) (k h : ProcessStatus) → HasProcessState v.flat i f s k → HasProcessState v.flat j g t h → o.path s ≡ o.path t → i ≡ j
     one_number i j f g s t k h w x e = kept.shows.shows.agrees.apart i j f g s t k h w x (ap (λ (p : Path). branches p) e)
 
     -- the root alone has the number 0
-    pub zero_at_root : (i f : ℕ) (l : S) (k : Sort) → HasProcess v.flat i f l k → (i ≡ 0) ↔ (o.path l ≡ [])
+    pub zero_at_root : (i f : ℕ) (l : S) (k : ProcessStatus) → HasProcessState v.flat i f l k → (i ≡ 0) ↔ (o.path l ≡ [])
     zero_at_root i f l k has =
         let r = kept.shows.shows.rooted in
         let root : o.path r.state ≡ [] = no_branches (o.path r.state) r.at_root in (
-          λ e. ap o.path (one_state v.flat.states (stands v.flat) 0 f r.first l r.state k r.sort (subst (λ z. HasProcess v.flat z f l k) e has) r.has) ∙ root,
+          λ e. ap o.path (one_state v.flat.states (stands v.flat) 0 f r.first l r.state k r.sort (subst (λ z. HasProcessState v.flat z f l k) e has) r.has) ∙ root,
           λ e. one_number i 0 f r.first l r.state k r.sort has r.has (e ∙ sym root),
         )
 
     module _ (grants : List (OpenGrant S)) (h : AreHeld o v grants) (i : ℕ) (l : S) (home : IsHomeAt o v i l) where
       pub other_pids : All (λ g. g.pid ≢ i) grants
-      other_pids k d few e = clash (is_listed v.held i) (ap (is_listed v.held) (sym e) ∙ (h.held k d few).flag) home.free
+      other_pids k d few e = clash (is_listed v.schedule.held i) (ap (is_listed v.schedule.held) (sym e) ∙ (h.held k d few).flag) home.free
 
       pub is_home : IsAtHome o (tree_in o v) grants l
       is_home = record {
@@ -126,9 +126,9 @@ module _ {S : Type 0} (o : Ops S) where
       }
 
   -- what is found of the next one, whose record is read where a list alone has changed
-  module _ (v u : FlatTreeView S) (same : SameTree o v u) (i : ℕ) (l p : S) (home : IsHomeAt o v i l) (f : ℕ) (k : Sort) (has : HasProcess u.flat i f p k) where
+  module _ (v u : FlatTreeView S) (same : SameTree o v u) (i : ℕ) (l p : S) (home : IsHomeAt o v i l) (f : ℕ) (k : ProcessStatus) (has : HasProcessState u.flat i f p k) where
     is_process : l ≡ p
-    is_process = one_state v.flat.states (stands v.flat) i home.quiet.first f l p lives k home.quiet.has (subst (λ z. HasProcess z i f p k) same.flat has)
+    is_process = one_state v.flat.states (stands v.flat) i home.quiet.first f l p lives k home.quiet.has (subst (λ z. HasProcessState z i f p k) same.flat has)
 
     pub its_home : IsHomeAt o v i p
     its_home = subst (IsHomeAt o v i) is_process home
@@ -138,7 +138,7 @@ module _ {S : Type 0} (o : Ops S) where
 
   -- ---- one more is held, or one less
 
-  pub one_more_held : (v u : FlatTreeView S) (grants gs : List (OpenGrant S)) (i : ℕ) (l : S) (g : OpenGrant S) → AreHeld o v grants → Holds o v u i l → All (λ g. g.pid ≢ i) grants → gs ≡ grants ++ g ∷ [] → g.pid ≡ i → g.start ≡ l → AreHeld o u gs
+  pub one_more_held : (v u : FlatTreeView S) (grants gs : List (OpenGrant S)) (i : ℕ) (l : S) (g : OpenGrant S) → AreHeld o v grants → BecomesHeld o v u i l → All (λ g. g.pid ≢ i) grants → gs ≡ grants ++ g ∷ [] → g.pid ≡ i → g.start ≡ l → AreHeld o u gs
   one_more_held v u grants gs i l g h holds others more pid start = subst (AreHeld o u) (sym more) (record {
     held = all_held;
     only = all_out;
@@ -151,7 +151,7 @@ module _ {S : Type 0} (o : Ops S) where
 
       all_out : (j : ℕ) (s : S) → IsHeld o u j s → Any (λ g. (g.pid ≡ j) × (g.start ≡ s)) (grants ++ g ∷ [])
       all_out j s w = elim (same_or_not j i) [
-        | inl e ↦ Any-push (λ (z : OpenGrant S). (z.pid ≡ j) × (z.start ≡ s)) grants g (pid ∙ sym e, start ∙ one_state u.flat.states (stands u.flat) i holds.is.quiet.first w.quiet.first l s lives lives holds.is.quiet.has (subst (λ z. HasProcess u.flat z w.quiet.first s lives) e w.quiet.has))
+        | inl e ↦ Any-push (λ (z : OpenGrant S). (z.pid ≡ j) × (z.start ≡ s)) grants g (pid ∙ sym e, start ∙ one_state u.flat.states (stands u.flat) i holds.is.quiet.first w.quiet.first l s lives lives holds.is.quiet.has (subst (λ z. HasProcessState u.flat z w.quiet.first s lives) e w.quiet.has))
         | inr far ↦ any_push (λ (z : OpenGrant S). (z.pid ≡ j) × (z.start ≡ s)) grants g (h.only j s ((holds.others j s far).1 w))
       ]
 

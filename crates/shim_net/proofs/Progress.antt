@@ -15,7 +15,7 @@ use Rattle.shim_local.specs.declared.local.Quiet.{Quiet}
 use Rattle.shim_semantics.specs.Nodes.{Live}
 use Rattle.shim_semantics.specs.Places.{StandsAt}
 use Rattle.shim_semantics.specs.Trees.{Tree, Event, Own, after, steps, IsQuiescent}
-use Rattle.shim_semantics.specs.Systems.{run, go_on}
+use Rattle.shim_semantics.specs.Systems.{run, on_some}
 use Rattle.shim_laws_schedules.proofs.Rounds.{run_on, run_one}
 use Rattle.shim_laws_replay.specs.Journals as journals
 use Rattle.shim_laws_replay.specs.Journals.{Entry, Did, entry_after, quiet_steps}
@@ -160,7 +160,7 @@ module _ {S : Type 0} (o : Ops S) where
 
   happenings_lead : (es : List Event) (t u : Tree S) → AllHappen o es t u → run (entry_after o) (map Did es) t ≡ Some u
   happenings_lead [] t u same = ap Some same
-  happenings_lead (e ∷ es) t u h = ap (go_on (run (entry_after o) (map Did es))) h.2 ∙ happenings_lead es h.0 u h.3
+  happenings_lead (e ∷ es) t u h = ap (on_some (run (entry_after o) (map Did es))) h.2 ∙ happenings_lead es h.0 u h.3
 
   -- events other than quiet steps happened
   module _ (before after_it : NetView S) (n : ℕ) (s : Settles o before after_it n) where

@@ -6,10 +6,10 @@ use Rattle.std.proofs.Crossing.{crosses}
 use Rattle.shim_local.specs.declared.local.Local.{Ghosts}
 use Rattle.shim_local.proofs.ended.Log.TheSendSync as logs
 use Rattle.shim_run_log.proofs.histories.Histories.TheSendSync as histories
-use Rattle.shim_records.proofs.worklist.Worklist.TheSendSync as worklists
 use Rattle.shim_flat.proofs.flat.Flat.TheSendSync as flats
 use Rattle.shim_flat.proofs.descent.Sharers.TheSendSync as sharers
 use Rattle.shim_flat_tree.proofs.flat_tree.PastSteps.TheSendSync as past
+use Rattle.shim_flat_tree.proofs.schedule.Schedule.TheSendSync as schedules
 use Rattle.shim_flat_tree.specs.contracts.flat_tree.FlatTree as FlatTree
 use Rattle.shim_flat_tree.specs.contracts.flat_tree.FlatTree.TheInside as tree
 use Rattle.shim_tree.proofs.entry.Entry.TheSendSync as entries
@@ -30,7 +30,7 @@ module _ (T : RattleType) (g : Ghosts T.Denot) (s : IsSend T) where
           (
             search (logs.the_send, sendable, crosses) depth 20,
             (
-              search (sendable, crosses) depth 20,
+              schedules.the_send,
               (
                 search (past.the_send, sendable, crosses) depth 20,
                 (
@@ -38,17 +38,8 @@ module _ (T : RattleType) (g : Ghosts T.Denot) (s : IsSend T) where
                   (
                     search sendable,
                     (
-                      worklists.the_send,
-                      (
-                        worklists.the_send,
-                        (
-                          search (sendable, crosses) depth 20,
-                          (
-                            sharers.the_send,
-                            tt,
-                          ),
-                        ),
-                      ),
+                      sharers.the_send,
+                      tt,
                     ),
                   ),
                 ),

@@ -20,7 +20,7 @@ abbrev pub GivesNone : {S : Type 0} → Ops S → NetView S → NetView S → Ty
 GivesNone o before after = (after ≡ before) × ((steps before.tree + reserved_in before.grants ≡ before.budget) ⊎ NoneAtHome o before.tree before.grants)
 
 -- a piece of work was given out: of which process is free
-pub record Gives {S : Type 0} (o : Ops S) (before after : NetView S) (most slot round : ℕ) (pid : ℕ) (start : S) (grant : ℕ) : Type 0 where
+pub record Grants {S : Type 0} (o : Ops S) (before after : NetView S) (most slot round : ℕ) (pid : ℕ) (start : S) (grant : ℕ) : Type 0 where
   pub process : IsAtHome o before.tree before.grants start
   -- what was asked for, or what is left of the budget
   pub lesser : grant ≡ min most (before.budget - (steps before.tree + reserved_in before.grants))

@@ -31,17 +31,17 @@ pub record Closes {S : Type 0} (o : Ops S) (before after : NetView S) (place use
   pub after_is : after ≡ record { root = before.root; budget = before.budget; tree = after.tree; journal = with_piece (o.path grant.start) used before.journal; grants = remove before.grants place }
 
 -- a piece of these numbers and this start was taken in, with so many steps
-pub record Takes {S : Type 0} (o : Ops S) (before after : NetView S) (pid slot round most : ℕ) (start : S) (used : ℕ) : Type 0 where
+pub record Absorbs {S : Type 0} (o : Ops S) (before after : NetView S) (pid slot round most : ℕ) (start : S) (used : ℕ) : Type 0 where
   pub place : ℕ
   pub there : place < length before.grants
   pub closes : Closes o before after place used
   pub matches : Matches pid slot round most start closes.grant
 
 -- what came of a piece is one of these
-abbrev pub Came : {F : Type 0} → Type 0 → Type 0 → (F → Type 0) → Absorbed F → Type 0
-Came taken short stranger Taken = taken
-Came taken short stranger Short = short
-Came taken short stranger (Stranger f) = stranger f
+abbrev pub OnAbsorbed : {F : Type 0} → Type 0 → Type 0 → (F → Type 0) → Absorbed F → Type 0
+OnAbsorbed taken short stranger Taken = taken
+OnAbsorbed taken short stranger Short = short
+OnAbsorbed taken short stranger (Stranger f) = stranger f
 
 -- an open grant was closed by a piece of a step or more, which has fewer steps than were granted only where its process came to another stop
 pub record Redoes {S : Type 0} (o : Ops S) (before after : NetView S) : Type 0 where

@@ -3,7 +3,7 @@ ghost use Rattle.std.specs.Prelude.{◌≡◌, ◌<◌, ◌≤◌, ℕ, true, fa
 ghost use Rattle.std.specs.List.{All};
 ghost use Rattle.shim_local.specs.Quiets.{QuietSteps};
 ghost use Rattle.shim_net.specs.Nets.{OpenGrant as GrantOf};
-ghost use Rattle.shim_net.specs.Taking.{Matches, Closes, Takes, Came};
+ghost use Rattle.shim_net.specs.Taking.{Matches, Closes, Absorbs, OnAbsorbed};
 
 use crate::net::Net;
 use crate::open_grant::place_of;
@@ -25,9 +25,9 @@ impl<L: Local> Net<L> {
     /// Takes in a piece of work that is done, which closes its grant. `Stranger` exactly where no open
     /// grant has its numbers, its grant and its start, and then nothing changes. It takes no memory.
     pub fn absorb(&mut self, finished: Finished<L>) -> Absorbed<Finished<L>>
-        ensures { Came
-            ((finished.short ≡ false) × Takes L.ops self.old self.new finished.pid finished.slot finished.round finished.grant finished.start finished.used)
-            ((finished.short ≡ true) × Takes L.ops self.old self.new finished.pid finished.slot finished.round finished.grant finished.start finished.used)
+        ensures { OnAbsorbed
+            ((finished.short ≡ false) × Absorbs L.ops self.old self.new finished.pid finished.slot finished.round finished.grant finished.start finished.used)
+            ((finished.short ≡ true) × Absorbs L.ops self.old self.new finished.pid finished.slot finished.round finished.grant finished.start finished.used)
             (λ f. (f ≡ finished) × (self.new ≡ self.old) × All (λ g. Matches finished.pid finished.slot finished.round finished.grant finished.start g → ⊥) self.old.grants)
             result }
     {

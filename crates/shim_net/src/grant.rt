@@ -1,7 +1,7 @@
 // Giving out work.
 ghost use Rattle.std.specs.Prelude.{◌≡◌, ◌≤◌, IfOk, OnErr, MatchOption};
 ghost use Rattle.shim_net.specs.Nets.{IsOpen};
-ghost use Rattle.shim_net.specs.Granting.{GivesNone, Gives};
+ghost use Rattle.shim_net.specs.Granting.{GivesNone, Grants};
 
 use crate::net::{Net, left_in};
 use crate::open_grant::OpenGrant;
@@ -18,7 +18,7 @@ impl<L: Local> Net<L> {
     pub fn grant(&mut self, most: u64, slot: u64, round: u64) -> Result<Option<Parcel<L>>, NoMemory>
         requires most { 1 ≤ most }
         requires numbers { IsOpen slot round self.old.grants → ⊥ }
-        ensures given { IfOk result (λ p. MatchOption p (GivesNone L.ops self.old self.new) (λ p. (p.slot ≡ slot) × (p.round ≡ round) × Gives L.ops self.old self.new most slot round p.pid p.start p.grant)) }
+        ensures given { IfOk result (λ p. MatchOption p (GivesNone L.ops self.old self.new) (λ p. (p.slot ≡ slot) × (p.round ≡ round) × Grants L.ops self.old self.new most slot round p.pid p.start p.grant)) }
         ensures err { OnErr result (self.new ≡ self.old) }
     {
         let left = left_in(&self.tree, self.budget, self.reserved);

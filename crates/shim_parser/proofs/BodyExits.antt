@@ -11,12 +11,12 @@ use Rattle.shim_syntax.specs.declared.tree.BranchWhat.TheVariants as br
 use Rattle.shim_syntax.specs.Terminals.{Terminal, Key, Sign, first}
 use Rattle.shim_syntax.specs.Limits.{Nesting, limits, is_within}
 use Rattle.shim_syntax.specs.Grammar as is
-use Rattle.shim_syntax.specs.Grammar.{Counts, at_level, new_body, behind_body, as_branch, is_par, IsBlock, IsStmt, IsBody, IsPlain}
-use Rattle.shim_grammar.specs.Machine.{Stack, Past, Block, Body, Statement, Pars, AfterBody, Branch, ask, go, wants, run}
+use Rattle.shim_syntax.specs.Grammar.{TextCounts, at_level, new_body, behind_body, as_branch, is_par, IsBlock, IsStmt, IsBody, IsPlain}
+use Rattle.shim_grammar.specs.Machine.{SymbolStack, Past, Block, Body, Statement, Pars, AfterBody, Branch, ask, go, wants, run_parser}
 use Rattle.shim_grammar.proofs.Runs.{asked, is_left_brace, body_skips}
 use Rattle.shim_parser.specs.declared.fault.ParseFault.{ParseFault}
 use Rattle.shim_parser.specs.Statements.{IsSignAt, IsKeyAt, IsThing, IsBehindPar}
-use Rattle.shim_parser.specs.Reading.{Reading, Blames, Fails, Reads, counted}
+use Rattle.shim_parser.specs.Reading.{ReaderView, Blames, Fails, Reads, reader_with}
 use Rattle.shim_parser.proofs.Exits.{Leads, Took, took, fails_as, fails_under, reads_as, refused}
 use Rattle.shim_parser.proofs.Sequences.{then, same_run, block_leads, fails_there}
 use Rattle.shim_parser.proofs.StmtExits.{no_sign, not_par}
@@ -26,20 +26,20 @@ no_left_brace (Sign g.LeftBrace p) h = absurd (h (p, refl))
 no_left_brace _ h = refl
 
 -- a statement that begins with no brace
-plain_of : {l : ℕ} {v w : Counts} {s r : List Terminal} {xs : List Stmt} → IsStmt limits l v w s r xs → is_left_brace (first s) ≡ false → IsPlain limits l v w s r xs
+plain_of : {l : ℕ} {v w : TextCounts} {s r : List Terminal} {xs : List Stmt} → IsStmt limits l v w s r xs → is_left_brace (first s) ≡ false → IsPlain limits l v w s r xs
 plain_of (is.block d n) h = absurd (cc)
 plain_of (is.block_fork d b) h = absurd (cc)
 plain_of (is.plain d) h = d
 
-pub body_statement : (l : ℕ) (a n : Reading) (y : Bool) (r : Result (List Stmt) ParseFault) → IsTrue y ↔ IsSignAt g.LeftBrace (first a.rest) → y ≡ false → Reads (IsThing l) (Statement l ∷ []) r a n
+pub body_statement : (l : ℕ) (a n : ReaderView) (y : Bool) (r : Result (List Stmt) ParseFault) → IsTrue y ↔ IsSignAt g.LeftBrace (first a.rest) → y ≡ false → Reads (IsThing l) (Statement l ∷ []) r a n
     → Reads (IsBody limits l) (Body l ∷ []) r a n
 body_statement l a n y r h i f =
     let b = no_left_brace (first a.rest) (no_sign g.LeftBrace (first a.rest) y h i) in
     reads_as (IsThing l) (IsBody limits l) (Statement l ∷ []) (Body l ∷ []) [] a a n r (λ xs t. is.body_plain t.0 (plain_of t.1 b)) (λ z. body_skips limits a.rest l a.counts z b) f
 
 -- a body in braces: at d behind the brace, at e with the counts of a body
-module _ (l : ℕ) (a d e : Reading) (y : Bool) (h : IsTrue y ↔ IsSignAt g.LeftBrace (first a.rest)) (i : y ≡ true)
-    (q : a ≡ record { rest = first a.rest ∷ d.rest; counts = d.counts }) (w : e ≡ counted new_body d) where
+module _ (l : ℕ) (a d e : ReaderView) (y : Bool) (h : IsTrue y ↔ IsSignAt g.LeftBrace (first a.rest)) (i : y ≡ true)
+    (q : a ≡ record { rest = first a.rest ∷ d.rest; counts = d.counts }) (w : e ≡ reader_with new_body d) where
   abbrev brace_place : Place
   brace_place = (h.0 i).0
 
@@ -47,28 +47,28 @@ module _ (l : ℕ) (a d e : Reading) (y : Bool) (h : IsTrue y ↔ IsSignAt g.Lef
   brace = took (sym ((h.0 i).1)) q
 
   inside_rest : d.rest ≡ e.rest
-  inside_rest = ap (λ (u : Reading). u.rest) (sym w)
+  inside_rest = ap (λ (u : ReaderView). u.rest) (sym w)
 
   inside_counts : new_body a.counts ≡ e.counts
-  inside_counts = ap new_body brace.counts ∙ ap (λ (u : Reading). u.counts) (sym w)
+  inside_counts = ap new_body brace.counts ∙ ap (λ (u : ReaderView). u.counts) (sym w)
 
   body_opened : Leads (Body l ∷ []) (Block l ∷ AfterBody l a.counts.deepest ∷ []) a e
-  body_opened = λ z. ap (λ u. run limits u (Body l ∷ z) a.counts) brace.rest ∙ same_run d.rest e.rest (Block l ∷ AfterBody l a.counts.deepest ∷ z) (new_body a.counts) e.counts inside_rest inside_counts
+  body_opened = λ z. ap (λ u. run_parser limits u (Body l ∷ z) a.counts) brace.rest ∙ same_run d.rest e.rest (Block l ∷ AfterBody l a.counts.deepest ∷ z) (new_body a.counts) e.counts inside_rest inside_counts
 
-  pub body_block_fails : (at : Reading) (err : ParseFault) → Fails (Block l ∷ []) e at err → Fails (Body l ∷ []) a at err
+  pub body_block_fails : (at : ReaderView) (err : ParseFault) → Fails (Block l ∷ []) e at err → Fails (Body l ∷ []) a at err
   body_block_fails at err f = fails_under (Body l ∷ []) (Block l ∷ []) (AfterBody l a.counts.deepest ∷ []) a e at err body_opened f
 
   -- at m behind the block, with the counts of the body; at n with those outside
-  module _ (m n : Reading) (xs : List Stmt) (t : IsBlock limits l e.counts m.counts e.rest m.rest xs) (o : ℕ) (deep : o ≡ a.counts.deepest) (v : n ≡ counted (behind_body o) m)
+  module _ (m n : ReaderView) (xs : List Stmt) (t : IsBlock limits l e.counts m.counts e.rest m.rest xs) (o : ℕ) (deep : o ≡ a.counts.deepest) (v : n ≡ reader_with (behind_body o) m)
       (x : Bool) (c : IsTrue x ↔ IsKeyAt k.Par (first m.rest)) where
     block_is : IsBlock limits l (new_body a.counts) m.counts d.rest m.rest xs
     block_is = subst (λ u. IsBlock limits l u m.counts d.rest m.rest xs) (sym inside_counts) (subst (λ u. IsBlock limits l e.counts m.counts u m.rest xs) (sym inside_rest) t)
 
     outside_rest : n.rest ≡ m.rest
-    outside_rest = ap (λ (u : Reading). u.rest) v
+    outside_rest = ap (λ (u : ReaderView). u.rest) v
 
     outside_counts : n.counts ≡ behind_body a.counts.deepest m.counts
-    outside_counts = ap (λ (u : Reading). u.counts) v ∙ ap (λ u. behind_body u m.counts) deep
+    outside_counts = ap (λ (u : ReaderView). u.counts) v ∙ ap (λ u. behind_body u m.counts) deep
 
     pub body_block_reads : x ≡ false → IsBody limits l a.counts n.counts a.rest n.rest xs
     body_block_reads f = rw (brace.rest, outside_rest, outside_counts) (is.body_block block_is (not_par (first m.rest) x c f))
@@ -83,41 +83,41 @@ module _ (l : ℕ) (a d e : Reading) (y : Bool) (h : IsTrue y ↔ IsSignAt g.Lef
       fork_first : first m.rest ≡ Key k.Par fork_place
       fork_first = (c.0 f).1
 
-      fork_wants : (z : Stack) → wants (AfterBody l a.counts.deepest ∷ z) (first m.rest) m.counts
+      fork_wants : (z : SymbolStack) → wants (AfterBody l a.counts.deepest ∷ z) (first m.rest) m.counts
           ≡ ask Nesting (as_branch l m.counts) (go (Branch l 2 ∷ Pars l 2 ∷ z) (at_level (as_branch l m.counts) (behind_body a.counts.deepest m.counts)))
       fork_wants z = rw fork_first refl
 
-      pub body_enter_fails : (at : Reading) (err : ParseFault) → is_within Nesting j ≡ false → at ≡ n → Blames err (Past Nesting) (first n.rest) → Fails (Body l ∷ []) a at err
-      body_enter_fails at err p u s = fails_there (Body l ∷ []) a m at err (sym outside_rest ∙ ap (λ (i : Reading). i.rest) (sym u))
+      pub body_enter_fails : (at : ReaderView) (err : ParseFault) → is_within Nesting j ≡ false → at ≡ n → Blames err (Past Nesting) (first n.rest) → Fails (Body l ∷ []) a at err
+      body_enter_fails at err p u s = fails_there (Body l ∷ []) a m at err (sym outside_rest ∙ ap (λ (i : ReaderView). i.rest) (sym u))
           (fails_as (Body l ∷ []) (AfterBody l a.counts.deepest ∷ []) a m m err body_passed
           (refused (AfterBody l a.counts.deepest) [] m err Nesting (as_branch l m.counts) (λ z. go (Branch l 2 ∷ Pars l 2 ∷ z) (at_level (as_branch l m.counts) (behind_body a.counts.deepest m.counts)))
           is_par (ap is_par fork_first) refl fork_wants (λ z. refl) (subst (λ i. is_within Nesting i ≡ false) b p) (subst (λ i. Blames err (Past Nesting) (first i)) outside_rest s)))
 
       -- at s with the level of the fork
-      module _ (s : Reading) (p : is_within Nesting j ≡ true) (u : s ≡ counted (at_level j) n) where
+      module _ (s : ReaderView) (p : is_within Nesting j ≡ true) (u : s ≡ reader_with (at_level j) n) where
         fork_rest : m.rest ≡ s.rest
-        fork_rest = sym outside_rest ∙ ap (λ (i : Reading). i.rest) (sym u)
+        fork_rest = sym outside_rest ∙ ap (λ (i : ReaderView). i.rest) (sym u)
 
         fork_counts : at_level (as_branch l m.counts) (behind_body a.counts.deepest m.counts) ≡ s.counts
-        fork_counts = ap (λ i. at_level i (behind_body a.counts.deepest m.counts)) (sym b) ∙ ap (λ i. at_level j i) (sym outside_counts) ∙ ap (λ (i : Reading). i.counts) (sym u)
+        fork_counts = ap (λ i. at_level i (behind_body a.counts.deepest m.counts)) (sym b) ∙ ap (λ i. at_level j i) (sym outside_counts) ∙ ap (λ (i : ReaderView). i.counts) (sym u)
 
         fork_within : is_within Nesting (as_branch l m.counts) ≡ true
         fork_within = subst (λ i. is_within Nesting i ≡ true) b p
 
         -- the machine does with the `par` behind a body as with one behind a branch
-        par_run : (r : List Terminal) (v w : Counts) (z : Stack) → IsKeyAt k.Par (first r) → is_within Nesting (as_branch l v) ≡ true → at_level (as_branch l v) (behind_body a.counts.deepest v) ≡ w
-            → run limits r (AfterBody l a.counts.deepest ∷ z) v ≡ run limits r (Pars l 1 ∷ z) w
+        par_run : (r : List Terminal) (v w : TextCounts) (z : SymbolStack) → IsKeyAt k.Par (first r) → is_within Nesting (as_branch l v) ≡ true → at_level (as_branch l v) (behind_body a.counts.deepest v) ≡ w
+            → run_parser limits r (AfterBody l a.counts.deepest ∷ z) v ≡ run_parser limits r (Pars l 1 ∷ z) w
         par_run [] v w z g h i = absurd (let e = g.1 in cc)
         par_run (t ∷ r) v w z g h i = rw g.1 (asked limits (Key k.Par g.0) r Nesting (as_branch l v) (go (Branch l 2 ∷ Pars l 2 ∷ z) (at_level (as_branch l v) (behind_body a.counts.deepest v))) h
-            ∙ ap (λ o. run limits r (Branch l 2 ∷ Pars l 2 ∷ z) o) i)
+            ∙ ap (λ o. run_parser limits r (Branch l 2 ∷ Pars l 2 ∷ z) o) i)
 
         body_forked : Leads (Body l ∷ []) (Pars l 1 ∷ []) a s
-        body_forked = λ z. body_passed z ∙ par_run m.rest m.counts s.counts z (c.0 f) fork_within fork_counts ∙ ap (λ o. run limits o (Pars l 1 ∷ z) s.counts) fork_rest
+        body_forked = λ z. body_passed z ∙ par_run m.rest m.counts s.counts z (c.0 f) fork_within fork_counts ∙ ap (λ o. run_parser limits o (Pars l 1 ∷ z) s.counts) fork_rest
 
-        pub body_branches_fails : (at : Reading) (err : ParseFault) → Fails (Pars l 1 ∷ []) s at err → Fails (Body l ∷ []) a at err
+        pub body_branches_fails : (at : ReaderView) (err : ParseFault) → Fails (Pars l 1 ∷ []) s at err → Fails (Body l ∷ []) a at err
         body_branches_fails at err o = fails_as (Body l ∷ []) (Pars l 1 ∷ []) a s at err body_forked o
 
-        pub body_fork_reads : (i : Reading) (line : ℕ) (bs : List BranchTree) (ys : List Stmt) → line ≡ brace_place.line → IsBehindPar (record { line = line; what = br.Block xs }) l s.counts i.counts s.rest i.rest bs
+        pub body_fork_reads : (i : ReaderView) (line : ℕ) (bs : List BranchTree) (ys : List Stmt) → line ≡ brace_place.line → IsBehindPar (record { line = line; what = br.Block xs }) l s.counts i.counts s.rest i.rest bs
             → ys ≡ record { line = line; what = st.Par bs } ∷ [] → IsBody limits l a.counts i.counts a.rest i.rest ys
         body_fork_reads i line bs ys o (t', r, cs, e', z, v') ys_are =
             let rest : m.rest ≡ Key k.Par t' ∷ r = fork_rest ∙ e' in

@@ -2,10 +2,10 @@
 use Rattle.std.proofs.Common.{ℕ, ◌≤◌, ◌≡◌, List, [], ◌∷◌, ◌++◌, length, drop, Option, Some, None, Result, Ok, Err, refl, sym, ◌∙◌, ap, subst, append_assoc}
 use Rattle.std.proofs.lemmas.List.{append-nil}
 use Rattle.std.specs.Prelude.{map}
-use Rattle.shim_base.specs.Tokens.{Token, Fault, Cuts, start, after}
+use Rattle.shim_base.specs.Tokens.{Token, Fault, Cuts, start, place_after}
 use Rattle.shim_lexer.specs.declared.LexFault.{LexFault}
 use Rattle.shim_lexer.specs.declared.Token.{Token as Given}
-use Rattle.shim_lexer.specs.Lexing.{Lexing, token_of, fault_of, behind, Finds, Answers}
+use Rattle.shim_lexer.specs.Lexing.{Lexing, token_of, fault_of, place_behind, Finds, AnswersNext}
 use Rattle.shim_parser.specs.declared.token.Token.{Token as Read}
 use Rattle.shim_parser.specs.Cutting.{IsCut}
 use Rattle.shim_parser.specs.TokenView.{token_view, token_views}
@@ -22,14 +22,14 @@ pub record IsCutTo (text : List ℕ) (terminals : List Terminal) (lexing : Lexin
 
 -- what the lexer found, where it has no fault
 pub record HasFound (text : List ℕ) (old new : Lexing) (result : Result (Option Given) LexFault) : Type 0 where
-  pub new_is : new ≡ behind old result
+  pub new_is : new ≡ place_behind old result
   pub found : Finds text old.place result
 
 -- a lexer without a fault finds something
-pub found_by : (text : List ℕ) (ts : List Terminal) (old new : Lexing) (result : Result (Option Given) LexFault) → IsCutTo text ts old → Answers old.fault old new result → HasFound text old new result
+pub found_by : (text : List ℕ) (ts : List Terminal) (old new : Lexing) (result : Result (Option Given) LexFault) → IsCutTo text ts old → AnswersNext old.fault old new result → HasFound text old new result
 found_by text ts old new result h a =
-    let P : Option Fault → Type 0 = λ f. Answers f old new result in
-    let b : Answers None old new result = subst P h.no_fault a in
+    let P : Option Fault → Type 0 = λ f. AnswersNext f old new result in
+    let b : AnswersNext None old new result = subst P h.no_fault a in
     let Q : List ℕ → Type 0 = λ t. Finds t old.place result in
     record { new_is = b.0; found = subst Q h.text_is b.1 }
 
@@ -41,24 +41,24 @@ map_append : (xs ys : List Token) → map of_token (xs ++ ys) ≡ map of_token x
 map_append [] ys = refl
 map_append (x ∷ xs) ys = ap (λ u. of_token x ∷ u) (map_append xs ys)
 
-ended : (text : List ℕ) (ts : List Terminal) (lexing : Lexing) (end : Option Fault) (c : IsCutTo text ts lexing) → Cuts start text (c.tokens ++ []) end → IsCut text (ts ++ of_end (after start text) end ∷ [])
+ended : (text : List ℕ) (ts : List Terminal) (lexing : Lexing) (end : Option Fault) (c : IsCutTo text ts lexing) → Cuts start text (c.tokens ++ []) end → IsCut text (ts ++ of_end (place_after start text) end ∷ [])
 ended text ts lexing end c d = record {
   tokens = c.tokens;
   end = end;
   cut = subst (λ l. Cuts start text l end) (append-nil c.tokens) d;
-  are = ap (λ u. u ++ of_end (after start text) end ∷ []) c.are ∙ sym (of_tokens_is c.tokens (of_end (after start text) end));
+  are = ap (λ u. u ++ of_end (place_after start text) end ∷ []) c.are ∙ sym (of_tokens_is c.tokens (of_end (place_after start text) end));
 }
 
 -- where only spacing and comments are left, the end follows
-pub cut_whole : (text : List ℕ) (ts : List Terminal) (old new : Lexing) → IsCutTo text ts old → Answers old.fault old new (Ok None) → IsCut text (ts ++ End (after start text) ∷ [])
+pub cut_whole : (text : List ℕ) (ts : List Terminal) (old new : Lexing) → IsCutTo text ts old → AnswersNext old.fault old new (Ok None) → IsCut text (ts ++ End (place_after start text) ∷ [])
 cut_whole text ts old new h a = ended text ts old None h (h.joins [] None (found_by text ts old new (Ok None) h a).found)
 
 -- where a fault stands, it ends the terminals
-pub cut_broken : (text : List ℕ) (ts : List Terminal) (old new : Lexing) (f : LexFault) → IsCutTo text ts old → Answers old.fault old new (Err f)
+pub cut_broken : (text : List ℕ) (ts : List Terminal) (old new : Lexing) (f : LexFault) → IsCutTo text ts old → AnswersNext old.fault old new (Err f)
     → IsCut text (ts ++ Broken f.kind (record { at = f.at; line = f.line }) ∷ [])
 cut_broken text ts old new f h a = ended text ts old (Some (fault_of f)) h (h.joins [] (Some (fault_of f)) (found_by text ts old new (Err f) h a).found)
 
-pub cut_more : (text : List ℕ) (ts us : List Terminal) (old new : Lexing) (t : Given) → IsCutTo text ts old → Answers old.fault old new (Ok (Some t)) → us ≡ ts ++ of_token (token_of text t) ∷ [] → IsCutTo text us new
+pub cut_more : (text : List ℕ) (ts us : List Terminal) (old new : Lexing) (t : Given) → IsCutTo text ts old → AnswersNext old.fault old new (Ok (Some t)) → us ≡ ts ++ of_token (token_of text t) ∷ [] → IsCutTo text us new
 cut_more text ts us old new t h a e =
     let w = found_by text ts old new (Ok (Some t)) h a in
     rw w.new_is (record {

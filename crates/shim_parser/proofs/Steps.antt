@@ -1,10 +1,10 @@
 -- Where a reader stands after one terminal.
 use Rattle.std.proofs.Common.{◌≡◌, ℕ, zero, suc, ◌+◌, List, [], ◌∷◌, drop, false, refl, ap, ◌∙◌, subst, add-one}
 use Rattle.shim_syntax.specs.Terminals.{Terminal, first}
-use Rattle.shim_syntax.specs.Grammar.{Counts}
+use Rattle.shim_syntax.specs.Grammar.{TextCounts}
 use Rattle.shim_parser.specs.declared.token.Token.{Token}
 use Rattle.shim_parser.specs.TokenView.{token_views}
-use Rattle.shim_parser.specs.Reading.{Reading, Proper, is_last}
+use Rattle.shim_parser.specs.Reading.{ReaderView, Proper, is_last}
 
 pub record Stepped (s r : List Terminal) : Type 0 where
   pub is : s ≡ first s ∷ r
@@ -23,14 +23,14 @@ stepped (t ∷ ts) (suc n) p h = stepped ts n p h
 pub step : (ts : List Token) (n : ℕ) → Proper (token_views (drop n ts)) → is_last (first (token_views (drop n ts))) ≡ false → Stepped (token_views (drop n ts)) (token_views (drop (n + 1) ts))
 step ts n p h = rw (add-one n) (stepped ts n p h)
 
-pub record Advanced (now : Reading) (rest : List Terminal) (counts : Counts) : Type 0 where
+pub record Advanced (now : ReaderView) (rest : List Terminal) (counts : TextCounts) : Type 0 where
   pub is : now ≡ record { rest = first now.rest ∷ rest; counts = counts }
   pub proper : Proper rest
 
-pub advanced : (ts : List Token) (n : ℕ) (counts : Counts) (now : Reading) → record { rest = token_views (drop n ts); counts = counts } ≡ now → Proper (token_views (drop n ts)) → is_last (first now.rest) ≡ false
+pub advanced : (ts : List Token) (n : ℕ) (counts : TextCounts) (now : ReaderView) → record { rest = token_views (drop n ts); counts = counts } ≡ now → Proper (token_views (drop n ts)) → is_last (first now.rest) ≡ false
     → Advanced now (token_views (drop (n + 1) ts)) counts
 advanced ts n counts now e p h =
-    let w = step ts n p (ap (λ (u : Reading). is_last (first u.rest)) e ∙ h) in
+    let w = step ts n p (ap (λ (u : ReaderView). is_last (first u.rest)) e ∙ h) in
     subst (λ u. Advanced u (token_views (drop (n + 1) ts)) counts) e (record {
       is = ap (λ u. record { rest = u; counts = counts }) w.is;
       proper = w.proper;

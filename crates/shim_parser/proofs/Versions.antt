@@ -7,7 +7,7 @@ use Rattle.shim_syntax.specs.Terminals.{Terminal, Name, Number, Sort, Key, Sign,
 use Rattle.shim_parser.specs.declared.token.Token.{Token}
 use Rattle.shim_parser.specs.TokenView.{token_view, token_views}
 use Rattle.shim_parser.specs.Cutting.{IsCut}
-use Rattle.shim_parser.specs.Reading.{Named, Proper, is_last}
+use Rattle.shim_parser.specs.Reading.{FitsName, Proper, is_last}
 
 -- version 1 changes nothing
 seen_as_1 : (t : Terminal) → of_version false t ≡ t
@@ -41,7 +41,7 @@ read_as_2 bytes ts us c h e = record {
 }
 
 -- in each version names are of their length, and the last terminal alone is an end
-word_named : (two : Bool) (x : List ℕ) (p : Place) (b : Bool) → (two && bytes_eq x new_word) ≡ b → Named (Name x p) → Named (of_word two x p)
+word_named : (two : Bool) (x : List ℕ) (p : Place) (b : Bool) → (two && bytes_eq x new_word) ≡ b → FitsName (Name x p) → FitsName (of_word two x p)
 word_named two x p true e n = rw e tt
 word_named two x p false e n = rw e n
 
@@ -49,7 +49,7 @@ word_goes_on : (two : Bool) (x : List ℕ) (p : Place) (b : Bool) → (two && by
 word_goes_on two x p true e = rw e refl
 word_goes_on two x p false e = rw e refl
 
-named_seen : (two : Bool) (t : Terminal) → Named t → Named (of_version two t)
+named_seen : (two : Bool) (t : Terminal) → FitsName t → FitsName (of_version two t)
 named_seen two (Name x p) n = word_named two x p (two && bytes_eq x new_word) refl n
 named_seen two (Number k p) n = tt
 named_seen two (Sort sort p) n = tt

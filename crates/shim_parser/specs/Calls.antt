@@ -6,12 +6,12 @@ use Rattle.shim_syntax.specs.declared.limits.Many.TheVariants.{Arguments}
 use Rattle.shim_syntax.specs.declared.Expr.{Expr}
 use Rattle.shim_syntax.specs.Terminals.{Terminal, Sign}
 use Rattle.shim_syntax.specs.Limits.{Count, limits, is_within}
-use Rattle.shim_syntax.specs.Grammar.{Counts, IsWhole, IsArguments}
+use Rattle.shim_syntax.specs.Grammar.{TextCounts, IsWhole, IsArguments}
 
 -- the argument of that number
-abbrev pub IsArgument : ℕ → ℕ → Counts → Counts → List Terminal → List Terminal → Expr → Type 0
+abbrev pub IsArgument : ℕ → ℕ → TextCounts → TextCounts → List Terminal → List Terminal → Expr → Type 0
 IsArgument n l v w s r x = (is_within (Count Arguments) n ≡ true) × IsWhole limits l v w s r x
 
 -- arguments up to a semicolon
-abbrev pub IsCall : ℕ → Counts → Counts → List Terminal → List Terminal → List Expr → Type 0
+abbrev pub IsCall : ℕ → TextCounts → TextCounts → List Terminal → List Terminal → List Expr → Type 0
 IsCall l v w s r xs = (p : Place) × IsArguments limits l v w s (Sign Semicolon p ∷ r) xs

@@ -4,8 +4,8 @@ use Rattle.shim_base.specs.declared.token.Sign.TheVariants.{Equal}
 use Rattle.shim_syntax.specs.declared.Expr.{Expr}
 use Rattle.shim_syntax.specs.Terminals.{Terminal, Sign, first}
 use Rattle.shim_syntax.specs.Limits.{limits}
-use Rattle.shim_syntax.specs.Grammar.{Counts, IsDeclared}
-use Rattle.shim_grammar.specs.Machine.{joins}
+use Rattle.shim_syntax.specs.Grammar.{TextCounts, IsDeclared}
+use Rattle.shim_grammar.specs.Machine.{is_operator}
 use Rattle.shim_parser.specs.declared.name_value.Declared.{Declared}
 
 abbrev pub is_equal : Terminal → Bool
@@ -15,8 +15,8 @@ is_equal _ = false
 -- no value follows a name without one, and no operator a value
 abbrev pub IsOver : Option Expr → Terminal → Type 0
 IsOver None t = is_equal t ≡ false
-IsOver (Some value) t = joins t ≡ false
+IsOver (Some value) t = is_operator t ≡ false
 
 -- a declared name, with its value where one follows
-abbrev pub IsDeclaredHere : ℕ → Counts → Counts → List Terminal → List Terminal → Declared → Type 0
+abbrev pub IsDeclaredHere : ℕ → TextCounts → TextCounts → List Terminal → List Terminal → Declared → Type 0
 IsDeclaredHere l v w s r d = IsDeclared limits l v w s r d.name d.value × IsOver d.value (first r)

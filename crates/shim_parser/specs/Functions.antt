@@ -9,12 +9,12 @@ use Rattle.shim_syntax.specs.declared.tree.Param.{Param}
 use Rattle.shim_syntax.specs.declared.tree.Function.{Function}
 use Rattle.shim_syntax.specs.Terminals.{Terminal, Name, Sort, Key, Sign, End}
 use Rattle.shim_syntax.specs.Limits.{Count, limits, is_within}
-use Rattle.shim_syntax.specs.Grammar.{Counts, new_function, IsParam, IsParams, IsThrows, IsFunction, IsFunctions}
+use Rattle.shim_syntax.specs.Grammar.{TextCounts, new_function, IsParam, IsParams, IsThrows, IsFunction, IsFunctions}
 
 -- the `&` of a parameter
-abbrev pub is_reference : Terminal → Bool
-is_reference (Sign Amp p) = true
-is_reference _ = false
+abbrev pub is_ampersand : Terminal → Bool
+is_ampersand (Sign Amp p) = true
+is_ampersand _ = false
 
 abbrev pub is_comma : Terminal → Bool
 is_comma (Sign Comma p) = true
@@ -38,23 +38,23 @@ is_end (End p) = true
 is_end _ = false
 
 -- the parameter of that number
-abbrev pub IsParameter : ℕ → Counts → Counts → List Terminal → List Terminal → Param → Type 0
+abbrev pub IsParameter : ℕ → TextCounts → TextCounts → List Terminal → List Terminal → Param → Type 0
 IsParameter n v w s r x = (is_within (Count Parameters) n ≡ true) × IsParam s r x × (v ≡ w)
 
-abbrev pub IsParameters : Counts → Counts → List Terminal → List Terminal → List Param → Type 0
+abbrev pub IsParameters : TextCounts → TextCounts → List Terminal → List Terminal → List Param → Type 0
 IsParameters v w s r xs = IsParams limits s r xs × (v ≡ w)
 
 -- the name of that number
-abbrev pub IsThrown : ℕ → Counts → Counts → List Terminal → List Terminal → List ℕ → Type 0
+abbrev pub IsThrown : ℕ → TextCounts → TextCounts → List Terminal → List Terminal → List ℕ → Type 0
 IsThrown n v w s r x = (p : Place) × (s ≡ Name x p ∷ r) × (is_within (Count Throws) n ≡ true) × (v ≡ w)
 
-abbrev pub IsThrowsHere : Counts → Counts → List Terminal → List Terminal → List (List ℕ) → Type 0
+abbrev pub IsThrowsHere : TextCounts → TextCounts → List Terminal → List Terminal → List (List ℕ) → Type 0
 IsThrowsHere v w s r xs = IsThrows limits s r xs × (v ≡ w)
 
 -- behind a `void` on that line, where the declarations are counted from none on
-abbrev pub IsFunctionBehind : ℕ → Counts → Counts → List Terminal → List Terminal → Function → Type 0
-IsFunctionBehind line v w s r f = (u : Counts) (at : ℕ) → v ≡ new_function u → IsFunction limits u w (Key Void (record { at = at; line = line }) ∷ s) r f
+abbrev pub IsFunctionBehind : ℕ → TextCounts → TextCounts → List Terminal → List Terminal → Function → Type 0
+IsFunctionBehind line v w s r f = (u : TextCounts) (at : ℕ) → v ≡ new_function u → IsFunction limits u w (Key Void (record { at = at; line = line }) ∷ s) r f
 
 -- all of a program's functions, before the end of the text, which is left
-abbrev pub AreAll : Counts → Counts → List Terminal → List Terminal → List Function → Type 0
+abbrev pub AreAll : TextCounts → TextCounts → List Terminal → List Terminal → List Function → Type 0
 AreAll v w s r fs = (p : Place) × (r ≡ End p ∷ []) × IsFunctions limits 0 v s [] fs

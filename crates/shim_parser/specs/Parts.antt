@@ -9,7 +9,7 @@ use Rattle.shim_base.specs.Tokens.{Place}
 use Rattle.shim_syntax.specs.declared.Expr.{Expr}
 use Rattle.shim_syntax.specs.Terminals.{Terminal, Name, Number, Key, Sign, first}
 use Rattle.shim_syntax.specs.Limits.{Nesting, limits, is_within}
-use Rattle.shim_syntax.specs.Grammar.{Counts, at_level, row_of, IsWhole}
+use Rattle.shim_syntax.specs.Grammar.{TextCounts, at_level, operator_row, IsWhole}
 use Rattle.shim_grammar.specs.declared.punctuation.Punctuation.{Punctuation}
 use Rattle.shim_grammar.specs.declared.punctuation.Punctuation.TheVariants as punctuation
 
@@ -33,13 +33,13 @@ punctuation_of (Sign g.Equal p) = Some punctuation.Equal
 punctuation_of (Key k.Catch p) = Some punctuation.Catch
 punctuation_of _ = None
 
-abbrev pub IsPunctuation : Punctuation → Counts → Counts → List Terminal → List Terminal → Unit {0} → Type 0
+abbrev pub IsPunctuation : Punctuation → TextCounts → TextCounts → List Terminal → List Terminal → Unit {0} → Type 0
 IsPunctuation f v w s r x = (p : Place) × (s ≡ punctuationed f p ∷ r) × (v ≡ w)
 
-abbrev pub IsName : Counts → Counts → List Terminal → List Terminal → List ℕ → Type 0
+abbrev pub IsName : TextCounts → TextCounts → List Terminal → List Terminal → List ℕ → Type 0
 IsName v w s r x = (p : Place) × (s ≡ Name x p ∷ r) × (v ≡ w)
 
-abbrev pub IsNameBefore : Punctuation → Counts → Counts → List Terminal → List Terminal → List ℕ → Type 0
+abbrev pub IsNameBefore : Punctuation → TextCounts → TextCounts → List Terminal → List Terminal → List ℕ → Type 0
 IsNameBefore f v w s r x = (p : Place) × (q : Place) × (s ≡ Name x p ∷ punctuationed f q ∷ r) × (v ≡ w)
 
 -- an operand begins with it
@@ -53,7 +53,7 @@ begins_operand (Sign g.Tilde p) = true
 begins_operand _ = false
 
 -- an operand that is a thing of that level begins here
-abbrev pub IsEntered : ℕ → Counts → Counts → List Terminal → List Terminal → Unit {0} → Type 0
+abbrev pub IsEntered : ℕ → TextCounts → TextCounts → List Terminal → List Terminal → Unit {0} → Type 0
 IsEntered l v w s r x = (is_within Nesting l ≡ true) × (w ≡ at_level l v) × (s ≡ r) × (begins_operand (first s) ≡ true)
 
 abbrev pub unary_sign : UnOp → SignOf
@@ -64,13 +64,13 @@ unary_sign Flip = g.Tilde
 abbrev pub IsUnarySign : UnOp → Terminal → Type 0
 IsUnarySign op t = (p : Place) × (t ≡ Sign (unary_sign op) p)
 
-abbrev pub IsWholeBefore : Punctuation → ℕ → Counts → Counts → List Terminal → List Terminal → Expr → Type 0
+abbrev pub IsWholeBefore : Punctuation → ℕ → TextCounts → TextCounts → List Terminal → List Terminal → Expr → Type 0
 IsWholeBefore f l v w s r x = (p : Place) × IsWhole limits l v w s (punctuationed f p ∷ r) x
 
 -- an expression in the parentheses of an `if` or a `while`
-abbrev pub IsTestOf : ℕ → Counts → Counts → List Terminal → List Terminal → Expr → Type 0
+abbrev pub IsTestOf : ℕ → TextCounts → TextCounts → List Terminal → List Terminal → Expr → Type 0
 IsTestOf l v w s r x = (p : Place) × (q : Place) × (m : List Terminal) × (s ≡ Sign g.LeftParen p ∷ m) × IsWhole limits l v w m (Sign g.RightParen q ∷ r) x
 
 -- no operator of the row n or a tighter one follows
 abbrev pub Stops : ℕ → List Terminal → Type 0
-Stops n r = (j : ℕ) → row_of (first r) ≡ suc j → suc j ≤ n → ⊥
+Stops n r = (j : ℕ) → operator_row (first r) ≡ suc j → suc j ≤ n → ⊥

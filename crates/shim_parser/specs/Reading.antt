@@ -2,19 +2,19 @@
 use Rattle.std.specs.Prelude.{ℕ, ◌≡◌, ◌≤◌, List, [], ◌∷◌, ◌++◌, length, Bool, true, false, Result, Ok, Err}
 use Rattle.shim_base.specs.declared.LexKind.{LexKind}
 use Rattle.shim_base.specs.Tokens.{Place}
-use Rattle.shim_syntax.specs.Terminals.{Terminal, Name, End, Broken, first, place_of}
+use Rattle.shim_syntax.specs.Terminals.{Terminal, Name, End, Broken, first, terminal_place}
 use Rattle.shim_syntax.specs.Limits.{Limit, Nesting, Count, limits, is_within}
-use Rattle.shim_syntax.specs.Grammar.{Counts}
-use Rattle.shim_grammar.specs.Machine.{Stack, Cause, Unwanted, Past, At, run}
+use Rattle.shim_syntax.specs.Grammar.{TextCounts}
+use Rattle.shim_grammar.specs.Machine.{SymbolStack, Cause, Unwanted, Past, At, run_parser}
 use Rattle.shim_parser.specs.declared.fault.ParseFault.{ParseFault}
 use Rattle.shim_parser.specs.declared.fault.ParseFault.TheVariants.{Lex, Unexpected, TooDeep, TooMany, NoMemory}
 
-pub record Reading : Type 0 where
+pub record ReaderView : Type 0 where
   pub rest : List Terminal
-  pub counts : Counts
+  pub counts : TextCounts
 
-abbrev pub counted : (Counts → Counts) → Reading → Reading
-counted f r = record { rest = r.rest; counts = f r.counts }
+abbrev pub reader_with : (TextCounts → TextCounts) → ReaderView → ReaderView
+reader_with f r = record { rest = r.rest; counts = f r.counts }
 
 -- the end of a text, in whatever way it ends
 abbrev pub is_last : Terminal → Bool
@@ -23,40 +23,40 @@ is_last (Broken kind p) = true
 is_last _ = false
 
 -- a name has 1 to 64 bytes
-abbrev pub Named : Terminal → Type 0
-Named (Name text p) = (1 ≤ length text) × (length text ≤ 64)
-Named _ = Unit {0}
+abbrev pub FitsName : Terminal → Type 0
+FitsName (Name text p) = (1 ≤ length text) × (length text ≤ 64)
+FitsName _ = Unit {0}
 
 -- names are of their length, and the last terminal alone is an end
 abbrev pub Proper : List Terminal → Type 0
 Proper [] = ⊥
 Proper (t ∷ []) = is_last t ≡ true
-Proper (t ∷ u ∷ ts) = Named t × (is_last t ≡ false) × Proper (u ∷ ts)
+Proper (t ∷ u ∷ ts) = FitsName t × (is_last t ≡ false) × Proper (u ∷ ts)
 
 -- what a fault says of the terminal at which it stands, and of the cause
 abbrev pub Blames : ParseFault → Cause → Terminal → Type 0
 Blames (Lex f) cause t = (cause ≡ Unwanted) × (t ≡ Broken f.kind (record { at = f.at; line = f.line }))
-Blames (Unexpected at line) cause t = (cause ≡ Unwanted) × ((kind : LexKind) (p : Place) → t ≡ Broken kind p → ⊥) × (place_of t ≡ record { at = at; line = line })
-Blames (TooDeep line) cause t = (cause ≡ Past Nesting) × ((place_of t).line ≡ line)
-Blames (TooMany what line) cause t = (cause ≡ Past (Count what)) × ((place_of t).line ≡ line)
+Blames (Unexpected at line) cause t = (cause ≡ Unwanted) × ((kind : LexKind) (p : Place) → t ≡ Broken kind p → ⊥) × (terminal_place t ≡ record { at = at; line = line })
+Blames (TooDeep line) cause t = (cause ≡ Past Nesting) × ((terminal_place t).line ≡ line)
+Blames (TooMany what line) cause t = (cause ≡ Past (Count what)) × ((terminal_place t).line ≡ line)
 Blames NoMemory cause t = ⊥
 
 -- the machine, with these symbols to come and whatever behind them, halts at the terminals that are left
-pub record Halts (stack : Stack) (old new : Reading) (fault : ParseFault) : Type 0 where
+pub record Halts (stack : SymbolStack) (old new : ReaderView) (fault : ParseFault) : Type 0 where
   pub cause : Cause
   pub blames : Blames fault cause (first new.rest)
-  pub halts : (k : Stack) → run limits old.rest (stack ++ k) old.counts ≡ At cause new.rest
+  pub halts : (k : SymbolStack) → run_parser limits old.rest (stack ++ k) old.counts ≡ At cause new.rest
 
-abbrev pub Fails : Stack → Reading → Reading → ParseFault → Type 0
+abbrev pub Fails : SymbolStack → ReaderView → ReaderView → ParseFault → Type 0
 Fails stack old new NoMemory = Unit {0}
 Fails stack old new fault = Halts stack old new fault
 
 -- what was read has the relation, or where these symbols are to come, the text goes wrong at what is left
-abbrev pub Reads : {V : Type 0} → (Counts → Counts → List Terminal → List Terminal → V → Type 0) → Stack → Result V ParseFault → Reading → Reading → Type 0
+abbrev pub Reads : {V : Type 0} → (TextCounts → TextCounts → List Terminal → List Terminal → V → Type 0) → SymbolStack → Result V ParseFault → ReaderView → ReaderView → Type 0
 Reads X stack (Ok x) old new = X old.counts new.counts old.rest new.rest x
 Reads X stack (Err fault) old new = Fails stack old new fault
 
 -- the limit allows the number, and it is counted; or it doesn't, and nothing changes
-abbrev pub Passes : Limit → ℕ → (Counts → Counts) → Result (Unit {0}) ParseFault → Reading → Reading → Type 0
-Passes limit n count (Ok x) old new = (is_within limit n ≡ true) × (new ≡ counted count old)
-Passes limit n count (Err fault) old new = (is_within limit n ≡ false) × (new ≡ old) × Blames fault (Past limit) (first old.rest)
+abbrev pub CountsWithin : Limit → ℕ → (TextCounts → TextCounts) → Result (Unit {0}) ParseFault → ReaderView → ReaderView → Type 0
+CountsWithin limit n count (Ok x) old new = (is_within limit n ≡ true) × (new ≡ reader_with count old)
+CountsWithin limit n count (Err fault) old new = (is_within limit n ≡ false) × (new ≡ old) × Blames fault (Past limit) (first old.rest)

@@ -13,7 +13,7 @@ use Rattle.shim_parser.specs.declared.fault.ParseFault.{ParseFault}
 use Rattle.shim_parser.specs.declared.fault.ParseFault.TheVariants.{NoMemory}
 use Rattle.shim_syntax.specs.Terminals.{Terminal, Name, Key, Sign}
 use Rattle.shim_syntax.specs.Limits.{Nesting, Count, limits, is_within}
-use Rattle.shim_syntax.specs.Grammar.{Counts, at_level, IsStmt, IsPlain, IsBranches, IsBranch}
+use Rattle.shim_syntax.specs.Grammar.{TextCounts, at_level, IsStmt, IsPlain, IsBranches, IsBranch}
 
 abbrev pub IsSignAt : SignOf → Terminal → Type 0
 IsSignAt sign t = (p : Place) × (t ≡ Sign sign p)
@@ -22,39 +22,39 @@ abbrev pub IsKeyAt : Keyword → Terminal → Type 0
 IsKeyAt key t = (p : Place) × (t ≡ Key key p)
 
 -- a statement as a thing of that level
-abbrev pub IsThing : ℕ → Counts → Counts → List Terminal → List Terminal → List Stmt → Type 0
+abbrev pub IsThing : ℕ → TextCounts → TextCounts → List Terminal → List Terminal → List Stmt → Type 0
 IsThing l v w s r xs = (is_within Nesting l ≡ true) × IsStmt limits l (at_level l v) w s r xs
 
 -- the one statement on that line
-abbrev pub one : ℕ → What → List Stmt
-one line what = record { line = line; what = what } ∷ []
+abbrev pub stmt_on_line : ℕ → What → List Stmt
+stmt_on_line line what = record { line = line; what = what } ∷ []
 
 -- what was read becomes that one statement, or there is no memory; a fault stays
 abbrev pub Becomes : ℕ → Result What ParseFault → Result (List Stmt) ParseFault → Type 0
-Becomes line (Ok what) (Ok xs) = xs ≡ one line what
+Becomes line (Ok what) (Ok xs) = xs ≡ stmt_on_line line what
 Becomes line (Ok what) (Err e) = e ≡ NoMemory
 Becomes line (Err e) result = result ≡ Err e
 
 -- behind a keyword
-abbrev pub IsKeyed : Keyword → ℕ → Counts → Counts → List Terminal → List Terminal → What → Type 0
-IsKeyed key l v w s r what = (p : Place) → IsPlain limits l v w (Key key p ∷ s) r (one p.line what)
+abbrev pub IsKeyed : Keyword → ℕ → TextCounts → TextCounts → List Terminal → List Terminal → What → Type 0
+IsKeyed key l v w s r what = (p : Place) → IsPlain limits l v w (Key key p ∷ s) r (stmt_on_line p.line what)
 
 -- behind a name and `=`
-abbrev pub IsAssigned : List ℕ → ℕ → Counts → Counts → List Terminal → List Terminal → What → Type 0
-IsAssigned x l v w s r what = (p q : Place) → IsPlain limits l v w (Name x p ∷ Sign Equal q ∷ s) r (one p.line what)
+abbrev pub IsAssigned : List ℕ → ℕ → TextCounts → TextCounts → List Terminal → List Terminal → What → Type 0
+IsAssigned x l v w s r what = (p q : Place) → IsPlain limits l v w (Name x p ∷ Sign Equal q ∷ s) r (stmt_on_line p.line what)
 
 -- behind a name on that line
-abbrev pub IsNamed : List ℕ → ℕ → ℕ → Counts → Counts → List Terminal → List Terminal → What → Type 0
-IsNamed x line l v w s r what = (at : ℕ) → IsPlain limits l v w (Name x (record { at = at; line = line }) ∷ s) r (one line what)
+abbrev pub IsNamed : List ℕ → ℕ → ℕ → TextCounts → TextCounts → List Terminal → List Terminal → What → Type 0
+IsNamed x line l v w s r what = (at : ℕ) → IsPlain limits l v w (Name x (record { at = at; line = line }) ∷ s) r (stmt_on_line line what)
 
 -- behind a left brace on that line
-abbrev pub IsBraced : ℕ → ℕ → Counts → Counts → List Terminal → List Terminal → What → Type 0
-IsBraced line l v w s r what = (at : ℕ) → IsStmt limits l v w (Sign LeftBrace (record { at = at; line = line }) ∷ s) r (one line what)
+abbrev pub IsBraced : ℕ → ℕ → TextCounts → TextCounts → List Terminal → List Terminal → What → Type 0
+IsBraced line l v w s r what = (at : ℕ) → IsStmt limits l v w (Sign LeftBrace (record { at = at; line = line }) ∷ s) r (stmt_on_line line what)
 
 -- from the first `par` on; all branches, with that first one
-abbrev pub IsBehindPar : Branch → ℕ → Counts → Counts → List Terminal → List Terminal → List Branch → Type 0
+abbrev pub IsBehindPar : Branch → ℕ → TextCounts → TextCounts → List Terminal → List Terminal → List Branch → Type 0
 IsBehindPar b l v w s r bs = (p : Place) × (m : List Terminal) × (others : List Branch) × (s ≡ Key k.Par p ∷ m) × IsBranches limits l 1 v w m r others × (bs ≡ b ∷ others)
 
 -- the branch of that number
-abbrev pub IsNumberedBranch : ℕ → ℕ → Counts → Counts → List Terminal → List Terminal → Branch → Type 0
+abbrev pub IsNumberedBranch : ℕ → ℕ → TextCounts → TextCounts → List Terminal → List Terminal → Branch → Type 0
 IsNumberedBranch n l v w s r b = (is_within (Count Branches) n ≡ true) × IsBranch limits l v w s r b

@@ -3,7 +3,7 @@ ghost use Rattle.std.specs.Prelude.{◌≡◌, ◌≤◌, false, [], ◌∷◌, 
 ghost use Rattle.shim_syntax.specs.Terminals.{first};
 ghost use Rattle.shim_syntax.specs.Limits.{limits};
 ghost use Rattle.shim_syntax.specs.Grammar.{IsArguments};
-ghost use Rattle.shim_grammar.specs.Machine.{Argument, Arguments, Fixed, joins};
+ghost use Rattle.shim_grammar.specs.Machine.{Argument, Arguments, Fixed, is_operator};
 ghost use Rattle.shim_grammar.specs.declared.punctuation.Punctuation.TheVariants.{Semicolon};
 ghost use Rattle.shim_parser.specs.Calls.{IsArgument, IsCall};
 ghost use Rattle.shim_parser.specs.Reading.{Reads};
@@ -22,7 +22,7 @@ use std::alloc::Global;
 fn argument(alloc: Global, tokens: &mut Reader, n: u16, level: u16) -> Result<Expr, ParseFault>
     requires { level ≤ 64 }
     ensures reads { Reads (IsArgument n level) (Argument level n ∷ []) result tokens.old tokens.new }
-    ensures stops { IfOk result (λ _. joins (first tokens.new.rest) ≡ false) }
+    ensures stops { IfOk result (λ _. is_operator (first tokens.new.rest) ≡ false) }
 {
     if !begins_operand(tokens) {
         return Err(tokens.unexpected());

@@ -5,7 +5,7 @@ ghost use Rattle.shim_syntax.specs.Limits.{limits};
 ghost use Rattle.shim_syntax.specs.Grammar.{IsExpr, IsWhole};
 ghost use Rattle.shim_grammar.specs.Machine.{Fixed, Operand, Inside, Operators, Expression};
 ghost use Rattle.shim_grammar.specs.declared.punctuation.Punctuation.TheVariants as punctuation;
-ghost use Rattle.shim_grammar.specs.Machine.{joins};
+ghost use Rattle.shim_grammar.specs.Machine.{is_operator};
 ghost use Rattle.shim_parser.specs.Parts as parts;
 ghost use Rattle.shim_parser.specs.Parts.{IsEntered, IsUnarySign, IsWholeBefore, IsTestOf, Stops};
 ghost use Rattle.shim_parser.specs.Reading.{Reads};
@@ -130,7 +130,7 @@ fn row(alloc: Global, tokens: &mut Reader, n: u8, level: u16) -> Result<Expr, Pa
 pub(crate) fn expression(alloc: Global, tokens: &mut Reader, level: u16) -> Result<Expr, ParseFault>
     requires { level ≤ 64 }
     ensures reads { Reads (IsWhole limits level) (Expression level ∷ Operators level ∷ []) result tokens.old tokens.new }
-    ensures stops { IfOk result (λ _. joins (first tokens.new.rest) ≡ false) }
+    ensures stops { IfOk result (λ _. is_operator (first tokens.new.rest) ≡ false) }
 {
     tokens.begin_expression();
     row(alloc, tokens, LOOSEST, level)

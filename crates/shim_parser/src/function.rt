@@ -21,7 +21,7 @@ use std::alloc::Global;
 
 /// Whether the next terminal is the `&` of a parameter.
 fn is_reference(tokens: &Reader) -> bool
-    ensures { result ≡ pieces.is_reference (first tokens.now.rest) }
+    ensures { result ≡ pieces.is_ampersand (first tokens.now.rest) }
 {
     match tokens.peek().what {
         Terminal::Sign(Sign::Amp) => true,

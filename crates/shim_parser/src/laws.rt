@@ -4,11 +4,11 @@ ghost use Rattle.shim_syntax.specs.declared.Program.{Program};
 ghost use Rattle.shim_syntax.specs.Printing.{canonical};
 ghost use Rattle.shim_syntax.specs.Text.{IsText};
 ghost use Rattle.shim_parser.specs.declared.fault.ParseFault.{ParseFault};
-ghost use Rattle.shim_parser.specs.Parsing.{Answers, IsOnly, IsReadBack};
+ghost use Rattle.shim_parser.specs.Parsing.{ParsesAs, IsOnly, IsReadBack};
 
 /// Of a program that has a text, the text that is printed is read as the same program but for lines:
 /// what `parse` may answer for it, by its clauses, is such a program or want of memory.
 pub fn printed_text_is_read_back()
     ensures { (bytes : List ℕ) (p : Program) (result : Result Program ParseFault) → IsText bytes p
-        → Answers (canonical p) result → IsOnly (canonical p) result → IsReadBack p result }
+        → ParsesAs (canonical p) result → IsOnly (canonical p) result → IsReadBack p result }
 {}

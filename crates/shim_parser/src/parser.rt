@@ -1,6 +1,6 @@
 // A whole text.
 ghost use Rattle.std.specs.Prelude.{◌≤◌, length};
-ghost use Rattle.shim_parser.specs.Parsing.{Answers, IsOnly};
+ghost use Rattle.shim_parser.specs.Parsing.{ParsesAs, IsOnly};
 
 use crate::fault::ParseFault;
 use crate::reader::Reader;
@@ -14,7 +14,7 @@ use std::alloc::Global;
 /// `ParseFault`. Want of memory may come in place of any answer.
 pub fn parse(alloc: Global, text: &[u8]) -> Result<Program, ParseFault>
     requires { length text.now ≤ 1048576 }
-    ensures answers { Answers text.now result }
+    ensures answers { ParsesAs text.now result }
     ensures only { IsOnly text.now result }
 {
     let all = tokens_of(alloc, text)?;

@@ -6,7 +6,7 @@ ghost use Rattle.shim_syntax.specs.Limits.{Nesting, Count};
 ghost use Rattle.shim_syntax.specs.Grammar as grammar;
 ghost use Rattle.shim_grammar.specs.Machine.{Unwanted, Past};
 ghost use Rattle.shim_parser.specs.TokenView.{token_view, token_views};
-ghost use Rattle.shim_parser.specs.Reading.{Proper, Named, is_last, Blames, Passes, counted};
+ghost use Rattle.shim_parser.specs.Reading.{Proper, FitsName, is_last, Blames, CountsWithin, reader_with};
 
 use crate::fault::ParseFault;
 use crate::terminal::Terminal;
@@ -16,7 +16,7 @@ use shim_syntax::{MOST_NESTING, Many};
 use std::marker::Model;
 
 /// The terminals that are left to read, with the counts of what was read. Contracts see them as a
-/// `Reading`.
+/// `ReaderView`.
 #[derive(Drop)]
 pub(crate) struct Reader<'a> {
     all: &'a [Token<'a>],
@@ -30,9 +30,9 @@ pub(crate) struct Reader<'a> {
 impl<'a> Model for Reader<'a> {
     ghost use Rattle.std.specs.Prelude.{drop, ◌≤◌};
     ghost use Rattle.shim_parser.specs.TokenView.{token_views};
-    ghost use Rattle.shim_parser.specs.Reading.{Reading, Proper};
+    ghost use Rattle.shim_parser.specs.Reading.{ReaderView, Proper};
 
-    ghost Value = { Reading };
+    ghost Value = { ReaderView };
 
     ghost view = { λ r. record {
       rest = token_views (drop r.at r.all.now);
@@ -60,7 +60,7 @@ impl<'a> Reader<'a> {
     /// The next terminal.
     pub(crate) fn peek(&self) -> Token<'a>
         ensures is { token_view result ≡ first self.now.rest }
-        ensures named { Named (token_view result) }
+        ensures named { FitsName (token_view result) }
         ensures last { is_last (first self.now.rest) ≡ true → self.now.rest ≡ first self.now.rest ∷ [] }
     {
         self.all[self.at]
@@ -111,7 +111,7 @@ impl<'a> Reader<'a> {
 
     /// A thing of this level begins with the next terminal.
     pub(crate) fn enter(&mut self, level: u16) -> Result<(), ParseFault>
-        ensures { Passes Nesting level (grammar.at_level level) result self.old self.new }
+        ensures { CountsWithin Nesting level (grammar.at_level level) result self.old self.new }
     {
         if level > MOST_NESTING {
             let token = self.peek();
@@ -125,7 +125,7 @@ impl<'a> Reader<'a> {
 
     /// The thing of this number among its kind begins with the next terminal.
     pub(crate) fn number(&self, what: Many, n: u16) -> Result<(), ParseFault>
-        ensures { Passes (Count what) n (λ w. w) result self.now self.now }
+        ensures { CountsWithin (Count what) n (λ w. w) result self.now self.now }
     {
         if n > what.most() {
             return Err(self.too_many(what));
@@ -135,7 +135,7 @@ impl<'a> Reader<'a> {
 
     /// The next terminal is an operator.
     pub(crate) fn count_operator(&mut self) -> Result<(), ParseFault>
-        ensures { Passes (Count m.Operators) (suc self.old.counts.operators) grammar.with_operator result self.old self.new }
+        ensures { CountsWithin (Count m.Operators) (suc self.old.counts.operators) grammar.with_operator result self.old self.new }
     {
         self.number(Many::Operators, self.operators + 1)?;
         self.operators += 1;
@@ -144,7 +144,7 @@ impl<'a> Reader<'a> {
 
     /// The next terminal is a declared name.
     pub(crate) fn count_local(&mut self) -> Result<(), ParseFault>
-        ensures { Passes (Count m.Locals) (suc self.old.counts.locals) grammar.with_local result self.old self.new }
+        ensures { CountsWithin (Count m.Locals) (suc self.old.counts.locals) grammar.with_local result self.old self.new }
     {
         self.number(Many::Locals, self.locals + 1)?;
         self.locals += 1;
@@ -153,7 +153,7 @@ impl<'a> Reader<'a> {
 
     /// The text is one of version 2.
     pub(crate) fn begin_version_2(&mut self)
-        ensures { self.new ≡ counted grammar.in_version_2 self.old }
+        ensures { self.new ≡ reader_with grammar.in_version_2 self.old }
     {
         self.two = true;
     }
@@ -167,14 +167,14 @@ impl<'a> Reader<'a> {
 
     /// An expression begins.
     pub(crate) fn begin_expression(&mut self)
-        ensures { self.new ≡ counted grammar.new_expression self.old }
+        ensures { self.new ≡ reader_with grammar.new_expression self.old }
     {
         self.operators = 0;
     }
 
     /// A function begins.
     pub(crate) fn begin_function(&mut self)
-        ensures { self.new ≡ counted grammar.new_function self.old }
+        ensures { self.new ≡ reader_with grammar.new_function self.old }
     {
         self.locals = 0;
     }
@@ -182,7 +182,7 @@ impl<'a> Reader<'a> {
     /// A body begins; the answer is the deepest level outside of it.
     pub(crate) fn begin_body(&mut self) -> u16
         ensures outside { result ≡ self.old.counts.deepest }
-        ensures body { self.new ≡ counted grammar.new_body self.old }
+        ensures body { self.new ≡ reader_with grammar.new_body self.old }
         ensures shallow { result ≤ 64 }
     {
         let outside = self.deepest;
@@ -202,7 +202,7 @@ impl<'a> Reader<'a> {
     /// A body ends, outside of which this is the deepest level.
     pub(crate) fn end_body(&mut self, outside: u16)
         requires { outside ≤ 64 }
-        ensures { self.new ≡ counted (grammar.behind_body outside) self.old }
+        ensures { self.new ≡ reader_with (grammar.behind_body outside) self.old }
     {
         self.deepest = self.deepest.max(outside);
     }

@@ -2,7 +2,7 @@
 ghost use Rattle.std.specs.Prelude.{[], ◌∷◌};
 ghost use Rattle.shim_grammar.specs.Machine.{Fixed, Source, Version};
 ghost use Rattle.shim_grammar.specs.declared.punctuation.Punctuation.TheVariants.{Semicolon};
-ghost use Rattle.shim_parser.specs.Sources.{IsTwo, IsSource};
+ghost use Rattle.shim_parser.specs.Sources.{IsTwo, IsWholeSource};
 ghost use Rattle.shim_parser.specs.Reading.{Reads};
 
 use crate::fault::ParseFault;
@@ -27,7 +27,7 @@ fn version(tokens: &mut Reader) -> Result<(), ParseFault>
 
 /// The program, up to the end of the text.
 pub(crate) fn source(alloc: Global, tokens: &mut Reader) -> Result<Program, ParseFault>
-    ensures { Reads IsSource (Source ∷ []) result tokens.old tokens.new }
+    ensures { Reads IsWholeSource (Source ∷ []) result tokens.old tokens.new }
 {
     if !is_shim(tokens.peek().what) {
         let functions = functions(alloc, tokens)?;

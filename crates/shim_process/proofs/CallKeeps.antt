@@ -14,7 +14,7 @@ use Rattle.shim_process.specs.Arguments.{Argument}
 use Rattle.shim_process.specs.Ends.{gone}
 use Rattle.shim_process.specs.Forks.{fork, fork_result, parent, children_from, is_far, item_branches, all_arguments}
 use Rattle.shim_process.specs.Steps.{line_of, stored_in, half}
-use Rattle.shim_process.specs.Stops.{put_value, after_put, put, thrown_value, after_throw, thrown, what_receive, stmt_receive, receive}
+use Rattle.shim_process.specs.Stops.{put_value, after_put, put, thrown_value, after_throw, throw_evaluated, what_receive, stmt_receive, receive}
 use Rattle.shim_process.specs.Sound.{Sound}
 use Rattle.shim_process.specs.Ops.{process_ops}
 use Rattle.shim_process.proofs.LabelFrames.{HasLeft, sound_frames, gone_left, half_left, trapped_left, none_left}
@@ -66,8 +66,8 @@ after_throw_makes_none : (r : Value) (l : LocalState) → Sound l → MakesNone 
 after_throw_makes_none (Ok v) l s = left_makes_none l l (none_left l.base l (sound_frames l s)) (s.fitting, same_fitting l)
 after_throw_makes_none (Err t) l s = trapped_makes_none t (line_of l.frame.todo) l s
 
-thrown_makes_none : (l : LocalState) → Sound l → MakesNone l (thrown l)
-unfolding thrown
+thrown_makes_none : (l : LocalState) → Sound l → MakesNone l (throw_evaluated l)
+unfolding throw_evaluated
 thrown_makes_none l s = after_throw_makes_none (thrown_value l) l s
 
 pub called_makes_none : (l m : LocalState) → Sound l → Called process_ops l m → MakesNone l m

@@ -5,7 +5,7 @@ use Rattle.std.specs.Prelude.{slice_get}
 use Rattle.shim_base.specs.declared.types.Ty.{Ty}
 use Rattle.shim_base.specs.Paths.{Path}
 use Rattle.shim_process.specs.Locations.{Location, Locations, Own, Copy, at_number}
-use Rattle.shim_process.specs.Arguments.{Argument, ByReference, ByCopy, ByValue, copied, new_location, new_channels, call_locations}
+use Rattle.shim_process.specs.Arguments.{Argument, ByReference, ByCopy, ByValue, copied_location, new_location, new_channels, call_locations}
 use Rattle.shim_process.proofs.PlaceLocations.{flattened_is}
 use Rattle.shim_base.proofs.Facts.{some_same}
 
@@ -22,7 +22,7 @@ pub data Passed (home : Path) (locations : Locations) (given : List Argument) (s
   by_value : x.ownership ≡ Own → x.channel.channel.home ≡ home → serial ≤ x.channel.channel.serial → x.channel.channel.serial < serial + new_channels given
       → first + n ≡ place_of given serial first x.channel.channel.serial → Passed home locations given serial first n x
 
-copy_is : (t : Ty) (o : Option Location) (x : Location) → copied t o ≡ Some x → (y : Location) × (o ≡ Some y) × (y.channel ≡ x.channel) × (x.ownership ≡ Copy)
+copy_is : (t : Ty) (o : Option Location) (x : Location) → copied_location t o ≡ Some x → (y : Location) × (o ≡ Some y) × (y.channel ≡ x.channel) × (x.ownership ≡ Copy)
 copy_is t None x e = absurd (cc)
 copy_is t (Some l) x e = let same = some_same _ x e in (l, refl, ap (λ (r : Location). r.channel) same, sym (ap (λ (r : Location). r.ownership) same))
 

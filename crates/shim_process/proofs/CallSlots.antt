@@ -12,10 +12,10 @@ use Rattle.shim_units.specs.declared.unit.Arg.TheVariants.{Ref, Pass, Fresh}
 use Rattle.shim_units.specs.declared.unit.UCall.{UCall}
 use Rattle.shim_process.specs.Values.{value}
 use Rattle.shim_process.specs.Locations.{Locations}
-use Rattle.shim_process.specs.LocalState.{number, number_of, unit_at, env_of, type_of}
+use Rattle.shim_process.specs.LocalState.{number_or_any, number_of, unit_at, env_of, type_of}
 use Rattle.shim_process.specs.Arguments.{Argument, ByReference, ByCopy, ByValue, on_value, arguments, declared_slots, numbers_from, call_slots}
 use Rattle.shim_process.proofs.ForkLending.{from_value, ok_same}
-use Rattle.shim_process.specs.OwnSlots.{is_own_slot, suits}
+use Rattle.shim_process.specs.OwnSlots.{is_own_slot, has_arguments}
 
 -- an own slot is behind the parameters'
 pub own_slot : (u : UnitOf) (x : ℕ) → is_own_slot u x ≡ true → (length u.params ≤ x) × (x < length u.slots)
@@ -29,7 +29,7 @@ unfolding number_of
 from_number first [] x h = absurd (omega (arith, h))
 from_number first (s ∷ ss) zero h = omega arith
 from_number first (s ∷ ss) (suc x) h =
-    let w : number (slice_get (numbers_from (first + 1) ss) x) ≡ (first + 1) + x = from_number (first + 1) ss x (omega (arith, h)) in
+    let w : number_or_any (slice_get (numbers_from (first + 1) ss) x) ≡ (first + 1) + x = from_number (first + 1) ss x (omega (arith, h)) in
     w ∙ (let e : (first + 1) + x ≡ first + suc x = omega arith in e)
 
 -- a slot behind those of the arguments
@@ -75,6 +75,6 @@ as_many_given at slots (p ∷ ps) (Fresh v ∷ rest) given e many =
     let o = from_value (λ others. Ok (w.0 ∷ others)) (arguments at slots ps rest) given w.2 in
     ap (λ (g : List Argument). length g) (sym (ok_same (w.0 ∷ o.0) given o.2)) ∙ ap suc (as_many_given at slots ps rest o.0 o.1 (omega (arith, many)))
 
-pub given_many : (program : Form) (at : Locations) (slots : List ℕ) (c : UCall) (given : List Argument) → suits program c ≡ true → arguments at slots (unit_at program c.unit).params c.args ≡ Ok given → length given ≡ length (unit_at program c.unit).params
+pub given_many : (program : Form) (at : Locations) (slots : List ℕ) (c : UCall) (given : List Argument) → has_arguments program c ≡ true → arguments at slots (unit_at program c.unit).params c.args ≡ Ok given → length given ≡ length (unit_at program c.unit).params
 given_many program at slots c given suit e =
     as_many_given at slots (unit_at program c.unit).params c.args given e (eqb-true (length c.args) (length (unit_at program c.unit).params) suit)

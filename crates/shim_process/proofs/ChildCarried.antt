@@ -3,7 +3,7 @@ use Rattle.std.proofs.Common.{◌≡◌, ℕ, ◌+◌, List, [], ◌∷◌, Opti
 use Rattle.std.proofs.lemmas.Bool.{cases_eq}
 use Rattle.shim_base.specs.Paths.{Path, Channel, NamedChannel}
 use Rattle.shim_process.specs.Locations.{Location, Locations, Own, at_number, lend_at, moved, with_moved}
-use Rattle.shim_process.specs.Arguments.{Argument, ByReference, ByCopy, ByValue, copied, new_location, branch_locations}
+use Rattle.shim_process.specs.Arguments.{Argument, ByReference, ByCopy, ByValue, copied_location, new_location, branch_locations}
 use Rattle.shim_process.specs.Sound.{IsOwned}
 use Rattle.shim_process.proofs.CarryChannels.{Carried}
 use Rattle.shim_process.proofs.ForkPlaces.{IsOwn, owned, Place, within_lend, kept_owned, kept_own, lent_not_own, at_not_lent, carried_within, carried_none, carried_behind, carried_head, carried_rest}
@@ -67,7 +67,7 @@ handed child xs s (ByReference k ∷ rest) c once far w =
           (handed child (lend_at xs k) s rest c (once_within (lend_at xs k) xs (within_lend IsOwned kept_owned xs k) once) far still)
     ]
 handed child xs s (ByCopy t k ∷ rest) c once far w =
-    let head : Option Location = copied t (at_number xs k) in
+    let head : Option Location = copied_location t (at_number xs k) in
     let tail : Locations = branch_locations child xs s rest in
     first_as (Carried tail c) (Carried (head ∷ tail) c) (Carried (given_away rest xs) c)
     (carried_behind c head tail)

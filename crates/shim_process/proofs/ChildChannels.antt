@@ -9,7 +9,7 @@ use Rattle.shim_units.specs.declared.unit.Arg.TheVariants.{Ref, Pass, Fresh}
 use Rattle.shim_process.specs.Values.{value}
 use Rattle.shim_process.specs.Locations.{Location, Locations, at_number, channel_in, channel_at, with_moved, lend_at}
 use Rattle.shim_process.specs.LocalState.{number_of, env_of, type_of}
-use Rattle.shim_process.specs.Arguments.{Argument, ByReference, ByCopy, ByValue, on_value, arguments, copied, new_location, branch_locations, empties}
+use Rattle.shim_process.specs.Arguments.{Argument, ByReference, ByCopy, ByValue, on_value, arguments, copied_location, new_location, branch_locations, empties}
 use Rattle.shim_process.specs.Born.{OnChannels}
 use Rattle.shim_process.proofs.ForkLending.{from_value, ok_same}
 use Rattle.shim_process.proofs.PlaceChannels.{moved_channel, lend_channel}
@@ -52,7 +52,7 @@ pub stand_first : (ys : Locations) (j : ℕ) (o : Option Location) (zs : Locatio
 unfolding at_number
 stand_first ys j o zs h = ap (at_number ys) (let e : j ≡ j + 0 = omega arith in e) ∙ h 0 (omega arith)
 
-copied_channel : (t : Ty) (o : Option Location) → channel_in (copied t o) ≡ channel_in o
+copied_channel : (t : Ty) (o : Option Location) → channel_in (copied_location t o) ≡ channel_in o
 copied_channel t None = refl
 copied_channel t (Some l) = refl
 
@@ -74,8 +74,8 @@ branch_on slots (Ref v ∷ rest) (ByValue t name w ∷ given) child xs ys zs s j
 branch_on slots (Pass v ∷ rest) (ByReference i ∷ given) child xs ys zs s j match stand same = absurd match
 branch_on slots (Pass v ∷ rest) (ByCopy t i ∷ given) child xs ys zs s j match stand same =
     let tail : Locations = branch_locations child xs s given in (
-      ap channel_in (stand_first ys j (copied t (at_number xs i)) tail stand) ∙ (copied_channel t (at_number xs i) ∙ (same i ∙ ap (channel_at zs) (sym match.0))),
-      branch_on slots rest given child xs ys zs s (j + 1) match.1 (stand_next ys j (copied t (at_number xs i)) tail stand) same,
+      ap channel_in (stand_first ys j (copied_location t (at_number xs i)) tail stand) ∙ (copied_channel t (at_number xs i) ∙ (same i ∙ ap (channel_at zs) (sym match.0))),
+      branch_on slots rest given child xs ys zs s (j + 1) match.1 (stand_next ys j (copied_location t (at_number xs i)) tail stand) same,
     )
 branch_on slots (Pass v ∷ rest) (ByValue t name w ∷ given) child xs ys zs s j match stand same = absurd match
 branch_on slots (Fresh v ∷ rest) (ByReference i ∷ given) child xs ys zs s j match stand same = absurd match

@@ -6,7 +6,7 @@ use Rattle.shim_base.specs.declared.types.Ty.{Ty}
 use Rattle.shim_base.specs.Paths.{Path, Channel, NamedChannel, same_channel}
 use Rattle.shim_syntax.specs.declared.tree.Sort.{Sort}
 use Rattle.shim_process.specs.Locations.{Location, Locations, at_number, lend_at, with_moved}
-use Rattle.shim_process.specs.Arguments.{Argument, ByReference, ByCopy, ByValue, copied, new_location, new_channels, branch_locations, channels_of, empties}
+use Rattle.shim_process.specs.Arguments.{Argument, ByReference, ByCopy, ByValue, copied_location, new_location, new_channels, branch_locations, channels_of, empties}
 use Rattle.shim_process.specs.Sharers.{is_among}
 use Rattle.shim_process.proofs.PlaceLocations.{at_empty}
 use Rattle.shim_process.proofs.ForkNames.{same_channel_of}
@@ -77,7 +77,7 @@ made_first child s serial name t v xs e = record { number = zero; place = new_lo
 made_there : (child : Path) (xs : Locations) (s : ℕ) (given : List Argument) (serial : ℕ) → s ≤ serial → serial < s + new_channels given → Made child serial (branch_locations child xs s given)
 made_there child xs s [] serial le lt = absurd (omega (arith, le, lt))
 made_there child xs s (ByReference k ∷ rest) serial le lt = made_behind child serial (with_moved (at_number xs k)) _ (made_there child (lend_at xs k) s rest serial le lt)
-made_there child xs s (ByCopy t k ∷ rest) serial le lt = made_behind child serial (copied t (at_number xs k)) _ (made_there child xs s rest serial le lt)
+made_there child xs s (ByCopy t k ∷ rest) serial le lt = made_behind child serial (copied_location t (at_number xs k)) _ (made_there child xs s rest serial le lt)
 made_there child xs s (ByValue t name v ∷ rest) serial le lt =
     elim (cases_eq s serial) [
       | inl same ↦ made_first child s serial name t v _ same

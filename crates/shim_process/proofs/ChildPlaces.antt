@@ -4,7 +4,7 @@ use Rattle.shim_base.specs.declared.types.Ty.{Ty}
 use Rattle.shim_base.specs.Value.{stored}
 use Rattle.shim_base.specs.Paths.{Path, Channel, NamedChannel}
 use Rattle.shim_process.specs.Locations.{Location, Locations, Ownership, Own, Lent, Copy, at_number, lend_at, moved, with_moved}
-use Rattle.shim_process.specs.Arguments.{Argument, ByReference, ByCopy, ByValue, copied, new_location, new_channels, branch_locations}
+use Rattle.shim_process.specs.Arguments.{Argument, ByReference, ByCopy, ByValue, copied_location, new_location, new_channels, branch_locations}
 use Rattle.shim_process.specs.Sound.{IsOwned}
 use Rattle.shim_process.proofs.ForkPlaces.{IsOwn, owned, Place, within_lend, kept_owned, kept_own, lent_not_own}
 use Rattle.shim_base.proofs.Facts.{some_same}
@@ -41,7 +41,7 @@ moved_from xs k (Some y) x at e =
       own = λ h. moved_own y.ownership (subst IsOwned (ap (λ (z : Location). z.ownership) (sym same)) h);
     }
 
-copied_from : (xs : Locations) (k : ℕ) (t : Ty) (o : Option Location) (x : Location) → at_number xs k ≡ o → copied t o ≡ Some x → Taken xs k x
+copied_from : (xs : Locations) (k : ℕ) (t : Ty) (o : Option Location) (x : Location) → at_number xs k ≡ o → copied_location t o ≡ Some x → Taken xs k x
 copied_from xs k t None x at e = absurd cc
 copied_from xs k t (Some y) x at e =
     let same : record y { ty = t; value = stored t y.value; ownership = Copy } ≡ x = some_same (record y { ty = t; value = stored t y.value; ownership = Copy }) x e in
@@ -52,7 +52,7 @@ copied_from xs k t (Some y) x at e =
       own = λ h. absurd (subst IsOwned (ap (λ (z : Location). z.ownership) (sym same)) h);
     }
 
-pub copied_not_owned : (t : Ty) (o : Option Location) (x : Location) → copied t o ≡ Some x → IsOwned x.ownership → ⊥
+pub copied_not_owned : (t : Ty) (o : Option Location) (x : Location) → copied_location t o ≡ Some x → IsOwned x.ownership → ⊥
 copied_not_owned t None x e h = absurd cc
 copied_not_owned t (Some y) x e h = subst IsOwned (ap (λ (z : Location). z.ownership) (sym (some_same (record y { ty = t; value = stored t y.value; ownership = Copy }) x e))) h
 
@@ -159,7 +159,7 @@ once_child child xs s (ByReference k ∷ rest) once apart n m x y ex ey ox oy sa
     (once_child child (lend_at xs k) s rest (once_within (lend_at xs k) xs (within_lend IsOwned kept_owned xs k) once) (apart_lent child xs k apart))
     n m x y ex ey ox oy same
 once_child child xs s (ByCopy t k ∷ rest) once apart n m x y ex ey ox oy same =
-    once_cons (copied t (at_number xs k)) (branch_locations child xs s rest)
+    once_cons (copied_location t (at_number xs k)) (branch_locations child xs s rest)
     (λ a b j ea eb oa ob alike. copied_not_owned t (at_number xs k) a ea oa)
     (once_child child xs s rest once apart)
     n m x y ex ey ox oy same

@@ -10,7 +10,7 @@ use Rattle.shim_process.specs.StatementViews.{statement_view, passed_labels}
 use Rattle.shim_process.specs.Arguments.{Argument, new_channels, branch_locations, channels_of, declared_slots}
 use Rattle.shim_process.specs.Forks.{child}
 use Rattle.shim_process.specs.Sharers.{is_among, declared, shares}
-use Rattle.shim_process.specs.Sound.{Sound, LeadsTo, LabelsBelow}
+use Rattle.shim_process.specs.Sound.{Sound, IsPathPrefix, LabelsBelow}
 use Rattle.shim_process.proofs.CarryChannels.{among_at}
 use Rattle.shim_process.proofs.LabelFrames.{passed_below}
 use Rattle.shim_process.proofs.ForkNames.{leads_here, leads_on, leads_no_child}
@@ -20,13 +20,13 @@ use Rattle.shim_process.proofs.ChildGiven.{Given, before_empties, among_given, g
 use Rattle.shim_base.proofs.SamePaths.{same_path_is}
 
 -- what a process shares is of a process on the way to it
-pub shared_leads : (l : LocalState) (c : Channel) → Sound l → shares l c ≡ true → LeadsTo c.home l.path
+pub shared_leads : (l : LocalState) (c : Channel) → Sound l → shares l c ≡ true → IsPathPrefix c.home l.path
 unfolding shares
 shared_leads l c s e =
     elim (or_cases (is_among c l.given) (declared l c) e) [
       | inl here ↦
           let w = among_at c l.given here in
-          subst (λ (d : Channel). LeadsTo d.home l.path) w.3 (s.homes w.0 w.1 w.2)
+          subst (λ (d : Channel). IsPathPrefix d.home l.path) w.3 (s.homes w.0 w.1 w.2)
       | inr made ↦ leads_here c.home l.path (same_path_is c.home l.path ((and_parts (same_path c.home l.path) _ made).0))
     ]
 

@@ -13,7 +13,7 @@ use Rattle.shim_process.specs.LocalState.{LocalState, unit_at, env_of, is_full, 
 use Rattle.shim_process.specs.StatementViews.{statement_view, unit_in, passed_labels}
 use Rattle.shim_process.specs.Arguments.{Argument, arguments}
 use Rattle.shim_process.specs.Steps.{Action, Go, Store, StoreFirst, Make, Enter, Install, Trapped, Wait, action, limited, value_or, try_name, what_action, stmt_action, next_action}
-use Rattle.shim_process.specs.OwnSlots.{is_own_slot, is_own_variable, suits}
+use Rattle.shim_process.specs.OwnSlots.{is_own_slot, is_own_variable, has_arguments}
 use Rattle.shim_process.specs.FittingFrames.{ItemsFit, FrameFits, parameters_of, IsFitting}
 use Rattle.shim_process.proofs.CallSlots.{given_many}
 use Rattle.shim_process.proofs.FittingItems.{fits_layer, fits_out}
@@ -34,7 +34,7 @@ limited_fits : (l : LocalState) (over : Bool) (d : Action) → ActionFits l d �
 limited_fits l over d h = choose (ActionFits l) over (Trapped Depth) d tt h
 
 -- the arguments of a call that fits are as many as its unit's parameters
-call_given : (c : UCall) (given : List Argument) (l : LocalState) → suits l.program c ≡ true → arguments l.locations l.frame.slots (unit_in (statement_view l) c.unit).params c.args ≡ Ok given
+call_given : (c : UCall) (given : List Argument) (l : LocalState) → has_arguments l.program c ≡ true → arguments l.locations l.frame.slots (unit_in (statement_view l) c.unit).params c.args ≡ Ok given
     → length given ≡ length (unit_at l.program c.unit).params
 unfolding unit_at
 call_given c given l suit e = given_many l.program l.locations l.frame.slots c given suit e

@@ -10,7 +10,7 @@ use Rattle.shim_process.specs.Todo.{Item, Do, Leave}
 use Rattle.shim_process.specs.LocalState.{LocalState, unit_at}
 use Rattle.shim_process.specs.Arguments.{Argument, on_value, arguments}
 use Rattle.shim_process.specs.Forks.{what_branches, item_branches, all_arguments}
-use Rattle.shim_process.specs.OwnSlots.{suits}
+use Rattle.shim_process.specs.OwnSlots.{has_arguments}
 use Rattle.shim_process.specs.OwnSlots as own
 use Rattle.shim_process.specs.FittingFrames.{ItemsFit, FrameFits, parameters_of, IsFitting}
 use Rattle.shim_process.proofs.CallSlots.{given_many}
@@ -47,7 +47,7 @@ all_match l [] given h e = subst (AllMatch l.frame.slots l.program []) (ok_same 
 all_match l (b ∷ bs) given h e =
     let w = from_value (λ one. on_value (λ others. Ok (one ∷ others)) (all_arguments l bs)) (arguments l.locations l.frame.slots (unit_at l.program b.call.unit).params b.call.args) given e in
     let o = from_value (λ others. Ok (w.0 ∷ others)) (all_arguments l bs) given w.2 in
-    let s = and_parts (suits l.program b.call) (own.all_suit l.program bs) h in
+    let s = and_parts (has_arguments l.program b.call) (own.all_suit l.program bs) h in
     let many : length b.call.args ≡ length (unit_at l.program b.call.unit).params = eqb-true (length b.call.args) (length (unit_at l.program b.call.unit).params) s.0 in
     subst (AllMatch l.frame.slots l.program (b ∷ bs)) (ok_same (w.0 ∷ o.0) given o.2) (
       record {

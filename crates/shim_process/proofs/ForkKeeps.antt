@@ -7,7 +7,7 @@ use Rattle.shim_process.specs.LocalState.{LocalState}
 use Rattle.shim_process.specs.Sharers.{shares}
 use Rattle.shim_process.specs.FittingFrames.{IsFitting}
 use Rattle.shim_process.specs.SerialRuns.{is_in_runs}
-use Rattle.shim_process.specs.Sound.{Sound, LeadsTo, IsOwned, FramesBelow, PlacesGrow}
+use Rattle.shim_process.specs.Sound.{Sound, IsPathPrefix, IsOwned, FramesBelow, PlacesGrow}
 use Rattle.shim_process.proofs.CarryChannels.{shares_same}
 use Rattle.shim_process.proofs.FittingEnds.{GoesFitting}
 use Rattle.shim_process.proofs.ForkPlaces.{Place}
@@ -38,7 +38,7 @@ kept_sound l m k s = record {
       let p = k.places n x ex in
       let q = k.places o y ey in
       s.once n o p.was q.was p.at q.at (p.marked ox) (q.marked oy) (ap (λ (z : NamedChannel). z.channel) p.channel ∙ (same ∙ ap (λ (z : NamedChannel). z.channel) (sym q.channel)));
-  homes = λ at c e. subst (λ (p : Path). LeadsTo c.channel.home p) (sym k.path) (s.homes at c (ap (λ (g : List NamedChannel). slice_get g at) (sym k.given) ∙ e));
+  homes = λ at c e. subst (λ (p : Path). IsPathPrefix c.channel.home p) (sym k.path) (s.homes at c (ap (λ (g : List NamedChannel). slice_get g at) (sym k.given) ∙ e));
   serials = λ at c e h. subst (λ (n : ℕ). c.channel.serial < n) (sym k.made) (s.serials at c (ap (λ (g : List NamedChannel). slice_get g at) (sym k.given) ∙ e) (h ∙ k.path));
   made = λ n e. subst (λ (i : ℕ). n < i) (sym k.made) (s.made n (ap (is_in_runs n) (sym k.untaken) ∙ e));
   taken = λ at c e h.

@@ -13,7 +13,7 @@ use Rattle.shim_process.specs.FittingFrames.{IsFitting}
 use Rattle.shim_process.specs.Forks.{item_branches, all_back, output_back, joined, join}
 use Rattle.shim_process.specs.Sharers.{shares, carries}
 use Rattle.shim_process.specs.SerialRuns.{is_in_runs}
-use Rattle.shim_process.specs.Sound.{LeadsTo, IsOwned, FramesBelow, PlacesGrow, Sound}
+use Rattle.shim_process.specs.Sound.{IsPathPrefix, IsOwned, FramesBelow, PlacesGrow, Sound}
 use Rattle.shim_process.specs.Born.{Born}
 use Rattle.shim_process.proofs.CarryChannels.{shares_same, Carried, carried_at, carries_at}
 use Rattle.shim_process.proofs.LabelFrames.{HasLeft, gone_left, none_left}
@@ -102,7 +102,7 @@ joined_sound l ks m s h = record {
   labels = subst (λ b. FramesBelow b (m.frame ∷ m.callers)) (sym h.base) h.labels;
   channels = λ n x e. joined_channel l ks m n x s h e;
   once = λ n i x y e f p q same. joined_once l ks n i x y s (h.kept n x e) (h.kept i y f) p q same;
-  homes = λ at d e. subst (LeadsTo d.channel.home) (sym h.path) (s.homes at d (ap (λ g. slice_get g at) (sym h.given) ∙ e));
+  homes = λ at d e. subst (IsPathPrefix d.channel.home) (sym h.path) (s.homes at d (ap (λ g. slice_get g at) (sym h.given) ∙ e));
   serials = λ at d e home.
       let below = s.serials at d (ap (λ g. slice_get g at) (sym h.given) ∙ e) (home ∙ h.path) in
       let made = h.made in

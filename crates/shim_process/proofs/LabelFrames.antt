@@ -5,7 +5,7 @@ use Rattle.std.specs.Prelude.{slice_get}
 use Rattle.shim_base.specs.declared.operators.Trap.{Trap}
 use Rattle.shim_process.specs.Locations.{Location, at_number}
 use Rattle.shim_process.specs.Todo.{Item, Do, Leave, Successor, On, Second, followed}
-use Rattle.shim_process.specs.LocalState.{LocalState, Frame, ExceptionPlace, number, number_of, handlers, trapped}
+use Rattle.shim_process.specs.LocalState.{LocalState, Frame, ExceptionPlace, number_or_any, number_of, handlers, trapped}
 use Rattle.shim_process.specs.StatementViews.{statement_view, exceptions_of, label_among, label_of, passed_labels}
 use Rattle.shim_process.specs.Ends.{without_last, past_ends, went, is_over, settled, gone}
 use Rattle.shim_process.specs.Steps.{half}
@@ -114,7 +114,7 @@ among_below bound x first (e ∷ es) given most below =
     among_below bound x (first + 1) es (cond (nat_eq e x) first given) (omega (arith, most))
     (choose (λ g. g < bound) (nat_eq e x) first given (omega (arith, most)) below)
 
-number_below : (bound : ℕ) (labels : List ℕ) (x : ℕ) → 0 < bound → LabelsBelow bound labels → number (slice_get labels x) < bound
+number_below : (bound : ℕ) (labels : List ℕ) (x : ℕ) → 0 < bound → LabelsBelow bound labels → number_or_any (slice_get labels x) < bound
 number_below bound [] x some h = some
 number_below bound (y ∷ ys) zero some h = h.0
 number_below bound (y ∷ ys) (suc x) some h = number_below bound ys x some h.1

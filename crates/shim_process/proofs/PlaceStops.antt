@@ -13,7 +13,7 @@ use Rattle.shim_process.specs.LocalState.{LocalState, TrappedAt, location_of, nu
 use Rattle.shim_process.specs.StatementViews.{statement_view}
 use Rattle.shim_process.specs.Sharers.{shares}
 use Rattle.shim_process.specs.Steps.{line_of}
-use Rattle.shim_process.specs.Stops.{at_next, at_put, at_fork, what_stop, stmt_stop, stop_or, stop, put_value, low_bits, byte, after_put, put, number_or_none, thrown_value, thrown_number, after_throw, thrown}
+use Rattle.shim_process.specs.Stops.{at_next, at_put, at_fork, what_stop, stmt_stop, stop_or, stop, put_value, low_bits, byte, after_put, put, number_or_none, thrown_value, thrown_number, after_throw, throw_evaluated}
 use Rattle.shim_process.specs.Sound.{Sound}
 use Rattle.shim_process.proofs.LabelFrames.{label_below}
 use Rattle.shim_base.proofs.Facts.{choose}
@@ -94,14 +94,14 @@ after_throw_same : (r : Value) (l : LocalState) (v : ℤ) → number_or_none r �
 after_throw_same (Ok w) l v e = refl
 after_throw_same (Err t) l v e = absurd (cc)
 
-pub thrown_same : (l : LocalState) (v : ℤ) → thrown_number l ≡ Some v → thrown l ≡ l
-unfolding thrown thrown_number
+pub thrown_same : (l : LocalState) (v : ℤ) → thrown_number l ≡ Some v → throw_evaluated l ≡ l
+unfolding throw_evaluated thrown_number
 thrown_same l v e = after_throw_same (thrown_value l) l v e
 
 after_throw_stands : (r : Value) (l : LocalState) → number_or_none r ≡ None → (kind : Trap) × (line : ℕ) × (stop (after_throw r l) ≡ AtTrap kind line)
 after_throw_stands (Ok v) l e = absurd (cc)
 after_throw_stands (Err t) l e = (t, line_of l.frame.todo, trapped_stands t (line_of l.frame.todo) l)
 
-pub throw_traps : (l : LocalState) → thrown_number l ≡ None → (kind : Trap) × (line : ℕ) × (stop (thrown l) ≡ AtTrap kind line)
-unfolding thrown thrown_number
+pub throw_traps : (l : LocalState) → thrown_number l ≡ None → (kind : Trap) × (line : ℕ) × (stop (throw_evaluated l) ≡ AtTrap kind line)
+unfolding throw_evaluated thrown_number
 throw_traps l e = after_throw_stands (thrown_value l) l e

@@ -7,7 +7,7 @@ use Rattle.shim_process.specs.LocalState.{LocalState}
 use Rattle.shim_process.specs.Sharers.{shares, carries}
 use Rattle.shim_process.specs.declared.serial_run.SerialRun.{SerialRun}
 use Rattle.shim_process.specs.SerialRuns.{is_in_runs}
-use Rattle.shim_process.specs.Sound.{LeadsTo, IsOwned, FramesBelow, PlacesGrow, Sound}
+use Rattle.shim_process.specs.Sound.{IsPathPrefix, IsOwned, FramesBelow, PlacesGrow, Sound}
 use Rattle.shim_process.proofs.PlaceLocations.{Was}
 use Rattle.shim_process.proofs.CarryChannels.{shares_more, shares_new, shares_made, shares_how, Carried, carried_at, carries_at}
 use Rattle.shim_process.proofs.LabelFrames.{HasLeft}
@@ -140,7 +140,7 @@ keeps_sound l m s k =
       labels = subst (λ b. FramesBelow b (m.frame ∷ m.callers)) (sym c.base) k.labels;
       channels = λ n x e. from_shares l m n x s c (c.from n x e);
       once = λ n i x y e f p q same. from_once l m.made m.untaken c.place n i x y s (c.from n x e) (c.from i y f) p q same;
-      homes = λ at d e. subst (LeadsTo d.channel.home) (sym c.path) (s.homes at d (ap (λ g. slice_get g at) (sym c.given) ∙ e));
+      homes = λ at d e. subst (IsPathPrefix d.channel.home) (sym c.path) (s.homes at d (ap (λ g. slice_get g at) (sym c.given) ∙ e));
       serials = λ at d e home.
           let below = s.serials at d (ap (λ g. slice_get g at) (sym c.given) ∙ e) (home ∙ c.path) in
           let more = c.made in

@@ -39,9 +39,9 @@ arguments locations slots (p ∷ ps) [] = Ok []
 arguments locations slots (p ∷ ps) (a ∷ rest) = on_value (λ one. on_value (λ others. Ok (one ∷ others)) (arguments locations slots ps rest)) (argument locations slots p a)
 
 -- the value is stored by the parameter's type
-abbrev pub copied : Ty → Option Location → Option Location
-copied t None = None
-copied t (Some l) = Some (record l { ty = t; value = stored t l.value; ownership = Copy })
+abbrev pub copied_location : Ty → Option Location → Option Location
+copied_location t None = None
+copied_location t (Some l) = Some (record l { ty = t; value = stored t l.value; ownership = Copy })
 
 -- a new channel's own variable
 abbrev pub new_location : Path → ℕ → ℕ → Ty → ℤ → Location
@@ -58,14 +58,14 @@ new_channels (ByValue t name v ∷ rest) = 1 + new_channels rest
 abbrev pub call_locations : Path → Locations → ℕ → List Argument → Locations
 call_locations home locations serial [] = []
 call_locations home locations serial (ByReference n ∷ rest) = call_locations home locations serial rest
-call_locations home locations serial (ByCopy t n ∷ rest) = copied t (at_number locations n) ∷ call_locations home locations serial rest
+call_locations home locations serial (ByCopy t n ∷ rest) = copied_location t (at_number locations n) ∷ call_locations home locations serial rest
 call_locations home locations serial (ByValue t name v ∷ rest) = Some (new_location home serial name t v) ∷ call_locations home locations (serial + 1) rest
 
 -- The locations that a branch makes for its arguments. One by reference is moved into the child, with its value and its ownership, so that a later argument finds what is kept; the home of new channels is the child.
 abbrev pub branch_locations : Path → Locations → ℕ → List Argument → Locations
 branch_locations child locations serial [] = []
 branch_locations child locations serial (ByReference n ∷ rest) = with_moved (at_number locations n) ∷ branch_locations child (lend_at locations n) serial rest
-branch_locations child locations serial (ByCopy t n ∷ rest) = copied t (at_number locations n) ∷ branch_locations child locations serial rest
+branch_locations child locations serial (ByCopy t n ∷ rest) = copied_location t (at_number locations n) ∷ branch_locations child locations serial rest
 branch_locations child locations serial (ByValue t name v ∷ rest) = Some (new_location child serial name t v) ∷ branch_locations child locations (serial + 1) rest
 
 -- the channels of the locations that are there

@@ -40,7 +40,7 @@ FramesFit program kept f [] = FrameFits program kept f
 FramesFit program kept f (caller ∷ callers) = FrameFits program kept f × (kept ≤ f.floor) × (caller.floor ≤ f.floor) × FramesFit program kept caller callers
 
 -- the unit that the process entered first
-abbrev pub first_unit : Frame → List Frame → ℕ
+abbrev first_unit : Frame → List Frame → ℕ
 first_unit f [] = f.unit
 first_unit f (caller ∷ callers) = first_unit caller callers
 

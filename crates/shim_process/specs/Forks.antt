@@ -83,8 +83,8 @@ all_arguments l (b ∷ branches) =
     (arguments l.locations l.frame.slots (unit_at l.program b.call.unit).params b.call.args)
 
 -- the child of this place, at the first statement of this unit, with these labels of the unit's exceptions and these arguments
-abbrev pub child_in : LocalState → ℕ → ℕ → List ℕ → List Argument → LocalState
-child_in l i unit labels given =
+abbrev pub new_child : LocalState → ℕ → ℕ → List ℕ → List Argument → LocalState
+new_child l i unit labels given =
     let u = unit_at l.program unit in
     let path = l.path ++ (l.forks, i) ∷ [] in
     let passed = branch_locations path l.locations 0 given in
@@ -107,7 +107,7 @@ child_in l i unit labels given =
 
 -- the child in this branch
 abbrev pub child : LocalState → ℕ → UBranch → List Argument → LocalState
-child l i b given = child_in l i b.call.unit (passed_labels (statement_view l) b.call.throws) given
+child l i b given = new_child l i b.call.unit (passed_labels (statement_view l) b.call.throws) given
 
 -- what is kept of the variables that arguments give by reference; like the arguments, they go with the parameters
 abbrev pub lent : List ℕ → List UParam → List Arg → Locations → Locations
@@ -162,12 +162,12 @@ abbrev pub is_far : LocalState → Bool
 is_far l = nat_le 64 (length l.path)
 
 -- what a fork gives with these children, or the first trap of their arguments; a limit that is passed traps after the arguments were computed
-abbrev pub parted : Result (List LocalState) Trap → LocalState → List UBranch → ForkedView LocalState
-parted (Ok children) l branches = if is_far l || is_full l then Trapped (trapped Depth (line_of l.frame.todo) l) else Parted (parent l branches) children
-parted (Err t) l branches = Trapped (trapped t (line_of l.frame.todo) l)
+abbrev pub fork_outcome : Result (List LocalState) Trap → LocalState → List UBranch → ForkedView LocalState
+fork_outcome (Ok children) l branches = if is_far l || is_full l then Trapped (trapped Depth (line_of l.frame.todo) l) else Parted (parent l branches) children
+fork_outcome (Err t) l branches = Trapped (trapped t (line_of l.frame.todo) l)
 
 abbrev pub fork_result : Result (List (List Argument)) Trap → LocalState → List UBranch → ForkedView LocalState
-fork_result given l branches = parted (on_value (λ gs. Ok (children_from l 0 branches gs)) given) l branches
+fork_result given l branches = fork_outcome (on_value (λ gs. Ok (children_from l 0 branches gs)) given) l branches
 
 -- after the fork at which the process stands
 unfoldable pub fork : LocalState → ForkedView LocalState

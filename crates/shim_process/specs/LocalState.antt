@@ -9,7 +9,7 @@ use Rattle.shim_syntax.specs.declared.tree.Sort.TheVariants as sort
 use Rattle.shim_units.specs.declared.form.Form.{Form}
 use Rattle.shim_units.specs.declared.unit.Unit.{Unit as UnitOf}
 use Rattle.shim_process.specs.Values.{Env}
-use Rattle.shim_process.specs.Locations.{Location, Locations, at_number, number_in}
+use Rattle.shim_process.specs.Locations.{Location, Locations, at_number, location_value}
 use Rattle.shim_process.specs.Todo.{Item}
 use Rattle.shim_process.specs.declared.handler_variable.HandlerVariable.{HandlerVariable}
 use Rattle.shim_process.specs.declared.serial_run.SerialRun.{SerialRun}
@@ -69,9 +69,9 @@ pub record LocalState : Type 0 where
   pub input : List ℕ
 
 -- A number that an accepted program has no use for; what is looked up is always there.
-abbrev pub number : Option ℕ → ℕ
-number None = 0
-number (Some n) = n
+abbrev pub number_or_any : Option ℕ → ℕ
+number_or_any None = 0
+number_or_any (Some n) = n
 
 abbrev pub no_unit : UnitOf
 no_unit = record { title = []; function = 0; params = []; slots = []; slot_names = []; throws = 0; tries = []; body = [] }
@@ -84,7 +84,7 @@ unfoldable pub unit_at : Form → ℕ → UnitOf
 unit_at program n = unit_or (slice_get program.units n)
 
 unfoldable pub number_of : List ℕ → ℕ → ℕ
-number_of numbers n = number (slice_get numbers n)
+number_of numbers n = number_or_any (slice_get numbers n)
 
 -- the location of a slot
 abbrev pub location_of : Locations → List ℕ → ℕ → Option Location
@@ -92,7 +92,7 @@ location_of locations slots x = at_number locations (number_of slots x)
 
 -- what the variables of a frame hold
 abbrev pub env_of : Locations → List ℕ → Env
-env_of locations slots x = number_in (location_of locations slots x)
+env_of locations slots x = location_value (location_of locations slots x)
 
 -- the type of a variable; that of a stream is never asked for
 abbrev pub type_of : Sort → Ty

@@ -40,9 +40,9 @@ abbrev pub channel_at : Locations → ℕ → Option NamedChannel
 channel_at locations n = channel_in (at_number locations n)
 
 -- what it holds; a variable in scope has a location, so that the 0 is never asked for
-abbrev pub number_in : Option Location → ℤ
-number_in None = pos 0
-number_in (Some l) = l.value
+abbrev pub location_value : Option Location → ℤ
+location_value None = pos 0
+location_value (Some l) = l.value
 
 -- the value is stored by the location's type
 abbrev pub with_value : ℤ → Option Location → Option Location

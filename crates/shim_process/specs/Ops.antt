@@ -4,7 +4,7 @@ use Rattle.shim_process.specs.Forks.{fork, join}
 use Rattle.shim_process.specs.LocalState.{LocalState, handlers}
 use Rattle.shim_process.specs.Sharers.{shares, carries, channel_value}
 use Rattle.shim_process.specs.Steps.{quiet}
-use Rattle.shim_process.specs.Stops.{stop, byte, put, receive, thrown_number, thrown}
+use Rattle.shim_process.specs.Stops.{stop, byte, put, receive, thrown_number, throw_evaluated}
 use Rattle.shim_process.specs.Unwinding.{unwind, handler}
 use Rattle.shim_process.specs.Sound.{Sound}
 use Rattle.shim_process.specs.Born.{Born}
@@ -21,7 +21,7 @@ process_ops = record {
   join = join;
   born = Born;
   number = thrown_number;
-  thrown = thrown;
+  thrown = throw_evaluated;
   unwind = unwind;
   value = channel_value;
   shares = shares;

@@ -9,12 +9,12 @@ use Rattle.shim_units.specs.declared.unit.UWhat.{UWhat-F}
 use Rattle.shim_process.specs.LocalState.{unit_at}
 
 -- the call has an argument for each parameter of its unit
-abbrev pub suits : Form → UCall → Bool
-suits program c = nat_eq (length c.args) (length (unit_at program c.unit).params)
+abbrev pub has_arguments : Form → UCall → Bool
+has_arguments program c = nat_eq (length c.args) (length (unit_at program c.unit).params)
 
 abbrev pub all_suit : Form → List UBranch → Bool
 all_suit program [] = true
-all_suit program (b ∷ branches) = suits program b.call && all_suit program branches
+all_suit program (b ∷ branches) = has_arguments program b.call && all_suit program branches
 
 -- the slot is one of the unit's own, which stand behind those of its parameters
 abbrev pub is_own_slot : UnitOf → ℕ → Bool
@@ -25,7 +25,7 @@ abbrev pub is_own_variable : UnitOf → Option ℕ → Bool
 is_own_variable u None = true
 is_own_variable u (Some x) = is_own_slot u x
 
-abbrev pub all_true : List Bool → Bool
+abbrev all_true : List Bool → Bool
 all_true [] = true
 all_true (b ∷ bs) = b && all_true bs
 
@@ -36,7 +36,7 @@ what_fits program u (UWhat-F.If e first second) = all_true first && all_true sec
 what_fits program u (UWhat-F.While e body) = all_true body
 what_fits program u (UWhat-F.For first test step body) = all_true first && (all_true step && all_true body)
 what_fits program u (UWhat-F.Block body) = all_true body
-what_fits program u (UWhat-F.Call c) = suits program c
+what_fits program u (UWhat-F.Call c) = has_arguments program c
 what_fits program u (UWhat-F.Try body x y handler) = all_true body && (is_own_variable u y && all_true handler)
 what_fits program u (UWhat-F.Par branches) = all_suit program branches
 what_fits _ _ _ = true

@@ -2,11 +2,11 @@
 use Rattle.std.specs.Prelude.{ℕ, suc, ◌+◌, ◌-◌, eqb, nat_le, nat_lt, Bool, false, ◌&&◌, ◌||◌, List, [], ◌∷◌, ◌++◌, if◌then◌else◌, Option, Some, None}
 use Rattle.shim_process.specs.declared.serial_run.SerialRun.{SerialRun}
 
-abbrev pub last : SerialRun → ℕ
-last r = r.first + r.more
+abbrev pub last_serial : SerialRun → ℕ
+last_serial r = r.first + r.more
 
 abbrev pub is_in_run : ℕ → SerialRun → Bool
-is_in_run n r = nat_le r.first n && nat_le n (last r)
+is_in_run n r = nat_le r.first n && nat_le n (last_serial r)
 
 -- the number is one of these
 abbrev pub is_in_runs : ℕ → List SerialRun → Bool
@@ -16,17 +16,17 @@ is_in_runs n (r ∷ rs) = is_in_run n r || is_in_runs n rs
 -- with one that is greater than all of them
 abbrev pub with_serial : ℕ → List SerialRun → List SerialRun
 with_serial n [] = record { first = n; more = 0 } ∷ []
-with_serial n (r ∷ rs) = if eqb n (suc (last r)) then record { first = r.first; more = suc r.more } ∷ rs else record { first = n; more = 0 } ∷ r ∷ rs
+with_serial n (r ∷ rs) = if eqb n (suc (last_serial r)) then record { first = r.first; more = suc r.more } ∷ rs else record { first = n; more = 0 } ∷ r ∷ rs
 
 -- what stands above a number of a run, and what stands below it
-abbrev pub above : ℕ → SerialRun → List SerialRun
-above n r = if nat_lt n (last r) then record { first = suc n; more = last r - suc n } ∷ [] else []
+abbrev pub run_above : ℕ → SerialRun → List SerialRun
+run_above n r = if nat_lt n (last_serial r) then record { first = suc n; more = last_serial r - suc n } ∷ [] else []
 
-abbrev pub below : ℕ → SerialRun → List SerialRun
-below n r = if nat_lt r.first n then record { first = r.first; more = n - suc r.first } ∷ [] else []
+abbrev pub run_below : ℕ → SerialRun → List SerialRun
+run_below n r = if nat_lt r.first n then record { first = r.first; more = n - suc r.first } ∷ [] else []
 
 abbrev pub run_without : ℕ → SerialRun → List SerialRun
-run_without n r = if is_in_run n r then above n r ++ below n r else r ∷ []
+run_without n r = if is_in_run n r then run_above n r ++ run_below n r else r ∷ []
 
 -- without this one
 abbrev pub without_serial : ℕ → List SerialRun → List SerialRun

@@ -1,7 +1,7 @@
 -- What a process has to do with a channel: whether it shares or carries it, its value, and which it was given.
 use Rattle.std.specs.Prelude.{ℕ, ℤ, nat_lt, not, Bool, true, false, ◌&&◌, ◌||◌, List, [], ◌∷◌, Option, Some, None, slice_get}
 use Rattle.shim_base.specs.Paths.{Channel, NamedChannel, same_channel, same_path}
-use Rattle.shim_process.specs.Locations.{Location, own_of, number_in}
+use Rattle.shim_process.specs.Locations.{Location, own_of, location_value}
 use Rattle.shim_process.specs.LocalState.{LocalState}
 use Rattle.shim_process.specs.SerialRuns.{is_in_runs}
 
@@ -10,28 +10,28 @@ is_among c [] = false
 is_among c (d ∷ ds) = same_channel d.channel c || is_among c ds
 
 -- the serial number is of a channel that the process made, and not of one that a `try` made and no handler has taken
-abbrev pub is_taken : LocalState → ℕ → Bool
-is_taken l n = nat_lt n l.made && not (is_in_runs n l.untaken)
+abbrev pub made_serial : LocalState → ℕ → Bool
+made_serial l n = nat_lt n l.made && not (is_in_runs n l.untaken)
 
 -- the process declared it
 abbrev pub declared : LocalState → Channel → Bool
-declared l c = same_path c.home l.path && is_taken l c.serial
+declared l c = same_path c.home l.path && made_serial l c.serial
 
 -- an argument gave it the channel, or it declared it
 unfoldable pub shares : LocalState → Channel → Bool
 shares l c = is_among c l.given || declared l c
 
-abbrev pub is_there : Option Location → Bool
-is_there None = false
-is_there (Some l) = true
+abbrev pub is_present : Option Location → Bool
+is_present None = false
+is_present (Some l) = true
 
 -- one of its locations is the channel's own variable
 unfoldable pub carries : LocalState → Channel → Bool
-carries l c = is_there (own_of c l.locations)
+carries l c = is_present (own_of c l.locations)
 
 -- the value of the channel's own variable, where it carries that
 unfoldable pub channel_value : LocalState → Channel → ℤ
-channel_value l c = number_in (own_of c l.locations)
+channel_value l c = location_value (own_of c l.locations)
 
 -- the channel given at this place
 abbrev pub given_at : LocalState → ℕ → Option NamedChannel

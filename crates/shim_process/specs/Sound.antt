@@ -10,8 +10,8 @@ use Rattle.shim_process.specs.Sharers.{shares}
 use Rattle.shim_process.specs.FittingFrames.{IsFitting}
 
 -- the first path leads to the second, or is it
-abbrev pub LeadsTo : Path → Path → Type 0
-LeadsTo p q = (rest : Path) × (p ++ rest ≡ q)
+abbrev pub IsPathPrefix : Path → Path → Type 0
+IsPathPrefix p q = (rest : Path) × (p ++ rest ≡ q)
 
 -- it is the channel's own variable, here or with a child
 abbrev pub IsOwned : Ownership → Type 0
@@ -63,7 +63,7 @@ pub record Sound (l : LocalState) : Type 0 where
   pub once : (n m : ℕ) (x y : Location) → at_number l.locations n ≡ Some x → at_number l.locations m ≡ Some y → IsOwned x.ownership → IsOwned y.ownership
       → x.channel.channel ≡ y.channel.channel → n ≡ m
   -- the channels that it was given are of processes on the way from the root, and those of its own are among the first that it made
-  pub homes : (at : ℕ) (c : NamedChannel) → slice_get l.given at ≡ Some c → LeadsTo c.channel.home l.path
+  pub homes : (at : ℕ) (c : NamedChannel) → slice_get l.given at ≡ Some c → IsPathPrefix c.channel.home l.path
   pub serials : (at : ℕ) (c : NamedChannel) → slice_get l.given at ≡ Some c → c.channel.home ≡ l.path → c.channel.serial < l.made
   -- those that no handler has taken are among the first that it made, and it was given none of them
   pub made : (n : ℕ) → is_in_runs n l.untaken ≡ true → n < l.made

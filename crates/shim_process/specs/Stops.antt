@@ -104,8 +104,8 @@ after_throw (Ok v) l = l
 after_throw (Err t) l = trapped t (line_of l.frame.todo) l
 
 -- still at the throw, or trapped at it
-unfoldable pub thrown : LocalState → LocalState
-thrown l = after_throw (thrown_value l) l
+unfoldable pub throw_evaluated : LocalState → LocalState
+throw_evaluated l = after_throw (thrown_value l) l
 
 -- the value of a meeting is stored in the location that the statement names
 abbrev pub what_receive : UWhat-F UWhat UStmt → ℤ → LocalState → LocalState

@@ -43,9 +43,9 @@ unfoldable pub unwind : LocalState → ℕ → ℤ → LocalState
 unwind l label v = unwound l.callers l.frame (label - l.base) v l
 
 -- exception place n of those of the process, which are counted from the outermost
-abbrev pub place_in : Frame → ℕ → List Frame → Option ExceptionPlace
-place_in f n [] = slice_get f.places (n - f.outer)
-place_in f n (caller ∷ callers) = if nat_lt n f.outer then place_in caller n callers else slice_get f.places (n - f.outer)
+abbrev pub exception_place_in : Frame → ℕ → List Frame → Option ExceptionPlace
+exception_place_in f n [] = slice_get f.places (n - f.outer)
+exception_place_in f n (caller ∷ callers) = if nat_lt n f.outer then exception_place_in caller n callers else slice_get f.places (n - f.outer)
 
 -- the name and the line of a `try`
 abbrev pub name_and_line : Option ExceptionPlace → ℕ × ℕ
@@ -54,4 +54,4 @@ name_and_line (Some p) = (p.name, p.line)
 
 -- those of the exception place of this label
 unfoldable pub handler : LocalState → ℕ → ℕ × ℕ
-handler l label = name_and_line (place_in l.frame (label - l.base) l.callers)
+handler l label = name_and_line (exception_place_in l.frame (label - l.base) l.callers)

@@ -20,7 +20,7 @@ on_number f (Ok a) = f a
 on_number f (Err t) = Err t
 
 -- `&&`: a left side of 0 decides, and nothing on the right is computed
-abbrev pub both : Value → Value → Value
+abbrev both : Value → Value → Value
 both a b = on_number (λ x. if is_zero x then Ok (pos 0) else on_number (λ y. Ok (truth (not (is_zero y)))) b) a
 
 -- `||`: a left side that isn't 0 decides

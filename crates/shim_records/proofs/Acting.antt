@@ -10,7 +10,7 @@ use Rattle.shim_semantics.specs.Acts.{Acted, act_here}
 use Rattle.shim_semantics.specs.Sound.{IsSound}
 use Rattle.shim_semantics.proofs.Replaced.{sound_at}
 use Rattle.shim_semantics.proofs.SoundEvents.{here_keeps}
-use Rattle.shim_laws_records.specs.Seen.{Sort, sort, seen, is_leaf, place}
+use Rattle.shim_laws_records.specs.Seen.{ProcessStatus, process_status, seen, is_leaf, place}
 use Rattle.shim_laws_records.specs.Agrees.{RecordView, Has, Shows}
 use Rattle.shim_laws_records.specs.Places.{IsReplaced}
 use Rattle.shim_laws_records.specs.Counts.{Tally, Reading as Read, reading}
@@ -27,17 +27,17 @@ use Rattle.shim_records.specs.Acted.{acting, ActedBrings}
 use Rattle.shim_records.proofs.ManyWays.{rest_same, others, its_way, among_or_not}
 use Rattle.shim_records.proofs.ReadOff.{same_stands}
 
-module _ {S : Type 0} (o : Ops S) (law : LocalLaws o) (rp : Path) (states : List S) (stands : List RecordView) (up : ℕ → Option ℕ) (c : Channel) (old new m : Node S) (a : Acted S) (n x f : ℕ) (s : S) (k : Sort)
+module _ {S : Type 0} (o : Ops S) (law : LocalLaws o) (rp : Path) (states : List S) (stands : List RecordView) (up : ℕ → Option ℕ) (c : Channel) (old new m : Node S) (a : Acted S) (n x f : ℕ) (s : S) (k : ProcessStatus)
     (sound : IsSound o old) (shown : Shows o rp states stands new) (linked : AreLinked states stands up) (few : AreAtMost 4294967295 states stands)
     (has : Has states stands x f s k) (rep : IsReplaced (place o rp s) m a.node old new) (acts : act_here o m ≡ Some a) (leaf : is_leaf a.node ≡ true) where
   -- its state and sort are what the record says
-  is_seen : ◌≡◌ {A = S × Sort} (state a.node, sort a.node) (s, k)
-  is_seen = some_same (state a.node, sort a.node) (s, k) (ap seen (sym rep.is) ∙ shown.agrees.shown x f s k has)
+  is_seen : ◌≡◌ {A = S × ProcessStatus} (state a.node, process_status a.node) (s, k)
+  is_seen = some_same (state a.node, process_status a.node) (s, k) (ap seen (sym rep.is) ∙ shown.agrees.shown x f s k has)
 
   its_state : state a.node ≡ s
   its_state = ap (λ z. z.0) is_seen
 
-  its_sort : sort a.node ≡ k
+  its_sort : process_status a.node ≡ k
   its_sort = ap (λ z. z.1) is_seen
 
   same_path : o.path (state m) ≡ o.path s

@@ -17,7 +17,7 @@ use Rattle.shim_local.specs.Process.{Ops}
 use Rattle.shim_local.specs.Laws.{AnyOf, IsGiven}
 use Rattle.shim_laws_records.specs.Counts.{Tally, fresh_tally}
 use Rattle.shim_records.specs.Members.{IsAmong}
-use Rattle.shim_records.specs.Pairs.{tally, chans_of, IsOrdered, pair_of, find, label_of}
+use Rattle.shim_records.specs.Pairs.{tally, chans_of, IsOrdered, pair_of, tally_for, least_label_of}
 use Rattle.shim_records.specs.Fresh.{shared_of, shared_given, channels, RisesFrom, Rises, is_behind, comes_after, IsOneMore, skipped, added, IsPaired, FreshPairs}
 use Rattle.shim_records.specs.declared.pair.Pair.{Pair}
 
@@ -367,14 +367,14 @@ chan_among c [] i p e f = none_some p e
 chan_among c (x ∷ ps) zero p e f = (0, ap (λ z. Some z.chan.channel) (some_same x p e) ∙ ap Some f)
 chan_among c (x ∷ ps) (suc i) p e f = let w = chan_among c ps i p e f in (suc w.0, w.1)
 
-some_pair : (c : Channel) (ps : List Pair) → find c ps ≢ None → (p : Pair) × (pair_of c ps ≡ Some p)
+some_pair : (c : Channel) (ps : List Pair) → tally_for c ps ≢ None → (p : Pair) × (pair_of c ps ≡ Some p)
 some_pair c ps h = on (pair_of c ps) refl
   where
     on : (x : Option Pair) → pair_of c ps ≡ x → (p : Pair) × (pair_of c ps ≡ Some p)
     on None e = absurd (h (ap (option_map tally) e))
     on (Some p) e = (p, e)
 
-tally_found : (c : Channel) (ps : List Pair) (y : Tally) → find c ps ≡ Some y → (p : Pair) × (pair_of c ps ≡ Some p) × (tally p ≡ y)
+tally_found : (c : Channel) (ps : List Pair) (y : Tally) → tally_for c ps ≡ Some y → (p : Pair) × (pair_of c ps ≡ Some p) × (tally p ≡ y)
 tally_found c ps y h = on (pair_of c ps) refl
   where
     on : (x : Option Pair) → pair_of c ps ≡ x → (p : Pair) × (pair_of c ps ≡ Some p) × (tally p ≡ y)
@@ -401,9 +401,9 @@ fresh_pairs {S} o p ks given sorted pairs is same h = record {
   unlabelled = λ c. unlabelled_at c (pair_of c pairs) refl;
 }
   where
-    unlabelled_at : (c : Channel) (x : Option Pair) → pair_of c pairs ≡ x → label_of (pair_of c pairs) ≡ None
-    unlabelled_at c None e = ap label_of e
-    unlabelled_at c (Some q) e = let v = pair_found c pairs q e in ap label_of e ∙ (h.right v.0 q v.1).1
+    unlabelled_at : (c : Channel) (x : Option Pair) → pair_of c pairs ≡ x → least_label_of (pair_of c pairs) ≡ None
+    unlabelled_at c None e = ap least_label_of e
+    unlabelled_at c (Some q) e = let v = pair_found c pairs q e in ap least_label_of e ∙ (h.right v.0 q v.1).1
 
 -- what holds of a result that came
 pub if_ok_weaker : {T E : Type 0} (r : Result T E) (P Q : T → Type 0) → ((x : T) → P x → Q x) → IfOk r P → IfOk r Q

@@ -10,7 +10,7 @@ use Rattle.shim_base.proofs.SamePaths.{same_channel_is}
 use Rattle.shim_laws_records.specs.Dooms.{lesser}
 use Rattle.shim_laws_records.specs.LoweredLabels.{IsLowered, LoweredAbove, all_the_way, at_the_root, uncounted, as_low, lowers}
 use Rattle.shim_laws_records.proofs.SameTrees.{same_or_not}
-use Rattle.shim_records.specs.Pairs.{tally, place_of, pair_of, find, label_of, counts_at, counts_in, least_at, leasts_in, up_in, rest_of, chans_of}
+use Rattle.shim_records.specs.Pairs.{tally, pair_index, pair_of, tally_for, least_label_of, counts_at, counts_in, least_at, leasts_in, up_in, rest_of, chans_of}
 use Rattle.shim_records.specs.Labels.{OnlyLabels, LowersOne, IsLoweredAbove}
 use Rattle.shim_records.specs.declared.pair.Pair.{Pair}
 use Rattle.shim_records.specs.declared.record.Record.{Record}
@@ -26,9 +26,9 @@ pub record Put (c : Channel) (ps : List Pair) (i : ℕ) (p q : Pair) : Type 0 wh
   pub found : pair_of c ps ≡ Some p
   pub finds : pair_of c (slice_set ps i q) ≡ Some q
   pub elsewhere : (d : Channel) → same_channel c d ≡ false → pair_of d (slice_set ps i q) ≡ pair_of d ps
-  pub counts : (d : Channel) → find d (slice_set ps i q) ≡ find d ps
+  pub counts : (d : Channel) → tally_for d (slice_set ps i q) ≡ tally_for d ps
 
-pub put_there : (c : Channel) (ps : List Pair) (i : ℕ) (p q : Pair) → place_of c ps ≡ Some i → p ≡ get_or ps i p → q.chan ≡ p.chan → tally q ≡ tally p → Put c ps i p q
+pub put_there : (c : Channel) (ps : List Pair) (i : ℕ) (p q : Pair) → pair_index c ps ≡ Some i → p ≡ get_or ps i p → q.chan ≡ p.chan → tally q ≡ tally p → Put c ps i p q
 put_there c [] i p q e g h l = none_some i e
 put_there c (x ∷ ps) i p q e g h l = on (same_channel x.chan.channel c) refl i e g (λ k u v. put_there c ps k p q u v h l)
   where
@@ -46,8 +46,8 @@ put_there c (x ∷ ps) i p q e g h l = on (same_channel x.chan.channel c) refl i
         either true = refl
         either false = e
 
-    on : (b : Bool) → same_channel x.chan.channel c ≡ b → (i : ℕ) → cond b (Some 0) (option_map suc (place_of c ps)) ≡ Some i → p ≡ get_or (x ∷ ps) i p
-        → ((k : ℕ) → place_of c ps ≡ Some k → p ≡ get_or ps k p → Put c ps k p q) → Put c (x ∷ ps) i p q
+    on : (b : Bool) → same_channel x.chan.channel c ≡ b → (i : ℕ) → cond b (Some 0) (option_map suc (pair_index c ps)) ≡ Some i → p ≡ get_or (x ∷ ps) i p
+        → ((k : ℕ) → pair_index c ps ≡ Some k → p ≡ get_or ps k p → Put c ps k p q) → Put c (x ∷ ps) i p q
     on true w zero e g f =
         let same : q.chan.channel ≡ x.chan.channel = ap (λ z. z.channel) h ∙ ap (λ z. z.chan.channel) g in
         record {
@@ -61,7 +61,7 @@ put_there c (x ∷ ps) i p q e g h l = on (same_channel x.chan.channel c) refl i
         }
     on true w (suc i) e g f = absurd cc
     on false w i e g f =
-        let k = map_some (place_of c ps) i e in
+        let k = map_some (pair_index c ps) i e in
         subst (λ z. Put c (x ∷ ps) z p q) (sym k.2) (behind w k.0 (f k.0 k.1 (g ∙ ap (λ z. get_or (x ∷ ps) z p) k.2)))
       where
         behind : same_channel x.chan.channel c ≡ false → (k : ℕ) → Put c ps k p q → Put c (x ∷ ps) (suc k) p q
@@ -93,7 +93,7 @@ same_labels c rs j was is now h same = λ t k. each k t
       | inr w ↦ h.others k w
     ]
 
-module _ (c : Channel) (rs : List Record) (j i : ℕ) (r : Record) (p q : Pair) (stood : slice_get rs j ≡ Some r) (place : place_of c r.pairs.items ≡ Some i) (is_p : p ≡ get_or r.pairs.items i p)
+module _ (c : Channel) (rs : List Record) (j i : ℕ) (r : Record) (p q : Pair) (stood : slice_get rs j ≡ Some r) (place : pair_index c r.pairs.items ≡ Some i) (is_p : p ≡ get_or r.pairs.items i p)
     (chan : q.chan ≡ p.chan) (says : tally q ≡ tally p) where
   abbrev new : Record
   new = with_pair r i q
@@ -115,8 +115,8 @@ module _ (c : Channel) (rs : List Record) (j i : ℕ) (r : Record) (p q : Pair) 
   pub relabelled : Relabelled c rs j p.least q.least now
   relabelled = record {
     counted = λ e. none_some (tally p) (sym e ∙ (ap (counts_at c) stood ∙ ap (option_map tally) put.found));
-    label_was = ap (least_at c) stood ∙ ap label_of put.found;
-    label_is = ap (least_at c) stands ∙ ap label_of put.finds;
+    label_was = ap (least_at c) stood ∙ ap least_label_of put.found;
+    label_is = ap (least_at c) stands ∙ ap least_label_of put.finds;
     others = λ k far. ap (least_at c) (set_elsewhere rs j k new far);
     only = record {
       rest = map_set rest_of rs j r new stood (rest_with r (chans_of (slice_set r.pairs.items i q)) same_chans);
@@ -125,7 +125,7 @@ module _ (c : Channel) (rs : List Record) (j i : ℕ) (r : Record) (p q : Pair) 
         | inr w ↦ ap (counts_at d) (set_elsewhere rs j k new w)
       ];
       elsewhere = λ d far k. elim (same_or_not k j) [
-        | inl w ↦ ap (λ z. least_at d (slice_get now z)) w ∙ (ap (least_at d) stands ∙ (ap label_of (put.elsewhere d far) ∙ (sym (ap (least_at d) stood) ∙ sym (ap (λ z. least_at d (slice_get rs z)) w))))
+        | inl w ↦ ap (λ z. least_at d (slice_get now z)) w ∙ (ap (least_at d) stands ∙ (ap least_label_of (put.elsewhere d far) ∙ (sym (ap (least_at d) stood) ∙ sym (ap (λ z. least_at d (slice_get rs z)) w))))
         | inr w ↦ ap (least_at d) (set_elsewhere rs j k new w)
       ];
     };

@@ -8,9 +8,9 @@ use Rattle.shim_local.specs.Process.{Ops}
 use Rattle.shim_laws_records.specs.Seen.{forks}
 use Rattle.shim_laws_records.specs.Agrees.{RecordView, free, used}
 use Rattle.shim_laws_records.specs.Dooms.{lesser}
-use Rattle.shim_laws_records.specs.Recounting.{label_at, label_among, IsReadOff, Recounted, all_the_way, at_the_root, uncounted, as_before, recounts}
+use Rattle.shim_laws_records.specs.Recounting.{label_at, least_label_among, IsReadOff, Recounted, all_the_way, at_the_root, uncounted, as_before, recounts}
 use Rattle.shim_laws_records.proofs.Leasts.{lesser_nothing, lesser_further}
-use Rattle.shim_records.specs.Pairs.{fork_size, place_of, pair_of, label_of, counts_in, leasts_in, up_in, Rest, rest_of, stands_by, stands_of}
+use Rattle.shim_records.specs.Pairs.{fork_size, pair_index, pair_of, least_label_of, counts_in, leasts_in, up_in, UncountedRecord, rest_of, stands_by, stands_of}
 use Rattle.shim_records.specs.Labels.{OnlyLabels}
 use Rattle.shim_records.specs.Recounting.{Recounts, RecountsOne, IsRecounted}
 use Rattle.shim_records.specs.declared.pair.Pair.{Pair}
@@ -22,42 +22,42 @@ use Rattle.shim_records.proofs.Showing.{map_get}
 use Rattle.shim_records.proofs.WholeWay.{rest_ups}
 
 -- the label of a pair that is found, and none where there is none
-pub its_label : (c : Channel) (ps : List Pair) (i : ℕ) (p : Pair) → place_of c ps ≡ Some i → p ≡ get_or ps i p → p.least ≡ label_of (pair_of c ps)
-its_label c ps i p e g = sym (ap label_of (put_there c ps i p p e g refl refl).found)
+pub its_label : (c : Channel) (ps : List Pair) (i : ℕ) (p : Pair) → pair_index c ps ≡ Some i → p ≡ get_or ps i p → p.least ≡ least_label_of (pair_of c ps)
+its_label c ps i p e g = sym (ap least_label_of (put_there c ps i p p e g refl refl).found)
 
-pub no_label : (c : Channel) (ps : List Pair) → place_of c ps ≡ None → None ≡ label_of (pair_of c ps)
+pub no_label : (c : Channel) (ps : List Pair) → pair_index c ps ≡ None → None ≡ least_label_of (pair_of c ps)
 no_label c [] e = refl
-no_label c (p ∷ ps) e = on (same_channel p.chan.channel c) (place_of c ps) (no_label c ps) e
+no_label c (p ∷ ps) e = on (same_channel p.chan.channel c) (pair_index c ps) (no_label c ps) e
   where
-    on : (b : Bool) (o : Option ℕ) → (o ≡ None → None ≡ label_of (pair_of c ps)) → cond b (Some 0) (option_map suc o) ≡ None → None ≡ label_of (cond b (Some p) (pair_of c ps))
+    on : (b : Bool) (o : Option ℕ) → (o ≡ None → None ≡ least_label_of (pair_of c ps)) → cond b (Some 0) (option_map suc o) ≡ None → None ≡ least_label_of (cond b (Some p) (pair_of c ps))
     on true o f e = absurd cc
     on false None f e = f refl
     on false (Some k) f e = absurd cc
 
 module _ {S : Type 0} (o : Ops S) (c : Channel) (states : List S) (stands : List RecordView) (labels : ℕ → Option ℕ) where
   -- one more of the children read
-  pub one_more : (g n i : ℕ) (y z : Option ℕ) → i < n → z ≡ lesser y (label_at o c states stands labels (g + i)) → lesser y (label_among o c states stands labels (g + i) (n - i)) ≡ label_among o c states stands labels g n
-      → lesser z (label_among o c states stands labels (g + (i + 1)) (n - (i + 1))) ≡ label_among o c states stands labels g n
+  pub one_more : (g n i : ℕ) (y z : Option ℕ) → i < n → z ≡ lesser y (label_at o c states stands labels (g + i)) → lesser y (least_label_among o c states stands labels (g + i) (n - i)) ≡ least_label_among o c states stands labels g n
+      → lesser z (least_label_among o c states stands labels (g + (i + 1)) (n - (i + 1))) ≡ least_label_among o c states stands labels g n
   one_more g n i y z less e h =
       let left : n - i ≡ suc (n - (i + 1)) = omega (arith, less) in
       let next : g + (i + 1) ≡ g + i + 1 = omega arith in
-      ap (λ w. lesser w (label_among o c states stands labels (g + (i + 1)) (n - (i + 1)))) e
-      ∙ (ap (λ w. lesser (lesser y (label_at o c states stands labels (g + i))) (label_among o c states stands labels w (n - (i + 1)))) next
-      ∙ (sym (lesser_further y (label_at o c states stands labels (g + i)) (label_among o c states stands labels (g + i + 1) (n - (i + 1))))
-      ∙ (ap (λ w. lesser y (label_among o c states stands labels (g + i) w)) (sym left) ∙ h)))
+      ap (λ w. lesser w (least_label_among o c states stands labels (g + (i + 1)) (n - (i + 1)))) e
+      ∙ (ap (λ w. lesser (lesser y (label_at o c states stands labels (g + i))) (least_label_among o c states stands labels w (n - (i + 1)))) next
+      ∙ (sym (lesser_further y (label_at o c states stands labels (g + i)) (least_label_among o c states stands labels (g + i + 1) (n - (i + 1))))
+      ∙ (ap (λ w. lesser y (least_label_among o c states stands labels (g + i) w)) (sym left) ∙ h)))
 
   -- at first none of them
-  pub none_yet : (g n : ℕ) → lesser None (label_among o c states stands labels (g + 0) (n - 0)) ≡ label_among o c states stands labels g n
+  pub none_yet : (g n : ℕ) → lesser None (least_label_among o c states stands labels (g + 0) (n - 0)) ≡ least_label_among o c states stands labels g n
   none_yet g n =
       let start : g + 0 ≡ g = omega arith in
       let all : n - 0 ≡ n = omega arith in
-      ap (λ w. label_among o c states stands labels w (n - 0)) start ∙ ap (label_among o c states stands labels g) all
+      ap (λ w. least_label_among o c states stands labels w (n - 0)) start ∙ ap (least_label_among o c states stands labels g) all
 
   -- in the end all
-  pub all_read : (g n i : ℕ) (y : Option ℕ) → n ≤ i → lesser y (label_among o c states stands labels (g + i) (n - i)) ≡ label_among o c states stands labels g n → y ≡ label_among o c states stands labels g n
+  pub all_read : (g n i : ℕ) (y : Option ℕ) → n ≤ i → lesser y (least_label_among o c states stands labels (g + i) (n - i)) ≡ least_label_among o c states stands labels g n → y ≡ least_label_among o c states stands labels g n
   all_read g n i y past h =
       let none : n - i ≡ 0 = omega (arith, past) in
-      sym (lesser_nothing y) ∙ (ap (λ w. lesser y (label_among o c states stands labels (g + i) w)) (sym none) ∙ h)
+      sym (lesser_nothing y) ∙ (ap (λ w. lesser y (least_label_among o c states stands labels (g + i) w)) (sym none) ∙ h)
 
 abbrev first_of : RecordView → ℕ
 first_of free = 0
@@ -76,7 +76,7 @@ forked f g n code.Ended e = absurd cc
 forked f g n (code.Dead x) e = absurd cc
 
 -- what came of a process is told by what its record says beside the pairs
-abbrev stands_from : Rest → RecordView
+abbrev stands_from : UncountedRecord → RecordView
 stands_from r = stands_by r.first r.status
 
 all_from : (rs : List Record) → map stands_from (map rest_of rs) ≡ map stands_of rs
@@ -89,13 +89,13 @@ same_stands before behind h = sym (all_from behind) ∙ (ap (map stands_from) h 
 module _ {S : Type 0} (o : Ops S) (c : Channel) (states : List S) where
   -- what was read off the children of a record
   pub read : (rs seen : List Record) (j n : ℕ) (r q : Record) (y : Option ℕ) → slice_get rs j ≡ Some r → slice_get rs j ≡ Some q → seen ≡ rs → n ≡ fork_size q.status
-      → y ≡ label_among o c states (map stands_of seen) (leasts_in c seen) r.first n → IsReadOff o c states (map stands_of rs) (leasts_in c rs) j y
+      → y ≡ least_label_among o c states (map stands_of seen) (leasts_in c seen) r.first n → IsReadOff o c states (map stands_of rs) (leasts_in c rs) j y
   read rs seen j n r q y stood stood_so same many is g m s has =
       let so : stands_of r ≡ used g (forks m) = some_same (stands_of r) (used g (forks m)) (sym (ap (option_map stands_of) stood) ∙ (sym (map_get stands_of rs j) ∙ has.stands_so)) in
       let told = forked r.first g m r.status so in
       let how_many : n ≡ m = many ∙ (ap (λ z. fork_size z.status) (some_same q r (sym stood_so ∙ stood)) ∙ told.1) in
-      is ∙ (ap (λ z. label_among o c states (map stands_of z) (leasts_in c z) r.first n) same
-      ∙ (ap (λ z. label_among o c states (map stands_of rs) (leasts_in c rs) z n) told.0 ∙ ap (label_among o c states (map stands_of rs) (leasts_in c rs) g) how_many))
+      is ∙ (ap (λ z. least_label_among o c states (map stands_of z) (leasts_in c z) r.first n) same
+      ∙ (ap (λ z. least_label_among o c states (map stands_of rs) (leasts_in c rs) z n) told.0 ∙ ap (least_label_among o c states (map stands_of rs) (leasts_in c rs) g) how_many))
 
   module _ (rs : List Record) (x : ℕ) where
     pub top : up_in rs x ≡ None → RecountsOne o c states rs x None rs

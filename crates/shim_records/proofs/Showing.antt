@@ -11,7 +11,7 @@ use Rattle.shim_base.specs.Paths.{Path, Channel}
 use Rattle.shim_local.specs.Process.{Ops}
 use Rattle.shim_semantics.specs.Nodes.{Node, all_live, states}
 use Rattle.shim_base.proofs.Facts.{some_same, none_some}
-use Rattle.shim_laws_records.specs.Seen.{Sort, lives, forks, place}
+use Rattle.shim_laws_records.specs.Seen.{ProcessStatus, lives, forks, place}
 use Rattle.shim_laws_records.specs.Agrees.{RecordView, free, used, Has, Agrees}
 use Rattle.shim_laws_records.specs.Changes.{HasForked, HasClosed}
 use Rattle.shim_laws_records.proofs.SameTrees.{same_or_not}
@@ -111,14 +111,14 @@ within g (suc n) j = elim (same_or_not j (g + n)) [
         between (suc b) zero u w = absurd (omega (arith, w))
         between (suc b) (suc n) u w = let v = between b n (λ z. u (ap suc z)) (omega (arith, w)) in omega (arith, v)
 
-used_sort : (f g : ℕ) (k h : Sort) → Some (used f k) ≡ Some (used g h) → k ≡ h
+used_sort : (f g : ℕ) (k h : ProcessStatus) → Some (used f k) ≡ Some (used g h) → k ≡ h
 used_sort f g k h e = cc
 
-free_used : {B : Type 0} (f : ℕ) (k : Sort) → free ≡ used f k → B
+free_used : {B : Type 0} (f : ℕ) (k : ProcessStatus) → free ≡ used f k → B
 free_used f k e = absurd cc
 
 module _ {S : Type 0} (states : List S) (stood births : List RecordView) (i f g : ℕ) (l p : S) (ks : List S) (long : length states ≡ length stood) (fits : g ≤ length stood) (as_long : length births ≡ length ks)
-    (live : (b : ℕ) (x : RecordView) → slice_get births b ≡ Some x → (d : ℕ) × (x ≡ used d lives)) (has : Has states stood i f l lives) (clear : (b d : ℕ) (t : S) (x : Sort) → b < length ks → Has states stood (g + b) d t x → ⊥) where
+    (live : (b : ℕ) (x : RecordView) → slice_get births b ≡ Some x → (d : ℕ) × (x ≡ used d lives)) (has : Has states stood i f l lives) (clear : (b d : ℕ) (t : S) (x : ProcessStatus) → b < length ks → Has states stood (g + b) d t x → ⊥) where
   abbrev states' : List S
   states' = with_block g ks (slice_set states i p)
 
@@ -137,7 +137,7 @@ module _ {S : Type 0} (states : List S) (stood births : List RecordView) (i f g 
     block_out g births (slice_set stood i (used g (forks (length ks)))) j fits_stands (λ b less. far b (omega (arith, less, as_long))),
   )
 
-  used_far : (j d : ℕ) (t : S) (x : Sort) → Has states stood j d t x → (b : ℕ) → b < length ks → j ≢ g + b
+  used_far : (j d : ℕ) (t : S) (x : ProcessStatus) → Has states stood j d t x → (b : ℕ) → b < length ks → j ≢ g + b
   used_far j d t x h b less e = clear b d t x less (record { state_is = ap (slice_get states) (sym e) ∙ h.state_is; stands_so = ap (slice_get stood) (sym e) ∙ h.stands_so })
 
   pub has_forked : HasForked states states' stood stands' i g p ks
@@ -182,7 +182,7 @@ module _ {S : Type 0} (states : List S) (stood births : List RecordView) (i f g 
     ];
   }
 
-module _ {S : Type 0} (o : Ops S) (rp : Path) (states : List S) (stood freed : List RecordView) (root : Node S) (i g n f : ℕ) (l s : S) (k : Sort) (ok : Agrees o rp states stood root) (has : Has states stood i g l (forks n))
+module _ {S : Type 0} (o : Ops S) (rp : Path) (states : List S) (stood freed : List RecordView) (root : Node S) (i g n f : ℕ) (l s : S) (k : ProcessStatus) (ok : Agrees o rp states stood root) (has : Has states stood i g l (forks n))
     (inside : (b : ℕ) (x : RecordView) → b < n → slice_get freed (g + b) ≡ Some x → x ≡ free) (outside : (j : ℕ) → ((b : ℕ) → b < n → j ≢ g + b) → slice_get freed j ≡ slice_get stood j) where
   -- the fork's own record is none of its children's
   apart : (b : ℕ) → b < n → i ≢ g + b

@@ -7,10 +7,10 @@ use mathlib.Core.Bool.{beq}
 use Rattle.std.proofs.lemmas.Option.{slice_get_read}
 use Rattle.shim_base.specs.Paths.{Channel}
 use Rattle.shim_base.proofs.Facts.{some_same, none_some}
-use Rattle.shim_laws_records.specs.Counts.{live_reading, read_of, all_there, Moved}
+use Rattle.shim_laws_records.specs.Counts.{live_reading, read_of, all_there, IsExchanged}
 use Rattle.shim_laws_records.specs.Updating.{CanMove, AreMoved, UpdatedAbove, at_top, no_counts, stays, goes_on}
 use Rattle.shim_laws_records.proofs.SameTrees.{same_or_not}
-use Rattle.shim_records.specs.Pairs.{tally, reading_of, place_of, counts_at, counts_in, least_at, up_at, up_in, rest_of, chans_of, Rest}
+use Rattle.shim_records.specs.Pairs.{tally, reading_of, pair_index, counts_at, counts_in, least_at, up_at, up_in, rest_of, chans_of, UncountedRecord}
 use Rattle.shim_records.specs.Ways.{OnlyCounts, MovesParent, StepsUp}
 use Rattle.shim_records.specs.declared.pair.Pair.{Pair}
 use Rattle.shim_records.specs.declared.pair.Reading.{Reading}
@@ -62,7 +62,7 @@ with_pair r i q = record { status = r.status; first = r.first; parent = r.parent
 
 -- a record with the same channels in its pairs
 pub rest_with : (r : Record) (cs : List Channel) → cs ≡ chans_of r.pairs.items → record { status = r.status; first = r.first; parent = r.parent; path = r.path; going = r.going; chans = cs } ≡ rest_of r
-rest_with r cs e = ap (λ z. let w : Rest = record { status = r.status; first = r.first; parent = r.parent; path = r.path; going = r.going; chans = z } in w) e
+rest_with r cs e = ap (λ z. let w : UncountedRecord = record { status = r.status; first = r.first; parent = r.parent; path = r.path; going = r.going; chans = z } in w) e
 
 module _ (c : Channel) (rs : List Record) (here : CountChange) where
   none_moved : MovesParent c rs here None rs
@@ -81,9 +81,9 @@ module _ (c : Channel) (rs : List Record) (here : CountChange) where
   pub up_is : (r : Record) (j : Option ℕ) → slice_get rs here.at ≡ Some r → r.parent ≡ j → up_in rs here.at ≡ j
   up_is r j e f = ap up_at e ∙ f
 
-  module _ (j i : ℕ) (r : Record) (p q : Pair) (up : up_in rs here.at ≡ Some j) (stood : slice_get rs j ≡ Some r) (place : place_of c r.pairs.items ≡ Some i) (is_p : p ≡ get_or r.pairs.items i p)
+  module _ (j i : ℕ) (r : Record) (p q : Pair) (up : up_in rs here.at ≡ Some j) (stood : slice_get rs j ≡ Some r) (place : pair_index c r.pairs.items ≡ Some i) (is_p : p ≡ get_or r.pairs.items i p)
       (chan : q.chan ≡ p.chan) (label : q.least ≡ p.least)
-      (moved : CanMove 4294967295 (reading_of here.was) (reading_of here.is) (tally p) → Moved (reading_of here.was) (reading_of here.is) (tally p) (tally q)) where
+      (moved : CanMove 4294967295 (reading_of here.was) (reading_of here.is) (tally p) → IsExchanged (reading_of here.was) (reading_of here.is) (tally p) (tally q)) where
     abbrev new : Record
     new = with_pair r i q
 

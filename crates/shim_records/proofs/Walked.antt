@@ -4,7 +4,7 @@ use Rattle.std.specs.Prelude.{slice_get}
 use Rattle.shim_base.specs.Paths.{Channel, NamedChannel}
 use Rattle.shim_base.proofs.Facts.{some_same, none_some}
 use Rattle.shim_local.specs.Process.{Ops}
-use Rattle.shim_laws_records.specs.Seen.{Sort}
+use Rattle.shim_laws_records.specs.Seen.{ProcessStatus}
 use Rattle.shim_laws_records.specs.Counts.{Reading as Read}
 use Rattle.shim_laws_records.specs.Sufficing.{read_leaf}
 use Rattle.shim_records.specs.Members.{IsAmong}
@@ -90,7 +90,7 @@ module _ {S : Type 0} (o : Ops S) (s : S) where
 
   -- ---- the ways for the first ones
 
-  module _ (k : Sort) (n x : ℕ) (start : List Record) where
+  module _ (k : ProcessStatus) (n x : ℕ) (start : List Record) where
     pub record SoFar (place : ℕ) (now : List Record) : Type 0 where
       pub chans : List Channel
       pub updated : AllUpdatedAbove (acting o s) (λ c. read_leaf o c s k) n x chans start now

@@ -5,13 +5,13 @@ use Rattle.std.specs.Prelude.{slice_get}
 use Rattle.shim_base.specs.Paths.{Channel}
 use Rattle.shim_laws_records.specs.Counts.{Tally}
 use Rattle.shim_laws_records.specs.Updating.{UpdatedAbove, too_far}
-use Rattle.shim_records.specs.Pairs.{reading_of, counts_in, up_in, Rest, rest_of, AreOrdered, IsOrdered, chans_of}
+use Rattle.shim_records.specs.Pairs.{reading_of, counts_in, up_in, UncountedRecord, rest_of, AreOrdered, IsOrdered, chans_of}
 use Rattle.shim_records.specs.Ways.{OnlyCounts, Goes, StepsUp, IsUpdatedAbove}
 use Rattle.shim_records.specs.declared.pair.Reading.{Reading}
 use Rattle.shim_records.specs.declared.record.Record.{Record}
 use Rattle.shim_records.specs.declared.upward.CountChange.{CountChange}
 
-abbrev parent_of : Option Rest → Option ℕ
+abbrev parent_of : Option UncountedRecord → Option ℕ
 parent_of None = None
 parent_of (Some r) = r.parent
 

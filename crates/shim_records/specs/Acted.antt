@@ -6,7 +6,7 @@ use Rattle.shim_local.specs.Laws.{IsGiven}
 use Rattle.shim_semantics.specs.Nodes.{Node}
 use Rattle.shim_semantics.specs.Acts.{Acted, act_here}
 use Rattle.shim_semantics.specs.Sound.{IsSound}
-use Rattle.shim_laws_records.specs.Seen.{Sort, lives, forks, ends, dies, is_leaf, place}
+use Rattle.shim_laws_records.specs.Seen.{ProcessStatus, lives, forks, ends, dies, is_leaf, place}
 use Rattle.shim_laws_records.specs.Agrees.{Has, Shows}
 use Rattle.shim_laws_records.specs.Places.{IsReplaced}
 use Rattle.shim_laws_records.specs.Tallied.{Tallied, OnTheWay, HaveCounts}
@@ -23,12 +23,12 @@ use Rattle.shim_records.specs.declared.record.Status.{Status}
 use Rattle.shim_records.specs.declared.record.Status.TheVariants as code
 
 -- what came of the process of a record in use
-abbrev pub sort_of : Status → Sort
-sort_of code.Free = ends
-sort_of code.Live = lives
-sort_of (code.Forked n) = forks n
-sort_of code.Ended = ends
-sort_of (code.Dead d) = dies d
+abbrev pub process_status_of : Status → ProcessStatus
+process_status_of code.Free = ends
+process_status_of code.Live = lives
+process_status_of (code.Forked n) = forks n
+process_status_of code.Ended = ends
+process_status_of (code.Dead d) = dies d
 
 -- what was read of a process that has done anything by itself
 abbrev pub acting : {S : Type 0} → Ops S → S → Channel → Read
@@ -39,13 +39,13 @@ abbrev pub Earlier : {S : Type 0} → Ops S → S → Channel → ℕ → Type 0
 Earlier o s c place = (at : ℕ) × (d : NamedChannel) × (at < place) × (slice_get (o.given s) at ≡ Some d) × (d.channel ≡ c)
 
 -- for one of them the way up was walked, unless the process doesn't share it or it stood before
-pub data UpdatesForOne {S : Type 0} (o : Ops S) (s : S) (k : Sort) (n x : ℕ) (c : Channel) (place : ℕ) (before behind : List Record) : Type 0 where
+pub data UpdatesForOne {S : Type 0} (o : Ops S) (s : S) (k : ProcessStatus) (n x : ℕ) (c : Channel) (place : ℕ) (before behind : List Record) : Type 0 where
   unshared : o.shares s c ≡ false → behind ≡ before → UpdatesForOne o s k n x c place before behind
   again : Earlier o s c place → behind ≡ before → UpdatesForOne o s k n x c place before behind
   walked : o.shares s c ≡ true → (Earlier o s c place → ⊥) → (read reads : Reading) → reading_of read ≡ acting o s c → reading_of reads ≡ read_leaf o c s k → IsUpdatedAbove c n x read reads before behind → UpdatesForOne o s k n x c place before behind
 
 -- for all of them
-pub record AllUpdated {S : Type 0} (o : Ops S) (s : S) (k : Sort) (n x : ℕ) (before behind : List Record) : Type 0 where
+pub record AllUpdated {S : Type 0} (o : Ops S) (s : S) (k : ProcessStatus) (n x : ℕ) (before behind : List Record) : Type 0 where
   pub chans : List Channel
   pub updated : AllUpdatedAbove (acting o s) (λ c. read_leaf o c s k) n x chans before behind
   pub all : (c : Channel) → IsGiven o s c → o.shares s c ≡ true → IsAmong c chans
@@ -53,7 +53,7 @@ pub record AllUpdated {S : Type 0} (o : Ops S) (s : S) (k : Sort) (n x : ℕ) (b
 
 -- What a process without children did by itself stands at its place, and the counts above are those of the tree before. When those ways were walked, the records' counts are all those of the tree behind, and they say all else as before.
 abbrev pub ActedBrings : {S : Type 0} → Ops S → Type 0
-ActedBrings {S} o = (rp : Path) (states : List S) (rs behind : List Record) (old new m : Node S) (a : Acted S) (n x f : ℕ) (s : S) (k : Sort)
+ActedBrings {S} o = (rp : Path) (states : List S) (rs behind : List Record) (old new m : Node S) (a : Acted S) (n x f : ℕ) (s : S) (k : ProcessStatus)
     → IsSound o old → Shows o rp states (map stands_of rs) new → AreLinked states (map stands_of rs) (up_in rs) → AreAtMost 4294967295 states (map stands_of rs)
     → Has states (map stands_of rs) x f s k → IsReplaced (place o rp s) m a.node old new → act_here o m ≡ Some a → is_leaf a.node ≡ true → length (place o rp s) ≤ n
     → ((c : Channel) → HaveCounts o rp states (map stands_of rs) c (counts_in c rs) new) → ((c : Channel) → OnTheWay o rp states (map stands_of rs) c (counts_in c rs) old new (place o rp s))

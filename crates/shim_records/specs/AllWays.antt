@@ -6,7 +6,7 @@ use Rattle.shim_local.specs.Laws.{IsGiven}
 use Rattle.shim_semantics.specs.Nodes.{Node}
 use Rattle.shim_semantics.specs.Acts.{Acted, act_here}
 use Rattle.shim_semantics.specs.Sound.{IsSound}
-use Rattle.shim_laws_records.specs.Seen.{Sort, place}
+use Rattle.shim_laws_records.specs.Seen.{ProcessStatus, place}
 use Rattle.shim_laws_records.specs.Agrees.{Has, Shows}
 use Rattle.shim_laws_records.specs.Places.{IsReplaced}
 use Rattle.shim_laws_records.specs.Counts.{Reading as Read, reading}
@@ -26,7 +26,7 @@ pub data AllUpdatedAbove (was is : Channel → Read) (n x : ℕ) : List Channel 
 
 -- What a process did by itself stands at its place, and the counts above are those of the tree before. When those ways were walked, the records' counts are all those of the tree behind, and they say all else as before.
 abbrev pub WaysBring : {S : Type 0} → Ops S → Type 0
-WaysBring {S} o = (rp : Path) (states : List S) (rs behind : List Record) (old new m : Node S) (a : Acted S) (n x f : ℕ) (s : S) (k : Sort) (cs : List Channel)
+WaysBring {S} o = (rp : Path) (states : List S) (rs behind : List Record) (old new m : Node S) (a : Acted S) (n x f : ℕ) (s : S) (k : ProcessStatus) (cs : List Channel)
     → IsSound o old → Shows o rp states (map stands_of rs) new → AreLinked states (map stands_of rs) (up_in rs) → AreAtMost 4294967295 states (map stands_of rs)
     → Has states (map stands_of rs) x f s k → IsReplaced (place o rp s) m a.node old new → act_here o m ≡ Some a → length (place o rp s) ≤ n
     → ((c : Channel) → IsGiven o s c → o.shares s c ≡ true → IsAmong c cs) → ((c : Channel) → IsAmong c cs → o.shares s c ≡ true)

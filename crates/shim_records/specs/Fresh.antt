@@ -6,7 +6,7 @@ use Rattle.shim_local.specs.Process.{Ops}
 use Rattle.shim_local.specs.Laws.{AnyOf, IsGiven}
 use Rattle.shim_laws_records.specs.Counts.{Tally, fresh_tally}
 use Rattle.shim_records.specs.Members.{IsAmong}
-use Rattle.shim_records.specs.Pairs.{tally, chans_of, IsOrdered, pair_of, find, label_of}
+use Rattle.shim_records.specs.Pairs.{tally, chans_of, IsOrdered, pair_of, tally_for, least_label_of}
 use Rattle.shim_records.specs.declared.pair.Pair.{Pair}
 
 -- those of these channels that the process shares
@@ -56,6 +56,6 @@ pub record IsPaired {S : Type 0} (o : Ops S) (ks : List S) (cs : List Channel) (
 -- the pairs of the fork that made these children
 pub record FreshPairs {S : Type 0} (o : Ops S) (p : S) (ks : List S) (pairs : List Pair) : Type 0 where
   pub ordered : IsOrdered (chans_of pairs)
-  pub right : (c : Channel) (y : Tally) → find c pairs ≡ Some y → y ≡ fresh_tally o c ks
-  pub there : (c : Channel) → (find c pairs ≢ None) ↔ ((o.shares p c ≡ true) × AnyOf (λ k. IsGiven o k c) ks)
-  pub unlabelled : (c : Channel) → label_of (pair_of c pairs) ≡ None
+  pub right : (c : Channel) (y : Tally) → tally_for c pairs ≡ Some y → y ≡ fresh_tally o c ks
+  pub there : (c : Channel) → (tally_for c pairs ≢ None) ↔ ((o.shares p c ≡ true) × AnyOf (λ k. IsGiven o k c) ks)
+  pub unlabelled : (c : Channel) → least_label_of (pair_of c pairs) ≡ None

@@ -29,9 +29,9 @@ pub record IsOrdered (cs : List Channel) : Type 0 where
   pub order : (i j : ℕ) (a b : Channel) → i < j → slice_get cs i ≡ Some a → slice_get cs j ≡ Some b → channel_order a b ≡ Less
 
 -- where the pair of the channel stands
-abbrev pub place_of : Channel → List Pair → Option ℕ
-place_of c [] = None
-place_of c (p ∷ ps) = cond (same_channel p.chan.channel c) (Some 0) (option_map suc (place_of c ps))
+abbrev pub pair_index : Channel → List Pair → Option ℕ
+pair_index c [] = None
+pair_index c (p ∷ ps) = cond (same_channel p.chan.channel c) (Some 0) (option_map suc (pair_index c ps))
 
 -- the pair of the channel
 abbrev pub pair_of : Channel → List Pair → Option Pair
@@ -39,27 +39,27 @@ pair_of c [] = None
 pair_of c (p ∷ ps) = cond (same_channel p.chan.channel c) (Some p) (pair_of c ps)
 
 -- the counts that these pairs have for the channel
-abbrev pub find : Channel → List Pair → Option Tally
-find c ps = option_map tally (pair_of c ps)
+abbrev pub tally_for : Channel → List Pair → Option Tally
+tally_for c ps = option_map tally (pair_of c ps)
 
 -- the counts that a record has for the channel, if there is the record
 abbrev pub counts_at : Channel → Option Record → Option Tally
 counts_at c None = None
-counts_at c (Some r) = find c r.pairs.items
+counts_at c (Some r) = tally_for c r.pairs.items
 
 -- the counts that the records have for the channel
 abbrev pub counts_in : Channel → List Record → ℕ → Option Tally
 counts_in c rs i = counts_at c (slice_get rs i)
 
 -- the label of a pair, where there is the pair
-abbrev pub label_of : Option Pair → Option ℕ
-label_of None = None
-label_of (Some p) = p.least
+abbrev pub least_label_of : Option Pair → Option ℕ
+least_label_of None = None
+least_label_of (Some p) = p.least
 
 -- the least label that a record has for the channel, if there is the record
 abbrev pub least_at : Channel → Option Record → Option ℕ
 least_at c None = None
-least_at c (Some r) = label_of (pair_of c r.pairs.items)
+least_at c (Some r) = least_label_of (pair_of c r.pairs.items)
 
 -- the least labels that they have for it
 abbrev pub leasts_in : Channel → List Record → ℕ → Option ℕ
@@ -95,7 +95,7 @@ abbrev pub stands_of : Record → RecordView
 stands_of r = stands_by r.first r.status
 
 -- a record without what is counted
-pub record Rest : Type 0 where
+pub record UncountedRecord : Type 0 where
   pub status : Status
   pub first : ℕ
   pub parent : Option ℕ
@@ -104,7 +104,7 @@ pub record Rest : Type 0 where
   pub chans : List Channel
 
 -- what the record says without what is counted
-abbrev pub rest_of : Record → Rest
+abbrev pub rest_of : Record → UncountedRecord
 rest_of r = record { status = r.status; first = r.first; parent = r.parent; path = r.path; going = r.going; chans = chans_of r.pairs.items }
 
 -- the pairs of each record stand in order

@@ -2,11 +2,11 @@
 ghost use Rattle.std.specs.Prelude.{◌≡◌, ◌≤◌, true, false, length};
 ghost use Rattle.shim_records.specs.Pairs.{reading_of, AreOrdered};
 ghost use Rattle.shim_records.specs.Ways.{AllCountsMovedWithin};
-ghost use Rattle.shim_records.specs.Acted.{Earlier, sort_of, UpdatesForOne, AllUpdated};
+ghost use Rattle.shim_records.specs.Acted.{Earlier, process_status_of, UpdatesForOne, AllUpdated};
 ghost use Rattle.shim_laws_records.specs.Sufficing.{read_leaf};
 
 use crate::pair::Reading;
-use crate::receiving::stands_at;
+use crate::receiving::is_at_channel;
 use crate::record::{Record, Status};
 use crate::upward::update_counts_above;
 use shim_base::Chan;
@@ -14,12 +14,12 @@ use shim_local::Local;
 
 // What a fork reads of a process without children, of which this came.
 fn reading_now<L: Local>(process: &L, status: Status, c: &Chan) -> Reading
-    ensures { reading_of result ≡ read_leaf L.ops c.now.channel process.now (sort_of status) }
+    ensures { reading_of result ≡ read_leaf L.ops c.now.channel process.now (process_status_of status) }
 {
     match status {
         Status::Live => Reading {
             joining: process.shares(c),
-            readiness: stands_at(process, c),
+            readiness: is_at_channel(process, c),
             failing: false,
         },
         Status::Dead(_) => Reading {
@@ -65,7 +65,7 @@ fn update_for_one<L: Local>(
     forks: u32,
 ) -> u32
     requires { AreOrdered records.old.items }
-    ensures counts { UpdatesForOne L.ops process.now (sort_of status) forks at c.now.channel place records.old.items records.new.items }
+    ensures counts { UpdatesForOne L.ops process.now (process_status_of status) forks at c.now.channel place records.old.items records.new.items }
     ensures reaches { AllCountsMovedWithin result at records.old.items records.new.items }
     ensures most { result ≤ forks }
 {
@@ -95,7 +95,7 @@ pub fn update_all_counts<L: Local>(
 ) -> u32
     requires ordered { AreOrdered records.old.items }
     requires few { length (L.ops.given process.now) ≤ 18446744073709551615 }
-    ensures counts { AllUpdated L.ops process.now (sort_of status) forks at records.old.items records.new.items }
+    ensures counts { AllUpdated L.ops process.now (process_status_of status) forks at records.old.items records.new.items }
     ensures reaches { AllCountsMovedWithin result at records.old.items records.new.items }
     ensures most { result ≤ forks }
 {

@@ -6,7 +6,7 @@ ghost use Rattle.shim_records.specs.Pairs.{tally};
 ghost use Rattle.shim_records.specs.Fresh.{shared_of, shared_given, channels, Rises, comes_after, IsOneMore, IsPaired, FreshPairs};
 
 use crate::pair::Pair;
-use crate::receiving::stands_at;
+use crate::receiving::is_at_channel;
 use shim_base::{Chan, NoMemory};
 use shim_local::Local;
 use std::alloc::Global;
@@ -24,7 +24,7 @@ fn more(count: u32, test: bool) -> u32
 fn isnt_ready<L: Local>(process: &L, chan: &Chan) -> bool
     ensures { result ≡ L.ops.shares process.now chan.now.channel && not (is_next (L.ops.stop process.now) chan.now.channel) }
 {
-    process.shares(chan) && !stands_at(process, chan)
+    process.shares(chan) && !is_at_channel(process, chan)
 }
 
 // The pair of a channel, of children that have done nothing yet.

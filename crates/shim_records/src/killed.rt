@@ -5,7 +5,7 @@ ghost use Rattle.shim_records.specs.Killed.{living, as_dead, KillsOne, IsKilled}
 
 use crate::acted::is_first;
 use crate::pair::Reading;
-use crate::receiving::stands_at;
+use crate::receiving::is_at_channel;
 use crate::record::Record;
 use crate::upward::update_counts_above;
 use shim_base::Chan;
@@ -17,7 +17,7 @@ fn living_reading<L: Local>(process: &L, c: &Chan) -> Reading
 {
     Reading {
         joining: process.shares(c),
-        readiness: stands_at(process, c),
+        readiness: is_at_channel(process, c),
         failing: false,
     }
 }

@@ -29,7 +29,7 @@ pub use killed::kill_all;
 pub use labels::lower_labels_above;
 pub use leaving::leave;
 pub use pair::{Pair, Reading, has_all, live_reading, place_in};
-pub use receiving::stands_at;
+pub use receiving::is_at_channel;
 pub use record::{Record, Status, fork_size, is_free};
 pub use recounting::recount;
 pub use upward::update_counts_above;

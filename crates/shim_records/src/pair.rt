@@ -1,10 +1,10 @@
 // What is counted of the children of a fork for a channel.
 ghost use Rattle.std.specs.Prelude.{◌≡◌, ◌≤◌, ◌+◌, position};
 ghost use Rattle.shim_base.specs.Paths.{same_channel};
-ghost use Rattle.shim_laws_records.specs.Counts.{bit, all_there, live_reading, Moved};
+ghost use Rattle.shim_laws_records.specs.Counts.{bit, all_there, live_reading, IsExchanged};
 ghost use Rattle.shim_laws_records.specs.Updating.{CanMove};
 ghost use Rattle.shim_records.specs.declared.pair.Pair.{Pair as PairOf};
-ghost use Rattle.shim_records.specs.Pairs.{tally, reading_of, place_of, chans_of, IsOrdered};
+ghost use Rattle.shim_records.specs.Pairs.{tally, reading_of, pair_index, chans_of, IsOrdered};
 
 use shim_base::Chan;
 
@@ -67,7 +67,7 @@ pub fn has_all(pair: &Pair) -> bool
 
 /// The counts with another reading of a child in place of that before.
 pub(crate) fn move_pair(pair: &mut Pair, was: Reading, is: Reading)
-    ensures moved { CanMove 4294967295 (reading_of was) (reading_of is) (tally pair.old) → Moved (reading_of was) (reading_of is) (tally pair.old) (tally pair.new) }
+    ensures moved { CanMove 4294967295 (reading_of was) (reading_of is) (tally pair.old) → IsExchanged (reading_of was) (reading_of is) (tally pair.old) (tally pair.new) }
     ensures same { pair.new.chan ≡ pair.old.chan }
     ensures label { pair.new.least ≡ pair.old.least }
 {
@@ -91,7 +91,7 @@ fn first_of(pairs: &[Pair], c: &Chan) -> Option<usize>
 /// the front: mostly there are few, and whether two channels are the same is told sooner than their order.
 pub fn place_in(pairs: &[Pair], c: &Chan) -> Option<usize>
     requires { IsOrdered (chans_of pairs.now) }
-    ensures { result ≡ place_of c.now.channel pairs.now }
+    ensures { result ≡ pair_index c.now.channel pairs.now }
 {
     first_of(pairs, c)
 }

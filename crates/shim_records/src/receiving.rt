@@ -6,7 +6,7 @@ use shim_base::Chan;
 use shim_local::{Local, Stop};
 
 /// Whether the process stands at the channel.
-pub fn stands_at<L: Local>(process: &L, c: &Chan) -> bool
+pub fn is_at_channel<L: Local>(process: &L, c: &Chan) -> bool
     ensures { result ≡ is_next (L.ops.stop process.now) c.now.channel }
 {
     match process.stop() {

@@ -1,8 +1,8 @@
 // The least labels of dead sharers, read off the forks' children again on the way up from a close.
 ghost use Rattle.std.specs.Prelude.{◌≡◌, false, map};
 ghost use Rattle.shim_laws_records.specs.Dooms.{lesser};
-ghost use Rattle.shim_laws_records.specs.Recounting.{label_at, label_among};
-ghost use Rattle.shim_records.specs.Pairs.{tally, label_of, pair_of, chans_of, stands_of, leasts_in, IsOrdered, AreOrdered};
+ghost use Rattle.shim_laws_records.specs.Recounting.{label_at, least_label_among};
+ghost use Rattle.shim_records.specs.Pairs.{tally, least_label_of, pair_of, chans_of, stands_of, leasts_in, IsOrdered, AreOrdered};
 ghost use Rattle.shim_records.specs.Recounting.{RecountsOne, IsRecounted};
 
 use crate::pair::{Pair, place_in};
@@ -26,7 +26,7 @@ fn lesser_of(one: Option<u32>, other: Option<u32>) -> Option<u32>
 // The label that a fork keeps for the channel.
 fn kept(fork: &Record, c: &Chan) -> Option<u32>
     requires { IsOrdered (chans_of fork.now.pairs.items) }
-    ensures { result ≡ label_of (pair_of c.now.channel fork.now.pairs.items) }
+    ensures { result ≡ least_label_of (pair_of c.now.channel fork.now.pairs.items) }
 {
     match place_in(fork.pairs.as_slice(), c) {
         None => None,
@@ -65,7 +65,7 @@ fn label_of_children<L: Local>(
     c: &Chan,
 ) -> Option<u32>
     requires { AreOrdered records.now }
-    ensures { result ≡ label_among L.ops c.now.channel states.now (map stands_of records.now) (leasts_in c.now.channel records.now) first count }
+    ensures { result ≡ least_label_among L.ops c.now.channel states.now (map stands_of records.now) (leasts_in c.now.channel records.now) first count }
 {
     let mut least = None;
     for i in 0..count {

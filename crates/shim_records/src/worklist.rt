@@ -1,6 +1,6 @@
 // Numbers that wait to be looked at.
 ghost use Rattle.std.specs.Prelude.{◌≡◌, ◌<◌, ◌≤◌, false, [], ◌∷◌, ◌++◌, length, OnOk, OnErr};
-ghost use Rattle.shim_records.specs.Waiting.{AreRaised, Adds, Takes, AreListedIn};
+ghost use Rattle.shim_records.specs.Waiting.{AreRaised, Enqueues, Dequeues, AreListedIn};
 
 use shim_base::NoMemory;
 use std::alloc::Global;
@@ -68,7 +68,7 @@ impl Worklist {
     /// The number is listed, if it wasn't. It takes no memory.
     pub fn add(&mut self, number: u32)
         requires { number < length self.old }
-        ensures { Adds number self.old self.new }
+        ensures { Enqueues number self.old self.new }
     {
         let at = number as usize;
         if self.listed[at] {
@@ -80,7 +80,7 @@ impl Worklist {
 
     /// Takes a listed number out; `None` exactly where none is listed.
     pub fn take(&mut self) -> Option<u32>
-        ensures { Takes result self.old self.new }
+        ensures { Dequeues result self.old self.new }
     {
         match self.numbers.pop() {
             None => None,

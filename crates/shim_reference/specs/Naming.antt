@@ -5,13 +5,13 @@ use Rattle.shim_local.specs.declared.Outcome.{Outcome}
 use Rattle.shim_local.specs.declared.Outcome.TheVariants.{Done, Uncaught, Trapped, Blocked, Spent}
 
 -- Of the names that `main` throws the first has label 1, the next one 2, and so on. A label stays where there is no name.
-abbrev pub name_of : List ℕ → ℕ → ℕ
-name_of throws zero = zero
-name_of throws (suc at) = unwrap_or (slice_get throws at) (suc at)
+abbrev pub label_name : List ℕ → ℕ → ℕ
+label_name throws zero = zero
+label_name throws (suc at) = unwrap_or (slice_get throws at) (suc at)
 
 abbrev pub named_outcome : List ℕ → Outcome → Outcome
 named_outcome throws Done = Done
-named_outcome throws (Uncaught label) = Uncaught (name_of throws label)
+named_outcome throws (Uncaught label) = Uncaught (label_name throws label)
 named_outcome throws Trapped = Trapped
 named_outcome throws Blocked = Blocked
 named_outcome throws Spent = Spent

@@ -27,7 +27,7 @@ fn named_outcome(outcome: Outcome, throws: &[u32]) -> Outcome
 // The number of the name of this label, where there is one. The first name has label 1, since 0 is a
 // trap's.
 fn name_of(label: u32, throws: &[u32]) -> u32
-    ensures { result ≡ naming.name_of throws.now label }
+    ensures { result ≡ naming.label_name throws.now label }
 {
     if label == 0 {
         return label;

@@ -4,7 +4,7 @@ use Rattle.std.proofs.lemmas.Int.{int_rem_euclid_is, ints}
 use Rattle.std.proofs.lemmas.List.{at_drop_more}
 use Rattle.std.specs.Int.RustNames.{unsigned_abs}
 use Rattle.shim_local.specs.declared.ended.History.{History}
-use Rattle.shim_report.specs.Summary.{all_values, residue, total}
+use Rattle.shim_report.specs.Summary.{all_values, residue, sum_of_values}
 
 -- a number that some millions bring to a natural one
 shifted : (z : ℤ) → (k : ℕ) × (m : ℕ) × (z +ℤ pos (k * 1000000) ≡ pos m)
@@ -38,23 +38,23 @@ one_added s v t =
     ap (λ n. residue (pos n +ℤ t)) (residue_second s v) ∙ residue_first (pos s +ℤ v) t
     ∙ ap residue (omega (arith, ints))
 
-total_joined : (a b : List ℤ) → total (a ++ b) ≡ total a +ℤ total b
+total_joined : (a b : List ℤ) → sum_of_values (a ++ b) ≡ sum_of_values a +ℤ sum_of_values b
 total_joined [] b = omega (arith, ints)
 total_joined (v ∷ vs) b = let e = total_joined vs b in omega (arith, ints)
 
 -- the values of a list are added
-pub list_added : (s : ℕ) (a b : List ℤ) → residue (pos (residue (pos s +ℤ total a)) +ℤ total b) ≡ residue (pos s +ℤ total (a ++ b))
-list_added s a b = residue_first (pos s +ℤ total a) (total b) ∙ ap residue (let e = total_joined a b in omega (arith, ints))
+pub list_added : (s : ℕ) (a b : List ℤ) → residue (pos (residue (pos s +ℤ sum_of_values a)) +ℤ sum_of_values b) ≡ residue (pos s +ℤ sum_of_values (a ++ b))
+list_added s a b = residue_first (pos s +ℤ sum_of_values a) (sum_of_values b) ∙ ap residue (let e = total_joined a b in omega (arith, ints))
 
 -- So the values behind a place are brought to the same residue from the sum that has the value of that place as from the one that lacks it.
-pub value_added : (s r i g : ℕ) (vs : List ℤ) (d : ℤ) → i < length vs → r ≡ residue (get_or vs i d) → residue (pos s +ℤ total (drop i vs)) ≡ g → residue (pos ((s + r) % 1000000) +ℤ total (drop (i + 1) vs)) ≡ g
+pub value_added : (s r i g : ℕ) (vs : List ℤ) (d : ℤ) → i < length vs → r ≡ residue (get_or vs i d) → residue (pos s +ℤ sum_of_values (drop i vs)) ≡ g → residue (pos ((s + r) % 1000000) +ℤ sum_of_values (drop (i + 1) vs)) ≡ g
 value_added s r i g vs d inside is e =
-    ap (λ x. residue (pos ((s + x) % 1000000) +ℤ total (drop (i + 1) vs))) is ∙ one_added s (get_or vs i d) (total (drop (i + 1) vs))
-    ∙ sym (at_drop_more (λ l. residue (pos s +ℤ total l)) vs i d inside) ∙ e
+    ap (λ x. residue (pos ((s + x) % 1000000) +ℤ sum_of_values (drop (i + 1) vs))) is ∙ one_added s (get_or vs i d) (sum_of_values (drop (i + 1) vs))
+    ∙ sym (at_drop_more (λ l. residue (pos s +ℤ sum_of_values l)) vs i d inside) ∙ e
 
 -- and the histories behind a place likewise
-pub history_added : (s r i g : ℕ) (hs : List History) (d : History) → i < length hs → r ≡ residue (pos s +ℤ total (get_or hs i d).values) → residue (pos s +ℤ total (all_values (drop i hs))) ≡ g
-    → residue (pos r +ℤ total (all_values (drop (i + 1) hs))) ≡ g
+pub history_added : (s r i g : ℕ) (hs : List History) (d : History) → i < length hs → r ≡ residue (pos s +ℤ sum_of_values (get_or hs i d).values) → residue (pos s +ℤ sum_of_values (all_values (drop i hs))) ≡ g
+    → residue (pos r +ℤ sum_of_values (all_values (drop (i + 1) hs))) ≡ g
 history_added s r i g hs d inside is e =
-    ap (λ x. residue (pos x +ℤ total (all_values (drop (i + 1) hs)))) is ∙ list_added s (get_or hs i d).values (all_values (drop (i + 1) hs))
-    ∙ sym (at_drop_more (λ l. residue (pos s +ℤ total (all_values l))) hs i d inside) ∙ e
+    ap (λ x. residue (pos x +ℤ sum_of_values (all_values (drop (i + 1) hs)))) is ∙ list_added s (get_or hs i d).values (all_values (drop (i + 1) hs))
+    ∙ sym (at_drop_more (λ l. residue (pos s +ℤ sum_of_values (all_values l))) hs i d inside) ∙ e

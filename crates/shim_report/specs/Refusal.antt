@@ -17,21 +17,21 @@ use Rattle.shim_front_end.specs.declared.SourceFault.{SourceFault}
 use Rattle.shim_front_end.specs.declared.SourceFault.TheVariants.{Parse, Scope, Share}
 
 -- `refused LINE CAUSE AT`, AT being a place of the source, counted from 0
-unfoldable pub with_place : ℕ → List ℕ → ℕ → List ℕ
-with_place line cause at = codes "refused " ++ (decimal line ++ (codes " " ++ (cause ++ (codes " " ++ (decimal at ++ codes "\n")))))
+unfoldable pub refusal_with_place : ℕ → List ℕ → ℕ → List ℕ
+refusal_with_place line cause at = codes "refused " ++ (decimal line ++ (codes " " ++ (cause ++ (codes " " ++ (decimal at ++ codes "\n")))))
 
 -- `refused LINE CAUSE NAME`
-unfoldable pub with_name : ℕ → List ℕ → List ℕ → List ℕ
-with_name line cause name = codes "refused " ++ (decimal line ++ (codes " " ++ (cause ++ (codes " " ++ (name ++ codes "\n")))))
+unfoldable pub refusal_with_name : ℕ → List ℕ → List ℕ → List ℕ
+refusal_with_name line cause name = codes "refused " ++ (decimal line ++ (codes " " ++ (cause ++ (codes " " ++ (name ++ codes "\n")))))
 
 -- `refused LINE two writers NAME FIRST SECOND`, the branches counted from 0
-unfoldable pub with_branches : ℕ → List ℕ → ℕ → ℕ → List ℕ
-with_branches line name first second =
+unfoldable pub refusal_with_branches : ℕ → List ℕ → ℕ → ℕ → List ℕ
+refusal_with_branches line name first second =
     codes "refused " ++ (decimal line ++ (codes " two writers " ++ (name ++ (codes " " ++ (decimal first ++ (codes " " ++ (decimal second ++ codes "\n")))))))
 
 -- `refused LINE CAUSE`
-unfoldable pub without_place : ℕ → List ℕ → List ℕ
-without_place line cause = codes "refused " ++ (decimal line ++ (codes " " ++ (cause ++ codes "\n")))
+unfoldable pub refusal_without_place : ℕ → List ℕ → List ℕ
+refusal_without_place line cause = codes "refused " ++ (decimal line ++ (codes " " ++ (cause ++ codes "\n")))
 
 -- why a text can't be cut
 abbrev pub cause_of : LexKind → List ℕ
@@ -41,36 +41,36 @@ cause_of BigNumber = codes "big number"
 cause_of OpenComment = codes "open comment"
 
 -- what there are too many of
-abbrev pub word_of : Many → List ℕ
-word_of Functions = codes "too many functions"
-word_of Parameters = codes "too many parameters"
-word_of Arguments = codes "too many arguments"
-word_of Throws = codes "too many throws"
-word_of Locals = codes "too many locals"
-word_of Branches = codes "too many branches"
-word_of Operators = codes "too many operators"
+abbrev pub many_words : Many → List ℕ
+many_words Functions = codes "too many functions"
+many_words Parameters = codes "too many parameters"
+many_words Arguments = codes "too many arguments"
+many_words Throws = codes "too many throws"
+many_words Locals = codes "too many locals"
+many_words Branches = codes "too many branches"
+many_words Operators = codes "too many operators"
 
 abbrev pub refusal_of_cutting : LexFault → List ℕ
-refusal_of_cutting fault = with_place fault.line (cause_of fault.kind) fault.at
+refusal_of_cutting fault = refusal_with_place fault.line (cause_of fault.kind) fault.at
 
 -- want of memory has no line
 abbrev pub refusal_of : ParseFault → List ℕ
 refusal_of (Lex fault) = refusal_of_cutting fault
-refusal_of (Unexpected at line) = with_place line (codes "unexpected") at
-refusal_of (TooDeep line) = without_place line (codes "too deep")
-refusal_of (TooMany what line) = without_place line (word_of what)
+refusal_of (Unexpected at line) = refusal_with_place line (codes "unexpected") at
+refusal_of (TooDeep line) = refusal_without_place line (codes "too deep")
+refusal_of (TooMany what line) = refusal_without_place line (many_words what)
 refusal_of NoMemory = []
 
 -- a name that isn't bound as it must be; what is wrong with `main` itself is told without its name
 abbrev pub refusal_of_binding : ℕ → ScopeKind → List ℕ → List ℕ
-refusal_of_binding line UnknownName name = with_name line (codes "unknown name") name
-refusal_of_binding line UnknownFunction name = with_name line (codes "unknown function") name
-refusal_of_binding line UnknownException name = with_name line (codes "unknown exception") name
-refusal_of_binding line Twice name = with_name line (codes "twice") name
-refusal_of_binding line Arity name = with_name line (codes "arity") name
-refusal_of_binding line WrongKind name = with_name line (codes "wrong kind") name
-refusal_of_binding line NoMain name = without_place line (codes "no main")
-refusal_of_binding line MainParameters name = without_place line (codes "main parameters")
+refusal_of_binding line UnknownName name = refusal_with_name line (codes "unknown name") name
+refusal_of_binding line UnknownFunction name = refusal_with_name line (codes "unknown function") name
+refusal_of_binding line UnknownException name = refusal_with_name line (codes "unknown exception") name
+refusal_of_binding line Twice name = refusal_with_name line (codes "twice") name
+refusal_of_binding line Arity name = refusal_with_name line (codes "arity") name
+refusal_of_binding line WrongKind name = refusal_with_name line (codes "wrong kind") name
+refusal_of_binding line NoMain name = refusal_without_place line (codes "no main")
+refusal_of_binding line MainParameters name = refusal_without_place line (codes "main parameters")
 
 -- want of memory has no line
 abbrev pub refusal_of_scope : ScopeFault → List ℕ
@@ -79,12 +79,12 @@ refusal_of_scope NoScopeMemory = []
 
 -- want of memory has no line
 abbrev pub refusal_of_sharing : ShareFault → List ℕ
-refusal_of_sharing (TwoWriters line name first second) = with_branches line name first second
-refusal_of_sharing (Alias line name) = with_name line (codes "alias") name
+refusal_of_sharing (TwoWriters line name first second) = refusal_with_branches line name first second
+refusal_of_sharing (Alias line name) = refusal_with_name line (codes "alias") name
 refusal_of_sharing NoShareMemory = []
 
 -- the line that tells of a fault, with its line feed
-abbrev pub refusal : SourceFault → List ℕ
-refusal (Parse fault) = refusal_of fault
-refusal (Scope fault) = refusal_of_scope fault
-refusal (Share fault) = refusal_of_sharing fault
+abbrev pub refusal_text : SourceFault → List ℕ
+refusal_text (Parse fault) = refusal_of fault
+refusal_text (Scope fault) = refusal_of_scope fault
+refusal_text (Share fault) = refusal_of_sharing fault

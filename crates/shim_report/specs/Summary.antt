@@ -16,9 +16,9 @@ abbrev pub all_values : List History → List ℤ
 all_values hs = flat_map (λ (h : History). h.values) hs
 
 -- numbers added up
-abbrev pub total : List ℤ → ℤ
-total [] = pos 0
-total (v ∷ vs) = v +ℤ total vs
+abbrev pub sum_of_values : List ℤ → ℤ
+sum_of_values [] = pos 0
+sum_of_values (v ∷ vs) = v +ℤ sum_of_values vs
 
 -- the number from 0 to 999,999 that differs from this one by a multiple of a million
 abbrev pub residue : ℤ → ℕ
@@ -46,7 +46,7 @@ values_line n sum = codes "values " ++ (decimal n ++ (codes " " ++ (decimal sum 
 
 abbrev pub counts_text : Ended → List ℕ
 counts_text e = count_line (codes "output") (length e.output) ++ (count_line (codes "channels") (length e.histories)
-    ++ (values_line (length (all_values e.histories)) (residue (total (all_values e.histories))) ++ count_line (codes "catches") (catch_count e.logs)))
+    ++ (values_line (length (all_values e.histories)) (residue (sum_of_values (all_values e.histories))) ++ count_line (codes "catches") (catch_count e.logs)))
 
 -- the counts of a run that came to its end; one that was stopped has none
 abbrev pub counts_part : Outcome → Ended → List ℕ

@@ -3,7 +3,7 @@ ghost use Rattle.std.specs.Prelude.{◌≡◌, ◌≢◌, IfOk};
 ghost use Rattle.shim_parser.specs.declared.ParseFault.TheVariants as faults;
 ghost use Rattle.shim_scopes.specs.declared.ScopeFault.TheVariants as scope_faults;
 ghost use Rattle.shim_sharing.specs.declared.ShareFault.TheVariants as share_faults;
-ghost use Rattle.shim_report.specs.Refusal.{refusal, refusal_of, refusal_of_binding, refusal_of_cutting, refusal_of_scope, refusal_of_sharing};
+ghost use Rattle.shim_report.specs.Refusal.{refusal_text, refusal_of, refusal_of_binding, refusal_of_cutting, refusal_of_scope, refusal_of_sharing};
 
 use crate::line::{line_with_name, line_with_place, line_without_place, too_many, two_writers};
 use shim_base::{List, Name, NoMemory};
@@ -86,7 +86,7 @@ fn sharing(alloc: Global, fault: &ShareFault) -> Result<List<u8>, NoMemory>
 /// The line that tells of a fault, with its line feed. Want of memory has no line: it is answered as
 /// itself.
 pub fn fault_text(alloc: Global, fault: &SourceFault) -> Result<List<u8>, NoMemory>
-    ensures line { IfOk result (λ text. text ≡ refusal fault.now) }
+    ensures line { IfOk result (λ text. text ≡ refusal_text fault.now) }
     ensures memory { IfOk result (λ text. (fault.now ≢ SourceFault.Parse faults.NoMemory) × (fault.now ≢ SourceFault.Scope scope_faults.NoMemory)
         × (fault.now ≢ SourceFault.Share share_faults.NoMemory)) }
 {

@@ -1,6 +1,6 @@
 // The four forms of a refusal's line.
 ghost use Rattle.std.specs.Prelude.{◌≡◌, ◌++◌, IfOk, codes, decimal};
-ghost use Rattle.shim_report.specs.Refusal.{with_branches, with_name, with_place, without_place, word_of};
+ghost use Rattle.shim_report.specs.Refusal.{refusal_with_branches, refusal_with_name, refusal_with_place, refusal_without_place, many_words};
 
 use shim_base::{List, Name, NoMemory, push_decimal};
 use shim_parser::Many;
@@ -19,14 +19,14 @@ fn begun(alloc: Global, line: u32, cause: &str) -> Result<List<u8>, NoMemory>
 }
 
 /// The line of a cause that stands at a place of the source.
-#[tactic(auto, unfolding(crate::specs::Refusal::with_place))]
+#[tactic(auto, unfolding(crate::specs::Refusal::refusal_with_place))]
 pub(crate) fn line_with_place(
     alloc: Global,
     line: u32,
     cause: &str,
     at: usize,
 ) -> Result<List<u8>, NoMemory>
-    ensures { IfOk result (λ text. text ≡ with_place line cause.now at) }
+    ensures { IfOk result (λ text. text ≡ refusal_with_place line cause.now at) }
 {
     let mut text = begun(alloc, line, cause)?;
     text.extend_from_slice(b" ")?;
@@ -36,14 +36,14 @@ pub(crate) fn line_with_place(
 }
 
 /// The line of a cause that stands at a name.
-#[tactic(auto, unfolding(crate::specs::Refusal::with_name))]
+#[tactic(auto, unfolding(crate::specs::Refusal::refusal_with_name))]
 pub(crate) fn line_with_name(
     alloc: Global,
     line: u32,
     cause: &str,
     name: &Name,
 ) -> Result<List<u8>, NoMemory>
-    ensures { IfOk result (λ text. text ≡ with_name line cause.now name.now) }
+    ensures { IfOk result (λ text. text ≡ refusal_with_name line cause.now name.now) }
 {
     let mut text = begun(alloc, line, cause)?;
     text.extend_from_slice(b" ")?;
@@ -53,7 +53,7 @@ pub(crate) fn line_with_name(
 }
 
 /// The line of a fork of which two branches write one variable.
-#[tactic(auto, unfolding(crate::specs::Refusal::with_branches))]
+#[tactic(auto, unfolding(crate::specs::Refusal::refusal_with_branches))]
 pub(crate) fn two_writers(
     alloc: Global,
     line: u32,
@@ -61,7 +61,7 @@ pub(crate) fn two_writers(
     first: u32,
     second: u32,
 ) -> Result<List<u8>, NoMemory>
-    ensures { IfOk result (λ text. text ≡ with_branches line name.now first second) }
+    ensures { IfOk result (λ text. text ≡ refusal_with_branches line name.now first second) }
 {
     let mut text = List::new(alloc);
     text.extend_from_slice(b"refused ")?;
@@ -77,13 +77,13 @@ pub(crate) fn two_writers(
 }
 
 /// The line of a cause that has no place but its line.
-#[tactic(auto, unfolding(crate::specs::Refusal::without_place))]
+#[tactic(auto, unfolding(crate::specs::Refusal::refusal_without_place))]
 pub(crate) fn line_without_place(
     alloc: Global,
     line: u32,
     cause: &str,
 ) -> Result<List<u8>, NoMemory>
-    ensures { IfOk result (λ text. text ≡ without_place line cause.now) }
+    ensures { IfOk result (λ text. text ≡ refusal_without_place line cause.now) }
 {
     let mut text = begun(alloc, line, cause)?;
     text.extend_from_slice(b"\n")?;
@@ -92,7 +92,7 @@ pub(crate) fn line_without_place(
 
 /// The line of a source that has too many of something.
 pub(crate) fn too_many(alloc: Global, line: u32, what: Many) -> Result<List<u8>, NoMemory>
-    ensures { IfOk result (λ text. text ≡ without_place line (word_of what)) }
+    ensures { IfOk result (λ text. text ≡ refusal_without_place line (many_words what)) }
 {
     match what {
         Many::Functions => line_without_place(alloc, line, "too many functions"),

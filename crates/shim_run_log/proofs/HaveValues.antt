@@ -9,9 +9,9 @@ use Rattle.std.proofs.lemmas.Result.{on_ok_weaker, on_err_weaker}
 use Rattle.shim_local.specs.declared.History.{History}
 use Rattle.shim_base.specs.Paths.{Channel, NamedChannel, channel_order}
 use Rattle.shim_base.specs.PathLaws.{channel_order_total}
-use Rattle.shim_semantics.specs.Trees.{Met, with_value, recorded}
+use Rattle.shim_semantics.specs.Trees.{Met, with_met, recorded}
 use Rattle.shim_semantics.specs.Endings.{values_in}
-use Rattle.shim_run_log.specs.Maps.{AllHaveValues, IsKept, channel_at, histories_of, met_at, number_in}
+use Rattle.shim_run_log.specs.Maps.{AllHaveValues, IsHistoryIndex, history_channel, histories_of, met_at, number_in}
 use Rattle.shim_run_log.proofs.Numbered.{numbered_more, put_same, recorded_more}
 
 last_there : (vs : List ℤ) (v : ℤ) → vs ++ v ∷ [] ≢ []
@@ -22,11 +22,11 @@ last_there (w ∷ vs) v e = cc
 pub none_have : AllHaveValues (from_entries [])
 none_have q h got = absurd (none-some h (sym (get-from_entries channel_order_total [] q) ∙ got))
 
-pub none_kept : (numbers : BTreeMap NamedChannel ℕ) (kept : List History) → numbers.entries ≡ [] → kept ≡ [] → IsKept numbers kept
+pub none_kept : (numbers : BTreeMap NamedChannel ℕ) (kept : List History) → numbers.entries ≡ [] → kept ≡ [] → IsHistoryIndex numbers kept
 none_kept numbers kept none empty = record {
   numbered = λ c i. (
     λ e. absurd (none-some i (sym (ap (lookup (is_at (λ (k : NamedChannel). channel_order c k.channel))) none) ∙ e)),
-    λ e. absurd (none-some c (sym (ap (λ hs. channel_at hs i) empty) ∙ e)),
+    λ e. absurd (none-some c (sym (ap (λ hs. history_channel hs i) empty) ∙ e)),
   );
   filled = subst (λ (es : List (NamedChannel × ℕ)). AllHaveValues (from_entries (map (λ e. (e.0.channel, met_at kept e.1)) es))) (sym none) none_have;
 }
@@ -36,13 +36,13 @@ put_has : (b : Bool) (new : Met) (x : Option Met) (h : Met) → new.values ≢ [
 put_has true new x h there others e = subst (λ (z : Met). z.values ≢ []) (same_Some new h e) there
 put_has false new x h there others e = others e
 
-with_value_has : (name : ℕ) (v : ℤ) (had : Option Met) → (with_value name v had).values ≢ []
+with_value_has : (name : ℕ) (v : ℤ) (had : Option Met) → (with_met name v had).values ≢ []
 with_value_has name v None e = last_there [] v e
 with_value_has name v (Some h) e = last_there h.values v e
 
 recorded_have : (m : FinMap channel_order Met) (c : Channel) (name : ℕ) (v : ℤ) → AllHaveValues m → AllHaveValues (recorded m c name v)
 recorded_have m c name v all q h got =
-    put_has _ (with_value name v (get m c)) (get m q) h (with_value_has name v (get m c)) (all q h) (sym (get-insert channel_order_total m c (with_value name v (get m c)) q) ∙ got)
+    put_has _ (with_met name v (get m c)) (get m q) h (with_value_has name v (get m c)) (all q h) (sym (get-insert channel_order_total m c (with_met name v (get m c)) q) ∙ got)
 
 -- a value is recorded, or nothing changes
 pub first_have : {A E : Type 0} (r : Result A E) (m n : FinMap channel_order Met) (c : Channel) (name : ℕ) (v : ℤ) → AllHaveValues m → OnOk r (n ≡ recorded m c name v) → OnErr r (n ≡ m) → AllHaveValues n
@@ -51,7 +51,7 @@ first_have (Err x) m n c name v all ok err = subst AllHaveValues (sym err) all
 
 -- a history has one value more, or stays
 pub more_kept : {A E : Type 0} (r : Result A E) (numbers : BTreeMap NamedChannel ℕ) (kept : List History) (c : Channel) (i : ℕ) (h : History) (new : List ℤ) (v : ℤ)
-    → IsKept numbers kept → number_in numbers c ≡ Some i → slice_get kept i ≡ Some h → OnOk r (new ≡ h.values ++ v ∷ []) → OnErr r (new ≡ h.values) → IsKept numbers (slice_set kept i (record { chan = h.chan; values = new }))
+    → IsHistoryIndex numbers kept → number_in numbers c ≡ Some i → slice_get kept i ≡ Some h → OnOk r (new ≡ h.values ++ v ∷ []) → OnErr r (new ≡ h.values) → IsHistoryIndex numbers (slice_set kept i (record { chan = h.chan; values = new }))
 more_kept r numbers kept c i h new v k at there ok err = record {
   numbered = numbered_more numbers kept k.numbered c i at h (record { chan = h.chan; values = new }) there refl;
   filled = first_have r (histories_of numbers kept) (histories_of numbers (slice_set kept i (record { chan = h.chan; values = new }))) c h.chan.name v k.filled

@@ -15,7 +15,7 @@ use Rattle.shim_base.specs.PathLaws.{channel_order_total, named_order_total}
 use Rattle.shim_local.specs.declared.History.{History}
 use Rattle.shim_semantics.specs.Endings.{history_of}
 use Rattle.shim_semantics.specs.Trees.{Met}
-use Rattle.shim_run_log.specs.Maps.{IsNumbered, channel_at, histories_of, met_at}
+use Rattle.shim_run_log.specs.Maps.{IsNumbered, history_channel, histories_of, met_at}
 use Rattle.shim_run_log.proofs.Mapped.{entries_of}
 use Rattle.shim_run_log.proofs.Numbered.{kept_at, told, within}
 
@@ -41,7 +41,7 @@ in_order numbers kept h = entries_of channel_order_total (map (met_by kept) numb
 
 -- each of these entries has the number of its channel's history
 abbrev pub EachLeads : List History → List (NamedChannel × ℕ) → Type 0
-EachLeads kept es = (place : ℕ) (k : NamedChannel) (i : ℕ) → slice_get es place ≡ Some (k, i) → channel_at kept i ≡ Some k.channel
+EachLeads kept es = (place : ℕ) (k : NamedChannel) (i : ℕ) → slice_get es place ≡ Some (k, i) → history_channel kept i ≡ Some k.channel
 
 pub each_leads : (numbers : BTreeMap NamedChannel ℕ) (kept : List History) → IsNumbered numbers kept → IsOrdered named_order numbers → EachLeads kept numbers.entries
 each_leads numbers kept numbered ordered place k i e = (numbered k.channel i).0 (btree_map_get_place named_order_total numbers place k i ordered e)
@@ -53,7 +53,7 @@ history_at kept i = unwrap_or (slice_get kept i) (record { chan = record { chann
 pub history_there : (kept : List History) (i : ℕ) (h : History) → slice_get kept i ≡ Some h → history_at kept i ≡ h
 history_there kept i h e = ap (λ o. unwrap_or o (record { chan = record { channel = record { home = []; serial = 0 }; name = 0 }; values = [] })) e
 
-told_there : (kept : List History) (k : NamedChannel) (i : ℕ) → channel_at kept i ≡ Some k.channel → history_of (k.channel, met_at kept i) ≡ history_at kept i
+told_there : (kept : List History) (k : NamedChannel) (i : ℕ) → history_channel kept i ≡ Some k.channel → history_of (k.channel, met_at kept i) ≡ history_at kept i
 told_there kept k i at =
     let h = kept_at kept i k.channel at in
     sym (told kept i h.0 k.channel h.1 at) ∙ sym (history_there kept i h.0 h.1)
@@ -68,5 +68,5 @@ EachWithin kept is = (place i : ℕ) → slice_get is place ≡ Some i → i < l
 
 pub each_within : (kept : List History) (es : List (NamedChannel × ℕ)) → EachLeads kept es → EachWithin kept (values_of es)
 each_within kept [] h place i is = absurd (none-some i is)
-each_within kept (e ∷ es) h zero i is = within kept i e.0.channel (ap (channel_at kept) (sym (same_Some e.1 i is)) ∙ h zero e.0 e.1 refl)
+each_within kept (e ∷ es) h zero i is = within kept i e.0.channel (ap (history_channel kept) (sym (same_Some e.1 i is)) ∙ h zero e.0 e.1 refl)
 each_within kept (e ∷ es) h (suc place) i is = each_within kept es (λ p. h (suc p)) place i is

@@ -14,9 +14,9 @@ use Rattle.std.proofs.lemmas.Bool.Decides.{eqb_tells}
 use Rattle.shim_base.specs.Paths.{Channel, NamedChannel, channel_order, same_channel}
 use Rattle.shim_base.specs.PathLaws.{channel_order_total, channel_ties, exact_channel}
 use Rattle.shim_local.specs.declared.History.{History}
-use Rattle.shim_semantics.specs.Trees.{Met, with_value, recorded}
+use Rattle.shim_semantics.specs.Trees.{Met, with_met, recorded}
 use Rattle.shim_semantics.specs.Endings.{history_of}
-use Rattle.shim_run_log.specs.Maps.{IsNumbered, channel_at, histories_of, met_at, met_of, number_in}
+use Rattle.shim_run_log.specs.Maps.{IsNumbered, history_channel, histories_of, met_at, met_of, number_in}
 use Rattle.shim_run_log.proofs.Mapped.{tied}
 
 abbrev same : Channel → Channel → Bool
@@ -68,16 +68,16 @@ some_of : {A B : Type 0} (f : A → B) (o : Option A) (y : B) → option_map f o
 some_of f None y e = absurd (none-some y e)
 some_of f (Some x) y e = (x, refl, same_Some (f x) y e)
 
-pub kept_at : (kept : List History) (i : ℕ) (c : Channel) → channel_at kept i ≡ Some c → (h : History) × (slice_get kept i ≡ Some h) × (h.chan.channel ≡ c)
+pub kept_at : (kept : List History) (i : ℕ) (c : Channel) → history_channel kept i ≡ Some c → (h : History) × (slice_get kept i ≡ Some h) × (h.chan.channel ≡ c)
 kept_at kept i c = some_of (λ (h : History). h.chan.channel) (slice_get kept i) c
 
-pub within : (kept : List History) (i : ℕ) (c : Channel) → channel_at kept i ≡ Some c → i < length kept
+pub within : (kept : List History) (i : ℕ) (c : Channel) → history_channel kept i ≡ Some c → i < length kept
 within kept i c e = let h = kept_at kept i c e in slice_get_within kept i h.0 h.1
 
 pub met_there : (kept : List History) (i : ℕ) (h : History) → slice_get kept i ≡ Some h → met_at kept i ≡ met_of h
 met_there kept i h e = ap (λ o. unwrap_or (option_map met_of o) (record { name = 0; values = [] })) e
 
-pub told : (kept : List History) (i : ℕ) (h : History) (c : Channel) → slice_get kept i ≡ Some h → channel_at kept i ≡ Some c → h ≡ history_of (c, met_at kept i)
+pub told : (kept : List History) (i : ℕ) (h : History) (c : Channel) → slice_get kept i ≡ Some h → history_channel kept i ≡ Some c → h ≡ history_of (c, met_at kept i)
 told kept i h c e at =
     let is : h.chan.channel ≡ c = same_Some h.chan.channel c (sym (ap (option_map (λ (h : History). h.chan.channel)) e) ∙ at) in
     λ k. history_of (is k, sym (met_there kept i h e) k)
@@ -110,7 +110,7 @@ module _ (numbers : BTreeMap NamedChannel ℕ) (kept : List History) (numbered :
       ∙ ap Some (met_there (slice_set kept i new) i new (put_here kept i h new there))
   put_met false q None f is = refl
   put_met false q (Some j) f is =
-      let other : j ≢ i = λ e. not_both q c f (same_Some q c (sym ((numbered q j).0 is) ∙ ap (channel_at kept) e ∙ (numbered c i).0 at)) in
+      let other : j ≢ i = λ e. not_both q c f (same_Some q c (sym ((numbered q j).0 is) ∙ ap (history_channel kept) e ∙ (numbered c i).0 at)) in
       ap (λ o. Some (unwrap_or (option_map met_of o) (record { name = 0; values = [] }))) (put_there kept i j new other)
 
   pub changed : histories_of numbers (slice_set kept i new) ≡ insert (histories_of numbers kept) c (met_of new)
@@ -121,15 +121,15 @@ module _ (numbers : BTreeMap NamedChannel ℕ) (kept : List History) (numbered :
       ∙ sym (get-insert channel_order_total (histories_of numbers kept) c (met_of new) q))
 
   pub recorded_more : (name : ℕ) (v : ℤ) → new ≡ record { chan = h.chan; values = h.values ++ v ∷ [] } → histories_of numbers (slice_set kept i new) ≡ recorded (histories_of numbers kept) c name v
-  recorded_more name v is = changed ∙ ap (λ n. insert (histories_of numbers kept) c (met_of n)) is ∙ ap (λ o. insert (histories_of numbers kept) c (with_value name v o)) (sym (had numbers kept c i at h there))
+  recorded_more name v is = changed ∙ ap (λ n. insert (histories_of numbers kept) c (met_of n)) is ∙ ap (λ o. insert (histories_of numbers kept) c (with_met name v o)) (sym (had numbers kept c i at h there))
 
-  same_channel_at : h.chan ≡ new.chan → (j : ℕ) → channel_at (slice_set kept i new) j ≡ channel_at kept j
+  same_channel_at : h.chan ≡ new.chan → (j : ℕ) → history_channel (slice_set kept i new) j ≡ history_channel kept j
   same_channel_at chan j = elim (eqb_tells j i) [
-    | inl e ↦ ap (channel_at (slice_set kept i new)) e.1
+    | inl e ↦ ap (history_channel (slice_set kept i new)) e.1
         ∙ ap (option_map (λ (h : History). h.chan.channel)) (put_here kept i h new there)
         ∙ ap (λ k. Some k.channel) (sym chan)
         ∙ sym (ap (option_map (λ (h : History). h.chan.channel)) there)
-        ∙ sym (ap (channel_at kept) e.1)
+        ∙ sym (ap (history_channel kept) e.1)
     | inr e ↦ ap (option_map (λ (h : History). h.chan.channel)) (put_there kept i j new e.1)
   ]
 
@@ -155,9 +155,9 @@ module _ (numbers after : BTreeMap NamedChannel ℕ) (kept : List History) (numb
       ∙ ap (λ b. cond b (Some (met_of first)) (get (histories_of numbers kept) q)) (same_both_ways first.chan.channel q)
       ∙ sym (get-insert channel_order_total (histories_of numbers kept) first.chan.channel (met_of first) q))
 
-  stands : (b : Bool) (q : Channel) (j : ℕ) → same first.chan.channel q ≡ b → cond b (Some (length kept)) (number_in numbers q) ≡ Some j → channel_at (kept ++ first ∷ []) j ≡ Some q
+  stands : (b : Bool) (q : Channel) (j : ℕ) → same first.chan.channel q ≡ b → cond b (Some (length kept)) (number_in numbers q) ≡ Some j → history_channel (kept ++ first ∷ []) j ≡ Some q
   stands true q j t e =
-      ap (channel_at (kept ++ first ∷ [])) (sym (same_Some (length kept) j e))
+      ap (history_channel (kept ++ first ∷ [])) (sym (same_Some (length kept) j e))
       ∙ ap (option_map (λ (h : History). h.chan.channel)) (at_end kept first)
       ∙ ap Some (exact_same first.chan.channel q t)
   stands false q j f e =
@@ -183,7 +183,7 @@ pub recorded_first : (numbers : BTreeMap NamedChannel ℕ) (kept : List History)
     → m ≡ insert (histories_of numbers kept) first.chan.channel (met_of first) → m ≡ recorded (histories_of numbers kept) c name v
 recorded_first numbers kept first c name v m absent is e =
     e ∙ ap (λ (h : History). insert (histories_of numbers kept) h.chan.channel (met_of h)) is
-    ∙ ap (λ o. insert (histories_of numbers kept) c (with_value name v o)) (sym (had_none numbers kept c absent))
+    ∙ ap (λ o. insert (histories_of numbers kept) c (with_met name v o)) (sym (had_none numbers kept c absent))
 
 -- what the code's map says of a key that was put in, by channel
 pub updated_at : (numbers after : BTreeMap NamedChannel ℕ) (kept : List History) (k first : NamedChannel) (n : ℕ)
@@ -192,14 +192,14 @@ pub updated_at : (numbers after : BTreeMap NamedChannel ℕ) (kept : List Histor
 updated_at numbers after kept k first n put is len q = put (record { channel = q; name = 0 }) ∙ (λ i. cond (same (is i).channel q) (Some (len i)) (number_in numbers q))
 
 -- Whether the history at a number is a channel's.
-pub is_of_there : (kept : List History) (i : ℕ) (h : History) (c : Channel) (b : Bool) → slice_get kept i ≡ Some h → b ≡ same_channel h.chan.channel c → IsTrue b ↔ (channel_at kept i ≡ Some c)
+pub is_of_there : (kept : List History) (i : ℕ) (h : History) (c : Channel) (b : Bool) → slice_get kept i ≡ Some h → b ≡ same_channel h.chan.channel c → IsTrue b ↔ (history_channel kept i ≡ Some c)
 is_of_there kept i h c b there is =
-    let at : channel_at kept i ≡ Some h.chan.channel = ap (option_map (λ (h : History). h.chan.channel)) there in (
+    let at : history_channel kept i ≡ Some h.chan.channel = ap (option_map (λ (h : History). h.chan.channel)) there in (
       λ t. at ∙ ap Some (exact_same h.chan.channel c (sym (channel_ties h.chan.channel c) ∙ sym is ∙ t)),
       λ e. is ∙ channel_ties h.chan.channel c ∙ ap (same h.chan.channel) (sym (same_Some h.chan.channel c (sym at ∙ e))) ∙ same_self h.chan.channel,
     )
 
-pub is_of_none : (kept : List History) (i : ℕ) (c : Channel) → slice_get kept i ≡ None → IsTrue false ↔ (channel_at kept i ≡ Some c)
+pub is_of_none : (kept : List History) (i : ℕ) (c : Channel) → slice_get kept i ≡ None → IsTrue false ↔ (history_channel kept i ≡ Some c)
 is_of_none kept i c none = (
   λ t. absurd (true≢false (sym t)),
   λ e. absurd (none-some c (sym (ap (option_map (λ (h : History). h.chan.channel)) none) ∙ e)),

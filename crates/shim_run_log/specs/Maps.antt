@@ -21,8 +21,8 @@ abbrev pub met_at : List History → ℕ → Met
 met_at kept i = unwrap_or (option_map met_of (slice_get kept i)) (record { name = 0; values = [] })
 
 -- the channel of the history of this number
-abbrev pub channel_at : List History → ℕ → Option Channel
-channel_at kept i = option_map (λ h. h.chan.channel) (slice_get kept i)
+abbrev pub history_channel : List History → ℕ → Option Channel
+history_channel kept i = option_map (λ h. h.chan.channel) (slice_get kept i)
 
 -- the number that stands at the channel
 abbrev pub number_in : BTreeMap NamedChannel ℕ → Channel → Option ℕ
@@ -34,14 +34,14 @@ histories_of numbers kept = finite.from_entries (map (λ e. (e.0.channel, met_at
 
 -- at each channel stands the number of its history, and each history has its number there
 abbrev pub IsNumbered : BTreeMap NamedChannel ℕ → List History → Type 0
-IsNumbered numbers kept = (c : Channel) (i : ℕ) → (number_in numbers c ≡ Some i) ↔ (channel_at kept i ≡ Some c)
+IsNumbered numbers kept = (c : Channel) (i : ℕ) → (number_in numbers c ≡ Some i) ↔ (history_channel kept i ≡ Some c)
 
 -- each channel that has an entry has a value
 abbrev pub AllHaveValues : finite.FinMap channel_order Met → Type 0
 AllHaveValues m = (c : Channel) (h : Met) → finite.get m c ≡ Some h → h.values ≢ []
 
 -- what is true of histories and their numbers
-pub record IsKept (numbers : BTreeMap NamedChannel ℕ) (kept : List History) : Type 0 where
+pub record IsHistoryIndex (numbers : BTreeMap NamedChannel ℕ) (kept : List History) : Type 0 where
   pub numbered : IsNumbered numbers kept
   pub filled : AllHaveValues (histories_of numbers kept)
 

@@ -1,10 +1,10 @@
 // The values that the meetings on each channel gave.
-ghost use Rattle.std.specs.Prelude.{◌≡◌, [], ◌∷◌, ◌↔◌, IsTrue, OnOk, OnErr, IfOk, map};
+ghost use Rattle.std.specs.Prelude.{◌≡◌, ℕ, true, false, [], ◌∷◌, ◌↔◌, IsTrue, OnOk, OnErr, IfOk, map};
 ghost use Rattle.std.specs.Option.{option_copied};
 ghost use Rattle.std.specs.FinMap as finite;
 ghost use Rattle.shim_semantics.specs.Trees.{recorded};
 ghost use Rattle.shim_semantics.specs.Endings.{history_of, values_in};
-ghost use Rattle.shim_run_log.specs.Maps.{AllHaveValues, IsNumbered, channel_at, histories_of, met_of, number_in};
+ghost use Rattle.shim_run_log.specs.Maps.{AllHaveValues, IsNumbered, history_channel, histories_of, met_of, number_in};
 
 use crate::recent::Recent;
 use shim_base::{Chan, List, NoMemory};
@@ -31,7 +31,7 @@ impl Model for Histories {
     ghost use Rattle.shim_base.specs.Paths.{channel_order};
     ghost use Rattle.shim_semantics.specs.Trees.{Met};
     ghost use Rattle.shim_semantics.proofs.Codes.{histories_code};
-    ghost use Rattle.shim_run_log.specs.Maps.{histories_of, IsKept};
+    ghost use Rattle.shim_run_log.specs.Maps.{histories_of, IsHistoryIndex};
 
     ghost Value = { finite.FinMap channel_order Met };
 
@@ -39,7 +39,7 @@ impl Model for Histories {
 
     ghost view = { λ h. histories_of h.numbers h.kept.items };
 
-    ghost invariant = { λ h. IsKept h.numbers h.kept.items };
+    ghost invariant = { λ h. IsHistoryIndex h.numbers h.kept.items };
 }
 
 impl Histories {
@@ -69,6 +69,23 @@ impl Histories {
                     .make_room(self.alloc, self.kept.len().saturating_add(1))?;
                 keep(&mut self.kept, &mut self.numbers, first)
             }
+        }
+    }
+
+    /// Adds a value behind those of a channel that had a meeting. `false`, and nothing is added, where it had
+    /// none: that one's name is wanted first.
+    pub fn record_value(&mut self, chan: &Chan, value: i64) -> Result<bool, NoMemory>
+        ensures known { IfOk result (λ known. known ≡ true → (name : ℕ) → self.new ≡ recorded self.old chan.now.channel name value) }
+        ensures first { IfOk result (λ known. known ≡ false → self.new ≡ self.old) }
+        ensures err { OnErr result (self.new ≡ self.old) }
+    {
+        let found = number_of(self.kept.as_slice(), &self.numbers, &mut self.recent, chan);
+        match found {
+            Some(number) => {
+                self.kept[number].values.push(value)?;
+                Ok(true)
+            }
+            None => Ok(false),
         }
     }
 
@@ -122,7 +139,7 @@ fn number_of(
 
 // Whether the history of this number is the channel's.
 fn is_of(kept: &[History], number: usize, chan: &Chan) -> bool
-    ensures { IsTrue result ↔ (channel_at kept.now number ≡ Some chan.now.channel) }
+    ensures { IsTrue result ↔ (history_channel kept.now number ≡ Some chan.now.channel) }
 {
     match kept.get(number) {
         Some(history) => history.chan == *chan,

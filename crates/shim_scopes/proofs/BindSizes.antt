@@ -11,7 +11,7 @@ use Rattle.shim_syntax.specs.declared.tree.Branch.{Branch, Branch-F, fold-roll-B
 use Rattle.shim_syntax.specs.declared.tree.BranchWhat.{BranchWhat, BranchWhat-F, fold-BranchWhat, fold-roll-BranchWhat, map-BranchWhat, roll-BranchWhat}
 use Rattle.shim_scopes.specs.declared.fault.ScopeKind.{ScopeKind}
 use Rattle.shim_scopes.specs.declared.fault.ScopeKind.TheVariants.{UnknownName, UnknownException, Twice, WrongKind}
-use Rattle.shim_scopes.specs.declared.scope.Local.{Local}
+use Rattle.shim_scopes.specs.declared.scope.LocalDeclaration.{LocalDeclaration}
 use Rattle.shim_scopes.specs.declared.tree.RStmt.{RStmt}
 use Rattle.shim_scopes.specs.declared.tree.RCall.{RCall}
 use Rattle.shim_scopes.specs.declared.tree.RWhat.{RWhat}
@@ -19,12 +19,12 @@ use Rattle.shim_scopes.specs.declared.tree.RWhat.TheVariants.{Declare, Assign, N
 use Rattle.shim_syntax.specs.declared.tree.Sort.TheVariants.{Value}
 use Rattle.std.specs.Option.{option_or}
 use Rattle.shim_scopes.specs.Binding.{unknown, unknown_in_option, stream_in, stream_in_option, no_number, no_input, no_output, slot_of, placed, placed_option, exception_number, unhandled}
-use Rattle.shim_syntax.specs.Names.{Texts, number_of}
+use Rattle.shim_syntax.specs.Names.{Texts, name_index}
 use Rattle.shim_scopes.specs.declared.tree.UExpr.{UExpr}
 use Rattle.shim_scopes.specs.Refusals.{refused_for}
-use Rattle.shim_scopes.specs.Statements.{Whole, Around, Before, BoundTo, Bind, declared, within, opened, closed, caught, tried, variable_declared, variable_slot, bind_handler, bind_declare, bind_store, bind_next, bind_assign_next, bind_get, bind_put, bind_throw, bind_block, on_tree, bind_two, bind_test, bind_if, bind_while, bind_try, bind_parts, bind_first_test, bind_for, visible, declared_in, unknown_in_both, unknown_of_two}
+use Rattle.shim_scopes.specs.Statements.{Whole, Around, Before, BoundTo, Bind, with_declaration, inside_block, opened, after_block, with_handled, tried, variable_declared, variable_slot, bind_handler, bind_declare, bind_store, bind_next, bind_assign_next, bind_get, bind_put, bind_throw, bind_block, on_tree, bind_two, bind_test, bind_if, bind_while, bind_try, bind_parts, bind_first_test, bind_for, visible, declared_in, unknown_in_both, unknown_of_two}
 use Rattle.shim_scopes.specs.Calls.{bind_call, bind_called}
-use Rattle.shim_scopes.specs.Bodies.{WhatMeans, StmtMeans, BranchMeans, BranchWhatMeans, bind_all, bind_fork, first_declares, branch_what_step, what_step, branch_step, stmt_step, meaning, bind_stmts, bind_branch}
+use Rattle.shim_scopes.specs.Bodies.{WhatMeans, StmtMeans, BranchMeans, BranchWhatMeans, bind_all, bind_fork, first_declares, bind_branch_what_step, bind_what_step, bind_branch_step, bind_stmt_step, stmt_meaning, bind_stmts, bind_branch}
 use Rattle.shim_syntax.specs.Sizes.{sum_of, expr_size, option_size, variable_size, branch_counts, what_counts, what_size, stmt_size, branch_size, stmts_size}
 use Rattle.shim_syntax.proofs.SizeSteps.{branch_what_size, of_branch, at_branch, of_stmt, at_what}
 use Rattle.shim_scopes.proofs.Refusals.{passed, first_ok, bound}
@@ -57,36 +57,36 @@ declare_adds w ty x e n line a b r h =
     let p = passed line UnknownName (unknown_in_option (visible a b) e) _ r h in
     let q = passed line Twice (declared_in b.own x) _ r p in
     let s = passed line WrongKind (stream_in_option (visible a b) e) _ r q in
-    omega (arith, behind_tree (Declare ty (length b.slots) (placed_option (visible a b) e)) (declared w.names x (Value ty) b) r s, length-append b.slots (Value ty ∷ []))
+    omega (arith, behind_tree (Declare ty (length b.slots) (placed_option (visible a b) e)) (with_declaration w.names x (Value ty) b) r s, length-append b.slots (Value ty ∷ []))
 
 store_adds : (g : ℕ → UExpr → RWhat) (x : List ℕ) (e : Expr) (n : ℕ) → WhatAdds n (bind_store g x e)
 store_adds g x e n line a b r h =
-    let v : List Local = visible a b in
+    let v : List LocalDeclaration = visible a b in
     asked_two line UnknownName WrongKind (unknown_in_both v x e) (option_or (no_number v x) (stream_in v e)) (g (slot_of v x) (placed v e)) b r n h
 
 next_adds : (x : List ℕ) (n : ℕ) → WhatAdds n (bind_next x)
 next_adds x n line a b r h =
-    let v : List Local = visible a b in
+    let v : List LocalDeclaration = visible a b in
     asked_two line UnknownName WrongKind (unknown v x) (no_number v x) (Next (slot_of v x)) b r n h
 
 assign_next_adds : (x y : List ℕ) (n : ℕ) → WhatAdds n (bind_assign_next x y)
 assign_next_adds x y n line a b r h =
-    let v : List Local = visible a b in
+    let v : List LocalDeclaration = visible a b in
     asked_two line UnknownName WrongKind (unknown_of_two v x y) (option_or (no_number v x) (no_number v y)) (AssignNext (slot_of v x) (slot_of v y)) b r n h
 
 get_adds : (x y : List ℕ) (n : ℕ) → WhatAdds n (bind_get x y)
 get_adds x y n line a b r h =
-    let v : List Local = visible a b in
+    let v : List LocalDeclaration = visible a b in
     asked_two line UnknownName WrongKind (unknown_of_two v x y) (option_or (no_number v x) (no_input v y)) (Get (slot_of v x) (slot_of v y)) b r n h
 
 put_adds : (x : List ℕ) (e : Expr) (n : ℕ) → WhatAdds n (bind_put x e)
 put_adds x e n line a b r h =
-    let v : List Local = visible a b in
+    let v : List LocalDeclaration = visible a b in
     asked_two line UnknownName WrongKind (unknown_in_both v x e) (option_or (no_output v x) (stream_in v e)) (Put (slot_of v x) (placed v e)) b r n h
 
 throw_adds : (x : List ℕ) (e : Option Expr) (n : ℕ) → WhatAdds n (bind_throw x e)
 throw_adds x e n line a b r h =
-    let v : List Local = visible a b in
+    let v : List LocalDeclaration = visible a b in
     asked_two line UnknownException WrongKind (unhandled a.handled x) (stream_in_option v e) (Throw (exception_number a.handled x) (placed_option v e)) b r n
     (passed line UnknownName (unknown_in_option v e) _ r h)
 
@@ -95,8 +95,8 @@ called_adds g w c line n a b r h = let p = first_ok (bind_call w c line a b) _ r
 
 pub block_adds : {T : Type 0} (f : Bind T) (n : ℕ) → AddsAtMost n f → AddsAtMost n (bind_block f)
 block_adds f n k a b r h =
-    let p = first_ok (f (within a b) (opened b)) _ r h in
-    omega (arith, k (within a b) (opened b) p.0 p.1, behind_tree p.0.tree (closed b p.0.before) r p.2)
+    let p = first_ok (f (inside_block a b) (opened b)) _ r h in
+    omega (arith, k (inside_block a b) (opened b) p.0 p.1, behind_tree p.0.tree (after_block b p.0.before) r p.2)
 
 tree_adds : {S T : Type 0} (g : S → T) (f : Bind S) (m n : ℕ) → m ≤ n → AddsAtMost m f → AddsAtMost n (on_tree g f)
 tree_adds g f m n l k a b r h =
@@ -130,12 +130,12 @@ handler_adds w y h n k a b r is = omega (arith, variable_added w.names y b, k a 
 try_adds : (w : Whole) (x : List ℕ) (y : Option (List ℕ)) (f h : Bind (List RStmt)) (m n : ℕ) → AddsAtMost m f → AddsAtMost n h
     → AddsAtMost (suc (m + (variable_size y + n))) (bind_try w x y f h)
 try_adds w x y f h m n k l a b r is =
-    let p = first_ok (bind_block f (caught x a b) (tried w x b)) _ r is in
+    let p = first_ok (bind_block f (with_handled x a b) (tried w x b)) _ r is in
     let q = first_ok (bind_block (bind_handler w y h) a p.0.before) _ r p.2 in
     omega (
       arith,
-      block_adds f m k (caught x a b) (tried w x b) p.0 p.1,
-      length-append b.tries (number_of w.names x ∷ []),
+      block_adds f m k (with_handled x a b) (tried w x b) p.0 p.1,
+      length-append b.tries (name_index w.names x ∷ []),
       block_adds (bind_handler w y h) (variable_size y + n) (handler_adds w y h n l) a p.0.before q.0 q.1,
       behind_tree (Try p.0.tree (a.throws + length b.tries) (variable_slot y p.0.before) q.0.tree) q.0.before r q.2,
     )
@@ -153,7 +153,7 @@ parts_add test f g h i m n j k l a b r is =
       behind_tree (For p.0.tree (placed_option (visible a p.0.before) test) q.0.tree s.0.tree) s.0.before r s.2,
     )
 
-for_adds : (declares : ℕ → List Local) (test : Option Expr) (f g h : Bind (List RStmt)) (i m n o : ℕ) → AddsAtMost i f → AddsAtMost m g → AddsAtMost n h
+for_adds : (declares : ℕ → List LocalDeclaration) (test : Option Expr) (f g h : Bind (List RStmt)) (i m n o : ℕ) → AddsAtMost i f → AddsAtMost m g → AddsAtMost n h
     → WhatAdds (suc (i + (o + (m + n)))) (bind_for declares test f g h)
 for_adds declares test f g h i m n o j k l line a b r is =
     let p = first_ok (bind_first_test declares test line a b) _ r is in
@@ -161,10 +161,10 @@ for_adds declares test f g h i m n o j k l line a b r is =
 
 module _ (w : Whole) where
   abbrev branch_what_means : BranchWhat → BranchWhatMeans
-  branch_what_means = fold-BranchWhat BranchWhatMeans WhatMeans BranchMeans StmtMeans (branch_what_step w) (what_step w) branch_step stmt_step
+  branch_what_means = fold-BranchWhat BranchWhatMeans WhatMeans BranchMeans StmtMeans (bind_branch_what_step w) (bind_what_step w) bind_branch_step bind_stmt_step
 
   abbrev what_means : What → WhatMeans
-  what_means = fold-What BranchWhatMeans WhatMeans BranchMeans StmtMeans (branch_what_step w) (what_step w) branch_step stmt_step
+  what_means = fold-What BranchWhatMeans WhatMeans BranchMeans StmtMeans (bind_branch_what_step w) (bind_what_step w) bind_branch_step bind_stmt_step
 
   -- a part that adds no more than its size
   abbrev BranchWhatAdds : BranchWhatMeans → ℕ → Type 0
@@ -180,7 +180,7 @@ module _ (w : Whole) where
   SmallBranch = (b : Branch) × AddsAtMost (branch_size b) (bind_branch w b)
 
   abbrev SmallStmt : Type 0
-  SmallStmt = (s : Stmt) × AddsAtMost (stmt_size s) (meaning w s).bind
+  SmallStmt = (s : Stmt) × AddsAtMost (stmt_size s) (stmt_meaning w s).bind
 
   abbrev stmts : List SmallStmt → List Stmt
   stmts ys = map (λ (e : SmallStmt). e.0) ys
@@ -188,11 +188,11 @@ module _ (w : Whole) where
   abbrev branches : List SmallBranch → List Branch
   branches ys = map (λ (e : SmallBranch). e.0) ys
 
-  stmts_add : (ys : List SmallStmt) → AddsAtMost (sum_of (map stmt_size (stmts ys))) (bind_all (map (meaning w) (stmts ys)))
+  stmts_add : (ys : List SmallStmt) → AddsAtMost (sum_of (map stmt_size (stmts ys))) (bind_all (map (stmt_meaning w) (stmts ys)))
   stmts_add [] a b r is = nothing_added [] b r 0 is
   stmts_add (y ∷ ys) a b r is =
-      let p = first_ok ((meaning w y.0).bind a b) _ r is in
-      let q = first_ok (bind_all (map (meaning w) (stmts ys)) a p.0.before) _ r p.2 in
+      let p = first_ok ((stmt_meaning w y.0).bind a b) _ r is in
+      let q = first_ok (bind_all (map (stmt_meaning w) (stmts ys)) a p.0.before) _ r p.2 in
       omega (arith, y.1 a b p.0 p.1, stmts_add ys a p.0.before q.0 q.1, behind_tree (p.0.tree ∷ q.0.tree) q.0.before r q.2)
 
   branches_add : (ys : List SmallBranch) → AddsAtMost (sum_of (map branch_size (branches ys))) (bind_fork (map (bind_branch w) (branches ys)))
@@ -215,14 +215,14 @@ module _ (w : Whole) where
   stmt_of y = map-Stmt SmallBranchWhat SmallWhat SmallBranch SmallStmt BranchWhat What Branch Stmt (λ e. e.0) (λ e. e.0) (λ e. e.0) (λ e. e.0) y
 
   branch_what_layer : (y : BranchWhat-F SmallBranchWhat SmallWhat SmallBranch SmallStmt)
-      → BranchWhatAdds (branch_what_step w (map-BranchWhat BranchWhat What Branch Stmt BranchWhatMeans WhatMeans BranchMeans StmtMeans branch_what_means what_means (bind_branch w) (meaning w) (branch_what_of y)))
+      → BranchWhatAdds (bind_branch_what_step w (map-BranchWhat BranchWhat What Branch Stmt BranchWhatMeans WhatMeans BranchMeans StmtMeans branch_what_means what_means (bind_branch w) (stmt_meaning w) (branch_what_of y)))
       (branch_counts (map-BranchWhat BranchWhat What Branch Stmt ℕ ℕ ℕ ℕ branch_what_size what_size branch_size stmt_size (branch_what_of y)))
   branch_what_layer (BranchWhat-F.BranchWhat::Block body) line = tree_adds _ _ _ _ (omega arith) (block_adds _ _ (stmts_add body))
   branch_what_layer (BranchWhat-F.BranchWhat::Call c) line = called_adds _ w c line _
 
   what_layer : (y : What-F SmallBranchWhat SmallWhat SmallBranch SmallStmt)
       → WhatAdds (what_counts (map-What BranchWhat What Branch Stmt ℕ ℕ ℕ ℕ branch_what_size what_size branch_size stmt_size (what_of y)))
-      (what_step w (map-What BranchWhat What Branch Stmt BranchWhatMeans WhatMeans BranchMeans StmtMeans branch_what_means what_means (bind_branch w) (meaning w) (what_of y))).bind
+      (bind_what_step w (map-What BranchWhat What Branch Stmt BranchWhatMeans WhatMeans BranchMeans StmtMeans branch_what_means what_means (bind_branch w) (stmt_meaning w) (what_of y))).bind
   what_layer (What-F.Declare ty x e) line = declare_adds w ty x e (option_size e) line
   what_layer (What-F.Assign x e) line = store_adds Assign x e _ line
   what_layer (What-F.Next x) line = next_adds x _ line
@@ -232,7 +232,7 @@ module _ (w : Whole) where
   what_layer (What-F.Put x e) line = put_adds x e _ line
   what_layer (What-F.If e first other) line = if_adds e _ _ _ _ (expr_size e) (stmts_add first) (stmts_add other) line
   what_layer (What-F.While e body) line = while_adds e _ _ (expr_size e) (stmts_add body) line
-  what_layer (What-F.For first test step body) line = for_adds (first_declares (map (meaning w) (stmts first))) test _ _ _ _ _ _ (option_size test) (stmts_add first) (stmts_add step) (stmts_add body) line
+  what_layer (What-F.For first test step body) line = for_adds (first_declares (map (stmt_meaning w) (stmts first))) test _ _ _ _ _ _ (option_size test) (stmts_add first) (stmts_add step) (stmts_add body) line
   what_layer (What-F.What::Block body) line = tree_adds _ _ _ _ (omega arith) (block_adds _ _ (stmts_add body))
   what_layer (What-F.What::Call c) line = called_adds _ w c line _
   what_layer (What-F.Try body x y handler) line = try_adds w x y _ _ _ _ (stmts_add body) (stmts_add handler)
@@ -246,38 +246,38 @@ module _ (w : Whole) where
   branch_what_case : (x : BranchWhat-F BranchWhat What Branch Stmt) (y : BranchWhat-F SmallBranchWhat SmallWhat SmallBranch SmallStmt) → branch_what_of y ≡ x
       → BranchWhatAdds (branch_what_means (roll-BranchWhat x)) (branch_what_size (roll-BranchWhat x))
   branch_what_case x y is = subst (λ z. BranchWhatAdds (branch_what_means (roll-BranchWhat z)) (branch_what_size (roll-BranchWhat z))) is (λ line.
-      same_adds _ _ _ _ (ap (λ (k : BranchWhatMeans). k line) (fold-roll-BranchWhat BranchWhatMeans WhatMeans BranchMeans StmtMeans (branch_what_step w) (what_step w) branch_step stmt_step (branch_what_of y)))
+      same_adds _ _ _ _ (ap (λ (k : BranchWhatMeans). k line) (fold-roll-BranchWhat BranchWhatMeans WhatMeans BranchMeans StmtMeans (bind_branch_what_step w) (bind_what_step w) bind_branch_step bind_stmt_step (branch_what_of y)))
       (at_branch (branch_what_of y)) (branch_what_layer y line))
 
   what_case : (x : What-F BranchWhat What Branch Stmt) (y : What-F SmallBranchWhat SmallWhat SmallBranch SmallStmt) → what_of y ≡ x
       → WhatAdds (what_size (roll-What x)) (what_means (roll-What x)).bind
   what_case x y is = subst (λ z. WhatAdds (what_size (roll-What z)) (what_means (roll-What z)).bind) is (λ line.
-      same_adds _ _ _ _ (ap (λ (k : WhatMeans). k.bind line) (fold-roll-What BranchWhatMeans WhatMeans BranchMeans StmtMeans (branch_what_step w) (what_step w) branch_step stmt_step (what_of y)))
+      same_adds _ _ _ _ (ap (λ (k : WhatMeans). k.bind line) (fold-roll-What BranchWhatMeans WhatMeans BranchMeans StmtMeans (bind_branch_what_step w) (bind_what_step w) bind_branch_step bind_stmt_step (what_of y)))
       (at_what (what_of y)) (what_layer y line))
 
   branch_case : (x : Branch-F BranchWhat What Branch Stmt) (y : Branch-F SmallBranchWhat SmallWhat SmallBranch SmallStmt) → branch_of y ≡ x
       → AddsAtMost (branch_size (roll-Branch x)) (bind_branch w (roll-Branch x))
   branch_case x y is = subst (λ z. AddsAtMost (branch_size (roll-Branch z)) (bind_branch w (roll-Branch z))) is
-      (same_adds _ _ _ _ (fold-roll-Branch BranchWhatMeans WhatMeans BranchMeans StmtMeans (branch_what_step w) (what_step w) branch_step stmt_step (branch_of y))
+      (same_adds _ _ _ _ (fold-roll-Branch BranchWhatMeans WhatMeans BranchMeans StmtMeans (bind_branch_what_step w) (bind_what_step w) bind_branch_step bind_stmt_step (branch_of y))
       (of_branch (roll-Branch (branch_of y))) (tree_adds _ _ _ _ (omega arith) (y.what.1 y.line)))
 
   stmt_case : (x : Stmt-F BranchWhat What Branch Stmt) (y : Stmt-F SmallBranchWhat SmallWhat SmallBranch SmallStmt) → stmt_of y ≡ x
-      → AddsAtMost (stmt_size (roll-Stmt x)) (meaning w (roll-Stmt x)).bind
-  stmt_case x y is = subst (λ z. AddsAtMost (stmt_size (roll-Stmt z)) (meaning w (roll-Stmt z)).bind) is
-      (same_adds _ _ _ _ (ap (λ (k : StmtMeans). k.bind) (fold-roll-Stmt BranchWhatMeans WhatMeans BranchMeans StmtMeans (branch_what_step w) (what_step w) branch_step stmt_step (stmt_of y)))
+      → AddsAtMost (stmt_size (roll-Stmt x)) (stmt_meaning w (roll-Stmt x)).bind
+  stmt_case x y is = subst (λ z. AddsAtMost (stmt_size (roll-Stmt z)) (stmt_meaning w (roll-Stmt z)).bind) is
+      (same_adds _ _ _ _ (ap (λ (k : StmtMeans). k.bind) (fold-roll-Stmt BranchWhatMeans WhatMeans BranchMeans StmtMeans (bind_branch_what_step w) (bind_what_step w) bind_branch_step bind_stmt_step (stmt_of y)))
       (of_stmt (roll-Stmt (stmt_of y))) (tree_adds _ _ _ _ (omega arith) (y.what.1 y.line)))
 
-  pub stmt_adds : (s : Stmt) → AddsAtMost (stmt_size s) (meaning w s).bind
+  pub stmt_adds : (s : Stmt) → AddsAtMost (stmt_size s) (stmt_meaning w s).bind
   stmt_adds = ind-Stmt (λ x. BranchWhatAdds (branch_what_means x) (branch_what_size x)) (λ x. WhatAdds (what_size x) (what_means x).bind)
-      (λ b. AddsAtMost (branch_size b) (bind_branch w b)) (λ s. AddsAtMost (stmt_size s) (meaning w s).bind) branch_what_case what_case branch_case stmt_case
+      (λ b. AddsAtMost (branch_size b) (bind_branch w b)) (λ s. AddsAtMost (stmt_size s) (stmt_meaning w s).bind) branch_what_case what_case branch_case stmt_case
 
   pub branch_adds : (b : Branch) → AddsAtMost (branch_size b) (bind_branch w b)
   branch_adds = ind-Branch (λ x. BranchWhatAdds (branch_what_means x) (branch_what_size x)) (λ x. WhatAdds (what_size x) (what_means x).bind)
-      (λ b. AddsAtMost (branch_size b) (bind_branch w b)) (λ s. AddsAtMost (stmt_size s) (meaning w s).bind) branch_what_case what_case branch_case stmt_case
+      (λ b. AddsAtMost (branch_size b) (bind_branch w b)) (λ s. AddsAtMost (stmt_size s) (stmt_meaning w s).bind) branch_what_case what_case branch_case stmt_case
 
   pub body_adds : (body : List Stmt) → AddsAtMost (stmts_size body) (bind_stmts w body)
   body_adds [] a b r is = nothing_added [] b r 0 is
   body_adds (s ∷ body) a b r is =
-      let p = first_ok ((meaning w s).bind a b) _ r is in
+      let p = first_ok ((stmt_meaning w s).bind a b) _ r is in
       let q = first_ok (bind_stmts w body a p.0.before) _ r p.2 in
       omega (arith, stmt_adds s a b p.0 p.1, body_adds body a p.0.before q.0 q.1, behind_tree (p.0.tree ∷ q.0.tree) q.0.before r q.2)

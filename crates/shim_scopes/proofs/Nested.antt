@@ -13,48 +13,48 @@ use Rattle.shim_scopes.specs.declared.tree.RWhat.TheVariants as rs
 use Rattle.shim_scopes.specs.declared.fault.ScopeFault.{ScopeFault}
 use Rattle.shim_scopes.specs.declared.fault.ScopeFault.TheVariants.{Refused, NoMemory}
 use Rattle.shim_scopes.specs.declared.scope.Handled.{Handled}
-use Rattle.shim_scopes.specs.declared.scope.Local.{Local}
+use Rattle.shim_scopes.specs.declared.scope.LocalDeclaration.{LocalDeclaration}
 use Rattle.shim_scopes.specs.declared.scope.Scope.{Scope}
 use Rattle.shim_syntax.specs.Names.{Texts}
 use Rattle.shim_scopes.specs.Refusals.{Refusal, and_then}
 use Rattle.shim_scopes.specs.Binding.{placed_option}
-use Rattle.shim_scopes.specs.Statements.{Whole, Around, Before, BoundTo, Meant, Bind, visible, within, opened, closed, bind_block, bind_parts, bind_first_test, bind_for, bind_handler, bind_try, caught, tried, variable_slot, variable_declared}
-use Rattle.shim_scopes.specs.Bodies.{WhatMeans, StmtMeans, BranchMeans, BranchWhatMeans, branch_what_step, what_step, branch_step, stmt_step, bind_stmts, declared_first}
-use Rattle.shim_scopes.specs.State.{Answers, Kept, around_of, before_of, IsBegun, IsTried}
+use Rattle.shim_scopes.specs.Statements.{Whole, Around, Before, BoundTo, Meant, Bind, visible, inside_block, opened, after_block, bind_block, bind_parts, bind_first_test, bind_for, bind_handler, bind_try, with_handled, tried, variable_slot, variable_declared}
+use Rattle.shim_scopes.specs.Bodies.{WhatMeans, StmtMeans, BranchMeans, BranchWhatMeans, bind_branch_what_step, bind_what_step, bind_branch_step, bind_stmt_step, bind_stmts, declared_first}
+use Rattle.shim_scopes.specs.State.{GivesBound, Kept, around_of, before_of, IsBegun, IsTried}
 use Rattle.shim_scopes.proofs.Seams.{seam}
 
 abbrev what_means : Whole → What → WhatMeans
-what_means w = fold-What BranchWhatMeans WhatMeans BranchMeans StmtMeans (branch_what_step w) (what_step w) branch_step stmt_step
+what_means w = fold-What BranchWhatMeans WhatMeans BranchMeans StmtMeans (bind_branch_what_step w) (bind_what_step w) bind_branch_step bind_stmt_step
 
 -- a refusal further in is passed on
 pub passed_on : {S T : Type 0} (e : ScopeFault) (r : Result T ScopeFault) (b c : Before) (m : Meant S) (n : Meant T)
-    → IsErr r × IsErrAnd r (λ y. y ≡ e) → ((x : Refusal) → m ≡ Err x → n ≡ Err x) → Answers {T = S} (Err e) b m → Answers r c n
+    → IsErr r × IsErrAnd r (λ y. y ≡ e) → ((x : Refusal) → m ≡ Err x → n ≡ Err x) → GivesBound {T = S} (Err e) b m → GivesBound r c n
 passed_on e (Ok v) b c m n w f h = absurd w.1
-passed_on {T = T} (Refused l k s) (Err y) b c m n w f h = subst (λ u. Answers {T = T} (Err u) c n) (sym w.1) (f _ h)
-passed_on {T = T} NoMemory (Err y) b c m n w f h = subst (λ u. Answers {T = T} (Err u) c n) (sym w.1) tt
+passed_on {T = T} (Refused l k s) (Err y) b c m n w f h = subst (λ u. GivesBound {T = T} (Err u) c n) (sym w.1) (f _ h)
+passed_on {T = T} NoMemory (Err y) b c m n w f h = subst (λ u. GivesBound {T = T} (Err u) c n) (sym w.1) tt
 
 pub for_means : (w : Whole) (first : List Stmt) (test : Option Expr) (step body : List Stmt) (n : ℕ) (a : Around) (b : Before)
     → (what_means w (st.For first test step body)).bind n a b ≡ bind_for (declared_first w first) test (bind_stmts w first) (bind_stmts w step) (bind_stmts w body) n a b
 unfolding roll-What denote.Hole.Carrier.roll
 for_means w first test step body n a b =
-    ap (λ (m : WhatMeans). m.bind n a b) (fold-roll-What BranchWhatMeans WhatMeans BranchMeans StmtMeans (branch_what_step w) (what_step w) branch_step stmt_step (What-F.For first test step body))
+    ap (λ (m : WhatMeans). m.bind n a b) (fold-roll-What BranchWhatMeans WhatMeans BranchMeans StmtMeans (bind_branch_what_step w) (bind_what_step w) bind_branch_step bind_stmt_step (What-F.For first test step body))
 
 pub try_means : (w : Whole) (body : List Stmt) (x : List ℕ) (y : Option (List ℕ)) (handler : List Stmt) (n : ℕ) (a : Around) (b : Before)
     → (what_means w (st.Try body x y handler)).bind n a b ≡ bind_try w x y (bind_stmts w body) (bind_stmts w handler) a b
 unfolding roll-What denote.Hole.Carrier.roll
 try_means w body x y handler n a b =
-    ap (λ (m : WhatMeans). m.bind n a b) (fold-roll-What BranchWhatMeans WhatMeans BranchMeans StmtMeans (branch_what_step w) (what_step w) branch_step stmt_step (What-F.Try body x y handler))
+    ap (λ (m : WhatMeans). m.bind n a b) (fold-roll-What BranchWhatMeans WhatMeans BranchMeans StmtMeans (bind_branch_what_step w) (bind_what_step w) bind_branch_step bind_stmt_step (What-F.Try body x y handler))
 
 -- the place inside a block, as the scope says it
-around_inside : (start : ℕ) (s : Scope) → around_of (length s.visible) s ≡ within (around_of start s) (before_of start s)
+around_inside : (start : ℕ) (s : Scope) → around_of (length s.visible) s ≡ inside_block (around_of start s) (before_of start s)
 around_inside start s =
     let all : take (length s.visible) s.visible ≡ s.visible = grind (arith, common_steps) in
-    ap (λ (xs : List Local). record { outer = xs; handled = s.handled; throws = s.throws }) (all ∙ sym (seam start s.visible))
+    ap (λ (xs : List LocalDeclaration). record { outer = xs; handled = s.handled; throws = s.throws }) (all ∙ sym (seam start s.visible))
 
 before_inside : (start : ℕ) (s : Scope) → before_of (length s.visible) s ≡ opened (before_of start s)
 before_inside start s =
     let none : drop (length s.visible) s.visible ≡ [] = grind (arith, common_steps) in
-    ap (λ (xs : List Local). record { own = xs; slots = s.slots; slot_names = s.slot_names; tries = s.tries }) none
+    ap (λ (xs : List LocalDeclaration). record { own = xs; slots = s.slots; slot_names = s.slot_names; tries = s.tries }) none
 
 pub around_kept : {n : ℕ} {s t : Scope} → Kept n s t → around_of n t ≡ around_of n s
 around_kept k = rw (k.outer, k.handled, k.throws) refl
@@ -75,20 +75,20 @@ parts_done : (test : Option Expr) (f g h : Bind (List RStmt)) (a : Around) (b : 
     → bind_parts test f g h a b ≡ Ok (record { tree = rs.For r.tree (placed_option (visible a r.before) test) s.tree t.tree; before = t.before })
 parts_done test f g h a b r s t p q u = rw (p, q, u) refl
 
-for_fails : (declares : ℕ → List Local) (test : Option Expr) (f g h : Bind (List RStmt)) (n : ℕ) (a : Around) (b : Before) (x : Refusal)
-    → bind_first_test declares test n a b ≡ Ok tt → bind_parts test f g h (within a b) (opened b) ≡ Err x → bind_for declares test f g h n a b ≡ Err x
+for_fails : (declares : ℕ → List LocalDeclaration) (test : Option Expr) (f g h : Bind (List RStmt)) (n : ℕ) (a : Around) (b : Before) (x : Refusal)
+    → bind_first_test declares test n a b ≡ Ok tt → bind_parts test f g h (inside_block a b) (opened b) ≡ Err x → bind_for declares test f g h n a b ≡ Err x
 for_fails declares test f g h n a b x p q =
     ap (λ z. and_then z (λ (t : Unit {0}). bind_block (bind_parts test f g h) a b)) p
-    ∙ ap (λ z. and_then z (λ (r : BoundTo RWhat). Ok (record { tree = r.tree; before = closed b r.before }))) q
+    ∙ ap (λ z. and_then z (λ (r : BoundTo RWhat). Ok (record { tree = r.tree; before = after_block b r.before }))) q
 
-for_done : (declares : ℕ → List Local) (test : Option Expr) (f g h : Bind (List RStmt)) (n : ℕ) (a : Around) (b : Before) (r : BoundTo RWhat)
-    → bind_first_test declares test n a b ≡ Ok tt → bind_parts test f g h (within a b) (opened b) ≡ Ok r
-    → bind_for declares test f g h n a b ≡ Ok (record { tree = r.tree; before = closed b r.before })
+for_done : (declares : ℕ → List LocalDeclaration) (test : Option Expr) (f g h : Bind (List RStmt)) (n : ℕ) (a : Around) (b : Before) (r : BoundTo RWhat)
+    → bind_first_test declares test n a b ≡ Ok tt → bind_parts test f g h (inside_block a b) (opened b) ≡ Ok r
+    → bind_for declares test f g h n a b ≡ Ok (record { tree = r.tree; before = after_block b r.before })
 for_done declares test f g h n a b r p q =
     ap (λ z. and_then z (λ (t : Unit {0}). bind_block (bind_parts test f g h) a b)) p
-    ∙ ap (λ z. and_then z (λ (r : BoundTo RWhat). Ok (record { tree = r.tree; before = closed b r.before }))) q
+    ∙ ap (λ z. and_then z (λ (r : BoundTo RWhat). Ok (record { tree = r.tree; before = after_block b r.before }))) q
 
-inside : (start n : ℕ) (s : Scope) → n ≡ length s.visible → around_of n s ≡ within (around_of start s) (before_of start s)
+inside : (start n : ℕ) (s : Scope) → n ≡ length s.visible → around_of n s ≡ inside_block (around_of start s) (before_of start s)
 inside start n s e = ap (λ i. around_of i s) e ∙ around_inside start s
 
 begins : (start n : ℕ) (s : Scope) → n ≡ length s.visible → before_of n s ≡ opened (before_of start s)
@@ -113,7 +113,7 @@ pub for_at_first : (w : Whole) (start n line : ℕ) (old s : Scope) (what : What
     → bind_stmts w first (around_of n s) (before_of n s) ≡ Err x
     → (what_means w what).bind line (around_of start old) (before_of start old) ≡ Err x
 for_at_first w start n line old s what first test step body x is same len passed p =
-    let a : Around = within (around_of start s) (before_of start s) in
+    let a : Around = inside_block (around_of start s) (before_of start s) in
     let b : Before = opened (before_of start s) in
     let p' : bind_stmts w first a b ≡ Err x =
     subst (λ v. bind_stmts w first v b ≡ Err x) (inside start n s len)
@@ -134,7 +134,7 @@ pub for_at_step : (w : Whole) (start n line : ℕ) (old s one : Scope) (what : W
     → bind_stmts w step (around_of n one) (before_of n one) ≡ Err x
     → (what_means w what).bind line (around_of start old) (before_of start old) ≡ Err x
 for_at_step w start n line old s one what first test step body f x is same len passed p k q =
-    let a : Around = within (around_of start s) (before_of start s) in
+    let a : Around = inside_block (around_of start s) (before_of start s) in
     let b : Before = opened (before_of start s) in
     let p' : bind_stmts w first a b ≡ Ok (record { tree = f; before = before_of n one }) =
     subst (λ v. bind_stmts w first v b ≡ Ok (record { tree = f; before = before_of n one })) (inside start n s len)
@@ -157,7 +157,7 @@ pub for_at_body : (w : Whole) (start n line : ℕ) (old s one two : Scope) (what
     → bind_block (bind_stmts w body) (around_of n two) (before_of n two) ≡ Err x
     → (what_means w what).bind line (around_of start old) (before_of start old) ≡ Err x
 for_at_body w start n line old s one two what first test step body f g x is same len passed p k q l r =
-    let a : Around = within (around_of start s) (before_of start s) in
+    let a : Around = inside_block (around_of start s) (before_of start s) in
     let b : Before = opened (before_of start s) in
     let in_it : around_of n s ≡ a = inside start n s len in
     let p' : bind_stmts w first a b ≡ Ok (record { tree = f; before = before_of n one }) =
@@ -176,7 +176,7 @@ for_at_body w start n line old s one two what first test step body f g x is same
     (parts_at_body test (bind_stmts w first) (bind_stmts w step) (bind_stmts w body) a b (record { tree = f; before = before_of n one }) (record { tree = g; before = before_of n two }) x p' q' r'))
 
 -- and one that was taken whole, with the scope as it was left
-pub for_whole : (w : Whole) (start n line : ℕ) (old s one two three : Scope) (what : What) (first : List Stmt) (test : Option Expr) (step body : List Stmt) (f g h : List RStmt) (made : Option UExpr) (left : List Local)
+pub for_whole : (w : Whole) (start n line : ℕ) (old s one two three : Scope) (what : What) (first : List Stmt) (test : Option Expr) (step body : List Stmt) (f g h : List RStmt) (made : Option UExpr) (left : List LocalDeclaration)
     → what ≡ st.For first test step body → s ≡ old → n ≡ length s.visible
     → bind_first_test (declared_first w first) test line (around_of start old) (before_of start old) ≡ Ok tt
     → bind_stmts w first (around_of n s) (before_of n s) ≡ Ok (record { tree = f; before = before_of n one }) → Kept n s one
@@ -187,7 +187,7 @@ pub for_whole : (w : Whole) (start n line : ℕ) (old s one two three : Scope) (
     → (what_means w what).bind line (around_of start old) (before_of start old)
     ≡ Ok (record { tree = rs.For f made g h; before = before_of start (record three { visible = left }) })
 for_whole w start n line old s one two three what first test step body f g h made left is same len passed p k placed q l r m cut =
-    let a : Around = within (around_of start s) (before_of start s) in
+    let a : Around = inside_block (around_of start s) (before_of start s) in
     let b : Before = opened (before_of start s) in
     let in_it : around_of n s ≡ a = inside start n s len in
     let p' : bind_stmts w first a b ≡ Ok (record { tree = f; before = before_of n one }) =
@@ -207,12 +207,12 @@ for_whole w start n line old s one two three what first test step body f g h mad
     (for_means w first test step body line (around_of start s) (before_of start s)
     ∙ for_done (declared_first w first) test (bind_stmts w first) (bind_stmts w step) (bind_stmts w body) line (around_of start s) (before_of start s) _ passed'
     (parts_done test (bind_stmts w first) (bind_stmts w step) (bind_stmts w body) a b (record { tree = f; before = before_of n one }) (record { tree = g; before = before_of n two }) (record { tree = h; before = before_of n three }) p' q' r')
-    ∙ ap (λ (v : Option UExpr). Ok (record { tree = rs.For f v g h; before = closed (before_of start s) (before_of n three) })) (ap (λ (xs : List Local). placed_option xs test) seen ∙ sym placed)
-    ∙ ap (λ (xs : List Local). Ok (record { tree = rs.For f made g h; before = record { own = drop start xs; slots = three.slots; slot_names = three.slot_names; tries = three.tries } })) (sym lefts))
+    ∙ ap (λ (v : Option UExpr). Ok (record { tree = rs.For f v g h; before = after_block (before_of start s) (before_of n three) })) (ap (λ (xs : List LocalDeclaration). placed_option xs test) seen ∙ sym placed)
+    ∙ ap (λ (xs : List LocalDeclaration). Ok (record { tree = rs.For f made g h; before = record { own = drop start xs; slots = three.slots; slot_names = three.slot_names; tries = three.tries } })) (sym lefts))
 
 -- what is around the first block of a `try`, and around the second
 
-try_around : (start : ℕ) (w : Whole) (x : List ℕ) (s one : Scope) (made : ℕ) → IsTried w.names x s made one → around_of start one ≡ caught x (around_of start s) (before_of start s)
+try_around : (start : ℕ) (w : Whole) (x : List ℕ) (s one : Scope) (made : ℕ) → IsTried w.names x s made one → around_of start one ≡ with_handled x (around_of start s) (before_of start s)
 try_around start w x s one made t = ap (λ (v : Scope). around_of start v) t.after
 
 try_before : (start : ℕ) (w : Whole) (x : List ℕ) (s one : Scope) (made : ℕ) → IsTried w.names x s made one → before_of start one ≡ tried w x (before_of start s)
@@ -231,7 +231,7 @@ try_behind start n names x s one two three made len t k cut =
 -- the place inside a handler, behind its variable
 in_handler : (w : Whole) (start n : ℕ) (s t : Scope) (y : Option (List ℕ)) (slot : Option ℕ) (f : Bodies) (m : Meant (List RStmt))
     → n ≡ length s.visible → IsBegun w.names y (before_of n s) slot (before_of n t) → Kept n s t → f (around_of n t) (before_of n t) ≡ m
-    → bind_handler w y f (within (around_of start s) (before_of start s)) (opened (before_of start s)) ≡ m
+    → bind_handler w y f (inside_block (around_of start s) (before_of start s)) (opened (before_of start s)) ≡ m
 in_handler w start n s t y slot f m len begun k p =
     let before : before_of n t ≡ variable_declared w.names y (opened (before_of start s)) = begun.after ∙ ap (λ v. variable_declared w.names y v) (begins start n s len) in
     subst (λ v. f v (variable_declared w.names y (opened (before_of start s))) ≡ m) (around_kept k ∙ inside start n s len) (subst (λ v. f (around_of n t) v ≡ m) before p)
@@ -241,18 +241,18 @@ same_slot : (y : Option (List ℕ)) (b c : Before) → b.slots ≡ c.slots → v
 same_slot None b c e = refl
 same_slot (Some y) b c e = ap (λ (xs : List Sort). Some (length xs)) e
 
-block_fails : (f : Bodies) (a : Around) (b : Before) (e : Refusal) → f (within a b) (opened b) ≡ Err e → bind_block f a b ≡ Err e
-block_fails f a b e p = ap (λ z. and_then z (λ (r : BoundTo (List RStmt)). Ok (record { tree = r.tree; before = closed b r.before }))) p
+block_fails : (f : Bodies) (a : Around) (b : Before) (e : Refusal) → f (inside_block a b) (opened b) ≡ Err e → bind_block f a b ≡ Err e
+block_fails f a b e p = ap (λ z. and_then z (λ (r : BoundTo (List RStmt)). Ok (record { tree = r.tree; before = after_block b r.before }))) p
 
-block_done : (f : Bodies) (a : Around) (b : Before) (r : BoundTo (List RStmt)) → f (within a b) (opened b) ≡ Ok r → bind_block f a b ≡ Ok (record { tree = r.tree; before = closed b r.before })
-block_done f a b r p = ap (λ z. and_then z (λ (r : BoundTo (List RStmt)). Ok (record { tree = r.tree; before = closed b r.before }))) p
+block_done : (f : Bodies) (a : Around) (b : Before) (r : BoundTo (List RStmt)) → f (inside_block a b) (opened b) ≡ Ok r → bind_block f a b ≡ Ok (record { tree = r.tree; before = after_block b r.before })
+block_done f a b r p = ap (λ z. and_then z (λ (r : BoundTo (List RStmt)). Ok (record { tree = r.tree; before = after_block b r.before }))) p
 
 try_at_handler : (w : Whole) (x : List ℕ) (y : Option (List ℕ)) (f g : Bodies) (a : Around) (b : Before) (r : BoundTo (List RStmt)) (e : Refusal)
-    → bind_block f (caught x a b) (tried w x b) ≡ Ok r → bind_block (bind_handler w y g) a r.before ≡ Err e → bind_try w x y f g a b ≡ Err e
+    → bind_block f (with_handled x a b) (tried w x b) ≡ Ok r → bind_block (bind_handler w y g) a r.before ≡ Err e → bind_try w x y f g a b ≡ Err e
 try_at_handler w x y f g a b r e p q = rw (p, q) refl
 
 try_done : (w : Whole) (x : List ℕ) (y : Option (List ℕ)) (f g : Bodies) (a : Around) (b : Before) (r s : BoundTo (List RStmt))
-    → bind_block f (caught x a b) (tried w x b) ≡ Ok r → bind_block (bind_handler w y g) a r.before ≡ Ok s
+    → bind_block f (with_handled x a b) (tried w x b) ≡ Ok r → bind_block (bind_handler w y g) a r.before ≡ Ok s
     → bind_try w x y f g a b ≡ Ok (record { tree = rs.Try r.tree (a.throws + length b.tries) (variable_slot y r.before) s.tree; before = s.before })
 try_done w x y f g a b r s p q = rw (p, q) refl
 
@@ -268,7 +268,7 @@ pub try_refused : (w : Whole) (start n inner line : ℕ) (s one two three four :
 try_refused w start n inner line s one two three four what body x y handler made slot f e is len t p k cut long begun l q =
     let a : Around = around_of start s in
     let b : Before = before_of start s in
-    let p' : bind_block (bind_stmts w body) (caught x a b) (tried w x b) ≡ Ok (record { tree = f; before = before_of start two }) =
+    let p' : bind_block (bind_stmts w body) (with_handled x a b) (tried w x b) ≡ Ok (record { tree = f; before = before_of start two }) =
     subst (λ v. bind_block (bind_stmts w body) v (tried w x b) ≡ Ok (record { tree = f; before = before_of start two })) (try_around start w x s one made t)
     (subst (λ v. bind_block (bind_stmts w body) (around_of start one) v ≡ Ok (record { tree = f; before = before_of start two })) (try_before start w x s one made t) p) in
     let r : bind_block (bind_handler w y (bind_stmts w handler)) (around_of start three) (before_of start three) ≡ Err e =
@@ -282,7 +282,7 @@ try_refused w start n inner line s one two three four what body x y handler made
 
 -- and one that was taken whole, with the scope as it was left
 pub try_whole : (w : Whole) (start n inner line : ℕ) (s one two three four five : Scope) (what : What) (body : List Stmt) (x : List ℕ) (y : Option (List ℕ)) (handler : List Stmt) (made : ℕ) (slot : Option ℕ)
-    (f g : List RStmt) (left : List Local)
+    (f g : List RStmt) (left : List LocalDeclaration)
     → what ≡ st.Try body x y handler → n ≡ length s.handled → IsTried w.names x s made one
     → bind_block (bind_stmts w body) (around_of start one) (before_of start one) ≡ Ok (record { tree = f; before = before_of start two }) → Kept start one two
     → three ≡ record two { handled = take n two.handled }
@@ -293,12 +293,12 @@ pub try_whole : (w : Whole) (start n inner line : ℕ) (s one two three four fiv
 try_whole w start n inner line s one two three four five what body x y handler made slot f g left is len t p k cut long begun l q m shut =
     let a : Around = around_of start s in
     let b : Before = before_of start s in
-    let p' : bind_block (bind_stmts w body) (caught x a b) (tried w x b) ≡ Ok (record { tree = f; before = before_of start two }) =
+    let p' : bind_block (bind_stmts w body) (with_handled x a b) (tried w x b) ≡ Ok (record { tree = f; before = before_of start two }) =
     subst (λ v. bind_block (bind_stmts w body) v (tried w x b) ≡ Ok (record { tree = f; before = before_of start two })) (try_around start w x s one made t)
     (subst (λ v. bind_block (bind_stmts w body) (around_of start one) v ≡ Ok (record { tree = f; before = before_of start two })) (try_before start w x s one made t) p) in
     let lefts : left ≡ three.visible = shut ∙ kept_cut long (kept_both l m) in
-    let after : closed (before_of start three) (before_of inner five) ≡ before_of start (record five { visible = left }) =
-    ap (λ (xs : List Local). record { own = drop start xs; slots = five.slots; slot_names = five.slot_names; tries = five.tries }) (sym lefts) in
+    let after : after_block (before_of start three) (before_of inner five) ≡ before_of start (record five { visible = left }) =
+    ap (λ (xs : List LocalDeclaration). record { own = drop start xs; slots = five.slots; slot_names = five.slot_names; tries = five.tries }) (sym lefts) in
     let r : bind_block (bind_handler w y (bind_stmts w handler)) (around_of start three) (before_of start three) ≡ Ok (record { tree = g; before = before_of start (record five { visible = left }) }) =
     block_done (bind_handler w y (bind_stmts w handler)) (around_of start three) (before_of start three) (record { tree = g; before = before_of inner five })
     (in_handler w start inner three four y slot (bind_stmts w handler) (Ok (record { tree = g; before = before_of inner five })) long begun l q)

@@ -14,7 +14,7 @@ use Rattle.shim_scopes.specs.declared.scope.Handled.{Handled}
 use Rattle.shim_scopes.specs.declared.scope.Scope.{Scope}
 use Rattle.shim_scopes.specs.declared.tree.RStmt.{RStmt}
 use Rattle.shim_scopes.specs.declared.tree.RBranch.{RBranch}
-use Rattle.shim_syntax.specs.Names.{Texts, number_of}
+use Rattle.shim_syntax.specs.Names.{Texts, name_index}
 use Rattle.shim_syntax.specs.Sizes.{what_size, stmt_size, stmts_size, branch_size, branches_size, variable_size, function_size, functions_size}
 use Rattle.shim_scopes.specs.Statements.{Whole, Before, bind_block}
 use Rattle.shim_scopes.specs.Bodies.{bind_stmt, bind_stmts, bind_branch}
@@ -113,8 +113,8 @@ unfolding HasRoom
 behind_try names x s t made n tried r =
     let throws : t.throws ≡ s.throws = ap (λ (v : Scope). v.throws) tried.after in
     let slots : length t.slots ≡ length s.slots = ap (λ (v : Scope). length v.slots) tried.after in
-    let tries : length t.tries ≡ length (s.tries ++ number_of names x ∷ []) = ap (λ (v : Scope). length v.tries) tried.after in
-    omega (arith, throws, slots, tries, length-append s.tries (number_of names x ∷ []), r)
+    let tries : length t.tries ≡ length (s.tries ++ name_index names x ∷ []) = ap (λ (v : Scope). length v.tries) tried.after in
+    omega (arith, throws, slots, tries, length-append s.tries (name_index names x ∷ []), r)
 
 -- and its handler's variable one slot
 pub behind_variable : (names : Texts) (y : Option (List ℕ)) (start : ℕ) (s t : Scope) (made : Option ℕ) (n : ℕ) → IsBegun names y (before_of start s) made (before_of start t) → Kept start s t

@@ -8,12 +8,12 @@ use Rattle.shim_syntax.specs.declared.tree.Sort.TheVariants.{Value, Input, Outpu
 use Rattle.shim_syntax.specs.declared.tree.Expr.{Expr, fold-Expr, Expr-F}
 use Rattle.shim_scopes.specs.declared.tree.UExpr.{UExpr, Number, Var, Unary, Binary}
 use Rattle.shim_scopes.specs.declared.scope.Bound.{Bound}
-use Rattle.shim_scopes.specs.declared.scope.Local.{Local}
+use Rattle.shim_scopes.specs.declared.scope.LocalDeclaration.{LocalDeclaration}
 use Rattle.shim_scopes.specs.declared.scope.Handled.{Handled}
 
 -- the innermost of the declarations that enclose a place, given in textual order: the last that has the name
-abbrev pub binding_of : List ℕ → List Local → Option Bound
-binding_of x around = option_map (λ (l : Local). l.bound) (find (λ (l : Local). bytes_eq l.name x) (reverse around))
+abbrev pub binding_of : List ℕ → List LocalDeclaration → Option Bound
+binding_of x around = option_map (λ (l : LocalDeclaration). l.bound) (find (λ (l : LocalDeclaration). bytes_eq l.name x) (reverse around))
 
 -- the number of the innermost of the exceptions in force at a place, given in textual order: the last that has the name
 abbrev pub exception_of : List ℕ → List Handled → Option ℕ
@@ -24,17 +24,17 @@ unless_bound x None = Some x
 unless_bound x (Some b) = None
 
 -- the name, where no declaration of it is around
-abbrev pub unknown : List Local → List ℕ → Option (List ℕ)
+abbrev pub unknown : List LocalDeclaration → List ℕ → Option (List ℕ)
 unknown around x = unless_bound x (binding_of x around)
 
-abbrev pub unknown_step : List Local → Expr-F (Option (List ℕ)) → Option (List ℕ)
+abbrev pub unknown_step : List LocalDeclaration → Expr-F (Option (List ℕ)) → Option (List ℕ)
 unknown_step around (Expr-F.Number n) = None
 unknown_step around (Expr-F.Var x) = unknown around x
 unknown_step around (Expr-F.Unary op a) = a
 unknown_step around (Expr-F.Binary op a b) = option_or a b
 
 -- the leftmost name of an expression with no declaration around it
-unfoldable pub unknown_in : List Local → Expr → Option (List ℕ)
+unfoldable pub unknown_in : List LocalDeclaration → Expr → Option (List ℕ)
 unknown_in around = fold-Expr (Option (List ℕ)) (unknown_step around)
 
 -- the name, where it is bound to another thing than is wanted there: a number, the stream that comes in, the one that goes out
@@ -57,23 +57,23 @@ abbrev pub if_bound : (List ℕ → Sort → Option (List ℕ)) → List ℕ →
 if_bound f x None = None
 if_bound f x (Some b) = f x b.sort
 
-abbrev pub no_number : List Local → List ℕ → Option (List ℕ)
+abbrev pub no_number : List LocalDeclaration → List ℕ → Option (List ℕ)
 no_number around x = if_bound if_stream x (binding_of x around)
 
-abbrev pub no_input : List Local → List ℕ → Option (List ℕ)
+abbrev pub no_input : List LocalDeclaration → List ℕ → Option (List ℕ)
 no_input around x = if_bound unless_input x (binding_of x around)
 
-abbrev pub no_output : List Local → List ℕ → Option (List ℕ)
+abbrev pub no_output : List LocalDeclaration → List ℕ → Option (List ℕ)
 no_output around x = if_bound unless_output x (binding_of x around)
 
-abbrev pub stream_step : List Local → Expr-F (Option (List ℕ)) → Option (List ℕ)
+abbrev pub stream_step : List LocalDeclaration → Expr-F (Option (List ℕ)) → Option (List ℕ)
 stream_step around (Expr-F.Number n) = None
 stream_step around (Expr-F.Var x) = no_number around x
 stream_step around (Expr-F.Unary op a) = a
 stream_step around (Expr-F.Binary op a b) = option_or a b
 
 -- the leftmost name of an expression that is a stream
-unfoldable pub stream_in : List Local → Expr → Option (List ℕ)
+unfoldable pub stream_in : List LocalDeclaration → Expr → Option (List ℕ)
 stream_in around = fold-Expr (Option (List ℕ)) (stream_step around)
 
 abbrev pub bare_step : Expr-F (Option (List ℕ)) → Option (List ℕ)
@@ -88,44 +88,44 @@ abbrev pub slot_at : Option Bound → ℕ
 slot_at None = 0
 slot_at (Some b) = b.slot
 
-abbrev pub slot_of : List Local → List ℕ → ℕ
+abbrev pub slot_of : List LocalDeclaration → List ℕ → ℕ
 slot_of around x = slot_at (binding_of x around)
 
-abbrev pub placed_step : List Local → Expr-F UExpr → UExpr
+abbrev pub placed_step : List LocalDeclaration → Expr-F UExpr → UExpr
 placed_step around (Expr-F.Number n) = Number n
 placed_step around (Expr-F.Var x) = Var (slot_of around x)
 placed_step around (Expr-F.Unary op a) = Unary op a
 placed_step around (Expr-F.Binary op a b) = Binary op a b
 
 -- an expression with its variables by their slots
-unfoldable pub placed : List Local → Expr → UExpr
+unfoldable pub placed : List LocalDeclaration → Expr → UExpr
 placed around = fold-Expr UExpr (placed_step around)
 
-abbrev pub unknown_in_all : List Local → List Expr → Option (List ℕ)
+abbrev pub unknown_in_all : List LocalDeclaration → List Expr → Option (List ℕ)
 unknown_in_all around [] = None
 unknown_in_all around (e ∷ es) = option_or (unknown_in around e) (unknown_in_all around es)
 
-abbrev pub placed_all : List Local → List Expr → List UExpr
+abbrev pub placed_all : List LocalDeclaration → List Expr → List UExpr
 placed_all around es = map (placed around) es
 
-abbrev pub unknown_in_option : List Local → Option Expr → Option (List ℕ)
+abbrev pub unknown_in_option : List LocalDeclaration → Option Expr → Option (List ℕ)
 unknown_in_option around None = None
 unknown_in_option around (Some e) = unknown_in around e
 
-abbrev pub stream_in_option : List Local → Option Expr → Option (List ℕ)
+abbrev pub stream_in_option : List LocalDeclaration → Option Expr → Option (List ℕ)
 stream_in_option around None = None
 stream_in_option around (Some e) = stream_in around e
 
-abbrev pub placed_option : List Local → Option Expr → Option UExpr
+abbrev pub placed_option : List LocalDeclaration → Option Expr → Option UExpr
 placed_option around None = None
 placed_option around (Some e) = Some (placed around e)
 
-abbrev pub number_at : Option ℕ → ℕ
-number_at None = 0
-number_at (Some n) = n
+abbrev pub number_or_zero_of : Option ℕ → ℕ
+number_or_zero_of None = 0
+number_or_zero_of (Some n) = n
 
 abbrev pub exception_number : List Handled → List ℕ → ℕ
-exception_number around x = number_at (exception_of x around)
+exception_number around x = number_or_zero_of (exception_of x around)
 
 abbrev pub unless_handled : List ℕ → Option ℕ → Option (List ℕ)
 unless_handled x None = Some x

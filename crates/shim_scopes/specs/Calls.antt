@@ -14,7 +14,7 @@ use Rattle.shim_syntax.specs.declared.tree.Function.{Function}
 use Rattle.shim_scopes.specs.declared.tree.RCall.{RCall}
 use Rattle.shim_scopes.specs.declared.fault.ScopeKind.TheVariants.{UnknownName, UnknownFunction, UnknownException, Arity, WrongKind}
 use Rattle.shim_scopes.specs.declared.scope.Bound.{Bound}
-use Rattle.shim_scopes.specs.declared.scope.Local.{Local}
+use Rattle.shim_scopes.specs.declared.scope.LocalDeclaration.{LocalDeclaration}
 use Rattle.shim_scopes.specs.declared.scope.Handled.{Handled}
 use Rattle.shim_syntax.specs.Names.{Texts, position_else}
 use Rattle.shim_scopes.specs.Refusals.{Refusal, and_then, refused_for}
@@ -50,27 +50,27 @@ same_sort Output Output = true
 same_sort _ _ = false
 
 -- a name without a declaration around it is told before
-abbrev pub fits : Sort → Option Bound → Bool
-fits s None = true
-fits s (Some b) = same_sort s b.sort
+abbrev pub sort_fits : Sort → Option Bound → Bool
+sort_fits s None = true
+sort_fits s (Some b) = same_sort s b.sort
 
 abbrev pub if_false : List ℕ → Bool → Option (List ℕ)
 if_false x true = None
 if_false x false = Some x
 
 -- what is given for a reference is a name by itself, and bound to what the parameter takes
-abbrev pub wrong_ref : List Local → Param → Option (List ℕ) → Option (List ℕ)
+abbrev pub wrong_ref : List LocalDeclaration → Param → Option (List ℕ) → Option (List ℕ)
 wrong_ref around p None = Some p.name
-wrong_ref around p (Some x) = if_false x (fits p.sort (binding_of x around))
+wrong_ref around p (Some x) = if_false x (sort_fits p.sort (binding_of x around))
 
-abbrev pub wrong_by : Bool → List Local → Param → Expr → Option (List ℕ)
+abbrev pub wrong_by : Bool → List LocalDeclaration → Param → Expr → Option (List ℕ)
 wrong_by true around p e = wrong_ref around p (bare e)
 wrong_by false around p e = stream_in around e
 
-abbrev pub wrong_arg : List Local → Param → Expr → Option (List ℕ)
+abbrev pub wrong_arg : List LocalDeclaration → Param → Expr → Option (List ℕ)
 wrong_arg around p e = wrong_by p.by_ref around p e
 
-abbrev pub wrong_in_all : List Local → List Param → List Expr → Option (List ℕ)
+abbrev pub wrong_in_all : List LocalDeclaration → List Param → List Expr → Option (List ℕ)
 wrong_in_all around [] es = None
 wrong_in_all around (p ∷ ps) [] = None
 wrong_in_all around (p ∷ ps) (e ∷ es) = option_or (wrong_arg around p e) (wrong_in_all around ps es)

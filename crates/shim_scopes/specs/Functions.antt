@@ -13,9 +13,9 @@ use Rattle.shim_scopes.specs.declared.tree.RFunction.{RFunction}
 use Rattle.shim_scopes.specs.declared.form.Form.{Form}
 use Rattle.shim_scopes.specs.declared.fault.ScopeKind.TheVariants.{Twice, NoMain, MainParameters}
 use Rattle.shim_scopes.specs.declared.scope.Handled.{Handled}
-use Rattle.shim_syntax.specs.Names.{Texts, number_of, param_names, with_functions}
+use Rattle.shim_syntax.specs.Names.{Texts, name_index, param_names, with_functions}
 use Rattle.shim_scopes.specs.Refusals.{Refusal, and_then, refused_for}
-use Rattle.shim_scopes.specs.Statements.{Whole, Before, BoundTo, declared}
+use Rattle.shim_scopes.specs.Statements.{Whole, Before, BoundTo, with_declaration}
 use Rattle.shim_scopes.specs.Calls.{if_false}
 use Rattle.shim_scopes.specs.Bodies.{bind_stmts}
 
@@ -44,14 +44,14 @@ abbrev pub wrong_main : Function → Option (List ℕ)
 wrong_main f = if_false f.name (not (bytes_eq f.name (codes "main")) || suits_main false false f.params)
 
 abbrev pub with_param : Texts → Before → Param → Before
-with_param names b p = declared names p.name p.sort b
+with_param names b p = with_declaration names p.name p.sort b
 
 abbrev pub params_from : Texts → Before → List Param → Before
 params_from names b [] = b
 params_from names b (p ∷ ps) = params_from names (with_param names b p) ps
 
 abbrev pub placed_param : Texts → Param → UParam
-placed_param names p = record { sort = p.sort; by_ref = p.by_ref; name = number_of names p.name }
+placed_param names p = record { sort = p.sort; by_ref = p.by_ref; name = name_index names p.name }
 
 abbrev pub placed_params : Texts → List Param → List UParam
 placed_params names ps = map (placed_param names) ps
@@ -61,7 +61,7 @@ handled_from around [] = around
 handled_from around (x ∷ xs) = handled_from (around ++ record { name = x; number = length around } ∷ []) xs
 
 abbrev pub numbers_of : Texts → Texts → List ℕ
-numbers_of names xs = map (number_of names) xs
+numbers_of names xs = map (name_index names) xs
 
 abbrev pub function_begin : Before
 function_begin = record { own = []; slots = []; slot_names = []; tries = [] }
@@ -69,7 +69,7 @@ function_begin = record { own = []; slots = []; slot_names = []; tries = [] }
 abbrev pub made_function : Whole → Function → BoundTo (List RStmt) → RFunction
 made_function w f r = record {
   line = f.line;
-  name = number_of w.names f.name;
+  name = name_index w.names f.name;
   params = placed_params w.names f.params;
   slots = r.before.slots;
   slot_names = r.before.slot_names;

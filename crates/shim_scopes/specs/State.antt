@@ -11,9 +11,9 @@ use Rattle.shim_scopes.specs.declared.simple.Store.TheVariants as store
 use Rattle.shim_scopes.specs.declared.tree.UExpr.{UExpr}
 use Rattle.shim_scopes.specs.declared.tree.RWhat.{RWhat}
 use Rattle.shim_scopes.specs.declared.tree.RWhat.TheVariants.{Assign, NextAssign}
-use Rattle.shim_syntax.specs.Names.{Texts, number_of}
+use Rattle.shim_syntax.specs.Names.{Texts, name_index}
 use Rattle.shim_scopes.specs.Refusals.{Refusal}
-use Rattle.shim_scopes.specs.Statements.{Whole, Around, Before, Meant, declared, variable_slot, variable_declared}
+use Rattle.shim_scopes.specs.Statements.{Whole, Around, Before, Meant, with_declaration, variable_slot, variable_declared}
 use Rattle.shim_scopes.specs.Functions.{params_from, function_begin, handled_from}
 
 abbrev pub whole : List Function → Texts → Whole
@@ -40,10 +40,10 @@ abbrev pub before_of : ℕ → Scope → Before
 before_of start s = record { own = drop start s.visible; slots = s.slots; slot_names = s.slot_names; tries = s.tries }
 
 -- the answer is the one that is meant, and want of memory may stand in its place
-abbrev pub Answers : {T : Type 0} → Result T ScopeFault → Before → Meant T → Type 0
-Answers (Ok t) now meant = meant ≡ Ok (record { tree = t; before = now })
-Answers (Err (Refused line kind name)) now meant = meant ≡ Err (record { line = line; kind = kind; name = name })
-Answers (Err NoMemory) now meant = Unit {0}
+abbrev pub GivesBound : {T : Type 0} → Result T ScopeFault → Before → Meant T → Type 0
+GivesBound (Ok t) now meant = meant ≡ Ok (record { tree = t; before = now })
+GivesBound (Err (Refused line kind name)) now meant = meant ≡ Err (record { line = line; kind = kind; name = name })
+GivesBound (Err NoMemory) now meant = Unit {0}
 
 -- what encloses the block is as it was
 pub record Kept (start : ℕ) (old now : Scope) : Type 0 where
@@ -53,22 +53,22 @@ pub record Kept (start : ℕ) (old now : Scope) : Type 0 where
   pub throws : now.throws ≡ old.throws
 
 -- the statement that gives a variable a value, of its slot and the expression
-abbrev pub stored : Store → ℕ → UExpr → RWhat
-stored store.Assign = Assign
-stored store.NextAssign = NextAssign
+abbrev pub storing_stmt : Store → ℕ → UExpr → RWhat
+storing_stmt store.Assign = Assign
+storing_stmt store.NextAssign = NextAssign
 
 -- some results before those that are meant
-abbrev pub behind : {T : Type 0} → List T → Meant (List T) → Meant (List T)
-behind done (Ok r) = Ok (record { tree = done ++ r.tree; before = r.before })
-behind done (Err r) = Err r
+abbrev pub with_done : {T : Type 0} → List T → Meant (List T) → Meant (List T)
+with_done done (Ok r) = Ok (record { tree = done ++ r.tree; before = r.before })
+with_done done (Err r) = Err r
 
 abbrev pub after_some : {T : Type 0} → List T → Result (List T) Refusal → Result (List T) Refusal
 after_some done (Ok rs) = Ok (done ++ rs)
 after_some done (Err r) = Err r
 
-abbrev pub IsRefusal : ScopeFault → ℕ → ScopeKind → List ℕ → Type 0
-IsRefusal (Refused l k n) line kind name = (l ≡ line) × ((k ≡ kind) × (n ≡ name))
-IsRefusal NoMemory line kind name = Unit {0}
+abbrev pub RefusesWith : ScopeFault → ℕ → ScopeKind → List ℕ → Type 0
+RefusesWith (Refused l k n) line kind name = (l ≡ line) × ((k ≡ kind) × (n ≡ name))
+RefusesWith NoMemory line kind name = Unit {0}
 
 -- the check of a place passes where there is no name to refuse it for
 abbrev pub Passes : {T : Type 0} → Result T ScopeFault → ℕ → ScopeKind → Option (List ℕ) → Type 0
@@ -76,9 +76,9 @@ Passes (Ok t) line kind name = name ≡ None
 Passes (Err (Refused l k n)) line kind name = (name ≡ Some n) × ((l ≡ line) × (k ≡ kind))
 Passes (Err NoMemory) line kind name = Unit {0}
 
-pub record IsDeclared (names : Texts) (x : List ℕ) (sort : Sort) (old : Before) (made : ℕ) (new : Before) : Type 0 where
+pub record IsDeclaredAs (names : Texts) (x : List ℕ) (sort : Sort) (old : Before) (made : ℕ) (new : Before) : Type 0 where
   pub number : made ≡ length old.slots
-  pub after : new ≡ declared names x sort old
+  pub after : new ≡ with_declaration names x sort old
 
 pub record IsBegun (names : Texts) (y : Option (List ℕ)) (old : Before) (made : Option ℕ) (new : Before) : Type 0 where
   pub slot : made ≡ variable_slot y old
@@ -88,7 +88,7 @@ pub record IsTried (names : Texts) (x : List ℕ) (old : Scope) (made : ℕ) (ne
   pub number : made ≡ old.throws + length old.tries
   pub after : new ≡ record old {
     handled = old.handled ++ record { name = x; number = old.throws + length old.tries } ∷ [];
-    tries = old.tries ++ number_of names x ∷ [];
+    tries = old.tries ++ name_index names x ∷ [];
   }
 
 pub record IsOpened (names : Texts) (f : Function) (s : Scope) : Type 0 where

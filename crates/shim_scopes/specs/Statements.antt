@@ -14,9 +14,9 @@ use Rattle.shim_scopes.specs.declared.tree.RStmt.{RStmt}
 use Rattle.shim_scopes.specs.declared.tree.RWhat.{RWhat}
 use Rattle.shim_scopes.specs.declared.tree.RWhat.TheVariants.{Declare, Assign, Next, NextAssign, AssignNext, Get, Put, If, While, For, Try, Throw}
 use Rattle.shim_scopes.specs.declared.fault.ScopeKind.TheVariants.{UnknownName, UnknownException, Twice, WrongKind}
-use Rattle.shim_scopes.specs.declared.scope.Local.{Local}
+use Rattle.shim_scopes.specs.declared.scope.LocalDeclaration.{LocalDeclaration}
 use Rattle.shim_scopes.specs.declared.scope.Handled.{Handled}
-use Rattle.shim_syntax.specs.Names.{Texts, number_of}
+use Rattle.shim_syntax.specs.Names.{Texts, name_index}
 use Rattle.shim_scopes.specs.Refusals.{Refusal, and_then, refused_for}
 use Rattle.shim_scopes.specs.Binding.{unknown, unknown_in, no_number, no_input, no_output, stream_in, slot_of, placed, unknown_in_option, stream_in_option, placed_option, exception_number, unhandled}
 
@@ -27,13 +27,13 @@ pub record Whole : Type 0 where
 
 -- what encloses a block: the declarations of the blocks around it, in textual order, and the exceptions in force, of which the function's `throws` are the first
 pub record Around : Type 0 where
-  pub outer : List Local
+  pub outer : List LocalDeclaration
   pub handled : List Handled
   pub throws : ℕ
 
 -- what stands before a place: the declarations of its own block, and those and the `try` statements of the function
 pub record Before : Type 0 where
-  pub own : List Local
+  pub own : List LocalDeclaration
   pub slots : List Sort
   pub slot_names : List ℕ
   pub tries : List ℕ
@@ -50,26 +50,26 @@ abbrev pub Bind : Type 0 → Type 0
 Bind T = Around → Before → Meant T
 
 -- all declarations that enclose a place
-abbrev pub visible : Around → Before → List Local
+abbrev pub visible : Around → Before → List LocalDeclaration
 visible a b = a.outer ++ b.own
 
-abbrev pub if_found : List ℕ → Option Local → Option (List ℕ)
+abbrev pub if_found : List ℕ → Option LocalDeclaration → Option (List ℕ)
 if_found x None = None
 if_found x (Some l) = Some x
 
 -- the name, where the block already has a declaration of it
-abbrev pub declared_in : List Local → List ℕ → Option (List ℕ)
-declared_in own x = if_found x (find (λ (l : Local). bytes_eq l.name x) own)
+abbrev pub declared_in : List LocalDeclaration → List ℕ → Option (List ℕ)
+declared_in own x = if_found x (find (λ (l : LocalDeclaration). bytes_eq l.name x) own)
 
 -- a declaration that has the next slot
-abbrev pub local_of : List ℕ → Sort → ℕ → Local
+abbrev pub local_of : List ℕ → Sort → ℕ → LocalDeclaration
 local_of x sort slot = record { name = x; bound = record { slot = slot; sort = sort } }
 
-abbrev pub declared : Texts → List ℕ → Sort → Before → Before
-declared names x sort b = record {
+abbrev pub with_declaration : Texts → List ℕ → Sort → Before → Before
+with_declaration names x sort b = record {
   own = b.own ++ local_of x sort (length b.slots) ∷ [];
   slots = b.slots ++ sort ∷ [];
-  slot_names = b.slot_names ++ number_of names x ∷ [];
+  slot_names = b.slot_names ++ name_index names x ∷ [];
   tries = b.tries;
 }
 
@@ -80,12 +80,12 @@ bind_declare w ty x e line a b =
     refused_for line UnknownName (unknown_in_option (visible a b) e)
     (refused_for line Twice (declared_in b.own x)
     (refused_for line WrongKind (stream_in_option (visible a b) e)
-    (Ok (record { tree = Declare ty (length b.slots) (placed_option (visible a b) e); before = declared w.names x (Value ty) b }))))
+    (Ok (record { tree = Declare ty (length b.slots) (placed_option (visible a b) e); before = with_declaration w.names x (Value ty) b }))))
 
-abbrev pub unknown_in_both : List Local → List ℕ → Expr → Option (List ℕ)
+abbrev pub unknown_in_both : List LocalDeclaration → List ℕ → Expr → Option (List ℕ)
 unknown_in_both around x e = option_or (unknown around x) (unknown_in around e)
 
-abbrev pub unknown_of_two : List Local → List ℕ → List ℕ → Option (List ℕ)
+abbrev pub unknown_of_two : List LocalDeclaration → List ℕ → List ℕ → Option (List ℕ)
 unknown_of_two around x y = option_or (unknown around x) (unknown around y)
 
 abbrev pub bind_store : (ℕ → UExpr → RWhat) → List ℕ → Expr → ℕ → Bind RWhat
@@ -134,18 +134,18 @@ bind_throw x e line a b =
 -- blocks
 
 -- what encloses a block that stands here
-abbrev pub within : Around → Before → Around
-within a b = record a { outer = visible a b }
+abbrev pub inside_block : Around → Before → Around
+inside_block a b = record a { outer = visible a b }
 
 abbrev pub opened : Before → Before
 opened b = record b { own = [] }
 
 -- behind a block the block before it goes on
-abbrev pub closed : Before → Before → Before
-closed b inner = record inner { own = b.own }
+abbrev pub after_block : Before → Before → Before
+after_block b inner = record inner { own = b.own }
 
 abbrev pub bind_block : {T : Type 0} → Bind T → Bind T
-bind_block f a b = and_then (f (within a b) (opened b)) (λ r. Ok (record { tree = r.tree; before = closed b r.before }))
+bind_block f a b = and_then (f (inside_block a b) (opened b)) (λ r. Ok (record { tree = r.tree; before = after_block b r.before }))
 
 abbrev pub on_tree : {S T : Type 0} → (S → T) → Bind S → Bind T
 on_tree g f a b = and_then (f a b) (λ r. Ok (record { tree = g r.tree; before = r.before }))
@@ -171,16 +171,16 @@ bind_while e body line a b =
     and_then (bind_test e line a b) (λ test. on_tree (While test) (bind_block body) a b)
 
 -- a `try` has the number that follows those of the `throws` and of the `try` statements before it
-abbrev pub caught : List ℕ → Around → Before → Around
-caught x a b = record a { handled = a.handled ++ record { name = x; number = a.throws + length b.tries } ∷ [] }
+abbrev pub with_handled : List ℕ → Around → Before → Around
+with_handled x a b = record a { handled = a.handled ++ record { name = x; number = a.throws + length b.tries } ∷ [] }
 
 abbrev pub tried : Whole → List ℕ → Before → Before
-tried w x b = record b { tries = b.tries ++ number_of w.names x ∷ [] }
+tried w x b = record b { tries = b.tries ++ name_index w.names x ∷ [] }
 
 -- the variable of a handler is the first declaration of the handler's block, as an `int32`
 abbrev pub variable_declared : Texts → Option (List ℕ) → Before → Before
 variable_declared names None b = b
-variable_declared names (Some y) b = declared names y (Value Int32) b
+variable_declared names (Some y) b = with_declaration names y (Value Int32) b
 
 abbrev pub bind_handler : Whole → Option (List ℕ) → Bind (List RStmt) → Bind (List RStmt)
 bind_handler w y handler a b = handler a (variable_declared w.names y b)
@@ -193,7 +193,7 @@ variable_slot (Some y) b = Some (length b.slots)
 -- the handler stands outside of the `try`, so its exception isn't in force there
 abbrev pub bind_try : Whole → List ℕ → Option (List ℕ) → Bind (List RStmt) → Bind (List RStmt) → Bind RWhat
 bind_try w x y body handler a b =
-    and_then (bind_block body (caught x a b) (tried w x b)) (λ r.
+    and_then (bind_block body (with_handled x a b) (tried w x b)) (λ r.
     and_then (bind_block (bind_handler w y handler) a r.before) (λ s.
     Ok (record { tree = Try r.tree (a.throws + length b.tries) (variable_slot y r.before) s.tree; before = s.before })))
 
@@ -206,12 +206,12 @@ bind_parts test first step body a b =
     Ok (record { tree = For r.tree (placed_option (visible a r.before) test) s.tree t.tree; before = t.before }))))
 
 -- the test is examined with what the first statement declares, and that alone, in the loop's own block
-abbrev pub bind_first_test : (ℕ → List Local) → Option Expr → ℕ → Around → Before → Result (Unit {0}) Refusal
+abbrev pub bind_first_test : (ℕ → List LocalDeclaration) → Option Expr → ℕ → Around → Before → Result (Unit {0}) Refusal
 bind_first_test declares test line a b =
     refused_for line UnknownName (unknown_in_option (visible a b ++ declares (length b.slots)) test)
     (refused_for line WrongKind (stream_in_option (visible a b ++ declares (length b.slots)) test)
     (Ok tt))
 
-abbrev pub bind_for : (ℕ → List Local) → Option Expr → Bind (List RStmt) → Bind (List RStmt) → Bind (List RStmt) → ℕ → Bind RWhat
+abbrev pub bind_for : (ℕ → List LocalDeclaration) → Option Expr → Bind (List RStmt) → Bind (List RStmt) → Bind (List RStmt) → ℕ → Bind RWhat
 bind_for declares test first step body line a b =
     and_then (bind_first_test declares test line a b) (λ t. bind_block (bind_parts test first step body) a b)

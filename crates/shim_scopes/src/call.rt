@@ -4,7 +4,7 @@ ghost use Rattle.std.specs.Str.{bytes_eq};
 ghost use Rattle.std.specs.Option.{option_copied};
 ghost use Rattle.shim_syntax.specs.declared.tree.Function.{Function};
 ghost use Rattle.shim_scopes.specs.Binding.{exception_number};
-ghost use Rattle.shim_scopes.specs.Calls.{bind_call, bind_known, function_of, unhandled_of_all, wrong_arg, wrong_ref, wrong_in_all, same_type, same_sort, fits, if_false};
+ghost use Rattle.shim_scopes.specs.Calls.{bind_call, bind_known, function_of, unhandled_of_all, wrong_arg, wrong_ref, wrong_in_all, same_type, same_sort, sort_fits, if_false};
 ghost use Rattle.shim_scopes.specs.Refusals.{Gives};
 ghost use Rattle.shim_scopes.specs.State.{IsNumber, Passes, around_of, before_of, whole};
 
@@ -13,7 +13,7 @@ use crate::fault::{ScopeFault, ScopeKind};
 use crate::lookup::{
     find_bare, find_stream, find_unknown_of_all, look_up, look_up_exception, resolve_exprs,
 };
-use crate::scope::{Bound, Handled, Local, Scope};
+use crate::scope::{Bound, Handled, LocalDeclaration, Scope};
 use crate::tree::RCall;
 use crate::word::number;
 use shim_base::{List, Name, NoMemory, Ty};
@@ -81,7 +81,7 @@ fn is_same_sort(a: Sort, b: Sort) -> bool
 
 // Whether what a name is bound to, where it is, is of the sort.
 fn is_fit(sort: Sort, bound: Option<Bound>) -> bool
-    ensures { result ≡ fits sort bound }
+    ensures { result ≡ sort_fits sort bound }
 {
     match bound {
         None => true,
@@ -90,7 +90,7 @@ fn is_fit(sort: Sort, bound: Option<Bound>) -> bool
 }
 
 fn find_wrong_ref<'a>(
-    visible: &[Local],
+    visible: &[LocalDeclaration],
     param: &'a Param,
     arg: Option<&'a Name>,
 ) -> Option<&'a Name>
@@ -106,7 +106,11 @@ fn find_wrong_ref<'a>(
     }
 }
 
-fn find_wrong_arg<'a>(visible: &[Local], param: &'a Param, arg: &'a Expr) -> Option<&'a Name>
+fn find_wrong_arg<'a>(
+    visible: &[LocalDeclaration],
+    param: &'a Param,
+    arg: &'a Expr,
+) -> Option<&'a Name>
     ensures { option_copied result ≡ wrong_arg visible.now param.now arg.now }
 {
     if param.by_ref {
@@ -118,7 +122,7 @@ fn find_wrong_arg<'a>(visible: &[Local], param: &'a Param, arg: &'a Expr) -> Opt
 
 #[tactic(auto, using(crate::proofs::Args::none_left))]
 fn find_wrong_of_all<'a>(
-    visible: &[Local],
+    visible: &[LocalDeclaration],
     params: &'a [Param],
     args: &'a [Expr],
 ) -> Option<&'a Name>

@@ -1,6 +1,6 @@
 // One question about a place: it is refused, or the next is asked.
 ghost use Rattle.std.specs.Option.{option_copied};
-ghost use Rattle.shim_scopes.specs.State.{Passes, IsRefusal};
+ghost use Rattle.shim_scopes.specs.State.{Passes, RefusesWith};
 
 use crate::fault::{ScopeFault, ScopeKind};
 use shim_base::Name;
@@ -9,7 +9,7 @@ use std::alloc::Global;
 
 // The refusal of a place for a name.
 pub fn refuse(alloc: Global, line: u32, kind: ScopeKind, name: &Name) -> ScopeFault
-    ensures { IsRefusal result line kind name.now }
+    ensures { RefusesWith result line kind name.now }
 {
     match copy(alloc, name) {
         Ok(name) => ScopeFault::Refused { line, kind, name },

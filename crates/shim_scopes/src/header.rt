@@ -6,7 +6,7 @@ ghost use Rattle.shim_scopes.specs.Functions.{twice_after, handled_from, numbers
 ghost use Rattle.shim_scopes.specs.State.{IsOpened, IsNumber};
 ghost use Rattle.shim_syntax.specs.Sizes.{function_size};
 
-use crate::scope::{Bound, Handled, Local, Scope};
+use crate::scope::{Bound, Handled, LocalDeclaration, Scope};
 use crate::tree::UParam;
 use crate::word::{find_in, number};
 use shim_base::{List, Name, NoMemory};
@@ -75,7 +75,7 @@ pub fn open_function(
     let mut slots = List::new(alloc);
     let mut slot_names = List::new(alloc);
     for param in function.params.as_slice() {
-        visible.push(Local {
+        visible.push(LocalDeclaration {
             name: copy(alloc, &param.name)?,
             bound: Bound {
                 slot: number(slots.len()),

@@ -3,7 +3,7 @@ ghost use Rattle.std.specs.Prelude.{◌≡◌, IfOk};
 ghost use Rattle.std.specs.Option.{option_copied, option_or};
 ghost use Rattle.shim_scopes.specs.Binding.{binding_of, exception_of, unknown, unknown_in, no_number, no_input, no_output, stream_in, bare, slot_of, placed, unknown_in_all, placed_all, unknown_in_option, stream_in_option, placed_option, exception_number, unhandled};
 
-use crate::scope::{Bound, Handled, Local};
+use crate::scope::{Bound, Handled, LocalDeclaration};
 use crate::tree::UExpr;
 use shim_base::{Boxed, List, Name, NoMemory};
 use shim_syntax::word::is_same;
@@ -11,7 +11,7 @@ use shim_syntax::{Expr, Sort};
 use std::alloc::Global;
 
 // What a name is bound to: the last declaration in scope that has it.
-pub fn look_up(visible: &[Local], name: &Name) -> Option<Bound>
+pub fn look_up(visible: &[LocalDeclaration], name: &Name) -> Option<Bound>
     ensures { result ≡ binding_of name.now visible.now }
 {
     match visible.iter().rev().find(|one| is_same(&one.name, name)) {
@@ -50,7 +50,7 @@ pub fn exception_at(handled: &[Handled], name: &Name) -> u32
 }
 
 // The name, where it has no declaration in scope.
-pub fn find_unknown_name<'a>(visible: &[Local], name: &'a Name) -> Option<&'a Name>
+pub fn find_unknown_name<'a>(visible: &[LocalDeclaration], name: &'a Name) -> Option<&'a Name>
     ensures { option_copied result ≡ unknown visible.now name.now }
 {
     match look_up(visible, name) {
@@ -60,7 +60,7 @@ pub fn find_unknown_name<'a>(visible: &[Local], name: &'a Name) -> Option<&'a Na
 }
 
 // The name, where it is bound to a stream.
-pub fn find_stream_name<'a>(visible: &[Local], name: &'a Name) -> Option<&'a Name>
+pub fn find_stream_name<'a>(visible: &[LocalDeclaration], name: &'a Name) -> Option<&'a Name>
     ensures { option_copied result ≡ no_number visible.now name.now }
 {
     match look_up(visible, name) {
@@ -74,7 +74,7 @@ pub fn find_stream_name<'a>(visible: &[Local], name: &'a Name) -> Option<&'a Nam
 }
 
 // The name, where it is bound to something else than the stream that comes in.
-pub fn find_no_input<'a>(visible: &[Local], name: &'a Name) -> Option<&'a Name>
+pub fn find_no_input<'a>(visible: &[LocalDeclaration], name: &'a Name) -> Option<&'a Name>
     ensures { option_copied result ≡ no_input visible.now name.now }
 {
     match look_up(visible, name) {
@@ -88,7 +88,7 @@ pub fn find_no_input<'a>(visible: &[Local], name: &'a Name) -> Option<&'a Name>
 }
 
 // The name, where it is bound to something else than the stream that goes out.
-pub fn find_no_output<'a>(visible: &[Local], name: &'a Name) -> Option<&'a Name>
+pub fn find_no_output<'a>(visible: &[LocalDeclaration], name: &'a Name) -> Option<&'a Name>
     ensures { option_copied result ≡ no_output visible.now name.now }
 {
     match look_up(visible, name) {
@@ -103,7 +103,7 @@ pub fn find_no_output<'a>(visible: &[Local], name: &'a Name) -> Option<&'a Name>
 
 // The leftmost name of an expression that has no declaration in scope.
 #[tactic(auto, unfolding(crate::specs::Binding::unknown_in))]
-pub fn find_unknown<'a>(visible: &[Local], expr: &'a Expr) -> Option<&'a Name>
+pub fn find_unknown<'a>(visible: &[LocalDeclaration], expr: &'a Expr) -> Option<&'a Name>
     ensures { option_copied result ≡ unknown_in visible.now expr.now }
 {
     match expr {
@@ -119,7 +119,7 @@ pub fn find_unknown<'a>(visible: &[Local], expr: &'a Expr) -> Option<&'a Name>
 
 // The leftmost name of an expression that is a stream.
 #[tactic(auto, unfolding(crate::specs::Binding::stream_in))]
-pub fn find_stream<'a>(visible: &[Local], expr: &'a Expr) -> Option<&'a Name>
+pub fn find_stream<'a>(visible: &[LocalDeclaration], expr: &'a Expr) -> Option<&'a Name>
     ensures { option_copied result ≡ stream_in visible.now expr.now }
 {
     match expr {
@@ -144,7 +144,7 @@ pub fn find_bare(expr: &Expr) -> Option<&Name>
     }
 }
 
-pub fn slot_in(visible: &[Local], name: &Name) -> u32
+pub fn slot_in(visible: &[LocalDeclaration], name: &Name) -> u32
     ensures { result ≡ slot_of visible.now name.now }
 {
     match look_up(visible, name) {
@@ -155,7 +155,11 @@ pub fn slot_in(visible: &[Local], name: &Name) -> u32
 
 // The expression over slots.
 #[tactic(auto, unfolding(crate::specs::Binding::placed))]
-pub fn resolve_expr(alloc: Global, visible: &[Local], expr: &Expr) -> Result<UExpr, NoMemory>
+pub fn resolve_expr(
+    alloc: Global,
+    visible: &[LocalDeclaration],
+    expr: &Expr,
+) -> Result<UExpr, NoMemory>
     ensures { IfOk result (λ made. made ≡ placed visible.now expr.now) }
 {
     match expr {
@@ -174,7 +178,7 @@ pub fn resolve_expr(alloc: Global, visible: &[Local], expr: &Expr) -> Result<UEx
 }
 
 // The leftmost name of some expressions that has no declaration in scope.
-pub fn find_unknown_of_all<'a>(visible: &[Local], exprs: &'a [Expr]) -> Option<&'a Name>
+pub fn find_unknown_of_all<'a>(visible: &[LocalDeclaration], exprs: &'a [Expr]) -> Option<&'a Name>
     ensures { option_copied result ≡ unknown_in_all visible.now exprs.now }
 {
     for expr in exprs {
@@ -188,7 +192,7 @@ pub fn find_unknown_of_all<'a>(visible: &[Local], exprs: &'a [Expr]) -> Option<&
 
 pub fn resolve_exprs(
     alloc: Global,
-    visible: &[Local],
+    visible: &[LocalDeclaration],
     exprs: &[Expr],
 ) -> Result<List<UExpr>, NoMemory>
     ensures { IfOk result (λ made. made ≡ placed_all visible.now exprs.now) }
@@ -200,7 +204,10 @@ pub fn resolve_exprs(
     Ok(made)
 }
 
-pub fn find_unknown_in_option<'a>(visible: &[Local], expr: &'a Option<Expr>) -> Option<&'a Name>
+pub fn find_unknown_in_option<'a>(
+    visible: &[LocalDeclaration],
+    expr: &'a Option<Expr>,
+) -> Option<&'a Name>
     ensures { option_copied result ≡ unknown_in_option visible.now expr.now }
 {
     match expr {
@@ -209,7 +216,10 @@ pub fn find_unknown_in_option<'a>(visible: &[Local], expr: &'a Option<Expr>) -> 
     }
 }
 
-pub fn find_stream_in_option<'a>(visible: &[Local], expr: &'a Option<Expr>) -> Option<&'a Name>
+pub fn find_stream_in_option<'a>(
+    visible: &[LocalDeclaration],
+    expr: &'a Option<Expr>,
+) -> Option<&'a Name>
     ensures { option_copied result ≡ stream_in_option visible.now expr.now }
 {
     match expr {
@@ -220,7 +230,7 @@ pub fn find_stream_in_option<'a>(visible: &[Local], expr: &'a Option<Expr>) -> O
 
 pub fn resolve_option(
     alloc: Global,
-    visible: &[Local],
+    visible: &[LocalDeclaration],
     expr: &Option<Expr>,
 ) -> Result<Option<UExpr>, NoMemory>
     ensures { IfOk result (λ made. made ≡ placed_option visible.now expr.now) }

@@ -14,7 +14,7 @@ pub struct Bound {
 
 // A declaration in scope.
 #[derive(Drop)]
-pub struct Local {
+pub struct LocalDeclaration {
     pub name: Name,
     pub bound: Bound,
 }
@@ -30,7 +30,7 @@ pub struct Handled {
 // the count of the function's own `throws`, and all slots and `try` statements so far.
 #[derive(Drop)]
 pub struct Scope {
-    pub visible: List<Local>,
+    pub visible: List<LocalDeclaration>,
     pub handled: List<Handled>,
     pub throws: u32,
     pub slots: List<Sort>,

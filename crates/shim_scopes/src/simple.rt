@@ -5,7 +5,7 @@ ghost use Rattle.shim_syntax.specs.declared.tree.Sort.TheVariants.{Value};
 ghost use Rattle.shim_syntax.specs.Sizes.{variable_size};
 ghost use Rattle.shim_scopes.specs.Statements.{bind_declare, bind_store, bind_next, bind_assign_next, bind_get, bind_put, bind_throw, bind_test, declared_in};
 ghost use Rattle.shim_scopes.specs.Refusals.{Gives};
-ghost use Rattle.shim_scopes.specs.State.{Answers, HasRoom, IsBegun, IsDeclared, IsNumber, IsTried, Kept, around_of, before_of, stored, whole};
+ghost use Rattle.shim_scopes.specs.State.{GivesBound, HasRoom, IsBegun, IsDeclaredAs, IsNumber, IsTried, Kept, around_of, before_of, storing_stmt, whole};
 
 use crate::check::check;
 use crate::fault::{ScopeFault, ScopeKind};
@@ -14,7 +14,7 @@ use crate::lookup::{
     find_stream_name, find_unhandled, find_unknown, find_unknown_in_option, find_unknown_name,
     first_of, resolve_expr, resolve_option, slot_in,
 };
-use crate::scope::{Bound, Handled, Local, Scope};
+use crate::scope::{Bound, Handled, LocalDeclaration, Scope};
 use crate::tree::{RWhat, UExpr};
 use crate::word::number;
 use shim_base::{List, Name, NoMemory, Ty};
@@ -23,7 +23,7 @@ use shim_syntax::{Expr, Function, NameTable, Sort};
 use std::alloc::Global;
 
 // The name, where one of some declarations has it.
-fn find_declared<'a>(own: &[Local], name: &'a Name) -> Option<&'a Name>
+fn find_declared<'a>(own: &[LocalDeclaration], name: &'a Name) -> Option<&'a Name>
     ensures { option_copied result ≡ declared_in own.now name.now }
 {
     match own.iter().find(|local| is_same(&local.name, name)) {
@@ -41,7 +41,7 @@ pub fn resolve_throw(
     name: &Name,
     expr: &Option<Expr>,
 ) -> Result<RWhat, ScopeFault>
-    ensures { Answers result (before_of start scope.now) (bind_throw name.now expr.now line (around_of start scope.now) (before_of start scope.now)) }
+    ensures { GivesBound result (before_of start scope.now) (bind_throw name.now expr.now line (around_of start scope.now) (before_of start scope.now)) }
 {
     let visible = scope.visible.as_slice();
     let handled = scope.handled.as_slice();
@@ -67,7 +67,7 @@ pub fn resolve_next(
     line: u32,
     name: &Name,
 ) -> Result<RWhat, ScopeFault>
-    ensures { Answers result (before_of start scope.now) (bind_next name.now line (around_of start scope.now) (before_of start scope.now)) }
+    ensures { GivesBound result (before_of start scope.now) (bind_next name.now line (around_of start scope.now) (before_of start scope.now)) }
 {
     let visible = scope.visible.as_slice();
     check(
@@ -94,7 +94,7 @@ pub fn resolve_assign_next(
     name: &Name,
     source: &Name,
 ) -> Result<RWhat, ScopeFault>
-    ensures { Answers result (before_of start scope.now) (bind_assign_next name.now source.now line (around_of start scope.now) (before_of start scope.now)) }
+    ensures { GivesBound result (before_of start scope.now) (bind_assign_next name.now source.now line (around_of start scope.now) (before_of start scope.now)) }
 {
     let visible = scope.visible.as_slice();
     let unknown = first_of(
@@ -119,7 +119,7 @@ pub fn resolve_get(
     name: &Name,
     input: &Name,
 ) -> Result<RWhat, ScopeFault>
-    ensures { Answers result (before_of start scope.now) (bind_get name.now input.now line (around_of start scope.now) (before_of start scope.now)) }
+    ensures { GivesBound result (before_of start scope.now) (bind_get name.now input.now line (around_of start scope.now) (before_of start scope.now)) }
 {
     let visible = scope.visible.as_slice();
     let unknown = first_of(
@@ -144,7 +144,7 @@ pub fn resolve_put(
     output: &Name,
     expr: &Expr,
 ) -> Result<RWhat, ScopeFault>
-    ensures { Answers result (before_of start scope.now) (bind_put output.now expr.now line (around_of start scope.now) (before_of start scope.now)) }
+    ensures { GivesBound result (before_of start scope.now) (bind_put output.now expr.now line (around_of start scope.now) (before_of start scope.now)) }
 {
     let visible = scope.visible.as_slice();
     let unknown = first_of(
@@ -167,7 +167,7 @@ pub enum Store {
 
 // The statement, of a slot and an expression.
 fn stored(store: Store, slot: u32, expr: UExpr) -> RWhat
-    ensures { result ≡ stored store slot expr }
+    ensures { result ≡ storing_stmt store slot expr }
 {
     match store {
         Store::Assign => RWhat::Assign(slot, expr),
@@ -185,7 +185,7 @@ pub fn resolve_store(
     name: &Name,
     expr: &Expr,
 ) -> Result<RWhat, ScopeFault>
-    ensures { Answers result (before_of start scope.now) (bind_store (stored store) name.now expr.now line (around_of start scope.now) (before_of start scope.now)) }
+    ensures { GivesBound result (before_of start scope.now) (bind_store (storing_stmt store) name.now expr.now line (around_of start scope.now) (before_of start scope.now)) }
 {
     let visible = scope.visible.as_slice();
     let unknown = first_of(
@@ -212,12 +212,12 @@ pub fn declare(
     requires begun { start ≤ length scope.old.visible }
     requires names { IsNumber (length names.now) }
     requires room { HasRoom 1 scope.old }
-    ensures after { IfOk result (λ slot. IsDeclared names.now name.now sort (before_of start scope.old) slot (before_of start scope.new)) }
+    ensures after { IfOk result (λ slot. IsDeclaredAs names.now name.now sort (before_of start scope.old) slot (before_of start scope.new)) }
     ensures kept { OnOk result (Kept start scope.old scope.new) }
 {
     let slot = number(scope.slots.len());
     let text = names.number(name);
-    scope.visible.push(Local {
+    scope.visible.push(LocalDeclaration {
         name: copy(alloc, name)?,
         bound: Bound { slot, sort },
     })?;
@@ -264,7 +264,7 @@ pub fn resolve_declare(
     requires begun { start ≤ length scope.old.visible }
     requires names { IsNumber (length names.now) }
     requires room { HasRoom 1 scope.old }
-    ensures meant { Answers result (before_of start scope.new) (bind_declare (whole functions.now names.now) ty name.now expr.now line (around_of start scope.old) (before_of start scope.old)) }
+    ensures meant { GivesBound result (before_of start scope.new) (bind_declare (whole functions.now names.now) ty name.now expr.now line (around_of start scope.old) (before_of start scope.old)) }
     ensures kept { OnOk result (Kept start scope.old scope.new) }
 {
     let visible = scope.visible.as_slice();

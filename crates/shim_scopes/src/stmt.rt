@@ -5,13 +5,13 @@ ghost use Rattle.shim_syntax.specs.Sizes.{stmt_size, stmts_size, branch_size, br
 ghost use Rattle.shim_scopes.specs.Statements.{bind_block, bind_first_test};
 ghost use Rattle.shim_scopes.specs.Bodies.{bind_stmt, bind_what, bind_branch, bind_stmts, bind_branches, declared_first};
 ghost use Rattle.shim_scopes.specs.Refusals.{Gives};
-ghost use Rattle.shim_scopes.specs.State.{Answers, AreNumbers, HasRoom, Kept, around_of, before_of, whole};
+ghost use Rattle.shim_scopes.specs.State.{GivesBound, AreNumbers, HasRoom, Kept, around_of, before_of, whole};
 
 use crate::call::resolve_call;
 use crate::check::check;
 use crate::fault::{ScopeFault, ScopeKind};
 use crate::lookup::{find_stream_in_option, find_unknown_in_option, resolve_option};
-use crate::scope::{Bound, Local, Scope, cut};
+use crate::scope::{Bound, LocalDeclaration, Scope, cut};
 use crate::simple::{
     Store, begin_handler, begin_try, resolve_assign_next, resolve_declare, resolve_get,
     resolve_next, resolve_put, resolve_store, resolve_test, resolve_throw,
@@ -40,7 +40,7 @@ fn add_first(
         Some(stmt) => match &stmt.what {
             What::Declare(ty, name, _) => {
                 let slot = number(scope.slots.len());
-                scope.visible.push(Local {
+                scope.visible.push(LocalDeclaration {
                     name: copy(alloc, name)?,
                     bound: Bound {
                         slot,
@@ -100,7 +100,7 @@ pub fn resolve_body(
     requires begun { start ≤ length scope.old.visible }
     requires few { AreNumbers (whole functions.now names.now) }
     requires room { HasRoom (stmts_size body.now) scope.old }
-    ensures meant { Answers result (before_of start scope.new) (bind_stmts (whole functions.now names.now) body.now (around_of start scope.old) (before_of start scope.old)) }
+    ensures meant { GivesBound result (before_of start scope.new) (bind_stmts (whole functions.now names.now) body.now (around_of start scope.old) (before_of start scope.old)) }
     ensures kept { OnOk result (Kept start scope.old scope.new) }
 {
     let mut made = List::new(alloc);
@@ -124,7 +124,7 @@ fn resolve_block(
     requires begun { start ≤ length scope.old.visible }
     requires few { AreNumbers (whole functions.now names.now) }
     requires room { HasRoom (stmts_size body.now) scope.old }
-    ensures meant { Answers result (before_of start scope.new) (bind_block (bind_stmts (whole functions.now names.now) body.now) (around_of start scope.old) (before_of start scope.old)) }
+    ensures meant { GivesBound result (before_of start scope.new) (bind_block (bind_stmts (whole functions.now names.now) body.now) (around_of start scope.old) (before_of start scope.old)) }
     ensures kept { OnOk result (Kept start scope.old scope.new) }
 {
     let inner = scope.visible.len();
@@ -150,7 +150,7 @@ fn resolve_if(
     requires few { AreNumbers (whole functions.now names.now) }
     requires parts { stmt.now.what ≡ If test.now first.now other.now }
     requires room { HasRoom (stmt_size stmt.now) scope.old }
-    ensures meant { Answers result (before_of start scope.new) (bind_what (whole functions.now names.now) stmt.now (around_of start scope.old) (before_of start scope.old)) }
+    ensures meant { GivesBound result (before_of start scope.new) (bind_what (whole functions.now names.now) stmt.now (around_of start scope.old) (before_of start scope.old)) }
     ensures kept { OnOk result (Kept start scope.old scope.new) }
 {
     let test = resolve_test(alloc, scope, start, stmt.line, test)?;
@@ -177,7 +177,7 @@ fn resolve_for(
     requires few { AreNumbers (whole functions.now names.now) }
     requires parts { stmt.now.what ≡ For first.now test.now step.now body.now }
     requires room { HasRoom (stmt_size stmt.now) scope.old }
-    ensures meant { Answers result (before_of start scope.new) (bind_what (whole functions.now names.now) stmt.now (around_of start scope.old) (before_of start scope.old)) }
+    ensures meant { GivesBound result (before_of start scope.new) (bind_what (whole functions.now names.now) stmt.now (around_of start scope.old) (before_of start scope.old)) }
     ensures kept { OnOk result (Kept start scope.old scope.new) }
 {
     check_test(
@@ -217,7 +217,7 @@ fn resolve_try(
     requires few { AreNumbers (whole functions.now names.now) }
     requires parts { stmt.now.what ≡ Try body.now name.now variable.now handler.now }
     requires room { HasRoom (stmt_size stmt.now) scope.old }
-    ensures meant { Answers result (before_of start scope.new) (bind_what (whole functions.now names.now) stmt.now (around_of start scope.old) (before_of start scope.old)) }
+    ensures meant { GivesBound result (before_of start scope.new) (bind_what (whole functions.now names.now) stmt.now (around_of start scope.old) (before_of start scope.old)) }
     ensures kept { OnOk result (Kept start scope.old scope.new) }
 {
     let outside = scope.handled.len();
@@ -243,7 +243,7 @@ fn resolve_what(
     requires begun { start ≤ length scope.old.visible }
     requires few { AreNumbers (whole functions.now names.now) }
     requires room { HasRoom (stmt_size stmt.now) scope.old }
-    ensures meant { Answers result (before_of start scope.new) (bind_what (whole functions.now names.now) stmt.now (around_of start scope.old) (before_of start scope.old)) }
+    ensures meant { GivesBound result (before_of start scope.new) (bind_what (whole functions.now names.now) stmt.now (around_of start scope.old) (before_of start scope.old)) }
     ensures kept { OnOk result (Kept start scope.old scope.new) }
 {
     let line = stmt.line;
@@ -330,7 +330,7 @@ fn resolve_stmt(
     requires begun { start ≤ length scope.old.visible }
     requires few { AreNumbers (whole functions.now names.now) }
     requires room { HasRoom (stmt_size stmt.now) scope.old }
-    ensures meant { Answers result (before_of start scope.new) (bind_stmt (whole functions.now names.now) stmt.now (around_of start scope.old) (before_of start scope.old)) }
+    ensures meant { GivesBound result (before_of start scope.new) (bind_stmt (whole functions.now names.now) stmt.now (around_of start scope.old) (before_of start scope.old)) }
     ensures kept { OnOk result (Kept start scope.old scope.new) }
 {
     let what = resolve_what(alloc, functions, names, scope, start, stmt)?;
@@ -352,7 +352,7 @@ fn resolve_branches(
     requires begun { start ≤ length scope.old.visible }
     requires few { AreNumbers (whole functions.now names.now) }
     requires room { HasRoom (branches_size branches.now) scope.old }
-    ensures meant { Answers result (before_of start scope.new) (bind_branches (whole functions.now names.now) branches.now (around_of start scope.old) (before_of start scope.old)) }
+    ensures meant { GivesBound result (before_of start scope.new) (bind_branches (whole functions.now names.now) branches.now (around_of start scope.old) (before_of start scope.old)) }
     ensures kept { OnOk result (Kept start scope.old scope.new) }
 {
     let mut made = List::new(alloc);
@@ -374,7 +374,7 @@ fn resolve_branch(
     requires begun { start ≤ length scope.old.visible }
     requires few { AreNumbers (whole functions.now names.now) }
     requires room { HasRoom (branch_size branch.now) scope.old }
-    ensures meant { Answers result (before_of start scope.new) (bind_branch (whole functions.now names.now) branch.now (around_of start scope.old) (before_of start scope.old)) }
+    ensures meant { GivesBound result (before_of start scope.new) (bind_branch (whole functions.now names.now) branch.now (around_of start scope.old) (before_of start scope.old)) }
     ensures kept { OnOk result (Kept start scope.old scope.new) }
 {
     match &branch.what {

@@ -5,13 +5,13 @@ use Rattle.shim_local.specs.Process.{Ops, StopView, AtQuiet, AtNext, AtPut, AtFo
 use Rattle.shim_semantics.specs.Nodes.{Node, Nodes, Live, Forked, Ended, Dead, states, all_done, prevailing_death}
 use Rattle.shim_semantics.specs.Acts.{Acted, closed, act_here, act_live}
 use Rattle.shim_semantics.specs.Listing.{IsAmong}
-use Rattle.shim_semantics.specs.Trees.{Event, Own, Meet, Poison, Close, End, Kind, Steps, Ends, Closes, Nothing, kind_of_stop, same_kind, is_its}
+use Rattle.shim_semantics.specs.Trees.{Event, Own, Meet, Poison, Close, End, OwnAction, Steps, Ends, Closes, Nothing, own_action_at, same_own_action, is_its}
 use Rattle.shim_semantics.specs.Walks.{all_waited, in_order, own_events, meets_here, here}
 use Rattle.shim_semantics.proofs.Members.{among_left, among_either, among_mapped}
 use Rattle.shim_base.proofs.Facts.{none_some, first_holds, second_holds, both_hold, chosen}
 use Rattle.shim_base.proofs.SamePaths.{same_path_refl, same_path_is}
 
-abbrev pub does : Event → Kind
+abbrev pub does : Event → OwnAction
 does (Own p) = Steps
 does (Meet c) = Nothing
 does (Poison p c) = Nothing
@@ -29,18 +29,18 @@ doer (End p) = p
 abbrev pub IsAlone : Event → Type 0
 IsAlone e = does e ≡ Nothing → ⊥
 
-live_does : (e : Event) (p : Path) (s : StopView) → IsAlone e → IsAmong e (own_events p s) → (p ≡ doer e) × (same_kind (does e) (kind_of_stop s) ≡ true)
-live_does e p AtQuiet d (inl h) = (sym (ap doer h), ap (λ z. same_kind (does z) Steps) h)
+live_does : (e : Event) (p : Path) (s : StopView) → IsAlone e → IsAmong e (own_events p s) → (p ≡ doer e) × (same_own_action (does e) (own_action_at s) ≡ true)
+live_does e p AtQuiet d (inl h) = (sym (ap doer h), ap (λ z. same_own_action (does z) Steps) h)
 live_does e p AtQuiet d (inr h) = absurd h
-live_does e p AtPut d (inl h) = (sym (ap doer h), ap (λ z. same_kind (does z) Steps) h)
+live_does e p AtPut d (inl h) = (sym (ap doer h), ap (λ z. same_own_action (does z) Steps) h)
 live_does e p AtPut d (inr h) = absurd h
-live_does e p AtFork d (inl h) = (sym (ap doer h), ap (λ z. same_kind (does z) Steps) h)
+live_does e p AtFork d (inl h) = (sym (ap doer h), ap (λ z. same_own_action (does z) Steps) h)
 live_does e p AtFork d (inr h) = absurd h
-live_does e p AtFinish d (inl h) = (sym (ap doer h), ap (λ z. same_kind (does z) Ends) h)
+live_does e p AtFinish d (inl h) = (sym (ap doer h), ap (λ z. same_own_action (does z) Ends) h)
 live_does e p AtFinish d (inr h) = absurd h
-live_does e p (AtThrow label) d (inl h) = (sym (ap doer h), ap (λ z. same_kind (does z) Steps) h)
+live_does e p (AtThrow label) d (inl h) = (sym (ap doer h), ap (λ z. same_own_action (does z) Steps) h)
 live_does e p (AtThrow label) d (inr h) = absurd h
-live_does e p (AtTrap kind line) d (inl h) = (sym (ap doer h), ap (λ z. same_kind (does z) Steps) h)
+live_does e p (AtTrap kind line) d (inl h) = (sym (ap doer h), ap (λ z. same_own_action (does z) Steps) h)
 live_does e p (AtTrap kind line) d (inr h) = absurd h
 live_does e p (AtNext c) d h = no_meet (same_path c.channel.home p) h
   where
@@ -49,7 +49,7 @@ live_does e p (AtNext c) d h = no_meet (same_path c.channel.home p) h
     no_meet true (inr i) = absurd i
     no_meet false i = absurd i
 
-does_live : (e : Event) (s : StopView) → same_kind (does e) (kind_of_stop s) ≡ true → IsAmong e (own_events (doer e) s)
+does_live : (e : Event) (s : StopView) → same_own_action (does e) (own_action_at s) ≡ true → IsAmong e (own_events (doer e) s)
 does_live (Own p) AtQuiet e = inl refl
 does_live (Own p) AtPut e = inl refl
 does_live (Own p) AtFork e = inl refl
@@ -96,7 +96,7 @@ close_among : (e : Event) (q : Path) (b : Bool) → b ≡ true → e ≡ Close q
 close_among e q true h i = inl i
 close_among e q false h i = absurd cc
 
-pub does_close : (e : Event) → same_kind (does e) Closes ≡ true → e ≡ Close (doer e)
+pub does_close : (e : Event) → same_own_action (does e) Closes ≡ true → e ≡ Close (doer e)
 does_close (Own p) h = absurd cc
 does_close (Meet c) h = absurd cc
 does_close (Poison p c) h = absurd cc
@@ -104,7 +104,7 @@ does_close (Close p) h = refl
 does_close (End p) h = absurd cc
 
 module _ {S : Type 0} (o : Ops S) where
-  live_acts : (l : S) (k : Kind) (s : StopView) → same_kind k (kind_of_stop s) ≡ true → (a : Acted S) × (act_live o l s ≡ Some a)
+  live_acts : (l : S) (k : OwnAction) (s : StopView) → same_own_action k (own_action_at s) ≡ true → (a : Acted S) × (act_live o l s ≡ Some a)
   live_acts l k AtQuiet e = (_, refl)
   live_acts l k AtPut e = (_, refl)
   live_acts l k AtFork e = (_, refl)
@@ -135,7 +135,7 @@ module _ {S : Type 0} (o : Ops S) where
         | inl z ↦
             let w = among_close e (o.path l) (all_done ks) z in
             let a = fork_acts l ks w.0 in
-            (a.0, both_hold _ _ (ap (λ y. same_path (o.path l) (doer y)) w.1 ∙ same_path_refl (o.path l)) (ap (λ y. same_kind (does y) Closes) w.1), a.1)
+            (a.0, both_hold _ _ (ap (λ y. same_path (o.path l) (doer y)) w.1 ∙ same_path_refl (o.path l)) (ap (λ y. same_own_action (does y) Closes) w.1), a.1)
         | inr z ↦ let w = among_mapped Meet e cs z in absurd (d (ap does w.1))
       ]
 

@@ -14,7 +14,7 @@ use Rattle.shim_local.specs.Process.{Ops}
 use Rattle.shim_semantics.specs.Acts.{Acted}
 use Rattle.shim_semantics.specs.Nodes.{Node, source, value_of}
 use Rattle.shim_semantics.specs.Places.{meets}
-use Rattle.shim_semantics.specs.Trees.{Tree, Event, Own, Meet, Poison, Close, End, after, start, count_own, count_event, change_nodes, poisons, met, acts, Steps, Ends, Closes, steps, sum, one_more, count_of}
+use Rattle.shim_semantics.specs.Trees.{Tree, Event, Own, Meet, Poison, Close, End, after, start, count_own, count_event, change_nodes, poisons, met, acts, Steps, Ends, Closes, steps, sum, with_step_counted, count_of}
 use Rattle.shim_semantics.proofs.InOrder.{first_holds, second_holds, less, no_entries}
 
 -- the sum of the counts
@@ -46,18 +46,18 @@ module _ {K : Type 0} {R : K → K → Ordering} (o : IsTotalOrder R) where
       ] refl
 
 -- one step more of one process
-sum_one_more : (m : finite.FinMap path_order ℕ) (p : Path) → sum (finite.values (one_more m p)) ≡ sum (finite.values m) + 1
+sum_one_more : (m : finite.FinMap path_order ℕ) (p : Path) → sum (finite.values (with_step_counted m p)) ≡ sum (finite.values m) + 1
 sum_one_more m p =
     let entries = finite.entries-insert path_order_total m p (count_of m p + 1) in
     let put_total = total_put path_order_total p (count_of m p + 1) (finite.entries m) (finite.entries_sorted m) in
     let found : unwrap_or (find path_order p (finite.entries m)) 0 ≡ count_of m p = ap (λ z. unwrap_or z 0) (sym (finite.get-entries m p)) in
-    let moved : sum (finite.values (one_more m p)) ≡ total (put path_order p (count_of m p + 1) (finite.entries m)) = ap total entries in
+    let moved : sum (finite.values (with_step_counted m p)) ≡ total (put path_order p (count_of m p + 1) (finite.entries m)) = ap total entries in
     omega (arith, put_total, found, moved)
 
 own_counts : {S : Type 0} (p : Path) (t u : Tree S) (a : Option (Acted S)) → count_own p t a ≡ Some u → steps u ≡ steps t + 1
 own_counts p t u None e = absurd (cc)
 own_counts p t u (Some a) e =
-    let more : sum (finite.values (one_more t.counts p)) + t.events ≡ steps t + 1 = omega (arith, sum_one_more t.counts p) in
+    let more : sum (finite.values (with_step_counted t.counts p)) + t.events ≡ steps t + 1 = omega (arith, sum_one_more t.counts p) in
     ap steps (sym (same_Some _ u e)) ∙ more
 
 other_counts : {S : Type 0} (p : Path) (t u : Tree S) (a : Option (Acted S)) → count_event p t a ≡ Some u → steps u ≡ steps t + 1

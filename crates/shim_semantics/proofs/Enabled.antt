@@ -6,7 +6,7 @@ use Rattle.shim_semantics.specs.Nodes.{Node, state, ready, source, value_of}
 use Rattle.shim_semantics.specs.Acts.{Acted}
 use Rattle.shim_semantics.specs.Poison.{is_ready_child, is_doomed, can_poison, to_fork, last_branch, poison_route}
 use Rattle.shim_semantics.specs.Listing.{IsAmong, ListsEnabled}
-use Rattle.shim_semantics.specs.Places.{at, route, at_route, led_to, is_ready_at, meets, has_path, SoundBelow}
+use Rattle.shim_semantics.specs.Places.{at, route, at_route, led_to, home_is_ready, meets, has_path, SoundBelow}
 use Rattle.shim_semantics.specs.Trees.{Tree, Event, Own, Meet, Poison, Close, End, Steps, Ends, Closes, is_its, act_route, acts, count_own, count_event, change_nodes, poisons, met, after, IsQuiescent}
 use Rattle.shim_semantics.specs.Walks.{waited, in_order, poisons_here, poisons_of, walk, head}
 use Rattle.shim_semantics.specs.Endings.{is_empty}
@@ -94,14 +94,14 @@ module _ {S : Type 0} (o : Ops S) where
   meet_listed : (c : Channel) (t a : Tree S) → after o (Meet c) t ≡ Some a → IsAmong (Meet c) (walk o t.root)
   meet_listed c t a e = at_branches (route (o.path (state t.root)) c.home) (chosen (meets o c t.root) (Some (met o c (value_of o c (source o c t.root)) t)) a e).0
     where
-      found : (q : List ℕ) (x : Option (Node S)) → at q t.root ≡ x → is_ready_at o c x ≡ true → IsAmong (Meet c) (walk o t.root)
+      found : (q : List ℕ) (x : Option (Node S)) → at q t.root ≡ x → home_is_ready o c x ≡ true → IsAmong (Meet c) (walk o t.root)
       found q None f h = absurd cc
       found q (Some m) f h =
           let path = same_path_is (o.path (state m)) c.home (first_holds (same_path (o.path (state m)) c.home) (ready o c m) h) in
           listed o (Meet c) t.root (by_node q m f (meets_listed o c m
           (both_hold _ _ (ap (same_path c.home) path ∙ same_path_refl c.home) (second_holds (same_path (o.path (state m)) c.home) (ready o c m) h))))
 
-      at_branches : (r : Option (List ℕ)) → is_ready_at o c (at_route t.root r) ≡ true → IsAmong (Meet c) (walk o t.root)
+      at_branches : (r : Option (List ℕ)) → home_is_ready o c (at_route t.root r) ≡ true → IsAmong (Meet c) (walk o t.root)
       at_branches None h = absurd cc
       at_branches (Some q) h = found q (at q t.root) refl h
 
@@ -113,7 +113,7 @@ module _ {S : Type 0} (o : Ops S) where
           let x = listed_meets o c m i in
           let path : o.path (state m) ≡ c.home = sym (same_path_is c.home (o.path (state m)) (first_holds (same_path c.home (o.path (state m))) _ x)) in
           let there : meets o c t.root ≡ true =
-          ap (λ z. is_ready_at o c (at_route t.root z)) (route_of o t.root m q c.home s found path) ∙ (ap (is_ready_at o c) found
+          ap (λ z. home_is_ready o c (at_route t.root z)) (route_of o t.root m q c.home s found path) ∙ (ap (home_is_ready o c) found
           ∙ both_hold _ _ (ap (λ z. same_path z c.home) path ∙ same_path_refl c.home) (second_holds (same_path c.home (o.path (state m))) _ x)) in
           let a = met o c (value_of o c (source o c t.root)) t in
           (a, ap (λ b. cond b (Some a) None) there)

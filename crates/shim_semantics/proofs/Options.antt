@@ -1,7 +1,7 @@
 -- Facts of options and of what an event gives, taken apart.
 use Rattle.std.proofs.Common.{◌≡◌, Option, Some, None, refl}
 use Rattle.shim_semantics.specs.Nodes.{Node, Nodes, Forked, node_and}
-use Rattle.shim_semantics.specs.Acts.{Effects, Acted, within, in_front, behind}
+use Rattle.shim_semantics.specs.Acts.{Effects, Acted, within, in_front, in_later}
 use Rattle.shim_base.proofs.Facts.{some_same, none_some}
 
 pub within_some : {S : Type 0} (l : S) (x : Option (Nodes S × Effects)) (a : Acted S) → within l x ≡ Some a
@@ -14,7 +14,7 @@ pub in_front_some : {S : Type 0} (ks : Nodes S) (x : Option (Acted S)) (r : Node
 in_front_some ks None r e = none_some r e
 in_front_some ks (Some a) r e = (a, refl, some_same _ r e)
 
-pub behind_some : {S : Type 0} (k : Node S) (x : Option (Nodes S × Effects)) (r : Nodes S × Effects) → behind k x ≡ Some r
+pub behind_some : {S : Type 0} (k : Node S) (x : Option (Nodes S × Effects)) (r : Nodes S × Effects) → in_later k x ≡ Some r
     → (s : Nodes S × Effects) × (x ≡ Some s) × ((node_and k s.0, s.1) ≡ r)
 behind_some k None r e = none_some r e
 behind_some k (Some s) r e = (s, refl, some_same _ r e)

@@ -4,8 +4,8 @@ use Rattle.std.proofs.lemmas.List.{append-nil}
 use Rattle.shim_base.specs.Paths.{Path}
 use Rattle.shim_local.specs.Process.{Ops}
 use Rattle.shim_semantics.specs.Nodes.{Node, Nodes, Live, Forked, Ended, Dead, no_node, node_and, state}
-use Rattle.shim_semantics.specs.Acts.{Effects, Acted, act, act_child, act_here, within, in_front, behind}
-use Rattle.shim_semantics.specs.Places.{at, child_at, branches, branches_of, route, SoundBelow, SoundChildren}
+use Rattle.shim_semantics.specs.Acts.{Effects, Acted, act, act_child, act_here, within, in_front, in_later}
+use Rattle.shim_semantics.specs.Places.{at, child_at, branches, option_branches, route, SoundBelow, SoundChildren}
 use Rattle.shim_semantics.proofs.Options.{within_some, in_front_some, behind_some}
 use Rattle.shim_semantics.proofs.Sameness.{behind_front_of, further}
 use Rattle.shim_base.proofs.Facts.{some_same, none_some}
@@ -37,7 +37,7 @@ module _ {S : Type 0} (o : Ops S) where
   pub route_of : (n m : Node S) (q : List ℕ) (p : Path) → SoundBelow o n → at q n ≡ Some m → o.path (state m) ≡ p → route (o.path (state n)) p ≡ Some q
   route_of n m q p s e h =
       let y = at_path n m q s e in
-      ap (λ z. route (o.path (state n)) z) (sym h ∙ y.1) ∙ (ap branches_of (behind_front_of (o.path (state n)) y.0) ∙ ap Some y.2)
+      ap (λ z. route (o.path (state n)) z) (sym h ∙ y.1) ∙ (ap option_branches (behind_front_of (o.path (state n)) y.0) ∙ ap Some y.2)
 
   -- an event at these branches is one that the node there does
   pub record ActsAt (q : List ℕ) (n : Node S) : Type 0 where
@@ -86,4 +86,4 @@ module _ {S : Type 0} (o : Ops S) where
     act_in_of : (i : ℕ) (q : List ℕ) (ks : Nodes S) (m : Node S) (a : Acted S) → child_at i q ks ≡ Some m → act_here o m ≡ Some a → (r : Nodes S × Effects) × (act_child o i q ks ≡ Some r)
     act_in_of i q no_node m a e h = none_some m e
     act_in_of zero q (node_and k ks) m a e h = let w = act_of q k m a e h in (_, ap (in_front ks) w.1)
-    act_in_of (suc i) q (node_and k ks) m a e h = let w = act_in_of i q ks m a e h in (_, ap (behind k) w.1)
+    act_in_of (suc i) q (node_and k ks) m a e h = let w = act_in_of i q ks m a e h in (_, ap (in_later k) w.1)

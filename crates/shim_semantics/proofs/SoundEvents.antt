@@ -7,10 +7,10 @@ use Rattle.shim_semantics.specs.Nodes.{Node, Live, Forked, Ended, Dead, death_wi
 use Rattle.shim_semantics.specs.Acts.{Acted, act, act_here, act_live, closed}
 use Rattle.shim_semantics.specs.Poison.{poison_route}
 use Rattle.shim_semantics.specs.Places.{led_to, route, has_path, meets, SoundBelow}
-use Rattle.shim_semantics.specs.Trees.{Tree, Event, Own, Meet, Poison, Close, End, Kind, Steps, Ends, Closes, is_its, act_route, acts, count_own, count_event, change_nodes, poisons, met, after}
+use Rattle.shim_semantics.specs.Trees.{Tree, Event, Own, Meet, Poison, Close, End, OwnAction, Steps, Ends, Closes, is_its, act_route, acts, count_own, count_event, change_nodes, poisons, met, after}
 use Rattle.shim_semantics.specs.Sound.{IsSound}
 use Rattle.shim_semantics.specs.Laws.{IsSoundTree, KeepsSound, RunsStaySound}
-use Rattle.shim_semantics.specs.Systems.{go_on, run}
+use Rattle.shim_semantics.specs.Systems.{on_some, run}
 use Rattle.shim_semantics.proofs.ReplacedNodes.{acts_there}
 use Rattle.shim_semantics.proofs.HowMany.{one_at_most}
 use Rattle.shim_semantics.proofs.Follows.{Keeps, stays_keeps, own_keeps, same_stays}
@@ -27,7 +27,7 @@ use Rattle.shim_base.proofs.Facts.{some_same, none_some, chosen, cond_some}
 trap_below : (b : ℕ) → 1 ≤ b → 0 < b
 trap_below b h = omega arith
 
-pub went_on : {T : Type 0} (f : T → Option T) (r : Option T) (u : T) → go_on f r ≡ Some u → (w : T) × (r ≡ Some w) × (f w ≡ Some u)
+pub went_on : {T : Type 0} (f : T → Option T) (r : Option T) (u : T) → on_some f r ≡ Some u → (w : T) × (r ≡ Some w) × (f w ≡ Some u)
 went_on f None u e = none_some u e
 went_on f (Some w) u e = (w, refl, e)
 
@@ -60,7 +60,7 @@ module _ {S : Type 0} (o : Ops S) where
   route_sound law None n a s e = none_some a e
   route_sound law (Some q) n a s e = act_sound law q n a s e
 
-  acts_sound : LocalLaws o → (k : Kind) (p : Path) (n : Node S) (a : Acted S) → IsSound o n → acts o k p n ≡ Some a → IsSound o a.node
+  acts_sound : LocalLaws o → (k : OwnAction) (p : Path) (n : Node S) (a : Acted S) → IsSound o n → acts o k p n ≡ Some a → IsSound o a.node
   acts_sound law k p n a s e =
       route_sound law (route (o.path (state n)) p) n a s (chosen (is_its o k p (led_to o n p)) (act_route o n (route (o.path (state n)) p)) a e).1
 

@@ -3,7 +3,7 @@ use Rattle.std.proofs.Common.{◌≡◌, ◌<◌, ℕ, ℤ, Option, Some, None, 
 use Rattle.shim_local.specs.Process.{Ops, AtThrow}
 use Rattle.shim_local.specs.Laws.{LocalLaws, by_label, by_thrown}
 use Rattle.shim_semantics.specs.Nodes.{Live, Dead, Death, death_with, handed}
-use Rattle.shim_semantics.specs.Acts.{Acted, thrown, throwing, catching, nothing}
+use Rattle.shim_semantics.specs.Acts.{Acted, thrown, throwing, catch_logged, nothing}
 use Rattle.shim_semantics.proofs.Follows.{Stays, KeepsOwn, same_stays, stays_keeps_own}
 use Rattle.shim_semantics.proofs.CallStays.{call_stays}
 use Rattle.shim_semantics.proofs.QuietKeeps.{unwind_keeps}
@@ -18,7 +18,7 @@ module _ {S : Type 0} (o : Ops S) where
       let x = d.label in
       let v = handed d.given in
       let dies : Acted S = record { node = Dead l d; effects = nothing } in
-      let goes_on : Acted S = record { node = Live (o.unwind l x v); effects = catching (o.handler l x) } in
+      let goes_on : Acted S = record { node = Live (o.unwind l x v); effects = catch_logged (o.handler l x) } in
       elim (true_or_false (ltb x (o.base l))) [
         | inl y ↦ subst (λ b. KeepsOwn o (Live l) (cond b dies goes_on).node) (sym y) (stays_keeps_own o (Live l) (Dead l d) (death_stays l d s (ltb-true x (o.base l) y)))
         | inr n ↦ subst (λ b. KeepsOwn o (Live l) (cond b dies goes_on).node) (sym n) (unwind_keeps o law l (o.unwind l x v) s (by_label x v (ltb-false x (o.base l) n) h refl))

@@ -2,7 +2,7 @@
 use Rattle.std.proofs.Common.{◌≡◌, Bool, true, false, [], ◌∷◌, ◌&&◌, ◌||◌, inl, inr, not, cond, map, filter, refl, sym, ap, subst, ◌∙◌}
 use Rattle.shim_base.specs.Paths.{Path, Channel, same_path, same_channel}
 use Rattle.shim_local.specs.Process.{Ops, StopView, AtQuiet, AtNext, AtPut, AtFork, AtFinish, AtThrow, AtTrap}
-use Rattle.shim_semantics.specs.Nodes.{Node, Nodes, Live, Forked, Ended, Dead, no_node, node_and, state, goes, is_dead, all_done, next_of, is_next, any_sharer, ready, all_ready}
+use Rattle.shim_semantics.specs.Nodes.{Node, Nodes, Live, Forked, Ended, Dead, no_node, node_and, state, goes, is_dead, all_done, next_channel, is_next, any_sharer, ready, all_ready}
 use Rattle.shim_semantics.specs.Listing.{IsAmong}
 use Rattle.shim_semantics.specs.Trees.{Meet, Poison, Close}
 use Rattle.shim_semantics.specs.Walks.{as_list, waited, all_waited, in_order, own_events, meets_here, here}
@@ -11,7 +11,7 @@ use Rattle.shim_semantics.proofs.Members.{among_left, among_right, among_either,
 use Rattle.shim_base.proofs.Facts.{first_holds, second_holds, both_hold, either_holds}
 use Rattle.shim_base.proofs.SamePaths.{same_channel_is, same_channel_refl}
 
-next_waited : (s : StopView) (c : Channel) → is_next s c ≡ true → IsAmong c (as_list (next_of s))
+next_waited : (s : StopView) (c : Channel) → is_next s c ≡ true → IsAmong c (as_list (next_channel s))
 next_waited (AtNext d) c e = inl (sym (same_channel_is d.channel c e))
 next_waited AtQuiet c e = absurd cc
 next_waited AtPut c e = absurd cc

@@ -26,8 +26,8 @@ putting None = nothing
 putting (Some b) = record { bytes = b ∷ []; logs = [] }
 
 -- the exception was caught by a handler with this name and line
-abbrev pub catching : ℕ × ℕ → Effects
-catching h = record { bytes = []; logs = Caught h.0 h.1 ∷ [] }
+abbrev pub catch_logged : ℕ × ℕ → Effects
+catch_logged h = record { bytes = []; logs = Caught h.0 h.1 ∷ [] }
 
 abbrev pub trapping : Trap → ℕ → Effects
 trapping kind line = record { bytes = []; logs = LoggedTrap kind line ∷ [] }
@@ -39,7 +39,7 @@ parted (Trapped l) = Live l
 
 -- The exception of this death is thrown in a process. Where its label is below the base the process dies so; else its handler goes on with the number, and the catch is logged.
 abbrev pub thrown : {S : Type 0} → Ops S → S → Death → Acted S
-thrown o l d = cond (ltb d.label (o.base l)) (record { node = Dead l d; effects = nothing }) (record { node = Live (o.unwind l d.label (handed d.given)); effects = catching (o.handler l d.label) })
+thrown o l d = cond (ltb d.label (o.base l)) (record { node = Dead l d; effects = nothing }) (record { node = Live (o.unwind l d.label (handed d.given)); effects = catch_logged (o.handler l d.label) })
 
 -- a process that stands at a throw of this label throws it with this number; where the expression trapped it stands trapped
 abbrev pub throwing : {S : Type 0} → Ops S → S → ℕ → Option ℤ → Acted S
@@ -76,13 +76,13 @@ abbrev pub in_front : {S : Type 0} → Nodes S → Option (Acted S) → Option (
 in_front ks None = None
 in_front ks (Some a) = Some (node_and a.node ks, a.effects)
 
-abbrev pub behind : {S : Type 0} → Node S → Option (Nodes S × Effects) → Option (Nodes S × Effects)
-behind k None = None
-behind k (Some r) = Some (node_and k r.0, r.1)
+abbrev pub in_later : {S : Type 0} → Node S → Option (Nodes S × Effects) → Option (Nodes S × Effects)
+in_later k None = None
+in_later k (Some r) = Some (node_and k r.0, r.1)
 
 -- what is done at a node shows at the nodes above it in what stands there, and in what was told
 abbrev pub done_above : {S : Type 0} → Ascent S (Option (Acted S)) (Option (Nodes S × Effects))
-done_above = record { above = within; first = in_front; later = behind; nowhere = λ n. None; no_child = None }
+done_above = record { above = within; first = in_front; later = in_later; nowhere = λ n. None; no_child = None }
 
 -- what the process of the node to which these branches lead leaves and tells by the one thing that it can do by itself
 abbrev pub act : {S : Type 0} → Ops S → List ℕ → Node S → Option (Acted S)

@@ -11,7 +11,7 @@ use Rattle.shim_local.specs.declared.WaitAt.{WaitAt}
 use Rattle.shim_local.specs.declared.OwnSteps.{OwnSteps}
 use Rattle.shim_local.specs.declared.Outcome.{Outcome}
 use Rattle.shim_local.specs.declared.Outcome.TheVariants.{Done, Uncaught, Trapped, Blocked, Spent}
-use Rattle.shim_semantics.specs.Nodes.{Node, Nodes, Live, Forked, Ended, Dead, no_node, node_and, next_of}
+use Rattle.shim_semantics.specs.Nodes.{Node, Nodes, Live, Forked, Ended, Dead, no_node, node_and, next_channel}
 use Rattle.shim_semantics.specs.Trees.{Tree, Met, steps}
 use Rattle.shim_semantics.specs.Walks.{walk}
 
@@ -41,7 +41,7 @@ wait_of p (Some c) = (p, c) ∷ []
 -- the live processes that stand at a channel, with it
 abbrev mutual
   pub waiting : {S : Type 0} → Ops S → Node S → List (Path × NamedChannel)
-  waiting o (Live l) = wait_of (o.path l) (next_of (o.stop l))
+  waiting o (Live l) = wait_of (o.path l) (next_channel (o.stop l))
   waiting o (Forked l ks) = all_waiting o ks
   waiting o (Ended l) = []
   waiting o (Dead l x) = []

@@ -82,14 +82,14 @@ all_live [] = no_node
 all_live (l ∷ ls) = node_and (Live l) (all_live ls)
 
 -- the channel at which a process stands
-abbrev pub next_of : StopView → Option NamedChannel
-next_of (AtNext c) = Some c
-next_of AtQuiet = None
-next_of AtPut = None
-next_of AtFork = None
-next_of AtFinish = None
-next_of (AtThrow label) = None
-next_of (AtTrap kind line) = None
+abbrev pub next_channel : StopView → Option NamedChannel
+next_channel (AtNext c) = Some c
+next_channel AtQuiet = None
+next_channel AtPut = None
+next_channel AtFork = None
+next_channel AtFinish = None
+next_channel (AtThrow label) = None
+next_channel (AtTrap kind line) = None
 
 -- it stands at this channel
 abbrev pub is_next : StopView → Channel → Bool
@@ -141,14 +141,14 @@ value_of o c None = pos 0
 value_of o c (Some l) = o.value l c
 
 -- the name that a process which stands at the channel has for it
-abbrev pub name_at : Channel → Option NamedChannel → Option ℕ
-name_at c None = None
-name_at c (Some d) = cond (same_channel d.channel c) (Some d.name) None
+abbrev pub name_for : Channel → Option NamedChannel → Option ℕ
+name_for c None = None
+name_for c (Some d) = cond (same_channel d.channel c) (Some d.name) None
 
 -- the name that the first live process at the channel has for it, in the same order
 abbrev mutual
   pub first_name : {S : Type 0} → Ops S → Channel → Node S → Option ℕ
-  first_name o c (Live l) = name_at c (next_of (o.stop l))
+  first_name o c (Live l) = name_for c (next_channel (o.stop l))
   first_name o c (Forked l ks) = first_name_among o c ks
   first_name o c (Ended l) = None
   first_name o c (Dead l x) = None

@@ -27,13 +27,13 @@ behind_front [] q = Some q
 behind_front (x ∷ p) [] = None
 behind_front (x ∷ p) (y ∷ q) = cond (same_pair x y) (behind_front p q) None
 
-abbrev pub branches_of : Option Path → Option (List ℕ)
-branches_of None = None
-branches_of (Some p) = Some (branches p)
+abbrev pub option_branches : Option Path → Option (List ℕ)
+option_branches None = None
+option_branches (Some p) = Some (branches p)
 
 -- the branches that lead from the process of the first path to that of the second
 abbrev pub route : Path → Path → Option (List ℕ)
-route root p = branches_of (behind_front root p)
+route root p = option_branches (behind_front root p)
 
 abbrev pub at_route : {S : Type 0} → Node S → Option (List ℕ) → Option (Node S)
 at_route n None = None
@@ -43,13 +43,13 @@ at_route n (Some p) = at p n
 abbrev pub led_to : {S : Type 0} → Ops S → Node S → Path → Option (Node S)
 led_to o root p = at_route root (route (o.path (state root)) p)
 
-abbrev pub is_ready_at : {S : Type 0} → Ops S → Channel → Option (Node S) → Bool
-is_ready_at o c None = false
-is_ready_at o c (Some n) = same_path (o.path (state n)) c.home && ready o c n
+abbrev pub home_is_ready : {S : Type 0} → Ops S → Channel → Option (Node S) → Bool
+home_is_ready o c None = false
+home_is_ready o c (Some n) = same_path (o.path (state n)) c.home && ready o c n
 
 -- the node of the process that declared the channel is ready on it
 abbrev pub meets : {S : Type 0} → Ops S → Channel → Node S → Bool
-meets o c root = is_ready_at o c (led_to o root c.home)
+meets o c root = home_is_ready o c (led_to o root c.home)
 
 -- the node is that of the path
 abbrev pub has_path : {S : Type 0} → Ops S → Path → Option (Node S) → Bool

@@ -1,14 +1,14 @@
 -- Runs of any system of events, and what its events keep.
 use Rattle.std.specs.Prelude.{◌≡◌, Option, Some, None, List, [], ◌∷◌}
 
-abbrev pub go_on : {T : Type 0} → (T → Option T) → Option T → Option T
-go_on f None = None
-go_on f (Some t) = f t
+abbrev pub on_some : {T : Type 0} → (T → Option T) → Option T → Option T
+on_some f None = None
+on_some f (Some t) = f t
 
 -- the events happen one after another, each where it is enabled in its turn
 abbrev pub run : {E T : Type 0} → (E → T → Option T) → List E → T → Option T
 run step [] t = Some t
-run step (e ∷ es) t = go_on (run step es) (step e t)
+run step (e ∷ es) t = on_some (run step es) (step e t)
 
 -- an event keeps what is said of the states
 abbrev pub IsInvariant : {E T : Type 0} → (E → T → Option T) → (T → Type 0) → Type 0

@@ -51,52 +51,52 @@ pub data Event : Type 0 where
   End : Path → Event
 
 -- what a process can do by itself
-pub data Kind : Type 0 where
-  Steps : Kind
-  Ends : Kind
-  Closes : Kind
-  Nothing : Kind
+pub data OwnAction : Type 0 where
+  Steps : OwnAction
+  Ends : OwnAction
+  Closes : OwnAction
+  Nothing : OwnAction
 
-abbrev pub kind_of_stop : StopView → Kind
-kind_of_stop AtQuiet = Steps
-kind_of_stop AtPut = Steps
-kind_of_stop AtFork = Steps
-kind_of_stop AtFinish = Ends
-kind_of_stop (AtNext c) = Nothing
-kind_of_stop (AtThrow label) = Steps
-kind_of_stop (AtTrap kind line) = Steps
+abbrev pub own_action_at : StopView → OwnAction
+own_action_at AtQuiet = Steps
+own_action_at AtPut = Steps
+own_action_at AtFork = Steps
+own_action_at AtFinish = Ends
+own_action_at (AtNext c) = Nothing
+own_action_at (AtThrow label) = Steps
+own_action_at (AtTrap kind line) = Steps
 
-abbrev pub kind_of : {S : Type 0} → Ops S → Node S → Kind
-kind_of o (Live l) = kind_of_stop (o.stop l)
-kind_of o (Forked l ks) = Closes
-kind_of o (Ended l) = Nothing
-kind_of o (Dead l x) = Nothing
+abbrev pub own_action_of : {S : Type 0} → Ops S → Node S → OwnAction
+own_action_of o (Live l) = own_action_at (o.stop l)
+own_action_of o (Forked l ks) = Closes
+own_action_of o (Ended l) = Nothing
+own_action_of o (Dead l x) = Nothing
 
-abbrev pub same_kind : Kind → Kind → Bool
-same_kind Steps Steps = true
-same_kind Ends Ends = true
-same_kind Closes Closes = true
-same_kind _ _ = false
+abbrev pub same_own_action : OwnAction → OwnAction → Bool
+same_own_action Steps Steps = true
+same_own_action Ends Ends = true
+same_own_action Closes Closes = true
+same_own_action _ _ = false
 
 -- the node is that of the path, and this is what it can do
-abbrev pub is_its : {S : Type 0} → Ops S → Kind → Path → Option (Node S) → Bool
+abbrev pub is_its : {S : Type 0} → Ops S → OwnAction → Path → Option (Node S) → Bool
 is_its o k p None = false
-is_its o k p (Some n) = same_path (o.path (state n)) p && same_kind k (kind_of o n)
+is_its o k p (Some n) = same_path (o.path (state n)) p && same_own_action k (own_action_of o n)
 
 abbrev pub act_route : {S : Type 0} → Ops S → Node S → Option (List ℕ) → Option (Acted S)
 act_route o root None = None
 act_route o root (Some q) = act o q root
 
 -- what the process of the path leaves, where it can do this
-abbrev pub acts : {S : Type 0} → Ops S → Kind → Path → Node S → Option (Acted S)
+abbrev pub acts : {S : Type 0} → Ops S → OwnAction → Path → Node S → Option (Acted S)
 acts o k p root = cond (is_its o k p (led_to o root p)) (act_route o root (route (o.path (state root)) p)) None
 
 abbrev pub count_of : map.FinMap path_order ℕ → Path → ℕ
 count_of m p = unwrap_or (map.get m p) 0
 
 -- the process of the path has done one step more
-abbrev pub one_more : map.FinMap path_order ℕ → Path → map.FinMap path_order ℕ
-one_more m p = map.insert m p (count_of m p + 1)
+abbrev pub with_step_counted : map.FinMap path_order ℕ → Path → map.FinMap path_order ℕ
+with_step_counted m p = map.insert m p (count_of m p + 1)
 
 abbrev pub logs_at : map.FinMap path_order (List LogWhat) → Path → List LogWhat
 logs_at m p = unwrap_or (map.get m p) []
@@ -109,7 +109,7 @@ with_logs m p (w ∷ ws) = map.insert m p (logs_at m p ++ w ∷ ws)
 -- the process of the path did a step of its own, which left and told this
 abbrev pub count_own : {S : Type 0} → Path → Tree S → Option (Acted S) → Option (Tree S)
 count_own p t None = None
-count_own p t (Some a) = Some (record { root = a.node; output = t.output ++ a.effects.bytes; histories = t.histories; logs = with_logs t.logs p a.effects.logs; counts = one_more t.counts p; events = t.events })
+count_own p t (Some a) = Some (record { root = a.node; output = t.output ++ a.effects.bytes; histories = t.histories; logs = with_logs t.logs p a.effects.logs; counts = with_step_counted t.counts p; events = t.events })
 
 -- the process of the path ended, or its fork closed, which left and told this
 abbrev pub count_event : {S : Type 0} → Path → Tree S → Option (Acted S) → Option (Tree S)
@@ -126,12 +126,12 @@ abbrev pub poisons : {S : Type 0} → Ops S → Path → Channel → Node S → 
 poisons o p c root = cond (has_path o p (led_to o root p)) (poison_route o c root (route (o.path (state root)) p)) None
 
 -- One value more. The first one brings the name.
-abbrev pub with_value : ℕ → ℤ → Option Met → Met
-with_value name v None = record { name = name; values = v ∷ [] }
-with_value name v (Some h) = record { name = h.name; values = h.values ++ v ∷ [] }
+abbrev pub with_met : ℕ → ℤ → Option Met → Met
+with_met name v None = record { name = name; values = v ∷ [] }
+with_met name v (Some h) = record { name = h.name; values = h.values ++ v ∷ [] }
 
 abbrev pub recorded : map.FinMap channel_order Met → Channel → ℕ → ℤ → map.FinMap channel_order Met
-recorded m c name v = map.insert m c (with_value name v (map.get m c))
+recorded m c name v = map.insert m c (with_met name v (map.get m c))
 
 -- the channel's meeting gave this value
 abbrev pub met : {S : Type 0} → Ops S → Channel → ℤ → Tree S → Tree S

@@ -3,7 +3,7 @@ use Rattle.std.specs.Prelude.{ℕ, zero, suc, ◌+◌, Bool, Option, Some, None,
 use Rattle.std.specs.FinMap as finite
 use Rattle.shim_base.specs.Paths.{Path, Channel, NamedChannel, same_path, channel_order}
 use Rattle.shim_local.specs.Process.{Ops, StopView, AtQuiet, AtNext, AtPut, AtFork, AtFinish, AtThrow, AtTrap}
-use Rattle.shim_semantics.specs.Nodes.{Node, Nodes, Live, Forked, Ended, Dead, no_node, node_and, state, all_done, ready, next_of}
+use Rattle.shim_semantics.specs.Nodes.{Node, Nodes, Live, Forked, Ended, Dead, no_node, node_and, state, all_done, ready, next_channel}
 use Rattle.shim_semantics.specs.Poison.{is_doomed}
 use Rattle.shim_semantics.specs.Trees.{Tree, Event, Own, Meet, Poison, Close, End, after}
 
@@ -14,7 +14,7 @@ as_list (Some c) = c.channel ∷ []
 -- the channels at which live processes stand
 abbrev mutual
   pub waited : {S : Type 0} → Ops S → Node S → List Channel
-  waited o (Live l) = as_list (next_of (o.stop l))
+  waited o (Live l) = as_list (next_channel (o.stop l))
   waited o (Forked l ks) = all_waited o ks
   waited o (Ended l) = []
   waited o (Dead l x) = []
@@ -77,8 +77,8 @@ head [] = None
 head (x ∷ xs) = Some x
 
 -- the first enabled event
-abbrev pub first : {S : Type 0} → Ops S → Tree S → Option Event
-first o t = head (walk o t.root)
+abbrev pub first_event : {S : Type 0} → Ops S → Tree S → Option Event
+first_event o t = head (walk o t.root)
 
 abbrev pub or_stay : {S : Type 0} → Tree S → Option (Tree S) → Tree S
 or_stay t None = t
@@ -91,4 +91,4 @@ after_first o t (Some e) = or_stay t (after o e t)
 -- the tree after at most so many events, each the first that is enabled
 unfoldable pub meaning : {S : Type 0} → Ops S → ℕ → Tree S → Tree S
 meaning o zero t = t
-meaning o (suc b) t = meaning o b (after_first o t (first o t))
+meaning o (suc b) t = meaning o b (after_first o t (first_event o t))

@@ -15,7 +15,7 @@ use Rattle.shim_syntax.specs.declared.tree.Program.{Program}
 use Rattle.shim_syntax.specs.declared.tree.Sort.TheVariants.{Value}
 use Rattle.shim_scopes.specs.declared.fault.ScopeKind.{ScopeKind}
 use Rattle.shim_scopes.specs.declared.fault.ScopeKind.TheVariants.{UnknownName, UnknownException, Arity, Twice, MainParameters, WrongKind}
-use Rattle.shim_scopes.specs.declared.scope.Local.{Local}
+use Rattle.shim_scopes.specs.declared.scope.LocalDeclaration.{LocalDeclaration}
 use Rattle.shim_scopes.specs.declared.tree.UExpr.{UExpr}
 use Rattle.shim_scopes.specs.declared.tree.UExpr.TheVariants as u
 use Rattle.shim_scopes.specs.declared.tree.RStmt.{RStmt}
@@ -28,11 +28,11 @@ use Rattle.shim_scopes.specs.declared.tree.RBranchWhat.TheVariants.{Block as Bra
 use Rattle.shim_scopes.specs.declared.tree.RFunction.{RFunction}
 use Rattle.shim_scopes.specs.declared.form.Form.{Form as Resolved}
 use Rattle.shim_scopes.specs.Binding.{unknown, unknown_in, unknown_in_option, unknown_in_all, stream_in, stream_in_option, no_number, no_input, no_output, slot_of, placed_step, placed, placed_option, placed_all, exception_number, unhandled}
-use Rattle.shim_syntax.specs.Names.{Texts, number_of, with_functions, param_names}
+use Rattle.shim_syntax.specs.Names.{Texts, name_index, with_functions, param_names}
 use Rattle.shim_scopes.specs.Refusals.{Refusal, refused_for}
-use Rattle.shim_scopes.specs.Statements.{Whole, Around, Before, BoundTo, Bind, declared, within, opened, closed, caught, tried, variable_declared, variable_slot, bind_handler, bind_declare, bind_store, bind_next, bind_assign_next, bind_get, bind_put, bind_throw, bind_block, on_tree, bind_test, bind_if, bind_while, bind_try, bind_parts, bind_first_test, bind_for, visible, declared_in, unknown_in_both, unknown_of_two}
+use Rattle.shim_scopes.specs.Statements.{Whole, Around, Before, BoundTo, Bind, with_declaration, inside_block, opened, after_block, with_handled, tried, variable_declared, variable_slot, bind_handler, bind_declare, bind_store, bind_next, bind_assign_next, bind_get, bind_put, bind_throw, bind_block, on_tree, bind_test, bind_if, bind_while, bind_try, bind_parts, bind_first_test, bind_for, visible, declared_in, unknown_in_both, unknown_of_two}
 use Rattle.shim_scopes.specs.Calls.{bind_call, bind_called, bind_known, function_of, unhandled_of_all, wrong_in_all, if_false}
-use Rattle.shim_scopes.specs.Bodies.{WhatMeans, StmtMeans, BranchMeans, BranchWhatMeans, bind_all, bind_fork, first_declares, branch_what_step, what_step, branch_step, stmt_step, meaning, bind_stmts, bind_branch}
+use Rattle.shim_scopes.specs.Bodies.{WhatMeans, StmtMeans, BranchMeans, BranchWhatMeans, bind_all, bind_fork, first_declares, bind_branch_what_step, bind_what_step, bind_branch_step, bind_stmt_step, stmt_meaning, bind_stmts, bind_branch}
 use Rattle.shim_scopes.specs.Functions.{name_in, twice_after, wrong_main, placed_param, made_function, bind_function, bind_functions, main_of, bind_program}
 use Rattle.shim_syntax.specs.Sizes as text
 use Rattle.shim_syntax.specs.Sizes.{sum_of}
@@ -45,24 +45,24 @@ use Rattle.shim_scopes.proofs.Refusals.{passed, first_ok, bound, its_tree}
 
 -- an expression keeps its size
 
-placed_number : (around : List Local) (n : _) → placed around (e.Number n) ≡ u.Number n
+placed_number : (around : List LocalDeclaration) (n : _) → placed around (e.Number n) ≡ u.Number n
 unfolding placed roll-Expr denote.Hole.Carrier.roll
 placed_number around n = fold-roll-Expr UExpr (placed_step around) (Expr-F.Number n)
 
-placed_variable : (around : List Local) (x : List ℕ) → placed around (e.Var x) ≡ u.Var (slot_of around x)
+placed_variable : (around : List LocalDeclaration) (x : List ℕ) → placed around (e.Var x) ≡ u.Var (slot_of around x)
 unfolding placed roll-Expr denote.Hole.Carrier.roll
 placed_variable around x = fold-roll-Expr UExpr (placed_step around) (Expr-F.Var x)
 
-placed_unary : (around : List Local) (op : _) (a : Expr) → placed around (e.Unary op a) ≡ u.Unary op (placed around a)
+placed_unary : (around : List LocalDeclaration) (op : _) (a : Expr) → placed around (e.Unary op a) ≡ u.Unary op (placed around a)
 unfolding placed roll-Expr denote.Hole.Carrier.roll
 placed_unary around op a = fold-roll-Expr UExpr (placed_step around) (Expr-F.Unary op a)
 
-placed_binary : (around : List Local) (op : _) (a b : Expr) → placed around (e.Binary op a b) ≡ u.Binary op (placed around a) (placed around b)
+placed_binary : (around : List LocalDeclaration) (op : _) (a b : Expr) → placed around (e.Binary op a b) ≡ u.Binary op (placed around a) (placed around b)
 unfolding placed roll-Expr denote.Hole.Carrier.roll
 placed_binary around op a b = fold-roll-Expr UExpr (placed_step around) (Expr-F.Binary op a b)
 
 abbrev KeepsSize : Expr → Type 0
-KeepsSize a = (around : List Local) → expr_size (placed around a) ≡ text.expr_size a
+KeepsSize a = (around : List LocalDeclaration) → expr_size (placed around a) ≡ text.expr_size a
 
 abbrev KeptExpr : Type 0
 KeptExpr = (a : Expr) × KeepsSize a
@@ -77,14 +77,14 @@ expr_layer (Expr-F.Binary op a b) around =
     ap expr_size (placed_binary around op a.0 b.0) ∙ binary_size op (placed around a.0) (placed around b.0)
     ∙ ap (λ n. suc (n + expr_size (placed around b.0))) (a.1 around) ∙ ap (λ n. suc (text.expr_size a.0 + n)) (b.1 around) ∙ sym (source.binary_size op a.0 b.0)
 
-pub placed_size : (around : List Local) (a : Expr) → expr_size (placed around a) ≡ text.expr_size a
+pub placed_size : (around : List LocalDeclaration) (a : Expr) → expr_size (placed around a) ≡ text.expr_size a
 placed_size around a = ind-Expr KeepsSize (λ x y is. subst (λ z. KeepsSize (roll-Expr z)) is (expr_layer y)) a around
 
-placed_option_size : (around : List Local) (a : Option Expr) → option_size (placed_option around a) ≡ text.option_size a
+placed_option_size : (around : List LocalDeclaration) (a : Option Expr) → option_size (placed_option around a) ≡ text.option_size a
 placed_option_size around None = refl
 placed_option_size around (Some a) = placed_size around a
 
-placed_all_size : (around : List Local) (es : List Expr) → sum_of (map expr_size (placed_all around es)) ≡ text.exprs_size es
+placed_all_size : (around : List LocalDeclaration) (es : List Expr) → sum_of (map expr_size (placed_all around es)) ≡ text.exprs_size es
 placed_all_size around [] = refl
 placed_all_size around (a ∷ es) = omega (arith, placed_size around a, placed_all_size around es)
 
@@ -122,42 +122,42 @@ declare_within w ty x e line a b r h =
     let p = passed line UnknownName (unknown_in_option (visible a b) e) _ r h in
     let q = passed line Twice (declared_in b.own x) _ r p in
     let s = passed line WrongKind (stream_in_option (visible a b) e) _ r q in
-    made what_extent _ 1 (Declare ty (length b.slots) (placed_option (visible a b) e)) (declared w.names x (Value ty) b) r s
+    made what_extent _ 1 (Declare ty (length b.slots) (placed_option (visible a b) e)) (with_declaration w.names x (Value ty) b) r s
     (is_within _ 1 _ _ (at_declare ty (length b.slots) (placed_option (visible a b) e)) (omega (arith, placed_option_size (visible a b) e)) (omega arith))
 
 store_within : (g : ℕ → UExpr → RWhat) → ((x : ℕ) (e : UExpr) → what_extent (g x e) ≡ plain (suc (expr_size e))) → (x : List ℕ) (e : Expr) (d : ℕ)
     → WhatWithin (suc (text.expr_size e)) d (bind_store g x e)
 store_within g at x e d line a b r h =
-    let v : List Local = visible a b in
+    let v : List LocalDeclaration = visible a b in
     asked_two line UnknownName WrongKind (unknown_in_both v x e) (option_or (no_number v x) (stream_in v e)) (g (slot_of v x) (placed v e)) b r _ d h
     (is_within _ d _ _ (at (slot_of v x) (placed v e)) (omega (arith, placed_size v e)) (omega arith))
 
 next_within : (x : List ℕ) (d : ℕ) → WhatWithin 1 d (bind_next x)
 next_within x d line a b r h =
-    let v : List Local = visible a b in
+    let v : List LocalDeclaration = visible a b in
     asked_two line UnknownName WrongKind (unknown v x) (no_number v x) (Next (slot_of v x)) b r 1 d h (is_within 1 d _ _ (at_next (slot_of v x)) (omega arith) (omega arith))
 
 assign_next_within : (x y : List ℕ) (d : ℕ) → WhatWithin 2 d (bind_assign_next x y)
 assign_next_within x y d line a b r h =
-    let v : List Local = visible a b in
+    let v : List LocalDeclaration = visible a b in
     asked_two line UnknownName WrongKind (unknown_of_two v x y) (option_or (no_number v x) (no_number v y)) (AssignNext (slot_of v x) (slot_of v y)) b r 2 d h
     (is_within 2 d _ _ (at_assign_next (slot_of v x) (slot_of v y)) (omega arith) (omega arith))
 
 get_within : (x y : List ℕ) (d : ℕ) → WhatWithin 2 d (bind_get x y)
 get_within x y d line a b r h =
-    let v : List Local = visible a b in
+    let v : List LocalDeclaration = visible a b in
     asked_two line UnknownName WrongKind (unknown_of_two v x y) (option_or (no_number v x) (no_input v y)) (Get (slot_of v x) (slot_of v y)) b r 2 d h
     (is_within 2 d _ _ (at_get (slot_of v x) (slot_of v y)) (omega arith) (omega arith))
 
 put_within : (x : List ℕ) (e : Expr) (d : ℕ) → WhatWithin (suc (text.expr_size e)) d (bind_put x e)
 put_within x e d line a b r h =
-    let v : List Local = visible a b in
+    let v : List LocalDeclaration = visible a b in
     asked_two line UnknownName WrongKind (unknown_in_both v x e) (option_or (no_output v x) (stream_in v e)) (Put (slot_of v x) (placed v e)) b r _ d h
     (is_within _ d _ _ (at_put (slot_of v x) (placed v e)) (omega (arith, placed_size v e)) (omega arith))
 
 throw_within : (x : List ℕ) (e : Option Expr) (d : ℕ) → WhatWithin (suc (text.option_size e)) d (bind_throw x e)
 throw_within x e d line a b r h =
-    let v : List Local = visible a b in
+    let v : List LocalDeclaration = visible a b in
     asked_two line UnknownException WrongKind (unhandled a.handled x) (stream_in_option v e) (Throw (exception_number a.handled x) (placed_option v e)) b r _ d
     (passed line UnknownName (unknown_in_option v e) _ r h)
     (is_within _ d _ _ (at_throw (exception_number a.handled x) (placed_option v e)) (omega (arith, placed_option_size v e)) (omega arith))
@@ -180,8 +180,8 @@ called_within x g at w c line d a b r h =
 
 block_within : {T : Type 0} (x : T → Extent) (f : Bind T) (n d : ℕ) → BoundWithin x n d f → BoundWithin x n d (bind_block f)
 block_within x f n d k a b r h =
-    let p = first_ok (f (within a b) (opened b)) _ r h in
-    made x n d p.0.tree (closed b p.0.before) r p.2 (k (within a b) (opened b) p.0 p.1)
+    let p = first_ok (f (inside_block a b) (opened b)) _ r h in
+    made x n d p.0.tree (after_block b p.0.before) r p.2 (k (inside_block a b) (opened b) p.0 p.1)
 
 tree_within : {S T : Type 0} (x : S → Extent) (y : T → Extent) (g : S → T) (f : Bind S) (m n d : ℕ) → ((s : S) → IsWithin m d (x s) → IsWithin n d (y (g s))) → BoundWithin x m d f → BoundWithin y n d (on_tree g f)
 tree_within x y g f m n d l k a b r h =
@@ -221,9 +221,9 @@ handler_within w y h n c k a b r is = k a (variable_declared w.names y b) r is
 try_within : (w : Whole) (x : List ℕ) (y : Option (List ℕ)) (f h : Bind (List RStmt)) (m n d c : ℕ) → BoundWithin extent m d f → BoundWithin extent n c h
     → BoundWithin what_extent (suc (m + (text.variable_size y + n))) (d + (text.variable_size y + c)) (bind_try w x y f h)
 try_within w x y f h m n d c k l a b r is =
-    let p = first_ok (bind_block f (caught x a b) (tried w x b)) _ r is in
+    let p = first_ok (bind_block f (with_handled x a b) (tried w x b)) _ r is in
     let q = first_ok (bind_block (bind_handler w y h) a p.0.before) _ r p.2 in
-    let one = block_within extent f m d k (caught x a b) (tried w x b) p.0 p.1 in
+    let one = block_within extent f m d k (with_handled x a b) (tried w x b) p.0 p.1 in
     let slot = variable_within y p.0.before in
     let two = block_within extent (bind_handler w y h) n c (handler_within w y h n c l) a p.0.before q.0 q.1 in
     made what_extent _ _ (Try p.0.tree (a.throws + length b.tries) (variable_slot y p.0.before) q.0.tree) q.0.before r q.2
@@ -243,7 +243,7 @@ parts_within test f g h i m n d c j o k l a b r is =
     made what_extent _ _ (For p.0.tree t q.0.tree s.0.tree) s.0.before r s.2
     (is_within _ _ _ _ (at_for p.0.tree t q.0.tree s.0.tree) (omega (arith, placed_option_size (visible a p.0.before) test, one.size, two.size, three.size)) (omega (arith, one.declared, two.declared, three.declared)))
 
-for_within : (declares : ℕ → List Local) (test : Option Expr) (f g h : Bind (List RStmt)) (i m n d c j : ℕ) → BoundWithin extent i d f → BoundWithin extent m c g → BoundWithin extent n j h
+for_within : (declares : ℕ → List LocalDeclaration) (test : Option Expr) (f g h : Bind (List RStmt)) (i m n d c j : ℕ) → BoundWithin extent i d f → BoundWithin extent m c g → BoundWithin extent n j h
     → WhatWithin (suc (i + (text.option_size test + (m + n)))) (d + (c + j)) (bind_for declares test f g h)
 for_within declares test f g h i m n d c j o k l line a b r is =
     let p = first_ok (bind_first_test declares test line a b) _ r is in
@@ -262,10 +262,10 @@ in_branch n d body k = is_within _ _ _ _ (at_block_branch body) (omega (arith, k
 
 module _ (w : Whole) where
   abbrev branch_what_means : BranchWhat → BranchWhatMeans
-  branch_what_means = fold-BranchWhat BranchWhatMeans WhatMeans BranchMeans StmtMeans (branch_what_step w) (what_step w) branch_step stmt_step
+  branch_what_means = fold-BranchWhat BranchWhatMeans WhatMeans BranchMeans StmtMeans (bind_branch_what_step w) (bind_what_step w) bind_branch_step bind_stmt_step
 
   abbrev what_means : What → WhatMeans
-  what_means = fold-What BranchWhatMeans WhatMeans BranchMeans StmtMeans (branch_what_step w) (what_step w) branch_step stmt_step
+  what_means = fold-What BranchWhatMeans WhatMeans BranchMeans StmtMeans (bind_branch_what_step w) (bind_what_step w) bind_branch_step bind_stmt_step
 
   -- a part that is bound within its size in the text, and its declarations
   abbrev BranchWhatFits : BranchWhatMeans → ℕ → ℕ → Type 0
@@ -281,7 +281,7 @@ module _ (w : Whole) where
   SmallBranch = (b : Branch) × BoundWithin branch_extent (text.branch_size b) (branch_locals b) (bind_branch w b)
 
   abbrev SmallStmt : Type 0
-  SmallStmt = (s : Stmt) × BoundWithin stmt_extent (text.stmt_size s) (stmt_locals s) (meaning w s).bind
+  SmallStmt = (s : Stmt) × BoundWithin stmt_extent (text.stmt_size s) (stmt_locals s) (stmt_meaning w s).bind
 
   abbrev stmts : List SmallStmt → List Stmt
   stmts ys = map (λ (e : SmallStmt). e.0) ys
@@ -289,11 +289,11 @@ module _ (w : Whole) where
   abbrev branches : List SmallBranch → List Branch
   branches ys = map (λ (e : SmallBranch). e.0) ys
 
-  stmts_within : (ys : List SmallStmt) → BoundWithin extent (sum_of (map text.stmt_size (stmts ys))) (sum_of (map stmt_locals (stmts ys))) (bind_all (map (meaning w) (stmts ys)))
+  stmts_within : (ys : List SmallStmt) → BoundWithin extent (sum_of (map text.stmt_size (stmts ys))) (sum_of (map stmt_locals (stmts ys))) (bind_all (map (stmt_meaning w) (stmts ys)))
   stmts_within [] a b r is = made extent 0 0 [] b r is (is_within _ _ _ _ refl (omega arith) (omega arith))
   stmts_within (y ∷ ys) a b r is =
-      let p = first_ok ((meaning w y.0).bind a b) _ r is in
-      let q = first_ok (bind_all (map (meaning w) (stmts ys)) a p.0.before) _ r p.2 in
+      let p = first_ok ((stmt_meaning w y.0).bind a b) _ r is in
+      let q = first_ok (bind_all (map (stmt_meaning w) (stmts ys)) a p.0.before) _ r p.2 in
       let one = y.1 a b p.0 p.1 in
       let rest = stmts_within ys a p.0.before q.0 q.1 in
       made extent _ _ (p.0.tree ∷ q.0.tree) q.0.before r q.2 (is_within _ _ _ _ refl (omega (arith, one.size, rest.size)) (omega (arith, one.declared, rest.declared)))
@@ -320,7 +320,7 @@ module _ (w : Whole) where
   stmt_of y = map-Stmt SmallBranchWhat SmallWhat SmallBranch SmallStmt BranchWhat What Branch Stmt (λ e. e.0) (λ e. e.0) (λ e. e.0) (λ e. e.0) y
 
   branch_what_layer : (y : BranchWhat-F SmallBranchWhat SmallWhat SmallBranch SmallStmt)
-      → BranchWhatFits (branch_what_step w (map-BranchWhat BranchWhat What Branch Stmt BranchWhatMeans WhatMeans BranchMeans StmtMeans branch_what_means what_means (bind_branch w) (meaning w) (branch_what_of y)))
+      → BranchWhatFits (bind_branch_what_step w (map-BranchWhat BranchWhat What Branch Stmt BranchWhatMeans WhatMeans BranchMeans StmtMeans branch_what_means what_means (bind_branch w) (stmt_meaning w) (branch_what_of y)))
       (text.branch_counts (map-BranchWhat BranchWhat What Branch Stmt ℕ ℕ ℕ ℕ source.branch_what_size text.what_size text.branch_size text.stmt_size (branch_what_of y)))
       (counted.branch_counts (map-BranchWhat BranchWhat What Branch Stmt ℕ ℕ ℕ ℕ branch_what_locals what_locals branch_locals stmt_locals (branch_what_of y)))
   branch_what_layer (BranchWhat-F.BranchWhat::Block body) line = tree_within extent branch_what_extent BranchBlock _ _ _ _ (in_branch _ _) (block_within extent _ _ _ (stmts_within body))
@@ -329,7 +329,7 @@ module _ (w : Whole) where
   what_layer : (y : What-F SmallBranchWhat SmallWhat SmallBranch SmallStmt)
       → WhatWithin (text.what_counts (map-What BranchWhat What Branch Stmt ℕ ℕ ℕ ℕ source.branch_what_size text.what_size text.branch_size text.stmt_size (what_of y)))
       (counted.what_counts (map-What BranchWhat What Branch Stmt ℕ ℕ ℕ ℕ branch_what_locals what_locals branch_locals stmt_locals (what_of y)))
-      (what_step w (map-What BranchWhat What Branch Stmt BranchWhatMeans WhatMeans BranchMeans StmtMeans branch_what_means what_means (bind_branch w) (meaning w) (what_of y))).bind
+      (bind_what_step w (map-What BranchWhat What Branch Stmt BranchWhatMeans WhatMeans BranchMeans StmtMeans branch_what_means what_means (bind_branch w) (stmt_meaning w) (what_of y))).bind
   what_layer (What-F.Declare ty x e) line = declare_within w ty x e line
   what_layer (What-F.Assign x e) line = store_within Assign at_assign x e 0 line
   what_layer (What-F.Next x) line = next_within x 0 line
@@ -339,7 +339,7 @@ module _ (w : Whole) where
   what_layer (What-F.Put x e) line = put_within x e 0 line
   what_layer (What-F.If e first other) line = if_within e _ _ _ _ _ _ (stmts_within first) (stmts_within other) line
   what_layer (What-F.While e body) line = while_within e _ _ _ (stmts_within body) line
-  what_layer (What-F.For first test step body) line = for_within (first_declares (map (meaning w) (stmts first))) test _ _ _ _ _ _ _ _ _ (stmts_within first) (stmts_within step) (stmts_within body) line
+  what_layer (What-F.For first test step body) line = for_within (first_declares (map (stmt_meaning w) (stmts first))) test _ _ _ _ _ _ _ _ _ (stmts_within first) (stmts_within step) (stmts_within body) line
   what_layer (What-F.What::Block body) line = tree_within extent what_extent RBlock _ _ _ _ (in_block _ _) (block_within extent _ _ _ (stmts_within body))
   what_layer (What-F.What::Call c) line = called_within what_extent RCalled at_call w c line 0
   what_layer (What-F.Try body x y handler) line = try_within w x y _ _ _ _ _ _ (stmts_within body) (stmts_within handler)
@@ -353,13 +353,13 @@ module _ (w : Whole) where
   branch_what_case : (x : BranchWhat-F BranchWhat What Branch Stmt) (y : BranchWhat-F SmallBranchWhat SmallWhat SmallBranch SmallStmt) → branch_what_of y ≡ x
       → BranchWhatFits (branch_what_means (roll-BranchWhat x)) (source.branch_what_size (roll-BranchWhat x)) (branch_what_locals (roll-BranchWhat x))
   branch_what_case x y is = subst (λ z. BranchWhatFits (branch_what_means (roll-BranchWhat z)) (source.branch_what_size (roll-BranchWhat z)) (branch_what_locals (roll-BranchWhat z))) is (λ line.
-      same_within branch_what_extent _ _ _ _ _ _ (ap (λ (k : BranchWhatMeans). k line) (fold-roll-BranchWhat BranchWhatMeans WhatMeans BranchMeans StmtMeans (branch_what_step w) (what_step w) branch_step stmt_step (branch_what_of y)))
+      same_within branch_what_extent _ _ _ _ _ _ (ap (λ (k : BranchWhatMeans). k line) (fold-roll-BranchWhat BranchWhatMeans WhatMeans BranchMeans StmtMeans (bind_branch_what_step w) (bind_what_step w) bind_branch_step bind_stmt_step (branch_what_of y)))
       (source.at_branch (branch_what_of y)) (counted.at_branch (branch_what_of y)) (branch_what_layer y line))
 
   what_case : (x : What-F BranchWhat What Branch Stmt) (y : What-F SmallBranchWhat SmallWhat SmallBranch SmallStmt) → what_of y ≡ x
       → WhatWithin (text.what_size (roll-What x)) (what_locals (roll-What x)) (what_means (roll-What x)).bind
   what_case x y is = subst (λ z. WhatWithin (text.what_size (roll-What z)) (what_locals (roll-What z)) (what_means (roll-What z)).bind) is (λ line.
-      same_within what_extent _ _ _ _ _ _ (ap (λ (k : WhatMeans). k.bind line) (fold-roll-What BranchWhatMeans WhatMeans BranchMeans StmtMeans (branch_what_step w) (what_step w) branch_step stmt_step (what_of y)))
+      same_within what_extent _ _ _ _ _ _ (ap (λ (k : WhatMeans). k.bind line) (fold-roll-What BranchWhatMeans WhatMeans BranchMeans StmtMeans (bind_branch_what_step w) (bind_what_step w) bind_branch_step bind_stmt_step (what_of y)))
       (source.at_what (what_of y)) (counted.at_what (what_of y)) (what_layer y line))
 
   in_line : (line n d : ℕ) (t : RWhat) → IsWithin n d (what_extent t) → IsWithin n d (stmt_extent (record { line = line; what = t }))
@@ -371,25 +371,25 @@ module _ (w : Whole) where
   branch_case : (x : Branch-F BranchWhat What Branch Stmt) (y : Branch-F SmallBranchWhat SmallWhat SmallBranch SmallStmt) → branch_of y ≡ x
       → BoundWithin branch_extent (text.branch_size (roll-Branch x)) (branch_locals (roll-Branch x)) (bind_branch w (roll-Branch x))
   branch_case x y is = subst (λ z. BoundWithin branch_extent (text.branch_size (roll-Branch z)) (branch_locals (roll-Branch z)) (bind_branch w (roll-Branch z))) is
-      (same_within branch_extent _ _ _ _ _ _ (fold-roll-Branch BranchWhatMeans WhatMeans BranchMeans StmtMeans (branch_what_step w) (what_step w) branch_step stmt_step (branch_of y))
+      (same_within branch_extent _ _ _ _ _ _ (fold-roll-Branch BranchWhatMeans WhatMeans BranchMeans StmtMeans (bind_branch_what_step w) (bind_what_step w) bind_branch_step bind_stmt_step (branch_of y))
       (source.of_branch (roll-Branch (branch_of y))) (counted.of_branch (roll-Branch (branch_of y)))
       (tree_within branch_what_extent branch_extent (λ t. record { line = y.line; what = t }) _ _ _ _ (branch_in_line y.line _ _) (y.what.1 y.line)))
 
   stmt_case : (x : Stmt-F BranchWhat What Branch Stmt) (y : Stmt-F SmallBranchWhat SmallWhat SmallBranch SmallStmt) → stmt_of y ≡ x
-      → BoundWithin stmt_extent (text.stmt_size (roll-Stmt x)) (stmt_locals (roll-Stmt x)) (meaning w (roll-Stmt x)).bind
-  stmt_case x y is = subst (λ z. BoundWithin stmt_extent (text.stmt_size (roll-Stmt z)) (stmt_locals (roll-Stmt z)) (meaning w (roll-Stmt z)).bind) is
-      (same_within stmt_extent _ _ _ _ _ _ (ap (λ (k : StmtMeans). k.bind) (fold-roll-Stmt BranchWhatMeans WhatMeans BranchMeans StmtMeans (branch_what_step w) (what_step w) branch_step stmt_step (stmt_of y)))
+      → BoundWithin stmt_extent (text.stmt_size (roll-Stmt x)) (stmt_locals (roll-Stmt x)) (stmt_meaning w (roll-Stmt x)).bind
+  stmt_case x y is = subst (λ z. BoundWithin stmt_extent (text.stmt_size (roll-Stmt z)) (stmt_locals (roll-Stmt z)) (stmt_meaning w (roll-Stmt z)).bind) is
+      (same_within stmt_extent _ _ _ _ _ _ (ap (λ (k : StmtMeans). k.bind) (fold-roll-Stmt BranchWhatMeans WhatMeans BranchMeans StmtMeans (bind_branch_what_step w) (bind_what_step w) bind_branch_step bind_stmt_step (stmt_of y)))
       (source.of_stmt (roll-Stmt (stmt_of y))) (counted.of_stmt (roll-Stmt (stmt_of y)))
       (tree_within what_extent stmt_extent (λ t. record { line = y.line; what = t }) _ _ _ _ (in_line y.line _ _) (y.what.1 y.line)))
 
-  stmt_within : (s : Stmt) → BoundWithin stmt_extent (text.stmt_size s) (stmt_locals s) (meaning w s).bind
+  stmt_within : (s : Stmt) → BoundWithin stmt_extent (text.stmt_size s) (stmt_locals s) (stmt_meaning w s).bind
   stmt_within = ind-Stmt (λ x. BranchWhatFits (branch_what_means x) (source.branch_what_size x) (branch_what_locals x)) (λ x. WhatWithin (text.what_size x) (what_locals x) (what_means x).bind)
-      (λ b. BoundWithin branch_extent (text.branch_size b) (branch_locals b) (bind_branch w b)) (λ s. BoundWithin stmt_extent (text.stmt_size s) (stmt_locals s) (meaning w s).bind) branch_what_case what_case branch_case stmt_case
+      (λ b. BoundWithin branch_extent (text.branch_size b) (branch_locals b) (bind_branch w b)) (λ s. BoundWithin stmt_extent (text.stmt_size s) (stmt_locals s) (stmt_meaning w s).bind) branch_what_case what_case branch_case stmt_case
 
   body_within : (body : List Stmt) → BoundWithin extent (text.stmts_size body) (locals body) (bind_stmts w body)
   body_within [] a b r is = made extent 0 0 [] b r is (is_within _ _ _ _ refl (omega arith) (omega arith))
   body_within (s ∷ body) a b r is =
-      let p = first_ok ((meaning w s).bind a b) _ r is in
+      let p = first_ok ((stmt_meaning w s).bind a b) _ r is in
       let q = first_ok (bind_stmts w body a p.0.before) _ r p.2 in
       let one = stmt_within s a b p.0 p.1 in
       let rest = body_within body a p.0.before q.0 q.1 in
@@ -411,7 +411,7 @@ record IsSmaller (f : Function) (g : RFunction) : Type 0 where
 
 of_function : (w : Whole) (f : Function) (r : BoundTo (List RStmt)) → IsWithin (text.stmts_size f.body) (locals f.body) (extent r.tree) → IsSmaller f (made_function w f r)
 of_function w f r k = record {
-  size = omega (arith, k.size, length-map f.params (placed_param w.names), length-map f.throws (number_of w.names));
+  size = omega (arith, k.size, length-map f.params (placed_param w.names), length-map f.throws (name_index w.names));
   slots = λ h. omega (arith, h, k.declared, length-map f.params (placed_param w.names));
 }
 

@@ -8,8 +8,8 @@ use Rattle.shim_syntax.specs.declared.tree.Sort.{Sort}
 use Rattle.shim_scopes.specs.declared.tree.RFunction.{RFunction}
 use Rattle.shim_scopes.specs.declared.form.Form.{Form as Resolved}
 use Rattle.shim_units.specs.declared.found.Use.{Use}
-use Rattle.shim_units.specs.Parts.{Place}
-use Rattle.shim_units.specs.Parts.Place.{Fork}
+use Rattle.shim_units.specs.Parts.{SharingPlace}
+use Rattle.shim_units.specs.Parts.SharingPlace.{Fork}
 use Rattle.shim_units.specs.Captures.{Captures, captures, is_reference}
 use Rattle.shim_units.specs.Rule.{AreDisjoint, IsDisjointFromAll, ArePairwiseDisjoint, ObeysAt, Obey}
 use Rattle.shim_units.specs.PartFold.{places_in}
@@ -18,7 +18,7 @@ use Rattle.shim_sharing.specs.Refusals.{refusal}
 use Rattle.shim_sharing.specs.Laws.{HasTwoWriters}
 use Rattle.shim_sharing.proofs.Rule.{obeys_unless_refused}
 
-obeys_there : (sorts : List Sort) (ps : List Place) (m : ℕ) (p : Place) → Obey sorts ps → slice_get ps m ≡ Some p → ObeysAt sorts p
+obeys_there : (sorts : List Sort) (ps : List SharingPlace) (m : ℕ) (p : SharingPlace) → Obey sorts ps → slice_get ps m ≡ Some p → ObeysAt sorts p
 obeys_there sorts [] m p o e = cc
 obeys_there sorts (q ∷ qs) zero p o e = let same : q ≡ p = cc in subst (ObeysAt sorts) same o.0
 obeys_there sorts (q ∷ qs) (suc m) p o e = obeys_there sorts qs m p o.1 e

@@ -8,18 +8,18 @@ use Rattle.shim_sharing.specs.declared.fork.Clash.{Clash}
 use Rattle.shim_sharing.specs.declared.found.Offence.{Offence}
 use Rattle.shim_sharing.specs.declared.found.Offence.TheVariants.{TwoWriters, Alias}
 use Rattle.shim_sharing.specs.Laws.{IsToldOf, IsFirstOffence, IsFirstRefusalIn, IsFirstRefusal}
-use Rattle.shim_sharing.specs.Refusals.{told, refused_for, function_refusal, refusal_in, refusal}
-use Rattle.shim_sharing.specs.Sharing.{clash_from, two_writers, given_again, alias, offence_at, first_offence}
+use Rattle.shim_sharing.specs.Refusals.{share_fault, fault_for, function_refusal, refusal_in, refusal}
+use Rattle.shim_sharing.specs.Sharing.{clash_from, clash_offence, given_again, alias, offence_at, first_offence}
 use Rattle.shim_units.specs.PartFold.{places_in}
-use Rattle.shim_units.specs.Parts.{Place}
-use Rattle.shim_units.specs.Parts.Place.{Fork, Called}
+use Rattle.shim_units.specs.Parts.{SharingPlace}
+use Rattle.shim_units.specs.Parts.SharingPlace.{Fork, Called}
 use Rattle.shim_units.specs.Rule.{ObeysAt}
 use Rattle.shim_units.specs.Captures.{captures}
 use Rattle.shim_sharing.proofs.Aliases.{leftmost_alias}
 use Rattle.shim_sharing.proofs.LeastClash.{clash_is_least, some_or}
 use Rattle.shim_sharing.proofs.Rule.{obeys_at, none_at, all_obey, refused_none}
 
-two_of : (line : ℕ) (found : Option Clash) (o : Offence) → two_writers line found ≡ Some o → (c : Clash) × (found ≡ Some c) × (o ≡ TwoWriters line c.first c.second c.slot)
+two_of : (line : ℕ) (found : Option Clash) (o : Offence) → clash_offence line found ≡ Some o → (c : Clash) × (found ≡ Some c) × (o ≡ TwoWriters line c.first c.second c.slot)
 two_of line None o e = cc
 two_of line (Some c) o e = (c, refl, cc)
 
@@ -27,7 +27,7 @@ alias_of : (line : ℕ) (found : Option ℕ) (o : Offence) → alias line found 
 alias_of line None o e = cc
 alias_of line (Some x) o e = (x, refl, cc)
 
-told_of : (sorts : List Sort) (p : Place) (o : Offence) → offence_at sorts p ≡ Some o → IsToldOf sorts p o
+told_of : (sorts : List Sort) (p : SharingPlace) (o : Offence) → offence_at sorts p ≡ Some o → IsToldOf sorts p o
 told_of sorts (Fork line branches) o e =
     let w = two_of line (clash_from (length sorts) 0 (map (captures sorts) branches)) o e in
     let least = clash_is_least (length sorts) (map (captures sorts) branches) w.0 w.1 in
@@ -36,10 +36,10 @@ told_of sorts (Called line gs) o e =
     let w = alias_of line (given_again [] gs) o e in
     (w.0, w.2, leftmost_alias gs w.0 w.1)
 
-not_obeyed : (sorts : List Sort) (p : Place) (o : Offence) → offence_at sorts p ≡ Some o → ObeysAt sorts p → ⊥
+not_obeyed : (sorts : List Sort) (p : SharingPlace) (o : Offence) → offence_at sorts p ≡ Some o → ObeysAt sorts p → ⊥
 not_obeyed sorts p o e obeyed = let none : offence_at sorts p ≡ None = none_at sorts p obeyed in absurd (cc)
 
-pub first_place : (sorts : List Sort) (ps : List Place) (o : Offence) → first_offence sorts ps ≡ Some o → IsFirstOffence sorts ps o
+pub first_place : (sorts : List Sort) (ps : List SharingPlace) (o : Offence) → first_offence sorts ps ≡ Some o → IsFirstOffence sorts ps o
 first_place sorts [] o e = cc
 first_place sorts (p ∷ ps) o e =
     elim (some_or (offence_at sorts p) (first_offence sorts ps) o e) [
@@ -65,7 +65,7 @@ first_place sorts (p ∷ ps) o e =
           }
     ]
 
-refused_of : (names : List (List ℕ)) (f : RFunction) (found : Option Offence) (fault : ShareFault) → refused_for names f found ≡ Some fault → (o : Offence) × (found ≡ Some o) × (fault ≡ told names f o)
+refused_of : (names : List (List ℕ)) (f : RFunction) (found : Option Offence) (fault : ShareFault) → fault_for names f found ≡ Some fault → (o : Offence) × (found ≡ Some o) × (fault ≡ share_fault names f o)
 refused_of names f None fault e = cc
 refused_of names f (Some o) fault e = (o, refl, cc)
 

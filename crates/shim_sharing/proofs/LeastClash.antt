@@ -6,7 +6,7 @@ use Rattle.shim_sharing.specs.declared.fork.Clash.{Clash}
 use Rattle.shim_units.specs.declared.found.Capture.{Capture}
 use Rattle.shim_units.specs.declared.found.Capture.TheVariants.{Nothing, Copy, Reference}
 use Rattle.shim_units.specs.Captures.{Captures, is_reference}
-use Rattle.shim_sharing.specs.Sharing.{if_true, least, common, clash_at, clash_with, clash_from}
+use Rattle.shim_sharing.specs.Sharing.{if_true, least_below, common, clash_at, clash_with, clash_from}
 use Rattle.shim_sharing.specs.Laws.{IsClash, IsLeast}
 use Rattle.shim_sharing.proofs.Rule.{none_below, left_true, right_true, first_none, second_none, clash_none}
 use Rattle.shim_base.proofs.Facts.{both_hold}
@@ -30,10 +30,10 @@ record LeastOf (n : ℕ) (p : ℕ → Bool) (x : ℕ) : Type 0 where
   passes : p x ≡ true
   least : (y : ℕ) → y < x → p y ≡ true → ⊥
 
-least_of : (n : ℕ) (p : ℕ → Bool) (x : ℕ) → least n p ≡ Some x → LeastOf n p x
+least_of : (n : ℕ) (p : ℕ → Bool) (x : ℕ) → least_below n p ≡ Some x → LeastOf n p x
 least_of zero p x e = cc
 least_of (suc n) p x e =
-    elim (some_or (least n p) (if_true n (p n)) x e) [
+    elim (some_or (least_below n p) (if_true n (p n)) x e) [
       | inl here ↦ let h : LeastOf n p x = least_of n p x here in record { below = omega (arith, h.below); passes = h.passes; least = h.least }
       | inr w ↦
           let t : (p n ≡ true) × (n ≡ x) = true_of n x (p n) w.1 in

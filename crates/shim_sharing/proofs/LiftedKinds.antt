@@ -8,23 +8,23 @@ use Rattle.shim_units.specs.declared.unit.UStmt.{UStmt}
 use Rattle.shim_units.specs.declared.unit.UWhat.TheVariants as u
 use Rattle.shim_units.specs.declared.slot_map.SlotMap.{SlotMap}
 use Rattle.shim_units.specs.Parts.{LiftContext, Part}
-use Rattle.shim_units.specs.Moving.{slot_index_of, slot_index_of_option, moved, moved_option}
+use Rattle.shim_units.specs.Moving.{slot_index_of, slot_index_of_option, renumbered, moved_option}
 use Rattle.shim_units.specs.PartFold.{part, lift_in}
 use Rattle.shim_units.proofs.EachKind.{at_if, at_for, at_try}
 use Rattle.shim_sharing.proofs.Lifts.{two_tree, two_units, three_tree, three_units}
 
 pub if_tree : (context : LiftContext) (w : SlotMap) (n : ℕ) (us vs : List UnitOf) (s : RStmt) (e : UExpr) (first other : List RStmt) (test : UExpr) (r q : List UStmt) → s.what ≡ is.If e first other
-    → test ≡ moved w.slots e → r ≡ (lift_in first context w (n + length us)).tree → vs ≡ us ++ (lift_in first context w (n + length us)).units → q ≡ (lift_in other context w (n + length vs)).tree
+    → test ≡ renumbered w.slots e → r ≡ (lift_in first context w (n + length us)).tree → vs ≡ us ++ (lift_in first context w (n + length us)).units → q ≡ (lift_in other context w (n + length vs)).tree
     → u.If test r q ≡ ((part s).lift context w (n + length us)).tree.what
 if_tree context w n us vs s e first other test r q kind tested made behind next =
-    ap (λ t. u.If t r q) tested ∙ two_tree (u.If (moved w.slots e)) (lift_in first) (lift_in other) context w n us vs r q made behind next
+    ap (λ t. u.If t r q) tested ∙ two_tree (u.If (renumbered w.slots e)) (lift_in first) (lift_in other) context w n us vs r q made behind next
     ∙ sym (ap (λ (p : Part UStmt). (p.lift context w (n + length us)).tree.what) (at_if s e first other kind))
 
 pub if_units : (context : LiftContext) (w : SlotMap) (n : ℕ) (us vs ws : List UnitOf) (s : RStmt) (e : UExpr) (first other : List RStmt) → s.what ≡ is.If e first other
     → vs ≡ us ++ (lift_in first context w (n + length us)).units → ws ≡ vs ++ (lift_in other context w (n + length vs)).units
     → ws ≡ us ++ ((part s).lift context w (n + length us)).units
 if_units context w n us vs ws s e first other kind behind next =
-    two_units (u.If (moved w.slots e)) (lift_in first) (lift_in other) context w n us vs ws behind next
+    two_units (u.If (renumbered w.slots e)) (lift_in first) (lift_in other) context w n us vs ws behind next
     ∙ sym (ap (λ (p : Part UStmt). us ++ (p.lift context w (n + length us)).units) (at_if s e first other kind))
 
 pub try_tree : (context : LiftContext) (w : SlotMap) (n : ℕ) (us vs : List UnitOf) (s : RStmt) (body : List RStmt) (x : ℕ) (y : Option ℕ) (handler : List RStmt) (made : ℕ) (slot : Option ℕ) (r q : List UStmt)

@@ -20,11 +20,11 @@ use Rattle.shim_units.specs.declared.unit.UWhat.TheVariants.{Declare, Assign, Ne
 use Rattle.shim_units.specs.declared.unit.UBranch.{UBranch}
 use Rattle.shim_units.specs.declared.slot_map.SlotMap.{SlotMap}
 use Rattle.shim_units.specs.Calls.{bare, lends_first, behind_first, params_at}
-use Rattle.shim_units.specs.Moving.{slot_index_of, slot_index_of_option, moved_step, moved, moved_option, by_mode, arg_of, args_of, moved_call}
+use Rattle.shim_units.specs.Moving.{slot_index_of, slot_index_of_option, moved_step, renumbered, moved_option, by_mode, arg_of, args_of, moved_call}
 use Rattle.shim_units.specs.Parts.{LiftContext, Part, Lifts, all_places, all_declares, all_tries}
 use Rattle.shim_units.specs.Captures.{Captures, is_reference, is_taken}
 use Rattle.shim_units.specs.Own.{some_slot}
-use Rattle.shim_units.specs.Lifting.{lift_all, whole, on_tree, lift_two, lift_three, branch_arg, branch_param, branch_captures, branch_slots, branch_inner, lift_branch}
+use Rattle.shim_units.specs.Lifting.{lift_all, unlifted, on_tree, lift_two, lift_three, branch_arg, branch_param, branch_captures, branch_slots, branch_inner, lift_branch}
 use Rattle.shim_units.specs.PartFold.{branch_what_step, what_step, branch_step, stmt_step, in_line, part, parts, branch_part, branch_parts}
 use Rattle.shim_units.specs.Sizes.{Extent, plain, declaration, larger, both, apart, variable_extent, slot_size, expr_size, option_size, call_size, branch_extents, what_extents, branch_what_extent, what_extent, branch_extent, stmt_extent, extent, fork_extent, arg_size, args_size, unit_call_size, units_size, units_points}
 use Rattle.shim_sharing.proofs.ForkSizes.{ForksWithin, forks_fewer, forks_of_both, uses_of_each}
@@ -35,25 +35,25 @@ use Rattle.shim_units.proofs.PartSteps.{branch_what_part}
 
 -- an expression keeps its size
 
-moved_number : (slots : List ℕ) (n : _) → moved slots (e.Number n) ≡ e.Number n
-unfolding moved roll-UExpr denote.Hole.Carrier.roll
+moved_number : (slots : List ℕ) (n : _) → renumbered slots (e.Number n) ≡ e.Number n
+unfolding renumbered roll-UExpr denote.Hole.Carrier.roll
 moved_number slots n = fold-roll-UExpr UExpr (moved_step slots) (UExpr-F.Number n)
 
-moved_variable : (slots : List ℕ) (x : ℕ) → moved slots (e.Var x) ≡ e.Var (slot_index_of slots x)
-unfolding moved roll-UExpr denote.Hole.Carrier.roll
+moved_variable : (slots : List ℕ) (x : ℕ) → renumbered slots (e.Var x) ≡ e.Var (slot_index_of slots x)
+unfolding renumbered roll-UExpr denote.Hole.Carrier.roll
 moved_variable slots x = fold-roll-UExpr UExpr (moved_step slots) (UExpr-F.Var x)
 
-moved_unary : (slots : List ℕ) (op : _) (a : UExpr) → moved slots (e.Unary op a) ≡ e.Unary op (moved slots a)
-unfolding moved roll-UExpr denote.Hole.Carrier.roll
+moved_unary : (slots : List ℕ) (op : _) (a : UExpr) → renumbered slots (e.Unary op a) ≡ e.Unary op (renumbered slots a)
+unfolding renumbered roll-UExpr denote.Hole.Carrier.roll
 moved_unary slots op a = fold-roll-UExpr UExpr (moved_step slots) (UExpr-F.Unary op a)
 
-moved_binary : (slots : List ℕ) (op : _) (a b : UExpr) → moved slots (e.Binary op a b) ≡ e.Binary op (moved slots a) (moved slots b)
-unfolding moved roll-UExpr denote.Hole.Carrier.roll
+moved_binary : (slots : List ℕ) (op : _) (a b : UExpr) → renumbered slots (e.Binary op a b) ≡ e.Binary op (renumbered slots a) (renumbered slots b)
+unfolding renumbered roll-UExpr denote.Hole.Carrier.roll
 moved_binary slots op a b = fold-roll-UExpr UExpr (moved_step slots) (UExpr-F.Binary op a b)
 
 record KeepsSize (a : UExpr) : Type 0 where
   pub some : 1 ≤ expr_size a
-  pub same : (slots : List ℕ) → expr_size (moved slots a) ≡ expr_size a
+  pub same : (slots : List ℕ) → expr_size (renumbered slots a) ≡ expr_size a
 
 abbrev KeptExpr : Type 0
 KeptExpr = (a : UExpr) × KeepsSize a
@@ -64,12 +64,12 @@ expr_layer (UExpr-F.Number n) = record { some = omega (arith, number_size n); sa
 expr_layer (UExpr-F.Var x) = record { some = omega (arith, variable_size x); same = λ slots. ap expr_size (moved_variable slots x) ∙ variable_size (slot_index_of slots x) ∙ sym (variable_size x) }
 expr_layer (UExpr-F.Unary op a) = record {
   some = omega (arith, unary_size op a.0);
-  same = λ slots. ap expr_size (moved_unary slots op a.0) ∙ unary_size op (moved slots a.0) ∙ ap suc (a.1.same slots) ∙ sym (unary_size op a.0);
+  same = λ slots. ap expr_size (moved_unary slots op a.0) ∙ unary_size op (renumbered slots a.0) ∙ ap suc (a.1.same slots) ∙ sym (unary_size op a.0);
 }
 expr_layer (UExpr-F.Binary op a b) = record {
   some = omega (arith, binary_size op a.0 b.0);
-  same = λ slots. ap expr_size (moved_binary slots op a.0 b.0) ∙ binary_size op (moved slots a.0) (moved slots b.0)
-      ∙ ap (λ n. suc (n + expr_size (moved slots b.0))) (a.1.same slots) ∙ ap (λ n. suc (expr_size a.0 + n)) (b.1.same slots) ∙ sym (binary_size op a.0 b.0);
+  same = λ slots. ap expr_size (moved_binary slots op a.0 b.0) ∙ binary_size op (renumbered slots a.0) (renumbered slots b.0)
+      ∙ ap (λ n. suc (n + expr_size (renumbered slots b.0))) (a.1.same slots) ∙ ap (λ n. suc (expr_size a.0 + n)) (b.1.same slots) ∙ sym (binary_size op a.0 b.0);
 }
 
 kept : (a : UExpr) → KeepsSize a
@@ -131,7 +131,7 @@ is_small : (n : ℕ) (m k : Measure) → m ≡ k → k.size ≤ n → k.points �
 is_small n m k e s p = record { size = omega (arith, ap (λ (z : Measure). z.size) e, s); points = omega (arith, ap (λ (z : Measure). z.points) e, p) }
 
 -- a part that nothing is lifted out of
-alone : {T : Type 0} (m : T → Measure) (x : Extent) (f : LiftContext → SlotMap → T) → ((context : LiftContext) (w : SlotMap) → IsSmall x.size (m (f context w))) → LiftsWithin m x (λ context w n. whole (f context w))
+alone : {T : Type 0} (m : T → Measure) (x : Extent) (f : LiftContext → SlotMap → T) → ((context : LiftContext) (w : SlotMap) → IsSmall x.size (m (f context w))) → LiftsWithin m x (λ context w n. unlifted (f context w))
 alone m x f small = record {
   points = λ context w n. omega (arith, (small context w).points);
   size = λ context w n few. omega (arith, (small context w).size);
@@ -353,8 +353,8 @@ what_layer (RWhat-F.Assign x a) line = record {
   tries = omega arith;
   some = omega arith;
   forks = λ fs. tt;
-  lifts = alone measure_what (plain (suc (expr_size a))) (λ context w. Assign (slot_index_of w.slots x) (moved w.slots a))
-      (λ context w. is_small _ _ _ (at_assign (slot_index_of w.slots x) (moved w.slots a)) (omega (arith, (kept a).same w.slots)) (omega arith));
+  lifts = alone measure_what (plain (suc (expr_size a))) (λ context w. Assign (slot_index_of w.slots x) (renumbered w.slots a))
+      (λ context w. is_small _ _ _ (at_assign (slot_index_of w.slots x) (renumbered w.slots a)) (omega (arith, (kept a).same w.slots)) (omega arith));
 }
 what_layer (RWhat-F.Next x) line = record {
   declares = omega arith;
@@ -370,8 +370,8 @@ what_layer (RWhat-F.NextAssign x a) line = record {
   tries = omega arith;
   some = omega arith;
   forks = λ fs. tt;
-  lifts = alone measure_what (plain (suc (expr_size a))) (λ context w. NextAssign (slot_index_of w.slots x) (moved w.slots a))
-      (λ context w. is_small _ _ _ (at_next_assign (slot_index_of w.slots x) (moved w.slots a)) (omega (arith, (kept a).same w.slots)) (omega arith));
+  lifts = alone measure_what (plain (suc (expr_size a))) (λ context w. NextAssign (slot_index_of w.slots x) (renumbered w.slots a))
+      (λ context w. is_small _ _ _ (at_next_assign (slot_index_of w.slots x) (renumbered w.slots a)) (omega (arith, (kept a).same w.slots)) (omega arith));
 }
 what_layer (RWhat-F.AssignNext x y) line = record {
   declares = omega arith;
@@ -395,8 +395,8 @@ what_layer (RWhat-F.Put x a) line = record {
   tries = omega arith;
   some = omega arith;
   forks = λ fs. tt;
-  lifts = alone measure_what (plain (suc (expr_size a))) (λ context w. Put (slot_index_of w.slots x) (moved w.slots a))
-      (λ context w. is_small _ _ _ (at_put (slot_index_of w.slots x) (moved w.slots a)) (omega (arith, (kept a).same w.slots)) (omega arith));
+  lifts = alone measure_what (plain (suc (expr_size a))) (λ context w. Put (slot_index_of w.slots x) (renumbered w.slots a))
+      (λ context w. is_small _ _ _ (at_put (slot_index_of w.slots x) (renumbered w.slots a)) (omega (arith, (kept a).same w.slots)) (omega arith));
 }
 what_layer (RWhat-F.If a first other) line =
     let one = stmts_within first in
@@ -407,9 +407,9 @@ what_layer (RWhat-F.If a first other) line =
       tries = omega (arith, one.tries, rest.tries, length-append (all_tries (parts (stmts first))) (all_tries (parts (stmts other))));
       some = omega arith;
       forks = λ fs. forks_of_both (extent (stmts first)).size (extent (stmts other)).size _ (all_places fs (parts (stmts first))) (all_places fs (parts (stmts other))) (omega arith) (omega arith) (one.forks fs) (rest.forks fs);
-      lifts = two measure measure measure_what (extent (stmts first)) (extent (stmts other)) (suc (expr_size a)) (λ w r s. If (moved w.slots a) r s) (lift_all (parts (stmts first))) (lift_all (parts (stmts other)))
-          (λ w r s. omega (arith, ap (λ (z : Measure). z.points) (at_if (moved w.slots a) r s)))
-          (λ w r s. omega (arith, (kept a).same w.slots, ap (λ (z : Measure). z.size) (at_if (moved w.slots a) r s)))
+      lifts = two measure measure measure_what (extent (stmts first)) (extent (stmts other)) (suc (expr_size a)) (λ w r s. If (renumbered w.slots a) r s) (lift_all (parts (stmts first))) (lift_all (parts (stmts other)))
+          (λ w r s. omega (arith, ap (λ (z : Measure). z.points) (at_if (renumbered w.slots a) r s)))
+          (λ w r s. omega (arith, (kept a).same w.slots, ap (λ (z : Measure). z.size) (at_if (renumbered w.slots a) r s)))
           one.lifts rest.lifts;
     }
 what_layer (RWhat-F.While a body) line =
@@ -420,9 +420,9 @@ what_layer (RWhat-F.While a body) line =
       tries = omega (arith, one.tries);
       some = omega arith;
       forks = λ fs. forks_fewer (extent (stmts body)).size _ (all_places fs (parts (stmts body))) (omega arith) (one.forks fs);
-      lifts = around measure measure_what (extent (stmts body)) (larger (suc (expr_size a)) (extent (stmts body))) (suc (expr_size a)) 1 (λ w s. While (moved w.slots a) s) (lift_all (parts (stmts body)))
-          (λ w s. omega (arith, ap (λ (z : Measure). z.points) (at_while (moved w.slots a) s)))
-          (λ w s. omega (arith, (kept a).same w.slots, ap (λ (z : Measure). z.size) (at_while (moved w.slots a) s)))
+      lifts = around measure measure_what (extent (stmts body)) (larger (suc (expr_size a)) (extent (stmts body))) (suc (expr_size a)) 1 (λ w s. While (renumbered w.slots a) s) (lift_all (parts (stmts body)))
+          (λ w s. omega (arith, ap (λ (z : Measure). z.points) (at_while (renumbered w.slots a) s)))
+          (λ w s. omega (arith, (kept a).same w.slots, ap (λ (z : Measure). z.size) (at_while (renumbered w.slots a) s)))
           (omega arith) (omega arith) (omega arith) one.lifts;
     }
 what_layer (RWhat-F.For first test step body) line =

@@ -10,14 +10,14 @@ use Rattle.shim_sharing.specs.declared.fork.Clash.{Clash}
 use Rattle.shim_units.specs.declared.found.Given.{Given}
 use Rattle.shim_sharing.specs.declared.found.Offence.{Offence}
 use Rattle.shim_units.specs.declared.found.Use.{Use}
-use Rattle.shim_units.specs.Parts.{Place}
-use Rattle.shim_units.specs.Parts.Place.{Fork, Called}
-use Rattle.shim_units.specs.Captures.{Captures, captures, taken_of, declares, writes, names, is_reference}
+use Rattle.shim_units.specs.Parts.{SharingPlace}
+use Rattle.shim_units.specs.Parts.SharingPlace.{Fork, Called}
+use Rattle.shim_units.specs.Captures.{Captures, captures, taken_of, declares_variable, writes, names, is_reference}
 use Rattle.shim_units.specs.Rule.{AreDisjoint, IsDisjointFromAll, ArePairwiseDisjoint, GivesOnce, ObeysAt, Obey, stands_in}
-use Rattle.shim_sharing.specs.Sharing.{if_true, least, common, clash_at, clash_with, clash_from, two_writers, again, given_again, alias, offence_at, first_offence}
+use Rattle.shim_sharing.specs.Sharing.{if_true, least_below, common, clash_at, clash_with, clash_from, clash_offence, again, given_again, alias, offence_at, first_offence}
 use Rattle.shim_units.specs.PartFold.{places_in}
 use Rattle.shim_units.specs.Rule.{ObeyAll, Obeys}
-use Rattle.shim_sharing.specs.Refusals.{refused_for, function_refusal, refusal_in, refusal}
+use Rattle.shim_sharing.specs.Refusals.{fault_for, function_refusal, refusal_in, refusal}
 use Rattle.shim_base.proofs.Facts.{both_hold}
 
 -- neither of two
@@ -48,19 +48,19 @@ pub right_true : (a b : Bool) → (a && b) ≡ true → b ≡ true
 right_true true b e = e
 right_true false b e = cc
 
-pub none_below : (n : ℕ) (p : ℕ → Bool) → least n p ≡ None → (x : ℕ) → x < n → p x ≡ true → ⊥
+pub none_below : (n : ℕ) (p : ℕ → Bool) → least_below n p ≡ None → (x : ℕ) → x < n → p x ≡ true → ⊥
 none_below zero p e x lt t = absurd (omega arith)
 none_below (suc n) p e x lt t =
     elim (cases_lt x n) [
-      | inl less ↦ none_below n p (first_none (least n p) (if_true n (p n)) e) x less t
+      | inl less ↦ none_below n p (first_none (least_below n p) (if_true n (p n)) e) x less t
       | inr more ↦
           let is : x ≡ n = omega arith in
-          not_if_true n (p n) (second_none (least n p) (if_true n (p n)) e) (ap p (sym is) ∙ t)
+          not_if_true n (p n) (second_none (least_below n p) (if_true n (p n)) e) (ap p (sym is) ∙ t)
     ]
 
-no_least : (n : ℕ) (p : ℕ → Bool) → ((x : ℕ) → p x ≡ true → ⊥) → least n p ≡ None
+no_least : (n : ℕ) (p : ℕ → Bool) → ((x : ℕ) → p x ≡ true → ⊥) → least_below n p ≡ None
 no_least zero p f = refl
-no_least (suc n) p f = both_none (least n p) (if_true n (p n)) (no_least n p f) (if_not_true n (p n) (f n))
+no_least (suc n) p f = both_none (least_below n p) (if_true n (p n)) (no_least n p f) (if_not_true n (p n) (f n))
 
 -- forks
 
@@ -70,7 +70,7 @@ inside sorts us x is =
     elim (cases_lt x (length sorts)) [
       | inl less ↦ less
       | inr past ↦
-          let e : captures sorts us x ≡ taken_of None (declares us x) (writes us x) (names us x) = ap (λ o. taken_of o (declares us x) (writes us x) (names us x)) (slice_get_past sorts x past) in
+          let e : captures sorts us x ≡ taken_of None (declares_variable us x) (writes us x) (names us x) = ap (λ o. taken_of o (declares_variable us x) (writes us x) (names us x)) (slice_get_past sorts x past) in
           let f : is_reference (captures sorts us x) ≡ false = ap is_reference e in
           cc
     ]
@@ -172,11 +172,11 @@ given_once gs f = again_behind [] gs f
 
 -- all places
 
-two_none : (line : ℕ) (o : Option Clash) → two_writers line o ≡ None → o ≡ None
+two_none : (line : ℕ) (o : Option Clash) → clash_offence line o ≡ None → o ≡ None
 two_none line None e = refl
 two_none line (Some c) e = cc
 
-none_two : (line : ℕ) (o : Option Clash) → o ≡ None → two_writers line o ≡ None
+none_two : (line : ℕ) (o : Option Clash) → o ≡ None → clash_offence line o ≡ None
 none_two line None e = refl
 none_two line (Some c) e = cc
 
@@ -188,28 +188,28 @@ none_alias : (line : ℕ) (o : Option ℕ) → o ≡ None → alias line o ≡ N
 none_alias line None e = refl
 none_alias line (Some c) e = cc
 
-pub obeys_at : (sorts : List Sort) (p : Place) → offence_at sorts p ≡ None → ObeysAt sorts p
+pub obeys_at : (sorts : List Sort) (p : SharingPlace) → offence_at sorts p ≡ None → ObeysAt sorts p
 obeys_at sorts (Fork line branches) e = all_apart sorts 0 branches (two_none line (clash_from (length sorts) 0 (map (captures sorts) branches)) e)
 obeys_at sorts (Called line gs) e = gives_once gs (alias_none line (given_again [] gs) e)
 
-pub none_at : (sorts : List Sort) (p : Place) → ObeysAt sorts p → offence_at sorts p ≡ None
+pub none_at : (sorts : List Sort) (p : SharingPlace) → ObeysAt sorts p → offence_at sorts p ≡ None
 none_at sorts (Fork line branches) o = none_two line (clash_from (length sorts) 0 (map (captures sorts) branches)) (no_clash (length sorts) 0 (map (captures sorts) branches) o)
 none_at sorts (Called line gs) o = none_alias line (given_again [] gs) (given_once gs o)
 
-pub all_obey : (sorts : List Sort) (ps : List Place) → first_offence sorts ps ≡ None → Obey sorts ps
+pub all_obey : (sorts : List Sort) (ps : List SharingPlace) → first_offence sorts ps ≡ None → Obey sorts ps
 all_obey sorts [] e = tt
 all_obey sorts (p ∷ ps) e =
     (obeys_at sorts p (first_none (offence_at sorts p) (first_offence sorts ps) e), all_obey sorts ps (second_none (offence_at sorts p) (first_offence sorts ps) e))
 
-none_of : (sorts : List Sort) (ps : List Place) → Obey sorts ps → first_offence sorts ps ≡ None
+none_of : (sorts : List Sort) (ps : List SharingPlace) → Obey sorts ps → first_offence sorts ps ≡ None
 none_of sorts [] o = refl
 none_of sorts (p ∷ ps) o = both_none (offence_at sorts p) (first_offence sorts ps) (none_at sorts p o.0) (none_of sorts ps o.1)
 
-pub refused_none : (ns : List (List ℕ)) (f : RFunction) (o : Option Offence) → refused_for ns f o ≡ None → o ≡ None
+pub refused_none : (ns : List (List ℕ)) (f : RFunction) (o : Option Offence) → fault_for ns f o ≡ None → o ≡ None
 refused_none ns f None e = refl
 refused_none ns f (Some c) e = cc
 
-none_refused : (ns : List (List ℕ)) (f : RFunction) (o : Option Offence) → o ≡ None → refused_for ns f o ≡ None
+none_refused : (ns : List (List ℕ)) (f : RFunction) (o : Option Offence) → o ≡ None → fault_for ns f o ≡ None
 none_refused ns f None e = refl
 none_refused ns f (Some c) e = cc
 

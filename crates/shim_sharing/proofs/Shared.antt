@@ -2,7 +2,7 @@
 use Rattle.std.proofs.Common.{◌≡◌, ◌∙◌, ℕ, ◌+◌, ◌<◌, zero, suc, List, [], ◌∷◌, None, Bool, true, false, ◌||◌, ◌&&◌, refl, sym, ap, arith}
 use Rattle.shim_units.specs.Captures.{Captures, is_reference}
 use Rattle.shim_units.specs.Usages.{shared}
-use Rattle.shim_sharing.specs.Sharing.{if_true, least, common, clash_at, clash_with, clash_from}
+use Rattle.shim_sharing.specs.Sharing.{if_true, least_below, common, clash_at, clash_with, clash_from}
 use Rattle.shim_sharing.proofs.Rule.{both_none, if_not_true, left_true, right_true, none_below, none_clash}
 use Rattle.shim_base.proofs.Facts.{false_unless}
 
@@ -52,9 +52,9 @@ behind_unshared : (x : ℕ) (b : Bool) (ts : List Captures) → ((b && false) ||
 behind_unshared x true ts e = unshared x false ts (none_takes x ts e)
 behind_unshared x false ts e = e
 
-no_least : (n : ℕ) (p : ℕ → Bool) → ((x : ℕ) → x < n → p x ≡ true → ⊥) → least n p ≡ None
+no_least : (n : ℕ) (p : ℕ → Bool) → ((x : ℕ) → x < n → p x ≡ true → ⊥) → least_below n p ≡ None
 no_least zero p f = refl
-no_least (suc n) p f = both_none (least n p) (if_true n (p n)) (no_least n p (λ x lt. f x (omega arith))) (if_not_true n (p n) (f n (omega arith)))
+no_least (suc n) p f = both_none (least_below n p) (if_true n (p n)) (no_least n p (λ x lt. f x (omega arith))) (if_not_true n (p n) (f n (omega arith)))
 
 no_clash_with : (n i j : ℕ) (s : Captures) (ts : List Captures) → ((x : ℕ) → x < n → is_reference (s x) ≡ true → NoneTakes x ts) → clash_with n i s j ts ≡ None
 unfolding NoneTakes
@@ -72,5 +72,5 @@ no_clash_from n i (t ∷ ts) f =
     (no_clash_with n i (i + 1) t ts (λ x lt. behind_taken x (is_reference (t x)) ts (f x lt)))
     (no_clash_from n (i + 1) ts (λ x lt. behind_unshared x (is_reference (t x)) ts (f x lt)))
 
-pub none_shared : (n : ℕ) (ts : List Captures) → least n (λ x. shared x false ts) ≡ None → clash_from n 0 ts ≡ None
+pub none_shared : (n : ℕ) (ts : List Captures) → least_below n (λ x. shared x false ts) ≡ None → clash_from n 0 ts ≡ None
 none_shared n ts none = no_clash_from n 0 ts (λ x lt. false_unless (shared x false ts) (none_below n (λ y. shared y false ts) none x lt))

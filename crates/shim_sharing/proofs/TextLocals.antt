@@ -15,7 +15,7 @@ use Rattle.shim_syntax.specs.declared.tree.Program.{Program}
 use Rattle.shim_syntax.specs.Terminals.{Terminal}
 use Rattle.shim_syntax.specs.Limits.{limits}
 use Rattle.shim_syntax.specs.Grammar as is
-use Rattle.shim_syntax.specs.Grammar.{Counts, IsExpr, IsChain, IsArguments, IsMoreArguments, IsDeclared, IsDeclarations, IsFirst, IsTest, IsStep, IsBlock, IsStmt, IsBody, IsPlain, IsBranches, IsBranch, IsThrowRest, IsCatchRest, IsParams, IsMoreParams, IsFunction, IsFunctions, Derives}
+use Rattle.shim_syntax.specs.Grammar.{TextCounts, IsExpr, IsChain, IsArguments, IsMoreArguments, IsDeclared, IsDeclarations, IsFirst, IsTest, IsStep, IsBlock, IsStmt, IsBody, IsPlain, IsBranches, IsBranch, IsThrowRest, IsCatchRest, IsParams, IsMoreParams, IsFunction, IsFunctions, Derives}
 use Rattle.shim_syntax.specs.Sizes.{sum_of, variable_size}
 
 -- how many declarations there are in a statement's text
@@ -166,7 +166,7 @@ slot_map : (m n : ℕ) → nat_le m n ≡ true → m ≤ n
 slot_map m n h = grind (arith, h)
 
 mutual
-  expr_locals : {n l : ℕ} {v w : Counts} {s r : List Terminal} {x : Expr} → IsExpr limits n l v w s r x → w.locals ≡ v.locals
+  expr_locals : {n l : ℕ} {v w : TextCounts} {s r : List Terminal} {x : Expr} → IsExpr limits n l v w s r x → w.locals ≡ v.locals
   expr_locals is.number = refl
   expr_locals is.variable = refl
   expr_locals (is.parens h d) = expr_locals d
@@ -175,49 +175,49 @@ mutual
   expr_locals (is.complement g h d) = expr_locals d
   expr_locals (is.row d t) = chain_locals t ∙ expr_locals d
 
-  chain_locals : {n l : ℕ} {v w : Counts} {s r : List Terminal} {x y : Expr} → IsChain limits n l v w s r x y → w.locals ≡ v.locals
+  chain_locals : {n l : ℕ} {v w : TextCounts} {s r : List Terminal} {x y : Expr} → IsChain limits n l v w s r x y → w.locals ≡ v.locals
   chain_locals is.stop = refl
   chain_locals (is.join e h d t) = chain_locals t ∙ expr_locals d
 
-more_arguments_locals : {l n : ℕ} {v w : Counts} {s r : List Terminal} {xs : List Expr} → IsMoreArguments limits l n v w s r xs → w.locals ≡ v.locals
+more_arguments_locals : {l n : ℕ} {v w : TextCounts} {s r : List Terminal} {xs : List Expr} → IsMoreArguments limits l n v w s r xs → w.locals ≡ v.locals
 more_arguments_locals is.arguments_end = refl
 more_arguments_locals (is.argument h d t) = more_arguments_locals t ∙ expr_locals d
 
-arguments_locals : {l : ℕ} {v w : Counts} {s r : List Terminal} {xs : List Expr} → IsArguments limits l v w s r xs → w.locals ≡ v.locals
+arguments_locals : {l : ℕ} {v w : TextCounts} {s r : List Terminal} {xs : List Expr} → IsArguments limits l v w s r xs → w.locals ≡ v.locals
 arguments_locals is.no_arguments = refl
 arguments_locals (is.arguments h d t) = more_arguments_locals t ∙ expr_locals d
 
 next_local : (v w : ℕ) → nat_le (suc v) 64 ≡ true → w ≡ suc v → Read 1 v w
 next_local v w h e = record { counted = omega (arith, e); most = λ k. omega (arith, e, slot_map (suc v) 64 h) }
 
-declared_locals : {l : ℕ} {v w : Counts} {s r : List Terminal} {x : List ℕ} {value : Option Expr} → IsDeclared limits l v w s r x value → Read 1 v.locals w.locals
+declared_locals : {l : ℕ} {v w : TextCounts} {s r : List Terminal} {x : List ℕ} {value : Option Expr} → IsDeclared limits l v w s r x value → Read 1 v.locals w.locals
 declared_locals (is.without_value h) = next_local _ _ h refl
 declared_locals (is.with_value h d) = next_local _ _ h (expr_locals d)
 
-declarations_locals : {l line : ℕ} {ty : Ty} {v w : Counts} {s r : List Terminal} {xs : List Stmt} → IsDeclarations limits l ty line v w s r xs → Read (locals xs) v.locals w.locals
+declarations_locals : {l line : ℕ} {ty : Ty} {v w : TextCounts} {s r : List Terminal} {xs : List Stmt} → IsDeclarations limits l ty line v w s r xs → Read (locals xs) v.locals w.locals
 declarations_locals (is.last_declared {line = line} {ty = ty} {x = x} {value = value} d) =
     counts _ _ _ _ (one line (st.Declare ty x value) ∙ declare_locals ty x value) (declared_locals d)
 declarations_locals (is.declared {line = line} {ty = ty} {x = x} {value = value} {xs = xs} d t) =
     counts _ _ _ _ (ap (λ k. k + locals xs) (of_stmt (record { line = line; what = st.Declare ty x value }) ∙ declare_locals ty x value)) (then _ _ _ _ _ (declared_locals d) (declarations_locals t))
 
-first_locals : {l : ℕ} {v w : Counts} {s r : List Terminal} {xs : List Stmt} → IsFirst limits l v w s r xs → Read (locals xs) v.locals w.locals
+first_locals : {l : ℕ} {v w : TextCounts} {s r : List Terminal} {xs : List Stmt} → IsFirst limits l v w s r xs → Read (locals xs) v.locals w.locals
 first_locals is.no_first = nothing _ _ refl
 first_locals (is.first_declare {ty = ty} {p = p} {x = x} {value = value} h d) = counts _ _ _ _ (one p.line (st.Declare ty x value) ∙ declare_locals ty x value) (declared_locals d)
 first_locals (is.first_assign {x = x} {p = p} {value = value} h d) = counts _ _ _ _ (one p.line (st.Assign x value) ∙ assign_locals x value) (nothing _ _ (expr_locals d))
 
-test_locals : {l : ℕ} {v w : Counts} {s r : List Terminal} {x : Option Expr} → IsTest limits l v w s r x → w.locals ≡ v.locals
+test_locals : {l : ℕ} {v w : TextCounts} {s r : List Terminal} {x : Option Expr} → IsTest limits l v w s r x → w.locals ≡ v.locals
 test_locals is.no_test = refl
 test_locals (is.test d) = expr_locals d
 
-step_locals : {l : ℕ} {v w : Counts} {s r : List Terminal} {xs : List Stmt} → IsStep limits l v w s r xs → Read (locals xs) v.locals w.locals
+step_locals : {l : ℕ} {v w : TextCounts} {s r : List Terminal} {xs : List Stmt} → IsStep limits l v w s r xs → Read (locals xs) v.locals w.locals
 step_locals is.no_step = nothing _ _ refl
 step_locals (is.step {x = x} {p = p} {value = value} h d) = counts _ _ _ _ (one p.line (st.Assign x value) ∙ assign_locals x value) (nothing _ _ (expr_locals d))
 
-throw_rest_locals : {l : ℕ} {v w : Counts} {s r : List Terminal} {value : Option Expr} → IsThrowRest limits l v w s r value → w.locals ≡ v.locals
+throw_rest_locals : {l : ℕ} {v w : TextCounts} {s r : List Terminal} {value : Option Expr} → IsThrowRest limits l v w s r value → w.locals ≡ v.locals
 throw_rest_locals is.no_number = refl
 throw_rest_locals (is.thrown_number two d) = expr_locals d
 
-catch_locals : {v w : Counts} {s r : List Terminal} {y : Option (List ℕ)} → IsCatchRest limits v w s r y → Read (variable_size y) v.locals w.locals
+catch_locals : {v w : TextCounts} {s r : List Terminal} {y : Option (List ℕ)} → IsCatchRest limits v w s r y → Read (variable_size y) v.locals w.locals
 catch_locals is.no_variable = nothing _ _ refl
 catch_locals (is.catch_variable two h) = next_local _ _ h refl
 
@@ -226,21 +226,21 @@ fork : (line : ℕ) (b : Branch) (bs : List Branch) (m v u w : ℕ) → branch_l
 fork line b bs m v u w e first others = counts _ _ _ _ (one line (st.Par (b ∷ bs)) ∙ par_locals (b ∷ bs) ∙ ap (λ k. k + fork_locals bs) e) (then m _ v u w first others)
 
 mutual
-  block_read : {l : ℕ} {v w : Counts} {s r : List Terminal} {xs : List Stmt} → IsBlock limits l v w s r xs → Read (locals xs) v.locals w.locals
+  block_read : {l : ℕ} {v w : TextCounts} {s r : List Terminal} {xs : List Stmt} → IsBlock limits l v w s r xs → Read (locals xs) v.locals w.locals
   block_read is.block_end = nothing _ _ refl
   block_read (is.stmt {xs = xs} {ys = ys} h d t) = counts _ _ _ _ (joined xs ys) (then _ _ _ _ _ (stmt_read d) (block_read t))
 
-  stmt_read : {l : ℕ} {v w : Counts} {s r : List Terminal} {xs : List Stmt} → IsStmt limits l v w s r xs → Read (locals xs) v.locals w.locals
+  stmt_read : {l : ℕ} {v w : TextCounts} {s r : List Terminal} {xs : List Stmt} → IsStmt limits l v w s r xs → Read (locals xs) v.locals w.locals
   stmt_read (is.block {p = p} {xs = xs} d h) = counts _ _ _ _ (one p.line (st.Block xs) ∙ block_locals xs) (block_read d)
   stmt_read (is.block_fork {p = p} {xs = xs} {bs = bs} d b) = fork p.line (record { line = p.line; what = br.Block xs }) bs _ _ _ _ (block_branch_locals p.line xs) (block_read d) (branches_read b)
   stmt_read (is.plain d) = plain_read d
 
-  body_read : {l : ℕ} {v w : Counts} {s r : List Terminal} {xs : List Stmt} → IsBody limits l v w s r xs → Read (locals xs) v.locals w.locals
+  body_read : {l : ℕ} {v w : TextCounts} {s r : List Terminal} {xs : List Stmt} → IsBody limits l v w s r xs → Read (locals xs) v.locals w.locals
   body_read (is.body_block d h) = block_read d
   body_read (is.body_fork {p = p} {xs = xs} {bs = bs} d h b) = fork p.line (record { line = p.line; what = br.Block xs }) bs _ _ _ _ (block_branch_locals p.line xs) (block_read d) (branches_read b)
   body_read (is.body_plain h d) = plain_read d
 
-  plain_read : {l : ℕ} {v w : Counts} {s r : List Terminal} {xs : List Stmt} → IsPlain limits l v w s r xs → Read (locals xs) v.locals w.locals
+  plain_read : {l : ℕ} {v w : TextCounts} {s r : List Terminal} {xs : List Stmt} → IsPlain limits l v w s r xs → Read (locals xs) v.locals w.locals
   plain_read is.empty = nothing _ _ refl
   plain_read (is.declare d) = declarations_locals d
   plain_read (is.assign {x = x} {p = p} {value = value} d) = counts _ _ _ _ (one p.line (st.Assign x value) ∙ assign_locals x value) (nothing _ _ (expr_locals d))
@@ -264,11 +264,11 @@ mutual
       counts _ _ _ _ (one p.line (st.Try xs x y ys) ∙ try_locals xs x y ys) (then _ _ _ _ _ (block_read d) (then _ _ _ _ _ (catch_locals c) (block_read b)))
   plain_read (is.throw {x = x} {p = p} {value = value} d) = counts _ _ _ _ (one p.line (st.Throw x value) ∙ throw_locals x value) (nothing _ _ (throw_rest_locals d))
 
-  branches_read : {l n : ℕ} {v w : Counts} {s r : List Terminal} {bs : List Branch} → IsBranches limits l n v w s r bs → Read (fork_locals bs) v.locals w.locals
+  branches_read : {l n : ℕ} {v w : TextCounts} {s r : List Terminal} {bs : List Branch} → IsBranches limits l n v w s r bs → Read (fork_locals bs) v.locals w.locals
   branches_read (is.last_branch {b = b} h d a) = counts _ _ _ _ (omega arith) (branch_read d)
   branches_read (is.branch h d t) = then _ _ _ _ _ (branch_read d) (branches_read t)
 
-  branch_read : {l : ℕ} {v w : Counts} {s r : List Terminal} {b : Branch} → IsBranch limits l v w s r b → Read (branch_locals b) v.locals w.locals
+  branch_read : {l : ℕ} {v w : TextCounts} {s r : List Terminal} {b : Branch} → IsBranch limits l v w s r b → Read (branch_locals b) v.locals w.locals
   branch_read (is.block_branch {p = p} {xs = xs} d) = counts _ _ _ _ (block_branch_locals p.line xs) (block_read d)
   branch_read (is.call_branch {f = f} {p = p} {xs = xs} d) = counts _ _ _ _ (call_branch_locals p.line (record { function = f; args = xs })) (nothing _ _ (arguments_locals d))
 
@@ -292,10 +292,10 @@ AreNarrow (f ∷ fs) = IsNarrow f × AreNarrow fs
 narrow : (ps : List Param) (body : List Stmt) (before after : ℕ) → before ≡ 0 → Read (locals body) before after → length ps ≤ 32 → length ps + locals body ≤ 96
 narrow ps body before after e b p = let m : after ≤ 64 = b.most (omega (arith, e)) in omega (arith, e, b.counted, m, p)
 
-function_read : {v w : Counts} {s r : List Terminal} {f : Function} → IsFunction limits v w s r f → IsNarrow f
+function_read : {v w : TextCounts} {s r : List Terminal} {f : Function} → IsFunction limits v w s r f → IsNarrow f
 function_read (is.function {xs = xs} {ys = ys} p t b) = narrow xs ys _ _ refl (block_read b) (params_read p)
 
-functions_read : {n : ℕ} {v : Counts} {s r : List Terminal} {fs : List Function} → IsFunctions limits n v s r fs → AreNarrow fs
+functions_read : {n : ℕ} {v : TextCounts} {s r : List Terminal} {fs : List Function} → IsFunctions limits n v s r fs → AreNarrow fs
 functions_read is.program_end = tt
 functions_read (is.another_function h d t) = (function_read d, functions_read t)
 

@@ -15,7 +15,7 @@ use Rattle.shim_units.specs.PartFold.{declares_in}
 use Rattle.shim_units.specs.Parts.{LiftContext}
 use Rattle.shim_units.specs.Sizes.{extent, function_size, functions_size, unit_size, units_size, units_points, AreSmall, AreFit}
 use Rattle.shim_sharing.specs.Refusals.{refusal}
-use Rattle.shim_units.specs.Units.{upto, text_of, throws_of, function_slot_map, lift_function, lift_functions, lifted}
+use Rattle.shim_units.specs.Units.{upto, name_or_mark, throws_of, function_slot_map, lift_function, lift_functions, lifted}
 use Rattle.shim_sharing.proofs.TextLocals.{program_read}
 use Rattle.shim_sharing.proofs.BoundSizes.{HasFewSlots, HaveFewSlots, program_within}
 use Rattle.shim_sharing.specs.Room.{FunctionsHaveRoom}
@@ -25,7 +25,7 @@ use Rattle.shim_units.proofs.Counting.{upto_length}
 
 module _ (names : List (List ℕ)) (all : List RFunction) where
   abbrev context_of : ℕ → ℕ → RFunction → LiftContext
-  context_of number next f = record { functions = all; function = f; number = number; name = text_of names f.name; first = next }
+  context_of number next f = record { functions = all; function = f; number = number; name = name_or_mark names f.name; first = next }
 
   slots_within : (f : RFunction) → HasFewSlots f → length (function_slot_map f).slots + (extent f.body).forked ≤ 96
   slots_within f few = omega (arith, few, upto_length (length f.params), length-append (upto (length f.params)) (declares_in f.body), (body_within f.body).declares)

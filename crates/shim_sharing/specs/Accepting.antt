@@ -30,10 +30,10 @@ IfRefused (Err (Alias line name)) P = P (Alias line name)
 IfRefused (Err NoMemory) P = Unit {0}
 
 -- the fault is the one that is meant, or want of memory in its place
-abbrev pub IsTold : ShareFault → ShareFault → Type 0
-IsTold (TwoWriters line name first second) meant = meant ≡ TwoWriters line name first second
-IsTold (Alias line name) meant = meant ≡ Alias line name
-IsTold NoMemory meant = Unit {0}
+abbrev pub IsMeantFault : ShareFault → ShareFault → Type 0
+IsMeantFault (TwoWriters line name first second) meant = meant ≡ TwoWriters line name first second
+IsMeantFault (Alias line name) meant = meant ≡ Alias line name
+IsMeantFault NoMemory meant = Unit {0}
 
 -- what passes isn't refused
 abbrev pub Passes : Result (Unit {0}) ShareFault → Option ShareFault → Type 0

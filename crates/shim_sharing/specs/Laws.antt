@@ -9,13 +9,13 @@ use Rattle.shim_sharing.specs.declared.fork.Clash.{Clash}
 use Rattle.shim_sharing.specs.declared.found.Offence.{Offence}
 use Rattle.shim_sharing.specs.declared.found.Offence.TheVariants.{TwoWriters, Alias}
 use Rattle.shim_sharing.specs.Accepting.{accepted}
-use Rattle.shim_sharing.specs.Refusals.{told}
+use Rattle.shim_sharing.specs.Refusals.{share_fault}
 use Rattle.shim_units.specs.declared.form.Form.{Form}
 use Rattle.shim_units.specs.declared.found.Given.{Given}
 use Rattle.shim_units.specs.declared.found.Use.{Use}
 use Rattle.shim_units.specs.declared.found.Capture.TheVariants.{Reference}
-use Rattle.shim_units.specs.Parts.{Place}
-use Rattle.shim_units.specs.Parts.Place.{Fork, Called}
+use Rattle.shim_units.specs.Parts.{SharingPlace}
+use Rattle.shim_units.specs.Parts.SharingPlace.{Fork, Called}
 use Rattle.shim_units.specs.Rule.{ObeysAt, Obey, ObeyAll}
 use Rattle.shim_units.specs.Captures.{Captures, captures}
 use Rattle.shim_units.specs.PartFold.{places_in}
@@ -76,16 +76,16 @@ pub record IsLeftmostAlias (gs : List Given) (x : ℕ) : Type 0 where
   pub leftmost : (m y : ℕ) → m < number → IsAlias gs m y → ⊥
 
 -- what is told of a fork is its line with the least clash of its branches, and of a call its line with the variable of its leftmost alias
-abbrev pub IsToldOf : List Sort → Place → Offence → Type 0
+abbrev pub IsToldOf : List Sort → SharingPlace → Offence → Type 0
 IsToldOf sorts (Fork line branches) o =
     (c : Clash) × (o ≡ TwoWriters line c.first c.second c.slot) × IsClash (length sorts) (map (captures sorts) branches) c × IsLeast (length sorts) (map (captures sorts) branches) c
 IsToldOf sorts (Called line gs) o = (x : ℕ) × (o ≡ Alias line x) × IsLeftmostAlias gs x
 
 -- all places before one of these obey the rule, that one does not, and this is what is told of it
-pub record IsFirstOffence (sorts : List Sort) (places : List Place) (o : Offence) : Type 0 where
-  pub before : List Place
-  pub place : Place
-  pub after : List Place
+pub record IsFirstOffence (sorts : List Sort) (places : List SharingPlace) (o : Offence) : Type 0 where
+  pub before : List SharingPlace
+  pub place : SharingPlace
+  pub after : List SharingPlace
   pub stands : places ≡ before ++ place ∷ after
   pub obeyed : Obey sorts before
   pub refused : ObeysAt sorts place → ⊥
@@ -100,7 +100,7 @@ pub record IsFirstRefusalIn (names : List (List ℕ)) (all fs : List RFunction) 
   pub obeyed : ObeyAll all before
   pub offence : Offence
   pub first : IsFirstOffence function.slots (places_in all function.body) offence
-  pub named : fault ≡ told names function offence
+  pub named : fault ≡ share_fault names function offence
 
 -- what is told of the first fork or call of a program that does not obey the rule
 abbrev pub IsFirstRefusal : Resolved → ShareFault → Type 0

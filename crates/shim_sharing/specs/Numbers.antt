@@ -4,6 +4,6 @@ use Rattle.shim_sharing.specs.declared.found.Offence.{Offence}
 use Rattle.shim_sharing.specs.declared.found.Offence.TheVariants.{TwoWriters, Alias}
 
 -- the numbers of the branches that a refusal tells
-abbrev pub HasNumbers : Offence → Type 0
-HasNumbers (TwoWriters line first second slot) = (first < 2 ^ 32) × (second < 2 ^ 32)
-HasNumbers (Alias line slot) = Unit {0}
+abbrev pub HasBranchNumbers : Offence → Type 0
+HasBranchNumbers (TwoWriters line first second slot) = (first < 2 ^ 32) × (second < 2 ^ 32)
+HasBranchNumbers (Alias line slot) = Unit {0}

@@ -10,19 +10,19 @@ use Rattle.shim_sharing.specs.declared.found.Offence.TheVariants.{TwoWriters, Al
 use Rattle.shim_sharing.specs.Sharing.{first_offence}
 use Rattle.shim_units.specs.Lifting.{name_of}
 use Rattle.shim_units.specs.PartFold.{places_in}
-use Rattle.shim_units.specs.Units.{text_of}
+use Rattle.shim_units.specs.Units.{name_or_mark}
 
-abbrev pub told : List (List ℕ) → RFunction → Offence → ShareFault
-told names f (TwoWriters line i j x) = refuses.TwoWriters line (text_of names (name_of f x)) i j
-told names f (Alias line x) = refuses.Alias line (text_of names (name_of f x))
+abbrev pub share_fault : List (List ℕ) → RFunction → Offence → ShareFault
+share_fault names f (TwoWriters line i j x) = refuses.TwoWriters line (name_or_mark names (name_of f x)) i j
+share_fault names f (Alias line x) = refuses.Alias line (name_or_mark names (name_of f x))
 
-abbrev pub refused_for : List (List ℕ) → RFunction → Option Offence → Option ShareFault
-refused_for names f None = None
-refused_for names f (Some offence) = Some (told names f offence)
+abbrev pub fault_for : List (List ℕ) → RFunction → Option Offence → Option ShareFault
+fault_for names f None = None
+fault_for names f (Some offence) = Some (share_fault names f offence)
 
 -- of one function
 abbrev pub function_refusal : List (List ℕ) → List RFunction → RFunction → Option ShareFault
-function_refusal names all f = refused_for names f (first_offence f.slots (places_in all f.body))
+function_refusal names all f = fault_for names f (first_offence f.slots (places_in all f.body))
 
 abbrev pub refusal_in : List (List ℕ) → List RFunction → List RFunction → Option ShareFault
 refusal_in names all [] = None

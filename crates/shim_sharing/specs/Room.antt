@@ -5,7 +5,7 @@ use Rattle.shim_units.specs.declared.slot_map.SlotMap.{SlotMap}
 use Rattle.shim_units.specs.Sizes.{Extent, function_size, functions_size}
 
 -- what is lifted out of a part of that extent, which stands in a unit that has these, gets the numbers from `next` on
-pub record HasRoom (w : SlotMap) (next : ℕ) (e : Extent) : Type 0 where
+pub record HasRoomToLift (w : SlotMap) (next : ℕ) (e : Extent) : Type 0 where
   pub slots : length w.slots + e.inside < 2 ^ 32
   pub exceptions : length w.exceptions + e.inside < 2 ^ 32
   pub units : next + e.size < 2 ^ 32

@@ -6,8 +6,8 @@ use Rattle.shim_units.specs.declared.found.Given.{Given}
 use Rattle.shim_sharing.specs.declared.found.Offence.{Offence}
 use Rattle.shim_sharing.specs.declared.found.Offence.TheVariants.{TwoWriters, Alias}
 use Rattle.shim_sharing.specs.declared.fork.Clash.{Clash}
-use Rattle.shim_units.specs.Parts.{Place}
-use Rattle.shim_units.specs.Parts.Place.{Fork, Called}
+use Rattle.shim_units.specs.Parts.{SharingPlace}
+use Rattle.shim_units.specs.Parts.SharingPlace.{Fork, Called}
 use Rattle.shim_units.specs.Rule.{stands_in}
 use Rattle.shim_units.specs.Captures.{Captures, captures, is_reference}
 
@@ -16,13 +16,13 @@ if_true a true = Some a
 if_true a false = None
 
 -- the least number below n that passes
-abbrev pub least : ℕ → (ℕ → Bool) → Option ℕ
-least zero p = None
-least (suc n) p = option_or (least n p) (if_true n (p n))
+abbrev pub least_below : ℕ → (ℕ → Bool) → Option ℕ
+least_below zero p = None
+least_below (suc n) p = option_or (least_below n p) (if_true n (p n))
 
 -- the variable declared first, of n, that both take by reference
 abbrev pub common : ℕ → Captures → Captures → Option ℕ
-common n s t = least n (λ x. is_reference (s x) && is_reference (t x))
+common n s t = least_below n (λ x. is_reference (s x) && is_reference (t x))
 
 abbrev pub clash_at : ℕ → ℕ → Option ℕ → Option Clash
 clash_at i j None = None
@@ -38,9 +38,9 @@ abbrev pub clash_from : ℕ → ℕ → List Captures → Option Clash
 clash_from n i [] = None
 clash_from n i (t ∷ ts) = option_or (clash_with n i t (i + 1) ts) (clash_from n (i + 1) ts)
 
-abbrev pub two_writers : ℕ → Option Clash → Option Offence
-two_writers line None = None
-two_writers line (Some c) = Some (TwoWriters line c.first c.second c.slot)
+abbrev pub clash_offence : ℕ → Option Clash → Option Offence
+clash_offence line None = None
+clash_offence line (Some c) = Some (TwoWriters line c.first c.second c.slot)
 
 abbrev pub again : Bool → List Given → List Given → Option ℕ → Option ℕ
 again false before after x = None
@@ -56,11 +56,11 @@ abbrev pub alias : ℕ → Option ℕ → Option Offence
 alias line None = None
 alias line (Some x) = Some (Alias line x)
 
-abbrev pub offence_at : List Sort → Place → Option Offence
-offence_at sorts (Fork line branches) = two_writers line (clash_from (length sorts) 0 (map (captures sorts) branches))
+abbrev pub offence_at : List Sort → SharingPlace → Option Offence
+offence_at sorts (Fork line branches) = clash_offence line (clash_from (length sorts) 0 (map (captures sorts) branches))
 offence_at sorts (Called line gs) = alias line (given_again [] gs)
 
 -- the first in textual order
-abbrev pub first_offence : List Sort → List Place → Option Offence
+abbrev pub first_offence : List Sort → List SharingPlace → Option Offence
 first_offence sorts [] = None
 first_offence sorts (p ∷ ps) = option_or (offence_at sorts p) (first_offence sorts ps)

@@ -2,7 +2,7 @@
 ghost use Rattle.std.specs.Prelude.{◌≡◌, ◌||◌, [], IfOk, Option};
 ghost use Rattle.shim_units.specs.Rule.{is_bare, stands_in};
 ghost use Rattle.shim_sharing.specs.Sharing.{again, given_again, alias, offence_at, first_offence};
-ghost use Rattle.shim_units.specs.Calls.{given, params_at};
+ghost use Rattle.shim_units.specs.Calls.{paired_arguments, params_at};
 ghost use Rattle.shim_units.specs.Places.{call_place};
 
 use crate::found::Offence;
@@ -70,7 +70,7 @@ pub fn find_alias(
     call: &RCall,
     line: u32,
 ) -> Result<Option<Offence>, NoMemory>
-    ensures { IfOk result (λ found. found ≡ alias line (given_again [] (given (params_at functions.now call.now.function) call.now.args))) }
+    ensures { IfOk result (λ found. found ≡ alias line (given_again [] (paired_arguments (params_at functions.now call.now.function) call.now.args))) }
 {
     let given = give(
         alloc,

@@ -1,6 +1,6 @@
 // Two branches of a fork that take one variable by reference.
 ghost use Rattle.std.specs.Prelude.{◌≡◌, ◌+◌, ◌<◌, ◌^◌, ◌&&◌, IfOk, length, map, Option, false};
-ghost use Rattle.shim_sharing.specs.Sharing.{least, common, clash_with, clash_from, two_writers};
+ghost use Rattle.shim_sharing.specs.Sharing.{least_below, common, clash_with, clash_from, clash_offence};
 ghost use Rattle.shim_units.specs.Captures.{is_reference, captures};
 ghost use Rattle.shim_units.specs.Usages.{captures_of, shared};
 ghost use Rattle.shim_units.specs.Parts.{each_uses};
@@ -100,7 +100,7 @@ fn is_shared(branches: &[List<Capture>], slot: usize) -> bool
 
 // The variable declared first that two of the branches take by reference.
 fn find_shared(count: usize, branches: &[List<Capture>]) -> Option<usize>
-    ensures { result ≡ least count (λ x. shared x false (map captures_of branches.now)) }
+    ensures { result ≡ least_below count (λ x. shared x false (map captures_of branches.now)) }
 {
     for slot in 0..count {
         if is_shared(branches, slot) {
@@ -147,7 +147,7 @@ pub fn find_two_writers(
     line: u32,
     branches: &[RBranch],
 ) -> Result<Option<Offence>, NoMemory>
-    ensures { IfOk result (λ found. found ≡ two_writers line (clash_from (length sorts.now) 0 (map (captures sorts.now) (each_uses functions.now (branch_parts branches.now))))) }
+    ensures { IfOk result (λ found. found ≡ clash_offence line (clash_from (length sorts.now) 0 (map (captures sorts.now) (each_uses functions.now (branch_parts branches.now))))) }
 {
     let taken = take_each(alloc, functions, sorts, branches)?;
     match find_first_clash(sorts.len(), taken.as_slice()) {

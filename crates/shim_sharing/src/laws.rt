@@ -14,7 +14,7 @@ ghost use Rattle.shim_sharing.specs.Sharing.{clash_from, given_again, first_offe
 ghost use Rattle.shim_units.specs.Sizes.{AreSmall};
 ghost use Rattle.shim_units.specs.Captures.{Captures};
 ghost use Rattle.shim_units.specs.OfText.{IsAcceptedForm};
-ghost use Rattle.shim_units.specs.Parts.{Place};
+ghost use Rattle.shim_units.specs.Parts.{SharingPlace};
 ghost use Rattle.shim_units.specs.Rule.{Obeys};
 ghost use Rattle.shim_sharing.specs.Refusals.{refusal};
 
@@ -48,7 +48,7 @@ pub fn leftmost_alias_is_told()
 /// do. The line is that of the fork or the call; of a fork the least clash is told, of a call the leftmost
 /// alias.
 pub fn first_offence_is_told()
-    ensures { (sorts : List Sort) (places : List Place) (o : Offence) → first_offence sorts places ≡ Some o → IsFirstOffence sorts places o }
+    ensures { (sorts : List Sort) (places : List SharingPlace) (o : Offence) → first_offence sorts places ≡ Some o → IsFirstOffence sorts places o }
 {}
 
 /// What is told of a program is told of its first place that does not obey the rule, in the first

@@ -1,8 +1,8 @@
 // The statements of a unit, and the units that are lifted out of them.
 ghost use Rattle.std.specs.Prelude.{◌≡◌, ◌+◌, ◌++◌, length, IfOk, OnOk};
-ghost use Rattle.shim_units.specs.LiftContextView.{context_view};
+ghost use Rattle.shim_units.specs.LiftContextView.{lift_context_view};
 ghost use Rattle.shim_units.specs.Lifting.{lift_all, lift_branch};
-ghost use Rattle.shim_sharing.specs.Room.{HasRoom};
+ghost use Rattle.shim_sharing.specs.Room.{HasRoomToLift};
 ghost use Rattle.shim_units.specs.Sizes.{apart, stmt_extent, branch_extent, extent, fork_extent};
 ghost use Rattle.shim_units.specs.PartFold.{part, parts, branch_part, branch_parts, lift_in};
 
@@ -25,9 +25,9 @@ pub fn lift_body(
     units: &mut List<Unit>,
     body: &[RStmt],
 ) -> Result<List<UStmt>, NoMemory>
-    requires { HasRoom slot_map.now (next + length units.now) (extent body.now) }
-    ensures tree { IfOk result (λ made. made ≡ (lift_in body.now (context_view context.now) slot_map.now (next + length units.old)).tree) }
-    ensures units { OnOk result (units.new ≡ units.old ++ (lift_in body.now (context_view context.now) slot_map.now (next + length units.old)).units) }
+    requires { HasRoomToLift slot_map.now (next + length units.now) (extent body.now) }
+    ensures tree { IfOk result (λ made. made ≡ (lift_in body.now (lift_context_view context.now) slot_map.now (next + length units.old)).tree) }
+    ensures units { OnOk result (units.new ≡ units.old ++ (lift_in body.now (lift_context_view context.now) slot_map.now (next + length units.old)).units) }
 {
     let mut made = List::new(alloc);
     for stmt in body {
@@ -45,9 +45,9 @@ fn lift_stmt(
     units: &mut List<Unit>,
     stmt: &RStmt,
 ) -> Result<UStmt, NoMemory>
-    requires { HasRoom slot_map.now (next + length units.now) (stmt_extent stmt.now) }
-    ensures tree { IfOk result (λ made. made ≡ ((part stmt.now).lift (context_view context.now) slot_map.now (next + length units.old)).tree) }
-    ensures units { OnOk result (units.new ≡ units.old ++ ((part stmt.now).lift (context_view context.now) slot_map.now (next + length units.old)).units) }
+    requires { HasRoomToLift slot_map.now (next + length units.now) (stmt_extent stmt.now) }
+    ensures tree { IfOk result (λ made. made ≡ ((part stmt.now).lift (lift_context_view context.now) slot_map.now (next + length units.old)).tree) }
+    ensures units { OnOk result (units.new ≡ units.old ++ ((part stmt.now).lift (lift_context_view context.now) slot_map.now (next + length units.old)).units) }
 {
     let what = lift_what(alloc, context, slot_map, next, units, stmt)?;
     Ok(UStmt {
@@ -65,9 +65,9 @@ fn lift_what(
     units: &mut List<Unit>,
     stmt: &RStmt,
 ) -> Result<UWhat, NoMemory>
-    requires { HasRoom slot_map.now (next + length units.now) (stmt_extent stmt.now) }
-    ensures tree { IfOk result (λ made. made ≡ ((part stmt.now).lift (context_view context.now) slot_map.now (next + length units.old)).tree.what) }
-    ensures units { OnOk result (units.new ≡ units.old ++ ((part stmt.now).lift (context_view context.now) slot_map.now (next + length units.old)).units) }
+    requires { HasRoomToLift slot_map.now (next + length units.now) (stmt_extent stmt.now) }
+    ensures tree { IfOk result (λ made. made ≡ ((part stmt.now).lift (lift_context_view context.now) slot_map.now (next + length units.old)).tree.what) }
+    ensures units { OnOk result (units.new ≡ units.old ++ ((part stmt.now).lift (lift_context_view context.now) slot_map.now (next + length units.old)).units) }
 {
     let slots = slot_map.slots.as_slice();
     match &stmt.what {
@@ -166,9 +166,9 @@ fn lift_branches(
     units: &mut List<Unit>,
     branches: &[RBranch],
 ) -> Result<List<UBranch>, NoMemory>
-    requires { HasRoom slot_map.now (next + length units.now) (fork_extent branches.now) }
-    ensures tree { IfOk result (λ made. made ≡ (lift_all (branch_parts branches.now) (context_view context.now) slot_map.now (next + length units.old)).tree) }
-    ensures units { OnOk result (units.new ≡ units.old ++ (lift_all (branch_parts branches.now) (context_view context.now) slot_map.now (next + length units.old)).units) }
+    requires { HasRoomToLift slot_map.now (next + length units.now) (fork_extent branches.now) }
+    ensures tree { IfOk result (λ made. made ≡ (lift_all (branch_parts branches.now) (lift_context_view context.now) slot_map.now (next + length units.old)).tree) }
+    ensures units { OnOk result (units.new ≡ units.old ++ (lift_all (branch_parts branches.now) (lift_context_view context.now) slot_map.now (next + length units.old)).units) }
 {
     let mut made = List::new(alloc);
     for branch in branches {
@@ -186,9 +186,9 @@ fn lift_branch(
     units: &mut List<Unit>,
     branch: &RBranch,
 ) -> Result<UBranch, NoMemory>
-    requires { HasRoom slot_map.now (next + length units.now) (branch_extent branch.now) }
-    ensures tree { IfOk result (λ made. made ≡ ((branch_part branch.now).lift (context_view context.now) slot_map.now (next + length units.old)).tree) }
-    ensures units { OnOk result (units.new ≡ units.old ++ ((branch_part branch.now).lift (context_view context.now) slot_map.now (next + length units.old)).units) }
+    requires { HasRoomToLift slot_map.now (next + length units.now) (branch_extent branch.now) }
+    ensures tree { IfOk result (λ made. made ≡ ((branch_part branch.now).lift (lift_context_view context.now) slot_map.now (next + length units.old)).tree) }
+    ensures units { OnOk result (units.new ≡ units.old ++ ((branch_part branch.now).lift (lift_context_view context.now) slot_map.now (next + length units.old)).units) }
 {
     match &branch.what {
         RBranchWhat::Block(body) => {
@@ -218,9 +218,9 @@ fn lift_block(
     units: &mut List<Unit>,
     body: &[RStmt],
 ) -> Result<UCall, NoMemory>
-    requires { HasRoom slot_map.now (next + length units.now) (apart (extent body.now)) }
-    ensures tree { IfOk result (λ made. made ≡ (lift_branch (parts body.now) (context_view context.now) slot_map.now (next + length units.old)).tree) }
-    ensures units { OnOk result (units.new ≡ units.old ++ (lift_branch (parts body.now) (context_view context.now) slot_map.now (next + length units.old)).units) }
+    requires { HasRoomToLift slot_map.now (next + length units.now) (apart (extent body.now)) }
+    ensures tree { IfOk result (λ made. made ≡ (lift_branch (parts body.now) (lift_context_view context.now) slot_map.now (next + length units.old)).tree) }
+    ensures units { OnOk result (units.new ≡ units.old ++ (lift_branch (parts body.now) (lift_context_view context.now) slot_map.now (next + length units.old)).units) }
 {
     let unit = number_after(next, units.len());
     let after = unit + 1;

@@ -1,11 +1,11 @@
 // The first fork or call of a program that the sharing rule refuses, with its name.
 ghost use Rattle.std.specs.Prelude.{◌≡◌, IfOk};
 ghost use Rattle.shim_units.specs.Lifting.{name_of};
-ghost use Rattle.shim_sharing.specs.Numbers.{HasNumbers};
+ghost use Rattle.shim_sharing.specs.Numbers.{HasBranchNumbers};
 ghost use Rattle.shim_sharing.specs.Room.{FunctionHasRoom, FunctionsHaveRoom};
-ghost use Rattle.shim_units.specs.Units.{text_of};
-ghost use Rattle.shim_sharing.specs.Refusals.{told, function_refusal, refusal_in};
-ghost use Rattle.shim_sharing.specs.Accepting.{IsTold, Passes};
+ghost use Rattle.shim_units.specs.Units.{name_or_mark};
+ghost use Rattle.shim_sharing.specs.Refusals.{share_fault, function_refusal, refusal_in};
+ghost use Rattle.shim_sharing.specs.Accepting.{IsMeantFault, Passes};
 
 use crate::fault::ShareFault;
 use crate::found::Offence;
@@ -21,8 +21,8 @@ fn find_told(
     function: &RFunction,
     offence: Offence,
 ) -> Result<ShareFault, NoMemory>
-    requires { HasNumbers offence }
-    ensures { IfOk result (λ fault. fault ≡ told names.now function.now offence) }
+    requires { HasBranchNumbers offence }
+    ensures { IfOk result (λ fault. fault ≡ share_fault names.now function.now offence) }
 {
     match offence {
         Offence::TwoWriters {
@@ -49,8 +49,8 @@ fn find_told(
 }
 
 fn tell(alloc: Global, names: &[Name], function: &RFunction, offence: Offence) -> ShareFault
-    requires { HasNumbers offence }
-    ensures { IsTold result (told names.now function.now offence) }
+    requires { HasBranchNumbers offence }
+    ensures { IsMeantFault result (share_fault names.now function.now offence) }
 {
     match find_told(alloc, names, function, offence) {
         Ok(fault) => fault,

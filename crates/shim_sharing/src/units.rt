@@ -1,7 +1,7 @@
 // A whole program as units.
 ghost use Rattle.std.specs.Prelude.{◌≡◌, ◌+◌, ◌++◌, ◌<◌, ◌^◌, length, IfOk, OnOk, slice_get};
 ghost use Rattle.shim_sharing.specs.Room.{FunctionHasRoom, FunctionsHaveRoom};
-ghost use Rattle.shim_units.specs.LiftContextView.{context_view};
+ghost use Rattle.shim_units.specs.LiftContextView.{lift_context_view};
 ghost use Rattle.shim_units.specs.Lifting.{made_unit};
 ghost use Rattle.shim_units.specs.PartFold.{tries_in};
 ghost use Rattle.shim_units.specs.Units.{upto, function_slot_map, lift_function, lift_functions, throws_of, lifted};
@@ -66,8 +66,8 @@ fn close_function(
     held: &FunctionSlots,
     body: List<UStmt>,
 ) -> Result<Unit, NoMemory>
-    requires { length (context_view context.now).function.throws < 2 ^ 32 }
-    ensures { IfOk result (λ made. made ≡ made_unit (context_view context.now) (context_view context.now).name (context_view context.now).function.params (length (context_view context.now).function.throws) held.now.slot_map held.now.tries body) }
+    requires { length (lift_context_view context.now).function.throws < 2 ^ 32 }
+    ensures { IfOk result (λ made. made ≡ made_unit (lift_context_view context.now) (lift_context_view context.now).name (lift_context_view context.now).function.params (length (lift_context_view context.now).function.throws) held.now.slot_map held.now.tries body) }
 {
     let function = context.function;
     let title = List::from_slice(alloc, context.name.as_bytes())?;

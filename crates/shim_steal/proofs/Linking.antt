@@ -10,7 +10,7 @@ use Rattle.shim_steal.specs.declared.own_deque.OwnDeque.{OwnDeque}
 use Rattle.shim_steal.specs.declared.other_deque.OtherDeque.{OtherDeque}
 use Rattle.shim_steal.specs.declared.lane.Lane.{Lane}
 use Rattle.shim_steal.specs.Views.{fresh}
-use Rattle.shim_steal.specs.Places.{place_of, lane_at, from_home}
+use Rattle.shim_steal.specs.Places.{deque_index, lane_at, from_home}
 use Rattle.shim_steal.specs.Deques.{view_of, IsSameAsOwn}
 use Rattle.shim_steal.specs.Lanes.{home_of, lanes_of, pushes_of, takes_of, takes_from}
 use Rattle.shim_steal.specs.Making.{StandsAt, TakesFromAll, AreNewLanes, IsUnused, IsLinked, AreLinked}
@@ -18,10 +18,10 @@ use Rattle.shim_steal.proofs.Lists.{at-end, at-inside, empty-left, empty-right, 
 use Rattle.shim_steal.proofs.Totals.{length-snoc}
 
 -- another lane's place where that has the higher number, and where it has the lower one
-place-above : (home from : ℕ) → home < from → place_of home from ≡ from - 1
+place-above : (home from : ℕ) → home < from → deque_index home from ≡ from - 1
 place-above home from above = ap (λ b. cond b from (from - 1)) (le-ltb from home (omega arith))
 
-place-below : (home from : ℕ) → from < home → place_of home from ≡ from
+place-below : (home from : ℕ) → from < home → deque_index home from ≡ from
 place-below home from below = ap (λ b. cond b from (from - 1)) (lt-ltb from home below)
 
 module _ {T : Type 0} where
@@ -63,7 +63,7 @@ module _ {T : Type 0} where
     -- the lanes may take from each other as before
     still-from-all : (i : ℕ) (ts : List (OtherDeque T)) → TakesFromAll i all ts → TakesFromAll i (set all k l') ts
     still-from-all i ts from j m other e = ⊎_elim
-        (λ (x : (j ≡ k) × (l' ≡ m)). subst (λ u. StandsAt ts (place_of i j) u.own) x.1 (stands-still ts (place_of i j) l.own l'.own s.1.0 (from j l other (ap (get_elem? all) x.0 ∙ at))))
+        (λ (x : (j ≡ k) × (l' ≡ m)). subst (λ u. StandsAt ts (deque_index i j) u.own) x.1 (stands-still ts (deque_index i j) l.own l'.own s.1.0 (from j l other (ap (get_elem? all) x.0 ∙ at))))
         (λ (x : (j ≢ k) × (get_elem? all j ≡ some m)). from j m other x.1) (at_set all k j l' m e)
 
     was : (home_of l ≡ k) × (pushes_of l ≡ []) × (takes_of l ≡ []) × TakesFromAll k all l.others.items
@@ -88,7 +88,7 @@ module _ {T : Type 0} where
           (λ (x : (j ≢ k) × (get_elem? all j ≡ some m)). stands-longer others (others ++ mine ∷ []) mine j m.own refl (a.theirs j m (let o = x.0 in omega arith) x.1)) (at_set all k j l' m e);
       each = λ i u e. ⊎_elim
           (λ (x : (i ≡ k) × (l' ≡ u)). subst (λ w. (home_of w ≡ i) × (pushes_of w ≡ []) × (takes_of w ≡ []) × TakesFromAll i (set all k l') w.others.items) x.1
-          (s.0 ∙ was.0 ∙ sym x.0, s.1.1 ∙ was.1, new-takes, λ j m other f. stands-longer l.others.items l'.others.items s.4.0 (place_of i j) m.own s.4.1 (still-from-all i l.others.items (subst (λ h. TakesFromAll h all l.others.items) (sym x.0) was.3) j m other f)))
+          (s.0 ∙ was.0 ∙ sym x.0, s.1.1 ∙ was.1, new-takes, λ j m other f. stands-longer l.others.items l'.others.items s.4.0 (deque_index i j) m.own s.4.1 (still-from-all i l.others.items (subst (λ h. TakesFromAll h all l.others.items) (sym x.0) was.3) j m other f)))
           (λ (x : (i ≢ k) × (get_elem? all i ≡ some u)). let b = a.each i u x.1 in (b.0, b.1, b.2, still-from-all i u.others.items b.3)) (at_set all k i l' u e);
       old = λ i u e above. ⊎_elim (λ (x : (i ≡ k) × (l' ≡ u)). absurd (let o = x.0 in omega arith)) (λ (x : (i ≢ k) × (get_elem? all i ≡ some u)). a.old i u x.1 (omega arith)) (at_set all k i l' u e);
       new = λ i u e below. ⊎_elim
@@ -101,7 +101,7 @@ module _ {T : Type 0} where
       (a : AreLinked n n all own others) (home : l.home ≡ n) (mine : l.own ≡ own) (theirs : l.others.items ≡ others) where
     among-old : (i : ℕ) (m : Lane T) → get_elem? all i ≡ some m → TakesFromAll i (all ++ l ∷ []) m.others.items
     among-old i m at j u other e = ⊎_elim (λ (x : get_elem? all j ≡ some u). (a.each i m at).3 j u other x)
-        (λ (x : (j ≡ length all) × (l ≡ u)). let inside = at-inside all i m at in subst (λ w. StandsAt m.others.items (place_of i j) w.own) x.1
+        (λ (x : (j ≡ length all) × (l ≡ u)). let inside = at-inside all i m at in subst (λ w. StandsAt m.others.items (deque_index i j) w.own) x.1
         (subst (λ p. StandsAt m.others.items p l.own) (ap (λ c. c - 1) (sym a.count ∙ sym x.0) ∙ sym (place-above i j (let o = x.0 in omega arith))) (subst (λ d. StandsAt m.others.items (n - 1) d) (sym mine) (a.new i m at (let c = a.count in omega arith)).1)))
         (at-end all l u j e)
 

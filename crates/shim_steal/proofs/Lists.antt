@@ -2,22 +2,22 @@
 use Rattle.std.proofs.Common.{◌≡◌, ◌⊎◌, inl, inr, ⊎_elim, ℕ, zero, suc, ◌+◌, ◌<◌, List, [], ◌∷◌, ◌++◌, length, get_or, map, set, refl, sym, ap, ◌∙◌, subst, arith}
 use mathlib.Core.Option.{some, some-injective, some-ne-none}
 use lib.ListN.{get_elem?}
-use Rattle.shim_steal.specs.Counting.{Among}
+use Rattle.shim_steal.specs.Counting.{IsAmong}
 
 module _ {A : Type 0} where
-  pub among-left : (x : A) (xs ys : List A) → Among x xs → Among x (xs ++ ys)
+  pub among-left : (x : A) (xs ys : List A) → IsAmong x xs → IsAmong x (xs ++ ys)
   among-left x [] ys h = absurd h
   among-left x (z ∷ zs) ys h = ⊎_elim (λ e. inl e) (λ t. inr (among-left x zs ys t)) h
 
-  pub among-right : (x : A) (xs ys : List A) → Among x ys → Among x (xs ++ ys)
+  pub among-right : (x : A) (xs ys : List A) → IsAmong x ys → IsAmong x (xs ++ ys)
   among-right x [] ys h = h
   among-right x (z ∷ zs) ys h = inr (among-right x zs ys h)
 
-  pub among-either : (x : A) (xs ys : List A) → Among x (xs ++ ys) → Among x xs ⊎ Among x ys
+  pub among-either : (x : A) (xs ys : List A) → IsAmong x (xs ++ ys) → IsAmong x xs ⊎ IsAmong x ys
   among-either x [] ys h = inr h
   among-either x (z ∷ zs) ys h = ⊎_elim (λ e. inl (inl e)) (λ t. ⊎_elim (λ a. inl (inr a)) (λ b. inr b) (among-either x zs ys t)) h
 
-  pub at-among : (l : List A) (i : ℕ) (a : A) → get_elem? l i ≡ some a → Among a l
+  pub at-among : (l : List A) (i : ℕ) (a : A) → get_elem? l i ≡ some a → IsAmong a l
   at-among [] i a e = absurd (some-ne-none a (sym e))
   at-among (x ∷ xs) zero a e = inl (sym (some-injective x a e))
   at-among (x ∷ xs) (suc i) a e = inr (at-among xs i a e)

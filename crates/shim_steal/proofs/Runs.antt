@@ -5,10 +5,10 @@ use mathlib.Core.Option as maybe
 use lib.ListN.{get_elem?}
 use Rattle.crossbeam_deque.proofs.Lists.{at_longer}
 use Rattle.shim_steal.specs.declared.view.View.{View}
-use Rattle.shim_steal.specs.Counting.{times, numbered, Among, IsPart}
+use Rattle.shim_steal.specs.Counting.{times, numbered, IsAmong, IsPart}
 use Rattle.shim_steal.specs.Views.{after_pass, fresh}
 use Rattle.shim_steal.specs.Kept.{Kept}
-use Rattle.shim_steal.specs.Run.{DequeRun, Kind, pass, push, pop, steal, LaneStep, takes_first, by_view, port_of, after_step, after, new_deque, lanes_run, EachOnce}
+use Rattle.shim_steal.specs.Run.{DequeRun, DequeStepKind, pass, push, pop, steal, LaneStep, takes_first, by_view, port_of, after_step, after, new_deque, lanes_run, EachOnce}
 use Rattle.shim_steal.proofs.Totals.{times-append, numbered-append}
 use Rattle.shim_steal.proofs.Lists.{among-left, among-either}
 use Rattle.shim_steal.proofs.Numbers.{numbered-length, numbered-at, numbered-once}
@@ -38,7 +38,7 @@ module _ {T : Type 0} where
   takes-out [] views puts takes port v at k = k
   takes-out (p ∷ ps) views puts takes port v at k = (taken port v (p ∷ []) ps views k.0 at, ap (λ l. l ++ p ∷ []) k.1, k.2)
 
-  step_keeps : (d : DequeRun T) (kind : Kind T) (o : maybe.Option (View T)) → get_elem? d.views (port_of kind) ≡ o → Keeps d → Keeps (by_view d kind (port_of kind) o)
+  step_keeps : (d : DequeRun T) (kind : DequeStepKind T) (o : maybe.Option (View T)) → get_elem? d.views (port_of kind) ≡ o → Keeps d → Keeps (by_view d kind (port_of kind) o)
   step_keeps d kind none e k = k
   step_keeps d pass (some v) e k = passes d v k e
   step_keeps d (push x) (some v) e k = puts-in d v x k e
@@ -60,8 +60,8 @@ module _ {T : Type 0} where
     lists = λ n. k.0.lists n ∙ ap (times n) k.1;
     order = λ n p e. let r = (numbered-at 0 k.0.pushed n p (ap (λ l. get_elem? l n) k.0.line ∙ at_longer k.0.gone d.items n p (ap (λ l. get_elem? l n) k.1 ∙ e))).0 in omega arith;
     each = λ j v at. subst (IsPart v.taken) k.1 (k.0.order j v at);
-    same = λ p h. subst (Among p) (sym k.0.line ∙ k.2) (among-left p k.0.gone d.items (subst (Among p) (sym k.1) h));
-    lost = λ p h. ⊎_elim (λ a. inl (subst (Among p) k.1 a)) (λ b. inr b) (among-either p k.0.gone d.items (subst (Among p) (sym k.2 ∙ k.0.line) h));
+    same = λ p h. subst (IsAmong p) (sym k.0.line ∙ k.2) (among-left p k.0.gone d.items (subst (IsAmong p) (sym k.1) h));
+    lost = λ p h. ⊎_elim (λ a. inl (subst (IsAmong p) k.1 a)) (λ b. inr b) (among-either p k.0.gone d.items (subst (IsAmong p) (sym k.2 ∙ k.0.line) h));
   }
 
   pub keeps_all : (steps : List (LaneStep T)) (home : ℕ) → EachOnce (lanes_run steps home)

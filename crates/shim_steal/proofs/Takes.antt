@@ -5,10 +5,10 @@ use mathlib.Core.Option.{some, some-injective, some-ne-none}
 use lib.ListN.{get_elem?}
 use Rattle.shim_steal.specs.declared.view.View.{View}
 use Rattle.shim_steal.specs.declared.other_deque.OtherDeque.{OtherDeque}
-use Rattle.shim_steal.specs.Counting.{Among, numbered}
+use Rattle.shim_steal.specs.Counting.{IsAmong, numbered}
 use Rattle.shim_steal.proofs.Lists.{among-either, head_same, tail_same, not_empty, at-place}
 use Rattle.crossbeam_deque.specs.Handles.{view}
-use Rattle.shim_steal.specs.Places.{lane_at, place_of, from_home}
+use Rattle.shim_steal.specs.Places.{lane_at, deque_index, from_home}
 use Rattle.shim_steal.specs.Views.{after_take}
 use Rattle.shim_steal.specs.Lanes.{takes_from}
 
@@ -22,26 +22,26 @@ lane_at-other home place = by (nat_lt place home) refl
 
 module _ {T : Type 0} where
   -- the piece behind the first ones has the next number, and the first ones have lower ones
-  pub numbered-next : (n : ℕ) (xs : List T) (ps qs : List (ℕ × T)) (b : ℕ × T) → numbered n xs ≡ ps ++ b ∷ qs → (b.0 ≡ n + length ps) × (get_elem? xs (length ps) ≡ some b.1) × ((p : ℕ × T) → Among p ps → p.0 < n + length ps)
+  pub numbered-next : (n : ℕ) (xs : List T) (ps qs : List (ℕ × T)) (b : ℕ × T) → numbered n xs ≡ ps ++ b ∷ qs → (b.0 ≡ n + length ps) × (get_elem? xs (length ps) ≡ some b.1) × ((p : ℕ × T) → IsAmong p ps → p.0 < n + length ps)
   numbered-next n [] [] qs b e = absurd (not_empty b qs e)
   numbered-next n [] (a ∷ ps) qs b e = absurd (not_empty a (ps ++ b ∷ qs) e)
   numbered-next n (x ∷ xs) [] qs b e = let h = head_same (n, x) b (numbered (n + 1) xs) qs e in ((let z : n ≡ b.0 = ap (λ p. p.0) h in omega arith), ap (λ p. some p.1) h, λ p z. absurd z)
   numbered-next n (x ∷ xs) (a ∷ ps) qs b e = let h = head_same (n, x) a (numbered (n + 1) xs) (ps ++ b ∷ qs) e in let r = numbered-next (n + 1) xs ps qs b (tail_same (n, x) a (numbered (n + 1) xs) (ps ++ b ∷ qs) e) in
-      ((let z = r.0 in omega arith), r.1, λ p z. ⊎_elim (λ (is : p ≡ a). let l : n ≡ a.0 = ap (λ q. q.0) h in let m : p.0 ≡ a.0 = ap (λ q. q.0) is in omega arith) (λ (t : Among p ps). let l = r.2 p t in omega arith) z)
+      ((let z = r.0 in omega arith), r.1, λ p z. ⊎_elim (λ (is : p ≡ a). let l : n ≡ a.0 = ap (λ q. q.0) h in let m : p.0 ≡ a.0 = ap (λ q. q.0) is in omega arith) (λ (t : IsAmong p ps). let l = r.2 p t in omega arith) z)
 
   pub from_home-append : (home : ℕ) (xs ys : List (ℕ × T)) → from_home home (xs ++ ys) ≡ from_home home xs ++ from_home home ys
   from_home-append home [] ys = refl
   from_home-append home (x ∷ xs) ys = ap (λ l. (home, x) ∷ l) (from_home-append home xs ys)
 
-  pub into-home : (home : ℕ) (p : ℕ × T) (ps : List (ℕ × T)) → Among p ps → Among (home, p) (from_home home ps)
+  pub into-home : (home : ℕ) (p : ℕ × T) (ps : List (ℕ × T)) → IsAmong p ps → IsAmong (home, p) (from_home home ps)
   into-home home p [] h = absurd h
   into-home home p (q ∷ qs) h = ⊎_elim (λ (e : p ≡ q). inl (ap (λ z. (home, z)) e)) (λ t. inr (into-home home p qs t)) h
 
-  pub out-home : (home other : ℕ) (p : ℕ × T) (ps : List (ℕ × T)) → Among (home, p) (from_home other ps) → (home ≡ other) × Among p ps
+  pub out-home : (home other : ℕ) (p : ℕ × T) (ps : List (ℕ × T)) → IsAmong (home, p) (from_home other ps) → (home ≡ other) × IsAmong p ps
   out-home home other p [] h = absurd h
   out-home home other p (q ∷ qs) h = ⊎_elim (λ (e : (home, p) ≡ (other, q)). (ap (λ z. z.0) e, inl (ap (λ z. z.1) e))) (λ t. let r = out-home home other p qs t in (r.0, inr r.1)) h
 
-  pub not-by-others : (home place : ℕ) (p : ℕ × T) (ts : List (OtherDeque T)) → Among (home, p) (takes_from home place ts) → ⊥
+  pub not-by-others : (home place : ℕ) (p : ℕ × T) (ts : List (OtherDeque T)) → IsAmong (home, p) (takes_from home place ts) → ⊥
   not-by-others home place p [] h = h
   not-by-others home place p (t ∷ ts) h = ⊎_elim (λ a. lane_at-other home place (sym (out-home home (lane_at home place) p _ a).0)) (λ a. not-by-others home (place + 1) p ts a) (among-either (home, p) _ (takes_from home (place + 1) ts) h)
 
@@ -74,7 +74,7 @@ module _ {T : Type 0} where
       (more-behind _ number value (from_home (lane_at home place) (view s.pass).taken) _ _ (took-other home (place + 1) ts i t u number value at is))
 
 -- at the place of another lane stands its deque
-pub place-goes : (home from : ℕ) → from ≢ home → lane_at home (place_of home from) ≡ from
+pub place-goes : (home from : ℕ) → from ≢ home → lane_at home (deque_index home from) ≡ from
 place-goes home from other = by (nat_lt from home) refl
   where
     again : (b : Bool) (place : ℕ) → nat_lt place home ≡ b → b ≡ true → lane_at home place ≡ place
@@ -87,7 +87,7 @@ place-goes home from other = by (nat_lt from home) refl
     by true is = again true from is refl
     by false is = let l = ltb-false from home is in past (from - 1) (le-ltb (from - 1) home (omega arith)) ∙ (let e : from - 1 + 1 ≡ from = omega arith in e)
 
-pub place-inside : (home from n : ℕ) → from ≢ home → from < n + 1 → home ≤ n → place_of home from < n
+pub place-inside : (home from n : ℕ) → from ≢ home → from < n + 1 → home ≤ n → deque_index home from < n
 place-inside home from n other a b = by (nat_lt from home) refl
   where
     by : (d : Bool) → nat_lt from home ≡ d → cond d from (from - 1) < n
@@ -101,11 +101,11 @@ module _ {T : Type 0} where
   same-takes home place (s ∷ ts) zero t u at is = ap (λ (v : View T). from_home (lane_at home place) v.taken ++ takes_from home (place + 1) ts) (is ∙ ap (λ (z : OtherDeque T). view z.pass) (sym (some-injective s t at)))
   same-takes home place (s ∷ ts) (suc i) t u at is = ap (λ l. from_home (lane_at home place) (view s.pass).taken ++ l) (same-takes home (place + 1) ts i t u at is)
 
-  pub place-there : (home from : ℕ) (ts : List (OtherDeque T)) (i : ℕ) (t : OtherDeque T) → i ≡ place_of home from → (from ≢ home) × (from < length ts + 1) → home ≤ length ts → t ≡ get_or ts i t → get_elem? ts i ≡ some t
+  pub place-there : (home from : ℕ) (ts : List (OtherDeque T)) (i : ℕ) (t : OtherDeque T) → i ≡ deque_index home from → (from ≢ home) × (from < length ts + 1) → home ≤ length ts → t ≡ get_or ts i t → get_elem? ts i ≡ some t
   place-there home from ts i t is may among here = at-place ts i t (subst (λ p. p < length ts) (sym is) (place-inside home from (length ts) may.0 may.1 among)) here
 
   -- a piece that is taken at the place of another lane is of that lane
-  pub stole : (home from : ℕ) (own : List (ℕ × (ℕ × T))) (ts : List (OtherDeque T)) (i : ℕ) (t u : OtherDeque T) (number : ℕ) (value : T) → i ≡ place_of home from → from ≢ home → get_elem? ts i ≡ some t → (view u.pass) ≡ after_take (view t.pass) ((number, value) ∷ [])
+  pub stole : (home from : ℕ) (own : List (ℕ × (ℕ × T))) (ts : List (OtherDeque T)) (i : ℕ) (t u : OtherDeque T) (number : ℕ) (value : T) → i ≡ deque_index home from → from ≢ home → get_elem? ts i ≡ some t → (view u.pass) ≡ after_take (view t.pass) ((number, value) ∷ [])
       → IsOneMore from number value (own ++ takes_from home 0 ts) (own ++ takes_from home 0 (set ts i u))
   stole home from own ts i t u number value is other at took = more-behind from number value own _ _ (subst (λ h. IsOneMore h number value (takes_from home 0 ts) (takes_from home 0 (set ts i u))) (ap (lane_at home) (let z : 0 + i ≡ i = omega arith in z) ∙ ap (lane_at home) is ∙ place-goes home from other)
       (took-other home 0 ts i t u number value at (ap (λ (v : View T). v.taken) took)))

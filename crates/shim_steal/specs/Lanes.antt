@@ -5,8 +5,8 @@ use lib.ListN.{get_elem?}
 use Rattle.crossbeam_deque.specs.Handles.{view, stealer_deque}
 use Rattle.shim_steal.specs.declared.other_deque.OtherDeque.{OtherDeque}
 use Rattle.shim_steal.specs.declared.lane.Lane.{Lane}
-use Rattle.shim_steal.specs.Counting.{Among}
-use Rattle.shim_steal.specs.Places.{lane_at, place_of, from_home}
+use Rattle.shim_steal.specs.Counting.{IsAmong}
+use Rattle.shim_steal.specs.Places.{lane_at, deque_index, from_home}
 use Rattle.shim_steal.specs.Steps.{WasEmptyAt, WasEmpty}
 use Rattle.shim_steal.specs.Deques.{view_of, IsSameDeque}
 
@@ -46,7 +46,7 @@ module _ {T : Type 0} where
 
   -- each piece that it pushed stands in its own list of takes
   abbrev pub HasTakenAll : Lane T → Type 0
-  HasTakenAll l = (n : ℕ) (x : T) → get_elem? (pushes_of l) n ≡ some x → Among (home_of l, (n, x)) (takes_of l)
+  HasTakenAll l = (n : ℕ) (x : T) → get_elem? (pushes_of l) n ≡ some x → IsAmong (home_of l, (n, x)) (takes_of l)
 
   -- they are the same deques
   abbrev pub AreSameDeques : List (OtherDeque T) → List (OtherDeque T) → Type 0
@@ -62,4 +62,4 @@ module _ {T : Type 0} where
 
   -- that lane's deque was empty at one moment, at which this one had done what it has done now
   abbrev pub OtherWasEmpty : Lane T → ℕ → Type 0
-  OtherWasEmpty l from = (t : OtherDeque T) × (get_elem? l.others.items (place_of l.home from) ≡ some t) × WasEmpty (view t.pass)
+  OtherWasEmpty l from = (t : OtherDeque T) × (get_elem? l.others.items (deque_index l.home from) ≡ some t) × WasEmpty (view t.pass)

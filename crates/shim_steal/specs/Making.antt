@@ -8,7 +8,7 @@ use Rattle.shim_steal.specs.declared.own_deque.OwnDeque.{OwnDeque}
 use Rattle.shim_steal.specs.declared.other_deque.OtherDeque.{OtherDeque}
 use Rattle.shim_steal.specs.declared.lane.Lane.{Lane}
 use Rattle.shim_steal.specs.Views.{fresh}
-use Rattle.shim_steal.specs.Places.{place_of}
+use Rattle.shim_steal.specs.Places.{deque_index}
 use Rattle.shim_steal.specs.Deques.{view_of, IsSameDeque, IsSameAsOwn}
 use Rattle.shim_steal.specs.Lanes.{home_of, pushes_of, takes_of, takes_from, lanes_of}
 
@@ -19,7 +19,7 @@ module _ {T : Type 0} where
 
   -- each lane but the one of this number, from all of which the lane of that number may take
   abbrev pub TakesFromAll : ℕ → List (Lane T) → List (OtherDeque T) → Type 0
-  TakesFromAll home all others = (j : ℕ) (m : Lane T) → j ≢ home → get_elem? all j ≡ some m → StandsAt others (place_of home j) m.own
+  TakesFromAll home all others = (j : ℕ) (m : Lane T) → j ≢ home → get_elem? all j ≡ some m → StandsAt others (deque_index home j) m.own
 
   -- so many lanes, numbered from 0, which have done nothing yet, and of which each may take from all others
   abbrev pub AreNewLanes : ℕ → List (Lane T) → Type 0

@@ -6,8 +6,8 @@ abbrev pub lane_at : ℕ → ℕ → ℕ
 lane_at home place = cond (nat_lt place home) place (place + 1)
 
 -- the place of that lane's deque
-abbrev pub place_of : ℕ → ℕ → ℕ
-place_of home from = cond (nat_lt from home) from (from - 1)
+abbrev pub deque_index : ℕ → ℕ → ℕ
+deque_index home from = cond (nat_lt from home) from (from - 1)
 
 -- these pieces, each with its home
 abbrev pub from_home : {T : Type 0} → ℕ → List (ℕ × T) → List (ℕ × (ℕ × T))

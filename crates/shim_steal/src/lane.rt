@@ -1,6 +1,6 @@
 // A lane, and what it does.
 ghost use Rattle.std.specs.Prelude.{◌≡◌, ◌≢◌, ◌≤◌, length};
-ghost use Rattle.shim_steal.specs.Places.{place_of};
+ghost use Rattle.shim_steal.specs.Places.{deque_index};
 ghost use Rattle.shim_steal.specs.Deques.{view_of};
 
 use crate::other_deque::OtherDeque;
@@ -32,7 +32,7 @@ pub struct Lane<T> {
 // The place of another lane's deque among those of all others.
 fn place_of(home: u64, from: u64) -> usize
     requires { from ≢ home }
-    ensures { result ≡ place_of home from }
+    ensures { result ≡ deque_index home from }
 {
     if from < home {
         from as usize

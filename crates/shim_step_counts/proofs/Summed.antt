@@ -7,7 +7,7 @@ use Rattle.std.specs.FinMap.{FinMap, get, insert, empty, values, get-insert, sam
 use Rattle.std.proofs.lemmas.List.{append-nil}
 use Rattle.shim_base.specs.Paths.{Path, path_order}
 use Rattle.shim_base.specs.PathLaws.{path_order_total, exact_path}
-use Rattle.shim_semantics.specs.Trees.{sum, count_of, one_more}
+use Rattle.shim_semantics.specs.Trees.{sum, count_of, with_step_counted}
 use Rattle.shim_tree.specs.Advancing.{steps_taken}
 use Rattle.shim_run_log.proofs.Mapped.{count_below}
 use Rattle.shim_step_counts.specs.Counted.{StepCount, counted}
@@ -19,7 +19,7 @@ use Rattle.shim_step_counts.proofs.Counted.{moved, count_more}
 same_key : (p : Path) → eq_by_cmp path_order p p ≡ true
 same_key p = (eq_by_cmp_equiv path_order_total).refl p
 
-mine_more : (m : FinMap path_order ℕ) (p : Path) → count_of (one_more m p) p ≡ count_of m p + 1
+mine_more : (m : FinMap path_order ℕ) (p : Path) → count_of (with_step_counted m p) p ≡ count_of m p + 1
 mine_more m p = count_more m p p ∙ ap (λ b. cond b (count_of m p + 1) (count_of m p)) (same_key p)
 
 over_again : (b : Bool) (x y : ℕ) (z : Option ℕ) → cond b (Some x) (cond b (Some y) z) ≡ cond b (Some x) z
@@ -29,12 +29,12 @@ over_again false x y z = refl
 pub at_once : (n : ℕ) (m : FinMap path_order ℕ) (p : Path) → steps_taken m p (suc n) ≡ insert m p (count_of m p + suc n)
 at_once zero m p = refl
 at_once (suc n) m p =
-    let next : count_of (one_more m p) p + suc n ≡ count_of m p + suc (suc n) = let w = mine_more m p in omega (arith, w) in
-    at_once n (one_more m p) p
+    let next : count_of (with_step_counted m p) p + suc n ≡ count_of m p + suc (suc n) = let w = mine_more m p in omega (arith, w) in
+    at_once n (with_step_counted m p) p
     ∙ same_map path_order_total exact_path _ _ (λ q.
-    get-insert path_order_total (one_more m p) p (count_of (one_more m p) p + suc n) q
-    ∙ ap (cond (eq_by_cmp path_order q p) (Some (count_of (one_more m p) p + suc n))) (get-insert path_order_total m p (count_of m p + 1) q)
-    ∙ over_again (eq_by_cmp path_order q p) (count_of (one_more m p) p + suc n) (count_of m p + 1) (get m q)
+    get-insert path_order_total (with_step_counted m p) p (count_of (with_step_counted m p) p + suc n) q
+    ∙ ap (cond (eq_by_cmp path_order q p) (Some (count_of (with_step_counted m p) p + suc n))) (get-insert path_order_total m p (count_of m p + 1) q)
+    ∙ over_again (eq_by_cmp path_order q p) (count_of (with_step_counted m p) p + suc n) (count_of m p + 1) (get m q)
     ∙ ap (λ c. cond (eq_by_cmp path_order q p) (Some c) (get m q)) next
     ∙ sym (get-insert path_order_total m p (count_of m p + suc (suc n)) q))
 
@@ -67,7 +67,7 @@ grows zero m p q = omega arith
 grows (suc n) m p q =
     let one = count_more m p q in
     let step = grows_by (eq_by_cmp path_order q p) (count_of m q) in
-    let rest = grows n (one_more m p) p q in
+    let rest = grows n (with_step_counted m p) p q in
     omega (arith, one, step, rest)
 
 pub all_grow : (es : List StepCount) (m : FinMap path_order ℕ) (q : Path) → count_of m q ≤ count_of (with_counts m es) q
@@ -84,7 +84,7 @@ taken_by zero m p = none (count_of m p)
     none k = omega arith
 taken_by (suc n) m p =
     let one = mine_more m p in
-    let rest = taken_by n (one_more m p) p in
+    let rest = taken_by n (with_step_counted m p) p in
     omega (arith, one, rest)
 
 pub below_sum : (m : FinMap path_order ℕ) (p : Path) → count_of m p ≤ sum (values m)

@@ -1,7 +1,7 @@
 -- A text has no more terminals than bytes, but for its end, and its program is no larger.
 use Rattle.std.proofs.Common.{ℕ, suc, ◌≡◌, ◌≤◌, List, [], ◌∷◌, ◌++◌, Option, length, ap, ◌∙◌, arith}
 use Rattle.std.proofs.lemmas.List.{length-append, length-map}
-use Rattle.shim_base.specs.Tokens.{Token, Place, Fault, Passes, spacing, line_comment, block_comment, Cuts, ended, passed, token, faulty, block_closer}
+use Rattle.shim_base.specs.Tokens.{Token, Place, Fault, Skips, spacing, line_comment, block_comment, Cuts, ended, passed, token, faulty, block_closer}
 use Rattle.shim_base.proofs.Cutting.{first_takes}
 use Rattle.shim_syntax.specs.declared.tree.Program.{Program}
 use Rattle.shim_syntax.specs.Terminals.{Terminal, of_tokens, of_version, IsRead}
@@ -10,7 +10,7 @@ use Rattle.shim_syntax.specs.Sizes.{functions_size}
 use Rattle.shim_syntax.specs.ShortText.{HasText}
 use Rattle.shim_syntax.proofs.TextSizes.{program_read}
 
-behind_passed : (bytes over rest : List ℕ) → Passes bytes over rest → length rest ≤ length bytes
+behind_passed : (bytes over rest : List ℕ) → Skips bytes over rest → length rest ≤ length bytes
 behind_passed _ _ _ (spacing b rest is) = omega arith
 behind_passed _ _ _ (line_comment inside rest no_feed ends) = omega (arith, length-append inside rest)
 behind_passed _ _ _ (block_comment inside rest first) = omega (arith, length-append inside (block_closer ++ rest), length-append block_closer rest)

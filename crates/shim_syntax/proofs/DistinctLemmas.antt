@@ -12,7 +12,7 @@ use Rattle.shim_syntax.specs.declared.tree.Stmt.{Stmt, Stmt-F, fold-roll-Stmt, i
 use Rattle.shim_syntax.specs.declared.tree.What.{What, What-F, fold-What, fold-roll-What, map-What, roll-What}
 use Rattle.shim_syntax.specs.declared.tree.Branch.{Branch, Branch-F, fold-roll-Branch, map-Branch, roll-Branch}
 use Rattle.shim_syntax.specs.declared.tree.BranchWhat.{BranchWhat, BranchWhat-F, fold-BranchWhat, fold-roll-BranchWhat, map-BranchWhat, roll-BranchWhat}
-use Rattle.shim_syntax.specs.Names.{Texts, Adds, unless_there, with_name, in_turn, expr_step, with_expr, with_exprs, with_option, with_variable, with_call, branch_names, what_names, with_stmt, with_branch, with_stmts, with_texts, with_params, with_function, with_functions}
+use Rattle.shim_syntax.specs.Names.{Texts, Adds, unless_there, with_name, in_turn, collect_expr_step, with_expr, with_exprs, with_option, with_variable, with_call, branch_names, what_names, with_stmt, with_branch, with_stmts, with_texts, with_params, with_function, with_functions}
 use Rattle.shim_syntax.specs.Distinct.{IsNew, AreDistinct}
 
 abbrev Keeps : Adds → Type 0
@@ -52,7 +52,7 @@ params_kept (p ∷ ps) known d = params_kept ps (with_name p.name known) (name_k
 abbrev ExprKeeps : Expr → Type 0
 ExprKeeps e = Keeps (with_expr e)
 
-expr_layer : (y : Expr-F ((e : Expr) × ExprKeeps e)) → Keeps (expr_step (map-Expr Expr Adds with_expr (map-Expr ((e : Expr) × ExprKeeps e) Expr (λ e. e.0) y)))
+expr_layer : (y : Expr-F ((e : Expr) × ExprKeeps e)) → Keeps (collect_expr_step (map-Expr Expr Adds with_expr (map-Expr ((e : Expr) × ExprKeeps e) Expr (λ e. e.0) y)))
 expr_layer (Expr-F.Number n) known d = d
 expr_layer (Expr-F.Var x) known d = name_kept x known d
 expr_layer (Expr-F.Unary op a) known d = a.1 known d
@@ -62,7 +62,7 @@ expr_kept : (e : Expr) → Keeps (with_expr e)
 unfolding with_expr
 expr_kept = ind-Expr ExprKeeps (λ x y is.
     subst (λ z. Keeps (with_expr (roll-Expr z))) is
-    (subst Keeps (sym (fold-roll-Expr Adds expr_step (map-Expr ((e : Expr) × ExprKeeps e) Expr (λ e. e.0) y))) (expr_layer y)))
+    (subst Keeps (sym (fold-roll-Expr Adds collect_expr_step (map-Expr ((e : Expr) × ExprKeeps e) Expr (λ e. e.0) y))) (expr_layer y)))
 
 exprs_kept : (es : List Expr) → Keeps (with_exprs es)
 exprs_kept [] known d = d

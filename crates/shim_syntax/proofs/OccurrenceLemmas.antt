@@ -8,8 +8,8 @@ use Rattle.shim_syntax.specs.declared.tree.Stmt.{Stmt, Stmt-F, fold-roll-Stmt, i
 use Rattle.shim_syntax.specs.declared.tree.What.{What, What-F, fold-What, fold-roll-What, map-What, roll-What}
 use Rattle.shim_syntax.specs.declared.tree.Branch.{Branch, Branch-F, fold-Branch, fold-roll-Branch, map-Branch, roll-Branch}
 use Rattle.shim_syntax.specs.declared.tree.BranchWhat.{BranchWhat, BranchWhat-F, fold-BranchWhat, fold-roll-BranchWhat, map-BranchWhat, roll-BranchWhat}
-use Rattle.shim_syntax.specs.Names.{Texts, Adds, with_name, in_turn, expr_step, with_expr, with_exprs, with_option, with_variable, with_call, branch_names, what_names, with_stmt, with_branch, with_stmts, with_texts, param_names, with_params, with_function, with_functions}
-use Rattle.shim_syntax.specs.Occurrences.{joined, expr_occurs, in_expr, in_exprs, in_option, in_variable, in_call, branch_occurs, what_occurs, in_stmt, in_function, identifiers}
+use Rattle.shim_syntax.specs.Names.{Texts, Adds, with_name, in_turn, collect_expr_step, with_expr, with_exprs, with_option, with_variable, with_call, branch_names, what_names, with_stmt, with_branch, with_stmts, with_texts, param_names, with_params, with_function, with_functions}
+use Rattle.shim_syntax.specs.Occurrences.{concatenated, expr_occurs, in_expr, in_exprs, in_option, in_variable, in_call, branch_occurs, what_occurs, in_stmt, in_function, identifiers}
 
 -- the list changes as by these names one after another
 abbrev Takes : Adds → Texts → Type 0
@@ -27,7 +27,7 @@ params_taken [] known = refl
 params_taken (p ∷ ps) known = params_taken ps (with_name p.name known)
 
 expr_layer : (y : Expr-F ((e : Expr) × Takes (with_expr e) (in_expr e)))
-    → Takes (expr_step (map-Expr Expr Adds with_expr (map-Expr ((e : Expr) × Takes (with_expr e) (in_expr e)) Expr (λ e. e.0) y)))
+    → Takes (collect_expr_step (map-Expr Expr Adds with_expr (map-Expr ((e : Expr) × Takes (with_expr e) (in_expr e)) Expr (λ e. e.0) y)))
     (expr_occurs (map-Expr Expr Texts in_expr (map-Expr ((e : Expr) × Takes (with_expr e) (in_expr e)) Expr (λ e. e.0) y)))
 expr_layer (Expr-F.Number n) known = refl
 expr_layer (Expr-F.Var x) known = refl
@@ -43,7 +43,7 @@ unfolding with_expr
 expr_taken = ind-Expr (λ e. Takes (with_expr e) (in_expr e)) (λ x y is.
     subst (λ z. Takes (with_expr (roll-Expr z)) (in_expr (roll-Expr z))) is
     (same_taken _ _ _ _
-    (fold-roll-Expr Adds expr_step (map-Expr ((e : Expr) × Takes (with_expr e) (in_expr e)) Expr (λ e. e.0) y))
+    (fold-roll-Expr Adds collect_expr_step (map-Expr ((e : Expr) × Takes (with_expr e) (in_expr e)) Expr (λ e. e.0) y))
     (fold-roll-Expr Texts expr_occurs (map-Expr ((e : Expr) × Takes (with_expr e) (in_expr e)) Expr (λ e. e.0) y))
     (expr_layer y)))
 
@@ -93,16 +93,16 @@ StmtTaken = (s : Stmt) × Takes (with_stmt s) (in_stmt s)
 abbrev stmts : List StmtTaken → List Stmt
 stmts ys = map (λ (e : StmtTaken). e.0) ys
 
-stmts_in_turn : (ys : List StmtTaken) → Takes (in_turn (map with_stmt (stmts ys))) (joined (map in_stmt (stmts ys)))
+stmts_in_turn : (ys : List StmtTaken) → Takes (in_turn (map with_stmt (stmts ys))) (concatenated (map in_stmt (stmts ys)))
 stmts_in_turn [] known = refl
-stmts_in_turn (y ∷ ys) known = one_then (with_stmt y.0) (in_turn (map with_stmt (stmts ys))) (in_stmt y.0) (joined (map in_stmt (stmts ys))) y.1 (stmts_in_turn ys) known
+stmts_in_turn (y ∷ ys) known = one_then (with_stmt y.0) (in_turn (map with_stmt (stmts ys))) (in_stmt y.0) (concatenated (map in_stmt (stmts ys))) y.1 (stmts_in_turn ys) known
 
 abbrev branches : List BranchTaken → List Branch
 branches ys = map (λ (e : BranchTaken). e.0) ys
 
-branches_in_turn : (ys : List BranchTaken) → Takes (in_turn (map with_branch (branches ys))) (joined (map in_branch (branches ys)))
+branches_in_turn : (ys : List BranchTaken) → Takes (in_turn (map with_branch (branches ys))) (concatenated (map in_branch (branches ys)))
 branches_in_turn [] known = refl
-branches_in_turn (y ∷ ys) known = one_then (with_branch y.0) (in_turn (map with_branch (branches ys))) (in_branch y.0) (joined (map in_branch (branches ys))) y.1 (branches_in_turn ys) known
+branches_in_turn (y ∷ ys) known = one_then (with_branch y.0) (in_turn (map with_branch (branches ys))) (in_branch y.0) (concatenated (map in_branch (branches ys))) y.1 (branches_in_turn ys) known
 
 abbrev branch_what_of : BranchWhat-F BranchWhatTaken WhatTaken BranchTaken StmtTaken → BranchWhat-F BranchWhat What Branch Stmt
 branch_what_of y = map-BranchWhat BranchWhatTaken WhatTaken BranchTaken StmtTaken BranchWhat What Branch Stmt (λ e. e.0) (λ e. e.0) (λ e. e.0) (λ e. e.0) y
@@ -126,7 +126,7 @@ abbrev turn : List StmtTaken → Adds
 turn ys = in_turn (map with_stmt (stmts ys))
 
 abbrev texts : List StmtTaken → Texts
-texts ys = joined (map in_stmt (stmts ys))
+texts ys = concatenated (map in_stmt (stmts ys))
 
 what_layer : (y : What-F BranchWhatTaken WhatTaken BranchTaken StmtTaken)
     → Takes (what_names (map-What BranchWhat What Branch Stmt Adds Adds Adds Adds with_branch_what with_what with_branch with_stmt (what_of y)))
@@ -169,15 +169,15 @@ stmt_taken = ind-Stmt (λ w. Takes (with_branch_what w) (in_branch_what w)) (λ 
     (same_taken _ _ _ _ (fold-roll-Stmt Adds Adds Adds Adds branch_names what_names (λ b. b.what) (λ s. s.what) (stmt_of y))
     (fold-roll-Stmt Texts Texts Texts Texts branch_occurs what_occurs (λ b. b.what) (λ s. s.what) (stmt_of y)) y.what.1))
 
-body_taken : (body : List Stmt) → Takes (with_stmts body) (joined (map in_stmt body))
+body_taken : (body : List Stmt) → Takes (with_stmts body) (concatenated (map in_stmt body))
 body_taken [] known = refl
-body_taken (s ∷ body) known = one_then (with_stmt s) (with_stmts body) (in_stmt s) (joined (map in_stmt body)) (stmt_taken s) (body_taken body) known
+body_taken (s ∷ body) known = one_then (with_stmt s) (with_stmts body) (in_stmt s) (concatenated (map in_stmt body)) (stmt_taken s) (body_taken body) known
 
 function_taken : (f : Function) → Takes (with_function f) (in_function f)
 unfolding with_function
 function_taken f known =
-    one_then (with_params f.params) (λ k. with_stmts f.body (with_texts f.throws k)) (param_names f.params) (f.throws ++ joined (map in_stmt f.body)) (params_taken f.params)
-    (one_then (with_texts f.throws) (with_stmts f.body) f.throws (joined (map in_stmt f.body)) (λ k. refl) (body_taken f.body)) (with_name f.name known)
+    one_then (with_params f.params) (λ k. with_stmts f.body (with_texts f.throws k)) (param_names f.params) (f.throws ++ concatenated (map in_stmt f.body)) (params_taken f.params)
+    (one_then (with_texts f.throws) (with_stmts f.body) f.throws (concatenated (map in_stmt f.body)) (λ k. refl) (body_taken f.body)) (with_name f.name known)
 
 functions_taken : (fs : List Function) → Takes (with_functions fs) (identifiers fs)
 functions_taken [] known = refl

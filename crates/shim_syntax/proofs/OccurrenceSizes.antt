@@ -12,7 +12,7 @@ use Rattle.shim_syntax.specs.declared.tree.What.{What, What-F, fold-What, fold-r
 use Rattle.shim_syntax.specs.declared.tree.Branch.{Branch, Branch-F, fold-Branch, fold-roll-Branch, map-Branch, roll-Branch}
 use Rattle.shim_syntax.specs.declared.tree.BranchWhat.{BranchWhat, BranchWhat-F, fold-BranchWhat, fold-roll-BranchWhat, map-BranchWhat, roll-BranchWhat}
 use Rattle.shim_syntax.specs.Names.{Texts, with_name, unless_there, with_texts, with_functions, param_names}
-use Rattle.shim_syntax.specs.Occurrences.{joined, expr_occurs, in_expr, in_exprs, in_option, in_variable, in_call, branch_occurs, what_occurs, in_stmt, in_function, identifiers}
+use Rattle.shim_syntax.specs.Occurrences.{concatenated, expr_occurs, in_expr, in_exprs, in_option, in_variable, in_call, branch_occurs, what_occurs, in_stmt, in_function, identifiers}
 use Rattle.shim_syntax.specs.Sizes.{sum_of, expr_counts, expr_size, exprs_size, option_size, variable_size, call_size, branch_counts, what_counts, what_size, stmt_size, branch_size, stmts_size, function_size, functions_size}
 use Rattle.shim_syntax.proofs.SizeSteps.{branch_what_size, of_branch, at_branch, of_stmt, at_what}
 use Rattle.shim_syntax.proofs.OccurrenceLemmas.{names_are_the_identifiers}
@@ -86,13 +86,13 @@ stmts ys = map (λ (e : FewInStmt). e.0) ys
 abbrev branches : List FewInBranch → List Branch
 branches ys = map (λ (e : FewInBranch). e.0) ys
 
-stmts_few : (ys : List FewInStmt) → length (joined (map in_stmt (stmts ys))) ≤ sum_of (map stmt_size (stmts ys))
+stmts_few : (ys : List FewInStmt) → length (concatenated (map in_stmt (stmts ys))) ≤ sum_of (map stmt_size (stmts ys))
 stmts_few [] = omega arith
-stmts_few (y ∷ ys) = joined_few (in_stmt y.0) (joined (map in_stmt (stmts ys))) _ _ y.1 (stmts_few ys)
+stmts_few (y ∷ ys) = joined_few (in_stmt y.0) (concatenated (map in_stmt (stmts ys))) _ _ y.1 (stmts_few ys)
 
-branches_few : (ys : List FewInBranch) → length (joined (map in_branch (branches ys))) ≤ sum_of (map branch_size (branches ys))
+branches_few : (ys : List FewInBranch) → length (concatenated (map in_branch (branches ys))) ≤ sum_of (map branch_size (branches ys))
 branches_few [] = omega arith
-branches_few (y ∷ ys) = joined_few (in_branch y.0) (joined (map in_branch (branches ys))) _ _ y.1 (branches_few ys)
+branches_few (y ∷ ys) = joined_few (in_branch y.0) (concatenated (map in_branch (branches ys))) _ _ y.1 (branches_few ys)
 
 abbrev branch_what_of : BranchWhat-F FewInBranchWhat FewInWhat FewInBranch FewInStmt → BranchWhat-F BranchWhat What Branch Stmt
 branch_what_of y = map-BranchWhat FewInBranchWhat FewInWhat FewInBranch FewInStmt BranchWhat What Branch Stmt (λ e. e.0) (λ e. e.0) (λ e. e.0) (λ e. e.0) y
@@ -113,7 +113,7 @@ branch_what_layer (BranchWhat-F.BranchWhat::Block body) = omega (arith, stmts_fe
 branch_what_layer (BranchWhat-F.BranchWhat::Call c) = call_few c
 
 abbrev texts : List FewInStmt → Texts
-texts ys = joined (map in_stmt (stmts ys))
+texts ys = concatenated (map in_stmt (stmts ys))
 
 what_layer : (y : What-F FewInBranchWhat FewInWhat FewInBranch FewInStmt)
     → length (what_occurs (map-What BranchWhat What Branch Stmt Texts Texts Texts Texts in_branch_what in_what in_branch in_stmt (what_of y)))
@@ -155,9 +155,9 @@ stmt_few = ind-Stmt (λ w. length (in_branch_what w) ≤ branch_what_size w) (λ
     (same_few _ _ _ _ (fold-roll-Stmt Texts Texts Texts Texts branch_occurs what_occurs (λ b. b.what) (λ s. s.what) (stmt_of y))
     (of_stmt (roll-Stmt (stmt_of y))) y.what.1))
 
-body_few : (body : List Stmt) → length (joined (map in_stmt body)) ≤ stmts_size body
+body_few : (body : List Stmt) → length (concatenated (map in_stmt body)) ≤ stmts_size body
 body_few [] = omega arith
-body_few (s ∷ body) = joined_few (in_stmt s) (joined (map in_stmt body)) _ _ (stmt_few s) (body_few body)
+body_few (s ∷ body) = joined_few (in_stmt s) (concatenated (map in_stmt body)) _ _ (stmt_few s) (body_few body)
 
 params_few : (ps : List Param) → length (param_names ps) ≡ length ps
 params_few [] = omega arith
@@ -165,7 +165,7 @@ params_few (p ∷ ps) = omega (arith, params_few ps)
 
 function_few : (f : Function) → length (in_function f) ≤ function_size f
 function_few f =
-    omega (arith, params_few f.params, length-append (param_names f.params) (f.throws ++ joined (map in_stmt f.body)), length-append f.throws (joined (map in_stmt f.body)), body_few f.body)
+    omega (arith, params_few f.params, length-append (param_names f.params) (f.throws ++ concatenated (map in_stmt f.body)), length-append f.throws (concatenated (map in_stmt f.body)), body_few f.body)
 
 functions_few : (fs : List Function) → length (identifiers fs) ≤ functions_size fs
 functions_few [] = omega arith

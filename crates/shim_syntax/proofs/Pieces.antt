@@ -7,14 +7,14 @@ use Rattle.std.proofs.lemmas.Bool.Decides.{nat_tests}
 use Rattle.shim_base.specs.declared.TokenKind.{TokenKind}
 use Rattle.shim_base.specs.declared.TokenKind.TheVariants.{Word, Key, Number, Sign as SignKind}
 use Rattle.shim_base.specs.declared.Sign.{Sign}
-use Rattle.shim_base.specs.Tokens.{is_spacing, is_digit, is_letter, is_name_byte, is_hex_digit, is_name, is_numeral, is_hex_numeral, sign_of, signs, IsNumeralOf, Spells, IsWithinLimits, IsFirst, Token, Place, after, IsComment, Cuts, ended, passed, token, spacing}
+use Rattle.shim_base.specs.Tokens.{is_spacing, is_digit, is_letter, is_name_byte, is_hex_digit, is_name, is_numeral, is_hex_numeral, sign_of, signs, IsNumeralOf, Spells, IsWithinLimits, IsLongestToken, Token, Place, place_after, IsComment, Cuts, ended, passed, token, spacing}
 use Rattle.shim_base.proofs.FirstToken.{both_true, entry-passes, letter-no_spacing, digit-no_spacing, no_empty_token}
 use Rattle.shim_base.proofs.Front.{no_comment_at, no_comment_second}
 use Rattle.shim_base.proofs.Cutting.{token_at}
 use Rattle.shim_base.specs.declared.Ty.TheVariants.{Int64}
 use Rattle.shim_syntax.specs.declared.tree.Sort.TheVariants.{Value}
 use Rattle.shim_syntax.specs.Terminals.{Terminal, Sort, of_kind, of_version}
-use Rattle.shim_syntax.specs.Printing.{Piece, text_of}
+use Rattle.shim_syntax.specs.Printing.{PrintedPiece, pieces_text}
 
 -- a byte that isn't spacing
 abbrev pub is_solid : ℕ → Bool
@@ -98,7 +98,7 @@ solid_front (a ∷ text) b rest (c ∷ longer) behind space whole solid =
     omega (arith, more)
 
 -- a token before a byte of spacing stands first
-pub first_before_space : (text : List ℕ) (kind : TokenKind) (b : ℕ) (rest : List ℕ) → is_spacing b ≡ true → Spells text kind → IsFirst (text ++ b ∷ rest) text (b ∷ rest) kind
+pub first_before_space : (text : List ℕ) (kind : TokenKind) (b : ℕ) (rest : List ℕ) → is_spacing b ≡ true → Spells text kind → IsLongestToken (text ++ b ∷ rest) text (b ∷ rest) kind
 first_before_space text kind b rest space spells = record {
   whole = refl;
   spells = spells;
@@ -154,27 +154,27 @@ no_comment_before_space (a ∷ []) kind b rest space spells c = no_comment_secon
 no_comment_before_space (a ∷ d ∷ text) kind b rest space spells c = no_comment_at a (d ∷ (text ++ b ∷ rest)) (long-no_slash a d text kind spells) c
 
 -- the terminal that a piece stands for
-abbrev pub shown_as : Piece → Place → Terminal
+abbrev pub shown_as : PrintedPiece → Place → Terminal
 shown_as p place = if p.is_type then Sort (Value Int64) place else of_kind p.kind p.text place
 
 -- in that version it is seen so
-abbrev pub IsSeen : Bool → Piece → Type 0
+abbrev pub IsSeen : Bool → PrintedPiece → Type 0
 IsSeen ver p = (place : Place) → of_version ver (of_kind p.kind p.text place) ≡ shown_as p place
 
 -- each piece is a token of its kind, within the limits
-abbrev pub AreTokens : Bool → List Piece → Type 0
+abbrev pub AreTokens : Bool → List PrintedPiece → Type 0
 AreTokens ver [] = Unit {0}
 AreTokens ver (p ∷ ps) = Spells p.text p.kind × IsWithinLimits p.text p.kind × IsSeen ver p × AreTokens ver ps
 
 -- what stands behind a piece
-abbrev pub behind : Piece → ℕ
+abbrev pub behind : PrintedPiece → ℕ
 behind p = if p.ends_line then 10 else 32
 
-abbrev pub behind_piece : Place → Piece → Place
-behind_piece place p = after (after place p.text) (behind p ∷ [])
+abbrev pub behind_piece : Place → PrintedPiece → Place
+behind_piece place p = place_after (place_after place p.text) (behind p ∷ [])
 
 -- the tokens of pieces that begin at this place
-abbrev pub tokens_of : Place → List Piece → List Token
+abbrev pub tokens_of : Place → List PrintedPiece → List Token
 tokens_of place [] = []
 tokens_of place (p ∷ ps) = token_at place p.text p.kind ∷ tokens_of (behind_piece place p) ps
 
@@ -183,14 +183,14 @@ behind-space true = refl
 behind-space false = refl
 
 -- the text of pieces is cut into their tokens
-pub pieces_are_cut : (ver : Bool) (place : Place) (ps : List Piece) → AreTokens ver ps → Cuts place (text_of ps) (tokens_of place ps) None
+pub pieces_are_cut : (ver : Bool) (place : Place) (ps : List PrintedPiece) → AreTokens ver ps → Cuts place (pieces_text ps) (tokens_of place ps) None
 pieces_are_cut ver place [] are = ended place
 pieces_are_cut ver place (p ∷ ps) are =
     let space = behind-space p.ends_line in
-    let rest = text_of ps in
+    let rest = pieces_text ps in
     let tokens = tokens_of (behind_piece place p) ps in
     let more = pieces_are_cut ver (behind_piece place p) ps are.3 in
-    let tail = passed (after place p.text) (behind p ∷ rest) (behind p ∷ []) rest tokens None (spacing (behind p) rest space) more in
+    let tail = passed (place_after place p.text) (behind p ∷ rest) (behind p ∷ []) rest tokens None (spacing (behind p) rest space) more in
     let no_comment = no_comment_before_space p.text p.kind (behind p) rest space are.0 in
     let first = first_before_space p.text p.kind (behind p) rest space are.0 in
     let here = token place (p.text ++ behind p ∷ rest) p.text (behind p ∷ rest) p.kind tokens None no_comment first are.1 tail in

@@ -13,23 +13,23 @@ use Rattle.shim_base.specs.Tokens.{sign_of, keyword_of, Spells}
 use Rattle.shim_syntax.specs.declared.tree.Expr.{Expr, Expr-F, roll-Expr, fold-roll-Expr}
 use Rattle.shim_syntax.specs.declared.tree.Expr.TheVariants as e
 use Rattle.shim_syntax.specs.Grammar.{row_of_sign, operator_of_sign}
-use Rattle.shim_syntax.specs.Printing.{Piece, ExprShown, expr_shown, expr_step, expr_row, expr_pieces, wrapped, name, number, sign, sign_text, key_text, row_of_operator, sign_of_operator, sign_of_unary}
+use Rattle.shim_syntax.specs.Printing.{PrintedPiece, ExprShown, expr_shown, expr_step, expr_row, expr_pieces, wrapped, name_piece, number_piece, sign_piece, sign_text, key_text, row_of_operator, sign_of_operator, sign_of_unary}
 
-pub number_shown : (n : ℤ) → expr_shown (e.Number n) ≡ record { row = 0; pieces = number n ∷ [] }
+pub number_shown : (n : ℤ) → expr_shown (e.Number n) ≡ record { row = 0; pieces = number_piece n ∷ [] }
 unfolding roll-Expr denote.Hole.Carrier.roll
 number_shown n = fold-roll-Expr ExprShown expr_step (Expr-F.Number n)
 
-pub variable_shown : (x : List ℕ) → expr_shown (e.Var x) ≡ record { row = 0; pieces = name x ∷ [] }
+pub variable_shown : (x : List ℕ) → expr_shown (e.Var x) ≡ record { row = 0; pieces = name_piece x ∷ [] }
 unfolding roll-Expr denote.Hole.Carrier.roll
 variable_shown x = fold-roll-Expr ExprShown expr_step (Expr-F.Var x)
 
-pub unary_shown : (o : UnOp) (x : Expr) → expr_shown (e.Unary o x) ≡ record { row = 0; pieces = sign (sign_of_unary o) ∷ wrapped (nat_lt 0 (expr_row x)) (expr_pieces x) }
+pub unary_shown : (o : UnOp) (x : Expr) → expr_shown (e.Unary o x) ≡ record { row = 0; pieces = sign_piece (sign_of_unary o) ∷ wrapped (nat_lt 0 (expr_row x)) (expr_pieces x) }
 unfolding roll-Expr denote.Hole.Carrier.roll
 unary_shown o x = fold-roll-Expr ExprShown expr_step (Expr-F.Unary o x)
 
 -- the pieces of two operands with an operator of this row and this sign
-abbrev pub both_pieces : ℕ → SignOf → Bool → Expr → Expr → List Piece
-both_pieces n o right x z = wrapped (nat_lt n (expr_row x)) (expr_pieces x) ++ sign o ∷ wrapped right (expr_pieces z)
+abbrev pub both_pieces : ℕ → SignOf → Bool → Expr → Expr → List PrintedPiece
+both_pieces n o right x z = wrapped (nat_lt n (expr_row x)) (expr_pieces x) ++ sign_piece o ∷ wrapped right (expr_pieces z)
 
 binary_is_shown : (o : BinOp) (x z : Expr) →
     expr_shown (e.Binary o x z) ≡ record { row = row_of_operator o; pieces = both_pieces (row_of_operator o) (sign_of_operator o) (nat_le (row_of_operator o) (expr_row z)) x z }

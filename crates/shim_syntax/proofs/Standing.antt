@@ -20,21 +20,21 @@ use Rattle.shim_base.specs.declared.Keyword.TheVariants as k
 use Rattle.shim_base.specs.Tokens.{is_digit, is_numeral, with_digit, Spells, IsWithinLimits, Token, Place, Fault, Cuts, ended, passed, token, faulty}
 use Rattle.shim_base.proofs.FirstToken.{both_true}
 use Rattle.shim_syntax.specs.Terminals.{Terminal, Name, Number, Sort, Key, Sign, End, Broken, of_kind, of_keyword, of_tokens, of_end, of_word, of_version, new_word, first, rest, is_shim, is_two, is_semicolon, begins_two}
-use Rattle.shim_syntax.specs.Printing.{Piece}
+use Rattle.shim_syntax.specs.Printing.{PrintedPiece}
 use Rattle.shim_syntax.proofs.Pieces.{AreTokens, shown_as, tokens_of, behind_piece}
 
 -- the terminals of the pieces stand at the front of the first of these lists, and the second follows them
-pub data Stand : List Piece → List Terminal → List Terminal → Type 0 where
+pub data Stand : List PrintedPiece → List Terminal → List Terminal → Type 0 where
   nothing : {r : List Terminal} → Stand [] r r
-  piece : {p : Piece} {ps : List Piece} {s r : List Terminal} (place : Place) → Stand ps s r → Stand (p ∷ ps) (shown_as p place ∷ s) r
+  piece : {p : PrintedPiece} {ps : List PrintedPiece} {s r : List Terminal} (place : Place) → Stand ps s r → Stand (p ∷ ps) (shown_as p place ∷ s) r
 
 -- pieces of two parts stand as the first and behind it the second
-pub split : (ps qs : List Piece) (s r : List Terminal) → Stand (ps ++ qs) s r → (m : List Terminal) × Stand ps s m × Stand qs m r
+pub split : (ps qs : List PrintedPiece) (s r : List Terminal) → Stand (ps ++ qs) s r → (m : List Terminal) × Stand ps s m × Stand qs m r
 split [] qs s r h = (s, nothing, h)
 split (p ∷ ps) qs _ r (piece place h) = let more = split ps qs _ r h in (more.0, piece place more.1, more.2)
 
 -- the terminals of the tokens of pieces are those of the pieces
-pub pieces_stand : (ver : Bool) (place : Place) (ps : List Piece) (last : Terminal) → of_version ver last ≡ last → AreTokens ver ps
+pub pieces_stand : (ver : Bool) (place : Place) (ps : List PrintedPiece) (last : Terminal) → of_version ver last ≡ last → AreTokens ver ps
     → Stand ps (map (of_version ver) (of_tokens (tokens_of place ps) last)) (last ∷ [])
 pieces_stand ver place [] last e are = let P : Terminal → Type 0 = λ t. Stand [] (t ∷ []) (last ∷ []) in subst P (sym e) nothing
 pieces_stand ver place (p ∷ ps) last e are =
@@ -44,7 +44,7 @@ pieces_stand ver place (p ∷ ps) last e are =
     subst P (sym (are.2 at)) (piece at (pieces_stand ver (behind_piece place p) ps last e are.3))
 
 -- tokens of two parts
-pub tokens_of_both : (ver : Bool) (ps qs : List Piece) → AreTokens ver ps → AreTokens ver qs → AreTokens ver (ps ++ qs)
+pub tokens_of_both : (ver : Bool) (ps qs : List PrintedPiece) → AreTokens ver ps → AreTokens ver qs → AreTokens ver (ps ++ qs)
 tokens_of_both ver [] qs h k = k
 tokens_of_both ver (p ∷ ps) qs h k = (h.0, h.1, h.2, tokens_of_both ver ps qs h.3 k)
 

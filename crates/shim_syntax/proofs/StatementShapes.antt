@@ -11,107 +11,107 @@ use Rattle.shim_syntax.specs.declared.tree.What.TheVariants as st
 use Rattle.shim_syntax.specs.declared.tree.Branch.{Branch, Branch-F, roll-Branch, fold-Branch, fold-roll-Branch}
 use Rattle.shim_syntax.specs.declared.tree.BranchWhat.{BranchWhat, BranchWhat-F, roll-BranchWhat, fold-BranchWhat, fold-roll-BranchWhat}
 use Rattle.shim_syntax.specs.declared.tree.BranchWhat.TheVariants as br
-use Rattle.shim_syntax.specs.Printing.{Piece, StmtShown, stmt_step, branch_step, stmt_shown, branch_pieces, key, sign, name, last, simple, ended, type_piece, expr_pieces, first_value_pieces, test_pieces, variable_pieces, thrown_number_pieces, call_pieces, block_pieces, else_pieces, part_pieces, fork_pieces}
+use Rattle.shim_syntax.specs.Printing.{PrintedPiece, StmtShown, print_stmt_step, print_branch_step, stmt_shown, branch_pieces, key_piece, sign_piece, name_piece, line_end_piece, simple, without_semicolon, type_piece, expr_pieces, first_value_pieces, test_pieces, variable_pieces, thrown_number_pieces, call_pieces, block_pieces, else_pieces, part_pieces, fork_pieces}
 use Rattle.shim_syntax.specs.Same.{stmt_without_lines}
 
 -- what a statement does, as it shows
 abbrev what_shown : What → StmtShown
-what_shown = fold-What (List Piece) StmtShown (List Piece) StmtShown branch_step stmt_step (λ b. b.what) (λ s. s.what)
+what_shown = fold-What (List PrintedPiece) StmtShown (List PrintedPiece) StmtShown print_branch_step print_stmt_step (λ b. b.what) (λ s. s.what)
 
-abbrev branch_what_pieces : BranchWhat → List Piece
-branch_what_pieces = fold-BranchWhat (List Piece) StmtShown (List Piece) StmtShown branch_step stmt_step (λ b. b.what) (λ s. s.what)
+abbrev branch_what_pieces : BranchWhat → List PrintedPiece
+branch_what_pieces = fold-BranchWhat (List PrintedPiece) StmtShown (List PrintedPiece) StmtShown print_branch_step print_stmt_step (λ b. b.what) (λ s. s.what)
 
 stmt_is : (n : ℕ) (w : What) → stmt_shown (record { line = n; what = w }) ≡ what_shown w
 unfolding denote.Hole.Carrier.roll
-stmt_is n w = fold-roll-Stmt (List Piece) StmtShown (List Piece) StmtShown branch_step stmt_step (λ b. b.what) (λ s. s.what) (record { line = n; what = w })
+stmt_is n w = fold-roll-Stmt (List PrintedPiece) StmtShown (List PrintedPiece) StmtShown print_branch_step print_stmt_step (λ b. b.what) (λ s. s.what) (record { line = n; what = w })
 
 branch_is : (n : ℕ) (w : BranchWhat) → branch_pieces (record { line = n; what = w }) ≡ branch_what_pieces w
 unfolding denote.Hole.Carrier.roll
-branch_is n w = fold-roll-Branch (List Piece) StmtShown (List Piece) StmtShown branch_step stmt_step (λ b. b.what) (λ s. s.what) (record { line = n; what = w })
+branch_is n w = fold-roll-Branch (List PrintedPiece) StmtShown (List PrintedPiece) StmtShown print_branch_step print_stmt_step (λ b. b.what) (λ s. s.what) (record { line = n; what = w })
 
 pub declare_shown : (n : ℕ) (ty : Ty) (x : List ℕ) (value : Option Expr) → stmt_shown (record { line = n; what = st.Declare ty x value }) ≡
-    simple (type_piece ty ∷ name x ∷ first_value_pieces value)
+    simple (type_piece ty ∷ name_piece x ∷ first_value_pieces value)
 unfolding roll-What denote.Hole.Carrier.roll
 declare_shown n ty x value =
     stmt_is n (st.Declare ty x value)
-    ∙ fold-roll-What (List Piece) StmtShown (List Piece) StmtShown branch_step stmt_step (λ b. b.what) (λ s. s.what) (What-F.Declare ty x value)
+    ∙ fold-roll-What (List PrintedPiece) StmtShown (List PrintedPiece) StmtShown print_branch_step print_stmt_step (λ b. b.what) (λ s. s.what) (What-F.Declare ty x value)
 
-pub assign_shown : (n : ℕ) (x : List ℕ) (value : Expr) → stmt_shown (record { line = n; what = st.Assign x value }) ≡ simple (name x ∷ sign g.Equal ∷ expr_pieces value)
+pub assign_shown : (n : ℕ) (x : List ℕ) (value : Expr) → stmt_shown (record { line = n; what = st.Assign x value }) ≡ simple (name_piece x ∷ sign_piece g.Equal ∷ expr_pieces value)
 unfolding roll-What denote.Hole.Carrier.roll
-assign_shown n x value = stmt_is n (st.Assign x value) ∙ fold-roll-What (List Piece) StmtShown (List Piece) StmtShown branch_step stmt_step (λ b. b.what) (λ s. s.what) (What-F.Assign x value)
+assign_shown n x value = stmt_is n (st.Assign x value) ∙ fold-roll-What (List PrintedPiece) StmtShown (List PrintedPiece) StmtShown print_branch_step print_stmt_step (λ b. b.what) (λ s. s.what) (What-F.Assign x value)
 
-pub next_shown : (n : ℕ) (x : List ℕ) → stmt_shown (record { line = n; what = st.Next x }) ≡ simple (key k.Next ∷ name x ∷ [])
+pub next_shown : (n : ℕ) (x : List ℕ) → stmt_shown (record { line = n; what = st.Next x }) ≡ simple (key_piece k.Next ∷ name_piece x ∷ [])
 unfolding roll-What denote.Hole.Carrier.roll
-next_shown n x = stmt_is n (st.Next x) ∙ fold-roll-What (List Piece) StmtShown (List Piece) StmtShown branch_step stmt_step (λ b. b.what) (λ s. s.what) (What-F.Next x)
+next_shown n x = stmt_is n (st.Next x) ∙ fold-roll-What (List PrintedPiece) StmtShown (List PrintedPiece) StmtShown print_branch_step print_stmt_step (λ b. b.what) (λ s. s.what) (What-F.Next x)
 
-pub next_assign_shown : (n : ℕ) (x : List ℕ) (value : Expr) → stmt_shown (record { line = n; what = st.NextAssign x value }) ≡ simple (key k.Next ∷ name x ∷ sign g.Equal ∷ expr_pieces value)
+pub next_assign_shown : (n : ℕ) (x : List ℕ) (value : Expr) → stmt_shown (record { line = n; what = st.NextAssign x value }) ≡ simple (key_piece k.Next ∷ name_piece x ∷ sign_piece g.Equal ∷ expr_pieces value)
 unfolding roll-What denote.Hole.Carrier.roll
 next_assign_shown n x value =
     stmt_is n (st.NextAssign x value)
-    ∙ fold-roll-What (List Piece) StmtShown (List Piece) StmtShown branch_step stmt_step (λ b. b.what) (λ s. s.what) (What-F.NextAssign x value)
+    ∙ fold-roll-What (List PrintedPiece) StmtShown (List PrintedPiece) StmtShown print_branch_step print_stmt_step (λ b. b.what) (λ s. s.what) (What-F.NextAssign x value)
 
-pub assign_next_shown : (n : ℕ) (x y : List ℕ) → stmt_shown (record { line = n; what = st.AssignNext x y }) ≡ simple (name x ∷ sign g.Equal ∷ key k.Next ∷ name y ∷ [])
+pub assign_next_shown : (n : ℕ) (x y : List ℕ) → stmt_shown (record { line = n; what = st.AssignNext x y }) ≡ simple (name_piece x ∷ sign_piece g.Equal ∷ key_piece k.Next ∷ name_piece y ∷ [])
 unfolding roll-What denote.Hole.Carrier.roll
-assign_next_shown n x y = stmt_is n (st.AssignNext x y) ∙ fold-roll-What (List Piece) StmtShown (List Piece) StmtShown branch_step stmt_step (λ b. b.what) (λ s. s.what) (What-F.AssignNext x y)
+assign_next_shown n x y = stmt_is n (st.AssignNext x y) ∙ fold-roll-What (List PrintedPiece) StmtShown (List PrintedPiece) StmtShown print_branch_step print_stmt_step (λ b. b.what) (λ s. s.what) (What-F.AssignNext x y)
 
-pub get_shown : (n : ℕ) (x y : List ℕ) → stmt_shown (record { line = n; what = st.Get x y }) ≡ simple (name x ∷ sign g.Equal ∷ key k.Get ∷ name y ∷ [])
+pub get_shown : (n : ℕ) (x y : List ℕ) → stmt_shown (record { line = n; what = st.Get x y }) ≡ simple (name_piece x ∷ sign_piece g.Equal ∷ key_piece k.Get ∷ name_piece y ∷ [])
 unfolding roll-What denote.Hole.Carrier.roll
-get_shown n x y = stmt_is n (st.Get x y) ∙ fold-roll-What (List Piece) StmtShown (List Piece) StmtShown branch_step stmt_step (λ b. b.what) (λ s. s.what) (What-F.Get x y)
+get_shown n x y = stmt_is n (st.Get x y) ∙ fold-roll-What (List PrintedPiece) StmtShown (List PrintedPiece) StmtShown print_branch_step print_stmt_step (λ b. b.what) (λ s. s.what) (What-F.Get x y)
 
-pub put_shown : (n : ℕ) (x : List ℕ) (value : Expr) → stmt_shown (record { line = n; what = st.Put x value }) ≡ simple (key k.Put ∷ name x ∷ sign g.Comma ∷ expr_pieces value)
+pub put_shown : (n : ℕ) (x : List ℕ) (value : Expr) → stmt_shown (record { line = n; what = st.Put x value }) ≡ simple (key_piece k.Put ∷ name_piece x ∷ sign_piece g.Comma ∷ expr_pieces value)
 unfolding roll-What denote.Hole.Carrier.roll
-put_shown n x value = stmt_is n (st.Put x value) ∙ fold-roll-What (List Piece) StmtShown (List Piece) StmtShown branch_step stmt_step (λ b. b.what) (λ s. s.what) (What-F.Put x value)
+put_shown n x value = stmt_is n (st.Put x value) ∙ fold-roll-What (List PrintedPiece) StmtShown (List PrintedPiece) StmtShown print_branch_step print_stmt_step (λ b. b.what) (λ s. s.what) (What-F.Put x value)
 
 pub if_shown : (n : ℕ) (x : Expr) (xs ys : List Stmt) → stmt_shown (record { line = n; what = st.If x xs ys }) ≡
-    ended (key k.If ∷ sign g.LeftParen ∷ (expr_pieces x ++ sign g.RightParen ∷ (block_pieces (map stmt_shown xs) ++ else_pieces (map stmt_shown ys))))
+    without_semicolon (key_piece k.If ∷ sign_piece g.LeftParen ∷ (expr_pieces x ++ sign_piece g.RightParen ∷ (block_pieces (map stmt_shown xs) ++ else_pieces (map stmt_shown ys))))
 unfolding roll-What denote.Hole.Carrier.roll
-if_shown n x xs ys = stmt_is n (st.If x xs ys) ∙ fold-roll-What (List Piece) StmtShown (List Piece) StmtShown branch_step stmt_step (λ b. b.what) (λ s. s.what) (What-F.If x xs ys)
+if_shown n x xs ys = stmt_is n (st.If x xs ys) ∙ fold-roll-What (List PrintedPiece) StmtShown (List PrintedPiece) StmtShown print_branch_step print_stmt_step (λ b. b.what) (λ s. s.what) (What-F.If x xs ys)
 
 pub while_shown : (n : ℕ) (x : Expr) (xs : List Stmt) → stmt_shown (record { line = n; what = st.While x xs }) ≡
-    ended (key k.While ∷ sign g.LeftParen ∷ (expr_pieces x ++ sign g.RightParen ∷ block_pieces (map stmt_shown xs)))
+    without_semicolon (key_piece k.While ∷ sign_piece g.LeftParen ∷ (expr_pieces x ++ sign_piece g.RightParen ∷ block_pieces (map stmt_shown xs)))
 unfolding roll-What denote.Hole.Carrier.roll
-while_shown n x xs = stmt_is n (st.While x xs) ∙ fold-roll-What (List Piece) StmtShown (List Piece) StmtShown branch_step stmt_step (λ b. b.what) (λ s. s.what) (What-F.While x xs)
+while_shown n x xs = stmt_is n (st.While x xs) ∙ fold-roll-What (List PrintedPiece) StmtShown (List PrintedPiece) StmtShown print_branch_step print_stmt_step (λ b. b.what) (λ s. s.what) (What-F.While x xs)
 
 pub for_shown : (n : ℕ) (xs : List Stmt) (x : Option Expr) (ys zs : List Stmt) → stmt_shown (record { line = n; what = st.For xs x ys zs }) ≡
-    ended (key k.For ∷ sign g.LeftParen ∷ (part_pieces (map stmt_shown xs)
-    ++ sign g.Semicolon ∷ (test_pieces x ++ sign g.Semicolon ∷ (part_pieces (map stmt_shown ys) ++ sign g.RightParen ∷ block_pieces (map stmt_shown zs)))))
+    without_semicolon (key_piece k.For ∷ sign_piece g.LeftParen ∷ (part_pieces (map stmt_shown xs)
+    ++ sign_piece g.Semicolon ∷ (test_pieces x ++ sign_piece g.Semicolon ∷ (part_pieces (map stmt_shown ys) ++ sign_piece g.RightParen ∷ block_pieces (map stmt_shown zs)))))
 unfolding roll-What denote.Hole.Carrier.roll
-for_shown n xs x ys zs = stmt_is n (st.For xs x ys zs) ∙ fold-roll-What (List Piece) StmtShown (List Piece) StmtShown branch_step stmt_step (λ b. b.what) (λ s. s.what) (What-F.For xs x ys zs)
+for_shown n xs x ys zs = stmt_is n (st.For xs x ys zs) ∙ fold-roll-What (List PrintedPiece) StmtShown (List PrintedPiece) StmtShown print_branch_step print_stmt_step (λ b. b.what) (λ s. s.what) (What-F.For xs x ys zs)
 
-pub block_shown : (n : ℕ) (xs : List Stmt) → stmt_shown (record { line = n; what = st.Block xs }) ≡ ended (block_pieces (map stmt_shown xs))
+pub block_shown : (n : ℕ) (xs : List Stmt) → stmt_shown (record { line = n; what = st.Block xs }) ≡ without_semicolon (block_pieces (map stmt_shown xs))
 unfolding roll-What denote.Hole.Carrier.roll
-block_shown n xs = stmt_is n (st.Block xs) ∙ fold-roll-What (List Piece) StmtShown (List Piece) StmtShown branch_step stmt_step (λ b. b.what) (λ s. s.what) (What-F.What::Block xs)
+block_shown n xs = stmt_is n (st.Block xs) ∙ fold-roll-What (List PrintedPiece) StmtShown (List PrintedPiece) StmtShown print_branch_step print_stmt_step (λ b. b.what) (λ s. s.what) (What-F.What::Block xs)
 
 pub call_shown : (n : ℕ) (c : Call) → stmt_shown (record { line = n; what = st.Call c }) ≡ simple (call_pieces c)
 unfolding roll-What denote.Hole.Carrier.roll
-call_shown n c = stmt_is n (st.Call c) ∙ fold-roll-What (List Piece) StmtShown (List Piece) StmtShown branch_step stmt_step (λ b. b.what) (λ s. s.what) (What-F.What::Call c)
+call_shown n c = stmt_is n (st.Call c) ∙ fold-roll-What (List PrintedPiece) StmtShown (List PrintedPiece) StmtShown print_branch_step print_stmt_step (λ b. b.what) (λ s. s.what) (What-F.What::Call c)
 
 pub try_shown : (n : ℕ) (xs : List Stmt) (x : List ℕ) (y : Option (List ℕ)) (ys : List Stmt) → stmt_shown (record { line = n; what = st.Try xs x y ys }) ≡
-    ended (key k.Try ∷ (block_pieces (map stmt_shown xs) ++ key k.Catch ∷ sign g.LeftParen ∷ name x ∷ (variable_pieces y ++ sign g.RightParen ∷ block_pieces (map stmt_shown ys))))
+    without_semicolon (key_piece k.Try ∷ (block_pieces (map stmt_shown xs) ++ key_piece k.Catch ∷ sign_piece g.LeftParen ∷ name_piece x ∷ (variable_pieces y ++ sign_piece g.RightParen ∷ block_pieces (map stmt_shown ys))))
 unfolding roll-What denote.Hole.Carrier.roll
-try_shown n xs x y ys = stmt_is n (st.Try xs x y ys) ∙ fold-roll-What (List Piece) StmtShown (List Piece) StmtShown branch_step stmt_step (λ b. b.what) (λ s. s.what) (What-F.Try xs x y ys)
+try_shown n xs x y ys = stmt_is n (st.Try xs x y ys) ∙ fold-roll-What (List PrintedPiece) StmtShown (List PrintedPiece) StmtShown print_branch_step print_stmt_step (λ b. b.what) (λ s. s.what) (What-F.Try xs x y ys)
 
-pub throw_shown : (n : ℕ) (x : List ℕ) (value : Option Expr) → stmt_shown (record { line = n; what = st.Throw x value }) ≡ simple (key k.Throw ∷ name x ∷ thrown_number_pieces value)
+pub throw_shown : (n : ℕ) (x : List ℕ) (value : Option Expr) → stmt_shown (record { line = n; what = st.Throw x value }) ≡ simple (key_piece k.Throw ∷ name_piece x ∷ thrown_number_pieces value)
 unfolding roll-What denote.Hole.Carrier.roll
 throw_shown n x value =
     stmt_is n (st.Throw x value)
-    ∙ fold-roll-What (List Piece) StmtShown (List Piece) StmtShown branch_step stmt_step (λ b. b.what) (λ s. s.what) (What-F.Throw x value)
+    ∙ fold-roll-What (List PrintedPiece) StmtShown (List PrintedPiece) StmtShown print_branch_step print_stmt_step (λ b. b.what) (λ s. s.what) (What-F.Throw x value)
 
-pub par_shown : (n : ℕ) (bs : List Branch) → stmt_shown (record { line = n; what = st.Par bs }) ≡ ended (fork_pieces true (map branch_pieces bs))
+pub par_shown : (n : ℕ) (bs : List Branch) → stmt_shown (record { line = n; what = st.Par bs }) ≡ without_semicolon (fork_pieces true (map branch_pieces bs))
 unfolding roll-What denote.Hole.Carrier.roll
-par_shown n bs = stmt_is n (st.Par bs) ∙ fold-roll-What (List Piece) StmtShown (List Piece) StmtShown branch_step stmt_step (λ b. b.what) (λ s. s.what) (What-F.Par bs)
+par_shown n bs = stmt_is n (st.Par bs) ∙ fold-roll-What (List PrintedPiece) StmtShown (List PrintedPiece) StmtShown print_branch_step print_stmt_step (λ b. b.what) (λ s. s.what) (What-F.Par bs)
 
 pub block_branch_pieces : (n : ℕ) (xs : List Stmt) → branch_pieces (record { line = n; what = br.Block xs }) ≡ block_pieces (map stmt_shown xs)
 unfolding roll-BranchWhat denote.Hole.Carrier.roll
 block_branch_pieces n xs =
     branch_is n (br.Block xs)
-    ∙ fold-roll-BranchWhat (List Piece) StmtShown (List Piece) StmtShown branch_step stmt_step (λ b. b.what) (λ s. s.what) (BranchWhat-F.BranchWhat::Block xs)
+    ∙ fold-roll-BranchWhat (List PrintedPiece) StmtShown (List PrintedPiece) StmtShown print_branch_step print_stmt_step (λ b. b.what) (λ s. s.what) (BranchWhat-F.BranchWhat::Block xs)
 
-pub call_branch_pieces : (n : ℕ) (c : Call) → branch_pieces (record { line = n; what = br.Call c }) ≡ call_pieces c ++ last g.Semicolon ∷ []
+pub call_branch_pieces : (n : ℕ) (c : Call) → branch_pieces (record { line = n; what = br.Call c }) ≡ call_pieces c ++ line_end_piece g.Semicolon ∷ []
 unfolding roll-BranchWhat denote.Hole.Carrier.roll
 call_branch_pieces n c =
     branch_is n (br.Call c)
-    ∙ fold-roll-BranchWhat (List Piece) StmtShown (List Piece) StmtShown branch_step stmt_step (λ b. b.what) (λ s. s.what) (BranchWhat-F.BranchWhat::Call c)
+    ∙ fold-roll-BranchWhat (List PrintedPiece) StmtShown (List PrintedPiece) StmtShown print_branch_step print_stmt_step (λ b. b.what) (λ s. s.what) (BranchWhat-F.BranchWhat::Call c)
 
 abbrev branch_zero : Branch-F BranchWhat What Branch Stmt → Branch
 branch_zero b = roll-Branch (record { line = 0; what = b.what })

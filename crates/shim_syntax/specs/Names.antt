@@ -30,14 +30,14 @@ abbrev pub in_turn : List Adds → Adds
 in_turn [] known = known
 in_turn (f ∷ fs) known = in_turn fs (f known)
 
-abbrev pub expr_step : Expr-F Adds → Adds
-expr_step (Expr-F.Number n) known = known
-expr_step (Expr-F.Var x) known = with_name x known
-expr_step (Expr-F.Unary op a) known = a known
-expr_step (Expr-F.Binary op a b) known = b (a known)
+abbrev pub collect_expr_step : Expr-F Adds → Adds
+collect_expr_step (Expr-F.Number n) known = known
+collect_expr_step (Expr-F.Var x) known = with_name x known
+collect_expr_step (Expr-F.Unary op a) known = a known
+collect_expr_step (Expr-F.Binary op a b) known = b (a known)
 
 unfoldable pub with_expr : Expr → Adds
-with_expr = fold-Expr Adds expr_step
+with_expr = fold-Expr Adds collect_expr_step
 
 abbrev pub with_exprs : List Expr → Adds
 with_exprs [] known = known
@@ -112,5 +112,5 @@ position_else n None = n
 position_else n (Some at) = at
 
 -- where the name stands in the list
-abbrev pub number_of : Texts → List ℕ → ℕ
-number_of names x = position_else (length names) (position (λ n. bytes_eq n x) names)
+abbrev pub name_index : Texts → List ℕ → ℕ
+name_index names x = position_else (length names) (position (λ n. bytes_eq n x) names)

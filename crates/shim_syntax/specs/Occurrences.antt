@@ -8,9 +8,9 @@ use Rattle.shim_syntax.specs.declared.tree.What.{What-F}
 use Rattle.shim_syntax.specs.declared.tree.BranchWhat.{BranchWhat-F}
 use Rattle.shim_syntax.specs.Names.{Texts, param_names}
 
-abbrev pub joined : List Texts → Texts
-joined [] = []
-joined (t ∷ ts) = t ++ joined ts
+abbrev pub concatenated : List Texts → Texts
+concatenated [] = []
+concatenated (t ∷ ts) = t ++ concatenated ts
 
 abbrev pub expr_occurs : Expr-F Texts → Texts
 expr_occurs (Expr-F.Number n) = []
@@ -38,7 +38,7 @@ abbrev pub in_call : CallOf → Texts
 in_call c = c.function ∷ in_exprs c.args
 
 abbrev pub branch_occurs : BranchWhat-F Texts Texts Texts Texts → Texts
-branch_occurs (BranchWhat-F.BranchWhat::Block body) = joined body
+branch_occurs (BranchWhat-F.BranchWhat::Block body) = concatenated body
 branch_occurs (BranchWhat-F.BranchWhat::Call c) = in_call c
 
 abbrev pub what_occurs : What-F Texts Texts Texts Texts → Texts
@@ -49,20 +49,20 @@ what_occurs (What-F.NextAssign x e) = x ∷ in_expr e
 what_occurs (What-F.AssignNext x y) = x ∷ y ∷ []
 what_occurs (What-F.Get x y) = x ∷ y ∷ []
 what_occurs (What-F.Put x e) = x ∷ in_expr e
-what_occurs (What-F.If e first other) = in_expr e ++ (joined first ++ joined other)
-what_occurs (What-F.While e body) = in_expr e ++ joined body
-what_occurs (What-F.For first test step body) = joined first ++ (in_option test ++ (joined step ++ joined body))
-what_occurs (What-F.What::Block body) = joined body
+what_occurs (What-F.If e first other) = in_expr e ++ (concatenated first ++ concatenated other)
+what_occurs (What-F.While e body) = in_expr e ++ concatenated body
+what_occurs (What-F.For first test step body) = concatenated first ++ (in_option test ++ (concatenated step ++ concatenated body))
+what_occurs (What-F.What::Block body) = concatenated body
 what_occurs (What-F.What::Call c) = in_call c
-what_occurs (What-F.Try body x y handler) = joined body ++ x ∷ (in_variable y ++ joined handler)
+what_occurs (What-F.Try body x y handler) = concatenated body ++ x ∷ (in_variable y ++ concatenated handler)
 what_occurs (What-F.Throw x e) = x ∷ in_option e
-what_occurs (What-F.Par branches) = joined branches
+what_occurs (What-F.Par branches) = concatenated branches
 
 abbrev pub in_stmt : Stmt → Texts
 in_stmt = fold-Stmt Texts Texts Texts Texts branch_occurs what_occurs (λ b. b.what) (λ s. s.what)
 
 abbrev pub in_function : Function → Texts
-in_function f = f.name ∷ (param_names f.params ++ (f.throws ++ joined (map in_stmt f.body)))
+in_function f = f.name ∷ (param_names f.params ++ (f.throws ++ concatenated (map in_stmt f.body)))
 
 abbrev pub identifiers : List Function → Texts
 identifiers [] = []

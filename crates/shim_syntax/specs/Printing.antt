@@ -25,7 +25,7 @@ use Rattle.shim_syntax.specs.declared.tree.Param.{Param}
 use Rattle.shim_syntax.specs.declared.tree.Function.{Function}
 use Rattle.shim_syntax.specs.declared.tree.Program.{Program}
 
-pub record Piece : Type 0 where
+pub record PrintedPiece : Type 0 where
   pub kind : TokenKind
   pub text : List ℕ
   -- whether a line ends behind it
@@ -34,11 +34,11 @@ pub record Piece : Type 0 where
   pub is_type : Bool
 
 -- a piece, with the line feed or the space behind it
-abbrev pub piece_text : Piece → List ℕ
+abbrev pub piece_text : PrintedPiece → List ℕ
 piece_text p = p.text ++ (if p.ends_line then 10 else 32) ∷ []
 
-abbrev pub text_of : List Piece → List ℕ
-text_of pieces = flat_map piece_text pieces
+abbrev pub pieces_text : List PrintedPiece → List ℕ
+pieces_text pieces = flat_map piece_text pieces
 
 abbrev pub key_text : Keyword → List ℕ
 key_text k.Void = codes "void"
@@ -96,22 +96,22 @@ sign_text g.Bang = codes "!"
 sign_text g.Less = codes "<"
 sign_text g.Greater = codes ">"
 
-abbrev pub key : Keyword → Piece
-key word = record { kind = Key word; text = key_text word; ends_line = false; is_type = false }
+abbrev pub key_piece : Keyword → PrintedPiece
+key_piece word = record { kind = Key word; text = key_text word; ends_line = false; is_type = false }
 
-abbrev pub sign : SignOf → Piece
-sign s = record { kind = Sign s; text = sign_text s; ends_line = false; is_type = false }
+abbrev pub sign_piece : SignOf → PrintedPiece
+sign_piece s = record { kind = Sign s; text = sign_text s; ends_line = false; is_type = false }
 
-abbrev pub name : List ℕ → Piece
-name x = record { kind = Word; text = x; ends_line = false; is_type = false }
+abbrev pub name_piece : List ℕ → PrintedPiece
+name_piece x = record { kind = Word; text = x; ends_line = false; is_type = false }
 
 -- No text has a number below 0; one would be shown with its sign.
-abbrev pub number : ℤ → Piece
-number n = record { kind = Number n; text = signed_decimal n; ends_line = false; is_type = false }
+abbrev pub number_piece : ℤ → PrintedPiece
+number_piece n = record { kind = Number n; text = signed_decimal n; ends_line = false; is_type = false }
 
 -- a sign behind which a line ends
-abbrev pub last : SignOf → Piece
-last s = record { kind = Sign s; text = sign_text s; ends_line = true; is_type = false }
+abbrev pub line_end_piece : SignOf → PrintedPiece
+line_end_piece s = record { kind = Sign s; text = sign_text s; ends_line = true; is_type = false }
 
 -- the row of an operator with two operands, from the one that binds tightest
 abbrev pub row_of_operator : BinOp → ℕ
@@ -159,37 +159,37 @@ sign_of_unary Neg = g.Minus
 sign_of_unary Not = g.Bang
 sign_of_unary Flip = g.Tilde
 
-abbrev pub type_piece : Ty → Piece
+abbrev pub type_piece : Ty → PrintedPiece
 type_piece Int64 = record { kind = Word; text = codes "int64"; ends_line = false; is_type = true }
-type_piece BoolTy = key k.Bool
-type_piece Int8 = key k.Int8
-type_piece Int16 = key k.Int16
-type_piece Int32 = key k.Int32
-type_piece Uint8 = key k.Uint8
-type_piece Uint16 = key k.Uint16
-type_piece Uint32 = key k.Uint32
+type_piece BoolTy = key_piece k.Bool
+type_piece Int8 = key_piece k.Int8
+type_piece Int16 = key_piece k.Int16
+type_piece Int32 = key_piece k.Int32
+type_piece Uint8 = key_piece k.Uint8
+type_piece Uint16 = key_piece k.Uint16
+type_piece Uint32 = key_piece k.Uint32
 
-abbrev pub sort_piece : Sort → Piece
+abbrev pub sort_piece : Sort → PrintedPiece
 sort_piece (Value ty) = type_piece ty
-sort_piece Input = key k.Istream
-sort_piece Output = key k.Ostream
+sort_piece Input = key_piece k.Istream
+sort_piece Output = key_piece k.Ostream
 
 -- the row of an expression's outermost operator where it has two operands, and else 0; and the pieces
 pub record ExprShown : Type 0 where
   pub row : ℕ
-  pub pieces : List Piece
+  pub pieces : List PrintedPiece
 
 -- in parentheses, where they are needed
-abbrev pub wrapped : Bool → List Piece → List Piece
-wrapped true ps = sign g.LeftParen ∷ (ps ++ sign g.RightParen ∷ [])
+abbrev pub wrapped : Bool → List PrintedPiece → List PrintedPiece
+wrapped true ps = sign_piece g.LeftParen ∷ (ps ++ sign_piece g.RightParen ∷ [])
 wrapped false ps = ps
 
 abbrev pub expr_step : Expr-F ExprShown → ExprShown
-expr_step (Expr-F.Number n) = record { row = 0; pieces = number n ∷ [] }
-expr_step (Expr-F.Var x) = record { row = 0; pieces = name x ∷ [] }
-expr_step (Expr-F.Unary o a) = record { row = 0; pieces = sign (sign_of_unary o) ∷ wrapped (nat_lt 0 a.row) a.pieces }
+expr_step (Expr-F.Number n) = record { row = 0; pieces = number_piece n ∷ [] }
+expr_step (Expr-F.Var x) = record { row = 0; pieces = name_piece x ∷ [] }
+expr_step (Expr-F.Unary o a) = record { row = 0; pieces = sign_piece (sign_of_unary o) ∷ wrapped (nat_lt 0 a.row) a.pieces }
 expr_step (Expr-F.Binary o a b) =
-    record { row = row_of_operator o; pieces = wrapped (nat_lt (row_of_operator o) a.row) a.pieces ++ sign (sign_of_operator o) ∷ wrapped (nat_le (row_of_operator o) b.row) b.pieces }
+    record { row = row_of_operator o; pieces = wrapped (nat_lt (row_of_operator o) a.row) a.pieces ++ sign_piece (sign_of_operator o) ∷ wrapped (nat_le (row_of_operator o) b.row) b.pieces }
 
 abbrev pub expr_shown : Expr → ExprShown
 expr_shown = fold-Expr ExprShown expr_step
@@ -197,152 +197,152 @@ expr_shown = fold-Expr ExprShown expr_step
 abbrev pub expr_row : Expr → ℕ
 expr_row e = (expr_shown e).row
 
-abbrev pub expr_pieces : Expr → List Piece
+abbrev pub expr_pieces : Expr → List PrintedPiece
 expr_pieces e = (expr_shown e).pieces
 
 -- each behind a comma
-abbrev pub more_args_pieces : List Expr → List Piece
+abbrev pub more_args_pieces : List Expr → List PrintedPiece
 more_args_pieces [] = []
-more_args_pieces (e ∷ es) = sign g.Comma ∷ (expr_pieces e ++ more_args_pieces es)
+more_args_pieces (e ∷ es) = sign_piece g.Comma ∷ (expr_pieces e ++ more_args_pieces es)
 
-abbrev pub args_pieces : List Expr → List Piece
+abbrev pub args_pieces : List Expr → List PrintedPiece
 args_pieces [] = []
 args_pieces (e ∷ es) = expr_pieces e ++ more_args_pieces es
 
-abbrev pub call_pieces : Call → List Piece
-call_pieces c = name c.function ∷ sign g.LeftParen ∷ (args_pieces c.args ++ sign g.RightParen ∷ [])
+abbrev pub call_pieces : Call → List PrintedPiece
+call_pieces c = name_piece c.function ∷ sign_piece g.LeftParen ∷ (args_pieces c.args ++ sign_piece g.RightParen ∷ [])
 
 -- a first value, where there is one
-abbrev pub first_value_pieces : Option Expr → List Piece
+abbrev pub first_value_pieces : Option Expr → List PrintedPiece
 first_value_pieces None = []
-first_value_pieces (Some e) = sign g.Equal ∷ expr_pieces e
+first_value_pieces (Some e) = sign_piece g.Equal ∷ expr_pieces e
 
 -- the test of a `for`, where there is one
-abbrev pub test_pieces : Option Expr → List Piece
+abbrev pub test_pieces : Option Expr → List PrintedPiece
 test_pieces None = []
 test_pieces (Some e) = expr_pieces e
 
 -- the variable of a handler, where it has one
-abbrev pub variable_pieces : Option (List ℕ) → List Piece
+abbrev pub variable_pieces : Option (List ℕ) → List PrintedPiece
 variable_pieces None = []
-variable_pieces (Some x) = name x ∷ []
+variable_pieces (Some x) = name_piece x ∷ []
 
 -- the number of a throw in its parentheses, where it has one
-abbrev pub thrown_number_pieces : Option Expr → List Piece
+abbrev pub thrown_number_pieces : Option Expr → List PrintedPiece
 thrown_number_pieces None = []
-thrown_number_pieces (Some e) = sign g.LeftParen ∷ (expr_pieces e ++ sign g.RightParen ∷ [])
+thrown_number_pieces (Some e) = sign_piece g.LeftParen ∷ (expr_pieces e ++ sign_piece g.RightParen ∷ [])
 
 -- a statement without the semicolon at its end, and whether it has one
 pub record StmtShown : Type 0 where
-  pub pieces : List Piece
+  pub pieces : List PrintedPiece
   pub semicolon : Bool
 
-abbrev pub end_pieces : Bool → List Piece
-end_pieces true = last g.Semicolon ∷ []
+abbrev pub end_pieces : Bool → List PrintedPiece
+end_pieces true = line_end_piece g.Semicolon ∷ []
 end_pieces false = []
 
 -- statements one after another
-abbrev pub all_pieces : List StmtShown → List Piece
+abbrev pub all_pieces : List StmtShown → List PrintedPiece
 all_pieces [] = []
 all_pieces (s ∷ ss) = s.pieces ++ (end_pieces s.semicolon ++ all_pieces ss)
 
 -- what stands in the parentheses of a `for` without a semicolon behind it
-abbrev pub part_pieces : List StmtShown → List Piece
+abbrev pub part_pieces : List StmtShown → List PrintedPiece
 part_pieces [] = []
 part_pieces (s ∷ ss) = s.pieces ++ part_pieces ss
 
-abbrev pub block_pieces : List StmtShown → List Piece
-block_pieces body = last g.LeftBrace ∷ (all_pieces body ++ last g.RightBrace ∷ [])
+abbrev pub block_pieces : List StmtShown → List PrintedPiece
+block_pieces body = line_end_piece g.LeftBrace ∷ (all_pieces body ++ line_end_piece g.RightBrace ∷ [])
 
-abbrev pub else_pieces : List StmtShown → List Piece
+abbrev pub else_pieces : List StmtShown → List PrintedPiece
 else_pieces [] = []
-else_pieces (s ∷ ss) = key k.Else ∷ block_pieces (s ∷ ss)
+else_pieces (s ∷ ss) = key_piece k.Else ∷ block_pieces (s ∷ ss)
 
-abbrev pub par_pieces : Bool → List Piece
+abbrev pub par_pieces : Bool → List PrintedPiece
 par_pieces true = []
-par_pieces false = key k.Par ∷ []
+par_pieces false = key_piece k.Par ∷ []
 
 -- branches with `par` between them; the first of these may be the first of the fork
-abbrev pub fork_pieces : Bool → List (List Piece) → List Piece
+abbrev pub fork_pieces : Bool → List (List PrintedPiece) → List PrintedPiece
 fork_pieces first [] = []
 fork_pieces first (b ∷ bs) = par_pieces first ++ (b ++ fork_pieces false bs)
 
-abbrev pub branch_step : BranchWhat-F (List Piece) StmtShown (List Piece) StmtShown → List Piece
-branch_step (BranchWhat-F.BranchWhat::Block body) = block_pieces body
-branch_step (BranchWhat-F.BranchWhat::Call call) = call_pieces call ++ last g.Semicolon ∷ []
+abbrev pub print_branch_step : BranchWhat-F (List PrintedPiece) StmtShown (List PrintedPiece) StmtShown → List PrintedPiece
+print_branch_step (BranchWhat-F.BranchWhat::Block body) = block_pieces body
+print_branch_step (BranchWhat-F.BranchWhat::Call call) = call_pieces call ++ line_end_piece g.Semicolon ∷ []
 
 -- what a semicolon follows
-abbrev pub simple : List Piece → StmtShown
+abbrev pub simple : List PrintedPiece → StmtShown
 simple ps = record { pieces = ps; semicolon = true }
 
 -- what ends with a brace, or with a branch
-abbrev pub ended : List Piece → StmtShown
-ended ps = record { pieces = ps; semicolon = false }
+abbrev pub without_semicolon : List PrintedPiece → StmtShown
+without_semicolon ps = record { pieces = ps; semicolon = false }
 
-abbrev pub stmt_step : What-F (List Piece) StmtShown (List Piece) StmtShown → StmtShown
-stmt_step (What-F.Declare ty x value) = simple (type_piece ty ∷ name x ∷ first_value_pieces value)
-stmt_step (What-F.Assign x value) = simple (name x ∷ sign g.Equal ∷ expr_pieces value)
-stmt_step (What-F.Next x) = simple (key k.Next ∷ name x ∷ [])
-stmt_step (What-F.NextAssign x value) = simple (key k.Next ∷ name x ∷ sign g.Equal ∷ expr_pieces value)
-stmt_step (What-F.AssignNext x y) = simple (name x ∷ sign g.Equal ∷ key k.Next ∷ name y ∷ [])
-stmt_step (What-F.Get x y) = simple (name x ∷ sign g.Equal ∷ key k.Get ∷ name y ∷ [])
-stmt_step (What-F.Put x value) = simple (key k.Put ∷ name x ∷ sign g.Comma ∷ expr_pieces value)
-stmt_step (What-F.If test first other) = ended (key k.If ∷ sign g.LeftParen ∷ (expr_pieces test ++ sign g.RightParen ∷ (block_pieces first ++ else_pieces other)))
-stmt_step (What-F.While test body) = ended (key k.While ∷ sign g.LeftParen ∷ (expr_pieces test ++ sign g.RightParen ∷ block_pieces body))
-stmt_step (What-F.For first test step body) =
-    ended (key k.For ∷ sign g.LeftParen ∷ (part_pieces first ++ sign g.Semicolon ∷ (test_pieces test ++ sign g.Semicolon ∷ (part_pieces step ++ sign g.RightParen ∷ block_pieces body))))
-stmt_step (What-F.What::Block body) = ended (block_pieces body)
-stmt_step (What-F.What::Call call) = simple (call_pieces call)
-stmt_step (What-F.Try body x y handler) =
-    ended (key k.Try ∷ (block_pieces body ++ key k.Catch ∷ sign g.LeftParen ∷ name x ∷ (variable_pieces y ++ sign g.RightParen ∷ block_pieces handler)))
-stmt_step (What-F.Throw x e) = simple (key k.Throw ∷ name x ∷ thrown_number_pieces e)
-stmt_step (What-F.Par branches) = ended (fork_pieces true branches)
+abbrev pub print_stmt_step : What-F (List PrintedPiece) StmtShown (List PrintedPiece) StmtShown → StmtShown
+print_stmt_step (What-F.Declare ty x value) = simple (type_piece ty ∷ name_piece x ∷ first_value_pieces value)
+print_stmt_step (What-F.Assign x value) = simple (name_piece x ∷ sign_piece g.Equal ∷ expr_pieces value)
+print_stmt_step (What-F.Next x) = simple (key_piece k.Next ∷ name_piece x ∷ [])
+print_stmt_step (What-F.NextAssign x value) = simple (key_piece k.Next ∷ name_piece x ∷ sign_piece g.Equal ∷ expr_pieces value)
+print_stmt_step (What-F.AssignNext x y) = simple (name_piece x ∷ sign_piece g.Equal ∷ key_piece k.Next ∷ name_piece y ∷ [])
+print_stmt_step (What-F.Get x y) = simple (name_piece x ∷ sign_piece g.Equal ∷ key_piece k.Get ∷ name_piece y ∷ [])
+print_stmt_step (What-F.Put x value) = simple (key_piece k.Put ∷ name_piece x ∷ sign_piece g.Comma ∷ expr_pieces value)
+print_stmt_step (What-F.If test first other) = without_semicolon (key_piece k.If ∷ sign_piece g.LeftParen ∷ (expr_pieces test ++ sign_piece g.RightParen ∷ (block_pieces first ++ else_pieces other)))
+print_stmt_step (What-F.While test body) = without_semicolon (key_piece k.While ∷ sign_piece g.LeftParen ∷ (expr_pieces test ++ sign_piece g.RightParen ∷ block_pieces body))
+print_stmt_step (What-F.For first test step body) =
+    without_semicolon (key_piece k.For ∷ sign_piece g.LeftParen ∷ (part_pieces first ++ sign_piece g.Semicolon ∷ (test_pieces test ++ sign_piece g.Semicolon ∷ (part_pieces step ++ sign_piece g.RightParen ∷ block_pieces body))))
+print_stmt_step (What-F.What::Block body) = without_semicolon (block_pieces body)
+print_stmt_step (What-F.What::Call call) = simple (call_pieces call)
+print_stmt_step (What-F.Try body x y handler) =
+    without_semicolon (key_piece k.Try ∷ (block_pieces body ++ key_piece k.Catch ∷ sign_piece g.LeftParen ∷ name_piece x ∷ (variable_pieces y ++ sign_piece g.RightParen ∷ block_pieces handler)))
+print_stmt_step (What-F.Throw x e) = simple (key_piece k.Throw ∷ name_piece x ∷ thrown_number_pieces e)
+print_stmt_step (What-F.Par branches) = without_semicolon (fork_pieces true branches)
 
 abbrev pub stmt_shown : Stmt → StmtShown
-stmt_shown = fold-Stmt (List Piece) StmtShown (List Piece) StmtShown branch_step stmt_step (λ b. b.what) (λ s. s.what)
+stmt_shown = fold-Stmt (List PrintedPiece) StmtShown (List PrintedPiece) StmtShown print_branch_step print_stmt_step (λ b. b.what) (λ s. s.what)
 
-abbrev pub branch_pieces : Branch → List Piece
-branch_pieces = fold-Branch (List Piece) StmtShown (List Piece) StmtShown branch_step stmt_step (λ b. b.what) (λ s. s.what)
+abbrev pub branch_pieces : Branch → List PrintedPiece
+branch_pieces = fold-Branch (List PrintedPiece) StmtShown (List PrintedPiece) StmtShown print_branch_step print_stmt_step (λ b. b.what) (λ s. s.what)
 
-abbrev pub reference_pieces : Bool → List Piece
-reference_pieces true = sign g.Amp ∷ []
+abbrev pub reference_pieces : Bool → List PrintedPiece
+reference_pieces true = sign_piece g.Amp ∷ []
 reference_pieces false = []
 
-abbrev pub param_pieces : Param → List Piece
-param_pieces p = sort_piece p.sort ∷ (reference_pieces p.by_ref ++ name p.name ∷ [])
+abbrev pub param_pieces : Param → List PrintedPiece
+param_pieces p = sort_piece p.sort ∷ (reference_pieces p.by_ref ++ name_piece p.name ∷ [])
 
-abbrev pub more_params_pieces : List Param → List Piece
+abbrev pub more_params_pieces : List Param → List PrintedPiece
 more_params_pieces [] = []
-more_params_pieces (p ∷ ps) = sign g.Comma ∷ (param_pieces p ++ more_params_pieces ps)
+more_params_pieces (p ∷ ps) = sign_piece g.Comma ∷ (param_pieces p ++ more_params_pieces ps)
 
-abbrev pub params_pieces : List Param → List Piece
+abbrev pub params_pieces : List Param → List PrintedPiece
 params_pieces [] = []
 params_pieces (p ∷ ps) = param_pieces p ++ more_params_pieces ps
 
-abbrev pub more_throws_pieces : List (List ℕ) → List Piece
+abbrev pub more_throws_pieces : List (List ℕ) → List PrintedPiece
 more_throws_pieces [] = []
-more_throws_pieces (x ∷ xs) = sign g.Comma ∷ name x ∷ more_throws_pieces xs
+more_throws_pieces (x ∷ xs) = sign_piece g.Comma ∷ name_piece x ∷ more_throws_pieces xs
 
-abbrev pub throws_pieces : List (List ℕ) → List Piece
+abbrev pub throws_pieces : List (List ℕ) → List PrintedPiece
 throws_pieces [] = []
-throws_pieces (x ∷ xs) = key k.Throws ∷ name x ∷ more_throws_pieces xs
+throws_pieces (x ∷ xs) = key_piece k.Throws ∷ name_piece x ∷ more_throws_pieces xs
 
-abbrev pub function_pieces : Function → List Piece
+abbrev pub function_pieces : Function → List PrintedPiece
 function_pieces f =
-    key k.Void ∷ name f.name ∷ sign g.LeftParen ∷ (params_pieces f.params ++ sign g.RightParen ∷ (throws_pieces f.throws ++ block_pieces (map stmt_shown f.body)))
+    key_piece k.Void ∷ name_piece f.name ∷ sign_piece g.LeftParen ∷ (params_pieces f.params ++ sign_piece g.RightParen ∷ (throws_pieces f.throws ++ block_pieces (map stmt_shown f.body)))
 
-abbrev pub functions_pieces : List Function → List Piece
+abbrev pub functions_pieces : List Function → List PrintedPiece
 functions_pieces [] = []
 functions_pieces (f ∷ fs) = function_pieces f ++ functions_pieces fs
 
-abbrev pub two : Piece
-two = record { kind = Number (pos 2); text = codes "2"; ends_line = false; is_type = false }
+abbrev pub version_piece : PrintedPiece
+version_piece = record { kind = Number (pos 2); text = codes "2"; ends_line = false; is_type = false }
 
-abbrev pub header_pieces : ℕ → List Piece
-header_pieces version = if version == 2 then name (codes "shim") ∷ two ∷ last g.Semicolon ∷ [] else []
+abbrev pub header_pieces : ℕ → List PrintedPiece
+header_pieces version = if version == 2 then name_piece (codes "shim") ∷ version_piece ∷ line_end_piece g.Semicolon ∷ [] else []
 
-abbrev pub pieces : Program → List Piece
+abbrev pub pieces : Program → List PrintedPiece
 pieces program = header_pieces program.version ++ functions_pieces program.functions
 
 abbrev pub canonical : Program → List ℕ
-canonical program = text_of (pieces program)
+canonical program = pieces_text (pieces program)

@@ -22,9 +22,9 @@ abbrev pub without_lines : Program → Program
 without_lines p = record { version = p.version; functions = map function_without_lines p.functions }
 
 -- two programs that differ in lines alone
-abbrev pub Same : Program → Program → Type 0
-Same p q = without_lines p ≡ without_lines q
+abbrev pub SameButLines : Program → Program → Type 0
+SameButLines p q = without_lines p ≡ without_lines q
 
 -- a text of a program that differs from this one in lines alone
 abbrev pub IsTextOfSame : Program → List ℕ → Type 0
-IsTextOfSame program text = (q : Program) × IsText text q × Same program q
+IsTextOfSame program text = (q : Program) × IsText text q × SameButLines program q

@@ -10,7 +10,7 @@ use Rattle.shim_base.specs.declared.token.Keyword.TheVariants as k
 use Rattle.shim_base.specs.declared.token.Sign.{Sign as SignOf}
 use Rattle.shim_base.specs.declared.token.Sign.TheVariants as g
 use Rattle.shim_base.specs.declared.types.Ty.TheVariants.{Bool as BoolTy, Int8, Int16, Int32, Uint8, Uint16, Uint32, Int64}
-use Rattle.shim_base.specs.Tokens.{Token, Place, Fault, Cuts, start, after}
+use Rattle.shim_base.specs.Tokens.{Token, Place, Fault, Cuts, start, place_after}
 use Rattle.shim_syntax.specs.declared.tree.Sort.{Sort as SortOf}
 use Rattle.shim_syntax.specs.declared.tree.Sort.TheVariants.{Value, Input, Output}
 
@@ -79,14 +79,14 @@ of_version two (Sign sign p) = Sign sign p
 of_version two (End p) = End p
 of_version two (Broken kind p) = Broken kind p
 
-abbrev pub place_of : Terminal → Place
-place_of (Name text p) = p
-place_of (Number n p) = p
-place_of (Sort sort p) = p
-place_of (Key key p) = p
-place_of (Sign sign p) = p
-place_of (End p) = p
-place_of (Broken kind p) = p
+abbrev pub terminal_place : Terminal → Place
+terminal_place (Name text p) = p
+terminal_place (Number n p) = p
+terminal_place (Sort sort p) = p
+terminal_place (Key key p) = p
+terminal_place (Sign sign p) = p
+terminal_place (End p) = p
+terminal_place (Broken kind p) = p
 
 -- the first of them; behind the last one there is nothing but the end
 abbrev pub first : List Terminal → Terminal
@@ -121,4 +121,4 @@ pub record IsRead (bytes : List ℕ) (ts : List Terminal) : Type 0 where
   pub tokens : List Token
   pub end : Option Fault
   pub cut : Cuts start bytes tokens end
-  pub are : ts ≡ in_version (of_tokens tokens (of_end (after start bytes) end))
+  pub are : ts ≡ in_version (of_tokens tokens (of_end (place_after start bytes) end))

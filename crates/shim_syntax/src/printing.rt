@@ -1,6 +1,6 @@
 // The canonical text of a program.
 ghost use Rattle.std.specs.Prelude.{◌≡◌, ℕ, List as ListOf, ◌++◌, OnOk, IfOk};
-ghost use Rattle.shim_syntax.specs.Printing.{text_of, canonical, header_pieces, function_pieces, functions_pieces, params_pieces, more_params_pieces, param_pieces, throws_pieces, more_throws_pieces};
+ghost use Rattle.shim_syntax.specs.Printing.{pieces_text, canonical, header_pieces, function_pieces, functions_pieces, params_pieces, more_params_pieces, param_pieces, throws_pieces, more_throws_pieces};
 ghost use Rattle.shim_syntax.specs.Same.{IsTextOfSame};
 ghost use Rattle.shim_syntax.specs.Text.{IsText};
 
@@ -29,7 +29,7 @@ pub fn print(alloc: Global, program: &Program) -> Result<List<u8>, NoMemory>
 
 // A text of version 1 has no header.
 fn push_header(text: &mut List<u8>, version: u32) -> Result<(), NoMemory>
-    ensures { OnOk result (text.new ≡ text.old ++ text_of (header_pieces version)) }
+    ensures { OnOk result (text.new ≡ text.old ++ pieces_text (header_pieces version)) }
 {
     if version == 2 {
         text.extend_from_slice(b"shim 2 ;\n")?;
@@ -38,7 +38,7 @@ fn push_header(text: &mut List<u8>, version: u32) -> Result<(), NoMemory>
 }
 
 fn push_functions(text: &mut List<u8>, functions: &[Function]) -> Result<(), NoMemory>
-    ensures { OnOk result (text.new ≡ text.old ++ text_of (functions_pieces functions.now)) }
+    ensures { OnOk result (text.new ≡ text.old ++ pieces_text (functions_pieces functions.now)) }
 {
     for function in functions {
         push_function(text, function)?;
@@ -47,7 +47,7 @@ fn push_functions(text: &mut List<u8>, functions: &[Function]) -> Result<(), NoM
 }
 
 fn push_function(text: &mut List<u8>, function: &Function) -> Result<(), NoMemory>
-    ensures { OnOk result (text.new ≡ text.old ++ text_of (function_pieces function.now)) }
+    ensures { OnOk result (text.new ≡ text.old ++ pieces_text (function_pieces function.now)) }
 {
     text.extend_from_slice(b"void ")?;
     push_word(text, &function.name)?;
@@ -59,7 +59,7 @@ fn push_function(text: &mut List<u8>, function: &Function) -> Result<(), NoMemor
 }
 
 fn push_params(text: &mut List<u8>, params: &[Param]) -> Result<(), NoMemory>
-    ensures { OnOk result (text.new ≡ text.old ++ text_of (params_pieces params.now)) }
+    ensures { OnOk result (text.new ≡ text.old ++ pieces_text (params_pieces params.now)) }
 {
     match params.split_first() {
         None => Ok(()),
@@ -71,7 +71,7 @@ fn push_params(text: &mut List<u8>, params: &[Param]) -> Result<(), NoMemory>
 }
 
 fn push_more_params(text: &mut List<u8>, params: &[Param]) -> Result<(), NoMemory>
-    ensures { OnOk result (text.new ≡ text.old ++ text_of (more_params_pieces params.now)) }
+    ensures { OnOk result (text.new ≡ text.old ++ pieces_text (more_params_pieces params.now)) }
 {
     for param in params {
         text.extend_from_slice(b", ")?;
@@ -81,7 +81,7 @@ fn push_more_params(text: &mut List<u8>, params: &[Param]) -> Result<(), NoMemor
 }
 
 fn push_param(text: &mut List<u8>, param: &Param) -> Result<(), NoMemory>
-    ensures { OnOk result (text.new ≡ text.old ++ text_of (param_pieces param.now)) }
+    ensures { OnOk result (text.new ≡ text.old ++ pieces_text (param_pieces param.now)) }
 {
     push_sort(text, param.sort)?;
     if param.by_ref {
@@ -91,7 +91,7 @@ fn push_param(text: &mut List<u8>, param: &Param) -> Result<(), NoMemory>
 }
 
 fn push_throws(text: &mut List<u8>, throws: &[Name]) -> Result<(), NoMemory>
-    ensures { OnOk result (text.new ≡ text.old ++ text_of (throws_pieces throws.now)) }
+    ensures { OnOk result (text.new ≡ text.old ++ pieces_text (throws_pieces throws.now)) }
 {
     match throws.split_first() {
         None => Ok(()),
@@ -104,7 +104,7 @@ fn push_throws(text: &mut List<u8>, throws: &[Name]) -> Result<(), NoMemory>
 }
 
 fn push_more_throws(text: &mut List<u8>, throws: &[Name]) -> Result<(), NoMemory>
-    ensures { OnOk result (text.new ≡ text.old ++ text_of (more_throws_pieces throws.now)) }
+    ensures { OnOk result (text.new ≡ text.old ++ pieces_text (more_throws_pieces throws.now)) }
 {
     for exception in throws {
         text.extend_from_slice(b", ")?;

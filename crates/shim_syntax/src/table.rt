@@ -1,7 +1,7 @@
 // The distinct names of a program, each with its number.
 ghost use Rattle.std.specs.Prelude.{◌≡◌, ◌≤◌, [], ◌∷◌, ◌++◌, length, OnOk, OnErr, None, position};
 ghost use Rattle.std.specs.Str.{bytes_eq};
-ghost use Rattle.shim_syntax.specs.Names.{with_name, number_of};
+ghost use Rattle.shim_syntax.specs.Names.{with_name, name_index};
 
 use crate::word::copy;
 use shim_base::{List, Name, NoMemory};
@@ -76,7 +76,7 @@ impl NameTable {
     // The number of a name, which for a new one is the number that it would get.
     pub fn number(&self, name: &Name) -> u32
         requires { length self.now ≤ 4294967295 }
-        ensures { result ≡ number_of self.now name.now }
+        ensures { result ≡ name_index self.now name.now }
     {
         match self.find(name) {
             Some(number) => number as u32,

@@ -200,3 +200,22 @@ fn nothing_is_given_out_while_the_whole_budget_is_reserved(rt: HostRuntime) -> R
     let program = accepted(&rt, rt.alloc(), TWO_COUNTERS);
     expect_all_reserved(&rt, net_of(rt.alloc(), &program, "", 100)?)
 }
+
+// The grant that has been open for longest is done again, and no other one.
+fn expect_oldest_redone<L: Local>(rt: &impl Abort, net: Net<L>) -> Result<(), Fail> {
+    let mut net = net;
+    fork(rt, &mut net)?;
+    let one = give(rt, &mut net, 3, 0, 1)?;
+    let other = give(rt, &mut net, 3, 1, 1)?;
+    assert!(rt; net.redo()?);
+    assert!(rt; !net.is_out(0, 1) && net.is_out(1, 1));
+    expect_stranger(rt, &mut net, work(one));
+    take(rt, &mut net, other);
+    Ok(())
+}
+
+#[test]
+fn redo_takes_the_oldest_grant(rt: HostRuntime) -> Result<(), Fail> {
+    let program = accepted(&rt, rt.alloc(), TWO_COUNTERS);
+    expect_oldest_redone(&rt, net_of(rt.alloc(), &program, "", 100)?)
+}

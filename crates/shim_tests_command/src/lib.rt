@@ -1,7 +1,5 @@
-//! Tests of the command line: which words are taken, as what job, and the text of each kind of source.
+//! Tests of the command that no case of the tool can write.
 #![tactic(auto)]
 
-#[cfg(test)]
-mod sources;
 #[cfg(test)]
 mod words;

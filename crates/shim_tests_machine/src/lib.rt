@@ -4,6 +4,8 @@
 #[cfg(test)]
 mod beside;
 #[cfg(test)]
+mod code_tests;
+#[cfg(test)]
 mod deep_tests;
 #[cfg(test)]
 mod expect;
@@ -11,5 +13,7 @@ mod expect;
 mod instruction_tests;
 #[cfg(test)]
 mod place_tests;
+#[cfg(test)]
+mod state_tests;
 #[cfg(test)]
 mod trap_tests;

@@ -1,4 +1,4 @@
-//! Tests of reports: the line of each fault, and the whole text of each kind of run.
+//! Tests of reports: faults that have no line, and the whole text of each kind of run.
 #![tactic(auto)]
 
 #[cfg(test)]

@@ -1,9 +1,9 @@
-//! Tests of trees of whole programs: the events that can happen, by name, runs in other orders, and inputs.
+//! Trees of whole programs, as text for tests of them: the events that can happen, by name, and runs in other orders.
 #![tactic(auto)]
 
-#[cfg(test)]
-mod order_rows;
-#[cfg(test)]
-mod tree_rows;
-#[cfg(test)]
+mod events;
+mod orders;
 mod trees;
+
+pub use events::events_of;
+pub use orders::{Order, report_of};

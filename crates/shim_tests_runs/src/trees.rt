@@ -11,6 +11,9 @@ use shim_tree::Tree;
 use shim_walk::Walk;
 use std::alloc::Global;
 
+/// A source has at most so many bytes.
+pub const MOST_BYTES: usize = 1_048_576;
+
 /// The units of a text, or nothing where it is refused.
 pub fn units_of(alloc: Global, text: &[u8]) -> Option<Accepted>
     requires { length text.now ≤ 1048576 }

@@ -6,7 +6,7 @@ use Rattle.shim_tests_small.specs.Small.{SmallView, small_ops}
 use Rattle.shim_tests_small.specs.declared.small.Step.{Step}
 use Rattle.shim_tests_small.specs.declared.small.Step.TheVariants as step
 use Rattle.shim_semantics.specs.Nodes.{Node, Live, Forked, Ended, Dead, death, death_with, no_node, node_and}
-use Rattle.shim_semantics.specs.Acts.{act, act_here, catching, trapping, nothing}
+use Rattle.shim_semantics.specs.Acts.{act, act_here, catch_logged, trapping, nothing}
 use Rattle.shim_semantics.specs.Places.{led_to, meets}
 use Rattle.shim_semantics.specs.Trees.{Closes, is_its, poisons}
 use Rattle.shim_semantics.specs.Quiets.{quiets}
@@ -27,7 +27,7 @@ parent = record { path = []; left = step.Fork ∷ step.Put ∷ []; value = pos 5
 
 -- a throw is caught by a place of its own, and logged; else it is dead
 pub caught : act_here small_ops (Live (one [] (step.Throw 1 6 ∷ step.Put ∷ []) ((9, 3) ∷ [])))
-    ≡ Some (record { node = Live (record (one [] (step.Put ∷ []) []) { value = pos 6 }); effects = catching (9, 3) })
+    ≡ Some (record { node = Live (record (one [] (step.Put ∷ []) []) { value = pos 6 }); effects = catch_logged (9, 3) })
 caught = refl
 
 pub dead : act_here small_ops (Live (child 0 (step.Throw 1 6 ∷ [])))
@@ -61,7 +61,7 @@ not_the_root = refl
 
 -- then the fork closes with the label of the dead, which its parent catches
 pub close_catches : act small_ops [] both_dead
-    ≡ Some (record { node = Live (record { path = []; left = step.Put ∷ []; value = pos 6; chan = home; forks = 1; base = 1; places = [] }); effects = catching (9, 3) })
+    ≡ Some (record { node = Live (record { path = []; left = step.Put ∷ []; value = pos 6; chan = home; forks = 1; base = 1; places = [] }); effects = catch_logged (9, 3) })
 close_catches = refl
 
 -- the second child of that fork, which forked inside of a place of its own, and whose one child died of the exception of that place

@@ -1,5 +1,5 @@
-// The canonical text of trees that were built by hand. Those of texts are in the crate `shim_tests_texts`.
-use shim_base::{BinOp, Boxed, List, Name, NoMemory};
+// The canonical text of trees that were built by hand. Those of programs in version 2 are cases of `shim_conformance`.
+use shim_base::{BinOp, Boxed, List, Name, NoMemory, Ty};
 use shim_syntax::{Expr, Function, Program, Stmt, What, print};
 use std::alloc::Global;
 use std::process::Abort;
@@ -74,4 +74,48 @@ fn a_number_below_0_has_its_sign_and_no_parentheses(rt: HostRuntime) -> Result<(
         difference(rt.alloc(), -9223372036854775808, -7)?,
         "void f ( ) {\nx = -9223372036854775808 - -7 ;\n}\n",
     )
+}
+
+// A program of one function, which is `void int64() { WHAT }`.
+fn named(alloc: Global, what: What) -> Result<Program, NoMemory> {
+    let body = one(alloc, Stmt { line: 1, what })?;
+    let mut function = function(alloc, body)?;
+    function.name = Name::new(alloc, b"int64")?;
+    Ok(Program {
+        version: 1,
+        functions: one(alloc, function)?,
+    })
+}
+
+// Prints the program of that function.
+fn expect_named(rt: &impl Abort, alloc: Global, what: What, text: &str) -> Result<(), Fail> {
+    let printed = print(alloc, &named(alloc, what)?)?;
+    assert_eq!(rt; str::from_utf8(printed.as_slice())?, text);
+    Ok(())
+}
+
+#[test]
+fn int64_is_a_name_in_version_1(rt: HostRuntime) -> Result<(), Fail> {
+    let alloc = rt.alloc();
+    let declared = What::Declare(Ty::Int32, Name::new(alloc, b"int64")?, None);
+    expect_named(&rt, alloc, declared, "void int64 ( ) {\nint32 int64 ;\n}\n")?;
+    let assigned = What::Assign(Name::new(alloc, b"int64")?, Expr::Number(1));
+    expect_named(&rt, alloc, assigned, "void int64 ( ) {\nint64 = 1 ;\n}\n")
+}
+
+// Expects this text of the program of no function in a version.
+fn expect_empty(rt: &impl Abort, alloc: Global, version: u32, text: &str) -> Result<(), Fail> {
+    let program = Program {
+        version,
+        functions: List::new(alloc),
+    };
+    let printed = print(alloc, &program)?;
+    assert_eq!(rt; str::from_utf8(printed.as_slice())?, text);
+    Ok(())
+}
+
+#[test]
+fn a_program_of_no_function_has_at_most_a_header(rt: HostRuntime) -> Result<(), Fail> {
+    expect_empty(&rt, rt.alloc(), 1, "")?;
+    expect_empty(&rt, rt.alloc(), 2, "shim 2 ;\n")
 }

@@ -2,9 +2,11 @@
 #![tactic(auto)]
 
 mod source;
+mod states;
 /// The words of a trace.
 pub mod tell;
 mod tracing;
 
-pub use source::{Both, differing, differing_sources, start};
+pub use source::{Both, Over, start, trace_of};
+pub use states::{Behind, same_of, shares_of};
 pub use tracing::{Fate, outermost, trace};

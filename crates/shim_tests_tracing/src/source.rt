@@ -57,84 +57,40 @@ fn traced<L: Local>(alloc: Global, process: L, names: &[Name]) -> Result<List<u8
     Ok(told)
 }
 
-// Tells a text with its trace, on a line of their own, where that isn't the one that is wanted. Between
-// the two stands how it was run.
-fn tell_unless(
-    text: &[u8],
-    how: &[u8],
-    trace: &[u8],
-    wanted: &str,
-    told: &mut List<u8>,
-) -> Result<(), NoMemory> {
-    if trace == wanted.as_bytes() {
-        return Ok(());
-    }
-    told.extend_from_slice(text)?;
-    told.extend_from_slice(how)?;
-    told.extend_from_slice(trace)?;
-    told.extend_from_slice(b"\n")
+// The trace of a process over syntax.
+fn traced_walk(alloc: Global, walk: Walk, names: &[Name]) -> Result<List<u8>, NoMemory> {
+    traced(alloc, walk, names)
 }
 
-// The same of a program's `main`, whose input is `AB`, as each kind of process.
-fn tell_traces(
+// The trace of a process over compiled code.
+fn traced_body(alloc: Global, body: Body, names: &[Name]) -> Result<List<u8>, NoMemory> {
+    traced(alloc, body, names)
+}
+
+/// Over what a process is run.
+#[derive(Clone, Copy)]
+pub enum Over {
+    Syntax,
+    /// Compiled code.
+    Code,
+}
+
+/// The trace of the process that runs the `main` of a text on this input; nothing where the text is refused.
+pub fn trace_of(
     alloc: Global,
     text: &[u8],
-    program: Shared<Accepted>,
-    wanted: &str,
-    told: &mut List<u8>,
-) -> Result<(), NoMemory> {
+    input: &[u8],
+    over: Over,
+) -> Result<Option<List<u8>>, NoMemory> {
+    let Some(units) = units_of(alloc, text) else {
+        return Ok(None);
+    };
+    let program = Shared::new(alloc, units)?;
     let kept = program.share()?;
-    let Both { walk, body } = start_of(alloc, program, b"AB")?;
-    let over_syntax = traced(alloc, walk, kept.names())?;
-    let over_code = traced(alloc, body, kept.names())?;
-    tell_unless(text, b" : ", over_syntax.as_slice(), wanted, told)?;
-    tell_unless(text, b" as code : ", over_code.as_slice(), wanted, told)
-}
-
-// That of a text's `main`.
-fn tell_differing(
-    alloc: Global,
-    text: &[u8],
-    wanted: &str,
-    told: &mut List<u8>,
-) -> Result<(), NoMemory> {
-    match units_of(alloc, text) {
-        None => tell_unless(text, b" : ", b"refused", wanted, told),
-        Some(units) => tell_traces(alloc, text, Shared::new(alloc, units)?, wanted, told),
-    }
-}
-
-/// Those of these whole sources whose `main`, with the input `AB`, hasn't the trace beside it, each
-/// with the trace that it has. So no text where all of them have theirs. Each is run over its syntax and
-/// over its compiled code, and told once for each of the two that has another trace.
-pub fn differing_sources(alloc: Global, rows: &[(&str, &str)]) -> Result<List<u8>, NoMemory> {
-    let mut told = List::new(alloc);
-    for row in rows {
-        tell_differing(alloc, row.0.as_bytes(), row.1, &mut told)?;
-    }
-    Ok(told)
-}
-
-// The source in which `main` has these statements, behind these functions.
-fn source_of(alloc: Global, functions: &str, statements: &str) -> Result<List<u8>, NoMemory> {
-    let mut text = List::from_slice(alloc, functions.as_bytes())?;
-    text.extend_from_slice(b" void main(istream i, ostream o) { ")?;
-    text.extend_from_slice(statements.as_bytes())?;
-    text.extend_from_slice(b" }")?;
-    Ok(text)
-}
-
-/// Those of these lists of statements that, as those of `main` behind these functions and with the input
-/// `AB`, haven't the trace beside them, each with the trace that it has, over syntax or over code.
-pub fn differing(
-    alloc: Global,
-    functions: &str,
-    rows: &[(&str, &str)],
-) -> Result<List<u8>, NoMemory> {
-    let mut told = List::new(alloc);
-    for row in rows {
-        let text = source_of(alloc, functions, row.0)?;
-        tell_differing(alloc, text.as_slice(), row.1, &mut told)?;
-    }
-    Ok(told)
+    let Both { walk, body } = start_of(alloc, program, input)?;
+    let told = match over {
+        Over::Syntax => traced_walk(alloc, walk, kept.names())?,
+        Over::Code => traced_body(alloc, body, kept.names())?,
+    };
+    Ok(Some(told))
 }

@@ -6,7 +6,7 @@ use crate::small_trees::{add_enabled, add_number, add_path, add_value, do_events
 use shim_base::{Chan, List, NoMemory, Path};
 use shim_local::{Death, Local};
 use shim_tests_small::{Branch, Step};
-use shim_tree::{Event, NodeRef, Tree, View};
+use shim_tree::{Event, NodeRef, ProcessView, Tree};
 use std::alloc::Global;
 use std::process::Abort;
 use std::str;
@@ -49,15 +49,15 @@ fn add_death(told: &mut List<u8>, death: Death) -> Result<(), NoMemory> {
     }
 }
 
-fn add_view<L: Local>(told: &mut List<u8>, view: &View<'_, L>) -> Result<(), NoMemory> {
+fn add_view<L: Local>(told: &mut List<u8>, view: &ProcessView<'_, L>) -> Result<(), NoMemory> {
     match view {
-        View::Live(process) => add_path(told, b" live", process.path()),
-        View::Ended(process) => add_path(told, b" ended", process.path()),
-        View::Dead(process, death) => {
+        ProcessView::Live(process) => add_path(told, b" live", process.path()),
+        ProcessView::Ended(process) => add_path(told, b" ended", process.path()),
+        ProcessView::Dead(process, death) => {
             add_path(told, b" dead", process.path())?;
             add_death(told, *death)
         }
-        View::Forked(process, fork, count) => {
+        ProcessView::Forked(process, fork, count) => {
             add_path(told, b" forked", process.path())?;
             add_number(told, b" by ", *fork as u64)?;
             add_number(told, b" into ", *count as u64)

@@ -10,7 +10,7 @@ use Rattle.shim_command.specs.declared.mode.Origin.TheVariants.{Stored, Generate
 use Rattle.shim_command.specs.declared.mode.Task.TheVariants.{RunsEach}
 use Rattle.shim_command.specs.Jobs.{IsWithin}
 use Rattle.shim_command.specs.Modes.{row_of}
-use Rattle.shim_tool.specs.Modes.{IsBatch, Reading, beside_of, contents_behind, inputs_in, inputs_readings, readings_beside, reads_of, source_readings}
+use Rattle.shim_tool.specs.Modes.{IsBatch, FileView, beside_of, contents_behind, inputs_in, inputs_readings, readings_beside, reads_of, source_readings}
 use Rattle.shim_tool.specs.Reads.{AreContents, Told}
 
 -- its source is read from a file, and all inputs are read beside it
@@ -27,7 +27,7 @@ reads_inputs Why task = absurd (cc task)
 reads_inputs Batch task = (refl, refl)
 
 -- there are as many contents as files
-as_many : (held : Told) (rs : List Reading) (contents : List (List ℕ)) → AreContents held rs contents → length contents ≡ length rs
+as_many : (held : Told) (rs : List FileView) (contents : List (List ℕ)) → AreContents held rs contents → length contents ≡ length rs
 as_many held [] [] are = refl
 as_many held [] (c ∷ cs) are = absurd are
 as_many held (r ∷ rs) [] are = absurd are

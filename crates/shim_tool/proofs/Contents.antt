@@ -3,12 +3,12 @@ use Rattle.std.proofs.Common.{◌≡◌, ◌≤◌, ℕ, List, length, sym, ap, 
 use Rattle.shim_command.specs.declared.job.Job.{Job}
 use Rattle.shim_command.specs.Modes.{row_of}
 use Rattle.shim_answers.specs.Deeds.{Beside}
-use Rattle.shim_tool.specs.Modes.{beside_in, first, journal_in, source_text, text_from}
+use Rattle.shim_tool.specs.Modes.{beside_in, first_content, journal_in, source_text, text_from}
 use Rattle.shim_tool.specs.Reads.{all}
 use Rattle.shim_tool.specs.Prepared.{Prepared, PreparesSaw, PreparesSource}
 
 -- it is what is prepared of the source and of what was read beside it
-pub contents_prepared : (job : Job) (contents : List (List ℕ)) (source : List ℕ) (beside : Beside) (text : List ℕ) (p : Prepared) → source ≡ first contents → beside ≡ beside_in job contents
+pub contents_prepared : (job : Job) (contents : List (List ℕ)) (source : List ℕ) (beside : Beside) (text : List ℕ) (p : Prepared) → source ≡ first_content contents → beside ≡ beside_in job contents
     → text ≡ text_from (row_of job.mode).origin job source → PreparesSource job beside text p → PreparesSaw job (all contents) p
 contents_prepared job contents source beside text p from_first from_beside made prepared =
     subst (λ (b : Beside). PreparesSource job b (source_text job contents) p) from_beside

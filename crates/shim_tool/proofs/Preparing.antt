@@ -30,7 +30,7 @@ use Rattle.shim_answers.proofs.Outcomes.{no_acceptance, one_source}
 use Rattle.shim_tool.specs.declared.prepared.Prepared.{Prepared as MadePrepared}
 use Rattle.shim_tool.specs.declared.prepared.Prepared.TheVariants.{Answered, ToRecord, ToRun, ToRunEach}
 use Rattle.shim_tool.specs.Moments.{FilesAt}
-use Rattle.shim_tool.specs.Modes.{IsBatch, Reading, behind_named, beside_in, beside_of, first, input_in, input_readings, inputs_in, inputs_readings, journal_in, journal_readings, readings_beside, reads_of, contents_behind, source_readings, source_text}
+use Rattle.shim_tool.specs.Modes.{IsBatch, FileView, behind_named, beside_in, beside_of, first_content, input_in, input_readings, inputs_in, inputs_readings, journal_in, journal_readings, readings_beside, reads_of, contents_behind, source_readings, source_text}
 use Rattle.shim_tool.specs.Reads.{AreContents, HoldsAll, Looks, OneReadFailed, Saw, Told, all, longer_file, unread_file}
 use Rattle.shim_tool.specs.Answer.{Answers, AnswersSaw}
 use Rattle.shim_tool.specs.Rows.{WasRead}
@@ -74,22 +74,22 @@ completed None before now p answer (same, is) done = (same, completed_answer p _
 completed (Some job) before now p answer (saw, looks, prepared) done = (saw, looks, completed_saw job saw p answer prepared done)
 
 -- the first of the contents that were read is no longer than a source, where that is read
-pub first_short : (held : Told) (origin : Origin) (job : Job) (rest : List Reading) (contents : List (List ℕ)) → AreContents held (source_readings origin job ++ rest) contents → origin ≡ Stored
-    → length (first contents) ≤ 1048576
+pub first_short : (held : Told) (origin : Origin) (job : Job) (rest : List FileView) (contents : List (List ℕ)) → AreContents held (source_readings origin job ++ rest) contents → origin ≡ Stored
+    → length (first_content contents) ≤ 1048576
 first_short held Stored job rest [] are is = absurd are
 first_short held Stored job rest (c ∷ cs) are is = are.0.0
 first_short held Generated job rest contents are is = absurd (cc is)
 
-pub read_short : (job : Job) (before now : FilesAt) (contents : List (List ℕ)) → Looks (reads_of job) before now (all contents) → (row_of job.mode).origin ≡ Stored → length (first contents) ≤ 1048576
+pub read_short : (job : Job) (before now : FilesAt) (contents : List (List ℕ)) → Looks (reads_of job) before now (all contents) → (row_of job.mode).origin ≡ Stored → length (first_content contents) ≤ 1048576
 read_short job before now contents looks is =
     first_short before.held (row_of job.mode).origin job (readings_beside (row_of job.mode).beside job) contents (was_seen (reads_of job) before now (all contents) looks).0 is
 
 -- no file may have more bytes than a journal
-abbrev AreFew : List Reading → Type 0
+abbrev AreFew : List FileView → Type 0
 AreFew [] = Unit {0}
 AreFew (r ∷ rs) = (r.limit ≤ 67108864) × AreFew rs
 
-few_and_few : (rs ss : List Reading) → AreFew rs → AreFew ss → AreFew (rs ++ ss)
+few_and_few : (rs ss : List FileView) → AreFew rs → AreFew ss → AreFew (rs ++ ss)
 few_and_few [] ss p q = q
 few_and_few (r ∷ rs) ss p q = (p.0, few_and_few rs ss p.1 q)
 
@@ -120,13 +120,13 @@ abbrev AreShort : List (List ℕ) → Type 0
 AreShort [] = Unit {0}
 AreShort (c ∷ cs) = (length c ≤ 67108864) × AreShort cs
 
-contents_short : (held : Told) (rs : List Reading) (contents : List (List ℕ)) → AreFew rs → AreContents held rs contents → AreShort contents
+contents_short : (held : Told) (rs : List FileView) (contents : List (List ℕ)) → AreFew rs → AreContents held rs contents → AreShort contents
 contents_short held [] [] few are = tt
 contents_short held [] (c ∷ cs) few are = absurd are
 contents_short held (r ∷ rs) [] few are = absurd are
 contents_short held (r ∷ rs) (c ∷ cs) few are = (let here = are.0.0 in let most = few.0 in omega (arith, here, most), contents_short held rs cs few.1 are.1)
 
-first_few : (cs : List (List ℕ)) → AreShort cs → length (first cs) ≤ 67108864
+first_few : (cs : List (List ℕ)) → AreShort cs → length (first_content cs) ≤ 67108864
 first_few [] short = omega arith
 first_few (c ∷ cs) short = short.0
 

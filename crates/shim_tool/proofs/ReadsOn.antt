@@ -5,7 +5,7 @@ use Rattle.shim_tool.specs.declared.files.FileToRead.{FileToRead}
 use Rattle.shim_tool.specs.declared.files.Found.{Found}
 use Rattle.shim_tool.specs.declared.files.Found.TheVariants.{Unread, Longer, Whole}
 use Rattle.shim_tool.specs.Moments.{FilesAt, KeepsFiles}
-use Rattle.shim_tool.specs.Modes.{Reading}
+use Rattle.shim_tool.specs.Modes.{FileView}
 use Rattle.shim_tool.specs.Reads.{Looks, Saw, Sees, all, longer, longer_file, then_saw, unread, unread_file, whole}
 use Rattle.shim_tool.specs.Views.{found_view, reading_view}
 
@@ -22,11 +22,11 @@ nothing_left : (cs : List (List ℕ)) → behind cs (all []) ≡ all cs
 nothing_left [] = refl
 nothing_left (c ∷ cs) = ap (then_saw c) (nothing_left cs)
 
-then_unread : (cs : List (List ℕ)) (r : Reading) → behind cs (unread_file r) ≡ unread_file r
+then_unread : (cs : List (List ℕ)) (r : FileView) → behind cs (unread_file r) ≡ unread_file r
 then_unread [] r = refl
 then_unread (c ∷ cs) r = ap (then_saw c) (then_unread cs r)
 
-then_longer : (cs : List (List ℕ)) (r : Reading) → behind cs (longer_file r) ≡ longer_file r
+then_longer : (cs : List (List ℕ)) (r : FileView) → behind cs (longer_file r) ≡ longer_file r
 then_longer [] r = refl
 then_longer (c ∷ cs) r = ap (then_saw c) (then_longer cs r)
 

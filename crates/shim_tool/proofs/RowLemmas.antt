@@ -27,7 +27,7 @@ use Rattle.shim_answers.proofs.Outcomes.{Outcome, does, refuses, outcome}
 use Rattle.shim_answers.proofs.SourceSlots.{source_uses_own_slots}
 use Rattle.shim_answers.proofs.Statuses.{each_status}
 use Rattle.shim_tool.specs.Moments.{FilesAt, SinkAt}
-use Rattle.shim_tool.specs.Modes.{Reading, beside_in, deed_of, execution, executions, inputs_in, reads_of, source_text, IsBatch, IsExecution}
+use Rattle.shim_tool.specs.Modes.{FileView, beside_in, deed_of, execution, executions, inputs_in, reads_of, source_text, IsBatch, IsExecution}
 use Rattle.shim_tool.specs.Reads.{AreContents, HoldsAll, HoldsUpTo, Holds, OneReadFailed, Saw, all, longer_file, unread_file}
 use Rattle.shim_tool.specs.Answer.{Answers, AnswersSaw, FailedGrew, MayAnswer, longer_line, memory_line, usage_line}
 use Rattle.shim_tool.specs.Call.{Ran, Writes}
@@ -553,16 +553,16 @@ file_row ask before now ob on result ran = record {
   by_wrote None (answered answer (same, is) came) six = absurd (let e : answer.status ≡ 2 = ap (λ (a : Answer). a.status) is in omega (arith, e, came.0, six))
   by_wrote (Some job) (answered answer (saw, looks, is) came) six = by_saw job answer saw (was_seen (reads_of job) before now saw looks) is came six
 
-  when_saw : (job : Job) (r : Reading) (bytes : List ℕ) (answer : Answer) (saw : Saw) → HoldsUpTo before.held (reads_of job) r → Holds before.held r.name bytes → r.limit < length bytes
+  when_saw : (job : Job) (r : FileView) (bytes : List ℕ) (answer : Answer) (saw : Saw) → HoldsUpTo before.held (reads_of job) r → Holds before.held r.name bytes → r.limit < length bytes
       → WasSeen (reads_of job) before now saw → AnswersSaw job saw answer → Came answer.status answer.text ob on result
       → ComesUnlessUnread 6 (longer_line r.name r.limit) job before now ob on result
   when_saw job r bytes answer (all contents) up h over (are, same) is came = absurd (not_all_read before.held (reads_of job) contents r bytes up h over are)
   when_saw job r bytes answer (unread_file q) up h over (comes, read) is came = inr (came.0 ∙ ap (λ (a : Answer). a.status) is, (q, comes, read))
   when_saw job r bytes answer (longer_file q) up h over (comes, same, long) is came =
-      let P : Reading → Type 0 = λ (y : Reading). Came 6 (longer_line y.name y.limit) ob on result in
+      let P : FileView → Type 0 = λ (y : FileView). Came 6 (longer_line y.name y.limit) ob on result in
       inl (inl (subst P (one_too_long before.held (reads_of job) q r bytes up h over comes long) (came_as answer 6 (longer_line q.name q.limit) ob on result is came)))
 
-  when : (job : Job) (r : Reading) (bytes : List ℕ) → HoldsUpTo before.held (reads_of job) r → Holds before.held r.name bytes → r.limit < length bytes
+  when : (job : Job) (r : FileView) (bytes : List ℕ) → HoldsUpTo before.held (reads_of job) r → Holds before.held r.name bytes → r.limit < length bytes
       → Wrote (Some job) before now ob on result → ComesUnlessUnread 6 (longer_line r.name r.limit) job before now ob on result
   when job r bytes up h over (answered answer (saw, looks, is) came) = when_saw job r bytes answer saw up h over (was_seen (reads_of job) before now saw looks) is came
   when job r bytes up h over (lacked came) = inl (inr (inr came.0))

@@ -17,7 +17,7 @@ use Rattle.shim_answers.specs.DeedEnds.{IsRunBy}
 use Rattle.shim_answers.specs.RunEnds.{Execution}
 
 -- a file that is read, and the most bytes that it may have
-pub record Reading : Type 0 where
+pub record FileView : Type 0 where
   pub name : List ℕ
   pub limit : ℕ
 
@@ -34,42 +34,42 @@ abbrev pub journal_limit : ℕ
 journal_limit = 67108864
 
 -- an input that was named is read; where none is, there is nothing to read
-abbrev pub input_readings : Option (List ℕ) → List Reading
+abbrev pub input_readings : Option (List ℕ) → List FileView
 input_readings None = []
 input_readings (Some name) = record { name = name; limit = input_limit } ∷ []
 
 -- and so is a journal
-abbrev pub journal_readings : Option (List ℕ) → List Reading
+abbrev pub journal_readings : Option (List ℕ) → List FileView
 journal_readings None = []
 journal_readings (Some name) = record { name = name; limit = journal_limit } ∷ []
 
 -- all inputs that the words name are read, in their order
-abbrev pub inputs_readings : List (List ℕ) → List Reading
+abbrev pub inputs_readings : List (List ℕ) → List FileView
 inputs_readings names = map (λ name. record { name = name; limit = input_limit }) names
 
-abbrev pub source_reading : Job → Reading
+abbrev pub source_reading : Job → FileView
 source_reading job = record { name = job.file; limit = source_limit }
 
 -- a source is read from its file, or is generated
-abbrev pub source_readings : Origin → Job → List Reading
+abbrev pub source_readings : Origin → Job → List FileView
 source_readings Stored job = source_reading job ∷ []
 source_readings Generated job = []
 
 -- what is read beside it
-abbrev pub readings_beside : Extra → Job → List Reading
+abbrev pub readings_beside : Extra → Job → List FileView
 readings_beside Nothing job = []
 readings_beside Input job = input_readings job.input
 readings_beside InputAndJournal job = input_readings job.input ++ journal_readings job.journal
 readings_beside Inputs job = inputs_readings job.inputs
 
 -- the files that a job reads, in their order
-abbrev pub reads_of : Job → List Reading
+abbrev pub reads_of : Job → List FileView
 reads_of job = source_readings (row_of job.mode).origin job ++ readings_beside (row_of job.mode).beside job
 
 -- the first of the contents; a file that wasn't there to be read is as an empty one
-abbrev pub first : List (List ℕ) → List ℕ
-first [] = []
-first (content ∷ rest) = content
+abbrev pub first_content : List (List ℕ) → List ℕ
+first_content [] = []
+first_content (content ∷ rest) = content
 
 -- those behind the first
 abbrev pub contents_behind : List (List ℕ) → List (List ℕ)
@@ -79,7 +79,7 @@ contents_behind (content ∷ rest) = rest
 -- the content of a file that is read only where it is named, and what is left of the contents
 abbrev pub where_named : Option (List ℕ) → List (List ℕ) → List ℕ
 where_named None contents = []
-where_named (Some name) contents = first contents
+where_named (Some name) contents = first_content contents
 
 abbrev pub behind_named : Option (List ℕ) → List (List ℕ) → List (List ℕ)
 behind_named None contents = contents
@@ -89,7 +89,7 @@ behind_named (Some name) contents = contents_behind contents
 abbrev pub beside_of : Extra → Job → List (List ℕ) → Beside
 beside_of Nothing job rest = record { input = []; journal = []; inputs = [] }
 beside_of Input job rest = record { input = where_named job.input rest; journal = []; inputs = [] }
-beside_of InputAndJournal job rest = record { input = where_named job.input rest; journal = first (behind_named job.input rest); inputs = [] }
+beside_of InputAndJournal job rest = record { input = where_named job.input rest; journal = first_content (behind_named job.input rest); inputs = [] }
 beside_of Inputs job rest = record { input = []; journal = []; inputs = rest }
 
 -- the same of the contents of all files of a job
@@ -122,7 +122,7 @@ text_from Generated job content = made_text job
 
 -- the text of a job's source, from the contents of its files
 abbrev pub source_text : Job → List (List ℕ) → List ℕ
-source_text job contents = text_from (row_of job.mode).origin job (first contents)
+source_text job contents = text_from (row_of job.mode).origin job (first_content contents)
 
 -- what is done with the source of a job whose files have these contents
 abbrev pub deed_of : Job → List (List ℕ) → Deed

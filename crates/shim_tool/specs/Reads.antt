@@ -1,8 +1,8 @@
 -- What is seen of files that are read one after the other, up to the first that can't be had.
 use Rattle.std.specs.Prelude.{ℕ, ◌≡◌, ◌<◌, ◌≤◌, ◌⊎◌, IsTrue, List, [], ◌∷◌, ◌++◌, length, Option, Some, IfSome, IsSomeAnd}
-use Rattle.shim_edge.specs.Files.{file_of, IsHeld}
+use Rattle.shim_edge.specs.Files.{file_of, HasFile}
 use Rattle.shim_tool.specs.Moments.{FilesAt, KeepsFiles}
-use Rattle.shim_tool.specs.Modes.{Reading}
+use Rattle.shim_tool.specs.Modes.{FileView}
 
 -- names and contents of files, where they are told
 abbrev pub Told : Type 0
@@ -16,18 +16,18 @@ pub data Seen : Type 0 where
 
 -- One read of this name failed: the name was added to the failed ones, and the files didn't hold it if they are sound.
 abbrev pub ReadFailed : List ℕ → FilesAt → FilesAt → Type 0
-ReadFailed name before now = (now.failed ≡ before.failed ++ name ∷ []) × (IsTrue before.sound → IsHeld before.held name → ⊥)
+ReadFailed name before now = (now.failed ≡ before.failed ++ name ∷ []) × (IsTrue before.sound → HasFile before.held name → ⊥)
 
 -- the file is told and has more bytes than it may have, or isn't told
-abbrev pub IsTooLong : Reading → Told → Type 0
+abbrev pub IsTooLong : FileView → Told → Type 0
 IsTooLong r held = IfSome held (λ files. IsSomeAnd (file_of files r.name) (λ content. r.limit < length content))
 
 -- the bytes are those of the file, where it is told, and no more than it may have
-abbrev pub IsContent : Reading → Told → List ℕ → Type 0
+abbrev pub IsContent : FileView → Told → List ℕ → Type 0
 IsContent r held bytes = (length bytes ≤ r.limit) × IfSome held (λ files. file_of files r.name ≡ Some bytes)
 
 -- one read saw this
-abbrev pub Sees : Reading → FilesAt → FilesAt → Seen → Type 0
+abbrev pub Sees : FileView → FilesAt → FilesAt → Seen → Type 0
 Sees r before now unread = ReadFailed r.name before now
 Sees r before now longer = (now.failed ≡ before.failed) × IsTooLong r before.held
 Sees r before now (whole bytes) = (now.failed ≡ before.failed) × IsContent r before.held bytes
@@ -35,8 +35,8 @@ Sees r before now (whole bytes) = (now.failed ≡ before.failed) × IsContent r 
 -- what was seen of several files: the contents of all; or one couldn't be read, or has more bytes than it may have
 pub data Saw : Type 0 where
   all : List (List ℕ) → Saw
-  unread_file : Reading → Saw
-  longer_file : Reading → Saw
+  unread_file : FileView → Saw
+  longer_file : FileView → Saw
 
 abbrev pub then_saw : List ℕ → Saw → Saw
 then_saw content (all rest) = all (content ∷ rest)
@@ -44,13 +44,13 @@ then_saw content (unread_file r) = unread_file r
 then_saw content (longer_file r) = longer_file r
 
 -- what one read saw is all, or the files behind it are read, too
-abbrev pub Follows : Reading → (FilesAt → FilesAt → Saw → Type 0) → FilesAt → FilesAt → Saw → Seen → Type 0
+abbrev pub Follows : FileView → (FilesAt → FilesAt → Saw → Type 0) → FilesAt → FilesAt → Saw → Seen → Type 0
 Follows r on between now saw unread = (now ≡ between) × (saw ≡ unread_file r)
 Follows r on between now saw longer = (now ≡ between) × (saw ≡ longer_file r)
 Follows r on between now saw (whole bytes) = (rest : Saw) × on between now rest × (saw ≡ then_saw bytes rest)
 
 -- the reads, one after the other, saw this
-abbrev pub Looks : List Reading → FilesAt → FilesAt → Saw → Type 0
+abbrev pub Looks : List FileView → FilesAt → FilesAt → Saw → Type 0
 Looks [] before now saw = (now ≡ before) × (saw ≡ all [])
 Looks (r ∷ rs) before now saw = (between : FilesAt) × (seen : Seen) × KeepsFiles before between × Sees r before between seen
     × Follows r (Looks rs) between now saw seen
@@ -62,37 +62,37 @@ pub record Holds (held : Told) (name bytes : List ℕ) : Type 0 where
   pub found : file_of files name ≡ Some bytes
 
 -- the files are told, and hold these contents, each of which is as short as it has to be
-abbrev pub HoldsAll : Told → List Reading → List (List ℕ) → Type 0
+abbrev pub HoldsAll : Told → List FileView → List (List ℕ) → Type 0
 HoldsAll held [] [] = Unit {0}
 HoldsAll held [] (content ∷ contents) = ⊥
 HoldsAll held (r ∷ rs) [] = ⊥
 HoldsAll held (r ∷ rs) (content ∷ contents) = Holds held r.name content × (length content ≤ r.limit) × HoldsAll held rs contents
 
 -- these are the contents of the files, where they are told
-abbrev pub AreContents : Told → List Reading → List (List ℕ) → Type 0
+abbrev pub AreContents : Told → List FileView → List (List ℕ) → Type 0
 AreContents held [] [] = Unit {0}
 AreContents held [] (content ∷ contents) = ⊥
 AreContents held (r ∷ rs) [] = ⊥
 AreContents held (r ∷ rs) (content ∷ contents) = IsContent r held content × AreContents held rs contents
 
 -- this is one of the files, and those before it have contents that are as short as they have to be
-abbrev pub ComesToRead : Told → List Reading → Reading → Type 0
+abbrev pub ComesToRead : Told → List FileView → FileView → Type 0
 ComesToRead held [] r = ⊥
 ComesToRead held (x ∷ xs) r = (r ≡ x) ⊎ ((content : List ℕ) × IsContent x held content × ComesToRead held xs r)
 
 -- the same of files that are told
-abbrev pub HoldsUpTo : Told → List Reading → Reading → Type 0
+abbrev pub HoldsUpTo : Told → List FileView → FileView → Type 0
 HoldsUpTo held [] r = ⊥
 HoldsUpTo held (x ∷ xs) r = (r ≡ x) ⊎ ((content : List ℕ) × Holds held x.name content × (length content ≤ x.limit) × HoldsUpTo held xs r)
 
 -- one of these files couldn't be read, after those before it were
-abbrev pub OneReadFailed : List Reading → FilesAt → FilesAt → Type 0
-OneReadFailed rs before now = (r : Reading) × ComesToRead before.held rs r × ReadFailed r.name before now
+abbrev pub OneReadFailed : List FileView → FilesAt → FilesAt → Type 0
+OneReadFailed rs before now = (r : FileView) × ComesToRead before.held rs r × ReadFailed r.name before now
 
-abbrev pub IsAmong : Reading → List Reading → Type 0
+abbrev IsAmong : FileView → List FileView → Type 0
 IsAmong r [] = ⊥
 IsAmong r (x ∷ xs) = (r ≡ x) ⊎ IsAmong r xs
 
 -- the failed names are those that they were, or the name of one of these files was added
-abbrev pub GrewByOneOf : List Reading → FilesAt → FilesAt → Type 0
-GrewByOneOf rs before now = (now.failed ≡ before.failed) ⊎ ((r : Reading) × IsAmong r rs × (now.failed ≡ before.failed ++ r.name ∷ []))
+abbrev pub GrewByOneOf : List FileView → FilesAt → FilesAt → Type 0
+GrewByOneOf rs before now = (now.failed ≡ before.failed) ⊎ ((r : FileView) × IsAmong r rs × (now.failed ≡ before.failed ++ r.name ∷ []))

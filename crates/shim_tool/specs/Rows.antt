@@ -19,7 +19,7 @@ use Rattle.shim_answers.specs.Deeds.{Deed}
 use Rattle.shim_answers.specs.Answer.{Answer, AnswersProgram, IsNoSource, IsRefusal}
 use Rattle.shim_answers.specs.DeedEnds.{EndsBy, IsReached, IsReachedWithin, IsShown, IsShownAt, IsStoppedBy, IsTextBy, status_by}
 use Rattle.shim_tool.specs.Moments.{FilesAt, SinkAt}
-use Rattle.shim_tool.specs.Modes.{Reading, deed_of, execution, executions, input_in, inputs_in, journal_in, reads_of, source_text, IsBatch, IsExecution}
+use Rattle.shim_tool.specs.Modes.{FileView, deed_of, execution, executions, input_in, inputs_in, journal_in, reads_of, source_text, IsBatch, IsExecution}
 use Rattle.shim_tool.specs.Reads.{AreContents, ComesToRead, Holds, HoldsAll, HoldsUpTo, IsTooLong, OneReadFailed, ReadFailed}
 use Rattle.shim_tool.specs.Answer.{MayAnswer, FailedGrew, usage_line, failed_line, longer_line, memory_line}
 
@@ -121,14 +121,14 @@ pub record RefusedRow (ask : Option Job) (before now : FilesAt) (out_before out_
 
 -- why a file line is written: those before it were read, and a read of the file failed in this call, or it is too long
 abbrev pub FileCause : Option Job → FilesAt → FilesAt → SinkAt → SinkAt → Type 0
-FileCause ask before now out_before out_now = (job : Job) × (r : Reading) × (ask ≡ Some job) × ComesToRead before.held (reads_of job) r ×
+FileCause ask before now out_before out_now = (job : Job) × (r : FileView) × (ask ≡ Some job) × ComesToRead before.held (reads_of job) r ×
     ((ReadFailed r.name before now × (out_now.taken ≡ then_bytes out_before.taken (failed_line r.name)))
     ⊎ ((now.failed ≡ before.failed) × IsTooLong r before.held × (out_now.taken ≡ then_bytes out_before.taken (longer_line r.name r.limit))))
 
 -- 6: failed, only where a read of a file that the job reads failed in this call; too long, exactly where such a file, with those before it read, has more bytes than it may have
 pub record FileRow (ask : Option Job) (before now : FilesAt) (out_before out_now : SinkAt) (result : ℕ) : Type 0 where
   pub only : result ≡ 6 → FileCause ask before now out_before out_now
-  pub when : (job : Job) (r : Reading) (bytes : List ℕ) → ask ≡ Some job → HoldsUpTo before.held (reads_of job) r → Holds before.held r.name bytes → r.limit < length bytes
+  pub when : (job : Job) (r : FileView) (bytes : List ℕ) → ask ≡ Some job → HoldsUpTo before.held (reads_of job) r → Holds before.held r.name bytes → r.limit < length bytes
       → ComesUnlessUnread 6 (longer_line r.name r.limit) job before now out_before out_now result
 
 -- the journal of a job is to be replayed, and is refused with this line

@@ -8,7 +8,7 @@ use Rattle.shim_tool.specs.declared.files.FilesRead.{FilesRead}
 use Rattle.shim_tool.specs.declared.files.FilesRead.TheVariants.{All, Failed, TooLong}
 use Rattle.shim_tool.specs.declared.files.Found.{Found}
 use Rattle.shim_tool.specs.declared.files.Found.TheVariants.{Unread, Longer, Whole}
-use Rattle.shim_tool.specs.Modes.{Reading}
+use Rattle.shim_tool.specs.Modes.{FileView}
 use Rattle.shim_tool.specs.Reads.{Saw, Seen, all, longer, longer_file, unread, unread_file, whole}
 
 abbrev pub found_view : Found → Seen
@@ -20,7 +20,7 @@ abbrev pub seen_of : Got → Seen
 seen_of (GotWhole bytes) = whole bytes
 seen_of GotLonger = longer
 
-abbrev pub reading_view : FileToRead → Reading
+abbrev pub reading_view : FileToRead → FileView
 reading_view file = record { name = file.name.now; limit = file.limit }
 
 abbrev pub read_view : FilesRead → Saw

@@ -6,7 +6,7 @@ ghost use Rattle.shim_tool.specs.Answer as answers;
 ghost use Rattle.shim_tool.specs.Call.{Ran, Writes};
 ghost use Rattle.shim_answers.specs.RunEnds.{IsDone, IsFailed, IsBlocked};
 ghost use Rattle.shim_tool.specs.Rows.{EndRow, SpentRow, CountRow, BeginningRow, BatchRow, WordsRow, RefusedRow, FileRow, SinkRow, MemoryRow, JournalRow, FilesRow, IsComplete};
-ghost use Rattle.shim_answers.specs.AnswerView.{code_of};
+ghost use Rattle.shim_answers.specs.AnswerView.{exit_code};
 ghost use Rattle.shim_answers.specs.Views.{answer_view};
 
 use crate::prepared::{Prepared, prepare};
@@ -44,7 +44,7 @@ fn answer<F: Files, G: Gate, R: Threads + Wait + Sync>(
 // Writes an answer, and gives the status that stands then.
 fn written<K: Sink>(out: &mut K, status: ExitStatus, text: &[u8]) -> u8
     ensures { Writes (sink_at K.taken K.faults out.old) (sink_at K.taken K.faults out.new)
-        (record { status = code_of status; text = text.now }) result }
+        (record { status = exit_code status; text = text.now }) result }
 {
     match write_all(out, text) {
         Ok(()) => status.code(),

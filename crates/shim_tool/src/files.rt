@@ -216,7 +216,7 @@ pub(crate) struct Contents {
 
 // Takes off the first of the contents; a file that wasn't there to be read is as an empty one.
 fn take_first(alloc: Global, contents: &mut Vec<List<u8>>) -> List<u8>
-    ensures first { result ≡ modes.first contents.old.items }
+    ensures first { result ≡ modes.first_content contents.old.items }
     ensures rest { contents.new.items ≡ modes.contents_behind contents.old.items }
 {
     if contents.is_empty() {
@@ -267,7 +267,7 @@ fn beside_of(alloc: Global, beside: Extra, job: &Job, mut contents: Vec<List<u8>
 /// The contents that were read for a job, by what they are: its source comes first, and then what the
 /// mode reads beside it.
 pub(crate) fn contents_of(alloc: Global, job: &Job, contents: List<List<u8>>) -> Contents
-    ensures source { result.source ≡ modes.first contents }
+    ensures source { result.source ≡ modes.first_content contents }
     ensures beside { beside_view result.beside ≡ modes.beside_in job.now contents }
 {
     let mut rest = contents.into_vec();

@@ -6,7 +6,7 @@ ghost use Rattle.shim_tool.specs.Moments.{files_at, KeepsFiles};
 ghost use Rattle.shim_command.specs.Modes.{row_of};
 ghost use Rattle.shim_command.specs.declared.mode.Origin.TheVariants as origins;
 ghost use Rattle.shim_command.specs.declared.mode.Task.TheVariants as tasks;
-ghost use Rattle.shim_tool.specs.Modes.{first, journal_in, made_text, reads_of, text_from};
+ghost use Rattle.shim_tool.specs.Modes.{first_content, journal_in, made_text, reads_of, text_from};
 ghost use Rattle.shim_tool.specs.Views.{beside_view};
 ghost use Rattle.shim_tool.specs.Reads.{GrewByOneOf, all};
 ghost use Rattle.shim_tool.specs.Answer.{FailedGrew};
@@ -173,7 +173,7 @@ fn source_of(alloc: Global, job: &Job, first: List<u8>) -> Result<List<u8>, NoMe
 // Goes on with the contents of all files of a job.
 fn prepare_contents(alloc: Global, job: Job, contents: List<List<u8>>) -> Result<Prepared, NoMemory>
     requires within { IsWithin job }
-    requires short { (row_of job.mode).origin ≡ origins.Stored → length (first contents) ≤ 1048576 }
+    requires short { (row_of job.mode).origin ≡ origins.Stored → length (first_content contents) ≤ 1048576 }
     requires few { length (journal_in job contents) ≤ 67108864 }
     ensures { IfOk result (λ p. prepares.PreparesSaw job (all contents) (prepared_view p)) }
 {

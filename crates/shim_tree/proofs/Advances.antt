@@ -9,10 +9,10 @@ use Rattle.shim_local.specs.Laws.{LocalLaws, by_quiet}
 use Rattle.shim_local.specs.Quiets.{QuietSteps}
 use Rattle.shim_local.proofs.Quiets.{first_quiet}
 use Rattle.shim_semantics.specs.Nodes.{Node, Nodes, Live, Forked, Ended, Dead, no_node, node_and, state}
-use Rattle.shim_semantics.specs.Acts.{Acted, nothing, act, act_child, act_live, within, in_front, behind}
+use Rattle.shim_semantics.specs.Acts.{Acted, nothing, act, act_child, act_live, within, in_front, in_later}
 use Rattle.shim_semantics.specs.Places.{at, child_at, route, at_route, SoundBelow, SoundChildren}
-use Rattle.shim_semantics.specs.Trees.{Tree, Own, Steps, after, acts, count_own, is_its, act_route, same_kind, kind_of_stop}
-use Rattle.shim_semantics.specs.Systems.{run, go_on}
+use Rattle.shim_semantics.specs.Trees.{Tree, Own, Steps, after, acts, count_own, is_its, act_route, same_own_action, own_action_at}
+use Rattle.shim_semantics.specs.Systems.{run, on_some}
 use Rattle.shim_semantics.specs.Quiets.{ComesBy, Advances}
 use Rattle.shim_tree.specs.Advancing.{with_state, with_state_at, with_state_in, steps_taken}
 use Rattle.shim_base.proofs.Facts.{some_same, none_some}
@@ -90,7 +90,7 @@ module _ {S : Type 0} (o : Ops S) where
     steps_there_in : (l : S) (i : ℕ) (q : List ℕ) (ks : Nodes S) → child_at i q ks ≡ Some (Live l) → o.stop l ≡ AtQuiet → act_child o i q ks ≡ Some (with_state_in (o.quiet l) i q ks, nothing)
     steps_there_in l i q no_node e stop = none_some (Live l) e
     steps_there_in l zero q (node_and k ks) e stop = ap (in_front ks) (steps_there l q k e stop)
-    steps_there_in l (suc i) q (node_and k ks) e stop = ap (behind k) (steps_there_in l i q ks e stop)
+    steps_there_in l (suc i) q (node_and k ks) e stop = ap (in_later k) (steps_there_in l i q ks e stop)
 
   mutual
     -- what stands in a sound tree is sound by itself
@@ -122,7 +122,7 @@ module _ {S : Type 0} (o : Ops S) where
       let acted : acts o Steps p t.root ≡ Some a =
       (λ i. cond (is_its o Steps p (at_route t.root (r i))) (act_route o t.root (r i)) None)
       ∙ ((λ i. cond (is_its o Steps p (there i)) (act o q t.root) None)
-      ∙ ((λ i. cond (same_path (is i) p && same_kind Steps (kind_of_stop (stop i))) (steps_there l q t.root there stop i) None)
+      ∙ ((λ i. cond (same_path (is i) p && same_own_action Steps (own_action_at (stop i))) (steps_there l q t.root there stop i) None)
       ∙ ap (λ b. cond (b && true) (Some a) None) (same_path_refl p))) in
       ap (count_own p t) acted
       ∙ ap (λ z. let u : Tree S = record { root = a.node; output = z; histories = t.histories; logs = t.logs; counts = steps_taken t.counts p 1; events = t.events } in Some u) (append-nil t.output)
@@ -140,7 +140,7 @@ module _ {S : Type 0} (o : Ops S) where
         let moved = by_quiet at_quiet refl in
         let same = laws.moved_path l m sound moved in
         let u = moved_on t (with_state_at m q t.root) (steps_taken t.counts p 1) in
-        ap (go_on (run (after o) (replicate n (Own p)))) (one_step t p q l r there is at_quiet)
+        ap (on_some (run (after o) (replicate n (Own p)))) (one_step t p q l r there is at_quiet)
         ∙ (steps_run n m last u p q first.1 (ap (λ z. route z p) (path_with m l q t.root there same) ∙ r) (there_with m l q t.root there) (same ∙ is) (laws.moved_sound l m sound moved)
         ∙ ap (λ z. Some (moved_on t z (steps_taken t.counts p (suc n)))) (with_twice last m q t.root))
 

@@ -5,7 +5,7 @@ use Rattle.std.specs.declared.alloc.Global.{Global}
 use Rattle.shim_local.specs.Process.{Ops, AtFork, Parted}
 use Rattle.shim_semantics.specs.Nodes as model
 use Rattle.shim_semantics.specs.Nodes.{state, states, all_done, prevailing_death}
-use Rattle.shim_semantics.specs.Acts.{Effects, Acted, nothing, act, act_child, act_here, act_live, parted, closed, within, in_front, behind}
+use Rattle.shim_semantics.specs.Acts.{Effects, Acted, nothing, act, act_child, act_here, act_live, parted, closed, within, in_front, in_later}
 use Rattle.shim_semantics.specs.Places.{SoundBelow, SoundChildren}
 use Rattle.shim_tree.specs.declared.node_status.NodeStatus.{NodeStatus}
 use Rattle.shim_tree.specs.declared.node_status.NodeStatus.TheVariants as code
@@ -90,8 +90,8 @@ forked_acts o l b ls bs i q e h n = h (ap (act o (i ∷ q)) (at_forked l b ls bs
 pub child_there : {S : Type 0} (o : Ops S) (i : ℕ) (q : List ℕ) (ls : List S) (fs : List (S → model.Node S)) → (act_child o i q (together ls fs) ≡ None → ⊥) → i < length ls
 child_there o i q [] fs h = absurd (h refl)
 child_there o zero q (l ∷ ls) fs h = omega arith
-child_there o (suc i) q (l ∷ ls) [] h = let w = child_there o i q ls [] (λ e. h (ap (behind (model.Live l)) e)) in omega arith
-child_there o (suc i) q (l ∷ ls) (f ∷ fs) h = let w = child_there o i q ls fs (λ e. h (ap (behind (f l)) e)) in omega arith
+child_there o (suc i) q (l ∷ ls) [] h = let w = child_there o i q ls [] (λ e. h (ap (in_later (model.Live l)) e)) in omega arith
+child_there o (suc i) q (l ∷ ls) (f ∷ fs) h = let w = child_there o i q ls fs (λ e. h (ap (in_later (f l)) e)) in omega arith
 
 -- the place of a child that acts, after it was said of each child what came of it
 pub record Place {S : Type 0} (i : ℕ) (ls : List S) (bs bs' : List (NodeStatus S)) : Type 0 where
@@ -124,14 +124,14 @@ pub acts_none : {S : Type 0} (o : Ops S) (i : ℕ) (q : List ℕ) (ls : List S) 
 acts_none o i q [] bs l b h k e f n = refl
 acts_none o i q (m ∷ ls) [] l b h k e f n = absurd (omega arith)
 acts_none o zero q (m ∷ ls) (c ∷ bs) l b h k e f n = ap (in_front (together ls (nodes bs))) (ap (act o q) (λ t. node (sym e t) (sym f t)) ∙ n)
-acts_none o (suc i) q (m ∷ ls) (c ∷ bs) l b h k e f n = ap (behind (node m c)) (acts_none o i q ls bs l b (omega arith) (omega arith) e f n)
+acts_none o (suc i) q (m ∷ ls) (c ∷ bs) l b h k e f n = ap (in_later (node m c)) (acts_none o i q ls bs l b (omega arith) (omega arith) e f n)
 
 pub acts_some : {S : Type 0} (o : Ops S) (i : ℕ) (q : List ℕ) (ls : List S) (bs : List (NodeStatus S)) (l l' : S) (b b' : NodeStatus S) (x : Effects) → i < length ls → i < length bs → l ≡ get_or ls i l → b ≡ get_or bs i b
     → act o q (node l b) ≡ Some (record { node = node l' b'; effects = x }) → act_child o i q (together ls (nodes bs)) ≡ Some (together (slice_set ls i l') (nodes (slice_set bs i b')), x)
 acts_some o i q [] bs l l' b b' x h k e f n = absurd (omega arith)
 acts_some o i q (m ∷ ls) [] l l' b b' x h k e f n = absurd (omega arith)
 acts_some o zero q (m ∷ ls) (c ∷ bs) l l' b b' x h k e f n = ap (in_front (together ls (nodes bs))) (ap (act o q) (λ t. node (sym e t) (sym f t)) ∙ n)
-acts_some o (suc i) q (m ∷ ls) (c ∷ bs) l l' b b' x h k e f n = ap (behind (node m c)) (acts_some o i q ls bs l l' b b' x (omega arith) (omega arith) e f n)
+acts_some o (suc i) q (m ∷ ls) (c ∷ bs) l l' b b' x h k e f n = ap (in_later (node m c)) (acts_some o i q ls bs l l' b b' x (omega arith) (omega arith) e f n)
 
 pub acts_same : {S : Type 0} (i : ℕ) (ls : List S) (bs : List (NodeStatus S)) (l l' : S) (b b' : NodeStatus S) → i < length ls → i < length bs → l ≡ get_or ls i l → b ≡ get_or bs i b
     → node l' b' ≡ node l b → together (slice_set ls i l') (nodes (slice_set bs i b')) ≡ together ls (nodes bs)

@@ -10,7 +10,7 @@ use Rattle.std.specs.FinMap.Entries.{below_all}
 use Rattle.std.proofs.lemmas.Bool.{true≢false}
 use Rattle.shim_base.specs.Paths.{Path, path_order}
 use Rattle.shim_base.specs.PathLaws.{path_order_total, exact_path}
-use Rattle.shim_semantics.specs.Trees.{sum, count_of, one_more}
+use Rattle.shim_semantics.specs.Trees.{sum, count_of, with_step_counted}
 use Rattle.shim_tree.specs.Maps.{has_stepped}
 use Rattle.shim_semantics.specs.Endings.{own_steps}
 use Rattle.shim_tree.specs.Advancing.{stepped, HasCount, KeepsCounts, with_count, more_steps, steps_taken}
@@ -163,15 +163,15 @@ over_again : (b : Bool) (x y : ℕ) (z : Option ℕ) → cond b (Some x) (cond b
 over_again true x y z = refl
 over_again false x y z = refl
 
-count_more : (m : FinMap path_order ℕ) (p : Path) → count_of (one_more m p) p ≡ count_of m p + 1
+count_more : (m : FinMap path_order ℕ) (p : Path) → count_of (with_step_counted m p) p ≡ count_of m p + 1
 count_more m p = ap (λ x. unwrap_or x 0) (get-insert path_order_total m p (count_of m p + 1) p ∙ ap (λ b. cond b (Some (count_of m p + 1)) (get m p)) (itself p))
 
 get_taken : (n : ℕ) (m : FinMap path_order ℕ) (p q : Path) → get (steps_taken m p (suc n)) q ≡ cond (eq_by_cmp path_order q p) (Some (count_of m p + suc n)) (get m q)
 get_taken zero m p q = get-insert path_order_total m p (count_of m p + 1) q
 get_taken (suc n) m p q =
-    let next : count_of (one_more m p) p + suc n ≡ count_of m p + suc (suc n) = let w = count_more m p in omega (arith, w) in
-    get_taken n (one_more m p) p q
-    ∙ ap (cond (eq_by_cmp path_order q p) (Some (count_of (one_more m p) p + suc n))) (get-insert path_order_total m p (count_of m p + 1) q)
+    let next : count_of (with_step_counted m p) p + suc n ≡ count_of m p + suc (suc n) = let w = count_more m p in omega (arith, w) in
+    get_taken n (with_step_counted m p) p q
+    ∙ ap (cond (eq_by_cmp path_order q p) (Some (count_of (with_step_counted m p) p + suc n))) (get-insert path_order_total m p (count_of m p + 1) q)
     ∙ over_again (eq_by_cmp path_order q p) _ _ (get m q)
     ∙ ap (λ c. cond (eq_by_cmp path_order q p) (Some c) (get m q)) next
 

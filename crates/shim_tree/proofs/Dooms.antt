@@ -7,7 +7,7 @@ use Rattle.shim_local.specs.Process.{Ops}
 use Rattle.shim_semantics.specs.Nodes.{Nodes, no_node, node_and}
 use Rattle.shim_semantics.specs.Poison.{dooms, any_dooms, is_doomed}
 use Rattle.shim_tree.specs.NodeStatus.{node, nodes}
-use Rattle.shim_tree.specs.Beside.{place}
+use Rattle.shim_tree.specs.Beside.{nth_child}
 use Rattle.shim_tree.specs.declared.node_status.NodeStatus.{NodeStatus}
 use Rattle.shim_tree.specs.declared.node_status.NodeStatus.TheVariants as code
 use Rattle.shim_tree.proofs.Beside.{is_forked, from, from_next, from_end}
@@ -25,15 +25,15 @@ any_there false r x e h = absurd cc
 
 module _ {S : Type 0} (o : Ops S) (h : ℕ) (c : Channel) where
   module _ (i : ℕ) (ls : List S) (bs : List (NodeStatus S)) (l : S) (in_list : i < length ls) (there : l ≡ get_or ls i l) (x : Bool) (inv : any_dooms o h c (from i ls bs) ≡ x) where
-    dooms_from : (dooms o h c (place l (nodes bs) i) || any_dooms o h c (from (i + 1) ls bs)) ≡ x
+    dooms_from : (dooms o h c (nth_child l (nodes bs) i) || any_dooms o h c (from (i + 1) ls bs)) ≡ x
     dooms_from = sym (ap (any_dooms o h c) (from_next i ls bs l in_list there)) ∙ inv
 
     -- a child that dooms decides, and one that doesn't leaves it to the others
-    pub dooms_there : dooms o h c (place l (nodes bs) i) ≡ true → true ≡ x
-    dooms_there d = any_there (dooms o h c (place l (nodes bs) i)) (any_dooms o h c (from (i + 1) ls bs)) x dooms_from d
+    pub dooms_there : dooms o h c (nth_child l (nodes bs) i) ≡ true → true ≡ x
+    dooms_there d = any_there (dooms o h c (nth_child l (nodes bs) i)) (any_dooms o h c (from (i + 1) ls bs)) x dooms_from d
 
-    pub dooms_later : dooms o h c (place l (nodes bs) i) ≡ false → any_dooms o h c (from (i + 1) ls bs) ≡ x
-    dooms_later d = any_more (dooms o h c (place l (nodes bs) i)) (any_dooms o h c (from (i + 1) ls bs)) x dooms_from d
+    pub dooms_later : dooms o h c (nth_child l (nodes bs) i) ≡ false → any_dooms o h c (from (i + 1) ls bs) ≡ x
+    dooms_later d = any_more (dooms o h c (nth_child l (nodes bs) i)) (any_dooms o h c (from (i + 1) ls bs)) x dooms_from d
 
   -- all children, and so the fork
   pub any_is : (l : S) (b : NodeStatus S) (ls : Vec S Global) (bs : Vec (NodeStatus S) Global) → b ≡ code.Forked ls bs → any_dooms o h c (from 0 ls.items bs.items) ≡ dooms o h c (node l b)
@@ -86,7 +86,7 @@ pub same_dooms : (i a : ℕ) (d : Bool) → i ≡ a → not (eqb i a) ≡ (not (
 same_dooms i a d e = ap not (eq-eqb i a e) ∙ sym (ap (λ b. not b && d) (eq-eqb i a e))
 
 module _ {S : Type 0} (o : Ops S) (h : ℕ) (c : Channel) (i a : ℕ) (ls : List S) (bs : List (NodeStatus S)) (inv : doomed_from o h c i a (from i ls bs) ≡ doomed_from o h c 0 a (from 0 ls bs)) where
-  module _ (l : S) (in_list : i < length ls) (there : l ≡ get_or ls i l) (r : Bool) (is : r ≡ (not (eqb i a) && dooms o h c (place l (nodes bs) i))) where
+  module _ (l : S) (in_list : i < length ls) (there : l ≡ get_or ls i l) (r : Bool) (is : r ≡ (not (eqb i a) && dooms o h c (nth_child l (nodes bs) i))) where
     spoils_from : (r || doomed_from o h c (i + 1) a (from (i + 1) ls bs)) ≡ doomed_from o h c 0 a (from 0 ls bs)
     spoils_from = ap (λ z. z || doomed_from o h c (i + 1) a (from (i + 1) ls bs)) is ∙ (sym (ap (doomed_from o h c i a) (from_next i ls bs l in_list there)) ∙ inv)
 

@@ -5,8 +5,8 @@ use Rattle.shim_local.specs.Process.{Ops, StopView, AtQuiet, AtNext, AtPut, AtFo
 use Rattle.shim_semantics.specs.Nodes.{Node, Live, Forked, Ended, Dead, state, states, all_done, prevailing_death, ready, source, value_of}
 use Rattle.shim_semantics.specs.Acts.{Acted, act, act_here, act_live, closed}
 use Rattle.shim_semantics.specs.Poison.{poison_route, to_fork, last_branch}
-use Rattle.shim_semantics.specs.Places.{at, at_route, route, led_to, has_path, is_ready_at, meets}
-use Rattle.shim_semantics.specs.Trees.{Tree, Event, Own, Meet, Poison, Close, End, Kind, Steps, Ends, Closes, Nothing, kind_of, kind_of_stop, same_kind, is_its, act_route, acts, count_own, count_event, change_nodes, poisons, met, after}
+use Rattle.shim_semantics.specs.Places.{at, at_route, route, led_to, has_path, home_is_ready, meets}
+use Rattle.shim_semantics.specs.Trees.{Tree, Event, Own, Meet, Poison, Close, End, OwnAction, Steps, Ends, Closes, Nothing, own_action_of, own_action_at, same_own_action, is_its, act_route, acts, count_own, count_event, change_nodes, poisons, met, after}
 use Rattle.shim_semantics.proofs.Routes.{acts_at, act_of}
 use Rattle.shim_semantics.proofs.PoisonsListed.{poisons_at, poison_of}
 use Rattle.shim_tree.specs.ChildCounts.{live_in}
@@ -21,15 +21,15 @@ no_none : {A : Type 0} (x : Option A) (y : A) → x ≡ Some y → x ≡ None �
 no_none x y e n = none_some y (sym n ∙ e)
 
 -- where nobody lives, nobody does what a live process does
-module _ {S : Type 0} (o : Ops S) (k : Kind) (closes : same_kind k Closes ≡ false) (nothing : same_kind k Nothing ≡ false) where
+module _ {S : Type 0} (o : Ops S) (k : OwnAction) (closes : same_own_action k Closes ≡ false) (nothing : same_own_action k Nothing ≡ false) where
   other_does : (n : Node S) → live_in (Some n) ≡ None → can_do o k n ≡ false
   other_does (Live l) e = none_some l (sym e)
   other_does (Forked l ks) e = closes
   other_does (Ended l) e = nothing
   other_does (Dead l d) e = nothing
 
-  live_does : (n : Node S) (l : S) → live_in (Some n) ≡ Some l → can_do o k n ≡ same_kind k (kind_of_stop (o.stop l))
-  live_does (Live m) l e = ap (λ z. same_kind k (kind_of_stop (o.stop z))) (some_same m l e)
+  live_does : (n : Node S) (l : S) → live_in (Some n) ≡ Some l → can_do o k n ≡ same_own_action k (own_action_at (o.stop l))
+  live_does (Live m) l e = ap (λ z. same_own_action k (own_action_at (o.stop z))) (some_same m l e)
   live_does (Forked m ks) l e = none_some l e
   live_does (Ended m) l e = none_some l e
   live_does (Dead m d) l e = none_some l e
@@ -38,7 +38,7 @@ module _ {S : Type 0} (o : Ops S) (k : Kind) (closes : same_kind k Closes ≡ fa
   pub nobody_can : (x : Option (Node S)) (n : Node S) → Some n ≡ x → None ≡ live_in (Some n) → false ≡ passes_there (can_do o k) x
   nobody_can x n is e = sym (ap (passes_there (can_do o k)) (sym is) ∙ other_does n (sym e))
 
-  pub somebody_can : (x : Option (Node S)) (n : Node S) (l : S) (r : Bool) → Some n ≡ x → Some l ≡ live_in (Some n) → r ≡ same_kind k (kind_of_stop (o.stop l)) → r ≡ passes_there (can_do o k) x
+  pub somebody_can : (x : Option (Node S)) (n : Node S) (l : S) (r : Bool) → Some n ≡ x → Some l ≡ live_in (Some n) → r ≡ same_own_action k (own_action_at (o.stop l)) → r ≡ passes_there (can_do o k) x
   somebody_can x n l r is e f = f ∙ sym (ap (passes_there (can_do o k)) (sym is) ∙ live_does n l (sym e))
 
 module _ {S : Type 0} (o : Ops S) (root : Node S) (p : Path) where
@@ -47,15 +47,15 @@ module _ {S : Type 0} (o : Ops S) (root : Node S) (p : Path) where
   parts f true n e = (refl, e)
   parts f false n e = absurd cc
 
-  module _ (k : Kind) (f : Node S → Bool) where
-    module _ (can : (n : Node S) → f n ≡ true → (same_kind k (kind_of o n) ≡ true) × (a : Acted S) × (act_here o n ≡ Some a)) where
+  module _ (k : OwnAction) (f : Node S → Bool) where
+    module _ (can : (n : Node S) → f n ≡ true → (same_own_action k (own_action_of o n) ≡ true) × (a : Acted S) × (act_here o n ≡ Some a)) where
       from_node : (q : List ℕ) (x : Option (Node S)) → at q root ≡ x → passes_there f (if_its o p x) ≡ true → (a : Acted S) × (cond (is_its o k p (at q root)) (act o q root) None ≡ Some a)
       from_node q None h e = absurd cc
       from_node q (Some n) h e =
           let w = parts f (same_path (o.path (state n)) p) n e in
           let i = can n w.1 in
           let y = act_of o q root n i.1 h i.2 in
-          (y.0, ap (λ z. cond (is_its o k p z) (act o q root) None) h ∙ (ap (λ b. cond b (act o q root) None) (both_hold (same_path (o.path (state n)) p) (same_kind k (kind_of o n)) w.0 i.0) ∙ y.1))
+          (y.0, ap (λ z. cond (is_its o k p z) (act o q root) None) h ∙ (ap (λ b. cond b (act o q root) None) (both_hold (same_path (o.path (state n)) p) (same_own_action k (own_action_of o n)) w.0 i.0) ∙ y.1))
 
       from_route : (r : Option (List ℕ)) → passes_there f (if_its o p (at_route root r)) ≡ true → (a : Acted S) × (cond (is_its o k p (at_route root r)) (act_route o root r) None ≡ Some a)
       from_route None e = absurd cc
@@ -64,16 +64,16 @@ module _ {S : Type 0} (o : Ops S) (root : Node S) (p : Path) where
       acts_where : passes_there f (its_node o root p) ≡ true → (a : Acted S) × (acts o k p root ≡ Some a)
       acts_where = from_route (route (o.path (state root)) p)
 
-    module _ (does : (n : Node S) (a : Acted S) → same_kind k (kind_of o n) ≡ true → act_here o n ≡ Some a → f n ≡ true) where
+    module _ (does : (n : Node S) (a : Acted S) → same_own_action k (own_action_of o n) ≡ true → act_here o n ≡ Some a → f n ≡ true) where
       to_route : (r : Option (List ℕ)) (a : Acted S) → cond (is_its o k p (at_route root r)) (act_route o root r) None ≡ Some a → passes_there f (if_its o p (at_route root r)) ≡ true
       to_route None a e = none_some a e
       to_route (Some q) a e =
           let w = chosen (is_its o k p (at q root)) (act o q root) a e in
           let y = acts_at o q root a w.1 in
-          let its : same_path (o.path (state y.node)) p && same_kind k (kind_of o y.node) ≡ true = ap (is_its o k p) (sym y.there) ∙ w.0 in
+          let its : same_path (o.path (state y.node)) p && same_own_action k (own_action_of o y.node) ≡ true = ap (is_its o k p) (sym y.there) ∙ w.0 in
           ap (λ z. passes_there f (if_its o p z)) y.there
-          ∙ (ap (λ b. passes_there f (cond b (Some y.node) None)) (first_holds (same_path (o.path (state y.node)) p) (same_kind k (kind_of o y.node)) its)
-          ∙ does y.node y.acted (second_holds (same_path (o.path (state y.node)) p) (same_kind k (kind_of o y.node)) its) y.acts)
+          ∙ (ap (λ b. passes_there f (cond b (Some y.node) None)) (first_holds (same_path (o.path (state y.node)) p) (same_own_action k (own_action_of o y.node)) its)
+          ∙ does y.node y.acted (second_holds (same_path (o.path (state y.node)) p) (same_own_action k (own_action_of o y.node)) its) y.acts)
 
       where_acts : (a : Acted S) → acts o k p root ≡ Some a → passes_there f (its_node o root p) ≡ true
       where_acts = to_route (route (o.path (state root)) p)
@@ -81,7 +81,7 @@ module _ {S : Type 0} (o : Ops S) (root : Node S) (p : Path) where
 module _ {S : Type 0} (o : Ops S) where
   -- ---- what a process does by itself
 
-  live_steps : (l : S) (s : StopView) → same_kind Steps (kind_of_stop s) ≡ true → (a : Acted S) × (act_live o l s ≡ Some a)
+  live_steps : (l : S) (s : StopView) → same_own_action Steps (own_action_at s) ≡ true → (a : Acted S) × (act_live o l s ≡ Some a)
   live_steps l AtQuiet e = (_, refl)
   live_steps l AtPut e = (_, refl)
   live_steps l AtFork e = (_, refl)
@@ -90,7 +90,7 @@ module _ {S : Type 0} (o : Ops S) where
   live_steps l (AtThrow label) e = (_, refl)
   live_steps l (AtTrap kind line) e = (_, refl)
 
-  live_ends : (l : S) (s : StopView) → same_kind Ends (kind_of_stop s) ≡ true → (a : Acted S) × (act_live o l s ≡ Some a)
+  live_ends : (l : S) (s : StopView) → same_own_action Ends (own_action_at s) ≡ true → (a : Acted S) × (act_live o l s ≡ Some a)
   live_ends l AtQuiet e = absurd cc
   live_ends l AtPut e = absurd cc
   live_ends l AtFork e = absurd cc
@@ -99,7 +99,7 @@ module _ {S : Type 0} (o : Ops S) where
   live_ends l (AtThrow label) e = absurd cc
   live_ends l (AtTrap kind line) e = absurd cc
 
-  none_closes : (s : StopView) → same_kind Closes (kind_of_stop s) ≡ true → ⊥
+  none_closes : (s : StopView) → same_own_action Closes (own_action_at s) ≡ true → ⊥
   none_closes AtQuiet e = absurd cc
   none_closes AtPut e = absurd cc
   none_closes AtFork e = absurd cc
@@ -108,19 +108,19 @@ module _ {S : Type 0} (o : Ops S) where
   none_closes (AtThrow label) e = absurd cc
   none_closes (AtTrap kind line) e = absurd cc
 
-  steps : (n : Node S) → can_do o Steps n ≡ true → (same_kind Steps (kind_of o n) ≡ true) × (a : Acted S) × (act_here o n ≡ Some a)
+  steps : (n : Node S) → can_do o Steps n ≡ true → (same_own_action Steps (own_action_of o n) ≡ true) × (a : Acted S) × (act_here o n ≡ Some a)
   steps (Live l) e = let w = live_steps l (o.stop l) e in (e, w.0, w.1)
   steps (Forked l ks) e = absurd cc
   steps (Ended l) e = absurd cc
   steps (Dead l d) e = absurd cc
 
-  ends : (n : Node S) → can_do o Ends n ≡ true → (same_kind Ends (kind_of o n) ≡ true) × (a : Acted S) × (act_here o n ≡ Some a)
+  ends : (n : Node S) → can_do o Ends n ≡ true → (same_own_action Ends (own_action_of o n) ≡ true) × (a : Acted S) × (act_here o n ≡ Some a)
   ends (Live l) e = let w = live_ends l (o.stop l) e in (e, w.0, w.1)
   ends (Forked l ks) e = absurd cc
   ends (Ended l) e = absurd cc
   ends (Dead l d) e = absurd cc
 
-  closes : (n : Node S) → can_close n ≡ true → (same_kind Closes (kind_of o n) ≡ true) × (a : Acted S) × (act_here o n ≡ Some a)
+  closes : (n : Node S) → can_close n ≡ true → (same_own_action Closes (own_action_of o n) ≡ true) × (a : Acted S) × (act_here o n ≡ Some a)
   closes (Live l) e = absurd cc
   closes (Forked l ks) e =
       let a : Acted S = closed o l (states ks) (prevailing_death ks) in
@@ -128,7 +128,7 @@ module _ {S : Type 0} (o : Ops S) where
   closes (Ended l) e = absurd cc
   closes (Dead l d) e = absurd cc
 
-  can_close_where : (n : Node S) (a : Acted S) → same_kind Closes (kind_of o n) ≡ true → act_here o n ≡ Some a → can_close n ≡ true
+  can_close_where : (n : Node S) (a : Acted S) → same_own_action Closes (own_action_of o n) ≡ true → act_here o n ≡ Some a → can_close n ≡ true
   can_close_where (Live l) a e h = absurd (none_closes (o.stop l) e)
   can_close_where (Forked l ks) a e h = (chosen (all_done ks) _ a h).0
   can_close_where (Ended l) a e h = absurd cc
@@ -136,7 +136,7 @@ module _ {S : Type 0} (o : Ops S) where
 
   -- ---- meetings
 
-  meets_is : (c : Channel) (x : Option (Node S)) → is_ready_at o c x ≡ passes_there (ready o c) (if_its o c.home x)
+  meets_is : (c : Channel) (x : Option (Node S)) → home_is_ready o c x ≡ passes_there (ready o c) (if_its o c.home x)
   meets_is c None = refl
   meets_is c (Some n) = both_ways (same_path (o.path (state n)) c.home) (ready o c n) n refl
     where

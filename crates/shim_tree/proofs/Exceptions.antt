@@ -13,7 +13,7 @@ use Rattle.shim_tree.specs.declared.node_status.NodeStatus.TheOpen as open_below
 use Rattle.shim_tree.specs.declared.node_status.NodeStatus.TheFolds.{fold-roll-NodeStatus}
 use Rattle.shim_tree.specs.NodeStatus.{node, nodes, node_step, together}
 use Rattle.shim_tree.specs.Labels.{ThrowLeaves}
-use Rattle.shim_tree.specs.Acting.{ActsHere}
+use Rattle.shim_tree.specs.Acting.{ActsAtNode}
 use Rattle.shim_tree.proofs.Children.{node_live, at_forked, states_together, close_acts}
 use Rattle.shim_tree.proofs.Labels.{each_sound, label_in_force}
 
@@ -21,17 +21,17 @@ pub node_dead : {S : Type 0} (l : S) (x : Death) → node l (code.Dead x) ≡ mo
 node_dead {S} l x = ap (node l) (sym (code.rolls-Dead x)) ∙ ap (λ f. f l) (fold-roll-NodeStatus S (S → model.Node S) node_step (open_below.Dead x))
 
 -- a live process throws
-pub throw_acts : {S : Type 0} (o : Ops S) (l : S) (b : NodeStatus S) (x : ℕ) (effects : Effects) (after : model.Node S) → b ≡ code.Live → o.stop l ≡ AtThrow x → throwing o l x (o.number l) ≡ record { node = after; effects = effects } → ActsHere o (node l b) effects after
+pub throw_acts : {S : Type 0} (o : Ops S) (l : S) (b : NodeStatus S) (x : ℕ) (effects : Effects) (after : model.Node S) → b ≡ code.Live → o.stop l ≡ AtThrow x → throwing o l x (o.number l) ≡ record { node = after; effects = effects } → ActsAtNode o (node l b) effects after
 throw_acts o l b x effects after e s leaves = ap (act_here o) (ap (node l) e ∙ node_live l) ∙ (ap (act_live o l) s ∙ ap Some leaves)
 
 -- or stands trapped
-pub trap_acts : {S : Type 0} (o : Ops S) (l : S) (b : NodeStatus S) (kind : Trap) (line : ℕ) → b ≡ code.Live → o.stop l ≡ AtTrap kind line → ActsHere o (node l b) (trapping kind line) (node l (code.Dead (death_with 0 (pos 0))))
+pub trap_acts : {S : Type 0} (o : Ops S) (l : S) (b : NodeStatus S) (kind : Trap) (line : ℕ) → b ≡ code.Live → o.stop l ≡ AtTrap kind line → ActsAtNode o (node l b) (trapping kind line) (node l (code.Dead (death_with 0 (pos 0))))
 trap_acts {S} o l b kind line e s =
     ap (act_here o) (ap (node l) e ∙ node_live l) ∙ (ap (act_live o l) s
     ∙ ap (λ z. let r : Acted S = record { node = z; effects = trapping kind line } in Some r) (sym (node_dead l (death_with 0 (pos 0)))))
 
 -- or puts
-pub put_acts : {S : Type 0} (o : Ops S) (l m : S) (b : NodeStatus S) (effects : Effects) → b ≡ code.Live → o.stop l ≡ AtPut → effects ≡ putting (o.byte l) → m ≡ o.put l → ActsHere o (node l b) effects (node m b)
+pub put_acts : {S : Type 0} (o : Ops S) (l m : S) (b : NodeStatus S) (effects : Effects) → b ≡ code.Live → o.stop l ≡ AtPut → effects ≡ putting (o.byte l) → m ≡ o.put l → ActsAtNode o (node l b) effects (node m b)
 put_acts {S} o l m b effects e s told there =
     ap (act_here o) (ap (node l) e ∙ node_live l) ∙ (ap (act_live o l) s
     ∙ sym ((λ t. let r : Acted S = record { node = (ap (node m) e ∙ node_live m) t; effects = told t } in Some r)
@@ -52,12 +52,12 @@ module _ {S : Type 0} (o : Ops S) (l m : S) (b : NodeStatus S) (ls : _) (bs : _)
   after_join : (label' : Option Death) → label ≡ label' → m ≡ o.join l ls.items (is_none label')
   after_join label' e = joined ∙ λ t. o.join l (states_are t) (is_none (e t))
 
-  pub close_goes_on : (act_here o (node l b) ≡ None → ⊥) → label ≡ None → ActsHere o (node l b) nothing (node m code.Live)
+  pub close_goes_on : (act_here o (node l b) ≡ None → ⊥) → label ≡ None → ActsAtNode o (node l b) nothing (node m code.Live)
   close_goes_on acts none =
       close_acts o l b ls bs is acts ∙ (ap (λ z. Some (closed o l ls.items z)) (sym death_found ∙ none)
       ∙ ap (λ z. let r : Acted S = record { node = z; effects = nothing } in Some r) (sym (node_live m ∙ ap model.Live (after_join None none))))
 
-  pub close_throws : (x : Death) (effects : Effects) (after : model.Node S) → (act_here o (node l b) ≡ None → ⊥) → label ≡ Some x → ThrowLeaves o m x effects after → ActsHere o (node l b) effects after
+  pub close_throws : (x : Death) (effects : Effects) (after : model.Node S) → (act_here o (node l b) ≡ None → ⊥) → label ≡ Some x → ThrowLeaves o m x effects after → ActsAtNode o (node l b) effects after
   close_throws x effects after acts some leaves =
       close_acts o l b ls bs is acts ∙ (ap (λ z. Some (closed o l ls.items z)) (sym death_found ∙ some)
       ∙ (ap (λ z. Some (thrown o z x)) (sym (after_join (Some x) some)) ∙ ap Some leaves))

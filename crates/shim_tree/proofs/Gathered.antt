@@ -8,7 +8,7 @@ use Rattle.shim_base.specs.PathLaws.{path_order_total, exact_path}
 use Rattle.shim_local.specs.Process.{Ops}
 use Rattle.shim_local.specs.declared.Outcome.TheVariants.{Blocked}
 use Rattle.shim_semantics.specs.Nodes as model
-use Rattle.shim_semantics.specs.Nodes.{next_of}
+use Rattle.shim_semantics.specs.Nodes.{next_channel}
 use Rattle.shim_semantics.specs.Endings.{wait_of, wait_at, waits_of, waiting, all_waiting, outcome_of_root, outcome_of_label}
 use Rattle.shim_tree.specs.NodeStatus.{together, node, nodes, node_step}
 use Rattle.shim_run_log.specs.Waits.{with_wait, with_waits}
@@ -118,7 +118,7 @@ module _ {S : Type 0} (o : Ops S) where
   gathered_alone m m' zero (n ∷ ls) l h e is = gathered m m' (model.Live l) (model.Live n) (together ls []) (ap model.Live e) is
   gathered_alone m m' (suc i) (n ∷ ls) l h e is = gathered_alone m m' i ls l (omega arith) e is
 
-  live_gathered : (m m' : FinMap path_order NamedChannel) (i : ℕ) (ls : List S) (bs : List (NodeStatus S)) (l : S) → i < length ls → length bs ≤ i → l ≡ get_or ls i l → m' ≡ with_waits m (wait_of (o.path l) (next_of (o.stop l)))
+  live_gathered : (m m' : FinMap path_order NamedChannel) (i : ℕ) (ls : List S) (bs : List (NodeStatus S)) (l : S) → i < length ls → length bs ≤ i → l ≡ get_or ls i l → m' ≡ with_waits m (wait_of (o.path l) (next_channel (o.stop l)))
       → with_waits m' (all_waiting o (together (drop (suc i) ls) (nodes (drop (suc i) bs)))) ≡ with_waits m (all_waiting o (together (drop i ls) (nodes (drop i bs))))
   live_gathered m m' i ls bs l h k e is =
       ap (λ z. with_waits m' (all_waiting o (together (drop (suc i) ls) (nodes z)))) (drop_past bs (suc i) (omega arith))
@@ -131,7 +131,7 @@ module _ {S : Type 0} (o : Ops S) where
       let next : i + 1 ≡ suc i = omega arith in
       ap (λ z. with_waits m' (all_waiting o (together (drop z ls) (nodes (drop z bs))))) next ∙ child_gathered m m' i ls bs l b h k e f (new ∙ is) ∙ so_far
 
-  pub gathered_live : (m m' added w : FinMap path_order NamedChannel) (i : ℕ) (ls : List S) (bs : List (NodeStatus S)) (l : S) → i < length ls → length bs ≤ i → l ≡ get_or ls i l → m' ≡ added → added ≡ with_waits m (wait_of (o.path l) (next_of (o.stop l)))
+  pub gathered_live : (m m' added w : FinMap path_order NamedChannel) (i : ℕ) (ls : List S) (bs : List (NodeStatus S)) (l : S) → i < length ls → length bs ≤ i → l ≡ get_or ls i l → m' ≡ added → added ≡ with_waits m (wait_of (o.path l) (next_channel (o.stop l)))
       → with_waits m (all_waiting o (together (drop i ls) (nodes (drop i bs)))) ≡ w → with_waits m' (all_waiting o (together (drop (i + 1) ls) (nodes (drop (i + 1) bs)))) ≡ w
   gathered_live m m' added w i ls bs l h k e new is so_far =
       let next : i + 1 ≡ suc i = omega arith in

@@ -11,7 +11,7 @@ use Rattle.shim_local.specs.declared.LogWhat.{LogWhat}
 use Rattle.shim_semantics.specs.Nodes.{Node, Live, state}
 use Rattle.shim_semantics.specs.Acts.{nothing}
 use Rattle.shim_semantics.specs.Places.{route, led_to, has_path}
-use Rattle.shim_semantics.specs.Trees.{Tree, start, with_logs, count_own, acts, Kind, is_its, act_route, count_of, sum}
+use Rattle.shim_semantics.specs.Trees.{Tree, start, with_logs, count_own, acts, OwnAction, is_its, act_route, count_of, sum}
 use Rattle.shim_tree.specs.Acting.{effects_of, acted_on, ActsOn}
 use Rattle.shim_tree.specs.Advancing.{stepped, HasCount, AllHaveCounts, KeepsCounts, with_count, more_steps}
 use Rattle.shim_semantics.specs.Sound.{IsSound}
@@ -75,7 +75,7 @@ few_counted m p counts e few =
     omega (arith, few_steps m p, same, few)
 
 -- where an event of a process is enabled, its path leads to it
-pub its_path : {S : Type 0} (o : Ops S) (k : Kind) (p : Path) (root : Node S) → (acts o k p root ≡ None → ⊥) → has_path o p (led_to o root p) ≡ true
+pub its_path : {S : Type 0} (o : Ops S) (k : OwnAction) (p : Path) (root : Node S) → (acts o k p root ≡ None → ⊥) → has_path o p (led_to o root p) ≡ true
 its_path {S} o k p root h = its (led_to o root p) (cond_there (is_its o k p (led_to o root p)) (act_route o root (route (o.path (state root)) p)) h).0
   where
     its : (x : _) → is_its o k p x ≡ true → has_path o p x ≡ true

@@ -6,7 +6,7 @@ use Rattle.shim_local.specs.Laws.{AllOf}
 use Rattle.shim_semantics.specs.Nodes.{Node, Nodes, Live, Forked, Ended, Dead, Death, outermost, no_node, node_and, state, states, prevailing, prevailing_death}
 use Rattle.shim_semantics.specs.Places.{SoundBelow, SoundChildren}
 use Rattle.shim_tree.specs.NodeStatus.{nodes}
-use Rattle.shim_tree.specs.Beside.{place}
+use Rattle.shim_tree.specs.Beside.{nth_child}
 use Rattle.shim_tree.specs.Labels.{death_of, prevailing_of}
 use Rattle.shim_tree.specs.declared.node_status.NodeStatus.{NodeStatus}
 use Rattle.shim_tree.proofs.Beside.{from, from_next, from_end}
@@ -25,15 +25,15 @@ item_there i [] h = absurd (omega (arith, h))
 item_there zero (x ∷ xs) h = (x, refl)
 item_there (suc i) (x ∷ xs) h = item_there i xs (omega (arith, h))
 
-death_next : {S : Type 0} (i : ℕ) (ls : List S) (bs : List (NodeStatus S)) (r : Option Death) → i < length ls → ((l : S) → r ≡ death_of (place l (nodes bs) i))
+death_next : {S : Type 0} (i : ℕ) (ls : List S) (bs : List (NodeStatus S)) (r : Option Death) → i < length ls → ((l : S) → r ≡ death_of (nth_child l (nodes bs) i))
     → prevailing_death (from i ls bs) ≡ prevailing_of r (prevailing_death (from (i + 1) ls bs))
 death_next i ls bs r h f =
     let x = item_there i ls h in
     ap prevailing_death (from_next i ls bs x.0 h x.1)
-    ∙ (death_first (place x.0 (nodes bs) i) (from (i + 1) ls bs) ∙ ap (λ z. prevailing_of z (prevailing_death (from (i + 1) ls bs))) (sym (f x.0)))
+    ∙ (death_first (nth_child x.0 (nodes bs) i) (from (i + 1) ls bs) ∙ ap (λ z. prevailing_of z (prevailing_death (from (i + 1) ls bs))) (sym (f x.0)))
 
 -- one child more, from the last one on, and none at first
-pub one_death : {S : Type 0} (i : ℕ) (ls : List S) (bs : List (NodeStatus S)) (was r now : Option Death) → i < length ls → ((l : S) → r ≡ death_of (place l (nodes bs) i)) → now ≡ prevailing_of r was → was ≡ prevailing_death (from (i + 1) ls bs) → now ≡ prevailing_death (from i ls bs)
+pub one_death : {S : Type 0} (i : ℕ) (ls : List S) (bs : List (NodeStatus S)) (was r now : Option Death) → i < length ls → ((l : S) → r ≡ death_of (nth_child l (nodes bs) i)) → now ≡ prevailing_of r was → was ≡ prevailing_death (from (i + 1) ls bs) → now ≡ prevailing_death (from i ls bs)
 one_death i ls bs was r now h f is each = is ∙ (ap (prevailing_of r) each ∙ sym (death_next i ls bs r h f))
 
 pub no_death : {S : Type 0} (i : ℕ) (ls : List S) (bs : List (NodeStatus S)) → length ls ≤ i → None ≡ prevailing_death (from i ls bs)

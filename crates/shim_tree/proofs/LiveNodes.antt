@@ -10,7 +10,7 @@ use Rattle.shim_semantics.specs.Nodes.{Node, Live}
 use Rattle.shim_semantics.specs.Places.{at, child_at, branches, route, at_route}
 use Rattle.shim_semantics.specs.Trees.{act_route}
 use Rattle.shim_tree.specs.NodeStatus.{node, nodes, together}
-use Rattle.shim_tree.specs.Beside.{place}
+use Rattle.shim_tree.specs.Beside.{nth_child}
 use Rattle.shim_tree.specs.ChildCounts.{live_in}
 use Rattle.shim_tree.specs.declared.node_status.NodeStatus.{NodeStatus}
 use Rattle.shim_tree.specs.declared.node_status.NodeStatus.TheVariants as code
@@ -19,7 +19,7 @@ use Rattle.shim_tree.proofs.Beside.{is_forked, place_in, place_past, inside, out
 use Rattle.shim_base.proofs.Facts.{no_items}
 
 -- the child in a place, by the branches that begin there
-pub child_in_place : {S : Type 0} (i : ℕ) (q : List ℕ) (ls : List S) (bs : List (NodeStatus S)) (l : S) → i < length ls → l ≡ get_or ls i l → child_at i q (together ls (nodes bs)) ≡ at q (place l (nodes bs) i)
+pub child_in_place : {S : Type 0} (i : ℕ) (q : List ℕ) (ls : List S) (bs : List (NodeStatus S)) (l : S) → i < length ls → l ≡ get_or ls i l → child_at i q (together ls (nodes bs)) ≡ at q (nth_child l (nodes bs) i)
 child_in_place i q [] bs l h e = absurd (omega (arith, h))
 child_in_place zero q (m ∷ ls) [] l h e = ap (λ z. at q (Live z)) (sym e)
 child_in_place zero q (m ∷ ls) (b ∷ bs) l h e = ap (λ z. at q (node z b)) (sym e)
@@ -59,7 +59,7 @@ module _ {S : Type 0} (l : S) (b : NodeStatus S) (ls : Vec S Global) (bs : Vec (
   none_there n k h = sym (goes_on ∙ ap live_in (no_child x.1 (branches p) ls.items bs.items (outside ls n x.1 k h)))
 
   module _ (n : ℕ) (k : n ≡ vec_len ls) (h : x.1 < n) (m : S) (there : m ≡ get_or ls.items x.1 m) where
-    at_place : live_in (at (branches pairs) (node l b)) ≡ live_in (at (branches p) (place m (nodes bs.items) x.1))
+    at_place : live_in (at (branches pairs) (node l b)) ≡ live_in (at (branches p) (nth_child m (nodes bs.items) x.1))
     at_place = goes_on ∙ ap live_in (child_in_place x.1 (branches p) ls.items bs.items m (inside ls n x.1 k h) there)
 
     -- where it is said what came of the child

@@ -5,7 +5,7 @@ use Rattle.std.specs.declared.alloc.Global.{Global}
 use Rattle.shim_base.specs.Paths.{Channel}
 use Rattle.shim_local.specs.Process.{Ops}
 use Rattle.shim_semantics.specs.Nodes as model
-use Rattle.shim_semantics.specs.Nodes.{is_next, received, all_received, source, source_among, or_else, next_of, name_at, first_name, first_name_among}
+use Rattle.shim_semantics.specs.Nodes.{is_next, received, all_received, source, source_among, or_else, next_channel, name_for, first_name, first_name_among}
 use Rattle.shim_tree.specs.declared.node_status.NodeStatus.{NodeStatus}
 use Rattle.shim_tree.specs.declared.node_status.NodeStatus.TheVariants as code
 use Rattle.shim_tree.specs.NodeStatus.{node, nodes, together}

@@ -8,22 +8,22 @@ use Rattle.shim_semantics.specs.Nodes as model
 use Rattle.shim_semantics.specs.Nodes.{state, ready}
 use Rattle.shim_semantics.specs.Poison.{is_doomed, is_ready_child}
 use Rattle.shim_semantics.specs.Places.{child_at}
-use Rattle.shim_tree.specs.Beside.{place}
+use Rattle.shim_tree.specs.Beside.{nth_child}
 use Rattle.shim_tree.specs.NodeStatus.{node, nodes, together}
 use Rattle.shim_base.proofs.Facts.{some_same, none_some}
 use Rattle.shim_tree.specs.ByPath.{can_poison_at}
 use Rattle.shim_tree.specs.ChildCounts.{live_in}
-use Rattle.shim_tree.specs.NodeRefs.{lent, child_in, child_count, how_many_of, nodes_at, nodes_in, lives, all_lives, lives_of_rest, lives_from}
+use Rattle.shim_tree.specs.NodeRefs.{lent_node, child_in, child_count, how_many_of, nodes_at, nodes_in, lives, all_lives, lives_of_rest, lives_from}
 use Rattle.shim_tree.specs.declared.node_status.NodeStatus.{NodeStatus}
 use Rattle.shim_tree.specs.declared.node_status.NodeStatus.TheVariants as code
 use Rattle.shim_tree.proofs.Beside.{state_node, place_in, place_past, is_forked, inside, outside}
 
-pub state_lent : {S : Type 0} (l : S) (b : Option (NodeStatus S)) → state (lent l b) ≡ l
+pub state_lent : {S : Type 0} (l : S) (b : Option (NodeStatus S)) → state (lent_node l b) ≡ l
 state_lent l None = refl
 state_lent l (Some b) = state_node l b
 
 -- the child in a place
-pub child_there : {S : Type 0} (i : ℕ) (ls : List S) (bs : List (NodeStatus S)) (l : S) → i < length ls → l ≡ get_or ls i l → child_at i [] (together ls (nodes bs)) ≡ Some (place l (nodes bs) i)
+pub child_there : {S : Type 0} (i : ℕ) (ls : List S) (bs : List (NodeStatus S)) (l : S) → i < length ls → l ≡ get_or ls i l → child_at i [] (together ls (nodes bs)) ≡ Some (nth_child l (nodes bs) i)
 child_there i [] bs l h e = absurd (omega (arith, h))
 child_there zero (m ∷ ls) [] l h e = ap (λ z. Some (model.Live z)) (sym e)
 child_there zero (m ∷ ls) (b ∷ bs) l h e = ap (λ z. Some (node z b)) (sym e)
@@ -36,11 +36,11 @@ child_past zero (m ∷ ls) bs h = absurd (omega (arith, h))
 child_past (suc i) (m ∷ ls) [] h = child_past i ls [] (omega (arith, h))
 child_past (suc i) (m ∷ ls) (b ∷ bs) h = child_past i ls bs (omega (arith, h))
 
-pub lent_in : {S : Type 0} (l : S) (bs : List (NodeStatus S)) (i : ℕ) (b : NodeStatus S) (x : Option (NodeStatus S)) → x ≡ Some b → i < length bs → b ≡ get_or bs i b → lent l x ≡ place l (nodes bs) i
-lent_in l bs i b x e h there = ap (lent l) e ∙ sym (place_in l bs i b h there)
+pub lent_in : {S : Type 0} (l : S) (bs : List (NodeStatus S)) (i : ℕ) (b : NodeStatus S) (x : Option (NodeStatus S)) → x ≡ Some b → i < length bs → b ≡ get_or bs i b → lent_node l x ≡ nth_child l (nodes bs) i
+lent_in l bs i b x e h there = ap (lent_node l) e ∙ sym (place_in l bs i b h there)
 
-pub lent_past : {S : Type 0} (l : S) (bs : List (NodeStatus S)) (i : ℕ) (x : Option (NodeStatus S)) → x ≡ None → length bs ≤ i → lent l x ≡ place l (nodes bs) i
-lent_past l bs i x e h = ap (lent l) e ∙ sym (place_past l bs i h)
+pub lent_past : {S : Type 0} (l : S) (bs : List (NodeStatus S)) (i : ℕ) (x : Option (NodeStatus S)) → x ≡ None → length bs ≤ i → lent_node l x ≡ nth_child l (nodes bs) i
+lent_past l bs i x e h = ap (lent_node l) e ∙ sym (place_past l bs i h)
 
 pub how_many_together : {S : Type 0} (ls : List S) (fs : List (S → model.Node S)) → how_many_of (together ls fs) ≡ length ls
 how_many_together [] fs = refl
@@ -50,7 +50,7 @@ how_many_together (l ∷ ls) (f ∷ fs) = ap suc (how_many_together ls fs)
 -- ---- a child that is ready and doomed
 
 module _ {S : Type 0} (o : Ops S) (c : Channel) where
-  ready_there : (i : ℕ) (ls : List S) (bs : List (NodeStatus S)) (l : S) → i < length ls → l ≡ get_or ls i l → is_ready_child o c i (together ls (nodes bs)) ≡ ready o c (place l (nodes bs) i)
+  ready_there : (i : ℕ) (ls : List S) (bs : List (NodeStatus S)) (l : S) → i < length ls → l ≡ get_or ls i l → is_ready_child o c i (together ls (nodes bs)) ≡ ready o c (nth_child l (nodes bs) i)
   ready_there i [] bs l h e = absurd (omega (arith, h))
   ready_there zero (m ∷ ls) [] l h e = ap (λ z. ready o c (model.Live z)) (sym e)
   ready_there zero (m ∷ ls) (b ∷ bs) l h e = ap (λ z. ready o c (node z b)) (sym e)
@@ -70,7 +70,7 @@ module _ {S : Type 0} (o : Ops S) (c : Channel) where
     pub no_poison_past : n ≤ i → false ≡ can_poison_at o c i (node l b)
     no_poison_past h = sym (can_is false (ready_past i ls.items bs.items (outside ls n i len h)))
 
-    module _ (h : i < n) (m : S) (there : m ≡ get_or ls.items i m) (r : Bool) (found : r ≡ ready o c (place m (nodes bs.items) i)) where
+    module _ (h : i < n) (m : S) (there : m ≡ get_or ls.items i m) (r : Bool) (found : r ≡ ready o c (nth_child m (nodes bs.items) i)) where
       child_ready : is_ready_child o c i (together ls.items (nodes bs.items)) ≡ r
       child_ready = ready_there i ls.items bs.items m (inside ls n i len h) there ∙ sym found
 

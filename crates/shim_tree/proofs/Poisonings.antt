@@ -8,7 +8,7 @@ use Rattle.shim_semantics.specs.Nodes as model
 use Rattle.shim_semantics.specs.Nodes.{state}
 use Rattle.shim_semantics.specs.Poison.{dooms, any_dooms, is_doomed, is_ready_child, poisoned, all_poisoned, one_poisoned, can_poison, poison_here, above, before_rest, after_one, poison_route}
 use Rattle.shim_tree.specs.Poisoning.{poison_by, poison_among}
-use Rattle.shim_semantics.specs.Places.{behind_front, branches, branches_of, route, led_to, has_path}
+use Rattle.shim_semantics.specs.Places.{behind_front, branches, option_branches, route, led_to, has_path}
 use Rattle.shim_semantics.specs.Trees.{poisons}
 use Rattle.shim_tree.specs.NodeStatus.{node, nodes, together}
 use Rattle.shim_tree.specs.declared.node_status.NodeStatus.{NodeStatus}
@@ -150,7 +150,7 @@ front_rest (x ∷ r) (y ∷ p) q e = rest (same_pair x y) (λ f. front_rest r p 
     rest true g f = let w = g f in let h = w.0 in (omega (arith, h), w.1)
     rest false g f = absurd cc
 
-front_there : {S : Type 0} (o : Ops S) (c : Channel) (n : model.Node S) (s : Option Path) → (poison_route o c n (branches_of s) ≡ None → ⊥) → (q : Path) × (s ≡ Some q)
+front_there : {S : Type 0} (o : Ops S) (c : Channel) (n : model.Node S) (s : Option Path) → (poison_route o c n (option_branches s) ≡ None → ⊥) → (q : Path) × (s ≡ Some q)
 front_there o c n None h = absurd (h refl)
 front_there o c n (Some q) h = (q, refl)
 
@@ -165,7 +165,7 @@ leads o c r p n e h =
     let v : poisons o p c n ≡ poison_route o c n (route r p) = w.1 ∙ ap (λ z. poison_route o c n (route z p)) (sym e) in
     let q = front_there o c n (behind_front r p) (λ z. h (v ∙ z)) in
     let f = front_rest r p q.0 q.1 in
-    record { within = f.0; is = v ∙ (ap (λ z. poison_route o c n (branches_of z)) q.1 ∙ ap (λ z. poison_route o c n (Some (branches z))) f.1) }
+    record { within = f.0; is = v ∙ (ap (λ z. poison_route o c n (option_branches z)) q.1 ∙ ap (λ z. poison_route o c n (Some (branches z))) f.1) }
 
 pub leads_on : {S : Type 0} (o : Ops S) (c : Channel) (r p : Path) (n : model.Node S) (x : ℕ × ℕ) (q : Path) → Leads o c r p n → drop (length r) p ≡ x ∷ q → poisons o p c n ≡ poison_by o c x.1 q n
 leads_on o c r p n x q h e = h.is ∙ ap (λ z. poison_route o c n (Some (branches z))) e

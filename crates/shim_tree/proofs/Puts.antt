@@ -6,7 +6,7 @@ use Rattle.std.specs.declared.alloc.Global.{Global}
 use Rattle.shim_base.specs.Paths.{Channel, NamedChannel, channel_order}
 use Rattle.shim_local.specs.Process.{Ops}
 use Rattle.shim_tree.specs.NodeStatus.{node, nodes}
-use Rattle.shim_tree.specs.Beside.{place}
+use Rattle.shim_tree.specs.Beside.{nth_child}
 use Rattle.shim_semantics.specs.Walks.{waited, all_waited}
 use Rattle.shim_tree.specs.Inserted.{put_before, inserted, all_inserted}
 use Rattle.shim_tree.specs.Searching.{channels}
@@ -47,9 +47,9 @@ passing_more f done xs ys = ap (all_inserted done) (filter_append f xs ys) ∙ a
 module _ {S : Type 0} (o : Ops S) (f : Channel → Bool) where
   -- those of one child more
   pub put_more : (i : ℕ) (ls : List S) (bs : List (NodeStatus S)) (l : S) (was now all : List Channel) → i < length ls → l ≡ get_or ls i l
-      → now ≡ all_inserted was (filter f (waited o (place l (nodes bs) i))) → all_inserted was (filter f (all_waited o (from i ls bs))) ≡ all → all_inserted now (filter f (all_waited o (from (i + 1) ls bs))) ≡ all
+      → now ≡ all_inserted was (filter f (waited o (nth_child l (nodes bs) i))) → all_inserted was (filter f (all_waited o (from i ls bs))) ≡ all → all_inserted now (filter f (all_waited o (from (i + 1) ls bs))) ≡ all
   put_more i ls bs l was now all h e g inv =
-      let k = place l (nodes bs) i in
+      let k = nth_child l (nodes bs) i in
       ap (λ z. all_inserted z (filter f (all_waited o (from (i + 1) ls bs)))) g
       ∙ (sym (passing_more f was (waited o k) (all_waited o (from (i + 1) ls bs)))
       ∙ (ap (λ z. all_inserted was (filter f (all_waited o z))) (sym (from_next i ls bs l h e)) ∙ inv))

@@ -6,7 +6,7 @@ use Rattle.shim_base.specs.Paths.{Channel}
 use Rattle.shim_local.specs.Process.{Ops}
 use Rattle.shim_semantics.specs.Nodes.{Node, Live, Forked, Ended, Dead, goes, is_dead, has_ended, ready, any_sharer, all_ready}
 use Rattle.shim_tree.specs.NodeStatus.{node, nodes}
-use Rattle.shim_tree.specs.Beside.{place}
+use Rattle.shim_tree.specs.Beside.{nth_child}
 use Rattle.shim_tree.specs.declared.node_status.NodeStatus.{NodeStatus}
 use Rattle.shim_tree.specs.declared.node_status.NodeStatus.TheVariants as code
 use Rattle.shim_tree.proofs.Beside.{is_forked, state_place, from, from_next, from_end}
@@ -56,31 +56,31 @@ or_true false = refl
 
 module _ {S : Type 0} (o : Ops S) (c : Channel) (i : ℕ) (ls : List S) (bs : List (NodeStatus S)) (l : S) (h : i < length ls) (e : l ≡ get_or ls i l) where
   -- the two questions about the children from a place on, as one about the first and the rest
-  any_here : any_sharer o c (from i ls bs) ≡ ((goes (place l (nodes bs) i) && o.shares l c) || any_sharer o c (from (i + 1) ls bs))
+  any_here : any_sharer o c (from i ls bs) ≡ ((goes (nth_child l (nodes bs) i) && o.shares l c) || any_sharer o c (from (i + 1) ls bs))
   any_here =
       ap (any_sharer o c) (from_next i ls bs l h e)
-      ∙ ap (λ z. (goes (place l (nodes bs) i) && o.shares z c) || any_sharer o c (from (i + 1) ls bs)) (state_place l bs i)
+      ∙ ap (λ z. (goes (nth_child l (nodes bs) i) && o.shares z c) || any_sharer o c (from (i + 1) ls bs)) (state_place l bs i)
 
-  all_here : all_ready o c (from i ls bs) ≡ ((not (o.shares l c && (goes (place l (nodes bs) i) || is_dead (place l (nodes bs) i))) || ready o c (place l (nodes bs) i)) && all_ready o c (from (i + 1) ls bs))
+  all_here : all_ready o c (from i ls bs) ≡ ((not (o.shares l c && (goes (nth_child l (nodes bs) i) || is_dead (nth_child l (nodes bs) i))) || ready o c (nth_child l (nodes bs) i)) && all_ready o c (from (i + 1) ls bs))
   all_here =
       ap (all_ready o c) (from_next i ls bs l h e)
-      ∙ ap (λ z. (not (o.shares z c && (goes (place l (nodes bs) i) || is_dead (place l (nodes bs) i))) || ready o c (place l (nodes bs) i)) && all_ready o c (from (i + 1) ls bs)) (state_place l bs i)
+      ∙ ap (λ z. (not (o.shares z c && (goes (nth_child l (nodes bs) i) || is_dead (nth_child l (nodes bs) i))) || ready o c (nth_child l (nodes bs) i)) && all_ready o c (from (i + 1) ls bs)) (state_place l bs i)
 
-  module _ (any sharer all concerned : Bool) (f : concerned ≡ o.shares l c && not (has_ended (place l (nodes bs) i))) (some : (any || any_sharer o c (from i ls bs)) ≡ sharer) (each : all_ready o c (from i ls bs) ≡ all) where
+  module _ (any sharer all concerned : Bool) (f : concerned ≡ o.shares l c && not (has_ended (nth_child l (nodes bs) i))) (some : (any || any_sharer o c (from i ls bs)) ≡ sharer) (each : all_ready o c (from i ls bs) ≡ all) where
     -- what the loop has come to after a child of each kind
     pub unconcerned : concerned ≡ false → ((any || any_sharer o c (from (i + 1) ls bs)) ≡ sharer) × (all_ready o c (from (i + 1) ls bs) ≡ all)
     unconcerned n =
-        let w = passed (place l (nodes bs) i) (o.shares l c) (ready o c (place l (nodes bs) i)) (any_sharer o c (from (i + 1) ls bs)) (all_ready o c (from (i + 1) ls bs)) (sym f ∙ n) in
+        let w = passed (nth_child l (nodes bs) i) (o.shares l c) (ready o c (nth_child l (nodes bs) i)) (any_sharer o c (from (i + 1) ls bs)) (all_ready o c (from (i + 1) ls bs)) (sym f ∙ n) in
         (ap (λ z. any || z) (sym w.0) ∙ (ap (λ z. any || z) (sym any_here) ∙ some), sym w.1 ∙ (sym all_here ∙ each))
 
-    pub one_ready : concerned ≡ true → ready o c (place l (nodes bs) i) ≡ true → (true ≡ sharer) × (all_ready o c (from (i + 1) ls bs) ≡ all)
+    pub one_ready : concerned ≡ true → ready o c (nth_child l (nodes bs) i) ≡ true → (true ≡ sharer) × (all_ready o c (from (i + 1) ls bs) ≡ all)
     one_ready n r =
-        let w = counted (place l (nodes bs) i) (o.shares l c) (ready o c (place l (nodes bs) i)) (any_sharer o c (from (i + 1) ls bs)) (all_ready o c (from (i + 1) ls bs)) (sym f ∙ n) r (ready_goes o c (place l (nodes bs) i) r) in
+        let w = counted (nth_child l (nodes bs) i) (o.shares l c) (ready o c (nth_child l (nodes bs) i)) (any_sharer o c (from (i + 1) ls bs)) (all_ready o c (from (i + 1) ls bs)) (sym f ∙ n) r (ready_goes o c (nth_child l (nodes bs) i) r) in
         (sym (or_true any) ∙ (ap (λ z. any || z) (sym w.0) ∙ (ap (λ z. any || z) (sym any_here) ∙ some)), sym w.1 ∙ (sym all_here ∙ each))
 
-    pub one_holds_up : concerned ≡ true → ready o c (place l (nodes bs) i) ≡ false → false ≡ all
+    pub one_holds_up : concerned ≡ true → ready o c (nth_child l (nodes bs) i) ≡ false → false ≡ all
     one_holds_up n r =
-        sym (held_up (place l (nodes bs) i) (o.shares l c) (ready o c (place l (nodes bs) i)) (all_ready o c (from (i + 1) ls bs)) (sym f ∙ n) r) ∙ (sym all_here ∙ each)
+        sym (held_up (nth_child l (nodes bs) i) (o.shares l c) (ready o c (nth_child l (nodes bs) i)) (all_ready o c (from (i + 1) ls bs)) (sym f ∙ n) r) ∙ (sym all_here ∙ each)
 
 -- false on the right makes an "and" false
 and_false : (x : Bool) → false ≡ (x && false)

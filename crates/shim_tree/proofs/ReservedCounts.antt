@@ -6,13 +6,13 @@ use Rattle.shim_base.specs.Paths.{Path, Channel, path_order}
 use Rattle.shim_local.specs.Process.{Ops, StopView, ForkedView, AtQuiet, AtNext, AtPut, AtFork, AtFinish, AtThrow, AtTrap, Parted, Trapped}
 use Rattle.shim_local.specs.Laws.{LocalLaws, AllOf}
 use Rattle.shim_semantics.specs.Nodes.{Node, Nodes, Live, Forked, Ended, Dead, Death, death_with, handed, no_node, node_and, state, states, everyone, everyone_of, all_live, all_done, prevailing_death, received, all_received}
-use Rattle.shim_semantics.specs.Acts.{throwing, Acted, nothing, catching, act_here, act_live, parted, thrown, closed}
+use Rattle.shim_semantics.specs.Acts.{throwing, Acted, nothing, catch_logged, act_here, act_live, parted, thrown, closed}
 use Rattle.shim_semantics.specs.Poison.{poison_route}
 use Rattle.shim_semantics.specs.Places.{at, child_at, route, at_route, led_to, has_path, SoundBelow, SoundChildren}
 use Rattle.shim_semantics.specs.Trees.{act_route, poisons}
 use Rattle.shim_tree.specs.Acting.{acted_on}
 use Rattle.shim_tree.specs.Advancing.{HasCount, AllHaveCounts}
-use Rattle.shim_tree.specs.ChildCounts.{live_in, children_of, born_by, ChildCountsReserved}
+use Rattle.shim_tree.specs.ChildCounts.{live_in, forked_children, born_by, ChildCountsReserved}
 use Rattle.shim_semantics.proofs.ReplacedNodes.{put, put_child, acts_there}
 use Rattle.shim_tree.proofs.Placed.{all_left, all_right, all_both}
 use Rattle.shim_semantics.proofs.Replaced.{sound_at}
@@ -38,8 +38,8 @@ module _ {S : Type 0} (o : Ops S) where
   thrown_alone : (l : S) (x : Death) → everyone (thrown o l x).node ≡ state (thrown o l x).node ∷ []
   thrown_alone l x = at_base (ltb x.label (o.base l))
     where
-      at_base : (b : Bool) → everyone (cond {A = Acted S} b (record { node = Dead l x; effects = nothing }) (record { node = Live (o.unwind l x.label (handed x.given)); effects = catching (o.handler l x.label) })).node
-          ≡ state (cond {A = Acted S} b (record { node = Dead l x; effects = nothing }) (record { node = Live (o.unwind l x.label (handed x.given)); effects = catching (o.handler l x.label) })).node ∷ []
+      at_base : (b : Bool) → everyone (cond {A = Acted S} b (record { node = Dead l x; effects = nothing }) (record { node = Live (o.unwind l x.label (handed x.given)); effects = catch_logged (o.handler l x.label) })).node
+          ≡ state (cond {A = Acted S} b (record { node = Dead l x; effects = nothing }) (record { node = Live (o.unwind l x.label (handed x.given)); effects = catch_logged (o.handler l x.label) })).node ∷ []
       at_base true = refl
       at_base false = refl
 
@@ -51,14 +51,14 @@ module _ {S : Type 0} (o : Ops S) where
   closed_alone l ks None = refl
   closed_alone l ks (Some x) = thrown_alone (o.join l ks false) x
 
-  parted_all : (r : ForkedView S) → everyone (parted r) ≡ state (parted r) ∷ children_of r
+  parted_all : (r : ForkedView S) → everyone (parted r) ≡ state (parted r) ∷ forked_children r
   parted_all (Parted l ks) = ap (λ z. l ∷ z) (everyone_live ks)
   parted_all (Trapped l) = refl
 
   live_all : (l : S) (v : StopView) (a : Acted S) → act_live o l v ≡ Some a → everyone a.node ≡ state a.node ∷ born_by v (o.fork l)
   live_all l AtQuiet a e = subst (λ z. everyone z.node ≡ state z.node ∷ []) (some_same _ a e) refl
   live_all l AtPut a e = subst (λ z. everyone z.node ≡ state z.node ∷ []) (some_same _ a e) refl
-  live_all l AtFork a e = subst (λ z. everyone z.node ≡ state z.node ∷ children_of (o.fork l)) (some_same _ a e) (parted_all (o.fork l))
+  live_all l AtFork a e = subst (λ z. everyone z.node ≡ state z.node ∷ forked_children (o.fork l)) (some_same _ a e) (parted_all (o.fork l))
   live_all l AtFinish a e = subst (λ z. everyone z.node ≡ state z.node ∷ []) (some_same _ a e) refl
   live_all l (AtNext c) a e = none_some a e
   live_all l (AtThrow label) a e = subst (λ z. everyone z.node ≡ state z.node ∷ []) (some_same _ a e) (throwing_alone l label (o.number l))

@@ -7,7 +7,7 @@ use Rattle.shim_base.specs.Paths.{Channel}
 use Rattle.shim_local.specs.Process.{Ops}
 use Rattle.shim_semantics.specs.Nodes.{goes, all_done}
 use Rattle.shim_tree.specs.NodeStatus.{node, nodes}
-use Rattle.shim_tree.specs.Beside.{place}
+use Rattle.shim_tree.specs.Beside.{nth_child}
 use Rattle.shim_semantics.specs.Trees.{Event}
 use Rattle.shim_semantics.specs.Walks.{waited, all_waited, poisons_of, here, walk, walk_all, head}
 use Rattle.shim_tree.specs.Finding.{least}
@@ -25,15 +25,15 @@ item_there (suc i) (x ∷ xs) h = item_there i xs (omega (arith, h))
 -- ---- whether all are done
 
 -- a child that is done leaves it to the others, and one that goes decides
-done_from : {S : Type 0} (i : ℕ) (ls : List S) (bs : List (NodeStatus S)) (r : Bool) → i < length ls → ((l : S) → r ≡ goes (place l (nodes bs) i)) → all_done (from i ls bs) ≡ (not r && all_done (from (i + 1) ls bs))
+done_from : {S : Type 0} (i : ℕ) (ls : List S) (bs : List (NodeStatus S)) (r : Bool) → i < length ls → ((l : S) → r ≡ goes (nth_child l (nodes bs) i)) → all_done (from i ls bs) ≡ (not r && all_done (from (i + 1) ls bs))
 done_from i ls bs r h f =
     let x = item_there i ls h in
     ap all_done (from_next i ls bs x.0 h x.1) ∙ ap (λ z. not z && all_done (from (i + 1) ls bs)) (sym (f x.0))
 
-pub one_done : {S : Type 0} (i : ℕ) (ls : List S) (bs : List (NodeStatus S)) (r all : Bool) → i < length ls → ((l : S) → r ≡ goes (place l (nodes bs) i)) → all_done (from i ls bs) ≡ all → r ≡ false → all_done (from (i + 1) ls bs) ≡ all
+pub one_done : {S : Type 0} (i : ℕ) (ls : List S) (bs : List (NodeStatus S)) (r all : Bool) → i < length ls → ((l : S) → r ≡ goes (nth_child l (nodes bs) i)) → all_done (from i ls bs) ≡ all → r ≡ false → all_done (from (i + 1) ls bs) ≡ all
 one_done i ls bs r all h f each e = ap (λ z. not z && all_done (from (i + 1) ls bs)) (sym e) ∙ (sym (done_from i ls bs r h f) ∙ each)
 
-pub one_goes : {S : Type 0} (i : ℕ) (ls : List S) (bs : List (NodeStatus S)) (r all : Bool) → i < length ls → ((l : S) → r ≡ goes (place l (nodes bs) i)) → all_done (from i ls bs) ≡ all → r ≡ true → false ≡ all
+pub one_goes : {S : Type 0} (i : ℕ) (ls : List S) (bs : List (NodeStatus S)) (r all : Bool) → i < length ls → ((l : S) → r ≡ goes (nth_child l (nodes bs) i)) → all_done (from i ls bs) ≡ all → r ≡ true → false ≡ all
 one_goes i ls bs r all h f each e = ap (λ z. not z && all_done (from (i + 1) ls bs)) (sym e) ∙ (sym (done_from i ls bs r h f) ∙ each)
 
 -- ---- the least channel
@@ -41,9 +41,9 @@ one_goes i ls bs r all h f each e = ap (λ z. not z && all_done (from (i + 1) ls
 module _ {S : Type 0} (o : Ops S) (passes : Channel → Bool) where
   -- of one child more, and of all
   pub least_more : (i : ℕ) (ls : List S) (bs : List (NodeStatus S)) (l : S) (was now best : Option Channel) → i < length ls → l ≡ get_or ls i l
-      → now ≡ least passes was (waited o (place l (nodes bs) i)) → least passes was (all_waited o (from i ls bs)) ≡ best → least passes now (all_waited o (from (i + 1) ls bs)) ≡ best
+      → now ≡ least passes was (waited o (nth_child l (nodes bs) i)) → least passes was (all_waited o (from i ls bs)) ≡ best → least passes now (all_waited o (from (i + 1) ls bs)) ≡ best
   least_more i ls bs l was now best h e f inv =
-      let k = place l (nodes bs) i in
+      let k = nth_child l (nodes bs) i in
       ap (λ z. least passes z (all_waited o (from (i + 1) ls bs))) f
       ∙ (sym (least_append passes was (waited o k) (all_waited o (from (i + 1) ls bs)))
       ∙ (ap (λ z. least passes was (all_waited o z)) (sym (from_next i ls bs l h e)) ∙ inv))
@@ -77,22 +77,22 @@ module _ {S A : Type 0} (o : Ops S) (f : A → Event) (l : S) (b : NodeStatus S)
   -- and at the child in place i its poison, or the first event of the walk from it, or nothing
   module _ (none : is_some own ≡ false) (i : ℕ) (m : S) (h : i < length ls.items) (there : m ≡ get_or ls.items i m)
       (inv : head (walk_all o l (from 0 ls.items bs.items) i (from i ls.items bs.items)) ≡ head (walk_all o l (from 0 ls.items bs.items) 0 (from 0 ls.items bs.items)))
-      (x y : Option A) (of_poison : option_map f x ≡ head (poisons_of o l (from 0 ls.items bs.items) i (place m (nodes bs.items) i))) where
+      (x y : Option A) (of_poison : option_map f x ≡ head (poisons_of o l (from 0 ls.items bs.items) i (nth_child m (nodes bs.items) i))) where
     at_place : head (walk_all o l (from 0 ls.items bs.items) i (from i ls.items bs.items)) ≡ head (walk o (node l b))
     at_place = inv ∙ below_fork none
 
     pub found_poison : is_some x ≡ true → option_map f x ≡ head (walk o (node l b))
     found_poison s =
-        poison_first o l (from 0 ls.items bs.items) i (place m (nodes bs.items) i) (from (i + 1) ls.items bs.items) (option_map f x) (option_map f y) of_poison (some_map f x ∙ s)
+        poison_first o l (from 0 ls.items bs.items) i (nth_child m (nodes bs.items) i) (from (i + 1) ls.items bs.items) (option_map f x) (option_map f y) of_poison (some_map f x ∙ s)
         ∙ (ap (λ z. head (walk_all o l (from 0 ls.items bs.items) i z)) (sym (from_next i ls.items bs.items m h there)) ∙ at_place)
 
-    pub found_there : is_some x ≡ false → option_map f y ≡ head (walk o (place m (nodes bs.items) i)) → is_some y ≡ true → option_map f y ≡ head (walk o (node l b))
+    pub found_there : is_some x ≡ false → option_map f y ≡ head (walk o (nth_child m (nodes bs.items) i)) → is_some y ≡ true → option_map f y ≡ head (walk o (node l b))
     found_there s e t =
-        child_first o l (from 0 ls.items bs.items) i (place m (nodes bs.items) i) (from (i + 1) ls.items bs.items) (option_map f x) (option_map f y) of_poison (some_map f x ∙ s) e (some_map f y ∙ t)
+        child_first o l (from 0 ls.items bs.items) i (nth_child m (nodes bs.items) i) (from (i + 1) ls.items bs.items) (option_map f x) (option_map f y) of_poison (some_map f x ∙ s) e (some_map f y ∙ t)
         ∙ (ap (λ z. head (walk_all o l (from 0 ls.items bs.items) i z)) (sym (from_next i ls.items bs.items m h there)) ∙ at_place)
 
-    pub found_later : is_some x ≡ false → option_map f y ≡ head (walk o (place m (nodes bs.items) i)) → is_some y ≡ false
+    pub found_later : is_some x ≡ false → option_map f y ≡ head (walk o (nth_child m (nodes bs.items) i)) → is_some y ≡ false
         → head (walk_all o l (from 0 ls.items bs.items) (i + 1) (from (i + 1) ls.items bs.items)) ≡ head (walk_all o l (from 0 ls.items bs.items) 0 (from 0 ls.items bs.items))
     found_later s e t =
-        child_next o l (from 0 ls.items bs.items) i (place m (nodes bs.items) i) (from (i + 1) ls.items bs.items) (option_map f x) (option_map f y) of_poison (some_map f x ∙ s) e (some_map f y ∙ t)
+        child_next o l (from 0 ls.items bs.items) i (nth_child m (nodes bs.items) i) (from (i + 1) ls.items bs.items) (option_map f x) (option_map f y) of_poison (some_map f x ∙ s) e (some_map f y ∙ t)
         ∙ (ap (λ z. head (walk_all o l (from 0 ls.items bs.items) i z)) (sym (from_next i ls.items bs.items m h there)) ∙ inv)

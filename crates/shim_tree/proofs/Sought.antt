@@ -7,7 +7,7 @@ use Rattle.shim_local.specs.Process.{Ops}
 use Rattle.shim_semantics.specs.Nodes.{Node}
 use Rattle.shim_semantics.specs.Quiets.{quiets, all_quiets}
 use Rattle.shim_tree.specs.NodeStatus.{node, nodes}
-use Rattle.shim_tree.specs.Beside.{place}
+use Rattle.shim_tree.specs.Beside.{nth_child}
 use Rattle.shim_tree.specs.Sought.{seek}
 use Rattle.shim_tree.specs.declared.node_status.NodeStatus.{NodeStatus}
 use Rattle.shim_tree.specs.declared.node_status.NodeStatus.TheVariants as code
@@ -49,18 +49,18 @@ got_none (y ∷ xs) zero m e = not_both m y e
 got_none (y ∷ xs) (suc n) m e = got_none xs n m e
 
 module _ {S : Type 0} (o : Ops S) where
-  module _ (i : ℕ) (ls : List S) (bs : List (NodeStatus S)) (l : S) (h : i < length ls) (e : l ≡ get_or ls i l) (left : ℕ) (s : S ⊎ ℕ) (is : s ≡ seek (quiets o (place l (nodes bs) i)) left) where
-    all_here : all_quiets o (from i ls bs) ≡ quiets o (place l (nodes bs) i) ++ all_quiets o (from (i + 1) ls bs)
+  module _ (i : ℕ) (ls : List S) (bs : List (NodeStatus S)) (l : S) (h : i < length ls) (e : l ≡ get_or ls i l) (left : ℕ) (s : S ⊎ ℕ) (is : s ≡ seek (quiets o (nth_child l (nodes bs) i)) left) where
+    all_here : all_quiets o (from i ls bs) ≡ quiets o (nth_child l (nodes bs) i) ++ all_quiets o (from (i + 1) ls bs)
     all_here = ap (all_quiets o) (from_next i ls bs l h e)
 
     pub found_there : (x : S) (w : S ⊎ ℕ) → s ≡ inl x → seek (all_quiets o (from i ls bs)) left ≡ w → inl x ≡ w
     found_there x w f so_far =
-        sym (seek_here (quiets o (place l (nodes bs) i)) (all_quiets o (from (i + 1) ls bs)) left x (sym is ∙ f))
+        sym (seek_here (quiets o (nth_child l (nodes bs) i)) (all_quiets o (from (i + 1) ls bs)) left x (sym is ∙ f))
         ∙ (ap (λ z. seek z left) (sym all_here) ∙ so_far)
 
     pub found_later : (m : ℕ) (w : S ⊎ ℕ) → s ≡ inr m → seek (all_quiets o (from i ls bs)) left ≡ w → seek (all_quiets o (from (i + 1) ls bs)) m ≡ w
     found_later m w f so_far =
-        sym (seek_behind (quiets o (place l (nodes bs) i)) (all_quiets o (from (i + 1) ls bs)) left m (sym is ∙ f))
+        sym (seek_behind (quiets o (nth_child l (nodes bs) i)) (all_quiets o (from (i + 1) ls bs)) left m (sym is ∙ f))
         ∙ (ap (λ z. seek z left) (sym all_here) ∙ so_far)
 
   module _ (l : S) (b : NodeStatus S) (ls : Vec S Global) (bs : Vec (NodeStatus S) Global) (is : b ≡ code.Forked ls bs) where

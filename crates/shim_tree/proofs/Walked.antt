@@ -8,7 +8,7 @@ use Rattle.shim_base.specs.Paths.{Path, same_path}
 use Rattle.shim_local.specs.Process.{Ops, StopView, AtQuiet, AtNext, AtPut, AtFork, AtFinish, AtThrow, AtTrap}
 use Rattle.shim_semantics.specs.Nodes.{Node, Nodes, Forked, all_done}
 use Rattle.shim_tree.specs.NodeStatus.{node, nodes}
-use Rattle.shim_tree.specs.Beside.{place}
+use Rattle.shim_tree.specs.Beside.{nth_child}
 use Rattle.shim_semantics.specs.Trees as trees
 use Rattle.shim_semantics.specs.Walks.{own_events, here, in_order, all_waited, waited, meets_here, poisons_of, walk, walk_all, head}
 use Rattle.shim_tree.specs.Finding.{found_event}
@@ -68,10 +68,10 @@ walk_more es a b p w r h g = ap (λ z. z ++ r) (g ∙ ap (λ z. z ++ w) h) ∙ (
 module _ {S : Type 0} (o : Ops S) (l : S) (ls : List S) (bs : List (NodeStatus S)) where
   -- one child more: its poisons, and its walk
   pub walked_child : (i : ℕ) (m : S) (was a b all : List trees.Event) → i < length ls → m ≡ get_or ls i m
-      → a ≡ was ++ poisons_of o l (from 0 ls bs) i (place m (nodes bs) i) → b ≡ a ++ walk o (place m (nodes bs) i)
+      → a ≡ was ++ poisons_of o l (from 0 ls bs) i (nth_child m (nodes bs) i) → b ≡ a ++ walk o (nth_child m (nodes bs) i)
       → was ++ walk_all o l (from 0 ls bs) i (from i ls bs) ≡ all → b ++ walk_all o l (from 0 ls bs) (i + 1) (from (i + 1) ls bs) ≡ all
   walked_child i m was a b all h there f g inv =
-      let k = place m (nodes bs) i in
+      let k = nth_child m (nodes bs) i in
       walk_more was a b (poisons_of o l (from 0 ls bs) i k) (walk o k) (walk_all o l (from 0 ls bs) (i + 1) (from (i + 1) ls bs)) f g
       ∙ (ap (λ z. was ++ walk_all o l (from 0 ls bs) i z) (sym (from_next i ls bs m h there)) ∙ inv)
 

@@ -16,8 +16,8 @@ effects_of (code.Byte b) = putting (Some b)
 effects_of (code.Log w) = record { bytes = []; logs = w ∷ [] }
 
 -- the process of the node does its one thing
-abbrev pub ActsHere : {S : Type 0} → Ops S → Node S → Effects → Node S → Type 0
-ActsHere o before effects after = act_here o before ≡ Some (record { node = after; effects = effects })
+abbrev pub ActsAtNode : {S : Type 0} → Ops S → Node S → Effects → Node S → Type 0
+ActsAtNode o before effects after = act_here o before ≡ Some (record { node = after; effects = effects })
 
 -- the process to which these branches lead does its one thing
 abbrev pub ActsAt : {S : Type 0} → Ops S → List ℕ → Node S → Effects → Node S → Type 0

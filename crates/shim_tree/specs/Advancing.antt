@@ -7,7 +7,7 @@ use Rattle.shim_local.specs.Laws.{AllOf}
 use Rattle.shim_semantics.specs.Nodes.{Node, Nodes, Live, Forked, Ended, Dead, no_node, node_and, everyone}
 use Rattle.shim_semantics.specs.Descents.{Ascent, apply_at, apply_among}
 use Rattle.shim_semantics.specs.Places.{branches}
-use Rattle.shim_semantics.specs.Trees.{count_of, one_more}
+use Rattle.shim_semantics.specs.Trees.{count_of, with_step_counted}
 use Rattle.shim_tree.specs.Maps.{has_stepped}
 
 -- the node with this state in place of its own; what came of it stays
@@ -61,4 +61,4 @@ more_steps m p n = finite.insert m p (count_of m p + n)
 -- the process of the path did so many steps more, counted one after another
 abbrev pub steps_taken : finite.FinMap path_order ℕ → Path → ℕ → finite.FinMap path_order ℕ
 steps_taken m p zero = m
-steps_taken m p (suc n) = steps_taken (one_more m p) p n
+steps_taken m p (suc n) = steps_taken (with_step_counted m p) p n

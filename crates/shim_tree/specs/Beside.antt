@@ -3,7 +3,7 @@ use Rattle.std.specs.Prelude.{ℕ, zero, suc, List, [], ◌∷◌}
 use Rattle.shim_semantics.specs.Nodes.{Node, Live}
 
 -- the child of this state in its place; one without a status lives
-abbrev pub place : {S : Type 0} → S → List (S → Node S) → ℕ → Node S
-place l [] i = Live l
-place l (f ∷ fs) zero = f l
-place l (f ∷ fs) (suc i) = place l fs i
+abbrev pub nth_child : {S : Type 0} → S → List (S → Node S) → ℕ → Node S
+nth_child l [] i = Live l
+nth_child l (f ∷ fs) zero = f l
+nth_child l (f ∷ fs) (suc i) = nth_child l fs i

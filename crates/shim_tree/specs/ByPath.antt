@@ -5,7 +5,7 @@ use Rattle.shim_local.specs.Process.{Ops}
 use Rattle.shim_semantics.specs.Nodes.{Node, Live, Forked, Ended, Dead, state, all_done, ready}
 use Rattle.shim_semantics.specs.Poison.{can_poison, to_fork, last_branch}
 use Rattle.shim_semantics.specs.Places.{at, route, led_to, has_path}
-use Rattle.shim_semantics.specs.Trees.{Event, Own, Meet, Poison, Close, End, Kind, Steps, Ends, kind_of, same_kind}
+use Rattle.shim_semantics.specs.Trees.{Event, Own, Meet, Poison, Close, End, OwnAction, Steps, Ends, own_action_of, same_own_action}
 
 -- what is found, if it is the node of the process of the path
 abbrev pub if_its : {S : Type 0} → Ops S → Path → Option (Node S) → Option (Node S)
@@ -21,8 +21,8 @@ passes_there f None = false
 passes_there f (Some n) = f n
 
 -- this is what the process of the node can do by itself
-abbrev pub can_do : {S : Type 0} → Ops S → Kind → Node S → Bool
-can_do o k n = same_kind k (kind_of o n)
+abbrev pub can_do : {S : Type 0} → Ops S → OwnAction → Node S → Bool
+can_do o k n = same_own_action k (own_action_of o n)
 
 -- it has forked, and its children have ended or died
 abbrev pub can_close : {S : Type 0} → Node S → Bool

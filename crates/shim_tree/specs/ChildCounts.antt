@@ -15,13 +15,13 @@ live_in (Some (Forked l ks)) = None
 live_in (Some (Ended l)) = None
 live_in (Some (Dead l x)) = None
 
-abbrev pub children_of : {S : Type 0} → ForkedView S → List S
-children_of (Parted l ks) = ks
-children_of (Trapped l) = []
+abbrev pub forked_children : {S : Type 0} → ForkedView S → List S
+forked_children (Parted l ks) = ks
+forked_children (Trapped l) = []
 
 -- those of this fork, where the process stands at it
 abbrev pub born_by : {S : Type 0} → StopView → ForkedView S → List S
-born_by AtFork r = children_of r
+born_by AtFork r = forked_children r
 born_by AtQuiet r = []
 born_by AtPut r = []
 born_by AtFinish r = []

@@ -23,7 +23,7 @@ abbrev pub filled : {S : Type 0} → List (NodeStatus S) → List Bool
 filled {S} bs = map (fold-NodeStatus S Bool filled_step) bs
 
 -- each of these is true
-abbrev pub all_true : List Bool → Bool
+abbrev all_true : List Bool → Bool
 all_true [] = true
 all_true (f ∷ fs) = f && all_true fs
 

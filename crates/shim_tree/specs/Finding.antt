@@ -7,9 +7,9 @@ use Rattle.shim_semantics.specs.Trees.{Event, Own, Meet, Poison, Close, End}
 use Rattle.shim_tree.specs.declared.seek.Found.{Found}
 use Rattle.shim_tree.specs.declared.seek.Found.TheVariants as found
 
-abbrev pub channel_in : Option NamedChannel → Option Channel
-channel_in None = None
-channel_in (Some c) = Some c.channel
+abbrev pub unnamed_channel : Option NamedChannel → Option Channel
+unnamed_channel None = None
+unnamed_channel (Some c) = Some c.channel
 
 abbrev pub sooner : Ordering → Channel → Channel → Channel
 sooner Less c d = c

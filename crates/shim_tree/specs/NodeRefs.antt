@@ -6,9 +6,9 @@ use Rattle.shim_tree.specs.declared.node_status.NodeStatus.{NodeStatus}
 use Rattle.shim_tree.specs.NodeStatus.{node}
 
 -- a process with what came of it; a process without a status lives
-abbrev pub lent : {S : Type 0} → S → Option (NodeStatus S) → Node S
-lent l None = Live l
-lent l (Some b) = node l b
+abbrev pub lent_node : {S : Type 0} → S → Option (NodeStatus S) → Node S
+lent_node l None = Live l
+lent_node l (Some b) = node l b
 
 -- the child in a place, of a process that has forked
 abbrev pub child_in : {S : Type 0} → ℕ → Node S → Option (Node S)

@@ -4,7 +4,7 @@ use Rattle.std.specs.Borrow.{Bor}
 use Rattle.shim_base.specs.Paths.{Channel, NamedChannel}
 use Rattle.shim_local.specs.Process.{Ops}
 use Rattle.shim_tree.specs.NodeStatus.{node, nodes, together}
-use Rattle.shim_tree.specs.Beside.{place}
+use Rattle.shim_tree.specs.Beside.{nth_child}
 use Rattle.shim_semantics.specs.Trees.{Event}
 use Rattle.shim_semantics.specs.Walks.{meets_here, poisons_here}
 use Rattle.shim_tree.specs.Finding.{found_event}
@@ -14,7 +14,7 @@ use Rattle.shim_tree.specs.declared.seek.Test.TheVariants.{Meets, Poisons}
 
 abbrev pub passes : {S : Type 0} → Ops S → Test S → Channel → Bool
 passes o (Meets l b) c = meets_here o (node l.now b.now) c
-passes o (Poisons l ls bs i k) c = poisons_here o l.now (together ls.now (nodes bs.now)) i (place k.now (nodes bs.now) i) c
+passes o (Poisons l ls bs i k) c = poisons_here o l.now (together ls.now (nodes bs.now)) i (nth_child k.now (nodes bs.now) i) c
 
 abbrev pub channels : List (Bor NamedChannel) → List Channel
 channels cs = map (λ c. c.now.channel) cs

@@ -4,8 +4,8 @@ use Rattle.shim_base.specs.Paths.{Path}
 use Rattle.shim_local.specs.Process.{Ops}
 use Rattle.shim_semantics.specs.Nodes.{Node, Live, Forked, Ended, Dead, Death, states}
 use Rattle.shim_tree.specs.NodeRefs.{how_many_of}
-use Rattle.shim_tree.specs.declared.view.View.{View}
-use Rattle.shim_tree.specs.declared.view.View.TheVariants as code
+use Rattle.shim_tree.specs.declared.view.ProcessView.{ProcessView}
+use Rattle.shim_tree.specs.declared.view.ProcessView.TheVariants as code
 
 pub data NodeView (S : Type 0) : Type 0 where
   ViewLive : S → NodeView S
@@ -39,7 +39,7 @@ node_view o (Ended l) = ViewEnded l
 node_view o (Dead l d) = ViewDead l d
 
 -- the same of a view
-abbrev pub viewed : {S : Type 0} → View S → NodeView S
+abbrev pub viewed : {S : Type 0} → ProcessView S → NodeView S
 viewed (code.Live l) = ViewLive l.now
 viewed (code.Forked l f n) = ViewForked l.now f n
 viewed (code.Ended l) = ViewEnded l.now

@@ -5,9 +5,9 @@ ghost use Rattle.shim_semantics.specs.Nodes.{prevailing_death};
 ghost use Rattle.shim_semantics.specs.Acts.{nothing, putting, throwing, act_here, act, act_child};
 ghost use Rattle.shim_semantics.specs.Places.{SoundBelow, branches};
 ghost use Rattle.shim_tree.specs.NodeStatus.{node, nodes, together};
-ghost use Rattle.shim_tree.specs.Beside.{place};
+ghost use Rattle.shim_tree.specs.Beside.{nth_child};
 ghost use Rattle.shim_tree.specs.Labels.{death_of, prevailing_of, ThrowLeaves};
-ghost use Rattle.shim_tree.specs.Acting.{effects_of, ActsHere, ActsAt, ActsAmong, SoundAmong, acted_on, ActsOn};
+ghost use Rattle.shim_tree.specs.Acting.{effects_of, ActsAtNode, ActsAt, ActsAmong, SoundAmong, acted_on, ActsOn};
 
 use crate::effects::Effects;
 use crate::fill::{behind, fill};
@@ -45,7 +45,7 @@ fn put<L: Local>(process: &mut L) -> Effects
 fn fork<L: Local>(process: &mut L, status: &mut NodeStatus<L>) -> Result<(), NoMemory>
     requires lives { status.old ≡ NodeStatus.Live }
     requires forks { L.ops.stop process.old ≡ AtFork }
-    ensures ok { OnOk result (ActsHere L.ops (node process.old status.old) nothing (node process.new status.new)) }
+    ensures ok { OnOk result (ActsAtNode L.ops (node process.old status.old) nothing (node process.new status.new)) }
     ensures err { OnErr result (node process.new status.new ≡ node process.old status.old) }
 {
     match process.fork()? {
@@ -101,7 +101,7 @@ fn act_live<L: Local>(process: &mut L, status: &mut NodeStatus<L>) -> Result<Eff
     requires lives { status.old ≡ NodeStatus.Live }
     requires sound { SoundBelow L.ops (node process.old status.old) }
     requires acts { act_here L.ops (node process.old status.old) ≢ None }
-    ensures ok { IfOk result (λ told. ActsHere L.ops (node process.old status.old) (effects_of told) (node process.new status.new)) }
+    ensures ok { IfOk result (λ told. ActsAtNode L.ops (node process.old status.old) (effects_of told) (node process.new status.new)) }
     ensures err { OnErr result (node process.new status.new ≡ node process.old status.old) }
 {
     match process.stop() {
@@ -144,7 +144,7 @@ fn death_of<L>(status: &NodeStatus<L>) -> Option<Death>
 
 // How the child in this place died, given what came of the children.
 fn death_at<L>(statuses: &[NodeStatus<L>], i: usize) -> Option<Death>
-    ensures { (l : L) → result ≡ death_of (place l (nodes statuses.now) i) }
+    ensures { (l : L) → result ≡ death_of (nth_child l (nodes statuses.now) i) }
 {
     if i < statuses.len() {
         death_of(&statuses[i])
@@ -195,7 +195,7 @@ fn take_back<L: Local>(process: &mut L, children: &[L], statuses: &[NodeStatus<L
 fn act_alone<L: Local>(process: &mut L, status: &mut NodeStatus<L>) -> Result<Effects, NoMemory>
     requires sound { SoundBelow L.ops (node process.old status.old) }
     requires acts { act_here L.ops (node process.old status.old) ≢ None }
-    ensures ok { IfOk result (λ told. ActsHere L.ops (node process.old status.old) (effects_of told) (node process.new status.new)) }
+    ensures ok { IfOk result (λ told. ActsAtNode L.ops (node process.old status.old) (effects_of told) (node process.new status.new)) }
     ensures err { OnErr result (node process.new status.new ≡ node process.old status.old) }
 {
     match status {

@@ -50,7 +50,7 @@ pub(crate) fn found_by<'a, L: Local>(root: &NodeRef<'a, L>, path: &Path) -> Opti
 
 // Whether the process, which lives, can do a step of its own.
 fn steps_next<L: Local>(l: &L) -> bool
-    ensures { result ≡ trees.same_kind trees.Steps (trees.kind_of_stop (L.ops.stop l.now)) }
+    ensures { result ≡ trees.same_own_action trees.Steps (trees.own_action_at (L.ops.stop l.now)) }
 {
     match l.stop() {
         Stop::Quiet | Stop::Put | Stop::Fork | Stop::Throw(_) | Stop::Trapped(_, _) => true,
@@ -60,7 +60,7 @@ fn steps_next<L: Local>(l: &L) -> bool
 
 // Whether the process, which lives, can end.
 fn ends_next<L: Local>(l: &L) -> bool
-    ensures { result ≡ trees.same_kind trees.Ends (trees.kind_of_stop (L.ops.stop l.now)) }
+    ensures { result ≡ trees.same_own_action trees.Ends (trees.own_action_at (L.ops.stop l.now)) }
 {
     match l.stop() {
         Stop::Finish => true,

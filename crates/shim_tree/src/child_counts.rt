@@ -7,7 +7,7 @@ ghost use Rattle.shim_semantics.specs.Places.{led_to};
 ghost use Rattle.shim_tree.specs.NodeStatus.{node};
 ghost use Rattle.shim_tree.specs.Acting.{acted_on};
 ghost use Rattle.shim_tree.specs.Advancing.{stepped, HasCount, KeepsCounts};
-ghost use Rattle.shim_tree.specs.ChildCounts.{live_in, children_of, ChildCountsReserved};
+ghost use Rattle.shim_tree.specs.ChildCounts.{live_in, forked_children, ChildCountsReserved};
 
 use crate::counts::Counts;
 use crate::fill::behind;
@@ -29,7 +29,7 @@ fn live_on<'a, L: Local>(root: &'a L, status: &'a NodeStatus<L>, path: &Path) ->
 // it, since a fork can't be taken back.
 fn reserve_children<L: Local>(process: &L, counts: &mut Counts) -> Result<(), NoMemory>
     requires { L.ops.stop process.now ≡ AtFork }
-    ensures ok { OnOk result (AllOf (λ (l : L). HasCount counts.new (L.ops.path l)) (children_of (L.ops.fork process.now))) }
+    ensures ok { OnOk result (AllOf (λ (l : L). HasCount counts.new (L.ops.path l)) (forked_children (L.ops.fork process.now))) }
     ensures keeps { KeepsCounts counts.old counts.new }
     ensures same { stepped counts.new ≡ stepped counts.old }
 {

@@ -1,7 +1,7 @@
 // Whether the death of another child has spoiled a channel for a child.
 ghost use Rattle.std.specs.Prelude.{◌≡◌, ◌&&◌, not, eqb};
 ghost use Rattle.shim_tree.specs.NodeStatus.{node, nodes, together};
-ghost use Rattle.shim_tree.specs.Beside.{place};
+ghost use Rattle.shim_tree.specs.Beside.{nth_child};
 ghost use Rattle.shim_semantics.specs.Poison as poison;
 ghost use Rattle.shim_semantics.specs.Poison.{dooms};
 
@@ -39,7 +39,7 @@ fn is_dooming_at<L: Local>(
     c: &Chan,
     label: u32,
 ) -> bool
-    ensures { result ≡ dooms L.ops label c.now.channel (place child.now (nodes statuses.now) i) }
+    ensures { result ≡ dooms L.ops label c.now.channel (nth_child child.now (nodes statuses.now) i) }
 {
     if i < statuses.len() {
         is_dooming(child, &statuses[i], c, label)
@@ -58,7 +58,7 @@ fn is_another_dooming<L: Local>(
     c: &Chan,
     label: u32,
 ) -> bool
-    ensures { result ≡ (not (eqb i at) && dooms L.ops label c.now.channel (place child.now (nodes statuses.now) i)) }
+    ensures { result ≡ (not (eqb i at) && dooms L.ops label c.now.channel (nth_child child.now (nodes statuses.now) i)) }
 {
     i != at && is_dooming_at(child, statuses, i, c, label)
 }

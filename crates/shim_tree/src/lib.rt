@@ -31,7 +31,7 @@ pub use entry::Entry;
 pub use event::Event;
 pub use node_ref::NodeRef;
 pub use tree::Tree;
-pub use view::View;
+pub use view::ProcessView;
 
 /// What is proved of trees, their events, and every order of these, whatever the processes are.
 pub mod laws;

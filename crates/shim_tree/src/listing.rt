@@ -3,7 +3,7 @@ ghost use Rattle.std.specs.Prelude.{◌≡◌, ◌++◌, ◌∷◌, [], IfOk, On
 ghost use Rattle.std.specs.Option.{option_copied};
 ghost use Rattle.shim_semantics.specs.Nodes.{Forked, all_done};
 ghost use Rattle.shim_tree.specs.NodeStatus.{node, nodes, together, event_of};
-ghost use Rattle.shim_tree.specs.Beside.{place};
+ghost use Rattle.shim_tree.specs.Beside.{nth_child};
 ghost use Rattle.shim_semantics.specs.Trees as trees;
 ghost use Rattle.shim_semantics.specs.Walks.{as_list, own_events, here, waited, poisons_of, walk};
 ghost use Rattle.shim_tree.specs.Inserted.{inserted, all_inserted};
@@ -90,7 +90,7 @@ fn put_at<'a, L: Local>(
     test: &Test<'_, L>,
     chans: &mut Vec<&'a Chan>,
 ) -> Result<(), NoMemory>
-    ensures { OnOk result (channels chans.new.items ≡ all_inserted (channels chans.old.items) (filter (passes L.ops test.now) (waited L.ops (place child.now (nodes statuses.now) i)))) }
+    ensures { OnOk result (channels chans.new.items ≡ all_inserted (channels chans.old.items) (filter (passes L.ops test.now) (waited L.ops (nth_child child.now (nodes statuses.now) i)))) }
 {
     if i < statuses.len() {
         put_below(child, &statuses[i], test, chans)
@@ -183,7 +183,7 @@ fn push_poisons_of<L: Local>(
     child: &L,
     events: &mut List<Event>,
 ) -> Result<(), NoMemory>
-    ensures { OnOk result (map event_of events.new ≡ map event_of events.old ++ poisons_of L.ops l.now (together children.now (nodes statuses.now)) i (place child.now (nodes statuses.now) i)) }
+    ensures { OnOk result (map event_of events.new ≡ map event_of events.old ++ poisons_of L.ops l.now (together children.now (nodes statuses.now)) i (nth_child child.now (nodes statuses.now) i)) }
 {
     let test = Test::Poisons(l, children, statuses, i, child);
     let mut chans = Vec::new(alloc);

@@ -12,7 +12,7 @@ use crate::doom::is_doomed;
 use crate::node_status::NodeStatus;
 use crate::ready::{is_ready, waits_at};
 use crate::seek::{are_done, is_ready_at};
-use crate::view::View;
+use crate::view::ProcessView;
 use shim_base::{Chan, Path};
 use shim_local::Local;
 use std::marker::Model;
@@ -29,13 +29,13 @@ impl<'a, L> Model for NodeRef<'a, L> {
     ghost use Rattle.std.specs.Option.{option_copied};
     ghost use Rattle.shim_semantics.specs.Nodes.{Node};
     ghost use Rattle.shim_semantics.proofs.Codes.{node_code};
-    ghost use Rattle.shim_tree.specs.NodeRefs.{lent};
+    ghost use Rattle.shim_tree.specs.NodeRefs.{lent_node};
 
     ghost Value = { Node L };
 
     ghost coded = { node_code L.code };
 
-    ghost view = { λ n. lent n.process.now (option_copied n.status) };
+    ghost view = { λ n. lent_node n.process.now (option_copied n.status) };
 }
 
 impl<'a, L: Local> NodeRef<'a, L> {
@@ -98,11 +98,11 @@ impl<'a, L: Local> NodeRef<'a, L> {
     }
 
     /// What came of it, without those below it.
-    pub(crate) fn view(&self) -> View<'a, L>
+    pub(crate) fn view(&self) -> ProcessView<'a, L>
         ensures { viewed result ≡ node_view L.ops self.now }
     {
         match self.status {
-            None => View::Live(self.process),
+            None => ProcessView::Live(self.process),
             Some(status) => view_of(self.process, status),
         }
     }
@@ -139,7 +139,10 @@ impl<'a, L: Local> NodeRef<'a, L> {
 }
 
 /// The process of which this came, lent.
-pub(crate) fn lend<'a, L: Local>(process: &'a L, status: &'a NodeStatus<L>) -> NodeRef<'a, L>
+pub(crate) fn lend_process<'a, L: Local>(
+    process: &'a L,
+    status: &'a NodeStatus<L>,
+) -> NodeRef<'a, L>
     ensures { result ≡ node process.now status.now }
 {
     NodeRef {
@@ -209,16 +212,16 @@ fn as_word(count: usize) -> u32
 }
 
 // What came of the process, without those below it.
-fn view_of<'a, L: Local>(process: &'a L, status: &NodeStatus<L>) -> View<'a, L>
+fn view_of<'a, L: Local>(process: &'a L, status: &NodeStatus<L>) -> ProcessView<'a, L>
     ensures { viewed result ≡ node_view L.ops (node process.now status.now) }
 {
     match status {
-        NodeStatus::Live => View::Live(process),
-        NodeStatus::Ended => View::Ended(process),
-        NodeStatus::Dead(death) => View::Dead(process, *death),
+        NodeStatus::Live => ProcessView::Live(process),
+        NodeStatus::Ended => ProcessView::Ended(process),
+        NodeStatus::Dead(death) => ProcessView::Dead(process, *death),
         NodeStatus::Forked(children, _) => {
             let fork = fork_of(children.as_slice());
-            View::Forked(process, fork, as_word(children.len()))
+            ProcessView::Forked(process, fork, as_word(children.len()))
         }
     }
 }

@@ -2,7 +2,7 @@
 ghost use Rattle.std.specs.Prelude.{◌≡◌, cond, OnOk, IfOk};
 ghost use Rattle.shim_local.specs.declared.Outcome.TheVariants.{Spent};
 ghost use Rattle.shim_tree.specs.NodeStatus.{node};
-ghost use Rattle.shim_semantics.specs.Nodes.{next_of};
+ghost use Rattle.shim_semantics.specs.Nodes.{next_channel};
 ghost use Rattle.shim_semantics.specs.Endings as endings;
 ghost use Rattle.shim_run_log.specs.Waits.{with_waits};
 
@@ -90,7 +90,7 @@ fn gather<L: Local>(root: &L, status: &NodeStatus<L>, waits: &mut Waits) -> Resu
 
 // Adds this live process, if it stands at a channel.
 fn gather_live<L: Local>(process: &L, waits: &mut Waits) -> Result<(), NoMemory>
-    ensures { OnOk result (waits.new ≡ with_waits waits.old (endings.wait_of (L.ops.path process.now) (next_of (L.ops.stop process.now)))) }
+    ensures { OnOk result (waits.new ≡ with_waits waits.old (endings.wait_of (L.ops.path process.now) (next_channel (L.ops.stop process.now)))) }
 {
     match process.stop() {
         Stop::Next(chan) => waits.add(process.path(), chan),

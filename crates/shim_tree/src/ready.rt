@@ -1,9 +1,9 @@
 // Whether all whom a channel concerns wait at it.
 ghost use Rattle.std.specs.Prelude.{◌≡◌, ◌&&◌, not, true, IsTrue};
 ghost use Rattle.std.specs.Option.{option_copied};
-ghost use Rattle.shim_semantics.specs.Nodes.{next_of, is_next, has_ended, ready};
+ghost use Rattle.shim_semantics.specs.Nodes.{next_channel, is_next, has_ended, ready};
 ghost use Rattle.shim_tree.specs.NodeStatus.{node, nodes};
-ghost use Rattle.shim_tree.specs.Beside.{place};
+ghost use Rattle.shim_tree.specs.Beside.{nth_child};
 
 use crate::node_status::NodeStatus;
 use shim_base::Chan;
@@ -11,7 +11,7 @@ use shim_local::{Local, Stop};
 
 /// The channel at which the process stands.
 pub(crate) fn stands_at<L: Local>(l: &L) -> Option<&Chan>
-    ensures { option_copied result ≡ next_of (L.ops.stop l.now) }
+    ensures { option_copied result ≡ next_channel (L.ops.stop l.now) }
 {
     match l.stop() {
         Stop::Next(c) => Some(c),
@@ -46,7 +46,7 @@ fn is_ended<L>(status: &NodeStatus<L>) -> bool
 
 /// Whether the child in this place has ended, given what came of the children.
 pub(crate) fn is_ended_at<L>(statuses: &[NodeStatus<L>], i: usize) -> bool
-    ensures { (l : L) → result ≡ has_ended (place l (nodes statuses.now) i) }
+    ensures { (l : L) → result ≡ has_ended (nth_child l (nodes statuses.now) i) }
 {
     if i < statuses.len() {
         is_ended(&statuses[i])
@@ -57,7 +57,7 @@ pub(crate) fn is_ended_at<L>(statuses: &[NodeStatus<L>], i: usize) -> bool
 
 // Whether the child in this place shares the channel and hasn't ended.
 fn is_concerned<L: Local>(child: &L, statuses: &[NodeStatus<L>], i: usize, c: &Chan) -> bool
-    ensures { result ≡ L.ops.shares child.now c.now.channel && not (has_ended (place child.now (nodes statuses.now) i)) }
+    ensures { result ≡ L.ops.shares child.now c.now.channel && not (has_ended (nth_child child.now (nodes statuses.now) i)) }
 {
     child.shares(c) && !is_ended_at(statuses, i)
 }

@@ -1,6 +1,6 @@
 // What a meeting reads of a tree, and what it leaves.
 ghost use Rattle.std.specs.Prelude.{◌≡◌, cond, unwrap_or};
-ghost use Rattle.shim_semantics.specs.Nodes.{is_next, received, source, value_of, next_of, name_at, first_name};
+ghost use Rattle.shim_semantics.specs.Nodes.{is_next, received, source, value_of, next_channel, name_for, first_name};
 ghost use Rattle.shim_tree.specs.NodeStatus.{node};
 ghost use Rattle.shim_tree.specs.Meeting.{valued, value_carried};
 
@@ -88,7 +88,7 @@ pub(crate) fn value_met<L: Local>(process: &L, status: &NodeStatus<L>, chan: &Ch
 
 // The name that the process has for the channel, where it stands there.
 fn name_here<L: Local>(process: &L, chan: &Chan) -> Option<u32>
-    ensures { result ≡ name_at chan.now.channel (next_of (L.ops.stop process.now)) }
+    ensures { result ≡ name_for chan.now.channel (next_channel (L.ops.stop process.now)) }
 {
     match process.stop() {
         Stop::Next(next) => {

@@ -3,10 +3,10 @@ ghost use Rattle.std.specs.Prelude.{◌≡◌, None, IfOk};
 ghost use Rattle.std.specs.Option.{option_copied, option_map};
 ghost use Rattle.shim_semantics.specs.Nodes.{Forked, goes, all_done, ready};
 ghost use Rattle.shim_tree.specs.NodeStatus.{node, nodes, together, event_of};
-ghost use Rattle.shim_tree.specs.Beside.{place};
+ghost use Rattle.shim_tree.specs.Beside.{nth_child};
 ghost use Rattle.shim_semantics.specs.Walks.{as_list, head, own_events, here, waited, poisons_of, walk};
 ghost use Rattle.shim_semantics.specs.Endings.{is_empty};
-ghost use Rattle.shim_tree.specs.Finding.{channel_in, or_sooner, least, found_event};
+ghost use Rattle.shim_tree.specs.Finding.{unnamed_channel, or_sooner, least, found_event};
 ghost use Rattle.shim_tree.specs.Searching.{passes};
 
 use crate::doom::is_doomed;
@@ -83,7 +83,7 @@ fn is_going<L>(status: &NodeStatus<L>) -> bool
 
 // Whether the child in this place has neither ended nor died, given what came of the children.
 fn is_going_at<L>(statuses: &[NodeStatus<L>], i: usize) -> bool
-    ensures { (l : L) → result ≡ goes (place l (nodes statuses.now) i) }
+    ensures { (l : L) → result ≡ goes (nth_child l (nodes statuses.now) i) }
 {
     if i < statuses.len() {
         is_going(&statuses[i])
@@ -111,7 +111,7 @@ pub(crate) fn is_ready_at<L: Local>(
     i: usize,
     c: &Chan,
 ) -> bool
-    ensures { result ≡ ready L.ops c.now.channel (place child.now (nodes statuses.now) i) }
+    ensures { result ≡ ready L.ops c.now.channel (nth_child child.now (nodes statuses.now) i) }
 {
     if i < statuses.len() {
         is_ready(child, &statuses[i], c)
@@ -135,7 +135,7 @@ pub(crate) fn is_passing<L: Local>(test: &Test<'_, L>, c: &Chan) -> bool
 
 // The channel, or the best until now if that is sooner.
 fn sooner<'a>(c: &'a Chan, best: Option<&'a Chan>) -> &'a Chan
-    ensures { result.now.channel ≡ or_sooner c.now.channel (channel_in (option_copied best.entry)) }
+    ensures { result.now.channel ≡ or_sooner c.now.channel (unnamed_channel (option_copied best.entry)) }
 {
     match best {
         None => c,
@@ -150,7 +150,7 @@ fn with_one<'a, L: Local>(
     c: Option<&'a Chan>,
     best: Option<&'a Chan>,
 ) -> Option<&'a Chan>
-    ensures { channel_in (option_copied result) ≡ least (passes L.ops test.now) (channel_in (option_copied best.entry)) (as_list (option_copied c.entry)) }
+    ensures { unnamed_channel (option_copied result) ≡ least (passes L.ops test.now) (unnamed_channel (option_copied best.entry)) (as_list (option_copied c.entry)) }
 {
     match c {
         None => best,
@@ -172,7 +172,7 @@ fn least_below<'a, L: Local>(
     test: &Test<'_, L>,
     best: Option<&'a Chan>,
 ) -> Option<&'a Chan>
-    ensures { channel_in (option_copied result) ≡ least (passes L.ops test.now) (channel_in (option_copied best.entry)) (waited L.ops (node l.now status.now)) }
+    ensures { unnamed_channel (option_copied result) ≡ least (passes L.ops test.now) (unnamed_channel (option_copied best.entry)) (waited L.ops (node l.now status.now)) }
 {
     match status {
         NodeStatus::Live => with_one(test, stands_at(l), best),
@@ -199,7 +199,7 @@ fn least_at<'a, L: Local>(
     i: usize,
     test: &Test<'_, L>,
 ) -> Option<&'a Chan>
-    ensures { channel_in (option_copied result) ≡ least (passes L.ops test.now) None (waited L.ops (place child.now (nodes statuses.now) i)) }
+    ensures { unnamed_channel (option_copied result) ≡ least (passes L.ops test.now) None (waited L.ops (nth_child child.now (nodes statuses.now) i)) }
 {
     if i < statuses.len() {
         least_below(child, &statuses[i], test, None)
@@ -238,7 +238,7 @@ fn poison_of<'a, L: Local>(
     i: usize,
     child: &'a L,
 ) -> Option<Found<'a>>
-    ensures { option_map found_event result ≡ head (poisons_of L.ops l.now (together children.now (nodes statuses.now)) i (place child.now (nodes statuses.now) i)) }
+    ensures { option_map found_event result ≡ head (poisons_of L.ops l.now (together children.now (nodes statuses.now)) i (nth_child child.now (nodes statuses.now) i)) }
 {
     let test = Test::Poisons(l, children, statuses, i, child);
     match least_at(child, statuses, i, &test) {

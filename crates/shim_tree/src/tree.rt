@@ -28,7 +28,7 @@ use crate::event::Event;
 use crate::fill::behind;
 use crate::in_place::go_quietly_at;
 use crate::listing;
-use crate::node_ref::{NodeRef, lend};
+use crate::node_ref::{NodeRef, lend_process};
 use crate::node_status::NodeStatus;
 use crate::own_step::own_step;
 use crate::poison::poison_on;
@@ -37,7 +37,7 @@ use crate::reading::{outcome_of, waits_of};
 use crate::receive::{name_met, receive_at, value_met};
 use crate::seek::{found_first, is_quiescent};
 use crate::standing::{live_of, stands_quiet};
-use crate::view::View;
+use crate::view::ProcessView;
 use shim_base::{Chan, List, NoMemory, Path};
 use shim_local::{Ended, Local, Log, Quiet};
 use shim_run_log::{Histories, logs_by_path};
@@ -107,7 +107,7 @@ impl<L: Local> Tree<L> {
 
     /// The first of them. `None` exactly where no event is enabled.
     pub fn first(&self) -> Result<Option<Event>, NoMemory>
-        ensures first { IfOk result (λ event. option_map event_of event ≡ walks.first L.ops self.now) }
+        ensures first { IfOk result (λ event. option_map event_of event ≡ walks.first_event L.ops self.now) }
         ensures none { IfOk result (λ event. (event ≡ None) ↔ IsQuiescent L.ops self.now) }
         ensures enabled { IfOk result (λ event. IfSome event (λ e. after L.ops (event_of e) self.now ≢ None)) }
     {
@@ -198,14 +198,14 @@ impl<L: Local> Tree<L> {
     pub fn root(&self) -> NodeRef<'_, L>
         ensures { result ≡ self.now.root }
     {
-        lend(&self.root, &self.status)
+        lend_process(&self.root, &self.status)
     }
 
     /// What came of the process of this path; `None` exactly where no process has it. It takes no memory.
-    pub fn view(&self, path: &Path) -> Option<View<'_, L>>
+    pub fn view(&self, path: &Path) -> Option<ProcessView<'_, L>>
         ensures { option_map viewed result ≡ option_map (node_view L.ops) (its_node L.ops self.now.root path.now) }
     {
-        let root = lend(&self.root, &self.status);
+        let root = lend_process(&self.root, &self.status);
         match found_by(&root, path) {
             None => None,
             Some(node) => Some(node.view()),
@@ -216,7 +216,7 @@ impl<L: Local> Tree<L> {
     pub fn is_enabled(&self, event: &Event) -> bool
         ensures { IsTrue result ↔ (after L.ops (event_of event.now) self.now ≢ None) }
     {
-        let root = lend(&self.root, &self.status);
+        let root = lend_process(&self.root, &self.status);
         can_happen(&root, event)
     }
 

@@ -9,8 +9,8 @@ use Rattle.shim_syntax.specs.declared.tree.Sort.{Sort}
 use Rattle.shim_units.specs.declared.found.Use.{Use}
 use Rattle.shim_units.specs.declared.found.Capture.{Capture}
 use Rattle.shim_units.specs.declared.captures.Usage.{Usage}
-use Rattle.shim_units.specs.Captures.{some, declares, writes, names, captures, taken_of, is_declared, is_written}
-use Rattle.shim_units.specs.Usages.{usage_of, with_use, Shows, TakesBelow, captures_of, or_nothing, taken_with}
+use Rattle.shim_units.specs.Captures.{some, declares_variable, writes, names, captures, taken_of, is_declared, is_written}
+use Rattle.shim_units.specs.Usages.{usage_of, with_use, ShowUses, TakesBelow, captures_of, or_nothing, taken_with}
 use Rattle.shim_base.proofs.Facts.{or_right, or_of_false}
 
 or_assoc : (a b c : Bool) → (a || (b || c)) ≡ ((a || b) || c)
@@ -68,7 +68,7 @@ get_set_other (x ∷ xs) zero (suc j) a ne = refl
 get_set_other (x ∷ xs) (suc i) zero a ne = refl
 get_set_other (x ∷ xs) (suc i) (suc j) a ne = get_set_other xs i j a (λ e. ne (ap suc e))
 
-shows_here : (ms : List Usage) (n : ℕ) (us : List Use) (u : Use) (m : Usage) (x : ℕ) → Shows ms n us → u.slot < n → m ≡ usage_of us u.slot → x < n
+shows_here : (ms : List Usage) (n : ℕ) (us : List Use) (u : Use) (m : Usage) (x : ℕ) → ShowUses ms n us → u.slot < n → m ≡ usage_of us u.slot → x < n
     → slice_get (set ms u.slot (with_use m u.how)) x ≡ Some (usage_of (us ++ u ∷ []) x)
 shows_here ms n us u m x h lt is below =
     elim (cases_eq x u.slot) [
@@ -82,7 +82,7 @@ shows_here ms n us u m x h lt is below =
 
 -- one more use, of a variable that has a usage
 pub shows_more : (ms : List Usage) (u : Use) (m : Usage) → u.slot < length ms → slice_get ms u.slot ≡ Some m
-    → (n : ℕ) (us : List Use) → Shows ms n us → Shows (set ms u.slot (with_use m u.how)) n (us ++ u ∷ [])
+    → (n : ℕ) (us : List Use) → ShowUses ms n us → ShowUses (set ms u.slot (with_use m u.how)) n (us ++ u ∷ [])
 shows_more ms u m lt at n us h =
     let inside : u.slot < n = omega (arith, h.long) in
     let is : m ≡ usage_of us u.slot = cc (at, h.each u.slot inside) in
@@ -105,7 +105,7 @@ with_mark None m = refl
 with_mark (Some sort) m = refl
 
 -- the way to take one more variable
-pub takes_more : (ts : List Capture) (n : ℕ) (sorts : List Sort) (us : List Use) (ms : List Usage) → n < length sorts → Shows ms (length sorts) us
+pub takes_more : (ts : List Capture) (n : ℕ) (sorts : List Sort) (us : List Use) (ms : List Usage) → n < length sorts → ShowUses ms (length sorts) us
     → TakesBelow ts n sorts us → TakesBelow (ts ++ taken_with (slice_get sorts n) (slice_get ms n) ∷ []) (n + 1) sorts us
 takes_more ts n sorts us ms inside shown below =
     let v : Capture = taken_with (slice_get sorts n) (slice_get ms n) in
@@ -123,6 +123,6 @@ pub takes_all : (ts : List Capture) (n : ℕ) (sorts : List Sort) (us : List Use
 takes_all ts n sorts us most least below =
     let each : (x : ℕ) → captures_of ts x ≡ captures sorts us x = λ x. elim (cases_lt x n) [
       | inl less ↦ ap or_nothing (below.each x less)
-      | inr past ↦ ap or_nothing (slice_get_past ts x (omega (arith, below.long))) ∙ sym (ap (λ o. taken_of o (declares us x) (writes us x) (names us x)) (slice_get_past sorts x (omega arith)))
+      | inr past ↦ ap or_nothing (slice_get_past ts x (omega (arith, below.long))) ∙ sym (ap (λ o. taken_of o (declares_variable us x) (writes us x) (names us x)) (slice_get_past sorts x (omega arith)))
     ] in
     λ k x. each x k

@@ -40,6 +40,6 @@ unfoldable pub bare : UExpr → Option ℕ
 bare = fold-UExpr (Option ℕ) bare_step
 
 -- each argument with its parameter
-abbrev pub given : List UParam → List UExpr → List Given
-given ps [] = []
-given ps (e ∷ es) = record { lent = lends_first ps; bare = bare e } ∷ given (behind_first ps) es
+abbrev pub paired_arguments : List UParam → List UExpr → List Given
+paired_arguments ps [] = []
+paired_arguments ps (e ∷ es) = record { lent = lends_first ps; bare = bare e } ∷ paired_arguments (behind_first ps) es

@@ -28,8 +28,8 @@ some p [] = false
 some p (u ∷ us) = p u || some p us
 
 -- the text declares the variable
-abbrev pub declares : List Use → ℕ → Bool
-declares us x = some (λ (u : Use). nat_eq u.slot x && is_declared u.how) us
+abbrev pub declares_variable : List Use → ℕ → Bool
+declares_variable us x = some (λ (u : Use). nat_eq u.slot x && is_declared u.how) us
 
 -- the text assigns to the variable, or passes it by reference
 abbrev pub writes : List Use → ℕ → Bool
@@ -39,7 +39,7 @@ writes us x = some (λ (u : Use). nat_eq u.slot x && is_written u.how) us
 abbrev pub names : List Use → ℕ → Bool
 names us x = some (λ (u : Use). nat_eq u.slot x) us
 
-abbrev pub copied : Bool → Capture
+abbrev copied : Bool → Capture
 copied true = Copy
 copied false = Nothing
 
@@ -61,7 +61,7 @@ taken_of (Some sort) declared written named = taken_as sort declared written nam
 
 -- how a branch with these uses takes each variable of a function whose slots have these sorts
 abbrev pub captures : List Sort → List Use → Captures
-captures sorts us x = taken_of (slice_get sorts x) (declares us x) (writes us x) (names us x)
+captures sorts us x = taken_of (slice_get sorts x) (declares_variable us x) (writes us x) (names us x)
 
 abbrev pub is_reference : Capture → Bool
 is_reference Nothing = false

@@ -17,7 +17,7 @@ use Rattle.shim_units.specs.declared.unit.Unit.{Unit as UnitOf}
 use Rattle.shim_units.specs.declared.slot_map.SlotMap.{SlotMap}
 use Rattle.shim_units.specs.Parts.{LiftContext, Lifted, Lifts, Part, all_uses, all_raises, all_declares, all_tries}
 use Rattle.shim_units.specs.Captures.{Captures, captures, is_reference, is_taken}
-use Rattle.shim_units.specs.Moving.{slot_index_of, slot_index_of_option, slot_indices_of, moved, moved_option, by_mode, moved_call}
+use Rattle.shim_units.specs.Moving.{slot_index_of, slot_index_of_option, slot_indices_of, renumbered, moved_option, by_mode, moved_call}
 
 -- what a function says of its slots and `try` statements, by their numbers
 
@@ -41,7 +41,7 @@ try_name f x = number_or_zero (slice_get f.tries (x - length f.throws))
 
 -- one after another
 
-abbrev pub before_rest : {T : Type 0} → Lifted T → Lifted (List T) → Lifted (List T)
+abbrev before_rest : {T : Type 0} → Lifted T → Lifted (List T) → Lifted (List T)
 before_rest r q = record { tree = r.tree ∷ q.tree; units = r.units ++ q.units }
 
 abbrev pub lift_all : {T : Type 0} → List (Part T) → Lifts (List T)
@@ -49,8 +49,8 @@ lift_all [] context w n = record { tree = []; units = [] }
 lift_all (p ∷ ps) context w n = before_rest (p.lift context w n) (lift_all ps context w (n + length (p.lift context w n).units))
 
 -- a part that nothing is lifted out of
-abbrev pub whole : {T : Type 0} → T → Lifted T
-whole t = record { tree = t; units = [] }
+abbrev pub unlifted : {T : Type 0} → T → Lifted T
+unlifted t = record { tree = t; units = [] }
 
 abbrev pub on_tree : {S T : Type 0} → (S → T) → Lifted S → Lifted T
 on_tree g r = record { tree = g r.tree; units = r.units }
@@ -148,23 +148,23 @@ lift_branch body context w n =
 
 abbrev pub lift_branch_what : {T V : Type 0} → RBranchWhat-F (ℕ → Part V) (ℕ → Part T) (Part UBranch) (Part UStmt) → Lifts UCall
 lift_branch_what (RBranchWhat-F.RBranchWhat::Block body) context w n = lift_branch body context w n
-lift_branch_what (RBranchWhat-F.RBranchWhat::Call c) context w n = whole (moved_call context.functions c w)
+lift_branch_what (RBranchWhat-F.RBranchWhat::Call c) context w n = unlifted (moved_call context.functions c w)
 
 abbrev pub lift_what : {T V : Type 0} → RWhat-F (ℕ → Part V) (ℕ → Part T) (Part UBranch) (Part UStmt) → Lifts UWhat
-lift_what (RWhat-F.Declare ty x e) context w n = whole (Declare ty (slot_index_of w.slots x) (moved_option w.slots e))
-lift_what (RWhat-F.Assign x e) context w n = whole (Assign (slot_index_of w.slots x) (moved w.slots e))
-lift_what (RWhat-F.Next x) context w n = whole (Next (slot_index_of w.slots x))
-lift_what (RWhat-F.NextAssign x e) context w n = whole (NextAssign (slot_index_of w.slots x) (moved w.slots e))
-lift_what (RWhat-F.AssignNext x y) context w n = whole (AssignNext (slot_index_of w.slots x) (slot_index_of w.slots y))
-lift_what (RWhat-F.Get x y) context w n = whole (Get (slot_index_of w.slots x) (slot_index_of w.slots y))
-lift_what (RWhat-F.Put x e) context w n = whole (Put (slot_index_of w.slots x) (moved w.slots e))
-lift_what (RWhat-F.If e first other) context w n = lift_two (If (moved w.slots e)) (lift_all first) (lift_all other) context w n
-lift_what (RWhat-F.While e body) context w n = on_tree (While (moved w.slots e)) (lift_all body context w n)
+lift_what (RWhat-F.Declare ty x e) context w n = unlifted (Declare ty (slot_index_of w.slots x) (moved_option w.slots e))
+lift_what (RWhat-F.Assign x e) context w n = unlifted (Assign (slot_index_of w.slots x) (renumbered w.slots e))
+lift_what (RWhat-F.Next x) context w n = unlifted (Next (slot_index_of w.slots x))
+lift_what (RWhat-F.NextAssign x e) context w n = unlifted (NextAssign (slot_index_of w.slots x) (renumbered w.slots e))
+lift_what (RWhat-F.AssignNext x y) context w n = unlifted (AssignNext (slot_index_of w.slots x) (slot_index_of w.slots y))
+lift_what (RWhat-F.Get x y) context w n = unlifted (Get (slot_index_of w.slots x) (slot_index_of w.slots y))
+lift_what (RWhat-F.Put x e) context w n = unlifted (Put (slot_index_of w.slots x) (renumbered w.slots e))
+lift_what (RWhat-F.If e first other) context w n = lift_two (If (renumbered w.slots e)) (lift_all first) (lift_all other) context w n
+lift_what (RWhat-F.While e body) context w n = on_tree (While (renumbered w.slots e)) (lift_all body context w n)
 lift_what (RWhat-F.For first test step body) context w n =
     lift_three (λ a b c. For a (moved_option w.slots test) b c) (lift_all first) (lift_all step) (lift_all body) context w n
 lift_what (RWhat-F.RWhat::Block body) context w n = on_tree Block (lift_all body context w n)
-lift_what (RWhat-F.RWhat::Call c) context w n = whole (Call (moved_call context.functions c w))
+lift_what (RWhat-F.RWhat::Call c) context w n = unlifted (Call (moved_call context.functions c w))
 lift_what (RWhat-F.Try body x y handler) context w n =
     lift_two (λ a b. Try a (slot_index_of w.exceptions x) (slot_index_of_option w.slots y) b) (lift_all body) (lift_all handler) context w n
-lift_what (RWhat-F.Throw x e) context w n = whole (Throw (slot_index_of w.exceptions x) (moved_option w.slots e))
+lift_what (RWhat-F.Throw x e) context w n = unlifted (Throw (slot_index_of w.exceptions x) (moved_option w.slots e))
 lift_what (RWhat-F.Par branches) context w n = on_tree Par (lift_all branches context w n)

@@ -34,19 +34,19 @@ moved_step slots (UExpr-F.Unary op a) = Unary op a
 moved_step slots (UExpr-F.Binary op a b) = Binary op a b
 
 -- an expression over a unit's slots
-unfoldable pub moved : List ℕ → UExpr → UExpr
-moved slots = fold-UExpr UExpr (moved_step slots)
+unfoldable pub renumbered : List ℕ → UExpr → UExpr
+renumbered slots = fold-UExpr UExpr (moved_step slots)
 
 abbrev pub moved_option : List ℕ → Option UExpr → Option UExpr
 moved_option slots None = None
-moved_option slots (Some e) = Some (moved slots e)
+moved_option slots (Some e) = Some (renumbered slots e)
 
 abbrev pub by_mode : Bool → ℕ → Arg
 by_mode true x = Ref x
 by_mode false x = Pass x
 
 abbrev pub arg_of : List ℕ → Bool → Option ℕ → UExpr → Arg
-arg_of slots lent None e = Fresh (moved slots e)
+arg_of slots lent None e = Fresh (renumbered slots e)
 arg_of slots lent (Some x) e = by_mode lent (slot_index_of slots x)
 
 -- a bare variable goes by reference or by value as its parameter has it, and anything else is computed

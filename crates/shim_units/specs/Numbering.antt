@@ -5,7 +5,7 @@ use Rattle.shim_units.specs.declared.unit.UWhat.{UWhat-F}
 
 -- Statements are numbered from 0 in the order of the text, each before what stands in it, and the step of a `for` behind its body. A block has no number of its own, and a `for` stands behind its first part.
 
-abbrev pub total : List ℕ → ℕ
+abbrev total : List ℕ → ℕ
 total [] = 0
 total (n ∷ ns) = n + total ns
 

@@ -10,7 +10,7 @@ use Rattle.shim_units.specs.declared.unit.UCall.{UCall}
 use Rattle.shim_units.specs.declared.unit.UStmt.{UStmt}
 use Rattle.shim_units.specs.declared.unit.UWhat.{UWhat}
 use Rattle.shim_units.specs.declared.unit.UBranch.{UBranch}
-use Rattle.shim_units.specs.Parts.{Place, Part, Lifts, all_uses, all_places, all_raises, all_declares, all_tries}
+use Rattle.shim_units.specs.Parts.{SharingPlace, Part, Lifts, all_uses, all_places, all_raises, all_declares, all_tries}
 use Rattle.shim_units.specs.Uses.{what_uses, branch_what_uses}
 use Rattle.shim_units.specs.Places.{what_places, branch_what_places}
 use Rattle.shim_units.specs.Own.{what_raises, branch_what_raises, what_declares, what_tries}
@@ -70,7 +70,7 @@ branch_parts branches = map branch_part branches
 abbrev pub uses_in : List RFunction → List RStmt → List Use
 uses_in fs body = all_uses fs (parts body)
 
-abbrev pub places_in : List RFunction → List RStmt → List Place
+abbrev pub places_in : List RFunction → List RStmt → List SharingPlace
 places_in fs body = all_places fs (parts body)
 
 abbrev pub raises_in : List RStmt → List ℕ

@@ -7,9 +7,9 @@ use Rattle.shim_units.specs.declared.unit.Unit.{Unit as UnitOf}
 use Rattle.shim_units.specs.declared.slot_map.SlotMap.{SlotMap}
 
 -- a place that the sharing rule speaks of: a fork, with the uses of variables in each of its branches, or a call, with its arguments; each with its line
-pub data Place : Type 0 where
-  Fork : ℕ → List (List Use) → Place
-  Called : ℕ → List Given → Place
+pub data SharingPlace : Type 0 where
+  Fork : ℕ → List (List Use) → SharingPlace
+  Called : ℕ → List Given → SharingPlace
 
 -- the function that a part stands in, with all functions of the program: its number, its name, and the number that the first unit lifted out of it has
 pub record LiftContext : Type 0 where
@@ -31,7 +31,7 @@ Lifts T = LiftContext → SlotMap → ℕ → Lifted T
 -- What a part holds, in textual order: the uses of variables in it and the places that the sharing rule speaks of, by the functions that may be called; the exceptions that it throws or passes on; the variables that it declares and the exceptions of its `try` statements, without those in block branches; and its form in a unit.
 pub record Part (T : Type 0) : Type 0 where
   pub uses : List RFunction → List Use
-  pub places : List RFunction → List Place
+  pub places : List RFunction → List SharingPlace
   pub raises : List ℕ
   pub declares : List ℕ
   pub tries : List ℕ
@@ -41,7 +41,7 @@ abbrev pub all_uses : {T : Type 0} → List RFunction → List (Part T) → List
 all_uses fs [] = []
 all_uses fs (p ∷ ps) = p.uses fs ++ all_uses fs ps
 
-abbrev pub all_places : {T : Type 0} → List RFunction → List (Part T) → List Place
+abbrev pub all_places : {T : Type 0} → List RFunction → List (Part T) → List SharingPlace
 all_places fs [] = []
 all_places fs (p ∷ ps) = p.places fs ++ all_places fs ps
 

@@ -4,18 +4,18 @@ use Rattle.shim_scopes.specs.declared.tree.RCall.{RCall}
 use Rattle.shim_scopes.specs.declared.tree.RFunction.{RFunction}
 use Rattle.shim_scopes.specs.declared.tree.RWhat.{RWhat-F}
 use Rattle.shim_scopes.specs.declared.tree.RBranchWhat.{RBranchWhat-F}
-use Rattle.shim_units.specs.Parts.{Place, Part, all_places, each_uses}
-use Rattle.shim_units.specs.Parts.Place.{Fork, Called}
-use Rattle.shim_units.specs.Calls.{given, params_at}
+use Rattle.shim_units.specs.Parts.{SharingPlace, Part, all_places, each_uses}
+use Rattle.shim_units.specs.Parts.SharingPlace.{Fork, Called}
+use Rattle.shim_units.specs.Calls.{paired_arguments, params_at}
 
-abbrev pub call_place : List RFunction → RCall → ℕ → Place
-call_place fs c line = Called line (given (params_at fs c.function) c.args)
+abbrev pub call_place : List RFunction → RCall → ℕ → SharingPlace
+call_place fs c line = Called line (paired_arguments (params_at fs c.function) c.args)
 
-abbrev pub branch_what_places : {S T U V : Type 0} → List RFunction → RBranchWhat-F (ℕ → Part S) (ℕ → Part T) (Part U) (Part V) → ℕ → List Place
+abbrev pub branch_what_places : {S T U V : Type 0} → List RFunction → RBranchWhat-F (ℕ → Part S) (ℕ → Part T) (Part U) (Part V) → ℕ → List SharingPlace
 branch_what_places fs (RBranchWhat-F.RBranchWhat::Block body) line = all_places fs body
 branch_what_places fs (RBranchWhat-F.RBranchWhat::Call c) line = call_place fs c line ∷ []
 
-abbrev pub what_places : {S T U V : Type 0} → List RFunction → RWhat-F (ℕ → Part S) (ℕ → Part T) (Part U) (Part V) → ℕ → List Place
+abbrev pub what_places : {S T U V : Type 0} → List RFunction → RWhat-F (ℕ → Part S) (ℕ → Part T) (Part U) (Part V) → ℕ → List SharingPlace
 what_places fs (RWhat-F.If e first other) line = all_places fs first ++ all_places fs other
 what_places fs (RWhat-F.While e body) line = all_places fs body
 what_places fs (RWhat-F.For first test step body) line = all_places fs first ++ (all_places fs step ++ all_places fs body)

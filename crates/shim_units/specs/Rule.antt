@@ -5,8 +5,8 @@ use Rattle.shim_scopes.specs.declared.tree.RFunction.{RFunction}
 use Rattle.shim_scopes.specs.declared.form.Form.{Form as Resolved}
 use Rattle.shim_units.specs.declared.found.Given.{Given}
 use Rattle.shim_units.specs.PartFold.{places_in}
-use Rattle.shim_units.specs.Parts.{Place}
-use Rattle.shim_units.specs.Parts.Place.{Fork, Called}
+use Rattle.shim_units.specs.Parts.{SharingPlace}
+use Rattle.shim_units.specs.Parts.SharingPlace.{Fork, Called}
 use Rattle.shim_units.specs.Captures.{Captures, captures, is_reference}
 
 -- no variable is taken by reference by both
@@ -35,11 +35,11 @@ stands_in x (g ∷ gs) = is_bare x g.bare || stands_in x gs
 abbrev pub GivesOnce : List Given → Type 0
 GivesOnce gs = (before : List Given) (g : Given) (after : List Given) (x : ℕ) → gs ≡ before ++ g ∷ after → IsTrue g.lent → g.bare ≡ Some x → IsTrue (stands_in x before || stands_in x after) → ⊥
 
-abbrev pub ObeysAt : List Sort → Place → Type 0
+abbrev pub ObeysAt : List Sort → SharingPlace → Type 0
 ObeysAt sorts (Fork line branches) = ArePairwiseDisjoint (map (captures sorts) branches)
 ObeysAt sorts (Called line gs) = GivesOnce gs
 
-abbrev pub Obey : List Sort → List Place → Type 0
+abbrev pub Obey : List Sort → List SharingPlace → Type 0
 Obey sorts [] = Unit {0}
 Obey sorts (p ∷ ps) = ObeysAt sorts p × Obey sorts ps
 

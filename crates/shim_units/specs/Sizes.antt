@@ -51,7 +51,7 @@ larger n e = record { size = n + e.size; own = e.own; forked = e.forked; inside 
 abbrev pub both : Extent → Extent → Extent
 both a b = record { size = a.size + b.size; own = a.own + b.own; forked = a.forked + b.forked; inside = a.inside + b.inside }
 
-abbrev pub together : List Extent → Extent
+abbrev together : List Extent → Extent
 together [] = plain 0
 together (e ∷ es) = both e (together es)
 

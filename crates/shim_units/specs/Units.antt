@@ -14,8 +14,8 @@ text_or_mark None = codes "?"
 text_or_mark (Some text) = text
 
 -- the name of that number, and a question mark where the list has none
-abbrev pub text_of : List (List ℕ) → ℕ → List ℕ
-text_of names n = text_or_mark (slice_get names n)
+abbrev pub name_or_mark : List (List ℕ) → ℕ → List ℕ
+name_or_mark names n = text_or_mark (slice_get names n)
 
 abbrev pub upto : ℕ → List ℕ
 upto zero = []
@@ -32,7 +32,7 @@ pub record LiftedFunction : Type 0 where
 
 abbrev pub lift_function : List (List ℕ) → List RFunction → ℕ → ℕ → RFunction → LiftedFunction
 lift_function names all number next f =
-    let context : LiftContext = record { functions = all; function = f; number = number; name = text_of names f.name; first = next } in
+    let context : LiftContext = record { functions = all; function = f; number = number; name = name_or_mark names f.name; first = next } in
     let w = function_slot_map f in
     let r = lift_in f.body context w next in
     record { own = made_unit context context.name f.params (length f.throws) w (tries_in f.body) r.tree; lifted = r.units }

@@ -6,17 +6,17 @@ use Rattle.shim_units.specs.declared.found.Use.{Use}
 use Rattle.shim_units.specs.declared.found.Capture.{Capture}
 use Rattle.shim_units.specs.declared.found.Capture.TheVariants.{Nothing}
 use Rattle.shim_units.specs.declared.captures.Usage.{Usage}
-use Rattle.shim_units.specs.Captures.{Captures, captures, declares, writes, names, is_declared, is_written, is_reference, taken_as}
+use Rattle.shim_units.specs.Captures.{Captures, captures, declares_variable, writes, names, is_declared, is_written, is_reference, taken_as}
 
 -- the usage of a variable in a text with these uses
 abbrev pub usage_of : List Use → ℕ → Usage
-usage_of us x = record { declared = declares us x; written = writes us x; named = names us x }
+usage_of us x = record { declared = declares_variable us x; written = writes us x; named = names us x }
 
 abbrev pub with_use : Usage → How → Usage
 with_use m how = record { declared = m.declared || is_declared how; written = m.written || is_written how; named = true }
 
 -- so many usages, that show these uses
-pub record Shows (usages : List Usage) (n : ℕ) (us : List Use) : Type 0 where
+pub record ShowUses (usages : List Usage) (n : ℕ) (us : List Use) : Type 0 where
   pub long : length usages ≡ n
   pub each : (x : ℕ) → x < n → slice_get usages x ≡ Some (usage_of us x)
 

@@ -1,7 +1,7 @@
 // The unit that a block branch becomes.
 ghost use Rattle.std.specs.Prelude.{◌≡◌, ◌+◌, ◌++◌, ◌<◌, ◌^◌, IfOk, length, map};
 ghost use Rattle.shim_units.specs.Usages.{captures_of};
-ghost use Rattle.shim_units.specs.LiftContextView.{context_view};
+ghost use Rattle.shim_units.specs.LiftContextView.{lift_context_view};
 ghost use Rattle.shim_units.specs.PartFold.{parts};
 ghost use Rattle.shim_units.specs.BranchCapturing.{IsBranchCaptures};
 ghost use Rattle.shim_units.specs.Lifting.{taken, branch_param, branch_arg, branch_title, branch_slot_map, made_unit, branch_call, branch_unit};
@@ -11,7 +11,7 @@ use crate::captures::{capture_at, is_reference, is_taken, take_all};
 use crate::exceptions::ExceptionList;
 use crate::found::Capture;
 use crate::lift_context::LiftContext;
-use crate::moving::{pass, slot_index};
+use crate::moving::{pass_variable, slot_index};
 use crate::own::{declares_in, push_raises, tries_in};
 use crate::slot_map::SlotMap;
 use crate::unit::{Arg, UCall, UStmt, Unit};
@@ -102,14 +102,14 @@ fn make_args(
     let mut made = List::with_capacity(alloc, slots.len())?;
     for slot in slots {
         let at = slot_index(around, *slot);
-        made.push(pass(is_reference(capture_at(captures, *slot as usize)), at))?;
+        made.push(pass_variable(is_reference(capture_at(captures, *slot as usize)), at))?;
     }
     Ok(made)
 }
 
 // The name of the unit of that number that is lifted out of a function.
 fn make_title(alloc: Global, context: &LiftContext, unit: u32) -> Result<List<u8>, NoMemory>
-    ensures { IfOk result (λ made. made ≡ branch_title (context_view context.now) unit) }
+    ensures { IfOk result (λ made. made ≡ branch_title (lift_context_view context.now) unit) }
 {
     let mut title = List::from_slice(alloc, context.name.as_bytes())?;
     title.extend_from_slice(b".".as_slice())?;
@@ -161,7 +161,7 @@ pub fn make_unit(
     body: List<UStmt>,
 ) -> Result<Unit, NoMemory>
     requires { throws < 2 ^ 32 }
-    ensures { IfOk result (λ made. made ≡ made_unit (context_view context.now) title params throws slot_map.now tries.now body) }
+    ensures { IfOk result (λ made. made ≡ made_unit (lift_context_view context.now) title params throws slot_map.now tries.now body) }
 {
     let function = context.function;
     let slots = sort_all(alloc, function, slot_map.slots.as_slice())?;
@@ -187,7 +187,7 @@ pub fn open_branch(
     slot_map: &SlotMap,
     body: &[RStmt],
 ) -> Result<BranchCaptures, NoMemory>
-    ensures { IfOk result (λ captured. IsBranchCaptures captured (context_view context.now) slot_map.now (parts body.now)) }
+    ensures { IfOk result (λ captured. IsBranchCaptures captured (lift_context_view context.now) slot_map.now (parts body.now)) }
 {
     let mut uses = List::new(alloc);
     push_stmts(&mut uses, context.functions, body)?;
@@ -246,7 +246,7 @@ pub fn close_branch(
     body: List<UStmt>,
 ) -> Result<Unit, NoMemory>
     requires { length captured.now.exceptions < 2 ^ 32 }
-    ensures { IfOk result (λ made. made ≡ branch_unit (context_view context.now) unit (captures_of captured.now.captures) captured.now.slots captured.now.exceptions captured.now.inner captured.now.tries body) }
+    ensures { IfOk result (λ made. made ≡ branch_unit (lift_context_view context.now) unit (captures_of captured.now.captures) captured.now.slots captured.now.exceptions captured.now.inner captured.now.tries body) }
 {
     let title = make_title(alloc, context, unit)?;
     let params = make_params(

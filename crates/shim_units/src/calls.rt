@@ -1,6 +1,6 @@
 // The arguments of a call, each with its parameter.
 ghost use Rattle.std.specs.Prelude.{◌≡◌, IfOk};
-ghost use Rattle.shim_units.specs.Calls.{is_stream, lends, lends_first, behind_first, params_at, bare, given};
+ghost use Rattle.shim_units.specs.Calls.{is_stream, lends, lends_first, behind_first, params_at, bare, paired_arguments};
 
 use crate::found::Given;
 use shim_base::{List, NoMemory};
@@ -82,7 +82,7 @@ pub fn find_bare(expr: &UExpr) -> Option<u32>
 }
 
 pub fn give(alloc: Global, params: &[UParam], args: &[UExpr]) -> Result<List<Given>, NoMemory>
-    ensures { IfOk result (λ made. made ≡ given params.now args.now) }
+    ensures { IfOk result (λ made. made ≡ paired_arguments params.now args.now) }
 {
     let mut made = List::new(alloc);
     let mut left = params;

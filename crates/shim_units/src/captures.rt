@@ -2,7 +2,7 @@
 ghost use Rattle.std.specs.Prelude.{◌≡◌, ◌∷◌, ◌++◌, [], ℕ, IfOk, slice_get, List as ListOf};
 ghost use Rattle.shim_units.specs.declared.found.Use.{Use};
 ghost use Rattle.shim_units.specs.Captures.{captures, taken_as, is_declared, is_written, is_reference, is_taken};
-ghost use Rattle.shim_units.specs.Usages.{with_use, Shows, captures_of, taken_with};
+ghost use Rattle.shim_units.specs.Usages.{with_use, ShowUses, captures_of, taken_with};
 
 use crate::calls::is_stream;
 use crate::found::{Capture, How, Use};
@@ -66,7 +66,7 @@ fn take(sort: Sort, usage: Usage) -> Capture
 
 // Usages of so many variables that nothing is found of.
 fn make_usages(alloc: Global, count: usize) -> Result<Vec<Usage>, NoMemory>
-    ensures { IfOk result (λ usages. Shows usages.items count []) }
+    ensures { IfOk result (λ usages. ShowUses usages.items count []) }
 {
     let mut usages = Vec::new(alloc);
     for _slot in 0..count {
@@ -81,7 +81,7 @@ fn make_usages(alloc: Global, count: usize) -> Result<Vec<Usage>, NoMemory>
 
 // Adds one more use to the usages.
 fn add_use(usages: &mut Vec<Usage>, found: Use)
-    ensures { (n : ℕ) (us : ListOf Use) → Shows usages.old.items n us → Shows usages.new.items n (us ++ found ∷ []) }
+    ensures { (n : ℕ) (us : ListOf Use) → ShowUses usages.old.items n us → ShowUses usages.new.items n (us ++ found ∷ []) }
 {
     let at = found.slot as usize;
     if at < usages.len() {
@@ -92,7 +92,7 @@ fn add_use(usages: &mut Vec<Usage>, found: Use)
 
 // For each of so many variables what is found of it.
 fn usages_of(alloc: Global, count: usize, uses: &[Use]) -> Result<List<Usage>, NoMemory>
-    ensures { IfOk result (λ usages. Shows usages count uses.now) }
+    ensures { IfOk result (λ usages. ShowUses usages count uses.now) }
 {
     let mut usages = make_usages(alloc, count)?;
     for found in uses {

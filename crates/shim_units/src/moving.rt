@@ -1,7 +1,7 @@
 // Expressions and calls with a unit's own numbers of variables and exceptions.
 ghost use Rattle.std.specs.Prelude.{◌≡◌, ◌<◌, ◌≤◌, ◌^◌, IfOk, length, position, nat_eq, Option};
 ghost use Rattle.shim_units.specs.Calls.{bare, params_at};
-ghost use Rattle.shim_units.specs.Moving.{slot_index_of, slot_index_of_option, moved, moved_option, by_mode, arg_of, args_of, moved_call};
+ghost use Rattle.shim_units.specs.Moving.{slot_index_of, slot_index_of_option, renumbered, moved_option, by_mode, arg_of, args_of, moved_call};
 
 use crate::calls::{behind_first, find_bare, lends_first, params_at};
 use crate::slot_map::SlotMap;
@@ -36,10 +36,10 @@ pub fn slot_index(all: &[u32], one: u32) -> u32
     number(index_in(all, one))
 }
 
-#[tactic(auto, unfolding(crate::specs::Moving::moved))]
+#[tactic(auto, unfolding(crate::specs::Moving::renumbered))]
 pub fn move_expr(alloc: Global, slots: &[u32], expr: &UExpr) -> Result<UExpr, NoMemory>
     requires { length slots.now < 2 ^ 32 }
-    ensures { IfOk result (λ made. made ≡ moved slots.now expr.now) }
+    ensures { IfOk result (λ made. made ≡ renumbered slots.now expr.now) }
 {
     match expr {
         UExpr::Number(number) => Ok(UExpr::Number(*number)),
@@ -85,7 +85,7 @@ pub fn slot_index_of_option(all: &[u32], one: &Option<u32>) -> Option<u32>
 }
 
 // A bare variable as an argument.
-pub fn pass(by_ref: bool, slot: u32) -> Arg
+pub fn pass_variable(by_ref: bool, slot: u32) -> Arg
     ensures { result ≡ by_mode by_ref slot }
 {
     if by_ref {
@@ -102,7 +102,7 @@ fn move_arg(alloc: Global, slots: &[u32], lent: bool, arg: &UExpr) -> Result<Arg
     match find_bare(arg) {
         Some(slot) => {
             let slot = slot_index(slots, slot);
-            Ok(pass(lent, slot))
+            Ok(pass_variable(lent, slot))
         }
         None => {
             let arg = move_expr(alloc, slots, arg)?;

@@ -11,12 +11,12 @@ use Rattle.shim_syntax.specs.declared.tree.Function.{Function}
 use Rattle.shim_syntax.specs.Distinct.{IsNew}
 use Rattle.shim_syntax.specs.Names.{Texts, unless_there, with_name, with_texts, with_functions}
 use Rattle.shim_syntax.specs.Occurrences.{identifiers}
-use Rattle.shim_up.specs.Up.{numbered, IsLeastNew}
+use Rattle.shim_up.specs.Up.{fresh_name, IsLeastNew}
 use Rattle.shim_syntax.proofs.DistinctLemmas.{is_new_behind, not_found}
 use Rattle.shim_syntax.proofs.OccurrenceLemmas.{names_are_the_identifiers}
 use Rattle.shim_syntax.proofs.TableLemmas.{is_name, found_there, found_nowhere}
 
-pub is_short : (n : ℕ) → n < 2 ^ 64 → length (numbered n) ≤ 64
+pub is_short : (n : ℕ) → n < 2 ^ 64 → length (fresh_name n) ≤ 64
 is_short n small = let l = length-decimal-le 20 n (omega arith) (omega (arith, small)) small in omega (arith, l)
 
 -- a name that is found isn't new
@@ -62,8 +62,8 @@ new_among_names y (x ∷ xs) known new before = new_among_names y xs (with_name 
 
 pub least_of_identifiers : (fs : List Function) (k : ℕ) → IsLeastNew (with_functions fs []) k → IsLeastNew (identifiers fs) k
 least_of_identifiers fs k h = record {
-  new = (new_in_all (numbered k) (identifiers fs) [] (subst (λ l. IsNew (numbered k) l) (names_are_the_identifiers fs) h.new)).0;
-  least = λ m lt new. h.least m lt (subst (λ l. IsNew (numbered m) l) (sym (names_are_the_identifiers fs)) (new_among_names (numbered m) (identifiers fs) [] new tt));
+  new = (new_in_all (fresh_name k) (identifiers fs) [] (subst (λ l. IsNew (fresh_name k) l) (names_are_the_identifiers fs) h.new)).0;
+  least = λ m lt new. h.least m lt (subst (λ l. IsNew (fresh_name m) l) (sym (names_are_the_identifiers fs)) (new_among_names (fresh_name m) (identifiers fs) [] new tt));
 }
 
 none_of : (o : Option ℕ) → is_some o ≡ false → o ≡ None
@@ -74,13 +74,13 @@ pub new_by_place : (x : List ℕ) (ns : Texts) (none : Bool) → is_some (positi
 new_by_place x ns true h = (λ t. new_without_place x ns (none_of (position (is_name x) ns) h), λ new. refl)
 new_by_place x ns false h = (λ t. absurd (cc t), λ new. absurd (not_new_with_place x ns h new))
 
-none_by : (ns : Texts) (k m : ℕ) → ((m : ℕ) → m < k → IsNew (numbered m) ns → ⊥) → (IsNew (numbered k) ns → ⊥) → m < k + 1 → (nat_lt m k ≡ true) ⊎ (nat_lt m k ≡ false) → IsNew (numbered m) ns → ⊥
+none_by : (ns : Texts) (k m : ℕ) → ((m : ℕ) → m < k → IsNew (fresh_name m) ns → ⊥) → (IsNew (fresh_name k) ns → ⊥) → m < k + 1 → (nat_lt m k ≡ true) ⊎ (nat_lt m k ≡ false) → IsNew (fresh_name m) ns → ⊥
 none_by ns k m before here lt (inl e) new = before m (grind (arith, nat_tests)) new
 none_by ns k m before here lt (inr e) new =
     let le : k ≤ m = grind (arith, nat_tests) in
     let same : m ≡ k = omega (arith, le, lt) in
-    here (subst (λ z. IsNew (numbered z) ns) same new)
+    here (subst (λ z. IsNew (fresh_name z) ns) same new)
 
 -- with one number more
-pub none_with : (ns : Texts) (k : ℕ) → ((m : ℕ) → m < k → IsNew (numbered m) ns → ⊥) → (IsNew (numbered k) ns → ⊥) → (m : ℕ) → m < k + 1 → IsNew (numbered m) ns → ⊥
+pub none_with : (ns : Texts) (k : ℕ) → ((m : ℕ) → m < k → IsNew (fresh_name m) ns → ⊥) → (IsNew (fresh_name k) ns → ⊥) → (m : ℕ) → m < k + 1 → IsNew (fresh_name m) ns → ⊥
 none_with ns k before here m lt = none_by ns k m before here lt (cases_Bool (nat_lt m k))

@@ -15,7 +15,7 @@ use Rattle.shim_syntax.specs.declared.tree.Branch.{Branch, Branch-F, fold-roll-B
 use Rattle.shim_syntax.specs.declared.tree.BranchWhat.{BranchWhat, BranchWhat-F, fold-roll-BranchWhat, map-BranchWhat, roll-BranchWhat}
 use Rattle.shim_syntax.specs.declared.tree.BranchWhat.TheVariants as br
 use Rattle.shim_syntax.specs.Terminals.{new_word}
-use Rattle.shim_up.specs.Renaming.{Renaming, expr_step, branch_what_step, what_step, branch_step, stmt_step, renamed_expr, renamed_option, renamed_variable, renamed_call, renamed_stmt, renamed_what, renamed_branch, renamed_branch_what, renamed_param, renamed_function, renamed_functions}
+use Rattle.shim_up.specs.Renaming.{Renaming, rename_expr_step, rename_branch_what_step, rename_what_step, rename_branch_step, rename_stmt_step, renamed_expr, renamed_option, renamed_variable, renamed_call, renamed_stmt, renamed_what, renamed_branch, renamed_branch_what, renamed_param, renamed_function, renamed_functions}
 use Rattle.shim_up.specs.Up.{replaced}
 
 module _ (f : Renaming) (same : (x : List ℕ) → f x ≡ x) where
@@ -30,7 +30,7 @@ module _ (f : Renaming) (same : (x : List ℕ) → f x ≡ x) where
   abbrev ExprStays : Type 0
   ExprStays = (a : Expr) × (renamed_expr f a ≡ a)
 
-  expr_layer : (y : Expr-F ExprStays) → expr_step f (map-Expr Expr Expr (renamed_expr f) (map-Expr ExprStays Expr (λ a. a.0) y)) ≡ roll-Expr (map-Expr ExprStays Expr (λ a. a.0) y)
+  expr_layer : (y : Expr-F ExprStays) → rename_expr_step f (map-Expr Expr Expr (renamed_expr f) (map-Expr ExprStays Expr (λ a. a.0) y)) ≡ roll-Expr (map-Expr ExprStays Expr (λ a. a.0) y)
   unfolding roll-Expr denote.Hole.Carrier.roll
   expr_layer (Expr-F.Number n) = refl
   expr_layer (Expr-F.Var x) = λ i. e.Var (same x i)
@@ -41,7 +41,7 @@ module _ (f : Renaming) (same : (x : List ℕ) → f x ≡ x) where
   unfolding renamed_expr
   expr_stays = ind-Expr (λ a. renamed_expr f a ≡ a) (λ x y is.
       subst (λ z. renamed_expr f (roll-Expr z) ≡ roll-Expr z) is
-      (fold-roll-Expr Expr (expr_step f) (map-Expr ExprStays Expr (λ a. a.0) y) ∙ expr_layer y))
+      (fold-roll-Expr Expr (rename_expr_step f) (map-Expr ExprStays Expr (λ a. a.0) y) ∙ expr_layer y))
 
   exprs_stay : (xs : List Expr) → map (renamed_expr f) xs ≡ xs
   exprs_stay [] = refl
@@ -98,13 +98,13 @@ module _ (f : Renaming) (same : (x : List ℕ) → f x ≡ x) where
   stmt_of y = map-Stmt BranchWhatStays WhatStays BranchStays StmtStays BranchWhat What Branch Stmt (λ a. a.0) (λ a. a.0) (λ a. a.0) (λ a. a.0) y
 
   branch_what_layer : (y : BranchWhat-F BranchWhatStays WhatStays BranchStays StmtStays)
-      → branch_what_step f (map-BranchWhat BranchWhat What Branch Stmt BranchWhat What Branch Stmt (renamed_branch_what f) (renamed_what f) (renamed_branch f) (renamed_stmt f) (branch_what_of y)) ≡ roll-BranchWhat (branch_what_of y)
+      → rename_branch_what_step f (map-BranchWhat BranchWhat What Branch Stmt BranchWhat What Branch Stmt (renamed_branch_what f) (renamed_what f) (renamed_branch f) (renamed_stmt f) (branch_what_of y)) ≡ roll-BranchWhat (branch_what_of y)
   unfolding roll-BranchWhat denote.Hole.Carrier.roll
   branch_what_layer (BranchWhat-F.BranchWhat::Block body) = λ i. br.Block (all_stay body i)
   branch_what_layer (BranchWhat-F.BranchWhat::Call c) = λ i. br.Call (call_stays c i)
 
   what_layer : (y : What-F BranchWhatStays WhatStays BranchStays StmtStays)
-      → what_step f (map-What BranchWhat What Branch Stmt BranchWhat What Branch Stmt (renamed_branch_what f) (renamed_what f) (renamed_branch f) (renamed_stmt f) (what_of y)) ≡ roll-What (what_of y)
+      → rename_what_step f (map-What BranchWhat What Branch Stmt BranchWhat What Branch Stmt (renamed_branch_what f) (renamed_what f) (renamed_branch f) (renamed_stmt f) (what_of y)) ≡ roll-What (what_of y)
   unfolding roll-What denote.Hole.Carrier.roll
   what_layer (What-F.Declare ty x a) = λ i. st.Declare ty (same x i) (option_stays a i)
   what_layer (What-F.Assign x a) = λ i. st.Assign (same x i) (expr_stays a i)
@@ -123,23 +123,23 @@ module _ (f : Renaming) (same : (x : List ℕ) → f x ≡ x) where
   what_layer (What-F.Par bs) = λ i. st.Par (branches_stay bs i)
 
   branch_layer : (y : Branch-F BranchWhatStays WhatStays BranchStays StmtStays)
-      → branch_step (map-Branch BranchWhat What Branch Stmt BranchWhat What Branch Stmt (renamed_branch_what f) (renamed_what f) (renamed_branch f) (renamed_stmt f) (branch_of y)) ≡ roll-Branch (branch_of y)
+      → rename_branch_step (map-Branch BranchWhat What Branch Stmt BranchWhat What Branch Stmt (renamed_branch_what f) (renamed_what f) (renamed_branch f) (renamed_stmt f) (branch_of y)) ≡ roll-Branch (branch_of y)
   branch_layer y = λ i. record { line = y.line; what = y.what.1 i }
 
   stmt_layer : (y : Stmt-F BranchWhatStays WhatStays BranchStays StmtStays)
-      → stmt_step (map-Stmt BranchWhat What Branch Stmt BranchWhat What Branch Stmt (renamed_branch_what f) (renamed_what f) (renamed_branch f) (renamed_stmt f) (stmt_of y)) ≡ roll-Stmt (stmt_of y)
+      → rename_stmt_step (map-Stmt BranchWhat What Branch Stmt BranchWhat What Branch Stmt (renamed_branch_what f) (renamed_what f) (renamed_branch f) (renamed_stmt f) (stmt_of y)) ≡ roll-Stmt (stmt_of y)
   stmt_layer y = λ i. record { line = y.line; what = y.what.1 i }
 
   stmt_stays : (s : Stmt) → renamed_stmt f s ≡ s
   stmt_stays = ind-Stmt (λ w. renamed_branch_what f w ≡ w) (λ w. renamed_what f w ≡ w) (λ b. renamed_branch f b ≡ b) (λ s. renamed_stmt f s ≡ s)
       (λ x y is. subst (λ z. renamed_branch_what f (roll-BranchWhat z) ≡ roll-BranchWhat z) is
-      (fold-roll-BranchWhat BranchWhat What Branch Stmt (branch_what_step f) (what_step f) branch_step stmt_step (branch_what_of y) ∙ branch_what_layer y))
+      (fold-roll-BranchWhat BranchWhat What Branch Stmt (rename_branch_what_step f) (rename_what_step f) rename_branch_step rename_stmt_step (branch_what_of y) ∙ branch_what_layer y))
       (λ x y is. subst (λ z. renamed_what f (roll-What z) ≡ roll-What z) is
-      (fold-roll-What BranchWhat What Branch Stmt (branch_what_step f) (what_step f) branch_step stmt_step (what_of y) ∙ what_layer y))
+      (fold-roll-What BranchWhat What Branch Stmt (rename_branch_what_step f) (rename_what_step f) rename_branch_step rename_stmt_step (what_of y) ∙ what_layer y))
       (λ x y is. subst (λ z. renamed_branch f (roll-Branch z) ≡ roll-Branch z) is
-      (fold-roll-Branch BranchWhat What Branch Stmt (branch_what_step f) (what_step f) branch_step stmt_step (branch_of y) ∙ branch_layer y))
+      (fold-roll-Branch BranchWhat What Branch Stmt (rename_branch_what_step f) (rename_what_step f) rename_branch_step rename_stmt_step (branch_of y) ∙ branch_layer y))
       (λ x y is. subst (λ z. renamed_stmt f (roll-Stmt z) ≡ roll-Stmt z) is
-      (fold-roll-Stmt BranchWhat What Branch Stmt (branch_what_step f) (what_step f) branch_step stmt_step (stmt_of y) ∙ stmt_layer y))
+      (fold-roll-Stmt BranchWhat What Branch Stmt (rename_branch_what_step f) (rename_what_step f) rename_branch_step rename_stmt_step (stmt_of y) ∙ stmt_layer y))
 
   body_stays : (body : List Stmt) → map (renamed_stmt f) body ≡ body
   body_stays [] = refl

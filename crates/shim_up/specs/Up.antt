@@ -9,8 +9,8 @@ use Rattle.shim_up.specs.Renaming.{Renaming, renamed_functions}
 use Rattle.shim_syntax.specs.declared.tree.Program.{Program}
 
 -- `v` and a number
-abbrev pub numbered : ℕ → List ℕ
-numbered k = codes "v" ++ decimal k
+abbrev pub fresh_name : ℕ → List ℕ
+fresh_name k = codes "v" ++ decimal k
 
 -- this name in place of the new word; any other identifier stays
 abbrev pub replaced : List ℕ → Renaming
@@ -18,8 +18,8 @@ replaced v x = if bytes_eq x new_word then v else x
 
 -- the least number whose name isn't among these
 pub record IsLeastNew (xs : Texts) (k : ℕ) : Type 0 where
-  pub new : IsNew (numbered k) xs
-  pub least : (m : ℕ) → m < k → IsNew (numbered m) xs → ⊥
+  pub new : IsNew (fresh_name k) xs
+  pub least : (m : ℕ) → m < k → IsNew (fresh_name m) xs → ⊥
 
 -- the program in version 2, with this name in place of the new word
 abbrev pub with_name_for_word : List ℕ → Program → Program
@@ -28,4 +28,4 @@ with_name_for_word v p = record { version = 2; functions = renamed_functions (re
 -- The second program is the first in version 2: itself where it has that version, else with the least new name for the new word.
 pub data IsUp (p q : Program) : Type 0 where
   unchanged : p.version ≡ 2 → q ≡ p → IsUp p q
-  changed : p.version ≢ 2 → (k : ℕ) → IsLeastNew (identifiers p.functions) k → q ≡ with_name_for_word (numbered k) p → IsUp p q
+  changed : p.version ≢ 2 → (k : ℕ) → IsLeastNew (identifiers p.functions) k → q ≡ with_name_for_word (fresh_name k) p → IsUp p q

@@ -2,7 +2,7 @@
 ghost use Rattle.std.specs.Prelude.{◌≡◌, IfOk, IsTrue, ◌↔◌};
 ghost use Rattle.shim_syntax.specs.Distinct.{IsNew};
 ghost use Rattle.shim_syntax.specs.Occurrences.{identifiers};
-ghost use Rattle.shim_up.specs.Up.{IsLeastNew, IsUp, numbered, with_name_for_word};
+ghost use Rattle.shim_up.specs.Up.{IsLeastNew, IsUp, fresh_name, with_name_for_word};
 
 use crate::renaming::copy_functions;
 use shim_base::{List, Name, NoMemory, push_decimal};
@@ -65,7 +65,7 @@ fn is_new(names: &NameTable, name: &Name) -> bool
 
 // `v` and the number.
 fn numbered_name(alloc: Global, number: u64) -> Result<Name, NoMemory>
-    ensures { IfOk result (λ name. name ≡ numbered number) }
+    ensures { IfOk result (λ name. name ≡ fresh_name number) }
 {
     let mut text = List::new(alloc);
     text.push(b'v')?;

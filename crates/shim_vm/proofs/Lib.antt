@@ -25,3 +25,5 @@ pub mod Stretches
 pub mod Sends
 pub mod Throwing
 pub mod MarkedStops
+mod KeptStops
+pub mod Fusing

@@ -7,3 +7,5 @@ pub mod Places
 pub mod Landing
 pub mod Stretching
 pub mod MarkedStops
+pub mod KeptStops
+pub mod Fusing

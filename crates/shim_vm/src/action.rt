@@ -3,7 +3,7 @@ ghost use Rattle.std.specs.Prelude.{◌≡◌, ◌∷◌, [], ◌+◌, ◌<◌, 
 ghost use Rattle.shim_walk.specs.StatementContexts.{context_view};
 ghost use Rattle.shim_code.specs.declared.machine_instr.MachineInstr.TheVariants.{Call, Declare, Set};
 ghost use Rattle.shim_code.specs.MachineCode.{try_instr};
-ghost use Rattle.shim_vm.specs.Actions.{action_of, code_action, instr_action, reads};
+ghost use Rattle.shim_vm.specs.Actions.{code_action_of, code_action, instr_action, reads};
 
 use crate::computing::Computation;
 use crate::instrs::instr_at;
@@ -45,7 +45,7 @@ fn declare(
     slot: u32,
     context: &StatementContext<'_>,
 ) -> Result<Action, NoMemory>
-    ensures { IfOk result (λ a. action_of a ≡ instr_action (context_view context.now) [] (Some (Declare ty slot)) computation.old) }
+    ensures { IfOk result (λ a. code_action_of a ≡ instr_action (context_view context.now) [] (Some (Declare ty slot)) computation.old) }
 {
     let Some(value) = computation.pop() else {
         return Err(NoMemory);
@@ -61,7 +61,7 @@ fn store(
     slot: u32,
     context: &StatementContext<'_>,
 ) -> Result<Action, NoMemory>
-    ensures { IfOk result (λ a. action_of a ≡ instr_action (context_view context.now) [] (Some (Set slot)) computation.old) }
+    ensures { IfOk result (λ a. code_action_of a ≡ instr_action (context_view context.now) [] (Some (Set slot)) computation.old) }
 {
     let Some(value) = computation.pop() else {
         return Err(NoMemory);
@@ -71,7 +71,7 @@ fn store(
 
 // The byte is stored by the instruction at the place.
 fn read(code: &[MachineInstr], place: usize) -> Result<Action, NoMemory>
-    ensures { IfOk result (λ a. action_of a ≡ reads (slice_get code.now place) place) }
+    ensures { IfOk result (λ a. code_action_of a ≡ reads (slice_get code.now place) place) }
 {
     match instr_at(code, place) {
         Some(MachineInstr::Set(slot)) => Ok(Action::Read(behind(place)?, *slot)),
@@ -86,7 +86,7 @@ fn enter(
     context: &StatementContext<'_>,
 ) -> Result<Action, NoMemory>
     requires { context.now.first + length context.now.places.now < 2 ^ 32 }
-    ensures { IfOk result (λ a. action_of a ≡ instr_action (context_view context.now) [] (Some (Call callee.now)) computation.old) }
+    ensures { IfOk result (λ a. code_action_of a ≡ instr_action (context_view context.now) [] (Some (Call callee.now)) computation.old) }
 {
     if context.deep || context.full {
         return Ok(Action::Trapped(Trap::Depth));
@@ -104,7 +104,7 @@ fn install(
     slot: Option<u32>,
     context: &StatementContext<'_>,
 ) -> Result<Action, NoMemory>
-    ensures { IfOk result (λ a. action_of a ≡ instr_action (context_view context.now) [] (Some (try_instr handler exception slot)) computation.now) }
+    ensures { IfOk result (λ a. code_action_of a ≡ instr_action (context_view context.now) [] (Some (try_instr handler exception slot)) computation.now) }
 {
     if context.full {
         return Ok(Action::Trapped(Trap::Depth));
@@ -123,7 +123,7 @@ pub fn action_at(
     context: &StatementContext<'_>,
 ) -> Result<Action, NoMemory>
     requires { context.now.first + length context.now.places.now < 2 ^ 32 }
-    ensures { IfOk result (λ a. action_of a ≡ code_action (context_view context.now) code.now computation.old) }
+    ensures { IfOk result (λ a. code_action_of a ≡ code_action (context_view context.now) code.now computation.old) }
 {
     match instr_at(code, computation.place()) {
         Some(MachineInstr::Declare(ty, slot)) => declare(computation, *ty, *slot, context),

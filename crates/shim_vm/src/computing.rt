@@ -4,7 +4,7 @@ ghost use Rattle.shim_base.specs.Operators.{applied, applied1, is_zero, truth};
 ghost use Rattle.shim_process.specs.Arguments.{ByValue};
 ghost use Rattle.shim_process.specs.LocalState.{env_of, number_of, type_of};
 ghost use Rattle.shim_locations.specs.Given.{argument_of, arguments_of};
-ghost use Rattle.shim_vm.specs.Computing.{CameTo, Computed, Computes, Progressed, gathers, goes, goes_with, jumps, jumps_on_zero, on_top, on_two, progress};
+ghost use Rattle.shim_vm.specs.Computing.{CameTo, Computed, Computes, Progressed, gathers, continues_with, goes_with, jumps, jumps_on_zero, on_top, on_two, progress};
 
 use crate::instrs::instr_at;
 use crate::stack::Stack;
@@ -106,14 +106,14 @@ impl Computation {
 
     // On to the next instruction.
     fn advance(&mut self) -> Result<bool, ArgumentFault>
-        ensures { Progressed (goes self.old.stack self.old) result self.old self.new }
+        ensures { Progressed (continues_with self.old.stack self.old) result self.old self.new }
     {
         self.place = self.place.checked_add(1).ok_or(NoMemory)?;
         Ok(true)
     }
 
     fn push(&mut self, number: i64) -> Result<bool, ArgumentFault>
-        ensures { Progressed (goes (number ∷ self.old.stack) self.old) result self.old self.new }
+        ensures { Progressed (continues_with (number ∷ self.old.stack) self.old) result self.old self.new }
     {
         self.stack.push(number)?;
         self.advance()
@@ -141,7 +141,7 @@ impl Computation {
     }
 
     fn truth(&mut self) -> Result<bool, ArgumentFault>
-        ensures { Progressed (on_top self.old.stack (λ v rest. goes (truth (not (is_zero v)) ∷ rest) self.old)) result self.old self.new }
+        ensures { Progressed (on_top self.old.stack (λ v rest. continues_with (truth (not (is_zero v)) ∷ rest) self.old)) result self.old self.new }
     {
         let Some(number) = self.stack.pop() else {
             return Err(ArgumentFault::NoMemory);

@@ -8,7 +8,7 @@ ghost use Rattle.shim_machine.specs.Machine.{CodedUnit};
 ghost use Rattle.shim_machine.specs.Stands.{AtHalf, Stands};
 ghost use Rattle.shim_vm.specs.declared.landing.Rest.TheVariants as rest;
 ghost use Rattle.shim_vm.specs.declared.landing.Landed.TheVariants.{At};
-ghost use Rattle.shim_vm.specs.Landing.{LandedFor, is_over, rest_of};
+ghost use Rattle.shim_vm.specs.Landing.{LandedFor, is_unit_over, landing_of};
 
 use crate::instrs::instr_at;
 use shim_code::MachineInstr;
@@ -34,8 +34,9 @@ pub enum Landed {
     Over(usize, usize),
 }
 
-fn rest_of(instr: Option<&MachineInstr>) -> Rest
-    ensures { result ≡ rest_of (option_copied instr.entry) }
+/// What the instruction at a place is to it.
+pub fn rest_of(instr: Option<&MachineInstr>) -> Rest
+    ensures { result ≡ landing_of (option_copied instr.entry) }
 {
     match instr {
         Some(MachineInstr::Mark(mark)) => Rest::Mark(mark.number, mark.halfway),
@@ -47,7 +48,7 @@ fn rest_of(instr: Option<&MachineInstr>) -> Rest
 
 // At the mark of a loop, to which a jump leads back.
 fn back_at(code: &[MachineInstr], place: usize, kept: usize) -> Landed
-    ensures { (number : ℕ) (halfway : Bool) → rest_of (slice_get code.now place) ≡ rest.Mark number halfway → result ≡ At place number halfway kept }
+    ensures { (number : ℕ) (halfway : Bool) → landing_of (slice_get code.now place) ≡ rest.Mark number halfway → result ≡ At place number halfway kept }
 {
     match rest_of(instr_at(code, place)) {
         Rest::Mark(number, halfway) => Landed::At(place, number, halfway, kept),
@@ -81,7 +82,7 @@ pub fn pass(code: &[MachineInstr], place: usize, many: usize) -> Landed
 impl Landed {
     /// Whether the unit is over.
     pub fn is_over(self) -> bool
-        ensures { result ≡ is_over self }
+        ensures { result ≡ is_unit_over self }
     {
         match self {
             Landed::At(_, _, _, _) => false,

@@ -2,8 +2,8 @@
 ghost use Rattle.std.specs.Prelude.{◌≡◌, ◌∷◌, ◌<◌, ◌+◌, ◌^◌, [], Some, MatchOption, false, not};
 ghost use Rattle.shim_base.specs.Operators.{applied, applied1, is_zero, truth};
 ghost use Rattle.shim_process.specs.LocalState.{env_of};
-ghost use Rattle.shim_vm.specs.Computing.{Computed, Computes, goes, goes_with, jumps_on_zero, on_top, on_two, progress};
-ghost use Rattle.shim_vm.specs.Putting.{LeadsToPut, PutBy, Stepped, at, is_of_expression, numbers_of, top_of};
+ghost use Rattle.shim_vm.specs.Computing.{Computed, Computes, continues_with, goes_with, jumps_on_zero, on_top, on_two, progress};
+ghost use Rattle.shim_vm.specs.Putting.{LeadsToPut, PutBy, Stepped, at, is_of_expression, stack_numbers, top_of};
 
 use shim_base::{BinOp, Trap, UnOp, apply, apply1};
 use shim_code::MachineInstr;
@@ -38,7 +38,7 @@ pub enum ExprStep<'a> {
 
 // The same numbers.
 fn same<'a>(numbers: &'a Numbers<'a>) -> Numbers<'a>
-    ensures { numbers_of result ≡ numbers_of numbers.now }
+    ensures { stack_numbers result ≡ stack_numbers numbers.now }
 {
     match numbers {
         Numbers::Empty => Numbers::Empty,
@@ -47,7 +47,7 @@ fn same<'a>(numbers: &'a Numbers<'a>) -> Numbers<'a>
 }
 
 fn top(numbers: &Numbers<'_>) -> Option<i64>
-    ensures { result ≡ top_of (numbers_of numbers.now) }
+    ensures { result ≡ top_of (stack_numbers numbers.now) }
 {
     match numbers {
         Numbers::Empty => None,
@@ -57,7 +57,7 @@ fn top(numbers: &Numbers<'_>) -> Option<i64>
 
 fn unary<'a>(op: UnOp, place: usize, numbers: &'a Numbers<'a>) -> ExprStep<'a>
     requires { place + 1 < 2 ^ 64 }
-    ensures { Stepped (on_top (numbers_of numbers.now) (λ v rest. goes_with rest (at place numbers.now) (applied1 op v))) result }
+    ensures { Stepped (on_top (stack_numbers numbers.now) (λ v rest. goes_with rest (at place numbers.now) (applied1 op v))) result }
 {
     match numbers {
         Numbers::Top(number, rest) => match apply1(op, *number) {
@@ -70,7 +70,7 @@ fn unary<'a>(op: UnOp, place: usize, numbers: &'a Numbers<'a>) -> ExprStep<'a>
 
 fn binary<'a>(op: BinOp, place: usize, numbers: &'a Numbers<'a>) -> ExprStep<'a>
     requires { place + 1 < 2 ^ 64 }
-    ensures { Stepped (on_two (numbers_of numbers.now) (λ x y rest. goes_with rest (at place numbers.now) (applied op x y))) result }
+    ensures { Stepped (on_two (stack_numbers numbers.now) (λ x y rest. goes_with rest (at place numbers.now) (applied op x y))) result }
 {
     match numbers {
         Numbers::Top(right, below) => match &**below {
@@ -86,7 +86,7 @@ fn binary<'a>(op: BinOp, place: usize, numbers: &'a Numbers<'a>) -> ExprStep<'a>
 
 fn truth<'a>(place: usize, numbers: &'a Numbers<'a>) -> ExprStep<'a>
     requires { place + 1 < 2 ^ 64 }
-    ensures { Stepped (on_top (numbers_of numbers.now) (λ v rest. goes (truth (not (is_zero v)) ∷ rest) (at place numbers.now))) result }
+    ensures { Stepped (on_top (stack_numbers numbers.now) (λ v rest. continues_with (truth (not (is_zero v)) ∷ rest) (at place numbers.now))) result }
 {
     match numbers {
         Numbers::Top(number, rest) => {
@@ -98,7 +98,7 @@ fn truth<'a>(place: usize, numbers: &'a Numbers<'a>) -> ExprStep<'a>
 
 fn jump_on_zero<'a>(to: usize, place: usize, numbers: &'a Numbers<'a>) -> ExprStep<'a>
     requires { place + 1 < 2 ^ 64 }
-    ensures { Stepped (on_top (numbers_of numbers.now) (λ v rest. jumps_on_zero to v rest (at place numbers.now))) result }
+    ensures { Stepped (on_top (stack_numbers numbers.now) (λ v rest. jumps_on_zero to v rest (at place numbers.now))) result }
 {
     match numbers {
         Numbers::Top(number, rest) => {

@@ -13,7 +13,7 @@ use Rattle.shim_base.proofs.SamePaths.{same_path_refl, same_path_is}
 use Rattle.shim_local.specs.Process.{Ops, StopView, AtQuiet, AtNext, AtPut, AtFork, AtFinish, AtThrow, AtTrap}
 use Rattle.shim_local.specs.Laws.{LocalLaws}
 use Rattle.shim_semantics.specs.Listing.{IsAmong}
-use Rattle.shim_semantics.specs.Nodes.{Node, state, next_of, or_else}
+use Rattle.shim_semantics.specs.Nodes.{Node, state, next_channel, or_else}
 use Rattle.shim_semantics.specs.Trees.{Tree}
 use Rattle.shim_semantics.specs.Walks.{head}
 use Rattle.shim_waits.specs.Cycles.{by_of, first_path, ring, ring_from, cycle_of, from_least}
@@ -36,7 +36,7 @@ use Rattle.shim_waits.proofs.PathRings.{AreBelow, ring_mapped, ring_below, turne
 
 -- ---- the parts of a wait that there is
 
-pub stands_next : (v : StopView) (d : NamedChannel) → next_of v ≡ Some d → v ≡ AtNext d
+pub stands_next : (v : StopView) (d : NamedChannel) → next_channel v ≡ Some d → v ≡ AtNext d
 stands_next (AtNext c) d e = ap AtNext (some_same c d e)
 stands_next AtQuiet d e = none_some d e
 stands_next AtPut d e = none_some d e
@@ -50,7 +50,7 @@ module _ {S : Type 0} (o : Ops S) where
   by_its p c f b None w e = none_some w e
   by_its p c f b (Some d) w e = (d, refl, sym (some_same (record { path = p; chan = c; holder = f; by = b; at = d }) w e))
 
-  through_its : (p : Path) (c : NamedChannel) (f : Path) (x : Option S) (w : Wait) → wait_through o p c f x ≡ Some w → (b : S) × (x ≡ Some b) × (wait_by p c f (o.path b) (next_of (o.stop b)) ≡ Some w)
+  through_its : (p : Path) (c : NamedChannel) (f : Path) (x : Option S) (w : Wait) → wait_through o p c f x ≡ Some w → (b : S) × (x ≡ Some b) × (wait_by p c f (o.path b) (next_channel (o.stop b)) ≡ Some w)
   through_its p c f None w e = none_some w e
   through_its p c f (Some b) w e = (b, refl, e)
 
@@ -84,8 +84,8 @@ abbrev pub AllKept : {S : Type 0} → Ops S → Node S → BTreeMap NamedChannel
 AllKept o root holders = (q : Channel) → holder_in holders q ≡ option_map (holder_of o) (first_with (holds_given o q) 0 root)
 
 module _ {S : Type 0} (o : Ops S) (law : LocalLaws o) (t : Tree S) (b : IsBlockedTree o t) (holders : BTreeMap NamedChannel Holder) (kept : AllKept o t.root holders) where
-  with_holder : (l : S) (w : Wait) (c : NamedChannel) (n : Node S) (y : S) (d : NamedChannel) (i : ℕ) → IsAmong l (lives t.root) → wait_of_process o t.root l ≡ Some w → next_of (o.stop l) ≡ Some c
-      → first_with (holds_given o c.channel) 0 t.root ≡ Some (n, i) → head (lives n) ≡ Some y → next_of (o.stop y) ≡ Some d
+  with_holder : (l : S) (w : Wait) (c : NamedChannel) (n : Node S) (y : S) (d : NamedChannel) (i : ℕ) → IsAmong l (lives t.root) → wait_of_process o t.root l ≡ Some w → next_channel (o.stop l) ≡ Some c
+      → first_with (holds_given o c.channel) 0 t.root ≡ Some (n, i) → head (lives n) ≡ Some y → next_channel (o.stop y) ≡ Some d
       → w ≡ record { path = o.path l; chan = c; holder = o.path (state n); by = o.path y; at = d } → Numbered o t.root holders l
   with_holder l w c n y d i a e stands first leads stands_too is =
       let there = (numbers_lead S).leads (holds_given o c.channel) t.root n i y first leads in
@@ -103,10 +103,10 @@ module _ {S : Type 0} (o : Ops S) (law : LocalLaws o) (t : Tree S) (b : IsBlocke
   numbered : (l : S) → IsAmong l (lives t.root) → Numbered o t.root holders l
   numbered l a =
       let h = held o law t l b a in
-      let c = next_its o t.root (o.path l) (next_of (o.stop l)) h.wait h.is in
+      let c = next_its o t.root (o.path l) (next_channel (o.stop l)) h.wait h.is in
       let n = held_its o (o.path l) c.0 (first_of (holds_up o c.0.channel) t.root) h.wait c.2 in
       let y = through_its o (o.path l) c.0 (o.path (state n.0)) (head (lives n.0)) h.wait n.2 in
-      let d = by_its o (o.path l) c.0 (o.path (state n.0)) (o.path y.0) (next_of (o.stop y.0)) h.wait y.2 in
+      let d = by_its o (o.path l) c.0 (o.path (state n.0)) (o.path y.0) (next_channel (o.stop y.0)) h.wait y.2 in
       let first = (numbers_lead S).finds (holds_given o c.0.channel) t.root ∙ (given_suffice o law t l c.0 b.sound a (stands_next (o.stop l) c.0 c.1) ∙ n.1) in
       let i = found_one (first_with (holds_given o c.0.channel) 0 t.root) n.0 first in
       with_holder l h.wait c.0 n.0 y.0 d.0 i.0 a h.is c.1 i.1 y.1 d.1 d.2

@@ -6,7 +6,7 @@ use Rattle.shim_base.proofs.SamePaths.{same_channel_refl}
 use Rattle.shim_local.specs.Process.{Ops, AtNext}
 use Rattle.shim_local.specs.Laws.{LocalLaws}
 use Rattle.shim_semantics.specs.Listing.{IsAmong}
-use Rattle.shim_semantics.specs.Nodes.{Node, Nodes, Live, Forked, Ended, Dead, state, goes, any_sharer, next_of}
+use Rattle.shim_semantics.specs.Nodes.{Node, Nodes, Live, Forked, Ended, Dead, state, goes, any_sharer, next_channel}
 use Rattle.shim_semantics.specs.Places.{at, at_route, StandsAt, SoundBelow}
 use Rattle.shim_semantics.specs.Sound.{SharesItsOwn}
 use Rattle.shim_semantics.specs.Trees.{Tree}
@@ -132,10 +132,10 @@ module _ {S : Type 0} (o : Ops S) where
       record {
         wait = record { path = o.path l; chan = d; holder = o.path (state h.node); by = o.path b.process; at = b.chan };
         is =
-            ap (λ z. wait_at_next o root (o.path l) (next_of z)) stops
+            ap (λ z. wait_at_next o root (o.path l) (next_channel z)) stops
             ∙ (ap (wait_held o (o.path l) d) h.is
             ∙ (ap (wait_through o (o.path l) d (o.path (state h.node))) b.is
-            ∙ ap (λ z. wait_by (o.path l) d (o.path (state h.node)) (o.path b.process) (next_of z)) b.stands));
+            ∙ ap (λ z. wait_by (o.path l) d (o.path (state h.node)) (o.path b.process) (next_channel z)) b.stands));
         its = refl;
         waits = record {
           process = l;

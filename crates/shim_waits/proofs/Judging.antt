@@ -9,7 +9,7 @@ use Rattle.shim_base.proofs.SamePaths.{same_path_refl, same_path_is, same_channe
 use Rattle.shim_local.specs.Process.{Ops}
 use Rattle.shim_local.specs.Laws.{AllOf, how_many}
 use Rattle.shim_semantics.specs.Listing.{IsAmong}
-use Rattle.shim_semantics.specs.Nodes.{Node, Live, Forked, Ended, Dead, state, next_of}
+use Rattle.shim_semantics.specs.Nodes.{Node, Live, Forked, Ended, Dead, state, next_channel}
 use Rattle.shim_semantics.specs.Places.{StandsAt, led_to, has_path}
 use Rattle.shim_semantics.proofs.HowMany.{clash}
 use Rattle.shim_semantics.proofs.Members.{among_map, among_mapped}
@@ -87,15 +87,15 @@ module _ {S : Type 0} (o : Ops S) (root : Node S) (p : Path) where
   )
 
 module _ {S : Type 0} (o : Ops S) (l : S) (c : NamedChannel) where
-  pub stands_so : (d : NamedChannel) (b : Bool) → next_of (o.stop l) ≡ Some d → b ≡ same_channel d.channel c.channel → IsTrue b ↔ StandsAtNext o l c
+  pub stands_so : (d : NamedChannel) (b : Bool) → next_channel (o.stop l) ≡ Some d → b ≡ same_channel d.channel c.channel → IsTrue b ↔ StandsAtNext o l c
   stands_so d b e h = (
     λ t. (d, stands_next (o.stop l) d e, same_channel_is d.channel c.channel (sym h ∙ t)),
-    λ w. let same : d ≡ w.0 = some_same d w.0 (sym e ∙ ap next_of w.1) in
+    λ w. let same : d ≡ w.0 = some_same d w.0 (sym e ∙ ap next_channel w.1) in
         h ∙ (ap (λ z. same_channel z c.channel) (ap (λ z. z.channel) same ∙ w.2) ∙ same_channel_refl c.channel),
   )
 
-  pub stands_nowhere : next_of (o.stop l) ≡ None → IsTrue false ↔ StandsAtNext o l c
-  stands_nowhere e = isnt_so (λ w. none_some w.0 (sym e ∙ ap next_of w.1))
+  pub stands_nowhere : next_channel (o.stop l) ≡ None → IsTrue false ↔ StandsAtNext o l c
+  stands_nowhere e = isnt_so (λ w. none_some w.0 (sym e ∙ ap next_channel w.1))
 
 -- ---- all of a list
 

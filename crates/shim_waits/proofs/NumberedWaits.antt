@@ -7,7 +7,7 @@ use Rattle.std.proofs.lemmas.List.{append-nil, append_assoc, drop_more, drop_all
 use Rattle.std.proofs.lemmas.Option.{slice_get-map}
 use Rattle.shim_base.specs.Paths.{NamedChannel}
 use Rattle.shim_local.specs.Process.{Ops}
-use Rattle.shim_semantics.specs.Nodes.{next_of}
+use Rattle.shim_semantics.specs.Nodes.{next_channel}
 use Rattle.shim_waits.specs.Gathering.{holder_in, wait_to, wait_on, wait_by_holder, numbered_wait_at, numbered_wait}
 use Rattle.shim_waits.specs.Waits.{present}
 use Rattle.shim_waits.specs.declared.gathering.Holder.{Holder}
@@ -21,24 +21,24 @@ pub none_lent : {A B : Type 0} (f : A → B) (xs : List A) (i : ℕ) → slice_g
 none_lent f xs i e = slice_get-map f xs i ∙ ap (option_map f) e
 
 module _ {S : Type 0} (o : Ops S) (ls : List S) (holders : BTreeMap NamedChannel Holder) (l : S) where
-  pub stands_nowhere : next_of (o.stop l) ≡ None → None ≡ numbered_wait o ls holders l
+  pub stands_nowhere : next_channel (o.stop l) ≡ None → None ≡ numbered_wait o ls holders l
   stands_nowhere e = sym (ap (numbered_wait_at o ls holders l) e)
 
-  pub nobody_kept : (c : NamedChannel) → next_of (o.stop l) ≡ Some c → holder_in holders c.channel ≡ None → None ≡ numbered_wait o ls holders l
+  pub nobody_kept : (c : NamedChannel) → next_channel (o.stop l) ≡ Some c → holder_in holders c.channel ≡ None → None ≡ numbered_wait o ls holders l
   nobody_kept c e f = sym (ap (numbered_wait_at o ls holders l) e ∙ ap (wait_by_holder o ls l c) f)
 
-  pub nobody_there : (c : NamedChannel) (h : Holder) → next_of (o.stop l) ≡ Some c → holder_in holders c.channel ≡ Some h → slice_get ls h.number ≡ None → None ≡ numbered_wait o ls holders l
+  pub nobody_there : (c : NamedChannel) (h : Holder) → next_channel (o.stop l) ≡ Some c → holder_in holders c.channel ≡ Some h → slice_get ls h.number ≡ None → None ≡ numbered_wait o ls holders l
   nobody_there c h e f k = sym (ap (numbered_wait_at o ls holders l) e ∙ (ap (wait_by_holder o ls l c) f ∙ ap (wait_on o l c h) k))
 
-  pub no_wait : (c : NamedChannel) (h : Holder) (b : S) → next_of (o.stop l) ≡ Some c → holder_in holders c.channel ≡ Some h → slice_get ls h.number ≡ Some b → next_of (o.stop b) ≡ None → None ≡ numbered_wait o ls holders l
+  pub no_wait : (c : NamedChannel) (h : Holder) (b : S) → next_channel (o.stop l) ≡ Some c → holder_in holders c.channel ≡ Some h → slice_get ls h.number ≡ Some b → next_channel (o.stop b) ≡ None → None ≡ numbered_wait o ls holders l
   no_wait c h b e f k n = sym (ap (numbered_wait_at o ls holders l) e ∙ (ap (wait_by_holder o ls l c) f ∙ (ap (wait_on o l c h) k ∙ ap (wait_to o l c h b) n)))
 
-  pub its_wait : (c d : NamedChannel) (h : Holder) (b : S) → next_of (o.stop l) ≡ Some c → holder_in holders c.channel ≡ Some h → slice_get ls h.number ≡ Some b → next_of (o.stop b) ≡ Some d
+  pub its_wait : (c d : NamedChannel) (h : Holder) (b : S) → next_channel (o.stop l) ≡ Some c → holder_in holders c.channel ≡ Some h → slice_get ls h.number ≡ Some b → next_channel (o.stop b) ≡ Some d
       → numbered_wait o ls holders l ≡ Some (record { path = o.path l; chan = c; holder = h.path; by = o.path b; at = d }, h.number)
   its_wait c d h b e f k n = ap (numbered_wait_at o ls holders l) e ∙ (ap (wait_by_holder o ls l c) f ∙ (ap (wait_on o l c h) k ∙ ap (wait_to o l c h b) n))
 
   -- as the code copies it
-  pub copied_wait : (c d : NamedChannel) (h : Holder) (b : S) (w : Wait) → next_of (o.stop l) ≡ Some c → holder_in holders c.channel ≡ Some h → slice_get ls h.number ≡ Some b → next_of (o.stop b) ≡ Some d
+  pub copied_wait : (c d : NamedChannel) (h : Holder) (b : S) (w : Wait) → next_channel (o.stop l) ≡ Some c → holder_in holders c.channel ≡ Some h → slice_get ls h.number ≡ Some b → next_channel (o.stop b) ≡ Some d
       → w.path ≡ o.path l → w.chan ≡ c → w.holder ≡ h.path → w.by ≡ o.path b → w.at ≡ d → Some (w, h.number) ≡ numbered_wait o ls holders l
   copied_wait c d h b w e f k n path chan holder by at = (λ i. Some (record { path = path i; chan = chan i; holder = holder i; by = by i; at = at i }, h.number)) ∙ sym (its_wait c d h b e f k n)
 

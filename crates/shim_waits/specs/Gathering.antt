@@ -4,7 +4,7 @@ use Rattle.std.specs.Option.{option_map}
 use Rattle.std.specs.BTreeMap.{BTreeMap, get_by}
 use Rattle.shim_base.specs.Paths.{Channel, NamedChannel, channel_order, same_channel}
 use Rattle.shim_local.specs.Process.{Ops}
-use Rattle.shim_semantics.specs.Nodes.{Node, Live, Forked, Ended, Dead, state, next_of, any_sharer, or_else}
+use Rattle.shim_semantics.specs.Nodes.{Node, Live, Forked, Ended, Dead, state, next_channel, any_sharer, or_else}
 use Rattle.shim_waits.specs.Holding.{holds_up}
 use Rattle.shim_waits.specs.Numbers.{holds_given, first_with}
 use Rattle.shim_waits.specs.declared.explained.Wait.{Wait}
@@ -48,7 +48,7 @@ wait_to o l c h b (Some d) = Some (record { path = o.path l; chan = c; holder = 
 
 abbrev pub wait_on : {S : Type 0} → Ops S → S → NamedChannel → Holder → Option S → Option (Wait × ℕ)
 wait_on o l c h None = None
-wait_on o l c h (Some b) = wait_to o l c h b (next_of (o.stop b))
+wait_on o l c h (Some b) = wait_to o l c h b (next_channel (o.stop b))
 
 abbrev pub wait_by_holder : {S : Type 0} → Ops S → List S → S → NamedChannel → Option Holder → Option (Wait × ℕ)
 wait_by_holder o lives l c None = None
@@ -60,7 +60,7 @@ numbered_wait_at o lives holders l (Some c) = wait_by_holder o lives l c (holder
 
 -- the wait of a live process, with the number of the one that it waits for
 abbrev pub numbered_wait : {S : Type 0} → Ops S → List S → BTreeMap NamedChannel Holder → S → Option (Wait × ℕ)
-numbered_wait o lives holders l = numbered_wait_at o lives holders l (next_of (o.stop l))
+numbered_wait o lives holders l = numbered_wait_at o lives holders l (next_channel (o.stop l))
 
 -- the two apart
 abbrev pub wait_found : {S : Type 0} → Ops S → List S → BTreeMap NamedChannel Holder → S → Option Wait

@@ -2,7 +2,7 @@
 use Rattle.std.specs.Prelude.{◌≡◌, ◌++◌, Option, Some, None, List, [], ◌∷◌, true, map}
 use Rattle.shim_base.specs.Paths.{Path, NamedChannel}
 use Rattle.shim_local.specs.Process.{Ops, AtNext}
-use Rattle.shim_semantics.specs.Nodes.{Node, Live, state, next_of}
+use Rattle.shim_semantics.specs.Nodes.{Node, Live, state, next_channel}
 use Rattle.shim_semantics.specs.Places.{StandsAt}
 use Rattle.shim_semantics.specs.Walks.{head}
 use Rattle.shim_waits.specs.Holding.{holds_up, first_of, lives}
@@ -35,7 +35,7 @@ wait_by p c f b (Some d) = Some (record { path = p; chan = c; holder = f; by = b
 
 abbrev pub wait_through : {S : Type 0} → Ops S → Path → NamedChannel → Path → Option S → Option Wait
 wait_through o p c f None = None
-wait_through o p c f (Some b) = wait_by p c f (o.path b) (next_of (o.stop b))
+wait_through o p c f (Some b) = wait_by p c f (o.path b) (next_channel (o.stop b))
 
 abbrev pub wait_held : {S : Type 0} → Ops S → Path → NamedChannel → Option (Node S) → Option Wait
 wait_held o p c None = None
@@ -47,7 +47,7 @@ wait_at_next o root p (Some c) = wait_held o p c (first_of (holds_up o c.channel
 
 -- Of a live process that waits: through the first process that holds it up, for the leftmost live one there.
 abbrev pub wait_of_process : {S : Type 0} → Ops S → Node S → S → Option Wait
-wait_of_process o root l = wait_at_next o root (o.path l) (next_of (o.stop l))
+wait_of_process o root l = wait_at_next o root (o.path l) (next_channel (o.stop l))
 
 -- what is there
 abbrev pub present : {A : Type 0} → List (Option A) → List A

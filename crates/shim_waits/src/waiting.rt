@@ -1,7 +1,7 @@
 // The wait of each live process.
 ghost use Rattle.std.specs.Prelude.{◌≡◌, IfOk, map};
 ghost use Rattle.std.specs.Option.{option_copied};
-ghost use Rattle.shim_semantics.specs.Nodes.{next_of};
+ghost use Rattle.shim_semantics.specs.Nodes.{next_channel};
 ghost use Rattle.shim_waits.specs.Gathering.{numbered_wait, wait_found, number_found};
 ghost use Rattle.shim_waits.specs.Waits.{present};
 
@@ -14,7 +14,7 @@ use std::collections::BTreeMap;
 
 /// The channel at which the process stands.
 pub(crate) fn stands_at<L: Local>(process: &L) -> Option<&Chan>
-    ensures { option_copied result ≡ next_of (L.ops.stop process.now) }
+    ensures { option_copied result ≡ next_channel (L.ops.stop process.now) }
 {
     match process.stop() {
         Stop::Next(c) => Some(c),

@@ -10,28 +10,28 @@ use Rattle.shim_process.specs.Locations.{Locations}
 use Rattle.shim_process.specs.LocalState.{LocalState, unit_or, unit_at, is_full, trapped}
 use Rattle.shim_process.specs.Steps.{line_of}
 use Rattle.shim_local.specs.Process.{Parted, Trapped as TrappedFork}
-use Rattle.shim_process.specs.Forks.{fork, parted, all_lending, keeping, lending, lending_given, takes_input, takes_output, parent, is_far, item_branches, lent, lent_by, joined, all_back, input_back, output_back}
+use Rattle.shim_process.specs.Forks.{fork, fork_outcome, all_lending, keeping, lending, lending_given, takes_input, takes_output, parent, is_far, item_branches, lent, lent_by, joined, all_back, input_back, output_back}
 use Rattle.shim_walk.specs.declared.process.ForkedProcess.TheVariants.{Children, Trapped}
 use Rattle.shim_locations.specs.declared.remainder.Remainder.{Remainder}
 use Rattle.shim_locations.specs.Lendings.{lent_at, remainder_of}
 use Rattle.shim_walk.specs.ChildrenMade.{children_made}
-use Rattle.shim_walk.specs.ForkResults.{Comes}
+use Rattle.shim_walk.specs.ForkResults.{IsForkResult}
 use Rattle.shim_walk.proofs.MadeChildren.{parts}
 
 -- the children as they are made of the process as it stood
-of_start : (l start : LocalState) (branches : List UBranch) (r : Result (List LocalState) Trap) → start ≡ l → branches ≡ item_branches l.frame.todo → children_made l start 0 branches ≡ r → parted r l branches ≡ fork l
-of_start l start branches r es e b = sym (ap (λ x. parted x l branches) b) ∙ ap (λ m. parted (children_made l m 0 branches) l branches) es ∙ parts l branches e
+of_start : (l start : LocalState) (branches : List UBranch) (r : Result (List LocalState) Trap) → start ≡ l → branches ≡ item_branches l.frame.todo → children_made l start 0 branches ≡ r → fork_outcome r l branches ≡ fork l
+of_start l start branches r es e b = sym (ap (λ x. fork_outcome x l branches) b) ∙ ap (λ m. fork_outcome (children_made l m 0 branches) l branches) es ∙ parts l branches e
 
-pub traps : (l start : LocalState) (branches : List UBranch) (t : Trap) → start ≡ l → branches ≡ item_branches l.frame.todo → children_made l start 0 branches ≡ Err t → Comes (Trapped t) l
+pub traps : (l start : LocalState) (branches : List UBranch) (t : Trap) → start ≡ l → branches ≡ item_branches l.frame.todo → children_made l start 0 branches ≡ Err t → IsForkResult (Trapped t) l
 traps l start branches t es e b = sym (of_start l start branches (Err t) es e b)
 
 pub too_deep : (l start : LocalState) (branches : List UBranch) (children : List LocalState) → start ≡ l → branches ≡ item_branches l.frame.todo → children_made l start 0 branches ≡ Ok children
-    → (is_far l || is_full l) ≡ true → Comes (Trapped Depth) l
+    → (is_far l || is_full l) ≡ true → IsForkResult (Trapped Depth) l
 too_deep l start branches children es e b deep =
     sym (sym (ap (λ x. if x then TrappedFork (trapped Depth (line_of l.frame.todo) l) else Parted (parent l branches) children) deep) ∙ of_start l start branches (Ok children) es e b)
 
 pub forked : (l start : LocalState) (remainder : Remainder) (branches : List UBranch) (children : List LocalState) → start ≡ l → branches ≡ item_branches l.frame.todo → children_made l start 0 branches ≡ Ok children
-    → (is_far l || is_full l) ≡ false → remainder_of l remainder ≡ all_lending start branches → Comes (Children children remainder) l
+    → (is_far l || is_full l) ≡ false → remainder_of l remainder ≡ all_lending start branches → IsForkResult (Children children remainder) l
 forked l start remainder branches children es e b deep el =
     sym (of_start l start branches (Ok children) es e b)
     ∙ ap (λ x. if x then TrappedFork (trapped Depth (line_of l.frame.todo) l) else Parted (parent l branches) children) deep

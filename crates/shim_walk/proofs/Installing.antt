@@ -9,8 +9,8 @@ use Rattle.shim_process.specs.LocalState.{Frame, LocalState}
 use Rattle.shim_process.specs.SerialRuns.{with_serial, without_some}
 use Rattle.shim_process.specs.Steps.{installed, installing, line_of, variable_in}
 use Rattle.shim_process.specs.Unwinding.{catching}
-use Rattle.shim_walk_frames.specs.FrameViews.{FrameView, place_of}
-use Rattle.shim_walk_frames.specs.Depths.{shown, text}
+use Rattle.shim_walk_frames.specs.FrameViews.{FrameView, exception_place_of}
+use Rattle.shim_walk_frames.specs.Depths.{shown, unit_stmts}
 use Rattle.shim_walk_frames.specs.Pieces.{left_all}
 use Rattle.shim_walk_frames.specs.Leaving.{catching_in, serial_of, taking_in, untaken_behind, untaken_without, variable_of}
 use Rattle.shim_walk_frames.proofs.Leaves.{catches, caught_is, untaken_here}
@@ -19,9 +19,9 @@ use Rattle.shim_walk_frames.proofs.Leaves.{catches, caught_is, untaken_here}
 shown_with : (units : List UnitOf) (top : FrameView) (x name line : ℕ) (y : Option HandlerVariable) → line ≡ line_of (shown units top).todo
     → shown units (record top { places = top.places ++ record { exception = x; name = name; line = line; at = top.at; variable = y } ∷ [] }) ≡ installed x name y (shown units top)
 shown_with units top x name line y e =
-    let body = text units top.unit in
-    ap (λ ps. record (shown units top) { places = ps }) (map-append (place_of body) top.places (record { exception = x; name = name; line = line; at = top.at; variable = y } ∷ []))
-    ∙ ap (λ n. record (shown units top) { places = map (place_of body) top.places ++ record { exception = x; name = name; line = n; variable = y; todo = left_all body top.at } ∷ [] }) e
+    let body = unit_stmts units top.unit in
+    ap (λ ps. record (shown units top) { places = ps }) (map-append (exception_place_of body) top.places (record { exception = x; name = name; line = line; at = top.at; variable = y } ∷ []))
+    ∙ ap (λ n. record (shown units top) { places = map (exception_place_of body) top.places ++ record { exception = x; name = name; line = n; variable = y; todo = left_all body top.at } ∷ [] }) e
 
 pub installs_variable : (l : LocalState) (top next : FrameView) (x name line slot made : ℕ) (y : HandlerVariable) (runs : List SerialRun)
     → l.frame ≡ shown l.program.units top → line ≡ line_of l.frame.todo
@@ -44,10 +44,10 @@ pub catches_here : (l : LocalState) (top next : FrameView) (i : ℕ) (v : ℤ) (
     → record l { frame = shown l.program.units next; locations = locations; untaken = runs } ≡ record (catching (slice_get l.frame.places i) v l.frame l) { frame = record l.frame { places = take i l.frame.places } }
 catches_here l top next i v y serial locations runs ef ey en el es er =
     let units = l.program.units in
-    let body = text units top.unit in
+    let body = unit_stmts units top.unit in
     let own : shown units next ≡ record l.frame { places = take i l.frame.places } =
     ap (shown units) en
-    ∙ ap (λ ps. record (shown units top) { places = ps }) (sym (take-map (place_of body) i top.places))
+    ∙ ap (λ ps. record (shown units top) { places = ps }) (sym (take-map (exception_place_of body) i top.places))
     ∙ ap (λ (f : Frame). record f { places = take i f.places }) (sym ef) in
     let kept : locations ≡ taking_in (variable_of (slice_get top.places i)) v top.slots l.locations = el ∙ ap (λ z. taking_in z v top.slots l.locations) ey in
     let left : runs ≡ untaken_without (variable_of (slice_get top.places i)) l.untaken = er ∙ ap (λ s. without_some s l.untaken) es ∙ ap (λ z. untaken_without z l.untaken) ey in

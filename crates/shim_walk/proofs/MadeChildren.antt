@@ -9,14 +9,14 @@ use Rattle.shim_process.specs.Locations.{Locations}
 use Rattle.shim_process.specs.LocalState.{LocalState, unit_or, unit_at, handlers}
 use Rattle.shim_process.specs.StatementViews.{statement_view, label_of, passed_labels}
 use Rattle.shim_process.specs.Arguments.{Argument, on_value, arguments, entered, numbers_from, branch_locations, channels_of, new_channels, empties, declared_slots}
-use Rattle.shim_process.specs.Forks.{root, child, child_in, lending, all_lending, children_from, all_arguments, parted, fork_result, fork, item_branches, takes_input, takes_output, labels_from}
+use Rattle.shim_process.specs.Forks.{root, child, new_child, lending, all_lending, children_from, all_arguments, fork_outcome, fork_result, fork, item_branches, takes_input, takes_output, labels_from}
 use Rattle.shim_walk_frames.specs.FrameViews.{FrameView}
 use Rattle.shim_locations.specs.declared.remainder.Remainder.{Remainder}
 use Rattle.shim_walk_frames.specs.Depths.{shown}
 use Rattle.shim_process.specs.declared.serial_run.SerialRun.{SerialRun}
 use Rattle.shim_walk.specs.States.{state_of}
 use Rattle.shim_locations.specs.Lendings.{remainder_of}
-use Rattle.shim_walk.specs.ChildrenMade.{children_made, behind}
+use Rattle.shim_walk.specs.ChildrenMade.{children_made, children_before}
 
 pub same_state : (l m : LocalState) → l.path ≡ m.path → l.base ≡ m.base → l.made ≡ m.made → l.forks ≡ m.forks → l.untaken ≡ m.untaken → l.given ≡ m.given → l.frame ≡ m.frame → l.callers ≡ m.callers → l.locations ≡ m.locations
     → l.input_at ≡ m.input_at → l.holds_output ≡ m.holds_output → l.trap ≡ m.trap → l.program ≡ m.program → l.input ≡ m.input → l ≡ m
@@ -57,11 +57,11 @@ pub child_by : (l : LocalState) (i unit : ℕ) (labels : List ℕ) (args : List 
     → callers ≡ [] → locations ≡ passed ++ empties (declared_slots (unit_or (slice_get l.program.units unit)))
     → input_at ≡ (if takes_input (unit_or (slice_get l.program.units unit)).params then l.input_at else None)
     → output ≡ (if takes_output (unit_or (slice_get l.program.units unit)).params then l.holds_output else false)
-    → state_of home base made 0 runs given top callers locations input_at output None program input ≡ child_in l i unit labels args
+    → state_of home base made 0 runs given top callers locations input_at output None program input ≡ new_child l i unit labels args
 unfolding unit_at
 child_by l i unit labels args home base made runs given top callers passed locations input_at output program input ep ei e1 e2 e3 et eq e5 e6 e7 e8 e9 e10 =
     let p = eq ∙ ap (λ h. branch_locations h l.locations 0 args) e1 in
-    same_state (state_of home base made 0 runs given top callers locations input_at output None program input) (child_in l i unit labels args) e1 e2 e3 refl et (e5 ∙ ap channels_of p)
+    same_state (state_of home base made 0 runs given top callers locations input_at output None program input) (new_child l i unit labels args) e1 e2 e3 refl et (e5 ∙ ap channels_of p)
     (ap (λ (q : Form). shown q.units top) ep ∙ e6) (ap (map (shown program.units)) e7)
     (e8 ∙ ap (λ x. x ++ empties (declared_slots (unit_or (slice_get l.program.units unit)))) p) e9 (e10 ∙ both_is (takes_output (unit_or (slice_get l.program.units unit)).params) l.holds_output) refl ep ei
   where
@@ -76,21 +76,21 @@ labels_left l remainder (x ∷ xs) = ap (λ ns. label_of (statement_view l) x �
 
 -- no branch is left
 pub all_children_made : (l remainder : LocalState) (i n : ℕ) (branches : List UBranch) (children : List LocalState) (whole : Result (List LocalState) Trap) → length branches ≤ n
-    → behind children (children_made l remainder i (drop n branches)) ≡ whole → whole ≡ Ok children
+    → children_before children (children_made l remainder i (drop n branches)) ≡ whole → whole ≡ Ok children
 all_children_made l remainder i n branches children whole le e =
-    sym e ∙ ap (λ b. behind children (children_made l remainder i b)) (drop_all n branches le) ∙ ap (λ c. Ok c) (append-nil children)
+    sym e ∙ ap (λ b. children_before children (children_made l remainder i b)) (drop_all n branches le) ∙ ap (λ c. Ok c) (append-nil children)
 
 -- the next branch's arguments trap
 pub one_trapped : (l remainder : LocalState) (i n : ℕ) (d : UBranch) (branches : List UBranch) (children : List LocalState) (t : Trap) (whole : Result (List LocalState) Trap) → n < length branches
     → arguments l.locations l.frame.slots (unit_at l.program (get_or branches n d).call.unit).params (get_or branches n d).call.args ≡ Err t
-    → behind children (children_made l remainder i (drop n branches)) ≡ whole → whole ≡ Err t
+    → children_before children (children_made l remainder i (drop n branches)) ≡ whole → whole ≡ Err t
 one_trapped l remainder i n d branches children t whole lt e so_far =
     let b = get_or branches n d in
     sym so_far
-    ∙ ap (λ bs. behind children (children_made l remainder i bs)) (drop-cons branches n d lt)
-    ∙ ap (λ r. behind children (on_value (λ given. on_value (λ others. Ok (child remainder i b given ∷ others)) (children_made l (lending remainder b) (i + 1) (drop (suc n) branches))) r)) e
+    ∙ ap (λ bs. children_before children (children_made l remainder i bs)) (drop-cons branches n d lt)
+    ∙ ap (λ r. children_before children (on_value (λ given. on_value (λ others. Ok (child remainder i b given ∷ others)) (children_made l (lending remainder b) (i + 1) (drop (suc n) branches))) r)) e
 
-behind_one : (children : List LocalState) (k : LocalState) (rest : Result (List LocalState) Trap) → behind (children ++ k ∷ []) rest ≡ behind children (on_value (λ others. Ok (k ∷ others)) rest)
+behind_one : (children : List LocalState) (k : LocalState) (rest : Result (List LocalState) Trap) → children_before (children ++ k ∷ []) rest ≡ children_before children (on_value (λ others. Ok (k ∷ others)) rest)
 behind_one children k (Err t) = refl
 behind_one children k (Ok others) = ap (λ c. Ok c) (append_assoc children (k ∷ []) others)
 
@@ -98,18 +98,18 @@ behind_one children k (Ok others) = ap (λ c. Ok c) (append_assoc children (k �
 pub one_born : (l remainder after : LocalState) (i j n : ℕ) (d : UBranch) (branches : List UBranch) (children more : List LocalState) (k : LocalState) (args : List Argument) (whole : Result (List LocalState) Trap) → n < length branches
     → arguments l.locations l.frame.slots (unit_at l.program (get_or branches n d).call.unit).params (get_or branches n d).call.args ≡ Ok args
     → k ≡ child remainder i (get_or branches n d) args → more ≡ children ++ k ∷ [] → after ≡ lending remainder (get_or branches n d) → j ≡ i + 1
-    → behind children (children_made l remainder i (drop n branches)) ≡ whole → behind more (children_made l after j (drop (n + 1) branches)) ≡ whole
+    → children_before children (children_made l remainder i (drop n branches)) ≡ whole → children_before more (children_made l after j (drop (n + 1) branches)) ≡ whole
 one_born l remainder after i j n d branches children more k args whole lt e ek em el ej so_far =
     let b = get_or branches n d in
     let rest = children_made l (lending remainder b) (i + 1) (drop (suc n) branches) in
-    ap (λ m. behind m (children_made l after j (drop (n + 1) branches))) em
-    ∙ ap (λ m. behind (children ++ k ∷ []) (children_made l m j (drop (n + 1) branches))) el
-    ∙ ap (λ m. behind (children ++ k ∷ []) (children_made l (lending remainder b) m (drop (n + 1) branches))) ej
-    ∙ ap (λ m. behind (children ++ k ∷ []) (children_made l (lending remainder b) (i + 1) (drop m branches))) (let z : n + 1 ≡ suc n = omega arith in z)
+    ap (λ m. children_before m (children_made l after j (drop (n + 1) branches))) em
+    ∙ ap (λ m. children_before (children ++ k ∷ []) (children_made l m j (drop (n + 1) branches))) el
+    ∙ ap (λ m. children_before (children ++ k ∷ []) (children_made l (lending remainder b) m (drop (n + 1) branches))) ej
+    ∙ ap (λ m. children_before (children ++ k ∷ []) (children_made l (lending remainder b) (i + 1) (drop m branches))) (let z : n + 1 ≡ suc n = omega arith in z)
     ∙ behind_one children k rest
-    ∙ ap (λ x. behind children (on_value (λ others. Ok (x ∷ others)) rest)) ek
-    ∙ sym (ap (λ r. behind children (on_value (λ given. on_value (λ others. Ok (child remainder i b given ∷ others)) rest) r)) e)
-    ∙ sym (ap (λ bs. behind children (children_made l remainder i bs)) (drop-cons branches n d lt))
+    ∙ ap (λ x. children_before children (on_value (λ others. Ok (x ∷ others)) rest)) ek
+    ∙ sym (ap (λ r. children_before children (on_value (λ given. on_value (λ others. Ok (child remainder i b given ∷ others)) rest) r)) e)
+    ∙ sym (ap (λ bs. children_before children (children_made l remainder i bs)) (drop-cons branches n d lt))
     ∙ so_far
 
 -- and what it took is with it
@@ -138,7 +138,7 @@ children_made_is l remainder i (b ∷ bs) =
     step (Ok given) (Err t) = refl
     step (Ok given) (Ok others) = refl
 
-pub parts : (l : LocalState) (branches : List UBranch) → branches ≡ item_branches l.frame.todo → parted (children_made l l 0 branches) l branches ≡ fork l
+pub parts : (l : LocalState) (branches : List UBranch) → branches ≡ item_branches l.frame.todo → fork_outcome (children_made l l 0 branches) l branches ≡ fork l
 unfolding fork
 parts l branches e =
-    ap (λ r. parted r l branches) (children_made_is l l 0 branches) ∙ ap (λ bs. fork_result (all_arguments l bs) l bs) e
+    ap (λ r. fork_outcome r l branches) (children_made_is l l 0 branches) ∙ ap (λ bs. fork_result (all_arguments l bs) l bs) e

@@ -3,8 +3,8 @@ use Rattle.std.proofs.Common.{◌≡◌, ℕ, Bool, List, ◌∷◌, None, map, 
 use Rattle.std.proofs.lemmas.List.{take-map}
 use Rattle.shim_process.specs.Locations.{Locations}
 use Rattle.shim_process.specs.LocalState.{Frame, LocalState, unit_at}
-use Rattle.shim_walk_frames.specs.Depths.{shown, text}
-use Rattle.shim_walk_frames.specs.FrameViews.{FrameView, place_of}
+use Rattle.shim_walk_frames.specs.Depths.{shown, unit_stmts}
+use Rattle.shim_walk_frames.specs.FrameViews.{FrameView, exception_place_of}
 use Rattle.shim_walk_frames.specs.Pieces.{left_all}
 use Rattle.shim_walk.specs.Returning.{IsLeft, resting}
 
@@ -13,9 +13,9 @@ pub rests : (l : LocalState) (top next : FrameView) (number : ℕ) (halfway : Bo
 unfolding unit_at
 rests l top next number halfway kept e h =
     let units = l.program.units in
-    let body = text units top.unit in
+    let body = unit_stmts units top.unit in
     ap (λ t. record l { frame = shown units t }) h
-    ∙ ap (λ ps. record l { frame = record (shown units top) { todo = left_all body number; halfway = halfway; places = ps } }) (sym (take-map (place_of body) kept top.places))
+    ∙ ap (λ ps. record l { frame = record (shown units top) { todo = left_all body number; halfway = halfway; places = ps } }) (sym (take-map (exception_place_of body) kept top.places))
     ∙ ap (λ (f : Frame). record l { frame = record f { todo = left_all (unit_at l.program f.unit).body number; halfway = halfway; places = take kept f.places } }) (sym e)
 
 pub leaves : (l : LocalState) (top caller : FrameView) (callers rest : List FrameView) (locations : Locations) → l.callers ≡ map (shown l.program.units) callers → callers ≡ caller ∷ rest

@@ -9,7 +9,7 @@ use Rattle.shim_process.specs.Born.{Born}
 use Rattle.shim_process.specs.Forks.{join}
 use Rattle.shim_process.specs.LocalState.{LocalState, handlers, trapped}
 use Rattle.shim_process.specs.Steps.{line_of, quiet}
-use Rattle.shim_process.specs.Stops.{stop, put, thrown, receive}
+use Rattle.shim_process.specs.Stops.{stop, put, throw_evaluated, receive}
 use Rattle.shim_process.specs.Unwinding.{unwind}
 use Rattle.shim_process.specs.Sound.{Sound}
 use Rattle.shim_process.proofs.JoinKeeps.{join_joined, joined_sound}
@@ -17,7 +17,7 @@ use Rattle.shim_locations.specs.declared.remainder.Remainder.{Remainder}
 use Rattle.shim_walk.specs.declared.process.ForkedProcess.{ForkedProcess}
 use Rattle.shim_walk.specs.declared.process.ForkedProcess.TheVariants.{Children, Trapped}
 use Rattle.shim_locations.specs.Lendings.{remainder_of}
-use Rattle.shim_walk.specs.ForkResults.{Comes}
+use Rattle.shim_walk.specs.ForkResults.{IsForkResult}
 use Rattle.shim_walk.specs.WalkLaws.{walk_laws}
 
 stands_so : (l now : LocalState) (s : StopView) → l ≡ now → stop now ≡ s → stop l ≡ s
@@ -30,7 +30,7 @@ step_sound l now m (Err x) e s at ok err = subst Sound (sym err) s
 pub put_sound : (l now m : LocalState) → l ≡ now → Sound l → stop now ≡ AtPut → m ≡ put l → Sound m
 put_sound l now m e s at is = walk_laws.moved_sound l m s (by_call (by_put (stands_so l now AtPut e at) is))
 
-pub thrown_sound : (l now m : LocalState) (z : ℕ) → l ≡ now → Sound l → stop now ≡ AtThrow z → m ≡ thrown l → Sound m
+pub thrown_sound : (l now m : LocalState) (z : ℕ) → l ≡ now → Sound l → stop now ≡ AtThrow z → m ≡ throw_evaluated l → Sound m
 thrown_sound l now m z e s at is = walk_laws.moved_sound l m s (by_call (by_thrown z (stands_so l now (AtThrow z) e at) is))
 
 pub receive_sound : (l now m : LocalState) (c : NamedChannel) (v : ℤ) → l ≡ now → Sound l → stop now ≡ AtNext c → m ≡ receive l v → Sound m
@@ -46,18 +46,18 @@ join_sound l now m ks goes_on e s born is =
     subst Sound (sym (is ∙ ap (λ cs. join l cs goes_on) (map-id ks)))
     (joined_sound l ks (join l ks goes_on) s (join_joined l ks goes_on s (subst (λ k. Born k ks) (sym e) born)))
 
-pub trap_sound : (l now m : LocalState) (o : ForkedProcess) (t : Trap) → l ≡ now → Sound l → stop now ≡ AtFork → o ≡ Trapped t → Comes o l → m ≡ trapped t (line_of l.frame.todo) l → Sound m
+pub trap_sound : (l now m : LocalState) (o : ForkedProcess) (t : Trap) → l ≡ now → Sound l → stop now ≡ AtFork → o ≡ Trapped t → IsForkResult o l → m ≡ trapped t (line_of l.frame.todo) l → Sound m
 trap_sound l now m o t e s at is comes n =
-    walk_laws.moved_sound l m s (by_trap (stands_so l now AtFork e at) (subst (λ o. Comes o l) is comes ∙ ap TrappedFork (sym n)))
+    walk_laws.moved_sound l m s (by_trap (stands_so l now AtFork e at) (subst (λ o. IsForkResult o l) is comes ∙ ap TrappedFork (sym n)))
 
-pub children_sound : (l now : LocalState) (o : ForkedProcess) (ks : List LocalState) (remainder : Remainder) → l ≡ now → Sound l → stop now ≡ AtFork → o ≡ Children ks remainder → Comes o l → AllOf Sound ks
+pub children_sound : (l now : LocalState) (o : ForkedProcess) (ks : List LocalState) (remainder : Remainder) → l ≡ now → Sound l → stop now ≡ AtFork → o ≡ Children ks remainder → IsForkResult o l → AllOf Sound ks
 children_sound l now o ks remainder e s at is comes =
-    walk_laws.fork_sound l (record (remainder_of l remainder) { forks = l.forks + 1 }) ks s (stands_so l now AtFork e at, subst (λ o. Comes o l) is comes)
+    walk_laws.fork_sound l (record (remainder_of l remainder) { forks = l.forks + 1 }) ks s (stands_so l now AtFork e at, subst (λ o. IsForkResult o l) is comes)
 
-pub lend_sound : (l now m : LocalState) (o : ForkedProcess) (ks : List LocalState) (remainder : Remainder) (r : Result (Unit {0}) NoMemory) → l ≡ now → Sound l → stop now ≡ AtFork → o ≡ Children ks remainder → Comes o l
+pub lend_sound : (l now m : LocalState) (o : ForkedProcess) (ks : List LocalState) (remainder : Remainder) (r : Result (Unit {0}) NoMemory) → l ≡ now → Sound l → stop now ≡ AtFork → o ≡ Children ks remainder → IsForkResult o l
     → OnOk r (m ≡ record (remainder_of l remainder) { forks = l.forks + 1 }) → OnErr r (m ≡ l) → Sound m
 lend_sound l now m o ks remainder (Ok x) e s at is comes ok err =
-    walk_laws.moved_sound l m s (by_fork ks (stands_so l now AtFork e at) (subst (λ o. Comes o l) is comes ∙ ap (λ p. Parted p ks) (sym ok)))
+    walk_laws.moved_sound l m s (by_fork ks (stands_so l now AtFork e at) (subst (λ o. IsForkResult o l) is comes ∙ ap (λ p. Parted p ks) (sym ok)))
 lend_sound l now m o ks remainder (Err x) e s at is comes ok err = subst Sound (sym err) s
 
 -- one process more is a walk

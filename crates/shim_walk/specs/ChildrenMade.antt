@@ -16,8 +16,8 @@ children_made l remainder i (b ∷ branches) =
     (arguments l.locations l.frame.slots (unit_at l.program b.call.unit).params b.call.args)
 
 -- these, and then others
-abbrev pub behind : List LocalState → Result (List LocalState) Trap → Result (List LocalState) Trap
-behind children rest = on_value (λ others. Ok (children ++ others)) rest
+abbrev pub children_before : List LocalState → Result (List LocalState) Trap → Result (List LocalState) Trap
+children_before children rest = on_value (λ others. Ok (children ++ others)) rest
 
 -- want of memory says nothing
 abbrev pub MakesChildren : Result (List LocalState) ArgumentFault → Result (List LocalState) Trap → Type 0

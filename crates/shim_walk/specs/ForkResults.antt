@@ -9,6 +9,6 @@ use Rattle.shim_walk.specs.declared.process.ForkedProcess.{ForkedProcess}
 use Rattle.shim_walk.specs.declared.process.ForkedProcess.TheVariants.{Children, Trapped}
 
 -- the children with what they leave of the process, or the trap at which it will stand
-abbrev pub Comes : ForkedProcess → LocalState → Type 0
-Comes (Children ks remainder) l = fork l ≡ Parted (record (remainder_of l remainder) { forks = l.forks + 1 }) ks
-Comes (Trapped t) l = fork l ≡ StandsTrapped (trapped t (line_of l.frame.todo) l)
+abbrev pub IsForkResult : ForkedProcess → LocalState → Type 0
+IsForkResult (Children ks remainder) l = fork l ≡ Parted (record (remainder_of l remainder) { forks = l.forks + 1 }) ks
+IsForkResult (Trapped t) l = fork l ≡ StandsTrapped (trapped t (line_of l.frame.todo) l)

@@ -6,8 +6,8 @@ ghost use Rattle.shim_walk_frames.specs.Leaving.{handler_in, serial_of, taking_i
 ghost use Rattle.shim_walk_frames.specs.Variables.{one_of, variables_in, variables_of};
 ghost use Rattle.shim_process.specs.Ends.{went};
 ghost use Rattle.shim_walk_frames.specs.Turns.{successor_of};
-ghost use Rattle.shim_walk_frames.specs.Depths.{AllFit, depth_of, returned, shown, text};
-ghost use Rattle.shim_walk_frames.specs.Cursors.{AllStand, Stands};
+ghost use Rattle.shim_walk_frames.specs.Depths.{AllFit, depth_of, returned, shown, unit_stmts};
+ghost use Rattle.shim_walk_frames.specs.Cursors.{AllStand, HasOwnCursor};
 
 use shim_base::Ty;
 use shim_locations::location::Location;
@@ -63,12 +63,12 @@ pub fn go_on(
 #[tactic(auto, using(shim_walk_frames::proofs::Returns::text_fits))]
 fn handle(units: &[Unit], top: &mut Frame, place: u32) -> Option<HandlerVariable>
     requires fit { AllFit units.now }
-    requires cursor { Stands units.now top.old }
+    requires cursor { HasOwnCursor units.now top.old }
     ensures value { shown units.now top.new ≡ handling (slice_get (shown units.now top.old).places (place - top.old.outer)) (place - top.old.outer) (shown units.now top.old) }
     ensures variable { result ≡ variable_of (slice_get top.old.places (place - top.old.outer)) }
     ensures fewer { one_of result + variables_of top.new.places ≤ variables_of top.old.places }
     ensures slots { top.new.slots ≡ top.old.slots }
-    ensures cursor { Stands units.now top.new }
+    ensures cursor { HasOwnCursor units.now top.new }
 {
     let unit = top.unit();
     let index = place.saturating_sub(top.outer());

@@ -19,7 +19,7 @@ use std::sync::Arc;
 
 /// A called unit at its first statement, its locations, and how many channels its caller has made then.
 #[derive(Drop)]
-pub struct Entry {
+pub struct EnteredUnit {
     pub top: Frame,
     pub locations: List<Option<Location>>,
     pub made: u32,
@@ -37,7 +37,7 @@ pub fn make_entry(
     outer: u32,
     given: &[Argument],
     labels: List<u32>,
-) -> Result<Entry, NoMemory>
+) -> Result<EnteredUnit, NoMemory>
     requires fit { AllFit units.now }
     requires outer { outer < 2 ^ 31 }
     ensures { IfOk result (λ e. IsEntry units.now unit (arc_value home.now) locations.now made outer (arguments_of given.now) labels e) }
@@ -49,7 +49,7 @@ pub fn make_entry(
     let slots = call_slots(alloc, locations.len(), given, declared)?;
     let labels = labels.into_vec();
     let cursor = cursor_of(text_of(units, unit), 0);
-    Ok(Entry {
+    Ok(EnteredUnit {
         top: Frame::enter(alloc, unit, cursor, slots, labels, locations.len(), outer),
         locations: all,
         made,

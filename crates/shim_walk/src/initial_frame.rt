@@ -6,7 +6,7 @@ ghost use Rattle.shim_process.specs.LocalState.{unit_or};
 ghost use Rattle.std.specs.Option.{option_copied};
 ghost use Rattle.shim_units.specs.declared.unit.UWhat.{out-UWhat};
 ghost use Rattle.shim_walk_frames.specs.Depths.{AllFit, shown};
-ghost use Rattle.shim_walk_frames.specs.Cursors.{Stands};
+ghost use Rattle.shim_walk_frames.specs.Cursors.{HasOwnCursor};
 
 use crate::count::one_more;
 use shim_base::{List, NoMemory};
@@ -27,7 +27,7 @@ pub fn first_frame(
 ) -> Result<Frame, NoMemory>
     requires { AllFit units.now }
     ensures value { IfOk result (λ top. shown units.now top ≡ entered (unit_or (slice_get units.now unit)) unit (numbers_from 0 (unit_or (slice_get units.now unit)).slots) labels 0 0) }
-    ensures cursor { IfOk result (λ top. Stands units.now top) }
+    ensures cursor { IfOk result (λ top. HasOwnCursor units.now top) }
 {
     let declared = slots_of(units, unit);
     let room = List::with_capacity(alloc, declared.len())?;

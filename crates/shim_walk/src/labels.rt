@@ -5,7 +5,7 @@ ghost use Rattle.shim_walk.specs.StatementContexts.{context_view};
 
 use crate::next_action::StatementContext;
 use shim_base::{List, NoMemory};
-use shim_walk_frames::text::label_of;
+use shim_walk_frames::text::nth_label;
 use std::alloc::Global;
 
 /// That of an exception of the innermost frame: of its innermost place in force, or else the one that
@@ -14,7 +14,7 @@ pub fn label_for(context: &StatementContext<'_>, exception: u32) -> u32
     requires { context.now.first + length context.now.places.now < 2 ^ 32 }
     ensures { result ≡ label_of (context_view context.now) exception }
 {
-    let mut label = label_of(context.labels, exception);
+    let mut label = nth_label(context.labels, exception);
     let mut next = context.first;
     for place in context.places {
         if place.exception == exception {

@@ -10,7 +10,7 @@ ghost use Rattle.shim_walk.specs.Actions.{action_of};
 
 use crate::action::Action;
 use crate::labels::labels_for;
-use crate::variable_actions::{assign, assign_first, declare, test, test_or};
+use crate::variable_actions::{assign, assign_first, declare_action, test, test_or};
 use shim_base::{NoMemory, Trap};
 use shim_locations::argument_fault::ArgumentFault;
 use shim_locations::arguments::arguments;
@@ -20,7 +20,7 @@ use shim_scopes::UExpr;
 use shim_units::{UCall, UStmt, UWhat, Unit};
 use shim_walk_frames::handler::Handler;
 use shim_walk_frames::successors::Successor;
-use shim_walk_frames::text::{label_of, params_of};
+use shim_walk_frames::text::{nth_label, params_of};
 use std::alloc::Global;
 
 /// What a statement sees of its process: the locations, the slots and labels of the innermost frame, the
@@ -49,7 +49,7 @@ pub fn try_name(units: &[Unit], unit: u32, exception: u32) -> u32
     ensures { result ≡ step.try_name (unit_or (slice_get units.now unit)) exception }
 {
     match units.get(unit as usize) {
-        Some(unit) => label_of(unit.tries.as_slice(), exception.saturating_sub(unit.throws)),
+        Some(unit) => nth_label(unit.tries.as_slice(), exception.saturating_sub(unit.throws)),
         None => 0,
     }
 }
@@ -89,7 +89,7 @@ fn what_action(
     let locations = context.locations;
     let slots = context.slots;
     match &stmt.what {
-        UWhat::Declare(ty, slot, start) => Ok(declare(
+        UWhat::Declare(ty, slot, start) => Ok(declare_action(
             *ty,
             *slot,
             start,

@@ -5,13 +5,13 @@ ghost use Rattle.shim_local.specs.Process.{AtQuiet};
 ghost use Rattle.shim_local.specs.Views.{stop_view};
 ghost use Rattle.shim_units.specs.OfText.{IsAcceptedForm};
 ghost use Rattle.shim_process.specs.Ends.{gone, settled};
-ghost use Rattle.shim_process.specs.Forks.{all_back, all_lending, child_in, fork, input_back, is_far, item_branches, join, joined, lending, lending_given, output_back, root, some_or};
+ghost use Rattle.shim_process.specs.Forks.{all_back, all_lending, new_child, fork, input_back, is_far, item_branches, join, joined, lending, lending_given, output_back, root, some_or};
 ghost use Rattle.shim_process.specs.Arguments.{arguments};
 ghost use Rattle.shim_process.specs.LocalState.{handlers, is_deep, is_full, number_of, trapped, unit_at};
 ghost use Rattle.shim_process.specs.Locations.{at_number, with_back};
 ghost use Rattle.shim_process.specs.StatementViews.{passed_labels, statement_view};
 ghost use Rattle.shim_process.specs.Steps.{installing, called, done, half, line_of, made_in, next_action, pushed, quiet, read_in, stored_in, variable_in};
-ghost use Rattle.shim_process.specs.Stops.{byte, put, put_value, receive, stop, thrown, thrown_number, thrown_value};
+ghost use Rattle.shim_process.specs.Stops.{byte, put, put_value, receive, stop, throw_evaluated, thrown_number, thrown_value};
 ghost use Rattle.shim_process.specs.Sharers.{carries, given_at, shares, channel_value};
 ghost use Rattle.shim_process.specs.Todo.{next_stmt};
 ghost use Rattle.shim_process.specs.Unwinding.{catching, handler, unwind};
@@ -22,7 +22,7 @@ ghost use Rattle.shim_locations.specs.Given.{arguments_of};
 ghost use Rattle.shim_walk.specs.Actions.{action_of};
 ghost use Rattle.shim_locations.specs.ArgumentFaults.{Gives};
 ghost use Rattle.shim_locations.specs.Lendings.{remainder_of};
-ghost use Rattle.shim_walk.specs.ForkResults.{Comes};
+ghost use Rattle.shim_walk.specs.ForkResults.{IsForkResult};
 ghost use Rattle.shim_walk.specs.StatementContexts.{context_view};
 ghost use Rattle.shim_walk_frames.specs.Turns.{successor_of};
 ghost use Rattle.shim_walk.specs.Returning.{IsLeft, resting};
@@ -30,7 +30,7 @@ ghost use Rattle.shim_walk.specs.Returning.{IsLeft, resting};
 use crate::action::Action;
 use crate::count::one_more;
 use crate::depth::{go_on, keep, settle, unwind_to};
-use crate::entry::{Entry, make_entry};
+use crate::entry::{EnteredUnit, make_entry};
 use crate::has_process::HasProcess;
 use crate::initial_frame::{branches_of, first_frame, labels_from};
 use crate::input::{next_byte, read_on};
@@ -42,7 +42,7 @@ use crate::same_frames::{same_call_stack, same_frame};
 use crate::same_locations::same_locations;
 use crate::same_runs::same_runs;
 use crate::same_stands::{same_input, same_trap};
-use crate::stop::{stop_at, trapped};
+use crate::stop::{at_trap, stop_at};
 use crate::throw_number::stmt_thrown;
 use crate::trapped_at::TrappedAt;
 use shim_base::{Chan, List, NoMemory, Path, Shared, Trap, Ty};
@@ -403,7 +403,7 @@ impl Process {
             given,
             labels,
         )?;
-        let Entry {
+        let EnteredUnit {
             top,
             locations,
             made,
@@ -502,7 +502,7 @@ impl Process {
         ensures { stop_view result ≡ stop self.now }
     {
         match self.trap {
-            Some(trap) => trapped(trap),
+            Some(trap) => at_trap(trap),
             None => stop_at(self.stmt(), &self.context()),
         }
     }
@@ -542,10 +542,10 @@ impl Process {
 
     /// The number of the throw at which it stands, where it goes on standing. Where the expression traps,
     /// there is none, and the process stands trapped.
-    #[tactic(auto, unfolding(shim_process::specs::Stops::thrown, shim_process::specs::Stops::thrown_number))]
+    #[tactic(auto, unfolding(shim_process::specs::Stops::throw_evaluated, shim_process::specs::Stops::thrown_number))]
     pub fn thrown(&mut self) -> Option<i64>
         ensures number { result ≡ thrown_number self.old }
-        ensures after { self.new ≡ thrown self.old }
+        ensures after { self.new ≡ throw_evaluated self.old }
     {
         match self.thrown_value() {
             Ok(value) => Some(value),
@@ -716,7 +716,7 @@ impl Process {
         throws: &[u32],
         given: &[Argument],
     ) -> Result<Process, NoMemory>
-        ensures { IfOk result (λ process. process ≡ child_in (remainder_of self.now remainder.now) place unit (passed_labels (statement_view self.now) throws.now) (arguments_of given.now)) }
+        ensures { IfOk result (λ process. process ≡ new_child (remainder_of self.now remainder.now) place unit (passed_labels (statement_view self.now) throws.now) (arguments_of given.now)) }
     {
         let alloc = self.given.allocator();
         let units = self.program.units();
@@ -841,7 +841,7 @@ impl Process {
     /// What the fork at which it stands comes to. The process stays as it is.
     #[tactic(auto, using(crate::proofs::Forking::traps, crate::proofs::Forking::too_deep, crate::proofs::Forking::forked))]
     pub fn forked(&self) -> Result<ForkedProcess, NoMemory>
-        ensures { IfOk result (λ forked. Comes forked self.now) }
+        ensures { IfOk result (λ forked. IsForkResult forked self.now) }
     {
         let mut remainder = self.whole();
         let children = match self.children(&mut remainder, self.branches()) {

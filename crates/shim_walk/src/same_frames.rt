@@ -1,6 +1,6 @@
 // When two frames are the same.
 ghost use Rattle.std.specs.Prelude.{◌≡◌, ◌↔◌, ◌<◌, ◌^◌, map, IsTrue};
-ghost use Rattle.shim_walk_frames.specs.FrameViews.{place_of};
+ghost use Rattle.shim_walk_frames.specs.FrameViews.{exception_place_of};
 ghost use Rattle.shim_walk_frames.specs.Depths.{AllFit, shown};
 ghost use Rattle.shim_walk_frames.specs.Pieces.{left_all};
 ghost use Rattle.shim_walk_frames.specs.Successors.{size_all};
@@ -30,7 +30,7 @@ fn same_place(body: &[UStmt], one: u32, other: u32) -> bool
 // Whether they are the same exception place of a text.
 fn same_handler(body: &[UStmt], one: &Handler, other: &Handler) -> bool
     requires { size_all body.now < 2 ^ 32 }
-    ensures { IsTrue result ↔ (place_of body.now one.now ≡ place_of body.now other.now) }
+    ensures { IsTrue result ↔ (exception_place_of body.now one.now ≡ exception_place_of body.now other.now) }
 {
     one.exception == other.exception
         && one.name == other.name
@@ -53,7 +53,7 @@ fn same_variable(one: &Option<HandlerVariable>, other: &Option<HandlerVariable>)
 // Whether the same exception places of a text are in force.
 fn same_places(body: &[UStmt], one: &[Handler], other: &[Handler]) -> bool
     requires { size_all body.now < 2 ^ 32 }
-    ensures { IsTrue result ↔ (map (place_of body.now) one.now ≡ map (place_of body.now) other.now) }
+    ensures { IsTrue result ↔ (map (exception_place_of body.now) one.now ≡ map (exception_place_of body.now) other.now) }
 {
     let mut remainder = other;
     for place in one {

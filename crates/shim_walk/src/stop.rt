@@ -96,7 +96,7 @@ pub fn stop_at<'a>(stmt: Option<&UStmt>, context: &StatementContext<'a>) -> Stop
 }
 
 /// At a trap.
-pub fn trapped<'a>(trap: TrappedAt) -> Stop<'a>
+pub fn at_trap<'a>(trap: TrappedAt) -> Stop<'a>
     ensures { stop_view result ≡ AtTrap trap.kind trap.line }
 {
     Stop::Trapped(trap.kind, trap.line)

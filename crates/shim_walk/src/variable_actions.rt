@@ -16,7 +16,7 @@ use shim_scopes::UExpr;
 use shim_walk_frames::successors::Successor;
 
 /// A declaration; an absent start is 0.
-pub fn declare(
+pub fn declare_action(
     ty: Ty,
     slot: u32,
     start: &Option<UExpr>,

@@ -6,7 +6,7 @@ use Rattle.shim_units.specs.declared.unit.UStmt.{UStmt}
 use Rattle.shim_walk_frames.specs.declared.cursor.Cursor.{Cursor}
 use Rattle.shim_walk_frames.specs.declared.successors.Successor.{Successor}
 use Rattle.shim_walk_frames.specs.declared.successors.Position.{Position}
-use Rattle.shim_walk_frames.specs.Cursors.{Begins, IsCursor}
+use Rattle.shim_walk_frames.specs.Cursors.{BeginsBefore, IsCursor}
 use Rattle.shim_walk_frames.specs.Pieces.{at_all, stmt_at}
 use Rattle.shim_walk_frames.specs.Successors.{successors, size_of, size_all, go_all, to, shifted}
 use Rattle.shim_walk_frames.proofs.Goes.{none_at}
@@ -78,11 +78,11 @@ go_one (x ∷ xs) (suc i) n c s e le lt =
     ∙ ap (λ m. shifted (size_of x + a) ((successors s).go c m)) z
 
 -- the statement's numbers fit where those of the list do
-pub one_fits : (body : List UStmt) (f : Cursor) (at : ℕ) (s : UStmt) → Begins body f at → slice_get body f.index ≡ Some s → f.first + size_of s ≤ size_all body
+pub one_fits : (body : List UStmt) (f : Cursor) (at : ℕ) (s : UStmt) → BeginsBefore body f at → slice_get body f.index ≡ Some s → f.first + size_of s ≤ size_all body
 one_fits body f at s b e = let x = one_more body f.index s e in let y = no_more body (suc f.index) in let z = b.first in omega arith
 
 -- the next statement
-pub one_behind : (body : List UStmt) (f : Cursor) (at : ℕ) (s : UStmt) → Begins body f at → slice_get body f.index ≡ Some s → size_of s ≤ at - f.first → Begins body (record { index = f.index + 1; first = f.first + size_of s }) at
+pub one_behind : (body : List UStmt) (f : Cursor) (at : ℕ) (s : UStmt) → BeginsBefore body f at → slice_get body f.index ≡ Some s → size_of s ≤ at - f.first → BeginsBefore body (record { index = f.index + 1; first = f.first + size_of s }) at
 one_behind body f at s b e h =
     let lt = slice_get_within body f.index s e in
     let x = one_more body f.index s e in
@@ -92,7 +92,7 @@ one_behind body f at s b e h =
     record { within = omega arith; first = (let z : f.first + size_of s ≡ size_all (take (suc f.index) body) = omega arith in z ∙ ap (λ n. size_all (take n body)) next); reached = omega arith }
 
 -- it is this one
-pub here : (body : List UStmt) (f : Cursor) (at : ℕ) (s : UStmt) → Begins body f at → slice_get body f.index ≡ Some s → at - f.first < size_of s → IsCursor body f at
+pub here : (body : List UStmt) (f : Cursor) (at : ℕ) (s : UStmt) → BeginsBefore body f at → slice_get body f.index ≡ Some s → at - f.first < size_of s → IsCursor body f at
 here body f at s b e h =
     let x = one_more body f.index s e in
     let y = b.first in
@@ -100,11 +100,11 @@ here body f at s b e h =
     record { begins = b; not_passed = λ lt. omega arith }
 
 -- it is behind all
-pub at_end : (body : List UStmt) (f : Cursor) (at : ℕ) → Begins body f at → slice_get body f.index ≡ None → IsCursor body f at
+pub at_end : (body : List UStmt) (f : Cursor) (at : ℕ) → BeginsBefore body f at → slice_get body f.index ≡ None → IsCursor body f at
 at_end body f at b e = let le = beyond body f.index e in record { begins = b; not_passed = λ lt. absurd (omega arith) }
 
 -- the first statement of all
-pub at_start : (body : List UStmt) (at : ℕ) → Begins body (record { index = 0; first = 0 }) at
+pub at_start : (body : List UStmt) (at : ℕ) → BeginsBefore body (record { index = 0; first = 0 }) at
 at_start body at = record { within = omega arith; first = refl; reached = omega arith }
 
 pub over : (body : List UStmt) (f : Cursor) (at : ℕ) → IsCursor body f at → length body ≤ f.index → size_all body ≤ at
@@ -151,5 +151,5 @@ goes_here body f c at s is e =
     ap (λ n. shifted n ((successors s).go c (at - n))) b ∙ sym (go_one body f.index at c s e le (is.not_passed (slice_get_within body f.index s e)))
 
 -- what follows the number stands in the same statement, or behind it
-pub goes_behind : (body : List UStmt) (f : Cursor) (at to n : ℕ) → Begins body f at → to ≡ f.first + n → Begins body f to
+pub goes_behind : (body : List UStmt) (f : Cursor) (at to n : ℕ) → BeginsBefore body f at → to ≡ f.first + n → BeginsBefore body f to
 goes_behind body f at to n b e = record { within = b.within; first = b.first; reached = omega arith }

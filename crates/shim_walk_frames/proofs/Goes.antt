@@ -8,8 +8,8 @@ use Rattle.shim_units.specs.Numbering as numbering
 use Rattle.shim_process.specs.Todo as todo
 use Rattle.shim_walk_frames.specs.declared.successors.Successor.{Successor}
 use Rattle.shim_walk_frames.specs.declared.successors.Successor.TheVariants.{On}
-use Rattle.shim_walk_frames.specs.Successors.{Successors, successors, successors_all, size_of, size_all, go_all, two, loop, joined}
-use Rattle.shim_walk_frames.specs.Pieces.{Piece, Part, part, piece, piece_all, pieces_of, whole, part_of, one_piece, two_piece, loop_piece, joined_piece, at_all, left_all, leaves}
+use Rattle.shim_walk_frames.specs.Successors.{Successors, successors, successors_all, size_of, size_all, go_all, two, loop_successors, in_sequence}
+use Rattle.shim_walk_frames.specs.Pieces.{StmtPiece, StmtPart, stmt_part_of, piece, piece_all, pieces_of, whole_piece, part_of, one_piece, two_piece, loop_piece, joined_piece, at_all, left_all, leaves}
 use Rattle.shim_walk_frames.specs.Turns.{successor_of}
 use Rattle.shim_walk_frames.proofs.Rolls.{successors_roll, size_roll, part_roll, pieces_is, successor_all}
 use Rattle.shim_walk_frames.proofs.Sound.{Goes, Sound, past, past_in, past_out, skip, begins, sound_none, sound_one, sound_joined, sound_two, sound_loop, TwoFollows, LoopFollows}
@@ -36,14 +36,14 @@ pub all_sound : (ss : List UStmt) → AllGood ss → Sound (piece_all ss)
 all_sound [] h = sound_none
 all_sound (s ∷ ss) h = sound_joined (piece s) (piece_all ss) h.0.sound (all_sound ss h.1)
 
-whole_is : (w w' : Successors) (i i' : ℕ → List Item) (p p' : Part) → w ≡ w' → i ≡ i' → p ≡ p' → whole w i p ≡ whole w' i' p'
-whole_is w w' i i' p p' e f g = ap (λ v. whole v i p) e ∙ ap (λ v. whole w' v p) f ∙ ap (λ v. whole w' i' v) g
+whole_is : (w w' : Successors) (i i' : ℕ → List Item) (p p' : StmtPart) → w ≡ w' → i ≡ i' → p ≡ p' → whole_piece w i p ≡ whole_piece w' i' p'
+whole_is w w' i i' p p' e f g = ap (λ v. whole_piece v i p) e ∙ ap (λ v. whole_piece w' v p) f ∙ ap (λ v. whole_piece w' i' v) g
 
 follows : (l : ℕ) (x : UWhat-F UWhat UStmt) (successor : SuccessorOf) (n : ℕ) (k : List Item) → follow successor n (line_of l (roll-UWhat x)) k ≡ follow_what x successor n (line_of l (roll-UWhat x)) k
 follows l x successor n k = ap (λ v. follow_what v successor n (line_of l (roll-UWhat x)) k) (out-roll-UWhat x)
 
 -- a statement of one number
-simple : (s : UStmt) → successors s ≡ (one_piece s).successors → items s ≡ (one_piece s).items → part s ≡ part_of (one_piece s) → numbering.size_of s ≡ 1 → ((successor : SuccessorOf) (n : ℕ) (k : List Item) → follow successor n s k ≡ k) → Good s
+simple : (s : UStmt) → successors s ≡ (one_piece s).successors → items s ≡ (one_piece s).items → stmt_part_of s ≡ part_of (one_piece s) → numbering.size_of s ≡ 1 → ((successor : SuccessorOf) (n : ℕ) (k : List Item) → follow successor n s k ≡ k) → Good s
 simple s w i p z f = record {
   size = ap (λ v. v.size) w ∙ sym z;
   sound = subst Sound (sym (whole_is _ _ _ _ _ _ w i p)) (sound_one s (λ c n k. f (successor_of c) n k));
@@ -52,7 +52,7 @@ simple s w i p z f = record {
 -- a statement of two blocks
 two_good : (s : UStmt) (u : ℕ) (a b : List UStmt) → AllGood a → AllGood b
     → successors s ≡ two u (successors_all a) (successors_all b) → items s ≡ (λ n. Do n s ∷ [])
-    → part s ≡ part_of (two_piece s u (pieces_of (map (λ y. (y, part y)) a)) (pieces_of (map (λ y. (y, part y)) b)))
+    → stmt_part_of s ≡ part_of (two_piece s u (pieces_of (map (λ y. (y, stmt_part_of y)) a)) (pieces_of (map (λ y. (y, stmt_part_of y)) b)))
     → numbering.size_of s ≡ 1 + numbering.size_all a + numbering.size_all b
     → ((n : ℕ) (k : List Item) → follow todo.On n s k ≡ k)
     → ((n : ℕ) (k : List Item) → follow todo.First n s k ≡ items_all a (n + 1) ++ leaves u k)
@@ -66,8 +66,8 @@ two_good s u a b ga gb w i p z on first second =
     let za = all_size a ga in
     let zb = all_size b gb in
     let successor : successors s ≡ (two_piece s u pa pb).successors = w ∙ ap (λ v. two u v (successors_all b)) (sym wa) ∙ ap (λ v. two u pa.successors v) (sym wb) in
-    let is_part : part s ≡ part_of (two_piece s u pa pb) =
-    p ∙ ap (λ q. part_of (two_piece s u q (pieces_of (map (λ y. (y, part y)) b)))) (pieces_is a) ∙ ap (λ q. part_of (two_piece s u pa q)) (pieces_is b) in
+    let is_part : stmt_part_of s ≡ part_of (two_piece s u pa pb) =
+    p ∙ ap (λ q. part_of (two_piece s u q (pieces_of (map (λ y. (y, stmt_part_of y)) b)))) (pieces_is a) ∙ ap (λ q. part_of (two_piece s u pa q)) (pieces_is b) in
     let size_a : pa.successors.size ≡ numbering.size_all a = ap (λ v. v.size) wa ∙ za in
     let f : TwoFollows s u pa pb = record {
       on = on;
@@ -81,8 +81,8 @@ two_good s u a b ga gb w i p z on first second =
 
 -- a loop
 while_good : (s : UStmt) (a : List UStmt) → AllGood a
-    → successors s ≡ loop (successors_all a) → items s ≡ (λ n. Do n s ∷ [])
-    → part s ≡ part_of (loop_piece s (pieces_of (map (λ y. (y, part y)) a)))
+    → successors s ≡ loop_successors (successors_all a) → items s ≡ (λ n. Do n s ∷ [])
+    → stmt_part_of s ≡ part_of (loop_piece s (pieces_of (map (λ y. (y, stmt_part_of y)) a)))
     → numbering.size_of s ≡ 1 + numbering.size_all a
     → ((n : ℕ) (k : List Item) → follow todo.On n s k ≡ k)
     → ((n : ℕ) (k : List Item) → follow todo.First n s k ≡ items_all a (n + 1) ++ Do n s ∷ k)
@@ -91,8 +91,8 @@ while_good : (s : UStmt) (a : List UStmt) → AllGood a
 while_good s a ga w i p z on first second =
     let pa = piece_all a in
     let wa = successor_all a in
-    let successor : successors s ≡ (loop_piece s pa).successors = w ∙ ap loop (sym wa) in
-    let is_part : part s ≡ part_of (loop_piece s pa) = p ∙ ap (λ q. part_of (loop_piece s q)) (pieces_is a) in
+    let successor : successors s ≡ (loop_piece s pa).successors = w ∙ ap loop_successors (sym wa) in
+    let is_part : stmt_part_of s ≡ part_of (loop_piece s pa) = p ∙ ap (λ q. part_of (loop_piece s q)) (pieces_is a) in
     let f : LoopFollows s pa = record {
       on = on;
       first = λ n k. first n k ∙ ap (λ j. j ++ Do n s ∷ k) (sym (all_items a ga (n + 1)));
@@ -106,7 +106,7 @@ while_good s a ga w i p z on first second =
 -- a block
 block_good : (s : UStmt) (a : List UStmt) → AllGood a
     → successors s ≡ successors_all a → items s ≡ items_all a
-    → part s ≡ part_of (pieces_of (map (λ y. (y, part y)) a))
+    → stmt_part_of s ≡ part_of (pieces_of (map (λ y. (y, stmt_part_of y)) a))
     → numbering.size_of s ≡ numbering.size_all a
     → Good s
 block_good s a ga w i p z =
@@ -118,13 +118,13 @@ block_good s a ga w i p z =
     }
 
 -- a loop behind its first part
-abbrev for_piece : UStmt → Piece → Piece → Piece → Piece
+abbrev for_piece : UStmt → StmtPiece → StmtPiece → StmtPiece → StmtPiece
 for_piece s first body step = joined_piece first (loop_piece s (joined_piece body step))
 
 for_good : (s : UStmt) (a st b : List UStmt) → AllGood a → AllGood st → AllGood b
-    → successors s ≡ joined (successors_all a) (loop (joined (successors_all b) (successors_all st)))
+    → successors s ≡ in_sequence (successors_all a) (loop_successors (in_sequence (successors_all b) (successors_all st)))
     → items s ≡ (λ n. items_all a n ++ Do (n + whole_size (map (λ y. (y, items y)) a)) s ∷ [])
-    → part s ≡ part_of (for_piece s (pieces_of (map (λ y. (y, part y)) a)) (pieces_of (map (λ y. (y, part y)) b)) (pieces_of (map (λ y. (y, part y)) st)))
+    → stmt_part_of s ≡ part_of (for_piece s (pieces_of (map (λ y. (y, stmt_part_of y)) a)) (pieces_of (map (λ y. (y, stmt_part_of y)) b)) (pieces_of (map (λ y. (y, stmt_part_of y)) st)))
     → numbering.size_of s ≡ numbering.size_all a + (1 + (numbering.size_all b + numbering.size_all st))
     → ((n : ℕ) (k : List Item) → follow todo.On n s k ≡ k)
     → ((n : ℕ) (k : List Item) → follow todo.First n s k ≡ items_all b (n + 1) ++ (items_all st (n + 1 + numbering.size_all b) ++ Do n s ∷ k))
@@ -144,13 +144,13 @@ for_good s a st b ga gst gb w i p z on first second =
     let size_b : pb.successors.size ≡ numbering.size_all b = ap (λ v. v.size) wb ∙ zb in
     let size_s : ps.successors.size ≡ numbering.size_all st = ap (λ v. v.size) ws ∙ zs in
     let successor : successors s ≡ (for_piece s pa pb ps).successors =
-    w ∙ ap (λ v. joined v (loop (joined (successors_all b) (successors_all st)))) (sym wa)
-    ∙ ap (λ v. joined pa.successors (loop (joined v (successors_all st)))) (sym wb)
-    ∙ ap (λ v. joined pa.successors (loop (joined pb.successors v))) (sym ws) in
-    let is_part : part s ≡ part_of (for_piece s pa pb ps) =
+    w ∙ ap (λ v. in_sequence v (loop_successors (in_sequence (successors_all b) (successors_all st)))) (sym wa)
+    ∙ ap (λ v. in_sequence pa.successors (loop_successors (in_sequence v (successors_all st)))) (sym wb)
+    ∙ ap (λ v. in_sequence pa.successors (loop_successors (in_sequence pb.successors v))) (sym ws) in
+    let is_part : stmt_part_of s ≡ part_of (for_piece s pa pb ps) =
     p
-    ∙ ap (λ q. part_of (for_piece s q (pieces_of (map (λ y. (y, part y)) b)) (pieces_of (map (λ y. (y, part y)) st)))) (pieces_is a)
-    ∙ ap (λ q. part_of (for_piece s pa q (pieces_of (map (λ y. (y, part y)) st)))) (pieces_is b)
+    ∙ ap (λ q. part_of (for_piece s q (pieces_of (map (λ y. (y, stmt_part_of y)) b)) (pieces_of (map (λ y. (y, stmt_part_of y)) st)))) (pieces_is a)
+    ∙ ap (λ q. part_of (for_piece s pa q (pieces_of (map (λ y. (y, stmt_part_of y)) st)))) (pieces_is b)
     ∙ ap (λ q. part_of (for_piece s pa pb q)) (pieces_is st) in
     let is_items : items s ≡ (for_piece s pa pb ps).items = λ j n. (for_items n) j in
     let f : LoopFollows s (joined_piece pb ps) = record {

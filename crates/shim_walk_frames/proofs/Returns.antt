@@ -9,10 +9,10 @@ use Rattle.shim_process.specs.Ends.{went, is_over, settled, gone}
 use Rattle.shim_walk_frames.specs.declared.successors.Successor.TheVariants.{On}
 use Rattle.shim_walk_frames.specs.Successors.{size_all}
 use Rattle.shim_walk_frames.specs.FrameViews.{FrameView, frame_of}
-use Rattle.shim_walk_frames.specs.Depths.{text, shown, Depth, returned, depth_of, AllFit}
+use Rattle.shim_walk_frames.specs.Depths.{unit_stmts, shown, Depth, returned, depth_of, AllFit}
 use Rattle.shim_walk_frames.proofs.Goes.{goes_at, ends}
 
-pub text_fits : (units : List UnitOf) (n : ℕ) → AllFit units → size_all (text units n) < 2 ^ 32
+pub text_fits : (units : List UnitOf) (n : ℕ) → AllFit units → size_all (unit_stmts units n) < 2 ^ 32
 text_fits [] n fit = omega arith
 text_fits (u ∷ us) zero fit = fit.0
 text_fits (u ∷ us) (suc n) fit = text_fits us n fit.1
@@ -37,28 +37,28 @@ in_text : (body : List UStmt) (s : FrameView) → s.at < size_all body → is_ov
 in_text body s lt = let g = goes_at body s.at On lt in ap is_over g.here_is
 
 -- within its text nothing returns
-pub stays_in : (units : List UnitOf) (top : FrameView) (callers : List FrameView) (locations : Locations) → top.at < size_all (text units top.unit)
+pub stays_in : (units : List UnitOf) (top : FrameView) (callers : List FrameView) (locations : Locations) → top.at < size_all (unit_stmts units top.unit)
     → depth_of units top callers locations ≡ returned (map (shown units) callers) (shown units top) locations
 stays_in units top [] locations lt = refl
 stays_in units top (c ∷ cs) locations lt =
     ap
     (λ b. if b then returned (map (shown units) cs) (went todo.On (shown units c)) (take top.floor locations) else depth_of units top (c ∷ cs) locations)
-    (sym (in_text (text units top.unit) top lt))
+    (sym (in_text (unit_stmts units top.unit) top lt))
 
 -- the first unit doesn't return
 pub ends_here : (units : List UnitOf) (top : FrameView) (locations : Locations) → depth_of units top [] locations ≡ returned (map (shown units) []) (shown units top) locations
 ends_here units top locations = refl
 
 -- a unit that is over returns to its caller
-pub comes_back : (units : List UnitOf) (top caller next : FrameView) (callers : List FrameView) (locations : Locations) → size_all (text units top.unit) ≤ top.at
-    → next.unit ≡ caller.unit → frame_of (text units caller.unit) next ≡ went todo.On (shown units caller)
+pub comes_back : (units : List UnitOf) (top caller next : FrameView) (callers : List FrameView) (locations : Locations) → size_all (unit_stmts units top.unit) ≤ top.at
+    → next.unit ≡ caller.unit → frame_of (unit_stmts units caller.unit) next ≡ went todo.On (shown units caller)
     → returned (map (shown units) callers) (shown units next) (take top.floor locations) ≡ returned (map (shown units) (caller ∷ callers)) (shown units top) locations
 comes_back units top caller next callers locations le same e =
     let rest = map (shown units) callers in
     let left = take top.floor locations in
-    ap (λ n. returned rest (frame_of (text units n) next) left) same
+    ap (λ n. returned rest (frame_of (unit_stmts units n) next) left) same
     ∙ ap (λ f. returned rest f left) e
-    ∙ ap (λ b. if b then returned rest (went todo.On (shown units caller)) left else depth_of units top (caller ∷ callers) locations) (sym (ap is_over (ends (text units top.unit) top.at le)))
+    ∙ ap (λ b. if b then returned rest (went todo.On (shown units caller)) left else depth_of units top (caller ∷ callers) locations) (sym (ap is_over (ends (unit_stmts units top.unit) top.at le)))
 
 -- on, with all ends that follow
 pub gone_by : (l : LocalState) (successor : todo.Successor) (d : Depth) → d ≡ returned l.callers (went successor l.frame) l.locations → at_depth d l ≡ gone successor l

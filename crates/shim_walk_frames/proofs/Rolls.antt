@@ -7,8 +7,8 @@ use Rattle.shim_units.specs.declared.unit.UWhat.{UWhat, UWhat-F, out-UWhat, roll
 use Rattle.shim_units.specs.declared.unit.UWhat.TheViews.{outs-If, outs-While, outs-For, outs-Block, outs-Try}
 use Rattle.shim_units.specs.Numbering.{what_numbers}
 use Rattle.shim_units.specs.Numbering as numbering
-use Rattle.shim_walk_frames.specs.Successors.{Successors, successors, successors_all, what_successors, size_all, joined}
-use Rattle.shim_walk_frames.specs.Pieces.{Piece, Part, part, piece, piece_all, pieces_of, what_part, stmt_part, stmt_at, at_all, joined_piece, joined_at, two_at, loop_at, loop_piece}
+use Rattle.shim_walk_frames.specs.Successors.{Successors, successors, successors_all, what_successors, size_all, in_sequence}
+use Rattle.shim_walk_frames.specs.Pieces.{StmtPiece, StmtPart, stmt_part_of, piece, piece_all, pieces_of, what_part, stmt_part, stmt_at, at_all, joined_piece, joined_at, two_at, loop_at, loop_piece}
 use Rattle.shim_process.proofs.TodoItems.{line_of}
 
 -- one layer of each fold
@@ -30,34 +30,34 @@ size_roll l x =
     fold-roll-UStmt ℕ ℕ what_numbers (λ s. s.what) d
     ∙ fold-roll-UWhat ℕ ℕ what_numbers (λ s. s.what) x
 
-abbrev pub part_what : UWhat → UStmt → Part
-part_what = para-UWhat (UStmt → Part) Part what_part stmt_part
+abbrev pub part_what : UWhat → UStmt → StmtPart
+part_what = para-UWhat (UStmt → StmtPart) StmtPart what_part stmt_part
 
-pub part_roll : (l : ℕ) (x : UWhat-F UWhat UStmt) → part (line_of l (roll-UWhat x)) ≡ what_part (map-UWhat UWhat UStmt _ _ (λ y. (y, part_what y)) (λ y. (y, part y)) x) (line_of l (roll-UWhat x))
+pub part_roll : (l : ℕ) (x : UWhat-F UWhat UStmt) → stmt_part_of (line_of l (roll-UWhat x)) ≡ what_part (map-UWhat UWhat UStmt _ _ (λ y. (y, part_what y)) (λ y. (y, stmt_part_of y)) x) (line_of l (roll-UWhat x))
 part_roll l x =
     let d : UStmt-F UWhat UStmt = record { line = l; what = roll-UWhat x } in
-    para-roll-UStmt (UStmt → Part) Part what_part stmt_part d
-    ∙ ap (λ f. f (line_of l (roll-UWhat x))) (para-roll-UWhat (UStmt → Part) Part what_part stmt_part x)
+    para-roll-UStmt (UStmt → StmtPart) StmtPart what_part stmt_part d
+    ∙ ap (λ f. f (line_of l (roll-UWhat x))) (para-roll-UWhat (UStmt → StmtPart) StmtPart what_part stmt_part x)
 
-pub part_out : (s : UStmt) → part s ≡ what_part (map-UWhat UWhat UStmt _ _ (λ y. (y, part_what y)) (λ y. (y, part y)) (out-UWhat s.what)) s
+pub part_out : (s : UStmt) → stmt_part_of s ≡ what_part (map-UWhat UWhat UStmt _ _ (λ y. (y, part_what y)) (λ y. (y, stmt_part_of y)) (out-UWhat s.what)) s
 part_out s =
-    let a = para-roll-UStmt (UStmt → Part) Part what_part stmt_part (record { line = s.line; what = s.what }) in
-    let w : part_what s.what ≡ what_part (map-UWhat UWhat UStmt _ _ (λ y. (y, part_what y)) (λ y. (y, part y)) (out-UWhat s.what)) =
-    ap part_what (sym (roll-out-UWhat s.what)) ∙ para-roll-UWhat (UStmt → Part) Part what_part stmt_part (out-UWhat s.what) in
+    let a = para-roll-UStmt (UStmt → StmtPart) StmtPart what_part stmt_part (record { line = s.line; what = s.what }) in
+    let w : part_what s.what ≡ what_part (map-UWhat UWhat UStmt _ _ (λ y. (y, part_what y)) (λ y. (y, stmt_part_of y)) (out-UWhat s.what)) =
+    ap part_what (sym (roll-out-UWhat s.what)) ∙ para-roll-UWhat (UStmt → StmtPart) StmtPart what_part stmt_part (out-UWhat s.what) in
     a ∙ ap (λ f. f s) w
 
 -- a list of statements with their parts is that of their pieces
-pub pieces_is : (ss : List UStmt) → pieces_of (map (λ y. (y, part y)) ss) ≡ piece_all ss
+pub pieces_is : (ss : List UStmt) → pieces_of (map (λ y. (y, stmt_part_of y)) ss) ≡ piece_all ss
 pieces_is [] = refl
 pieces_is (s ∷ ss) = ap (λ p. joined_piece (piece s) p) (pieces_is ss)
 
 pub successor_all : (ss : List UStmt) → (piece_all ss).successors ≡ successors_all ss
 successor_all [] = refl
-successor_all (s ∷ ss) = ap (λ w. joined (successors s) w) (successor_all ss)
+successor_all (s ∷ ss) = ap (λ w. in_sequence (successors s) w) (successor_all ss)
 
 -- one layer of a statement
-abbrev layer : UWhat-F UWhat UStmt → UStmt → Part
-layer x = what_part (map-UWhat UWhat UStmt _ _ (λ y. (y, part_what y)) (λ y. (y, part y)) x)
+abbrev layer : UWhat-F UWhat UStmt → UStmt → StmtPart
+layer x = what_part (map-UWhat UWhat UStmt _ _ (λ y. (y, part_what y)) (λ y. (y, stmt_part_of y)) x)
 
 at_layer : (s : UStmt) (w : UWhat) (x : UWhat-F UWhat UStmt) (n : ℕ) → s.what ≡ w → out-UWhat w ≡ x → stmt_at s n ≡ (layer x s).at n
 at_layer s w x n e o = ap (λ p. p.at n) (part_out s ∙ ap (λ v. layer (out-UWhat v) s) e ∙ ap (λ v. layer v s) o)
@@ -69,8 +69,8 @@ other : (n m : ℕ) (x y : Option UStmt) → m ≤ n → (if nat_lt n m then x e
 other n m x y h = grind (arith, nat_tests)
 
 -- the statement of a number of two blocks
-two_of : (s : UStmt) (a b : List UStmt) (n : ℕ) → two_at s (pieces_of (map (λ y. (y, part y)) a)) (pieces_of (map (λ y. (y, part y)) b)) n ≡ two_at s (piece_all a) (piece_all b) n
-two_of s a b n = ap (λ p. two_at s p (pieces_of (map (λ y. (y, part y)) b)) n) (pieces_is a) ∙ ap (λ p. two_at s (piece_all a) p n) (pieces_is b)
+two_of : (s : UStmt) (a b : List UStmt) (n : ℕ) → two_at s (pieces_of (map (λ y. (y, stmt_part_of y)) a)) (pieces_of (map (λ y. (y, stmt_part_of y)) b)) n ≡ two_at s (piece_all a) (piece_all b) n
+two_of s a b n = ap (λ p. two_at s p (pieces_of (map (λ y. (y, stmt_part_of y)) b)) n) (pieces_is a) ∙ ap (λ p. two_at s (piece_all a) p n) (pieces_is b)
 
 two_zero : (s : UStmt) (a b : List UStmt) (n : ℕ) → n ≡ 0 → two_at s (piece_all a) (piece_all b) n ≡ Some s
 two_zero s a b zero z = refl
@@ -114,21 +114,21 @@ pub at_block : (s : UStmt) (a : List UStmt) (n : ℕ) → s.what ≡ Block a →
 at_block s a n w = at_layer s _ (UWhat-F.Block a) n w (outs-Block a) ∙ ap (λ p. p.at n) (pieces_is a)
 
 -- a `for` is its first part, and then a loop of its body and its step
-abbrev for_at : UStmt → Piece → Piece → Piece → ℕ → Option UStmt
+abbrev for_at : UStmt → StmtPiece → StmtPiece → StmtPiece → ℕ → Option UStmt
 for_at s first body step = joined_at first (loop_piece s (joined_piece body step))
 
 for_of : (s : UStmt) (e : Option UExpr) (a st b : List UStmt) (n : ℕ) → s.what ≡ For a e st b → stmt_at s n ≡ for_at s (piece_all a) (piece_all b) (piece_all st) n
 for_of s e a st b n w =
     at_layer s _ (UWhat-F.For a e st b) n w (outs-For a e st b)
-    ∙ ap (λ p. for_at s p (pieces_of (map (λ y. (y, part y)) b)) (pieces_of (map (λ y. (y, part y)) st)) n) (pieces_is a)
-    ∙ ap (λ p. for_at s (piece_all a) p (pieces_of (map (λ y. (y, part y)) st)) n) (pieces_is b)
+    ∙ ap (λ p. for_at s p (pieces_of (map (λ y. (y, stmt_part_of y)) b)) (pieces_of (map (λ y. (y, stmt_part_of y)) st)) n) (pieces_is a)
+    ∙ ap (λ p. for_at s (piece_all a) p (pieces_of (map (λ y. (y, stmt_part_of y)) st)) n) (pieces_is b)
     ∙ ap (λ p. for_at s (piece_all a) (piece_all b) p n) (pieces_is st)
 
-looped_zero : (s : UStmt) (p : Piece) (n : ℕ) → n ≡ 0 → loop_at s p n ≡ Some s
+looped_zero : (s : UStmt) (p : StmtPiece) (n : ℕ) → n ≡ 0 → loop_at s p n ≡ Some s
 looped_zero s p zero z = refl
 looped_zero s p (suc n) z = absurd (omega arith)
 
-looped_more : (s : UStmt) (p : Piece) (n m : ℕ) → 0 < n → m ≡ n - 1 → loop_at s p n ≡ p.at m
+looped_more : (s : UStmt) (p : StmtPiece) (n m : ℕ) → 0 < n → m ≡ n - 1 → loop_at s p n ≡ p.at m
 looped_more s p zero m pos e = absurd (omega arith)
 looped_more s p (suc n) m pos e = ap p.at (let f : n ≡ m = omega arith in f)
 

@@ -9,7 +9,7 @@ use Rattle.shim_walk_frames.specs.declared.successors.Successor.{Successor}
 use Rattle.shim_walk_frames.specs.declared.successors.Successor.TheVariants.{On, First, Second}
 use Rattle.shim_walk_frames.specs.declared.successors.Position.{Position}
 use Rattle.shim_walk_frames.specs.Successors.{to, shifted, inside, into}
-use Rattle.shim_walk_frames.specs.Pieces.{Piece, leaves, no_piece, one_piece, joined_piece, two_piece, two_left, loop_piece, loop_left}
+use Rattle.shim_walk_frames.specs.Pieces.{StmtPiece, leaves, no_piece, one_piece, joined_piece, two_piece, two_left, loop_piece, loop_left}
 use Rattle.shim_walk_frames.specs.Turns.{successor_of}
 
 -- at this number a statement is to be done, and what follows it is what is left at the next
@@ -33,7 +33,7 @@ goes_by here here' at at' num num' c p p' size size' next next' e1 e2 e3 e4 e5 g
 }
 
 -- a piece that is over is followed by the rest
-unfoldable pub past : Piece → ℕ → List Item → ℕ → List Item
+unfoldable pub past : StmtPiece → ℕ → List Item → ℕ → List Item
 past p base k n = if nat_lt n p.successors.size then p.left base n k else k
 
 pub pick : {A : Type 0} (n m : ℕ) (x y : A) → n < m → (if nat_lt n m then x else y) ≡ x
@@ -42,21 +42,21 @@ pick n m x y h = grind (arith, nat_tests)
 pub skip : {A : Type 0} (n m : ℕ) (x y : A) → m ≤ n → (if nat_lt n m then x else y) ≡ y
 skip n m x y h = grind (arith, nat_tests)
 
-pub past_in : (p : Piece) (base : ℕ) (k : List Item) (n : ℕ) → n < p.successors.size → past p base k n ≡ p.left base n k
+pub past_in : (p : StmtPiece) (base : ℕ) (k : List Item) (n : ℕ) → n < p.successors.size → past p base k n ≡ p.left base n k
 unfolding past
 past_in p base k n h = pick _ _ _ _ h
 
-pub past_out : (p : Piece) (base : ℕ) (k : List Item) (n : ℕ) → p.successors.size ≤ n → past p base k n ≡ k
+pub past_out : (p : StmtPiece) (base : ℕ) (k : List Item) (n : ℕ) → p.successors.size ≤ n → past p base k n ≡ k
 unfolding past
 past_out p base k n h = skip _ _ _ _ h
 
-pub record Sound (p : Piece) : Type 0 where
+pub record Sound (p : StmtPiece) : Type 0 where
   pub goes : (base n : ℕ) (c : Successor) (k : List Item) → n < p.successors.size → Goes (p.left base n k) (p.at n) (base + n) c (p.successors.go c n) p.successors.size (past p base k (p.successors.go c n).at)
   pub starts : (base : ℕ) (k : List Item) → 0 < p.successors.size → p.left base 0 k ≡ p.items base ++ k
   pub nothing : (base : ℕ) → p.successors.size ≡ 0 → p.items base ≡ []
 
 -- at its start all of it is left
-pub begins : (p : Piece) → Sound p → (base : ℕ) (k : List Item) → past p base k 0 ≡ p.items base ++ k
+pub begins : (p : StmtPiece) → Sound p → (base : ℕ) (k : List Item) → past p base k 0 ≡ p.items base ++ k
 begins p s base k =
     ⊎_elim
     (λ lt. past_in p base k 0 lt ∙ s.starts base k lt)
@@ -91,8 +91,8 @@ sound_one s f = record {
         }
 
 -- one piece behind the other
-module _ (a b : Piece) (sa : Sound a) (sb : Sound b) where
-  abbrev ab : Piece
+module _ (a b : StmtPiece) (sa : Sound a) (sb : Sound b) where
+  abbrev ab : StmtPiece
   ab = joined_piece a b
 
   first_past : (base : ℕ) (k : List Item) (n : ℕ) → n ≤ a.successors.size → past a base (b.items (base + a.successors.size) ++ k) n ≡ past ab base k n
@@ -184,7 +184,7 @@ inside_at from size m end p h1 h2 =
     (cases_lt p.at size)
 
 -- at the first number of a statement
-at_zero : (s : UStmt) (w : Piece) (base : ℕ) (c : Successor) (k : List Item) (p : Position) → w.left base 0 k ≡ Do base s ∷ k → w.at 0 ≡ Some s → w.successors.go c 0 ≡ p → p.at ≤ w.successors.size
+at_zero : (s : UStmt) (w : StmtPiece) (base : ℕ) (c : Successor) (k : List Item) (p : Position) → w.left base 0 k ≡ Do base s ∷ k → w.at 0 ≡ Some s → w.successors.go c 0 ≡ p → p.at ≤ w.successors.size
     → follow (successor_of c) base s k ≡ leaves p.left (past w base k p.at)
     → Goes (w.left base 0 k) (w.at 0) (base + 0) c (w.successors.go c 0) w.successors.size (past w base k (w.successors.go c 0).at)
 at_zero s w base c k p l a g b f =
@@ -199,7 +199,7 @@ at_zero s w base c k p l a g b f =
     }
 
 -- into a block of a statement, behind which so many `try` blocks end
-enters : (w l : Piece) (sl : Sound l) (base from base1 v : ℕ) (k lk : List Item) (end : Position)
+enters : (w l : StmtPiece) (sl : Sound l) (base from base1 v : ℕ) (k lk : List Item) (end : Position)
     → (0 < l.successors.size → past w base k from ≡ past l base1 lk 0) → lk ≡ leaves end.left (past w base k end.at)
     → l.items base1 ++ lk ≡ leaves (into from l.successors.size end).left (past w base k (into from l.successors.size end).at)
 enters w l sl base from base1 v k lk end same e =
@@ -214,13 +214,13 @@ enters w l sl base from base1 v k lk end same e =
     (cases_lt 0 l.successors.size)
 
 -- how a statement of two blocks is followed
-pub record TwoFollows (s : UStmt) (u : ℕ) (a b : Piece) : Type 0 where
+pub record TwoFollows (s : UStmt) (u : ℕ) (a b : StmtPiece) : Type 0 where
   pub on : (n : ℕ) (k : List Item) → follow todo.On n s k ≡ k
   pub first : (n : ℕ) (k : List Item) → follow todo.First n s k ≡ a.items (n + 1) ++ leaves u k
   pub second : (n : ℕ) (k : List Item) → follow todo.Second n s k ≡ b.items (n + 1 + a.successors.size) ++ k
 
-module _ (s : UStmt) (u : ℕ) (a b : Piece) (sa : Sound a) (sb : Sound b) (f : TwoFollows s u a b) (base : ℕ) (k : List Item) where
-  abbrev tw : Piece
+module _ (s : UStmt) (u : ℕ) (a b : StmtPiece) (sa : Sound a) (sb : Sound b) (f : TwoFollows s u a b) (base : ℕ) (k : List Item) where
+  abbrev tw : StmtPiece
   tw = two_piece s u a b
 
   abbrev two_end : ℕ → Position
@@ -299,12 +299,12 @@ module _ (s : UStmt) (u : ℕ) (a b : Piece) (sa : Sound a) (sb : Sound b) (f : 
       (ap (leaves q.left) (sym (two_past_second q.at bound)) ∙ ap (λ p. leaves p.left (past tw base k p.at)) (sym e)) g)
       (cases_lt n a.successors.size)
 
-two_goes : (s : UStmt) (u : ℕ) (a b : Piece) (sa : Sound a) (sb : Sound b) (f : TwoFollows s u a b) (base n : ℕ) (c : Successor) (k : List Item) → n < (two_piece s u a b).successors.size
+two_goes : (s : UStmt) (u : ℕ) (a b : StmtPiece) (sa : Sound a) (sb : Sound b) (f : TwoFollows s u a b) (base n : ℕ) (c : Successor) (k : List Item) → n < (two_piece s u a b).successors.size
     → Goes ((two_piece s u a b).left base n k) ((two_piece s u a b).at n) (base + n) c ((two_piece s u a b).successors.go c n) (two_piece s u a b).successors.size (past (two_piece s u a b) base k ((two_piece s u a b).successors.go c n).at)
 two_goes s u a b sa sb f base zero c k lt = two_zero s u a b sa sb f base k c
 two_goes s u a b sa sb f base (suc n) c k lt = two_suc s u a b sa sb f base k n c lt
 
-pub sound_two : (s : UStmt) (u : ℕ) (a b : Piece) → Sound a → Sound b → TwoFollows s u a b → Sound (two_piece s u a b)
+pub sound_two : (s : UStmt) (u : ℕ) (a b : StmtPiece) → Sound a → Sound b → TwoFollows s u a b → Sound (two_piece s u a b)
 sound_two s u a b sa sb f = record {
   goes = two_goes s u a b sa sb f;
   starts = λ base k h. refl;
@@ -312,13 +312,13 @@ sound_two s u a b sa sb f = record {
 }
 
 -- how a loop is followed
-pub record LoopFollows (s : UStmt) (a : Piece) : Type 0 where
+pub record LoopFollows (s : UStmt) (a : StmtPiece) : Type 0 where
   pub on : (n : ℕ) (k : List Item) → follow todo.On n s k ≡ k
   pub first : (n : ℕ) (k : List Item) → follow todo.First n s k ≡ a.items (n + 1) ++ Do n s ∷ k
   pub second : (n : ℕ) (k : List Item) → follow todo.Second n s k ≡ k
 
-module _ (s : UStmt) (a : Piece) (sa : Sound a) (f : LoopFollows s a) (base : ℕ) (k : List Item) where
-  abbrev lp : Piece
+module _ (s : UStmt) (a : StmtPiece) (sa : Sound a) (f : LoopFollows s a) (base : ℕ) (k : List Item) where
+  abbrev lp : StmtPiece
   lp = loop_piece s a
 
   loop_begins : past lp base k 0 ≡ Do base s ∷ k
@@ -364,12 +364,12 @@ module _ (s : UStmt) (a : Piece) (sa : Sound a) (f : LoopFollows s a) (base : �
       let none : 0 ≤ lp.successors.size = omega arith in
       goes_by _ _ _ _ _ _ c p (lp.successors.go c (suc n)) _ lp.successors.size _ _ refl refl num (inside_at 1 a.successors.size lp.successors.size (to 0 0) p one none) (loop_back p) g
 
-loop_goes : (s : UStmt) (a : Piece) (sa : Sound a) (f : LoopFollows s a) (base n : ℕ) (c : Successor) (k : List Item) → n < (loop_piece s a).successors.size
+loop_goes : (s : UStmt) (a : StmtPiece) (sa : Sound a) (f : LoopFollows s a) (base n : ℕ) (c : Successor) (k : List Item) → n < (loop_piece s a).successors.size
     → Goes ((loop_piece s a).left base n k) ((loop_piece s a).at n) (base + n) c ((loop_piece s a).successors.go c n) (loop_piece s a).successors.size (past (loop_piece s a) base k ((loop_piece s a).successors.go c n).at)
 loop_goes s a sa f base zero c k lt = loop_zero s a sa f base k c
 loop_goes s a sa f base (suc n) c k lt = loop_suc s a sa f base k n c lt
 
-pub sound_loop : (s : UStmt) (a : Piece) → Sound a → LoopFollows s a → Sound (loop_piece s a)
+pub sound_loop : (s : UStmt) (a : StmtPiece) → Sound a → LoopFollows s a → Sound (loop_piece s a)
 sound_loop s a sa f = record {
   goes = loop_goes s a sa f;
   starts = λ base k h. refl;

@@ -13,7 +13,7 @@ use Rattle.shim_walk_frames.specs.declared.successors.Successor.TheVariants.{On}
 use Rattle.shim_walk_frames.specs.Successors.{size_all, go_all}
 use Rattle.shim_walk_frames.specs.Pieces.{left_all, leaves}
 use Rattle.shim_walk_frames.specs.Turns.{successor_of}
-use Rattle.shim_walk_frames.specs.FrameViews.{FrameView, frame_of, place_of}
+use Rattle.shim_walk_frames.specs.FrameViews.{FrameView, frame_of, exception_place_of}
 use Rattle.shim_walk_frames.proofs.Goes.{goes_at, ends}
 
 -- the rest begins with no end of a `try` block
@@ -48,7 +48,7 @@ goes_on body s cursor c at left lt e1 e2 =
     let h = record f { halfway = false } in
     let g = goes_at body s.at c lt in
     let p = go_all body c s.at in
-    let m = length-map s.places (place_of body) in
+    let m = length-map s.places (exception_place_of body) in
     sym (ap (λ k. past_ends (followed (successor_of c) k) f.places h) g.here_is
     ∙ ap (λ k. past_ends k f.places h) g.goes
     ∙ some_ends p.left (left_all body p.at) f.places h
@@ -56,7 +56,7 @@ goes_on body s cursor c at left lt e1 e2 =
     ∙ ap (λ n. record h { todo = left_all body n; places = take (length f.places - p.left) f.places }) (sym e1)
     ∙ ap (λ n. record h { todo = left_all body at; places = take (length f.places - n) f.places }) (sym e2)
     ∙ ap (λ n. record h { todo = left_all body at; places = take (n - left) f.places }) m
-    ∙ ap (λ ps. record h { todo = left_all body at; places = ps }) (take-map (place_of body) (length s.places - left) s.places))
+    ∙ ap (λ ps. record h { todo = left_all body at; places = ps }) (take-map (exception_place_of body) (length s.places - left) s.places))
 
 -- behind the last one nothing is left
 pub stays : (body : List UStmt) (s : FrameView) (c : Successor) → size_all body ≤ s.at → frame_of body (record s { halfway = false }) ≡ went (successor_of c) (frame_of body s)

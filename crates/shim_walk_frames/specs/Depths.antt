@@ -10,12 +10,12 @@ use Rattle.shim_walk_frames.specs.FrameViews.{FrameView, frame_of}
 use Rattle.shim_walk_frames.specs.Successors.{size_all}
 
 -- the text of a unit
-abbrev pub text : List UnitOf → ℕ → List UStmt
-text units n = (unit_or (slice_get units n)).body
+abbrev pub unit_stmts : List UnitOf → ℕ → List UStmt
+unit_stmts units n = (unit_or (slice_get units n)).body
 
 -- a frame, in a program of these units
 abbrev pub shown : List UnitOf → FrameView → Frame
-shown units s = frame_of (text units s.unit) s
+shown units s = frame_of (unit_stmts units s.unit) s
 
 pub record Depth : Type 0 where
   pub frame : Frame

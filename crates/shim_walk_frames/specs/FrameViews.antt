@@ -20,8 +20,8 @@ pub record FrameView : Type 0 where
   pub places : List Handler
 
 -- an exception place by the number of its `try` in this text
-abbrev pub place_of : List UStmt → Handler → ExceptionPlace
-place_of body a = record { exception = a.exception; name = a.name; line = a.line; variable = a.variable; todo = left_all body a.at }
+abbrev pub exception_place_of : List UStmt → Handler → ExceptionPlace
+exception_place_of body a = record { exception = a.exception; name = a.name; line = a.line; variable = a.variable; todo = left_all body a.at }
 
 -- the frame of a unit with this text
 abbrev pub frame_of : List UStmt → FrameView → Frame
@@ -33,5 +33,5 @@ frame_of body s = record {
   labels = s.labels;
   floor = s.floor;
   outer = s.outer;
-  places = map (place_of body) s.places;
+  places = map (exception_place_of body) s.places;
 }

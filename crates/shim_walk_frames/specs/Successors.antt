@@ -28,19 +28,19 @@ into from size past = if nat_lt 0 size then to from 0 else past
 abbrev pub none : Successors
 none = record { size = 0; go = λ c n. to 0 0 }
 
-abbrev pub one : Successors
-one = record { size = 1; go = λ c n. to 1 0 }
+abbrev pub one_successor : Successors
+one_successor = record { size = 1; go = λ c n. to 1 0 }
 
 -- one piece behind the other
 abbrev pub joined_go : Successors → Successors → Successor → ℕ → Position
 joined_go a b c n = if nat_lt n a.size then a.go c n else shifted a.size (b.go c (n - a.size))
 
-abbrev pub joined : Successors → Successors → Successors
-joined a b = record { size = a.size + b.size; go = joined_go a b }
+abbrev pub in_sequence : Successors → Successors → Successors
+in_sequence a b = record { size = a.size + b.size; go = joined_go a b }
 
-abbrev pub block : List Successors → Successors
+abbrev block : List Successors → Successors
 block [] = none
-block (w ∷ ws) = joined w (block ws)
+block (w ∷ ws) = in_sequence w (block ws)
 
 -- from a statement of two blocks of these sizes, where so many `try` blocks end behind the first one
 abbrev pub two_start : ℕ → ℕ → ℕ → Successor → Position
@@ -67,16 +67,16 @@ abbrev pub loop_go : Successors → Successor → ℕ → Position
 loop_go a c zero = loop_start a.size c
 loop_go a c (suc n) = inside 1 a.size (to 0 0) (a.go c n)
 
-abbrev pub loop : Successors → Successors
-loop a = record { size = 1 + a.size; go = loop_go a }
+abbrev pub loop_successors : Successors → Successors
+loop_successors a = record { size = 1 + a.size; go = loop_go a }
 
 abbrev pub what_successors : UWhat-F Successors Successors → Successors
 what_successors (UWhat-F.If e a b) = two 0 (block a) (block b)
-what_successors (UWhat-F.While e a) = loop (block a)
-what_successors (UWhat-F.For first e step body) = joined (block first) (loop (joined (block body) (block step)))
+what_successors (UWhat-F.While e a) = loop_successors (block a)
+what_successors (UWhat-F.For first e step body) = in_sequence (block first) (loop_successors (in_sequence (block body) (block step)))
 what_successors (UWhat-F.Block a) = block a
 what_successors (UWhat-F.Try a x y b) = two 1 (block a) (block b)
-what_successors _ = one
+what_successors _ = one_successor
 
 abbrev pub successors : UStmt → Successors
 successors = fold-UStmt Successors Successors what_successors (λ s. s.what)

@@ -2,7 +2,7 @@
 // list's first one.
 ghost use Rattle.std.specs.Prelude.{◌≡◌, ◌<◌, ◌≤◌, ◌^◌, slice_get, MatchOption};
 ghost use Rattle.std.specs.Option.{option_copied};
-ghost use Rattle.shim_walk_frames.specs.Cursors.{Begins, IsCursor};
+ghost use Rattle.shim_walk_frames.specs.Cursors.{BeginsBefore, IsCursor};
 ghost use Rattle.shim_walk_frames.specs.Pieces.{at_all};
 ghost use Rattle.shim_walk_frames.specs.Successors.{go_all, size_all};
 
@@ -26,7 +26,7 @@ fn stmt_of(body: &[UStmt], cursor: Cursor) -> Option<&UStmt>
 /// The cursor of a number, which stands in this statement or behind it.
 pub fn advance(body: &[UStmt], cursor: Cursor, at: u32) -> Cursor
     requires bound { size_all body.now < 2 ^ 32 }
-    requires begins { Begins body.now cursor at }
+    requires begins { BeginsBefore body.now cursor at }
     ensures { IsCursor body.now result at }
 {
     let mut cursor = cursor;
@@ -67,7 +67,7 @@ pub fn find_at(body: &[UStmt], cursor: Cursor, at: u32) -> Option<&UStmt>
 pub fn go_at(body: &[UStmt], cursor: Cursor, successor: Successor, at: u32) -> Option<Position>
     requires bound { size_all body.now < 2 ^ 32 }
     requires cursor { IsCursor body.now cursor at }
-    ensures { MatchOption result (size_all body.now ≤ at) (λ position. (at < size_all body.now) × (position ≡ go_all body.now successor at) × Begins body.now cursor position.at) }
+    ensures { MatchOption result (size_all body.now ≤ at) (λ position. (at < size_all body.now) × (position ≡ go_all body.now successor at) × BeginsBefore body.now cursor position.at) }
 {
     match stmt_of(body, cursor) {
         None => None,

@@ -6,7 +6,7 @@ ghost use Rattle.shim_process.specs.Unwinding.{handling};
 ghost use Rattle.shim_walk_frames.specs.FrameViews.{frame_of};
 ghost use Rattle.shim_walk_frames.specs.Leaving.{variable_of};
 ghost use Rattle.shim_walk_frames.specs.Variables.{one_of, variables_of};
-ghost use Rattle.shim_walk_frames.specs.Cursors.{IsCursor, IsRight};
+ghost use Rattle.shim_walk_frames.specs.Cursors.{IsCursor, IsRightCursor};
 ghost use Rattle.shim_walk_frames.specs.Turns.{successor_of};
 ghost use Rattle.shim_walk_frames.specs.Successors.{size_all};
 
@@ -89,7 +89,7 @@ impl Frame {
     /// In which statement of the unit's own list, which is this text, that one is.
     pub fn cursor(&self, body: &[UStmt]) -> Cursor
         requires bound { size_all body.now < 2 ^ 32 }
-        requires cursor { IsRight body.now self.now.cursor self.now.at }
+        requires cursor { IsRightCursor body.now self.now.cursor self.now.at }
         ensures { IsCursor body.now result self.now.at }
     {
         match self.cursor {
@@ -101,7 +101,7 @@ impl Frame {
     /// Whether the unit with this text is over.
     pub fn is_over(&self, body: &[UStmt]) -> bool
         requires bound { size_all body.now < 2 ^ 32 }
-        requires cursor { IsRight body.now self.now.cursor self.now.at }
+        requires cursor { IsRightCursor body.now self.now.cursor self.now.at }
         ensures { IsTrue result ↔ (size_all body.now ≤ self.now.at) }
     {
         self.cursor(body).index >= body.len()
@@ -286,13 +286,13 @@ impl Frame {
     #[tactic(auto, using(crate::proofs::Leaves::handles_none))]
     pub fn handle(&mut self, body: &[UStmt], index: usize) -> Option<HandlerVariable>
         requires bound { size_all body.now < 2 ^ 32 }
-        requires cursor { IsRight body.now self.old.cursor self.old.at }
+        requires cursor { IsRightCursor body.now self.old.cursor self.old.at }
         ensures value { frame_of body.now self.new ≡ handling (slice_get (frame_of body.now self.old).places index) index (frame_of body.now self.old) }
         ensures variable { result ≡ variable_of (slice_get self.old.places index) }
         ensures fewer { one_of result + variables_of self.new.places ≤ variables_of self.old.places }
         ensures unit { self.new.unit ≡ self.old.unit }
         ensures slots { self.new.slots ≡ self.old.slots }
-        ensures cursor { IsRight body.now self.new.cursor self.new.at }
+        ensures cursor { IsRightCursor body.now self.new.cursor self.new.at }
     {
         let Some(place) = self.take_place(index) else {
             return None;
@@ -306,12 +306,12 @@ impl Frame {
     /// On from the statement at which it stands.
     pub fn go(&mut self, body: &[UStmt], successor: Successor)
         requires bound { size_all body.now < 2 ^ 32 }
-        requires cursor { IsRight body.now self.old.cursor self.old.at }
+        requires cursor { IsRightCursor body.now self.old.cursor self.old.at }
         ensures value { frame_of body.now self.new ≡ went (successor_of successor) (frame_of body.now self.old) }
         ensures fewer { variables_of self.new.places ≤ variables_of self.old.places }
         ensures unit { self.new.unit ≡ self.old.unit }
         ensures slots { self.new.slots ≡ self.old.slots }
-        ensures cursor { IsRight body.now self.new.cursor self.new.at }
+        ensures cursor { IsRightCursor body.now self.new.cursor self.new.at }
     {
         let cursor = self.cursor(body);
         self.halfway = false;

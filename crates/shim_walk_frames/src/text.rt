@@ -4,8 +4,8 @@ ghost use Rattle.std.specs.Option.{option_copied};
 ghost use Rattle.shim_process.specs.Arguments.{declared_slots};
 ghost use Rattle.shim_process.specs.LocalState.{unit_or, number_of};
 ghost use Rattle.shim_process.specs.Steps.{stmt_line};
-ghost use Rattle.shim_walk_frames.specs.Depths.{AllFit, text};
-ghost use Rattle.shim_walk_frames.specs.Cursors.{Stands};
+ghost use Rattle.shim_walk_frames.specs.Depths.{AllFit, unit_stmts};
+ghost use Rattle.shim_walk_frames.specs.Cursors.{HasOwnCursor};
 ghost use Rattle.shim_walk_frames.specs.Pieces.{at_all};
 
 use crate::cursor::find_at;
@@ -28,8 +28,8 @@ pub fn text_of(units: &[Unit], unit: u32) -> &[UStmt]
 #[tactic(auto, using(crate::proofs::Returns::text_fits))]
 pub fn stmt_in<'a>(units: &'a [Unit], top: &Frame) -> Option<&'a UStmt>
     requires fit { AllFit units.now }
-    requires cursor { Stands units.now top.now }
-    ensures { option_copied result ≡ at_all (text units.now top.now.unit) top.now.at }
+    requires cursor { HasOwnCursor units.now top.now }
+    ensures { option_copied result ≡ at_all (unit_stmts units.now top.now.unit) top.now.at }
 {
     let body = text_of(units, top.unit());
     find_at(body, top.cursor(body), top.at())
@@ -87,7 +87,7 @@ fn behind(slots: &[Sort], params: usize) -> &[Sort]
 
 /// The label at a place; 0 where the list ends before it.
 #[tactic(auto, unfolding(shim_process::specs::LocalState::number_of))]
-pub fn label_of(labels: &[u32], at: u32) -> u32
+pub fn nth_label(labels: &[u32], at: u32) -> u32
     ensures { result ≡ number_of labels.now at }
 {
     match labels.get(at as usize) {
@@ -102,7 +102,7 @@ pub fn slot_name(units: &[Unit], unit: u32, slot: u32) -> u32
     ensures { result ≡ number_of (unit_or (slice_get units.now unit)).slot_names slot }
 {
     match units.get(unit as usize) {
-        Some(unit) => label_of(unit.slot_names.as_slice(), slot),
+        Some(unit) => nth_label(unit.slot_names.as_slice(), slot),
         None => 0,
     }
 }

@@ -8,12 +8,12 @@ use Rattle.shim_local.specs.Quiets.{QuietSteps}
 use Rattle.shim_local.specs.Pieces.{FewerWithCause}
 use Rattle.shim_semantics.specs.Trees.{Tree, steps}
 use Rattle.shim_net.specs.Nets.{OpenGrant, NetView, IsOpen}
-use Rattle.shim_net.specs.Granting.{GivesNone, Gives}
-use Rattle.shim_net.specs.Taking.{Takes}
+use Rattle.shim_net.specs.Granting.{GivesNone, Grants}
+use Rattle.shim_net.specs.Taking.{Absorbs}
 use Rattle.shim_net.specs.Settling.{Settles}
 use Rattle.shim_net.specs.Progress.{GoesOn, CanGive}
 use Rattle.shim_net.proofs.Progress.{closed_on, closed_all, some_used, settled_on, settled_same}
-use Rattle.shim_workers.specs.Progress.{HasSteps, HaveSteps, AreBelow, StepsOn}
+use Rattle.shim_workers.specs.Progress.{HasSteps, HaveSteps, HaveSlotsBelow, StepsOn}
 
 -- with more steps or grants than before, and in the end no grant, there are more steps
 pub more_steps : {S : Type 0} (o : Ops S) (a b c : NetView S) → a.grants ≡ [] → steps a.tree + length a.grants < steps b.tree + length b.grants → GoesOn o b c → c.grants ≡ [] → steps a.tree < steps c.tree
@@ -22,8 +22,8 @@ more_steps o a b c none more p none' =
     let few' : length c.grants ≡ 0 = ap length none' in
     omega (arith, few, few', more, p.at_least)
 
-pub none_below : {S : Type 0} (slot : ℕ) (grants : List (OpenGrant S)) → grants ≡ [] → AreBelow slot grants
-none_below slot grants none = subst (AreBelow slot) (sym none) (All-nil (λ g. g.slot < slot))
+pub none_below : {S : Type 0} (slot : ℕ) (grants : List (OpenGrant S)) → grants ≡ [] → HaveSlotsBelow slot grants
+none_below slot grants none = subst (HaveSlotsBelow slot) (sym none) (All-nil (λ g. g.slot < slot))
 
 pub none_have : {S : Type 0} (o : Ops S) (grants : List (OpenGrant S)) → grants ≡ [] → HaveSteps o grants
 none_have o grants none = subst (HaveSteps o) (sym none) (All-nil (HasSteps o))
@@ -38,7 +38,7 @@ did_none o before after_it None h none = h
 did_none o before after_it (Some n) h none = absurd (cc)
 
 -- no grant has a slot above all of them
-pub fresh : {S : Type 0} (slot round : ℕ) (grants : List (OpenGrant S)) → AreBelow slot grants → IsOpen slot round grants → ⊥
+pub fresh : {S : Type 0} (slot round : ℕ) (grants : List (OpenGrant S)) → HaveSlotsBelow slot grants → IsOpen slot round grants → ⊥
 fresh {S} slot round grants below out =
     let less : out.1.slot < slot = subst (λ (z : OpenGrant S). z.slot < slot) out.3 (below out.0 out.1 out.2) in
     let same : out.1.slot ≡ slot = out.4.0 in
@@ -46,7 +46,7 @@ fresh {S} slot round grants below out =
 
 module _ {S : Type 0} (o : Ops S) where
   -- a piece was given out
-  module _ (before after_it : NetView S) (most slot round pid : ℕ) (start : S) (grant : ℕ) (g : Gives o before after_it most slot round pid start grant) where
+  module _ (before after_it : NetView S) (most slot round pid : ℕ) (start : S) (grant : ℕ) (g : Grants o before after_it most slot round pid start grant) where
     abbrev made : OpenGrant S
     made = record { pid = pid; slot = slot; round = round; most = grant; start = start }
 
@@ -77,20 +77,20 @@ module _ {S : Type 0} (o : Ops S) where
     pub gave_steps : HaveSteps o before.grants → HaveSteps o after_it.grants
     gave_steps h = subst (HaveSteps o) (sym grants_are) (All-push (HasSteps o) before.grants made h (record { some = g.some; stop = g.process.grantable.stop }))
 
-    wider : AreBelow slot before.grants → AreBelow (slot + 1) before.grants
+    wider : HaveSlotsBelow slot before.grants → HaveSlotsBelow (slot + 1) before.grants
     wider h k d inside = omega (arith, h k d inside)
 
-    pub gave_below : AreBelow slot before.grants → AreBelow (slot + 1) after_it.grants
-    gave_below h = subst (AreBelow (slot + 1)) (sym grants_are) (All-push (λ (z : OpenGrant S). z.slot < slot + 1) before.grants made (wider h) (omega arith))
+    pub gave_below : HaveSlotsBelow slot before.grants → HaveSlotsBelow (slot + 1) after_it.grants
+    gave_below h = subst (HaveSlotsBelow (slot + 1)) (sym grants_are) (All-push (λ (z : OpenGrant S). z.slot < slot + 1) before.grants made (wider h) (omega arith))
 
-  pub gave_none_below : (slot : ℕ) (before after_it : NetView S) → GivesNone o before after_it → AreBelow slot before.grants → AreBelow (slot + 1) after_it.grants
-  gave_none_below slot before after_it h below = subst (λ (z : NetView S). AreBelow (slot + 1) z.grants) (sym h.0) (λ k d inside. omega (arith, below k d inside))
+  pub gave_none_below : (slot : ℕ) (before after_it : NetView S) → GivesNone o before after_it → HaveSlotsBelow slot before.grants → HaveSlotsBelow (slot + 1) after_it.grants
+  gave_none_below slot before after_it h below = subst (λ (z : NetView S). HaveSlotsBelow (slot + 1) z.grants) (sym h.0) (λ k d inside. omega (arith, below k d inside))
 
   pub gave_none_steps : (before after_it : NetView S) → GivesNone o before after_it → HaveSteps o before.grants → HaveSteps o after_it.grants
   gave_none_steps before after_it h some = subst (λ (z : NetView S). HaveSteps o z.grants) (sym h.0) some
 
   -- a piece was taken in
-  module _ (before after_it : NetView S) (pid slot round most : ℕ) (start : S) (used : ℕ) (t : Takes o before after_it pid slot round most start used) (h : HaveSteps o before.grants) where
+  module _ (before after_it : NetView S) (pid slot round most : ℕ) (start : S) (used : ℕ) (t : Absorbs o before after_it pid slot round most start used) (h : HaveSteps o before.grants) where
     its : HasSteps o t.closes.grant
     its = subst (HasSteps o) (sym t.closes.its) (h t.place t.closes.grant t.there)
 

@@ -16,8 +16,8 @@ abbrev pub HaveSteps : {S : Type 0} → Ops S → List (OpenGrant S) → Type 0
 HaveSteps o grants = All (HasSteps o) grants
 
 -- the grants have slots below this one
-abbrev pub AreBelow : {S : Type 0} → ℕ → List (OpenGrant S) → Type 0
-AreBelow slot grants = All (λ g. g.slot < slot) grants
+abbrev pub HaveSlotsBelow : {S : Type 0} → ℕ → List (OpenGrant S) → Type 0
+HaveSlotsBelow slot grants = All (λ g. g.slot < slot) grants
 
 -- a process that could be given out did steps in place, or there was none
 abbrev pub StepsOn : {S : Type 0} → Ops S → NetView S → NetView S → Option ℕ → Type 0

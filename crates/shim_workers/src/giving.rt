@@ -2,7 +2,7 @@
 ghost use Rattle.std.specs.Prelude.{◌≡◌, ◌≤◌, ◌<◌, ◌+◌, [], true, false, length, IfOk, OnOk};
 ghost use Rattle.shim_semantics.specs.Trees.{steps};
 ghost use Rattle.shim_net.specs.Progress.{GoesOn, CanGive};
-ghost use Rattle.shim_workers.specs.Progress.{HaveSteps, AreBelow};
+ghost use Rattle.shim_workers.specs.Progress.{HaveSteps, HaveSlotsBelow};
 
 use crate::job::Jobs;
 use shim_base::NoMemory;
@@ -20,10 +20,10 @@ fn give<L: Local>(
     round: u64,
 ) -> Result<bool, NoMemory>
     requires most { 1 ≤ most }
-    requires below { AreBelow slot net.old.grants }
+    requires below { HaveSlotsBelow slot net.old.grants }
     requires steps { HaveSteps L.ops net.old.grants }
     ensures goes_on { OnOk result (GoesOn L.ops net.old net.new) }
-    ensures below { OnOk result (AreBelow (slot + 1) net.new.grants) }
+    ensures below { OnOk result (HaveSlotsBelow (slot + 1) net.new.grants) }
     ensures steps { OnOk result (HaveSteps L.ops net.new.grants) }
     ensures more { IfOk result (λ more. more ≡ true → steps net.old.tree + length net.old.grants < steps net.new.tree + length net.new.grants) }
     ensures none { IfOk result (λ more. more ≡ false → CanGive L.ops net.old → ⊥) }

@@ -29,7 +29,7 @@ pub(crate) fn settle_behind<L: Local>(
 
 /// Leaves the turn, whose work found something to do or wanted memory. False where there was nothing to do. Where
 /// the run has come to its end, or memory is wanted, all workers are told so.
-pub(crate) fn leave<L: Local>(
+pub(crate) fn end_turn<L: Local>(
     board: &NetBoard<L>,
     chair: &mut NetChair<L>,
     net: Net<L>,
@@ -105,5 +105,5 @@ pub(crate) fn schedule<L: Local, G: Gate>(
     ensures same { StandsAs chair.old chair.new }
 {
     let found = schedule_net(board, chair, &mut net, slots, gate, pool);
-    leave(board, chair, net, found, pool)
+    end_turn(board, chair, net, found, pool)
 }

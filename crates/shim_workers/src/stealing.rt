@@ -7,7 +7,7 @@ use crate::at_home::{AtHome, RUNS_IN_A_TURN};
 use crate::load::{NetBoard, NetChair};
 use crate::pieces::Pieces;
 use crate::pool::Pool;
-use crate::scheduling::{leave, settle_behind};
+use crate::scheduling::{end_turn, settle_behind};
 use crate::start::Start;
 use shim_base::NoMemory;
 use shim_local::Local;
@@ -60,7 +60,7 @@ fn work_once<L: Local, G: Gate, R: Wait>(
         None => false,
         Some(mut net) => {
             let found = schedule_net(pieces, &mut net, gate, pool);
-            leave(board, chair, net, found, pool)
+            end_turn(board, chair, net, found, pool)
         }
     }
 }

@@ -26,7 +26,10 @@ fn take<L: Local>(net: &mut Net<L>, finished: Finished<L>) -> Result<(), NoMemor
 }
 
 /// Takes in all that one job did.
-pub(crate) fn take_all<L: Local>(net: &mut Net<L>, done: Vec<Finished<L>>) -> Result<(), NoMemory>
+pub(crate) fn take_in_all<L: Local>(
+    net: &mut Net<L>,
+    done: Vec<Finished<L>>,
+) -> Result<(), NoMemory>
     requires steps { HaveSteps L.ops net.old.grants }
     ensures goes_on { OnOk result (GoesOn L.ops net.old net.new) }
     ensures steps { OnOk result (HaveSteps L.ops net.new.grants) }

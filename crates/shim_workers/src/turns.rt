@@ -8,7 +8,7 @@ ghost use Rattle.shim_net.specs.Progress.{GoesOn, HasSettled, CanGive};
 use crate::giving::give_all;
 use crate::in_place::step_next;
 use crate::lengths::longer;
-use crate::taking::take_all;
+use crate::taking::take_in_all;
 use shim_base::NoMemory;
 use shim_local::Local;
 use shim_net::{Gate, Net, Standing};
@@ -59,7 +59,7 @@ fn turn<L: Local, G: Gate, R: Threads + Sync>(
 {
     let jobs = give_all(alloc, net, workers, most, round)?;
     for one in jobs.do_all(rt, gate)? {
-        take_all(net, one)?;
+        take_in_all(net, one)?;
     }
     net.redo_all()?;
     Ok(())

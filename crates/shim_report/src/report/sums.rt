@@ -1,6 +1,6 @@
 // The summary of a run.
 ghost use Rattle.std.specs.Prelude.{◌≡◌, ◌<◌, ◌++◌, ◌+ℤ◌, pos, IfOk, OnOk, filter, length};
-ghost use Rattle.shim_report.specs.Summary.{all_values, catch_count, count_line, counts_part, counts_text, is_caught, made_line, residue, summary, total, values_line};
+ghost use Rattle.shim_report.specs.Summary.{all_values, catch_count, count_line, counts_part, counts_text, is_caught, made_line, residue, summary, sum_of_values, values_line};
 
 use super::lines::push_end;
 use shim_base::{List, Name, NoMemory, push_decimal};
@@ -33,7 +33,7 @@ fn residue(value: i64) -> u64
 // The residue of a sum to which values are added.
 fn add_values(start: u64, values: &[i64]) -> u64
     requires { start < 1000000 }
-    ensures value { result ≡ residue (pos start +ℤ total values.now) }
+    ensures value { result ≡ residue (pos start +ℤ sum_of_values values.now) }
     ensures small { result < 1000000 }
 {
     let mut sum = start;
@@ -44,7 +44,7 @@ fn add_values(start: u64, values: &[i64]) -> u64
 }
 
 fn value_sum(histories: &[History]) -> u64
-    ensures { result ≡ residue (total (all_values histories.now)) }
+    ensures { result ≡ residue (sum_of_values (all_values histories.now)) }
 {
     let mut sum = 0u64;
     for history in histories {

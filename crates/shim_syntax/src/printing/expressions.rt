@@ -1,6 +1,6 @@
 // The canonical text of expressions, with parentheses only where they are needed.
 ghost use Rattle.std.specs.Prelude.{◌≡◌, ◌++◌, OnOk};
-ghost use Rattle.shim_syntax.specs.Printing.{args_pieces, call_pieces, expr_pieces, expr_row, first_value_pieces, more_args_pieces, test_pieces, text_of, wrapped};
+ghost use Rattle.shim_syntax.specs.Printing.{args_pieces, call_pieces, expr_pieces, expr_row, first_value_pieces, more_args_pieces, test_pieces, pieces_text, wrapped};
 
 use super::words::{binary_row, binary_sign, push_number, push_word, unary_sign};
 use crate::tree::{Call, Expr};
@@ -18,7 +18,7 @@ fn outer_row(expr: &Expr) -> u8
 
 #[cycle(expressions)]
 pub(super) fn push_expr(text: &mut List<u8>, expr: &Expr) -> Result<(), NoMemory>
-    ensures { OnOk result (text.new ≡ text.old ++ text_of (expr_pieces expr.now)) }
+    ensures { OnOk result (text.new ≡ text.old ++ pieces_text (expr_pieces expr.now)) }
 {
     match expr {
         Expr::Number(number) => push_number(text, *number),
@@ -40,7 +40,7 @@ pub(super) fn push_expr(text: &mut List<u8>, expr: &Expr) -> Result<(), NoMemory
 
 #[cycle(expressions)]
 fn push_operand(text: &mut List<u8>, expr: &Expr, in_parens: bool) -> Result<(), NoMemory>
-    ensures { OnOk result (text.new ≡ text.old ++ text_of (wrapped in_parens (expr_pieces expr.now))) }
+    ensures { OnOk result (text.new ≡ text.old ++ pieces_text (wrapped in_parens (expr_pieces expr.now))) }
 {
     if in_parens {
         text.extend_from_slice(b"( ")?;
@@ -53,7 +53,7 @@ fn push_operand(text: &mut List<u8>, expr: &Expr, in_parens: bool) -> Result<(),
 
 // The first value of a variable, where it has one.
 pub(super) fn push_first_value(text: &mut List<u8>, value: &Option<Expr>) -> Result<(), NoMemory>
-    ensures { OnOk result (text.new ≡ text.old ++ text_of (first_value_pieces value.now)) }
+    ensures { OnOk result (text.new ≡ text.old ++ pieces_text (first_value_pieces value.now)) }
 {
     match value {
         None => Ok(()),
@@ -66,7 +66,7 @@ pub(super) fn push_first_value(text: &mut List<u8>, value: &Option<Expr>) -> Res
 
 // The test of a `for`, where it has one.
 pub(super) fn push_test(text: &mut List<u8>, test: &Option<Expr>) -> Result<(), NoMemory>
-    ensures { OnOk result (text.new ≡ text.old ++ text_of (test_pieces test.now)) }
+    ensures { OnOk result (text.new ≡ text.old ++ pieces_text (test_pieces test.now)) }
 {
     match test {
         None => Ok(()),
@@ -75,7 +75,7 @@ pub(super) fn push_test(text: &mut List<u8>, test: &Option<Expr>) -> Result<(), 
 }
 
 pub(super) fn push_call(text: &mut List<u8>, call: &Call) -> Result<(), NoMemory>
-    ensures { OnOk result (text.new ≡ text.old ++ text_of (call_pieces call.now)) }
+    ensures { OnOk result (text.new ≡ text.old ++ pieces_text (call_pieces call.now)) }
 {
     push_word(text, &call.function)?;
     text.extend_from_slice(b"( ")?;
@@ -84,7 +84,7 @@ pub(super) fn push_call(text: &mut List<u8>, call: &Call) -> Result<(), NoMemory
 }
 
 fn push_args(text: &mut List<u8>, args: &[Expr]) -> Result<(), NoMemory>
-    ensures { OnOk result (text.new ≡ text.old ++ text_of (args_pieces args.now)) }
+    ensures { OnOk result (text.new ≡ text.old ++ pieces_text (args_pieces args.now)) }
 {
     match args.split_first() {
         None => Ok(()),
@@ -96,7 +96,7 @@ fn push_args(text: &mut List<u8>, args: &[Expr]) -> Result<(), NoMemory>
 }
 
 fn push_more_args(text: &mut List<u8>, args: &[Expr]) -> Result<(), NoMemory>
-    ensures { OnOk result (text.new ≡ text.old ++ text_of (more_args_pieces args.now)) }
+    ensures { OnOk result (text.new ≡ text.old ++ pieces_text (more_args_pieces args.now)) }
 {
     for arg in args {
         text.extend_from_slice(b", ")?;

@@ -1,6 +1,6 @@
 // The canonical text of statements.
 ghost use Rattle.std.specs.Prelude.{◌≡◌, ◌++◌, OnOk, map, true};
-ghost use Rattle.shim_syntax.specs.Printing.{all_pieces, block_pieces, branch_pieces, else_pieces, end_pieces, fork_pieces, par_pieces, part_pieces, stmt_shown, text_of, thrown_number_pieces, variable_pieces};
+ghost use Rattle.shim_syntax.specs.Printing.{all_pieces, block_pieces, branch_pieces, else_pieces, end_pieces, fork_pieces, par_pieces, part_pieces, stmt_shown, pieces_text, thrown_number_pieces, variable_pieces};
 
 use super::expressions::{push_call, push_expr, push_first_value, push_test};
 use super::words::{push_type, push_word};
@@ -19,7 +19,7 @@ fn has_semicolon(stmt: &Stmt) -> bool
 }
 
 fn push_end(text: &mut List<u8>, semicolon: bool) -> Result<(), NoMemory>
-    ensures { OnOk result (text.new ≡ text.old ++ text_of (end_pieces semicolon)) }
+    ensures { OnOk result (text.new ≡ text.old ++ pieces_text (end_pieces semicolon)) }
 {
     if semicolon {
         text.extend_from_slice(b";\n")
@@ -30,7 +30,7 @@ fn push_end(text: &mut List<u8>, semicolon: bool) -> Result<(), NoMemory>
 
 // The variable of a handler, where it has one.
 fn push_variable(text: &mut List<u8>, variable: &Option<Name>) -> Result<(), NoMemory>
-    ensures { OnOk result (text.new ≡ text.old ++ text_of (variable_pieces variable.now)) }
+    ensures { OnOk result (text.new ≡ text.old ++ pieces_text (variable_pieces variable.now)) }
 {
     match variable {
         None => Ok(()),
@@ -40,7 +40,7 @@ fn push_variable(text: &mut List<u8>, variable: &Option<Name>) -> Result<(), NoM
 
 // The number of a throw in its parentheses, where it has one.
 fn push_thrown_number(text: &mut List<u8>, number: &Option<Expr>) -> Result<(), NoMemory>
-    ensures { OnOk result (text.new ≡ text.old ++ text_of (thrown_number_pieces number.now)) }
+    ensures { OnOk result (text.new ≡ text.old ++ pieces_text (thrown_number_pieces number.now)) }
 {
     match number {
         None => Ok(()),
@@ -55,7 +55,7 @@ fn push_thrown_number(text: &mut List<u8>, number: &Option<Expr>) -> Result<(), 
 // A statement without the semicolon at its end.
 #[cycle(statements)]
 fn push_stmt(text: &mut List<u8>, stmt: &Stmt) -> Result<(), NoMemory>
-    ensures { OnOk result (text.new ≡ text.old ++ text_of (stmt_shown stmt.now).pieces) }
+    ensures { OnOk result (text.new ≡ text.old ++ pieces_text (stmt_shown stmt.now).pieces) }
 {
     match &stmt.what {
         What::Declare(ty, name, value) => {
@@ -139,7 +139,7 @@ fn push_stmt(text: &mut List<u8>, stmt: &Stmt) -> Result<(), NoMemory>
 
 #[cycle(statements)]
 pub(super) fn push_block(text: &mut List<u8>, body: &[Stmt]) -> Result<(), NoMemory>
-    ensures { OnOk result (text.new ≡ text.old ++ text_of (block_pieces (map stmt_shown body.now))) }
+    ensures { OnOk result (text.new ≡ text.old ++ pieces_text (block_pieces (map stmt_shown body.now))) }
 {
     text.extend_from_slice(b"{\n")?;
     push_all(text, body)?;
@@ -149,7 +149,7 @@ pub(super) fn push_block(text: &mut List<u8>, body: &[Stmt]) -> Result<(), NoMem
 // Nothing where the list is empty.
 #[cycle(statements)]
 fn push_else(text: &mut List<u8>, body: &[Stmt]) -> Result<(), NoMemory>
-    ensures { OnOk result (text.new ≡ text.old ++ text_of (else_pieces (map stmt_shown body.now))) }
+    ensures { OnOk result (text.new ≡ text.old ++ pieces_text (else_pieces (map stmt_shown body.now))) }
 {
     if body.is_empty() {
         return Ok(());
@@ -161,7 +161,7 @@ fn push_else(text: &mut List<u8>, body: &[Stmt]) -> Result<(), NoMemory>
 // Statements with their semicolons.
 #[cycle(statements)]
 fn push_all(text: &mut List<u8>, body: &[Stmt]) -> Result<(), NoMemory>
-    ensures { OnOk result (text.new ≡ text.old ++ text_of (all_pieces (map stmt_shown body.now))) }
+    ensures { OnOk result (text.new ≡ text.old ++ pieces_text (all_pieces (map stmt_shown body.now))) }
 {
     for stmt in body {
         push_stmt(text, stmt)?;
@@ -173,7 +173,7 @@ fn push_all(text: &mut List<u8>, body: &[Stmt]) -> Result<(), NoMemory>
 // The first statement or the step of a `for`.
 #[cycle(statements)]
 fn push_part(text: &mut List<u8>, part: &[Stmt]) -> Result<(), NoMemory>
-    ensures { OnOk result (text.new ≡ text.old ++ text_of (part_pieces (map stmt_shown part.now))) }
+    ensures { OnOk result (text.new ≡ text.old ++ pieces_text (part_pieces (map stmt_shown part.now))) }
 {
     for stmt in part {
         push_stmt(text, stmt)?;
@@ -183,7 +183,7 @@ fn push_part(text: &mut List<u8>, part: &[Stmt]) -> Result<(), NoMemory>
 
 // `par` before each branch but the first of a fork.
 fn push_par(text: &mut List<u8>, first: bool) -> Result<(), NoMemory>
-    ensures { OnOk result (text.new ≡ text.old ++ text_of (par_pieces first)) }
+    ensures { OnOk result (text.new ≡ text.old ++ pieces_text (par_pieces first)) }
 {
     if first {
         Ok(())
@@ -194,7 +194,7 @@ fn push_par(text: &mut List<u8>, first: bool) -> Result<(), NoMemory>
 
 #[cycle(statements)]
 fn push_fork(text: &mut List<u8>, branches: &[Branch]) -> Result<(), NoMemory>
-    ensures { OnOk result (text.new ≡ text.old ++ text_of (fork_pieces true (map branch_pieces branches.now))) }
+    ensures { OnOk result (text.new ≡ text.old ++ pieces_text (fork_pieces true (map branch_pieces branches.now))) }
 {
     let mut first = true;
     for branch in branches {
@@ -207,7 +207,7 @@ fn push_fork(text: &mut List<u8>, branches: &[Branch]) -> Result<(), NoMemory>
 
 #[cycle(statements)]
 fn push_branch(text: &mut List<u8>, branch: &Branch) -> Result<(), NoMemory>
-    ensures { OnOk result (text.new ≡ text.old ++ text_of (branch_pieces branch.now)) }
+    ensures { OnOk result (text.new ≡ text.old ++ pieces_text (branch_pieces branch.now)) }
 {
     match &branch.what {
         BranchWhat::Block(body) => push_block(text, body.as_slice()),

@@ -1,13 +1,13 @@
 // The tokens of the canonical text, each with the space behind it.
 ghost use Rattle.std.specs.Prelude.{◌≡◌, ◌∷◌, [], ◌++◌, OnOk};
 ghost use Rattle.std.specs.Fmt.{signed_decimal};
-ghost use Rattle.shim_syntax.specs.Printing.{type_piece, sort_piece, name, number, row_of_operator, sign_of_operator, sign_of_unary, sign_text, text_of};
+ghost use Rattle.shim_syntax.specs.Printing.{type_piece, sort_piece, name_piece, number_piece, row_of_operator, sign_of_operator, sign_of_unary, sign_text, pieces_text};
 
 use crate::tree::Sort;
 use shim_base::{BinOp, List, Name, NoMemory, Ty, UnOp, push_decimal};
 
 pub(super) fn push_word(text: &mut List<u8>, word: &Name) -> Result<(), NoMemory>
-    ensures { OnOk result (text.new ≡ text.old ++ text_of (name word.now ∷ [])) }
+    ensures { OnOk result (text.new ≡ text.old ++ pieces_text (name_piece word.now ∷ [])) }
 {
     text.extend_from_slice(word.as_bytes())?;
     text.push(b' ')
@@ -27,7 +27,7 @@ pub(super) fn push_number(text: &mut List<u8>, number: i64) -> Result<(), NoMemo
 }
 
 pub(super) fn push_sort(text: &mut List<u8>, sort: Sort) -> Result<(), NoMemory>
-    ensures { OnOk result (text.new ≡ text.old ++ text_of (sort_piece sort ∷ [])) }
+    ensures { OnOk result (text.new ≡ text.old ++ pieces_text (sort_piece sort ∷ [])) }
 {
     match sort {
         Sort::Value(ty) => push_type(text, ty),
@@ -37,7 +37,7 @@ pub(super) fn push_sort(text: &mut List<u8>, sort: Sort) -> Result<(), NoMemory>
 }
 
 pub(super) fn push_type(text: &mut List<u8>, ty: Ty) -> Result<(), NoMemory>
-    ensures { OnOk result (text.new ≡ text.old ++ text_of (type_piece ty ∷ [])) }
+    ensures { OnOk result (text.new ≡ text.old ++ pieces_text (type_piece ty ∷ [])) }
 {
     text.extend_from_slice(type_word(ty))?;
     text.push(b' ')

@@ -5,7 +5,7 @@ use Rattle.shim_units.specs.declared.unit.UWhat.TheVariants as is
 use Rattle.shim_units.specs.declared.unit.UWhat.TheViews.{outs-Call, outs-For, outs-If, outs-Par, outs-Throw, outs-Try, outs-While}
 use Rattle.shim_code.specs.declared.machine_instr.MachineInstr.TheVariants.{Jump, Throw, Untry}
 use Rattle.shim_code.specs.declared.instr.MarkKind.TheVariants as kind
-use Rattle.shim_code.specs.Layout.{arms, behind, one}
+use Rattle.shim_code.specs.Layout.{arms, sequence, one}
 use Rattle.shim_code.specs.MachineCode.{MachineCode, machine_call, machine_expr, machine_expr_or, machine_fork, machine_looped, machine_stmts}
 use Rattle.shim_code.specs.declared.draft.Caught.{Caught}
 use Rattle.shim_code.specs.Drafts.{head_of}
@@ -25,7 +25,7 @@ emit-returns-in_ok-emit_all-in-If-2 t c =
     let b = machine_stmts units second in
     let kind_is = w.is ∙ ap (λ a. is.If w.test a w.second) (sym c.as_slice.ensures) ∙ ap (λ b. is.If w.test first b) (sym c.as_slice-in-If.ensures) in
     on_ok_weaker c.close.result
-    (λ e. then_marked kind.Quiet c.args.stmt.now.line false (behind test (arms Jump (head_of None) a b)) old _ _ c.in_ok-begin-in-If.ensures
+    (λ e. then_marked kind.Quiet c.args.stmt.now.line false (sequence test (arms Jump (head_of None) a b)) old _ _ c.in_ok-begin-in-If.ensures
     (then_more test (arms Jump (head_of None) a b) _ _ _ c.in_ok-emit_expr-in-If.ensures
     (arms_closed None a b _ _ _ _ _ _ _ _ _ _ c.in_ok-head-in-If.ensures.at c.in_ok-head-in-If.ensures.after c.in_ok-emit_all-in-If.ensures c.in_ok-jump-in-If.ensures.at c.in_ok-jump-in-If.ensures.after c.in_ok-emit_all-in-If-2.ensures e))
     ∙ ap (λ (f : MachineCode). old ++ f (length old)) (sym (at_kind units c.args.stmt.now _ (UWhat-F.If w.test first second) kind_is (outs-If w.test first second))))
@@ -54,7 +54,7 @@ emit-returns-in_ok-emit_all-in-For-3 t c =
     let step = c.as_slice-in-For-3.result.now in
     let line = c.args.stmt.now.line in
     let test = machine_expr_or (pos 1) w.test in
-    let inner = behind (machine_stmts units body) (machine_stmts units step) in
+    let inner = sequence (machine_stmts units body) (machine_stmts units step) in
     let kind_is = w.is ∙ ap (λ a. is.For a w.test w.step w.body) (sym c.as_slice-in-For.ensures) ∙ ap (λ a. is.For first w.test w.step a) (sym c.as_slice-in-For-2.ensures) ∙ ap (λ a. is.For first w.test a body) (sym c.as_slice-in-For-3.ensures) in
     on_ok_weaker c.close_loop-in-For.result
     (λ e. then_more (machine_stmts units first) (machine_looped line test inner) old _ _ c.in_ok-emit_all-in-For.ensures
@@ -71,7 +71,7 @@ emit-returns-in_ok-emit_all-in-Try-2 t c =
     let units = c.args.units.now in
     let body = c.as_slice-in-Try.result.now in
     let handler = c.as_slice-in-Try-2.result.now in
-    let a = behind (machine_stmts units body) (one Untry) in
+    let a = sequence (machine_stmts units body) (one Untry) in
     let b = machine_stmts units handler in
     let caught : Caught = record { exception = w.exception; variable = w.variable } in
     let kind_is = w.is ∙ ap (λ a. is.Try a w.exception w.variable w.handler) (sym c.as_slice-in-Try.ensures) ∙ ap (λ b. is.Try body w.exception w.variable b) (sym c.as_slice-in-Try-2.ensures) in
@@ -100,7 +100,7 @@ emit-returns-in_ok-emit_expr_or-in-Throw t c =
     let x = c.in-Throw.exception in
     let number = machine_expr_or (pos 0) c.in-Throw.expr in
     on_ok_weaker c.push-in-Throw.result
-    (λ e. then_marked kind.Throw c.args.stmt.now.line false (behind number (one (Throw x))) old _ _ c.in_ok-begin-in-Throw.ensures
+    (λ e. then_marked kind.Throw c.args.stmt.now.line false (sequence number (one (Throw x))) old _ _ c.in_ok-begin-in-Throw.ensures
     (then_one number (Throw x) _ _ _ c.in_ok-emit_expr_or-in-Throw.ensures e)
     ∙ ap (λ (f : MachineCode). old ++ f (length old)) (sym (at_kind units c.args.stmt.now _ (UWhat-F.Throw x c.in-Throw.expr) c.in-Throw.is (outs-Throw x c.in-Throw.expr))))
     c.push-in-Throw.ensures

@@ -1,22 +1,22 @@
 use Rattle.std.proofs.Common.{rules, ◌≡◌, ◌∙◌, ap, ap₂, codes, true}
 use Rattle.clap.specs.Words.{App, app_of, new_app, rule_of, with_rule}
 use Rattle.clap.specs.Simple.{app_of_fields, on_top}
-use Rattle.shim_command.specs.Command.{arguments, flag, given, number, option, shim_app, words_behind}
+use Rattle.shim_command.specs.Command.{command_rules, flag, positional, number_option, option, shim_app, words_behind}
 use Rattle.shim_command.proofs.command.command.Goals as goal
 
 abbrev without_help : App → App
 without_help = on_top (λ s. record s { disable_help_flag = true })
 
 pub returns : goal.returns
-unfolding arguments shim_app
+unfolding command_rules shim_app
 returns c =
-    let mode : rule_of c.given.result ≡ given (codes "MODE") = search rules in
-    let file : rule_of c.given-2.result ≡ given (codes "FILE") = search rules in
+    let mode : rule_of c.given.result ≡ positional (codes "MODE") = search rules in
+    let file : rule_of c.given-2.result ≡ positional (codes "FILE") = search rules in
     let input : rule_of c.option.result ≡ option (codes "input") = search rules in
-    let workers : rule_of c.number.result ≡ number (codes "workers") 1 16 = search rules in
-    let budget : rule_of c.number-2.result ≡ number (codes "budget") 1 4000000 = search rules in
-    let quantum : rule_of c.number-3.result ≡ number (codes "quantum") 1 10000 = search rules in
-    let size : rule_of c.number-4.result ≡ number (codes "size") 1 100000 = search rules in
+    let workers : rule_of c.number.result ≡ number_option (codes "workers") 1 16 = search rules in
+    let budget : rule_of c.number-2.result ≡ number_option (codes "budget") 1 4000000 = search rules in
+    let quantum : rule_of c.number-3.result ≡ number_option (codes "quantum") 1 10000 = search rules in
+    let size : rule_of c.number-4.result ≡ number_option (codes "size") 1 100000 = search rules in
     let journal : rule_of c.option-2.result ≡ option (codes "journal") = search rules in
     let steal : rule_of c.flag.result ≡ flag (codes "steal") = search rules in
     let inputs : rule_of c.words_behind.result ≡ words_behind (codes "INPUT") = search rules in

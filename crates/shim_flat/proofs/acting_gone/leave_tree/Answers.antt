@@ -1,6 +1,6 @@
 use Rattle.std.proofs.Common.{arith}
 use Rattle.std.proofs.lemmas.Option.{slice_get_read}
-use Rattle.shim_records.specs.Acted.{sort_of}
+use Rattle.shim_records.specs.Acted.{process_status_of}
 use Rattle.shim_flat.proofs.Does.{marked_order, taken_order}
 use Rattle.shim_flat.proofs.Touching.{touches_more}
 use Rattle.shim_flat.proofs.TouchingOwn.{all_reach, leaves}
@@ -44,4 +44,4 @@ returns-clause-touches g c =
     leaves c.max-2.result at c.args.status r rs.items labels.new.records.items counts.new.records.items c.leave.new.records.items (slice_get_read rs.items rs.len at r rs.ok.0 c.requires.within c.index_mut.ensures.value)
     (touches_more labels.result c.max-2.result at _ labels.new.records.items (omega (arith, one, two)) labels.ensures.touches)
     (touches_more counts.result c.max-2.result at labels.new.records.items counts.new.records.items (omega (arith, one, two))
-    (all_reach g.L.Local.ops c.args.process.now (sort_of c.args.status) counts.result 4294967295 at labels.new.records.items counts.new.records.items counts.ensures.counts counts.ensures.reaches)) c.leave.ensures (omega (arith, two))
+    (all_reach g.L.Local.ops c.args.process.now (process_status_of c.args.status) counts.result 4294967295 at labels.new.records.items counts.new.records.items counts.ensures.counts counts.ensures.reaches)) c.leave.ensures (omega (arith, two))

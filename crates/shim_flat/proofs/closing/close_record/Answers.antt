@@ -1,7 +1,7 @@
 use Rattle.std.proofs.Common.{refl, arith}
 use Rattle.std.proofs.lemmas.Option.{slice_get_read}
 use Rattle.shim_laws_records.specs.Sufficing.{read_leaf}
-use Rattle.shim_records.specs.Acted.{sort_of, acting}
+use Rattle.shim_records.specs.Acted.{process_status_of, acting}
 use Rattle.shim_records.proofs.ManyWays.{rest_same}
 use Rattle.shim_records.proofs.WholeWay.{kept_order}
 use Rattle.shim_flat.proofs.ClosingParts.{settled_order}
@@ -12,7 +12,7 @@ use Rattle.shim_flat.proofs.closing.close_record.Goals as goal
 
 pub update_all_counts-counted-requires-clause-ordered : goal.update_all_counts-counted-requires-clause-ordered
 update_all_counts-counted-requires-clause-ordered g c κs within =
-    settled_order c.args.records.now.items c.leave_if.new.records.items c.args.at c.come_to.new.parent (sort_of c.args.status) c.requires.ordered c.come_to.ensures.no_pairs c.leave_if.ensures
+    settled_order c.args.records.now.items c.leave_if.new.records.items c.args.at c.come_to.new.parent (process_status_of c.args.status) c.requires.ordered c.come_to.ensures.no_pairs c.leave_if.ensures
 
 pub update_all_counts-counted-requires-clause-few : goal.update_all_counts-counted-requires-clause-few
 update_all_counts-counted-requires-clause-few g c κs within = c.requires.few c.index-states-at.result (slice_get_read c.args.states.now _ c.args.at c.index-states-at.result refl c.requires.of_state c.index-states-at.is)
@@ -21,8 +21,8 @@ pub recount_if-labelled-requires-clause-ordered : goal.recount_if-labelled-requi
 recount_if-labelled-requires-clause-ordered g c κs within =
     let o = g.L.Local.ops in
     let s = c.index-states-at.result in
-    kept_order c.leave_if.new.records.items c.update_all_counts-counted.new.records.items (rest_same (acting o s) (λ d. read_leaf o d s (sort_of c.args.status)) 4294967295 c.args.at c.update_all_counts-counted.ensures.counts.updated)
-    (settled_order c.args.records.now.items c.leave_if.new.records.items c.args.at c.come_to.new.parent (sort_of c.args.status) c.requires.ordered c.come_to.ensures.no_pairs c.leave_if.ensures)
+    kept_order c.leave_if.new.records.items c.update_all_counts-counted.new.records.items (rest_same (acting o s) (λ d. read_leaf o d s (process_status_of c.args.status)) 4294967295 c.args.at c.update_all_counts-counted.ensures.counts.updated)
+    (settled_order c.args.records.now.items c.leave_if.new.records.items c.args.at c.come_to.new.parent (process_status_of c.args.status) c.requires.ordered c.come_to.ensures.no_pairs c.leave_if.ensures)
 
 pub returns-clause-closes : goal.returns-clause-closes
 returns-clause-closes g c =
@@ -45,7 +45,7 @@ returns-clause-closes g c =
 pub returns-clause-touches : goal.returns-clause-touches
 returns-clause-touches g c =
     let at = c.args.at in
-    let k = sort_of c.args.status in
+    let k = process_status_of c.args.status in
     let left = c.leave_if.new.records.items in
     let counts = c.update_all_counts-counted in
     let labels = c.recount_if-labelled in

@@ -1,6 +1,6 @@
 use Rattle.std.proofs.Common.{◌≡◌, length, false, ap, subst, arith, add-one, refl, rules}
 use Rattle.shim_grammar.proofs.Runs.{is_right_paren}
-use Rattle.shim_parser.specs.Reading.{Reading}
+use Rattle.shim_parser.specs.Reading.{ReaderView}
 use Rattle.shim_parser.proofs.Exits.{propagates}
 use Rattle.shim_parser.proofs.CallExits.{none_reads, first_fails, arguments_start, arguments_end, next_fails, arguments_go, more_unwanted, not_right_paren}
 use Rattle.shim_parser.proofs.ExprExits.{expr_shorter}
@@ -32,7 +32,7 @@ returns-in_err-next-in-Sign-Comma c = propagates _ _ _ _ _ _ c.from_residual-in_
     c.more.invariant (search rules) c.advance-in-Sign-Comma.ensures c.argument-in-Sign-Comma.new.tokens _ c.in_err-next-in-Sign-Comma.ensures.reads)
 
 pub more-smaller : goal.more-smaller
-more-smaller c = omega (arith, expr_shorter c.in_ok-next-in-Sign-Comma.ensures.reads.1, ap (λ (u : Reading). length u.rest) c.advance-in-Sign-Comma.ensures)
+more-smaller c = omega (arith, expr_shorter c.in_ok-next-in-Sign-Comma.ensures.reads.1, ap (λ (u : ReaderView). length u.rest) c.advance-in-Sign-Comma.ensures)
 
 pub more-preserved : goal.more-preserved
 more-preserved c = arguments_go c.args.level c.more.count _ (add-one c.more.count) c.args.tokens.now c.more.tokens c.advance-in-Sign-Comma.new.self c.more.all

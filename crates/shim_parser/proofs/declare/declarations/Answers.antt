@@ -1,10 +1,10 @@
 use Rattle.std.proofs.Common.{length, ap, arith, rules}
-use Rattle.shim_parser.specs.Reading.{Reading}
+use Rattle.shim_parser.specs.Reading.{ReaderView}
 use Rattle.shim_parser.proofs.DeclareExits.{declared_shorter, declarations_go, declarations_end, behind_unwanted}
 use Rattle.shim_parser.proofs.declare.declarations.Goals as goal
 
 pub names-smaller : goal.names-smaller
-names-smaller c = omega (arith, declared_shorter c.in_ok-name.ensures.many.0, ap (λ (u : Reading). length u.rest) c.advance.ensures)
+names-smaller c = omega (arith, declared_shorter c.in_ok-name.ensures.many.0, ap (λ (u : ReaderView). length u.rest) c.advance.ensures)
 
 pub names-preserved : goal.names-preserved
 names-preserved c = declarations_go c.args.level c.args.ty c.args.line c.args.tokens.now c.names.tokens c.declared.new.tokens c.names.all _ c.in_ok-name.field-0 c.names.invariant

@@ -1,7 +1,7 @@
 use Rattle.std.proofs.Common.{◌-◌, rules, arith, ap, sym, ◌∙◌, length, add-one}
-use Rattle.shim_syntax.specs.Grammar.{row_of}
+use Rattle.shim_syntax.specs.Grammar.{operator_row}
 use Rattle.shim_syntax.specs.declared.tree.Expr.TheVariants as tree
-use Rattle.shim_parser.specs.Reading.{Reading}
+use Rattle.shim_parser.specs.Reading.{ReaderView}
 use Rattle.shim_parser.proofs.Exits.{propagates}
 use Rattle.shim_parser.proofs.ExprExits.{unary_enter_fails, unary_operand_fails, unary_reads, number_reads, variable_reads, parens_enter_fails, parens_row_fails, parens_punctuation_fails, parens_reads, chain_starts, chain_ends, chain_ends_other, no_row, chain_goes, expr_shorter}
 use Rattle.shim_parser.proofs.expr.+expr.Goals as goal
@@ -52,7 +52,7 @@ row-operators-init t c = chain_starts c.args.n c.args.level (c.args.n - 1) c.arg
 
 pub row-returns-in_default : goal.row-returns-in_default
 row-returns-in_default t c = let w = chain_ends c.args.n c.args.level c.args.tokens.now c.operators.tokens c.operators.left c.operators.invariant
-    (λ e. no_row c.peek.result.what _ c.args.n (λ g h. c.in_default.not-Sign g h) (omega (arith, c.if-n-eq0.false)) (ap row_of c.peek.ensures.is ∙ e)) in record { reads = w.0; stops = w.1 }
+    (λ e. no_row c.peek.result.what _ c.args.n (λ g h. c.in_default.not-Sign g h) (omega (arith, c.if-n-eq0.false)) (ap operator_row c.peek.ensures.is ∙ e)) in record { reads = w.0; stops = w.1 }
 
 pub row-returns-then-row_of_sign-n-clause-reads : goal.row-returns-then-row_of_sign-n-clause-reads
 row-returns-then-row_of_sign-n-clause-reads t c = (chain_ends_other c.args.n c.args.level c.args.tokens.now c.operators.tokens c.operators.left c.operators.invariant c.in-Sign.sign (record { at = c.peek.result.at; line = c.peek.result.line }) (search rules) (λ e. c.if-row_of_sign-n.true (c.row_of_sign.ensures.is ∙ e))).0
@@ -61,7 +61,7 @@ pub row-returns-then-row_of_sign-n-clause-stops : goal.row-returns-then-row_of_s
 row-returns-then-row_of_sign-n-clause-stops t c = (chain_ends_other c.args.n c.args.level c.args.tokens.now c.operators.tokens c.operators.left c.operators.invariant c.in-Sign.sign (record { at = c.peek.result.at; line = c.peek.result.line }) (search rules) (λ e. c.if-row_of_sign-n.true (c.row_of_sign.ensures.is ∙ e))).1
 
 pub row-operators-smaller : goal.row-operators-smaller
-row-operators-smaller t c = omega (arith, expr_shorter c.in_ok-right.ensures.reads, ap (λ (u : Reading). length u.rest) c.advance.ensures, ap (λ (u : Reading). length u.rest) c.in_ok-count_operator.ensures.1)
+row-operators-smaller t c = omega (arith, expr_shorter c.in_ok-right.ensures.reads, ap (λ (u : ReaderView). length u.rest) c.advance.ensures, ap (λ (u : ReaderView). length u.rest) c.in_ok-count_operator.ensures.1)
 
 pub row-operators-preserved : goal.row-operators-preserved
 row-operators-preserved t c = chain_goes c.args.n c.args.level c.args.tokens.now c.operators.tokens c.operators.left c.operators.invariant c.in-Sign.sign (record { at = c.peek.result.at; line = c.peek.result.line }) (search rules) (sym c.row_of_sign.ensures.is ∙ c.if-row_of_sign-n.false)

@@ -7,7 +7,7 @@ use Rattle.shim_syntax.specs.declared.tree.BranchWhat.TheVariants as br
 use Rattle.shim_parser.specs.Statements.{IsAssigned, IsNamed, IsBehindPar}
 use Rattle.shim_parser.proofs.StmtExits.{advanced_same}
 use Rattle.shim_parser.specs.OpeningView.{opening_view}
-use Rattle.shim_parser.specs.Reading.{Reading, Reads}
+use Rattle.shim_parser.specs.Reading.{ReaderView, Reads}
 use Rattle.shim_parser.proofs.Exits.{propagates}
 use Rattle.shim_parser.proofs.BodyExits as body
 use Rattle.shim_parser.proofs.NestedExits as nested
@@ -44,18 +44,18 @@ body-returns-in_err-statements t c = propagates _ _ _ _ _ _ c.from_residual.ensu
     (body.body_block_fails c.args.level c.args.tokens.now c.advance.new.self c.begin_body-outside.new.self c.is_sign.result c.is_sign.ensures c.if-not-is_sign.false c.advance.ensures c.begin_body-outside.ensures.body c.block.new.tokens _ c.in_err-statements.ensures)
 
 pub body-returns-then-not-is_key : goal.body-returns-then-not-is_key
-body-returns-then-not-is_key t c = body.body_block_reads c.args.level c.args.tokens.now c.advance.new.self c.begin_body-outside.new.self c.is_sign.result c.is_sign.ensures c.if-not-is_sign.false c.advance.ensures c.begin_body-outside.ensures.body c.block.new.tokens c.end_body.new.self c.in_ok-statements.statements c.in_ok-statements.ensures c.begin_body-outside.result (c.begin_body-outside.ensures.outside ∙ ap (λ (u : Reading). u.counts.deepest) (advanced_same _ _ c.advance.ensures)) c.end_body.ensures c.is_key.result c.is_key.ensures c.if-not-is_key.true
+body-returns-then-not-is_key t c = body.body_block_reads c.args.level c.args.tokens.now c.advance.new.self c.begin_body-outside.new.self c.is_sign.result c.is_sign.ensures c.if-not-is_sign.false c.advance.ensures c.begin_body-outside.ensures.body c.block.new.tokens c.end_body.new.self c.in_ok-statements.statements c.in_ok-statements.ensures c.begin_body-outside.result (c.begin_body-outside.ensures.outside ∙ ap (λ (u : ReaderView). u.counts.deepest) (advanced_same _ _ c.advance.ensures)) c.end_body.ensures c.is_key.result c.is_key.ensures c.if-not-is_key.true
 
 pub body-returns-in_err-enter : goal.body-returns-in_err-enter
 body-returns-in_err-enter t c = propagates _ _ _ _ _ _ c.from_residual-in_err-enter.ensures
-    (body.body_enter_fails c.args.level c.args.tokens.now c.advance.new.self c.begin_body-outside.new.self c.is_sign.result c.is_sign.ensures c.if-not-is_sign.false c.advance.ensures c.begin_body-outside.ensures.body c.block.new.tokens c.end_body-2.new.self c.in_ok-statements.statements c.in_ok-statements.ensures c.begin_body-outside.result (c.begin_body-outside.ensures.outside ∙ ap (λ (u : Reading). u.counts.deepest) (advanced_same _ _ c.advance.ensures)) c.end_body-2.ensures c.is_key.result c.is_key.ensures c.if-not-is_key.false _ c.as_branch-deeper.ensures c.enter.new.self _ c.in_err-enter.ensures.0 c.in_err-enter.ensures.1 c.in_err-enter.ensures.2)
+    (body.body_enter_fails c.args.level c.args.tokens.now c.advance.new.self c.begin_body-outside.new.self c.is_sign.result c.is_sign.ensures c.if-not-is_sign.false c.advance.ensures c.begin_body-outside.ensures.body c.block.new.tokens c.end_body-2.new.self c.in_ok-statements.statements c.in_ok-statements.ensures c.begin_body-outside.result (c.begin_body-outside.ensures.outside ∙ ap (λ (u : ReaderView). u.counts.deepest) (advanced_same _ _ c.advance.ensures)) c.end_body-2.ensures c.is_key.result c.is_key.ensures c.if-not-is_key.false _ c.as_branch-deeper.ensures c.enter.new.self _ c.in_err-enter.ensures.0 c.in_err-enter.ensures.1 c.in_err-enter.ensures.2)
 
 pub body-returns-in_err-branches : goal.body-returns-in_err-branches
 body-returns-in_err-branches t c = propagates _ _ _ _ _ _ c.from_residual-in_err-branches.ensures
-    (body.body_branches_fails c.args.level c.args.tokens.now c.advance.new.self c.begin_body-outside.new.self c.is_sign.result c.is_sign.ensures c.if-not-is_sign.false c.advance.ensures c.begin_body-outside.ensures.body c.block.new.tokens c.end_body-2.new.self c.in_ok-statements.statements c.in_ok-statements.ensures c.begin_body-outside.result (c.begin_body-outside.ensures.outside ∙ ap (λ (u : Reading). u.counts.deepest) (advanced_same _ _ c.advance.ensures)) c.end_body-2.ensures c.is_key.result c.is_key.ensures c.if-not-is_key.false _ c.as_branch-deeper.ensures c.enter.new.self c.in_ok-enter.ensures.0 c.in_ok-enter.ensures.1 c.branches.new.tokens _ c.in_err-branches.ensures)
+    (body.body_branches_fails c.args.level c.args.tokens.now c.advance.new.self c.begin_body-outside.new.self c.is_sign.result c.is_sign.ensures c.if-not-is_sign.false c.advance.ensures c.begin_body-outside.ensures.body c.block.new.tokens c.end_body-2.new.self c.in_ok-statements.statements c.in_ok-statements.ensures c.begin_body-outside.result (c.begin_body-outside.ensures.outside ∙ ap (λ (u : ReaderView). u.counts.deepest) (advanced_same _ _ c.advance.ensures)) c.end_body-2.ensures c.is_key.result c.is_key.ensures c.if-not-is_key.false _ c.as_branch-deeper.ensures c.enter.new.self c.in_ok-enter.ensures.0 c.in_ok-enter.ensures.1 c.branches.new.tokens _ c.in_err-branches.ensures)
 
 pub body-returns : goal.body-returns
-body-returns t c = body.body_fork_reads c.args.level c.args.tokens.now c.advance.new.self c.begin_body-outside.new.self c.is_sign.result c.is_sign.ensures c.if-not-is_sign.false c.advance.ensures c.begin_body-outside.ensures.body c.block.new.tokens c.end_body-2.new.self c.in_ok-statements.statements c.in_ok-statements.ensures c.begin_body-outside.result (c.begin_body-outside.ensures.outside ∙ ap (λ (u : Reading). u.counts.deepest) (advanced_same _ _ c.advance.ensures)) c.end_body-2.ensures c.is_key.result c.is_key.ensures c.if-not-is_key.false _ c.as_branch-deeper.ensures c.enter.new.self c.in_ok-enter.ensures.0 c.in_ok-enter.ensures.1 c.branches.new.tokens c.peek-line.result.line c.in_ok-branches.field-0 _
+body-returns t c = body.body_fork_reads c.args.level c.args.tokens.now c.advance.new.self c.begin_body-outside.new.self c.is_sign.result c.is_sign.ensures c.if-not-is_sign.false c.advance.ensures c.begin_body-outside.ensures.body c.block.new.tokens c.end_body-2.new.self c.in_ok-statements.statements c.in_ok-statements.ensures c.begin_body-outside.result (c.begin_body-outside.ensures.outside ∙ ap (λ (u : ReaderView). u.counts.deepest) (advanced_same _ _ c.advance.ensures)) c.end_body-2.ensures c.is_key.result c.is_key.ensures c.if-not-is_key.false _ c.as_branch-deeper.ensures c.enter.new.self c.in_ok-enter.ensures.0 c.in_ok-enter.ensures.1 c.branches.new.tokens c.peek-line.result.line c.in_ok-branches.field-0 _
     (exits.line_is c.peek-line.result.what (record { at = c.peek-line.result.at; line = c.peek-line.result.line }) _ (c.peek-line.ensures.is ∙ (c.is_sign.ensures.0 c.if-not-is_sign.false).1)) c.in_ok-branches.ensures c.in_ok-alone.ensures
 
 pub braced-returns-in_err-statements : goal.braced-returns-in_err-statements
@@ -87,7 +87,7 @@ branches-returns-in_err-next t c = propagates _ _ _ _ _ _ c.from_residual-in_err
     (exits.fork_fails c.args.level c.branches.count c.args.first_branch c.args.tokens.now c.branches.tokens c.advance.new.self c.branches.all _ (add-one c.branches.count) c.is_key.result c.branches.invariant c.is_key.ensures c.if-not-is_key.false c.advance.ensures c.branch-alloc.new.tokens _ c.in_err-next.ensures)
 
 pub branches-branches-smaller : goal.branches-branches-smaller
-branches-branches-smaller t c = omega (arith, shorter.branch_shorter (c.in_ok-next.ensures.1), ap (λ (u : Reading). length u.rest) c.advance.ensures)
+branches-branches-smaller t c = omega (arith, shorter.branch_shorter (c.in_ok-next.ensures.1), ap (λ (u : ReaderView). length u.rest) c.advance.ensures)
 
 pub branches-branches-preserved : goal.branches-branches-preserved
 branches-branches-preserved t c = exits.fork_go c.args.level c.branches.count c.args.first_branch c.args.tokens.now c.branches.tokens c.advance.new.self c.branches.all _ (add-one c.branches.count) c.is_key.result c.branches.invariant c.is_key.ensures c.if-not-is_key.false c.advance.ensures c.branch-alloc.new.tokens c.in_ok-next.next _ c.in_ok-next.ensures c.in_ok-push.ensures.ok (exits.few_branches _ c.in_ok-next.ensures.0)

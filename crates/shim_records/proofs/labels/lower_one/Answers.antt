@@ -1,6 +1,6 @@
 use Rattle.std.proofs.Common.{sym, ap, ◌∙◌, arith, subst, None, slice_set}
 use Rattle.std.proofs.lemmas.Option.{slice_get_read}
-use Rattle.shim_records.specs.Pairs.{place_of, counts_at, up_at, IsOrdered, chans_of}
+use Rattle.shim_records.specs.Pairs.{pair_index, counts_at, up_at, IsOrdered, chans_of}
 use Rattle.shim_records.specs.Labels.{LowersOne}
 use Rattle.shim_records.proofs.Pairing.{place_within, no_place}
 use Rattle.shim_records.proofs.Stepping.{past_end, same_items, with_pair}
@@ -33,12 +33,12 @@ returns-in-None-place_in c =
     let fork = slice_get_read rs.items c.len-2.result c.in-Some.above c.index_mut-record.result.now (c.len-2.ensures ∙ rs.ok.0) (omega (arith, c.if-above-len.false)) c.index_mut-record.ensures.value in
     subst (LowersOne ch c.args.label rs.items c.args.at None) (sym (same_items rs.items c.in-Some.above c.index_mut-record.result.now fork))
     (without ch c.args.label rs.items c.args.at c.in-Some.above (ap up_at stood ∙ c.in-Some.is)
-    (ap (counts_at ch) fork ∙ no_place ch c.index_mut-record.result.now.pairs.items (ap (place_of ch) (sym c.as_slice.ensures.value) ∙ (sym c.place_in.ensures ∙ c.in-None-place_in.is))))
+    (ap (counts_at ch) fork ∙ no_place ch c.index_mut-record.result.now.pairs.items (ap (pair_index ch) (sym c.as_slice.ensures.value) ∙ (sym c.place_in.ensures ∙ c.in-None-place_in.is))))
 
 pub index_mut-requires : goal.index_mut-requires
 index_mut-requires c =
     let ps = c.index_mut-record.result.now.pairs in
-    let inside = place_within c.args.c.now.channel ps.items c.in-Some-place_in.place (ap (place_of c.args.c.now.channel) (sym c.as_slice.ensures.value) ∙ (sym c.place_in.ensures ∙ c.in-Some-place_in.is)) in
+    let inside = place_within c.args.c.now.channel ps.items c.in-Some-place_in.place (ap (pair_index c.args.c.now.channel) (sym c.as_slice.ensures.value) ∙ (sym c.place_in.ensures ∙ c.in-Some-place_in.is)) in
     let same = ps.ok.0 in
     omega (arith, inside, same)
 
@@ -50,7 +50,7 @@ returns-then-lower c =
     let fork = slice_get_read rs.items c.len-2.result c.in-Some.above c.index_mut-record.result.now (c.len-2.ensures ∙ rs.ok.0) (omega (arith, c.if-above-len.false)) c.index_mut-record.ensures.value in
     goes ch c.args.label rs.items c.args.at c.in-Some.above (slice_set rs.items c.in-Some.above (with_pair c.index_mut-record.result.now c.in-Some-place_in.place c.lower_label-lower.new.pair)) c.index_mut.result.now.least c.lower_label-lower.new.pair.least (ap up_at stood ∙ c.in-Some.is)
     (relabelled ch rs.items c.in-Some.above c.in-Some-place_in.place c.index_mut-record.result.now c.index_mut.result.now c.lower_label-lower.new.pair fork
-    (ap (place_of ch) (sym c.as_slice.ensures.value) ∙ (sym c.place_in.ensures ∙ c.in-Some-place_in.is)) c.index_mut.ensures.value c.lower_label-lower.ensures.chan c.lower_label-lower.ensures.counts)
+    (ap (pair_index ch) (sym c.as_slice.ensures.value) ∙ (sym c.place_in.ensures ∙ c.in-Some-place_in.is)) c.index_mut.ensures.value c.lower_label-lower.ensures.chan c.lower_label-lower.ensures.counts)
     c.lower_label-lower.ensures.taken
 
 pub returns-else-lower : goal.returns-else-lower
@@ -61,7 +61,7 @@ returns-else-lower c =
     let fork = slice_get_read rs.items c.len-2.result c.in-Some.above c.index_mut-record.result.now (c.len-2.ensures ∙ rs.ok.0) (omega (arith, c.if-above-len.false)) c.index_mut-record.ensures.value in
     stops ch c.args.label rs.items c.args.at c.in-Some.above (slice_set rs.items c.in-Some.above (with_pair c.index_mut-record.result.now c.in-Some-place_in.place c.lower_label-lower.new.pair)) c.index_mut.result.now.least c.lower_label-lower.new.pair.least (ap up_at stood ∙ c.in-Some.is)
     (relabelled ch rs.items c.in-Some.above c.in-Some-place_in.place c.index_mut-record.result.now c.index_mut.result.now c.lower_label-lower.new.pair fork
-    (ap (place_of ch) (sym c.as_slice.ensures.value) ∙ (sym c.place_in.ensures ∙ c.in-Some-place_in.is)) c.index_mut.ensures.value c.lower_label-lower.ensures.chan c.lower_label-lower.ensures.counts)
+    (ap (pair_index ch) (sym c.as_slice.ensures.value) ∙ (sym c.place_in.ensures ∙ c.in-Some-place_in.is)) c.index_mut.ensures.value c.lower_label-lower.ensures.chan c.lower_label-lower.ensures.counts)
     c.lower_label-lower.ensures.taken (c.lower_label-lower.ensures.stays c.if-lower.false)
 
 pub place_in-requires : goal.place_in-requires

@@ -1,6 +1,6 @@
 use Rattle.std.proofs.Common.{sym, ap, ◌∙◌, arith, subst, None, slice_set}
 use Rattle.std.proofs.lemmas.Option.{slice_get_read}
-use Rattle.shim_records.specs.Pairs.{place_of, counts_at, up_at, IsOrdered, chans_of}
+use Rattle.shim_records.specs.Pairs.{pair_index, counts_at, up_at, IsOrdered, chans_of}
 use Rattle.shim_records.specs.Recounting.{RecountsOne}
 use Rattle.shim_records.proofs.Pairing.{place_within, no_place}
 use Rattle.shim_records.proofs.Stepping.{past_end, same_items, with_pair}
@@ -40,13 +40,13 @@ returns-in-None-place_in g c =
     let fork = slice_get_read rs.items c.len-2.result c.in-Some.above c.index_mut-record.result.now (c.len-2.ensures ∙ rs.ok.0) (omega (arith, c.if-above-len.false)) c.index_mut-record.ensures.value in
     subst (RecountsOne g.L.Local.ops ch c.args.states.now rs.items c.args.at None) (sym (same_items rs.items c.in-Some.above c.index_mut-record.result.now fork))
     (without g.L.Local.ops ch c.args.states.now rs.items c.args.at c.in-Some.above (ap up_at stood ∙ c.in-Some.is)
-    (ap (counts_at ch) fork ∙ no_place ch c.index_mut-record.result.now.pairs.items (ap (place_of ch) (sym c.as_slice-2.ensures.value) ∙ (sym c.place_in.ensures ∙ c.in-None-place_in.is))))
+    (ap (counts_at ch) fork ∙ no_place ch c.index_mut-record.result.now.pairs.items (ap (pair_index ch) (sym c.as_slice-2.ensures.value) ∙ (sym c.place_in.ensures ∙ c.in-None-place_in.is))))
 
 pub index_mut-requires : goal.index_mut-requires
 index_mut-requires g c =
     let ch = c.args.c.now.channel in
     let ps = c.index_mut-record.result.now.pairs in
-    let inside = place_within ch ps.items c.in-Some-place_in.place (ap (place_of ch) (sym c.as_slice-2.ensures.value) ∙ (sym c.place_in.ensures ∙ c.in-Some-place_in.is)) in
+    let inside = place_within ch ps.items c.in-Some-place_in.place (ap (pair_index ch) (sym c.as_slice-2.ensures.value) ∙ (sym c.place_in.ensures ∙ c.in-Some-place_in.is)) in
     let same = ps.ok.0 in
     omega (arith, inside, same)
 
@@ -59,7 +59,7 @@ returns-then-other g c =
     let first_there = slice_get_read rs.items c.len-2.result c.in-Some.above c.index-2.result.now (c.len-2.ensures ∙ rs.ok.0) (omega (arith, c.if-above-len.false)) c.index-2.ensures in
     let many_there = slice_get_read rs.items c.len-2.result c.in-Some.above c.index-3.result.now (c.len-2.ensures ∙ rs.ok.0) (omega (arith, c.if-above-len.false)) c.index-3.ensures in
     let relabels =
-    relabelled ch rs.items c.in-Some.above c.in-Some-place_in.place c.index_mut-record.result.now c.index_mut.result.now c.put_label-other.new.pair fork (ap (place_of ch) (sym c.as_slice-2.ensures.value) ∙ (sym c.place_in.ensures ∙ c.in-Some-place_in.is)) c.index_mut.ensures.value c.put_label-other.ensures.chan
+    relabelled ch rs.items c.in-Some.above c.in-Some-place_in.place c.index_mut-record.result.now c.index_mut.result.now c.put_label-other.new.pair fork (ap (pair_index ch) (sym c.as_slice-2.ensures.value) ∙ (sym c.place_in.ensures ∙ c.in-Some-place_in.is)) c.index_mut.ensures.value c.put_label-other.ensures.chan
     c.put_label-other.ensures.counts in
     let off =
     read g.L.Local.ops ch c.args.states.now rs.items c.as_slice.result.now c.in-Some.above c.fork_size-count.result c.index-2.result.now c.index-3.result.now c.put_label-other.new.pair.least first_there many_there c.as_slice.ensures.value
@@ -76,7 +76,7 @@ returns-else-other g c =
     let first_there = slice_get_read rs.items c.len-2.result c.in-Some.above c.index-2.result.now (c.len-2.ensures ∙ rs.ok.0) (omega (arith, c.if-above-len.false)) c.index-2.ensures in
     let many_there = slice_get_read rs.items c.len-2.result c.in-Some.above c.index-3.result.now (c.len-2.ensures ∙ rs.ok.0) (omega (arith, c.if-above-len.false)) c.index-3.ensures in
     let relabels =
-    relabelled ch rs.items c.in-Some.above c.in-Some-place_in.place c.index_mut-record.result.now c.index_mut.result.now c.put_label-other.new.pair fork (ap (place_of ch) (sym c.as_slice-2.ensures.value) ∙ (sym c.place_in.ensures ∙ c.in-Some-place_in.is)) c.index_mut.ensures.value c.put_label-other.ensures.chan
+    relabelled ch rs.items c.in-Some.above c.in-Some-place_in.place c.index_mut-record.result.now c.index_mut.result.now c.put_label-other.new.pair fork (ap (pair_index ch) (sym c.as_slice-2.ensures.value) ∙ (sym c.place_in.ensures ∙ c.in-Some-place_in.is)) c.index_mut.ensures.value c.put_label-other.ensures.chan
     c.put_label-other.ensures.counts in
     let off =
     read g.L.Local.ops ch c.args.states.now rs.items c.as_slice.result.now c.in-Some.above c.fork_size-count.result c.index-2.result.now c.index-3.result.now c.put_label-other.new.pair.least first_there many_there c.as_slice.ensures.value

@@ -1,6 +1,6 @@
 use Rattle.std.proofs.Common.{sym, ap, ◌∙◌, arith, refl, subst, None}
 use Rattle.std.proofs.lemmas.Option.{slice_get_read}
-use Rattle.shim_records.specs.Pairs.{place_of, counts_at, up_at, IsOrdered, chans_of}
+use Rattle.shim_records.specs.Pairs.{pair_index, counts_at, up_at, IsOrdered, chans_of}
 use Rattle.shim_records.specs.Ways.{StepsUp}
 use Rattle.shim_records.proofs.Pairing.{place_within, no_place}
 use Rattle.shim_records.proofs.Stepping.{top, uncounted, its, up_is, past_end, same_items, same_bools, ends, goes, fork_read}
@@ -32,12 +32,12 @@ returns-in-None-place_in c =
     let fork = its ch rs.items c.args.here c.len-2.result c.in-Some.above c.index_mut-record.result.now (c.len-2.ensures ∙ rs.ok.0) (omega (arith, c.if-above-len.false)) c.index_mut-record.ensures.value in
     subst (StepsUp ch rs.items c.args.here None) (sym (same_items rs.items c.in-Some.above c.index_mut-record.result.now fork))
     (uncounted ch rs.items c.args.here c.in-Some.above (up_is ch rs.items c.args.here c.index.result.now _ stood c.in-Some.is)
-    (ap (counts_at ch) fork ∙ no_place ch c.index_mut-record.result.now.pairs.items (ap (place_of ch) (sym c.as_slice.ensures.value) ∙ (sym c.place_in.ensures ∙ c.in-None-place_in.is))))
+    (ap (counts_at ch) fork ∙ no_place ch c.index_mut-record.result.now.pairs.items (ap (pair_index ch) (sym c.as_slice.ensures.value) ∙ (sym c.place_in.ensures ∙ c.in-None-place_in.is))))
 
 pub index_mut-pair-requires : goal.index_mut-pair-requires
 index_mut-pair-requires c =
     let ps = c.index_mut-record.result.now.pairs in
-    let inside = place_within c.args.c.now.channel ps.items c.in-Some-place_in.place (ap (place_of c.args.c.now.channel) (sym c.as_slice.ensures.value) ∙ (sym c.place_in.ensures ∙ c.in-Some-place_in.is)) in
+    let inside = place_within c.args.c.now.channel ps.items c.in-Some-place_in.place (ap (pair_index c.args.c.now.channel) (sym c.as_slice.ensures.value) ∙ (sym c.place_in.ensures ∙ c.in-Some-place_in.is)) in
     let same = ps.ok.0 in
     omega (arith, inside, same)
 
@@ -48,7 +48,7 @@ returns-then-before-after c =
     let stood = its ch rs.items c.args.here c.len.result c.args.here.at c.index.result.now (c.len.ensures ∙ rs.ok.0) (omega (arith, c.if-here-len.false)) c.index.ensures in
     let fork = its ch rs.items c.args.here c.len-2.result c.in-Some.above c.index_mut-record.result.now (c.len-2.ensures ∙ rs.ok.0) (omega (arith, c.if-above-len.false)) c.index_mut-record.ensures.value in
     ends ch rs.items c.args.here c.in-Some.above c.in-Some-place_in.place c.index_mut-record.result.now c.index_mut-pair.result.now c.move_pair.new.pair
-    (up_is ch rs.items c.args.here c.index.result.now _ stood c.in-Some.is) fork (ap (place_of ch) (sym c.as_slice.ensures.value) ∙ (sym c.place_in.ensures ∙ c.in-Some-place_in.is)) c.index_mut-pair.ensures.value
+    (up_is ch rs.items c.args.here c.index.result.now _ stood c.in-Some.is) fork (ap (pair_index ch) (sym c.as_slice.ensures.value) ∙ (sym c.place_in.ensures ∙ c.in-Some-place_in.is)) c.index_mut-pair.ensures.value
     c.move_pair.ensures.same c.move_pair.ensures.label c.move_pair.ensures.moved
     (sym c.has_all-before.ensures ∙ (same_bools c.has_all-before.result c.has_all-after.result c.if-before-after.true ∙ c.has_all-after.ensures))
 
@@ -59,7 +59,7 @@ returns c =
     let stood = its ch rs.items c.args.here c.len.result c.args.here.at c.index.result.now (c.len.ensures ∙ rs.ok.0) (omega (arith, c.if-here-len.false)) c.index.ensures in
     let fork = its ch rs.items c.args.here c.len-2.result c.in-Some.above c.index_mut-record.result.now (c.len-2.ensures ∙ rs.ok.0) (omega (arith, c.if-above-len.false)) c.index_mut-record.ensures.value in
     goes ch rs.items c.args.here c.in-Some.above c.in-Some-place_in.place c.index_mut-record.result.now c.index_mut-pair.result.now c.move_pair.new.pair
-    (up_is ch rs.items c.args.here c.index.result.now _ stood c.in-Some.is) fork (ap (place_of ch) (sym c.as_slice.ensures.value) ∙ (sym c.place_in.ensures ∙ c.in-Some-place_in.is)) c.index_mut-pair.ensures.value
+    (up_is ch rs.items c.args.here c.index.result.now _ stood c.in-Some.is) fork (ap (pair_index ch) (sym c.as_slice.ensures.value) ∙ (sym c.place_in.ensures ∙ c.in-Some-place_in.is)) c.index_mut-pair.ensures.value
     c.move_pair.ensures.same c.move_pair.ensures.label c.move_pair.ensures.moved
     (record { at = c.in-Some.above; was = c.live_reading.result; is = c.live_reading-2.result }) refl
     (fork_read c.live_reading.result c.has_all-before.result c.index_mut-pair.result.now c.live_reading.ensures c.has_all-before.ensures)

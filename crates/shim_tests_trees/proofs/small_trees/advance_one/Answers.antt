@@ -9,7 +9,7 @@ use Rattle.shim_semantics.specs.Listing.{IsAmong}
 use Rattle.shim_semantics.specs.Nodes.{Node, Nodes, Live, Forked, Ended, Dead, no_node, node_and}
 use Rattle.shim_semantics.specs.Places.{at, child_at, at_route, SoundBelow, SoundChildren}
 use Rattle.shim_semantics.specs.Quiets.{quiets, all_quiets, ComesBy}
-use Rattle.shim_semantics.specs.Systems.{run, go_on}
+use Rattle.shim_semantics.specs.Systems.{run, on_some}
 use Rattle.shim_semantics.specs.Trees.{Tree, Event, Own, after, steps}
 use Rattle.shim_semantics.proofs.Counting.{event_counts}
 use Rattle.shim_semantics.proofs.Members.{among_either}
@@ -68,7 +68,7 @@ module _ {S : Type 0} (o : Ops S) where
 
   -- one event, and others behind it that count as many steps as they are
   one_counts : (e : Event) (n : ℕ) (t u : Tree S) (a : Option (Tree S)) → after o e t ≡ a → ((b : Tree S) → run (after o) (replicate n e) b ≡ Some u → steps u ≡ steps b + n)
-      → go_on (run (after o) (replicate n e)) a ≡ Some u → steps u ≡ steps t + suc n
+      → on_some (run (after o) (replicate n e)) a ≡ Some u → steps u ≡ steps t + suc n
   one_counts e n t u None is rest h = none_some u h
   one_counts e n t u (Some b) is rest h = omega (arith, event_counts o e t b is, rest b h)
 

@@ -1,7 +1,7 @@
 use Rattle.std.proofs.Common.{◌≡◌, ◌∙◌, ◌++◌, sym, ap, map}
 use Rattle.shim_semantics.specs.Nodes.{Forked}
 use Rattle.shim_tree.specs.NodeStatus.{nodes, together, event_of}
-use Rattle.shim_tree.specs.Beside.{place}
+use Rattle.shim_tree.specs.Beside.{nth_child}
 use Rattle.shim_semantics.specs.Walks.{walk, poisons_of}
 use Rattle.shim_tree.proofs.Beside.{is_forked, inside, outside, asked_in, asked_past}
 use Rattle.shim_tree.proofs.Walked.{walked_child, walked_all}
@@ -25,9 +25,9 @@ loop-i-preserved g t c =
     let was = map event_of c.loop-i.events in
     let poisoned = map event_of c.push_poisons_of.new.events in
     let now = map event_of c.if-i-len.events in
-    let of_poisons : poisoned ≡ was ++ poisons_of o l (together ls.items (nodes bs.items)) i (place m (nodes bs.items) i) =
+    let of_poisons : poisoned ≡ was ++ poisons_of o l (together ls.items (nodes bs.items)) i (nth_child m (nodes bs.items) i) =
     c.in_ok-push_poisons_of-in-Forked.ensures
-    ∙ λ u. was ++ poisons_of o l (together (c.as_slice-states.ensures.value u) (nodes (c.as_slice-came.ensures.value u))) i (place m (nodes (c.as_slice-came.ensures.value u)) i) in
+    ∙ λ u. was ++ poisons_of o l (together (c.as_slice-states.ensures.value u) (nodes (c.as_slice-came.ensures.value u))) i (nth_child m (nodes (c.as_slice-came.ensures.value u)) i) in
     elim c.if-i-len.branch [
       | then-i-len+in_ok-push_walk-in-Forked w ↦
           walked_child o l ls.items bs.items i m was poisoned now _ there c.index-child.ensures of_poisons

@@ -2,7 +2,7 @@ use Rattle.std.proofs.Common.{◌∙◌, ◌++◌, sym, ap, map, filter}
 use Rattle.std.proofs.lemmas.Result.{on_ok_weaker}
 use Rattle.shim_semantics.specs.Nodes.{state}
 use Rattle.shim_tree.specs.NodeStatus.{nodes, together, event_of}
-use Rattle.shim_tree.specs.Beside.{place}
+use Rattle.shim_tree.specs.Beside.{nth_child}
 use Rattle.shim_semantics.specs.Trees.{Poison}
 use Rattle.shim_semantics.specs.Walks.{poisons_here, waited}
 use Rattle.shim_tree.specs.Inserted.{all_inserted}
@@ -14,7 +14,7 @@ use Rattle.shim_tree.proofs.listing.push_poisons_of.Goals as goal
 pub returns : goal.returns
 returns g c =
     let o = g.L.Local.ops in
-    let k = place c.args.child.now (nodes c.args.statuses.now) c.args.i in
+    let k = nth_child c.args.child.now (nodes c.args.statuses.now) c.args.i in
     let passes = poisons_here o c.args.l.now (together c.args.children.now (nodes c.args.statuses.now)) c.args.i k in
     let es = map event_of c.args.events.now in
     on_ok_weaker c.push_poisons.result

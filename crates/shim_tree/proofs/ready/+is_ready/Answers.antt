@@ -1,7 +1,7 @@
 use Rattle.std.proofs.Common.{◌≡◌, ◌∙◌, sym, ap, ◌+◌, ◌&&◌, ◌||◌, not}
 use Rattle.shim_semantics.specs.Nodes.{has_ended, ready, any_sharer}
 use Rattle.shim_tree.specs.NodeStatus.{nodes}
-use Rattle.shim_tree.specs.Beside.{place}
+use Rattle.shim_tree.specs.Beside.{nth_child}
 use Rattle.shim_tree.proofs.Beside.{from, inside, outside, asked_in, asked_past}
 use Rattle.shim_tree.proofs.Readies.{unconcerned, one_ready, one_holds_up, not_ready, ready_end}
 use Rattle.shim_tree.proofs.ready.+is_ready.Goals as goal
@@ -15,11 +15,11 @@ returns-then-not-ready g t c =
     let ls = c.in-Forked.children in
     let bs = c.in-Forked.statuses in
     let m = c.index-child.result.now in
-    let is_child_ready : c.if-i-len.ready ≡ ready o ch (place m (nodes bs.items) i) = elim c.if-i-len.branch [
+    let is_child_ready : c.if-i-len.ready ≡ ready o ch (nth_child m (nodes bs.items) i) = elim c.if-i-len.branch [
       | then-i-len w ↦ asked_in (ready o ch) m bs c.len.result i w.index.result.now c.if-i-len.ready c.len.ensures w.if-i-len.true w.index.ensures (w.ready-is ∙ w.is_ready-ready.ensures)
       | else-i-len w ↦ asked_past (ready o ch) m bs c.len.result i c.if-i-len.ready c.len.ensures w.if-i-len.false (w.ready-is ∙ w.waits_at-ready.ensures)
     ] in
-    let concerned : c.is_concerned.result ≡ (o.shares m ch && not (has_ended (place m (nodes bs.items) i))) = c.is_concerned.ensures ∙ ap (λ z. o.shares m ch && not (has_ended (place m (nodes z) i))) c.as_slice.ensures.value in
+    let concerned : c.is_concerned.result ≡ (o.shares m ch && not (has_ended (nth_child m (nodes bs.items) i))) = c.is_concerned.ensures ∙ ap (λ z. o.shares m ch && not (has_ended (nth_child m (nodes z) i))) c.as_slice.ensures.value in
     not_ready o ch c.args.l.now c.args.status.now ls bs c.in-Forked.is
     (one_holds_up o ch i ls.items bs.items m (inside ls c.len-i-end.result i c.len-i-end.ensures c.loop-i-test.true) c.index-child.ensures c.loop-i.any _ _ c.is_concerned.result
     concerned c.loop-i.invariant.0 c.loop-i.invariant.1 c.if-is_concerned.true (sym is_child_ready ∙ c.if-not-ready.true))
@@ -33,10 +33,10 @@ loop-i-preserved g t c =
     let bs = c.in-Forked.statuses in
     let m = c.index-child.result.now in
     let there = inside ls c.len-i-end.result i c.len-i-end.ensures c.loop-i-test.true in
-    let concerned : c.is_concerned.result ≡ (o.shares m ch && not (has_ended (place m (nodes bs.items) i))) = c.is_concerned.ensures ∙ ap (λ z. o.shares m ch && not (has_ended (place m (nodes z) i))) c.as_slice.ensures.value in
+    let concerned : c.is_concerned.result ≡ (o.shares m ch && not (has_ended (nth_child m (nodes bs.items) i))) = c.is_concerned.ensures ∙ ap (λ z. o.shares m ch && not (has_ended (nth_child m (nodes z) i))) c.as_slice.ensures.value in
     elim c.if-is_concerned.branch [
       | then-is_concerned+else-not-ready w ↦
-          (let is_child_ready : w.if-i-len.ready ≡ ready o ch (place m (nodes bs.items) i) = elim w.if-i-len.branch [
+          (let is_child_ready : w.if-i-len.ready ≡ ready o ch (nth_child m (nodes bs.items) i) = elim w.if-i-len.branch [
             | then-i-len v ↦ asked_in (ready o ch) m bs w.len.result i v.index.result.now w.if-i-len.ready w.len.ensures v.if-i-len.true v.index.ensures (v.ready-is ∙ v.is_ready-ready.ensures)
             | else-i-len v ↦ asked_past (ready o ch) m bs w.len.result i w.if-i-len.ready w.len.ensures v.if-i-len.false (v.ready-is ∙ v.waits_at-ready.ensures)
           ] in

@@ -2,7 +2,7 @@ use Rattle.std.proofs.Common.{◌≡◌, ◌∙◌, sym, ap}
 use Rattle.std.specs.Option.{option_map}
 use Rattle.shim_semantics.specs.Nodes.{Forked}
 use Rattle.shim_tree.specs.NodeStatus.{nodes, together}
-use Rattle.shim_tree.specs.Beside.{place}
+use Rattle.shim_tree.specs.Beside.{nth_child}
 use Rattle.shim_semantics.specs.Walks.{head, walk, poisons_of}
 use Rattle.shim_tree.specs.Finding.{found_event}
 use Rattle.shim_tree.proofs.Beside.{is_forked, inside, outside, asked_in, asked_past}
@@ -35,8 +35,8 @@ returns-then-poisoned g t c =
     let m = c.index-child.result.now in
     let there = inside ls c.len-i-end.result i c.len-i-end.ensures c.loop-i-test.true in
     let none = sym c.is_some-acts.ensures ∙ c.if-acts.false in
-    let of_poison : option_map found_event c.poison_of-poison.result ≡ head (poisons_of o l (together ls.items (nodes bs.items)) i (place m (nodes bs.items) i)) =
-    c.poison_of-poison.ensures ∙ λ u. head (poisons_of o l (together (c.as_slice-states.ensures.value u) (nodes (c.as_slice-came.ensures.value u))) i (place m (nodes (c.as_slice-came.ensures.value u)) i)) in
+    let of_poison : option_map found_event c.poison_of-poison.result ≡ head (poisons_of o l (together ls.items (nodes bs.items)) i (nth_child m (nodes bs.items) i)) =
+    c.poison_of-poison.ensures ∙ λ u. head (poisons_of o l (together (c.as_slice-states.ensures.value u) (nodes (c.as_slice-came.ensures.value u))) i (nth_child m (nodes (c.as_slice-came.ensures.value u)) i)) in
     let x = c.poison_of-poison.result in
     found_poison o found_event l b ls bs c.in-Forked.is c.found_here-at_fork.result c.found_here-at_fork.ensures none i m there c.index-child.ensures c.loop-i.invariant x x of_poison (sym c.is_some-poisoned.ensures ∙ c.if-poisoned.true)
 
@@ -51,10 +51,10 @@ returns-then-is_some g t c =
     let m = c.index-child.result.now in
     let there = inside ls c.len-i-end.result i c.len-i-end.ensures c.loop-i-test.true in
     let none = sym c.is_some-acts.ensures ∙ c.if-acts.false in
-    let of_poison : option_map found_event c.poison_of-poison.result ≡ head (poisons_of o l (together ls.items (nodes bs.items)) i (place m (nodes bs.items) i)) =
-    c.poison_of-poison.ensures ∙ λ u. head (poisons_of o l (together (c.as_slice-states.ensures.value u) (nodes (c.as_slice-came.ensures.value u))) i (place m (nodes (c.as_slice-came.ensures.value u)) i)) in
+    let of_poison : option_map found_event c.poison_of-poison.result ≡ head (poisons_of o l (together ls.items (nodes bs.items)) i (nth_child m (nodes bs.items) i)) =
+    c.poison_of-poison.ensures ∙ λ u. head (poisons_of o l (together (c.as_slice-states.ensures.value u) (nodes (c.as_slice-came.ensures.value u))) i (nth_child m (nodes (c.as_slice-came.ensures.value u)) i)) in
     let not_poisoned = sym c.is_some-poisoned.ensures ∙ c.if-poisoned.false in
-    let of_child : option_map found_event c.if-i-len.found ≡ head (walk o (place m (nodes bs.items) i)) = elim c.if-i-len.branch [
+    let of_child : option_map found_event c.if-i-len.found ≡ head (walk o (nth_child m (nodes bs.items) i)) = elim c.if-i-len.branch [
       | then-i-len w ↦
           asked_in (λ z. head (walk o z)) m bs c.len.result i w.index.result.now (option_map found_event c.if-i-len.found) c.len.ensures w.if-i-len.true w.index.ensures (ap (option_map found_event) w.found-is ∙ w.found_first-found.ensures)
       | else-i-len w ↦
@@ -74,10 +74,10 @@ loop-i-preserved g t c =
     let m = c.index-child.result.now in
     let there = inside ls c.len-i-end.result i c.len-i-end.ensures c.loop-i-test.true in
     let none = sym c.is_some-acts.ensures ∙ c.if-acts.false in
-    let of_poison : option_map found_event c.poison_of-poison.result ≡ head (poisons_of o l (together ls.items (nodes bs.items)) i (place m (nodes bs.items) i)) =
-    c.poison_of-poison.ensures ∙ λ u. head (poisons_of o l (together (c.as_slice-states.ensures.value u) (nodes (c.as_slice-came.ensures.value u))) i (place m (nodes (c.as_slice-came.ensures.value u)) i)) in
+    let of_poison : option_map found_event c.poison_of-poison.result ≡ head (poisons_of o l (together ls.items (nodes bs.items)) i (nth_child m (nodes bs.items) i)) =
+    c.poison_of-poison.ensures ∙ λ u. head (poisons_of o l (together (c.as_slice-states.ensures.value u) (nodes (c.as_slice-came.ensures.value u))) i (nth_child m (nodes (c.as_slice-came.ensures.value u)) i)) in
     let not_poisoned = sym c.is_some-poisoned.ensures ∙ c.if-poisoned.false in
-    let of_child : option_map found_event c.if-i-len.found ≡ head (walk o (place m (nodes bs.items) i)) = elim c.if-i-len.branch [
+    let of_child : option_map found_event c.if-i-len.found ≡ head (walk o (nth_child m (nodes bs.items) i)) = elim c.if-i-len.branch [
       | then-i-len w ↦
           asked_in (λ z. head (walk o z)) m bs c.len.result i w.index.result.now (option_map found_event c.if-i-len.found) c.len.ensures w.if-i-len.true w.index.ensures (ap (option_map found_event) w.found-is ∙ w.found_first-found.ensures)
       | else-i-len w ↦

@@ -1,7 +1,7 @@
 use Rattle.std.proofs.Common.{◌≡◌, ◌≢◌, rules}
 use Rattle.shim_syntax.specs.Occurrences.{identifiers}
 use Rattle.shim_syntax.specs.Terminals.{new_word}
-use Rattle.shim_up.specs.Up.{IsLeastNew, numbered}
+use Rattle.shim_up.specs.Up.{IsLeastNew, fresh_name}
 use Rattle.shim_up.proofs.UpCases.{from_version_2, from_another}
 use Rattle.shim_up.proofs.version_2.up.Goals as goal
 
@@ -15,5 +15,5 @@ pub returns : goal.returns
 returns c =
     let other : c.args.program.now.version ≢ 2 = search rules in
     let least : IsLeastNew (identifiers c.args.program.now.functions) c.in_ok-number.number = search rules in
-    let name : c.in_ok-name.name ≡ numbered c.in_ok-number.number = search rules in
+    let name : c.in_ok-name.name ≡ fresh_name c.in_ok-number.number = search rules in
     from_another c.args.program.now c.in_ok-name.name c.with_name-2.result other c.in_ok-number.number least name c.with_name-2.ensures

@@ -3,7 +3,7 @@ use Rattle.std.specs.Prelude.{slice_get}
 use Rattle.std.proofs.lemmas.Option.{slice_get_read}
 use Rattle.shim_process.specs.LocalState.{env_of}
 use Rattle.shim_vm.specs.Computing.{Goes, progress}
-use Rattle.shim_vm.specs.Putting.{PutBy, Stepped, at, numbers_of}
+use Rattle.shim_vm.specs.Putting.{PutBy, Stepped, at, stack_numbers}
 use Rattle.shim_vm.proofs.Progress.{on_from}
 use Rattle.shim_vm.proofs.PutSteps.{ends_put, ends_there, ends_without, lacks_none, leads_within, next_leads, traps_put}
 use Rattle.shim_vm.proofs.putting.+put_from.Goals as goal
@@ -15,7 +15,7 @@ put_from-requires t c =
     let i = c.index-code-place.result in
     let there : slice_get code c.args.place ≡ Some i = slice_get_read code (length code) c.args.place i refl (leads_within env c.args.slots.now code c.args.place c.requires) c.index-code-place.is in
     let goes : progress env c.args.slots.now (Some i) (at c.args.place c.args.numbers.now) ≡ Goes (at c.in-Some-On.next c.in-Some-On.numbers) = subst (Stepped (progress env c.args.slots.now (Some i) (at c.args.place c.args.numbers.now))) c.in-Some-On.field-0-is c.in-Some-On.ensures in
-    let n = next_leads env c.args.slots.now code c.args.place i (numbers_of c.args.numbers.now) (at c.in-Some-On.next c.in-Some-On.numbers) c.requires there goes in
+    let n = next_leads env c.args.slots.now code c.args.place i (stack_numbers c.args.numbers.now) (at c.in-Some-On.next c.in-Some-On.numbers) c.requires there goes in
     let within : c.in-Some-On.next < length code = leads_within env c.args.slots.now code c.in-Some-On.next n.1 in
     (omega (arith, n.0, within), n.1)
 

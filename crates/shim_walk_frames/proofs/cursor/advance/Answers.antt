@@ -1,6 +1,6 @@
 use Rattle.std.proofs.Common.{◌+◌, ◌<◌, ◌≤◌, ◌-◌, sym, subst, arith, length}
 use Rattle.std.proofs.lemmas.Option.{slice_get_within}
-use Rattle.shim_walk_frames.specs.Cursors.{Begins}
+use Rattle.shim_walk_frames.specs.Cursors.{BeginsBefore}
 use Rattle.shim_walk_frames.specs.Successors.{size_of}
 use Rattle.shim_walk_frames.proofs.Cursors.{one_fits, one_behind, here, at_end}
 use Rattle.shim_walk_frames.proofs.cursor.advance.Goals as goal
@@ -29,7 +29,7 @@ loop-stmt-preserved c =
     let f = c.loop-stmt.cursor in
     let z = c.size_of-size.ensures in
     let le : size_of c.in-Some.stmt.now ≤ c.args.at - f.first = omega (arith, c.if-at-cursor.false) in
-    subst (λ n. Begins c.args.body.now (record { index = f.index + 1; first = f.first + n }) c.args.at) (sym z)
+    subst (λ n. BeginsBefore c.args.body.now (record { index = f.index + 1; first = f.first + n }) c.args.at) (sym z)
     (one_behind c.args.body.now f c.args.at c.in-Some.stmt.now c.loop-stmt.invariant (sym c.in-Some.ensures) le)
 
 pub returns : goal.returns

@@ -5,11 +5,11 @@ use Rattle.shim_workers.proofs.turns.turn.Goals as goal
 pub loop-one-preserved : goal.loop-one-preserved
 loop-one-preserved g c =
     let i = c.loop-one.invariant in
-    let e = c.in_ok-take_all.ensures in
+    let e = c.in_ok-take_in_all.ensures in
     record {
-      goes_on = on_and_on g.L.Local.ops c.args.net.now c.loop-one.net c.take_all.new.net i.goes_on e.goes_on;
+      goes_on = on_and_on g.L.Local.ops c.args.net.now c.loop-one.net c.take_in_all.new.net i.goes_on e.goes_on;
       have = e.steps;
-      more = more_and_on g.L.Local.ops c.args.net.now c.loop-one.net c.take_all.new.net i.more e.goes_on;
+      more = more_and_on g.L.Local.ops c.args.net.now c.loop-one.net c.take_in_all.new.net i.more e.goes_on;
     }
 
 pub returns-clause-goes_on : goal.returns-clause-goes_on

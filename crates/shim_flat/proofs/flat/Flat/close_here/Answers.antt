@@ -1,7 +1,7 @@
 use Rattle.std.proofs.Common.{map, take, length, sym, ap, subst, ◌∙◌, arith}
 use Rattle.std.specs.Prelude.{slice_get}
 use Rattle.shim_semantics.specs.Nodes.{death}
-use Rattle.shim_laws_records.specs.Changes.{block, prevailing_among}
+use Rattle.shim_laws_records.specs.Changes.{segment, prevailing_among}
 use Rattle.shim_records.specs.Pairs.{stands_of}
 use Rattle.shim_laws_keeping.specs.Flats.{IsKept}
 use Rattle.shim_flat.specs.Closing.{CanClose, ClosesHere, ClosesRecord}
@@ -87,7 +87,7 @@ take_back-outcome-requires-clause-below g c κs within =
     let count = c.fork_size-count.result in
     let has = closing.forked_so states rs number done c.index.result.now c.index-2.result.now count c.index.ensures c.index-2.ensures c.fork_size-count.ensures in
     let label = c.prevailing_death-death.result in
-    let read = c.prevailing_death-death.ensures ∙ ap (λ z. prevailing_among (block first count (map stands_of z))) c.as_slice.ensures.value in
+    let read = c.prevailing_death-death.ensures ∙ ap (λ z. prevailing_among (segment first count (map stands_of z))) c.as_slice.ensures.value in
     closing.is_below o law states rs number c.self.invariant done first count has label read
 
 pub free_children-requires : goal.free_children-requires
@@ -130,7 +130,7 @@ close_record-forks-requires-clause-few g c κs within s e =
     let count = c.fork_size-count.result in
     let has = closing.forked_so states rs number done c.index.result.now c.index-2.result.now count c.index.ensures c.index-2.ensures c.fork_size-count.ensures in
     let label = c.prevailing_death-death.result in
-    let read = c.prevailing_death-death.ensures ∙ ap (λ z. prevailing_among (block first count (map stands_of z))) c.as_slice.ensures.value in
+    let read = c.prevailing_death-death.ensures ∙ ap (λ z. prevailing_among (segment first count (map stands_of z))) c.as_slice.ensures.value in
     let outcome = c.take_back-outcome.result in
     let now = c.take_back-outcome.new.states.items in
     let taken = c.take_back-outcome.ensures in
@@ -148,7 +148,7 @@ close_record-forks-requires-clause-of_state g c κs within =
     let count = c.fork_size-count.result in
     let has = closing.forked_so states rs number done c.index.result.now c.index-2.result.now count c.index.ensures c.index-2.ensures c.fork_size-count.ensures in
     let label = c.prevailing_death-death.result in
-    let read = c.prevailing_death-death.ensures ∙ ap (λ z. prevailing_among (block first count (map stands_of z))) c.as_slice.ensures.value in
+    let read = c.prevailing_death-death.ensures ∙ ap (λ z. prevailing_among (segment first count (map stands_of z))) c.as_slice.ensures.value in
     let outcome = c.take_back-outcome.result in
     let now = c.take_back-outcome.new.states.items in
     let taken = c.take_back-outcome.ensures in
@@ -183,7 +183,7 @@ invariant_of-self g c =
     let count = c.fork_size-count.result in
     let has = closing.forked_so states rs number done c.index.result.now c.index-2.result.now count c.index.ensures c.index-2.ensures c.fork_size-count.ensures in
     let label = c.prevailing_death-death.result in
-    let read = c.prevailing_death-death.ensures ∙ ap (λ z. prevailing_among (block first count (map stands_of z))) c.as_slice.ensures.value in
+    let read = c.prevailing_death-death.ensures ∙ ap (λ z. prevailing_among (segment first count (map stands_of z))) c.as_slice.ensures.value in
     let outcome = c.take_back-outcome.result in
     let now = c.take_back-outcome.new.states.items in
     let taken = c.take_back-outcome.ensures in
@@ -206,7 +206,7 @@ returns g c =
     let count = c.fork_size-count.result in
     let has = closing.forked_so states rs number done c.index.result.now c.index-2.result.now count c.index.ensures c.index-2.ensures c.fork_size-count.ensures in
     let label = c.prevailing_death-death.result in
-    let read = c.prevailing_death-death.ensures ∙ ap (λ z. prevailing_among (block first count (map stands_of z))) c.as_slice.ensures.value in
+    let read = c.prevailing_death-death.ensures ∙ ap (λ z. prevailing_among (segment first count (map stands_of z))) c.as_slice.ensures.value in
     let outcome = c.take_back-outcome.result in
     let now = c.take_back-outcome.new.states.items in
     let taken = c.take_back-outcome.ensures in

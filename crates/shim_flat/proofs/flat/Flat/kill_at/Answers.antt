@@ -3,7 +3,7 @@ use Rattle.shim_laws_keeping.specs.Flats.{FlatView, IsKept}
 use Rattle.shim_flat.specs.Poisoning.{IsKilledBy}
 use Rattle.shim_laws_meetings.specs.Poisons.{DiesOne}
 use Rattle.shim_flat.proofs.HerePoisons.{dead_ordered, few_given, killed_ordered, dies_one, still_kept}
-use Rattle.shim_flat.proofs.TouchingMeets.{same_view, dies_touch}
+use Rattle.shim_flat.proofs.TouchingPoisons.{same_view, dies_touch}
 use Rattle.shim_flat.proofs.flat.Flat.kill_at.Goals as goal
 
 pub kill_all-requires-clause-ordered : goal.kill_all-requires-clause-ordered

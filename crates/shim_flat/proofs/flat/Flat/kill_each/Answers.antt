@@ -3,7 +3,7 @@ use Rattle.std.proofs.lemmas.Option.{slice_get_read}
 use Rattle.shim_laws_meetings.specs.Poisons.{AllDie}
 use Rattle.shim_flat.specs.Touching.{TouchesEach}
 use Rattle.shim_flat.proofs.HerePoisons.{one_killed, each_killed}
-use Rattle.shim_flat.proofs.TouchingMeets.{one_touched, each_touched}
+use Rattle.shim_flat.proofs.TouchingPoisons.{one_touched, each_touched}
 use Rattle.shim_flat.proofs.flat.Flat.kill_each.Goals as goal
 
 pub loop-place-init : goal.loop-place-init

@@ -1,5 +1,5 @@
 use Rattle.shim_flat.proofs.HerePoisons.{KilledSoFar}
-use Rattle.shim_flat.proofs.TouchingMeets.{TouchedSoFar}
+use Rattle.shim_flat.proofs.TouchingPoisons.{TouchedSoFar}
 use Rattle.shim_flat.proofs.flat.Flat.kill_each.Given as goal
 
 abbrev pub invariant-loop-place : goal.invariant-loop-place

@@ -7,7 +7,7 @@ use Rattle.shim_laws_records.specs.Seen.{dies}
 use Rattle.shim_records.specs.declared.record.Status.TheVariants as code
 use Rattle.shim_laws_keeping.specs.Flats.{IsKept}
 use Rattle.shim_flat.specs.Stepping.{LivesAt}
-use Rattle.shim_flat.specs.Acting.{ActsHere, sort_by, told_of, thrown_by}
+use Rattle.shim_flat.specs.Acting.{ActsHere, status_by_throw, told_of, thrown_by}
 use Rattle.shim_flat.specs.declared.acting.Thrown.TheVariants as thrown
 use Rattle.shim_flat.proofs.Does.{its, inside_states, few_given, is_sound, set_same, throw_dies, throw_lives, lives_by, still_kept, lives_here, lives_then, leaves_here, one_read}
 use Rattle.shim_flat.proofs.Listings.{died_nowhere}
@@ -110,7 +110,7 @@ returns g c =
     let forks = c.arrive-arrival.result.forks in
     let behind = c.arrive-arrival.new.records.items in
     let then = lives_then o law states rs behind x (AtThrow label) (told_of t) l here read s c.index-2.result.now c.index-2.ensures c.arrive-arrival.ensures.arrives in record {
-      acts = subst (λ z. ActsHere o forks x (AtThrow label) (sort_by t) (told_of t) z (record { states = slice_set states x s; records = behind })) c.self.view_is
+      acts = subst (λ z. ActsHere o forks x (AtThrow label) (status_by_throw t) (told_of t) z (record { states = slice_set states x s; records = behind })) c.self.view_is
           (subst (λ k. ActsHere o forks x (AtThrow label) k (told_of t) (record { states = states; records = rs }) (record { states = slice_set states x s; records = behind })) (sym lived)
           (lives_here o law states rs behind x (AtThrow label) (told_of t) l here read forks s c.index-2.result.now c.index-2.ensures c.arrive-arrival.ensures.arrives c.arrive-arrival.ensures.touches
           (throw_lives o l s t label lived c.throw_own-thrown.ensures)));
@@ -121,5 +121,5 @@ pub invariant_of-self-2 : goal.invariant_of-self-2
 invariant_of-self-2 g c =
     let o = g.L.Local.ops in
     let t = c.throw_own-thrown.result in
-    still_kept o c.arrive-arrival.result.forks c.args.number (AtThrow c.args.label) (sort_by t) (told_of t) c.args.self.now (record { states = slice_set c.self.inside.states.items c.args.number c.throw_own-thrown.new.process; records = c.arrive-arrival.new.records.items }) (returns g c).acts
+    still_kept o c.arrive-arrival.result.forks c.args.number (AtThrow c.args.label) (status_by_throw t) (told_of t) c.args.self.now (record { states = slice_set c.self.inside.states.items c.args.number c.throw_own-thrown.new.process; records = c.arrive-arrival.new.records.items }) (returns g c).acts
     (subst (IsKept o) c.self.view_is c.self.invariant)

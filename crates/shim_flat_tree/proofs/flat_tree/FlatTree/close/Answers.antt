@@ -16,7 +16,7 @@ past_of-requires-clause-used g c κs within b less =
     let o = g.L.Local.ops in
     let w = c.self.inside in
     let n = c.args.number in
-    let v = view_of w.begun.value w.flat w.output.items w.histories (logged w.logs.items) w.own.items w.past.items w.events w.awake w.quiet w.held.items in
+    let v = view_of w.begun.value w.flat w.output.items w.histories (logged w.logs.items) w.schedule w.past.items w.events in
     let can : CanClose w.flat n = subst (λ z. CanClose z.flat n) (sym c.self.view_is) c.requires.can in
     let are = c.children-first.ensures can.first can.many can.process can.forked in
     subst (λ z. IsInUse w.flat (z + b)) (sym are.0) (children_used o v c.self.invariant.0 n can.first can.many can.process can.forked b (subst (λ z. b < z) are.1 less))
@@ -26,21 +26,14 @@ past_of-requires-clause-owns g c κs within =
     let o = g.L.Local.ops in
     let w = c.self.inside in
     let n = c.args.number in
-    subst (IsForAll w.flat) (sym c.as_slice.ensures.value) c.self.invariant.0.owns
+    subst (IsForAll w.flat) (sym c.own.ensures) c.self.invariant.0.serves
 
-pub wake-requires-clause-awakes : goal.wake-requires-clause-awakes
-wake-requires-clause-awakes g c κs within =
+pub requeue-requires-clause-serves : goal.requeue-requires-clause-serves
+requeue-requires-clause-serves g c κs within =
     let o = g.L.Local.ops in
     let w = c.self.inside in
     let n = c.args.number in
-    closed_room o c.close_here-outcome.result.1 n c.close_here-outcome.result.0 w.flat c.close_here-outcome.new.self c.close_here-outcome.ensures w.awake c.self.invariant.0.awakes
-
-pub wake-requires-clause-quiets : goal.wake-requires-clause-quiets
-wake-requires-clause-quiets g c κs within =
-    let o = g.L.Local.ops in
-    let w = c.self.inside in
-    let n = c.args.number in
-    closed_room o c.close_here-outcome.result.1 n c.close_here-outcome.result.0 w.flat c.close_here-outcome.new.self c.close_here-outcome.ensures w.quiet c.self.invariant.0.quiets
+    closed_room o c.close_here-outcome.result.1 n c.close_here-outcome.result.0 w.flat c.close_here-outcome.new.self c.close_here-outcome.ensures w.schedule c.self.invariant.0.serves
 
 pub invariant_of-self-2 : goal.invariant_of-self-2
 invariant_of-self-2 g c =
@@ -52,8 +45,8 @@ invariant_of-self-2 g c =
     let r = c.close_here-outcome.result.0 in
     let m = c.close_here-outcome.result.1 in
     let h : ClosesHere o m n r w.flat now = c.close_here-outcome.ensures in
-    let v = view_of w.begun.value w.flat w.output.items w.histories (logged w.logs.items) w.own.items w.past.items w.events w.awake w.quiet w.held.items in
-    let behind = view_of w.begun.value now w.output.items w.histories (logged c.tell_close.new.logs.items) w.own.items c.append.new.self.items (w.events + 1) c.wake.new.awake c.wake.new.quiet w.held.items in
+    let v = view_of w.begun.value w.flat w.output.items w.histories (logged w.logs.items) w.schedule w.past.items w.events in
+    let behind = view_of w.begun.value now w.output.items w.histories (logged c.tell_close.new.logs.items) c.requeue.new.self c.append.new.self.items (w.events + 1) in
     let few = subst (λ z. steps (tree_in o z) < 4000000) (sym c.self.view_is) c.requires.few in
     let copied : c.in_ok-path.path ≡ c.path.result.now = search rules in
     let path : c.in_ok-path.path ≡ o.path h.process = copied ∙ c.path.ensures h.process h.forked.state_is in
@@ -62,9 +55,9 @@ invariant_of-self-2 g c =
     let joined : c.append.new.self.items ≡ w.past.items ++ c.in_ok-gathered.gathered.items = search rules in
     let past : map count_in c.append.new.self.items ≡ map count_in w.past.items ++ gathered = ap (map count_in) joined ∙ mapped count_in w.past.items c.in_ok-gathered.gathered.items in
     let are = c.children-first.ensures h.first h.many h.process h.forked in
-    let its : gathered ≡ counts_from (only_block h.first h.many (path_at o w.flat)) w.own.items = c.in_ok-gathered.ensures ∙ (λ j. counts_from (only_block (are.0 j) (are.1 j) (path_at o w.flat)) (c.as_slice.ensures.value j)) in
-    let one : OneClose o m n r v behind h = record { output = refl; histories = refl; logs = logs; own = refl; gathered = gathered; past = past; are = its; events = refl; held = refl } in
-    let went = closes_go o law v behind c.self.invariant.0 m n r h one few c.wake.ensures.awake c.wake.ensures.quiet in
+    let its : gathered ≡ counts_from (only_block h.first h.many (path_at o w.flat)) w.schedule.own = c.in_ok-gathered.ensures ∙ (λ j. counts_from (only_block (are.0 j) (are.1 j) (path_at o w.flat)) (c.own.ensures j)) in
+    let one : OneClose o m n r v behind h = record { output = refl; histories = refl; logs = logs; own = c.requeue.ensures.own; gathered = gathered; past = past; are = its; events = refl; again = c.requeue.ensures.requeues } in
+    let went = closes_go o law v behind c.self.invariant.0 m n r h one few in
     (went.keeps, ap (λ z. z + 1) c.self.invariant.1 ∙ sym went.steps_are)
 
 pub returns-clause-ok : goal.returns-clause-ok
@@ -77,8 +70,8 @@ returns-clause-ok g c =
     let r = c.close_here-outcome.result.0 in
     let m = c.close_here-outcome.result.1 in
     let h : ClosesHere o m n r w.flat now = c.close_here-outcome.ensures in
-    let v = view_of w.begun.value w.flat w.output.items w.histories (logged w.logs.items) w.own.items w.past.items w.events w.awake w.quiet w.held.items in
-    let behind = view_of w.begun.value now w.output.items w.histories (logged c.tell_close.new.logs.items) w.own.items c.append.new.self.items (w.events + 1) c.wake.new.awake c.wake.new.quiet w.held.items in
+    let v = view_of w.begun.value w.flat w.output.items w.histories (logged w.logs.items) w.schedule w.past.items w.events in
+    let behind = view_of w.begun.value now w.output.items w.histories (logged c.tell_close.new.logs.items) c.requeue.new.self c.append.new.self.items (w.events + 1) in
     let few = subst (λ z. steps (tree_in o z) < 4000000) (sym c.self.view_is) c.requires.few in
     let copied : c.in_ok-path.path ≡ c.path.result.now = search rules in
     let path : c.in_ok-path.path ≡ o.path h.process = copied ∙ c.path.ensures h.process h.forked.state_is in
@@ -87,8 +80,8 @@ returns-clause-ok g c =
     let joined : c.append.new.self.items ≡ w.past.items ++ c.in_ok-gathered.gathered.items = search rules in
     let past : map count_in c.append.new.self.items ≡ map count_in w.past.items ++ gathered = ap (map count_in) joined ∙ mapped count_in w.past.items c.in_ok-gathered.gathered.items in
     let are = c.children-first.ensures h.first h.many h.process h.forked in
-    let its : gathered ≡ counts_from (only_block h.first h.many (path_at o w.flat)) w.own.items = c.in_ok-gathered.ensures ∙ (λ j. counts_from (only_block (are.0 j) (are.1 j) (path_at o w.flat)) (c.as_slice.ensures.value j)) in
-    let one : OneClose o m n r v behind h = record { output = refl; histories = refl; logs = logs; own = refl; gathered = gathered; past = past; are = its; events = refl; held = refl } in
-    let went = closes_go o law v behind c.self.invariant.0 m n r h one few c.wake.ensures.awake c.wake.ensures.quiet in
+    let its : gathered ≡ counts_from (only_block h.first h.many (path_at o w.flat)) w.schedule.own = c.in_ok-gathered.ensures ∙ (λ j. counts_from (only_block (are.0 j) (are.1 j) (path_at o w.flat)) (c.own.ensures j)) in
+    let one : OneClose o m n r v behind h = record { output = refl; histories = refl; logs = logs; own = c.requeue.ensures.own; gathered = gathered; past = past; are = its; events = refl; again = c.requeue.ensures.requeues } in
+    let went = closes_go o law v behind c.self.invariant.0 m n r h one few in
     let told : c.in_ok-copy.field-0 ≡ c.in_ok-path.path = search rules in
     subst (λ z. HappensIn o c.args.self.now behind (Close z)) (sym (told ∙ path)) (subst (λ z. HappensIn o z behind (Close (o.path h.process))) c.self.view_is went.happens)

@@ -18,22 +18,22 @@ pub outcome_of-outcome-requires-after_bounds : goal.outcome_of-outcome-requires-
 outcome_of-outcome-requires-after_bounds g t c κs =
     let o = g.L.Local.ops in
     let w = t.self.inside in
-    let v = view_of w.begun.value w.flat w.output.items w.histories (logged w.logs.items) w.own.items w.past.items w.events w.awake w.quiet w.held.items in
+    let v = view_of w.begun.value w.flat w.output.items w.histories (logged w.logs.items) w.schedule w.past.items w.events in
     root_in_use o w.flat (tree_in o v).root t.self.invariant.0.shows
 
 pub own_steps-requires-clause-few : goal.own_steps-requires-clause-few
 own_steps-requires-clause-few g c κs within p =
     let o = g.L.Local.ops in
     let w = c.self.inside in
-    let v = view_of w.begun.value w.flat w.output.items w.histories (logged w.logs.items) w.own.items w.past.items w.events w.awake w.quiet w.held.items in
-    subst (λ z. count_of (counted (counts_from (path_at o w.flat) z ++ map count_in c.as_slice-4.result.now)) p ≤ 4000000) (sym c.as_slice-3.ensures.value)
-    (subst (λ z. count_of (counted (counts_from (path_at o w.flat) w.own.items ++ map count_in z)) p ≤ 4000000) (sym c.as_slice-4.ensures.value) (counts_are_few o v c.self.invariant.0 p))
+    let v = view_of w.begun.value w.flat w.output.items w.histories (logged w.logs.items) w.schedule w.past.items w.events in
+    subst (λ z. count_of (counted (counts_from (path_at o w.flat) z ++ map count_in c.as_slice-3.result.now)) p ≤ 4000000) (sym c.own.ensures)
+    (subst (λ z. count_of (counted (counts_from (path_at o w.flat) w.schedule.own ++ map count_in z)) p ≤ 4000000) (sym c.as_slice-3.ensures.value) (counts_are_few o v c.self.invariant.0 p))
 
 pub returns-clause-ended : goal.returns-clause-ended
 returns-clause-ended g c =
     let o = g.L.Local.ops in
     let w = c.self.inside in
-    let v = view_of w.begun.value w.flat w.output.items w.histories (logged w.logs.items) w.own.items w.past.items w.events w.awake w.quiet w.held.items in
+    let v = view_of w.begun.value w.flat w.output.items w.histories (logged w.logs.items) w.schedule w.past.items w.events in
     let kept = c.self.invariant.0 in
     let root = (tree_in o v).root in
     let is_root = root_is o w.flat root kept.shows in
@@ -43,7 +43,7 @@ returns-clause-ended g c =
     c.in_ok-list.ensures
     (c.in_ok-logs_by_path.ensures ∙ ap (λ z. endings.all_logs (finite.entries (logged z))) c.as_slice-2.ensures.value)
     (c.in_ok-waits_of.ensures root is_root)
-    (c.in_ok-own_steps.ensures ∙ (λ i. map endings.own_steps (finite.entries (counted (counts_from (path_at o w.flat) (c.as_slice-3.ensures.value i) ++ map count_in (c.as_slice-4.ensures.value i))))))
+    (c.in_ok-own_steps.ensures ∙ (λ i. map endings.own_steps (finite.entries (counted (counts_from (path_at o w.flat) (c.own.ensures i) ++ map count_in (c.as_slice-3.ensures.value i))))))
     refl
     c.self.invariant.1
     (c.outcome_of-outcome.ensures 4294967296 root is_root)

@@ -3,8 +3,8 @@ use Rattle.std.specs.Prelude.{slice_get}
 use Rattle.shim_tree.proofs.Fills.{at_fault}
 use Rattle.shim_semantics.specs.Trees.{Own, steps}
 use Rattle.shim_laws_records.specs.Seen.{lives}
-use Rattle.shim_laws_keeping.specs.Flats.{HasProcess}
-use Rattle.shim_flat.specs.Forking.{how_many}
+use Rattle.shim_laws_keeping.specs.Flats.{HasProcessState}
+use Rattle.shim_flat.specs.Forking.{forked_count}
 use Rattle.shim_flat_tree.specs.Holding.{HappensIn}
 use Rattle.shim_flat_tree.specs.Room.{HasRoomFor}
 use Rattle.shim_flat_tree.specs.Settling.{StaysAs}
@@ -35,8 +35,8 @@ put_fork-requires-clause-room g c κs within =
     let same = c.make_room.ensures.same in
     let sum : c.in_ok-end.end ≡ c.len.result + c.count.result = search rules in
     let long : c.len.result ≡ length m.flat.records = c.len.ensures ∙ (ap (λ z. length z.flat.records) c.self.view_is ∙ ap (λ z. length z.records) (sym same.flat)) in
-    let end : c.in_ok-end.end ≡ length m.flat.records + how_many c.in_ok-fork.fork.came = sum ∙ (λ j. long j + c.count.ensures j) in
-    subst (λ z. HasRoomFor z m) end c.in_ok-make_room.ensures.ok
+    let end : c.in_ok-end.end ≡ length m.flat.records + forked_count c.in_ok-fork.fork.came = sum ∙ (λ j. long j + c.count.ensures j) in
+    subst (λ z. HasRoomFor z m.schedule) end c.in_ok-make_room.ensures.ok
 
 pub returns-in_err-put_fork-clause-err : goal.returns-in_err-put_fork-clause-err
 returns-in_err-put_fork-clause-err g c =
@@ -56,5 +56,5 @@ returns-clause-ok g c =
     let there = subst (λ z. slice_get z.flat.states c.args.number ≡ Some s.1) (sym c.self.view_is) s.2.state_is in
     let copied : c.in_ok-copy.field-0 ≡ c.path.result.now = search rules in
     let path : o.path s.1 ≡ c.in_ok-copy.field-0 = sym (copied ∙ c.path.ensures s.1 there) in
-    let mine : HasProcess m.flat c.args.number s.0 s.1 lives = subst (λ z. HasProcess z c.args.number s.0 s.1 lives) (sym same.flat) s.2 in
+    let mine : HasProcessState m.flat c.args.number s.0 s.1 lives = subst (λ z. HasProcessState z c.args.number s.0 s.1 lives) (sym same.flat) s.2 in
     subst (λ z. HappensIn o v c.put_fork.new.self (Own z)) path (happens_before o v m c.put_fork.new.self (Own (o.path s.1)) (stays_so o v m same) (c.in_ok-put_fork.ensures.ok s.0 s.1 mine))

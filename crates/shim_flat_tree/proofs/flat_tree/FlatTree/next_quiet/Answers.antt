@@ -1,27 +1,26 @@
-use Rattle.std.proofs.Common.{◌<◌, length, sym, subst}
+use Rattle.std.proofs.Common.{sym, subst}
 use Rattle.shim_run_log.specs.Logged.{logged}
 use Rattle.shim_flat_tree.specs.Fields.{view_of}
+use Rattle.shim_flat_tree.specs.FlatTrees.{KeepsCounted}
 use Rattle.shim_flat_tree.specs.Holding.{IsNextQuiet}
-use Rattle.shim_flat_tree.specs.Waking.{StillListed, IsFirstHome}
-use Rattle.shim_flat_tree.proofs.Held.{quiet_kept, next_is, with_quiet}
+use Rattle.shim_flat_tree.proofs.Held.{quiet_kept, next_is, with_schedule}
 use Rattle.shim_flat_tree.proofs.flat_tree.FlatTree.next_quiet.Goals as goal
 
-pub first_at_home-requires-after_bounds : goal.first_at_home-requires-after_bounds
-first_at_home-requires-after_bounds g t c κs i used = subst (λ z. i < length z) (sym t.as_slice.ensures.value) (t.self.invariant.0.helds i used)
+pub next_at_home-requires-after_bounds : goal.next_at_home-requires-after_bounds
+next_at_home-requires-after_bounds g c κs within = c.self.invariant.0.serves
 
 pub invariant_of-self : goal.invariant_of-self
 invariant_of-self g c =
     let o = g.L.Local.ops in
     let w = c.self.inside in
-    let v = view_of w.begun.value w.flat w.output.items w.histories (logged w.logs.items) w.own.items w.past.items w.events w.awake w.quiet w.held.items in
-    let still = subst (λ z. StillListed o w.flat z w.quiet c.first_at_home.new.quiet) c.as_slice.ensures.value c.first_at_home.ensures.still in
-    (quiet_kept o v c.self.invariant.0 c.first_at_home.new.quiet still, c.self.invariant.1)
+    let v = view_of w.begun.value w.flat w.output.items w.histories (logged w.logs.items) w.schedule w.past.items w.events in
+    subst (λ z. KeepsCounted o (with_schedule v z) w.taken) (sym c.next_at_home.ensures.rest) (quiet_kept o v c.self.invariant.0 c.next_at_home.new.self.quiet c.next_at_home.ensures.still, c.self.invariant.1)
 
 pub returns : goal.returns
 returns g c =
     let o = g.L.Local.ops in
     let w = c.self.inside in
-    let v = view_of w.begun.value w.flat w.output.items w.histories (logged w.logs.items) w.own.items w.past.items w.events w.awake w.quiet w.held.items in
-    let still = subst (λ z. StillListed o w.flat z w.quiet c.first_at_home.new.quiet) c.as_slice.ensures.value c.first_at_home.ensures.still in
-    let first = subst (λ z. IsFirstHome o w.flat z c.first_at_home.new.quiet c.first_at_home.result) c.as_slice.ensures.value c.first_at_home.ensures.first in
-    subst (λ z. IsNextQuiet o z (with_quiet v c.first_at_home.new.quiet) c.first_at_home.result) c.self.view_is (next_is o v c.self.invariant.0 c.first_at_home.new.quiet c.first_at_home.result still first)
+    let v = view_of w.begun.value w.flat w.output.items w.histories (logged w.logs.items) w.schedule w.past.items w.events in
+    let r = c.next_at_home.result in
+    subst (λ z. IsNextQuiet o z (with_schedule v c.next_at_home.new.self) r) c.self.view_is
+    (subst (λ z. IsNextQuiet o v (with_schedule v z) r) (sym c.next_at_home.ensures.rest) (next_is o v c.self.invariant.0 c.next_at_home.new.self.quiet r c.next_at_home.ensures.still c.next_at_home.ensures.first))

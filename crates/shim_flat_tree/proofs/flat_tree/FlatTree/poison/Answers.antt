@@ -3,7 +3,7 @@ use Rattle.std.specs.Prelude.{slice_get}
 use Rattle.shim_base.proofs.Facts.{some_same}
 use Rattle.shim_semantics.specs.Trees.{Poison, steps}
 use Rattle.shim_run_log.specs.Logged.{logged}
-use Rattle.shim_laws_keeping.specs.Flats.{HasProcess}
+use Rattle.shim_laws_keeping.specs.Flats.{HasProcessState}
 use Rattle.shim_laws_keeping.specs.Moves.{MovesBy}
 use Rattle.shim_flat.specs.Due.{IsDoomed}
 use Rattle.shim_flat.specs.Poisoning.{CanPoison}
@@ -12,7 +12,7 @@ use Rattle.shim_flat.proofs.DueEvents.{doomed_can}
 use Rattle.shim_flat_tree.specs.Fields.{view_of}
 use Rattle.shim_flat_tree.specs.FlatTrees.{tree_in}
 use Rattle.shim_flat_tree.specs.Holding.{HappensIn}
-use Rattle.shim_flat_tree.specs.Several.{ListsEach, ListsEachQuiet}
+use Rattle.shim_flat_tree.specs.Several.{RequeuesEach}
 use Rattle.shim_flat_tree.proofs.Several.{used_behind, room_behind}
 use Rattle.shim_flat_tree.proofs.Telling.{OneEvent, poison_goes}
 use Rattle.shim_flat_tree.proofs.flat_tree.FlatTree.poison.Goals as goal
@@ -32,17 +32,14 @@ poison_here-requires-clause-can g c κs within =
     (subst (λ z. CanPoison o c.in_ok-chan.chan.channel z c.args.child w.flat) label
     (subst (λ z. CanPoison o z.channel (o.handlers d.process - 1) c.args.child w.flat) chan (doomed_can o w.flat c.args.number law c.args.pair c.args.child d)))
 
-pub wake_each-requires-clause-used : goal.wake_each-requires-clause-used
-wake_each-requires-clause-used g c κs within =
+pub requeue_each-requires-clause-used : goal.requeue_each-requires-clause-used
+requeue_each-requires-clause-used g c κs within =
     let o = g.L.Local.ops in
     let now = c.poison_here.new.self in
-    subst (AreInUse now) (sym c.numbers.ensures) (used_behind o c.sharers.new.sharers c.self.inside.flat now c.poison_here.ensures.changes c.in_ok-sharers.ensures.used)
+    subst (AreInUse now) (sym c.numbers-sharers.ensures) (used_behind o c.sharers.new.sharers c.self.inside.flat now c.poison_here.ensures.changes c.in_ok-sharers.ensures.used)
 
-pub wake_each-requires-clause-awakes : goal.wake_each-requires-clause-awakes
-wake_each-requires-clause-awakes g c κs within = room_behind g.L.Local.ops c.sharers.new.sharers c.self.inside.flat c.poison_here.new.self c.poison_here.ensures.changes c.self.inside.awake c.self.invariant.0.awakes
-
-pub wake_each-requires-clause-quiets : goal.wake_each-requires-clause-quiets
-wake_each-requires-clause-quiets g c κs within = room_behind g.L.Local.ops c.sharers.new.sharers c.self.inside.flat c.poison_here.new.self c.poison_here.ensures.changes c.self.inside.quiet c.self.invariant.0.quiets
+pub requeue_each-requires-clause-serves : goal.requeue_each-requires-clause-serves
+requeue_each-requires-clause-serves g c κs within = room_behind g.L.Local.ops c.sharers.new.sharers c.self.inside.flat c.poison_here.new.self c.poison_here.ensures.changes c.self.inside.schedule c.self.invariant.0.serves
 
 pub invariant_of-self-2 : goal.invariant_of-self-2
 invariant_of-self-2 g c =
@@ -57,15 +54,14 @@ invariant_of-self-2 g c =
     let path : c.in_ok-path.path ≡ o.path d.child = copied_path ∙ c.path.ensures d.child (subst (λ z. slice_get w.flat.states z ≡ Some d.child) child d.its.state_is) in
     let sharers = c.sharers.new.sharers in
     let now = c.poison_here.new.self in
-    let before = view_of w.begun.value w.flat w.output.items w.histories (logged w.logs.items) w.own.items w.past.items w.events w.awake w.quiet w.held.items in
-    let behind = view_of w.begun.value now w.output.items w.histories (logged w.logs.items) w.own.items w.past.items (w.events + 1) c.wake_each.new.awake c.wake_each.new.quiet w.held.items in
-    let awake = subst (λ z. ListsEach o now z w.awake c.wake_each.new.awake) c.numbers.ensures c.wake_each.ensures.awake in
-    let quiet = subst (λ z. ListsEachQuiet o now z w.quiet c.wake_each.new.quiet) c.numbers.ensures c.wake_each.ensures.quiet in
+    let before = view_of w.begun.value w.flat w.output.items w.histories (logged w.logs.items) w.schedule w.past.items w.events in
+    let behind = view_of w.begun.value now w.output.items w.histories (logged w.logs.items) c.requeue_each.new.self w.past.items (w.events + 1) in
+    let again = subst (λ z. RequeuesEach o now z w.schedule c.requeue_each.new.self) c.numbers-sharers.ensures c.requeue_each.ensures in
     let few = subst (λ z. steps (tree_in o z) < 4000000) (sym c.self.view_is) c.requires.few in
-    let one : OneEvent o before behind = record { output = refl; logs = refl; own = refl; past = refl; events = refl; held = refl } in
-    let its : HasProcess w.flat c.in_ok-child.child d.child_first d.child d.child_sort = subst (λ z. HasProcess w.flat z d.child_first d.child d.child_sort) child d.its in
+    let one : OneEvent o before behind = record { output = refl; logs = refl; past = refl; events = refl } in
+    let its : HasProcessState w.flat c.in_ok-child.child d.child_first d.child d.child_sort = subst (λ z. HasProcessState w.flat z d.child_first d.child d.child_sort) child d.its in
     let moves = subst (λ z. MovesBy o (Poison z c.in_ok-chan.chan.channel) w.flat now) (sym path) (c.poison_here.ensures.moves d.child_first d.child d.child_sort its) in
-    let went = poison_goes o law before behind c.self.invariant.0 few sharers c.in_ok-sharers.ensures.used c.poison_here.ensures.touches awake quiet one c.in_ok-path.path c.in_ok-chan.chan.channel moves c.poison_here.ensures.changes refl in
+    let went = poison_goes o law before behind c.self.invariant.0 few sharers c.poison_here.ensures.touches again one c.in_ok-path.path c.in_ok-chan.chan.channel moves c.poison_here.ensures.changes refl in
     (went.keeps, ap (λ z. z + 1) c.self.invariant.1 ∙ sym went.steps_are)
 
 pub returns-clause-ok : goal.returns-clause-ok
@@ -81,13 +77,12 @@ returns-clause-ok g c =
     let path : c.in_ok-path.path ≡ o.path d.child = copied_path ∙ c.path.ensures d.child (subst (λ z. slice_get w.flat.states z ≡ Some d.child) child d.its.state_is) in
     let sharers = c.sharers.new.sharers in
     let now = c.poison_here.new.self in
-    let before = view_of w.begun.value w.flat w.output.items w.histories (logged w.logs.items) w.own.items w.past.items w.events w.awake w.quiet w.held.items in
-    let behind = view_of w.begun.value now w.output.items w.histories (logged w.logs.items) w.own.items w.past.items (w.events + 1) c.wake_each.new.awake c.wake_each.new.quiet w.held.items in
-    let awake = subst (λ z. ListsEach o now z w.awake c.wake_each.new.awake) c.numbers.ensures c.wake_each.ensures.awake in
-    let quiet = subst (λ z. ListsEachQuiet o now z w.quiet c.wake_each.new.quiet) c.numbers.ensures c.wake_each.ensures.quiet in
+    let before = view_of w.begun.value w.flat w.output.items w.histories (logged w.logs.items) w.schedule w.past.items w.events in
+    let behind = view_of w.begun.value now w.output.items w.histories (logged w.logs.items) c.requeue_each.new.self w.past.items (w.events + 1) in
+    let again = subst (λ z. RequeuesEach o now z w.schedule c.requeue_each.new.self) c.numbers-sharers.ensures c.requeue_each.ensures in
     let few = subst (λ z. steps (tree_in o z) < 4000000) (sym c.self.view_is) c.requires.few in
-    let one : OneEvent o before behind = record { output = refl; logs = refl; own = refl; past = refl; events = refl; held = refl } in
-    let its : HasProcess w.flat c.in_ok-child.child d.child_first d.child d.child_sort = subst (λ z. HasProcess w.flat z d.child_first d.child d.child_sort) child d.its in
+    let one : OneEvent o before behind = record { output = refl; logs = refl; past = refl; events = refl } in
+    let its : HasProcessState w.flat c.in_ok-child.child d.child_first d.child d.child_sort = subst (λ z. HasProcessState w.flat z d.child_first d.child d.child_sort) child d.its in
     let moves = subst (λ z. MovesBy o (Poison z c.in_ok-chan.chan.channel) w.flat now) (sym path) (c.poison_here.ensures.moves d.child_first d.child d.child_sort its) in
-    let went = poison_goes o law before behind c.self.invariant.0 few sharers c.in_ok-sharers.ensures.used c.poison_here.ensures.touches awake quiet one c.in_ok-path.path c.in_ok-chan.chan.channel moves c.poison_here.ensures.changes refl in
+    let went = poison_goes o law before behind c.self.invariant.0 few sharers c.poison_here.ensures.touches again one c.in_ok-path.path c.in_ok-chan.chan.channel moves c.poison_here.ensures.changes refl in
     subst (λ z. HappensIn o z behind (Poison c.in_ok-path.path c.in_ok-chan.chan.channel)) c.self.view_is went.happens

@@ -11,11 +11,11 @@ returns-then-not-none_quiet g c =
     let o = g.L.Local.ops in
     let law = (g.met.L.Local g.world.𝓛 g.world.𝓜 g.world.𝓡 ((λ s x. x), (λ x. x), (λ x. x), λ x. x)).laws in
     subst (λ (z : FlatTreeView g.row.L.Denot). IsTrue false ↔ IsQuiescent o (tree_in o z)) c.self.view_is
-    (told_some_quiet o law _ c.self.invariant.0 (subst (NoneHeld o) (sym c.self.view_is) c.requires) c.numbers.result.now c.none_quiet.result c.if-not-none_quiet.true c.none_quiet.ensures)
+    (told_some_quiet o law _ c.self.invariant.0 (subst (NoneHeld o) (sym c.self.view_is) c.requires) c.quiet.result.now c.none_quiet.result c.if-not-none_quiet.true c.none_quiet.ensures)
 
 pub returns : goal.returns
 returns g c =
     let o = g.L.Local.ops in
     let law = (g.met.L.Local g.world.𝓛 g.world.𝓜 g.world.𝓡 ((λ s x. x), (λ x. x), (λ x. x), λ x. x)).laws in
     subst (λ (z : FlatTreeView g.row.L.Denot). IsTrue c.none_due.result ↔ IsQuiescent o (tree_in o z)) c.self.view_is
-    (told_rests o law _ c.self.invariant.0 (subst (NoneHeld o) (sym c.self.view_is) c.requires) c.numbers.result.now c.none_quiet.result c.none_due.result c.numbers-2.result.now c.numbers.ensures c.numbers-2.ensures c.if-not-none_quiet.false c.none_quiet.ensures c.none_due.ensures)
+    (told_rests o law _ c.self.invariant.0 (subst (NoneHeld o) (sym c.self.view_is) c.requires) c.quiet.result.now c.none_quiet.result c.none_due.result c.awake.result.now c.quiet.ensures c.awake.ensures c.if-not-none_quiet.false c.none_quiet.ensures c.none_due.ensures)

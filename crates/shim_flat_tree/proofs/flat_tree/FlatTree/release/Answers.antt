@@ -1,5 +1,5 @@
 use Rattle.std.proofs.Common.{◌≡◌, ◌≢◌, ◌≤◌, ◌<◌, ◌+◌, ℕ, false, slice_set, refl, sym, ap, subst, ◌∙◌, arith}
-use Rattle.std.proofs.lemmas.List.{length-set}
+use Rattle.std.specs.Prelude.{slice_get}
 use Rattle.shim_semantics.specs.Trees.{steps}
 use Rattle.shim_laws_records.specs.Seen.{lives}
 use Rattle.shim_laws_waking.specs.Awake.{is_listed}
@@ -8,42 +8,28 @@ use Rattle.shim_flat.specs.Stepping.{QuietlyReaches}
 use Rattle.shim_flat_tree.specs.Fields.{view_of}
 use Rattle.shim_flat_tree.specs.FlatTrees.{tree_in}
 use Rattle.shim_flat_tree.specs.Holding.{HeldComes, Releases}
+use Rattle.shim_flat_tree.specs.Schedules.{ScheduleView, Serves}
+use Rattle.shim_flat_tree.specs.Waking.{HasCounted, ListsAwake, ListsQuiet}
 use Rattle.shim_flat_tree.proofs.Flags.{far_flag, flag_put}
-use Rattle.shim_flat_tree.proofs.Stepped.{SameTold, does_steps, few_counted, still_used, still_for_all, advanced_by, steps_keep, releases}
+use Rattle.shim_flat_tree.proofs.Stepped.{SameTold, does_steps, few_counted, still_used, still_serves, advanced_by, steps_keep, releases}
 use Rattle.shim_flat_tree.proofs.flat_tree.FlatTree.release.Goals as goal
 
-pub index_mut-requires : goal.index_mut-requires
-index_mut-requires g c =
-    let o = g.L.Local.ops in
-    let n = c.args.number in
-    let l = c.requires.did.0 in
-    let held = subst (λ z. HeldComes o z n c.args.taken l c.args.last) (sym c.self.view_is) c.requires.did.1 in
-    subst (λ z. n < z) (sym c.self.inside.held.ok.0) (c.self.invariant.0.helds n (held.held.quiet.first, l, lives, held.held.quiet.has))
-
-pub count_steps-requires-clause-within : goal.count_steps-requires-clause-within
-count_steps-requires-clause-within g c =
-    let o = g.L.Local.ops in
-    let n = c.args.number in
-    let l = c.requires.did.0 in
-    let held = subst (λ z. HeldComes o z n c.args.taken l c.args.last) (sym c.self.view_is) c.requires.did.1 in
-    subst (λ z. n < z) (sym c.self.inside.own.ok.0) (c.self.invariant.0.owns n (held.held.quiet.first, l, lives, held.held.quiet.has))
-
-pub count_steps-requires-clause-few : goal.count_steps-requires-clause-few
-count_steps-requires-clause-few g c count e =
+pub acted-requires-clause-few : goal.acted-requires-clause-few
+acted-requires-clause-few g c κs within count e =
     let o = g.L.Local.ops in
     let w = c.self.inside in
-    let v = view_of w.begun.value w.flat w.output.items w.histories (logged w.logs.items) w.own.items w.past.items w.events w.awake w.quiet w.held.items in
+    let v = view_of w.begun.value w.flat w.output.items w.histories (logged w.logs.items) w.schedule w.past.items w.events in
     let n = c.args.number in
     let l = c.requires.did.0 in
     let held = subst (λ z. HeldComes o z n c.args.taken l c.args.last) (sym c.self.view_is) c.requires.did.1 in
     let few = subst (λ z. steps (tree_in o z) + c.args.taken ≤ 4000000) (sym c.self.view_is) c.requires.few in
-    few_counted o v n c.args.taken c.args.taken l held.held.quiet (omega arith) few count e
+    few_counted o v n c.args.taken c.args.taken l held.held.quiet (omega arith) few count (ap (λ z. slice_get z n) (ap (λ (z : ScheduleView). z.own) (sym c.check.ensures.is)) ∙ e)
 
-pub wake_as-requires-clause-used : goal.wake_as-requires-clause-used
-wake_as-requires-clause-used g c κs within =
+pub check-requires-clause-used : goal.check-requires-clause-used
+check-requires-clause-used g c κs within =
     let o = g.L.Local.ops in
     let w = c.self.inside in
-    let v = view_of w.begun.value w.flat w.output.items w.histories (logged w.logs.items) w.own.items w.past.items w.events w.awake w.quiet w.held.items in
+    let v = view_of w.begun.value w.flat w.output.items w.histories (logged w.logs.items) w.schedule w.past.items w.events in
     let n = c.args.number in
     let l = c.requires.did.0 in
     let held = subst (λ z. HeldComes o z n c.args.taken l c.args.last) (sym c.self.view_is) c.requires.did.1 in
@@ -53,11 +39,11 @@ wake_as-requires-clause-used g c κs within =
     let d = does_steps o w.flat flat n taken l held.held.quiet (c.advance_here-arrival.ensures.steps taken comes) in
     still_used o v flat n taken l held.held.quiet d
 
-pub wake_as-requires-clause-awakes : goal.wake_as-requires-clause-awakes
-wake_as-requires-clause-awakes g c κs within =
+pub acted-requires-clause-used : goal.acted-requires-clause-used
+acted-requires-clause-used g c κs within =
     let o = g.L.Local.ops in
     let w = c.self.inside in
-    let v = view_of w.begun.value w.flat w.output.items w.histories (logged w.logs.items) w.own.items w.past.items w.events w.awake w.quiet w.held.items in
+    let v = view_of w.begun.value w.flat w.output.items w.histories (logged w.logs.items) w.schedule w.past.items w.events in
     let n = c.args.number in
     let l = c.requires.did.0 in
     let held = subst (λ z. HeldComes o z n c.args.taken l c.args.last) (sym c.self.view_is) c.requires.did.1 in
@@ -65,13 +51,13 @@ wake_as-requires-clause-awakes g c κs within =
     let flat = c.advance_here-arrival.new.self in
     let comes : QuietlyReaches o w.flat n taken c.args.last = record { first = held.held.quiet.first; process = l; has = held.held.quiet.has; stands = held.held.quiet.stands; chain = held.chain } in
     let d = does_steps o w.flat flat n taken l held.held.quiet (c.advance_here-arrival.ensures.steps taken comes) in
-    still_for_all o v flat n taken l held.held.quiet d w.awake c.self.invariant.0.awakes
+    still_used o v flat n taken l held.held.quiet d
 
-pub wake_as-requires-clause-quiets : goal.wake_as-requires-clause-quiets
-wake_as-requires-clause-quiets g c κs within =
+pub check-requires-clause-serves : goal.check-requires-clause-serves
+check-requires-clause-serves g c κs within =
     let o = g.L.Local.ops in
     let w = c.self.inside in
-    let v = view_of w.begun.value w.flat w.output.items w.histories (logged w.logs.items) w.own.items w.past.items w.events w.awake w.quiet w.held.items in
+    let v = view_of w.begun.value w.flat w.output.items w.histories (logged w.logs.items) w.schedule w.past.items w.events in
     let n = c.args.number in
     let l = c.requires.did.0 in
     let held = subst (λ z. HeldComes o z n c.args.taken l c.args.last) (sym c.self.view_is) c.requires.did.1 in
@@ -79,14 +65,28 @@ wake_as-requires-clause-quiets g c κs within =
     let flat = c.advance_here-arrival.new.self in
     let comes : QuietlyReaches o w.flat n taken c.args.last = record { first = held.held.quiet.first; process = l; has = held.held.quiet.has; stands = held.held.quiet.stands; chain = held.chain } in
     let d = does_steps o w.flat flat n taken l held.held.quiet (c.advance_here-arrival.ensures.steps taken comes) in
-    still_for_all o v flat n taken l held.held.quiet d w.quiet c.self.invariant.0.quiets
+    still_serves o v flat n taken l held.held.quiet d w.schedule c.self.invariant.0.serves
+
+pub acted-requires-clause-serves : goal.acted-requires-clause-serves
+acted-requires-clause-serves g c κs within =
+    let o = g.L.Local.ops in
+    let w = c.self.inside in
+    let v = view_of w.begun.value w.flat w.output.items w.histories (logged w.logs.items) w.schedule w.past.items w.events in
+    let n = c.args.number in
+    let l = c.requires.did.0 in
+    let held = subst (λ z. HeldComes o z n c.args.taken l c.args.last) (sym c.self.view_is) c.requires.did.1 in
+    let taken = c.args.taken in
+    let flat = c.advance_here-arrival.new.self in
+    let comes : QuietlyReaches o w.flat n taken c.args.last = record { first = held.held.quiet.first; process = l; has = held.held.quiet.has; stands = held.held.quiet.stands; chain = held.chain } in
+    let d = does_steps o w.flat flat n taken l held.held.quiet (c.advance_here-arrival.ensures.steps taken comes) in
+    subst (Serves flat) (sym c.check.ensures.is) (still_serves o v flat n taken l held.held.quiet d w.schedule c.self.invariant.0.serves)
 
 pub invariant_of-self : goal.invariant_of-self
 invariant_of-self g c =
     let o = g.L.Local.ops in
     let law = (g.met.L.Local g.world.𝓛 g.world.𝓜 g.world.𝓡 ((λ s x. x), (λ x. x), (λ x. x), λ x. x)).laws in
     let w = c.self.inside in
-    let v = view_of w.begun.value w.flat w.output.items w.histories (logged w.logs.items) w.own.items w.past.items w.events w.awake w.quiet w.held.items in
+    let v = view_of w.begun.value w.flat w.output.items w.histories (logged w.logs.items) w.schedule w.past.items w.events in
     let n = c.args.number in
     let l = c.requires.did.0 in
     let held = subst (λ z. HeldComes o z n c.args.taken l c.args.last) (sym c.self.view_is) c.requires.did.1 in
@@ -95,13 +95,16 @@ invariant_of-self g c =
     let flat = c.advance_here-arrival.new.self in
     let comes : QuietlyReaches o w.flat n taken c.args.last = record { first = held.held.quiet.first; process = l; has = held.held.quiet.has; stands = held.held.quiet.stands; chain = held.chain } in
     let d = does_steps o w.flat flat n taken l held.held.quiet (c.advance_here-arrival.ensures.steps taken comes) in
-    let flags = slice_set w.held.items n false in
-    let u = view_of w.begun.value flat w.output.items w.histories (logged w.logs.items) c.count_steps.new.own.items w.past.items w.events c.wake_as.new.awake c.wake_as.new.quiet flags in
+    let mid = c.check.ensures.is in
+    let counted : HasCounted n taken w.schedule.own c.acted.new.self.own = subst (λ (z : ScheduleView). HasCounted n taken z.own c.acted.new.self.own) mid c.acted.ensures.counted in
+    let held_is : c.acted.new.self.held ≡ slice_set w.schedule.held n false = c.acted.ensures.requeues.held ∙ ap (λ (z : ScheduleView). z.held) mid in
+    let u = view_of w.begun.value flat w.output.items w.histories (logged w.logs.items) c.acted.new.self w.past.items w.events in
     let told : SameTold v u = record { output = refl; histories = refl; logs = refl; past = refl; events = refl } in
-    let far : (i : ℕ) → i ≢ n → is_listed flags i ≡ is_listed w.held.items i = λ i apart. far_flag w.held.items i n false apart in
-    let free = flag_put w.held.items n false (c.self.invariant.0.helds n (held.held.quiet.first, l, lives, held.held.quiet.has)) in
-    let a = advanced_by o law v u c.self.invariant.0 n taken l held.held.quiet d far free told c.count_steps.ensures in (
-      steps_keep o law v u c.self.invariant.0 n taken l held.held.quiet d far free told c.count_steps.ensures c.advance_here-arrival.result.forks few c.advance_here-arrival.ensures.touches c.wake_as.ensures.awake c.wake_as.ensures.quiet (length-set w.held.items n false),
+    let far : (i : ℕ) → i ≢ n → is_listed c.acted.new.self.held i ≡ is_listed w.schedule.held i = λ i apart. ap (λ z. is_listed z i) held_is ∙ far_flag w.schedule.held i n false apart in
+    let free = ap (λ z. is_listed z n) held_is ∙ flag_put w.schedule.held n false c.check.ensures.within in
+    let a = advanced_by o law v u c.self.invariant.0 n taken l held.held.quiet d far free told counted in (
+      steps_keep o law v u c.self.invariant.0 n taken l held.held.quiet d far free told counted c.advance_here-arrival.result.forks few c.advance_here-arrival.ensures.touches (subst (λ (z : ScheduleView). ListsAwake o flat c.advance_here-arrival.result.forks n z.awake c.acted.new.self.awake) mid c.acted.ensures.requeues.awake)
+          (subst (λ (z : ScheduleView). ListsQuiet o flat n z.quiet c.acted.new.self.quiet) mid c.acted.ensures.requeues.quiet) c.acted.ensures.requeues.within,
       ap (λ z. z + taken) c.self.invariant.1 ∙ sym a.counts,
     )
 
@@ -110,17 +113,19 @@ returns g c l h =
     let o = g.L.Local.ops in
     let law = (g.met.L.Local g.world.𝓛 g.world.𝓜 g.world.𝓡 ((λ s x. x), (λ x. x), (λ x. x), λ x. x)).laws in
     let w = c.self.inside in
-    let v = view_of w.begun.value w.flat w.output.items w.histories (logged w.logs.items) w.own.items w.past.items w.events w.awake w.quiet w.held.items in
+    let v = view_of w.begun.value w.flat w.output.items w.histories (logged w.logs.items) w.schedule w.past.items w.events in
     let n = c.args.number in
     let held = subst (λ z. HeldComes o z n c.args.taken l c.args.last) (sym c.self.view_is) h in
     let taken = c.args.taken in
     let flat = c.advance_here-arrival.new.self in
     let comes : QuietlyReaches o w.flat n taken c.args.last = record { first = held.held.quiet.first; process = l; has = held.held.quiet.has; stands = held.held.quiet.stands; chain = held.chain } in
     let d = does_steps o w.flat flat n taken l held.held.quiet (c.advance_here-arrival.ensures.steps taken comes) in
-    let flags = slice_set w.held.items n false in
-    let u = view_of w.begun.value flat w.output.items w.histories (logged w.logs.items) c.count_steps.new.own.items w.past.items w.events c.wake_as.new.awake c.wake_as.new.quiet flags in
+    let mid = c.check.ensures.is in
+    let counted : HasCounted n taken w.schedule.own c.acted.new.self.own = subst (λ (z : ScheduleView). HasCounted n taken z.own c.acted.new.self.own) mid c.acted.ensures.counted in
+    let held_is : c.acted.new.self.held ≡ slice_set w.schedule.held n false = c.acted.ensures.requeues.held ∙ ap (λ (z : ScheduleView). z.held) mid in
+    let u = view_of w.begun.value flat w.output.items w.histories (logged w.logs.items) c.acted.new.self w.past.items w.events in
     let told : SameTold v u = record { output = refl; histories = refl; logs = refl; past = refl; events = refl } in
-    let far : (i : ℕ) → i ≢ n → is_listed flags i ≡ is_listed w.held.items i = λ i apart. far_flag w.held.items i n false apart in
-    let free = flag_put w.held.items n false (c.self.invariant.0.helds n (held.held.quiet.first, l, lives, held.held.quiet.has)) in
+    let far : (i : ℕ) → i ≢ n → is_listed c.acted.new.self.held i ≡ is_listed w.schedule.held i = λ i apart. ap (λ z. is_listed z i) held_is ∙ far_flag w.schedule.held i n false apart in
+    let free = ap (λ z. is_listed z n) held_is ∙ flag_put w.schedule.held n false c.check.ensures.within in
     subst (λ z. Releases o z u n taken l c.args.last) c.self.view_is
-    (releases o law v u c.self.invariant.0 n taken l held.held.quiet d far free told c.count_steps.ensures held.held c.args.last held.chain)
+    (releases o law v u c.self.invariant.0 n taken l held.held.quiet d far free told counted held.held c.args.last held.chain)

@@ -1,11 +1,13 @@
-use Rattle.std.proofs.Common.{subst}
+use Rattle.std.proofs.Common.{sym, subst}
 use Rattle.shim_tree.specs.NodeStatus.{event_of}
 use Rattle.shim_tree.proofs.Fills.{at_fault}
 use Rattle.shim_run_log.specs.Logged.{logged}
 use Rattle.shim_flat_tree.specs.Fields.{view_of}
+use Rattle.shim_flat_tree.specs.FlatTrees.{KeepsCounted}
 use Rattle.shim_flat_tree.specs.Holding.{HappensIn, RestsIn}
 use Rattle.shim_flat_tree.specs.Settling.{StaysAs}
-use Rattle.shim_flat_tree.proofs.NextDue.{with_awake, awake_kept, rests, happens_from, stays_from}
+use Rattle.shim_flat_tree.proofs.Held.{with_schedule}
+use Rattle.shim_flat_tree.proofs.NextDue.{awake_kept, rests, happens_from, stays_from}
 use Rattle.shim_flat_tree.proofs.flat_tree.FlatTree.settle_one.Goals as goal
 
 pub invariant_of-self : goal.invariant_of-self
@@ -13,48 +15,49 @@ invariant_of-self g c =
     let o = g.L.Local.ops in
     let law = (g.met.L.Local g.world.𝓛 g.world.𝓜 g.world.𝓡 ((λ s x. x), (λ x. x), (λ x. x), λ x. x)).laws in
     let w = c.self.inside in
-    let v = view_of w.begun.value w.flat w.output.items w.histories (logged w.logs.items) w.own.items w.past.items w.events w.awake w.quiet w.held.items in
-    let flags = c.next_due.new.awake in
+    let v = view_of w.begun.value w.flat w.output.items w.histories (logged w.logs.items) w.schedule w.past.items w.events in
+    let flags = c.next_due.new.self.awake in
     let still = c.next_due.ensures.still in
-    (awake_kept o law v c.self.invariant.0 flags still, c.self.invariant.1)
+    subst (λ z. KeepsCounted o (with_schedule v z) w.taken) (sym c.next_due.ensures.rest) (awake_kept o law v c.self.invariant.0 flags still, c.self.invariant.1)
 
 pub invariant_of-self-in-Some : goal.invariant_of-self-in-Some
 invariant_of-self-in-Some g c =
     let o = g.L.Local.ops in
     let law = (g.met.L.Local g.world.𝓛 g.world.𝓜 g.world.𝓡 ((λ s x. x), (λ x. x), (λ x. x), λ x. x)).laws in
     let w = c.self.inside in
-    let v = view_of w.begun.value w.flat w.output.items w.histories (logged w.logs.items) w.own.items w.past.items w.events w.awake w.quiet w.held.items in
-    let flags = c.next_due.new.awake in
+    let v = view_of w.begun.value w.flat w.output.items w.histories (logged w.logs.items) w.schedule w.past.items w.events in
+    let flags = c.next_due.new.self.awake in
     let still = c.next_due.ensures.still in
-    (awake_kept o law v c.self.invariant.0 flags still, c.self.invariant.1)
+    subst (λ z. KeepsCounted o (with_schedule v z) w.taken) (sym c.next_due.ensures.rest) (awake_kept o law v c.self.invariant.0 flags still, c.self.invariant.1)
 
 pub returns-in_err-happen-in-Some-clause-err : goal.returns-in_err-happen-in-Some-clause-err
 returns-in_err-happen-in-Some-clause-err g c =
     let o = g.L.Local.ops in
     let law = (g.met.L.Local g.world.𝓛 g.world.𝓜 g.world.𝓡 ((λ s x. x), (λ x. x), (λ x. x), λ x. x)).laws in
     let w = c.self.inside in
-    let v = view_of w.begun.value w.flat w.output.items w.histories (logged w.logs.items) w.own.items w.past.items w.events w.awake w.quiet w.held.items in
-    let flags = c.next_due.new.awake in
+    let v = view_of w.begun.value w.flat w.output.items w.histories (logged w.logs.items) w.schedule w.past.items w.events in
+    let flags = c.next_due.new.self.awake in
     let still = c.next_due.ensures.still in
-    at_fault c.from_residual.result (StaysAs o c.args.self.now c.happen.new.self) (subst (λ z. StaysAs o z c.happen.new.self) c.self.view_is (stays_from o law v c.self.invariant.0 flags still c.happen.new.self c.in_err-happen-in-Some.ensures.err))
+    at_fault c.from_residual.result (StaysAs o c.args.self.now c.happen.new.self) (subst (λ z. StaysAs o z c.happen.new.self) c.self.view_is (stays_from o law v c.self.invariant.0 flags still c.happen.new.self (subst (λ z. StaysAs o (with_schedule v z) c.happen.new.self) c.next_due.ensures.rest c.in_err-happen-in-Some.ensures.err)))
 
 pub returns-in-None-clause-ok : goal.returns-in-None-clause-ok
 returns-in-None-clause-ok g c =
     let o = g.L.Local.ops in
     let law = (g.met.L.Local g.world.𝓛 g.world.𝓜 g.world.𝓡 ((λ s x. x), (λ x. x), (λ x. x), λ x. x)).laws in
     let w = c.self.inside in
-    let v = view_of w.begun.value w.flat w.output.items w.histories (logged w.logs.items) w.own.items w.past.items w.events w.awake w.quiet w.held.items in
-    let flags = c.next_due.new.awake in
+    let v = view_of w.begun.value w.flat w.output.items w.histories (logged w.logs.items) w.schedule w.past.items w.events in
+    let flags = c.next_due.new.self.awake in
     let still = c.next_due.ensures.still in
-    subst (λ z. RestsIn o z (with_awake v flags)) c.self.view_is (rests o law v c.self.invariant.0 flags still c.in-None.ensures.due)
+    subst (λ z. RestsIn o z (with_schedule v c.next_due.new.self)) c.self.view_is
+    (subst (λ z. RestsIn o v (with_schedule v z)) (sym c.next_due.ensures.rest) (rests o law v c.self.invariant.0 flags still c.in-None.ensures.due))
 
 pub returns-in_ok-happen-in-Some-clause-ok : goal.returns-in_ok-happen-in-Some-clause-ok
 returns-in_ok-happen-in-Some-clause-ok g c =
     let o = g.L.Local.ops in
     let law = (g.met.L.Local g.world.𝓛 g.world.𝓜 g.world.𝓡 ((λ s x. x), (λ x. x), (λ x. x), λ x. x)).laws in
     let w = c.self.inside in
-    let v = view_of w.begun.value w.flat w.output.items w.histories (logged w.logs.items) w.own.items w.past.items w.events w.awake w.quiet w.held.items in
-    let flags = c.next_due.new.awake in
+    let v = view_of w.begun.value w.flat w.output.items w.histories (logged w.logs.items) w.schedule w.past.items w.events in
+    let flags = c.next_due.new.self.awake in
     let still = c.next_due.ensures.still in
     subst (λ z. HappensIn o z c.happen.new.self (event_of c.in_ok-happen-in-Some.field-0)) c.self.view_is
-    (happens_from o law v c.self.invariant.0 flags still c.happen.new.self (event_of c.in_ok-happen-in-Some.field-0) c.in_ok-happen-in-Some.ensures.ok)
+    (happens_from o law v c.self.invariant.0 flags still c.happen.new.self (event_of c.in_ok-happen-in-Some.field-0) (subst (λ z. HappensIn o (with_schedule v z) c.happen.new.self (event_of c.in_ok-happen-in-Some.field-0)) c.next_due.ensures.rest c.in_ok-happen-in-Some.ensures.ok))

@@ -9,4 +9,4 @@ pub returns : goal.returns
 returns g c =
     let o = g.L.Local.ops in
     let e = event_of c.args.event.now in
-    told_quiescent _ _ _ (c.can_happen.ensures ∙ ap (by_path.can_happen o e) (c.lend-root.ensures ∙ ap (λ t. t.root) c.self.view_is)) (can_happen_where o c.args.self.now e)
+    told_quiescent _ _ _ (c.can_happen.ensures ∙ ap (by_path.can_happen o e) (c.lend_process-root.ensures ∙ ap (λ t. t.root) c.self.view_is)) (can_happen_where o c.args.self.now e)

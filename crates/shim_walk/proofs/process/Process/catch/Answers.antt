@@ -1,6 +1,6 @@
 use Rattle.std.proofs.Common.{◌≤◌, ◌+◌, ◌∷◌, ◌∙◌, take, slice_get, refl, ap, subst, sym, arith, rules, w64, FitsSigned}
 use Rattle.std.proofs.lemmas.Int.{to_z-of_z}
-use Rattle.shim_walk_frames.specs.Cursors.{Stands}
+use Rattle.shim_walk_frames.specs.Cursors.{HasOwnCursor}
 use Rattle.shim_walk_frames.specs.Variables.{one_of, variables_in}
 use Rattle.shim_process.specs.LocalState.{LocalState}
 use Rattle.shim_process.specs.Unwinding.{catching}
@@ -37,4 +37,4 @@ invariant_of-self c =
     let less : one_of variable + few ≤ many = omega (arith, fewer) in
     let most : few ≤ many = omega (arith, less) in
     let fits = room_behind serial few many i.untaken.room c.take_some.new.self.room (fewer_by variable serial few many c.keep-taken.ensures.serial less) most c.take_some.ensures.less c.take_some.ensures.same kept.3 in
-    (kept.0, kept.1, (subst (Stands i.program.units) (sym c.catch-variable.ensures.others) kept.2.0, kept.2.1), fits, below_without i.made serial i.untaken.runs c.take_some.new.self.runs kept.4 c.take_some.ensures.runs)
+    (kept.0, kept.1, (subst (HasOwnCursor i.program.units) (sym c.catch-variable.ensures.others) kept.2.0, kept.2.1), fits, below_without i.made serial i.untaken.runs c.take_some.new.self.runs kept.4 c.take_some.ensures.runs)

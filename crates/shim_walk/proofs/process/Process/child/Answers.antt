@@ -5,10 +5,10 @@ use Rattle.shim_units.specs.declared.unit.Unit.{Unit as UnitOf}
 use Rattle.shim_process.specs.LocalState.{LocalState, unit_or, handlers}
 use Rattle.shim_process.specs.StatementViews.{statement_view, passed_labels}
 use Rattle.shim_process.specs.Arguments.{branch_locations, channels_of, declared_slots, empties, entered, numbers_from}
-use Rattle.shim_process.specs.Forks.{child_in, takes_input, takes_output}
+use Rattle.shim_process.specs.Forks.{new_child, takes_input, takes_output}
 use Rattle.shim_locations.specs.Given.{arguments_of}
 use Rattle.shim_locations.specs.Runs.{AreBelow, RunsView}
-use Rattle.shim_walk_frames.specs.Cursors.{AllStand, Stands}
+use Rattle.shim_walk_frames.specs.Cursors.{AllStand, HasOwnCursor}
 use Rattle.shim_walk_frames.specs.Depths.{AllFit, shown}
 use Rattle.shim_locations.specs.Lendings.{remainder_of, lent_at}
 use Rattle.shim_walk.specs.contracts.process.Process.{the_view}
@@ -49,7 +49,7 @@ returns c =
     (c.from_list.ensures ∙ c.in_ok-locations.ensures ∙ ap (λ x. c.in_ok-passed.passed.locations ++ empties x) e_declared)
     (c.input_for.ensures ∙ ap (λ ps. if takes_input ps then remainder.input_at else None) e_params)
     (c.output_for.ensures ∙ ap (λ ps. if takes_output ps then remainder.holds_output else false) e_params2)
-    ∙ ap (λ (m : LocalState). child_in (remainder_of m remainder) c.args.place n (passed_labels (statement_view m) c.args.throws.now) args) c.self.view_is
+    ∙ ap (λ (m : LocalState). new_child (remainder_of m remainder) c.args.place n (passed_labels (statement_view m) c.args.throws.now) args) c.self.view_is
 
 pub invariant_of-result : goal.invariant_of-result
 invariant_of-result c =
@@ -61,4 +61,4 @@ invariant_of-result c =
     let u = c.units-units.ensures.value ∙ ap (λ (p : Form). p.units) c.deref.ensures ∙ sym same in
     let fits = room_for_none c.units-units.result.now top c.new-3.result _ c.new-2.result.room c.in_ok-top.ensures.value refl c.new-3.ensures in
     let bound : c.handlers-base.result < 2147483648 = omega (arith, c.if-base-ge2147483648.false) in
-    (bound, subst AllFit (sym same) kept.1, (subst (λ us. Stands us top) u c.in_ok-top.ensures.cursor, subst (AllStand units) (sym c.new-3.ensures) tt), fits, subst (AreBelow c.in_ok-passed.passed.made) (sym (ap (λ (r : RunsView). r.runs) c.new-2.ensures)) tt)
+    (bound, subst AllFit (sym same) kept.1, (subst (λ us. HasOwnCursor us top) u c.in_ok-top.ensures.cursor, subst (AllStand units) (sym c.new-3.ensures) tt), fits, subst (AreBelow c.in_ok-passed.passed.made) (sym (ap (λ (r : RunsView). r.runs) c.new-2.ensures)) tt)

@@ -3,7 +3,7 @@ use Rattle.shim_units.specs.declared.unit.UBranch.{UBranch}
 use Rattle.shim_process.specs.LocalState.{unit_at}
 use Rattle.shim_process.specs.Arguments.{arguments}
 use Rattle.shim_process.specs.StatementViews.{passed_labels, statement_view}
-use Rattle.shim_process.specs.Forks.{child, child_in, lending}
+use Rattle.shim_process.specs.Forks.{child, new_child, lending}
 use Rattle.shim_locations.specs.Given.{arguments_of}
 use Rattle.shim_locations.specs.Lendings.{remainder_of}
 use Rattle.shim_walk.proofs.MadeChildren.{labels_left, one_born, one_lent}
@@ -23,9 +23,9 @@ loop-branch-preserved c =
     let place = c.loop-branch.place in
     let ek =
     k
-    ∙ ap (λ xs. child_in remainder place d.call.unit (passed_labels (statement_view l) xs) (arguments_of c.as_slice.result.now)) c.as_slice-throws.ensures
-    ∙ ap (λ g. child_in remainder place d.call.unit (passed_labels (statement_view l) d.call.throws) (arguments_of g)) c.as_slice.ensures
-    ∙ ap (λ xs. child_in remainder place d.call.unit xs args) (sym (labels_left l c.loop-branch.remainder d.call.throws))
+    ∙ ap (λ xs. new_child remainder place d.call.unit (passed_labels (statement_view l) xs) (arguments_of c.as_slice.result.now)) c.as_slice-throws.ensures
+    ∙ ap (λ g. new_child remainder place d.call.unit (passed_labels (statement_view l) d.call.throws) (arguments_of g)) c.as_slice.ensures
+    ∙ ap (λ xs. new_child remainder place d.call.unit xs args) (sym (labels_left l c.loop-branch.remainder d.call.throws))
     ∙ ap (λ (b : UBranch). child remainder c.loop-branch.place b args) is in
     let el = c.in_ok-lend_branch.ensures ∙ ap (lending remainder) is in
     record {

@@ -1,6 +1,6 @@
 use Rattle.std.proofs.Common.{◌≡◌, ◌≤◌, ◌<◌, ◌+◌, ◌-◌, ◌∷◌, ◌∙◌, refl, sym, ap, subst, arith, rules, Some}
 use Rattle.shim_walk_frames.specs.declared.handler.Handler.{Handler}
-use Rattle.shim_walk_frames.specs.Cursors.{Stands}
+use Rattle.shim_walk_frames.specs.Cursors.{HasOwnCursor}
 use Rattle.shim_walk_frames.specs.FrameViews.{FrameView}
 use Rattle.shim_walk_frames.specs.Variables.{variables_in}
 use Rattle.shim_process.specs.LocalState.{LocalState}
@@ -37,4 +37,4 @@ invariant_of-self-2 c =
     let fits : variables_in (i.top ∷ i.callers) + 1 ≤ c.add.new.self.room = omega (arith, many, room, left) in
     let more : i.made < c.in_ok-made.made = omega (arith, c.in_ok-made.ensures) in
     let runs : c.add.new.self.runs ≡ with_serial i.made i.untaken.runs = ap (λ (r : RunsView). r.runs) c.add.ensures ∙ ap (λ (r : RunsView). with_serial i.made r.runs) c.in_ok-reserve.ensures.ok in
-    (kept.0, kept.1, (subst (Stands i.program.units) (sym installed) kept.2.0, kept.2.1), room_for_one i.top c.install.new.self place i.callers c.add.new.self.room (ap (λ (s : FrameView). s.places) installed) fits, below_with i.made c.in_ok-made.made i.untaken.runs c.add.new.self.runs more kept.4 runs)
+    (kept.0, kept.1, (subst (HasOwnCursor i.program.units) (sym installed) kept.2.0, kept.2.1), room_for_one i.top c.install.new.self place i.callers c.add.new.self.room (ap (λ (s : FrameView). s.places) installed) fits, below_with i.made c.in_ok-made.made i.untaken.runs c.add.new.self.runs more kept.4 runs)

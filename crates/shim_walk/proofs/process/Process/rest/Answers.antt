@@ -1,5 +1,5 @@
 use Rattle.std.proofs.Common.{ap, ◌∙◌, refl, subst, sym}
-use Rattle.shim_walk_frames.specs.Cursors.{Stands}
+use Rattle.shim_walk_frames.specs.Cursors.{HasOwnCursor}
 use Rattle.shim_walk_frames.specs.FrameViews.{FrameView}
 use Rattle.shim_walk.specs.Returning.{resting}
 use Rattle.shim_walk.specs.contracts.process.Process.{the_view}
@@ -17,4 +17,4 @@ pub invariant_of-self : goal.invariant_of-self
 invariant_of-self c =
     let i = c.self.inside in
     let kept = c.self.invariant in
-    (kept.0, kept.1, (subst (Stands i.program.units) (sym c.rest.ensures) tt, kept.2.1), room_for_first c.args.kept i.top c.rest.new.self i.callers i.untaken.room (ap (λ (s : FrameView). s.places) c.rest.ensures) kept.3, kept.4)
+    (kept.0, kept.1, (subst (HasOwnCursor i.program.units) (sym c.rest.ensures) tt, kept.2.1), room_for_first c.args.kept i.top c.rest.new.self i.callers i.untaken.room (ap (λ (s : FrameView). s.places) c.rest.ensures) kept.3, kept.4)

@@ -10,7 +10,7 @@ use Rattle.shim_walk.proofs.process.Process.stop.Goals as goal
 pub returns-in-Some : goal.returns-in-Some
 returns-in-Some c =
     let e = sym (ap (λ (l : LocalState). l.trap) c.self.view_is) ∙ ap trapped_at_of c.in-Some.is in
-    c.trapped.ensures ∙ stops_trapped c.args.self.now _ e
+    c.at_trap.ensures ∙ stops_trapped c.args.self.now _ e
 
 pub returns-in-None : goal.returns-in-None
 returns-in-None c =

@@ -1,7 +1,0 @@
-use Rattle.std.proofs.Common.{◌≡◌}
-use Rattle.shim_semantics.specs.Trees.{steps}
-use Rattle.shim_tests_runs.proofs.order_rows.do_events_by.Given as goal
-
--- each event counted one step
-abbrev pub invariant-loop-turn : goal.invariant-loop-turn
-invariant-loop-turn g l = steps l.tree ≡ l.turn
