@@ -1,5 +1,5 @@
 -- Facts of tests, of what may be there and of lists that every crate above uses.
-use Rattle.std.proofs.Common.{◌≡◌, Bool, true, false, List, [], ◌∷◌, length, Option, Some, None, ◌&&◌, ◌||◌, not, cond, ◌⊎◌, inl, inr, refl, arith}
+use Rattle.std.proofs.Common.{◌≡◌, Bool, true, false, List, [], ◌∷◌, length, Option, Some, None, ◌&&◌, ◌||◌, not, cond, ◌⊎◌, inl, inr, refl, arith, Result, Ok, Err, OnErr}
 
 pub some_same : {A : Type 0} (x y : A) → Some x ≡ Some y → x ≡ y
 some_same x y e = cc
@@ -90,3 +90,8 @@ no_items (x ∷ xs) e = absurd (omega (arith, e))
 pub false_unless : (b : Bool) → (b ≡ true → ⊥) → b ≡ false
 false_unless true f = absurd (f refl)
 false_unless false f = refl
+
+-- what holds in any case holds at a fault
+pub at_fault : {T E : Type 0} (r : Result T E) (P : Type 0) → P → OnErr r P
+at_fault (Ok x) P p = tt
+at_fault (Err e) P p = p

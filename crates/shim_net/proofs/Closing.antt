@@ -14,8 +14,8 @@ use Rattle.shim_semantics.specs.Quiets.{ComesBy, Advances}
 use Rattle.shim_laws_replay.specs.Journals as journals
 use Rattle.shim_laws_replay.specs.Journals.{quiet_steps}
 use Rattle.shim_laws_replay.proofs.Entries.{pieces_are_entries}
-use Rattle.shim_tree.specs.declared.entry.Entry.{Entry}
-use Rattle.shim_tree.specs.declared.entry.Entry.TheVariants as code
+use Rattle.shim_run_log.specs.declared.entry.Entry.{Entry}
+use Rattle.shim_run_log.specs.declared.entry.Entry.TheVariants as code
 use Rattle.shim_net.specs.Entries.{entry_of}
 use Rattle.shim_net.specs.Nets.{OpenGrant, NetView, IsNet, reserved_in}
 use Rattle.shim_net.specs.Taking.{Closes, Redoes, with_piece}

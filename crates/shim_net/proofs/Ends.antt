@@ -10,8 +10,8 @@ use Rattle.shim_laws_replay.specs.Told.{IsToldAs}
 use Rattle.shim_laws_replay.proofs.Keeping.{nets_keep}
 use Rattle.shim_laws_replay.proofs.Ends.{journals_mean}
 use Rattle.shim_laws_replay.proofs.Moments.{ends_are_told}
-use Rattle.shim_flat_tree.specs.FlatTrees.{FlatTreeView}
-use Rattle.shim_flat_tree.specs.Holding.{NoneHeld}
+use Rattle.shim_run_state.specs.RunStates.{RunStateView}
+use Rattle.shim_run_state.specs.Holding.{NoneHeld}
 use Rattle.shim_net.specs.Nets.{NetView, OpenGrant, IsNet, granted}
 use Rattle.shim_net.specs.Holding.{AreHeld}
 use Rattle.shim_net.specs.Standings.{StandsAs, IsQuietNet, IsSpentNet}
@@ -39,7 +39,7 @@ may_end o n w (inl q) = inl (omega (arith, w.keeps.fits), q.1)
 may_end o n w (inr s) = inr s.1
 
 -- with no grant open, nobody is held
-pub nobody_held : {S : Type 0} (o : Ops S) (v : FlatTreeView S) (grants : List (OpenGrant S)) → AreHeld o v grants → grants ≡ [] → NoneHeld o v
+pub nobody_held : {S : Type 0} (o : Ops S) (v : RunStateView S) (grants : List (OpenGrant S)) → AreHeld o v grants → grants ≡ [] → NoneHeld o v
 nobody_held {S} o v grants are none i l held = let any = subst (λ (gs : List (OpenGrant S)). Any (λ g. (g.pid ≡ i) × (g.start ≡ l)) gs) none (are.only i l held) in
     let none_below = any.2 in omega (arith, none_below)
 

@@ -15,14 +15,14 @@ use Rattle.shim_semantics.specs.Trees.{Tree}
 use Rattle.shim_semantics.proofs.HowMany.{clash}
 use Rattle.shim_laws_replay.specs.Grants.{IsGrantable}
 use Rattle.shim_laws_replay.specs.Journals.{Entry}
-use Rattle.shim_laws_records.specs.Seen.{ProcessStatus, lives, place}
-use Rattle.shim_laws_records.proofs.OneChange.{one_state}
-use Rattle.shim_laws_records.proofs.SameTrees.{same_or_not}
-use Rattle.shim_laws_keeping.specs.Flats.{HasProcessState, stands}
-use Rattle.shim_laws_waking.specs.Awake.{is_listed}
-use Rattle.shim_flat_tree.specs.FlatTrees.{FlatTreeView, tree_in, IsQuietAt, IsHeld, KeepsTree}
-use Rattle.shim_flat_tree.specs.Holding.{SameHeld, NoneHeld, IsHomeAt, SameTree, BecomesHeld, Releases}
-use Rattle.shim_flat_tree.proofs.Advanced.{grantable}
+use Rattle.shim_laws_table.specs.Seen.{ProcessStatus, lives, place}
+use Rattle.shim_laws_table.proofs.OneChange.{one_state}
+use Rattle.shim_laws_table.proofs.SameTrees.{same_or_not}
+use Rattle.shim_laws_table_events.specs.keeping.Tables.{HasProcessState, stands}
+use Rattle.shim_laws_table_events.specs.waking.Awake.{is_listed}
+use Rattle.shim_run_state.specs.RunStates.{RunStateView, tree_in, IsQuietAt, IsHeld, KeepsTree}
+use Rattle.shim_run_state.specs.Holding.{SameHeld, NoneHeld, IsHomeAt, SameTree, BecomesHeld, Releases}
+use Rattle.shim_run_state.proofs.Advanced.{grantable}
 use Rattle.shim_net.specs.Nets.{OpenGrant, IsNet, HaveOtherPids}
 use Rattle.shim_net.specs.Granting.{IsAtHome, NoneAtHome}
 use Rattle.shim_net.specs.Holding.{AreHeld}
@@ -52,16 +52,16 @@ module _ {X : Type 0} (P : X → Type 0) (xs : List X) where
 module _ {S : Type 0} (o : Ops S) where
   -- ---- who is held where lists alone have changed
 
-  pub still_held : (v u : FlatTreeView S) (grants : List (OpenGrant S)) → AreHeld o v grants → SameHeld o v u → AreHeld o u grants
+  pub still_held : (v u : RunStateView S) (grants : List (OpenGrant S)) → AreHeld o v grants → SameHeld o v u → AreHeld o u grants
   still_held v u grants h same = record {
     held = λ k d few. let g = slice_index_or grants k d in (same g.pid g.start).0 (h.held k d few);
     only = λ i l w. h.only i l ((same i l).1 w);
   }
 
-  pub same_tree_held : (v u : FlatTreeView S) → SameTree o v u → SameHeld o v u
+  pub same_tree_held : (v u : RunStateView S) → SameTree o v u → SameHeld o v u
   same_tree_held v u same i l = (
-    λ w. record { quiet = subst (λ z. IsQuietAt o z i l) (sym same.flat) w.quiet; flag = ap (λ z. is_listed z i) same.held ∙ w.flag },
-    λ w. record { quiet = subst (λ z. IsQuietAt o z i l) same.flat w.quiet; flag = ap (λ z. is_listed z i) (sym same.held) ∙ w.flag },
+    λ w. record { quiet = subst (λ z. IsQuietAt o z i l) (sym same.table) w.quiet; flag = ap (λ z. is_listed z i) same.held ∙ w.flag },
+    λ w. record { quiet = subst (λ z. IsQuietAt o z i l) same.table w.quiet; flag = ap (λ z. is_listed z i) (sym same.held) ∙ w.flag },
   )
 
   -- a net of the same tree, journal and grants
@@ -69,52 +69,52 @@ module _ {S : Type 0} (o : Ops S) where
       → IsNet o (record { root = root; budget = budget; tree = u; journal = ks; grants = gs })
   same_net root budget t u js ks grants gs tree journal as_open w = subst (IsNet o) (λ i. record { root = root; budget = budget; tree = sym tree i; journal = sym journal i; grants = sym as_open i }) w
 
-  pub passed_home : (v u : FlatTreeView S) (i : ℕ) (l : S) → SameTree o v u → IsHomeAt o v i l → IsHomeAt o u i l
+  pub passed_home : (v u : RunStateView S) (i : ℕ) (l : S) → SameTree o v u → IsHomeAt o v i l → IsHomeAt o u i l
   passed_home v u i l same home = record {
-    quiet = subst (λ z. IsQuietAt o z i l) (sym same.flat) home.quiet;
+    quiet = subst (λ z. IsQuietAt o z i l) (sym same.table) home.quiet;
     free = ap (λ z. is_listed z i) same.held ∙ home.free;
   }
 
-  pub passed_held : (v u : FlatTreeView S) (grants gs : List (OpenGrant S)) → SameTree o v u → gs ≡ grants → AreHeld o v grants → AreHeld o u gs
+  pub passed_held : (v u : RunStateView S) (grants gs : List (OpenGrant S)) → SameTree o v u → gs ≡ grants → AreHeld o v grants → AreHeld o u gs
   passed_held v u grants gs same as_open h = subst (AreHeld o u) (sym as_open) (still_held v u grants h (same_tree_held v u same))
 
   -- ---- nobody
 
-  pub begun_held : (v : FlatTreeView S) (grants : List (OpenGrant S)) → NoneHeld o v → grants ≡ [] → AreHeld o v grants
+  pub begun_held : (v : RunStateView S) (grants : List (OpenGrant S)) → NoneHeld o v → grants ≡ [] → AreHeld o v grants
   begun_held v grants none e = subst (AreHeld o v) (sym e) (record { held = λ k d few. absurd (omega (arith, few)); only = λ i l w. absurd (none i l w) })
 
-  pub none_held : (v : FlatTreeView S) (grants : List (OpenGrant S)) → AreHeld o v grants → length grants ≡ 0 → NoneHeld o v
+  pub none_held : (v : RunStateView S) (grants : List (OpenGrant S)) → AreHeld o v grants → length grants ≡ 0 → NoneHeld o v
   none_held v grants h none i l w = let x = h.only i l w in let few = x.2 in absurd (omega (arith, few, none))
 
   -- where whoever may be granted is held, nobody is at home
-  pub none_home : (v : FlatTreeView S) (grants : List (OpenGrant S)) → AreHeld o v grants → ((l : S) → IsGrantable o (tree_in o v) l → (i : ℕ) × IsHeld o v i l) → NoneAtHome o (tree_in o v) grants
+  pub none_home : (v : RunStateView S) (grants : List (OpenGrant S)) → AreHeld o v grants → ((l : S) → IsGrantable o (tree_in o v) l → (i : ℕ) × IsHeld o v i l) → NoneAtHome o (tree_in o v) grants
   none_home v grants h all l w =
       let x = all l w in
       let y = h.only x.0 l x.1 in
       (y.0, y.1, y.2, y.3, ap o.path y.4.1)
 
-  pub held_at : (v : FlatTreeView S) (grants : List (OpenGrant S)) (place : ℕ) (g : OpenGrant S) → AreHeld o v grants → place < length grants → g ≡ slice_index_or grants place g → IsHeld o v g.pid g.start
+  pub held_at : (v : RunStateView S) (grants : List (OpenGrant S)) (place : ℕ) (g : OpenGrant S) → AreHeld o v grants → place < length grants → g ≡ slice_index_or grants place g → IsHeld o v g.pid g.start
   held_at v grants place g h there its = subst (λ (z : OpenGrant S). IsHeld o v z.pid z.start) (sym its) (h.held place g there)
 
   -- ---- a process that isn't held
 
-  module _ (law : LocalLaws o) (v : FlatTreeView S) (kept : KeepsTree o v) where
+  module _ (law : LocalLaws o) (v : RunStateView S) (kept : KeepsTree o v) where
     -- one place has one number
-    one_number : (i j f g : ℕ) (s t : S) (k h : ProcessStatus) → HasProcessState v.flat i f s k → HasProcessState v.flat j g t h → o.path s ≡ o.path t → i ≡ j
+    one_number : (i j f g : ℕ) (s t : S) (k h : ProcessStatus) → HasProcessState v.table i f s k → HasProcessState v.table j g t h → o.path s ≡ o.path t → i ≡ j
     one_number i j f g s t k h w x e = kept.shows.shows.agrees.apart i j f g s t k h w x (ap (λ (p : Path). branches p) e)
 
     -- the root alone has the number 0
-    pub zero_at_root : (i f : ℕ) (l : S) (k : ProcessStatus) → HasProcessState v.flat i f l k → (i ≡ 0) ↔ (o.path l ≡ [])
+    pub zero_at_root : (i f : ℕ) (l : S) (k : ProcessStatus) → HasProcessState v.table i f l k → (i ≡ 0) ↔ (o.path l ≡ [])
     zero_at_root i f l k has =
         let r = kept.shows.shows.rooted in
         let root : o.path r.state ≡ [] = no_branches (o.path r.state) r.at_root in (
-          λ e. ap o.path (one_state v.flat.states (stands v.flat) 0 f r.first l r.state k r.sort (subst (λ z. HasProcessState v.flat z f l k) e has) r.has) ∙ root,
+          λ e. ap o.path (one_state v.table.states (stands v.table) 0 f r.first l r.state k r.sort (subst (λ z. HasProcessState v.table z f l k) e has) r.has) ∙ root,
           λ e. one_number i 0 f r.first l r.state k r.sort has r.has (e ∙ sym root),
         )
 
     module _ (grants : List (OpenGrant S)) (h : AreHeld o v grants) (i : ℕ) (l : S) (home : IsHomeAt o v i l) where
       pub other_pids : All (λ g. g.pid ≢ i) grants
-      other_pids k d few e = clash (is_listed v.schedule.held i) (ap (is_listed v.schedule.held) (sym e) ∙ (h.held k d few).flag) home.free
+      other_pids k d few e = clash (is_listed v.process_lists.held i) (ap (is_listed v.process_lists.held) (sym e) ∙ (h.held k d few).flag) home.free
 
       pub is_home : IsAtHome o (tree_in o v) grants l
       is_home = record {
@@ -126,9 +126,9 @@ module _ {S : Type 0} (o : Ops S) where
       }
 
   -- what is found of the next one, whose record is read where a list alone has changed
-  module _ (v u : FlatTreeView S) (same : SameTree o v u) (i : ℕ) (l p : S) (home : IsHomeAt o v i l) (f : ℕ) (k : ProcessStatus) (has : HasProcessState u.flat i f p k) where
+  module _ (v u : RunStateView S) (same : SameTree o v u) (i : ℕ) (l p : S) (home : IsHomeAt o v i l) (f : ℕ) (k : ProcessStatus) (has : HasProcessState u.table i f p k) where
     is_process : l ≡ p
-    is_process = one_state v.flat.states (stands v.flat) i home.quiet.first f l p lives k home.quiet.has (subst (λ z. HasProcessState z i f p k) same.flat has)
+    is_process = one_state v.table.states (stands v.table) i home.quiet.first f l p lives k home.quiet.has (subst (λ z. HasProcessState z i f p k) same.table has)
 
     pub its_home : IsHomeAt o v i p
     its_home = subst (IsHomeAt o v i) is_process home
@@ -138,7 +138,7 @@ module _ {S : Type 0} (o : Ops S) where
 
   -- ---- one more is held, or one less
 
-  pub one_more_held : (v u : FlatTreeView S) (grants gs : List (OpenGrant S)) (i : ℕ) (l : S) (g : OpenGrant S) → AreHeld o v grants → BecomesHeld o v u i l → All (λ g. g.pid ≢ i) grants → gs ≡ grants ++ g ∷ [] → g.pid ≡ i → g.start ≡ l → AreHeld o u gs
+  pub one_more_held : (v u : RunStateView S) (grants gs : List (OpenGrant S)) (i : ℕ) (l : S) (g : OpenGrant S) → AreHeld o v grants → BecomesHeld o v u i l → All (λ g. g.pid ≢ i) grants → gs ≡ grants ++ g ∷ [] → g.pid ≡ i → g.start ≡ l → AreHeld o u gs
   one_more_held v u grants gs i l g h holds others more pid start = subst (AreHeld o u) (sym more) (record {
     held = all_held;
     only = all_out;
@@ -151,11 +151,11 @@ module _ {S : Type 0} (o : Ops S) where
 
       all_out : (j : ℕ) (s : S) → IsHeld o u j s → Any (λ g. (g.pid ≡ j) × (g.start ≡ s)) (grants ++ g ∷ [])
       all_out j s w = elim (same_or_not j i) [
-        | inl e ↦ Any-push (λ (z : OpenGrant S). (z.pid ≡ j) × (z.start ≡ s)) grants g (pid ∙ sym e, start ∙ one_state u.flat.states (stands u.flat) i holds.is.quiet.first w.quiet.first l s lives lives holds.is.quiet.has (subst (λ z. HasProcessState u.flat z w.quiet.first s lives) e w.quiet.has))
+        | inl e ↦ Any-push (λ (z : OpenGrant S). (z.pid ≡ j) × (z.start ≡ s)) grants g (pid ∙ sym e, start ∙ one_state u.table.states (stands u.table) i holds.is.quiet.first w.quiet.first l s lives lives holds.is.quiet.has (subst (λ z. HasProcessState u.table z w.quiet.first s lives) e w.quiet.has))
         | inr far ↦ any_push (λ (z : OpenGrant S). (z.pid ≡ j) × (z.start ≡ s)) grants g (h.only j s ((holds.others j s far).1 w))
       ]
 
-  module _ (v u : FlatTreeView S) (grants : List (OpenGrant S)) (place used : ℕ) (g : OpenGrant S) (last : S) (h : AreHeld o v grants) (pids : AllPairs HaveOtherPids grants) (there : place < length grants) (its : g ≡ slice_index_or grants place g)
+  module _ (v u : RunStateView S) (grants : List (OpenGrant S)) (place used : ℕ) (g : OpenGrant S) (last : S) (h : AreHeld o v grants) (pids : AllPairs HaveOtherPids grants) (there : place < length grants) (its : g ≡ slice_index_or grants place g)
       (released : Releases o v u g.pid used g.start last) where
     its_at : (d : OpenGrant S) → slice_index_or grants place d ≡ g
     its_at d = get_or_default grants place d g there ∙ sym its

@@ -6,13 +6,13 @@ use Rattle.std.proofs.Crossing.{crosses}
 use Rattle.shim_local.specs.declared.local.Local.{Ghosts}
 use Rattle.shim_local.proofs.ended.Log.TheSendSync as logs
 use Rattle.shim_run_log.proofs.histories.Histories.TheSendSync as histories
-use Rattle.shim_flat.proofs.flat.Flat.TheSendSync as flats
-use Rattle.shim_flat.proofs.descent.Sharers.TheSendSync as sharers
-use Rattle.shim_flat_tree.proofs.flat_tree.PastSteps.TheSendSync as past
-use Rattle.shim_flat_tree.proofs.schedule.Schedule.TheSendSync as schedules
-use Rattle.shim_flat_tree.specs.contracts.flat_tree.FlatTree as FlatTree
-use Rattle.shim_flat_tree.specs.contracts.flat_tree.FlatTree.TheInside as tree
-use Rattle.shim_tree.proofs.entry.Entry.TheSendSync as entries
+use Rattle.shim_process_table.proofs.process_table.ProcessTable.TheSendSync as tables
+use Rattle.shim_process_table.proofs.descent.Sharers.TheSendSync as sharers
+use Rattle.shim_run_state.proofs.run_state.PastSteps.TheSendSync as past
+use Rattle.shim_run_state.proofs.process_lists.ProcessLists.TheSendSync as process_lists
+use Rattle.shim_run_state.specs.contracts.run_state.RunState as RunState
+use Rattle.shim_run_state.specs.contracts.run_state.RunState.TheInside as tree
+use Rattle.shim_run_log.proofs.entry.Entry.TheSendSync as entries
 use Rattle.shim_net.proofs.open_grant.OpenGrant.TheSendSync as grants
 use Rattle.shim_net.specs.contracts.net.Net as Net
 use Rattle.shim_net.specs.contracts.net.Net.TheInside as net
@@ -22,7 +22,7 @@ module _ (T : RattleType) (g : Ghosts T.Denot) (s : IsSend T) where
   tree_fields_send = recorded_send (tree.the_field T g).row _ _ (tree.the_type T g).to_one (struct_send (shape (tree.the_type T g)) (
     search (sendable, crosses) depth 20,
     (
-      flats.the_send T g s,
+      tables.the_send T g s,
       (
         search (sendable, crosses) depth 20,
         (
@@ -30,7 +30,7 @@ module _ (T : RattleType) (g : Ghosts T.Denot) (s : IsSend T) where
           (
             search (logs.the_send, sendable, crosses) depth 20,
             (
-              schedules.the_send,
+              process_lists.the_send,
               (
                 search (past.the_send, sendable, crosses) depth 20,
                 (
@@ -51,7 +51,7 @@ module _ (T : RattleType) (g : Ghosts T.Denot) (s : IsSend T) where
     ),
   ))
 
-  pub tree_send : IsSend (FlatTree.the_row T g)
+  pub tree_send : IsSend (RunState.the_row T g)
   tree_send = let f = tree_fields_send in search sendable
 
   net_fields_send : IsSend (net.the_row T g)

@@ -8,7 +8,7 @@ ghost use Rattle.shim_net.specs.Taking.{Matches, Closes, Absorbs, OnAbsorbed};
 use crate::net::Net;
 use crate::open_grant::place_of;
 use shim_local::{Finished, Local};
-use shim_tree::Entry;
+use shim_run_log::Entry;
 
 /// What came of a finished piece that was brought back.
 #[derive(Drop)]

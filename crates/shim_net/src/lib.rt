@@ -18,5 +18,5 @@ mod stepping;
 pub use absorb::Absorbed;
 pub use gate::{Gate, NoOpGate};
 pub use net::Net;
-pub use shim_tree::Entry;
+pub use shim_run_log::Entry;
 pub use standing::Standing;

@@ -1,15 +1,15 @@
-// A net over a flat tree of processes.
+// A net over the state of a run.
 ghost use Rattle.std.specs.Prelude.{◌≡◌, ◌≤◌, ◌-◌, ◌+◌, [], IfOk};
 ghost use Rattle.shim_semantics.specs.Sound.{SharesItsOwn};
 ghost use Rattle.shim_semantics.specs.Trees.{steps};
-ghost use Rattle.shim_flat_tree.specs.FlatTrees.{tree_in, KeepsTree};
+ghost use Rattle.shim_run_state.specs.RunStates.{tree_in, KeepsTree};
 ghost use Rattle.shim_net.specs.Nets.{started, reserved_in};
 
 use crate::open_grant::OpenGrant;
 use shim_base::NoMemory;
-use shim_flat_tree::FlatTree;
 use shim_local::Local;
-use shim_tree::Entry;
+use shim_run_log::Entry;
+use shim_run_state::RunState;
 use std::alloc::Global;
 use std::marker::Model;
 use std::snapshot::Snapshot;
@@ -23,7 +23,7 @@ pub struct Net<L: Local> {
     pub(crate) root: Snapshot<L>,
     pub(crate) budget: u64,
     // of which the processes of all open grants are held, and no others
-    pub(crate) tree: FlatTree<L>,
+    pub(crate) tree: RunState<L>,
     // with room for an entry of each open grant
     pub(crate) journal: Vec<Entry>,
     pub(crate) grants: Vec<OpenGrant<L>>,
@@ -35,7 +35,7 @@ impl<L: Local> Model for Net<L> {
     ghost use Rattle.std.specs.Prelude.{◌≡◌, ◌≤◌, ◌+◌, map, vec_len, vec_capacity};
     ghost use Rattle.shim_net.specs.Entries.{entry_of};
     ghost use Rattle.shim_net.specs.Nets.{NetView, IsNet, reserved_in};
-    ghost use Rattle.shim_flat_tree.specs.FlatTrees.{tree_in};
+    ghost use Rattle.shim_run_state.specs.RunStates.{tree_in};
     ghost use Rattle.shim_net.specs.Holding.{AreHeld};
     ghost use Rattle.shim_net.specs.Codes.{net_code};
 
@@ -61,7 +61,7 @@ impl<L: Local> Net<L> {
     {
         let begun = Snapshot::of(&root);
         let _path = root.path(); // its clause tells that the root is sound
-        let tree = FlatTree::start(alloc, root)?;
+        let tree = RunState::start(alloc, root)?;
         Ok(Net {
             root: begun,
             budget,
@@ -83,7 +83,7 @@ impl<L: Local> Net<L> {
 
 /// How many steps of the budget are neither taken in the tree nor reserved. Its clauses tell, too, what the
 /// tree's type keeps.
-pub(crate) fn left_in<L: Local>(tree: &FlatTree<L>, budget: u64, reserved: u64) -> u64
+pub(crate) fn left_in<L: Local>(tree: &RunState<L>, budget: u64, reserved: u64) -> u64
     requires { steps (tree_in L.ops tree.now) + reserved ≤ budget }
     ensures left { result ≡ budget - (steps (tree_in L.ops tree.now) + reserved) }
     ensures keeps { KeepsTree L.ops tree.now }

@@ -10,7 +10,7 @@ use crate::net::Net;
 use crate::open_grant::is_open;
 use shim_base::Chan;
 use shim_local::Local;
-use shim_tree::Entry;
+use shim_run_log::Entry;
 
 impl<L: Local> Net<L> {
     /// Whether an open grant has this slot and round.

@@ -7,7 +7,7 @@ ghost use Rattle.shim_net.specs.Settling.{RestsButForQuiet, SettlesOne, Settles}
 use crate::net::Net;
 use shim_base::NoMemory;
 use shim_local::Local;
-use shim_tree::Entry;
+use shim_run_log::Entry;
 
 impl<L: Local> Net<L> {
     /// Does enabled events other than quiet steps, until none is enabled, or all that is left of the

@@ -10,7 +10,7 @@ use crate::gate::{Gate, NoOpGate};
 use crate::net::{Net, left_in};
 use shim_base::{NoMemory, Path};
 use shim_local::{Local, Quiet};
-use shim_tree::Entry;
+use shim_run_log::Entry;
 
 // Adds the entry of so many quiet steps of the process of this path, if there are any, for which there is
 // room.

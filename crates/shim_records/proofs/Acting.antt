@@ -10,18 +10,18 @@ use Rattle.shim_semantics.specs.Acts.{Acted, act_here}
 use Rattle.shim_semantics.specs.Sound.{IsSound}
 use Rattle.shim_semantics.proofs.Replaced.{sound_at}
 use Rattle.shim_semantics.proofs.SoundEvents.{here_keeps}
-use Rattle.shim_laws_records.specs.Seen.{ProcessStatus, process_status, seen, is_leaf, place}
-use Rattle.shim_laws_records.specs.Agrees.{RecordView, Has, Shows}
-use Rattle.shim_laws_records.specs.Places.{IsReplaced}
-use Rattle.shim_laws_records.specs.Counts.{Tally, Reading as Read, reading}
-use Rattle.shim_laws_records.specs.Tallied.{Tallied, OnTheWay, HaveCounts, is_above}
-use Rattle.shim_laws_records.specs.Updating.{AreLinked, AreAtMost, UpdatedAbove, too_far, at_top, no_counts, stays, goes_on}
-use Rattle.shim_laws_records.specs.Sufficing.{read_leaf}
-use Rattle.shim_laws_records.proofs.Way.{above_its_own}
-use Rattle.shim_laws_records.proofs.Brought.{counts_follow}
-use Rattle.shim_laws_records.proofs.Foreign.{foreign_stays}
-use Rattle.shim_laws_records.proofs.Hanging.{tied, counts_share, none_above}
-use Rattle.shim_laws_records.proofs.Suffices.{below_or_not, given_suffice, actors_are_read}
+use Rattle.shim_laws_table.specs.Seen.{ProcessStatus, process_status, seen, is_leaf, place}
+use Rattle.shim_laws_table.specs.Agrees.{RecordView, Has, Shows}
+use Rattle.shim_laws_table.specs.Places.{IsReplaced}
+use Rattle.shim_laws_table.specs.Counts.{Tally, Reading as Read, reading}
+use Rattle.shim_laws_table.specs.Tallied.{Tallied, OnTheWay, HaveCounts, is_above}
+use Rattle.shim_laws_table.specs.Updating.{AreLinked, AreAtMost, UpdatedAbove, too_far, at_top, no_counts, stays, goes_on}
+use Rattle.shim_laws_table.specs.Sufficing.{read_leaf}
+use Rattle.shim_laws_table.proofs.Way.{above_its_own}
+use Rattle.shim_laws_table.proofs.Brought.{counts_follow}
+use Rattle.shim_laws_table.proofs.Foreign.{foreign_stays}
+use Rattle.shim_laws_table.proofs.Hanging.{tied, counts_share, none_above}
+use Rattle.shim_laws_table.proofs.Suffices.{below_or_not, given_suffice, actors_are_read}
 use Rattle.shim_records.specs.Pairs.{counts_in, up_in, rest_of, stands_of}
 use Rattle.shim_records.specs.Acted.{acting, ActedBrings}
 use Rattle.shim_records.proofs.ManyWays.{rest_same, others, its_way, among_or_not}

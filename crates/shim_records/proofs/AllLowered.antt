@@ -5,7 +5,7 @@ use Rattle.shim_base.specs.Paths.{Channel, NamedChannel, same_channel}
 use Rattle.shim_base.proofs.Facts.{some_same, none_some}
 use Rattle.shim_base.proofs.SamePaths.{same_channel_is}
 use Rattle.shim_local.specs.Process.{Ops}
-use Rattle.shim_laws_records.specs.LoweredLabels.{LoweredAbove}
+use Rattle.shim_laws_table.specs.LoweredLabels.{LoweredAbove}
 use Rattle.shim_records.specs.Members.{IsAmong}
 use Rattle.shim_records.specs.Pairs.{counts_in, leasts_in, up_in, rest_of}
 use Rattle.shim_records.specs.Labels.{IsLoweredAbove}

@@ -15,7 +15,7 @@ use Rattle.shim_base.proofs.Facts.{some_same, none_some}
 use Rattle.shim_base.proofs.SamePaths.{same_channel_is, same_channel_refl}
 use Rattle.shim_local.specs.Process.{Ops}
 use Rattle.shim_local.specs.Laws.{AnyOf, IsGiven}
-use Rattle.shim_laws_records.specs.Counts.{Tally, fresh_tally}
+use Rattle.shim_laws_table.specs.Counts.{Tally, fresh_tally}
 use Rattle.shim_records.specs.Members.{IsAmong}
 use Rattle.shim_records.specs.Pairs.{tally, chans_of, IsOrdered, pair_of, tally_for, least_label_of}
 use Rattle.shim_records.specs.Fresh.{shared_of, shared_given, channels, RisesFrom, Rises, is_behind, comes_after, IsOneMore, skipped, added, IsPaired, FreshPairs}

@@ -7,9 +7,9 @@ use Rattle.std.specs.Option.{option_map}
 use Rattle.shim_base.specs.Paths.{Channel, same_channel}
 use Rattle.shim_base.proofs.Facts.{some_same, none_some}
 use Rattle.shim_base.proofs.SamePaths.{same_channel_is}
-use Rattle.shim_laws_records.specs.Dooms.{lesser}
-use Rattle.shim_laws_records.specs.LoweredLabels.{IsLowered, LoweredAbove, all_the_way, at_the_root, uncounted, as_low, lowers}
-use Rattle.shim_laws_records.proofs.SameTrees.{same_or_not}
+use Rattle.shim_laws_table.specs.Dooms.{lesser}
+use Rattle.shim_laws_table.specs.LoweredLabels.{IsLowered, LoweredAbove, all_the_way, at_the_root, uncounted, as_low, lowers}
+use Rattle.shim_laws_table.proofs.SameTrees.{same_or_not}
 use Rattle.shim_records.specs.Pairs.{tally, pair_index, pair_of, tally_for, least_label_of, counts_at, counts_in, least_at, leasts_in, up_in, rest_of, chans_of}
 use Rattle.shim_records.specs.Labels.{OnlyLabels, LowersOne, IsLoweredAbove}
 use Rattle.shim_records.specs.declared.pair.Pair.{Pair}

@@ -6,12 +6,12 @@ use Rattle.shim_base.proofs.SamePaths.{same_channel_is, same_channel_refl}
 use Rattle.shim_local.specs.Process.{Ops}
 use Rattle.shim_local.specs.Laws.{LocalLaws}
 use Rattle.shim_semantics.proofs.HowMany.{clash}
-use Rattle.shim_laws_records.specs.Agrees.{RecordView}
-use Rattle.shim_laws_records.specs.Counts.{Tally, Reading as Read, reading}
-use Rattle.shim_laws_records.specs.Tallied.{Tallied, HaveCounts}
-use Rattle.shim_laws_records.specs.Updating.{UpdatedAbove}
-use Rattle.shim_laws_records.proofs.Brought.{counts_follow}
-use Rattle.shim_laws_records.proofs.Suffices.{given_suffice}
+use Rattle.shim_laws_table.specs.Agrees.{RecordView}
+use Rattle.shim_laws_table.specs.Counts.{Tally, Reading as Read, reading}
+use Rattle.shim_laws_table.specs.Tallied.{Tallied, HaveCounts}
+use Rattle.shim_laws_table.specs.Updating.{UpdatedAbove}
+use Rattle.shim_laws_table.proofs.Brought.{counts_follow}
+use Rattle.shim_laws_table.proofs.Suffices.{given_suffice}
 use Rattle.shim_records.specs.Members.{IsAmong}
 use Rattle.shim_records.specs.Pairs.{reading_of, counts_in, up_in, rest_of, stands_of}
 use Rattle.shim_records.specs.AllWays.{AllUpdatedAbove, none_left, one_more, WaysBring}

@@ -5,11 +5,11 @@ use Rattle.std.specs.Option.{option_map}
 use Rattle.shim_base.specs.Paths.{Channel, same_channel}
 use Rattle.shim_base.proofs.Facts.{some_same}
 use Rattle.shim_local.specs.Process.{Ops}
-use Rattle.shim_laws_records.specs.Seen.{forks}
-use Rattle.shim_laws_records.specs.Agrees.{RecordView, free, used}
-use Rattle.shim_laws_records.specs.Dooms.{lesser}
-use Rattle.shim_laws_records.specs.Recounting.{label_at, least_label_among, IsReadOff, Recounted, all_the_way, at_the_root, uncounted, as_before, recounts}
-use Rattle.shim_laws_records.proofs.Leasts.{lesser_nothing, lesser_further}
+use Rattle.shim_laws_table.specs.Seen.{forks}
+use Rattle.shim_laws_table.specs.Agrees.{RecordView, free, used}
+use Rattle.shim_laws_table.specs.Dooms.{lesser}
+use Rattle.shim_laws_table.specs.Recounting.{label_at, least_label_among, IsReadOff, Recounted, all_the_way, at_the_root, uncounted, as_before, recounts}
+use Rattle.shim_laws_table.proofs.Leasts.{lesser_nothing, lesser_further}
 use Rattle.shim_records.specs.Pairs.{fork_size, pair_index, pair_of, least_label_of, counts_in, leasts_in, up_in, UncountedRecord, rest_of, stands_by, stands_of}
 use Rattle.shim_records.specs.Labels.{OnlyLabels}
 use Rattle.shim_records.specs.Recounting.{Recounts, RecountsOne, IsRecounted}

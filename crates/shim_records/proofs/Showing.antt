@@ -1,6 +1,6 @@
 -- Blocks of records that were put or freed, as what happened to the tree.
-use Rattle.shim_laws_records.proofs.Tallies.{counts_tell}
-use Rattle.shim_laws_records.specs.Dooms.{least_among}
+use Rattle.shim_laws_table.proofs.Tallies.{counts_tell}
+use Rattle.shim_laws_table.specs.Dooms.{least_among}
 use Rattle.shim_local.specs.Laws.{AnyOf, IsGiven}
 use Rattle.std.proofs.Common.{◌≡◌, ◌≢◌, ◌<◌, ◌≤◌, ◌⊎◌, ◌+◌, ℕ, zero, suc, Option, Some, None, List, [], ◌∷◌, map, length, slice_set, inl, inr, refl, sym, ap, subst, ◌∙◌, arith}
 use Rattle.std.specs.Prelude.{slice_get}
@@ -11,11 +11,11 @@ use Rattle.shim_base.specs.Paths.{Path, Channel}
 use Rattle.shim_local.specs.Process.{Ops}
 use Rattle.shim_semantics.specs.Nodes.{Node, all_live, states}
 use Rattle.shim_base.proofs.Facts.{some_same, none_some}
-use Rattle.shim_laws_records.specs.Seen.{ProcessStatus, lives, forks, place}
-use Rattle.shim_laws_records.specs.Agrees.{RecordView, free, used, Has, Agrees}
-use Rattle.shim_laws_records.specs.Changes.{HasForked, HasClosed}
-use Rattle.shim_laws_records.proofs.SameTrees.{same_or_not}
-use Rattle.shim_laws_records.proofs.Forking.{there_is, no_shorter}
+use Rattle.shim_laws_table.specs.Seen.{ProcessStatus, lives, forks, place}
+use Rattle.shim_laws_table.specs.Agrees.{RecordView, free, used, Has, Agrees}
+use Rattle.shim_laws_table.specs.Changes.{HasForked, HasClosed}
+use Rattle.shim_laws_table.proofs.SameTrees.{same_or_not}
+use Rattle.shim_laws_table.proofs.Forking.{there_is, no_shorter}
 use Rattle.shim_records.specs.Pairs.{stands_of}
 use Rattle.shim_records.specs.Blocks.{with_one, with_block}
 use Rattle.shim_records.specs.Showing.{BlocksShow, PairsBegin}

@@ -7,9 +7,9 @@ use mathlib.Core.Bool.{beq}
 use Rattle.std.proofs.lemmas.Option.{slice_get_read}
 use Rattle.shim_base.specs.Paths.{Channel}
 use Rattle.shim_base.proofs.Facts.{some_same, none_some}
-use Rattle.shim_laws_records.specs.Counts.{live_reading, read_of, all_there, IsExchanged}
-use Rattle.shim_laws_records.specs.Updating.{CanMove, AreMoved, UpdatedAbove, at_top, no_counts, stays, goes_on}
-use Rattle.shim_laws_records.proofs.SameTrees.{same_or_not}
+use Rattle.shim_laws_table.specs.Counts.{live_reading, read_of, all_there, IsExchanged}
+use Rattle.shim_laws_table.specs.Updating.{CanMove, AreMoved, UpdatedAbove, at_top, no_counts, stays, goes_on}
+use Rattle.shim_laws_table.proofs.SameTrees.{same_or_not}
 use Rattle.shim_records.specs.Pairs.{tally, reading_of, pair_index, counts_at, counts_in, least_at, up_at, up_in, rest_of, chans_of, UncountedRecord}
 use Rattle.shim_records.specs.Ways.{OnlyCounts, MovesParent, StepsUp}
 use Rattle.shim_records.specs.declared.pair.Pair.{Pair}

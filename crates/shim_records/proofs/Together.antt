@@ -2,8 +2,8 @@
 use Rattle.std.proofs.Common.{◌≡◌, ◌≢◌, ◌<◌, ◌≤◌, ◌+◌, ◌-◌, ℕ, zero, suc, Some, List, [], ◌∷◌, ◌++◌, length, slice_set, inl, inr, refl, sym, ap, ◌∙◌, arith}
 use Rattle.std.specs.Prelude.{slice_get}
 use Rattle.shim_base.proofs.Facts.{some_same}
-use Rattle.shim_laws_records.specs.Agrees.{free}
-use Rattle.shim_laws_records.proofs.SameTrees.{same_or_not}
+use Rattle.shim_laws_table.specs.Agrees.{free}
+use Rattle.shim_laws_table.proofs.SameTrees.{same_or_not}
 use Rattle.shim_records.specs.Pairs.{stands_of}
 use Rattle.shim_records.specs.Blocks.{with_one, IsFreed}
 use Rattle.shim_records.specs.declared.record.Record.{Record}

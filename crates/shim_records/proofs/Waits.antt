@@ -8,7 +8,7 @@ use Rattle.std.proofs.lemmas.List.{length-set, append_assoc, length-append}
 use Rattle.std.proofs.lemmas.Bool.{true≢false}
 use Rattle.shim_base.proofs.Facts.{some_same, none_some}
 use Rattle.shim_records.specs.Waiting.{set_flags, KeepsRoom, AreRaised}
-use Rattle.shim_laws_records.proofs.SameTrees.{same_or_not}
+use Rattle.shim_laws_table.proofs.SameTrees.{same_or_not}
 use Rattle.shim_records.proofs.Stepping.{set_there, set_elsewhere}
 
 in_front : {A : Type 0} (xs ys : List A) (i : ℕ) (x : A) → slice_get xs i ≡ Some x → slice_get (xs ++ ys) i ≡ Some x

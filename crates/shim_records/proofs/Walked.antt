@@ -4,9 +4,9 @@ use Rattle.std.specs.Prelude.{slice_get}
 use Rattle.shim_base.specs.Paths.{Channel, NamedChannel}
 use Rattle.shim_base.proofs.Facts.{some_same, none_some}
 use Rattle.shim_local.specs.Process.{Ops}
-use Rattle.shim_laws_records.specs.Seen.{ProcessStatus}
-use Rattle.shim_laws_records.specs.Counts.{Reading as Read}
-use Rattle.shim_laws_records.specs.Sufficing.{read_leaf}
+use Rattle.shim_laws_table.specs.Seen.{ProcessStatus}
+use Rattle.shim_laws_table.specs.Counts.{Reading as Read}
+use Rattle.shim_laws_table.specs.Sufficing.{read_leaf}
 use Rattle.shim_records.specs.Members.{IsAmong}
 use Rattle.shim_records.specs.Pairs.{reading_of, rest_of}
 use Rattle.shim_records.specs.Ways.{IsUpdatedAbove}

@@ -3,8 +3,8 @@ use Rattle.shim_base.proofs.Facts.{some_same, none_some}
 use Rattle.std.proofs.Common.{◌≡◌, ℕ, zero, suc, ◌+◌, ◌-◌, ◌<◌, ◌≤◌, Option, Some, None, List, [], ◌∷◌, map, refl, sym, ap, subst, ◌∙◌, arith}
 use Rattle.std.specs.Prelude.{slice_get}
 use Rattle.shim_base.specs.Paths.{Channel}
-use Rattle.shim_laws_records.specs.Counts.{Tally}
-use Rattle.shim_laws_records.specs.Updating.{UpdatedAbove, too_far}
+use Rattle.shim_laws_table.specs.Counts.{Tally}
+use Rattle.shim_laws_table.specs.Updating.{UpdatedAbove, too_far}
 use Rattle.shim_records.specs.Pairs.{reading_of, counts_in, up_in, UncountedRecord, rest_of, AreOrdered, IsOrdered, chans_of}
 use Rattle.shim_records.specs.Ways.{OnlyCounts, Goes, StepsUp, IsUpdatedAbove}
 use Rattle.shim_records.specs.declared.pair.Reading.{Reading}

@@ -6,13 +6,13 @@ use Rattle.shim_local.specs.Laws.{IsGiven}
 use Rattle.shim_semantics.specs.Nodes.{Node}
 use Rattle.shim_semantics.specs.Acts.{Acted, act_here}
 use Rattle.shim_semantics.specs.Sound.{IsSound}
-use Rattle.shim_laws_records.specs.Seen.{ProcessStatus, lives, forks, ends, dies, is_leaf, place}
-use Rattle.shim_laws_records.specs.Agrees.{Has, Shows}
-use Rattle.shim_laws_records.specs.Places.{IsReplaced}
-use Rattle.shim_laws_records.specs.Tallied.{Tallied, OnTheWay, HaveCounts}
-use Rattle.shim_laws_records.specs.Updating.{AreLinked, AreAtMost}
-use Rattle.shim_laws_records.specs.Counts.{Reading as Read}
-use Rattle.shim_laws_records.specs.Sufficing.{read_leaf}
+use Rattle.shim_laws_table.specs.Seen.{ProcessStatus, lives, forks, ends, dies, is_leaf, place}
+use Rattle.shim_laws_table.specs.Agrees.{Has, Shows}
+use Rattle.shim_laws_table.specs.Places.{IsReplaced}
+use Rattle.shim_laws_table.specs.Tallied.{Tallied, OnTheWay, HaveCounts}
+use Rattle.shim_laws_table.specs.Updating.{AreLinked, AreAtMost}
+use Rattle.shim_laws_table.specs.Counts.{Reading as Read}
+use Rattle.shim_laws_table.specs.Sufficing.{read_leaf}
 use Rattle.shim_records.specs.Members.{IsAmong}
 use Rattle.shim_records.specs.Pairs.{reading_of, counts_in, up_in, rest_of, stands_of}
 use Rattle.shim_records.specs.Ways.{IsUpdatedAbove}

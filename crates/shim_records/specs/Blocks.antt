@@ -1,6 +1,6 @@
 -- Records that lie together, put in place of others or behind them, and freed.
 use Rattle.std.specs.Prelude.{◌≡◌, ◌≢◌, ◌<◌, ℕ, zero, suc, ◌+◌, Some, List, [], ◌∷◌, slice_get}
-use Rattle.shim_laws_records.specs.Agrees.{free}
+use Rattle.shim_laws_table.specs.Agrees.{free}
 use Rattle.shim_records.specs.Pairs.{stands_of}
 use Rattle.shim_records.specs.declared.record.Record.{Record}
 

@@ -4,9 +4,9 @@ use Rattle.shim_base.specs.Paths.{Channel}
 use Rattle.shim_local.specs.Process.{Ops}
 use Rattle.shim_local.specs.Laws.{IsGiven}
 use Rattle.shim_semantics.specs.Nodes.{death}
-use Rattle.shim_laws_records.specs.Seen.{lives, dies}
-use Rattle.shim_laws_records.specs.Counts.{Reading as Read}
-use Rattle.shim_laws_records.specs.Sufficing.{read_leaf}
+use Rattle.shim_laws_table.specs.Seen.{lives, dies}
+use Rattle.shim_laws_table.specs.Counts.{Reading as Read}
+use Rattle.shim_laws_table.specs.Sufficing.{read_leaf}
 use Rattle.shim_records.specs.Members.{IsAmong}
 use Rattle.shim_records.specs.Pairs.{reading_of}
 use Rattle.shim_records.specs.Ways.{IsUpdatedAbove}

@@ -1,7 +1,7 @@
 -- How the least labels of records are brought up to date on the way up.
 use Rattle.std.specs.Prelude.{◌≡◌, ℕ, suc, false, Option, Some, None, List, map}
 use Rattle.shim_base.specs.Paths.{Channel, same_channel}
-use Rattle.shim_laws_records.specs.LoweredLabels.{LoweredAbove}
+use Rattle.shim_laws_table.specs.LoweredLabels.{LoweredAbove}
 use Rattle.shim_records.specs.Pairs.{counts_in, leasts_in, up_in, rest_of}
 use Rattle.shim_records.specs.declared.record.Record.{Record}
 

@@ -3,9 +3,9 @@ use Rattle.std.specs.declared.cmp.Ordering.TheVariants.{Less}
 use Rattle.std.specs.Prelude.{ℕ, suc, Option, Some, None, List, [], ◌∷◌, cond, slice_get, ◌≡◌, ◌<◌, map}
 use Rattle.std.specs.Option.{option_map}
 use Rattle.shim_base.specs.Paths.{Path, Channel, same_channel, channel_order}
-use Rattle.shim_laws_records.specs.Seen.{lives, forks, ends, dies}
-use Rattle.shim_laws_records.specs.Agrees.{RecordView, free, used}
-use Rattle.shim_laws_records.specs.Counts.{Tally, Reading as Read}
+use Rattle.shim_laws_table.specs.Seen.{lives, forks, ends, dies}
+use Rattle.shim_laws_table.specs.Agrees.{RecordView, free, used}
+use Rattle.shim_laws_table.specs.Counts.{Tally, Reading as Read}
 use Rattle.shim_records.specs.declared.pair.Pair.{Pair}
 use Rattle.shim_records.specs.declared.pair.Reading.{Reading}
 use Rattle.shim_records.specs.declared.record.Record.{Record}

@@ -2,7 +2,7 @@
 use Rattle.std.specs.Prelude.{ℕ, suc, Option, Some, None, List, map}
 use Rattle.shim_base.specs.Paths.{Channel}
 use Rattle.shim_local.specs.Process.{Ops}
-use Rattle.shim_laws_records.specs.Recounting.{Recounted}
+use Rattle.shim_laws_table.specs.Recounting.{Recounted}
 use Rattle.shim_records.specs.Pairs.{counts_in, leasts_in, up_in, stands_of}
 use Rattle.shim_records.specs.Labels.{OnlyLabels}
 use Rattle.shim_records.specs.declared.record.Record.{Record}

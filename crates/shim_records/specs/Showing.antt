@@ -1,15 +1,15 @@
 -- What putting and freeing a block of records does to what the records show.
 use Rattle.shim_records.specs.declared.pair.Pair.{Pair}
 use Rattle.shim_records.specs.Fresh.{FreshPairs}
-use Rattle.shim_laws_records.specs.Dooms.{least_among}
-use Rattle.shim_laws_records.specs.Beginning.{AreOf}
+use Rattle.shim_laws_table.specs.Dooms.{least_among}
+use Rattle.shim_laws_table.specs.Beginning.{AreOf}
 use Rattle.std.specs.Prelude.{◌≡◌, ◌<◌, ◌≤◌, ℕ, ◌+◌, Some, List, map, slice_get, slice_set, length}
 use Rattle.shim_base.specs.Paths.{Path, Channel}
 use Rattle.shim_local.specs.Process.{Ops}
 use Rattle.shim_semantics.specs.Nodes.{Node, all_live}
-use Rattle.shim_laws_records.specs.Seen.{ProcessStatus, lives, forks}
-use Rattle.shim_laws_records.specs.Agrees.{used, Has, Agrees}
-use Rattle.shim_laws_records.specs.Changes.{HasForked, HasClosed}
+use Rattle.shim_laws_table.specs.Seen.{ProcessStatus, lives, forks}
+use Rattle.shim_laws_table.specs.Agrees.{used, Has, Agrees}
+use Rattle.shim_laws_table.specs.Changes.{HasForked, HasClosed}
 use Rattle.shim_records.specs.Pairs.{stands_of, tally_for, least_label_of, pair_of}
 use Rattle.shim_records.specs.Blocks.{with_block, IsFreed}
 use Rattle.shim_records.specs.declared.record.Record.{Record}

@@ -1,8 +1,8 @@
 -- How the counts of records are brought up to date on the way up.
 use Rattle.std.specs.Prelude.{◌≡◌, ℕ, suc, false, Option, Some, None, List, map}
 use Rattle.shim_base.specs.Paths.{Channel, same_channel}
-use Rattle.shim_laws_records.specs.Counts.{Tally}
-use Rattle.shim_laws_records.specs.Updating.{UpdatedAbove}
+use Rattle.shim_laws_table.specs.Counts.{Tally}
+use Rattle.shim_laws_table.specs.Updating.{UpdatedAbove}
 use Rattle.shim_records.specs.Pairs.{reading_of, counts_in, leasts_in, up_in, rest_of}
 use Rattle.shim_records.specs.declared.upward.CountChange.{CountChange}
 use Rattle.shim_records.specs.declared.pair.Reading.{Reading}

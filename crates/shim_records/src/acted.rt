@@ -3,7 +3,7 @@ ghost use Rattle.std.specs.Prelude.{◌≡◌, ◌≤◌, true, false, length};
 ghost use Rattle.shim_records.specs.Pairs.{reading_of, AreOrdered};
 ghost use Rattle.shim_records.specs.Ways.{AllCountsMovedWithin};
 ghost use Rattle.shim_records.specs.Acted.{Earlier, process_status_of, UpdatesForOne, AllUpdated};
-ghost use Rattle.shim_laws_records.specs.Sufficing.{read_leaf};
+ghost use Rattle.shim_laws_table.specs.Sufficing.{read_leaf};
 
 use crate::pair::Reading;
 use crate::receiving::is_at_channel;

@@ -1,7 +1,7 @@
 // The counts of a new fork's children.
 ghost use Rattle.std.specs.Prelude.{◌≡◌, ◌≤◌, ◌<◌, suc, None, ◌++◌, ◌&&◌, not, [], ◌∷◌, cond, if◌then◌else◌, length, IfOk, OnOk};
 ghost use Rattle.shim_semantics.specs.Nodes.{is_next};
-ghost use Rattle.shim_laws_records.specs.Counts.{fresh_tally};
+ghost use Rattle.shim_laws_table.specs.Counts.{fresh_tally};
 ghost use Rattle.shim_records.specs.Pairs.{tally};
 ghost use Rattle.shim_records.specs.Fresh.{shared_of, shared_given, channels, Rises, comes_after, IsOneMore, IsPaired, FreshPairs};
 

@@ -1,6 +1,6 @@
 // The least labels of dead sharers, brought up to date on the way up from a death.
 ghost use Rattle.std.specs.Prelude.{◌≡◌, Some, false};
-ghost use Rattle.shim_laws_records.specs.Dooms.{lesser};
+ghost use Rattle.shim_laws_table.specs.Dooms.{lesser};
 ghost use Rattle.shim_records.specs.Pairs.{tally, AreOrdered};
 ghost use Rattle.shim_records.specs.Labels.{LowersOne, IsLoweredAbove};
 

@@ -2,7 +2,7 @@
 //! it, and of a fork how its children stand at the channels that they share.
 //!
 //! A process's number is its place among the records, and that of its state. The laws of
-//! `shim_laws_records` say which tree they show.
+//! `shim_laws_table` say which tree they show.
 #![tactic(auto)]
 
 mod acted;

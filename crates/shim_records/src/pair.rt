@@ -1,8 +1,8 @@
 // What is counted of the children of a fork for a channel.
 ghost use Rattle.std.specs.Prelude.{◌≡◌, ◌≤◌, ◌+◌, position};
 ghost use Rattle.shim_base.specs.Paths.{same_channel};
-ghost use Rattle.shim_laws_records.specs.Counts.{bit, all_there, live_reading, IsExchanged};
-ghost use Rattle.shim_laws_records.specs.Updating.{CanMove};
+ghost use Rattle.shim_laws_table.specs.Counts.{bit, all_there, live_reading, IsExchanged};
+ghost use Rattle.shim_laws_table.specs.Updating.{CanMove};
 ghost use Rattle.shim_records.specs.declared.pair.Pair.{Pair as PairOf};
 ghost use Rattle.shim_records.specs.Pairs.{tally, reading_of, pair_index, chans_of, IsOrdered};
 

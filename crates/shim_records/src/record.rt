@@ -1,6 +1,6 @@
 // What is kept of a process beside its state.
 ghost use Rattle.std.specs.Prelude.{◌≡◌, true};
-ghost use Rattle.shim_laws_records.specs.Agrees.{free};
+ghost use Rattle.shim_laws_table.specs.Agrees.{free};
 ghost use Rattle.shim_records.specs.Pairs.{fork_size, stands_of};
 
 use crate::pair::Pair;

@@ -1,7 +1,7 @@
 // The least labels of dead sharers, read off the forks' children again on the way up from a close.
 ghost use Rattle.std.specs.Prelude.{◌≡◌, false, map};
-ghost use Rattle.shim_laws_records.specs.Dooms.{lesser};
-ghost use Rattle.shim_laws_records.specs.Recounting.{label_at, least_label_among};
+ghost use Rattle.shim_laws_table.specs.Dooms.{lesser};
+ghost use Rattle.shim_laws_table.specs.Recounting.{label_at, least_label_among};
 ghost use Rattle.shim_records.specs.Pairs.{tally, least_label_of, pair_of, chans_of, stands_of, leasts_in, IsOrdered, AreOrdered};
 ghost use Rattle.shim_records.specs.Recounting.{RecountsOne, IsRecounted};
 

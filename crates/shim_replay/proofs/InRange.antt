@@ -7,7 +7,7 @@ use Rattle.shim_laws_replay.specs.Journals as journals
 use Rattle.shim_laws_journals.specs.Ranges.{HasStepsInRange, IsInRange, steps_in_all}
 use Rattle.shim_replay.specs.Entries.{entry_of, entries_of}
 use Rattle.shim_replay.specs.JournalTexts.{FitsEntry, IsJournalText, entry_lines, line_feeds, first_words, joined_lines, line, stop_words}
-use Rattle.shim_tree.specs.declared.entry.Entry.{Entry}
+use Rattle.shim_run_log.specs.declared.entry.Entry.{Entry}
 use Rattle.shim_replay.proofs.LineFeeds.{line_feeds-append, decimal_plain, one_line_feed}
 use Rattle.shim_replay.proofs.Faults.{joined_line_feeds, steps_few}
 use Rattle.shim_replay.proofs.JournalLaws.{text_is, stop_plain}

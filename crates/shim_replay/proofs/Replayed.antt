@@ -13,7 +13,7 @@ use Rattle.shim_replay.specs.Entries.{entry_of, entries_of}
 use Rattle.shim_replay.specs.Replaying.{AnswersEnd, ReplayAnswers}
 use Rattle.shim_replay.specs.declared.fault.ReplayFault.{ReplayFault}
 use Rattle.shim_replay.specs.declared.fault.ReplayFault.TheVariants as faults
-use Rattle.shim_tree.specs.declared.entry.Entry.{Entry}
+use Rattle.shim_run_log.specs.declared.entry.Entry.{Entry}
 
 -- the entries up to one, that one, and those behind it
 parted : (es : List Entry) (i : ℕ) (d : Entry) → i < length es → entries_of es ≡ entries_of (take i es) ++ entry_of (get_or es i d) ∷ entries_of (drop (i + 1) es)

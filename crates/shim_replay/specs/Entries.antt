@@ -1,11 +1,11 @@
 -- Which entries of a journal those of the code mean.
 use Rattle.std.specs.Prelude.{◌≡◌, List, map}
-use Rattle.shim_tree.specs.declared.event.Event.TheVariants as event
-pub use Rattle.shim_tree.specs.NodeStatus.{event_of}
-pub use Rattle.shim_tree.specs.Entries.{entry_of}
+use Rattle.shim_run_log.specs.declared.event.Event.TheVariants as event
+pub use Rattle.shim_run_log.specs.Events.{event_of}
+pub use Rattle.shim_run_log.specs.Entries.{entry_of}
 use Rattle.shim_laws_replay.specs.Journals as journals
-use Rattle.shim_tree.specs.declared.entry.Entry.{Entry}
-use Rattle.shim_tree.specs.declared.entry.Entry.TheVariants as code
+use Rattle.shim_run_log.specs.declared.entry.Entry.{Entry}
+use Rattle.shim_run_log.specs.declared.entry.Entry.TheVariants as code
 
 abbrev pub entries_of : List Entry → List journals.Entry
 entries_of es = map entry_of es

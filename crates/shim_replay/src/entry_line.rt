@@ -10,7 +10,7 @@ use crate::numbers::{STEP_LIMIT, scan_count, scan_word};
 use crate::paths::{scan_channel, scan_path};
 use crate::recent_paths::RecentPaths;
 use shim_base::Path;
-use shim_tree::{Entry, Event};
+use shim_run_log::{Entry, Event};
 
 #[tactic(auto, unfolding(crate::specs::Scanning::scan_quiet))]
 fn scan_quiet<'a>(recent: &mut RecentPaths, bytes: &'a [u8]) -> Result<(Entry, &'a [u8]), ReadFault>

@@ -4,7 +4,7 @@ ghost use Rattle.shim_laws_journals.specs.Ranges.{steps_in};
 ghost use Rattle.shim_replay.specs.Entries.{entry_of};
 
 use shim_base::List;
-use shim_tree::Entry;
+use shim_run_log::Entry;
 
 /// The budget of a run in steps, and what was done in it.
 #[derive(Drop)]

@@ -7,7 +7,7 @@ ghost use Rattle.shim_replay.specs.Entries.{entry_of, entries_of, event_of};
 ghost use Rattle.shim_replay.specs.JournalTexts.{FitsChannel, FitsEntry, FitsEvent, FitsPath};
 
 use shim_base::{Chan, Path};
-use shim_tree::{Entry, Event};
+use shim_run_log::{Entry, Event};
 
 fn pair_fits(pair: (u32, u32))
     ensures { (pair.0 < 2 ^ 32) × (pair.1 < 2 ^ 32) }

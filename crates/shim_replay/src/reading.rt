@@ -15,7 +15,7 @@ use crate::numbers::{STEP_LIMIT, scan_count, scan_word};
 use crate::recent_paths::RecentPaths;
 use itoa::Buffer;
 use shim_base::{List, NoMemory};
-use shim_tree::Entry;
+use shim_run_log::Entry;
 use std::alloc::Global;
 
 #[tactic(auto, unfolding(crate::specs::Scanning::scan_budget))]

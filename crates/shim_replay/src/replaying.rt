@@ -10,7 +10,8 @@ use crate::fault::ReplayFault;
 use crate::journal::{Journal, steps_in};
 use shim_base::NoMemory;
 use shim_local::Local;
-use shim_tree::{Entry, Tree};
+use shim_run_log::Entry;
+use shim_tree::Tree;
 use std::alloc::Global;
 
 // Does an entry. False where a step of it isn't enabled in its turn, or is no quiet step in an entry of these.

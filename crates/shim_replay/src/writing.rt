@@ -11,7 +11,7 @@ ghost use Rattle.shim_replay.specs.JournalTexts.{IsJournalText, entry_lines, ent
 use crate::journal::steps_in;
 use crate::ranges::entries_fit;
 use shim_base::{Chan, List, NoMemory, Path, push_decimal};
-use shim_tree::{Entry, Event};
+use shim_run_log::{Entry, Event};
 use std::alloc::Global;
 
 fn push_pair(text: &mut List<u8>, pair: (u32, u32)) -> Result<(), NoMemory>

@@ -4,3 +4,9 @@ pub mod Listed
 pub mod Logged
 pub mod Mapped
 pub mod Numbered
+pub mod Counted
+pub mod Summed
+pub mod Reserved
+pub mod ReservedAll
+pub mod AllStepped
+pub mod WaitsAdded

@@ -2,3 +2,8 @@
 pub mod Maps
 pub mod Logged
 pub mod Waits
+pub mod Counted
+pub mod Summed
+pub mod Reserved
+pub mod Events
+pub mod Entries

@@ -1,5 +1,5 @@
 -- The maps of the code, as the finite maps that they mean.
-use Rattle.std.specs.Prelude.{◌≡◌, ◌≢◌, ◌↔◌, ℕ, Option, Some, List, [], map, slice_get, unwrap_or}
+use Rattle.std.specs.Prelude.{◌≡◌, ◌≢◌, ◌↔◌, ℕ, Option, Some, List, [], map, slice_get, unwrap_or, Bool, not, eqb}
 use Rattle.std.specs.Option.{option_map}
 use Rattle.std.specs.FinMap as finite
 use Rattle.std.specs.BTreeMap.{BTreeMap, get_by}
@@ -48,3 +48,10 @@ pub record IsHistoryIndex (numbers : BTreeMap NamedChannel ℕ) (kept : List His
 -- who waits, by path, and at which channel
 abbrev pub waits_in : BTreeMap Path NamedChannel → finite.FinMap path_order NamedChannel
 waits_in m = finite.from_entries m.entries
+
+abbrev pub counts_of : BTreeMap Path ℕ → finite.FinMap path_order ℕ
+counts_of m = finite.from_entries m.entries
+
+-- it did a step of its own
+abbrev pub has_stepped : Path × ℕ → Bool
+has_stepped e = not (eqb e.1 0)

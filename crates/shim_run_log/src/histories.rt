@@ -1,5 +1,5 @@
 // The values that the meetings on each channel gave.
-ghost use Rattle.std.specs.Prelude.{◌≡◌, ℕ, true, false, [], ◌∷◌, ◌↔◌, IsTrue, OnOk, OnErr, IfOk, map};
+ghost use Rattle.std.specs.Prelude.{◌≡◌, ℕ, None, true, false, [], ◌∷◌, ◌↔◌, IsTrue, OnOk, OnErr, IfOk, map};
 ghost use Rattle.std.specs.Option.{option_copied};
 ghost use Rattle.std.specs.FinMap as finite;
 ghost use Rattle.shim_semantics.specs.Trees.{recorded};
@@ -76,7 +76,7 @@ impl Histories {
     /// none: that one's name is wanted first.
     pub fn record_value(&mut self, chan: &Chan, value: i64) -> Result<bool, NoMemory>
         ensures known { IfOk result (λ known. known ≡ true → (name : ℕ) → self.new ≡ recorded self.old chan.now.channel name value) }
-        ensures first { IfOk result (λ known. known ≡ false → self.new ≡ self.old) }
+        ensures first { IfOk result (λ known. known ≡ false → (self.new ≡ self.old) × (finite.get self.old chan.now.channel ≡ None)) }
         ensures err { OnErr result (self.new ≡ self.old) }
     {
         let found = number_of(self.kept.as_slice(), &self.numbers, &mut self.recent, chan);

@@ -1,12 +1,20 @@
-//! What a run has told so far, beside how its processes stand: the values that meetings gave, what was logged,
-//! and who waits, each by channel or by process.
+//! What a run tells, beside how its processes stand: its events and the entries of its journal, the values that
+//! meetings gave, what was logged, who waits, and how many steps of its own each process did.
 #![tactic(auto)]
 
+mod entry;
+mod event;
 mod histories;
 mod logs;
 mod recent;
 mod waits;
+/// What is proved of entries that tell how many steps processes did.
+pub mod laws;
+mod step_counts;
 
+pub use entry::Entry;
+pub use event::Event;
 pub use histories::Histories;
 pub use logs::logs_by_path;
+pub use step_counts::StepCounts;
 pub use waits::Waits;

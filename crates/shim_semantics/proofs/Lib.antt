@@ -28,3 +28,4 @@ pub mod SoundEvents
 pub mod ReplacedNodes
 pub mod ThrowStays
 pub mod Waited
+pub mod Advances

@@ -12,3 +12,4 @@ pub mod Quiets
 pub mod Laws
 pub mod Endings
 pub mod Listing
+pub mod Advancing

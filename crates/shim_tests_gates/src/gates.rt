@@ -50,15 +50,24 @@ impl Gate for CountingGate {
     }
 }
 
-/// Holds the first process that isn't the root, until processes other than the root, or others than the
-/// held one too, have entered so many times behind it.
+/// Whose entries a gate holds and counts.
+#[derive(Clone, Copy, PartialEq, Eq)]
+enum Whose {
+    Any,
+    /// Those of processes other than a root.
+    Children,
+    /// The same, but those of the held process aren't counted.
+    Siblings,
+}
+
+/// Holds the first entry of those that it looks at, until so many others have come.
 #[derive(Drop)]
 pub struct HoldingGate {
     counting: CountingGate,
+    whose: Whose,
     wanted: u64,
-    only_others: bool,
     most_looks: u64,
-    // the number of the held process; 0 before one is held
+    // the number of the held process, and 1; 0 before one is held
     held: AtomicU64,
     came: AtomicU64,
     holds: AtomicU64,
@@ -66,26 +75,36 @@ pub struct HoldingGate {
 }
 
 impl HoldingGate {
-    /// Until any process but the root has entered once more.
+    /// Holds a process that isn't the root, until any such process has entered once more.
     pub fn until_another_entry() -> HoldingGate {
-        HoldingGate::new(1, false, MOST_LOOKS)
+        HoldingGate::new(Whose::Children, 1, MOST_LOOKS)
     }
 
     /// The same, for a while only.
     pub fn until_another_entry_or_soon() -> HoldingGate {
-        HoldingGate::new(1, false, FEW_LOOKS)
+        HoldingGate::new(Whose::Children, 1, FEW_LOOKS)
     }
 
-    /// Until the held process's siblings have entered so many times.
+    /// Holds a process that isn't the root, until its siblings have entered so many times.
     pub fn until_siblings_entered(wanted: u64) -> HoldingGate {
-        HoldingGate::new(wanted, true, MOST_LOOKS)
+        HoldingGate::new(Whose::Siblings, wanted, MOST_LOOKS)
     }
 
-    fn new(wanted: u64, only_others: bool, most_looks: u64) -> HoldingGate {
+    /// Holds the first of several runs, until there has been an entry of another one.
+    pub fn until_another_run() -> HoldingGate {
+        HoldingGate::new(Whose::Any, 1, MOST_LOOKS)
+    }
+
+    /// The same, for a while only.
+    pub fn until_another_run_or_soon() -> HoldingGate {
+        HoldingGate::new(Whose::Any, 1, FEW_LOOKS)
+    }
+
+    fn new(whose: Whose, wanted: u64, most_looks: u64) -> HoldingGate {
         HoldingGate {
             counting: CountingGate::new(),
+            whose,
             wanted,
-            only_others,
             most_looks,
             held: AtomicU64::new(0),
             came: AtomicU64::new(0),
@@ -127,85 +146,20 @@ impl HoldingGate {
 impl Gate for HoldingGate {
     fn enter(&self, pid: u64, compiled: bool) {
         self.counting.enter(pid, compiled);
-        if pid == 0 {
+        if pid == 0 && self.whose != Whose::Any {
             return;
         }
+        let number = pid.saturating_add(1);
         let found = self
             .held
-            .compare_exchange(0, pid, Ordering::SeqCst, Ordering::SeqCst);
+            .compare_exchange(0, number, Ordering::SeqCst, Ordering::SeqCst);
         match found {
             Ok(_) => self.hold(),
             Err(held) => {
-                if held != pid || !self.only_others {
+                if held != number || self.whose != Whose::Siblings {
                     let _before = add_one(&self.came);
                 }
             }
-        }
-    }
-}
-
-/// Holds the first entry, whoever makes it, until another one has come.
-#[derive(Drop)]
-pub struct FirstEntryGate {
-    counting: CountingGate,
-    most_looks: u64,
-    came: AtomicU64,
-    holds: AtomicU64,
-    failures: AtomicU64,
-}
-
-impl FirstEntryGate {
-    /// Until another entry has come.
-    pub fn until_another_entry() -> FirstEntryGate {
-        FirstEntryGate::new(MOST_LOOKS)
-    }
-
-    /// The same, for a while only.
-    pub fn until_another_entry_or_soon() -> FirstEntryGate {
-        FirstEntryGate::new(FEW_LOOKS)
-    }
-
-    fn new(most_looks: u64) -> FirstEntryGate {
-        FirstEntryGate {
-            counting: CountingGate::new(),
-            most_looks,
-            came: AtomicU64::new(0),
-            holds: AtomicU64::new(0),
-            failures: AtomicU64::new(0),
-        }
-    }
-
-    pub fn not_compiled(&self) -> u64 {
-        self.counting.not_compiled()
-    }
-
-    /// How many entries were held.
-    pub fn holds(&self) -> u64 {
-        get(&self.holds)
-    }
-
-    /// How many of them were let go by the limit.
-    pub fn failures(&self) -> u64 {
-        get(&self.failures)
-    }
-
-    fn hold(&self) {
-        let _before = add_one(&self.holds);
-        for _ in 0..self.most_looks {
-            if get(&self.came) > 1 {
-                return;
-            }
-            thread::yield_now();
-        }
-        let _before = add_one(&self.failures);
-    }
-}
-
-impl Gate for FirstEntryGate {
-    fn enter(&self, pid: u64, compiled: bool) {
-        self.counting.enter(pid, compiled);
-        if add_one(&self.came) == 0 {
-            self.hold();
         }
     }
 }

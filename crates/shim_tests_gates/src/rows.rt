@@ -1,6 +1,6 @@
 // Programs, and which pieces of work a gate sees of their runs.
 use crate::calls::{Program, expect_batch, expect_made, expect_replay, expect_run};
-use crate::gates::{CountingGate, FirstEntryGate, HoldingGate};
+use crate::gates::{CountingGate, HoldingGate};
 use std::alloc::Global;
 use std::process::Abort;
 use std::sync::Wait;
@@ -221,7 +221,7 @@ fn expect_batch_held<R: Threads + Wait + Sync + Abort>(
     rt: &R,
     alloc: Global,
     options: &str,
-    gate: &FirstEntryGate,
+    gate: &HoldingGate,
     failures: u64,
 ) -> Result<(), Fail> {
     expect_batch(rt, alloc, ONE_COUNTER_TWICE, options, gate)?;
@@ -233,14 +233,14 @@ fn expect_batch_held<R: Threads + Wait + Sync + Abort>(
 
 #[test]
 fn two_runs_of_a_batch_go_at_the_same_time(rt: HostRuntime) -> Result<(), Fail> {
-    let gate = FirstEntryGate::until_another_entry();
+    let gate = HoldingGate::until_another_run();
     let options = "--workers 2 --quantum 10000";
     expect_batch_held(&rt, rt.alloc(), options, &gate, 0)
 }
 
 #[test]
 fn one_worker_does_the_runs_of_a_batch_in_turn(rt: HostRuntime) -> Result<(), Fail> {
-    let gate = FirstEntryGate::until_another_entry_or_soon();
+    let gate = HoldingGate::until_another_run_or_soon();
     let options = "--workers 1 --quantum 10000";
     expect_batch_held(&rt, rt.alloc(), options, &gate, 1)
 }

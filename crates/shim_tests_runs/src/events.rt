@@ -5,7 +5,8 @@ ghost use Rattle.shim_semantics.specs.Sound.{SharesItsOwn};
 use crate::trees::{MOST_BYTES, do_first_events, units_of, walk_of};
 use shim_base::{Chan, List, NoMemory, Path, Shared, push_decimal};
 use shim_local::Local;
-use shim_tree::{Event, Tree};
+use shim_run_log::Event;
+use shim_tree::Tree;
 use std::alloc::Global;
 
 fn add_path(told: &mut List<u8>, before: &[u8], path: &Path) -> Result<(), NoMemory> {

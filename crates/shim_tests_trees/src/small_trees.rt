@@ -7,8 +7,9 @@ ghost use Rattle.shim_semantics.specs.Trees.{steps, IsQuiescent};
 
 use shim_base::{Chan, List, NoMemory, Path, Trap, push_decimal};
 use shim_local::{Ended, History, Local, Log, LogWhat, Outcome, OwnSteps, WaitAt};
+use shim_run_log::Event;
 use shim_tests_small::{Branch, Small, Step};
-use shim_tree::{Event, Tree};
+use shim_tree::Tree;
 use std::alloc::Global;
 use std::process::Abort;
 use std::str;

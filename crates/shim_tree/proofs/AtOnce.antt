@@ -11,10 +11,12 @@ use Rattle.shim_semantics.specs.Trees.{Tree, Own, steps, sum, count_of}
 use Rattle.shim_semantics.specs.Quiets.{ComesBy, Advances}
 use Rattle.shim_semantics.specs.Laws.{RunsStaySound}
 use Rattle.shim_semantics.specs.Sound.{IsSound}
-use Rattle.shim_tree.specs.Advancing.{stepped, HasCount, AllHaveCounts, more_steps, steps_taken, with_state_at}
-use Rattle.shim_tree.proofs.Counted.{few_steps, more_stay, steps_more}
+use Rattle.shim_tree.specs.Advancing.{AllHaveCounts}
+use Rattle.shim_run_log.specs.Reserved.{stepped, HasCount, more_steps}
+use Rattle.shim_semantics.specs.Advancing.{steps_taken, with_state_at}
+use Rattle.shim_run_log.proofs.Reserved.{few_steps, more_stay, steps_more}
 use Rattle.shim_tree.proofs.Placed.{comes_placed, advanced_placed}
-use Rattle.shim_tree.proofs.Advances.{moved_on, advanced}
+use Rattle.shim_semantics.proofs.Advances.{moved_on, advanced}
 
 -- t is the tree that the code's parts mean, where m are the counts with their places
 module _ {S : Type 0} (o : Ops S) (t : Tree S) (m : FinMap path_order ℕ) (counts : t.counts ≡ stepped m) (n : ℕ) (last : S) where

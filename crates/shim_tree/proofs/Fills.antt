@@ -1,5 +1,5 @@
 -- Lists of statuses, filled up place by place.
-use Rattle.std.proofs.Common.{◌≡◌, ℕ, zero, suc, ◌+◌, ◌<◌, ◌≤◌, Bool, true, false, ◌&&◌, List, [], ◌∷◌, ◌++◌, length, get_or, slice_set, vec_len, Result, Ok, Err, OnErr, refl, sym, ap, ◌∙◌, arith}
+use Rattle.std.proofs.Common.{◌≡◌, ℕ, zero, suc, ◌+◌, ◌<◌, ◌≤◌, Bool, true, false, ◌&&◌, List, [], ◌∷◌, ◌++◌, length, get_or, slice_set, vec_len, refl, sym, ap, ◌∙◌, arith}
 use Rattle.std.specs.declared.vec.Vec.{Vec}
 use Rattle.std.specs.declared.alloc.Global.{Global}
 use Rattle.shim_semantics.specs.Nodes as model
@@ -131,8 +131,3 @@ noted_enough {S} v w bs cs n same beside e h =
     let a = ap (λ (z : Vec S Global). length z.items) same in
     let b = ap (λ (z : Vec (NodeStatus S) Global). length z.items) beside in
     omega (arith, long, i, j, a, b, e)
-
--- what holds in any case holds at a fault
-pub at_fault : {T E : Type 0} (r : Result T E) (P : Type 0) → P → OnErr r P
-at_fault (Ok x) P p = tt
-at_fault (Err e) P p = p

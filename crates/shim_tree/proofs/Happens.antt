@@ -13,14 +13,15 @@ use Rattle.shim_semantics.specs.Acts.{nothing}
 use Rattle.shim_semantics.specs.Places.{route, led_to, has_path}
 use Rattle.shim_semantics.specs.Trees.{Tree, start, with_logs, count_own, acts, OwnAction, is_its, act_route, count_of, sum}
 use Rattle.shim_tree.specs.Acting.{effects_of, acted_on, ActsOn}
-use Rattle.shim_tree.specs.Advancing.{stepped, HasCount, AllHaveCounts, KeepsCounts, with_count, more_steps}
+use Rattle.shim_tree.specs.Advancing.{AllHaveCounts}
+use Rattle.shim_run_log.specs.Reserved.{stepped, HasCount, KeepsCounts, with_count, more_steps}
 use Rattle.shim_semantics.specs.Sound.{IsSound}
 use Rattle.shim_run_log.specs.Logged.{logged}
 use Rattle.shim_run_log.proofs.Logged.{with_one_more}
 use Rattle.shim_tree.specs.Telling.{Tells}
 use Rattle.shim_tree.specs.declared.effects.Effects.{Effects}
 use Rattle.shim_tree.specs.declared.effects.Effects.TheVariants as told
-use Rattle.shim_tree.proofs.Counted.{few_steps, placed, steps_placed, none_stepped, more_stay, steps_more}
+use Rattle.shim_run_log.proofs.Reserved.{few_steps, placed, steps_placed, none_stepped, more_stay, steps_more}
 use Rattle.shim_tree.proofs.Placed.{still_placed}
 use Rattle.shim_semantics.proofs.SoundEvents.{route_sound}
 use Rattle.shim_base.proofs.Facts.{first_holds, cond_there}

@@ -1,10 +1,8 @@
 -- The lemmas of this crate, one module for each subject.
-pub mod Advances
 pub mod AtOnce
 pub mod Beside
 pub mod ReservedCounts
 pub mod Children
-pub mod Counted
 pub mod Dooms
 pub mod Exceptions
 pub mod Fills

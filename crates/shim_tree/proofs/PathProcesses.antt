@@ -7,7 +7,7 @@ use Rattle.shim_semantics.specs.Places.{SoundBelow, StandsAt, at, at_route, bran
 use Rattle.shim_semantics.proofs.Leading.{route_rest}
 use Rattle.shim_semantics.proofs.Routes.{route_of}
 use Rattle.shim_tree.specs.ChildCounts.{live_in}
-use Rattle.shim_tree.proofs.Advances.{stands_by}
+use Rattle.shim_semantics.proofs.Advances.{stands_by}
 use Rattle.shim_base.proofs.Facts.{some_same, none_some}
 
 lives : {S : Type 0} (x : Option (Node S)) (l : S) → live_in x ≡ Some l → x ≡ Some (Live l)

@@ -20,9 +20,11 @@ use Rattle.shim_semantics.proofs.Replaced.{sound_at}
 use Rattle.shim_semantics.proofs.SoundEvents.{runs_stay_sound}
 use Rattle.shim_laws_replay.specs.Journals.{quiet_steps}
 use Rattle.shim_laws_replay.proofs.Entries.{pieces_are_entries}
-use Rattle.shim_tree.specs.Advancing.{stepped, HasCount, AllHaveCounts, more_steps, with_state_at}
+use Rattle.shim_tree.specs.Advancing.{AllHaveCounts}
+use Rattle.shim_run_log.specs.Reserved.{stepped, HasCount, more_steps}
+use Rattle.shim_semantics.specs.Advancing.{with_state_at}
 use Rattle.shim_tree.specs.Stepping.{DidQuietSteps, QuietAt, DoesQuietSteps}
-use Rattle.shim_tree.proofs.Advances.{moved_on}
+use Rattle.shim_semantics.proofs.Advances.{moved_on}
 use Rattle.shim_tree.proofs.AtOnce.{at_its_place, within_bounds, advances_from, stays_whole}
 use Rattle.shim_tree.proofs.PathProcesses.{stands_behind}
 use Rattle.shim_base.proofs.Facts.{some_same, none_some}

@@ -11,7 +11,8 @@ use Rattle.shim_semantics.specs.Poison.{poison_route}
 use Rattle.shim_semantics.specs.Places.{at, child_at, route, at_route, led_to, has_path, SoundBelow, SoundChildren}
 use Rattle.shim_semantics.specs.Trees.{act_route, poisons}
 use Rattle.shim_tree.specs.Acting.{acted_on}
-use Rattle.shim_tree.specs.Advancing.{HasCount, AllHaveCounts}
+use Rattle.shim_tree.specs.Advancing.{AllHaveCounts}
+use Rattle.shim_run_log.specs.Reserved.{HasCount}
 use Rattle.shim_tree.specs.ChildCounts.{live_in, forked_children, born_by, ChildCountsReserved}
 use Rattle.shim_semantics.proofs.ReplacedNodes.{put, put_child, acts_there}
 use Rattle.shim_tree.proofs.Placed.{all_left, all_right, all_both}

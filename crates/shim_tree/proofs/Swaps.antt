@@ -7,7 +7,7 @@ use Rattle.shim_base.specs.Paths.{Path, same_pair}
 use Rattle.shim_semantics.specs.Nodes as model
 use Rattle.shim_semantics.specs.Places.{branches, option_branches, behind_front, route}
 use Rattle.shim_tree.specs.NodeStatus.{node, nodes, together}
-use Rattle.shim_tree.specs.Advancing.{with_state_at, with_state_in}
+use Rattle.shim_semantics.specs.Advancing.{with_state_at, with_state_in}
 use Rattle.shim_tree.specs.declared.node_status.NodeStatus.{NodeStatus}
 use Rattle.shim_tree.specs.declared.node_status.NodeStatus.TheVariants as code
 use Rattle.shim_tree.proofs.Children.{node_forked, at_forked}

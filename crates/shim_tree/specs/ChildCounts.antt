@@ -5,7 +5,7 @@ use Rattle.shim_base.specs.Paths.{path_order}
 use Rattle.shim_local.specs.Process.{Ops, StopView, ForkedView, AtQuiet, AtNext, AtPut, AtFork, AtFinish, AtThrow, AtTrap, Parted, Trapped}
 use Rattle.shim_local.specs.Laws.{AllOf}
 use Rattle.shim_semantics.specs.Nodes.{Node, Live, Forked, Ended, Dead}
-use Rattle.shim_tree.specs.Advancing.{HasCount}
+use Rattle.shim_run_log.specs.Reserved.{HasCount}
 
 -- the process of the node, if it lives
 abbrev pub live_in : {S : Type 0} → Option (Node S) → Option S

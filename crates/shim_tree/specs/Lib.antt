@@ -1,6 +1,5 @@
 -- The definitions of this crate, one module for each subject.
 pub mod NodeStatus
-pub mod Maps
 pub mod Beside
 pub mod Finding
 pub mod Searching
@@ -18,4 +17,3 @@ pub mod NodeRefs
 pub mod ByPath
 pub mod Views
 pub mod Stepping
-pub mod Entries

@@ -1,12 +1,9 @@
 -- What a process of the code means with its status beside it.
 use Rattle.std.specs.Prelude.{List, [], ◌∷◌, map}
 use Rattle.shim_semantics.specs.Nodes as model
-use Rattle.shim_semantics.specs.Trees as trees
 use Rattle.shim_tree.specs.declared.node_status.NodeStatus.{NodeStatus}
 use Rattle.shim_tree.specs.declared.node_status.NodeStatus.TheOpen.{NodeStatus-F, Live, Forked, Ended, Dead}
 use Rattle.shim_tree.specs.declared.node_status.NodeStatus.TheFolds.{fold-NodeStatus}
-use Rattle.shim_tree.specs.declared.event.Event.{Event}
-use Rattle.shim_tree.specs.declared.event.Event.TheVariants as code
 
 -- each process with its status; one without lives
 abbrev pub together : {S : Type 0} → List S → List (S → model.Node S) → model.Nodes S
@@ -25,11 +22,3 @@ node {S} l b = fold-NodeStatus S (S → model.Node S) node_step b l
 
 abbrev pub nodes : {S : Type 0} → List (NodeStatus S) → List (S → model.Node S)
 nodes {S} bs = map (fold-NodeStatus S (S → model.Node S) node_step) bs
-
--- an event of the code
-abbrev pub event_of : Event → trees.Event
-event_of (code.Own p) = trees.Own p
-event_of (code.Meet c) = trees.Meet c.channel
-event_of (code.Poison p c) = trees.Poison p c.channel
-event_of (code.Close p) = trees.Close p
-event_of (code.End p) = trees.End p

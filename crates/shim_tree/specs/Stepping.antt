@@ -8,7 +8,7 @@ use Rattle.shim_semantics.specs.Nodes.{Node, Live}
 use Rattle.shim_semantics.specs.Places.{at}
 use Rattle.shim_semantics.specs.Trees.{Tree}
 use Rattle.shim_laws_replay.specs.Journals.{quiet_steps}
-use Rattle.shim_tree.specs.Advancing.{with_state_at}
+use Rattle.shim_semantics.specs.Advancing.{with_state_at}
 
 -- The process in this state, to which the branches lead, did the steps that the answer tells, of which there are so many at most.
 pub record DidQuietSteps {S : Type 0} (o : Ops S) (q : List ℕ) (most : ℕ) (quiet : Quiet) (first : S) (before after : Node S) : Type 0 where

@@ -3,7 +3,8 @@ ghost use Rattle.std.specs.Prelude.{◌≡◌, ℕ, List, Some, drop};
 ghost use Rattle.shim_semantics.specs.Nodes.{Live};
 ghost use Rattle.shim_semantics.specs.Places.{branches, route};
 ghost use Rattle.shim_tree.specs.NodeStatus.{node};
-ghost use Rattle.shim_tree.specs.Advancing.{with_state_at, led_on};
+ghost use Rattle.shim_tree.specs.Advancing.{led_on};
+ghost use Rattle.shim_semantics.specs.Advancing.{with_state_at};
 
 use crate::node_status::NodeStatus;
 use shim_local::Local;

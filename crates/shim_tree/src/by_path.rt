@@ -5,14 +5,14 @@ ghost use Rattle.shim_semantics.specs.Places.{SoundBelow, at, branches, route, l
 ghost use Rattle.shim_semantics.specs.Trees as trees;
 ghost use Rattle.shim_tree.specs.ByPath as by_path;
 ghost use Rattle.shim_tree.specs.ByPath.{its_node, passes_there, can_do, can_poison_below};
-ghost use Rattle.shim_tree.specs.NodeStatus.{event_of};
+ghost use Rattle.shim_run_log.specs.Events.{event_of};
 
-use crate::event::Event;
 use crate::fill::behind;
 use crate::node_ref::NodeRef;
 use crate::standing::is_of;
 use shim_base::{Chan, Path};
 use shim_local::{Local, Stop};
+use shim_run_log::Event;
 
 // The process to which these pairs of a path lead from this one, if there is one.
 fn node_at<'a, L: Local>(node: &NodeRef<'a, L>, pairs: &[(u32, u32)]) -> Option<NodeRef<'a, L>>

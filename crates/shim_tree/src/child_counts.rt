@@ -6,15 +6,15 @@ ghost use Rattle.shim_local.specs.Laws.{AllOf};
 ghost use Rattle.shim_semantics.specs.Places.{led_to};
 ghost use Rattle.shim_tree.specs.NodeStatus.{node};
 ghost use Rattle.shim_tree.specs.Acting.{acted_on};
-ghost use Rattle.shim_tree.specs.Advancing.{stepped, HasCount, KeepsCounts};
+ghost use Rattle.shim_run_log.specs.Reserved.{stepped, HasCount, KeepsCounts};
 ghost use Rattle.shim_tree.specs.ChildCounts.{live_in, forked_children, ChildCountsReserved};
 
-use crate::counts::Counts;
 use crate::fill::behind;
 use crate::node_status::NodeStatus;
 use crate::standing::live_at;
 use shim_base::{NoMemory, Path};
 use shim_local::{Forked, Local, Stop};
+use shim_run_log::StepCounts;
 
 // The process of this path, if it lives.
 fn live_on<'a, L: Local>(root: &'a L, status: &'a NodeStatus<L>, path: &Path) -> Option<&'a L>
@@ -27,7 +27,7 @@ fn live_on<'a, L: Local>(root: &'a L, status: &'a NodeStatus<L>, path: &Path) ->
 
 // The children of the fork at which the process stands get their counts. They are found by a copy of
 // it, since a fork can't be taken back.
-fn reserve_children<L: Local>(process: &L, counts: &mut Counts) -> Result<(), NoMemory>
+fn reserve_children<L: Local>(process: &L, counts: &mut StepCounts) -> Result<(), NoMemory>
     requires { L.ops.stop process.now ≡ AtFork }
     ensures ok { OnOk result (AllOf (λ (l : L). HasCount counts.new (L.ops.path l)) (forked_children (L.ops.fork process.now))) }
     ensures keeps { KeepsCounts counts.old counts.new }
@@ -42,7 +42,7 @@ fn reserve_children<L: Local>(process: &L, counts: &mut Counts) -> Result<(), No
 
 // The children that the process would have by its next step get their counts. Where it stands at no
 // fork, it has none by that.
-fn reserve_next<L: Local>(process: &L, counts: &mut Counts) -> Result<(), NoMemory>
+fn reserve_next<L: Local>(process: &L, counts: &mut StepCounts) -> Result<(), NoMemory>
     ensures ok { OnOk result (ChildCountsReserved L.ops counts.new (Some process.now)) }
     ensures keeps { KeepsCounts counts.old counts.new }
     ensures same { stepped counts.new ≡ stepped counts.old }
@@ -64,7 +64,7 @@ pub(crate) fn reserve_child_counts<L: Local>(
     root: &L,
     status: &NodeStatus<L>,
     path: &Path,
-    counts: &mut Counts,
+    counts: &mut StepCounts,
 ) -> Result<(), NoMemory>
     requires acts { acted_on L.ops path.now (node root.now status.now) ≢ None }
     ensures ok { OnOk result (ChildCountsReserved L.ops counts.new (live_in (led_to L.ops (node root.now status.now) path.now))) }

@@ -2,19 +2,20 @@
 ghost use Rattle.std.specs.Prelude.{◌≡◌, ◌++◌, ◌∷◌, [], IfOk, OnOk, cond, map, filter};
 ghost use Rattle.std.specs.Option.{option_copied};
 ghost use Rattle.shim_semantics.specs.Nodes.{Forked, all_done};
-ghost use Rattle.shim_tree.specs.NodeStatus.{node, nodes, together, event_of};
+ghost use Rattle.shim_tree.specs.NodeStatus.{node, nodes, together};
+ghost use Rattle.shim_run_log.specs.Events.{event_of};
 ghost use Rattle.shim_tree.specs.Beside.{nth_child};
 ghost use Rattle.shim_semantics.specs.Trees as trees;
 ghost use Rattle.shim_semantics.specs.Walks.{as_list, own_events, here, waited, poisons_of, walk};
 ghost use Rattle.shim_tree.specs.Inserted.{inserted, all_inserted};
 ghost use Rattle.shim_tree.specs.Searching.{passes, channels, found_list};
 
-use crate::event::Event;
 use crate::node_status::NodeStatus;
 use crate::ready::stands_at;
 use crate::seek::{Found, Test, are_done, is_passing, own_event};
 use shim_base::{Chan, List, NoMemory, Path};
 use shim_local::Local;
+use shim_run_log::Event;
 use std::alloc::Global;
 use std::cmp::Ordering;
 

@@ -3,17 +3,18 @@ ghost use Rattle.std.specs.Prelude.{◌≡◌, ◌≢◌, None, OnOk, OnErr};
 ghost use Rattle.shim_semantics.specs.Places.{SoundBelow};
 ghost use Rattle.shim_tree.specs.NodeStatus.{node};
 ghost use Rattle.shim_tree.specs.Acting.{acted_on};
-ghost use Rattle.shim_tree.specs.Advancing.{stepped, AllHaveCounts, KeepsCounts};
+ghost use Rattle.shim_tree.specs.Advancing.{AllHaveCounts};
+ghost use Rattle.shim_run_log.specs.Reserved.{stepped, KeepsCounts};
 ghost use Rattle.shim_run_log.specs.Logged.{logged};
 ghost use Rattle.shim_tree.specs.Telling.{Tells, TellsNothing};
 
 use crate::act::act_on;
 use crate::child_counts::reserve_child_counts;
-use crate::counts::Counts;
 use crate::effects::Effects;
 use crate::node_status::NodeStatus;
 use shim_base::{NoMemory, Path};
 use shim_local::{Local, Log};
+use shim_run_log::StepCounts;
 
 /// The process of this path does the one thing that it can do by itself, and the byte that it puts, or
 /// what is logged of it, comes behind the others. The children that it then has have their counts. Want
@@ -23,7 +24,7 @@ pub(crate) fn own_step<L: Local>(
     status: &mut NodeStatus<L>,
     output: &mut Vec<u8>,
     logs: &mut Vec<Log>,
-    counts: &mut Counts,
+    counts: &mut StepCounts,
     path: &Path,
 ) -> Result<(), NoMemory>
     requires sound { SoundBelow L.ops (node root.old status.old) }

@@ -2,7 +2,8 @@
 ghost use Rattle.std.specs.Prelude.{◌≡◌, None, IfOk};
 ghost use Rattle.std.specs.Option.{option_copied, option_map};
 ghost use Rattle.shim_semantics.specs.Nodes.{Forked, goes, all_done, ready};
-ghost use Rattle.shim_tree.specs.NodeStatus.{node, nodes, together, event_of};
+ghost use Rattle.shim_tree.specs.NodeStatus.{node, nodes, together};
+ghost use Rattle.shim_run_log.specs.Events.{event_of};
 ghost use Rattle.shim_tree.specs.Beside.{nth_child};
 ghost use Rattle.shim_semantics.specs.Walks.{as_list, head, own_events, here, waited, poisons_of, walk};
 ghost use Rattle.shim_semantics.specs.Endings.{is_empty};
@@ -10,11 +11,11 @@ ghost use Rattle.shim_tree.specs.Finding.{unnamed_channel, or_sooner, least, fou
 ghost use Rattle.shim_tree.specs.Searching.{passes};
 
 use crate::doom::is_doomed;
-use crate::event::Event;
 use crate::node_status::NodeStatus;
 use crate::ready::{is_ready, stands_at, waits_at};
 use shim_base::{Chan, NoMemory, Path};
 use shim_local::{Local, Stop};
+use shim_run_log::Event;
 
 /// An event as the search finds it: its path or channel is one that some state has.
 #[derive(Drop)]

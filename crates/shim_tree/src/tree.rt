@@ -8,7 +8,7 @@ ghost use Rattle.shim_semantics.specs.Endings as endings;
 ghost use Rattle.shim_semantics.specs.Sound.{SharesItsOwn, IsSound};
 ghost use Rattle.shim_semantics.specs.Listing.{AreEnabled};
 ghost use Rattle.shim_laws_schedules.specs.ListedOnce.{StandOnce};
-ghost use Rattle.shim_tree.specs.NodeStatus.{event_of};
+ghost use Rattle.shim_run_log.specs.Events.{event_of};
 ghost use Rattle.shim_semantics.specs.Nodes.{source, value_of};
 ghost use Rattle.shim_semantics.specs.Places.{led_to, has_path};
 ghost use Rattle.shim_tree.specs.Acting.{acted_on};
@@ -23,8 +23,6 @@ ghost use Rattle.std.specs.FinMap as finite;
 
 use crate::advance::swap_on;
 use crate::by_path::{can_happen, found_by};
-use crate::counts::Counts;
-use crate::event::Event;
 use crate::fill::behind;
 use crate::in_place::go_quietly_at;
 use crate::listing;
@@ -40,7 +38,7 @@ use crate::standing::{live_of, stands_quiet};
 use crate::view::ProcessView;
 use shim_base::{Chan, List, NoMemory, Path};
 use shim_local::{Ended, Local, Log, Quiet};
-use shim_run_log::{Histories, logs_by_path};
+use shim_run_log::{Event, Histories, StepCounts, logs_by_path};
 use std::alloc::Global;
 use std::marker::Model;
 
@@ -55,7 +53,7 @@ pub struct Tree<L: Local> {
     pub(crate) histories: Histories,
     /// In the order of the events.
     pub(crate) logs: Vec<Log>,
-    pub(crate) counts: Counts,
+    pub(crate) counts: StepCounts,
     pub(crate) events: u64,
 }
 
@@ -64,7 +62,8 @@ impl<L: Local> Model for Tree<L> {
     ghost use Rattle.shim_semantics.proofs.Codes.{tree_code};
     ghost use Rattle.shim_tree.specs.NodeStatus.{node};
     ghost use Rattle.shim_semantics.specs.Sound.{IsSound};
-    ghost use Rattle.shim_tree.specs.Advancing.{stepped, AllHaveCounts};
+    ghost use Rattle.shim_tree.specs.Advancing.{AllHaveCounts};
+    ghost use Rattle.shim_run_log.specs.Reserved.{stepped};
     ghost use Rattle.shim_run_log.specs.Logged.{logged};
 
     ghost Value = { trees.Tree L };
@@ -83,7 +82,7 @@ impl<L: Local> Tree<L> {
         ensures tree { IfOk result (λ tree. tree ≡ trees.start root) }
         ensures fresh { IfOk result (λ tree. steps tree ≡ 0) }
     {
-        let mut counts = Counts::new(alloc);
+        let mut counts = StepCounts::new(alloc);
         counts.reserve(root.path())?;
         Ok(Tree {
             root,

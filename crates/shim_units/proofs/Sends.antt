@@ -1,5 +1,6 @@
 -- Which of this crate's types may cross threads: all, since they hold numbers and lists, and share what says the same to every thread. Those that hold statements
 -- are shown part by part, since a `search` that goes down through all of them runs out of steps.
+use denote.Builtin.{u8}
 use denote.RattleType.{RattleType}
 use denote.Param.Send.{IsSend, IsSync, sendable}
 use Rattle.std.proofs.Crossing.{crosses}
@@ -39,6 +40,9 @@ boxed_sync T y = search (sendable, crosses) depth 20
 
 pub shared_send : (T : RattleType) → IsSend T → IsSync T → IsSend (Shared.the_row T)
 shared_send T s y = search (sendable, crosses) depth 20
+
+pub shared_sync : (T : RattleType) → IsSend T → IsSync T → IsSync (Shared.the_row T)
+shared_sync T s y = search (sendable, crosses) depth 20
 
 shared_field_send : (T : RattleType) → IsSend T → IsSync T → IsSend (Shared.the_field T).row
 shared_field_send T s y = search (sendable, crosses) depth 20
@@ -116,8 +120,32 @@ form_row_send = let s = form_send in search sendable
 form_row_sync : IsSync Form.the_row
 form_row_sync = let y = form_sync in search sendable
 
+bytes_send : IsSend (List.the_row u8)
+bytes_send = search (list_send, sendable) depth 20
+
+bytes_sync : IsSync (List.the_row u8)
+bytes_sync = search (list_sync, sendable) depth 20
+
+option_field_send : (T : RattleType) → IsSend T → IsSend (Option.the_field T).row
+option_field_send T s = search (sendable, crosses) depth 20
+
+option_field_sync : (T : RattleType) → IsSync T → IsSync (Option.the_field T).row
+option_field_sync T y = search (sendable, crosses) depth 20
+
+text_send : IsSend (Option.the_field (Shared.the_row (List.the_row u8))).row
+text_send = option_field_send (Shared.the_row (List.the_row u8)) (shared_send (List.the_row u8) bytes_send bytes_sync)
+
+text_sync : IsSync (Option.the_field (Shared.the_row (List.the_row u8))).row
+text_sync = option_field_sync (Shared.the_row (List.the_row u8)) (shared_sync (List.the_row u8) bytes_send bytes_sync)
+
 pub accepted_send : IsSend Accepted.the_row
-accepted_send = let s = shared_field_send Form.the_row form_row_send form_row_sync in search sendable depth 20
+accepted_send =
+    let s = shared_field_send Form.the_row form_row_send form_row_sync in
+    let t = text_send in
+    search sendable depth 20
 
 pub accepted_sync : IsSync Accepted.the_row
-accepted_sync = let y = shared_field_sync Form.the_row form_row_send form_row_sync in search sendable depth 20
+accepted_sync =
+    let y = shared_field_sync Form.the_row form_row_send form_row_sync in
+    let t = text_sync in
+    search sendable depth 20

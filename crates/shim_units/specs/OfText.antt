@@ -1,5 +1,8 @@
 -- The units of a program that has a text and obeys the sharing rule, and what they have for that.
-use Rattle.std.specs.Prelude.{◌≡◌, ◌<◌, ◌^◌, length}
+use Rattle.std.specs.Prelude.{◌≡◌, ◌<◌, ◌^◌, ℕ, List, Option, Some, None, Ok, length}
+use Rattle.shim_syntax.specs.declared.tree.Program.{Program}
+use Rattle.shim_syntax.specs.Text.{IsText}
+use Rattle.shim_scopes.specs.Functions.{bind_program}
 use Rattle.shim_scopes.specs.declared.form.Form.{Form as Resolved}
 use Rattle.shim_scopes.specs.Resolving.{IsFormOfText}
 use Rattle.shim_units.specs.declared.form.Form.{Form}
@@ -19,3 +22,17 @@ pub record IsAcceptedForm (form : Form) : Type 0 where
   pub of_text : ∥ IsUnitsOfText form ∥₁
   pub fit : AreFit form.units
   pub few : length form.main_throws < 2 ^ 21
+
+-- what is read from these bytes: they are the text of one program alone, it is bound, and these are its units
+pub record IsReadFrom (bytes : List ℕ) (form : Form) : Type 0 where
+  pub program : Program
+  pub text : IsText bytes program
+  pub only : (other : Program) → IsText bytes other → other ≡ program
+  pub resolved : Resolved
+  pub bound : bind_program program ≡ Ok resolved
+  pub meant : lifted resolved ≡ form
+
+-- if a text of the program is kept, the units are what is read from it
+abbrev pub HasKeptText : Option (List ℕ) → Form → Type 0
+HasKeptText None form = Unit {0}
+HasKeptText (Some bytes) form = ∥ IsReadFrom bytes form ∥₁

@@ -1,26 +1,29 @@
 // An accepted program.
 ghost use Rattle.std.specs.Prelude.{◌≡◌, ◌<◌, ◌^◌, length, IfOk};
-ghost use Rattle.shim_units.specs.OfText.{IsUnitsOfText, IsAcceptedForm};
+ghost use Rattle.std.specs.Option.{option_copied};
+ghost use Rattle.shim_units.specs.OfText.{IsUnitsOfText, IsAcceptedForm, IsReadFrom, HasKeptText};
 ghost use Rattle.shim_units.specs.Sizes.{AreFit};
 
 use crate::form::Form;
 use crate::unit::Unit;
-use shim_base::{Name, NoMemory, Shared};
+use shim_base::{List, Name, NoMemory, Shared};
 use std::alloc::Global;
 use std::marker::Model;
 
 /// The units of a program that has a text of at most 1 MiB, that is bound and that obeys the sharing
-/// rule. It may have several owners.
+/// rule. It may have several owners. Where the text is kept from which it was read, two programs of the same
+/// text are known to be the same without a look at their units.
 #[derive(Drop)]
 pub struct Accepted {
     form: Shared<Form>,
+    text: Option<Shared<List<u8>>>,
 }
 
 impl Model for Accepted {
     ghost use Rattle.std.specs.Coded.{codes};
     ghost use Rattle.shim_units.specs.contracts.unit.Unit as unit;
     ghost use Rattle.shim_units.specs.declared.form.Form.{Form};
-    ghost use Rattle.shim_units.specs.OfText.{IsAcceptedForm};
+    ghost use Rattle.shim_units.specs.OfText.{IsAcceptedForm, HasKeptText};
 
     ghost Value = { Form };
 
@@ -28,17 +31,41 @@ impl Model for Accepted {
 
     ghost view = { λ accepted. accepted.form };
 
-    ghost invariant = { λ accepted. IsAcceptedForm accepted.form };
+    ghost invariant = { λ accepted. IsAcceptedForm accepted.form × HasKeptText accepted.text accepted.form };
 }
 
 impl Accepted {
-    /// One more owner of the same units.
+    /// One more owner of the same units and text.
     pub fn share(&self) -> Result<Accepted, NoMemory>
         ensures { IfOk result (λ accepted. accepted ≡ self.now) }
     {
         Ok(Accepted {
             form: self.form.share()?,
+            text: share_text(&self.text)?,
         })
+    }
+
+    /// The same program with a copy of the text from which it was read. No clause says that the copy is kept.
+    pub fn with_text(self, alloc: Global, bytes: &[u8]) -> Result<Accepted, NoMemory>
+        requires { ∥ IsReadFrom bytes.now self ∥₁ }
+        ensures { IfOk result (λ accepted. accepted ≡ self) }
+    {
+        let Accepted { form, .. } = self;
+        let text = List::from_slice(alloc, bytes)?;
+        Ok(Accepted {
+            form,
+            text: Some(Shared::new(alloc, text)?),
+        })
+    }
+
+    /// A text from which it and no other program is read, where one is kept.
+    pub fn text(&self) -> Option<&[u8]>
+        ensures { HasKeptText (option_copied result) self.now }
+    {
+        match &self.text {
+            Some(text) => Some(text.as_slice()),
+            None => None,
+        }
     }
 
     /// The units of the functions, as they come in the source. Behind them all stand those of the
@@ -74,12 +101,23 @@ impl Accepted {
     }
 }
 
-/// The accepted program in these units. Its condition is all that the type keeps.
+/// The accepted program in these units, which keeps no text. Its condition is all that the type keeps of units.
 pub fn from_form(alloc: Global, form: Form) -> Result<Accepted, NoMemory>
     requires { IsAcceptedForm form }
     ensures { IfOk result (λ accepted. accepted ≡ form) }
 {
     Ok(Accepted {
         form: Shared::new(alloc, form)?,
+        text: None,
     })
+}
+
+// One more owner of the same text.
+fn share_text(text: &Option<Shared<List<u8>>>) -> Result<Option<Shared<List<u8>>>, NoMemory>
+    ensures { IfOk result (λ other. other ≡ text.now) }
+{
+    match text {
+        Some(text) => Ok(Some(text.share()?)),
+        None => Ok(None),
+    }
 }

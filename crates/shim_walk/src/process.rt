@@ -975,11 +975,11 @@ impl Process {
         ensures { IsTrue result ↔ ((self.now.program ≡ other.now.program) × (self.now.input ≡ other.now.input)) }
     {
         same_program(&self.program, &other.program)
-            && same_all(self.input.as_slice(), other.input.as_slice())
+            && self.input.as_slice() == other.input.as_slice()
     }
 
-    /// Whether the other process is in the same state. Takes no memory, and time for the whole program
-    /// where all else is the same.
+    /// Whether the other process is in the same state. Takes no memory. Where all else is the same it takes time
+    /// for the input, and for the program's text, or for all its units where the two don't keep the same.
     #[tactic(auto, using(crate::proofs::SameStates::one_state))]
     pub fn same(&self, other: &Process) -> bool
         ensures { IsTrue result ↔ (self.now ≡ other.now) }

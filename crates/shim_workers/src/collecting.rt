@@ -4,7 +4,7 @@ ghost use Rattle.shim_board.specs.Chairs.{HasSlot, StandsAs, slots_of};
 ghost use Rattle.shim_workers.specs.Workers.{HasTurn, SameName};
 
 use crate::handing_out::{Handed, hand_out, redo};
-use crate::lengths::longer;
+use crate::lengths::longer_out;
 use crate::load::{Load, NetBoard, NetChair};
 use crate::pool::Pool;
 use shim_base::NoMemory;
@@ -78,7 +78,7 @@ pub(crate) fn take_in<L: Local>(
     if !is_next(net, pid) {
         return Ok(None);
     }
-    Ok(Some(longer(used)))
+    Ok(Some(longer_out(used)))
 }
 
 // Takes in what has come back in a slot, and gives out there what its process is to do next.

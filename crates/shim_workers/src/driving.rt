@@ -4,7 +4,7 @@ ghost use Rattle.shim_net.specs.Nets.{IsNet};
 ghost use Rattle.shim_net.specs.Standings.{IsQuietNet, IsSpentNet};
 ghost use Rattle.shim_workers.specs.Workers.{SameName};
 
-use crate::lengths::{LONGEST, Lengths};
+use crate::lengths::{LONGEST_OUT, Lengths};
 use crate::over_board::run_over_board;
 use crate::over_lanes::run_over_lanes;
 use crate::pool::Pool;
@@ -64,7 +64,7 @@ fn run_by_workers<L: Local, G: Gate, R: Threads + Wait + Sync>(
     let mut net = net;
     net.redo_all()?; // what was given out before won't come back from these workers
     let cost = net.hand_over_cost();
-    if workers == 1 || cost > LONGEST {
+    if workers == 1 || cost > LONGEST_OUT {
         return rounds(rt, alloc, net, 1, quantum, gate);
     }
     let pool = Pool::new(Lengths::new(quantum, cost));

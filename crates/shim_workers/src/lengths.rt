@@ -1,19 +1,31 @@
 // How long pieces are.
 ghost use Rattle.std.specs.Prelude.{◌≡◌, ◌≤◌, ◌<◌, ◌*◌, min};
 
-/// The most steps that a piece is ever given.
+/// The most steps that a piece has which is done where its process stands.
 pub(crate) const LONGEST: u64 = 10_000;
+
+/// The most steps that a piece has which is handed out. To take one in may cost as much as 139,414 steps, where a
+/// program's text and its input are as long as they may be.
+pub(crate) const LONGEST_OUT: u64 = 262_144;
 
 /// The fewest steps that a process is tried for in place where others can go on beside it.
 const FEWEST_IN_PLACE: u64 = 64;
 
-/// How many steps the next piece of a process has that used up one of so many: to give one out and take it in
-/// costs the same, however long it is.
+/// How many steps the next piece of a process has that used up one of so many: what a piece costs beside its steps
+/// is the same, however long it is.
 pub(crate) fn longer(used: u64) -> u64
     ensures within { (1 ≤ result) × (result ≤ 10000) }
     ensures grown { 1 ≤ used → result ≡ min (used * 2) 10000 }
 {
     used.saturating_mul(2).clamp(1, LONGEST)
+}
+
+/// How many steps the next piece has that is handed out of a process which used up one of so many.
+pub(crate) fn longer_out(used: u64) -> u64
+    ensures within { (1 ≤ result) × (result ≤ 262144) }
+    ensures grown { 1 ≤ used → result ≡ min (used * 2) 262144 }
+{
+    used.saturating_mul(2).clamp(1, LONGEST_OUT)
 }
 
 /// How long the pieces of a run are.
@@ -53,6 +65,6 @@ impl Lengths {
     pub(crate) fn behind_those(&self) -> u64
         ensures { 1 ≤ result }
     {
-        self.first.max(longer(self.in_place))
+        self.first.max(longer_out(self.in_place))
     }
 }

@@ -1,6 +1,6 @@
 use Rattle.std.proofs.Common.{sym, true, false, ◌∙◌}
 use Rattle.shim_records.specs.Acted.{walked}
-use Rattle.shim_laws_records.specs.Counts.{Reading as Read}
+use Rattle.shim_laws_table.specs.Counts.{Reading as Read}
 use Rattle.shim_records.proofs.Reaching.{one_alone}
 use Rattle.shim_records.proofs.acted.update_for_one.Goals as goal
 

@@ -1,5 +1,5 @@
 use Rattle.std.proofs.Common.{map, ap, ◌∙◌}
-use Rattle.shim_laws_records.specs.Dooms.{lesser}
+use Rattle.shim_laws_table.specs.Dooms.{lesser}
 use Rattle.shim_records.specs.Pairs.{stands_of, leasts_in}
 use Rattle.shim_records.proofs.ReadOff.{none_yet, one_more, all_read}
 use Rattle.shim_records.proofs.recounting.label_of_children.Goals as goal

@@ -1,6 +1,6 @@
 use Rattle.std.proofs.Common.{◌≡◌, map, ◌+◌, ◌-◌}
-use Rattle.shim_laws_records.specs.Dooms.{lesser}
-use Rattle.shim_laws_records.specs.Recounting.{least_label_among}
+use Rattle.shim_laws_table.specs.Dooms.{lesser}
+use Rattle.shim_laws_table.specs.Recounting.{least_label_among}
 use Rattle.shim_records.specs.Pairs.{stands_of, leasts_in}
 use Rattle.shim_records.proofs.recounting.label_of_children.Given as goal
 

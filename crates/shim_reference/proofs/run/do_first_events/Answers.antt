@@ -1,6 +1,6 @@
 use Rattle.std.proofs.Common.{◌≡◌, ◌+◌, ◌-◌, zero, sym, ap, ◌∙◌, arith}
 use Rattle.std.specs.Option.{option_map}
-use Rattle.shim_tree.specs.NodeStatus.{event_of}
+use Rattle.shim_run_log.specs.Events.{event_of}
 use Rattle.shim_semantics.specs.Walks.{meaning}
 use Rattle.shim_reference.proofs.FirstEvents.{stays, goes_on, no_more, one_less}
 use Rattle.shim_reference.proofs.run.do_first_events.Goals as goal

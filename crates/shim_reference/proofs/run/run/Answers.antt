@@ -1,5 +1,5 @@
 use Rattle.std.proofs.Common.{◌≡◌, ap, ◌∙◌}
-use Rattle.shim_tree.specs.NodeStatus.{event_of}
+use Rattle.shim_run_log.specs.Events.{event_of}
 use Rattle.shim_semantics.specs.Trees.{start}
 use Rattle.shim_semantics.specs.Walks.{meaning}
 use Rattle.shim_reference.proofs.FirstEvents.{run_ended}

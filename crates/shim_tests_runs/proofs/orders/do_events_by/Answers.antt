@@ -1,6 +1,6 @@
 use Rattle.std.proofs.Common.{inl, sym, ap, ◌∙◌, arith}
 use lib.ListN.{get_or}
-use Rattle.shim_tree.specs.NodeStatus.{event_of}
+use Rattle.shim_run_log.specs.Events.{event_of}
 use Rattle.shim_tests_runs.proofs.OtherOrders.{among_at, none_enabled}
 use Rattle.shim_tests_runs.proofs.orders.do_events_by.Goals as goal
 

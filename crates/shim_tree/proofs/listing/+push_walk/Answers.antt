@@ -1,6 +1,7 @@
 use Rattle.std.proofs.Common.{◌≡◌, ◌∙◌, ◌++◌, sym, ap, map}
 use Rattle.shim_semantics.specs.Nodes.{Forked}
-use Rattle.shim_tree.specs.NodeStatus.{nodes, together, event_of}
+use Rattle.shim_tree.specs.NodeStatus.{nodes, together}
+use Rattle.shim_run_log.specs.Events.{event_of}
 use Rattle.shim_tree.specs.Beside.{nth_child}
 use Rattle.shim_semantics.specs.Walks.{walk, poisons_of}
 use Rattle.shim_tree.proofs.Beside.{is_forked, inside, outside, asked_in, asked_past}

@@ -1,5 +1,5 @@
 use Rattle.std.proofs.Common.{◌≡◌, ◌++◌, map}
-use Rattle.shim_tree.specs.NodeStatus.{event_of}
+use Rattle.shim_run_log.specs.Events.{event_of}
 use Rattle.shim_semantics.specs.Walks.{walk_all}
 use Rattle.shim_tree.proofs.Beside.{from}
 use Rattle.shim_tree.proofs.listing.+push_walk.Given as goal

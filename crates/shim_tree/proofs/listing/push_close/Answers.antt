@@ -1,7 +1,7 @@
 use Rattle.std.proofs.Common.{◌∙◌, ◌++◌, ◌∷◌, [], sym, ap, cond, map}
 use Rattle.std.proofs.lemmas.List.{append-nil}
 use Rattle.std.proofs.lemmas.Result.{on_ok_weaker}
-use Rattle.shim_tree.specs.NodeStatus.{event_of}
+use Rattle.shim_run_log.specs.Events.{event_of}
 use Rattle.shim_semantics.specs.Trees.{Close}
 use Rattle.shim_tree.proofs.listing.push_close.Goals as goal
 

@@ -1,6 +1,7 @@
 use Rattle.std.proofs.Common.{◌∙◌, ◌++◌, ap, map, filter}
 use Rattle.std.proofs.lemmas.Result.{on_ok_weaker}
-use Rattle.shim_tree.specs.NodeStatus.{node, nodes, together, event_of}
+use Rattle.shim_tree.specs.NodeStatus.{node, nodes, together}
+use Rattle.shim_run_log.specs.Events.{event_of}
 use Rattle.shim_semantics.specs.Trees.{Meet}
 use Rattle.shim_semantics.specs.Walks.{meets_here, waited}
 use Rattle.shim_tree.specs.Inserted.{all_inserted}

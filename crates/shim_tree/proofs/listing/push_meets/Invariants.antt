@@ -1,5 +1,5 @@
 use Rattle.std.proofs.Common.{◌≡◌, ◌++◌, drop, map}
-use Rattle.shim_tree.specs.NodeStatus.{event_of}
+use Rattle.shim_run_log.specs.Events.{event_of}
 use Rattle.shim_semantics.specs.Trees.{Meet}
 use Rattle.shim_tree.specs.Searching.{channels}
 use Rattle.shim_tree.proofs.listing.push_meets.Given as goal

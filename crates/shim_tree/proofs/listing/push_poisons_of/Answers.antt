@@ -1,7 +1,8 @@
 use Rattle.std.proofs.Common.{◌∙◌, ◌++◌, sym, ap, map, filter}
 use Rattle.std.proofs.lemmas.Result.{on_ok_weaker}
 use Rattle.shim_semantics.specs.Nodes.{state}
-use Rattle.shim_tree.specs.NodeStatus.{nodes, together, event_of}
+use Rattle.shim_tree.specs.NodeStatus.{nodes, together}
+use Rattle.shim_run_log.specs.Events.{event_of}
 use Rattle.shim_tree.specs.Beside.{nth_child}
 use Rattle.shim_semantics.specs.Trees.{Poison}
 use Rattle.shim_semantics.specs.Walks.{poisons_here, waited}

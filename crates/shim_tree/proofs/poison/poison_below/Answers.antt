@@ -1,7 +1,7 @@
 use Rattle.std.proofs.Common.{◌∙◌, ap}
 use Rattle.shim_semantics.specs.Nodes.{death}
 use Rattle.shim_semantics.specs.Poison.{poisoned}
-use Rattle.shim_tree.proofs.Fills.{at_fault}
+use Rattle.shim_base.proofs.Facts.{at_fault}
 use Rattle.shim_tree.proofs.poison.poison_below.Goals as goal
 
 pub returns-in_err-fill_below-clause-err : goal.returns-in_err-fill_below-clause-err

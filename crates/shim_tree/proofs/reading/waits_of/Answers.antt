@@ -3,7 +3,7 @@ use Rattle.std.specs.FinMap.{entries}
 use Rattle.std.proofs.lemmas.Result.{IfOk-weaker}
 use Rattle.shim_tree.specs.NodeStatus.{node}
 use Rattle.shim_semantics.specs.Endings.{waits_of, wait_at}
-use Rattle.shim_tree.proofs.Gathered.{blocked_waits}
+use Rattle.shim_run_log.proofs.WaitsAdded.{blocked_waits}
 use Rattle.shim_tree.proofs.reading.waits_of.Goals as goal
 
 pub returns-in_ok-gather-in-Blocked : goal.returns-in_ok-gather-in-Blocked

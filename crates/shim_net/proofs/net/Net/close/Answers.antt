@@ -1,6 +1,6 @@
 use Rattle.std.proofs.Common.{rules, ◌≤◌, map, sym, subst, arith}
-use Rattle.shim_flat_tree.specs.FlatTrees.{tree_in, IsHeld}
-use Rattle.shim_flat_tree.specs.Holding.{HeldComes, Releases}
+use Rattle.shim_run_state.specs.RunStates.{tree_in, IsHeld}
+use Rattle.shim_run_state.specs.Holding.{HeldComes, Releases}
 use Rattle.shim_net.specs.Entries.{entry_of}
 use Rattle.shim_net.proofs.Closing as closing
 use Rattle.shim_net.proofs.Holding.{held_at, one_less_held}

@@ -3,8 +3,8 @@ use Rattle.std.specs.Prelude.{map, min}
 use Rattle.shim_local.specs.Pieces.{FewerWithCause}
 use Rattle.shim_semantics.specs.Trees.{steps}
 use Rattle.shim_semantics.specs.Quiets.{Advances}
-use Rattle.shim_laws_records.specs.Seen.{lives}
-use Rattle.shim_flat_tree.specs.FlatTrees.{tree_in}
+use Rattle.shim_laws_table.specs.Seen.{lives}
+use Rattle.shim_run_state.specs.RunStates.{tree_in}
 use Rattle.shim_net.specs.Entries.{entry_of}
 use Rattle.shim_net.specs.Nets.{reserved_in}
 use Rattle.shim_net.specs.Taking.{with_piece}

@@ -1,8 +1,8 @@
 use Rattle.std.proofs.Common.{rules, ◌≡◌, ◌≤◌, ◌+◌, ◌-◌, ◌∷◌, [], ◌++◌, refl, sym, ap, subst, ◌∙◌}
 use Rattle.std.specs.Prelude.{map, min}
 use Rattle.shim_semantics.specs.Trees.{steps}
-use Rattle.shim_laws_records.specs.Seen.{lives}
-use Rattle.shim_flat_tree.specs.FlatTrees.{tree_in}
+use Rattle.shim_laws_table.specs.Seen.{lives}
+use Rattle.shim_run_state.specs.RunStates.{tree_in}
 use Rattle.shim_net.specs.Entries.{entry_of}
 use Rattle.shim_net.specs.Nets.{OpenGrant, NetView, IsNet, IsOpen, reserved_in}
 use Rattle.shim_net.specs.Granting.{IsAtHome}

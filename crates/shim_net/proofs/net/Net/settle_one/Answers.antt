@@ -2,11 +2,11 @@ use Rattle.std.proofs.Common.{rules, ◌≡◌, ◌<◌, ◌+◌, ◌∷◌, [],
 use Rattle.std.specs.Prelude.{map, MatchOption}
 use Rattle.std.proofs.lemmas.List.{map_push}
 use Rattle.shim_semantics.specs.Trees.{steps}
-use Rattle.shim_tree.specs.NodeStatus.{event_of}
-use Rattle.shim_flat_tree.specs.FlatTrees.{tree_in}
-use Rattle.shim_flat_tree.specs.Holding.{RestsIn, HappensIn}
+use Rattle.shim_run_log.specs.Events.{event_of}
+use Rattle.shim_run_state.specs.RunStates.{tree_in}
+use Rattle.shim_run_state.specs.Holding.{RestsIn, HappensIn}
 use Rattle.shim_laws_replay.specs.Journals as journals
-use Rattle.shim_tree.specs.declared.entry.Entry.TheVariants as code
+use Rattle.shim_run_log.specs.declared.entry.Entry.TheVariants as code
 use Rattle.shim_net.specs.Entries.{entry_of}
 use Rattle.shim_net.specs.Nets.{NetView, reserved_in}
 use Rattle.shim_net.proofs.Holding.{same_net, still_held, passed_held}

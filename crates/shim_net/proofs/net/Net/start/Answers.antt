@@ -1,6 +1,6 @@
 use Rattle.std.proofs.Common.{◌≡◌, sym, ap, subst, rules}
 use Rattle.std.specs.Prelude.{map}
-use Rattle.shim_flat_tree.specs.FlatTrees.{tree_in}
+use Rattle.shim_run_state.specs.RunStates.{tree_in}
 use Rattle.shim_net.specs.Entries.{entry_of}
 use Rattle.shim_net.specs.Nets.{IsNet, started, reserved_in}
 use Rattle.shim_net.proofs.Keeping.{begun}

@@ -1,11 +1,12 @@
 use Rattle.std.proofs.Common.{refl, ap, sym, ◌∙◌, ◌++◌, ◌∷◌, [], length, arith, rules, w64}
+use Rattle.std.specs.FinMap as finite
 use Rattle.std.specs.Prelude.{FitsSigned}
 use Rattle.std.proofs.lemmas.Int.{to_z-of_z}
 use Rattle.std.proofs.lemmas.Option.{slice_get_read}
 use Rattle.std.proofs.lemmas.Result.{on_ok_weaker}
 use Rattle.shim_semantics.specs.Trees.{recorded}
 use Rattle.shim_run_log.proofs.HaveValues.{more_kept}
-use Rattle.shim_run_log.proofs.Numbered.{recorded_more, within}
+use Rattle.shim_run_log.proofs.Numbered.{had_none, recorded_more, within}
 use Rattle.shim_run_log.proofs.histories.Histories.record_value.Goals as goal
 
 pub index_mut-requires : goal.index_mut-requires
@@ -52,3 +53,8 @@ invariant_of-self-in-Some c =
     more_kept c.push.result c.self.inside.numbers kept channel number history c.push.new.self c.args.value c.self.invariant (sym c.in-Some.ensures) there
     (on_ok_weaker c.push.result (λ is. is ∙ ap (λ v. history.values ++ v ∷ []) (to_z-of_z w64 c.args.value fits)) c.push.ensures.ok)
     c.push.ensures.err
+
+pub returns-in-None-clause-first : goal.returns-in-None-clause-first
+returns-in-None-clause-first c unknown =
+    let channel = c.args.chan.now.channel in
+    (c.self.view_is, ap (λ m. finite.get m channel) (sym c.self.view_is) ∙ had_none c.self.inside.numbers c.self.inside.kept.items channel (sym c.in-None.ensures))

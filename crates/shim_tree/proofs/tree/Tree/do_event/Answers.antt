@@ -1,5 +1,5 @@
 use Rattle.std.proofs.lemmas.Result.{on_ok_weaker}
-use Rattle.shim_tree.specs.NodeStatus.{event_of}
+use Rattle.shim_run_log.specs.Events.{event_of}
 use Rattle.shim_semantics.proofs.Counting.{event_counts}
 use Rattle.shim_tree.proofs.tree.Tree.do_event.Goals as goal
 

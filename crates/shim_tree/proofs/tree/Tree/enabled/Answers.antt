@@ -1,6 +1,6 @@
 use Rattle.std.proofs.Common.{◌∙◌, ap, map, subst, sym}
 use Rattle.std.proofs.lemmas.Result.{IfOk-weaker}
-use Rattle.shim_tree.specs.NodeStatus.{event_of}
+use Rattle.shim_run_log.specs.Events.{event_of}
 use Rattle.shim_semantics.specs.Places.{SoundBelow}
 use Rattle.shim_semantics.specs.Walks.{walk}
 use Rattle.shim_semantics.proofs.Listed.{are_enabled}

@@ -1,6 +1,7 @@
 use Rattle.std.proofs.Common.{◌≡◌, ◌∙◌, sym, ap, subst, Some, refl}
 use Rattle.std.specs.Option.{option_map}
-use Rattle.shim_tree.specs.NodeStatus.{node, event_of}
+use Rattle.shim_tree.specs.NodeStatus.{node}
+use Rattle.shim_run_log.specs.Events.{event_of}
 use Rattle.shim_tree.specs.Finding.{found_event}
 use Rattle.shim_semantics.specs.Places.{SoundBelow}
 use Rattle.shim_semantics.specs.Walks.{head, walk}

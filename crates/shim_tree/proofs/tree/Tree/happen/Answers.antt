@@ -1,6 +1,6 @@
 use Rattle.std.proofs.Common.{◌∙◌, ap}
 use Rattle.shim_semantics.specs.Trees.{Steps, after, count_own}
-use Rattle.shim_tree.specs.NodeStatus.{event_of}
+use Rattle.shim_run_log.specs.Events.{event_of}
 use Rattle.shim_tree.proofs.Happens.{its_path}
 use Rattle.shim_tree.proofs.tree.Tree.happen.Goals as goal
 

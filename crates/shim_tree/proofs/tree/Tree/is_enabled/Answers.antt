@@ -1,6 +1,6 @@
 use Rattle.std.proofs.Common.{ap, ◌∙◌}
 use Rattle.shim_tree.specs.ByPath as by_path
-use Rattle.shim_tree.specs.NodeStatus.{event_of}
+use Rattle.shim_run_log.specs.Events.{event_of}
 use Rattle.shim_tree.proofs.EventsByPath.{can_happen_where}
 use Rattle.shim_tree.proofs.Happens.{told_quiescent}
 use Rattle.shim_tree.proofs.tree.Tree.is_enabled.Goals as goal

@@ -1,5 +1,0 @@
-use Rattle.shim_flat.proofs.DueFacts.{IdleBefore}
-use Rattle.shim_flat.proofs.due.due_below.Given as goal
-
-abbrev pub invariant-loop-place : goal.invariant-loop-place
-invariant-loop-place g l = IdleBefore g.L.Local.ops (record { states = l.states; records = l.records }) l.process l.fork.first l.count l.fork.pairs.items l.place

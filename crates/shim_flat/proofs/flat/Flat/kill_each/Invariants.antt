@@ -1,6 +1,0 @@
-use Rattle.shim_flat.proofs.HerePoisons.{KilledSoFar}
-use Rattle.shim_flat.proofs.TouchingPoisons.{TouchedSoFar}
-use Rattle.shim_flat.proofs.flat.Flat.kill_each.Given as goal
-
-abbrev pub invariant-loop-place : goal.invariant-loop-place
-invariant-loop-place g l = KilledSoFar g.L.Local.ops l.label l.sharers-inside.numbers.items l.place l.initial.self l.self × TouchedSoFar l.sharers-inside.numbers.items l.place l.initial.self l.self

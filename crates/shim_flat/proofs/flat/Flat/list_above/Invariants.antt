@@ -1,5 +1,0 @@
-use Rattle.shim_flat.proofs.Parents.{IsListing}
-use Rattle.shim_flat.proofs.flat.Flat.list_above.Given as goal
-
-abbrev pub invariant-loop-walked : goal.invariant-loop-walked
-invariant-loop-walked g l = IsListing g.L.Local.ops l.self l.number l.fn.list l.list l.here l.walked

@@ -1,5 +1,0 @@
-use Rattle.shim_flat.proofs.FreeRecords.{AreFree}
-use Rattle.shim_flat.proofs.forking.is_free_block.Given as goal
-
-abbrev pub invariant-loop-at : goal.invariant-loop-at
-invariant-loop-at l = AreFree l.first l.at l.records

@@ -1,8 +1,0 @@
-use Rattle.std.proofs.Common.{◌≡◌, map}
-use Rattle.shim_flat_tree.specs.Fields.{count_in}
-use Rattle.shim_flat_tree.specs.FlatTrees.{path_at, counts_from}
-use Rattle.shim_flat_tree.specs.PastCounts.{only_block}
-use Rattle.shim_flat_tree.proofs.closing.past_of.Given as goal
-
-abbrev pub invariant-loop-branch : goal.invariant-loop-branch
-invariant-loop-branch g l = map count_in l.past.items ≡ counts_from (only_block l.first l.branch (path_at g.L.Local.ops l.flat)) l.own

@@ -1,8 +1,0 @@
--- The lemmas of this crate, one module for each subject.
-pub mod Closed
-pub mod Closes
-pub mod Cuts
-pub mod Goings
-pub mod Labels
-pub mod Saying
-pub mod Taking

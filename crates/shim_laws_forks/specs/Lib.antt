@@ -1,2 +1,0 @@
--- The definitions of this crate, one module for each subject.
-pub mod Forking

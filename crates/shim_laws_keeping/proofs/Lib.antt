@@ -1,9 +1,0 @@
--- The lemmas of this crate, one module for each subject.
-pub mod Acts
-pub mod Forks
-pub mod Gone
-pub mod Marks
-pub mod Moved
-pub mod OneLess
-pub mod Starts
-pub mod Steps

@@ -1,5 +1,0 @@
-use Rattle.shim_laws_meetings.proofs.Descents.{descents_find}
-use Rattle.shim_laws_meetings.proofs.laws.descents_find.Goals as goal
-
-pub returns : goal.returns
-returns g c = descents_find g.L.Local.ops

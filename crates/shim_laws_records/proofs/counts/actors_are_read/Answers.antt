@@ -1,5 +1,0 @@
-use Rattle.shim_laws_records.proofs.Suffices.{actors_are_read}
-use Rattle.shim_laws_records.proofs.counts.actors_are_read.Goals as goal
-
-pub returns : goal.returns
-returns g c = actors_are_read g.L.Local.ops

@@ -1,5 +1,0 @@
-use Rattle.shim_laws_records.proofs.Begun.{counts_begin}
-use Rattle.shim_laws_records.proofs.counts.counts_begin.Goals as goal
-
-pub returns : goal.returns
-returns g c = counts_begin g.L.Local.ops

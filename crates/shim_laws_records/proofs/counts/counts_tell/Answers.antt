@@ -1,5 +1,0 @@
-use Rattle.shim_laws_records.proofs.Tallies.{counts_tell}
-use Rattle.shim_laws_records.proofs.counts.counts_tell.Goals as goal
-
-pub returns : goal.returns
-returns g c = counts_tell g.L.Local.ops

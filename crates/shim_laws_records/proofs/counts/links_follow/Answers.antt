@@ -1,5 +1,0 @@
-use Rattle.shim_laws_records.proofs.Linked.{links_follow}
-use Rattle.shim_laws_records.proofs.counts.links_follow.Goals as goal
-
-pub returns : goal.returns
-returns g c = links_follow g.L.Local.ops

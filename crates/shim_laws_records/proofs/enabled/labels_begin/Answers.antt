@@ -1,5 +1,0 @@
-use Rattle.shim_laws_records.proofs.LabelsBegun.{labels_begin}
-use Rattle.shim_laws_records.proofs.enabled.labels_begin.Goals as goal
-
-pub returns : goal.returns
-returns g c = labels_begin g.L.Local.ops

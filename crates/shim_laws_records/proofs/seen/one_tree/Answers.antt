@@ -1,5 +1,0 @@
-use Rattle.shim_laws_records.proofs.OneTree.{one_tree}
-use Rattle.shim_laws_records.proofs.seen.one_tree.Goals as goal
-
-pub returns : goal.returns
-returns g c = one_tree g.L.Local.ops

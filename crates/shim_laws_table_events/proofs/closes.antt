@@ -1,0 +1,8 @@
+-- The lemmas of closes, one module for each subject.
+pub mod Closed
+pub mod Closes
+pub mod Cuts
+pub mod Goings
+pub mod Labels
+pub mod Saying
+pub mod Taking

@@ -1,0 +1,94 @@
+-- The record of a process that has ended or died says what came of it, and no other record says anything else of its process.
+use Rattle.std.proofs.Common.{◌≡◌, ◌≢◌, ℕ, true, false, Some, List, map, refl, sym, ap, subst, ◌∙◌}
+use Rattle.std.specs.Prelude.{slice_get, slice_set}
+use Rattle.std.specs.Option.{option_map}
+use Rattle.shim_local.specs.Process.{Ops}
+use Rattle.shim_semantics.specs.Nodes.{state, goes}
+use Rattle.shim_laws_table.specs.Seen.{lives, process_status, is_leaf}
+use Rattle.shim_laws_table.specs.Agrees.{used, Has}
+use Rattle.shim_laws_table.specs.Changes.{HasChanged}
+use Rattle.shim_laws_table.specs.Sufficing.{read_leaf}
+use Rattle.shim_records.specs.Pairs.{stands_of, rest_of}
+use Rattle.shim_records.specs.Acted.{process_status_of, acting}
+use Rattle.shim_records.specs.declared.record.Record.{Record}
+use Rattle.shim_records.specs.declared.record.Status.{Status}
+use Rattle.shim_records.specs.declared.record.Status.TheVariants as code
+use Rattle.shim_records.proofs.Stepping.{set_there, set_elsewhere}
+use Rattle.shim_records.proofs.Showing.{map_get}
+use Rattle.shim_records.proofs.ReadOff.{same_stands}
+use Rattle.shim_records.proofs.ManyWays as ways
+use Rattle.shim_records.proofs.AllLowered as labels_above
+use Rattle.shim_laws_table_events.specs.keeping.Acting.{left_by, marked, TakesIn, Leaves}
+use Rattle.shim_laws_table_events.proofs.keeping.OneLess.{left_stands}
+
+pub left_state : {S : Type 0} (l : S) (k : Status) → state (left_by l k) ≡ l
+left_state l code.Free = refl
+left_state l code.Live = refl
+left_state l (code.Forked n) = refl
+left_state l code.Ended = refl
+left_state l (code.Dead y) = refl
+
+pub left_leaf : {S : Type 0} (l : S) (k : Status) → is_leaf (left_by l k) ≡ true
+left_leaf l code.Free = refl
+left_leaf l code.Live = refl
+left_leaf l (code.Forked n) = refl
+left_leaf l code.Ended = refl
+left_leaf l (code.Dead y) = refl
+
+pub left_sort : {S : Type 0} (l : S) (k : Status) → goes (left_by l k) ≡ false → process_status (left_by l k) ≡ process_status_of k
+left_sort l code.Free e = absurd cc
+left_sort l code.Live e = absurd cc
+left_sort l (code.Forked n) e = absurd cc
+left_sort l code.Ended e = refl
+left_sort l (code.Dead y) e = refl
+
+pub marked_stands : {S : Type 0} (l : S) (k : Status) → goes (left_by l k) ≡ false → (r : Record) → stands_of (marked k r) ≡ used r.first (process_status_of k)
+marked_stands l code.Free e r = absurd cc
+marked_stands l code.Live e r = absurd cc
+marked_stands l (code.Forked n) e r = absurd cc
+marked_stands l code.Ended e r = refl
+marked_stands l (code.Dead y) e r = refl
+
+-- the labels are taken in, and the records say all else as before
+pub rest_taken : {S : Type 0} (o : Ops S) (s : S) (k : Status) (n x : ℕ) (before behind : List Record) → TakesIn o s k n x before behind → map rest_of behind ≡ map rest_of before
+rest_taken o s (code.Dead d) n x before behind h = labels_above.rest_same d.label n x h.is_lowered
+rest_taken o s code.Ended n x before behind h = ap (map rest_of) h
+rest_taken o s code.Free n x before behind h = ap (map rest_of) h
+rest_taken o s code.Live n x before behind h = ap (map rest_of) h
+rest_taken o s (code.Forked m) n x before behind h = ap (map rest_of) h
+
+module _ {S : Type 0} (o : Ops S) (states : List S) (rs behind : List Record) (l : S) (k : Status) (x f : ℕ) (has : Has states (map stands_of rs) x f l lives) (leaves : Leaves o l k 4294967295 x rs behind) (gone : goes (left_by l k) ≡ false) where
+  abbrev was : Record
+  was = leaves.was
+
+  abbrev ms : List Record
+  ms = slice_set rs x (marked k was)
+
+  elsewhere : (j : ℕ) → j ≢ x → slice_get (map stands_of ms) j ≡ slice_get (map stands_of rs) j
+  elsewhere j n = map_get stands_of ms j ∙ (ap (option_map stands_of) (set_elsewhere rs x j (marked k was) n) ∙ sym (map_get stands_of rs j))
+
+  pub mine : Has states (map stands_of ms) x was.first l (process_status_of k)
+  mine = record { state_is = has.state_is; stands_so = map_get stands_of ms x ∙ (ap (option_map stands_of) (set_there rs x was (marked k was) leaves.there) ∙ ap Some (marked_stands l k gone was)) }
+
+  pub changed : HasChanged states states (map stands_of rs) (map stands_of ms) x l (process_status_of k)
+  changed = record {
+    first = was.first;
+    mine = mine;
+    others = λ j d t h n p. record { state_is = p.state_is; stands_so = elsewhere j n ∙ p.stands_so };
+    only = λ j d t h n p. record { state_is = p.state_is; stands_so = sym (elsewhere j n) ∙ p.stands_so };
+  }
+
+  pub change : HasChanged states states (map stands_of rs) (map stands_of ms) x (state (left_by l k)) (process_status (left_by l k))
+  change =
+      subst (λ z. HasChanged states states (map stands_of rs) (map stands_of ms) x z (process_status (left_by l k))) (sym (left_state l k))
+      (subst (HasChanged states states (map stands_of rs) (map stands_of ms) x l) (sym (left_sort l k gone)) changed)
+
+  -- what is brought up to date above changes nothing of that
+  stands_end : map stands_of behind ≡ map stands_of ms
+  stands_end =
+      left_stands x leaves.counted behind leaves.left
+      ∙ (same_stands leaves.labelled leaves.counted (ways.rest_same (acting o l) (λ c. read_leaf o c l (process_status_of k)) 4294967295 x leaves.updated.updated)
+      ∙ same_stands ms leaves.labelled (rest_taken o l k 4294967295 x ms leaves.labelled leaves.takes))
+
+  pub changed_then : HasChanged states states (map stands_of rs) (map stands_of behind) x (state (left_by l k)) (process_status (left_by l k))
+  changed_then = subst (λ z. HasChanged states states (map stands_of rs) z x (state (left_by l k)) (process_status (left_by l k))) (sym stands_end) change

@@ -1,0 +1,13 @@
+-- The lemmas of meetings, one module for each subject.
+pub mod Among
+pub mod AtHome
+pub mod Descents
+pub mod Dies
+pub mod Leaves
+pub mod Lists
+pub mod Meets
+pub mod Names
+pub mod Poisoned
+pub mod Replacing
+pub mod Values
+pub mod Receives

@@ -1,0 +1,3 @@
+-- The definitions of closes, one module for each subject.
+pub mod Closing
+pub mod Laws

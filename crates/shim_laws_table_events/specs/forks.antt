@@ -1,0 +1,2 @@
+-- The definitions of forks, one module for each subject.
+pub mod Forking

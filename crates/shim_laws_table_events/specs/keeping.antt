@@ -1,0 +1,6 @@
+-- The definitions of keeping, one module for each subject.
+pub mod Tables
+pub mod Moves
+pub mod Arriving
+pub mod Laws
+pub mod Acting

@@ -1,0 +1,65 @@
+-- States and records side by side, the tree that they show, and what records keep of it.
+use Rattle.std.specs.Prelude.{◌≡◌, ◌≤◌, ℕ, Option, Some, None, List, [], slice_get, length, map}
+use Rattle.shim_base.specs.Paths.{Path, Channel}
+use Rattle.shim_local.specs.Process.{Ops}
+use Rattle.shim_semantics.specs.Nodes.{Node, Nodes, Forked}
+use Rattle.shim_semantics.specs.Places.{at}
+use Rattle.shim_laws_table.specs.Seen.{ProcessStatus, lives, forks, place}
+use Rattle.shim_laws_table.specs.Agrees.{RecordView, used, Has, Shows}
+use Rattle.shim_laws_table.specs.Counts.{going_of}
+use Rattle.shim_laws_table.specs.Tallied.{Tallied, HaveCounts}
+use Rattle.shim_laws_table.specs.Updating.{AreLinked, AreAtMost}
+use Rattle.shim_laws_table.specs.LoweredLabels.{Labelled}
+use Rattle.shim_records.specs.Pairs.{stands_of, up_in, counts_in, leasts_in, AreOrdered}
+use Rattle.shim_records.specs.declared.record.Record.{Record}
+
+-- a process's number is its place in both
+pub record TableView (S : Type 0) : Type 0 where
+  pub states : List S
+  pub records : List Record
+
+-- what the records say of their processes
+abbrev pub stands : {S : Type 0} → TableView S → List RecordView
+stands v = map stands_of v.records
+
+-- The process with this number stands so: the number of its first child, its state, and what came of it.
+abbrev pub HasProcessState : {S : Type 0} → TableView S → ℕ → ℕ → S → ProcessStatus → Type 0
+HasProcessState v i first s k = Has v.states (stands v) i first s k
+
+-- what the records keep for a channel is right: there are counts just where they belong, and they and the labels are those of the tree
+pub record IsRight {S : Type 0} (o : Ops S) (rp : Path) (v : TableView S) (root : Node S) (c : Channel) : Type 0 where
+  pub there : HaveCounts o rp v.states (stands v) c (counts_in c v.records) root
+  pub counts : Tallied o rp v.states (stands v) c (counts_in c v.records) root
+  pub labels : Labelled o rp v.states (stands v) c (counts_in c v.records) (leasts_in c v.records) root
+
+-- of each fork as many children go on as its record says
+abbrev pub GoRight : {S : Type 0} → Ops S → Path → TableView S → Node S → Type 0
+GoRight {S} o rp v root = (i f n : ℕ) (s l : S) (ks : Nodes S) (r : Record) → HasProcessState v i f s (forks n) → slice_get v.records i ≡ Some r → at (place o rp s) root ≡ Some (Forked l ks) → r.going ≡ going_of ks
+
+-- a record in use has the path of its process, which isn't too far from the root, and wasn't given too many channels
+pub record IsFit {S : Type 0} (o : Ops S) (rp : Path) (s : S) (r : Record) : Type 0 where
+  pub path : r.path ≡ o.path s
+  pub near : length (place o rp s) ≤ 4294967295
+  pub few : length (o.given s) ≤ 18446744073709551615
+
+-- The records show a sound tree, and all that they say beside that is as it is there. The root's path is rp.
+pub record Keeps {S : Type 0} (o : Ops S) (rp : Path) (v : TableView S) (root : Node S) : Type 0 where
+  pub shows : Shows o rp v.states (stands v) root
+  pub linked : AreLinked v.states (stands v) (up_in v.records)
+  pub few : AreAtMost 4294967295 v.states (stands v)
+  pub ordered : AreOrdered v.records
+  pub right : (c : Channel) → IsRight o rp v root c
+  pub going : GoRight o rp v root
+  pub fit : (i f : ℕ) (s : S) (k : ProcessStatus) (r : Record) → HasProcessState v i f s k → slice_get v.records i ≡ Some r → IsFit o rp s r
+  pub beside : length v.states ≡ length v.records
+
+-- there is a tree that they show so
+abbrev pub IsKept : {S : Type 0} → Ops S → TableView S → Type 0
+IsKept {S} o v = (rp : Path) × (root : Node S) × Keeps o rp v root
+
+-- the record of a root that lives
+pub record IsOfRoot {S : Type 0} (o : Ops S) (root : S) (r : Record) : Type 0 where
+  pub lives_on : stands_of r ≡ used 0 lives
+  pub no_parent : r.parent ≡ None
+  pub path : r.path ≡ o.path root
+  pub no_pairs : r.pairs.items ≡ []

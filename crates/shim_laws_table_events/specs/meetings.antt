@@ -1,0 +1,10 @@
+-- The definitions of meetings, one module for each subject.
+pub mod Receiving
+pub mod Dying
+pub mod Sharers
+pub mod Descents
+pub mod Meetings
+pub mod Names
+pub mod Values
+pub mod Poisons
+pub mod Laws

@@ -1,0 +1,49 @@
+-- A meeting done one process after the other, from the numbers of those that share the channel.
+use Rattle.std.specs.Prelude.{◌≡◌, ℕ, ℤ, false, List, [], ◌∷◌, slice_set}
+use Rattle.shim_base.specs.Paths.{Path, Channel, NamedChannel}
+use Rattle.shim_local.specs.Process.{Ops, AtNext}
+use Rattle.shim_semantics.specs.Nodes.{Node, is_next, source, value_of}
+use Rattle.shim_semantics.specs.Trees.{Tree, Event, Meet}
+use Rattle.shim_laws_table.specs.Seen.{ProcessStatus, lives}
+use Rattle.shim_laws_table.specs.Changes.{HaveReceived}
+use Rattle.shim_laws_table.specs.Enabled.{Can}
+use Rattle.shim_laws_table_events.specs.keeping.Tables.{TableView, stands, HasProcessState, Keeps}
+use Rattle.shim_laws_table_events.specs.keeping.Moves.{MovesBy}
+use Rattle.shim_laws_table_events.specs.meetings.Receiving.{MovesOn}
+use Rattle.shim_laws_table_events.specs.meetings.Sharers.{ListsSharers}
+
+-- the process with this number has received the value, if it lives and stands at the channel
+pub data ReceivesOne {S : Type 0} (o : Ops S) (c : Channel) (v : ℤ) (i : ℕ) (before behind : TableView S) : Type 0 where
+  stands_elsewhere : ((f : ℕ) (l : S) → HasProcessState before i f l lives → is_next (o.stop l) c ≡ false) → behind ≡ before → ReceivesOne o c v i before behind
+  received : (f : ℕ) (l : S) (d : NamedChannel) → HasProcessState before i f l lives → o.stop l ≡ AtNext d → d.channel ≡ c → behind.states ≡ slice_set before.states i (o.receive l v)
+      → MovesOn o (o.receive l v) d.channel 4294967295 i before.records behind.records → ReceivesOne o c v i before behind
+
+-- all of them, one after the other
+pub data ReceiveAll {S : Type 0} (o : Ops S) (c : Channel) (v : ℤ) : List ℕ → TableView S → TableView S → Type 0 where
+  none_left : (w : TableView S) → ReceiveAll o c v [] w w
+  one_more : (i : ℕ) (is : List ℕ) (before between behind : TableView S) → ReceivesOne o c v i before between → ReceiveAll o c v is between behind → ReceiveAll o c v (i ∷ is) before behind
+
+-- in the tree that is shown the event is enabled
+abbrev pub IsEnabled : {S : Type 0} → Ops S → Event → TableView S → Type 0
+IsEnabled {S} o e v = (rp : Path) (t : Tree S) → Keeps o rp v t.root → Can o t e
+
+-- the process with this number declared the channel
+pub record Declares {S : Type 0} (o : Ops S) (v : TableView S) (i : ℕ) (c : Channel) : Type 0 where
+  pub first : ℕ
+  pub state : S
+  pub sort : ProcessStatus
+  pub has : HasProcessState v i first state sort
+  pub its : o.path state ≡ c.home
+
+-- the channel's source has this value, or there is none and it is 0
+abbrev pub HasValue : {S : Type 0} → Ops S → TableView S → Channel → ℤ → Type 0
+HasValue {S} o v c x = (rp : Path) (root : Node S) → Keeps o rp v root → x ≡ value_of o c (source o c root)
+
+-- each live process that stood at the channel has received the value, and nothing else has changed of what is shown
+abbrev pub AllReceived : {S : Type 0} → Ops S → Channel → ℤ → TableView S → TableView S → Type 0
+AllReceived {S} o c x before behind = (rp : Path) (root : Node S) → Keeps o rp before root → (stands behind ≡ stands before) × HaveReceived o c x (stands before) before.states behind.states
+
+-- Where a meeting is enabled, and all that share the channel at and below its home receive the value of its source one after the other, the tree moves by the meeting.
+abbrev pub MeetingsMove : {S : Type 0} → Ops S → Type 0
+MeetingsMove {S} o = (before behind : TableView S) (c : Channel) (i : ℕ) (numbers : List ℕ) (x : ℤ) → Declares o before i c → IsEnabled o (Meet c) before → ListsSharers o before c i numbers → HasValue o before c x → ReceiveAll o c x numbers before behind
+    → MovesBy o (Meet c) before behind × AllReceived o c x before behind

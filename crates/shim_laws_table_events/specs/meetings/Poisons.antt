@@ -1,0 +1,46 @@
+-- A poison done one process after the other, from the numbers of those that share the channel.
+use Rattle.std.specs.Prelude.{◌≡◌, ◌<◌, ◌-◌, ℕ, ◌+◌, List, [], ◌∷◌}
+use Rattle.shim_base.specs.Paths.{Path, Channel}
+use Rattle.shim_local.specs.Process.{Ops}
+use Rattle.shim_semantics.specs.Nodes.{Node, death}
+use Rattle.shim_semantics.specs.Trees.{Poison}
+use Rattle.shim_laws_table.specs.Seen.{ProcessStatus, lives, forks, place}
+use Rattle.shim_laws_table.specs.Changes.{HaveDied}
+use Rattle.shim_laws_table_events.specs.keeping.Tables.{TableView, stands, HasProcessState, Keeps}
+use Rattle.shim_laws_table_events.specs.keeping.Moves.{MovesBy}
+use Rattle.shim_laws_table_events.specs.meetings.Dying.{DiesAt}
+use Rattle.shim_laws_table_events.specs.meetings.Sharers.{ListsSharers}
+use Rattle.shim_laws_table_events.specs.meetings.Meetings.{IsEnabled}
+
+-- the process with this number has died of an exception with this label, if it lived and had no handler for it
+pub data DiesOne {S : Type 0} (o : Ops S) (label i : ℕ) (before behind : TableView S) : Type 0 where
+  survived : ((f : ℕ) (l : S) → HasProcessState before i f l lives → label < o.base l → ⊥) → behind ≡ before → DiesOne o label i before behind
+  was_killed : (f : ℕ) (l : S) → HasProcessState before i f l lives → label < o.base l → behind.states ≡ before.states → DiesAt o l label 4294967295 i before.records behind.records → DiesOne o label i before behind
+
+-- all of them, one after the other
+pub data AllDie {S : Type 0} (o : Ops S) (label : ℕ) : List ℕ → TableView S → TableView S → Type 0 where
+  none_left : (w : TableView S) → AllDie o label [] w w
+  one_more : (i : ℕ) (is : List ℕ) (before between behind : TableView S) → DiesOne o label i before between → AllDie o label is between behind → AllDie o label (i ∷ is) before behind
+
+-- the process with this number is a child, of a fork of a process with this state
+pub record IsChildOf {S : Type 0} (v : TableView S) (i : ℕ) (k l : S) : Type 0 where
+  pub parent : ℕ
+  pub first : ℕ
+  pub many : ℕ
+  pub fork : HasProcessState v parent first l (forks many)
+  pub branch : ℕ
+  pub within : branch < many
+  pub mine : i ≡ first + branch
+  pub own_first : ℕ
+  pub sort : ProcessStatus
+  pub has : HasProcessState v i own_first k sort
+
+-- each live process that shared the channel at or below the one with this number has died so, and nothing else has changed of what is shown
+abbrev pub AllDied : {S : Type 0} → Ops S → Channel → ℕ → ℕ → TableView S → TableView S → Type 0
+AllDied {S} o c label i before behind = (rp : Path) (root : Node S) (f : ℕ) (k : S) (x : ProcessStatus) → Keeps o rp before root → HasProcessState before i f k x
+    → (behind.states ≡ before.states) × HaveDied o rp (place o rp k) c (death label) before.states (stands before) (stands behind)
+
+-- Where a child's poison is enabled, and all that live and share the channel at and below it die one after the other of the innermost label in force at its fork, the tree moves by the poison.
+abbrev pub PoisonsMove : {S : Type 0} → Ops S → Type 0
+PoisonsMove {S} o = (before behind : TableView S) (c : Channel) (i label : ℕ) (k l : S) (numbers : List ℕ) → IsChildOf before i k l → label ≡ o.handlers l - 1 → IsEnabled o (Poison (o.path k) c) before → ListsSharers o before c i numbers → AllDie o label numbers before behind
+    → MovesBy o (Poison (o.path k) c) before behind × AllDied o c label i before behind

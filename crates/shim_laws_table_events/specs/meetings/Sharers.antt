@@ -1,0 +1,38 @@
+-- The processes at and below one that share a channel, by the numbers of their records.
+use Rattle.std.specs.Prelude.{◌≡◌, ℕ, true, Some, List, [], ◌∷◌, ◌++◌, slice_get}
+use Rattle.shim_base.specs.Paths.{Path, Channel}
+use Rattle.shim_local.specs.Process.{Ops}
+use Rattle.shim_semantics.specs.Nodes.{Node}
+use Rattle.shim_laws_table.specs.Seen.{ProcessStatus, place}
+use Rattle.shim_laws_table.specs.Sources.{is_before}
+use Rattle.shim_records.specs.Members.{IsAmong}
+use Rattle.shim_laws_table_events.specs.keeping.Tables.{TableView, HasProcessState, Keeps}
+
+-- the process with this number shares the channel, and its place is q or further along
+pub record SharesFrom {S : Type 0} (o : Ops S) (rp : Path) (v : TableView S) (c : Channel) (q : List ℕ) (i : ℕ) : Type 0 where
+  pub first : ℕ
+  pub state : S
+  pub sort : ProcessStatus
+  pub has : HasProcessState v i first state sort
+  pub shares : o.shares state c ≡ true
+  pub further : List ℕ
+  pub is_there : place o rp state ≡ q ++ further
+
+-- on a walk from the root with leftmost children first the process with the first number comes before that with the second one
+abbrev pub Precedes : {S : Type 0} → Ops S → Path → TableView S → ℕ → ℕ → Type 0
+Precedes {S} o rp v i j = (f g : ℕ) (s t : S) (k h : ProcessStatus) → HasProcessState v i f s k → HasProcessState v j g t h → is_before (place o rp s) (place o rp t) ≡ true
+
+-- each of these stands so to those behind it
+abbrev pub InOrder : {A : Type 0} → (A → A → Type 0) → List A → Type 0
+InOrder R [] = Unit {0}
+InOrder {A} R (x ∷ xs) = ((y : A) → IsAmong y xs → R x y) × InOrder R xs
+
+-- these are the numbers of all that share the channel from the place q on, whatever came of them, in that order
+pub record AreSharers {S : Type 0} (o : Ops S) (rp : Path) (v : TableView S) (c : Channel) (q : List ℕ) (numbers : List ℕ) : Type 0 where
+  pub only : (i : ℕ) → IsAmong i numbers → SharesFrom o rp v c q i
+  pub all : (i : ℕ) → SharesFrom o rp v c q i → IsAmong i numbers
+  pub ordered : InOrder (Precedes o rp v) numbers
+
+-- they are those at and below the process with this number, if it shares the channel
+abbrev pub ListsSharers : {S : Type 0} → Ops S → TableView S → Channel → ℕ → List ℕ → Type 0
+ListsSharers {S} o v c i numbers = (rp : Path) (root : Node S) (f : ℕ) (s : S) (k : ProcessStatus) → Keeps o rp v root → HasProcessState v i f s k → o.shares s c ≡ true → AreSharers o rp v c (place o rp s) numbers

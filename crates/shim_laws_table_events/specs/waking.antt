@@ -1,0 +1,4 @@
+-- The definitions of waking, one module for each subject.
+pub mod Waking
+pub mod Looks
+pub mod Awake

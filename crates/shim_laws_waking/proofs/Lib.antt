@@ -1,8 +1,0 @@
--- The lemmas of this crate, one module for each subject.
-pub mod PairsFound
-pub mod Readiness
-pub mod Looks
-pub mod Idle
-pub mod Same
-pub mod Waking
-pub mod Awake

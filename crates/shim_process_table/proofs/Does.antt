@@ -1,0 +1,182 @@
+-- What one live process did by itself in place, as an event of the tree that is shown.
+use Rattle.std.proofs.Common.{◌≡◌, ◌≤◌, ◌<◌, ℕ, zero, suc, ℤ, true, false, cond, ltb, Option, Some, None, List, [], ◌∷◌, length, get_or, slice_set, refl, sym, ap, subst, ◌∙◌}
+use Rattle.std.specs.Prelude.{slice_get}
+use Rattle.std.proofs.lemmas.Option.{slice_get_read, slice_get_within}
+use Rattle.shim_base.proofs.Facts.{some_same}
+use Rattle.shim_local.specs.Process.{Ops, StopView, AtPut, AtThrow}
+use Rattle.shim_local.specs.Laws.{LocalLaws}
+use Rattle.shim_semantics.specs.Nodes.{Live, Dead, Death, death_with, handed, goes, state}
+use Rattle.shim_semantics.specs.Acts.{Acted, Effects, nothing, putting, catch_logged, throwing, act_live}
+use Rattle.shim_semantics.specs.Acts as act
+use Rattle.shim_semantics.specs.Places.{at}
+use Rattle.shim_semantics.proofs.Replaced.{sound_at}
+use Rattle.shim_laws_table.specs.Seen.{ProcessStatus, lives, place}
+use Rattle.shim_laws_table.specs.Agrees.{used}
+use Rattle.shim_laws_table.proofs.SameTrees.{seen_live}
+use Rattle.shim_laws_table.proofs.Hanging.{tree_of}
+use Rattle.shim_records.specs.Pairs.{stands_of, chans_of, IsOrdered, AreOrdered}
+use Rattle.shim_records.specs.Acted.{process_status_of}
+use Rattle.shim_records.specs.declared.record.Record.{Record}
+use Rattle.shim_records.specs.declared.record.Status.{Status}
+use Rattle.shim_records.proofs.Stepping.{map_set}
+use Rattle.shim_records.proofs.Showing.{map_get}
+use Rattle.shim_records.proofs.WholeWay.{kept_order}
+use Rattle.shim_laws_table_events.specs.keeping.Tables.{TableView, HasProcessState, IsKept}
+use Rattle.shim_laws_table_events.specs.keeping.Moves.{MovesBy}
+use Rattle.shim_laws_table_events.specs.keeping.Arriving.{Arrives}
+use Rattle.shim_laws_table_events.specs.keeping.Acting.{event_at_stop, left_by, marked, TakesIn, Leaves}
+use Rattle.shim_laws_table_events.proofs.keeping.Acts.{lives_on}
+use Rattle.shim_laws_table_events.proofs.keeping.Moved.{from_map}
+use Rattle.shim_laws_table_events.proofs.keeping.OneLess.{found}
+use Rattle.shim_laws_table_events.proofs.keeping.Gone.{leaves_keep}
+use Rattle.shim_laws_table_events.proofs.keeping.Marks.{left_sort, rest_taken, changed_then}
+use Rattle.shim_process_table.specs.Stepping.{LivesAt, HasBecome}
+use Rattle.shim_process_table.specs.Acting.{ActsHere, status_by_throw, told_of, thrown_by}
+use Rattle.shim_process_table.specs.declared.acting.Thrown.{Thrown}
+use Rattle.shim_process_table.specs.declared.acting.Thrown.TheVariants as thrown
+use Rattle.shim_process_table.specs.Touching.{TouchesRecords}
+use Rattle.shim_process_table.proofs.HereSteps.{read_set, has_become}
+use Rattle.shim_process_table.proofs.TouchingOwn.{one_touched, records_touched}
+
+-- a record that says what came of its process has its pairs in order
+pub marked_order : (rs : List Record) (x : ℕ) (r : Record) (k : Status) → slice_get rs x ≡ Some r → AreOrdered rs → AreOrdered (slice_set rs x (marked k r))
+marked_order rs x r k there h i q e =
+    let w = found (λ (z : Record). chans_of z.pairs.items) rs (slice_set rs x (marked k r)) i q (map_set (λ (z : Record). chans_of z.pairs.items) rs x r (marked k r) there refl) e in
+    subst IsOrdered w.2 (h i w.0 w.1)
+
+-- so it is behind the labels
+pub taken_order : {S : Type 0} (o : Ops S) (s : S) (rs behind : List Record) (n x : ℕ) (r : Record) (k : Status) → slice_get rs x ≡ Some r → AreOrdered rs → TakesIn o s k n x (slice_set rs x (marked k r)) behind → AreOrdered behind
+taken_order o s rs behind n x r k there h takes = kept_order (slice_set rs x (marked k r)) behind (rest_taken o s k n x (slice_set rs x (marked k r)) behind takes) (marked_order rs x r k there h)
+
+module _ {S : Type 0} (o : Ops S) where
+  -- ---- what is known of a live process before anything is done
+
+  module _ (states : List S) (rs : List Record) (x : ℕ) (stop : StopView) (l : S) (here : LivesAt o (record { states = states; records = rs }) x stop) (read : l ≡ get_or states x l) where
+    is : slice_get states x ≡ Some l
+    is = slice_get_read states (length states) x l refl (slice_get_within states x here.1 here.2.state_is) read
+
+    pub its : HasProcessState (record { states = states; records = rs }) x here.0 l lives
+    its = record { state_is = is; stands_so = here.2.stands_so }
+
+    pub stood : o.stop l ≡ stop
+    stood = ap o.stop (some_same l here.1 (sym is ∙ here.2.state_is)) ∙ here.3
+
+  -- one state stands there, however often it is read
+  pub one_read : (states : List S) (rs : List Record) (x : ℕ) (stop : StopView) (l m : S) → LivesAt o (record { states = states; records = rs }) x stop → l ≡ get_or states x l → m ≡ get_or states x m → l ≡ m
+  one_read states rs x stop l m here read again = some_same l m (sym (is states rs x stop l here read) ∙ is states rs x stop m here again)
+
+  -- its record
+  pub record_there : (states : List S) (rs : List Record) (x : ℕ) (stop : StopView) → LivesAt o (record { states = states; records = rs }) x stop → (r : Record) × (slice_get rs x ≡ Some r)
+  record_there states rs x stop here = let w = from_map stands_of (slice_get rs x) (used here.0 lives) (sym (map_get stands_of rs x) ∙ here.2.stands_so) in (w.0, w.1)
+
+  pub inside_records : (states : List S) (rs : List Record) (x : ℕ) (stop : StopView) → LivesAt o (record { states = states; records = rs }) x stop → x < length rs
+  inside_records states rs x stop here = let w = record_there states rs x stop here in slice_get_within rs x w.0 w.1
+
+  pub inside_states : (states : List S) (rs : List Record) (x : ℕ) (stop : StopView) → LivesAt o (record { states = states; records = rs }) x stop → x < length states
+  inside_states states rs x stop here = slice_get_within states x here.1 here.2.state_is
+
+  -- it is sound, and wasn't given too much
+  pub is_sound : (states : List S) (rs : List Record) (x f : ℕ) (l : S) → IsKept o (record { states = states; records = rs }) → HasProcessState (record { states = states; records = rs }) x f l lives → o.sound l
+  is_sound states rs x f l kept has = sound_at o (place o kept.0 l) kept.1 (Live l) kept.2.shows.sound.below (seen_live (at (place o kept.0 l) kept.1) l (kept.2.shows.agrees.shown x f l lives has))
+
+  pub few_given : (states : List S) (rs : List Record) (x f : ℕ) (l : S) → IsKept o (record { states = states; records = rs }) → HasProcessState (record { states = states; records = rs }) x f l lives → length (o.given l) ≤ 18446744073709551615
+  few_given states rs x f l kept has =
+      let w = from_map stands_of (slice_get rs x) (used f lives) (sym (map_get stands_of rs x) ∙ has.stands_so) in
+      (kept.2.fit x f l lives w.0 has w.1).few
+
+  pub in_order : (v : TableView S) → IsKept o v → AreOrdered v.records
+  in_order v kept = kept.2.ordered
+
+  -- ---- what it does
+
+  pub puts : (l s : S) (byte : Option ℕ) → byte ≡ o.byte l → s ≡ o.put l → act_live o l AtPut ≡ Some (record { node = Live s; effects = putting byte })
+  puts l s byte told next = λ i. let a : Acted S = record { node = Live (sym next i); effects = putting (sym told i) } in Some a
+
+  -- a throw of a process: who dies is as it was
+  dies_itself : (l s : S) (d e : Death) → thrown_by (thrown.Died d) s ≡ act.thrown o l e → s ≡ l
+  dies_itself l s d e h =
+      let dies : Acted S = record { node = Dead l e; effects = nothing } in
+      let goes_on : Acted S = record { node = Live (o.unwind l e.label (handed e.given)); effects = catch_logged (o.handler l e.label) } in
+      elim (ltb e.label (o.base l)) as (λ b. thrown_by (thrown.Died d) s ≡ cond b dies goes_on → s ≡ l) [ true ↦ λ z. ap (λ (w : Acted S). state w.node) z | false ↦ λ z. absurd (cc (ap (λ (w : Acted S). w.node) z)) ] h
+
+  died_same : (l s : S) (d : Death) (label : ℕ) (r : Option ℤ) → thrown_by (thrown.Died d) s ≡ throwing o l label r → s ≡ l
+  died_same l s d label None h = absurd (cc (ap (λ (w : Acted S). w.node) h))
+  died_same l s d label (Some v) h = dies_itself l s d (death_with label v) h
+
+  pub throw_dies : (l s : S) (d : Death) (label : ℕ) → thrown_by (thrown.Died d) s ≡ throwing o l label (o.number l) → (s ≡ l) × (act_live o l (AtThrow label) ≡ Some (record { node = Dead l d; effects = nothing }))
+  throw_dies l s d label h =
+      let same = died_same l s d label (o.number l) h in
+      (same, ap Some (sym h ∙ ap (thrown_by (thrown.Died d)) same))
+
+  -- who lives on does so as it is then
+  pub throw_lives : (l s : S) (t : Thrown) (label : ℕ) → status_by_throw t ≡ lives → thrown_by t s ≡ throwing o l label (o.number l) → act_live o l (AtThrow label) ≡ Some (record { node = Live s; effects = told_of t })
+  throw_lives l s (thrown.Caught name line) label e h = ap Some (sym h)
+  throw_lives l s (thrown.Died d) label e h = absurd cc
+  throw_lives l s thrown.Trapped label e h = ap Some (sym h)
+
+  pub lives_by : (t : Thrown) → ((d : Death) → t ≡ thrown.Died d → ⊥) → status_by_throw t ≡ lives
+  lives_by (thrown.Caught name line) n = refl
+  lives_by (thrown.Died d) n = absurd (n d refl)
+  lives_by thrown.Trapped n = refl
+
+  -- an item in its own place
+  pub set_same : {A : Type 0} (xs : List A) (i : ℕ) (x : A) → slice_get xs i ≡ Some x → slice_set xs i x ≡ xs
+  set_same [] i x e = refl
+  set_same (y ∷ xs) zero x e = ap (λ z. z ∷ xs) (sym (some_same y x e))
+  set_same (y ∷ xs) (suc i) x e = ap (λ z. y ∷ z) (set_same xs i x e)
+
+  -- ---- what was done
+
+  -- the records still show a tree
+  pub still_kept : (n x : ℕ) (stop : StopView) (k : ProcessStatus) (effects : Effects) (before behind : TableView S) → ActsHere o n x stop k effects before behind → IsKept o before → IsKept o behind
+  still_kept n x stop k effects before behind did h = let w = did.moves h.0 (tree_of o h.1) h.2 in (h.0, w.0.root, w.2)
+
+  module _ (law : LocalLaws o) (states : List S) (rs behind : List Record) (x : ℕ) (stop : StopView) (effects : Effects) (l : S) (here : LivesAt o (record { states = states; records = rs }) x stop) (read : l ≡ get_or states x l) where
+    has : HasProcessState (record { states = states; records = rs }) x here.0 l lives
+    has = its states rs x stop l here read
+
+    stop_is : o.stop l ≡ stop
+    stop_is = stood states rs x stop l here read
+
+    -- it is there, as it is read then
+    pub lives_then : (s now : S) → now ≡ get_or (slice_set states x s) x now → Arrives o now 4294967295 x rs behind → (f : ℕ) × HasProcessState (record { states = slice_set states x s; records = behind }) x f now lives
+    lives_then s now read_then came =
+        let is = read_set states x l s now has.state_is read_then in
+        let b = has_become o states rs behind x here.0 l s has (subst (λ z. Arrives o z 4294967295 x rs behind) is came) in
+        (b.first, subst (λ z. HasProcessState (record { states = slice_set states x s; records = behind }) x b.first z lives) (sym is) b.mine)
+
+    -- it lives on
+    pub lives_here : (n : ℕ) (s now : S) → now ≡ get_or (slice_set states x s) x now → Arrives o now 4294967295 x rs behind → TouchesRecords n x rs behind → act_live o l stop ≡ Some (record { node = Live s; effects = effects })
+        → ActsHere o n x stop lives effects (record { states = states; records = rs }) (record { states = slice_set states x s; records = behind })
+    lives_here n s now read_then came touches does =
+        let arrives = subst (λ z. Arrives o z 4294967295 x rs behind) (read_set states x l s now has.state_is read_then) came in
+        record {
+          first = here.0;
+          process = l;
+          has = has;
+          stood = stop_is;
+          left = Live s;
+          does = does;
+          came = refl;
+          becomes = has_become o states rs behind x here.0 l s has arrives;
+          moves = subst (λ z. MovesBy o (event_at_stop z (o.path l)) (record { states = states; records = rs }) (record { states = slice_set states x s; records = behind })) stop_is
+              (lives_on o law states rs behind x here.0 l s effects has (ap (act_live o l) stop_is ∙ does) arrives);
+          touches = one_touched n x states s rs behind touches;
+        }
+
+    module _ (n : ℕ) (k : Status) (gone : goes (left_by l k) ≡ false) (leaves : Leaves o l k 4294967295 x rs behind) (touches : TouchesRecords n x rs behind) where
+      -- it ends or dies
+      pub leaves_here : act_live o l stop ≡ Some (record { node = left_by l k; effects = effects }) → ActsHere o n x stop (process_status_of k) effects (record { states = states; records = rs }) (record { states = states; records = behind })
+      leaves_here does = record {
+        first = here.0;
+        process = l;
+        has = has;
+        stood = stop_is;
+        left = left_by l k;
+        does = does;
+        came = left_sort l k gone;
+        becomes = subst (λ z. HasBecome x (state (left_by l k)) z (record { states = states; records = rs }) (record { states = states; records = behind })) (left_sort l k gone) (changed_then o states rs behind l k x here.0 has leaves gone);
+        moves = subst (λ z. MovesBy o (event_at_stop z (o.path l)) (record { states = states; records = rs }) (record { states = states; records = behind })) stop_is
+            (leaves_keep o law states rs behind x here.0 l k effects has (ap (act_live o l) stop_is ∙ does) gone leaves);
+        touches = records_touched n x states rs behind touches;
+      }

@@ -1,0 +1,168 @@
+-- What quiet steps in place are to the tree.
+use Rattle.std.proofs.Common.{◌≡◌, ◌≢◌, ◌<◌, ℕ, Bool, true, false, Some, List, [], ◌∷◌, ◌++◌, length, map, get_or, slice_set, refl, sym, ap, subst, ◌∙◌}
+use Rattle.std.specs.Prelude.{slice_get}
+use Rattle.std.specs.Option.{option_map}
+use Rattle.std.proofs.lemmas.Option.{slice_get_read, slice_get_within}
+use Rattle.std.proofs.lemmas.List.{length-set}
+use Rattle.shim_base.proofs.Facts.{some_same}
+use Rattle.shim_local.specs.Process.{Ops, StopView, AtQuiet}
+use Rattle.shim_local.specs.Laws.{LocalLaws}
+use Rattle.shim_local.specs.Quiets.{QuietSteps}
+use Rattle.shim_laws_table.specs.Seen.{lives}
+use Rattle.shim_laws_table.specs.Agrees.{used}
+use Rattle.shim_laws_table.proofs.Hanging.{tree_of}
+use Rattle.shim_records.specs.Pairs.{stands_of, stands_by, rest_of}
+use Rattle.shim_records.specs.declared.record.Record.{Record}
+use Rattle.shim_records.specs.declared.record.Status.{Status}
+use Rattle.shim_records.specs.declared.record.Status.TheVariants as code
+use Rattle.shim_records.proofs.Stepping.{set_there, set_elsewhere}
+use Rattle.shim_records.proofs.Showing.{map_get}
+use Rattle.shim_records.proofs.ReadOff.{same_stands}
+use Rattle.shim_laws_table_events.specs.keeping.Tables.{TableView, HasProcessState, IsKept, stands}
+use Rattle.shim_laws_table_events.specs.keeping.Moves.{AdvancesBy}
+use Rattle.shim_laws_table_events.specs.keeping.Arriving.{Arrives, nowhere, there}
+use Rattle.shim_laws_table_events.proofs.keeping.Steps.{advanced}
+use Rattle.shim_process_table.specs.Stepping.{HasBecome, LivesAt, IsLive, IsBeforeQuiet, StepsHere, QuietlyReaches, is_live}
+
+-- one value behind none
+pub one_pushed : {A : Type 0} (new old : List A) (x : A) → new ≡ old ++ x ∷ [] → old ≡ [] → new ≡ x ∷ []
+one_pushed new old x e none = e ∙ ap (λ z. z ++ x ∷ []) none
+
+-- what stands where another value was put
+pub read_set : {A : Type 0} (xs : List A) (i : ℕ) (x y z : A) → slice_get xs i ≡ Some x → z ≡ get_or (slice_set xs i y) i z → z ≡ y
+read_set xs i x y z e h = some_same z y (sym (slice_get_read (slice_set xs i y) (length (slice_set xs i y)) i z refl within h) ∙ set_there xs i x y e)
+  where
+    within : i < length (slice_set xs i y)
+    within = subst (λ n. i < n) (sym (length-set xs i y)) (slice_get_within xs i x e)
+
+live_stands : (f : ℕ) (k : Status) → is_live k ≡ true → stands_by f k ≡ used f lives
+live_stands f code.Free e = absurd cc
+live_stands f code.Live e = refl
+live_stands f (code.Forked n) e = absurd cc
+live_stands f code.Ended e = absurd cc
+live_stands f (code.Dead x) e = absurd cc
+
+no_longer_lives : (f g : ℕ) (k : Status) → is_live k ≡ false → stands_by f k ≡ used g lives → ⊥
+no_longer_lives f g code.Free e h = absurd cc
+no_longer_lives f g code.Live e h = absurd cc
+no_longer_lives f g (code.Forked n) e h = absurd cc
+no_longer_lives f g code.Ended e h = absurd cc
+no_longer_lives f g (code.Dead x) e h = absurd cc
+
+-- what a record says of its process
+pub is_alive : {S : Type 0} (v : TableView S) (i : ℕ) (l : S) (r : Record) → slice_get v.states i ≡ Some l → slice_get v.records i ≡ Some r → IsLive i v (is_live r.status)
+is_alive {S} v i l r state record_is = on (is_live r.status) refl
+  where
+    says : slice_get (map stands_of v.records) i ≡ Some (stands_of r)
+    says = map_get stands_of v.records i ∙ ap (option_map stands_of) record_is
+
+    on : (b : Bool) → is_live r.status ≡ b → IsLive i v b
+    on true e = (r.first, l, record { state_is = state; stands_so = says ∙ ap Some (live_stands r.first r.status e) })
+    on false e = λ f s has. no_longer_lives r.first f r.status e (some_same (stands_of r) (used f lives) (sym says ∙ has.stands_so))
+
+-- what is read of the state of a live process
+pub state_read : {S : Type 0} (v : TableView S) (i : ℕ) (l : S) → IsLive i v true → l ≡ get_or v.states i l → slice_get v.states i ≡ Some l
+state_read v i l here read = slice_get_read v.states (length v.states) i l refl (slice_get_within v.states i here.1 here.2.state_is) read
+
+pub within_states : {S : Type 0} (v : TableView S) (i : ℕ) → IsLive i v true → i < length v.states
+within_states v i here = slice_get_within v.states i here.1 here.2.state_is
+
+-- another state stands in the record of a live process
+pub becomes_this : {S : Type 0} (x f : ℕ) (l s : S) (before behind : TableView S) → HasProcessState before x f l lives → behind.states ≡ slice_set before.states x s → stands behind ≡ stands before → HasBecome x s lives before behind
+becomes_this x f l s before behind has states stay = record {
+  first = f;
+  mine = record { state_is = ap (λ z. slice_get z x) states ∙ set_there before.states x l s has.state_is; stands_so = ap (λ z. slice_get z x) stay ∙ has.stands_so };
+  others = λ j g t k far h. record { state_is = ap (λ z. slice_get z j) states ∙ (set_elsewhere before.states x j s far ∙ h.state_is); stands_so = ap (λ z. slice_get z j) stay ∙ h.stands_so };
+  only = λ j g t k far h. record { state_is = sym (ap (λ z. slice_get z j) states ∙ set_elsewhere before.states x j s far) ∙ h.state_is; stands_so = sym (ap (λ z. slice_get z j) stay) ∙ h.stands_so };
+}
+
+module _ {S : Type 0} (o : Ops S) where
+  pub stands_at : (v : TableView S) (i : ℕ) (l : S) (stop : StopView) → IsLive i v true → l ≡ get_or v.states i l → stop ≡ o.stop l → LivesAt o v i stop
+  stands_at v i l stop here read e = (here.0, l, record { state_is = state_read v i l here read; stands_so = here.2.stands_so }, sym e)
+
+  pub before_quiet : (v : TableView S) (i : ℕ) (l : S) (b : Bool) → IsLive i v true → l ≡ get_or v.states i l → (b ≡ true → o.stop l ≡ AtQuiet) → (b ≡ false → o.stop l ≢ AtQuiet) → IsBeforeQuiet o i v b
+  before_quiet v i l true here read quiet other = stands_at v i l AtQuiet here read (sym (quiet refl))
+  before_quiet v i l false here read quiet other = λ f s has e. other refl (ap o.stop (some_same l s (sym (state_read v i l here read) ∙ has.state_is)) ∙ e)
+
+  -- one process alone stands there
+  pub no_longer_quiet : (v : TableView S) (i f : ℕ) (l : S) → HasProcessState v i f l lives → o.stop l ≢ AtQuiet → IsBeforeQuiet o i v false
+  no_longer_quiet v i f l has other g s h e = other (ap o.stop (some_same l s (sym has.state_is ∙ h.state_is)) ∙ e)
+
+  -- beside the counts the records say what they did
+  pub rest_arrived : (s : S) (n x : ℕ) (before behind : List Record) → Arrives o s n x before behind → map rest_of behind ≡ map rest_of before
+  rest_arrived s n x before behind (nowhere e same) = ap (map rest_of) same
+  rest_arrived s n x before behind (there d was is e u v updated) = updated.1.rest
+
+  module _ (states : List S) (rs behind : List Record) (x f : ℕ) (l s : S) (has : HasProcessState (record { states = states; records = rs }) x f l lives) (arrives : Arrives o s 4294967295 x rs behind) where
+    pub has_become : HasBecome x s lives (record { states = states; records = rs }) (record { states = slice_set states x s; records = behind })
+    has_become = becomes_this x f l s (record { states = states; records = rs }) (record { states = slice_set states x s; records = behind }) has refl (same_stands rs behind (rest_arrived s 4294967295 x rs behind arrives))
+
+  module _ (law : LocalLaws o) (states : List S) (rs behind : List Record) (x n : ℕ) (l last now : S) (before : IsBeforeQuiet o x (record { states = states; records = rs }) true) (read : l ≡ get_or states x l) (taken : QuietSteps o n l last)
+      (read_then : now ≡ get_or (slice_set states x last) x now) (came : Arrives o now 4294967295 x rs behind) where
+    is : slice_get states x ≡ Some l
+    is = slice_get_read states (length states) x l refl (slice_get_within states x before.1 before.2.state_is) read
+
+    its : HasProcessState (record { states = states; records = rs }) x before.0 l lives
+    its = record { state_is = is; stands_so = before.2.stands_so }
+
+    stop : o.stop l ≡ AtQuiet
+    stop = ap o.stop (some_same l before.1 (sym is ∙ before.2.state_is)) ∙ before.3
+
+    pub arrives : Arrives o last 4294967295 x rs behind
+    arrives = subst (λ z. Arrives o z 4294967295 x rs behind) (read_set states x l last now is read_then) came
+
+    advances : AdvancesBy o (o.path l) n (record { states = states; records = rs }) (record { states = slice_set states x last; records = behind })
+    advances rp t kept = advanced o law rp t states rs behind n x before.0 l last kept its stop taken arrives
+
+    -- it is there, as it is read then
+    pub stands_then : (f : ℕ) × HasProcessState (record { states = slice_set states x last; records = behind }) x f now lives
+    stands_then =
+        let b = has_become states rs behind x before.0 l last its arrives in
+        (b.first, subst (λ z. HasProcessState (record { states = slice_set states x last; records = behind }) x b.first z lives) (sym (read_set states x l last now is read_then)) b.mine)
+
+    pub steps_here : StepsHere o x n (record { states = states; records = rs }) (record { states = slice_set states x last; records = behind })
+    steps_here = record {
+      first = before.0;
+      process = l;
+      last = last;
+      has = its;
+      stood = stop;
+      chain = taken;
+      becomes = has_become states rs behind x before.0 l last its arrives;
+      advances = advances;
+    }
+
+    pub still_kept : IsKept o (record { states = states; records = rs }) → IsKept o (record { states = slice_set states x last; records = behind })
+    still_kept h = let w = advances h.0 (tree_of o h.1) h.2 in (h.0, w.0.root, w.2)
+
+    pub other_stop : o.stop last ≢ AtQuiet → IsBeforeQuiet o x (record { states = slice_set states x last; records = behind }) false
+    other_stop other = let b = has_become states rs behind x before.0 l last its arrives in no_longer_quiet (record { states = slice_set states x last; records = behind }) x b.first last b.mine other
+
+  -- the same where they were done elsewhere
+  module _ (law : LocalLaws o) (states : List S) (rs behind : List Record) (x n : ℕ) (last now : S) (comes : QuietlyReaches o (record { states = states; records = rs }) x n last) (read_then : now ≡ get_or (slice_set states x last) x now)
+      (came : Arrives o now 4294967295 x rs behind) where
+    pub arrives_elsewhere : Arrives o last 4294967295 x rs behind
+    arrives_elsewhere = subst (λ z. Arrives o z 4294967295 x rs behind) (read_set states x comes.process last now comes.has.state_is read_then) came
+
+    moves_on : AdvancesBy o (o.path comes.process) n (record { states = states; records = rs }) (record { states = slice_set states x last; records = behind })
+    moves_on rp t kept = advanced o law rp t states rs behind n x comes.first comes.process last kept comes.has comes.stands comes.chain arrives_elsewhere
+
+    pub stands_elsewhere : (f : ℕ) × HasProcessState (record { states = slice_set states x last; records = behind }) x f now lives
+    stands_elsewhere =
+        let b = has_become states rs behind x comes.first comes.process last comes.has arrives_elsewhere in
+        (b.first, subst (λ z. HasProcessState (record { states = slice_set states x last; records = behind }) x b.first z lives) (sym (read_set states x comes.process last now comes.has.state_is read_then)) b.mine)
+
+    pub steps_elsewhere : StepsHere o x n (record { states = states; records = rs }) (record { states = slice_set states x last; records = behind })
+    steps_elsewhere = record {
+      first = comes.first;
+      process = comes.process;
+      last = last;
+      has = comes.has;
+      stood = comes.stands;
+      chain = comes.chain;
+      becomes = has_become states rs behind x comes.first comes.process last comes.has arrives_elsewhere;
+      advances = moves_on;
+    }
+
+    pub kept_elsewhere : IsKept o (record { states = states; records = rs }) → IsKept o (record { states = slice_set states x last; records = behind })
+    kept_elsewhere h = let w = moves_on h.0 (tree_of o h.1) h.2 in (h.0, w.0.root, w.2)

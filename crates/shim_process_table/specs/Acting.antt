@@ -1,0 +1,49 @@
+-- What a call did to one live process by itself, as an event.
+use Rattle.std.specs.Prelude.{◌≡◌, ℕ, Some}
+use Rattle.shim_base.specs.declared.operators.Trap.{Trap}
+use Rattle.shim_local.specs.Process.{Ops, StopView, AtTrap}
+use Rattle.shim_semantics.specs.Nodes.{Node, Live, Dead, state}
+use Rattle.shim_semantics.specs.Acts.{Acted, Effects, nothing, catch_logged, act_live}
+use Rattle.shim_laws_table.specs.Seen.{ProcessStatus, lives, dies, process_status}
+use Rattle.shim_laws_table_events.specs.keeping.Tables.{TableView, HasProcessState}
+use Rattle.shim_laws_table_events.specs.keeping.Moves.{MovesBy}
+use Rattle.shim_laws_table_events.specs.keeping.Acting.{event_at_stop}
+use Rattle.shim_process_table.specs.Stepping.{LivesAt, HasBecome}
+use Rattle.shim_process_table.specs.Touching.{TouchesAbove}
+use Rattle.shim_process_table.specs.declared.acting.Thrown.{Thrown}
+use Rattle.shim_process_table.specs.declared.acting.Thrown.TheVariants as thrown
+
+-- the process with this number lives, and stands trapped
+abbrev pub IsTrappedAt : {S : Type 0} → Ops S → TableView S → ℕ → Type 0
+IsTrappedAt o v number = (kind : Trap) × (line : ℕ) × LivesAt o v number (AtTrap kind line)
+
+-- The live process with this number stood so, and did the one thing that it can do by itself: this came of it, these effects are told, the tree moves by that event, no other process has changed, and of the records none but its own and those of the first n forks above.
+pub record ActsHere {S : Type 0} (o : Ops S) (n number : ℕ) (stop : StopView) (k : ProcessStatus) (effects : Effects) (before behind : TableView S) : Type 0 where
+  pub first : ℕ
+  pub process : S
+  pub has : HasProcessState before number first process lives
+  pub stood : o.stop process ≡ stop
+  pub left : Node S
+  pub does : act_live o process stop ≡ Some (record { node = left; effects = effects })
+  pub came : process_status left ≡ k
+  pub becomes : HasBecome number (state left) k before behind
+  pub moves : MovesBy o (event_at_stop stop (o.path process)) before behind
+  pub touches : TouchesAbove n number before behind
+
+-- what came of a process that threw an exception
+abbrev pub status_by_throw : Thrown → ProcessStatus
+status_by_throw (thrown.Caught name line) = lives
+status_by_throw (thrown.Died d) = dies d
+status_by_throw thrown.Trapped = lives
+
+-- what is told of it
+abbrev pub told_of : Thrown → Effects
+told_of (thrown.Caught name line) = catch_logged (name, line)
+told_of (thrown.Died d) = nothing
+told_of thrown.Trapped = nothing
+
+-- what a process leaves in which an exception was thrown
+abbrev pub thrown_by : {S : Type 0} → Thrown → S → Acted S
+thrown_by (thrown.Caught name line) s = record { node = Live s; effects = catch_logged (name, line) }
+thrown_by (thrown.Died d) s = record { node = Dead s d; effects = nothing }
+thrown_by thrown.Trapped s = record { node = Live s; effects = nothing }

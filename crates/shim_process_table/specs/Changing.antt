@@ -1,0 +1,18 @@
+-- What a call does to several processes, none of which it adds or takes away.
+use Rattle.std.specs.Prelude.{◌≡◌, ◌⊎◌, ℕ, List}
+use Rattle.shim_base.specs.Paths.{Path}
+use Rattle.shim_local.specs.Process.{Ops}
+use Rattle.shim_semantics.specs.Nodes.{Node}
+use Rattle.shim_laws_table.specs.Seen.{ProcessStatus, lives}
+use Rattle.shim_records.specs.Members.{IsAmong}
+use Rattle.shim_laws_table_events.specs.keeping.Tables.{TableView, HasProcessState, Keeps}
+
+-- The same numbers are in use, by processes of the same paths; and who lives and has changed has one of these numbers.
+pub record IsChanged {S : Type 0} (o : Ops S) (numbers : List ℕ) (before behind : TableView S) : Type 0 where
+  pub still : (i f : ℕ) (s : S) (k : ProcessStatus) → HasProcessState before i f s k → (g : ℕ) × (t : S) × (h : ProcessStatus) × HasProcessState behind i g t h × (o.path t ≡ o.path s)
+  pub only : (i g : ℕ) (t : S) (h : ProcessStatus) → HasProcessState behind i g t h → (f : ℕ) × (s : S) × (k : ProcessStatus) × HasProcessState before i f s k × (o.path t ≡ o.path s)
+  pub living : (i f : ℕ) (l : S) → HasProcessState behind i f l lives → IsAmong i numbers ⊎ HasProcessState before i f l lives
+
+-- it is so where they show a tree
+abbrev pub ChangesEach : {S : Type 0} → Ops S → List ℕ → TableView S → TableView S → Type 0
+ChangesEach {S} o numbers before behind = (rp : Path) (root : Node S) → Keeps o rp before root → IsChanged o numbers before behind

@@ -1,0 +1,91 @@
+-- What a close of a fork did, and what its parts do to states and records.
+use Rattle.std.specs.Prelude.{◌≡◌, ◌≢◌, ◌<◌, ◌+◌, ℕ, Bool, Option, Some, List, slice_get, slice_set}
+use Rattle.shim_local.specs.Process.{Ops}
+use Rattle.shim_semantics.specs.Nodes.{Live, Death, state}
+use Rattle.shim_semantics.specs.Acts.{Acted, Effects, nothing, closed}
+use Rattle.shim_semantics.specs.Trees.{Close}
+use Rattle.shim_laws_table.specs.Seen.{ProcessStatus, lives, forks, dies, process_status}
+use Rattle.shim_laws_table.specs.Changes.{HasClosed, segment, prevailing_among}
+use Rattle.shim_records.specs.Acted.{process_status_of, AllUpdated}
+use Rattle.shim_records.specs.declared.record.Record.{Record}
+use Rattle.shim_records.specs.declared.record.Status.{Status}
+use Rattle.shim_laws_table_events.specs.keeping.Tables.{TableView, HasProcessState, stands}
+use Rattle.shim_laws_table_events.specs.keeping.Moves.{MovesBy}
+use Rattle.shim_laws_table_events.specs.closes.Closing.{HasCome, LeavesIf, RecountedIf}
+use Rattle.shim_process_table.specs.Touching.{TouchesAbove}
+use Rattle.shim_process_table.specs.Acting.{status_by_throw, told_of, thrown_by}
+use Rattle.shim_process_table.specs.declared.acting.Thrown.TheVariants as thrown
+use Rattle.shim_process_table.specs.declared.closing.CloseOutcome.{CloseOutcome}
+use Rattle.shim_process_table.specs.declared.closing.CloseOutcome.TheVariants.{GoesOn, Threw}
+
+-- the process with this number has forked, and none of its children goes on
+pub record CanClose {S : Type 0} (v : TableView S) (number : ℕ) : Type 0 where
+  pub first : ℕ
+  pub many : ℕ
+  pub process : S
+  pub said : Record
+  pub forked : HasProcessState v number first process (forks many)
+  pub there : slice_get v.records number ≡ Some said
+  pub none_goes : said.going ≡ 0
+
+-- what is told of a close of which this came
+abbrev pub told_by : CloseOutcome → Effects
+told_by GoesOn = nothing
+told_by (Threw t) = told_of t
+
+-- whether the process lives behind it
+abbrev pub ClosedAs : CloseOutcome → ProcessStatus → Type 0
+ClosedAs GoesOn k = k ≡ lives
+ClosedAs (Threw (thrown.Caught name line)) k = k ≡ lives
+ClosedAs (Threw (thrown.Died d)) k = k ≡ dies d
+ClosedAs (Threw thrown.Trapped) k = k ≡ lives
+
+-- The process with this number had forked, and its fork closed: this came of it, the tree moves by that event, and of all others its children alone are no more. Of the records none has changed but its own, its children's and those of the first n forks above.
+pub record ClosesHere {S : Type 0} (o : Ops S) (n number : ℕ) (outcome : CloseOutcome) (before behind : TableView S) : Type 0 where
+  pub first : ℕ
+  pub many : ℕ
+  pub process : S
+  pub forked : HasProcessState before number first process (forks many)
+  pub left : Acted S
+  pub does : left ≡ closed o process (segment first many before.states) (prevailing_among (segment first many (stands before)))
+  pub path : o.path (state left.node) ≡ o.path process
+  pub apart : (b : ℕ) → b < many → number ≢ first + b
+  pub told : left.effects ≡ told_by outcome
+  pub came : ClosedAs outcome (process_status left.node)
+  pub becomes : HasClosed before.states behind.states (stands before) (stands behind) number first many (state left.node) (process_status left.node)
+  pub moves : MovesBy o (Close (o.path process)) before behind
+  pub touches : TouchesAbove n number before behind
+
+-- ---- the parts
+
+-- what a process leaves of which this came
+abbrev pub acted_by : {S : Type 0} → CloseOutcome → S → Acted S
+acted_by GoesOn s = record { node = Live s; effects = nothing }
+acted_by (Threw t) s = thrown_by t s
+
+-- what came of a process with this outcome
+abbrev pub status_by_close : CloseOutcome → ProcessStatus
+status_by_close GoesOn = lives
+status_by_close (Threw t) = status_by_throw t
+
+-- the process p has the values of its children again, whose states lie together from g on
+abbrev pub HasJoined : {S : Type 0} → Ops S → ℕ → ℕ → ℕ → Bool → List S → List S → Type 0
+HasJoined {S} o p g n goes_on before behind = (l : S) → slice_get before p ≡ Some l → behind ≡ slice_set before p (o.join l (segment g n before) goes_on)
+
+-- and where this death prevailed, its exception was thrown in it
+abbrev pub TakesBack : {S : Type 0} → Ops S → ℕ → ℕ → ℕ → Option Death → CloseOutcome → List S → List S → Type 0
+TakesBack {S} o p g n death outcome before behind = (l : S) → slice_get before p ≡ Some l → (s : S) × (behind ≡ slice_set before p s) × (acted_by outcome s ≡ closed o l (segment g n before) death)
+
+-- The record at a place says what came of its process, and all above was brought up to date.
+pub record ClosesRecord {S : Type 0} (o : Ops S) (states : List S) (at : ℕ) (status : Status) (d : Option Death) (before behind : List Record) : Type 0 where
+  pub process : S
+  pub was : Record
+  pub is : Record
+  pub left : List Record
+  pub between : List Record
+  pub state_is : slice_get states at ≡ Some process
+  pub there : slice_get before at ≡ Some was
+  pub come : HasCome was is (process_status_of status)
+  pub leaves : LeavesIf (process_status_of status) at (slice_set before at is) left
+  pub walked : AllUpdated o process (process_status_of status) 4294967295 at left between
+  pub again : RecountedIf d o states process 4294967295 at between behind

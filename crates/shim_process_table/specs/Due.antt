@@ -1,0 +1,88 @@
+-- What can happen at a process, as the code tells it.
+use Rattle.std.specs.Prelude.{◌≡◌, ◌<◌, ℕ, ◌+◌, Bool, true, false, Option, Some, None, List, map, slice_get}
+use Rattle.shim_base.specs.Paths.{Channel, NamedChannel}
+use Rattle.shim_local.specs.Process.{Ops, AtPut, AtFork, AtThrow, AtTrap, AtFinish, AtNext}
+use Rattle.shim_laws_table.specs.Seen.{ProcessStatus, lives}
+use Rattle.shim_laws_table.specs.Agrees.{RecordView, used}
+use Rattle.shim_laws_table.specs.Counts.{Tally, all_there}
+use Rattle.shim_laws_table.specs.Dooms.{is_below}
+use Rattle.shim_records.specs.Pairs.{tally, counts_in, stands_of}
+use Rattle.shim_records.specs.declared.pair.Pair.{Pair}
+use Rattle.shim_records.specs.declared.record.Record.{Record}
+use Rattle.shim_laws_table_events.specs.keeping.Tables.{TableView, HasProcessState}
+use Rattle.shim_laws_table_events.specs.waking.Looks.{ready_by, IsIdle, IsReady}
+use Rattle.shim_process_table.specs.Closing.{CanClose}
+use Rattle.shim_process_table.specs.Reading.{HasPair}
+use Rattle.shim_process_table.specs.Stepping.{LivesAt}
+use Rattle.shim_process_table.specs.declared.due.Due.{Due}
+use Rattle.shim_process_table.specs.declared.due.Due.TheVariants as code
+
+-- it lives, and stands at a channel that it declared
+pub record MeetsAlone {S : Type 0} (o : Ops S) (v : TableView S) (i : ℕ) : Type 0 where
+  pub first : ℕ
+  pub process : S
+  pub chan : NamedChannel
+  pub has : HasProcessState v i first process lives
+  pub stands : o.stop process ≡ AtNext chan
+  pub declared : o.path process ≡ chan.channel.home
+
+-- by its pair in this place all are there who share a channel that it declared
+pub record AllThere {S : Type 0} (o : Ops S) (v : TableView S) (i q : ℕ) : Type 0 where
+  pub first : ℕ
+  pub many : ℕ
+  pub process : S
+  pub pair_is : Pair
+  pub has : HasPair v i first many process q pair_is
+  pub declared : o.path process ≡ pair_is.chan.channel.home
+  pub all : all_there (tally pair_is) ≡ true
+
+-- by its pair in this place a death below dooms its child with the number j, which is ready
+pub record IsDoomed {S : Type 0} (o : Ops S) (v : TableView S) (i q j : ℕ) : Type 0 where
+  pub first : ℕ
+  pub many : ℕ
+  pub process : S
+  pub pair_is : Pair
+  pub has : HasPair v i first many process q pair_is
+  pub dooms : is_below pair_is.least (o.handlers process) ≡ true
+  pub branch : ℕ
+  pub within : branch < many
+  pub number : j ≡ first + branch
+  pub child_first : ℕ
+  pub child : S
+  pub child_sort : ProcessStatus
+  pub its : HasProcessState v j child_first child child_sort
+  pub ready : IsReady o v pair_is.chan.channel j child child_sort
+
+-- what an answer says of the process with this number
+abbrev pub DueIs : {S : Type 0} → Ops S → TableView S → ℕ → Due → Type 0
+DueIs o v i code.Nothing = IsIdle o v i
+DueIs o v i code.Put = LivesAt o v i AtPut
+DueIs o v i code.Fork = LivesAt o v i AtFork
+DueIs o v i (code.Throw label) = LivesAt o v i (AtThrow label)
+DueIs o v i (code.Trap kind line) = LivesAt o v i (AtTrap kind line)
+DueIs o v i code.Finish = LivesAt o v i AtFinish
+DueIs o v i code.Close = CanClose v i
+DueIs o v i code.MeetAlone = MeetsAlone o v i
+DueIs o v i (code.Meet q) = AllThere o v i q
+DueIs o v i (code.Poison q j) = IsDoomed o v i q j
+
+-- ---- the parts
+
+-- whether a process with this state, of which this came, is ready on a channel for which its record has these counts
+abbrev pub ready_record : {S : Type 0} → Ops S → Channel → Option S → Option RecordView → Option Tally → Bool
+ready_record o c (Some s) (Some (used f k)) y = ready_by o c s k y
+ready_record o c _ _ y = false
+
+-- whether the process with this number is
+abbrev pub ready_at : {S : Type 0} → Ops S → Channel → List S → List Record → ℕ → Bool
+ready_at o c states rs i = ready_record o c (slice_get states i) (slice_get (map stands_of rs) i) (counts_in c rs i)
+
+-- the first of so many from a number on that is ready, or that none is
+abbrev pub ReadyAmong : {S : Type 0} → Ops S → Channel → List S → List Record → ℕ → ℕ → Option ℕ → Type 0
+ReadyAmong o c states rs g n None = (b : ℕ) → b < n → ready_at o c states rs (g + b) ≡ false
+ReadyAmong o c states rs g n (Some j) = (b : ℕ) × (b < n) × (j ≡ g + b) × (ready_at o c states rs j ≡ true)
+
+-- the child that the pair's label dooms at the fork of a process with this state, whose n children have the numbers from g on; or that there is none
+abbrev pub DoomedAmong : {S : Type 0} → Ops S → List S → List Record → S → ℕ → ℕ → Pair → Option ℕ → Type 0
+DoomedAmong o states rs l g n y None = is_below y.least (o.handlers l) ≡ true → ReadyAmong o y.chan.channel states rs g n None
+DoomedAmong o states rs l g n y (Some j) = (is_below y.least (o.handlers l) ≡ true) × ReadyAmong o y.chan.channel states rs g n (Some j)

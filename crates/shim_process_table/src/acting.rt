@@ -1,0 +1,112 @@
+// What a live process does by itself beside quiet steps and forks, in place.
+ghost use Rattle.std.specs.Prelude.{◌≡◌, ℕ, pos};
+ghost use Rattle.shim_base.specs.declared.operators.Trap.{Trap as TrapView};
+ghost use Rattle.shim_local.specs.Process.{AtPut, AtFinish, AtThrow, AtTrap};
+ghost use Rattle.shim_semantics.specs.Nodes.{death_with};
+ghost use Rattle.shim_semantics.specs.Acts.{nothing, putting, throwing, trapping};
+ghost use Rattle.shim_laws_table.specs.Seen.{lives, ends, dies};
+ghost use Rattle.shim_records.specs.Ways.{most_forks};
+ghost use Rattle.shim_process_table.specs.Stepping.{LivesAt};
+ghost use Rattle.shim_process_table.specs.Acting.{IsTrappedAt, ActsHere, status_by_throw, thrown_by, told_of};
+ghost use Rattle.shim_process_table.specs.Listing.{ListingIs};
+
+use crate::acting_gone::leave_tree;
+use crate::arriving::{Arrival, arrive};
+use crate::closing::throw_in;
+use crate::listing::Listing;
+use crate::process_table::ProcessTable;
+use shim_local::{Death, Local};
+use shim_records::Status;
+
+/// What came of a throw.
+#[derive(Clone, Copy, Debug, PartialEq, Eq)]
+pub enum Thrown {
+    /// The process caught it: the number of the exception's name, and the line of the `try`.
+    Caught(u32, u32),
+    /// No handler of its own is in force, and the process died so.
+    Died(Death),
+    /// Its expression traps, and the process stands trapped.
+    Trapped,
+}
+
+// The throw of this label at which a process stands.
+fn throw_own<L: Local>(process: &mut L, label: u32) -> Thrown
+    requires sound { L.ops.sound process.old }
+    requires stands { L.ops.stop process.old ≡ AtThrow label }
+    ensures { thrown_by result process.new ≡ throwing L.ops process.old label (L.ops.number process.old) }
+{
+    match process.thrown() {
+        None => Thrown::Trapped,
+        Some(number) => throw_in(
+            process,
+            Death {
+                label,
+                given: Some(number),
+            },
+        ),
+    }
+}
+
+impl<L: Local> ProcessTable<L> {
+    /// The process with this number, which lives and stands at a `put`, does it. The answer is the byte, or
+    /// `None` where the expression traps; it then stands trapped. It says where the process has come, too.
+    pub fn put_here(&mut self, number: u32) -> (Option<u8>, Arrival)
+        requires { LivesAt L.ops self.old number AtPut }
+        ensures acts { ActsHere L.ops result.1.forks number AtPut lives (putting result.0) self.old self.new }
+        ensures listing { ListingIs L.ops self.new number result.1.listing }
+    {
+        let at = number as usize;
+        let byte = self.states[at].put();
+        let arrival = arrive(&self.states[at], &mut self.records, at);
+        (byte, arrival)
+    }
+
+    /// The process with this number, which lives and stands at a throw of the exception of this label, throws
+    /// it: a handler of its own catches it, or the process dies, or stands trapped. The answer says where it
+    /// has come, too.
+    pub fn throw_here(&mut self, number: u32, label: u32) -> (Thrown, Arrival)
+        requires { LivesAt L.ops self.old number (AtThrow label) }
+        ensures acts { ActsHere L.ops result.1.forks number (AtThrow label) (status_by_throw result.0) (told_of result.0) self.old self.new }
+        ensures listing { ListingIs L.ops self.new number result.1.listing }
+    {
+        let at = number as usize;
+        let thrown = throw_own(&mut self.states[at], label);
+        if let Thrown::Died(death) = thrown {
+            let forks = leave_tree(&self.states[at], Status::Dead(death), &mut self.records, at);
+            let gone = Arrival {
+                listing: Listing::Nowhere,
+                forks,
+            };
+            return (thrown, gone);
+        }
+        let arrival = arrive(&self.states[at], &mut self.records, at);
+        (thrown, arrival)
+    }
+
+    /// The process with this number, which lives and stands trapped, dies of the trap.
+    pub fn trap_here(&mut self, number: u32)
+        requires { IsTrappedAt L.ops self.old number }
+        ensures { (kind : TrapView) (line : ℕ) → LivesAt L.ops self.old number (AtTrap kind line) → ActsHere L.ops most_forks number (AtTrap kind line) (dies (death_with 0 (pos 0))) (trapping kind line) self.old self.new }
+    {
+        let at = number as usize;
+        leave_tree(
+            &self.states[at],
+            Status::Dead(Death {
+                label: 0,
+                given: Some(0),
+            }),
+            &mut self.records,
+            at,
+        );
+    }
+
+    /// The process with this number, which lives and has nothing left to do, ends. The answer is how many forks
+    /// above it say something else now, at most.
+    pub fn finish_here(&mut self, number: u32) -> u32
+        requires { LivesAt L.ops self.old number AtFinish }
+        ensures { ActsHere L.ops result number AtFinish ends nothing self.old self.new }
+    {
+        let at = number as usize;
+        leave_tree(&self.states[at], Status::Ended, &mut self.records, at)
+    }
+}

@@ -1,0 +1,102 @@
+// A meeting, one process after the other.
+ghost use Rattle.std.specs.Prelude.{ℕ};
+ghost use Rattle.shim_laws_table.specs.Seen.{lives};
+ghost use Rattle.shim_records.specs.Pairs.{AreOrdered};
+ghost use Rattle.shim_records.specs.Ways.{most_forks};
+ghost use Rattle.shim_laws_table_events.specs.keeping.Tables.{TableView, HasProcessState};
+ghost use Rattle.shim_laws_table_events.specs.meetings.Receiving.{MovesOn};
+ghost use Rattle.shim_laws_table_events.specs.meetings.Meetings.{ReceivesOne};
+ghost use Rattle.shim_process_table.specs.Meeting.{WaitsAt, LeavesChannel, ReceivesHere};
+ghost use Rattle.shim_process_table.specs.Listing.{ListingIs};
+ghost use Rattle.shim_process_table.specs.Touching.{TouchesRecords};
+
+use crate::arriving::Arrival;
+use crate::listing::{Listing, listing_at};
+use crate::process_table::ProcessTable;
+use shim_base::Chan;
+use shim_local::{Local, Stop};
+use shim_records::{Record, is_at_channel, live_reading, update_counts_above};
+
+// Brings the counts above a process up to date that stood at the channel and stands there no more. It answers
+// how many forks above it have other counts, at most.
+fn leave_channel(c: &Chan, records: &mut Vec<Record>, at: usize) -> u32
+    requires { AreOrdered records.old.items }
+    ensures leaves { LeavesChannel c.now.channel most_forks at records.old.items records.new.items }
+    ensures touches { TouchesRecords result at records.old.items records.new.items }
+{
+    update_counts_above(
+        records,
+        at,
+        c,
+        live_reading(true),
+        live_reading(false),
+        u32::MAX,
+    )
+}
+
+// Brings the counts above a process up to date that stood at the channel and has received there. It answers
+// where the process has come.
+fn move_on<L: Local>(process: &L, c: &Chan, records: &mut Vec<Record>, at: usize) -> Arrival
+    requires { AreOrdered records.old.items }
+    ensures moves { MovesOn L.ops process.now c.now.channel most_forks at records.old.items records.new.items }
+    ensures touches { TouchesRecords result.forks at records.old.items records.new.items }
+    ensures listing { (v : TableView L) (i f : ℕ) → HasProcessState v i f process.now lives → ListingIs L.ops v i result.listing }
+{
+    match process.stop() {
+        Stop::Next(chan) => {
+            let listing = listing_at(process, chan);
+            if *c == *chan {
+                return Arrival { listing, forks: 0 };
+            }
+            let left = leave_channel(c, records, at);
+            let come = update_counts_above(
+                records,
+                at,
+                chan,
+                live_reading(false),
+                live_reading(true),
+                u32::MAX,
+            );
+            Arrival {
+                listing,
+                forks: left.max(come),
+            }
+        }
+        Stop::Quiet => Arrival {
+            listing: Listing::Quiet,
+            forks: leave_channel(c, records, at),
+        },
+        Stop::Put | Stop::Fork | Stop::Finish | Stop::Throw(_) | Stop::Trapped(_, _) => Arrival {
+            listing: Listing::Awake,
+            forks: leave_channel(c, records, at),
+        },
+    }
+}
+
+impl<L: Local> ProcessTable<L> {
+    /// The process with this number receives the value of a meeting of the channel, if it lives and stands at
+    /// it, and the answer says where it has come; `None` where it doesn't, and then nothing changes. It takes
+    /// no memory.
+    pub fn receive(&mut self, number: u32, c: &Chan, v: i64) -> Option<Arrival>
+        ensures receives { ReceivesOne L.ops c.now.channel v number self.old self.new }
+        ensures here { ReceivesHere L.ops c.now.channel v number result self.old self.new }
+    {
+        let at = number as usize;
+        if !self.waits_at(at, c) {
+            return None;
+        }
+        self.states[at].receive(v);
+        let arrival = move_on(&self.states[at], c, &mut self.records, at);
+        Some(arrival)
+    }
+
+    // Whether the process with this number lives and stands at the channel.
+    fn waits_at(&self, at: usize, c: &Chan) -> bool
+        ensures { WaitsAt L.ops c.now.channel at self.now result }
+    {
+        if !self.lives(at) {
+            return false;
+        }
+        is_at_channel(&self.states[at], c)
+    }
+}

@@ -1,0 +1,128 @@
+-- One process has changed, and what is to be looked at again is listed: the type's invariant stays.
+use Rattle.std.proofs.Common.{◌≡◌, ◌≢◌, ◌≤◌, ◌<◌, ◌↔◌, inl, inr, ℕ, true, false, List, [], length, sym, ap, subst, ◌∙◌}
+use Rattle.shim_base.proofs.Facts.{true_or_false}
+use Rattle.shim_local.specs.Process.{Ops, AtQuiet}
+use Rattle.shim_local.specs.Laws.{LocalLaws}
+use Rattle.shim_semantics.specs.Trees.{steps}
+use Rattle.shim_semantics.proofs.HowMany.{clash}
+use Rattle.shim_laws_table.specs.Seen.{ProcessStatus, lives}
+use Rattle.shim_laws_table.proofs.OneChange.{one_state}
+use Rattle.shim_laws_table.proofs.SameTrees.{same_or_not}
+use Rattle.shim_laws_table_events.specs.keeping.Tables.{TableView, HasProcessState, Keeps, stands}
+use Rattle.shim_laws_table_events.specs.waking.Awake.{is_listed}
+use Rattle.shim_laws_table_events.proofs.waking.Awake.{listing_stays}
+use Rattle.shim_process_table.specs.Reading.{IsInUse, IsForAll}
+use Rattle.shim_process_table.specs.Stepping.{HasBecome}
+use Rattle.shim_process_table.specs.Touching.{TouchesAbove}
+use Rattle.shim_run_state.specs.ProcessLists.{Serves}
+use Rattle.shim_run_state.specs.RunStates.{RunStateView, tree_in, IsQuietAt, IsHeld, KeepsTree, QuietAreListed}
+use Rattle.shim_run_state.specs.Holding.{SameHeld}
+use Rattle.shim_run_state.specs.Waking.{ListsAwake, ListsQuiet}
+use Rattle.shim_run_state.proofs.Wakened.{Suffices, one_suffices}
+
+-- as long a list has an item for the same numbers
+pub still_for_all : {S A : Type 0} (before behind : TableView S) (xs ys : List A) → ((i : ℕ) → IsInUse behind i → IsInUse before i) → length ys ≡ length xs → IsForAll before xs → IsForAll behind ys
+still_for_all before behind xs ys used e h i u = subst (λ n. i < n) (sym e) (h i (used i u))
+
+-- where one process has become another, no other number is in use
+module _ {S : Type 0} (before behind : TableView S) (number f : ℕ) (l s : S) (h k : ProcessStatus) (has : HasProcessState before number f l h) (becomes : HasBecome number s k before behind) where
+  pub was_used : (i : ℕ) → IsInUse behind i → IsInUse before i
+  was_used i (g, t, x, there) = elim (same_or_not i number) [
+    | inl e ↦ (f, l, h, subst (λ z. HasProcessState before z f l h) (sym e) has)
+    | inr far ↦ (g, t, x, becomes.only i g t x far there)
+  ]
+
+  pub for_all_behind : {A : Type 0} (xs : List A) → IsForAll before xs → IsForAll behind xs
+  for_all_behind xs h i u = h i (was_used i u)
+
+module _ {S : Type 0} (o : Ops S) (law : LocalLaws o) (before behind : RunStateView S) (kept : KeepsTree o before) where
+  -- Where the records show the tree behind, the list has all that is to be looked at again, and whoever stands before a quiet step is listed anew, or did so before.
+  pub record HasMoved : Type 0 where
+    pub shows : Keeps o [] behind.table (tree_in o behind).root
+    pub few : steps (tree_in o behind) ≤ 4000000
+    pub looks : Suffices o before.table behind.table behind.process_lists.awake
+    pub awake : (i : ℕ) → is_listed before.process_lists.awake i ≡ true → is_listed behind.process_lists.awake i ≡ true
+    pub quiet : QuietAreListed o behind.table behind.process_lists.quiet behind.process_lists.held
+    pub held : (i : ℕ) → is_listed behind.process_lists.held i ≡ true → (l : S) × IsQuietAt o behind.table i l
+    pub serves : Serves behind.table behind.process_lists
+
+  pub keeps_on : HasMoved → KeepsTree o behind
+  keeps_on m = record {
+    shows = m.shows;
+    awake = (listing_stays o law).moves [] before.table behind.table (tree_in o before) (tree_in o behind) before.process_lists.awake behind.process_lists.awake (is_listed m.looks.again) kept.shows m.shows kept.awake m.awake m.looks.wakes m.looks.to_look;
+    quiet = m.quiet;
+    held = m.held;
+    serves = m.serves;
+    few = m.few;
+  }
+
+  -- ---- one process has become another
+
+  module _ (number f : ℕ) (l s : S) (h k : ProcessStatus) (has : HasProcessState before.table number f l h) (becomes : HasBecome number s k before.table behind.table)
+      (flags : (i : ℕ) → i ≢ number → is_listed behind.process_lists.held i ≡ is_listed before.process_lists.held i) (free : is_listed behind.process_lists.held number ≡ false) where
+    used_before : (i : ℕ) → IsInUse behind.table i → IsInUse before.table i
+    used_before = was_used before.table behind.table number f l s h k has becomes
+
+    pub quiet_before : (i : ℕ) (t : S) → i ≢ number → IsQuietAt o behind.table i t → IsQuietAt o before.table i t
+    quiet_before i t far q = record { first = q.first; has = becomes.only i q.first t lives far q.has; stands = q.stands }
+
+    pub quiet_behind : (i : ℕ) (t : S) → i ≢ number → IsQuietAt o before.table i t → IsQuietAt o behind.table i t
+    quiet_behind i t far q = record { first = q.first; has = becomes.others i q.first t lives far q.has; stands = q.stands }
+
+    -- who is held now is another one, and was held
+    held_far : (i : ℕ) → is_listed behind.process_lists.held i ≡ true → i ≢ number
+    held_far i flag e = clash (is_listed behind.process_lists.held i) flag (ap (is_listed behind.process_lists.held) e ∙ free)
+
+    pub others_held : (i : ℕ) (t : S) → i ≢ number → IsHeld o before i t ↔ IsHeld o behind i t
+    others_held i t far = (
+      λ w. record { quiet = quiet_behind i t far w.quiet; flag = flags i far ∙ w.flag },
+      λ w. record { quiet = quiet_before i t far w.quiet; flag = sym (flags i far) ∙ w.flag },
+    )
+
+    pub isnt_held : (t : S) → IsHeld o behind number t → ⊥
+    isnt_held t w = clash (is_listed behind.process_lists.held number) w.flag free
+
+    -- who was held still is, where the process wasn't
+    pub same_held : is_listed before.process_lists.held number ≡ false → SameHeld o before behind
+    same_held was i t = elim (same_or_not i number) [
+      | inr far ↦ others_held i t far
+      | inl e ↦ (
+        λ w. clash (is_listed before.process_lists.held i) w.flag (ap (is_listed before.process_lists.held) e ∙ was),
+        λ w. clash (is_listed behind.process_lists.held i) w.flag (ap (is_listed behind.process_lists.held) e ∙ free),
+      )
+    ]
+
+    module _ (n : ℕ) (shows : Keeps o [] behind.table (tree_in o behind).root) (few : steps (tree_in o behind) ≤ 4000000) (touches : TouchesAbove n number before.table behind.table)
+        (awake : ListsAwake o behind.table n number before.process_lists.awake behind.process_lists.awake) (quiet : ListsQuiet o behind.table number before.process_lists.quiet behind.process_lists.quiet)
+        (within : number < length behind.process_lists.awake) (owns : length behind.process_lists.own ≡ length before.process_lists.own) where
+      lists : QuietAreListed o behind.table behind.process_lists.quiet behind.process_lists.held
+      lists i t q = elim (same_or_not i number) [
+        | inl e ↦ inl (ap (is_listed behind.process_lists.quiet) e ∙ quiet.mine t (subst (λ z. IsQuietAt o behind.table z t) e q))
+        | inr far ↦ elim (kept.quiet i t (quiet_before i t far q)) [ inl w ↦ inl (quiet.kept i w) | inr w ↦ inr (flags i far ∙ w) ]
+      ]
+
+      stay_held : (i : ℕ) → is_listed behind.process_lists.held i ≡ true → (t : S) × IsQuietAt o behind.table i t
+      stay_held i flag =
+          let far = held_far i flag in
+          let w = kept.held i (sym (flags i far) ∙ flag) in
+          (w.0, quiet_behind i w.0 far w.1)
+
+      pub one_moved : KeepsTree o behind
+      one_moved = keeps_on (record {
+        shows = shows;
+        few = few;
+        looks = one_suffices o n number before.table behind.table before.process_lists.awake behind.process_lists.awake awake within touches;
+        awake = awake.kept;
+        quiet = lists;
+        held = stay_held;
+        serves = still_for_all before.table behind.table before.process_lists.own behind.process_lists.own used_before owns kept.serves;
+      })
+
+  -- who stands at something else isn't held
+  pub other_stop_free : (number f : ℕ) (l : S) → HasProcessState before.table number f l lives → o.stop l ≢ AtQuiet → is_listed before.process_lists.held number ≡ false
+  other_stop_free number f l has other = elim (true_or_false (is_listed before.process_lists.held number)) [
+    | inr e ↦ e
+    | inl e ↦
+        let w = kept.held number e in
+        absurd (other (ap o.stop (one_state before.table.states (stands before.table) number f w.1.first l w.0 lives lives has w.1.has) ∙ w.1.stands))
+  ]

@@ -1,0 +1,99 @@
+-- What is read off the root of a run state.
+use Rattle.std.proofs.Common.{◌≡◌, ◌≤◌, ℕ, zero, suc, Bool, true, false, Option, Some, None, [], length, map, refl, sym, ap, subst, ◌∙◌, arith}
+use Rattle.std.specs.Prelude.{slice_get, ◌↔◌, IsTrue}
+use Rattle.std.specs.Option.{option_map}
+use Rattle.std.specs.FinMap.{FinMap, empty, entries}
+use Rattle.shim_base.specs.Paths.{NamedChannel, path_order}
+use Rattle.shim_base.proofs.Facts.{some_same, none_some}
+use Rattle.shim_local.specs.Process.{Ops}
+use Rattle.shim_local.specs.declared.Outcome.TheVariants.{Blocked}
+use Rattle.shim_semantics.specs.Nodes.{Node, Nodes, Live, Forked, Ended, Dead}
+use Rattle.shim_semantics.specs.Trees.{IsQuiescent}
+use Rattle.shim_semantics.specs.Walks.{walk}
+use Rattle.shim_semantics.specs.Endings.{is_empty, outcome_of_root, waits_of, wait_at}
+use Rattle.shim_semantics.proofs.Enabled.{empty_is_quiescent}
+use Rattle.shim_run_log.proofs.WaitsAdded.{blocked_waits}
+use Rattle.shim_laws_table.specs.Seen.{place}
+use Rattle.shim_laws_table.specs.Agrees.{used}
+use Rattle.shim_laws_table.specs.ShownTree.{node_of, node_in, fork_over, nodes_from}
+use Rattle.shim_laws_table.proofs.ShownTree.{root_within, AreNear}
+use Rattle.shim_records.specs.Pairs.{stands_by, stands_of}
+use Rattle.shim_records.specs.declared.record.Record.{Record}
+use Rattle.shim_records.specs.declared.record.Status.{Status as Stood}
+use Rattle.shim_records.specs.declared.record.Status.TheVariants as code
+use Rattle.shim_records.proofs.Showing.{map_get}
+use Rattle.shim_laws_table_events.specs.keeping.Tables.{TableView, Keeps, stands}
+use Rattle.shim_laws_table_events.proofs.keeping.Moved.{from_map}
+use Rattle.shim_process_table.specs.Reading.{IsInUse}
+use Rattle.shim_run_state.specs.RunStates.{RunStateView, tree_in, KeepsTree}
+use Rattle.shim_run_state.specs.Endings.{IsRoot, outcome_by}
+use Rattle.shim_run_state.specs.Gathering.{AddsWaits}
+
+module _ {S : Type 0} (o : Ops S) where
+  -- ---- the root is computed, and has a record
+
+  are_near : (v : TableView S) (root : Node S) (most : ℕ) → 4294967295 ≡ most → Keeps o [] v root → AreNear o [] v.states (stands v) most
+  are_near v root most e kept i f s k has =
+      let w = from_map stands_of (slice_get v.records i) (used f k) (sym (map_get stands_of v.records i) ∙ has.stands_so) in
+      subst (λ z. length (place o [] s) ≤ z) e (kept.fit i f s k w.0 has w.1).near
+
+  root_computed : (v : TableView S) (root : Node S) (most levels : ℕ) → 4294967295 ≡ most → levels ≡ suc most → Keeps o [] v root → IsRoot v levels root
+  root_computed v root most levels e is kept =
+      record { is = ap (λ z. node_of v.states (stands v) z 0) is ∙ root_within o [] v.states (stands v) root most kept.shows (are_near v root most e kept) }
+
+  pub root_is : (v : TableView S) (root : Node S) → Keeps o [] v root → IsRoot v 4294967296 root
+  root_is v root kept = root_computed v root 4294967295 4294967296 refl one_more kept
+    where
+      one_more : 4294967296 ≡ suc 4294967295
+      one_more = omega arith
+
+  pub root_in_use : (v : TableView S) (root : Node S) → Keeps o [] v root → IsInUse v 0
+  root_in_use v root kept = let r = kept.shows.rooted in (r.first, r.state, r.sort, r.has)
+
+  pub root_has_record : (v : TableView S) → IsInUse v 0 → slice_get v.records 0 ≡ None → ⊥
+  root_has_record v u e =
+      let w = from_map stands_of (slice_get v.records 0) (used u.0 u.2) (sym (map_get stands_of v.records 0) ∙ u.3.stands_so) in
+      none_some w.0 (sym e ∙ w.1)
+
+  -- ---- what came of it
+
+  fork_blocked : (s : S) (x : Option (Nodes S)) (root : Node S) → fork_over s x ≡ Some root → Blocked ≡ outcome_of_root root
+  fork_blocked s None root h = none_some root h
+  fork_blocked s (Some ks) root h = ap outcome_of_root (some_same (Forked s ks) root h)
+
+  by_standing : (nodes : ℕ → Option (Node S)) (s : S) (first : ℕ) (x : Stood) (root : Node S) → node_in nodes (Some s) (Some (stands_by first x)) ≡ Some root → outcome_by x ≡ outcome_of_root root
+  by_standing nodes s first code.Free root h = none_some root h
+  by_standing nodes s first code.Live root h = ap outcome_of_root (some_same (Live s) root h)
+  by_standing nodes s first (code.Forked n) root h = fork_blocked s (nodes_from nodes first n) root h
+  by_standing nodes s first code.Ended root h = ap outcome_of_root (some_same (Ended s) root h)
+  by_standing nodes s first (code.Dead x) root h = ap outcome_of_root (some_same (Dead s x) root h)
+
+  root_came : (v : TableView S) (levels : ℕ) (root : Node S) (r : Record) → slice_get v.records 0 ≡ Some r → node_of v.states (stands v) levels 0 ≡ Some root → outcome_by r.status ≡ outcome_of_root root
+  root_came v zero root r e h = none_some root h
+  root_came v (suc m) root r e h = on (slice_get v.states 0) refl
+    where
+      said : slice_get (stands v) 0 ≡ Some (stands_of r)
+      said = map_get stands_of v.records 0 ∙ ap (option_map stands_of) e
+
+      on : (x : Option S) → slice_get v.states 0 ≡ x → outcome_by r.status ≡ outcome_of_root root
+      on None f = none_some root ((λ t. node_in (node_of v.states (stands v) m) (sym f t) (sym said t)) ∙ h)
+      on (Some s) f = by_standing (node_of v.states (stands v) m) s r.first r.status root ((λ t. node_in (node_of v.states (stands v) m) (sym f t) (sym said t)) ∙ h)
+
+  pub root_outcome : (v : TableView S) (levels : ℕ) (root : Node S) (r : Record) → slice_get v.records 0 ≡ Some r → IsRoot v levels root → outcome_by r.status ≡ outcome_of_root root
+  root_outcome v levels root r e is = root_came v levels root r e is.is
+
+  -- ---- who waits
+
+  pub root_waits : (v : TableView S) (levels : ℕ) (root : Node S) (none after : FinMap path_order NamedChannel) → IsRoot v levels root → none ≡ empty → AddsWaits o v levels 0 none after → map wait_at (entries after) ≡ waits_of o root Blocked
+  root_waits v levels root none after is e got = blocked_waits o after none root e (got root is.is)
+
+-- ---- whether anything can happen, as the walk tells it
+
+same_truth : (b x : Bool) (Q : Type 0) → IsTrue b ↔ Q → (x ≡ true) ↔ Q → b ≡ x
+same_truth true true Q w u = refl
+same_truth true false Q w u = sym (u.1 (w.0 refl))
+same_truth false true Q w u = w.1 (u.0 refl)
+same_truth false false Q w u = refl
+
+pub told_empty : {S : Type 0} (o : Ops S) (v : RunStateView S) (b : Bool) → KeepsTree o v → IsTrue b ↔ IsQuiescent o (tree_in o v) → b ≡ is_empty (walk o (tree_in o v).root)
+told_empty o v b kept w = same_truth b (is_empty (walk o (tree_in o v).root)) (IsQuiescent o (tree_in o v)) w (empty_is_quiescent o (tree_in o v) kept.shows.shows.sound.below)

@@ -1,0 +1,79 @@
+-- Several processes have changed, and their numbers and the forks above them are listed.
+use Rattle.std.proofs.Common.{◌≡◌, ◌<◌, ◌⊎◌, inl, inr, ℕ, true, Some, List, ◌++◌, length, refl, ap, ◌∙◌, arith}
+use Rattle.shim_local.specs.Process.{Ops}
+use Rattle.shim_local.specs.Laws.{LocalLaws}
+use Rattle.shim_semantics.specs.Trees.{Event, steps}
+use Rattle.shim_laws_table.specs.Seen.{lives}
+use Rattle.shim_laws_replay.specs.Grants.{IsNoQuietStep}
+use Rattle.shim_laws_table_events.specs.waking.Awake.{is_listed}
+use Rattle.shim_run_log.specs.Counted.{counted}
+use Rattle.shim_process_table.specs.Reading.{IsInUse, AreInUse}
+use Rattle.shim_laws_table_events.specs.keeping.Tables.{TableView}
+use Rattle.shim_process_table.specs.Changing.{IsChanged}
+use Rattle.shim_process_table.specs.Touching.{TouchesEach}
+use Rattle.shim_run_state.specs.ProcessLists.{ProcessListsView, Serves}
+use Rattle.shim_run_state.specs.RunStates.{RunStateView, tree_in, path_at, counts_from, IsQuietAt, KeepsTree}
+use Rattle.shim_run_state.specs.Holding.{HappensIn}
+use Rattle.shim_run_state.specs.Several.{RequeuesEach}
+use Rattle.shim_run_state.proofs.Counts.{same}
+use Rattle.shim_run_state.proofs.Events.{counts_in, Happened}
+use Rattle.shim_run_state.proofs.OneMoved.{still_for_all, keeps_on}
+use Rattle.shim_run_state.proofs.Paths.{path_of, same_path_at}
+use Rattle.shim_run_state.proofs.Wakened.{each_suffices}
+use Rattle.shim_run_state.proofs.Staying.{quiet_stays, held_as_before, still_held, still_listed}
+
+module _ {S : Type 0} (o : Ops S) (numbers : List ℕ) (before behind : TableView S) (changed : IsChanged o numbers before behind) where
+  was_used : (i : ℕ) → IsInUse behind i → IsInUse before i
+  was_used i u = let w = changed.only i u.0 u.1 u.2 u.3 in (w.0, w.1, w.2, w.3)
+
+  -- who was in use still is, and nobody else
+  pub used_behind : AreInUse before numbers → AreInUse behind numbers
+  used_behind used i g = let u = used i g in let w = changed.still i u.0 u.1 u.2 u.3 in (w.0, w.1, w.2, w.3)
+
+  pub room_behind : (s : ProcessListsView) → Serves before s → Serves behind s
+  room_behind s h = still_for_all before behind s.own s.own was_used refl h
+
+module _ {S : Type 0} (o : Ops S) (before behind : RunStateView S) (numbers : List ℕ) (changed : IsChanged o numbers before.table behind.table) where
+  -- each number has its path
+  paths : (i : ℕ) → path_at o behind.table i ≡ path_at o before.table i
+  paths i = same_path_at o before.table behind.table i
+      (λ u. let w = changed.still i u.first u.process u.sort_is u.has in path_of o behind.table i w.0 w.1 w.2 w.3 ∙ ap Some w.4)
+      (λ u. let w = changed.only i u.first u.process u.sort_is u.has in record { first = w.0; process = w.1; sort_is = w.2; has = w.3 })
+
+  -- so the own steps are counted as before
+  pub counts_stay : behind.process_lists.own ≡ before.process_lists.own → behind.past ≡ before.past → counts_in o behind ≡ counts_in o before
+  counts_stay own past =
+      (λ j. counted (counts_from (path_at o behind.table) (own j) ++ past j))
+      ∙ ap (λ z. counted (z ++ before.past)) (same (path_at o behind.table) (path_at o before.table) before.process_lists.own paths)
+
+  used_before : (i : ℕ) → IsInUse behind.table i → IsInUse before.table i
+  used_before = was_used o numbers before.table behind.table changed
+
+  module _ (law : LocalLaws o) (kept : KeepsTree o before) (e : Event) (h : Happened o before behind kept.shows e) (none : IsNoQuietStep o (tree_in o before) e) (held : behind.process_lists.held ≡ before.process_lists.held) where
+    flags : (i : ℕ) → is_listed behind.process_lists.held i ≡ is_listed before.process_lists.held i
+    flags i = ap (λ z. is_listed z i) held
+
+    stay : (i : ℕ) (l : S) → IsQuietAt o before.table i l → is_listed before.process_lists.held i ≡ true → IsQuietAt o behind.table i l
+    stay i l q flag = quiet_stays o law before behind kept e h.leads none h.shows (λ j g t has. changed.only j g t lives has) i l q
+
+    pub several_happen : HappensIn o before behind e
+    several_happen = record { leads = h.leads; other = none; same = held_as_before o before behind kept flags stay }
+
+  module _ (law : LocalLaws o) (kept : KeepsTree o before) (e : Event) (h : Happened o before behind kept.shows e) (none : IsNoQuietStep o (tree_in o before) e) (touches : TouchesEach numbers before.table behind.table)
+      (again : RequeuesEach o behind.table numbers before.process_lists behind.process_lists) where
+    fresh : (i : ℕ) (l : S) → IsQuietAt o behind.table i l → (is_listed behind.process_lists.quiet i ≡ true) ⊎ IsQuietAt o before.table i l
+    fresh i l q = elim (changed.living i q.first l q.has) [
+      | inl g ↦ inl (again.quiet.mine i l g q)
+      | inr was ↦ inr (record { first = q.first; has = was; stands = q.stands })
+    ]
+
+    pub several_keep : steps (tree_in o before) < 4000000 → KeepsTree o behind
+    several_keep few = keeps_on o law before behind kept (record {
+      shows = h.shows;
+      few = let more = h.counts in omega (arith, few, more);
+      looks = each_suffices o numbers before.table behind.table before.process_lists.awake behind.process_lists.awake again.awake again.within touches;
+      awake = again.awake.kept;
+      quiet = still_listed o before behind kept (flags law kept e h none again.held) (stay law kept e h none again.held) again.quiet.kept fresh;
+      held = still_held o before behind kept (flags law kept e h none again.held) (stay law kept e h none again.held);
+      serves = still_for_all before.table behind.table before.process_lists.own behind.process_lists.own used_before (ap length again.own) kept.serves;
+    })

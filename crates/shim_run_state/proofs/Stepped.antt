@@ -1,0 +1,98 @@
+-- One process did quiet steps, in place or elsewhere.
+use Rattle.std.proofs.Common.{◌≡◌, ◌≢◌, ◌≤◌, ◌<◌, ◌+◌, ℕ, false, length, sym, subst, arith}
+use Rattle.std.specs.Prelude.{slice_get, Some}
+use Rattle.shim_local.specs.Process.{Ops}
+use Rattle.shim_local.specs.Laws.{LocalLaws}
+use Rattle.shim_local.specs.Quiets.{QuietSteps}
+use Rattle.shim_local.specs.declared.local.Quiet.{Quiet}
+use Rattle.shim_semantics.specs.Trees.{steps}
+use Rattle.shim_semantics.specs.Quiets.{Advances}
+use Rattle.shim_laws_table.specs.Seen.{lives}
+use Rattle.shim_laws_table.proofs.OneChange.{one_state}
+use Rattle.shim_laws_replay.proofs.Entries.{pieces_are_entries}
+use Rattle.shim_laws_table_events.specs.keeping.Tables.{TableView, stands}
+use Rattle.shim_laws_table_events.specs.keeping.Moves.{AdvancesBy}
+use Rattle.shim_laws_table_events.specs.waking.Awake.{is_listed}
+use Rattle.shim_process_table.specs.Reading.{IsInUse}
+use Rattle.shim_process_table.specs.Stepping.{HasBecome, IsBeforeQuiet, StepsHere}
+use Rattle.shim_process_table.specs.Touching.{TouchesAbove}
+use Rattle.shim_run_state.specs.ProcessLists.{ProcessListsView, Serves}
+use Rattle.shim_run_state.specs.RunStates.{RunStateView, tree_in, IsQuietAt, IsHeld, KeepsTree}
+use Rattle.shim_run_state.specs.Holding.{Releases, StepsIn}
+use Rattle.shim_run_state.specs.Waking.{HasCounted, ListsAwake, ListsQuiet}
+use Rattle.shim_run_state.proofs.Advanced.{Advanced, grantable, steps_on}
+use Rattle.shim_run_state.proofs.OneMoved.{for_all_behind, others_held, isnt_held, same_held, one_moved}
+use Rattle.shim_run_state.proofs.OwnCounts.{count_is_few, counts_more, as_many_counts}
+
+-- beside the processes and the counts nothing that is told has changed
+pub record SameTold {S : Type 0} (before behind : RunStateView S) : Type 0 where
+  pub output : behind.output ≡ before.output
+  pub histories : behind.histories ≡ before.histories
+  pub logs : behind.logs ≡ before.logs
+  pub past : behind.past ≡ before.past
+  pub events : behind.events ≡ before.events
+
+-- a process that stands before a quiet step did so many
+pub record DoesSteps {S : Type 0} (o : Ops S) (before behind : TableView S) (number n : ℕ) (l : S) : Type 0 where
+  pub last : S
+  pub chain : QuietSteps o n l last
+  pub becomes : HasBecome number last lives before behind
+  pub advances : AdvancesBy o (o.path l) n before behind
+
+pub does_steps : {S : Type 0} (o : Ops S) (before behind : TableView S) (number n : ℕ) (l : S) → IsQuietAt o before number l → StepsHere o number n before behind → DoesSteps o before behind number n l
+does_steps o before behind number n l q h =
+    let e : h.process ≡ l = one_state before.states (stands before) number h.first q.first h.process l lives lives h.has q.has in record {
+      last = h.last;
+      chain = subst (λ z. QuietSteps o n z h.last) e h.chain;
+      becomes = h.becomes;
+      advances = subst (λ z. AdvancesBy o (o.path z) n before behind) e h.advances;
+    }
+
+module _ {S : Type 0} (o : Ops S) where
+  -- its count, and that of all steps, is so small that these may be added
+  pub few_counted : (v : RunStateView S) (number n most : ℕ) (l : S) → IsQuietAt o v.table number l → n ≤ most → steps (tree_in o v) + most ≤ 4000000 → (count : ℕ) → slice_get v.process_lists.own number ≡ Some count → count + n ≤ 4000000
+  few_counted v number n most l q within few count e = let c = count_is_few o v number q.first count l lives q.has e in omega (arith, c, within, few)
+
+  module _ (before : RunStateView S) (behind : TableView S) (number n : ℕ) (l : S) (q : IsQuietAt o before.table number l) (d : DoesSteps o before.table behind number n l) where
+    pub still_used : IsInUse behind number
+    still_used = (d.becomes.first, d.last, lives, d.becomes.mine)
+
+    pub still_serves : (s : ProcessListsView) → Serves before.table s → Serves behind s
+    still_serves s = for_all_behind before.table behind number q.first l d.last lives lives q.has d.becomes s.own
+
+module _ {S : Type 0} (o : Ops S) (law : LocalLaws o) (before behind : RunStateView S) (kept : KeepsTree o before) (number n : ℕ) (l : S) (q : IsQuietAt o before.table number l) (d : DoesSteps o before.table behind.table number n l)
+    (flags : (i : ℕ) → i ≢ number → is_listed behind.process_lists.held i ≡ is_listed before.process_lists.held i) (free : is_listed behind.process_lists.held number ≡ false) where
+  module _ (told : SameTold before behind) (counted : HasCounted number n before.process_lists.own behind.process_lists.own) where
+    path : o.path d.last ≡ o.path l
+    path = ((pieces_are_entries o law).comes (tree_in o before) n l d.last kept.shows.shows.sound (grantable o law before number l kept.shows q) d.chain).1
+
+    pub advanced_by : Advanced o law before behind n l d.last
+    advanced_by = steps_on o law before behind number n l d.last kept.shows q d.chain d.advances told.output told.histories told.logs (counts_more o before behind number q.first l d.last lives lives q.has d.becomes path told.past n counted) told.events
+
+    pub steps_keep : (forks : ℕ) → steps (tree_in o before) + n ≤ 4000000 → TouchesAbove forks number before.table behind.table → ListsAwake o behind.table forks number before.process_lists.awake behind.process_lists.awake → ListsQuiet o behind.table number before.process_lists.quiet behind.process_lists.quiet → number < length behind.process_lists.awake → KeepsTree o behind
+    steps_keep forks few touches awake quiet within =
+        let a = advanced_by in
+        let all = a.counts in
+        one_moved o law before behind kept number q.first l d.last lives lives q.has d.becomes flags free forks a.shows (omega (arith, few, all)) touches awake quiet within (as_many_counts number n before.process_lists.own behind.process_lists.own counted)
+
+    -- it was held, and isn't
+    pub releases : IsHeld o before number l → (last : S) → QuietSteps o n l last → Releases o before behind number n l last
+    releases was last chain = record {
+      was = was;
+      chain = chain;
+      advances = advanced_by.leads;
+      is_not = isnt_held o law before behind kept number q.first l d.last lives lives q.has d.becomes flags free;
+      others = others_held o law before behind kept number q.first l d.last lives lives q.has d.becomes flags free;
+    }
+
+  -- it wasn't, and did up to so many in place
+  module _ (told : SameTold before behind) (counted : HasCounted number n before.process_lists.own behind.process_lists.own) where
+    pub steps_in : (most : ℕ) (quiet : Quiet) → quiet.taken ≡ n → n ≤ most → (n < most → quiet.short ≡ false → IsBeforeQuiet o number behind.table false) → is_listed before.process_lists.held number ≡ false → StepsIn o before behind number most quiet l
+    steps_in most quiet e within fewer was = record {
+      last = d.last;
+      chain = subst (λ z. QuietSteps o z l d.last) (sym e) d.chain;
+      within = subst (λ z. z ≤ most) (sym e) within;
+      fewer = λ less whole. fewer (subst (λ z. z < most) e less) whole d.becomes.first d.last d.becomes.mine;
+      advances = subst (λ z. Advances o (o.path l) z (tree_in o before) (tree_in o behind)) (sym e) (advanced_by told counted).leads;
+      same = same_held o law before behind kept number q.first l d.last lives lives q.has d.becomes flags free was;
+    }

@@ -1,0 +1,16 @@
+use Rattle.std.proofs.Common.{ap, ◌∙◌, rules, w64, FitsSigned}
+use Rattle.std.proofs.lemmas.Int.{to_z-of_z}
+use Rattle.std.proofs.lemmas.Result.{on_ok_weaker}
+use Rattle.shim_semantics.specs.Trees.{recorded}
+use Rattle.shim_run_state.proofs.meeting.record.Goals as goal
+
+pub returns-then-known-clause-ok : goal.returns-then-known-clause-ok
+returns-then-known-clause-ok g c rp root kept =
+    let fits : FitsSigned w64 c.args.value = search rules in
+    c.in_ok-known.ensures.known c.if-known.true _ ∙ ap (recorded c.args.histories.now c.args.c.now.channel _) (to_z-of_z w64 c.args.value fits)
+
+pub returns-clause-ok : goal.returns-clause-ok
+returns-clause-ok g c =
+    let fits : FitsSigned w64 c.args.value = search rules in
+    on_ok_weaker c.record.result (λ is rp root kept.
+    is ∙ (λ j. recorded ((c.in_ok-known.ensures.first c.if-known.false).0 j) c.args.c.now.channel (c.name_here-name.ensures rp root kept j) (to_z-of_z w64 c.args.value fits j))) c.record.ensures.ok

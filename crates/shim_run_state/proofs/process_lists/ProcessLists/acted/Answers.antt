@@ -1,0 +1,55 @@
+use Rattle.std.proofs.Common.{◌<◌, refl, sym, ap, subst, ◌∙◌}
+use Rattle.std.specs.Prelude.{slice_get}
+use Rattle.shim_run_state.specs.ProcessLists.{ProcessListsView, Serves}
+use Rattle.shim_run_state.specs.Waking.{HasCounted, Requeues}
+use Rattle.shim_run_state.proofs.OwnCounts.{as_many_counts}
+use Rattle.shim_run_state.proofs.ProcessLists.{in_awake, in_quiet, still_even}
+use Rattle.shim_run_state.proofs.process_lists.ProcessLists.acted.Goals as goal
+
+pub count_steps-requires-clause-within : goal.count_steps-requires-clause-within
+count_steps-requires-clause-within g c =
+    let w = c.self.inside in
+    let serves = subst (Serves c.args.table.now) (sym c.self.view_is) c.requires.serves in
+    subst (λ z. c.args.number < z) (sym w.own.ok.0) (serves c.args.number c.requires.used)
+
+pub count_steps-requires-clause-few : goal.count_steps-requires-clause-few
+count_steps-requires-clause-few g c count e = c.requires.few count (sym (ap (λ (z : ProcessListsView). slice_get z.own c.args.number) c.self.view_is) ∙ e)
+
+pub wake_as-requires-clause-awakes : goal.wake_as-requires-clause-awakes
+wake_as-requires-clause-awakes g c κs within =
+    let w = c.self.inside in
+    let s : ProcessListsView = record { own = w.own.items; awake = w.awake; quiet = w.quiet; held = w.held.items } in
+    let serves = subst (Serves c.args.table.now) (sym c.self.view_is) c.requires.serves in
+    in_awake c.args.table.now s c.self.invariant serves
+
+pub wake_as-requires-clause-quiets : goal.wake_as-requires-clause-quiets
+wake_as-requires-clause-quiets g c κs within =
+    let w = c.self.inside in
+    let s : ProcessListsView = record { own = w.own.items; awake = w.awake; quiet = w.quiet; held = w.held.items } in
+    let serves = subst (Serves c.args.table.now) (sym c.self.view_is) c.requires.serves in
+    in_quiet c.args.table.now s c.self.invariant serves
+
+pub invariant_of-self : goal.invariant_of-self
+invariant_of-self g c =
+    let w = c.self.inside in
+    let s : ProcessListsView = record { own = w.own.items; awake = w.awake; quiet = w.quiet; held = w.held.items } in
+    let t : ProcessListsView = record { own = c.count_steps.new.own.items; awake = c.wake_as.new.awake; quiet = c.wake_as.new.quiet; held = w.held.items } in
+    still_even s t c.self.invariant (as_many_counts c.args.number c.args.steps w.own.items c.count_steps.new.own.items c.count_steps.ensures) c.wake_as.ensures.awake.as_many c.wake_as.ensures.quiet.as_many refl
+
+pub returns-clause-counted : goal.returns-clause-counted
+returns-clause-counted g c = subst (λ (z : ProcessListsView). HasCounted c.args.number c.args.steps z.own c.count_steps.new.own.items) c.self.view_is c.count_steps.ensures
+
+pub returns-clause-requeues : goal.returns-clause-requeues
+returns-clause-requeues g c =
+    let o = g.L.Local.ops in
+    let v = c.args.table.now in
+    let w = c.self.inside in
+    let s : ProcessListsView = record { own = w.own.items; awake = w.awake; quiet = w.quiet; held = w.held.items } in
+    let serves = subst (Serves c.args.table.now) (sym c.self.view_is) c.requires.serves in
+    let t : ProcessListsView = record { own = c.count_steps.new.own.items; awake = c.wake_as.new.awake; quiet = c.wake_as.new.quiet; held = w.held.items } in
+    subst (λ z. Requeues o v c.args.arrival.forks c.args.number z t) c.self.view_is (record {
+      awake = c.wake_as.ensures.awake;
+      quiet = c.wake_as.ensures.quiet;
+      held = refl;
+      within = subst (λ z. c.args.number < z) (sym c.wake_as.ensures.awake.as_many) (in_awake v s c.self.invariant serves c.args.number c.requires.used);
+    })

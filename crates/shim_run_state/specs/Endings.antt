@@ -1,0 +1,22 @@
+-- The root of a run state, and what came of it.
+use Rattle.std.specs.Prelude.{◌≡◌, ℕ, Some}
+use Rattle.shim_local.specs.declared.Outcome.{Outcome}
+use Rattle.shim_local.specs.declared.Outcome.TheVariants.{Done, Blocked}
+use Rattle.shim_semantics.specs.Nodes.{Node}
+use Rattle.shim_semantics.specs.Endings.{outcome_of_label}
+use Rattle.shim_laws_table.specs.ShownTree.{node_of}
+use Rattle.shim_records.specs.declared.record.Status.{Status}
+use Rattle.shim_records.specs.declared.record.Status.TheVariants as code
+use Rattle.shim_laws_table_events.specs.keeping.Tables.{TableView, stands}
+
+-- the root that is computed through so many forks
+pub record IsRoot {S : Type 0} (v : TableView S) (levels : ℕ) (root : Node S) : Type 0 where
+  pub is : node_of v.states (stands v) levels 0 ≡ Some root
+
+-- what came of a root whose record stands so, where nothing can happen
+abbrev pub outcome_by : Status → Outcome
+outcome_by code.Free = Blocked
+outcome_by code.Live = Blocked
+outcome_by (code.Forked n) = Blocked
+outcome_by code.Ended = Done
+outcome_by (code.Dead death) = outcome_of_label death.label

@@ -1,0 +1,18 @@
+-- Whether anything can happen, as the code asks it of listed numbers.
+use Rattle.std.specs.Prelude.{ℕ, Bool, true, false, List}
+use Rattle.shim_local.specs.Process.{Ops}
+use Rattle.shim_semantics.specs.Trees.{Event}
+use Rattle.shim_records.specs.Members.{IsAmong}
+use Rattle.shim_laws_table_events.specs.keeping.Tables.{TableView}
+use Rattle.shim_laws_table_events.specs.waking.Looks.{IsIdle, IsDue}
+use Rattle.shim_process_table.specs.Stepping.{IsBeforeQuiet}
+
+-- whether none of the processes with these numbers stands before a quiet step
+abbrev pub NoneQuiet : {S : Type 0} → Ops S → TableView S → List ℕ → Bool → Type 0
+NoneQuiet o v numbers true = (n : ℕ) → IsAmong n numbers → IsBeforeQuiet o n v false
+NoneQuiet o v numbers false = (n : ℕ) × IsBeforeQuiet o n v true
+
+-- whether nothing but a quiet step can happen at any of these numbers
+abbrev pub NoneDue : {S : Type 0} → Ops S → TableView S → List ℕ → Bool → Type 0
+NoneDue o v numbers true = (n : ℕ) → IsAmong n numbers → IsIdle o v n
+NoneDue {S} o v numbers false = (n : ℕ) × (e : Event) × IsDue o v n e

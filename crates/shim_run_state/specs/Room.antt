@@ -1,0 +1,49 @@
+-- Room for more numbers, and blocks of numbers that come into use.
+use Rattle.std.specs.Prelude.{◌≡◌, ◌≤◌, ◌+◌, ◌++◌, ℕ, true, false, List, length, replicate}
+use Rattle.shim_records.specs.Blocks.{with_block}
+use Rattle.shim_records.specs.Waiting.{AreRaised}
+use Rattle.shim_process_table.specs.declared.forking.ForkOutcome.{ForkOutcome}
+use Rattle.shim_process_table.specs.declared.forking.ForkOutcome.TheVariants as outcome
+use Rattle.shim_run_state.specs.ProcessLists.{ProcessListsView}
+use Rattle.shim_run_state.specs.RunStates.{RunStateView}
+
+-- so many more are there, each of which is this
+abbrev pub IsLonger : {A : Type 0} → A → List A → List A → Type 0
+IsLonger {A} x old new = (more : ℕ) × (new ≡ old ++ replicate more x)
+
+-- there is room for more numbers, and nothing else has changed
+pub record IsRoomier (before behind : ProcessListsView) : Type 0 where
+  pub own : IsLonger 0 before.own behind.own
+  pub awake : AreRaised before.awake behind.awake
+  pub quiet : AreRaised before.quiet behind.quiet
+  pub held : IsLonger false before.held behind.held
+
+-- so it is in a tree
+pub record HasMoreRoom {S : Type 0} (before behind : RunStateView S) : Type 0 where
+  pub begun : behind.begun ≡ before.begun
+  pub table : behind.table ≡ before.table
+  pub output : behind.output ≡ before.output
+  pub histories : behind.histories ≡ before.histories
+  pub logs : behind.logs ≡ before.logs
+  pub process_lists : IsRoomier before.process_lists behind.process_lists
+  pub past : behind.past ≡ before.past
+  pub events : behind.events ≡ before.events
+
+-- there is room for all numbers below this one
+abbrev pub HasRoomFor : ℕ → ProcessListsView → Type 0
+HasRoomFor end s = end ≤ length s.own
+
+-- so many children have come, from a number on: their counts are 0, and they are listed
+pub record HasNewChildren (first count : ℕ) (before behind : ProcessListsView) : Type 0 where
+  pub own : behind.own ≡ with_block first (replicate count 0) before.own
+  pub awake : behind.awake ≡ with_block first (replicate count true) before.awake
+  pub quiet : behind.quiet ≡ with_block first (replicate count true) before.quiet
+  pub held : behind.held ≡ before.held
+  pub within : first + count ≤ length before.own
+  pub listed : first + count ≤ length before.awake
+  pub listed_quiet : first + count ≤ length before.quiet
+
+-- the number of the first child of a fork of which this came, and how many there are
+abbrev pub block_of : ForkOutcome → ℕ × ℕ
+block_of (outcome.Forked first count) = (first, count)
+block_of outcome.Trapped = (0, 0)

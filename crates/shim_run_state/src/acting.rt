@@ -1,0 +1,122 @@
+// What a live process does by itself, other than quiet steps and forks.
+ghost use Rattle.std.specs.Prelude.{◌≡◌, ◌<◌, ◌++◌, IfOk, OnErr, vec_len, vec_capacity};
+ghost use Rattle.shim_local.specs.Process.{AtPut, AtFinish, AtThrow, AtTrap};
+ghost use Rattle.shim_semantics.specs.Acts.{putting};
+ghost use Rattle.shim_semantics.specs.Trees.{steps, with_logs};
+ghost use Rattle.shim_run_log.specs.Logged.{logged};
+ghost use Rattle.shim_run_log.specs.Events.{event_of};
+ghost use Rattle.shim_process_table.specs.Stepping.{LivesAt};
+ghost use Rattle.shim_process_table.specs.Acting.{told_of};
+ghost use Rattle.shim_run_state.specs.RunStates.{tree_in};
+ghost use Rattle.shim_run_state.specs.Holding.{HappensIn};
+ghost use Rattle.shim_run_state.specs.Settling.{StaysAs};
+
+use crate::run_state::RunState;
+use shim_base::{NoMemory, Path, Trap};
+use shim_local::{Local, Log, LogWhat};
+use shim_process_table::{Arrival, Listing, Thrown};
+use shim_run_log::Event;
+
+// A byte that was put, if there is one, comes behind the others.
+fn tell_byte(output: &mut Vec<u8>, byte: Option<u8>)
+    requires { vec_len output.old < vec_capacity output.old }
+    ensures { output.new.items ≡ output.old.items ++ (putting byte).bytes }
+{
+    match byte {
+        None => {}
+        Some(byte) => output.push_reserved(byte),
+    }
+}
+
+/// That the process of this path caught what it threw, if it did, is logged behind the rest.
+pub(crate) fn tell_catch(logs: &mut Vec<Log>, path: Path, thrown: Thrown)
+    requires { vec_len logs.old < vec_capacity logs.old }
+    ensures { logged logs.new.items ≡ with_logs (logged logs.old.items) path (told_of thrown).logs }
+{
+    match thrown {
+        Thrown::Died(_) | Thrown::Trapped => {}
+        Thrown::Caught(name, line) => logs.push_reserved(Log {
+            path,
+            what: LogWhat::Caught(name, line),
+        }),
+    }
+}
+
+impl<L: Local> RunState<L> {
+    // The `put` at which the process stands. What may be refused comes first, since what is done can't be
+    // taken back.
+    pub(crate) fn put(&mut self, number: u32) -> Result<Event, NoMemory>
+        requires few { steps (tree_in L.ops self.old) < 4000000 }
+        requires stands { LivesAt L.ops self.old.table number AtPut }
+        ensures ok { IfOk result (λ e. HappensIn L.ops self.old self.new (event_of e)) }
+        ensures err { OnErr result (StaysAs L.ops self.old self.new) }
+    {
+        let event = Event::Own(self.table.path(number).copy()?);
+        self.output.reserve(1)?;
+        let (byte, arrival) = self.table.put_here(number);
+        tell_byte(&mut self.output, byte);
+        self.process_lists.acted(&self.table, number, 1, arrival);
+        self.taken += 1;
+        Ok(event)
+    }
+
+    // The exception of this label that the process throws.
+    pub(crate) fn throw(&mut self, number: u32, label: u32) -> Result<Event, NoMemory>
+        requires few { steps (tree_in L.ops self.old) < 4000000 }
+        requires stands { LivesAt L.ops self.old.table number (AtThrow label) }
+        ensures ok { IfOk result (λ e. HappensIn L.ops self.old self.new (event_of e)) }
+        ensures err { OnErr result (StaysAs L.ops self.old self.new) }
+    {
+        let path = self.table.path(number).copy()?;
+        let event = Event::Own(path.copy()?);
+        self.logs.reserve(1)?;
+        let (thrown, arrival) = self.table.throw_here(number, label);
+        tell_catch(&mut self.logs, path, thrown);
+        self.process_lists.acted(&self.table, number, 1, arrival);
+        self.taken += 1;
+        Ok(event)
+    }
+
+    // The trap at which the process stands.
+    pub(crate) fn trap(&mut self, number: u32, kind: Trap, line: u32) -> Result<Event, NoMemory>
+        requires few { steps (tree_in L.ops self.old) < 4000000 }
+        requires stands { LivesAt L.ops self.old.table number (AtTrap kind line) }
+        ensures ok { IfOk result (λ e. HappensIn L.ops self.old self.new (event_of e)) }
+        ensures err { OnErr result (StaysAs L.ops self.old self.new) }
+    {
+        let path = self.table.path(number).copy()?;
+        let event = Event::Own(path.copy()?);
+        self.logs.reserve(1)?;
+        self.table.trap_here(number);
+        self.logs.push_reserved(Log {
+            path,
+            what: LogWhat::Trap(kind, line),
+        });
+        let gone = Arrival {
+            listing: self.table.listing(number),
+            forks: u32::MAX,
+        };
+        self.process_lists.acted(&self.table, number, 1, gone);
+        self.taken += 1;
+        Ok(event)
+    }
+
+    // The end of a process that has nothing left to do.
+    pub(crate) fn finish(&mut self, number: u32) -> Result<Event, NoMemory>
+        requires few { steps (tree_in L.ops self.old) < 4000000 }
+        requires stands { LivesAt L.ops self.old.table number AtFinish }
+        ensures ok { IfOk result (λ e. HappensIn L.ops self.old self.new (event_of e)) }
+        ensures err { OnErr result (StaysAs L.ops self.old self.new) }
+    {
+        let event = Event::End(self.table.path(number).copy()?);
+        let forks = self.table.finish_here(number);
+        let gone = Arrival {
+            listing: Listing::Nowhere,
+            forks,
+        };
+        self.process_lists.requeue(&self.table, number, gone);
+        self.events += 1;
+        self.taken += 1;
+        Ok(event)
+    }
+}

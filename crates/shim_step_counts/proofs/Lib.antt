@@ -1,3 +1,0 @@
--- The lemmas of this crate, one module for each subject.
-pub mod Counted
-pub mod Summed

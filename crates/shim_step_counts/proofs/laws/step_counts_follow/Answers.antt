@@ -1,5 +1,0 @@
-use Rattle.shim_step_counts.proofs.Counted.{step_counts_follow}
-use Rattle.shim_step_counts.proofs.laws.step_counts_follow.Goals as goal
-
-pub returns : goal.returns
-returns g = step_counts_follow

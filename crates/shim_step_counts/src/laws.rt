@@ -1,8 +1,0 @@
-// Laws of entries that tell how many steps processes did.
-ghost use Rattle.shim_step_counts.specs.Counted.{StepCountsFollow};
-
-/// Entries may stand in any order, one without steps tells nothing, and steps of one more are counted at any
-/// entry of the process.
-pub fn step_counts_follow()
-    ensures { StepCountsFollow }
-{}

@@ -1,0 +1,2 @@
+-- The lemmas of this crate, one module for each subject.
+pub mod Texts
