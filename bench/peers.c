@@ -1,14 +1,38 @@
-/* What C with threads takes for the work of some programs. Use: peers pipe|tree|storm SIZE, peers words|nothing FILE,
-   peers sum FILE BYTES */
+/* What C takes for the work of some programs, and a small process that measures another one. Use: peers pipe SIZE,
+   peers count THREADS TIMES TURNS, peers queues THREADS PIECES, peers words FILE, peers sum FILE BYTES, or
+   peers launch FILE COMMAND.. */
 #include <pthread.h>
+#include <sched.h>
+#include <stdatomic.h>
 #include <stdint.h>
 #include <stdio.h>
 #include <stdlib.h>
 #include <string.h>
+#include <sys/resource.h>
+#include <sys/wait.h>
+#include <time.h>
+#include <unistd.h>
+
+static long size;
+
+static void run_all(void *(**jobs)(void *), int count) {
+  pthread_t threads[64];
+  if (count > 64) exit(2);
+  for (int i = 0; i < count; i++) if (pthread_create(&threads[i], 0, jobs[i], 0)) exit(2);
+  for (int i = 0; i < count; i++) pthread_join(threads[i], 0);
+}
+
+static void run_many(void *(*job)(void *), int count) {
+  void *(*jobs[64])(void *);
+  for (int i = 0; i < 64; i++) jobs[i] = job;
+  run_all(jobs, count);
+}
 
 /* Two threads meet here: one gives a value, the other takes it, and neither goes on before both have come. */
-struct channel { pthread_mutex_t lock; pthread_cond_t changed; int full, dead; int32_t value; };
-#define CHANNEL {PTHREAD_MUTEX_INITIALIZER, PTHREAD_COND_INITIALIZER, 0, 0, 0}
+struct channel { pthread_mutex_t lock; pthread_cond_t changed; int full; int32_t value; };
+#define CHANNEL {PTHREAD_MUTEX_INITIALIZER, PTHREAD_COND_INITIALIZER, 0, 0}
+static struct channel counts = CHANNEL, tripled = CHANNEL;
+static int32_t sum;
 
 static void give(struct channel *c, int32_t value) {
   pthread_mutex_lock(&c->lock);
@@ -19,88 +43,72 @@ static void give(struct channel *c, int32_t value) {
   pthread_mutex_unlock(&c->lock);
 }
 
-/* Whether a value came: none does from one that is dead. */
-static int take(struct channel *c, int32_t *value) {
+static int32_t take(struct channel *c) {
   pthread_mutex_lock(&c->lock);
-  while (!c->full && !c->dead) pthread_cond_wait(&c->changed, &c->lock);
-  int came = c->full;
-  *value = c->value;
+  while (!c->full) pthread_cond_wait(&c->changed, &c->lock);
+  int32_t value = c->value;
   c->full = 0;
   pthread_cond_signal(&c->changed);
   pthread_mutex_unlock(&c->lock);
-  return came;
+  return value;
 }
 
-static void die(struct channel *c) {
-  pthread_mutex_lock(&c->lock);
-  c->dead = 1;
-  pthread_cond_signal(&c->changed);
-  pthread_mutex_unlock(&c->lock);
-}
-
-static void start(pthread_t *thread, void *(*job)(void *), void *with) {
-  if (pthread_create(thread, 0, job, with)) exit(2);
-}
-
-static long size;
-static int32_t sum;
-static struct channel counts = CHANNEL, tripled = CHANNEL, thrown;
 static void *counter(void *none) { for (int32_t k = 0; k < size; k++) give(&counts, k); return none; }
-static void *tripler(void *none) {
-  int32_t k;
-  for (long i = 0; i < size; i++) { take(&counts, &k); give(&tripled, k * 3); }
-  return none;
-}
-static void *summer(void *none) {
-  int32_t k;
-  for (long i = 0; i < size; i++) { take(&tripled, &k); sum = (sum + k) % 1000000; }
-  return none;
-}
-static void pipe_of_three(void) {
-  void *(*jobs[])(void *) = {counter, tripler, summer};
-  pthread_t threads[3];
-  for (int i = 0; i < 3; i++) start(&threads[i], jobs[i], 0);
-  for (int i = 0; i < 3; i++) pthread_join(threads[i], 0);
-  printf("%d\n", sum);
-}
+static void *tripler(void *none) { for (long i = 0; i < size; i++) give(&tripled, take(&counts) * 3); return none; }
+static void *summer(void *none) { for (long i = 0; i < size; i++) sum = (sum + take(&tripled)) % 1000000; return none; }
 
-/* Below this many levels a call is a plain one: there can't be as many threads as leaves. */
-#define LEVELS 6
-struct part { long n, leaves; int level; };
-static void *leaves(void *with) {
-  struct part *part = with;
-  if (part->n == 1) { part->leaves = 1; return 0; }
-  struct part halves[] = {{part->n / 2, 0, part->level + 1}, {part->n - part->n / 2, 0, part->level + 1}};
-  pthread_t threads[2];
-  for (int i = 0; i < 2; i++) if (part->level < LEVELS) start(&threads[i], leaves, &halves[i]); else leaves(&halves[i]);
-  for (int i = 0; i < 2; i++) if (part->level < LEVELS) pthread_join(threads[i], 0);
-  part->leaves = halves[0].leaves + halves[1].leaves;
-  return 0;
-}
-static void tree(void) {
-  struct part all = {size, 0, 0};
-  leaves(&all);
-  printf("%ld\n", all.leaves);
-}
-
-static long met;
-static void *thrower(void *none) { give(&thrown, 1); die(&thrown); return none; }
-static void *waiter(void *none) { int32_t value; while (take(&thrown, &value)) met++; return none; }
-static void storm(void) {
-  for (long k = 0; k < size; k++) {
-    struct channel fresh = CHANNEL;
-    pthread_t threads[2];
-    thrown = fresh;
-    start(&threads[0], thrower, 0);
-    start(&threads[1], waiter, 0);
-    for (int i = 0; i < 2; i++) pthread_join(threads[i], 0);
+/* Threads that count by themselves, some times each; the compiler may not leave that out. */
+static long times;
+static atomic_long counted;
+static void *count_up(void *none) {
+  for (long i = 0; i < times; i++) {
+    volatile long k = 0;
+    while (k < size) k = k + 1;
+    counted += k;
   }
-  printf("%ld\n", met);
+  return none;
 }
 
-static int is_word(unsigned char b) { return (b >= 'a' && b <= 'z') || (b >= 'A' && b <= 'Z') || (b >= '0' && b <= '9') || b == '_'; }
+/* Pieces go out over one queue with a lock and back over another, as many as SLOTS at a time: whoever finds the tally
+   free collects and puts. */
+#define SLOTS 16
+struct queue { pthread_mutex_t lock; long pieces[SLOTS]; unsigned long first, past; };
+static struct queue out = {PTHREAD_MUTEX_INITIALIZER, {0}, 0, 0}, back = {PTHREAD_MUTEX_INITIALIZER, {0}, 0, 0};
+static pthread_mutex_t tally = PTHREAD_MUTEX_INITIALIZER;
+static long pieces_put, pieces_collected;
+static atomic_int is_done;
+
+static void push(struct queue *queue, long piece) {
+  pthread_mutex_lock(&queue->lock);
+  queue->pieces[queue->past++ % SLOTS] = piece;
+  pthread_mutex_unlock(&queue->lock);
+}
+
+static long pop(struct queue *queue) {
+  pthread_mutex_lock(&queue->lock);
+  long piece = queue->first < queue->past ? queue->pieces[queue->first++ % SLOTS] : -1;
+  pthread_mutex_unlock(&queue->lock);
+  return piece;
+}
+
+static void *exchange(void *none) {
+  while (!is_done) {
+    int has_worked = 0;
+    for (long piece; (piece = pop(&out)) >= 0; has_worked = 1) push(&back, piece);
+    if (pthread_mutex_trylock(&tally)) { if (!has_worked) sched_yield(); continue; }
+    while (pop(&back) >= 0) pieces_collected++;
+    for (; pieces_put < size && pieces_put - pieces_collected < SLOTS; pieces_put++) push(&out, pieces_put);
+    is_done = pieces_collected == size;
+    pthread_mutex_unlock(&tally);
+  }
+  return none;
+}
 
 /* Where a name or a number begins, a byte at a time. */
+static int is_word(unsigned char b) {
+  return (b >= 'a' && b <= 'z') || (b >= 'A' && b <= 'Z') || (b >= '0' && b <= '9') || b == '_';
+}
+
 static void words(FILE *file) {
   static unsigned char text[1 << 21];
   size_t size = fread(text, 1, sizeof text, file), begun = 0;
@@ -114,17 +122,52 @@ static void sum_of(FILE *file, long left) {
   printf("%u\n", total);
 }
 
+static double seconds(struct timeval time) { return (double)time.tv_sec + (double)time.tv_usec / 1e6; }
+
+/* Runs a command and writes into a file what it took: seconds, seconds of processor time, KiB of memory at most, and
+   its status, negative where a signal ended it. One that Python
+   starts counts Python's own memory as its own; this one is small. */
+static int launch(char *path, char **command) {
+  struct timespec begin, end;
+  struct rusage usage;
+  int how;
+  clock_gettime(CLOCK_MONOTONIC, &begin);
+  pid_t child = vfork();
+  if (child == 0) {
+    execvp(*command, command);
+    _exit(127);
+  }
+  if (child < 0 || wait4(child, &how, 0, &usage) != child) return 2;
+  clock_gettime(CLOCK_MONOTONIC, &end);
+  FILE *out = fopen(path, "w");
+  if (!out) return 2;
+  fprintf(out, "%.9f %.6f %ld %d\n", (double)(end.tv_sec - begin.tv_sec) + (double)(end.tv_nsec - begin.tv_nsec) / 1e9,
+          seconds(usage.ru_utime) + seconds(usage.ru_stime), usage.ru_maxrss,
+          WIFEXITED(how) ? WEXITSTATUS(how) : -WTERMSIG(how));
+  return fclose(out) ? 2 : 0;
+}
+
 int main(int argc, char **argv) {
   if (argc < 3) return 2;
-  size = atol(argv[2]);
-  if (!strcmp(argv[1], "pipe")) pipe_of_three();
-  else if (!strcmp(argv[1], "tree")) tree();
-  else if (!strcmp(argv[1], "storm")) storm();
-  else {
+  const char *job = argv[1];
+  if (!strcmp(job, "launch") && argc > 3) return launch(argv[2], argv + 3);
+  size = atol(argv[argc - 1]);
+  if (!strcmp(job, "pipe")) {
+    run_all((void *(*[])(void *)){counter, tripler, summer}, 3);
+    printf("%d\n", sum);
+  } else if (!strcmp(job, "count")) {
+    times = atol(argv[3]) / atol(argv[2]);
+    run_many(count_up, atoi(argv[2]));
+    printf("%ld\n", counted);
+  } else if (!strcmp(job, "queues")) {
+    is_done = size == 0;
+    run_many(exchange, atoi(argv[2]));
+    printf("%ld\n", pieces_collected);
+  } else {
     FILE *file = fopen(argv[2], "rb");
     if (!file) return 2;
-    if (!strcmp(argv[1], "words")) words(file);
-    else if (!strcmp(argv[1], "sum") && argc > 3) sum_of(file, atol(argv[3]));
+    if (!strcmp(job, "words")) words(file);
+    else if (!strcmp(job, "sum")) sum_of(file, size);
   }
   return 0;
 }

@@ -38,7 +38,8 @@ ORDINARY = """
 DEEP = ("{" * 60 + "}" * 60 + " a = " + "(" * 60 + "n" + ")" * 60 + "; ") * 4 + "}\n"
 SUMS = "a = n" + " + 12" * 250 + "; }\n"
 # Sixty names a function that no other function has, each used twice.
-NAMES = "".join("int v@%d; " % k for k in range(10, 70)) + "".join("v@%d = n + v@%d; " % (k, k) for k in range(10, 70)) + "}\n"
+NAMES = "".join("int v@%d; " % k for k in range(10, 70)) + "".join("v@%d = n + v@%d; " % (k, k) for k in range(10, 70))
+NAMES += "}\n"
 READ = {
     "ordinary": (ORDINARY, ORDINARY),
     "deep": (DEEP, DEEP),
@@ -47,27 +48,37 @@ READ = {
     # A function that calls itself over and over: one of a thousand.
     "calls": ("f@(n, a); " * 80 + "}\n", "f@(n,&a); " * 80 + "}\n"),
 }
+CODE = ["while (x < y && x != 9) { x = x + y * 3; }\n", "if (x || y) { y = x - 1; } else { x = y; }\n"]
+TOKENS = "  level = level + (step << 3) * 0x1F; // a ramp\n  next level; /* all meet */ put wire, level >> 8;\n"
 
 
-def read_in_both(name, size):
+def read_in_both(name, size, main="void main() { }"):
     """A text of that shape for shim, and one for C. `statements` is run, too; the `main` of the others does nothing."""
     if name == "statements":
         return listed(size, ["x = x + y + 123;\n"])
     here, there = READ[name]
-    return (numbered("void f@(int n, int &r) { int a; int b; " + here, "void main() { }", size),
+    return (numbered("void f@(int n, int &r) { int a; int b; " + here, main, size),
             numbered("void f@(int n, int *r) { int a, b = 0; " + there, "void main() { }", size))
-
-
-CODE = ["while (x < y && x != 9) { x = x + y * 3; }\n", "if (x || y) { y = x - 1; } else { x = y; }\n"]
 
 
 def listed(size, parts):
     """These parts and some output in turn, for shim and for C, in as many bytes."""
-    return (filled("void main(ostream &o) { int x; int y; y = 7; ", parts + ["put o, x + 1000;\n"], "}", size),
-            filled("int putchar(int); void run(void) { int x = 0; int y = 7; ", parts + ["putchar(x + 10);\n"], "}", size))
+    heads = "void main(ostream &o) { int x; int y; y = 7; ", "int putchar(int); void run(void) { int x = 0; int y = 7; "
+    puts = "put o, x + 1000;\n", "putchar(x + 10);\n"
+    return tuple(filled(head, [*parts, put], "}", size) for head, put in zip(heads, puts))
 
 
-TOKENS = "  level = level + (step << 3) * 0x1F; // a ramp\n  next level; /* all meet */ put wire, level >> 8;\n"
+# What compiled code is measured by: for shim, for Lua, and for Python. Each puts the bytes that the others write.
+TURNS = 1300000
+IN_LUA = "local %s\nwhile %s do %s end\nio.write(string.char(%s & 0xff))\n"
+IN_PYTHON = """import sys
+def main():
+    %s
+    while %s:
+        %s
+    sys.stdout.buffer.write(bytes([%s & 0xff]))
+main()
+"""
 
 
 def loop(turns, blocks=0):
@@ -75,24 +86,19 @@ def loop(turns, blocks=0):
     return "void main(ostream &o) { int i; int s; %s%s%s put o, s; }\n" % ("if (1) { " * blocks, text, " }" * blocks)
 
 
-LOOP_IN_LUA = "local i, s = %d, 0\nwhile i ~= 0 do s = s ~ i; i = i - 1 end\nio.write(string.char(s & 0xff))\n"
-LOOP_IN_PYTHON = "def main():\n    i, s = %d, 0\n    while i:\n        s = s ^ i\n        i = i - 1\n    sys.stdout.buffer.write(bytes([s & 0xff]))\nimport sys\nmain()\n"
-
+COUNTING = "void main(ostream &o) { int k; while (k < %d) { k = k + 1; } put o, k; }\n" % TURNS
+XOR_IN_LUA = IN_LUA % ("i, s = %d, 0" % TURNS, "i ~= 0", "s = s ~ i; i = i - 1", "s")
 CALLED = """void inner(int n, int &s) { int i; i = n; while (i) { s = s ^ i; i = i - 1; } }
 void middle(int n, int &s) { inner(n, s); }
 void outer(int n, int &s) { middle(n, s); }
 void main(ostream &o) { int s; outer(%d, s); put o, s; }
-"""
+""" % TURNS
 CALLED_IN_LUA = """local function inner(n, s) local i = n; while i ~= 0 do s = s ~ i; i = i - 1 end; return s end
 local function middle(n, s) local r = inner(n, s); return r end
 local function outer(n, s) local r = middle(n, s); return r end
 io.write(string.char(outer(%d, 0) & 0xff))
-"""
-EIGHT_BITS = "void main(ostream &o) { int i; int8 s; i = %d; while (i) { s = s + i; i = i - 1; } put o, s; }\n"
-EIGHT_BITS_IN_LUA = "local i, s = %d, 0\nwhile i ~= 0 do s = ((s + i + 128) & 0xff) - 128; i = i - 1 end\nio.write(string.char(s & 0xff))\n"
-COUNTING = "void main(ostream &o) { int k; while (k < %d) { k = k + 1; } put o, k; }\n"
-COUNTING_IN_LUA = "local k = 0\nwhile k < %d do k = k + 1 end\nio.write(string.char(k & 0xff))\n"
-COUNTING_IN_PYTHON = "def main():\n    k = 0\n    while k < %d:\n        k = k + 1\n    sys.stdout.buffer.write(bytes([k & 0xff]))\nimport sys\nmain()\n"
+""" % TURNS
+EIGHT_BITS = "void main(ostream &o) { int i; int8 s; i = %d; while (i) { s = s + i; i = i - 1; } put o, s; }\n" % TURNS
 CRC16 = """void main(istream &in, ostream &o) {
   uint16 crc; int byte; int k; crc = 65535; byte = get in;
   while (byte != -1) {
@@ -116,47 +122,51 @@ io.write(string.char(crc >> 8, crc & 0xff))
 """
 
 
-def sort(turns, lua=False):
-    """So many times: 61 variables are filled anew and sorted by exchanges of neighbours. A function may have 64."""
-    one = "if v%d > v%d then t = v%d; v%d = v%d; v%d = t end\n" if lua else "if (v%d > v%d) { t = v%d; v%d = v%d; v%d = t; }\n"
-    following = "x = (x * 73 + 41) & 1023; v%d = x\n" if lua else "x = (x * 73 + 41) & 1023; v%d = x;\n"
-    filling = "".join(following % k for k in range(61))
-    sorting = "".join(one % (k, k + 1, k, k, k + 1, k + 1) for turn in range(61) for k in range(turn % 2, 60, 2))
-    if lua:
-        return "local x, t, r = 7, 0, %d\nlocal %s\nwhile r ~= 0 do\n%s%sr = r - 1\nend\nio.write(string.char(v31 & 0xff))\n" % (
-            turns, ", ".join("v%d" % k for k in range(61)), filling, sorting)
-    return "void main(ostream &o) { int x; int t; int r; %s\nx = 7; r = %d;\nwhile (r) {\n%s%sr = r - 1;\n}\nput o, v31; }\n" % (
-        " ".join("int v%d;" % k for k in range(61)), turns, filling, sorting)
+def sort(exchange, following, names, text):
+    """700 times 61 variables are filled anew and sorted by exchanges of neighbours. A function may have 64."""
+    body = [following % k for k in range(61)]
+    body += [exchange % (k, k + 1, k, k, k + 1, k + 1) for turn in range(61) for k in range(turn % 2, 60, 2)]
+    return text % (names.join("v%d" % k for k in range(61)), "".join(body))
 
-TURNS = 1300000
-# What compiled code is measured by: for shim, for Lua, and for Python. Each puts the bytes that the others write.
+
+SORT = sort(
+    "if (v%d > v%d) { t = v%d; v%d = v%d; v%d = t; }\n", "x = (x * 73 + 41) & 1023; v%d = x;\n", "; int ",
+    "void main(ostream &o) { int x; int t; int r; int %s;\nx = 7; r = 700;\nwhile (r) {\n%sr = r - 1;\n}\n"
+    "put o, v31; }\n")
+SORT_IN_LUA = sort(
+    "if v%d > v%d then t = v%d; v%d = v%d; v%d = t end\n", "x = (x * 73 + 41) & 1023; v%d = x\n", ", ",
+    "local x, t, r = 7, 0, 700\nlocal %s\nwhile r ~= 0 do\n%sr = r - 1\nend\nio.write(string.char(v31 & 0xff))\n")
 MACHINE = {
-    "counting": (COUNTING % TURNS, COUNTING_IN_LUA % TURNS, COUNTING_IN_PYTHON % TURNS),
-    "xor": (loop(TURNS), LOOP_IN_LUA % TURNS, LOOP_IN_PYTHON % TURNS),
-    "in 30 blocks": (loop(TURNS, 30), LOOP_IN_LUA % TURNS),
-    "in 3 functions": (CALLED % TURNS, CALLED_IN_LUA % TURNS),
-    "int8": (EIGHT_BITS % TURNS, EIGHT_BITS_IN_LUA % TURNS),
+    "counting": (COUNTING, IN_LUA % ("k = 0", "k < %d" % TURNS, "k = k + 1", "k"),
+                 IN_PYTHON % ("k = 0", "k < %d" % TURNS, "k = k + 1", "k")),
+    "xor": (loop(TURNS), XOR_IN_LUA, IN_PYTHON % ("i, s = %d, 0" % TURNS, "i", "s = s ^ i; i = i - 1", "s")),
+    "in 30 blocks": (loop(TURNS, 30), XOR_IN_LUA),
+    "in 3 functions": (CALLED, CALLED_IN_LUA),
+    "int8": (EIGHT_BITS, XOR_IN_LUA.replace("s ~ i", "((s + i + 128) & 0xff) - 128")),
     "crc16": (CRC16, CRC16_IN_LUA),
-    "sort": (sort(700), sort(700, True)),
+    "sort": (SORT, SORT_IN_LUA),
+    # Forks in each of which one throws, one is poisoned, and the throw is caught outside.
+    "throws": ("""void main(ostream &o) { int k; int a;
+while (k < 20000) { try { { next a; } par { throw T; } } catch (T) { } k = k + 1; }
+put o, k; }
+""",),
 }
 
 
-def side_by_side(branches):
-    return "void main() { " + " par ".join(branches) + " }\n"
+def side_by_side(branch, count):
+    return "void main() { " + " par ".join([branch] * count) + " }\n"
 
 
-def counting(turns, count=4):
-    return side_by_side(["{ int k; while (k < %d) { k = k + 1; } }" % turns] * count)
+def counting(turns, size=None):
+    """Four branches that count, behind as many other functions as fit, where a size is given."""
+    main = side_by_side("{ int k; while (k < %d) { k = k + 1; } }" % turns, 4)
+    return read_in_both("ordinary", size, main)[0] if size else main
 
 
-def tries(turns, caught):
-    """A loop of handlers in which none begins."""
-    return "{ int k; while (k < %d) { try { } catch (%s) { } k = k + 1; } }" % (turns, caught)
-
-
-def throws(turns):
-    """Forks in each of which one throws, one is poisoned, and the throw is caught outside."""
-    return "void main() { int k; int a; while (k < %d) { try { { next a; } par { throw T; } } catch (T) { } k = k + 1; } }\n" % turns
+def handlers(turns, caught, branches=1):
+    """A loop of handlers in which none begins, as often side by side."""
+    loop_of_tries = "{ int k; while (k < %d) { try { } catch (%s) { } k = k + 1; } }" % (turns, caught)
+    return "shim 2; " + side_by_side(loop_of_tries, branches)
 
 
 def forks_in_turn(turns):
@@ -166,9 +176,13 @@ def forks_in_turn(turns):
 # A function that forks into itself twice, 62 levels down, beside 60 that wait.
 DEEP_FORKS = ("void f(int n) { if (n > 0) { f(n - 1); par f(n - 1); } }\n"
               + "void main() { int c; " + "{ next c; } par " * 60 + "{ f(62); next c; } }\n")
-SUM_OF_INPUT = "void main(istream &in) { int byte; int sum; byte = get in; while (byte != -1) { sum = sum + byte; byte = get in; } }\n"
+SUM_OF_INPUT = """void main(istream &in) {
+  int byte; int sum; byte = get in;
+  while (byte != -1) { sum = sum + byte; byte = get in; }
+}
+"""
 READ_TO_THE_END = "void main(istream &in) { int byte; byte = get in; while (byte != -1) { byte = get in; } }\n"
-ENDLESS = side_by_side(["{ int k; while (true) { k = k + 1; } }"] * 4)
+ENDLESS = side_by_side("{ int k; while (true) { k = k + 1; } }", 4)
 PIPE = """void main() {
   int a; int b; int n; n = 330000;
   { int k; while (k < n) { next a = k; k = k + 1; } }
@@ -177,61 +191,81 @@ PIPE = """void main() {
 }
 """
 CROSSED = "int a; int b; { next a; next b; } par { next b; next a; }"
+# What a text has more of, of which the memory is measured.
+PARTS = {"statements": "a=1;", "forks": "{}par{}", "forks that take one": "{}par{a=1;}",
+         "forks that take two": "{}par{a=1;b=1;}"}
 
 
-def split(name, leaf, given=""):
-    """A function that forks until it stands n times, and does this there."""
+def split(name, leaf, main, given=""):
+    """A function that forks until it stands n times, and does this there; and `main`."""
     words = given.replace("int ", "")
-    text = "void %s(int n%s) { if (n < 2) { %s } else { %s(n / 2%s); par %s(n - n / 2%s); } }\n"
-    return text % (name, given, leaf, name, words, name, words)
+    text = "void %s(int n%s) { if (n < 2) { %s } else { %s(n / 2%s); par %s(n - n / 2%s); } }\nvoid main() { %s }\n"
+    return text % (name, given, leaf, name, words, name, words, main)
 
 
 def all_waiting(count, times=1):
     """So many that are alone with each other at a channel, each as often."""
-    return split("leaf", "next c; " * times, ", int c") + "void main() { int c; leaf(%d, c); }\n" % count
+    return split("leaf", "next c; " * times, "int c; leaf(%d, c);" % count, ", int c")
 
 
 def beside_waiting(count):
     """So many wait at a channel, 16 in a fork, while one counts 10,000 turns of two steps."""
-    some = " par ".join(["{ next c; }"] * 16)
-    return "void some(int c) { %s }\nvoid main() { int c; %s par { int k; while (k < 10000) { k = k + 1; } next c; } }\n" % (
-        some, " par ".join(["some(c);"] * (count // 16)))
+    some = " par ".join(["some(c);"] * (count // 16))
+    main = "void main() { int c; %s par { int k; while (k < 10000) { k = k + 1; } next c; } }\n" % some
+    return "void some(int c) { %s }\n" % " par ".join(["{ next c; }"] * 16) + main
 
 
-TREE = split("leaf", "n = n + 1;") + "void main() { leaf(20000); }\n"
+TREE = split("leaf", "n = n + 1;", "leaf(20000);")
 
 
 def one_channel(count):
-    main = "void main() { int c; int d; wait(%d, c); par { next d; next c; } par { next c; next d; } }\n"
-    return split("wait", "next c;", ", int c") + main % (count - 2)
+    main = "int c; int d; wait(%d, c); par { next d; next c; } par { next c; next d; }" % (count - 2)
+    return split("wait", "next c;", main, ", int c")
 
 
 def pairs(count):
-    return split("pair", CROSSED) + "void main() { pair(%d); }\n" % (count // 2)
+    return split("pair", CROSSED, "pair(%d);" % (count // 2))
 
 
 def rings(count):
     names = ["c%d" % k for k in range(64)]
     branches = " par ".join("{ next %s; next %s; }" % (names[k], names[(k + 1) % 64]) for k in range(64))
-    return split("ring", " ".join("int %s;" % name for name in names) + " " + branches) + "void main() { ring(%d); }\n" % (count // 64)
+    return split("ring", " ".join("int %s;" % name for name in names) + " " + branches, "ring(%d);" % (count // 64))
 
 
 def nested_pairs(count):
     deep = "void deep(int k) { if (k < 1) { %s } else { { deep(k - 1); } par { } } }\n" % CROSSED
-    return deep + split("pair", "deep(24);") + "void main() { pair(%d); }\n" % (count // 2)
+    return deep + split("pair", "deep(24);", "pair(%d);" % (count // 2))
 
 
 BLOCKED = {"one": one_channel, "pairs": pairs, "rings": rings, "nested": nested_pairs}
+# What `ref` measures, programs that it walks far in or that hold much: the text, and the modes that run it.
+SLOW = {
+    **{"20,000 steps beside %d that wait" % waits: (beside_waiting(waits), ["ref", "run 1"])
+       for waits in (32, 64, 128, 480)},
+    "512 share five rendezvous": (all_waiting(512, 5), ["run 1"]),
+    "1,000 put beside 200,000 statements": (
+        "void main(ostream &o) { int a; { %s } par { %s } }\n" % ("put o, 1;" * 1000, "a=1;" * 200000),
+        ["check", "run 1", "run 4"]),
+    "16,000 assignments": ("void main() { int a; %s }\n" % ("a = 1;" * 16000), ["ref"]),
+    **{"%d assignments in a block" % size: ("void main() { int a; { %s } }\n" % ("a = 1;" * size), ["ref"])
+       for size in (4000, 16000)},
+    "4,000 assignments in a try": ("void main() { int a; try { %s } catch (T) { } }\n" % ("a = 1;" * 4000), ["ref"]),
+    "2,000 calls inside 61 try": (
+        "void f() { } void main() { %s%s%s }\n" % ("try { " * 61, "f();" * 2000, "} catch (T) { } " * 61), ["ref"]),
+}
 
 # What `texts` measures: texts of 1 MiB, as the head, the parts and the tail of each.
-LETTERS = [*"abcdefghijklmnopqrstuvwxyzABCDEFGHIJKLMNOPQRSTUVWXYZ_"]
-VARIABLES = (LETTERS + [first + chr(code) for first in "ab" for code in range(97, 123)])[:96]
+LETTERS = string.ascii_letters + "_"
+VARIABLES = ([*LETTERS] + [first + letter for first in "ab" for letter in string.ascii_lowercase])[:96]
 # A function that has as many variables as it may, each of which a statement names.
-CROWDED = "void f(" + ", ".join("int " + name for name in VARIABLES[:32]) + ") { int " + ", ".join(VARIABLES[32:]) + "; "
+CROWDED = "void f(int " + ", int ".join(VARIABLES[:32]) + ") { int " + ", ".join(VARIABLES[32:]) + "; "
 ALL_NAMED = "a=" + "+".join(VARIABLES) + ";"
-SIXTEEN = LETTERS[:16]
 PARAMETERS = ",".join("int " + name for name in LETTERS[:32])
-LONG = ["n" * 62 + "%02d" % number for number in range(61)]
+CALL_WITH_32 = "f(" + ",".join("a" * 32) + ");"
+LONG = ["n" * 62 + "%02d" % number for number in range(96)]
+CROWDED_BY_LONG = "void f(int " + ", int ".join(LONG[:32]) + ") { int " + ", ".join(LONG[32:]) + "; "
+TRIES = "try{}catch(T){}" * 35000
 
 
 def functions(part, head="void f@(int n) { "):
@@ -240,8 +274,12 @@ def functions(part, head="void f@(int n) { "):
     return numbered(head + part * ((share - len(head) - 5) // len(part)) + "}\n", "void main() { }")
 
 
+def main_of(part, head="", tail=""):
+    return "void main() { " + head, part, tail + "}"
+
+
 def nested(opening, inside, closing, depth):
-    return "void main() { int a; ", opening * depth + inside + closing * depth, "}"
+    return main_of(opening * depth + inside + closing * depth, "int a; ")
 
 
 def thrower(names):
@@ -256,7 +294,7 @@ def thrown(names, part):
 def distinct_names():
     """As many distinct names as fit: each the exception of a `try`."""
     texts, left = ["void main() {"], MIB - 14
-    for name in itertools.chain.from_iterable(itertools.product(string.ascii_letters, repeat=count) for count in range(1, 9)):
+    for name in itertools.chain.from_iterable(itertools.product(string.ascii_letters, repeat=n) for n in range(1, 9)):
         text = "try{}catch(_%s){}" % "".join(name)
         if len(text) > left:
             return "".join(texts) + " " * left + "}"
@@ -273,7 +311,7 @@ def of_1_mib(name):
 
 TEXTS = {
     "blocks": nested("{", "", "}", 63),
-    "flat blocks": ("void main() {", "{}", "}"),
+    "flat blocks": main_of("{}"),
     "ifs": nested("if(a)", ";", "", 63),
     "if blocks": nested("if(a){", "", "}", 63),
     "elses": nested("if(a);else ", ";", "", 62),
@@ -281,111 +319,57 @@ TEXTS = {
     "fors": nested("for(;;)", ";", "", 63),
     "whole fors": nested("for(a=a;a;a=a)", ";", "", 62),
     "tries": nested("try{", "", "}catch(T){}", 63),
-    "flat tries": ("void main() {", "try{}catch(T){}", "}"),
-    "throws behind tries": ("void main() {" + "try{}catch(T){}" * 35000 + "try{", "throw U;", "}catch(U){} }"),
-    "throws in a fork beside tries": ("void main() throws U {" + "try{}catch(T){}" * 35000 + "{}par{", "throw U;", "} }"),
-    "forks beside tries": ("void main() {" + "try{}catch(T){}" * 35000, "{}par{}", "}"),
-    "forks that throw beside tries": ("void main() throws U {" + "try{}catch(T){}" * 35000, "{throw U;}par{}", "}"),
-    "forks that throw past tries": (
-        "void main() {try{" + "try{}catch(T){}" * 35000 + "try{", "{throw U;throw V;}par{}", "}catch(V){}}catch(U){} }"),
-    "flat forks": ("void main() {", "{}par{}", "}"),
-    "wide forks": ("void main() {", "{}" + "par{}" * 63, "}"),
+    "flat tries": main_of("try{}catch(T){}"),
+    "throws behind tries": main_of("throw U;", TRIES + "try{", "}catch(U){} "),
+    "throws in a fork beside tries": ("void main() throws U {" + TRIES + "{}par{", "throw U;", "} }"),
+    "forks beside tries": main_of("{}par{}", TRIES),
+    "forks that throw beside tries": ("void main() throws U {" + TRIES, "{throw U;}par{}", "}"),
+    "forks that throw past tries":
+        main_of("{throw U;throw V;}par{}", "try{" + TRIES + "try{", "}catch(V){}}catch(U){} "),
+    "flat forks": main_of("{}par{}"),
+    "wide forks": main_of("{}" + "par{}" * 63),
     "nested forks": nested("{}par{", "", "}", 62),
     "nested forks, both": nested("{", ";", "}par{}", 62),
     "forks that take 96": (CROWDED, "{}par{" * 61 + ALL_NAMED + "}" * 61, "} void main() { }"),
     "flat forks that take 96": (CROWDED, "{}par{" + ALL_NAMED + "}", "} void main() { }"),
     "wide forks that copy": (CROWDED, "{}" + "par{next a;}" * 63, "} void main() { }"),
-    "a long body in 61 forks": ("void main() { int a; " + "{}par{" * 61, "a=a;", "}" * 61 + "}"),
-    "long blocks in 61 forks": ("void main() { int a; " + "{}par{" * 61, "{}", "}" * 61 + "}"),
-    "tries in 60 forks": ("void main() { int a; " + "{}par{" * 60, "try{throw T;}catch(T){}", "}" * 60 + "}"),
+    "a long body in 61 forks": main_of("a=a;", "int a; " + "{}par{" * 61, "}" * 61),
+    "long blocks in 61 forks": main_of("{}", "int a; " + "{}par{" * 61, "}" * 61),
+    "tries in 60 forks": main_of("try{throw T;}catch(T){}", "int a; " + "{}par{" * 60, "}" * 60),
     "calls": ("void f(){} void main() {", "f();", "}"),
     "calls by value": ("void f(int a,int b){} void main() {int a;", "f(a,1);", "}"),
-    "calls with 32": ("void f(" + PARAMETERS + "){} void main() {int a;", "f(" + ",".join("a" * 32) + ");", "}"),
-    "calls with 32 numbers": ("void f(" + PARAMETERS + "){} void main() {", "f(" + ",".join("1" * 32) + ");", "}"),
+    "calls with 32": ("void f(" + PARAMETERS + "){} void main() {int a;", CALL_WITH_32, "}"),
+    "calls with 32 numbers": ("void f(" + PARAMETERS + "){} void main() {", CALL_WITH_32.replace("a", "1"), "}"),
     "calls that throw 16": thrown(VARIABLES[:61], "f();"),
-    "calls that throw 16 long names": thrown(LONG, "f();"),
+    "calls that throw 16 long names": thrown(LONG[:61], "f();"),
     "calls that throw 16 in forks": (
-        thrower(SIXTEEN) + "void main() throws " + ",".join(SIXTEEN) + " {" + "{}par{" * 61, "f();", "}" * 61 + "}"),
+        thrower(LETTERS[:16]) + "void main() throws " + ",".join(LETTERS[:16]) + " {" + "{}par{" * 61, "f();",
+        "}" * 62),
     "branches that throw 16": thrown(VARIABLES[:61], "{}" + "par f();" * 63),
-    "calls of the last of 1000": ("".join("void f%d(){}" % number for number in range(1000)) + "void main() {", "f999();", "}"),
-    "assignments": ("void main() { int a; ", "a=a;", "}"),
-    "numbers": ("void main() { int a; ", "a=1;", "}"),
-    "next": ("void main() { int a; ", "next a;", "}"),
+    "calls of the last of 1000": ("".join("void f%d(){}" % n for n in range(1000)) + "void main() {", "f999();", "}"),
+    "assignments": main_of("a=a;", "int a; "),
+    "numbers": main_of("a=1;", "int a; "),
+    "next": main_of("next a;", "int a; "),
     "put": ("void main(ostream o) { ", "put o,1;", "}"),
     "get": ("void main(istream i) { int a; ", "a=get i;", "}"),
     "throw": ("void main() throws T { ", "throw T;", "}"),
-    "sums": ("void main() { int a; ", "a=1" + "+1" * 256 + ";", "}"),
-    "sums of names": ("void main() { int a; ", "a=a" + "+a" * 256 + ";", "}"),
-    "signs": ("void main() { int a; ", "a=" + "-" * 63 + "1;", "}"),
-    "both sides": ("void main() { int a; ", "a=1" + "&&1" * 256 + ";", "}"),
-    "signs in sums": ("void main() { int a; ", "a=" + "+".join(["-1"] * 128) + ";", "}"),
-    "parentheses": ("void main() { int a; ", "a=" + "(" * 63 + "1" + ")" * 63 + ";", "}"),
-    "semicolons": ("void main() { ", ";", "}"),
-    "spaces": ("void main() { ", " ", "}"),
-    "comments": ("void main() { ", "/**/", "}"),
-    "one long comment": ("void main() { /*", "*", "*/}"),
-    "declarations": lambda: functions(";", "void f@(int n) { int " + ",".join("v%d" % number for number in range(64)) + ";"),
-    "names of 64": ("void main() { int " + "n" * 64 + "; ", "n" * 64 + "=" + "n" * 64 + ";", "}"),
+    "sums": main_of("a=1" + "+1" * 256 + ";", "int a; "),
+    "sums of names": main_of("a=a" + "+a" * 256 + ";", "int a; "),
+    "signs": main_of("a=" + "-" * 63 + "1;", "int a; "),
+    "both sides": main_of("a=1" + "&&1" * 256 + ";", "int a; "),
+    "signs in sums": main_of("a=" + "+".join(["-1"] * 128) + ";", "int a; "),
+    "parentheses": main_of("a=" + "(" * 63 + "1" + ")" * 63 + ";", "int a; "),
+    "semicolons": main_of(";"),
+    "spaces": main_of(" "),
+    "comments": main_of("/**/"),
+    "one long comment": main_of("*", "/*", "*/"),
+    "declarations": lambda: functions(";", "void f@(int n) { int " + ",".join("v%d" % n for n in range(64)) + ";"),
+    "names of 64": main_of("n" * 64 + "=" + "n" * 64 + ";", "int " + "n" * 64 + "; "),
     "the last of 96 names": (CROWDED, "a=a;", "} void main() { }"),
-    "the last of 96 long names": (
-        "void f(" + ", ".join("int " + "n" * 62 + name for name in ["%02d" % number for number in range(32)]) + ") { int "
-        + ", ".join("n" * 62 + "%02d" % number for number in range(32, 96)) + "; ", "n" * 62 + "00=" + "n" * 62 + "00;", "} void main() { }"),
+    "the last of 96 long names": (CROWDED_BY_LONG, LONG[0] + "=" + LONG[0] + ";", "} void main() { }"),
     "functions": lambda: functions("n=n;"),
-    "unknown at the end": ("void main() { int a; ", "a=a;", "x=1; }"),
-    "refused at the end": ("void main() { int a; ", "a=a;", ") }"),
+    "unknown at the end": main_of("a=a;", "int a; ", "x=1; "),
+    "refused at the end": main_of("a=a;", "int a; ", ") "),
     "never closed": ("void main() { int a; ", "{", ""),
     "distinct names": distinct_names,
-}
-
-
-# What `runs` measures: runs of the greatest budget.
-def inside(opening, closing, depth):
-    return "void main() { int i; " + opening * depth + "while(1){i=i+1;}" + closing * depth + "}"
-
-
-def sharers(levels, body):
-    """Processes that share a variable: 16 branches a level."""
-    text = "void leaf(int c) { %s }\n" % body
-    below = "leaf(c)"
-    for level in range(levels):
-        text += "void level%d(int c) { %s; }\n" % (level, "; par ".join([below] * 16))
-        below = "level%d(c)" % level
-    return text + "void main() { int c; " + below + "; }"
-
-
-RUNS = {
-    "a loop": inside("", "", 0),
-    "a loop in 61 blocks of if": inside("if(1){", "}", 61),
-    "a loop in 61 try": inside("try{", "}catch(T){}", 61),
-    "61 loops that end at once": "void main() { int i; while(1){" + "while(i<1){i=i+1;" + "for(;i<1;)" * 58 + ";}" + "i=0;" + "} }",
-    "loops in each other": "void main() { int i; " + "for(;;){" * 60 + "i=i+1;" + "}" * 60 + "}",
-    "loops of two turns in each other":
-        "void main() { " + "".join("for(int %s=0;%s<2;%s=%s+1){" % ((name,) * 4) for name in LETTERS[:30]) + ";" + "}" * 30 + "}",
-    "a sum of 256": "void main() { int i; while(1) i=" + "+".join(["i"] * 257) + "; }",
-    "calls 200 deep": "void f(int n) { if(n>0) f(n-1); } void main() { while(1) f(199); }",
-    "calls": "void f(int a) { } void main() { int i; while(1) f(i); }",
-    "calls with 32": "void f(" + PARAMETERS + "){} void main() {int a; while(1) f(" + ",".join("a" * 32) + ");}",
-    "throws": "void main() { while(1) try { throw T; } catch (T) { } }",
-    "throws out of 200 calls": "void f(int n) throws T { if(n>0) f(n-1); else throw T; } void main() { while(1) try { f(198); } catch (T) { } }",
-    "declarations": "void main() { while(1) { int a; } }",
-    "put": "void main(ostream o) { while(1) put o,1; }",
-    "next alone": "void main() { int a; while(1) next a; }",
-    "next of a declared one": "void main() { while(1) { int a; next a; } }",
-    "two that meet": "void main() { int a; { while(1) next a; } par { while(1) next a; } }",
-    "64 that meet": "void f(int a) { while(1) next a; } void main() { int a; " + "; par ".join(["f(a)"] * 64) + "; }",
-    "64 that count": "void f(int a) { while(1) a=a+1; } void main() { int a; " + "; par ".join(["f(a)"] * 64) + "; }",
-    "256 that meet": sharers(2, "while(1) next c;"),
-    "256 that count": sharers(2, "while(1) c=c+1;"),
-    "forks": "void main() { while(1) { {} par {} } }",
-    "forks of 64": "void main() { while(1) { {}" + " par {}" * 63 + " } }",
-    "forks that take 90":
-        "void main() { int " + ", ".join(VARIABLES[:64]) + "; while(1) { {} par { a=" + "+".join(VARIABLES[:64]) + "; } } }",
-    "storms": "void main() { int c; while(1) { try { { next c; throw T; } par { while(1) next c; } } catch(T) { } } }",
-    "deep forks": "void f(int n) { if(n>0) { f(n-1); par { } } } void main() { while(1) f(63); }",
-    "a loop 64 forks deep": "void f(int n) { if(n>0) { f(n-1); par { } } else while(1) ; } void main() { f(63); }",
-    "two that meet 63 forks deep":
-        "void f(int n, int c) { if(n>0) { f(n-1, c); par { } } else { { while(1) next c; } par { while(1) next c; } } } void main() { int c; f(62, c); }",
-    "a tree of 65536": "void f(int n) { if(n>0) { f(n-1); par f(n-1); } else while(1) ; } void main() { f(16); }",
-    "trees of 1024": "void f(int n) { if(n>0) { f(n-1); par f(n-1); } } void main() { while(1) f(10); }",
-    "an input of 16 MiB": "void main(istream i, ostream o) { int c; while(1) { c=get i; put o,c; } }",
 }

@@ -1,7 +1,8 @@
 #!/usr/bin/env python3
-"""Runs the cases of crates/shim_conformance whose title has a text by the built program, over files of the system. The gate
-runs them all by calls inside the proved program; this is for a look at some, in seconds. Cases in which reads or writes
-fail are left out, and those of what lies below the tool. Prints `ok TITLE (CALLS)` for each, or what differs, and ends with 1 where something does.
+"""Runs the cases of crates/shim_conformance whose title has a text by the built program, over files of the system.
+The gate runs them all by calls inside the proved program; this is for a look at some, in seconds. Cases in which
+reads or writes fail are left out, and those of what lies below the tool. Prints `ok TITLE (CALLS)` for each, or what
+differs, and ends with 1 where something does.
 
 Use: make shim && bench/robust/cases.py [TEXT]
 """
@@ -19,34 +20,33 @@ def calls(line):
     return itertools.product(*(word[1:-1].split("|") if word[:1] == "{" else word.split("|") for word in words))
 
 
+def is_passed(case):
+    """Makes the calls of a case in a folder of its own, and tells of each case that it is right, or what differs."""
+    os.mkdir("case")
+    os.chdir("case")
+    for name, text in case.files.items():
+        common.write(name, text)
+    answers = [common.ask(*words) for line in case.lines for words in calls(line)]
+    os.chdir("..")
+    shutil.rmtree("case")
+    wrong = [answer for answer in answers if not common.same(answer, case)]
+    for answer in wrong[:1]:
+        texts = [text[:2000].decode(errors="replace") for text in (answer.text, case.text)]
+        print("shim %s: status %d, and not %d\n%s\nand not\n%s" % (
+            " ".join(answer.words), answer.status, case.status, *texts))
+    print("%s %s (%d)" % ("FAILED" if wrong else "ok", case.title, len(answers)), flush=True)
+    return not wrong
+
+
 def main():
     wanted = sys.argv[1] if len(sys.argv) > 1 else ""
-    passed = failed = left = 0
-    for path in common.case_files():
-        for case in common.cases(path):
-            if wanted not in case.title:
-                continue
-            if case.failing:
-                left += 1
-                continue
-            os.mkdir("case")
-            os.chdir("case")
-            for name, text in case.files.items():
-                common.write(name, text)
-            answers = [common.ask(*words) for line in case.lines for words in calls(line)]
-            os.chdir("..")
-            shutil.rmtree("case")
-            wrong = [answer for answer in answers if (answer.status, answer.text, answer.error) != (case.status, case.text, b"")]
-            for answer in wrong[:1]:
-                print("shim %s: status %d, and not %d\n%s\nand not\n%s" % (
-                    " ".join(answer.words), answer.status, case.status, answer.text[:2000].decode(errors="replace"),
-                    case.text[:2000].decode(errors="replace")))
-            print("%s %s (%d)" % ("FAILED" if wrong else "ok", case.title, len(answers)), flush=True)
-            passed, failed = passed + (not wrong), failed + bool(wrong)
-    print("%d cases passed, %d failed, %d left out, which only the crate runs" % (passed, failed, left))
-    if not passed + failed + left:
+    found = [case for case in common.cases() if wanted in case.title]
+    passed = [is_passed(case) for case in found if not case.failing]
+    counts = sum(passed), passed.count(False), len(found) - len(passed)
+    print("%d cases passed, %d failed, %d left out, which only the crate runs" % counts)
+    if not found:
         print("no case has this in its title: %s" % wanted)
-    return 1 if failed or not passed + left else 0
+    return 0 if found and all(passed) else 1
 
 
 if __name__ == "__main__":

@@ -1,16 +1,18 @@
-"""What the scripts of this folder share: calls of ./shim with limits, examples, made programs, and the cases of the tool.
+"""What the scripts of this folder share: calls of ./shim with limits, examples, made programs, and the cases of the
+tool.
 
-SHIM names the program, ./shim where nothing is said. Each script works in a folder of its own, which `in_a_room` makes.
+SHIM names the program, ./shim where nothing is said. Each script works in a folder of its own, which `in_a_room`
+makes.
 """
 import collections
 import glob
 import os
 import re
 import shutil
-import signal
 import subprocess
 import sys
 import tempfile
+import threading
 import time
 
 TOP = os.path.dirname(os.path.dirname(os.path.dirname(os.path.realpath(__file__))))
@@ -20,7 +22,6 @@ import made  # noqa: E402
 
 Answer = collections.namedtuple("Answer", "words status text error seconds kib")
 Case = collections.namedtuple("Case", "title lines files failing status text")
-NO_MEMORY = b"no memory\n"
 
 # Three in a row that pass the bytes of the input on, until it ends by an exception.
 FILTER = """void reader(istream &i, int &a) throws Done {
@@ -39,34 +40,18 @@ void main(istream &i, ostream &o) {
 RING = "void main() { int a; int b; int c; { next a; next b; } par { next b; next c; } par { next c; next a; } }\n"
 
 
-class Late(Exception):
-    pass
-
-
-def late(_number, _frame):
-    raise Late
-
-
-signal.signal(signal.SIGALRM, late)
-
-
 def ask(*words, before=(), seconds=60, **more):
-    """What shim answers, started by the words before it, in this folder. A signal's status is negative, and so is that of
-    a call that takes longer."""
+    """What shim answers, started by the words before it, in this folder. The status of one that a signal ended, as
+    after too many seconds, is negative. What goes elsewhere, as `more` may say, is in no text."""
     begin = time.monotonic()
     with open("out", "wb") as out, open("err", "wb") as err:
-        child = subprocess.Popen([*before, SHIM, *words], stdout=out, stderr=err, **more)
-    signal.setitimer(signal.ITIMER_REAL, seconds)
-    try:
-        _, how, usage = os.wait4(child.pid, 0)
-    except Late:
-        child.kill()
-        _, how, usage = os.wait4(child.pid, 0)
-    finally:
-        signal.setitimer(signal.ITIMER_REAL, 0)
+        child = subprocess.Popen([*before, SHIM, *words], **{"stdout": out, "stderr": err, **more})
+    timer = threading.Timer(seconds, child.kill)
+    timer.start()
+    _, how, usage = os.wait4(child.pid, 0)
+    timer.cancel()
     child.returncode = os.WEXITSTATUS(how) if os.WIFEXITED(how) else -os.WTERMSIG(how)
-    with open("out", "rb") as out, open("err", "rb") as err:
-        return Answer(words, child.returncode, out.read(), err.read(), time.monotonic() - begin, usage.ru_maxrss)
+    return Answer(words, child.returncode, read("out"), read("err"), time.monotonic() - begin, usage.ru_maxrss)
 
 
 def same(one, other):
@@ -75,7 +60,7 @@ def same(one, other):
 
 
 def has_no_memory(answer):
-    return (answer.status, answer.text, answer.error) == (8, NO_MEMORY, b"")
+    return (answer.status, answer.text, answer.error) == (8, b"no memory\n", b"")
 
 
 def differs(what, answer, wanted=None):
@@ -83,7 +68,7 @@ def differs(what, answer, wanted=None):
     text = "differs: %s: shim %s: status %d" % (what, " ".join(answer.words), answer.status)
     if wanted is not None:
         text += ", and not %d" % wanted.status if answer.status != wanted.status else ", and another text"
-    sys.exit("%s\n%s%s" % (text, answer.text[-2000:].decode(errors="replace"), answer.error[-2000:].decode(errors="replace")))
+    sys.exit("%s\n%s" % (text, (answer.text[-2000:] + answer.error[-2000:]).decode(errors="replace")))
 
 
 def in_a_room(main):
@@ -101,6 +86,11 @@ def in_a_room(main):
     os.chdir(TOP)
     shutil.rmtree(room)
     sys.exit(status)
+
+
+def read(name):
+    with open(name, "rb") as file:
+        return file.read()
 
 
 def write(name, text):
@@ -127,12 +117,6 @@ def made_programs(count):
             yield number, text
 
 
-def compiled(source, *words):
-    """What gcc makes of a text in C."""
-    subprocess.run(["gcc", *words, "-x", "c", "-o", "made_of_c", "-"], input=source.encode(), check=True)
-    return os.path.abspath("made_of_c")
-
-
 def body_of(form, body):
     """What a part of a case has: lines as they are, without the last line break, or bytes by their digits."""
     body = re.sub(rb"^=== repeat (\d+) (.*)$", lambda it: it[2] * int(it[1]), body, flags=re.M)
@@ -141,28 +125,23 @@ def body_of(form, body):
     return body[:-1] if form == "bare" else body
 
 
-def cases(path):
-    """The cases of a file: of each its lines of words, files, whether only the crate can run it, status and text."""
-    with open(path, "rb") as it:
-        parts = re.split(rb"^=== case ", it.read(), flags=re.M)[1:]
-    for part in parts:
-        title, rest = part.split(b"\n", 1)
-        lines, files, failing, status, text = [], {}, False, None, None
-        for section in re.split(rb"^=== (?!repeat )", rest, flags=re.M)[1:]:
-            head, _, body = section.partition(b"\n")
-            kind, _, value = head.decode().partition(" ")
-            if kind == "words":
-                lines.append(value)
-            elif kind in ("file", "bare", "hex"):
-                files[value] = body_of(kind, body)
-            elif kind == "status":
-                status = int(value)
-            elif kind == "text":
-                text = body_of(value, body)
-            elif kind != "end":  # reads or writes that fail, or what lies inside
-                failing = True
-        yield Case(title.decode(), lines, files, failing, status, text)
-
-
-def case_files():
-    return sorted(glob.glob(os.path.join(TOP, "crates/shim_conformance/data/*.cases")))
+def cases():
+    """The cases of the tool: of each its lines of words, files, whether only the crate can run it, status and text."""
+    for path in sorted(glob.glob(os.path.join(TOP, "crates/shim_conformance/data/*.cases"))):
+        for part in re.split(rb"^=== case ", read(path), flags=re.M)[1:]:
+            title, rest = part.split(b"\n", 1)
+            lines, files, failing, status, text = [], {}, False, None, None
+            for section in re.split(rb"^=== (?!repeat )", rest, flags=re.M)[1:]:
+                head, _, body = section.partition(b"\n")
+                kind, _, value = head.decode().partition(" ")
+                if kind == "words":
+                    lines.append(value)
+                elif kind in ("file", "bare", "hex"):
+                    files[value] = body_of(kind, body)
+                elif kind == "status":
+                    status = int(value)
+                elif kind == "text":
+                    text = body_of(value, body)
+                elif kind != "end":  # reads or writes that fail, or what lies inside
+                    failing = True
+            yield Case(title.decode(), lines, files, failing, status, text)
