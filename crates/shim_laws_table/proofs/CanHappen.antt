@@ -200,11 +200,11 @@ module _ {S : Type 0} (o : Ops S) where
     found : (q : List ℕ) (m : Node S) → at q t.root ≡ Some m → Found q m
     found q m e =
         let c = covered o rp records stands s.rooted t.root s.agrees q m e in
-        let same = some_same (c.state_is, c.sort_is) (state m, process_status m) c.is_seen in
+        let same = some_same (c.state_is, c.status_is) (state m, process_status m) c.is_seen in
         record {
           number = c.number;
           first = c.first;
-          has = subst (λ z. Has records stands c.number c.first (state m) z) (ap (λ z. z.1) same) (subst (λ z. Has records stands c.number c.first z c.sort_is) (ap (λ z. z.0) same) c.has);
+          has = subst (λ z. Has records stands c.number c.first (state m) z) (ap (λ z. z.1) same) (subst (λ z. Has records stands c.number c.first z c.status_is) (ap (λ z. z.0) same) c.has);
           placed = ap (place o rp) (sym (ap (λ z. z.0) same)) ∙ c.is_there;
         }
 

@@ -124,7 +124,7 @@ module _ {S : Type 0} (o : Ops S) where
         let w = node_of x f l k has in
         let v = fork_above r b [] root w.node (ap (λ z. at z root) (sym e) ∙ w.there) in
         let c = covered o rp records stands s.rooted root s.agrees r (Forked v.state v.children) v.there in
-        let is : c.sort_is ≡ forks (how_many_nodes v.children) = ap (λ z. z.1) (some_same (c.state_is, c.sort_is) (v.state, forks (how_many_nodes v.children)) c.is_seen) in
+        let is : c.status_is ≡ forks (how_many_nodes v.children) = ap (λ z. z.1) (some_same (c.state_is, c.status_is) (v.state, forks (how_many_nodes v.children)) c.is_seen) in
         let fork = subst (Has records stands c.number c.first c.state_is) is c.has in
         let less = child_counted b [] v.children w.node v.child in
         let z = s.agrees.below c.number c.first (how_many_nodes v.children) c.state_is fork b less in
@@ -146,7 +146,7 @@ module _ {S : Type 0} (o : Ops S) where
       pub tied : (x f j : ℕ) (l : S) (k : ProcessStatus) → Has records stands x f l k → up x ≡ Some j → (b : Below x f l k) × (b.number ≡ j)
       tied x f j l k has e = elim (ends_of (place o rp l)) [
         | inl w ↦
-            let is_root : x ≡ 0 = s.agrees.apart x 0 f s.rooted.first l s.rooted.state k s.rooted.sort has s.rooted.has (w ∙ sym s.rooted.at_root) in
+            let is_root : x ≡ 0 = s.agrees.apart x 0 f s.rooted.first l s.rooted.state k s.rooted.status has s.rooted.has (w ∙ sym s.rooted.at_root) in
             none_some j (sym linked.top ∙ (ap up (sym is_root) ∙ e))
         | inr w ↦
             let y = below_of x f l k has w.0 w.1 w.2 in

@@ -59,9 +59,6 @@ pub lesser_nothing : (x : Option ℕ) → lesser x None ≡ x
 lesser_nothing None = refl
 lesser_nothing (Some x) = refl
 
-min_swap : (x y z : ℕ) → min (min x y) z ≡ min (min x z) y
-min_swap x y z = omega arith
-
 min_further : (x y z : ℕ) → min x (min y z) ≡ min (min x y) z
 min_further x y z = omega arith
 

@@ -52,7 +52,7 @@ module _ {S : Type 0} (o : Ops S) where
             let z = shown.agrees.below j d n s w.1 b less in
             stay (d + b) z.0 z.1 z.2 z.3 ∙ linked.parents j d n s w.1 b less
       ];
-      top = let r = shown.rooted in stay 0 r.first r.state r.sort r.has ∙ linked.top;
+      top = let r = shown.rooted in stay 0 r.first r.state r.status r.has ∙ linked.top;
     };
   }
 

@@ -17,10 +17,10 @@ module _ {S : Type 0} (o : Ops S) (rp : Path) (states : List S) (stands : List R
     pub number : ℕ
     pub first : ℕ
     pub state_is : S
-    pub sort_is : ProcessStatus
-    pub has : Has states stands number first state_is sort_is
+    pub status_is : ProcessStatus
+    pub has : Has states stands number first state_is status_is
     pub is_there : place o rp state_is ≡ q
-    pub is_seen : Some (state_is, sort_is) ≡ seen (Some n)
+    pub is_seen : Some (state_is, status_is) ≡ seen (Some n)
 
   covered_from : (root : Node S) → Agrees o rp states stands root → (p q : List ℕ) (n m : Node S) → at q root ≡ Some n → at p n ≡ Some m → Covered q n → Covered (q ++ p) m
   covered_from root ok [] q n m e f c = subst (λ z. Covered z m) (sym (append-nil q)) (subst (Covered q) (some_same n m f) c)
@@ -30,7 +30,7 @@ module _ {S : Type 0} (o : Ops S) (rp : Path) (states : List S) (stands : List R
   covered_from root ok (b ∷ p) q (Forked l ks) m e f c =
       let count = child_counted b p ks m f in
       let t = through b p ks m f in
-      let is : c.sort_is ≡ forks (how_many_nodes ks) = ap (λ z. z.1) (some_same (c.state_is, c.sort_is) (l, forks (how_many_nodes ks)) c.is_seen) in
+      let is : c.status_is ≡ forks (how_many_nodes ks) = ap (λ z. z.1) (some_same (c.state_is, c.status_is) (l, forks (how_many_nodes ks)) c.is_seen) in
       let w = ok.below c.number c.first (how_many_nodes ks) c.state_is (subst (Has states stands c.number c.first c.state_is) is c.has) b count in
       let here : place o rp w.1 ≡ q ++ b ∷ [] = w.4 ∙ ap (λ z. z ++ b ∷ []) c.is_there in
       let led : at (q ++ b ∷ []) root ≡ Some t.0 = at_split q (b ∷ []) root (Forked l ks) e ∙ t.1 in
@@ -38,7 +38,7 @@ module _ {S : Type 0} (o : Ops S) (rp : Path) (states : List S) (stands : List R
         number = c.first + b;
         first = w.0;
         state_is = w.1;
-        sort_is = w.2;
+        status_is = w.2;
         has = w.3;
         is_there = here;
         is_seen = sym (ok.shown (c.first + b) w.0 w.1 w.2 w.3) ∙ ap seen (ap (λ z. at z root) here ∙ led);
@@ -51,17 +51,17 @@ module _ {S : Type 0} (o : Ops S) (rp : Path) (states : List S) (stands : List R
       number = 0;
       first = r.first;
       state_is = r.state;
-      sort_is = r.sort;
+      status_is = r.status;
       has = r.has;
       is_there = r.at_root;
-      is_seen = sym (ok.shown 0 r.first r.state r.sort r.has) ∙ ap (λ z. seen (at z root)) r.at_root;
+      is_seen = sym (ok.shown 0 r.first r.state r.status r.has) ∙ ap (λ z. seen (at z root)) r.at_root;
     })
 
     -- what stands in one of the trees is seen in the other
     seen_too : (t u : Node S) → Agrees o rp states stands t → Agrees o rp states stands u → (p : List ℕ) (m : Node S) → at p t ≡ Some m → seen (Some m) ≡ seen (at p u)
     seen_too t u ok also p m e =
         let c = covered t ok p m e in
-        sym c.is_seen ∙ (sym (also.shown c.number c.first c.state_is c.sort_is c.has) ∙ ap (λ z. seen (at z u)) c.is_there)
+        sym c.is_seen ∙ (sym (also.shown c.number c.first c.state_is c.status_is c.has) ∙ ap (λ z. seen (at z u)) c.is_there)
 
     seen_same : (t u : Node S) → Agrees o rp states stands t → Agrees o rp states stands u → (p : List ℕ) → seen (at p t) ≡ seen (at p u)
     seen_same t u ok also p = on (at p t) (at p u) (seen_too t u ok also p) (seen_too u t also ok p)

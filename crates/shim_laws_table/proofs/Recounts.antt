@@ -64,8 +64,8 @@ module _ {S : Type 0} (o : Ops S) (law : LocalLaws o) (rp : Path) (records : Lis
         let at_k : at (place o rp z.1) new ≡ Some k = ap (λ p. at p new) z.4 ∙ (child_there (place o rp s) b new l ks there ∙ e) in
         let see : seen (Some k) ≡ Some (z.1, z.2) = sym (ap seen at_k) ∙ shown.agrees.shown (g + b) z.0 z.1 z.2 z.3 in
         let state_is = seen_state k z.1 z.2 see in
-        let sort_is = seen_sort k z.1 z.2 see in
-        let its : Has records stands (g + b) z.0 (state k) (process_status k) = record { state_is = z.3.state_is ∙ ap Some (sym state_is); stands_so = z.3.stands_so ∙ ap (λ x. Some (used z.0 x)) (sym sort_is) } in
+        let status_is = seen_sort k z.1 z.2 see in
+        let its : Has records stands (g + b) z.0 (state k) (process_status k) = record { state_is = z.3.state_is ∙ ap Some (sym state_is); stands_so = z.3.stands_so ∙ ap (λ x. Some (used z.0 x)) (sym status_is) } in
         read_one o c records stands labels (g + b) z.0 k its
         (λ u js is. forked b k e (omega (arith, less, many)) z.0 z.1 its at_k u js is state_is)
       where

@@ -102,9 +102,9 @@ module _ {S : Type 0} (o : Ops S) (law : LocalLaws o) where
   pub rooted_changed : (rp : Path) (before behind : List S) (stood stands : List RecordView) (i f : ℕ) (l m : S) (x k : ProcessStatus) → Rooted o rp before stood → Has before stood i f l x → o.path m ≡ o.path l → HasChanged before behind stood stands i m k → Rooted o rp behind stands
   rooted_changed rp before behind stood stands i f l m x k r has same changed = elim (same_or_not 0 i) [
     | inl w ↦
-        let old : r.state ≡ l = one_state before stood 0 r.first f r.state l r.sort x r.has (subst (λ z. Has before stood z f l x) (sym w) has) in
-        record { first = changed.first; state = m; sort = k; has = subst (λ z. Has behind stands z changed.first m k) (sym w) changed.mine; at_root = place_same rp l m same ∙ (ap (place o rp) (sym old) ∙ r.at_root) }
-    | inr n ↦ record { first = r.first; state = r.state; sort = r.sort; has = changed.others 0 r.first r.state r.sort n r.has; at_root = r.at_root }
+        let old : r.state ≡ l = one_state before stood 0 r.first f r.state l r.status x r.has (subst (λ z. Has before stood z f l x) (sym w) has) in
+        record { first = changed.first; state = m; status = k; has = subst (λ z. Has behind stands z changed.first m k) (sym w) changed.mine; at_root = place_same rp l m same ∙ (ap (place o rp) (sym old) ∙ r.at_root) }
+    | inr n ↦ record { first = r.first; state = r.state; status = r.status; has = changed.others 0 r.first r.state r.status n r.has; at_root = r.at_root }
   ]
 
   stepped : (rp : Path) (before behind : List S) (stood stands : List RecordView) (t u : Tree S) (e : Event) (i f : ℕ) (l : S) (a : Acted S)
@@ -208,9 +208,9 @@ module _ {S : Type 0} (o : Ops S) (law : LocalLaws o) where
       root : o.path p ≡ o.path l → Rooted o rp behind stands
       root path = elim (same_or_not 0 i) [
         | inl w ↦
-            let old : s.rooted.state ≡ l = one_state before stood 0 s.rooted.first f s.rooted.state l s.rooted.sort lives s.rooted.has (subst (λ z. Has before stood z f l lives) (sym w) has) in
-            record { first = g; state = p; sort = forks (length ks); has = subst (λ z. Has behind stands z g p (forks (length ks))) (sym w) changed.parent; at_root = place_same rp l p path ∙ (ap (place o rp) (sym old) ∙ s.rooted.at_root) }
-        | inr n ↦ record { first = s.rooted.first; state = s.rooted.state; sort = s.rooted.sort; has = changed.others 0 s.rooted.first s.rooted.state s.rooted.sort n s.rooted.has; at_root = s.rooted.at_root }
+            let old : s.rooted.state ≡ l = one_state before stood 0 s.rooted.first f s.rooted.state l s.rooted.status lives s.rooted.has (subst (λ z. Has before stood z f l lives) (sym w) has) in
+            record { first = g; state = p; status = forks (length ks); has = subst (λ z. Has behind stands z g p (forks (length ks))) (sym w) changed.parent; at_root = place_same rp l p path ∙ (ap (place o rp) (sym old) ∙ s.rooted.at_root) }
+        | inr n ↦ record { first = s.rooted.first; state = s.rooted.state; status = s.rooted.status; has = changed.others 0 s.rooted.first s.rooted.state s.rooted.status n s.rooted.has; at_root = s.rooted.at_root }
       ]
 
   -- ---- a close
@@ -241,15 +241,15 @@ module _ {S : Type 0} (o : Ops S) (law : LocalLaws o) where
       root : o.path (state a.node) ≡ o.path l → Rooted o rp behind stands
       root path = elim (same_or_not 0 i) [
         | inl w ↦
-            let old : s.rooted.state ≡ l = one_state before stood 0 s.rooted.first g s.rooted.state l s.rooted.sort (forks n) s.rooted.has (subst (λ z. Has before stood z g l (forks n)) (sym w) has) in
-            record { first = changed.first; state = state a.node; sort = process_status a.node; has = subst (λ z. Has behind stands z changed.first (state a.node) (process_status a.node)) (sym w) changed.parent; at_root = place_same rp l (state a.node) path ∙ (ap (place o rp) (sym old) ∙ s.rooted.at_root) }
+            let old : s.rooted.state ≡ l = one_state before stood 0 s.rooted.first g s.rooted.state l s.rooted.status (forks n) s.rooted.has (subst (λ z. Has before stood z g l (forks n)) (sym w) has) in
+            record { first = changed.first; state = state a.node; status = process_status a.node; has = subst (λ z. Has behind stands z changed.first (state a.node) (process_status a.node)) (sym w) changed.parent; at_root = place_same rp l (state a.node) path ∙ (ap (place o rp) (sym old) ∙ s.rooted.at_root) }
         | inr other ↦ record {
           first = s.rooted.first;
           state = s.rooted.state;
-          sort = s.rooted.sort;
-          has = changed.others 0 s.rooted.first s.rooted.state s.rooted.sort other
+          status = s.rooted.status;
+          has = changed.others 0 s.rooted.first s.rooted.state s.rooted.status other
               (λ b less e. let z = s.agrees.below i g n l has b less in
-              let same = one_state before stood 0 s.rooted.first z.0 s.rooted.state z.1 s.rooted.sort z.2 s.rooted.has (subst (λ y. Has before stood y z.0 z.1 z.2) (sym e) z.3) in
+              let same = one_state before stood 0 s.rooted.first z.0 s.rooted.state z.1 s.rooted.status z.2 s.rooted.has (subst (λ y. Has before stood y z.0 z.1 z.2) (sym e) z.3) in
               nothing_before b (place o rp l) (sym s.rooted.at_root ∙ (ap (place o rp) same ∙ z.4)))
               s.rooted.has;
           at_root = s.rooted.at_root;
@@ -270,7 +270,7 @@ module _ {S : Type 0} (o : Ops S) (law : LocalLaws o) where
       let ok = agrees_met o c v rp before behind stands t.root changed (λ i f l k has. stays i f l k has) s.agrees in
       let r = s.rooted in
       shows_after rp before behind stands stands t u (Meet c) s h
-      (record { first = r.first; state = got o c v r.sort r.state; sort = r.sort; has = record { state_is = changed.gets 0 r.first r.state r.sort r.has; stands_so = r.has.stands_so }; at_root = stays 0 r.first r.state r.sort r.has ∙ r.at_root })
+      (record { first = r.first; state = got o c v r.status r.state; status = r.status; has = record { state_is = changed.gets 0 r.first r.state r.status r.has; stands_so = r.has.stands_so }; at_root = stays 0 r.first r.state r.status r.has ∙ r.at_root })
       (subst (Agrees o rp behind stands) (sym (met_root o t u c h ∙ ap (λ z. received o c z t.root) (sym is))) ok)
     where
       stays : (i f : ℕ) (l : S) (k : ProcessStatus) → Has before stands i f l k → place o rp (got o c v k l) ≡ place o rp l
@@ -299,8 +299,8 @@ module _ {S : Type 0} (o : Ops S) (law : LocalLaws o) where
     where
       root : HaveDied o rp (place o rp k) c (death (o.handlers l - 1)) states' stood stands → Rooted o rp states' stands
       root changed = elim (aside_or_further (place o rp k) (place o rp s.rooted.state)) [
-        | inl far ↦ record { first = s.rooted.first; state = s.rooted.state; sort = s.rooted.sort; has = record { state_is = s.rooted.has.state_is; stands_so = changed.aside 0 s.rooted.first s.rooted.state s.rooted.sort s.rooted.has far }; at_root = s.rooted.at_root }
-        | inr far ↦ record { first = s.rooted.first; state = s.rooted.state; sort = killed o c (death (o.handlers l - 1)) s.rooted.state s.rooted.sort; has = record { state_is = s.rooted.has.state_is; stands_so = changed.below 0 s.rooted.first s.rooted.state s.rooted.sort far.0 s.rooted.has far.1 }; at_root = s.rooted.at_root }
+        | inl far ↦ record { first = s.rooted.first; state = s.rooted.state; status = s.rooted.status; has = record { state_is = s.rooted.has.state_is; stands_so = changed.aside 0 s.rooted.first s.rooted.state s.rooted.status s.rooted.has far }; at_root = s.rooted.at_root }
+        | inr far ↦ record { first = s.rooted.first; state = s.rooted.state; status = killed o c (death (o.handlers l - 1)) s.rooted.state s.rooted.status; has = record { state_is = s.rooted.has.state_is; stands_so = changed.below 0 s.rooted.first s.rooted.state s.rooted.status far.0 s.rooted.has far.1 }; at_root = s.rooted.at_root }
       ]
 
   pub events_are_shown : EventsAreShown o
@@ -349,6 +349,6 @@ module _ {S : Type 0} (o : Ops S) where
   start_shows l s = record {
     sound = s;
     root_path = refl;
-    rooted = record { first = 0; state = l; sort = lives; has = record { state_is = refl; stands_so = refl }; at_root = own_branches (o.path l) };
+    rooted = record { first = 0; state = l; status = lives; has = record { state_is = refl; stands_so = refl }; at_root = own_branches (o.path l) };
     agrees = agrees_one l;
   }

@@ -74,7 +74,7 @@ module _ {S : Type 0} (o : Ops S) (rp : Path) (states : List S) (stands : List R
   from_none : (c : ℕ) → c ≡ 0 + c
   from_none c = omega arith
 
-  -- what is in a record with a state and a sort
+  -- what is in a record with a state and a status
   in_record : (m i f : ℕ) (s : S) (k : ProcessStatus) → Has states stands i f s k → node_of states stands (suc m) i ≡ node_by (node_of states stands m) s f k
   in_record m i f s k h = λ t. node_in (node_of states stands m) (h.state_is t) (h.stands_so t)
 
@@ -106,7 +106,7 @@ module _ {S : Type 0} (o : Ops S) (rp : Path) (states : List S) (stands : List R
 pub root_within : {S : Type 0} (o : Ops S) (rp : Path) (states : List S) (stands : List RecordView) (root : Node S) (most : ℕ) → Shows o rp states stands root → AreNear o rp states stands most → node_of states stands (suc most) 0 ≡ Some root
 root_within o rp states stands root most shows near =
     let r = shows.rooted in
-    computed o rp states stands root shows.agrees most near (suc most) 0 r.first r.state r.sort root r.has (ap (λ z. at z root) r.at_root) (omega arith)
+    computed o rp states stands root shows.agrees most near (suc most) 0 r.first r.state r.status root r.has (ap (λ z. at z root) r.at_root) (omega arith)
 
 pub tree_is_computed : {S : Type 0} (o : Ops S) → TreeIsComputed o
 tree_is_computed o rp states stands root shows = root_within o rp states stands root (lengths_of o states) shows (near_lengths o rp states stands)

@@ -136,8 +136,8 @@ module _ {S : Type 0} (o : Ops S) (c : Channel) where
         on (Some x) e =
             let y = source_found root x e in
             let w = covered o rp records stands s.rooted root s.agrees y.branches y.node y.there in
-            let same : w.state_is ≡ x = ap (λ z. z.0) (some_same (w.state_is, w.sort_is) (state y.node, process_status y.node) w.is_seen) ∙ y.is in
-            clash (o.carries x c) y.carries (ap (λ z. o.carries z c) (sym same) ∙ none w.number w.first w.state_is w.sort_is w.has)
+            let same : w.state_is ≡ x = ap (λ z. z.0) (some_same (w.state_is, w.status_is) (state y.node, process_status y.node) w.is_seen) ∙ y.is in
+            clash (o.carries x c) y.carries (ap (λ z. o.carries z c) (sym same) ∙ none w.number w.first w.state_is w.status_is w.has)
 
     carry_once : (i j f g : ℕ) (l m : S) (k h : ProcessStatus) → Has records stands i f l k → Has records stands j g m h → o.carries l c ≡ true → o.carries m c ≡ true → i ≡ j
     carry_once i j f g l m k h a b x y =
@@ -194,8 +194,8 @@ module _ {S : Type 0} (o : Ops S) where
         first_is o c l d.name named (place o rp l) root (seen_live (at (place o rp l) root) l (s.agrees.shown i f l lives has))
         (λ p t e y.
         let w = covered o rp records stands s.rooted root s.agrees p (Live t) e in
-        let same = some_same (w.state_is, w.sort_is) (t, lives) w.is_seen in
-        let has' : Has records stands w.number w.first t lives = subst (λ z. Has records stands w.number w.first t z) (ap (λ z. z.1) same) (subst (λ z. Has records stands w.number w.first z w.sort_is) (ap (λ z. z.0) same) w.has) in
+        let same = some_same (w.state_is, w.status_is) (t, lives) w.is_seen in
+        let has' : Has records stands w.number w.first t lives = subst (λ z. Has records stands w.number w.first t z) (ap (λ z. z.1) same) (subst (λ z. Has records stands w.number w.first z w.status_is) (ap (λ z. z.0) same) w.has) in
         let placed : place o rp t ≡ p = ap (place o rp) (sym (ap (λ z. z.0) same)) ∙ w.is_there in
         ap (λ z. is_before z (place o rp l)) (sym placed) ∙ first w.number w.first t has' y);
   }

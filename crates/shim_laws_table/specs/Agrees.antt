@@ -12,7 +12,7 @@ pub data RecordView : Type 0 where
   free : RecordView
   used : ℕ → ProcessStatus → RecordView
 
--- The states of the processes and what came of them stand side by side; a process's number is its place in both. The record with this number is in use, with this state and this sort.
+-- The states of the processes and what came of them stand side by side; a process's number is its place in both. The record with this number is in use, with this state and this status.
 pub record Has {S : Type 0} (states : List S) (stands : List RecordView) (i first : ℕ) (s : S) (k : ProcessStatus) : Type 0 where
   pub state_is : slice_get states i ≡ Some s
   pub stands_so : slice_get stands i ≡ Some (used first k)
@@ -31,8 +31,8 @@ pub record Agrees {S : Type 0} (o : Ops S) (rp : Path) (states : List S) (stands
 pub record Rooted {S : Type 0} (o : Ops S) (rp : Path) (states : List S) (stands : List RecordView) : Type 0 where
   pub first : ℕ
   pub state : S
-  pub sort : ProcessStatus
-  pub has : Has states stands 0 first state sort
+  pub status : ProcessStatus
+  pub has : Has states stands 0 first state status
   pub at_root : place o rp state ≡ []
 
 -- the records show a sound tree

@@ -91,7 +91,7 @@ ChildrenAreShown {S} o = (rp : Path) (states' : List S) (stands : List RecordVie
     → Agrees o rp states' stands root → Has states' stands i g l (forks n) → at (place o rp l) root ≡ Some (Forked l ks)
     → (how_many_nodes ks ≡ n) × (states ks ≡ segment g n states') × (prevailing_death ks ≡ prevailing_among (segment g n stands))
 
--- One record gets another state of the same path, or another sort, neither with children: the records agree with the tree in which the node at its place is changed.
+-- One record gets another state of the same path, or another status, neither with children: the records agree with the tree in which the node at its place is changed.
 abbrev pub OneIsShown : {S : Type 0} → Ops S → Type 0
 OneIsShown {S} o = (rp : Path) (before behind : List S) (stood stands : List RecordView) (old new m a : Node S) (i f : ℕ)
     → Agrees o rp before stood old → Has before stood i f (state m) (process_status m) → is_leaf m ≡ true → is_leaf a ≡ true → o.path (state a) ≡ o.path (state m)

@@ -37,7 +37,7 @@ pub record HasActed {S : Type 0} (o : Ops S) (p : Path) (old new : Node S) : Typ
   pub acts : act_here o node ≡ Some acted
   pub replaced : IsReplaced place node acted.node old new
 
--- what a meeting on c leaves of a state of this sort
+-- what a meeting on c leaves of a state of this status
 abbrev pub got : {S : Type 0} → Ops S → Channel → ℤ → ProcessStatus → S → S
 got o c v lives s = cond (is_next (o.stop s) c) (o.receive s v) s
 got o c v (forks n) s = s
@@ -49,7 +49,7 @@ abbrev pub seen_met : {S : Type 0} → Ops S → Channel → ℤ → Option (S �
 seen_met o c v None = None
 seen_met o c v (Some x) = Some (got o c v x.1 x.0, x.1)
 
--- what a poison on c leaves of the sort of a state at or below the child
+-- what a poison on c leaves of the status of a state at or below the child
 abbrev pub killed : {S : Type 0} → Ops S → Channel → Death → S → ProcessStatus → ProcessStatus
 killed o c d s lives = cond (o.shares s c) (dies d) lives
 killed o c d s (forks n) = forks n

@@ -12,7 +12,7 @@ use Rattle.shim_laws_table.specs.Updating.{AreLinked}
 use Rattle.shim_laws_table.specs.Dooms.{lesser}
 use Rattle.shim_laws_table.specs.LoweredLabels.{Labelled, LabelsOnTheWay}
 
--- what a fork reads of a child with this state and sort, which keeps this label if it is a fork
+-- what a fork reads of a child with this state and status, which keeps this label if it is a fork
 abbrev pub read_label : {S : Type 0} → Ops S → Channel → S → ProcessStatus → Option ℕ → Option ℕ
 read_label o c s lives kept = None
 read_label o c s (forks n) kept = kept

@@ -21,7 +21,7 @@ abbrev pub fork_over : {S : Type 0} → S → Option (Nodes S) → Option (Node 
 fork_over l None = None
 fork_over l (Some ks) = Some (Forked l ks)
 
--- the node of a record with this state and sort, whose children are the nodes of the records from a number on
+-- the node of a record with this state and status, whose children are the nodes of the records from a number on
 abbrev pub node_by : {S : Type 0} → (ℕ → Option (Node S)) → S → ℕ → ProcessStatus → Option (Node S)
 node_by node s first lives = Some (Live s)
 node_by node s first (forks n) = fork_over s (nodes_from node first n)

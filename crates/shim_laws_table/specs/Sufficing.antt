@@ -24,7 +24,7 @@ pub record GivenSuffice {S : Type 0} (o : Ops S) : Type 0 where
       → IsSound o old → Shows o rp records stands new → Has records stands x f s k → IsReplaced (place o rp s) m a.node old new → act_here o m ≡ Some a → (IsGiven o s c → o.shares s c ≡ true → ⊥)
       → HaveCounts o rp records stands c counts new → LabelsOnTheWay o rp records stands c counts labels old new (place o rp s) → Labelled o rp records stands c counts labels new
 
--- what a fork reads of a child without children, with this state and sort
+-- what a fork reads of a child without children, with this state and status
 abbrev pub read_leaf : {S : Type 0} → Ops S → Channel → S → ProcessStatus → Reading
 read_leaf o c s lives = record { joining = o.shares s c; readiness = is_next (o.stop s) c; failing = false }
 read_leaf o c s (forks n) = record { joining = false; readiness = false; failing = false }
@@ -33,7 +33,7 @@ read_leaf o c s (dies d) = record { joining = false; readiness = false; failing 
 
 -- What is read of a process that does anything by itself:
 pub record ActorsAreRead {S : Type 0} (o : Ops S) : Type 0 where
-  -- before, it isn't ready
+  -- before, it isn't ready on any channel, and not dead
   pub before : (c : Channel) (m : Node S) (a : Acted S) → act_here o m ≡ Some a → reading o c m ≡ record { joining = o.shares (state m) c; readiness = false; failing = false }
-  -- and behind, what came of it tells
+  -- afterwards, if it has no children, its state and its status tell
   pub behind : (c : Channel) (a : Node S) → is_leaf a ≡ true → reading o c a ≡ read_leaf o c (state a) (process_status a)

@@ -43,7 +43,7 @@ pub fn children_are_shown<L: Local>()
 {}
 
 /// Where one record, of a process with nothing below it, gets another state of the same path or another
-/// sort, the records agree with the tree in which just its node is changed.
+/// status, the records agree with the tree in which just its node is changed.
 pub fn one_is_shown<L: Local>()
     ensures { OneIsShown L.ops }
 {}

@@ -7,4 +7,5 @@ pub mod OwnSteps
 pub mod Traps
 pub mod Block
 pub mod Counted
+pub mod Handed
 pub mod Forks

@@ -2,6 +2,7 @@
 pub mod Acts
 pub mod Forks
 pub mod Gone
+pub mod Knowing
 pub mod Marks
 pub mod Moved
 pub mod OneLess

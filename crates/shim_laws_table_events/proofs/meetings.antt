@@ -1,13 +1,15 @@
 -- The lemmas of meetings, one module for each subject.
 pub mod Among
+pub mod Below
 pub mod AtHome
 pub mod Descents
 pub mod Dies
+pub mod Leading
 pub mod Leaves
 pub mod Lists
 pub mod Meets
 pub mod Names
+pub mod Plans
 pub mod Poisoned
 pub mod Replacing
-pub mod Values
 pub mod Receives

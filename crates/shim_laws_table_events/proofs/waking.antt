@@ -4,5 +4,6 @@ pub mod Readiness
 pub mod Looks
 pub mod Idle
 pub mod Same
+pub mod NoMore
 pub mod Waking
 pub mod Awake

@@ -1,4 +1,5 @@
 -- The definitions of keeping, one module for each subject.
+pub mod Knowing
 pub mod Tables
 pub mod Moves
 pub mod Arriving

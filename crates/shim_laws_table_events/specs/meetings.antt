@@ -4,7 +4,7 @@ pub mod Dying
 pub mod Sharers
 pub mod Descents
 pub mod Meetings
+pub mod Plans
 pub mod Names
-pub mod Values
 pub mod Poisons
 pub mod Laws

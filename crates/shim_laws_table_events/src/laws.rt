@@ -4,13 +4,14 @@ ghost use Rattle.shim_laws_table_events.specs.keeping.Acting.{LivesOnKeeps, Leav
 ghost use Rattle.shim_laws_table_events.specs.forks.Forking.{ForksMove, TrapsMove};
 ghost use Rattle.shim_laws_table_events.specs.closes.Laws.{ClosesKeep, CutsKeep};
 ghost use Rattle.shim_laws_table_events.specs.meetings.Descents.{DescentsFind};
-ghost use Rattle.shim_laws_table_events.specs.meetings.Meetings.{MeetingsMove};
+ghost use Rattle.shim_laws_table_events.specs.meetings.Meetings.{MeetingsMove, SharersReceive};
+ghost use Rattle.shim_laws_table_events.specs.meetings.Plans.{PlansFind, SourcesLead};
 ghost use Rattle.shim_laws_table_events.specs.meetings.Poisons.{PoisonsMove};
-ghost use Rattle.shim_laws_table_events.specs.meetings.Values.{ValuesFound};
 ghost use Rattle.shim_laws_table_events.specs.meetings.Names.{NamesFound};
 ghost use Rattle.shim_laws_table_events.specs.meetings.Laws.{ReceivedKeeps, DiedKeeps};
 ghost use Rattle.shim_laws_table_events.specs.waking.Waking.{WakingSuffices, LookedFor};
 ghost use Rattle.shim_laws_table_events.specs.waking.Looks.{LooksDecide};
+ghost use Rattle.shim_laws_table_events.specs.waking.NoMore.{NoMoreIsTold};
 ghost use Rattle.shim_laws_table_events.specs.waking.Awake.{ListingStays};
 
 use shim_local::Local;
@@ -71,21 +72,32 @@ pub fn descents_find<L: Local>()
     ensures { DescentsFind L.ops }
 {}
 
-/// Where all that share a channel received the value of its source one after the other, the tree moves by the
+/// Where all that stand at a channel received the value of its source one after the other, the tree moves by the
 /// meeting.
 pub fn meetings_move<L: Local>()
     ensures { MeetingsMove L.ops }
+{}
+
+/// All that share a channel at and below its home are receivers enough for a meeting.
+pub fn sharers_receive<L: Local>()
+    ensures { SharersReceive L.ops }
+{}
+
+/// A walk from a channel's home by what forks know of their children's branches finds all that stand at the
+/// channel, each once.
+pub fn plans_find<L: Local>()
+    ensures { PlansFind L.ops }
+{}
+
+/// The way from a channel's home by the children that took its own variable leads to whoever carries it.
+pub fn sources_lead<L: Local>()
+    ensures { SourcesLead L.ops }
 {}
 
 /// Where all that live and share a channel at and below a child died one after the other of the innermost label
 /// in force at its fork, the tree moves by the child's poison.
 pub fn poisons_move<L: Local>()
     ensures { PoisonsMove L.ops }
-{}
-
-/// The value among all that share a channel is that of its source.
-pub fn values_found<L: Local>()
-    ensures { ValuesFound L.ops }
 {}
 
 /// The first name among all that share a channel is the one that its first meeting brings.
@@ -109,8 +121,14 @@ pub fn looks_decide<L: Local>()
     ensures { LooksDecide L.ops }
 {}
 
-/// So a list of numbers at which events may be enabled stays one, where of what has changed and its parents all
-/// is listed again that tells of more than a quiet step; what tells of no more may be dropped.
+/// A record tells of no more than before, where neither it nor a child of its fork has become ready on a channel on
+/// which that tells anything.
+pub fn no_more_is_told<L: Local>()
+    ensures { NoMoreIsTold L.ops }
+{}
+
+/// So a list of numbers at which events may be enabled stays one, where whatever tells of more than before is
+/// listed, too; what tells of nothing but a quiet step may be dropped.
 pub fn listing_stays<L: Local>()
     ensures { ListingStays L.ops }
 {}

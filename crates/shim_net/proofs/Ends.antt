@@ -14,14 +14,14 @@ use Rattle.shim_run_state.specs.RunStates.{RunStateView}
 use Rattle.shim_run_state.specs.Holding.{NoneHeld}
 use Rattle.shim_net.specs.Nets.{NetView, OpenGrant, IsNet, granted}
 use Rattle.shim_net.specs.Holding.{AreHeld}
-use Rattle.shim_net.specs.Standings.{StandsAs, IsQuietNet, IsSpentNet}
+use Rattle.shim_net.specs.Standings.{StandsAs, IsQuiescentNet, IsSpentNet}
 use Rattle.shim_net.specs.declared.standing.Standing.{Standing}
-use Rattle.shim_net.specs.declared.standing.Standing.TheVariants.{Running, Quiet, Spent}
+use Rattle.shim_net.specs.declared.standing.Standing.TheVariants.{Running, Quiescent, Spent}
 use Rattle.shim_net.specs.Progress.{CanGive, HasSettled}
 use Rattle.shim_net.proofs.Progress.{can_give}
 
-module _ {S : Type 0} (o : Ops S) (n : NetView S) (w : IsNet o n) (stands : IsQuietNet o n ⊎ IsSpentNet o n) where
-  came : (IsQuietNet o n ⊎ IsSpentNet o n) → IsQuiescent o n.tree ⊎ ((steps n.tree ≡ n.budget) × (IsQuiescent o n.tree → ⊥))
+module _ {S : Type 0} (o : Ops S) (n : NetView S) (w : IsNet o n) (stands : IsQuiescentNet o n ⊎ IsSpentNet o n) where
+  came : (IsQuiescentNet o n ⊎ IsSpentNet o n) → IsQuiescent o n.tree ⊎ ((steps n.tree ≡ n.budget) × (IsQuiescent o n.tree → ⊥))
   came (inl q) = inl q.1
   came (inr s) = inr (s.1, s.2)
 
@@ -34,7 +34,7 @@ module _ {S : Type 0} (o : Ops S) (n : NetView S) (w : IsNet o n) (stands : IsQu
   pub told : LocalLaws o → IsToldAs o n.root n.budget n.tree
   told law = ends_are_told o law n.root n.budget n.journal n.tree w.keeps.sound w.keeps.own w.keeps.replays (has_ended law)
 
-pub may_end : {S : Type 0} (o : Ops S) (n : NetView S) → IsNet o n → IsQuietNet o n ⊎ IsSpentNet o n → ((steps n.tree ≤ n.budget) × IsQuiescent o n.tree) ⊎ (steps n.tree ≡ n.budget)
+pub may_end : {S : Type 0} (o : Ops S) (n : NetView S) → IsNet o n → IsQuiescentNet o n ⊎ IsSpentNet o n → ((steps n.tree ≤ n.budget) × IsQuiescent o n.tree) ⊎ (steps n.tree ≡ n.budget)
 may_end o n w (inl q) = inl (omega (arith, w.keeps.fits), q.1)
 may_end o n w (inr s) = inr s.1
 
@@ -43,18 +43,18 @@ pub nobody_held : {S : Type 0} (o : Ops S) (v : RunStateView S) (grants : List (
 nobody_held {S} o v grants are none i l held = let any = subst (λ (gs : List (OpenGrant S)). Any (λ g. (g.pid ≡ i) × (g.start ≡ l)) gs) none (are.only i l held) in
     let none_below = any.2 in omega (arith, none_below)
 
-pub none_open : {S : Type 0} (o : Ops S) (n : NetView S) → IsQuietNet o n ⊎ IsSpentNet o n → n.grants ≡ []
+pub none_open : {S : Type 0} (o : Ops S) (n : NetView S) → IsQuiescentNet o n ⊎ IsSpentNet o n → n.grants ≡ []
 none_open o n (inl q) = q.0
 none_open o n (inr s) = s.0
 
 -- a net whose standing isn't Running stands at one of the others
-pub stopped : {S : Type 0} (o : Ops S) (n : NetView S) (s : Standing) → StandsAs o n s → (s ≡ Running → ⊥) → IsQuietNet o n ⊎ IsSpentNet o n
+pub stopped : {S : Type 0} (o : Ops S) (n : NetView S) (s : Standing) → StandsAs o n s → (s ≡ Running → ⊥) → IsQuiescentNet o n ⊎ IsSpentNet o n
 stopped o n Running h other = absurd (other refl)
-stopped o n Quiet h other = inl h
+stopped o n Quiescent h other = inl h
 stopped o n Spent h other = inr h
 
 -- so does one that has settled with nothing out, and can give nothing out
-pub has_stopped : {S : Type 0} (o : Ops S) (n : NetView S) → IsNet o n → n.grants ≡ [] → HasSettled o n → (CanGive o n → ⊥) → (s : Standing) → StandsAs o n s → IsQuietNet o n ⊎ IsSpentNet o n
+pub has_stopped : {S : Type 0} (o : Ops S) (n : NetView S) → IsNet o n → n.grants ≡ [] → HasSettled o n → (CanGive o n → ⊥) → (s : Standing) → StandsAs o n s → IsQuiescentNet o n ⊎ IsSpentNet o n
 has_stopped o n w none end cannot s h = stopped o n s h (λ running. let run = subst (StandsAs o n) running h in cannot (can_give o n w none end run.0 run.1))
 
 -- v is the net as the code holds it, and n as its contract names it
@@ -62,7 +62,7 @@ module _ {S : Type 0} (o : Ops S) (v n : NetView S) (same : v ≡ n) where
   pub is_spent : length v.grants ≡ 0 → steps v.tree ≡ v.budget → (IsQuiescent o v.tree → ⊥) → IsSpentNet o n
   is_spent none taken more = subst (IsSpentNet o) same (no_items v.grants none, taken, more)
 
-  pub is_neither : (steps v.tree ≡ v.budget → ⊥) → (IsQuiescent o v.tree → ⊥) → (IsQuietNet o n → ⊥) × (IsSpentNet o n → ⊥)
+  pub is_neither : (steps v.tree ≡ v.budget → ⊥) → (IsQuiescent o v.tree → ⊥) → (IsQuiescentNet o n → ⊥) × (IsSpentNet o n → ⊥)
   is_neither left more = (
     λ q. more (subst (λ (z : NetView S). IsQuiescent o z.tree) (sym same) q.1),
     λ s. left (subst (λ (z : NetView S). steps z.tree ≡ z.budget) (sym same) s.1),

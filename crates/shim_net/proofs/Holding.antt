@@ -108,8 +108,8 @@ module _ {S : Type 0} (o : Ops S) where
     zero_at_root i f l k has =
         let r = kept.shows.shows.rooted in
         let root : o.path r.state ≡ [] = no_branches (o.path r.state) r.at_root in (
-          λ e. ap o.path (one_state v.table.states (stands v.table) 0 f r.first l r.state k r.sort (subst (λ z. HasProcessState v.table z f l k) e has) r.has) ∙ root,
-          λ e. one_number i 0 f r.first l r.state k r.sort has r.has (e ∙ sym root),
+          λ e. ap o.path (one_state v.table.states (stands v.table) 0 f r.first l r.state k r.status (subst (λ z. HasProcessState v.table z f l k) e has) r.has) ∙ root,
+          λ e. one_number i 0 f r.first l r.state k r.status has r.has (e ∙ sym root),
         )
 
     module _ (grants : List (OpenGrant S)) (h : AreHeld o v grants) (i : ℕ) (l : S) (home : IsHomeAt o v i l) where

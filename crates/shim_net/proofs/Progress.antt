@@ -26,7 +26,7 @@ use Rattle.shim_net.specs.Granting.{NoneAtHome, GivesNone}
 use Rattle.shim_net.specs.Stepping.{StepsInPlace, left_of}
 use Rattle.shim_net.specs.Taking.{Closes, Redoes, with_piece}
 use Rattle.shim_net.specs.Settling.{IsQuietStep, RestsButForQuiet, AllHappen, Settles}
-use Rattle.shim_net.specs.Standings.{IsQuietNet, IsSpentNet}
+use Rattle.shim_net.specs.Standings.{IsQuiescentNet, IsSpentNet}
 use Rattle.shim_net.specs.Progress.{GoesOn, AreAmong, CanGive, HasSettled}
 use Rattle.shim_net.proofs.Settling.{all_happen_count}
 
@@ -202,7 +202,7 @@ module _ {S : Type 0} (o : Ops S) where
       ] refl
 
   -- a net that has settled with nothing out, and has not come to its end, can give something out
-  pub can_give : (n : NetView S) → IsNet o n → n.grants ≡ [] → HasSettled o n → (IsQuietNet o n → ⊥) → (IsSpentNet o n → ⊥) → CanGive o n
+  pub can_give : (n : NetView S) → IsNet o n → n.grants ≡ [] → HasSettled o n → (IsQuiescentNet o n → ⊥) → (IsSpentNet o n → ⊥) → CanGive o n
   can_give n w none end not_quiet not_spent =
       let zero_reserved : reserved_in n.grants ≡ 0 = ap reserved_in none in
       let not_full : (steps n.tree + reserved_in n.grants ≡ n.budget) → ⊥ = λ full. not_spent (none, omega (arith, full, zero_reserved), λ quiet. not_quiet (none, quiet)) in

@@ -1,7 +1,7 @@
 -- Events other than quiet steps that happen one after another.
 use Rattle.std.proofs.Common.{◌≡◌, ◌≤◌, ◌<◌, ◌+◌, ◌-◌, ◌⊎◌, inl, inr, ℕ, Bool, true, false, Option, Some, None, List, [], ◌∷◌, ◌++◌, length, refl, sym, ap, subst, ◌∙◌, arith}
 use Rattle.std.specs.Prelude.{map}
-use Rattle.std.proofs.lemmas.List.{map_push, append-nil, append_assoc, length_push}
+use Rattle.std.proofs.lemmas.List.{map_push, append_assoc, length_push}
 use Rattle.shim_base.specs.Paths.{Path, same_path}
 use Rattle.shim_base.proofs.Facts.{first_holds, second_holds, both_hold}
 use Rattle.shim_base.proofs.SamePaths.{same_path_refl, same_path_is}
@@ -57,14 +57,6 @@ module _ {S : Type 0} (o : Ops S) where
   pub all_happen_count : (es : List Event) (t u : Tree S) → AllHappen o es t u → steps u ≡ steps t + length es
   all_happen_count [] t u same = let e : steps t ≡ steps u = ap steps same in omega (arith, e)
   all_happen_count (f ∷ es) t u g = let one = event_counts o f t g.0 g.2 in let rest = all_happen_count es g.0 u g.3 in omega (arith, one, rest)
-
-  pub settles_none : (n : NetView S) → Settles o n n 0
-  settles_none n = record {
-    events = [];
-    counted = refl;
-    happened = refl;
-    after_is = λ j. record { root = n.root; budget = n.budget; tree = n.tree; journal = sym (append-nil n.journal) j; grants = n.grants };
-  }
 
   pub settles_more : (a b c : NetView S) (n : ℕ) (e : Event) → Settles o a b n → Happens o b c e → IsNoQuietStep o b.tree e → Settles o a c (n + 1)
   settles_more a b c n e s h other =

@@ -6,7 +6,7 @@ use Rattle.shim_semantics.specs.Trees.{Tree, steps}
 use Rattle.shim_laws_replay.specs.Grants.{IsGrantable}
 use Rattle.shim_net.specs.Nets.{OpenGrant, NetView, reserved_in}
 
--- of each process that has a quiet step to do a grant is open
+-- each process that is before a quiet step has an open grant
 abbrev pub NoneAtHome : {S : Type 0} → Ops S → Tree S → List (OpenGrant S) → Type 0
 NoneAtHome {S} o t grants = (l : S) → IsGrantable o t l → Any (λ g. o.path g.start ≡ o.path l) grants
 
@@ -19,7 +19,7 @@ pub record IsAtHome {S : Type 0} (o : Ops S) (t : Tree S) (grants : List (OpenGr
 abbrev pub GivesNone : {S : Type 0} → Ops S → NetView S → NetView S → Type 0
 GivesNone o before after = (after ≡ before) × ((steps before.tree + reserved_in before.grants ≡ before.budget) ⊎ NoneAtHome o before.tree before.grants)
 
--- a piece of work was given out: of which process is free
+-- a piece of work of some process at home was given out; which process isn't said
 pub record Grants {S : Type 0} (o : Ops S) (before after : NetView S) (most slot round : ℕ) (pid : ℕ) (start : S) (grant : ℕ) : Type 0 where
   pub process : IsAtHome o before.tree before.grants start
   -- what was asked for, or what is left of the budget

@@ -5,6 +5,7 @@ use Rattle.shim_local.specs.Process.{Ops}
 use Rattle.shim_run_state.specs.RunStates.{RunStateView, IsHeld}
 use Rattle.shim_net.specs.Nets.{OpenGrant}
 
+-- the process of each open grant is held, and no other is
 pub record AreHeld {S : Type 0} (o : Ops S) (v : RunStateView S) (grants : List (OpenGrant S)) : Type 0 where
   pub held : All (λ g. IsHeld o v g.pid g.start) grants
   pub only : (i : ℕ) (l : S) → IsHeld o v i l → Any (λ g. (g.pid ≡ i) × (g.start ≡ l)) grants

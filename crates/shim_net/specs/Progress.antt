@@ -16,7 +16,7 @@ pub record GoesOn {S : Type 0} (o : Ops S) (before after : NetView S) : Type 0 w
   pub done : List Entry
   pub journal : after.journal ≡ before.journal ++ done
   pub leads : run (entry_after o) done before.tree ≡ Some after.tree
-  -- at least as many steps were done as grants have closed
+  -- at least as many steps were done as open grants have become fewer
   pub at_least : steps before.tree + length before.grants ≤ steps after.tree + length after.grants
 
 -- each of these grants is one of those

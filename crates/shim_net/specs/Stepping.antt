@@ -20,7 +20,7 @@ pub record IsHomeNumber {S : Type 0} (o : Ops S) (n : NetView S) (pid : ℕ) : T
 abbrev pub left_of : {S : Type 0} → NetView S → ℕ
 left_of n = n.budget - (steps n.tree + reserved_in n.grants)
 
--- nobody is next, because nothing is left of the budget, or no process is at home
+-- this is the number of a process at home, and nothing has changed; or there is none, because nothing is left of the budget or no process is at home
 abbrev pub IsNextHome : {S : Type 0} → Ops S → NetView S → NetView S → Option ℕ → Type 0
 IsNextHome o before after None = GivesNone o before after
 IsNextHome o before after (Some pid) = (after ≡ before) × (1 ≤ left_of before) × IsHomeNumber o before pid
@@ -37,7 +37,7 @@ pub record StepsInPlace {S : Type 0} (o : Ops S) (before after : NetView S) (mos
   pub leads : quiet_steps o (o.path process) quiet.taken before.tree ≡ Some after.tree
   pub after_is : after ≡ record { root = before.root; budget = before.budget; tree = after.tree; journal = with_piece (o.path process) quiet.taken before.journal; grants = before.grants }
 
--- or none did
+-- a process at home did quiet steps; or none did, because nothing is left of the budget or no process is at home
 abbrev pub StepsHome : {S : Type 0} → Ops S → NetView S → NetView S → ℕ → Option Quiet → Type 0
 StepsHome o before after most None = GivesNone o before after
 StepsHome o before after most (Some quiet) = StepsInPlace o before after most quiet

@@ -1,7 +1,7 @@
 // Coming to the end.
 ghost use Rattle.std.specs.Prelude.{◌⊎◌, OnOk};
 ghost use Rattle.shim_net.specs.Progress.{GoesOn, AreAmong};
-ghost use Rattle.shim_net.specs.Standings.{IsQuietNet, IsSpentNet};
+ghost use Rattle.shim_net.specs.Standings.{IsQuiescentNet, IsSpentNet};
 
 use crate::net::Net;
 use crate::standing::Standing;
@@ -16,7 +16,7 @@ impl<L: Local> Net<L> {
     pub fn finish(&mut self) -> Result<(), NoMemory>
         ensures goes_on { GoesOn L.ops self.old self.new }
         ensures left { AreAmong self.new.grants self.old.grants }
-        ensures stands { OnOk result (IsQuietNet L.ops self.new ⊎ IsSpentNet L.ops self.new) }
+        ensures stands { OnOk result (IsQuiescentNet L.ops self.new ⊎ IsSpentNet L.ops self.new) }
     {
         self.redo_all()?;
         self.settle()?;

@@ -4,7 +4,7 @@ ghost use Rattle.shim_semantics.specs.Endings as endings;
 ghost use Rattle.shim_laws_replay.specs.Ends.{AgreesWithMeaning};
 ghost use Rattle.shim_laws_replay.specs.Told.{IsToldAs};
 ghost use Rattle.shim_net.specs.Nets.{IsNet};
-ghost use Rattle.shim_net.specs.Standings.{StandsAs, IsQuietNet, IsSpentNet};
+ghost use Rattle.shim_net.specs.Standings.{StandsAs, IsQuiescentNet, IsSpentNet};
 
 use crate::net::Net;
 use shim_base::NoMemory;
@@ -16,7 +16,7 @@ pub enum Standing {
     /// A grant is open, or an event is enabled and a step of the budget is left.
     Running,
     /// No grant is open, and no event is enabled.
-    Quiet,
+    Quiescent,
     /// No grant is open, the steps are the budget, and an event is enabled.
     Spent,
 }
@@ -31,7 +31,7 @@ impl<L: Local> Net<L> {
             return Standing::Running;
         }
         if self.tree.quiescent() {
-            return Standing::Quiet;
+            return Standing::Quiescent;
         }
         if self.tree.steps() == self.budget {
             return Standing::Spent;
@@ -42,7 +42,7 @@ impl<L: Local> Net<L> {
     /// What is read off it at its end, where its standing isn't `Running`, and how that compares with
     /// the meaning.
     pub fn ended(&self) -> Result<Ended, NoMemory>
-        requires { IsQuietNet L.ops self.now ⊎ IsSpentNet L.ops self.now }
+        requires { IsQuiescentNet L.ops self.now ⊎ IsSpentNet L.ops self.now }
         ensures ended { IfOk result (λ ended. ended ≡ endings.ended L.ops self.now.tree) }
         ensures agrees { AgreesWithMeaning L.ops self.now.root self.now.budget self.now.tree }
         ensures told { IsToldAs L.ops self.now.root self.now.budget self.now.tree }

@@ -9,7 +9,7 @@ use Rattle.shim_laws_table_events.specs.keeping.Tables.{TableView}
 use Rattle.shim_laws_table_events.specs.waking.Waking.{Wakes}
 use Rattle.shim_laws_table_events.specs.waking.Awake.{is_listed}
 use Rattle.shim_records.specs.Ways.{IsAbove, its_fork, further}
-use Rattle.shim_process_table.specs.Touching.{TouchesAbove, TouchesForking, TouchesEach}
+use Rattle.shim_process_table.specs.Touching.{TouchesForking, TouchesEach}
 
 module _ (up : ℕ → Option ℕ) where
   -- nothing is above a process without a fork
@@ -55,14 +55,7 @@ module _ {S : Type 0} (n number : ℕ) (before behind : TableView S) (flags : Li
       one_more : (n : ℕ) → suc n ≡ n + 1
       one_more n = omega arith
 
-  -- Where a list has the number, the forks that were touched, and the one above these, it has what is to be looked at again.
-  pub wake_list : TouchesAbove n number before behind → Wakes before behind (is_listed flags)
-  wake_list touches = record {
-    itself = λ i f s k has out. touches.others i f s k has (other i out) (not_above i out);
-    children = λ i j f s k has up out. touches.others j f s k has (no_child i j out up) (no_parent i j out up);
-  }
-
-  -- So it has where the process forked, and the new children are listed, too.
+  -- Where a list has the number, the forks that were touched, the one above these, and the new children, it has what is to be looked at again.
   pub wake_forked : (first count : ℕ) → ((b : ℕ) → b < count → is_listed flags (first + b) ≡ true) → TouchesForking n number first count before behind → Wakes before behind (is_listed flags)
   wake_forked first count new touches = record {
     itself = λ i f s k has out. touches.others i f s k has (other i out) (not_above i out)

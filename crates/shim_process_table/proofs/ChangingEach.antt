@@ -23,7 +23,6 @@ use Rattle.shim_laws_table_events.proofs.meetings.Meets.{one_keeps}
 use Rattle.shim_laws_table_events.proofs.meetings.Receives.{moves_on_rest}
 use Rattle.shim_process_table.specs.Stepping.{HasBecome}
 use Rattle.shim_process_table.specs.Changing.{IsChanged, ChangesEach}
-use Rattle.shim_process_table.proofs.HereSteps.{becomes_this}
 
 module _ {S : Type 0} (o : Ops S) where
   -- nothing has changed
@@ -88,7 +87,12 @@ module _ {S : Type 0} (o : Ops S) where
         stay = same_stands before.records behind.records (moves_on_rest moves)
 
         become : HasBecome i s lives before behind
-        become = becomes_this i f l s before behind has states stay
+        become = record {
+          first = f;
+          mine = record { state_is = ap (λ z. slice_get z i) states ∙ set_there before.states i l s has.state_is; stands_so = ap (λ z. slice_get z i) stay ∙ has.stands_so };
+          others = λ j g t x far h. record { state_is = ap (λ z. slice_get z j) states ∙ (set_elsewhere before.states i j s far ∙ h.state_is); stands_so = ap (λ z. slice_get z j) stay ∙ h.stands_so };
+          only = λ j g t x far h. record { state_is = sym (ap (λ z. slice_get z j) states ∙ set_elsewhere before.states i j s far) ∙ h.state_is; stands_so = sym (ap (λ z. slice_get z j) stay) ∙ h.stands_so };
+        }
 
     pub all_receive_changed : (numbers : List ℕ) (before behind : TableView S) → ReceiveAll o c v numbers before behind → ChangesEach o numbers before behind
     all_receive_changed numbers before behind (none_left w) rp root kept = none_changed [] w w refl

@@ -24,10 +24,6 @@ get_front [] i (suc k) x h e = none_some x e
 get_front (y ∷ xs) zero (suc k) x h e = e
 get_front (y ∷ xs) (suc i) (suc k) x h e = get_front xs i k x (omega (arith, h)) e
 
--- the children's states, where they stand behind
-pub lent_behind : {A : Type 0} (xs back : List A) (first count : ℕ) → back ≡ drop first xs → take count back ≡ segment first count xs
-lent_behind xs back first count e = ap (take count) e
-
 pub joined_behind : {S : Type 0} (o : Ops S) (xs front back lent : List S) (parent first count : ℕ) (goes_on : Bool) (l x y : S) → front ≡ take first xs → back ≡ drop first xs → lent ≡ take count back → parent < first → slice_get xs parent ≡ Some l → y ≡ get_or front parent y
     → x ≡ o.join y lent goes_on → slice_set front parent x ++ back ≡ slice_set xs parent (o.join l (segment first count xs) goes_on)
 joined_behind o xs front back lent parent first count goes_on l x y is_front is_back is_lent order e is_y is_x =

@@ -157,10 +157,10 @@ module _ {S : Type 0} (o : Ops S) (law : LocalLaws o) (states : List S) (rs : Li
     pub still_there : number < length now
     still_there = let w = state_there states rs number done in let long = ap length set ∙ length-set states number (state a.node) in omega (arith, w, long)
 
-    module _ (freed behind : List Record) (status : Status) (end : ℕ) (free : AreFreed first count rs freed) (sort_is : process_status_of status ≡ status_by_close outcome)
+    module _ (freed behind : List Record) (status : Status) (end : ℕ) (free : AreFreed first count rs freed) (status_is : process_status_of status ≡ status_by_close outcome)
         (settled : ClosesRecord o now number status label freed behind) (unused : (i : ℕ) (r : Record) → end ≤ i → slice_get behind i ≡ Some r → stands_of r ≡ unused_so) where
       same_sort : process_status_of status ≡ process_status a.node
-      same_sort = sort_is ∙ sym (sort_told outcome last.0)
+      same_sort = status_is ∙ sym (sort_told outcome last.0)
 
       same_state : settled.process ≡ state a.node
       same_state = its settled.process settled.state_is

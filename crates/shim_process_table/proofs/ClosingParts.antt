@@ -11,7 +11,7 @@ use Rattle.shim_records.specs.declared.record.Record.{Record}
 use Rattle.shim_records.specs.declared.record.Status.{Status}
 use Rattle.shim_records.specs.declared.record.Status.TheVariants as code
 use Rattle.shim_records.proofs.Stepping.{map_set, set_elsewhere}
-use Rattle.shim_records.proofs.Together.{none_freed, freed_one}
+use Rattle.shim_records.proofs.Together.{freed_one}
 use Rattle.shim_laws_table_events.specs.closes.Closing.{AreFreed, without_status, LeavesIf}
 use Rattle.shim_laws_table_events.proofs.closes.Saying.{leaves_said, said_order}
 
@@ -21,9 +21,6 @@ in_use f code.Live h = refl
 in_use f (code.Forked n) h = refl
 in_use f code.Ended h = refl
 in_use f (code.Dead x) h = refl
-
-pub none_free : (g n : ℕ) (rs : List Record) → n ≡ 0 → AreFreed g n rs rs
-none_free g n rs e = record { freed = none_freed g rs n e; beside = refl }
 
 pub one_free : (first at : ℕ) (before now : List Record) (r new : Record) → AreFreed first (at - first) before now → first ≤ at → slice_get now at ≡ Some r → new ≡ record { status = code.Free; first = r.first; parent = r.parent; path = r.path; going = r.going; pairs = r.pairs } → AreFreed first (at + 1 - first) before (slice_set now at new)
 one_free first at before now r new h less e is = record {

@@ -1,5 +1,5 @@
 -- What one live process did by itself in place, as an event of the tree that is shown.
-use Rattle.std.proofs.Common.{◌≡◌, ◌≤◌, ◌<◌, ℕ, zero, suc, ℤ, true, false, cond, ltb, Option, Some, None, List, [], ◌∷◌, length, get_or, slice_set, refl, sym, ap, subst, ◌∙◌}
+use Rattle.std.proofs.Common.{◌≡◌, ◌≤◌, ◌<◌, ℕ, zero, suc, ◌+◌, ℤ, true, false, cond, ltb, Option, Some, None, List, [], ◌∷◌, length, get_or, slice_set, refl, sym, ap, subst, ◌∙◌}
 use Rattle.std.specs.Prelude.{slice_get}
 use Rattle.std.proofs.lemmas.Option.{slice_get_read, slice_get_within}
 use Rattle.shim_base.proofs.Facts.{some_same}
@@ -34,9 +34,10 @@ use Rattle.shim_process_table.specs.Stepping.{LivesAt, HasBecome}
 use Rattle.shim_process_table.specs.Acting.{ActsHere, status_by_throw, told_of, thrown_by}
 use Rattle.shim_process_table.specs.declared.acting.Thrown.{Thrown}
 use Rattle.shim_process_table.specs.declared.acting.Thrown.TheVariants as thrown
-use Rattle.shim_process_table.specs.Touching.{TouchesRecords}
+use Rattle.shim_process_table.specs.Touching.{TouchesRecords, ArrivalWakes}
 use Rattle.shim_process_table.proofs.HereSteps.{read_set, has_become}
-use Rattle.shim_process_table.proofs.TouchingOwn.{one_touched, records_touched}
+use Rattle.shim_process_table.proofs.Readied.{touches_wake, arrival_wakes}
+use Rattle.shim_process_table.proofs.TouchingOwn.{records_touched}
 
 -- a record that says what came of its process has its pairs in order
 pub marked_order : (rs : List Record) (x : ℕ) (r : Record) (k : Status) → slice_get rs x ≡ Some r → AreOrdered rs → AreOrdered (slice_set rs x (marked k r))
@@ -68,9 +69,6 @@ module _ {S : Type 0} (o : Ops S) where
   -- its record
   pub record_there : (states : List S) (rs : List Record) (x : ℕ) (stop : StopView) → LivesAt o (record { states = states; records = rs }) x stop → (r : Record) × (slice_get rs x ≡ Some r)
   record_there states rs x stop here = let w = from_map stands_of (slice_get rs x) (used here.0 lives) (sym (map_get stands_of rs x) ∙ here.2.stands_so) in (w.0, w.1)
-
-  pub inside_records : (states : List S) (rs : List Record) (x : ℕ) (stop : StopView) → LivesAt o (record { states = states; records = rs }) x stop → x < length rs
-  inside_records states rs x stop here = let w = record_there states rs x stop here in slice_get_within rs x w.0 w.1
 
   pub inside_states : (states : List S) (rs : List Record) (x : ℕ) (stop : StopView) → LivesAt o (record { states = states; records = rs }) x stop → x < length states
   inside_states states rs x stop here = slice_get_within states x here.1 here.2.state_is
@@ -146,10 +144,11 @@ module _ {S : Type 0} (o : Ops S) where
         (b.first, subst (λ z. HasProcessState (record { states = slice_set states x s; records = behind }) x b.first z lives) (sym is) b.mine)
 
     -- it lives on
-    pub lives_here : (n : ℕ) (s now : S) → now ≡ get_or (slice_set states x s) x now → Arrives o now 4294967295 x rs behind → TouchesRecords n x rs behind → act_live o l stop ≡ Some (record { node = Live s; effects = effects })
+    pub lives_here : (n : ℕ) (s now : S) → now ≡ get_or (slice_set states x s) x now → Arrives o now 4294967295 x rs behind → ArrivalWakes o now n x rs behind → act_live o l stop ≡ Some (record { node = Live s; effects = effects })
         → ActsHere o n x stop lives effects (record { states = states; records = rs }) (record { states = slice_set states x s; records = behind })
-    lives_here n s now read_then came touches does =
+    lives_here n s now read_then came readies does =
         let arrives = subst (λ z. Arrives o z 4294967295 x rs behind) (read_set states x l s now has.state_is read_then) came in
+        let b = has_become o states rs behind x here.0 l s has arrives in
         record {
           first = here.0;
           process = l;
@@ -158,15 +157,15 @@ module _ {S : Type 0} (o : Ops S) where
           left = Live s;
           does = does;
           came = refl;
-          becomes = has_become o states rs behind x here.0 l s has arrives;
+          becomes = b;
           moves = subst (λ z. MovesBy o (event_at_stop z (o.path l)) (record { states = states; records = rs }) (record { states = slice_set states x s; records = behind })) stop_is
               (lives_on o law states rs behind x here.0 l s effects has (ap (act_live o l) stop_is ∙ does) arrives);
-          touches = one_touched n x states s rs behind touches;
+          wakes = arrival_wakes o n x b.first states rs behind s b.mine (subst (λ z. ArrivalWakes o z n x rs behind) (read_set states x l s now has.state_is read_then) readies);
         }
 
     module _ (n : ℕ) (k : Status) (gone : goes (left_by l k) ≡ false) (leaves : Leaves o l k 4294967295 x rs behind) (touches : TouchesRecords n x rs behind) where
       -- it ends or dies
-      pub leaves_here : act_live o l stop ≡ Some (record { node = left_by l k; effects = effects }) → ActsHere o n x stop (process_status_of k) effects (record { states = states; records = rs }) (record { states = states; records = behind })
+      pub leaves_here : act_live o l stop ≡ Some (record { node = left_by l k; effects = effects }) → ActsHere o (n + 1) x stop (process_status_of k) effects (record { states = states; records = rs }) (record { states = states; records = behind })
       leaves_here does = record {
         first = here.0;
         process = l;
@@ -178,5 +177,5 @@ module _ {S : Type 0} (o : Ops S) where
         becomes = subst (λ z. HasBecome x (state (left_by l k)) z (record { states = states; records = rs }) (record { states = states; records = behind })) (left_sort l k gone) (changed_then o states rs behind l k x here.0 has leaves gone);
         moves = subst (λ z. MovesBy o (event_at_stop z (o.path l)) (record { states = states; records = rs }) (record { states = states; records = behind })) stop_is
             (leaves_keep o law states rs behind x here.0 l k effects has (ap (act_live o l) stop_is ∙ does) gone leaves);
-        touches = records_touched n x states rs behind touches;
+        wakes = touches_wake o n x (record { states = states; records = rs }) (record { states = states; records = behind }) (records_touched n x states rs behind touches);
       }

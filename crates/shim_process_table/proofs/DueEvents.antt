@@ -43,8 +43,8 @@ module _ {S : Type 0} (o : Ops S) (v : TableView S) (i : ℕ) where
 
   pub due_poison : (q j : ℕ) (w : IsDoomed o v i q j) → IsDue o v i (Poison (o.path w.child) w.pair_is.chan.channel)
   due_poison q j w =
-      to_poison w.first w.many q w.branch w.child_first w.process w.child w.child_sort w.has.said w.pair_is (o.path w.child) w.pair_is.chan.channel w.has.forked w.has.there w.has.pair refl w.dooms w.within
-      (subst (λ z. HasProcessState v z w.child_first w.child w.child_sort) w.number w.its) (subst (λ z. IsReady o v w.pair_is.chan.channel z w.child w.child_sort) w.number w.ready) refl
+      to_poison w.first w.many q w.branch w.child_first w.process w.child w.child_status w.has.said w.pair_is (o.path w.child) w.pair_is.chan.channel w.has.forked w.has.there w.has.pair refl w.dooms w.within
+      (subst (λ z. HasProcessState v z w.child_first w.child w.child_status) w.number w.its) (subst (λ z. IsReady o v w.pair_is.chan.channel z w.child w.child_status) w.number w.ready) refl
 
   -- ---- so it is enabled
 
@@ -53,14 +53,11 @@ module _ {S : Type 0} (o : Ops S) (v : TableView S) (i : ℕ) where
 
   -- ---- what a meeting and a poison ask beside that
 
-  pub alone_declares : (w : MeetsAlone o v i) → Declares o v i w.chan.channel
-  alone_declares w = record { first = w.first; state = w.process; sort = _; has = w.has; its = w.declared }
-
   pub meet_declares : (q : ℕ) (w : AllThere o v i q) → Declares o v i w.pair_is.chan.channel
-  meet_declares q w = record { first = w.first; state = w.process; sort = _; has = w.has.forked; its = w.declared }
+  meet_declares q w = record { first = w.first; state = w.process; status = _; has = w.has.forked; its = w.declared }
 
   pub doomed_child : (q j : ℕ) (w : IsDoomed o v i q j) → IsChildOf v j w.child w.process
-  doomed_child q j w = record { parent = i; first = w.first; many = w.many; fork = w.has.forked; branch = w.branch; within = w.within; mine = w.number; own_first = w.child_first; sort = w.child_sort; has = w.its }
+  doomed_child q j w = record { parent = i; first = w.first; many = w.many; fork = w.has.forked; branch = w.branch; within = w.within; mine = w.number; own_first = w.child_first; status = w.child_status; has = w.its }
 
   pub doomed_can : LocalLaws o → (q j : ℕ) (w : IsDoomed o v i q j) → CanPoison o w.pair_is.chan.channel (o.handlers w.process - 1) j v
   doomed_can law q j w = record { child = w.child; parent = w.process; is_child = doomed_child q j w; is_label = refl; enabled = due_enabled law (Poison (o.path w.child) w.pair_is.chan.channel) (due_poison q j w) }

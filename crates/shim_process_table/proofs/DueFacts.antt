@@ -17,7 +17,7 @@ use Rattle.shim_records.specs.declared.record.Status.TheVariants as code
 use Rattle.shim_records.proofs.Walked.{last_or_before}
 use Rattle.shim_records.proofs.Showing.{map_get}
 use Rattle.shim_laws_table_events.specs.keeping.Tables.{TableView, HasProcessState, stands}
-use Rattle.shim_laws_table_events.specs.waking.Looks.{IsIdlePair, IsIdle, unused, has_ended, has_died, is_open}
+use Rattle.shim_laws_table_events.specs.waking.Looks.{HasNoPairDue, HasNothingDue, unused, has_ended, has_died, is_open}
 use Rattle.shim_process_table.specs.Reading.{HasPair}
 use Rattle.shim_process_table.specs.Closing.{CanClose}
 use Rattle.shim_process_table.specs.Due.{AllThere, IsDoomed, DoomedAmong, DueIs}
@@ -30,10 +30,10 @@ no_use : {B : Type 0} (f : ℕ) (k : ProcessStatus) → free ≡ used f k → B
 no_use f k e = absurd cc
 
 module _ {S : Type 0} (o : Ops S) (v : TableView S) (i : ℕ) where
-  pub no_state : slice_get v.states i ≡ None → IsIdle o v i
+  pub no_state : slice_get v.states i ≡ None → HasNothingDue o v i
   no_state e = unused (λ f s k has. none_some s (sym e ∙ has.state_is))
 
-  pub no_record : slice_get v.records i ≡ None → IsIdle o v i
+  pub no_record : slice_get v.records i ≡ None → HasNothingDue o v i
   no_record e = unused (λ f s k has. none_some (used f k) (sym (map_get stands_of v.records i ∙ ap (option_map stands_of) e) ∙ has.stands_so))
 
   module _ (l : S) (r : Record) (state_is : slice_get v.states i ≡ Some l) (there : slice_get v.records i ≡ Some r) where
@@ -43,13 +43,13 @@ module _ {S : Type 0} (o : Ops S) (v : TableView S) (i : ℕ) where
     pub its_process : (k : ProcessStatus) (w : Status) → r.status ≡ w → stands_by r.first w ≡ used r.first k → HasProcessState v i r.first l k
     its_process k w e is = record { state_is = state_is; stands_so = stands_there w e ∙ ap Some is }
 
-    pub is_free : r.status ≡ code.Free → IsIdle o v i
+    pub is_free : r.status ≡ code.Free → HasNothingDue o v i
     is_free e = unused (λ f s k has. no_use f k (some_same free (used f k) (sym (stands_there code.Free e) ∙ has.stands_so)))
 
-    pub is_ended : r.status ≡ code.Ended → IsIdle o v i
+    pub is_ended : r.status ≡ code.Ended → HasNothingDue o v i
     is_ended e = has_ended r.first l (its_process ends code.Ended e refl)
 
-    pub is_dead : (x : Death) → r.status ≡ code.Dead x → IsIdle o v i
+    pub is_dead : (x : Death) → r.status ≡ code.Dead x → HasNothingDue o v i
     is_dead x e = has_died r.first l x (its_process (dies x) (code.Dead x) e refl)
 
     pub live_process : r.status ≡ code.Live → HasProcessState v i r.first l lives
@@ -85,12 +85,12 @@ module _ {S : Type 0} (o : Ops S) (v : TableView S) (i : ℕ) where
             number = doomed.1.2;
             child_first = w.0;
             child = w.1;
-            child_sort = w.2;
+            child_status = w.2;
             its = w.3;
             ready = w.4;
           }
 
-      pub nothing_due : r.going ≢ 0 → ((q : ℕ) (y : Pair) → slice_get r.pairs.items q ≡ Some y → IsIdlePair o v l r.first n y) → IsIdle o v i
+      pub nothing_due : r.going ≢ 0 → ((q : ℕ) (y : Pair) → slice_get r.pairs.items q ≡ Some y → HasNoPairDue o v l r.first n y) → HasNothingDue o v i
       nothing_due some idle = is_open r.first n l r fork there some idle
 
 -- ---- the pairs before a place
@@ -98,27 +98,24 @@ module _ {S : Type 0} (o : Ops S) (v : TableView S) (i : ℕ) where
 module _ {S : Type 0} (o : Ops S) (v : TableView S) (l : S) (g n : ℕ) (ps : List Pair) where
   -- by these nothing can happen
   abbrev pub IdleBefore : ℕ → Type 0
-  IdleBefore i = (q : ℕ) (y : Pair) → q < i → slice_get ps q ≡ Some y → IsIdlePair o v l g n y
-
-  pub idle_at_first : IdleBefore 0
-  idle_at_first q y less e = absurd (omega (arith, less))
+  IdleBefore i = (q : ℕ) (y : Pair) → q < i → slice_get ps q ≡ Some y → HasNoPairDue o v l g n y
 
   pub idle_next : (i : ℕ) (p : Pair) → IdleBefore i → slice_get ps i ≡ Some p → (o.path l ≡ p.chan.channel.home → all_there (tally p) ≡ false) → DoomedAmong o v.states v.records l g n p None → IdleBefore (i + 1)
   idle_next i p before at meets dooms q y less e = elim (last_or_before q i less) [
     | inl w ↦ before q y w e
-    | inr w ↦ let same = some_same p y (sym at ∙ (ap (slice_get ps) (sym w) ∙ e)) in subst (IsIdlePair o v l g n) same (idle_pair o v l g n p meets dooms)
+    | inr w ↦ let same = some_same p y (sym at ∙ (ap (slice_get ps) (sym w) ∙ e)) in subst (HasNoPairDue o v l g n) same (idle_pair o v l g n p meets dooms)
   ]
 
 -- behind all pairs nothing can happen
 pub all_idle : {S : Type 0} (o : Ops S) (v : TableView S) (i : ℕ) (l : S) (r : Record) → slice_get v.states i ≡ Some l → slice_get v.records i ≡ Some r → (n : ℕ) → r.status ≡ code.Forked n → r.going ≢ 0
-    → (past : ℕ) → length r.pairs.items ≤ past → IdleBefore o v l r.first n r.pairs.items past → IsIdle o v i
+    → (past : ℕ) → length r.pairs.items ≤ past → IdleBefore o v l r.first n r.pairs.items past → HasNothingDue o v i
 all_idle o v i l r state there n forked some past all idle =
     nothing_due o v i l r state there n forked some (λ q y e. idle q y (let w = slice_get_within r.pairs.items q y e in omega (arith, w, all)) e)
 
 -- ---- what the code says of lists
 
 -- of a process that has ended or died, or of a free record, nothing
-pub at_rest : {S : Type 0} (o : Ops S) (v : TableView S) (i : ℕ) (r : Record) → i < length v.states → slice_get v.records i ≡ Some r → (r.status ≡ code.Free) ⊎ ((r.status ≡ code.Ended) ⊎ ((x : Death) × (r.status ≡ code.Dead x))) → IsIdle o v i
+pub at_rest : {S : Type 0} (o : Ops S) (v : TableView S) (i : ℕ) (r : Record) → i < length v.states → slice_get v.records i ≡ Some r → (r.status ≡ code.Free) ⊎ ((r.status ≡ code.Ended) ⊎ ((x : Death) × (r.status ≡ code.Dead x))) → HasNothingDue o v i
 at_rest o v i r within there h = let l = there_is v.states i within in elim h [
   | inl e ↦ is_free o v i l.0 r l.1 there e
   | inr (inl e) ↦ is_ended o v i l.0 r l.1 there e

@@ -29,7 +29,7 @@ put_last [] b = sym (append-nil (numbers_of_block b))
 put_last (x ∷ bs) b = ap (λ z. z ++ numbers_of_block x) (put_last bs b) ∙ append_assoc (numbers_of_block b) (ahead_of bs) (numbers_of_block x)
 
 -- the first number of a block
-first_number : (f n : ℕ) → 1 ≤ n → numbers_of_length f n ≡ f ∷ numbers_of_length (f + 1) (n - 1)
+pub first_number : (f n : ℕ) → 1 ≤ n → numbers_of_length f n ≡ f ∷ numbers_of_length (f + 1) (n - 1)
 first_number f zero h = absurd (omega (arith, h))
 first_number f (suc n) h = ap (λ z. f ∷ z) (rest (suc f) (f + 1) n (suc n - 1) (omega arith) (omega arith))
   where

@@ -41,9 +41,6 @@ module _ {S : Type 0} (o : Ops S) (label : ℕ) where
       on true below above = (live.0, live.1, live.2, subst (λ z. label < o.base z) same (below refl))
       on false below above = λ f s has low. above refl (subst (λ z. label < o.base z) (some_same s live.1 (sym has.state_is ∙ live.2.state_is) ∙ sym same) low)
 
-  pub nobody_dies : (v : TableView S) (i : ℕ) → IsLive i v false → IsKilledBy o label i v false
-  nobody_dies v i dead f s has low = dead f s has
-
   module _ (states : List S) (rs : List Record) (x : ℕ) (l : S) (r : Record) (before : IsKilledBy o label x (record { states = states; records = rs }) true) (read : r ≡ get_or rs x r) (read_state : l ≡ get_or states x l) where
     its : HasProcessState (record { states = states; records = rs }) x before.0 before.1 lives
     its = before.2
@@ -88,7 +85,7 @@ module _ {S : Type 0} (o : Ops S) (label : ℕ) where
 
   pub poisons_here : LocalLaws o → (c : Channel) (i : ℕ) (numbers : List ℕ) (before behind : TableView S) → CanPoison o c label i before → ListsSharers o before c i numbers → AllDie o label numbers before behind → PoisonsHere o c i before behind
   poisons_here law c i numbers before behind can lists all f k x has rp t kept =
-      let same : can.child ≡ k = one_state before.states (map stands_of before.records) i can.is_child.own_first f can.child k can.is_child.sort x can.is_child.has has in
+      let same : can.child ≡ k = one_state before.states (map stands_of before.records) i can.is_child.own_first f can.child k can.is_child.status x can.is_child.has has in
       subst (λ z. MovesBy o (Poison (o.path z) c) before behind) same ((poisons_move o law before behind c i label can.child can.parent numbers can.is_child can.is_label can.enabled lists all).0) rp t kept
 
   pub died_here : LocalLaws o → (c : Channel) (i : ℕ) (numbers : List ℕ) (before behind : TableView S) → CanPoison o c label i before → ListsSharers o before c i numbers → AllDie o label numbers before behind → AllDied o c label i before behind

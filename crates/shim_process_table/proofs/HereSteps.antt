@@ -10,6 +10,7 @@ use Rattle.shim_local.specs.Laws.{LocalLaws}
 use Rattle.shim_local.specs.Quiets.{QuietSteps}
 use Rattle.shim_laws_table.specs.Seen.{lives}
 use Rattle.shim_laws_table.specs.Agrees.{used}
+use Rattle.shim_laws_table.specs.Changes.{HasChanged}
 use Rattle.shim_laws_table.proofs.Hanging.{tree_of}
 use Rattle.shim_records.specs.Pairs.{stands_of, stands_by, rest_of}
 use Rattle.shim_records.specs.declared.record.Record.{Record}
@@ -18,10 +19,12 @@ use Rattle.shim_records.specs.declared.record.Status.TheVariants as code
 use Rattle.shim_records.proofs.Stepping.{set_there, set_elsewhere}
 use Rattle.shim_records.proofs.Showing.{map_get}
 use Rattle.shim_records.proofs.ReadOff.{same_stands}
-use Rattle.shim_laws_table_events.specs.keeping.Tables.{TableView, HasProcessState, IsKept, stands}
+use Rattle.shim_laws_table_events.specs.keeping.Tables.{TableView, HasProcessState, IsKept}
 use Rattle.shim_laws_table_events.specs.keeping.Moves.{AdvancesBy}
 use Rattle.shim_laws_table_events.specs.keeping.Arriving.{Arrives, nowhere, there}
 use Rattle.shim_laws_table_events.proofs.keeping.Steps.{advanced}
+use Rattle.shim_process_table.specs.Touching.{WakesAbove, ArrivalWakes}
+use Rattle.shim_process_table.proofs.Readied.{arrival_wakes}
 use Rattle.shim_process_table.specs.Stepping.{HasBecome, LivesAt, IsLive, IsBeforeQuiet, StepsHere, QuietlyReaches, is_live}
 
 -- one value behind none
@@ -64,18 +67,6 @@ is_alive {S} v i l r state record_is = on (is_live r.status) refl
 pub state_read : {S : Type 0} (v : TableView S) (i : ℕ) (l : S) → IsLive i v true → l ≡ get_or v.states i l → slice_get v.states i ≡ Some l
 state_read v i l here read = slice_get_read v.states (length v.states) i l refl (slice_get_within v.states i here.1 here.2.state_is) read
 
-pub within_states : {S : Type 0} (v : TableView S) (i : ℕ) → IsLive i v true → i < length v.states
-within_states v i here = slice_get_within v.states i here.1 here.2.state_is
-
--- another state stands in the record of a live process
-pub becomes_this : {S : Type 0} (x f : ℕ) (l s : S) (before behind : TableView S) → HasProcessState before x f l lives → behind.states ≡ slice_set before.states x s → stands behind ≡ stands before → HasBecome x s lives before behind
-becomes_this x f l s before behind has states stay = record {
-  first = f;
-  mine = record { state_is = ap (λ z. slice_get z x) states ∙ set_there before.states x l s has.state_is; stands_so = ap (λ z. slice_get z x) stay ∙ has.stands_so };
-  others = λ j g t k far h. record { state_is = ap (λ z. slice_get z j) states ∙ (set_elsewhere before.states x j s far ∙ h.state_is); stands_so = ap (λ z. slice_get z j) stay ∙ h.stands_so };
-  only = λ j g t k far h. record { state_is = sym (ap (λ z. slice_get z j) states ∙ set_elsewhere before.states x j s far) ∙ h.state_is; stands_so = sym (ap (λ z. slice_get z j) stay) ∙ h.stands_so };
-}
-
 module _ {S : Type 0} (o : Ops S) where
   pub stands_at : (v : TableView S) (i : ℕ) (l : S) (stop : StopView) → IsLive i v true → l ≡ get_or v.states i l → stop ≡ o.stop l → LivesAt o v i stop
   stands_at v i l stop here read e = (here.0, l, record { state_is = state_read v i l here read; stands_so = here.2.stands_so }, sym e)
@@ -94,8 +85,14 @@ module _ {S : Type 0} (o : Ops S) where
   rest_arrived s n x before behind (there d was is e u v updated) = updated.1.rest
 
   module _ (states : List S) (rs behind : List Record) (x f : ℕ) (l s : S) (has : HasProcessState (record { states = states; records = rs }) x f l lives) (arrives : Arrives o s 4294967295 x rs behind) where
+    -- another state stands in the record of a live process
     pub has_become : HasBecome x s lives (record { states = states; records = rs }) (record { states = slice_set states x s; records = behind })
-    has_become = becomes_this x f l s (record { states = states; records = rs }) (record { states = slice_set states x s; records = behind }) has refl (same_stands rs behind (rest_arrived s 4294967295 x rs behind arrives))
+    has_become = subst (λ z. HasChanged states (slice_set states x s) (map stands_of rs) z x s lives) (sym (same_stands rs behind (rest_arrived s 4294967295 x rs behind arrives))) (record {
+      first = f;
+      mine = record { state_is = set_there states x l s has.state_is; stands_so = has.stands_so };
+      others = λ j d t k n h. record { state_is = set_elsewhere states x j s n ∙ h.state_is; stands_so = h.stands_so };
+      only = λ j d t k n h. record { state_is = sym (set_elsewhere states x j s n) ∙ h.state_is; stands_so = h.stands_so };
+    })
 
   module _ (law : LocalLaws o) (states : List S) (rs behind : List Record) (x n : ℕ) (l last now : S) (before : IsBeforeQuiet o x (record { states = states; records = rs }) true) (read : l ≡ get_or states x l) (taken : QuietSteps o n l last)
       (read_then : now ≡ get_or (slice_set states x last) x now) (came : Arrives o now 4294967295 x rs behind) where
@@ -119,6 +116,12 @@ module _ {S : Type 0} (o : Ops S) where
     stands_then =
         let b = has_become states rs behind x before.0 l last its arrives in
         (b.first, subst (λ z. HasProcessState (record { states = slice_set states x last; records = behind }) x b.first z lives) (sym (read_set states x l last now is read_then)) b.mine)
+
+    -- and no other record tells of more, but so many forks above
+    pub wakes_here : (m : ℕ) → ArrivalWakes o now m x rs behind → WakesAbove o m x (record { states = states; records = rs }) (record { states = slice_set states x last; records = behind })
+    wakes_here m readies =
+        let b = has_become states rs behind x before.0 l last its arrives in
+        arrival_wakes o m x b.first states rs behind last b.mine (subst (λ z. ArrivalWakes o z m x rs behind) (read_set states x l last now is read_then) readies)
 
     pub steps_here : StepsHere o x n (record { states = states; records = rs }) (record { states = slice_set states x last; records = behind })
     steps_here = record {
@@ -151,6 +154,11 @@ module _ {S : Type 0} (o : Ops S) where
     stands_elsewhere =
         let b = has_become states rs behind x comes.first comes.process last comes.has arrives_elsewhere in
         (b.first, subst (λ z. HasProcessState (record { states = slice_set states x last; records = behind }) x b.first z lives) (sym (read_set states x comes.process last now comes.has.state_is read_then)) b.mine)
+
+    pub wakes_elsewhere : (m : ℕ) → ArrivalWakes o now m x rs behind → WakesAbove o m x (record { states = states; records = rs }) (record { states = slice_set states x last; records = behind })
+    wakes_elsewhere m readies =
+        let b = has_become states rs behind x comes.first comes.process last comes.has arrives_elsewhere in
+        arrival_wakes o m x b.first states rs behind last b.mine (subst (λ z. ArrivalWakes o z m x rs behind) (read_set states x comes.process last now comes.has.state_is read_then) readies)
 
     pub steps_elsewhere : StepsHere o x n (record { states = states; records = rs }) (record { states = slice_set states x last; records = behind })
     steps_elsewhere = record {

@@ -1,8 +1,8 @@
 -- The lemmas of this crate, one module for each subject.
 pub mod Does
-pub mod Carriers
 pub mod Finding
 pub mod HereMeets
+pub mod Readied
 pub mod Received
 pub mod HereNames
 pub mod HerePoisons
@@ -23,7 +23,7 @@ pub mod ReadyWays
 pub mod NewRecords
 pub mod ForkPut
 pub mod ForkHere
-pub mod TouchingPoisons
+pub mod TouchingMeets
 pub mod DueEvents
 pub mod TouchingCuts
 pub mod ClosingJoins
@@ -31,3 +31,5 @@ pub mod ClosingLabels
 pub mod ClosingMoves
 pub mod ClosingParts
 pub mod ClosingTakes
+pub mod Visiting
+pub mod Sourced

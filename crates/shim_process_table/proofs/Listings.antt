@@ -15,7 +15,7 @@ use Rattle.shim_records.specs.declared.record.Status.{Status}
 use Rattle.shim_records.specs.declared.record.Status.TheVariants as code
 use Rattle.shim_records.proofs.Showing.{map_get}
 use Rattle.shim_laws_table_events.specs.keeping.Tables.{TableView, HasProcessState}
-use Rattle.shim_laws_table_events.specs.waking.Looks.{IsIdle, has_died}
+use Rattle.shim_laws_table_events.specs.waking.Looks.{HasNothingDue, has_died}
 use Rattle.shim_laws_table_events.proofs.waking.PairsFound.{record_of}
 use Rattle.shim_process_table.specs.Reading.{IsInUse}
 use Rattle.shim_process_table.specs.Stepping.{IsBeforeQuiet}
@@ -39,7 +39,7 @@ module _ {S : Type 0} (o : Ops S) (v : TableView S) (i : ℕ) where
   stands_else f l has other g s h e = other (ap o.stop (some_same l s (sym has.state_is ∙ h.state_is)) ∙ e)
 
   -- one that has died belongs in no list
-  pub died_nowhere : (f : ℕ) (l : S) (d : Death) → HasProcessState v i f l (dies d) → IsIdle o v i × IsBeforeQuiet o i v false
+  pub died_nowhere : (f : ℕ) (l : S) (d : Death) → HasProcessState v i f l (dies d) → HasNothingDue o v i × IsBeforeQuiet o i v false
   died_nowhere f l d has = (has_died f l d has, λ g m lived stop. absurd (let e = sym has.stands_so ∙ lived.stands_so in cc))
 
   -- ---- by its record
@@ -58,7 +58,7 @@ module _ {S : Type 0} (o : Ops S) (v : TableView S) (i : ℕ) where
         forked_alone : (n : ℕ) → code.Forked n ≢ code.Live
         forked_alone n e = absurd cc
 
-    pub rests : (r.status ≡ code.Free) ⊎ ((r.status ≡ code.Ended) ⊎ ((x : Death) × (r.status ≡ code.Dead x))) → IsIdle o v i × IsBeforeQuiet o i v false
+    pub rests : (r.status ≡ code.Free) ⊎ ((r.status ≡ code.Ended) ⊎ ((x : Death) × (r.status ≡ code.Dead x))) → HasNothingDue o v i × IsBeforeQuiet o i v false
     rests h = (at_rest o v i r (slice_get_within v.states i used.1 used.3.state_is) there h, lives_not (at_rest_alone r.status h))
       where
         at_rest_alone : (k : Status) → (k ≡ code.Free) ⊎ ((k ≡ code.Ended) ⊎ ((x : Death) × (k ≡ code.Dead x))) → k ≢ code.Live

@@ -8,13 +8,13 @@ use Rattle.shim_semantics.proofs.HowMany.{clash}
 use Rattle.shim_laws_table.specs.Seen.{ProcessStatus}
 use Rattle.shim_laws_table.specs.Agrees.{RecordView, free, used}
 use Rattle.shim_laws_table.specs.Counts.{Tally, all_there}
-use Rattle.shim_records.specs.Pairs.{tally, counts_in, pair_index, tally_for}
+use Rattle.shim_records.specs.Pairs.{counts_ready, tally, counts_in, pair_index, tally_for}
 use Rattle.shim_records.specs.declared.pair.Pair.{Pair}
 use Rattle.shim_records.specs.declared.record.Record.{Record}
 use Rattle.shim_records.proofs.Walked.{last_or_before}
 use Rattle.shim_records.proofs.Pairing.{put_there, no_place}
 use Rattle.shim_laws_table_events.specs.keeping.Tables.{TableView, HasProcessState, stands}
-use Rattle.shim_laws_table_events.specs.waking.Looks.{ready_by, counts_ready, IsReady, IsIdlePair}
+use Rattle.shim_laws_table_events.specs.waking.Looks.{ready_by, IsReady, HasNoPairDue}
 use Rattle.shim_process_table.specs.Due.{ready_record, ready_at, DoomedAmong}
 
 module _ {S : Type 0} (o : Ops S) (c : Channel) where
@@ -50,7 +50,7 @@ module _ {S : Type 0} (o : Ops S) (c : Channel) where
     none_at_all i n past none b less = none b (omega (arith, past, less))
 
 -- by a pair without a meeting and without a doomed child nothing can happen
-pub idle_pair : {S : Type 0} (o : Ops S) (v : TableView S) (l : S) (g n : ℕ) (y : Pair) → (o.path l ≡ y.chan.channel.home → all_there (tally y) ≡ false) → DoomedAmong o v.states v.records l g n y None → IsIdlePair o v l g n y
+pub idle_pair : {S : Type 0} (o : Ops S) (v : TableView S) (l : S) (g n : ℕ) (y : Pair) → (o.path l ≡ y.chan.channel.home → all_there (tally y) ≡ false) → DoomedAmong o v.states v.records l g n y None → HasNoPairDue o v l g n y
 idle_pair o v l g n y meets dooms = record {
   meets_not = meets;
   poisons_not = λ low b f k x less has readiness. clash (ready_at o y.chan.channel v.states v.records (g + b)) (is_ready o y.chan.channel v (g + b) f k x has ∙ readiness) (dooms low b less);

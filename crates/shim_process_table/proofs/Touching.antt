@@ -111,13 +111,13 @@ same_all c x y here elsewhere d = on (same_channel c d) refl
     on true e = subst (λ z. x z ≡ y z) (same_channel_is c d e) here
     on false e = elsewhere d e
 
-rest_at : (before behind : List Record) (i : ℕ) → map rest_of behind ≡ map rest_of before → option_map rest_of (slice_get behind i) ≡ option_map rest_of (slice_get before i)
+pub rest_at : (before behind : List Record) (i : ℕ) → map rest_of behind ≡ map rest_of before → option_map rest_of (slice_get behind i) ≡ option_map rest_of (slice_get before i)
 rest_at before behind i e = sym (map_get rest_of behind i) ∙ (ap (λ z. slice_get z i) e ∙ map_get rest_of before i)
 
-rest_parents : (before behind : List Record) → map rest_of behind ≡ map rest_of before → (i : ℕ) → up_in behind i ≡ up_in before i
+pub rest_parents : (before behind : List Record) → map rest_of behind ≡ map rest_of before → (i : ℕ) → up_in behind i ≡ up_in before i
 rest_parents before behind e i = ap (λ u. u i) (rest_ups before behind e)
 
-rest_long : (before behind : List Record) → map rest_of behind ≡ map rest_of before → length behind ≡ length before
+pub rest_long : (before behind : List Record) → map rest_of behind ≡ map rest_of before → length behind ≡ length before
 rest_long before behind e = sym (map_length rest_of behind) ∙ (ap length e ∙ map_length rest_of before)
 
 pub counts_above : (c : Channel) (n x : ℕ) (was is : Reading) (before behind : List Record) → IsUpdatedAbove c n x was is before behind → TouchesRecords (suc n) x before behind

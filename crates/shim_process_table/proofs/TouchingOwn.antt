@@ -1,5 +1,5 @@
 -- What a process does by itself touches its own record and those of the forks above it.
-use Rattle.std.proofs.Common.{◌≡◌, ◌≤◌, ℕ, suc, Some, List, map, slice_set, refl, ap, ◌∙◌}
+use Rattle.std.proofs.Common.{◌≡◌, ◌≤◌, ℕ, suc, Some, List, map, slice_set, refl, ◌∙◌}
 use Rattle.std.specs.Prelude.{slice_get}
 use Rattle.shim_base.specs.Paths.{Channel}
 use Rattle.shim_local.specs.Process.{Ops}
@@ -13,8 +13,6 @@ use Rattle.shim_records.specs.Died.{AllLoweredAbove, none_left as none_lowered, 
 use Rattle.shim_records.specs.Leaving.{HasLeft}
 use Rattle.shim_records.specs.declared.record.Record.{Record}
 use Rattle.shim_records.specs.declared.record.Status.{Status}
-use Rattle.shim_records.proofs.Stepping.{set_elsewhere}
-use Rattle.shim_laws_table_events.specs.keeping.Tables.{TableView}
 use Rattle.shim_laws_table_events.specs.keeping.Acting.{marked}
 use Rattle.shim_process_table.specs.Touching.{TouchesAbove, TouchesRecords}
 use Rattle.shim_process_table.proofs.Touching.{touches_none, touches_on, touches_more, touches_set, touches_above, counts_above, counts_reach, labels_above, leaving}
@@ -59,15 +57,6 @@ leaves n x k was before labelled counted behind there takes moves left some =
 -- ---- with the states
 
 module _ {S : Type 0} where
-  -- where one state was put in place of another
-  pub one_touched : (n x : ℕ) (states : List S) (s : S) (before behind : List Record) → TouchesRecords n x before behind → TouchesAbove n x (record { states = states; records = before }) (record { states = slice_set states x s; records = behind })
-  one_touched n x states s before behind touches =
-      touches_above n x (record { states = states; records = before }) (record { states = slice_set states x s; records = behind }) touches (λ i far. set_elsewhere states x i s far)
-
-  -- and where no state has changed
+  -- where no state has changed
   pub records_touched : (n x : ℕ) (states : List S) (before behind : List Record) → TouchesRecords n x before behind → TouchesAbove n x (record { states = states; records = before }) (record { states = states; records = behind })
   records_touched n x states before behind touches = touches_above n x (record { states = states; records = before }) (record { states = states; records = behind }) touches (λ i far. refl)
-
-  -- nothing at all has
-  pub untouched : (n x : ℕ) (before behind : TableView S) → behind ≡ before → TouchesAbove n x before behind
-  untouched n x before behind e = touches_above n x before behind (touches_none n x before.records behind.records (ap (λ z. z.records) e)) (λ i far. ap (λ z. slice_get z.states i) e)

@@ -9,7 +9,7 @@ use Rattle.shim_laws_table_events.specs.keeping.Tables.{TableView, HasProcessSta
 use Rattle.shim_laws_table_events.specs.keeping.Moves.{MovesBy}
 use Rattle.shim_laws_table_events.specs.keeping.Acting.{event_at_stop}
 use Rattle.shim_process_table.specs.Stepping.{LivesAt, HasBecome}
-use Rattle.shim_process_table.specs.Touching.{TouchesAbove}
+use Rattle.shim_process_table.specs.Touching.{WakesAbove}
 use Rattle.shim_process_table.specs.declared.acting.Thrown.{Thrown}
 use Rattle.shim_process_table.specs.declared.acting.Thrown.TheVariants as thrown
 
@@ -17,7 +17,7 @@ use Rattle.shim_process_table.specs.declared.acting.Thrown.TheVariants as thrown
 abbrev pub IsTrappedAt : {S : Type 0} → Ops S → TableView S → ℕ → Type 0
 IsTrappedAt o v number = (kind : Trap) × (line : ℕ) × LivesAt o v number (AtTrap kind line)
 
--- The live process with this number stood so, and did the one thing that it can do by itself: this came of it, these effects are told, the tree moves by that event, no other process has changed, and of the records none but its own and those of the first n forks above.
+-- The live process with this number was at this stop and did the one thing that it can do by itself. It has this status now, and these are the effects. The tree moves by that event, and no other process has changed. No record in use is readier than before but its own and those of the first n forks above.
 pub record ActsHere {S : Type 0} (o : Ops S) (n number : ℕ) (stop : StopView) (k : ProcessStatus) (effects : Effects) (before behind : TableView S) : Type 0 where
   pub first : ℕ
   pub process : S
@@ -28,21 +28,21 @@ pub record ActsHere {S : Type 0} (o : Ops S) (n number : ℕ) (stop : StopView) 
   pub came : process_status left ≡ k
   pub becomes : HasBecome number (state left) k before behind
   pub moves : MovesBy o (event_at_stop stop (o.path process)) before behind
-  pub touches : TouchesAbove n number before behind
+  pub wakes : WakesAbove o n number before behind
 
--- what came of a process that threw an exception
+-- the status of a process behind a throw with this outcome
 abbrev pub status_by_throw : Thrown → ProcessStatus
 status_by_throw (thrown.Caught name line) = lives
 status_by_throw (thrown.Died d) = dies d
 status_by_throw thrown.Trapped = lives
 
--- what is told of it
+-- the effects of such a throw
 abbrev pub told_of : Thrown → Effects
 told_of (thrown.Caught name line) = catch_logged (name, line)
 told_of (thrown.Died d) = nothing
 told_of thrown.Trapped = nothing
 
--- what a process leaves in which an exception was thrown
+-- the node and the effects that such a throw leaves, of a process in this state
 abbrev pub thrown_by : {S : Type 0} → Thrown → S → Acted S
 thrown_by (thrown.Caught name line) s = record { node = Live s; effects = catch_logged (name, line) }
 thrown_by (thrown.Died d) s = record { node = Dead s d; effects = nothing }

@@ -28,19 +28,19 @@ pub record CanClose {S : Type 0} (v : TableView S) (number : ℕ) : Type 0 where
   pub there : slice_get v.records number ≡ Some said
   pub none_goes : said.going ≡ 0
 
--- what is told of a close of which this came
+-- the effects of a close with this outcome
 abbrev pub told_by : CloseOutcome → Effects
 told_by GoesOn = nothing
 told_by (Threw t) = told_of t
 
--- whether the process lives behind it
+-- the status of the process behind a close with this outcome
 abbrev pub ClosedAs : CloseOutcome → ProcessStatus → Type 0
 ClosedAs GoesOn k = k ≡ lives
 ClosedAs (Threw (thrown.Caught name line)) k = k ≡ lives
 ClosedAs (Threw (thrown.Died d)) k = k ≡ dies d
 ClosedAs (Threw thrown.Trapped) k = k ≡ lives
 
--- The process with this number had forked, and its fork closed: this came of it, the tree moves by that event, and of all others its children alone are no more. Of the records none has changed but its own, its children's and those of the first n forks above.
+-- The process with this number had forked, and its fork closed: this came of it, the tree moves by that event, and of all others its children alone are no more. Of the records that are still in use none has changed but its own and those of the first n forks above.
 pub record ClosesHere {S : Type 0} (o : Ops S) (n number : ℕ) (outcome : CloseOutcome) (before behind : TableView S) : Type 0 where
   pub first : ℕ
   pub many : ℕ
@@ -58,12 +58,12 @@ pub record ClosesHere {S : Type 0} (o : Ops S) (n number : ℕ) (outcome : Close
 
 -- ---- the parts
 
--- what a process leaves of which this came
+-- the node and the effects that a close with this outcome leaves, of a process in this state
 abbrev pub acted_by : {S : Type 0} → CloseOutcome → S → Acted S
 acted_by GoesOn s = record { node = Live s; effects = nothing }
 acted_by (Threw t) s = thrown_by t s
 
--- what came of a process with this outcome
+-- the status of the process behind a close with this outcome, as a function
 abbrev pub status_by_close : CloseOutcome → ProcessStatus
 status_by_close GoesOn = lives
 status_by_close (Threw t) = status_by_throw t

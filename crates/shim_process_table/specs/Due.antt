@@ -10,7 +10,7 @@ use Rattle.shim_records.specs.Pairs.{tally, counts_in, stands_of}
 use Rattle.shim_records.specs.declared.pair.Pair.{Pair}
 use Rattle.shim_records.specs.declared.record.Record.{Record}
 use Rattle.shim_laws_table_events.specs.keeping.Tables.{TableView, HasProcessState}
-use Rattle.shim_laws_table_events.specs.waking.Looks.{ready_by, IsIdle, IsReady}
+use Rattle.shim_laws_table_events.specs.waking.Looks.{ready_by, HasNothingDue, IsReady}
 use Rattle.shim_process_table.specs.Closing.{CanClose}
 use Rattle.shim_process_table.specs.Reading.{HasPair}
 use Rattle.shim_process_table.specs.Stepping.{LivesAt}
@@ -26,7 +26,7 @@ pub record MeetsAlone {S : Type 0} (o : Ops S) (v : TableView S) (i : ℕ) : Typ
   pub stands : o.stop process ≡ AtNext chan
   pub declared : o.path process ≡ chan.channel.home
 
--- by its pair in this place all are there who share a channel that it declared
+-- it declared the channel of its pair in this place, and by the pair's counts it is ready on that
 pub record AllThere {S : Type 0} (o : Ops S) (v : TableView S) (i q : ℕ) : Type 0 where
   pub first : ℕ
   pub many : ℕ
@@ -49,13 +49,13 @@ pub record IsDoomed {S : Type 0} (o : Ops S) (v : TableView S) (i q j : ℕ) : T
   pub number : j ≡ first + branch
   pub child_first : ℕ
   pub child : S
-  pub child_sort : ProcessStatus
-  pub its : HasProcessState v j child_first child child_sort
-  pub ready : IsReady o v pair_is.chan.channel j child child_sort
+  pub child_status : ProcessStatus
+  pub its : HasProcessState v j child_first child child_status
+  pub ready : IsReady o v pair_is.chan.channel j child child_status
 
 -- what an answer says of the process with this number
 abbrev pub DueIs : {S : Type 0} → Ops S → TableView S → ℕ → Due → Type 0
-DueIs o v i code.Nothing = IsIdle o v i
+DueIs o v i code.Nothing = HasNothingDue o v i
 DueIs o v i code.Put = LivesAt o v i AtPut
 DueIs o v i code.Fork = LivesAt o v i AtFork
 DueIs o v i (code.Throw label) = LivesAt o v i (AtThrow label)

@@ -16,7 +16,7 @@ use Rattle.shim_process_table.specs.Touching.{TouchesAbove, TouchesForking}
 use Rattle.shim_process_table.specs.declared.forking.ForkOutcome.{ForkOutcome}
 use Rattle.shim_process_table.specs.declared.forking.ForkOutcome.TheVariants as outcome
 
--- The process with this number forked into so many, which have numbers from the first one on that weren't in use; every other process has its number and all that it had. Of the other records none has changed but those of the first n forks above.
+-- The process with this number forked into so many, which have numbers from the first one on that weren't in use; every other process has its number and all that it had. Of the other records in use none has changed but those of the first n forks above.
 pub record HasForkedHere {S : Type 0} (o : Ops S) (n number first count : ℕ) (before behind : TableView S) : Type 0 where
   pub was_first : ℕ
   pub was : S

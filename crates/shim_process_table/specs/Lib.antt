@@ -9,6 +9,7 @@ pub mod Acting
 pub mod Changing
 pub mod Forking
 pub mod Descent
+pub mod Planning
 pub mod Meeting
 pub mod Naming
 pub mod Poisoning

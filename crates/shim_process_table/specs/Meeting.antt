@@ -12,10 +12,10 @@ use Rattle.shim_records.specs.declared.record.Record.{Record}
 use Rattle.shim_laws_table_events.specs.keeping.Tables.{TableView, HasProcessState}
 use Rattle.shim_process_table.specs.Listing.{ListingIs}
 use Rattle.shim_process_table.specs.Stepping.{HasBecome}
-use Rattle.shim_process_table.specs.Touching.{TouchesAbove}
+use Rattle.shim_process_table.specs.Touching.{WakesAbove}
 use Rattle.shim_process_table.specs.declared.arriving.Arrival.{Arrival}
 
--- the process with this number lives and stands at the channel; or it doesn't
+-- whether the process with this number lives and is at a `next` of the channel
 abbrev pub WaitsAt : {S : Type 0} → Ops S → Channel → ℕ → TableView S → Bool → Type 0
 WaitsAt {S} o c i v true = (f : ℕ) × (l : S) × (d : NamedChannel) × HasProcessState v i f l lives × (o.stop l ≡ AtNext d) × (d.channel ≡ c)
 WaitsAt {S} o c i v false = (f : ℕ) (l : S) → HasProcessState v i f l lives → is_next (o.stop l) c ≡ false
@@ -24,7 +24,7 @@ WaitsAt {S} o c i v false = (f : ℕ) (l : S) → HasProcessState v i f l lives 
 abbrev pub LeavesChannel : Channel → ℕ → ℕ → List Record → List Record → Type 0
 LeavesChannel c n x before behind = (was : Reading) × (is : Reading) × (reading_of was ≡ live_reading true) × (reading_of is ≡ live_reading false) × IsUpdatedAbove c n x was is before behind
 
--- The process with this number lived, stood at the channel and received the value there; no other process has changed, and of the records none but its own and those of the first so many forks above it. Now it belongs in the list that the arrival names.
+-- The process with this number lived, stood at the channel and received the value there; no other process has changed, and no record tells of more but its own and those of the first so many forks above it. In that list it belongs now.
 pub record HasReceived {S : Type 0} (o : Ops S) (c : Channel) (x : ℤ) (number : ℕ) (arrival : Arrival) (before behind : TableView S) : Type 0 where
   pub first : ℕ
   pub process : S
@@ -33,7 +33,7 @@ pub record HasReceived {S : Type 0} (o : Ops S) (c : Channel) (x : ℤ) (number 
   pub stood : o.stop process ≡ AtNext chan
   pub is_channel : chan.channel ≡ c
   pub becomes : HasBecome number (o.receive process x) lives before behind
-  pub touches : TouchesAbove arrival.forks number before behind
+  pub wakes : WakesAbove o arrival.forks number before behind
   pub listing : ListingIs o behind number arrival.listing
 
 -- it has done so and come there, or it doesn't wait there and nothing has changed

@@ -7,7 +7,7 @@ use Rattle.shim_laws_table.specs.Seen.{lives}
 use Rattle.shim_laws_table_events.specs.keeping.Tables.{TableView, HasProcessState}
 use Rattle.shim_laws_table_events.specs.meetings.Names.{IsFirstName}
 
--- the process with this number lives, stands at the channel and has this name for it; or it doesn't
+-- the name that the process with this number has for the channel, if it lives and is at a `next` of it
 abbrev pub NamesIt : {S : Type 0} → Ops S → Channel → ℕ → TableView S → Option ℕ → Type 0
 NamesIt {S} o c i v None = (f : ℕ) (l : S) → HasProcessState v i f l lives → is_next (o.stop l) c ≡ false
 NamesIt {S} o c i v (Some n) = (f : ℕ) × (l : S) × (d : NamedChannel) × HasProcessState v i f l lives × (o.stop l ≡ AtNext d) × (d.channel ≡ c) × (n ≡ d.name)

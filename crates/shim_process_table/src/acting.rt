@@ -1,5 +1,5 @@
 // What a live process does by itself beside quiet steps and forks, in place.
-ghost use Rattle.std.specs.Prelude.{◌≡◌, ℕ, pos};
+ghost use Rattle.std.specs.Prelude.{◌≡◌, ℕ, ◌+◌, pos};
 ghost use Rattle.shim_base.specs.declared.operators.Trap.{Trap as TrapView};
 ghost use Rattle.shim_local.specs.Process.{AtPut, AtFinish, AtThrow, AtTrap};
 ghost use Rattle.shim_semantics.specs.Nodes.{death_with};
@@ -75,7 +75,8 @@ impl<L: Local> ProcessTable<L> {
             let forks = leave_tree(&self.states[at], Status::Dead(death), &mut self.records, at);
             let gone = Arrival {
                 listing: Listing::Nowhere,
-                forks,
+                // the next fork further up may read these otherwise
+                forks: forks as u64 + 1,
             };
             return (thrown, gone);
         }
@@ -86,7 +87,7 @@ impl<L: Local> ProcessTable<L> {
     /// The process with this number, which lives and stands trapped, dies of the trap.
     pub fn trap_here(&mut self, number: u32)
         requires { IsTrappedAt L.ops self.old number }
-        ensures { (kind : TrapView) (line : ℕ) → LivesAt L.ops self.old number (AtTrap kind line) → ActsHere L.ops most_forks number (AtTrap kind line) (dies (death_with 0 (pos 0))) (trapping kind line) self.old self.new }
+        ensures { (kind : TrapView) (line : ℕ) → LivesAt L.ops self.old number (AtTrap kind line) → ActsHere L.ops (most_forks + 1) number (AtTrap kind line) (dies (death_with 0 (pos 0))) (trapping kind line) self.old self.new }
     {
         let at = number as usize;
         leave_tree(
@@ -100,11 +101,11 @@ impl<L: Local> ProcessTable<L> {
         );
     }
 
-    /// The process with this number, which lives and has nothing left to do, ends. The answer is how many forks
-    /// above it say something else now, at most.
+    /// The process with this number, which lives and has nothing left to do, ends. Answers a bound on how many
+    /// forks above it have changed records.
     pub fn finish_here(&mut self, number: u32) -> u32
         requires { LivesAt L.ops self.old number AtFinish }
-        ensures { ActsHere L.ops result number AtFinish ends nothing self.old self.new }
+        ensures { ActsHere L.ops (result + 1) number AtFinish ends nothing self.old self.new }
     {
         let at = number as usize;
         leave_tree(&self.states[at], Status::Ended, &mut self.records, at)

@@ -1,17 +1,19 @@
 // Who shares a channel at and below a process.
-ghost use Rattle.std.specs.Prelude.{◌≡◌, ℕ, List, [], ◌++◌, OnOk, IfOk};
+ghost use Rattle.std.specs.Prelude.{◌≡◌, ◌∷◌, [], ◌++◌, OnOk, IfOk};
 ghost use Rattle.shim_semantics.specs.Trees.{Meet};
-ghost use Rattle.shim_laws_table_events.specs.meetings.Sharers.{ListsSharers};
+ghost use Rattle.shim_laws_table_events.specs.meetings.Sharers.{ListsSharers, ListsReceivers};
 ghost use Rattle.shim_laws_table_events.specs.meetings.Meetings.{IsEnabled, Declares, HasValue};
-ghost use Rattle.shim_laws_table_events.specs.meetings.Values.{IsValueAmong};
+ghost use Rattle.shim_laws_table_events.specs.meetings.Plans.{children_between, Plans, SourceChild, ValueAt};
 ghost use Rattle.shim_laws_table_events.specs.meetings.Descents.{numbers_of_length};
-ghost use Rattle.shim_process_table.specs.Descent.{numbers_of_block, ahead_of, children_by, IsSharer, DescendsOn, IsOneFound, IsCarrier, CarrierAt, OneCarries, CarriedOn, ValueAt};
+ghost use Rattle.shim_process_table.specs.Descent.{numbers_of_block, ahead_of, children_by, IsSharer, DescendsOn};
+ghost use Rattle.shim_process_table.specs.Planning.{forked_into, PlansOn, KnowledgeAt, IsSourceOf};
+ghost use Rattle.shim_records.specs.Pairs.{chans_of, known_of, known_for, IsOrdered};
 ghost use Rattle.shim_process_table.specs.Reading.{AreInUse};
 
 use crate::process_table::ProcessTable;
 use shim_base::{Chan, NoMemory};
 use shim_local::Local;
-use shim_records::Status;
+use shim_records::{Record, Sharing, Status, place_in};
 use std::alloc::Global;
 use std::marker::Model;
 
@@ -22,8 +24,9 @@ pub(crate) struct Block {
     pub(crate) count: usize,
 }
 
-/// The numbers of processes that share a channel, in the order of a walk from the root with leftmost children
-/// first. `ProcessTable::sharers` and `ProcessTable::plan_meeting` fill it, and it keeps the room that it has.
+/// Numbers of processes, in the order of a walk from the root with leftmost children first: those that share a
+/// channel, as `ProcessTable::sharers` finds them, or those that a meeting may concern, as `ProcessTable::plan_meeting` does. It
+/// keeps the room that it has.
 #[derive(Drop)]
 pub struct Sharers {
     pub(crate) numbers: Vec<u32>,
@@ -68,6 +71,57 @@ fn children_of(status: Status) -> Option<u32>
     }
 }
 
+// What a fork knows of who of its children shares a channel: the number of the first one, and how many they are.
+#[derive(Clone, Copy)]
+struct Knowledge {
+    first: u32,
+    count: u32,
+    sharing: Sharing,
+}
+
+// Into how many it has forked of which this came, if it has.
+fn forked_into(status: Status) -> Option<u32>
+    ensures { result ≡ forked_into status }
+{
+    match status {
+        Status::Forked(count) => Some(count),
+        Status::Free | Status::Live | Status::Ended | Status::Dead(_) => None,
+    }
+}
+
+// What a fork knows of who shares the channel, if it knows anything of it.
+fn sharing_of(fork: &Record, c: &Chan) -> Option<Sharing>
+    requires { IsOrdered (chans_of fork.now.pairs.items) }
+    ensures { result ≡ known_for c.now.channel (known_of fork.now.pairs.items) }
+{
+    match place_in(fork.pairs.as_slice(), c) {
+        None => None,
+        Some(place) => Some(fork.pairs[place].sharing),
+    }
+}
+
+// The children of a fork that may share the channel of which it knows this.
+fn sharing_children(fork: Knowledge) -> Block
+    ensures { numbers_of_block result ≡ children_between fork.first fork.sharing }
+{
+    let end = fork.sharing.last as usize + 1;
+    Block {
+        first: fork.first as usize + fork.sharing.first as usize,
+        count: end.saturating_sub(fork.sharing.first as usize),
+    }
+}
+
+// The number of the child that took the channel's own variable, if one did.
+fn source_of(fork: Knowledge) -> Option<usize>
+    ensures { IsSourceOf fork result }
+{
+    if fork.sharing.source < fork.count {
+        Some(fork.first as usize + fork.sharing.source as usize)
+    } else {
+        None
+    }
+}
+
 // Puts a block before those that are still to be looked at, if there is a number in it.
 fn put_ahead(ahead: &mut Vec<Block>, first: usize, count: usize) -> Result<(), NoMemory>
     ensures { OnOk result (ahead_of ahead.new.items ≡ numbers_of_length first count ++ ahead_of ahead.old.items) }
@@ -99,8 +153,9 @@ impl<L: Local> ProcessTable<L> {
         Err(NoMemory)
     }
 
-    /// What a meeting of the channel wants, whose home has this number: the processes that share the channel,
-    /// as `sharers` finds them, and the value of its source, which is the answer.
+    /// What a meeting of the channel wants, whose home has this number: processes among which are all that stand at
+    /// it, each once, and the value of its source, which is the answer. Forks know below which children to look,
+    /// so nobody is asked who shares the channel.
     pub fn plan_meeting(
         &self,
         number: u32,
@@ -109,103 +164,149 @@ impl<L: Local> ProcessTable<L> {
     ) -> Result<i64, NoMemory>
         requires home { Declares L.ops self.now number c.now.channel }
         requires enabled { IsEnabled L.ops (Meet c.now.channel) self.now }
-        ensures lists { OnOk result (ListsSharers L.ops self.now c.now.channel number sharers.new) }
-        ensures used { OnOk result (AreInUse self.now sharers.new) }
+        ensures lists { OnOk result (ListsReceivers L.ops self.now c.now.channel sharers.new) }
         ensures value { IfOk result (λ x. HasValue L.ops self.now c.now.channel x) }
+    {
+        self.receivers(number, c, sharers)?;
+        self.source_value(number, c)
+    }
+
+    // Finds all that live at and below this process as far as forks know of the channel.
+    fn receivers(&self, number: u32, c: &Chan, sharers: &mut Sharers) -> Result<(), NoMemory>
+        ensures { OnOk result (Plans self.now c.now.channel (number ∷ []) sharers.new) }
     {
         sharers.numbers.clear();
         sharers.ahead.clear();
         put_ahead(&mut sharers.ahead, number as usize, 1)?;
-        let mut carrier = None;
-        for looked in 0..usize::MAX {
+        for visited in 0..usize::MAX {
             match sharers.ahead.pop() {
-                None => return Ok(self.value_by(carrier, c)),
+                None => return Ok(()),
                 Some(block) => {
-                    let found = self.look(block, c, &mut sharers.numbers, &mut sharers.ahead)?;
-                    carrier = self.carrier_with(carrier, found, c);
+                    self.visit(block, c, &mut sharers.numbers, &mut sharers.ahead)?;
                 }
             }
         }
         Err(NoMemory)
     }
 
+    // Visits the first process of a block. It is found if it lives; if it has forked and knows of the channel, those
+    // of its children come next that may share it; and then the rest of the block.
+    fn visit(
+        &self,
+        block: Block,
+        c: &Chan,
+        numbers: &mut Vec<u32>,
+        ahead: &mut Vec<Block>,
+    ) -> Result<(), NoMemory>
+        ensures { OnOk result (PlansOn self.now c.now.channel (numbers_of_block block ++ ahead_of ahead.old.items) numbers.old.items (ahead_of ahead.new.items) numbers.new.items) }
+    {
+        let at = block.first;
+        if block.count == 0 {
+            return Ok(());
+        }
+        if at >= self.states.len() {
+            return Ok(());
+        }
+        put_ahead(ahead, at + 1, block.count - 1)?;
+        if self.lives(at) {
+            let number = u32::try_from(at).map_err(|_| NoMemory)?;
+            numbers.push(number)?;
+            return Ok(());
+        }
+        match self.knowledge(at, c) {
+            None => {}
+            Some(fork) => {
+                let children = sharing_children(fork);
+                put_ahead(ahead, children.first, children.count)?;
+            }
+        }
+        Ok(())
+    }
+
+    // What the fork of the process with this number knows of who shares the channel, if it has forked and knows
+    // anything of it.
+    fn knowledge(&self, at: usize, c: &Chan) -> Option<Knowledge>
+        ensures { KnowledgeAt self.now c.now.channel at result }
+    {
+        if at >= self.states.len() {
+            return None;
+        }
+        if at >= self.records.len() {
+            return None;
+        }
+        let fork = &self.records[at];
+        let count = match forked_into(fork.status) {
+            None => return None,
+            Some(count) => count,
+        };
+        match sharing_of(fork, c) {
+            None => None,
+            Some(sharing) => Some(Knowledge {
+                first: fork.first,
+                count,
+                sharing,
+            }),
+        }
+    }
+
+    // The value of the channel's source, whose home has this number: the way leads from there down to the child that
+    // took the channel's own variable, as long as one did.
+    fn source_value(&self, number: u32, c: &Chan) -> Result<i64, NoMemory>
+        requires home { Declares L.ops self.now number c.now.channel }
+        requires enabled { IsEnabled L.ops (Meet c.now.channel) self.now }
+        ensures { IfOk result (λ x. HasValue L.ops self.now c.now.channel x) }
+    {
+        let mut at = number as usize;
+        for walked in 0..usize::MAX {
+            match self.source_child(at, c) {
+                None => return Ok(self.value_at(at, c)),
+                Some(child) => at = child,
+            }
+        }
+        Err(NoMemory)
+    }
+
+    // The child of the process with this number that took the channel's own variable, if one did.
+    fn source_child(&self, at: usize, c: &Chan) -> Option<usize>
+        ensures { SourceChild self.now c.now.channel at result }
+    {
+        match self.knowledge(at, c) {
+            None => None,
+            Some(fork) => source_of(fork),
+        }
+    }
+
     // Looks at the first process of a block: its children come next if it shares the channel, and then the
-    // rest of the block. The answer is its number, if it shares it.
+    // rest of the block.
     fn look(
         &self,
         block: Block,
         c: &Chan,
         numbers: &mut Vec<u32>,
         ahead: &mut Vec<Block>,
-    ) -> Result<Option<u32>, NoMemory>
-        ensures leads { OnOk result (DescendsOn L.ops self.now c.now.channel (numbers_of_block block ++ ahead_of ahead.old.items) numbers.old.items (ahead_of ahead.new.items) numbers.new.items) }
-        ensures found { IfOk result (λ found. IsOneFound found numbers.old.items numbers.new.items) }
+    ) -> Result<(), NoMemory>
+        ensures { OnOk result (DescendsOn L.ops self.now c.now.channel (numbers_of_block block ++ ahead_of ahead.old.items) numbers.old.items (ahead_of ahead.new.items) numbers.new.items) }
     {
         let at = block.first;
         if block.count == 0 {
-            return Ok(None);
+            return Ok(());
         }
         if at >= self.states.len() {
-            return Ok(None);
+            return Ok(());
         }
         put_ahead(ahead, at + 1, block.count - 1)?;
         match self.sharer(at, c) {
-            None => Ok(None),
+            None => {}
             Some(children) => {
                 let number = u32::try_from(at).map_err(|_| NoMemory)?;
                 numbers.push(number)?;
                 put_ahead(ahead, children.first, children.count)?;
-                Ok(Some(number))
             }
         }
+        Ok(())
     }
 
-    // Who carries the channel, of those found so far: the one that was known before, or else the one found now,
-    // if it does.
-    fn carrier_with(&self, carrier: Option<u32>, found: Option<u32>, c: &Chan) -> Option<u32>
-        ensures { CarriedOn L.ops self.now c.now.channel carrier found result }
-    {
-        match carrier {
-            Some(number) => Some(number),
-            None => self.carrier_in(found, c),
-        }
-    }
-
-    // The process that was found, if one was that carries the channel.
-    fn carrier_in(&self, found: Option<u32>, c: &Chan) -> Option<u32>
-        ensures { OneCarries L.ops self.now c.now.channel found result }
-    {
-        match found {
-            None => None,
-            Some(number) => self.carrier_at(number, c),
-        }
-    }
-
-    // The process with this number, if it carries the channel.
-    fn carrier_at(&self, number: u32, c: &Chan) -> Option<u32>
-        ensures { CarrierAt L.ops self.now c.now.channel number result }
-    {
-        let at = number as usize;
-        if at >= self.states.len() {
-            return None;
-        }
-        if !self.states[at].carries(c) {
-            return None;
-        }
-        Some(number)
-    }
-
-    // The value of the channel of the one that carries it; 0 if none does.
-    fn value_by(&self, carrier: Option<u32>, c: &Chan) -> i64
-        ensures { (numbers : List ℕ) → IsCarrier L.ops self.now c.now.channel numbers carrier → IsValueAmong L.ops self.now c.now.channel numbers result }
-    {
-        match carrier {
-            None => 0,
-            Some(number) => self.value_at(number as usize, c),
-        }
-    }
-
-    // The value of the channel of the process with this number, if it carries it.
+    // The value of the channel's own variable at the process with this number; 0 where it doesn't carry that.
     fn value_at(&self, at: usize, c: &Chan) -> i64
         ensures { ValueAt L.ops self.now c.now.channel at result }
     {

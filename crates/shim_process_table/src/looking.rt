@@ -1,8 +1,7 @@
 // Which child of a fork is ready on a channel, and doomed there.
 ghost use Rattle.std.specs.Prelude.{◌≡◌};
 ghost use Rattle.shim_laws_table.specs.Dooms.{is_below};
-ghost use Rattle.shim_laws_table_events.specs.waking.Looks.{counts_ready};
-ghost use Rattle.shim_records.specs.Pairs.{tally_for, chans_of, IsOrdered, AreOrdered};
+ghost use Rattle.shim_records.specs.Pairs.{counts_ready, tally_for, chans_of, IsOrdered, AreOrdered};
 ghost use Rattle.shim_process_table.specs.Due.{ready_at, ReadyAmong, DoomedAmong};
 
 use shim_base::Chan;

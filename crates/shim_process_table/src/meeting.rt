@@ -2,27 +2,27 @@
 ghost use Rattle.std.specs.Prelude.{ℕ};
 ghost use Rattle.shim_laws_table.specs.Seen.{lives};
 ghost use Rattle.shim_records.specs.Pairs.{AreOrdered};
-ghost use Rattle.shim_records.specs.Ways.{most_forks};
+ghost use Rattle.shim_records.specs.Ways.{most_forks, NoneReadied};
 ghost use Rattle.shim_laws_table_events.specs.keeping.Tables.{TableView, HasProcessState};
 ghost use Rattle.shim_laws_table_events.specs.meetings.Receiving.{MovesOn};
 ghost use Rattle.shim_laws_table_events.specs.meetings.Meetings.{ReceivesOne};
 ghost use Rattle.shim_process_table.specs.Meeting.{WaitsAt, LeavesChannel, ReceivesHere};
 ghost use Rattle.shim_process_table.specs.Listing.{ListingIs};
-ghost use Rattle.shim_process_table.specs.Touching.{TouchesRecords};
+ghost use Rattle.shim_process_table.specs.Touching.{MovingWakes};
 
 use crate::arriving::Arrival;
 use crate::listing::{Listing, listing_at};
 use crate::process_table::ProcessTable;
 use shim_base::Chan;
 use shim_local::{Local, Stop};
-use shim_records::{Record, is_at_channel, live_reading, update_counts_above};
+use shim_records::{Record, arrive_above, is_at_channel, live_reading, update_counts_above};
 
-// Brings the counts above a process up to date that stood at the channel and stands there no more. It answers
-// how many forks above it have other counts, at most.
-fn leave_channel(c: &Chan, records: &mut Vec<Record>, at: usize) -> u32
+// Brings the counts above a process up to date that stood at the channel and stands there no more. No fork
+// becomes ready by that.
+fn leave_channel(c: &Chan, records: &mut Vec<Record>, at: usize)
     requires { AreOrdered records.old.items }
     ensures leaves { LeavesChannel c.now.channel most_forks at records.old.items records.new.items }
-    ensures touches { TouchesRecords result at records.old.items records.new.items }
+    ensures none { NoneReadied c.now.channel records.old.items records.new.items }
 {
     update_counts_above(
         records,
@@ -31,7 +31,7 @@ fn leave_channel(c: &Chan, records: &mut Vec<Record>, at: usize) -> u32
         live_reading(true),
         live_reading(false),
         u32::MAX,
-    )
+    );
 }
 
 // Brings the counts above a process up to date that stood at the channel and has received there. It answers
@@ -39,7 +39,7 @@ fn leave_channel(c: &Chan, records: &mut Vec<Record>, at: usize) -> u32
 fn move_on<L: Local>(process: &L, c: &Chan, records: &mut Vec<Record>, at: usize) -> Arrival
     requires { AreOrdered records.old.items }
     ensures moves { MovesOn L.ops process.now c.now.channel most_forks at records.old.items records.new.items }
-    ensures touches { TouchesRecords result.forks at records.old.items records.new.items }
+    ensures wakes { MovingWakes L.ops process.now c.now.channel result.forks at records.old.items records.new.items }
     ensures listing { (v : TableView L) (i f : ℕ) → HasProcessState v i f process.now lives → ListingIs L.ops v i result.listing }
 {
     match process.stop() {
@@ -48,28 +48,24 @@ fn move_on<L: Local>(process: &L, c: &Chan, records: &mut Vec<Record>, at: usize
             if *c == *chan {
                 return Arrival { listing, forks: 0 };
             }
-            let left = leave_channel(c, records, at);
-            let come = update_counts_above(
-                records,
-                at,
-                chan,
-                live_reading(false),
-                live_reading(true),
-                u32::MAX,
-            );
+            leave_channel(c, records, at);
+            let forks = arrive_above(records, at, chan);
+            Arrival { listing, forks }
+        }
+        Stop::Quiet => {
+            leave_channel(c, records, at);
             Arrival {
-                listing,
-                forks: left.max(come),
+                listing: Listing::Quiet,
+                forks: 0,
             }
         }
-        Stop::Quiet => Arrival {
-            listing: Listing::Quiet,
-            forks: leave_channel(c, records, at),
-        },
-        Stop::Put | Stop::Fork | Stop::Finish | Stop::Throw(_) | Stop::Trapped(_, _) => Arrival {
-            listing: Listing::Awake,
-            forks: leave_channel(c, records, at),
-        },
+        Stop::Put | Stop::Fork | Stop::Finish | Stop::Throw(_) | Stop::Trapped(_, _) => {
+            leave_channel(c, records, at);
+            Arrival {
+                listing: Listing::Awake,
+                forks: 0,
+            }
+        }
     }
 }
 

@@ -2,7 +2,7 @@
 ghost use Rattle.std.specs.Prelude.{◌≡◌, ◌≢◌, ◌≤◌, ◌<◌, ℕ, true, false};
 ghost use Rattle.shim_local.specs.Process.{AtQuiet};
 ghost use Rattle.shim_process_table.specs.Stepping.{LivesAt, StepsHere, QuietlyReaches, is_live, IsLive, IsBeforeQuiet};
-ghost use Rattle.shim_process_table.specs.Touching.{TouchesAbove};
+ghost use Rattle.shim_process_table.specs.Touching.{WakesAbove};
 ghost use Rattle.shim_process_table.specs.Listing.{ListingIs};
 
 use crate::arriving::{Arrival, arrive};
@@ -44,7 +44,7 @@ impl<L: Local> ProcessTable<L> {
         requires { LivesAt L.ops self.old number AtQuiet }
         ensures steps { StepsHere L.ops number result.0.taken self.old self.new }
         ensures most { result.0.taken ≤ most }
-        ensures touches { TouchesAbove result.1.forks number self.old self.new }
+        ensures wakes { WakesAbove L.ops result.1.forks number self.old self.new }
         ensures listing { ListingIs L.ops self.new number result.1.listing }
         ensures fewer { result.0.taken < most → result.0.short ≡ false → IsBeforeQuiet L.ops number self.new false }
     {
@@ -59,7 +59,7 @@ impl<L: Local> ProcessTable<L> {
     pub fn advance_here(&mut self, number: u32, last: L) -> Arrival
         requires comes { (taken : ℕ) × QuietlyReaches L.ops self.old number taken last }
         ensures steps { (taken : ℕ) → QuietlyReaches L.ops self.old number taken last → StepsHere L.ops number taken self.old self.new }
-        ensures touches { TouchesAbove result.forks number self.old self.new }
+        ensures wakes { WakesAbove L.ops result.forks number self.old self.new }
         ensures listing { ListingIs L.ops self.new number result.listing }
     {
         let at = number as usize;

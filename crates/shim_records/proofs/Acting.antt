@@ -30,7 +30,7 @@ use Rattle.shim_records.proofs.ReadOff.{same_stands}
 module _ {S : Type 0} (o : Ops S) (law : LocalLaws o) (rp : Path) (states : List S) (stands : List RecordView) (up : ℕ → Option ℕ) (c : Channel) (old new m : Node S) (a : Acted S) (n x f : ℕ) (s : S) (k : ProcessStatus)
     (sound : IsSound o old) (shown : Shows o rp states stands new) (linked : AreLinked states stands up) (few : AreAtMost 4294967295 states stands)
     (has : Has states stands x f s k) (rep : IsReplaced (place o rp s) m a.node old new) (acts : act_here o m ≡ Some a) (leaf : is_leaf a.node ≡ true) where
-  -- its state and sort are what the record says
+  -- its state and status are what the record says
   is_seen : ◌≡◌ {A = S × ProcessStatus} (state a.node, process_status a.node) (s, k)
   is_seen = some_same (state a.node, process_status a.node) (s, k) (ap seen (sym rep.is) ∙ shown.agrees.shown x f s k has)
 

@@ -18,8 +18,9 @@ use Rattle.shim_local.specs.Laws.{AnyOf, IsGiven}
 use Rattle.shim_laws_table.specs.Counts.{Tally, fresh_tally}
 use Rattle.shim_records.specs.Members.{IsAmong}
 use Rattle.shim_records.specs.Pairs.{tally, chans_of, IsOrdered, pair_of, tally_for, least_label_of}
-use Rattle.shim_records.specs.Fresh.{shared_of, shared_given, channels, RisesFrom, Rises, is_behind, comes_after, IsOneMore, skipped, added, IsPaired, FreshPairs}
+use Rattle.shim_records.specs.Fresh.{shared_of, shared_given, channels, RisesFrom, Rises, is_behind, comes_after, IsOneMore, skipped, added, IsPaired, FreshPairs, FreshSharing}
 use Rattle.shim_records.specs.declared.pair.Pair.{Pair}
+use Rattle.shim_records.proofs.SharingFound.{known_pair}
 
 -- ---- one of these
 
@@ -185,7 +186,7 @@ module _ {S : Type 0} (o : Ops S) (ks : List S) (whole : List Channel) where
   -- pairs of some of the channels, and the others that are left
   pub record SoFar (pairs : List Pair) (rest : List Channel) : Type 0 where
     pub ordered : IsOrdered (chans_of pairs)
-    pub right : (i : ℕ) (p : Pair) → slice_get pairs i ≡ Some p → (tally p ≡ fresh_tally o p.chan.channel ks) × (p.least ≡ None)
+    pub right : (i : ℕ) (p : Pair) → slice_get pairs i ≡ Some p → (tally p ≡ fresh_tally o p.chan.channel ks) × (p.least ≡ None) × FreshSharing o p.chan.channel ks p.sharing
     pub forth : (c : Channel) → IsAmong c (chans_of pairs) ⊎ IsAmong c rest → IsAmong c whole
     pub back : (c : Channel) → IsAmong c whole → IsAmong c (chans_of pairs) ⊎ IsAmong c rest
     pub rises : LastRises (last_pair pairs) rest
@@ -257,8 +258,8 @@ module _ {S : Type 0} (o : Ops S) (ks : List S) (whole : List Channel) where
                   channel_order_total.trans a p.chan.channel d (s.ordered.order i (length pairs - 1) a p.chan.channel (between i (length pairs - 1) z (omega (arith, long, less))) e at_last) last_less
             ]
 
-    pub one_added : (behind : List Pair) (p : Pair) → comes_after pairs d ≡ true → behind ≡ pairs ++ p ∷ [] → p.chan.channel ≡ d → tally p ≡ fresh_tally o d ks → p.least ≡ None → SoFar behind rest
-    one_added behind p after is chan says label = subst (λ z. SoFar z rest) (sym is) (record {
+    pub one_added : (behind : List Pair) (p : Pair) → comes_after pairs d ≡ true → behind ≡ pairs ++ p ∷ [] → p.chan.channel ≡ d → tally p ≡ fresh_tally o d ks → p.least ≡ None → FreshSharing o d ks p.sharing → SoFar behind rest
+    one_added behind p after is chan says label sharing = subst (λ z. SoFar z rest) (sym is) (record {
       ordered = record {
         order = λ i j a b less x y.
             let x' = ap (λ z. slice_get z i) (sym (chans_both pairs p)) ∙ x in
@@ -267,7 +268,7 @@ module _ {S : Type 0} (o : Ops S) (ks : List S) (whole : List Channel) where
       };
       right = λ i q e. elim (get_either pairs p q i e) [
         | inl w ↦ s.right i q w
-        | inr w ↦ subst (λ z. (tally z ≡ fresh_tally o z.chan.channel ks) × (z.least ≡ None)) (sym w.1) (says ∙ ap (λ z. fresh_tally o z ks) (sym chan), label)
+        | inr w ↦ subst (λ z. (tally z ≡ fresh_tally o z.chan.channel ks) × (z.least ≡ None) × FreshSharing o z.chan.channel ks z.sharing) (sym w.1) (says ∙ ap (λ z. fresh_tally o z ks) (sym chan), label, subst (λ z. FreshSharing o z ks p.sharing) (sym chan) sharing)
       ];
       forth = λ c h. s.forth c (elim h [
         | inl w ↦ elim (among_either c (chans_of pairs) (p.chan.channel ∷ []) (subst (IsAmong c) (chans_both pairs p) w)) [ inl v ↦ inl v | inr v ↦ inr (first v) ]
@@ -334,7 +335,7 @@ module _ {S : Type 0} (o : Ops S) (ks : List S) (whole : List Channel) where
 
     pub one_more_pair : (behind : List Pair) → IsOneMore o ks d pairs behind → SoFar behind rest
     one_more_pair behind (skipped after is) = one_skipped behind after is
-    one_more_pair behind (added p after is chan says label) = one_added behind p after is chan says label
+    one_more_pair behind (added p after is chan says label sharing) = one_added behind p after is chan says label sharing
 
   pub all_paired : (pairs : List Pair) (rest : List Channel) → rest ≡ [] → SoFar pairs rest → IsPaired o ks whole pairs
   all_paired pairs rest e s = record {
@@ -399,6 +400,10 @@ fresh_pairs {S} o p ks given sorted pairs is same h = record {
         none_some (tally v.0) (sym e ∙ ap (option_map tally) v.1)),
   );
   unlabelled = λ c. unlabelled_at c (pair_of c pairs) refl;
+  known = λ c k e.
+      let w = known_pair c pairs k e in
+      let v = pair_found c pairs w.0 w.1 in
+      subst (λ z. FreshSharing o c ks z) w.2 (subst (λ z. FreshSharing o z ks w.0.sharing) v.2 (h.right v.0 w.0 v.1).2);
 }
   where
     unlabelled_at : (c : Channel) (x : Option Pair) → pair_of c pairs ≡ x → least_label_of (pair_of c pairs) ≡ None

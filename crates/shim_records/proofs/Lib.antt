@@ -8,7 +8,9 @@ pub mod Lowering
 pub mod ManyWays
 pub mod Pairing
 pub mod ReadOff
+pub mod SharingFound
 pub mod Reaching
+pub mod Readying
 pub mod Searching
 pub mod Showing
 pub mod Stepping

@@ -10,11 +10,11 @@ use Rattle.shim_base.proofs.SamePaths.{same_channel_is}
 use Rattle.shim_laws_table.specs.Dooms.{lesser}
 use Rattle.shim_laws_table.specs.LoweredLabels.{IsLowered, LoweredAbove, all_the_way, at_the_root, uncounted, as_low, lowers}
 use Rattle.shim_laws_table.proofs.SameTrees.{same_or_not}
-use Rattle.shim_records.specs.Pairs.{tally, pair_index, pair_of, tally_for, least_label_of, counts_at, counts_in, least_at, leasts_in, up_in, rest_of, chans_of}
+use Rattle.shim_records.specs.Pairs.{tally, pair_index, pair_of, tally_for, least_label_of, counts_at, counts_in, least_at, leasts_in, up_in, rest_of, chans_of, known_by, known_of}
 use Rattle.shim_records.specs.Labels.{OnlyLabels, LowersOne, IsLoweredAbove}
 use Rattle.shim_records.specs.declared.pair.Pair.{Pair}
 use Rattle.shim_records.specs.declared.record.Record.{Record}
-use Rattle.shim_records.proofs.Stepping.{set_there, set_elsewhere, map_set, with_pair, rest_with}
+use Rattle.shim_records.proofs.Stepping.{set_there, set_elsewhere, map_set, with_pair, rest_with, known_with}
 use Rattle.shim_records.proofs.WholeWay.{rest_ups}
 
 map_some : (o : Option ℕ) (i : ℕ) → option_map suc o ≡ Some i → (k : ℕ) × (o ≡ Some k) × (i ≡ suc k)
@@ -94,7 +94,7 @@ same_labels c rs j was is now h same = λ t k. each k t
     ]
 
 module _ (c : Channel) (rs : List Record) (j i : ℕ) (r : Record) (p q : Pair) (stood : slice_get rs j ≡ Some r) (place : pair_index c r.pairs.items ≡ Some i) (is_p : p ≡ get_or r.pairs.items i p)
-    (chan : q.chan ≡ p.chan) (says : tally q ≡ tally p) where
+    (chan : q.chan ≡ p.chan) (sharing : q.sharing ≡ p.sharing) (says : tally q ≡ tally p) where
   abbrev new : Record
   new = with_pair r i q
 
@@ -112,6 +112,12 @@ module _ (c : Channel) (rs : List Record) (j i : ℕ) (r : Record) (p q : Pair) 
   same_chans =
       map_set (λ z. z.chan.channel) r.pairs.items i p q (slice_get_read r.pairs.items (length r.pairs.items) i p refl (place_within c r.pairs.items i place) is_p) (ap (λ z. z.channel) chan)
 
+  -- and so is what they know
+  same_known : known_of (slice_set r.pairs.items i q) ≡ known_of r.pairs.items
+  same_known =
+      map_set known_by r.pairs.items i p q (slice_get_read r.pairs.items (length r.pairs.items) i p refl (place_within c r.pairs.items i place) is_p)
+      (known_with p q chan sharing)
+
   pub relabelled : Relabelled c rs j p.least q.least now
   relabelled = record {
     counted = λ e. none_some (tally p) (sym e ∙ (ap (counts_at c) stood ∙ ap (option_map tally) put.found));
@@ -119,7 +125,7 @@ module _ (c : Channel) (rs : List Record) (j i : ℕ) (r : Record) (p q : Pair) 
     label_is = ap (least_at c) stands ∙ ap least_label_of put.finds;
     others = λ k far. ap (least_at c) (set_elsewhere rs j k new far);
     only = record {
-      rest = map_set rest_of rs j r new stood (rest_with r (chans_of (slice_set r.pairs.items i q)) same_chans);
+      rest = map_set rest_of rs j r new stood (rest_with r (chans_of (slice_set r.pairs.items i q)) (known_of (slice_set r.pairs.items i q)) same_chans same_known);
       counts = λ d k. elim (same_or_not k j) [
         | inl w ↦ ap (λ z. counts_at d (slice_get now z)) w ∙ (ap (counts_at d) stands ∙ (put.counts d ∙ (sym (ap (counts_at d) stood) ∙ sym (ap (λ z. counts_at d (slice_get rs z)) w))))
         | inr w ↦ ap (counts_at d) (set_elsewhere rs j k new w)

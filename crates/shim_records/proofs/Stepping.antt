@@ -10,8 +10,8 @@ use Rattle.shim_base.proofs.Facts.{some_same, none_some}
 use Rattle.shim_laws_table.specs.Counts.{live_reading, read_of, all_there, IsExchanged}
 use Rattle.shim_laws_table.specs.Updating.{CanMove, AreMoved, UpdatedAbove, at_top, no_counts, stays, goes_on}
 use Rattle.shim_laws_table.proofs.SameTrees.{same_or_not}
-use Rattle.shim_records.specs.Pairs.{tally, reading_of, pair_index, counts_at, counts_in, least_at, up_at, up_in, rest_of, chans_of, UncountedRecord}
-use Rattle.shim_records.specs.Ways.{OnlyCounts, MovesParent, StepsUp}
+use Rattle.shim_records.specs.Pairs.{tally, reading_of, pair_index, pair_of, counts_at, counts_in, counts_ready, least_label_of, least_at, leasts_in, up_at, up_in, rest_of, chans_of, KnownPair, known_by, known_of}
+use Rattle.shim_records.specs.Ways.{OnlyCounts, MovesParent, Falls, ReadsParent, StepsUp}
 use Rattle.shim_records.specs.declared.pair.Pair.{Pair}
 use Rattle.shim_records.specs.declared.pair.Reading.{Reading}
 use Rattle.shim_records.specs.declared.record.Record.{Record}
@@ -52,6 +52,22 @@ same_bools true false e = absurd cc
 same_bools false true e = absurd cc
 same_bools false false e = refl
 
+-- of two booleans that aren't the same
+pub other_bool : (b d : Bool) → beq b d ≡ false → d ≡ false → b ≡ true
+other_bool true true e f = refl
+other_bool true false e f = refl
+other_bool false true e f = absurd cc
+other_bool false false e f = absurd cc
+
+-- a record has no label where it has no counts
+none_labelled : (x : Option Pair) → option_map tally x ≡ None → least_label_of x ≡ None
+none_labelled None e = refl
+none_labelled (Some p) e = absurd cc
+
+pub unlabelled : (c : Channel) (x : Option Record) → counts_at c x ≡ None → least_at c x ≡ None
+unlabelled c None e = refl
+unlabelled c (Some r) e = none_labelled (pair_of c r.pairs.items) e
+
 -- nothing has changed
 pub nothing_changed : (c : Channel) (rs : List Record) → OnlyCounts c rs rs
 nothing_changed c rs = record { rest = refl; elsewhere = λ d far i. refl; labels = λ d i. refl }
@@ -60,19 +76,38 @@ nothing_changed c rs = record { rest = refl; elsewhere = λ d far i. refl; label
 abbrev pub with_pair : Record → ℕ → Pair → Record
 with_pair r i q = record { status = r.status; first = r.first; parent = r.parent; path = r.path; going = r.going; pairs = with_item r.pairs i q }
 
--- a record with the same channels in its pairs
-pub rest_with : (r : Record) (cs : List Channel) → cs ≡ chans_of r.pairs.items → record { status = r.status; first = r.first; parent = r.parent; path = r.path; going = r.going; chans = cs } ≡ rest_of r
-rest_with r cs e = ap (λ z. let w : UncountedRecord = record { status = r.status; first = r.first; parent = r.parent; path = r.path; going = r.going; chans = z } in w) e
+-- a record whose pairs have the same channels, and know the same of them
+pub rest_with : (r : Record) (cs : List Channel) (ks : List KnownPair) → cs ≡ chans_of r.pairs.items → ks ≡ known_of r.pairs.items
+    → record { status = r.status; first = r.first; parent = r.parent; path = r.path; going = r.going; chans = cs; known = ks } ≡ rest_of r
+rest_with r cs ks e f = λ i. record { status = r.status; first = r.first; parent = r.parent; path = r.path; going = r.going; chans = e i; known = f i }
+
+-- a pair with the same channel knows the same of it
+pub known_with : (p q : Pair) → q.chan ≡ p.chan → q.sharing ≡ p.sharing → known_by q ≡ known_by p
+known_with p q chan sharing = λ i. record { chan = (chan i).channel; sharing = sharing i }
 
 module _ (c : Channel) (rs : List Record) (here : CountChange) where
   none_moved : MovesParent c rs here None rs
   none_moved = record { others = λ i out. refl; goes_on = λ above e. none_some above e }
 
-  pub top : up_in rs here.at ≡ None → StepsUp c rs here None rs
-  top e = ((λ n. at_top n (counts_in c rs) here.at (reading_of here.was) (reading_of here.is) e), nothing_changed c rs, none_moved)
+  -- where nothing has changed, and a parent has no counts
+  none_read : ((i : ℕ) → up_in rs here.at ≡ Some i → counts_in c rs i ≡ None) → ReadsParent c rs here None false rs
+  none_read none = record {
+    closed = λ e i u. (ap counts_ready (none i u), unlabelled c (slice_get rs i) (none i u));
+    same = λ e i u. refl;
+    unready = λ f i u. ap counts_ready (none i u);
+    falls = λ f above e. none_some above e;
+  }
 
-  pub uncounted : (j : ℕ) → up_in rs here.at ≡ Some j → counts_in c rs j ≡ None → StepsUp c rs here None rs
-  uncounted j e f = ((λ n. no_counts n (counts_in c rs) here.at j (reading_of here.was) (reading_of here.is) e f), nothing_changed c rs, none_moved)
+  pub top : up_in rs here.at ≡ None → StepsUp c rs here None false rs
+  top e = ((λ n. at_top n (counts_in c rs) here.at (reading_of here.was) (reading_of here.is) e), nothing_changed c rs, none_moved, none_read (λ i u. none_some i (sym e ∙ u)))
+
+  pub uncounted : (j : ℕ) → up_in rs here.at ≡ Some j → counts_in c rs j ≡ None → StepsUp c rs here None false rs
+  uncounted j e f = (
+    (λ n. no_counts n (counts_in c rs) here.at j (reading_of here.was) (reading_of here.is) e f),
+    nothing_changed c rs,
+    none_moved,
+    none_read (λ i u. ap (counts_in c rs) (some_same i j (sym u ∙ e)) ∙ f),
+  )
 
   -- the record of a number within
   pub its : (n i : ℕ) (r : Record) → n ≡ length rs → i < n → r ≡ get_or rs i r → slice_get rs i ≡ Some r
@@ -82,7 +117,7 @@ module _ (c : Channel) (rs : List Record) (here : CountChange) where
   up_is r j e f = ap up_at e ∙ f
 
   module _ (j i : ℕ) (r : Record) (p q : Pair) (up : up_in rs here.at ≡ Some j) (stood : slice_get rs j ≡ Some r) (place : pair_index c r.pairs.items ≡ Some i) (is_p : p ≡ get_or r.pairs.items i p)
-      (chan : q.chan ≡ p.chan) (label : q.least ≡ p.least)
+      (chan : q.chan ≡ p.chan) (sharing : q.sharing ≡ p.sharing) (label : q.least ≡ p.least)
       (moved : CanMove 4294967295 (reading_of here.was) (reading_of here.is) (tally p) → IsExchanged (reading_of here.was) (reading_of here.is) (tally p) (tally q)) where
     abbrev new : Record
     new = with_pair r i q
@@ -109,9 +144,15 @@ module _ (c : Channel) (rs : List Record) (here : CountChange) where
     same_chans =
         map_set (λ z. z.chan.channel) r.pairs.items i p q (slice_get_read r.pairs.items (length r.pairs.items) i p refl (place_within c r.pairs.items i place) is_p) (ap (λ z. z.channel) chan)
 
+    -- and so is what they know
+    same_known : known_of (slice_set r.pairs.items i q) ≡ known_of r.pairs.items
+    same_known =
+        map_set known_by r.pairs.items i p q (slice_get_read r.pairs.items (length r.pairs.items) i p refl (place_within c r.pairs.items i place) is_p)
+        (known_with p q chan sharing)
+
     only : OnlyCounts c rs now
     only = record {
-      rest = map_set rest_of rs j r new stood (rest_with r (chans_of (slice_set r.pairs.items i q)) same_chans);
+      rest = map_set rest_of rs j r new stood (rest_with r (chans_of (slice_set r.pairs.items i q)) (known_of (slice_set r.pairs.items i q)) same_chans same_known);
       elsewhere = λ d far k. elim (same_or_not k j) [
         | inl w ↦ ap (λ z. counts_at d (slice_get now z)) w ∙ (ap (counts_at d) stands ∙ (ap (option_map tally) (put.elsewhere d far) ∙ (sym (ap (counts_at d) stood) ∙ sym (ap (λ z. counts_at d (slice_get rs z)) w))))
         | inr w ↦ ap (counts_at d) (set_elsewhere rs j k new w)
@@ -129,18 +170,50 @@ module _ (c : Channel) (rs : List Record) (here : CountChange) where
       goes_on = λ above e. up ∙ ap Some (sym (at above e));
     }
 
-    pub ends : all_there (tally p) ≡ all_there (tally q) → StepsUp c rs here None now
-    ends same = ((λ n. stays n (counts_in c rs) (counts_in c now) here.at j (reading_of here.was) (reading_of here.is) (tally p) (tally q) up are_moved same), only, moves None (λ above e. none_some above e))
+    -- how the parent is read by these counts
+    module _ (due : Bool) (is_closed : due ≡ false → (all_there (tally q) ≡ false) × (q.least ≡ None)) (unready : reading_of here.was ≡ live_reading true → reading_of here.is ≡ live_reading false → all_there (tally q) ≡ false) where
+      its_place : (i : ℕ) → up_in rs here.at ≡ Some i → i ≡ j
+      its_place i e = some_same i j (sym e ∙ up)
 
-    pub goes : (next : CountChange) → next.at ≡ j → reading_of next.was ≡ read_of true (tally p) → reading_of next.is ≡ read_of true (tally q) → StepsUp c rs here (Some next) now
-    goes next at was is = (
-      (λ n behind rest. goes_on n (counts_in c rs) (counts_in c now) behind here.at j (reading_of here.was) (reading_of here.is) (tally p) (tally q) up are_moved
-          (subst (λ z. UpdatedAbove (up_in rs) 4294967295 n (counts_in c now) j (read_of true (tally p)) z behind) is (subst (λ z. UpdatedAbove (up_in rs) 4294967295 n (counts_in c now) j z (reading_of next.is) behind) was
-          (subst (λ z. UpdatedAbove (up_in rs) 4294967295 n (counts_in c now) z (reading_of next.was) (reading_of next.is) behind) at rest)))),
-      only,
-      moves (Some next) (λ above e. ap (λ z. z.at) (sym (some_same next above e)) ∙ at),
-    )
+      ready_now : (i : ℕ) → up_in rs here.at ≡ Some i → counts_ready (counts_in c now i) ≡ all_there (tally q)
+      ready_now i e = ap (λ z. counts_ready (counts_in c now z)) (its_place i e) ∙ ap counts_ready are_moved.new
+
+      ready_then : (i : ℕ) → up_in rs here.at ≡ Some i → counts_ready (counts_in c rs i) ≡ all_there (tally p)
+      ready_then i e = ap (λ z. counts_ready (counts_in c rs z)) (its_place i e) ∙ ap counts_ready are_moved.old
+
+      label_then : (i : ℕ) → up_in rs here.at ≡ Some i → leasts_in c rs i ≡ q.least
+      label_then i e = ap (leasts_in c rs) (its_place i e) ∙ (ap (least_at c) stood ∙ (ap least_label_of put.found ∙ sym label))
+
+      reads : (next : Option CountChange) → (next ≡ None → all_there (tally p) ≡ all_there (tally q)) → (Falls here → (above : CountChange) → next ≡ Some above → Falls above) → ReadsParent c rs here next due now
+      reads next same falls = record {
+        closed = λ e i u. (ready_now i u ∙ (is_closed e).0, label_then i u ∙ (is_closed e).1);
+        same = λ e i u. ready_now i u ∙ (sym (same e) ∙ sym (ready_then i u));
+        unready = λ f i u. ready_now i u ∙ unready f.0 f.1;
+        falls = falls;
+      }
+
+      pub ends : all_there (tally p) ≡ all_there (tally q) → StepsUp c rs here None due now
+      ends same = (
+        (λ n. stays n (counts_in c rs) (counts_in c now) here.at j (reading_of here.was) (reading_of here.is) (tally p) (tally q) up are_moved same),
+        only,
+        moves None (λ above e. none_some above e),
+        reads None (λ e. same) (λ f above e. none_some above e),
+      )
+
+      pub goes : (next : CountChange) → (all_there (tally q) ≡ false → all_there (tally p) ≡ true) → next.at ≡ j → reading_of next.was ≡ read_of true (tally p) → reading_of next.is ≡ read_of true (tally q) → StepsUp c rs here (Some next) due now
+      goes next other at was is = (
+        (λ n behind rest. goes_on n (counts_in c rs) (counts_in c now) behind here.at j (reading_of here.was) (reading_of here.is) (tally p) (tally q) up are_moved
+            (subst (λ z. UpdatedAbove (up_in rs) 4294967295 n (counts_in c now) j (read_of true (tally p)) z behind) is (subst (λ z. UpdatedAbove (up_in rs) 4294967295 n (counts_in c now) j z (reading_of next.is) behind) was
+            (subst (λ z. UpdatedAbove (up_in rs) 4294967295 n (counts_in c now) z (reading_of next.was) (reading_of next.is) behind) at rest)))),
+        only,
+        moves (Some next) (λ above e. ap (λ z. z.at) (sym (some_same next above e)) ∙ at),
+        reads (Some next) (λ e. none_some next (sym e)) (λ f above e. subst Falls (some_same next above e) (was ∙ ap live_reading (other (unready f.0 f.1)), is ∙ ap live_reading (unready f.0 f.1))),
+      )
 
 -- what is read of a fork that shares the channel
 pub fork_read : (r : Reading) (b : Bool) (p : Pair) → reading_of r ≡ live_reading b → b ≡ all_there (tally p) → reading_of r ≡ read_of true (tally p)
 fork_read r b p e f = e ∙ ap live_reading f
+
+-- what isn't due has neither all there nor a label
+pub closed_by : (due all : Bool) (p : Pair) → all ≡ all_there (tally p) → (due ≡ false → (all ≡ false) × (p.least ≡ None)) → due ≡ false → (all_there (tally p) ≡ false) × (p.least ≡ None)
+closed_by due all p e h f = (sym e ∙ (h f).0, (h f).1)

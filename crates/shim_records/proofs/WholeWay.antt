@@ -1,6 +1,6 @@
 -- The way up as a whole, from its steps.
 use Rattle.shim_base.proofs.Facts.{some_same, none_some}
-use Rattle.std.proofs.Common.{◌≡◌, ℕ, zero, suc, ◌+◌, ◌-◌, ◌<◌, ◌≤◌, Option, Some, None, List, [], ◌∷◌, map, refl, sym, ap, subst, ◌∙◌, arith}
+use Rattle.std.proofs.Common.{◌≡◌, ℕ, zero, suc, ◌+◌, ◌-◌, ◌<◌, ◌≤◌, Bool, Option, Some, None, List, [], ◌∷◌, map, refl, sym, ap, subst, ◌∙◌, arith}
 use Rattle.std.specs.Prelude.{slice_get}
 use Rattle.shim_base.specs.Paths.{Channel}
 use Rattle.shim_laws_table.specs.Counts.{Tally}
@@ -45,13 +45,13 @@ module _ (c : Channel) (n x : ℕ) (was is : Reading) (start now : List Record) 
   next_left n walked h = omega (arith, h)
 
   -- the way ends
-  pub ended : (behind : List Record) → OnIt (n - walked) now here → StepsUp c now here None behind → IsUpdatedAbove c n x was is start behind
+  pub ended : {due : Bool} (behind : List Record) → OnIt (n - walked) now here → StepsUp c now here None due behind → IsUpdatedAbove c n x was is start behind
   ended behind on step =
       let up = same_ups c start now on.1 in
       (on.0 (counts_in c behind) (subst (λ u. Goes u (n - walked) (counts_in c now) here (counts_in c behind)) up (step.0 (n - walked))), only_both c start now behind on.1 step.1)
 
   -- it goes on
-  pub further : (behind : List Record) (next : CountChange) → walked < n → OnIt (n - walked) now here → StepsUp c now here (Some next) behind → OnIt (n - (walked + 1)) behind next
+  pub further : {due : Bool} (behind : List Record) (next : CountChange) → walked < n → OnIt (n - walked) now here → StepsUp c now here (Some next) due behind → OnIt (n - (walked + 1)) behind next
   further behind next less on step =
       let up = same_ups c start now on.1 in (
         (λ end rest. on.0 end (subst (λ k. Goes (up_in start) k (counts_in c now) here end) (next_left n walked less)

@@ -22,7 +22,7 @@ use Rattle.shim_records.specs.declared.record.Record.{Record}
 use Rattle.shim_records.specs.declared.record.Status.{Status}
 use Rattle.shim_records.specs.declared.record.Status.TheVariants as code
 
--- what came of the process of a record in use
+-- the status of the process of a record in use
 abbrev pub process_status_of : Status → ProcessStatus
 process_status_of code.Free = ends
 process_status_of code.Live = lives
@@ -38,7 +38,7 @@ acting o s c = record { joining = o.shares s c; readiness = false; failing = fal
 abbrev pub Earlier : {S : Type 0} → Ops S → S → Channel → ℕ → Type 0
 Earlier o s c place = (at : ℕ) × (d : NamedChannel) × (at < place) × (slice_get (o.given s) at ≡ Some d) × (d.channel ≡ c)
 
--- for one of them the way up was walked, unless the process doesn't share it or it stood before
+-- for one of them the counts above were updated, unless the process doesn't share it or it came before in the list
 pub data UpdatesForOne {S : Type 0} (o : Ops S) (s : S) (k : ProcessStatus) (n x : ℕ) (c : Channel) (place : ℕ) (before behind : List Record) : Type 0 where
   unshared : o.shares s c ≡ false → behind ≡ before → UpdatesForOne o s k n x c place before behind
   again : Earlier o s c place → behind ≡ before → UpdatesForOne o s k n x c place before behind
@@ -51,7 +51,7 @@ pub record AllUpdated {S : Type 0} (o : Ops S) (s : S) (k : ProcessStatus) (n x 
   pub all : (c : Channel) → IsGiven o s c → o.shares s c ≡ true → IsAmong c chans
   pub shared : (c : Channel) → IsAmong c chans → o.shares s c ≡ true
 
--- What a process without children did by itself stands at its place, and the counts above are those of the tree before. When those ways were walked, the records' counts are all those of the tree behind, and they say all else as before.
+-- The node of a process that did something by itself, and has no children now, is in its place, and the counts above are still those of the tree before. Updated for those channels, all counts are those of the tree now, and nothing else in the records has changed.
 abbrev pub ActedBrings : {S : Type 0} → Ops S → Type 0
 ActedBrings {S} o = (rp : Path) (states : List S) (rs behind : List Record) (old new m : Node S) (a : Acted S) (n x f : ℕ) (s : S) (k : ProcessStatus)
     → IsSound o old → Shows o rp states (map stands_of rs) new → AreLinked states (map stands_of rs) (up_in rs) → AreAtMost 4294967295 states (map stands_of rs)

@@ -18,13 +18,13 @@ use Rattle.shim_records.specs.Ways.{IsUpdatedAbove}
 use Rattle.shim_records.specs.declared.pair.Reading.{Reading}
 use Rattle.shim_records.specs.declared.record.Record.{Record}
 
--- For each of these channels, none of which stands there twice, the way up was walked from the record x, of which was read the one, and is read the other.
+-- The counts above the record x were updated for each of these channels, one after the other. None of them occurs twice. The reading of x for a channel was `was` and is `is`.
 pub data AllUpdatedAbove (was is : Channel → Read) (n x : ℕ) : List Channel → List Record → List Record → Type 0 where
   none_left : (rs : List Record) → AllUpdatedAbove was is n x [] rs rs
   one_more : (c : Channel) (cs : List Channel) (read reads : Reading) (before between behind : List Record) → (IsAmong c cs → ⊥) → reading_of read ≡ was c → reading_of reads ≡ is c
       → IsUpdatedAbove c n x read reads before between → AllUpdatedAbove was is n x cs between behind → AllUpdatedAbove was is n x (c ∷ cs) before behind
 
--- What a process did by itself stands at its place, and the counts above are those of the tree before. When those ways were walked, the records' counts are all those of the tree behind, and they say all else as before.
+-- The node of a process that did something by itself is in its place, and the counts above are still those of the tree before. Updated for each channel that the process was given and shares, all counts are those of the tree now, and nothing else in the records has changed.
 abbrev pub WaysBring : {S : Type 0} → Ops S → Type 0
 WaysBring {S} o = (rp : Path) (states : List S) (rs behind : List Record) (old new m : Node S) (a : Acted S) (n x f : ℕ) (s : S) (k : ProcessStatus) (cs : List Channel)
     → IsSound o old → Shows o rp states (map stands_of rs) new → AreLinked states (map stands_of rs) (up_in rs) → AreAtMost 4294967295 states (map stands_of rs)

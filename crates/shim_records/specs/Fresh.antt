@@ -1,13 +1,14 @@
 -- The pairs of a new fork: one for each channel that it shares and gave to a child.
-use Rattle.std.specs.Prelude.{◌≡◌, ◌≢◌, ◌↔◌, ◌-◌, length, ℕ, Bool, true, false, Option, Some, None, List, [], ◌∷◌, ◌++◌, cond, map, slice_get}
+use Rattle.std.specs.Prelude.{◌≡◌, ◌≢◌, ◌≤◌, ◌<◌, ◌↔◌, ◌-◌, length, ℕ, Bool, true, false, Option, Some, None, List, [], ◌∷◌, ◌++◌, cond, map, slice_get}
 use Rattle.std.specs.Ordering.{is_lt}
 use Rattle.shim_base.specs.Paths.{Channel, NamedChannel, channel_order}
 use Rattle.shim_local.specs.Process.{Ops}
 use Rattle.shim_local.specs.Laws.{AnyOf, IsGiven}
 use Rattle.shim_laws_table.specs.Counts.{Tally, fresh_tally}
 use Rattle.shim_records.specs.Members.{IsAmong}
-use Rattle.shim_records.specs.Pairs.{tally, chans_of, IsOrdered, pair_of, tally_for, least_label_of}
+use Rattle.shim_records.specs.Pairs.{tally, chans_of, IsOrdered, pair_of, tally_for, least_label_of, known_of, known_for}
 use Rattle.shim_records.specs.declared.pair.Pair.{Pair}
+use Rattle.shim_records.specs.declared.pair.Sharing.{Sharing}
 
 -- those of these channels that the process shares
 abbrev pub shared_of : {S : Type 0} → Ops S → S → List NamedChannel → List NamedChannel
@@ -42,15 +43,35 @@ is_behind (Some p) c = is_lt (channel_order p.chan.channel c)
 abbrev pub comes_after : List Pair → Channel → Bool
 comes_after ps c = is_behind (slice_get ps (length ps - 1)) c
 
--- the channel's pair stands behind the others now, or the last one is its own
+-- Of new children: each that shares the channel has a branch from `first` to `last`. If one that shares it carries it, `source` is one that carries it; if none carries it, `source` is no child's.
+pub record FreshSharing {S : Type 0} (o : Ops S) (c : Channel) (ks : List S) (k : Sharing) : Type 0 where
+  pub within : (b : ℕ) (s : S) → slice_get ks b ≡ Some s → k.last < length ks
+  pub between : (b : ℕ) (s : S) → slice_get ks b ≡ Some s → o.shares s c ≡ true → (k.first ≤ b) × (b ≤ k.last)
+  pub carrier : (b : ℕ) (s : S) → slice_get ks b ≡ Some s → o.shares s c ≡ true → o.carries s c ≡ true → (t : S) × (slice_get ks k.source ≡ Some t) × (o.carries t c ≡ true)
+  pub nobody : ((b : ℕ) (s : S) → slice_get ks b ≡ Some s → o.carries s c ≡ false) → length ks ≤ k.source
+
+-- the same, of those that were looked at so far
+pub record SharingSoFar {S : Type 0} (o : Ops S) (c : Channel) (ks : List S) (i : ℕ) (k : Sharing) : Type 0 where
+  pub last : k.last ≤ i - 1
+  pub between : (b : ℕ) (s : S) → b < i → slice_get ks b ≡ Some s → o.shares s c ≡ true → (k.first ≤ b) × (b ≤ k.last)
+  pub carrier : (b : ℕ) (s : S) → b < i → slice_get ks b ≡ Some s → o.shares s c ≡ true → o.carries s c ≡ true → (t : S) × (slice_get ks k.source ≡ Some t) × (o.carries t c ≡ true)
+  pub nobody : ((b : ℕ) (s : S) → slice_get ks b ≡ Some s → o.carries s c ≡ false) → 4294967295 ≤ k.source
+
+-- one child more was looked at, which has this branch
+pub data LooksAt {S : Type 0} (o : Ops S) (c : Channel) (b : ℕ) (s : S) (before behind : Sharing) : Type 0 where
+  unshared : o.shares s c ≡ false → behind ≡ before → LooksAt o c b s before behind
+  shares : behind.first ≤ b → behind.first ≤ before.first → behind.last ≡ b → o.carries s c ≡ false → behind.source ≡ before.source → LooksAt o c b s before behind
+  takes : behind.first ≤ b → behind.first ≤ before.first → behind.last ≡ b → o.carries s c ≡ true → behind.source ≡ b → LooksAt o c b s before behind
+
+-- a pair of the channel is added behind the others, unless the channel doesn't come after that of the last pair
 pub data IsOneMore {S : Type 0} (o : Ops S) (ks : List S) (c : Channel) (before behind : List Pair) : Type 0 where
   skipped : comes_after before c ≡ false → behind ≡ before → IsOneMore o ks c before behind
-  added : (p : Pair) → comes_after before c ≡ true → behind ≡ before ++ p ∷ [] → p.chan.channel ≡ c → tally p ≡ fresh_tally o c ks → p.least ≡ None → IsOneMore o ks c before behind
+  added : (p : Pair) → comes_after before c ≡ true → behind ≡ before ++ p ∷ [] → p.chan.channel ≡ c → tally p ≡ fresh_tally o c ks → p.least ≡ None → FreshSharing o c ks p.sharing → IsOneMore o ks c before behind
 
 -- one pair for each of these channels, in order, with the counts of new children
 pub record IsPaired {S : Type 0} (o : Ops S) (ks : List S) (cs : List Channel) (pairs : List Pair) : Type 0 where
   pub ordered : IsOrdered (chans_of pairs)
-  pub right : (i : ℕ) (p : Pair) → slice_get pairs i ≡ Some p → (tally p ≡ fresh_tally o p.chan.channel ks) × (p.least ≡ None)
+  pub right : (i : ℕ) (p : Pair) → slice_get pairs i ≡ Some p → (tally p ≡ fresh_tally o p.chan.channel ks) × (p.least ≡ None) × FreshSharing o p.chan.channel ks p.sharing
   pub there : (c : Channel) → IsAmong c (chans_of pairs) ↔ IsAmong c cs
 
 -- the pairs of the fork that made these children
@@ -59,3 +80,4 @@ pub record FreshPairs {S : Type 0} (o : Ops S) (p : S) (ks : List S) (pairs : Li
   pub right : (c : Channel) (y : Tally) → tally_for c pairs ≡ Some y → y ≡ fresh_tally o c ks
   pub there : (c : Channel) → (tally_for c pairs ≢ None) ↔ ((o.shares p c ≡ true) × AnyOf (λ k. IsGiven o k c) ks)
   pub unlabelled : (c : Channel) → least_label_of (pair_of c pairs) ≡ None
+  pub known : (c : Channel) (k : Sharing) → known_for c (known_of pairs) ≡ Some k → FreshSharing o c ks k

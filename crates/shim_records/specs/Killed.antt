@@ -23,7 +23,7 @@ living o s c = read_leaf o c s lives
 abbrev pub as_dead : {S : Type 0} → Ops S → S → Channel → Read
 as_dead o s c = read_leaf o c s (dies (death 0))
 
--- for one channel the way up was walked, unless the process doesn't share it or it stood before
+-- for one channel the counts above were updated, unless the process doesn't share it or it came before in the list
 pub data KillsOne {S : Type 0} (o : Ops S) (s : S) (n x : ℕ) (c : Channel) (place : ℕ) (before behind : List Record) : Type 0 where
   unshared : o.shares s c ≡ false → behind ≡ before → KillsOne o s n x c place before behind
   again : Earlier o s c place → behind ≡ before → KillsOne o s n x c place before behind

@@ -1,13 +1,14 @@
 -- Records as lists of what they say: their statuses, parents, and counts for a channel.
 use Rattle.std.specs.declared.cmp.Ordering.TheVariants.{Less}
-use Rattle.std.specs.Prelude.{ℕ, suc, Option, Some, None, List, [], ◌∷◌, cond, slice_get, ◌≡◌, ◌<◌, map}
+use Rattle.std.specs.Prelude.{ℕ, suc, Bool, false, Option, Some, None, List, [], ◌∷◌, cond, slice_get, ◌≡◌, ◌<◌, map}
 use Rattle.std.specs.Option.{option_map}
 use Rattle.shim_base.specs.Paths.{Path, Channel, same_channel, channel_order}
 use Rattle.shim_laws_table.specs.Seen.{lives, forks, ends, dies}
 use Rattle.shim_laws_table.specs.Agrees.{RecordView, free, used}
-use Rattle.shim_laws_table.specs.Counts.{Tally, Reading as Read}
+use Rattle.shim_laws_table.specs.Counts.{Tally, Reading as Read, all_there}
 use Rattle.shim_records.specs.declared.pair.Pair.{Pair}
 use Rattle.shim_records.specs.declared.pair.Reading.{Reading}
+use Rattle.shim_records.specs.declared.pair.Sharing.{Sharing}
 use Rattle.shim_records.specs.declared.record.Record.{Record}
 use Rattle.shim_records.specs.declared.record.Status.{Status}
 use Rattle.shim_records.specs.declared.record.Status.TheVariants as code
@@ -50,6 +51,11 @@ counts_at c (Some r) = tally_for c r.pairs.items
 -- the counts that the records have for the channel
 abbrev pub counts_in : Channel → List Record → ℕ → Option Tally
 counts_in c rs i = counts_at c (slice_get rs i)
+
+-- there are counts, and by them all are there
+abbrev pub counts_ready : Option Tally → Bool
+counts_ready None = false
+counts_ready (Some y) = all_there y
 
 -- the label of a pair, where there is the pair
 abbrev pub least_label_of : Option Pair → Option ℕ
@@ -94,6 +100,33 @@ fork_size (code.Dead x) = 0
 abbrev pub stands_of : Record → RecordView
 stands_of r = stands_by r.first r.status
 
+-- what a pair knows of its channel, whatever its children do
+pub record KnownPair : Type 0 where
+  pub chan : Channel
+  pub sharing : Sharing
+
+-- what this pair knows
+abbrev pub known_by : Pair → KnownPair
+known_by p = record { chan = p.chan.channel; sharing = p.sharing }
+
+-- what these pairs know
+abbrev pub known_of : List Pair → List KnownPair
+known_of ps = map known_by ps
+
+-- what is known of who shares the channel
+abbrev pub known_for : Channel → List KnownPair → Option Sharing
+known_for c [] = None
+known_for c (p ∷ ps) = cond (same_channel p.chan c) (Some p.sharing) (known_for c ps)
+
+-- what a record knows of it, if there is the record
+abbrev pub known_at : Channel → Option Record → Option Sharing
+known_at c None = None
+known_at c (Some r) = known_for c (known_of r.pairs.items)
+
+-- what the records know of it
+abbrev pub known_in : Channel → List Record → ℕ → Option Sharing
+known_in c rs i = known_at c (slice_get rs i)
+
 -- a record without what is counted
 pub record UncountedRecord : Type 0 where
   pub status : Status
@@ -102,10 +135,11 @@ pub record UncountedRecord : Type 0 where
   pub path : Path
   pub going : ℕ
   pub chans : List Channel
+  pub known : List KnownPair
 
 -- what the record says without what is counted
 abbrev pub rest_of : Record → UncountedRecord
-rest_of r = record { status = r.status; first = r.first; parent = r.parent; path = r.path; going = r.going; chans = chans_of r.pairs.items }
+rest_of r = record { status = r.status; first = r.first; parent = r.parent; path = r.path; going = r.going; chans = chans_of r.pairs.items; known = known_of r.pairs.items }
 
 -- the pairs of each record stand in order
 abbrev pub AreOrdered : List Record → Type 0

@@ -1,9 +1,9 @@
 -- How the counts of records are brought up to date on the way up.
-use Rattle.std.specs.Prelude.{◌≡◌, ℕ, suc, false, Option, Some, None, List, map}
+use Rattle.std.specs.Prelude.{◌≡◌, ◌⊎◌, ℕ, suc, Bool, true, false, Option, Some, None, List, map}
 use Rattle.shim_base.specs.Paths.{Channel, same_channel}
-use Rattle.shim_laws_table.specs.Counts.{Tally}
+use Rattle.shim_laws_table.specs.Counts.{Tally, live_reading}
 use Rattle.shim_laws_table.specs.Updating.{UpdatedAbove}
-use Rattle.shim_records.specs.Pairs.{reading_of, counts_in, leasts_in, up_in, rest_of}
+use Rattle.shim_records.specs.Pairs.{reading_of, counts_in, counts_ready, leasts_in, up_in, rest_of}
 use Rattle.shim_records.specs.declared.upward.CountChange.{CountChange}
 use Rattle.shim_records.specs.declared.pair.Reading.{Reading}
 use Rattle.shim_records.specs.declared.record.Record.{Record}
@@ -45,10 +45,44 @@ pub record MovesParent (c : Channel) (before : List Record) (here : CountChange)
   pub others : (i : ℕ) → (up_in before here.at ≡ Some i → ⊥) → counts_in c behind i ≡ counts_in c before i
   pub goes_on : (above : CountChange) → next ≡ Some above → up_in before here.at ≡ Some above.at
 
+-- a process that goes on was ready here, and isn't any more
+abbrev pub Falls : CountChange → Type 0
+Falls here = (reading_of here.was ≡ live_reading true) × (reading_of here.is ≡ live_reading false)
+
+-- How the parent is read by its counts behind a step up, which tells whether it is due: all are there, or it has a label.
+pub record ReadsParent (c : Channel) (before : List Record) (here : CountChange) (next : Option CountChange) (due : Bool) (behind : List Record) : Type 0 where
+  -- where it isn't due, neither is so
+  pub closed : due ≡ false → (i : ℕ) → up_in before here.at ≡ Some i → (counts_ready (counts_in c behind i) ≡ false) × (leasts_in c before i ≡ None)
+  -- where the walk ends, it is read as before
+  pub same : next ≡ None → (i : ℕ) → up_in before here.at ≡ Some i → counts_ready (counts_in c behind i) ≡ counts_ready (counts_in c before i)
+  -- where a child isn't ready any more, it isn't ready either, and whatever goes on does so for that
+  pub unready : Falls here → (i : ℕ) → up_in before here.at ≡ Some i → counts_ready (counts_in c behind i) ≡ false
+  pub falls : Falls here → (above : CountChange) → next ≡ Some above → Falls above
+
 -- the counts of the one record above are moved, and nothing else has changed
-abbrev pub StepsUp : Channel → List Record → CountChange → Option CountChange → List Record → Type 0
-StepsUp c before here next behind = Continues (up_in before) (counts_in c before) here next (counts_in c behind) × OnlyCounts c before behind × MovesParent c before here next behind
+abbrev pub StepsUp : Channel → List Record → CountChange → Option CountChange → Bool → List Record → Type 0
+StepsUp c before here next due behind =
+    Continues (up_in before) (counts_in c before) here next (counts_in c behind) × OnlyCounts c before behind × MovesParent c before here next behind × ReadsParent c before here next due behind
 
 -- the way up was walked through at most so many forks
 abbrev pub IsUpdatedAbove : Channel → ℕ → ℕ → Reading → Reading → List Record → List Record → Type 0
 IsUpdatedAbove c n x was is before behind = UpdatedAbove (up_in before) 4294967295 n (counts_in c before) x (reading_of was) (reading_of is) (counts_in c behind) × OnlyCounts c before behind
+
+-- ---- what becomes ready by a way
+
+-- no record is ready for the channel by its counts that wasn't
+abbrev pub NoneReadied : Channel → List Record → List Record → Type 0
+NoneReadied c before behind = (i : ℕ) → counts_ready (counts_in c behind i) ≡ true → counts_ready (counts_in c before i) ≡ true
+
+-- a live process came to the channel: the way up was walked from the record x, through at most n forks
+abbrev pub ComesTo : Channel → ℕ → ℕ → List Record → List Record → Type 0
+ComesTo c n x before behind = (was : Reading) × (is : Reading) × (reading_of was ≡ live_reading false) × (reading_of is ≡ live_reading true) × IsUpdatedAbove c n x was is before behind
+
+-- with the process of the record x the record has become ready for the channel: it is that record, or ready by its counts, and it wasn't
+abbrev pub HasReadied : Channel → ℕ → List Record → List Record → ℕ → Type 0
+HasReadied c x before behind j = (j ≡ x) ⊎ ((counts_ready (counts_in c behind j) ≡ true) × (counts_ready (counts_in c before j) ≡ false))
+
+-- With the process of the record x others have become ready for the channel. Beyond the first n forks above it none has, and none has a label for it whose child has.
+pub record ReadiesWithin (c : Channel) (n x : ℕ) (before behind : List Record) : Type 0 where
+  pub counts : (i : ℕ) → (IsAbove (up_in before) n x i → ⊥) → counts_ready (counts_in c behind i) ≡ true → counts_ready (counts_in c before i) ≡ true
+  pub labels : (i j : ℕ) → up_in before j ≡ Some i → (IsAbove (up_in before) n x i → ⊥) → HasReadied c x before behind j → leasts_in c before i ≡ None

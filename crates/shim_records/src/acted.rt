@@ -53,8 +53,8 @@ pub(crate) fn is_first<L: Local>(process: &L, c: &Chan, place: usize) -> bool
     true
 }
 
-// Goes the way up for the channel, if the process shares it and it stands at no place before. The answer is a
-// number of forks beyond which no counts have changed, perhaps more than need be.
+// Updates the counts above for the channel, if the process shares it and it is at no place before this one. No
+// counts beyond the first so many forks as it answers have changed; the answer may be too large.
 fn update_for_one<L: Local>(
     process: &L,
     status: Status,

@@ -3,9 +3,9 @@ ghost use Rattle.std.specs.Prelude.{◌≡◌, ◌≤◌, ◌<◌, suc, None, �
 ghost use Rattle.shim_semantics.specs.Nodes.{is_next};
 ghost use Rattle.shim_laws_table.specs.Counts.{fresh_tally};
 ghost use Rattle.shim_records.specs.Pairs.{tally};
-ghost use Rattle.shim_records.specs.Fresh.{shared_of, shared_given, channels, Rises, comes_after, IsOneMore, IsPaired, FreshPairs};
+ghost use Rattle.shim_records.specs.Fresh.{shared_of, shared_given, channels, Rises, comes_after, IsOneMore, IsPaired, FreshPairs, FreshSharing, LooksAt};
 
-use crate::pair::Pair;
+use crate::pair::{Pair, Sharing};
 use crate::receiving::is_at_channel;
 use shim_base::{Chan, NoMemory};
 use shim_local::Local;
@@ -20,11 +20,39 @@ fn more(count: u32, test: bool) -> u32
     if test { count + 1 } else { count }
 }
 
-// Whether the process shares the channel, and doesn't stand at it.
-fn isnt_ready<L: Local>(process: &L, chan: &Chan) -> bool
-    ensures { result ≡ L.ops.shares process.now chan.now.channel && not (is_next (L.ops.stop process.now) chan.now.channel) }
+// Whether the process shares the channel, as it does or not, and doesn't stand at it.
+fn isnt_ready<L: Local>(process: &L, chan: &Chan, shares: bool) -> bool
+    ensures { result ≡ shares && not (is_next (L.ops.stop process.now) chan.now.channel) }
 {
-    process.shares(chan) && !is_at_channel(process, chan)
+    shares && !is_at_channel(process, chan)
+}
+
+// Who shares the channel, where the child with this branch comes behind those of which this was known, and shares
+// it or doesn't.
+fn with_child<L: Local>(
+    before: Sharing,
+    branch: u32,
+    child: &L,
+    chan: &Chan,
+    shares: bool,
+) -> Sharing
+    requires { shares ≡ L.ops.shares child.now chan.now.channel }
+    ensures { LooksAt L.ops chan.now.channel branch child.now before result }
+{
+    if !shares {
+        return before;
+    }
+    let first = before.first.min(branch);
+    let source = if child.carries(chan) {
+        branch
+    } else {
+        before.source
+    };
+    Sharing {
+        first,
+        last: branch,
+        source,
+    }
 }
 
 // The pair of a channel, of children that have done nothing yet.
@@ -33,13 +61,21 @@ fn counted<L: Local>(chan: Chan, children: &[L]) -> Pair
     ensures chan { result.chan ≡ chan }
     ensures counts { tally result ≡ fresh_tally L.ops chan.channel children.now }
     ensures label { result.least ≡ None }
+    ensures sharing { FreshSharing L.ops chan.channel children.now result.sharing }
 {
     let mut live = 0;
     let mut not_ready = 0;
+    let mut sharing = Sharing {
+        first: u32::MAX,
+        last: 0,
+        source: u32::MAX,
+    };
     for i in 0..children.len() {
         let child = &children[i];
-        live = more(live, child.shares(&chan));
-        not_ready = more(not_ready, isnt_ready(child, &chan));
+        let shares = child.shares(&chan);
+        live = more(live, shares);
+        not_ready = more(not_ready, isnt_ready(child, &chan, shares));
+        sharing = with_child(sharing, i as u32, child, &chan, shares);
     }
     Pair {
         chan,
@@ -47,6 +83,7 @@ fn counted<L: Local>(chan: Chan, children: &[L]) -> Pair
         not_ready,
         dead: 0,
         least: None,
+        sharing,
     }
 }
 

@@ -33,7 +33,7 @@ fn dead_reading<L: Local>(process: &L, c: &Chan) -> Reading
     }
 }
 
-// Goes the way up for the channel, if the process shares it and it stands at no place before.
+// Updates the counts above for the channel, if the process shares it and it is at no place before this one.
 fn kill_one<L: Local>(
     process: &L,
     records: &mut Vec<Record>,

@@ -13,6 +13,7 @@ fn lower_label(pair: &mut Pair, label: u32) -> bool
     ensures taken { pair.new.least ≡ lesser pair.old.least (Some label) }
     ensures stays { result ≡ false → pair.new.least ≡ pair.old.least }
     ensures chan { pair.new.chan ≡ pair.old.chan }
+    ensures sharing { pair.new.sharing ≡ pair.old.sharing }
     ensures counts { tally pair.new ≡ tally pair.old }
 {
     match pair.least {

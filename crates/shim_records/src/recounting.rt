@@ -82,6 +82,7 @@ fn put_label(pair: &mut Pair, label: Option<u32>) -> bool
     ensures put { pair.new.least ≡ label }
     ensures stays { result ≡ false → pair.new.least ≡ pair.old.least }
     ensures chan { pair.new.chan ≡ pair.old.chan }
+    ensures sharing { pair.new.sharing ≡ pair.old.sharing }
     ensures counts { tally pair.new ≡ tally pair.old }
 {
     let other = pair.least != label;

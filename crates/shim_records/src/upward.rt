@@ -1,7 +1,8 @@
 // Counts brought up to date on the way up.
-ghost use Rattle.std.specs.Prelude.{◌≡◌, ◌≤◌, true, false};
-ghost use Rattle.shim_records.specs.Pairs.{AreOrdered};
-ghost use Rattle.shim_records.specs.Ways.{StepsUp, IsUpdatedAbove, CountsMovedWithin};
+ghost use Rattle.std.specs.Prelude.{◌≡◌, ◌≤◌, ◌+◌, true, false, None, if◌then◌else◌};
+ghost use Rattle.shim_laws_table.specs.Counts.{live_reading};
+ghost use Rattle.shim_records.specs.Pairs.{reading_of, AreOrdered};
+ghost use Rattle.shim_records.specs.Ways.{most_forks, StepsUp, IsUpdatedAbove, CountsMovedWithin, NoneReadied, ComesTo, ReadiesWithin};
 
 use crate::pair::{Reading, has_all, live_reading, move_pair, place_in};
 use crate::record::Record;
@@ -15,44 +16,56 @@ pub(crate) struct CountChange {
     pub(crate) is: Reading,
 }
 
+// Whether something may be due at a fork on the channel: all are there, or there is a label.
+fn may_be_due(all: bool, label: Option<u32>) -> bool
+    ensures { result ≡ false → (all ≡ false) × (label ≡ None) }
+{
+    match label {
+        None => all,
+        Some(_) => true,
+    }
+}
+
 // Moves the counts of the record's parent, if it has counts for the channel; the parent, where it is read
-// otherwise than before.
-fn step_up(records: &mut Vec<Record>, c: &Chan, here: CountChange) -> Option<CountChange>
+// otherwise than before, and whether anything may be due at it on the channel.
+fn step_up(records: &mut Vec<Record>, c: &Chan, here: CountChange) -> (Option<CountChange>, bool)
     requires { AreOrdered records.old.items }
-    ensures { StepsUp c.now.channel records.old.items here result records.new.items }
+    ensures { StepsUp c.now.channel records.old.items here result.0 result.1 records.new.items }
 {
     if here.at >= records.len() {
-        return None;
+        return (None, false);
     }
     let above = match records[here.at].parent {
-        None => return None,
+        None => return (None, false),
         Some(above) => above as usize,
     };
     if above >= records.len() {
-        return None;
+        return (None, false);
     }
     let record = &mut records[above];
     let place = match place_in(record.pairs.as_slice(), c) {
-        None => return None,
+        None => return (None, false),
         Some(place) => place,
     };
     let pair = &mut record.pairs[place];
     let before = has_all(pair);
     move_pair(pair, here.was, here.is);
     let after = has_all(pair);
+    let due = may_be_due(after, pair.least);
     if before == after {
-        return None;
+        return (None, due);
     }
-    Some(CountChange {
+    let next = CountChange {
         at: above,
         was: live_reading(before),
         is: live_reading(after),
-    })
+    };
+    (Some(next), due)
 }
 
-/// Brings the counts for a channel up to date, from a record of which was read `was` and is read `is`,
-/// through at most so many forks: as far up as a fork is read otherwise than before. The answer is a number
-/// of forks beyond which no counts have changed, perhaps more than need be.
+/// Updates the counts for a channel above a record whose reading was `was` and is `is`. It goes on upward while
+/// the reading of the fork itself changes, through at most so many forks. No counts beyond the first so many forks
+/// as it answers have changed; the answer may be too large.
 pub fn update_counts_above(
     records: &mut Vec<Record>,
     at: usize,
@@ -65,13 +78,47 @@ pub fn update_counts_above(
     ensures counts { IsUpdatedAbove c.now.channel forks at was is records.old.items records.new.items }
     ensures reaches { CountsMovedWithin c.now.channel result at records.old.items records.new.items }
     ensures most { result ≤ forks }
+    ensures falls { reading_of was ≡ live_reading true → reading_of is ≡ live_reading false → NoneReadied c.now.channel records.old.items records.new.items }
 {
     let mut here = CountChange { at, was, is };
     for walked in 0..forks {
-        match step_up(records, c, here) {
+        let (next, _) = step_up(records, c, here);
+        match next {
             None => return walked + 1,
             Some(next) => here = next,
         }
     }
     forks
+}
+
+// How many forks are to be looked at again, where so many were and one more was walked.
+fn looked_at(before: u64, walked: u32, due: bool) -> u64
+    ensures { result ≡ (if due then walked + 1 else before) }
+{
+    if due { walked as u64 + 1 } else { before }
+}
+
+/// Updates the counts for a channel above the record of a live process that has come to it and was at none
+/// before. The answer is how many forks above it are to be looked at again: at those further up all
+/// are there no more than before, and none of them has a label where a child has become ready.
+pub fn arrive_above(records: &mut Vec<Record>, at: usize, c: &Chan) -> u64
+    requires { AreOrdered records.old.items }
+    ensures counts { ComesTo c.now.channel most_forks at records.old.items records.new.items }
+    ensures readies { ReadiesWithin c.now.channel result at records.old.items records.new.items }
+{
+    let mut here = CountChange {
+        at,
+        was: live_reading(false),
+        is: live_reading(true),
+    };
+    let mut again = 0;
+    for walked in 0..u32::MAX {
+        let (next, due) = step_up(records, c, here);
+        again = looked_at(again, walked, due);
+        match next {
+            None => return again,
+            Some(next) => here = next,
+        }
+    }
+    u32::MAX as u64 + 1
 }

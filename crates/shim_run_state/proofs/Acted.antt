@@ -124,7 +124,7 @@ module _ {S : Type 0} (o : Ops S) (law : LocalLaws o) where
       pub acted_keeps : steps (tree_in o before) < 4000000 → Requeues o behind.table n number before.process_lists behind.process_lists → length behind.process_lists.own ≡ length before.process_lists.own → KeepsTree o behind
       acted_keeps few again owns =
           let more = h.counts in
-          one_moved o law before behind kept number a.first a.process (state a.left) lives k a.has a.becomes flags (ap (λ z. is_listed z number) held ∙ free) n h.shows (omega (arith, few, more)) a.touches again.awake again.quiet again.within owns
+          one_moved o law before behind kept number a.first a.process (state a.left) lives k a.has a.becomes flags (ap (λ z. is_listed z number) held ∙ free) n h.shows (omega (arith, few, more)) a.wakes again.awake again.quiet owns
 
       pub happens_in : IsNoQuietStep o (tree_in o before) e → HappensIn o before behind e
       happens_in none = record {

@@ -32,15 +32,6 @@ module _ {A : Type 0} (x : A) (first count : ℕ) where
     pub left : (rest : ℕ) → branch + rest ≡ count → with_block (first + branch) (replicate rest x) now ≡ with_block first (replicate count x) old
     pub as_many : length now ≡ length old
 
-  pub none_filled : (old : List A) → FilledSoFar 0 old old
-  none_filled old = record { left = λ rest e. (λ j. with_block (first_is j) (replicate (rest_is rest e j) x) old); as_many = refl }
-    where
-      first_is : first + 0 ≡ first
-      first_is = omega arith
-
-      rest_is : (rest : ℕ) → 0 + rest ≡ count → rest ≡ count
-      rest_is rest e = omega (arith, e)
-
   pub one_filled : (branch : ℕ) (old now : List A) → first + branch < length now → FilledSoFar branch old now → FilledSoFar (branch + 1) old (slice_set now (first + branch) x)
   one_filled branch old now within so = record {
     left = λ rest e.

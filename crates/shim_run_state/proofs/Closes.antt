@@ -22,6 +22,7 @@ use Rattle.shim_run_state.specs.ProcessLists.{ProcessListsView, Serves}
 use Rattle.shim_run_state.specs.RunStates.{RunStateView, tree_in, path_at, counts_from, IsQuietAt, KeepsTree}
 use Rattle.shim_run_state.specs.PastCounts.{only_block}
 use Rattle.shim_run_state.specs.Waking.{Requeues}
+use Rattle.shim_process_table.proofs.Readied.{touches_wake}
 use Rattle.shim_run_state.proofs.Wakened.{one_suffices}
 use Rattle.shim_run_state.proofs.Events as events
 use Rattle.shim_run_state.proofs.OneMoved.{still_for_all, keeps_on}
@@ -62,13 +63,13 @@ pub record OneClose {S : Type 0} (o : Ops S) (m number : ℕ) (outcome : CloseOu
   pub past : behind.past ≡ before.past ++ gathered
   pub are : gathered ≡ counts_from (only_block h.first h.many (path_at o before.table)) before.process_lists.own
   pub events : behind.events ≡ before.events + 1
-  pub again : Requeues o behind.table m number before.process_lists behind.process_lists
+  pub again : Requeues o behind.table (m + 1) number before.process_lists behind.process_lists
 
 module _ {S : Type 0} (o : Ops S) (law : LocalLaws o) (before behind : RunStateView S) (kept : KeepsTree o before) (m number : ℕ) (outcome : CloseOutcome) (h : ClosesHere o m number outcome before.table behind.table) (one : OneClose o m number outcome before behind h) where
   gone : (b : ℕ) → b < h.many → path_at o behind.table (h.first + b) ≡ None
   gone b less = elim (in_use_or_not o behind.table (h.first + b)) [
     | inr n ↦ n
-    | inl u ↦ elim (h.becomes.only (h.first + b) u.first u.process u.sort_is u.has) [
+    | inl u ↦ elim (h.becomes.only (h.first + b) u.first u.process u.status_is u.has) [
       | inl w ↦ absurd (h.apart b less (sym w.0))
       | inr w ↦ absurd (w.1 b less refl)
     ]
@@ -76,17 +77,17 @@ module _ {S : Type 0} (o : Ops S) (law : LocalLaws o) (before behind : RunStateV
 
   still_there : (i : ℕ) → ((b : ℕ) → b < h.many → i ≢ h.first + b) → (u : InUse o before.table i) → path_at o behind.table i ≡ Some (o.path u.process)
   still_there i out u = elim (same_or_not i number) [
-    | inr far ↦ path_of o behind.table i u.first u.process u.sort_is (h.becomes.others i u.first u.process u.sort_is far out u.has)
+    | inr far ↦ path_of o behind.table i u.first u.process u.status_is (h.becomes.others i u.first u.process u.status_is far out u.has)
     | inl e ↦
-        let mine = subst (λ z. HasProcessState before.table z u.first u.process u.sort_is) e u.has in
-        let same : h.process ≡ u.process = one_state before.table.states (stands before.table) number h.first u.first h.process u.process (forks h.many) u.sort_is h.forked mine in
+        let mine = subst (λ z. HasProcessState before.table z u.first u.process u.status_is) e u.has in
+        let same : h.process ≡ u.process = one_state before.table.states (stands before.table) number h.first u.first h.process u.process (forks h.many) u.status_is h.forked mine in
         ap (path_at o behind.table) e ∙ (path_of o behind.table number h.becomes.first (state h.left.node) _ h.becomes.parent ∙ ap Some (h.path ∙ ap o.path same))
   ]
 
   was_there : (i : ℕ) → InUse o behind.table i → InUse o before.table i
   was_there i u =
-      let w = was_used o m number outcome before.table behind.table h i (u.first, u.process, u.sort_is, u.has) in
-      record { first = w.0; process = w.1; sort_is = w.2; has = w.3 }
+      let w = was_used o m number outcome before.table behind.table h i (u.first, u.process, u.status_is, u.has) in
+      record { first = w.0; process = w.1; status_is = w.2; has = w.3 }
 
   counts : events.counts_in o behind ≡ events.counts_in o before
   counts =
@@ -131,7 +132,7 @@ module _ {S : Type 0} (o : Ops S) (law : LocalLaws o) (before behind : RunStateV
       keeps = keeps_on o law before behind kept (record {
         shows = happened.shows;
         few = let n = happened.counts in omega (arith, few, n);
-        looks = one_suffices o m number before.table behind.table before.process_lists.awake behind.process_lists.awake one.again.awake one.again.within h.touches;
+        looks = one_suffices o [] before.table behind.table (tree_in o behind).root happened.shows (m + 1) number before.process_lists.awake behind.process_lists.awake one.again.awake (touches_wake o m number before.table behind.table h.touches);
         awake = one.again.awake.kept;
         quiet = still_listed o before behind kept flags stay one.again.quiet.kept quiet_listed;
         held = still_held o before behind kept flags stay;

@@ -31,6 +31,7 @@ use Rattle.shim_run_state.specs.ProcessLists.{ProcessListsView, Serves}
 use Rattle.shim_run_state.specs.RunStates.{RunStateView, tree_in, path_at, entry, counts_from, IsQuietAt, KeepsTree}
 use Rattle.shim_run_state.specs.Room.{HasRoomFor, HasNewChildren, block_of}
 use Rattle.shim_run_state.specs.Waking.{HasCounted, ListsAwake, ListsQuiet, Requeues}
+use Rattle.shim_process_table.proofs.Readied.{touches_wake}
 use Rattle.shim_run_state.proofs.Wakened.{forked_suffices}
 use Rattle.shim_records.specs.Pairs.{up_in}
 use Rattle.shim_records.proofs.Reaching.{among_more}
@@ -87,7 +88,7 @@ module _ {S : Type 0} (o : Ops S) (law : LocalLaws o) (before : RunStateView S) 
   block_fits end most = let w = some count refl in omega (arith, w, most)
 
 module _ {S : Type 0} (o : Ops S) (law : LocalLaws o) (before behind : RunStateView S) (kept : KeepsTree o before) (m number first count : ℕ) (h : HasForkedHere o m number first count before.table behind.table) (s : ProcessListsView) (new : HasNewChildren first count before.process_lists s)
-    (c : HasCounted number 1 s.own behind.process_lists.own) (again : Requeues o behind.table m number s behind.process_lists) (one : OneOwnStep before behind) where
+    (c : HasCounted number 1 s.own behind.process_lists.own) (again : Requeues o behind.table (m + 1) number s behind.process_lists) (one : OneOwnStep before behind) where
   held : behind.process_lists.held ≡ before.process_lists.held
   held = again.held ∙ new.held
 
@@ -96,25 +97,25 @@ module _ {S : Type 0} (o : Ops S) (law : LocalLaws o) (before behind : RunStateV
 
   none_there : (i b : ℕ) → b < count → i ≡ first + b → path_at o before.table i ≡ None
   none_there i b less e = elim (in_use_or_not o before.table i) [
-    | inl u ↦ absurd (h.unused b u.first u.process u.sort_is less (subst (λ z. HasProcessState before.table z u.first u.process u.sort_is) e u.has))
+    | inl u ↦ absurd (h.unused b u.first u.process u.status_is less (subst (λ z. HasProcessState before.table z u.first u.process u.status_is) e u.has))
     | inr n ↦ n
   ]
 
   still_there : (i : ℕ) (u : InUse o before.table i) → path_at o behind.table i ≡ Some (o.path u.process)
   still_there i u = elim (same_or_not i number) [
-    | inr far ↦ path_of o behind.table i u.first u.process u.sort_is (h.becomes.others i u.first u.process u.sort_is far u.has)
+    | inr far ↦ path_of o behind.table i u.first u.process u.status_is (h.becomes.others i u.first u.process u.status_is far u.has)
     | inl e ↦
-        let mine = subst (λ z. HasProcessState before.table z u.first u.process u.sort_is) e u.has in
-        let same : h.was ≡ u.process = one_state before.table.states (stands before.table) number h.was_first u.first h.was u.process lives u.sort_is h.lived mine in
+        let mine = subst (λ z. HasProcessState before.table z u.first u.process u.status_is) e u.has in
+        let same : h.was ≡ u.process = one_state before.table.states (stands before.table) number h.was_first u.first h.was u.process lives u.status_is h.lived mine in
         ap (path_at o behind.table) e ∙ (path_of o behind.table number first h.is _ h.becomes.parent ∙ ap Some (path_is ∙ ap o.path same))
   ]
 
   was_there : (i : ℕ) → ((b : ℕ) → b < count → i ≢ first + b) → InUse o behind.table i → InUse o before.table i
-  was_there i out u = elim (h.becomes.only i u.first u.process u.sort_is u.has) [
-    | inl w ↦ record { first = h.was_first; process = h.was; sort_is = lives; has = subst (λ z. HasProcessState before.table z h.was_first h.was lives) (sym w.0) h.lived }
+  was_there i out u = elim (h.becomes.only i u.first u.process u.status_is u.has) [
+    | inl w ↦ record { first = h.was_first; process = h.was; status_is = lives; has = subst (λ z. HasProcessState before.table z h.was_first h.was lives) (sym w.0) h.lived }
     | inr x ↦ elim x [
       | inl w ↦ absurd (out w.0 (let b = slice_get_within h.born w.0 u.process w.1 in let m = h.many in omega (arith, b, m)) w.2)
-      | inr w ↦ record { first = u.first; process = u.process; sort_is = u.sort_is; has = w.1 }
+      | inr w ↦ record { first = u.first; process = u.process; status_is = u.status_is; has = w.1 }
     ]
   ]
 
@@ -185,7 +186,7 @@ module _ {S : Type 0} (o : Ops S) (law : LocalLaws o) (before behind : RunStateV
     keeps = keeps_on o law before behind kept (record {
       shows = happened.shows;
       few = let n = happened.counts in omega (arith, few, n);
-      looks = forked_suffices o m number before.table behind.table s.awake behind.process_lists.awake again.awake again.within first count (λ b less. again.awake.kept (first + b) (awakes.mine b less)) h.touches;
+      looks = forked_suffices o [] before.table behind.table (tree_in o behind).root happened.shows m number s.awake behind.process_lists.awake again.awake again.within first count (λ b less. again.awake.kept (first + b) (awakes.mine b less)) h.touches;
       awake = λ i e. again.awake.kept i (awakes.kept i e);
       quiet = still_listed o before behind kept flags stay (λ i e. again.quiet.kept i (quiets.kept i e)) quiet_listed;
       held = still_held o before behind kept flags stay;
@@ -203,7 +204,7 @@ module _ {S : Type 0} (o : Ops S) (law : LocalLaws o) (before behind : RunStateV
 
 module _ {S : Type 0} (o : Ops S) (m number : ℕ) (before behind : TableView S) (h : HasTrappedHere o number before behind) where
   -- it is a step that its process did by itself
-  pub traps_act : ActsHere o m number AtFork lives nothing before behind
+  pub traps_act : ActsHere o (m + 1) number AtFork lives nothing before behind
   traps_act = record {
     first = h.first;
     process = h.was;
@@ -214,7 +215,7 @@ module _ {S : Type 0} (o : Ops S) (m number : ℕ) (before behind : TableView S)
     came = refl;
     becomes = subst (λ z. HasBecome number h.is lives before z) (sym h.behind_is) become;
     moves = h.moves;
-    touches = record { others = λ i f s k has far out. h.touches.others i f s k has far (λ w. out (among_more (up_in behind.records) m (omega arith) w)); no_more = h.touches.no_more };
+    wakes = touches_wake o m number before behind (record { others = λ i f s k has far out. h.touches.others i f s k has far (λ w. out (among_more (up_in behind.records) m (omega arith) w)); no_more = h.touches.no_more });
   }
     where
       become : HasBecome number h.is lives before (record { states = slice_set before.states number h.is; records = before.records })
@@ -226,8 +227,8 @@ module _ {S : Type 0} (o : Ops S) (m number : ℕ) (before behind : TableView S)
       }
 
 module _ {S : Type 0} (o : Ops S) (law : LocalLaws o) (before behind : RunStateView S) (kept : KeepsTree o before) (m number : ℕ) (h : HasTrappedHere o number before.table behind.table) (one : OneOwnStep before behind) (c : HasCounted number 1 before.process_lists.own behind.process_lists.own)
-    (again : Requeues o behind.table m number before.process_lists behind.process_lists) (few : steps (tree_in o before) < 4000000) where
-  acts : ActsHere o m number AtFork lives nothing before.table behind.table
+    (again : Requeues o behind.table (m + 1) number before.process_lists behind.process_lists) (few : steps (tree_in o before) < 4000000) where
+  acts : ActsHere o (m + 1) number AtFork lives nothing before.table behind.table
   acts = traps_act o m number before.table behind.table h
 
   other : AtFork ≢ AtQuiet
@@ -236,8 +237,8 @@ module _ {S : Type 0} (o : Ops S) (law : LocalLaws o) (before behind : RunStateV
   pub traps_go : Goes o before behind (Own (o.path h.was))
   unfolding acts traps_act
   traps_go =
-      let told : HasTold o law before behind kept m number AtFork lives nothing acts = record { output = one.output ∙ sym (append-nil before.output); histories = one.histories; logs = one.logs; past = one.past } in
-      let w = own_done o law before behind kept m number AtFork lives nothing acts refl other told c again one.events few in
+      let told : HasTold o law before behind kept (m + 1) number AtFork lives nothing acts = record { output = one.output ∙ sym (append-nil before.output); histories = one.histories; logs = one.logs; past = one.past } in
+      let w = own_done o law before behind kept (m + 1) number AtFork lives nothing acts refl other told c again one.events few in
       record { keeps = w.0; happens = w.1; steps_are = w.2 }
 
 -- ---- either way
@@ -273,7 +274,7 @@ module _ {S : Type 0} (o : Ops S) (law : LocalLaws o) (before : RunStateView S) 
       let long = block_long 0 first count before.process_lists.own s.own new.within new.own in
       omega (arith, w, most, fits, long)
 
-module _ {S : Type 0} (o : Ops S) (law : LocalLaws o) (before behind : RunStateView S) (kept : KeepsTree o before) (m number : ℕ) (s : ProcessListsView) (c : HasCounted number 1 s.own behind.process_lists.own) (again : Requeues o behind.table m number s behind.process_lists) (one : OneOwnStep before behind) (few : steps (tree_in o before) < 4000000)
+module _ {S : Type 0} (o : Ops S) (law : LocalLaws o) (before behind : RunStateView S) (kept : KeepsTree o before) (m number : ℕ) (s : ProcessListsView) (c : HasCounted number 1 s.own behind.process_lists.own) (again : Requeues o behind.table (m + 1) number s behind.process_lists) (one : OneOwnStep before behind) (few : steps (tree_in o before) < 4000000)
     (end : ℕ) (most : length behind.table.records ≤ end) (room : HasRoomFor end before.process_lists) where
   -- what the process was that forked
   pub record Forks : Type 0 where
@@ -295,7 +296,7 @@ module _ {S : Type 0} (o : Ops S) (law : LocalLaws o) (before behind : RunStateV
     lived = h.lived;
     goes = traps_go o law before behind kept m number h one (subst (λ z. HasCounted number 1 z behind.process_lists.own) new.own c)
         (record {
-          awake = subst (λ z. ListsAwake o behind.table m number z behind.process_lists.awake) new.awake again.awake;
+          awake = subst (λ z. ListsAwake o behind.table (m + 1) number z behind.process_lists.awake) new.awake again.awake;
           quiet = subst (λ z. ListsQuiet o behind.table number z behind.process_lists.quiet) new.quiet again.quiet;
           held = again.held ∙ new.held;
           within = again.within;

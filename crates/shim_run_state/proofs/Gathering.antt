@@ -50,10 +50,6 @@ module _ {S : Type 0} (o : Ops S) (v : TableView S) where
   abbrev pub levels_of : ℕ → ℕ → Option (Node S)
   levels_of m = node_of v.states (stands v) m
 
-  -- by no levels nothing is computed
-  pub no_levels : (levels number : ℕ) (w : finite.FinMap path_order NamedChannel) → levels ≡ 0 → AddsWaits o v levels number w w
-  no_levels levels number w e n is = none_some n (sym (ap (λ z. levels_of z number) e) ∙ is)
-
   -- what a record says is the node
   by_record : (levels m number : ℕ) (s : Option S) (x : Option RecordView) → levels ≡ suc m → slice_get v.states number ≡ s → slice_get (stands v) number ≡ x → levels_of levels number ≡ node_in (levels_of m) s x
   by_record levels m number s x e f g = ap (λ z. levels_of z number) e ∙ (λ t. node_in (levels_of m) (f t) (g t))

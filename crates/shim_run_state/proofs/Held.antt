@@ -49,7 +49,7 @@ module _ {S : Type 0} (o : Ops S) (v : RunStateView S) (kept : KeepsTree o v) wh
       let shows = kept.shows.shows in
       let there : at (branches (o.path l)) t.root ≡ Some (Live l) = sym (ap (at_route t.root) (route_from_root _ (o.path l) shows.root_path)) ∙ w.stands.there in
       let c = covered o [] v.table.states (stands v.table) shows.rooted t.root shows.agrees (branches (o.path l)) (Live l) there in
-      let is = some_same (c.state_is, c.sort_is) (l, lives) c.is_seen in
+      let is = some_same (c.state_is, c.status_is) (l, lives) c.is_seen in
       let has : HasProcessState v.table c.number c.first l lives = subst (λ z. HasProcessState v.table c.number c.first z.0 z.1) is c.has in
       (c.number, record { first = c.first; has = has; stands = w.stop })
 

@@ -1,5 +1,5 @@
 -- A meeting has happened: its value is recorded, and all that share the channel have received it.
-use Rattle.std.proofs.Common.{◌≡◌, ◌<◌, ◌+◌, ℕ, ℤ, Bool, false, List, [], refl, ap, ◌∙◌, arith}
+use Rattle.std.proofs.Common.{◌≡◌, ◌<◌, ◌+◌, ℕ, ℤ, Bool, List, [], inr, refl, ap, ◌∙◌, arith}
 use Rattle.std.specs.Prelude.{unwrap_or}
 use Rattle.std.specs.FinMap as finite
 use Rattle.shim_base.specs.Paths.{Channel, channel_order}
@@ -11,7 +11,6 @@ use Rattle.shim_laws_table_events.specs.keeping.Tables.{TableView, Keeps}
 use Rattle.shim_laws_table_events.specs.keeping.Moves.{MovesBy}
 use Rattle.shim_laws_table_events.specs.meetings.Meetings.{HasValue}
 use Rattle.shim_laws_table_events.specs.waking.Awake.{AreListed}
-use Rattle.shim_laws_table_events.specs.waking.Waking.{IsAsBefore, Wakes}
 use Rattle.shim_laws_table_events.proofs.waking.Awake.{listing_stays}
 use Rattle.shim_process_table.specs.Changing.{IsChanged, ChangesEach}
 use Rattle.shim_run_state.specs.ProcessLists.{ProcessListsView}
@@ -24,13 +23,7 @@ use Rattle.shim_run_state.proofs.Telling.{Goes, meeting_is_no_step}
 module _ {S : Type 0} (o : Ops S) (law : LocalLaws o) where
   -- records that show two trees list for the one what they list for the other
   same_listed : (v : TableView S) (t u : Tree S) (flags : List Bool) → Keeps o [] v t.root → Keeps o [] v u.root → AreListed o v t flags → AreListed o v u flags
-  same_listed v t u flags shown shows listed = (listing_stays o law).moves [] v v t u flags flags (λ i. false) shown shows listed (λ i e. e) nothing (λ i e. absurd cc)
-    where
-      as_is : (i : ℕ) → IsAsBefore v v i
-      as_is i = record { state = refl; rest = refl; counts = λ c. refl; labels = λ c. refl }
-
-      nothing : Wakes v v (λ i. false)
-      nothing = record { itself = λ i f s k has e. as_is i; children = λ i j f s k has up e. as_is j }
+  same_listed v t u flags shown shows listed = (listing_stays o law).moves [] v v t u flags flags shown shows listed (λ i e. e) (λ i f s k has. inr (λ e due other. (due, other)))
 
   module _ (before : RunStateView S) (kept : KeepsTree o before) (few : steps (tree_in o before) < 4000000) (c : Channel) (x : ℤ) (numbers : List ℕ) (now : TableView S) (t : ProcessListsView) (histories : finite.FinMap channel_order Met)
       (mid : KeepsTree o (with_table before now t)) (own : t.own ≡ before.process_lists.own) (held : t.held ≡ before.process_lists.held)

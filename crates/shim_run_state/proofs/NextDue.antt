@@ -11,7 +11,7 @@ use Rattle.shim_laws_table.proofs.SameTrees.{same_or_not}
 use Rattle.shim_laws_replay.specs.Grants.{IsNoQuietStep}
 use Rattle.shim_laws_table_events.specs.keeping.Tables.{TableView}
 use Rattle.shim_laws_table_events.specs.waking.Awake.{is_listed}
-use Rattle.shim_laws_table_events.specs.waking.Looks.{IsIdle}
+use Rattle.shim_laws_table_events.specs.waking.Looks.{HasNothingDue}
 use Rattle.shim_laws_table_events.proofs.waking.Awake.{listing_stays}
 use Rattle.shim_run_state.specs.RunStates.{RunStateView, tree_in, KeepsTree}
 use Rattle.shim_run_state.specs.Holding.{HappensIn, RestsIn}
@@ -25,12 +25,9 @@ abbrev pub with_awake : {S : Type 0} → RunStateView S → List Bool → RunSta
 with_awake v flags = with_process_lists v (record { own = v.process_lists.own; awake = flags; quiet = v.process_lists.quiet; held = v.process_lists.held })
 
 module _ {S : Type 0} (o : Ops S) (law : LocalLaws o) (v : TableView S) (old : List Bool) where
-  pub all_awake : StillAwake o v old old
-  all_awake = record { kept = λ t k h. h; as_many = refl }
-
   module _ (now : List Bool) (still : StillAwake o v old now) (n : ℕ) (was : slice_get now n ≡ Some true) where
     -- a number is dropped at which nothing but a quiet step can happen
-    pub idle_dropped : (next : List Bool) → next ≡ slice_set now n false → IsIdle o v n → StillAwake o v old next
+    pub idle_dropped : (next : List Bool) → next ≡ slice_set now n false → HasNothingDue o v n → StillAwake o v old next
     idle_dropped next e idle = record {
       kept = λ t k h. (listing_stays o law).drops [] v t n now next k (still.kept t k h) idle (λ j far y. ap (λ z. is_listed z j) e ∙ (far_flag now j n false far ∙ y));
       as_many = ap length e ∙ (length-set now n false ∙ still.as_many);

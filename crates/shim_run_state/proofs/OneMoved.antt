@@ -13,7 +13,7 @@ use Rattle.shim_laws_table_events.specs.waking.Awake.{is_listed}
 use Rattle.shim_laws_table_events.proofs.waking.Awake.{listing_stays}
 use Rattle.shim_process_table.specs.Reading.{IsInUse, IsForAll}
 use Rattle.shim_process_table.specs.Stepping.{HasBecome}
-use Rattle.shim_process_table.specs.Touching.{TouchesAbove}
+use Rattle.shim_process_table.specs.Touching.{WakesAbove}
 use Rattle.shim_run_state.specs.ProcessLists.{Serves}
 use Rattle.shim_run_state.specs.RunStates.{RunStateView, tree_in, IsQuietAt, IsHeld, KeepsTree, QuietAreListed}
 use Rattle.shim_run_state.specs.Holding.{SameHeld}
@@ -49,7 +49,7 @@ module _ {S : Type 0} (o : Ops S) (law : LocalLaws o) (before behind : RunStateV
   pub keeps_on : HasMoved → KeepsTree o behind
   keeps_on m = record {
     shows = m.shows;
-    awake = (listing_stays o law).moves [] before.table behind.table (tree_in o before) (tree_in o behind) before.process_lists.awake behind.process_lists.awake (is_listed m.looks.again) kept.shows m.shows kept.awake m.awake m.looks.wakes m.looks.to_look;
+    awake = (listing_stays o law).moves [] before.table behind.table (tree_in o before) (tree_in o behind) before.process_lists.awake behind.process_lists.awake kept.shows m.shows kept.awake m.awake m.looks;
     quiet = m.quiet;
     held = m.held;
     serves = m.serves;
@@ -92,9 +92,9 @@ module _ {S : Type 0} (o : Ops S) (law : LocalLaws o) (before behind : RunStateV
       )
     ]
 
-    module _ (n : ℕ) (shows : Keeps o [] behind.table (tree_in o behind).root) (few : steps (tree_in o behind) ≤ 4000000) (touches : TouchesAbove n number before.table behind.table)
+    module _ (n : ℕ) (shows : Keeps o [] behind.table (tree_in o behind).root) (few : steps (tree_in o behind) ≤ 4000000) (wakes : WakesAbove o n number before.table behind.table)
         (awake : ListsAwake o behind.table n number before.process_lists.awake behind.process_lists.awake) (quiet : ListsQuiet o behind.table number before.process_lists.quiet behind.process_lists.quiet)
-        (within : number < length behind.process_lists.awake) (owns : length behind.process_lists.own ≡ length before.process_lists.own) where
+        (owns : length behind.process_lists.own ≡ length before.process_lists.own) where
       lists : QuietAreListed o behind.table behind.process_lists.quiet behind.process_lists.held
       lists i t q = elim (same_or_not i number) [
         | inl e ↦ inl (ap (is_listed behind.process_lists.quiet) e ∙ quiet.mine t (subst (λ z. IsQuietAt o behind.table z t) e q))
@@ -111,7 +111,7 @@ module _ {S : Type 0} (o : Ops S) (law : LocalLaws o) (before behind : RunStateV
       one_moved = keeps_on (record {
         shows = shows;
         few = few;
-        looks = one_suffices o n number before.table behind.table before.process_lists.awake behind.process_lists.awake awake within touches;
+        looks = one_suffices o [] before.table behind.table (tree_in o behind).root shows n number before.process_lists.awake behind.process_lists.awake awake wakes;
         awake = awake.kept;
         quiet = lists;
         held = stay_held;

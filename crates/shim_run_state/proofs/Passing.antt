@@ -71,7 +71,7 @@ module _ {S : Type 0} (o : Ops S) where
       free = ap (λ z. is_listed z i) again.held ∙ other_stop_free o law before behind kept i h.first h.process h.has not_quiet
 
       keeps : KeepsTree o (with_table w u t)
-      keeps = one_moved o law before behind kept i h.first h.process got lives lives h.has h.becomes (λ j far. ap (λ z. is_listed z j) again.held) free a.forks shows few h.touches again.awake again.quiet again.within (ap length own)
+      keeps = one_moved o law before behind kept i h.first h.process got lives lives h.has h.becomes (λ j far. ap (λ z. is_listed z j) again.held) free a.forks shows few h.wakes again.awake again.quiet (ap length own)
 
     pub one_passes : PassesOn o v s u t
     one_passes = record {

@@ -15,8 +15,8 @@ module _ {S : Type 0} (o : Ops S) where
   pub record InUse (v : TableView S) (i : ℕ) : Type 0 where
     pub first : ℕ
     pub process : S
-    pub sort_is : ProcessStatus
-    pub has : HasProcessState v i first process sort_is
+    pub status_is : ProcessStatus
+    pub has : HasProcessState v i first process status_is
 
   pub path_of : (v : TableView S) (i f : ℕ) (s : S) (k : ProcessStatus) → HasProcessState v i f s k → path_at o v i ≡ Some (o.path s)
   path_of v i f s k h = λ t. path_by o (h.state_is t) (h.stands_so t)
@@ -29,14 +29,14 @@ module _ {S : Type 0} (o : Ops S) where
       on None y e f = inr (λ t. path_by o (e t) (f t))
       on (Some s) None e f = inr (λ t. path_by o (e t) (f t))
       on (Some s) (Some free) e f = inr (λ t. path_by o (e t) (f t))
-      on (Some s) (Some (used g k)) e f = inl (record { first = g; process = s; sort_is = k; has = record { state_is = e; stands_so = f } })
+      on (Some s) (Some (used g k)) e f = inl (record { first = g; process = s; status_is = k; has = record { state_is = e; stands_so = f } })
 
   -- a number has the same path, where it is in use with that path before and behind, or neither
   pub same_path_at : (v w : TableView S) (i : ℕ) → ((u : InUse v i) → path_at o w i ≡ Some (o.path u.process)) → (InUse w i → InUse v i) → path_at o w i ≡ path_at o v i
   same_path_at v w i to from = elim (in_use_or_not v i) [
-    | inl u ↦ to u ∙ sym (path_of v i u.first u.process u.sort_is u.has)
+    | inl u ↦ to u ∙ sym (path_of v i u.first u.process u.status_is u.has)
     | inr n ↦ elim (in_use_or_not w i) [
-      | inl u ↦ let x = from u in none_some (o.path x.process) (sym n ∙ path_of v i x.first x.process x.sort_is x.has)
+      | inl u ↦ let x = from u in none_some (o.path x.process) (sym n ∙ path_of v i x.first x.process x.status_is x.has)
       | inr m ↦ m ∙ sym n
     ]
   ]
@@ -45,13 +45,13 @@ module _ {S : Type 0} (o : Ops S) where
   pub changed : (v w : TableView S) (x f : ℕ) (l s : S) (k h : ProcessStatus) → HasProcessState v x f l h → HasChanged v.states w.states (stands v) (stands w) x s k → o.path s ≡ o.path l → (i : ℕ) → path_at o w i ≡ path_at o v i
   changed v w x f l s k h had c same i = elim (same_or_not i x) [
     | inl e ↦ ap (path_at o w) e ∙ (path_of w x c.first s k c.mine ∙ (ap Some same ∙ (sym (path_of v x f l h had) ∙ sym (ap (path_at o v) e))))
-    | inr n ↦ same_path_at v w i (λ u. path_of w i u.first u.process u.sort_is (c.others i u.first u.process u.sort_is n u.has))
-        (λ u. record { first = u.first; process = u.process; sort_is = u.sort_is; has = c.only i u.first u.process u.sort_is n u.has })
+    | inr n ↦ same_path_at v w i (λ u. path_of w i u.first u.process u.status_is (c.others i u.first u.process u.status_is n u.has))
+        (λ u. record { first = u.first; process = u.process; status_is = u.status_is; has = c.only i u.first u.process u.status_is n u.has })
   ]
 
   -- where numbers keep their processes' paths, and others come into use
   pub grown : (v w : TableView S) → ((i f : ℕ) (s : S) (k : ProcessStatus) → HasProcessState v i f s k → path_at o w i ≡ Some (o.path s)) → (i : ℕ) → (path_at o w i ≡ path_at o v i) ⊎ (path_at o v i ≡ None)
   grown v w stay i = elim (in_use_or_not v i) [
-    | inl u ↦ inl (stay i u.first u.process u.sort_is u.has ∙ sym (path_of v i u.first u.process u.sort_is u.has))
+    | inl u ↦ inl (stay i u.first u.process u.status_is u.has ∙ sym (path_of v i u.first u.process u.status_is u.has))
     | inr n ↦ inr n
   ]

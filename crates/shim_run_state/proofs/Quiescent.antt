@@ -11,7 +11,7 @@ use Rattle.shim_laws_table.proofs.CanHappen.{enabled_by_records}
 use Rattle.shim_records.specs.Members.{IsAmong}
 use Rattle.shim_records.specs.Waiting.{AreListedIn}
 use Rattle.shim_laws_table_events.specs.keeping.Tables.{TableView, stands}
-use Rattle.shim_laws_table_events.specs.waking.Looks.{IsIdle, IsDue, IsQuietStepAt}
+use Rattle.shim_laws_table_events.specs.waking.Looks.{HasNothingDue, IsDue, IsQuietStepAt}
 use Rattle.shim_laws_table_events.specs.waking.Awake.{is_set, is_listed}
 use Rattle.shim_laws_table_events.proofs.waking.Idle.{looks_decide}
 use Rattle.shim_laws_table_events.proofs.waking.Waking.{looked_for}
@@ -48,7 +48,7 @@ module _ {S : Type 0} (o : Ops S) (law : LocalLaws o) where
   some_due v i (code.Poison q j) n w = (_, events.due_poison o v i q j w)
 
   -- or nothing is
-  pub nothing_due : (v : TableView S) (i : ℕ) (d : Due) → d ≡ code.Nothing → DueIs o v i d → IsIdle o v i
+  pub nothing_due : (v : TableView S) (i : ℕ) (d : Due) → d ≡ code.Nothing → DueIs o v i d → HasNothingDue o v i
   nothing_due v i d is w = subst (DueIs o v i) is w
 
   module _ (v : RunStateView S) (kept : KeepsTree o v) (none : NoneHeld o v) where
@@ -102,9 +102,6 @@ module _ {S : Type 0} (o : Ops S) (law : LocalLaws o) (v : RunStateView S) (kept
 -- it holds of each number before this place
 abbrev pub Before : (ℕ → Type 0) → List ℕ → ℕ → Type 0
 Before P ns m = (b n : ℕ) → b < m → slice_get ns b ≡ Some n → P n
-
-pub before_none : (P : ℕ → Type 0) (ns : List ℕ) → Before P ns 0
-before_none P ns b n less e = absurd (omega (arith, less))
 
 pub before_more : (P : ℕ → Type 0) (ns : List ℕ) (m x : ℕ) → slice_get ns m ≡ Some x → P x → Before P ns m → Before P ns (m + 1)
 before_more P ns m x there p h b n less e = elim (less_or_same b m less) [

@@ -1,24 +1,21 @@
 -- What is read off the root of a run state.
-use Rattle.std.proofs.Common.{◌≡◌, ◌≤◌, ℕ, zero, suc, Bool, true, false, Option, Some, None, [], length, map, refl, sym, ap, subst, ◌∙◌, arith}
+use Rattle.std.proofs.Common.{◌≡◌, ◌≤◌, ℕ, suc, Bool, true, false, [], length, map, refl, sym, ap, subst, ◌∙◌, arith}
 use Rattle.std.specs.Prelude.{slice_get, ◌↔◌, IsTrue}
-use Rattle.std.specs.Option.{option_map}
 use Rattle.std.specs.FinMap.{FinMap, empty, entries}
 use Rattle.shim_base.specs.Paths.{NamedChannel, path_order}
-use Rattle.shim_base.proofs.Facts.{some_same, none_some}
 use Rattle.shim_local.specs.Process.{Ops}
 use Rattle.shim_local.specs.declared.Outcome.TheVariants.{Blocked}
-use Rattle.shim_semantics.specs.Nodes.{Node, Nodes, Live, Forked, Ended, Dead}
+use Rattle.shim_semantics.specs.Nodes.{Node}
 use Rattle.shim_semantics.specs.Trees.{IsQuiescent}
 use Rattle.shim_semantics.specs.Walks.{walk}
-use Rattle.shim_semantics.specs.Endings.{is_empty, outcome_of_root, waits_of, wait_at}
+use Rattle.shim_semantics.specs.Endings.{is_empty, waits_of, wait_at}
 use Rattle.shim_semantics.proofs.Enabled.{empty_is_quiescent}
 use Rattle.shim_run_log.proofs.WaitsAdded.{blocked_waits}
 use Rattle.shim_laws_table.specs.Seen.{place}
 use Rattle.shim_laws_table.specs.Agrees.{used}
-use Rattle.shim_laws_table.specs.ShownTree.{node_of, node_in, fork_over, nodes_from}
+use Rattle.shim_laws_table.specs.ShownTree.{node_of}
 use Rattle.shim_laws_table.proofs.ShownTree.{root_within, AreNear}
-use Rattle.shim_records.specs.Pairs.{stands_by, stands_of}
-use Rattle.shim_records.specs.declared.record.Record.{Record}
+use Rattle.shim_records.specs.Pairs.{stands_of}
 use Rattle.shim_records.specs.declared.record.Status.{Status as Stood}
 use Rattle.shim_records.specs.declared.record.Status.TheVariants as code
 use Rattle.shim_records.proofs.Showing.{map_get}
@@ -26,7 +23,7 @@ use Rattle.shim_laws_table_events.specs.keeping.Tables.{TableView, Keeps, stands
 use Rattle.shim_laws_table_events.proofs.keeping.Moved.{from_map}
 use Rattle.shim_process_table.specs.Reading.{IsInUse}
 use Rattle.shim_run_state.specs.RunStates.{RunStateView, tree_in, KeepsTree}
-use Rattle.shim_run_state.specs.Endings.{IsRoot, outcome_by}
+use Rattle.shim_run_state.specs.Endings.{IsRoot}
 use Rattle.shim_run_state.specs.Gathering.{AddsWaits}
 
 module _ {S : Type 0} (o : Ops S) where
@@ -48,39 +45,9 @@ module _ {S : Type 0} (o : Ops S) where
       one_more = omega arith
 
   pub root_in_use : (v : TableView S) (root : Node S) → Keeps o [] v root → IsInUse v 0
-  root_in_use v root kept = let r = kept.shows.rooted in (r.first, r.state, r.sort, r.has)
-
-  pub root_has_record : (v : TableView S) → IsInUse v 0 → slice_get v.records 0 ≡ None → ⊥
-  root_has_record v u e =
-      let w = from_map stands_of (slice_get v.records 0) (used u.0 u.2) (sym (map_get stands_of v.records 0) ∙ u.3.stands_so) in
-      none_some w.0 (sym e ∙ w.1)
+  root_in_use v root kept = let r = kept.shows.rooted in (r.first, r.state, r.status, r.has)
 
   -- ---- what came of it
-
-  fork_blocked : (s : S) (x : Option (Nodes S)) (root : Node S) → fork_over s x ≡ Some root → Blocked ≡ outcome_of_root root
-  fork_blocked s None root h = none_some root h
-  fork_blocked s (Some ks) root h = ap outcome_of_root (some_same (Forked s ks) root h)
-
-  by_standing : (nodes : ℕ → Option (Node S)) (s : S) (first : ℕ) (x : Stood) (root : Node S) → node_in nodes (Some s) (Some (stands_by first x)) ≡ Some root → outcome_by x ≡ outcome_of_root root
-  by_standing nodes s first code.Free root h = none_some root h
-  by_standing nodes s first code.Live root h = ap outcome_of_root (some_same (Live s) root h)
-  by_standing nodes s first (code.Forked n) root h = fork_blocked s (nodes_from nodes first n) root h
-  by_standing nodes s first code.Ended root h = ap outcome_of_root (some_same (Ended s) root h)
-  by_standing nodes s first (code.Dead x) root h = ap outcome_of_root (some_same (Dead s x) root h)
-
-  root_came : (v : TableView S) (levels : ℕ) (root : Node S) (r : Record) → slice_get v.records 0 ≡ Some r → node_of v.states (stands v) levels 0 ≡ Some root → outcome_by r.status ≡ outcome_of_root root
-  root_came v zero root r e h = none_some root h
-  root_came v (suc m) root r e h = on (slice_get v.states 0) refl
-    where
-      said : slice_get (stands v) 0 ≡ Some (stands_of r)
-      said = map_get stands_of v.records 0 ∙ ap (option_map stands_of) e
-
-      on : (x : Option S) → slice_get v.states 0 ≡ x → outcome_by r.status ≡ outcome_of_root root
-      on None f = none_some root ((λ t. node_in (node_of v.states (stands v) m) (sym f t) (sym said t)) ∙ h)
-      on (Some s) f = by_standing (node_of v.states (stands v) m) s r.first r.status root ((λ t. node_in (node_of v.states (stands v) m) (sym f t) (sym said t)) ∙ h)
-
-  pub root_outcome : (v : TableView S) (levels : ℕ) (root : Node S) (r : Record) → slice_get v.records 0 ≡ Some r → IsRoot v levels root → outcome_by r.status ≡ outcome_of_root root
-  root_outcome v levels root r e is = root_came v levels root r e is.is
 
   -- ---- who waits
 

@@ -1,5 +1,5 @@
 -- Several processes have changed, and their numbers and the forks above them are listed.
-use Rattle.std.proofs.Common.{◌≡◌, ◌<◌, ◌⊎◌, inl, inr, ℕ, true, Some, List, ◌++◌, length, refl, ap, ◌∙◌, arith}
+use Rattle.std.proofs.Common.{◌≡◌, ◌<◌, ◌⊎◌, inl, inr, ℕ, true, Some, List, [], ◌++◌, length, refl, ap, ◌∙◌, arith}
 use Rattle.shim_local.specs.Process.{Ops}
 use Rattle.shim_local.specs.Laws.{LocalLaws}
 use Rattle.shim_semantics.specs.Trees.{Event, steps}
@@ -37,8 +37,8 @@ module _ {S : Type 0} (o : Ops S) (before behind : RunStateView S) (numbers : Li
   -- each number has its path
   paths : (i : ℕ) → path_at o behind.table i ≡ path_at o before.table i
   paths i = same_path_at o before.table behind.table i
-      (λ u. let w = changed.still i u.first u.process u.sort_is u.has in path_of o behind.table i w.0 w.1 w.2 w.3 ∙ ap Some w.4)
-      (λ u. let w = changed.only i u.first u.process u.sort_is u.has in record { first = w.0; process = w.1; sort_is = w.2; has = w.3 })
+      (λ u. let w = changed.still i u.first u.process u.status_is u.has in path_of o behind.table i w.0 w.1 w.2 w.3 ∙ ap Some w.4)
+      (λ u. let w = changed.only i u.first u.process u.status_is u.has in record { first = w.0; process = w.1; status_is = w.2; has = w.3 })
 
   -- so the own steps are counted as before
   pub counts_stay : behind.process_lists.own ≡ before.process_lists.own → behind.past ≡ before.past → counts_in o behind ≡ counts_in o before
@@ -71,7 +71,7 @@ module _ {S : Type 0} (o : Ops S) (before behind : RunStateView S) (numbers : Li
     several_keep few = keeps_on o law before behind kept (record {
       shows = h.shows;
       few = let more = h.counts in omega (arith, few, more);
-      looks = each_suffices o numbers before.table behind.table before.process_lists.awake behind.process_lists.awake again.awake again.within touches;
+      looks = each_suffices o [] before.table behind.table (tree_in o behind).root h.shows numbers before.process_lists.awake behind.process_lists.awake again.awake again.within touches;
       awake = again.awake.kept;
       quiet = still_listed o before behind kept (flags law kept e h none again.held) (stay law kept e h none again.held) again.quiet.kept fresh;
       held = still_held o before behind kept (flags law kept e h none again.held) (stay law kept e h none again.held);

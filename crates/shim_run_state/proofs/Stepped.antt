@@ -1,5 +1,5 @@
 -- One process did quiet steps, in place or elsewhere.
-use Rattle.std.proofs.Common.{◌≡◌, ◌≢◌, ◌≤◌, ◌<◌, ◌+◌, ℕ, false, length, sym, subst, arith}
+use Rattle.std.proofs.Common.{◌≡◌, ◌≢◌, ◌≤◌, ◌<◌, ◌+◌, ℕ, false, sym, subst, arith}
 use Rattle.std.specs.Prelude.{slice_get, Some}
 use Rattle.shim_local.specs.Process.{Ops}
 use Rattle.shim_local.specs.Laws.{LocalLaws}
@@ -15,7 +15,7 @@ use Rattle.shim_laws_table_events.specs.keeping.Moves.{AdvancesBy}
 use Rattle.shim_laws_table_events.specs.waking.Awake.{is_listed}
 use Rattle.shim_process_table.specs.Reading.{IsInUse}
 use Rattle.shim_process_table.specs.Stepping.{HasBecome, IsBeforeQuiet, StepsHere}
-use Rattle.shim_process_table.specs.Touching.{TouchesAbove}
+use Rattle.shim_process_table.specs.Touching.{WakesAbove}
 use Rattle.shim_run_state.specs.ProcessLists.{ProcessListsView, Serves}
 use Rattle.shim_run_state.specs.RunStates.{RunStateView, tree_in, IsQuietAt, IsHeld, KeepsTree}
 use Rattle.shim_run_state.specs.Holding.{Releases, StepsIn}
@@ -69,11 +69,11 @@ module _ {S : Type 0} (o : Ops S) (law : LocalLaws o) (before behind : RunStateV
     pub advanced_by : Advanced o law before behind n l d.last
     advanced_by = steps_on o law before behind number n l d.last kept.shows q d.chain d.advances told.output told.histories told.logs (counts_more o before behind number q.first l d.last lives lives q.has d.becomes path told.past n counted) told.events
 
-    pub steps_keep : (forks : ℕ) → steps (tree_in o before) + n ≤ 4000000 → TouchesAbove forks number before.table behind.table → ListsAwake o behind.table forks number before.process_lists.awake behind.process_lists.awake → ListsQuiet o behind.table number before.process_lists.quiet behind.process_lists.quiet → number < length behind.process_lists.awake → KeepsTree o behind
-    steps_keep forks few touches awake quiet within =
+    pub steps_keep : (forks : ℕ) → steps (tree_in o before) + n ≤ 4000000 → WakesAbove o forks number before.table behind.table → ListsAwake o behind.table forks number before.process_lists.awake behind.process_lists.awake → ListsQuiet o behind.table number before.process_lists.quiet behind.process_lists.quiet → KeepsTree o behind
+    steps_keep forks few wakes awake quiet =
         let a = advanced_by in
         let all = a.counts in
-        one_moved o law before behind kept number q.first l d.last lives lives q.has d.becomes flags free forks a.shows (omega (arith, few, all)) touches awake quiet within (as_many_counts number n before.process_lists.own behind.process_lists.own counted)
+        one_moved o law before behind kept number q.first l d.last lives lives q.has d.becomes flags free forks a.shows (omega (arith, few, all)) wakes awake quiet (as_many_counts number n before.process_lists.own behind.process_lists.own counted)
 
     -- it was held, and isn't
     pub releases : IsHeld o before number l → (last : S) → QuietSteps o n l last → Releases o before behind number n l last

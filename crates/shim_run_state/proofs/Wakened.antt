@@ -2,21 +2,27 @@
 use Rattle.std.proofs.Common.{◌≡◌, ◌⊎◌, ◌<◌, ◌+◌, inl, inr, ℕ, zero, suc, Bool, true, Some, List, [], ◌∷◌, length, slice_set, refl, sym, ap, subst, ◌∙◌}
 use Rattle.std.specs.Prelude.{slice_get}
 use Rattle.std.proofs.lemmas.List.{length-set}
-use Rattle.shim_base.proofs.Facts.{some_same, none_some}
+use Rattle.shim_base.specs.Paths.{Path}
+use Rattle.shim_base.proofs.Facts.{some_same, none_some, true_or_false}
 use Rattle.shim_local.specs.Process.{Ops}
-use Rattle.shim_laws_table.specs.Seen.{ends}
+use Rattle.shim_semantics.specs.Nodes.{Node}
+use Rattle.shim_semantics.proofs.HowMany.{clash}
+use Rattle.shim_laws_table.specs.Seen.{ProcessStatus, ends}
+use Rattle.shim_laws_table.proofs.SameTrees.{same_or_not}
 use Rattle.shim_records.specs.Members.{IsAmong}
 use Rattle.shim_records.specs.Pairs.{up_in}
 use Rattle.shim_records.specs.Ways.{IsAbove}
-use Rattle.shim_laws_table_events.specs.keeping.Tables.{TableView, HasProcessState}
+use Rattle.shim_laws_table_events.specs.keeping.Tables.{TableView, HasProcessState, Keeps}
 use Rattle.shim_laws_table_events.specs.waking.Awake.{is_listed}
-use Rattle.shim_laws_table_events.specs.waking.Looks.{IsIdle, has_ended, is_quiet}
+use Rattle.shim_laws_table_events.specs.waking.Looks.{HasNothingDue, has_ended, is_quiet}
+use Rattle.shim_laws_table_events.specs.waking.NoMore.{TellsNoMore}
 use Rattle.shim_laws_table_events.specs.waking.Waking.{Wakes}
+use Rattle.shim_laws_table_events.proofs.waking.NoMore.{no_more_is_told}
 use Rattle.shim_process_table.specs.Listing.{ListingIs}
-use Rattle.shim_process_table.specs.Touching.{TouchesAbove, TouchesForking, TouchesEach, ListsAbove}
+use Rattle.shim_process_table.specs.Touching.{WakesAbove, TouchesForking, TouchesEach, ListsAbove}
 use Rattle.shim_process_table.specs.declared.listing.Listing.{Listing}
 use Rattle.shim_process_table.specs.declared.listing.Listing.TheVariants as code
-use Rattle.shim_process_table.proofs.Above.{wake_list, wake_forked, wake_each}
+use Rattle.shim_process_table.proofs.Above.{wake_forked, wake_each}
 use Rattle.shim_process_table.proofs.Parents.{still_listed, now_listed, only_listed, as_long}
 use Rattle.shim_run_state.specs.Several.{ListsEach}
 use Rattle.shim_run_state.specs.Waking.{IsPutIn, ListsAwake, ListsQuiet}
@@ -24,7 +30,7 @@ use Rattle.shim_run_state.specs.Waking.{IsPutIn, ListsAwake, ListsQuiet}
 -- ---- a number is put in the list in which it belongs, and the forks above are listed
 
 module _ {S : Type 0} (o : Ops S) (v : TableView S) (number : ℕ) where
-  pub awake_listed : (n : ℕ) (listing : Listing) (awake quiet awakes quiets now : List Bool) → ListingIs o v number listing → IsPutIn listing number awake quiet awakes quiets → number < length awake → ListsAbove v (n + 1) number awakes now → ListsAwake o v n number awake now
+  pub awake_listed : (n : ℕ) (listing : Listing) (awake quiet awakes quiets now : List Bool) → ListingIs o v number listing → IsPutIn listing number awake quiet awakes quiets → number < length awake → ListsAbove v n number awakes now → ListsAwake o v n number awake now
   awake_listed n code.Nowhere awake quiet awakes quiets now is put within lists = record {
     kept = λ i e. lists.kept i (ap (λ z. is_listed z i) put.0 ∙ e);
     mine = inr is.0;
@@ -72,34 +78,51 @@ put_long code.Awake number awake quiet awakes quiets put = as_long awake awakes 
 
 -- ---- the numbers that are to be looked at again
 
--- Some numbers are to be looked at again: what isn't as before is among them, and they are listed, unless they tell of nothing but a quiet step.
-pub record Suffices {S : Type 0} (o : Ops S) (before behind : TableView S) (now : List Bool) : Type 0 where
-  pub again : List Bool
-  pub wakes : Wakes before behind (is_listed again)
-  pub to_look : (i : ℕ) → is_listed again i ≡ true → (is_listed now i ≡ true) ⊎ IsIdle o behind i
+-- each record in use is listed, or tells of no more than before
+abbrev pub Suffices : {S : Type 0} → Ops S → TableView S → TableView S → List Bool → Type 0
+Suffices {S} o before behind now = (i f : ℕ) (s : S) (k : ProcessStatus) → HasProcessState behind i f s k → (is_listed now i ≡ true) ⊎ TellsNoMore o before behind i
 
-module _ {S : Type 0} (o : Ops S) (n number : ℕ) (before behind : TableView S) (old now : List Bool) (w : ListsAwake o behind n number old now) (within : number < length now) where
-  abbrev again : List Bool
-  again = slice_set now number true
+module _ {S : Type 0} (o : Ops S) (rp : Path) (before behind : TableView S) (root : Node S) (shows : Keeps o rp behind root) where
+  nothing_new : (i : ℕ) → HasNothingDue o behind i → TellsNoMore o before behind i
+  nothing_new i idle = (no_more_is_told o).idle before behind i idle
 
-  mine : is_listed again number ≡ true
-  mine = now_listed now again number refl within
+  -- so it is where some numbers are to be looked at again, and they are listed, unless they tell of nothing but a quiet step
+  pub woken_suffices : (again now : List Bool) → Wakes before behind (is_listed again) → ((i : ℕ) → is_listed again i ≡ true → (is_listed now i ≡ true) ⊎ HasNothingDue o behind i) → Suffices o before behind now
+  woken_suffices again now wakes to_look i f s k has = elim (true_or_false (is_listed again i)) [
+    | inl e ↦ elim (to_look i e) [ inl y ↦ inl y | inr idle ↦ inr (nothing_new i idle) ]
+    | inr out ↦ inr ((no_more_is_told o).as_before rp before behind root (is_listed again) i shows wakes out)
+  ]
 
-  more : (i : ℕ) → is_listed now i ≡ true → is_listed again i ≡ true
-  more i e = still_listed now again number refl i e
+  -- and where no record is readier but that of a process, and the forks above it that are listed with it
+  pub one_suffices : (n number : ℕ) (old now : List Bool) → ListsAwake o behind n number old now → WakesAbove o n number before behind → Suffices o before behind now
+  one_suffices n number old now w wakes i f s k has = elim (true_or_false (is_listed now i)) [
+    | inl e ↦ inl e
+    | inr out ↦ elim (same_or_not i number) [
+      | inl same ↦ elim (subst (λ z. (is_listed now z ≡ true) ⊎ HasNothingDue o behind z) (sym same) w.mine) [ inl y ↦ inl y | inr idle ↦ inr (nothing_new i idle) ]
+      | inr far ↦ inr ((no_more_is_told o).no_readier rp before behind root i shows (wakes.others i f s k has far (λ x. clash (is_listed now i) (w.above i x) out)))
+    ]
+  ]
 
-  above : (i : ℕ) → IsAbove (up_in behind.records) (n + 1) number i → is_listed again i ≡ true
-  above i x = more i (w.above i x)
+  -- ---- where a process forked, and its new children are listed, too
 
-  to_look : (i : ℕ) → is_listed again i ≡ true → (is_listed now i ≡ true) ⊎ IsIdle o behind i
-  to_look i e = elim (only_listed now again number refl i e) [ inl y ↦ inl y | inr same ↦ subst (λ z. (is_listed now z ≡ true) ⊎ IsIdle o behind z) (sym same) w.mine ]
+  module _ (n number : ℕ) (old now : List Bool) (w : ListsAwake o behind (n + 1) number old now) (within : number < length now) where
+    abbrev again : List Bool
+    again = slice_set now number true
 
-  pub one_suffices : TouchesAbove n number before behind → Suffices o before behind now
-  one_suffices touches = record { again = again; wakes = wake_list n number before behind again mine above touches; to_look = to_look }
+    mine : is_listed again number ≡ true
+    mine = now_listed now again number refl within
 
-  -- and so it is where the process forked, and its new children are listed, too
-  pub forked_suffices : (first count : ℕ) → ((b : ℕ) → b < count → is_listed now (first + b) ≡ true) → TouchesForking n number first count before behind → Suffices o before behind now
-  forked_suffices first count new touches = record { again = again; wakes = wake_forked n number before behind again mine above first count (λ b less. more (first + b) (new b less)) touches; to_look = to_look }
+    more : (i : ℕ) → is_listed now i ≡ true → is_listed again i ≡ true
+    more i e = still_listed now again number refl i e
+
+    above : (i : ℕ) → IsAbove (up_in behind.records) (n + 1) number i → is_listed again i ≡ true
+    above i x = more i (w.above i x)
+
+    to_look : (i : ℕ) → is_listed again i ≡ true → (is_listed now i ≡ true) ⊎ HasNothingDue o behind i
+    to_look i e = elim (only_listed now again number refl i e) [ inl y ↦ inl y | inr same ↦ subst (λ z. (is_listed now z ≡ true) ⊎ HasNothingDue o behind z) (sym same) w.mine ]
+
+    pub forked_suffices : (first count : ℕ) → ((b : ℕ) → b < count → is_listed now (first + b) ≡ true) → TouchesForking n number first count before behind → Suffices o before behind now
+    forked_suffices first count new touches = woken_suffices again now (wake_forked n number before behind again mine above first count (λ b less. more (first + b) (new b less)) touches) to_look
 
 -- ---- several of them
 
@@ -126,9 +149,8 @@ only_these (m ∷ ms) flags i e = elim (only_these ms (slice_set flags m true) i
   | inr w ↦ inr (suc w.0, w.1)
 ]
 
-pub each_suffices : {S : Type 0} (o : Ops S) (numbers : List ℕ) (before behind : TableView S) (old now : List Bool) → ListsEach o behind numbers old now → ((m : ℕ) → IsAmong m numbers → m < length now) → TouchesEach numbers before behind → Suffices o before behind now
-each_suffices o numbers before behind old now w within touches = record {
-  again = all_set numbers now;
-  wakes = wake_each numbers before behind (all_set numbers now) (λ m at e. all_there numbers now m at e (within m (at, e))) (λ m at i e x. all_more numbers now i (w.above m i (at, e) x)) touches;
-  to_look = λ i e. elim (only_these numbers now i e) [ inl y ↦ inl y | inr g ↦ w.mine i g ];
-}
+pub each_suffices : {S : Type 0} (o : Ops S) (rp : Path) (before behind : TableView S) (root : Node S) → Keeps o rp behind root → (numbers : List ℕ) (old now : List Bool) → ListsEach o behind numbers old now → ((m : ℕ) → IsAmong m numbers → m < length now) → TouchesEach numbers before behind → Suffices o before behind now
+each_suffices o rp before behind root shows numbers old now w within touches =
+    woken_suffices o rp before behind root shows (all_set numbers now) now
+    (wake_each numbers before behind (all_set numbers now) (λ m at e. all_there numbers now m at e (within m (at, e))) (λ m at i e x. all_more numbers now i (w.above m i (at, e) x)) touches)
+    (λ i e. elim (only_these numbers now i e) [ inl y ↦ inl y | inr g ↦ w.mine i g ])

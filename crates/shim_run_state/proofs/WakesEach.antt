@@ -10,7 +10,7 @@ use Rattle.shim_records.specs.Pairs.{up_in}
 use Rattle.shim_records.specs.Ways.{IsAbove}
 use Rattle.shim_laws_table_events.specs.keeping.Tables.{TableView}
 use Rattle.shim_laws_table_events.specs.waking.Awake.{is_listed}
-use Rattle.shim_laws_table_events.specs.waking.Looks.{IsIdle}
+use Rattle.shim_laws_table_events.specs.waking.Looks.{HasNothingDue}
 use Rattle.shim_process_table.specs.Reading.{IsForAll}
 use Rattle.shim_run_state.specs.RunStates.{IsQuietAt}
 use Rattle.shim_run_state.specs.Several.{IsOneOrAbove, ListsEach, ListsEachQuiet}
@@ -20,7 +20,7 @@ module _ {S : Type 0} (o : Ops S) (v : TableView S) (numbers : List ℕ) where
   -- the numbers before this place are listed, unless they tell of nothing but a quiet step
   pub record ListedSoFar (place : ℕ) (old now : List Bool) : Type 0 where
     pub kept : (i : ℕ) → is_listed old i ≡ true → is_listed now i ≡ true
-    pub mine : (at m : ℕ) → at < place → slice_get numbers at ≡ Some m → (is_listed now m ≡ true) ⊎ IsIdle o v m
+    pub mine : (at m : ℕ) → at < place → slice_get numbers at ≡ Some m → (is_listed now m ≡ true) ⊎ HasNothingDue o v m
     pub above : (at m i : ℕ) → at < place → slice_get numbers at ≡ Some m → IsAbove (up_in v.records) (4294967295 + 1) m i → is_listed now i ≡ true
     pub only : (i : ℕ) → is_listed now i ≡ true → (is_listed old i ≡ true) ⊎ IsOneOrAbove v numbers i
     pub as_many : length now ≡ length old
@@ -44,11 +44,11 @@ module _ {S : Type 0} (o : Ops S) (v : TableView S) (numbers : List ℕ) where
     is : (at n : ℕ) → at ≡ place → slice_get numbers at ≡ Some n → m ≡ n
     is at n e g = some_same m n (sym there ∙ (ap (slice_get numbers) (sym e) ∙ g))
 
-    pub one_listed : ListedSoFar place old now → ListsAwake o v 4294967295 m now next → ListedSoFar (place + 1) old next
+    pub one_listed : ListedSoFar place old now → ListsAwake o v (4294967295 + 1) m now next → ListedSoFar (place + 1) old next
     one_listed so lists = record {
       kept = λ i e. lists.kept i (so.kept i e);
       mine = λ at n less g. elim (same_or_not at place) [
-        | inl e ↦ subst (λ z. (is_listed next z ≡ true) ⊎ IsIdle o v z) (is at n e g) lists.mine
+        | inl e ↦ subst (λ z. (is_listed next z ≡ true) ⊎ HasNothingDue o v z) (is at n e g) lists.mine
         | inr far ↦ elim (so.mine at n (still_less at place far less) g) [ inl y ↦ inl (lists.kept n y) | inr y ↦ inr y ]
       ];
       above = λ at n i less g w. elim (same_or_not at place) [

@@ -54,7 +54,7 @@ pub record Releases {S : Type 0} (o : Ops S) (before after : RunStateView S) (nu
   pub is_not : (s : S) → IsHeld o after number s → ⊥
   pub others : (i : ℕ) (s : S) → i ≢ number → IsHeld o before i s ↔ IsHeld o after i s
 
--- the process with this number, which isn't held, did up to so many quiet steps
+-- the process in this state did up to so many quiet steps, and the same processes are held
 pub record StepsIn {S : Type 0} (o : Ops S) (before after : RunStateView S) (number most : ℕ) (quiet : Quiet) (process : S) : Type 0 where
   pub last : S
   pub chain : QuietSteps o quiet.taken process last

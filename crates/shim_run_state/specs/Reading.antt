@@ -4,15 +4,15 @@ use Rattle.shim_local.specs.Process.{Ops}
 use Rattle.shim_semantics.specs.Trees.{Event}
 use Rattle.shim_records.specs.Members.{IsAmong}
 use Rattle.shim_laws_table_events.specs.keeping.Tables.{TableView}
-use Rattle.shim_laws_table_events.specs.waking.Looks.{IsIdle, IsDue}
+use Rattle.shim_laws_table_events.specs.waking.Looks.{HasNothingDue, IsDue}
 use Rattle.shim_process_table.specs.Stepping.{IsBeforeQuiet}
 
--- whether none of the processes with these numbers stands before a quiet step
+-- true: no process with one of these numbers is before a quiet step; false: some process is
 abbrev pub NoneQuiet : {S : Type 0} → Ops S → TableView S → List ℕ → Bool → Type 0
 NoneQuiet o v numbers true = (n : ℕ) → IsAmong n numbers → IsBeforeQuiet o n v false
 NoneQuiet o v numbers false = (n : ℕ) × IsBeforeQuiet o n v true
 
--- whether nothing but a quiet step can happen at any of these numbers
+-- true: nothing but a quiet step can happen at any of these numbers; false: some event can happen at some number
 abbrev pub NoneDue : {S : Type 0} → Ops S → TableView S → List ℕ → Bool → Type 0
-NoneDue o v numbers true = (n : ℕ) → IsAmong n numbers → IsIdle o v n
+NoneDue o v numbers true = (n : ℕ) → IsAmong n numbers → HasNothingDue o v n
 NoneDue {S} o v numbers false = (n : ℕ) × (e : Event) × IsDue o v n e

@@ -20,6 +20,6 @@ pub record PassesOn {S : Type 0} (o : Ops S) (before : TableView S) (s : Process
   pub serves : Serves before s → Serves behind t
   pub keeps : (w : RunStateView S) → KeepsTree o (with_table w before s) → KeepsTree o (with_table w behind t)
 
--- The history of the channel has this value behind the others; the first one comes with the name that its first receiver has for the channel.
+-- the value of a meeting of the channel came behind the others, and a first one with the name that it brings
 abbrev pub RecordsValue : {S : Type 0} → Ops S → TableView S → Channel → ℤ → finite.FinMap channel_order Met → finite.FinMap channel_order Met → Type 0
 RecordsValue {S} o v c x old new = (rp : Path) (root : Node S) → Keeps o rp v root → new ≡ recorded old c (unwrap_or (first_name o c root) 0) x

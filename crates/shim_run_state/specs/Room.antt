@@ -18,7 +18,7 @@ pub record IsRoomier (before behind : ProcessListsView) : Type 0 where
   pub quiet : AreRaised before.quiet behind.quiet
   pub held : IsLonger false before.held behind.held
 
--- so it is in a tree
+-- the lists of a run state have more room, and nothing else of it has changed
 pub record HasMoreRoom {S : Type 0} (before behind : RunStateView S) : Type 0 where
   pub begun : behind.begun ≡ before.begun
   pub table : behind.table ≡ before.table

@@ -24,7 +24,7 @@ pub record RunStateView (S : Type 0) : Type 0 where
   pub logs : finite.FinMap path_order (List LogWhat)
   -- what the scheduler keeps of each process
   pub process_lists : ProcessListsView
-  -- how many steps of its own each process did whose fork has closed
+  -- how many steps of its own each process did that is gone, because the fork that made it has closed
   pub past : List StepCount
   -- how many events were no process's own step
   pub events : ℕ

@@ -10,7 +10,7 @@ use Rattle.shim_process_table.specs.declared.due.Due.TheVariants as code
 use Rattle.shim_run_state.specs.RunStates.{RunStateView, tree_in}
 use Rattle.shim_run_state.specs.Holding.{SameHeld}
 
--- what can happen and is no quiet step is still looked for at a listed number
+-- if the old list has each number at which an event other than a quiet step is enabled, the new one has them, too
 pub record StillAwake {S : Type 0} (o : Ops S) (v : TableView S) (old new : List Bool) : Type 0 where
   pub kept : (t : Tree S) → Keeps o [] v t.root → AreListed o v t old → AreListed o v t new
   pub as_many : length new ≡ length old

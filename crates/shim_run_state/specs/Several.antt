@@ -6,7 +6,7 @@ use Rattle.shim_records.specs.Pairs.{up_in}
 use Rattle.shim_records.specs.Ways.{IsAbove, most_forks}
 use Rattle.shim_laws_table_events.specs.keeping.Tables.{TableView}
 use Rattle.shim_laws_table_events.specs.waking.Awake.{is_listed}
-use Rattle.shim_laws_table_events.specs.waking.Looks.{IsIdle}
+use Rattle.shim_laws_table_events.specs.waking.Looks.{HasNothingDue}
 use Rattle.shim_run_state.specs.ProcessLists.{ProcessListsView}
 use Rattle.shim_run_state.specs.RunStates.{IsQuietAt}
 
@@ -17,7 +17,7 @@ IsOneOrAbove {S} v numbers i = (m : ℕ) × IsAmong m numbers × ((i ≡ m) ⊎ 
 -- What was listed is, and so are those of these numbers that tell of more than a quiet step, and all that is above each, and nothing else but these numbers.
 pub record ListsEach {S : Type 0} (o : Ops S) (v : TableView S) (numbers : List ℕ) (old new : List Bool) : Type 0 where
   pub kept : (i : ℕ) → is_listed old i ≡ true → is_listed new i ≡ true
-  pub mine : (m : ℕ) → IsAmong m numbers → (is_listed new m ≡ true) ⊎ IsIdle o v m
+  pub mine : (m : ℕ) → IsAmong m numbers → (is_listed new m ≡ true) ⊎ HasNothingDue o v m
   pub above : (m i : ℕ) → IsAmong m numbers → IsAbove (up_in v.records) (most_forks + 1) m i → is_listed new i ≡ true
   pub only : (i : ℕ) → is_listed new i ≡ true → (is_listed old i ≡ true) ⊎ IsOneOrAbove v numbers i
   pub as_many : length new ≡ length old

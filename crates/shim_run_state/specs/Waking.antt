@@ -6,7 +6,7 @@ use Rattle.shim_records.specs.Waiting.{Enqueues}
 use Rattle.shim_records.specs.Ways.{IsAbove}
 use Rattle.shim_laws_table_events.specs.keeping.Tables.{TableView}
 use Rattle.shim_laws_table_events.specs.waking.Awake.{is_listed}
-use Rattle.shim_laws_table_events.specs.waking.Looks.{IsIdle}
+use Rattle.shim_laws_table_events.specs.waking.Looks.{HasNothingDue}
 use Rattle.shim_process_table.specs.declared.listing.Listing.{Listing}
 use Rattle.shim_process_table.specs.declared.listing.Listing.TheVariants as code
 use Rattle.shim_run_state.specs.ProcessLists.{ProcessListsView}
@@ -18,12 +18,12 @@ IsPutIn code.Nowhere number awake quiet awakes quiets = (awakes ≡ awake) × (q
 IsPutIn code.Quiet number awake quiet awakes quiets = (awakes ≡ awake) × Enqueues number quiet quiets
 IsPutIn code.Awake number awake quiet awakes quiets = Enqueues number awake awakes × (quiets ≡ quiet)
 
--- What was listed is, so are the first n + 1 forks above this number, and so is the number itself unless its record tells of nothing but a quiet step. Nothing else is.
+-- What was listed is, so are the first n forks above this number, and so is the number itself unless its record tells of nothing but a quiet step. Nothing else is.
 pub record ListsAwake {S : Type 0} (o : Ops S) (v : TableView S) (n number : ℕ) (old new : List Bool) : Type 0 where
   pub kept : (i : ℕ) → is_listed old i ≡ true → is_listed new i ≡ true
-  pub mine : (is_listed new number ≡ true) ⊎ IsIdle o v number
-  pub above : (i : ℕ) → IsAbove (up_in v.records) (n + 1) number i → is_listed new i ≡ true
-  pub only : (i : ℕ) → is_listed new i ≡ true → (is_listed old i ≡ true) ⊎ ((i ≡ number) ⊎ IsAbove (up_in v.records) (n + 1) number i)
+  pub mine : (is_listed new number ≡ true) ⊎ HasNothingDue o v number
+  pub above : (i : ℕ) → IsAbove (up_in v.records) n number i → is_listed new i ≡ true
+  pub only : (i : ℕ) → is_listed new i ≡ true → (is_listed old i ≡ true) ⊎ ((i ≡ number) ⊎ IsAbove (up_in v.records) n number i)
   pub as_many : length new ≡ length old
 
 -- what was listed is, and so is this number, if its process stands before a quiet step, and nothing else
@@ -39,7 +39,7 @@ pub record HasCounted (number n : ℕ) (old new : List ℕ) : Type 0 where
   pub there : slice_get old number ≡ Some count
   pub is : new ≡ slice_set old number (count + n)
 
--- whoever stands before a quiet step and isn't held is still listed
+-- if each process before a quiet step was listed or held, each still is
 pub record StillListed {S : Type 0} (o : Ops S) (v : TableView S) (held old new : List Bool) : Type 0 where
   pub kept : QuietAreListed o v old held → QuietAreListed o v new held
   pub as_many : length new ≡ length old
@@ -51,7 +51,7 @@ IsFirstHome {S} o v held quiet (Some number) = (l : S) × IsQuietAt o v number l
 
 -- ---- all lists together
 
--- The process with this number has changed, and at most the counts of the first n forks above it: whatever of these tells of more than a quiet step is listed, and so are the process, if it stands before one, and the next fork. Who is held stays so.
+-- The process with this number has changed, and more may be told at the first n forks above it: these are listed, and so is the process where it belongs. Who is held stays so.
 pub record Requeues {S : Type 0} (o : Ops S) (v : TableView S) (n number : ℕ) (before behind : ProcessListsView) : Type 0 where
   pub awake : ListsAwake o v n number before.awake behind.awake
   pub quiet : ListsQuiet o v number before.quiet behind.quiet

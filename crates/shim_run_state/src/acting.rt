@@ -94,7 +94,7 @@ impl<L: Local> RunState<L> {
         });
         let gone = Arrival {
             listing: self.table.listing(number),
-            forks: u32::MAX,
+            forks: u32::MAX as u64 + 1,
         };
         self.process_lists.acted(&self.table, number, 1, gone);
         self.taken += 1;
@@ -112,7 +112,8 @@ impl<L: Local> RunState<L> {
         let forks = self.table.finish_here(number);
         let gone = Arrival {
             listing: Listing::Nowhere,
-            forks,
+            // the next fork further up may read these otherwise
+            forks: forks as u64 + 1,
         };
         self.process_lists.requeue(&self.table, number, gone);
         self.events += 1;

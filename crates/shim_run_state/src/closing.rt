@@ -73,7 +73,8 @@ impl<L: Local> RunState<L> {
         tell_close(&mut self.logs, path, outcome);
         let arrival = Arrival {
             listing: self.table.listing(number),
-            forks,
+            // the next fork further up may read these otherwise
+            forks: forks as u64 + 1,
         };
         self.process_lists.requeue(&self.table, number, arrival);
         self.events += 1;

@@ -117,7 +117,8 @@ impl<L: Local> RunState<L> {
         self.process_lists.add_children(first, count);
         let arrival = Arrival {
             listing: self.table.listing(number),
-            forks,
+            // the next fork further up may read these otherwise
+            forks: forks as u64 + 1,
         };
         self.process_lists.acted(&self.table, number, 1, arrival);
         self.taken += 1;

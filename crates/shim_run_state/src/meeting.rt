@@ -3,7 +3,7 @@ ghost use Rattle.std.specs.Prelude.{◌≡◌, ◌<◌, IfOk, OnOk, OnErr};
 ghost use Rattle.std.specs.Option.{option_copied};
 ghost use Rattle.shim_semantics.specs.Nodes.{next_channel};
 ghost use Rattle.shim_semantics.specs.Trees.{steps, Meet};
-ghost use Rattle.shim_laws_table_events.specs.meetings.Sharers.{ListsSharers};
+ghost use Rattle.shim_laws_table_events.specs.meetings.Sharers.{ListsReceivers};
 ghost use Rattle.shim_laws_table_events.specs.meetings.Meetings.{IsEnabled, Declares, ReceivesOne, ReceiveAll};
 ghost use Rattle.shim_run_log.specs.Events.{event_of};
 ghost use Rattle.shim_process_table.specs.Due.{MeetsAlone, AllThere};
@@ -36,18 +36,18 @@ fn awaited<L: Local>(process: &L) -> Option<&Chan>
 }
 
 // The value comes behind the others of the channel, whose home has this number. Its name is looked for at its
-// first meeting alone, since no other one tells it.
+// first meeting alone, since no other one tells it, and among all that share the channel, which are then listed.
 fn record<L: Local>(
     table: &ProcessTable<L>,
     histories: &mut Histories,
     number: u32,
     c: &Chan,
-    sharers: &Sharers,
+    sharers: &mut Sharers,
     value: i64,
 ) -> Result<(), NoMemory>
     requires home { Declares L.ops table.now number c.now.channel }
     requires enabled { IsEnabled L.ops (Meet c.now.channel) table.now }
-    requires sharers { ListsSharers L.ops table.now c.now.channel number sharers.now }
+    ensures receivers { OnOk result (ListsReceivers L.ops table.now c.now.channel sharers.old → ListsReceivers L.ops table.now c.now.channel sharers.new) }
     ensures ok { OnOk result (RecordsValue L.ops table.now c.now.channel value histories.old histories.new) }
     ensures err { OnErr result (histories.new ≡ histories.old) }
 {
@@ -55,12 +55,13 @@ fn record<L: Local>(
     if known {
         return Ok(());
     }
+    table.sharers(number, c, sharers)?;
     let name = table.name_here(number, c, sharers);
     histories.record(c, name, value)
 }
 
 // Each of these that lives and stands at the channel receives the value, one after the other, and is put in the
-// list in which it then belongs; of the forks above it those are looked at again whose counts changed with it.
+// list in which it then belongs; of the forks above it those are looked at again at which more may be due.
 fn receive_each<L: Local>(
     table: &mut ProcessTable<L>,
     c: &Chan,
@@ -138,7 +139,7 @@ impl<L: Local> RunState<L> {
             &mut self.histories,
             number,
             &chan,
-            &self.sharers,
+            &mut self.sharers,
             value,
         )?;
         receive_each(

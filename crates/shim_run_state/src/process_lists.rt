@@ -91,9 +91,8 @@ impl ProcessLists {
         list_block(&mut self.quiet, first, count);
     }
 
-    /// The process did so many steps of its own, has come there, and with it the counts of at most so many
-    /// forks above it have changed: it is put in the list in which it belongs, if in any, and these forks and
-    /// the next one are listed to be looked at again. It takes no memory.
+    /// The process did so many steps of its own, and has come there: it is put in the list in which it belongs,
+    /// if in any, and the forks above it at which more may be due are listed. It takes no memory.
     pub(crate) fn acted<L: Local>(
         &mut self,
         table: &ProcessTable<L>,
@@ -146,8 +145,8 @@ impl ProcessLists {
         self.held[number as usize] = held;
     }
 
-    /// The first listed number of a process that stands before a quiet step and isn't held. The numbers before
-    /// it are listed no more.
+    /// The number, among those that are listed, of a process that stands before a quiet step and isn't held; it is
+    /// looked for from the one listed last on. Those that were looked at before it are listed no more.
     pub(crate) fn next_at_home<L: Local>(&mut self, table: &ProcessTable<L>) -> Option<u32>
         requires { Serves table.now self.old }
         ensures still { StillListed L.ops table.now self.old.held self.old.quiet self.new.quiet }

@@ -21,9 +21,8 @@ fn put_in(number: u32, listing: Listing, awake: &mut Worklist, quiet: &mut Workl
     }
 }
 
-/// The process with this number has come there, and with it at most the counts of so many forks above it have
-/// changed: it is put in the list in which it belongs, if in any, and these forks and the next one are listed
-/// to be looked at again. It takes no memory.
+/// The process with this number has come there: it is put in the list in which it belongs, if in any, and the
+/// forks above it at which more may be due are listed. It takes no memory.
 pub(crate) fn wake_as<L: Local>(
     table: &ProcessTable<L>,
     number: u32,
@@ -39,16 +38,15 @@ pub(crate) fn wake_as<L: Local>(
     ensures quiet { ListsQuiet L.ops table.now number quiet.old quiet.new }
 {
     put_in(number, arrival.listing, awake, quiet);
-    table.list_above(number, arrival.forks as u64 + 1, awake);
+    table.list_above(number, arrival.forks, awake);
 }
 
-/// The process with this number has changed, and with it at most the counts of so many forks above it: it is
-/// put in the list in which it belongs, if in any, and these forks and the next one are listed to be looked at
-/// again. It takes no memory.
+/// The process with this number has changed: it is put in the list in which it belongs, if in any, and so many
+/// forks above it are listed. It takes no memory.
 pub(crate) fn wake<L: Local>(
     table: &ProcessTable<L>,
     number: u32,
-    forks: u32,
+    forks: u64,
     awake: &mut Worklist,
     quiet: &mut Worklist,
 )

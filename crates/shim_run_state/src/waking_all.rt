@@ -22,6 +22,6 @@ pub(crate) fn wake_each<L: Local>(
     ensures quiet { ListsEachQuiet L.ops table.now numbers.now quiet.old quiet.new }
 {
     for place in 0..numbers.len() {
-        wake(table, numbers[place], u32::MAX, awake, quiet);
+        wake(table, numbers[place], u32::MAX as u64 + 1, awake, quiet);
     }
 }

@@ -11,6 +11,7 @@ use Rattle.shim_semantics.specs.Nodes.{Node, Nodes, Live, Forked, Ended, Dead, D
 use Rattle.shim_semantics.specs.Acts.{Acted, closed}
 use Rattle.shim_semantics.specs.Places.{at}
 use Rattle.shim_semantics.specs.Trees.{Tree}
+use Rattle.shim_semantics.proofs.Replaced.{sound_at}
 use Rattle.shim_laws_table.specs.Seen.{ProcessStatus, lives, forks, ends, dies, process_status, place}
 use Rattle.shim_laws_table.specs.Agrees.{RecordView, Has, Shows}
 use Rattle.shim_laws_table.specs.Places.{IsReplaced}
@@ -21,22 +22,26 @@ use Rattle.shim_laws_table.specs.Updating.{AreLinked, AreAtMost}
 use Rattle.shim_laws_table.specs.Dooms.{least}
 use Rattle.shim_laws_table.specs.LoweredLabels.{Labelled, LabelsOnTheWay}
 use Rattle.shim_laws_table.proofs.SameTrees.{no_fork}
+use Rattle.shim_laws_table.proofs.Foreign.{foreign_stays}
 use Rattle.shim_laws_table.proofs.Suffices.{given_suffice}
 use Rattle.shim_laws_table.specs.Sufficing.{read_leaf}
 use Rattle.shim_records.specs.Acted.{acting, AllUpdated}
 use Rattle.shim_records.specs.AllWays.{AllUpdatedAbove, none_left, one_more}
-use Rattle.shim_records.specs.Pairs.{stands_of, up_in, counts_in, leasts_in, rest_of, UncountedRecord}
+use Rattle.shim_records.specs.Pairs.{stands_of, up_in, counts_in, leasts_in, known_of, known_in, rest_of, UncountedRecord}
 use Rattle.shim_records.specs.Leaving.{HasLeft}
 use Rattle.shim_records.specs.declared.record.Record.{Record}
 use Rattle.shim_records.proofs.Acting.{acted_brings}
 use Rattle.shim_records.proofs.ManyWays.{rest_same, among_or_not}
 use Rattle.shim_records.proofs.ReadOff.{same_stands}
 use Rattle.shim_records.proofs.WholeWay.{rest_ups, kept_order}
+use Rattle.shim_records.proofs.SharingFound.{rest_known, same_known_at}
 use Rattle.shim_laws_table_events.specs.keeping.Tables.{IsFit, Keeps}
+use Rattle.shim_laws_table_events.specs.keeping.Knowing.{AreKnown}
 use Rattle.shim_laws_table_events.proofs.keeping.Forks.{as_many}
+use Rattle.shim_laws_table_events.proofs.keeping.Knowing.{known_on, acts_fewer}
 use Rattle.shim_laws_table_events.specs.closes.Laws.{ClosesKeep}
 use Rattle.shim_laws_table_events.specs.closes.Closing.{RecordWithoutStatus, without_status, LeavesIf, RecountedIf}
-use Rattle.shim_laws_table_events.proofs.closes.Saying.{leaves_said, map_length, was_item, from_map, Said, said, said_stands, going_elsewhere, going_less}
+use Rattle.shim_laws_table_events.proofs.closes.Saying.{leaves_said, map_length, said_alike, part, was_item, from_map, Said, said, said_stands, going_elsewhere, going_less}
 use Rattle.shim_laws_table_events.proofs.closes.Closed.{Begins, begins_too, Behind, behind as behind_close}
 use Rattle.shim_laws_table_events.proofs.closes.Goings.{still_go}
 use Rattle.shim_laws_table_events.proofs.closes.Labels.{on_other_counts, as_before, at_first, brings_right, others, rest_recounted, counts_recounted}
@@ -57,7 +62,7 @@ pub stands_stay : {S : Type 0} (o : Ops S) (states : List S) (s : S) (k : Proces
 stands_stay o states s k n x now left between behind d leaves walked again =
     same_stands left behind (rest_if o states s n x between behind d again ∙ rest_same (acting o s) (λ c. read_leaf o c s k) n x walked.updated) ∙ said_stands now left (leaves_said k x now left leaves)
 
--- whether a process of this sort goes on
+-- whether a process of this status goes on
 abbrev goes_on : ProcessStatus → Bool
 goes_on lives = true
 goes_on (forks n) = true
@@ -210,6 +215,25 @@ module _ {S : Type 0} (o : Ops S) (law : LocalLaws o) (rp : Path) (t : Tree S) (
       on ends f fewer y z p ey ez ep so was = less (told_going a.node ∙ ap goes_on f) fewer y z p ey ez ep so was
       on (dies x) f fewer y z p ey ez ep so was = less (told_going a.node ∙ ap goes_on f) fewer y z p ey ez ep so was
 
+  -- what is known stays, but at the fork that has closed
+  known_same : (c : Channel) (j : ℕ) → j ≢ i → known_in c behind j ≡ known_in c rs j
+  known_same c j far =
+      rest_known left behind rest_left c j
+      ∙ (same_known_at c (slice_get left j) (slice_get now j) (part said (λ (z : Said). known_of z.pairs) (slice_get left j) (slice_get now j) (said_alike said now left said_same j))
+      ∙ same_known_at c (slice_get now j) (slice_get rs j) (part without_status (λ (z : RecordWithoutStatus). known_of z.pairs) (slice_get now j) (slice_get rs j) (b.other j far)))
+
+  was_fork : (j d w : ℕ) (u : S) → Has states' (map stands_of now) j d u (forks w) → (j ≢ i) × Has states (map stands_of rs) j d u (forks w)
+  was_fork j d w u fork = elim (b.closes.only j d u (forks w) fork) [
+    | inl x ↦ no_fork a.node w b.leaf (sym x.2)
+    | inr x ↦ (x.0, x.2)
+  ]
+
+  known : (c : Channel) → AreKnown o rp states' (map stands_of now) c (known_in c behind) new
+  known c =
+      known_on o rp (record { states = states; records = rs }) t.root new kept i g l (forks n) has m a.node (subst (λ z. IsReplaced z m a.node t.root new) b.same_place b.replaced)
+      ((foreign_stays o law).given t.root m q a kept.shows.sound b.replaced.was b.acts) c (λ far. acts_fewer o law m a c (sound_at o q t.root m kept.shows.sound.below b.replaced.was) b.acts far) b.leaf states' (map stands_of now) (known_in c behind)
+      (λ j d w u fork. (was_fork j d w u fork).1) (λ j d w u fork. known_same c j (was_fork j d w u fork).0)
+
   fit : (j d : ℕ) (u : S) (h : ProcessStatus) (r : Record) → Has states' (map stands_of now) j d u h → slice_get behind j ≡ Some r → IsFit o rp u r
   fit j d u h r held e =
       let y = was_left j r e in
@@ -235,6 +259,7 @@ module _ {S : Type 0} (o : Ops S) (law : LocalLaws o) (rp : Path) (t : Tree S) (
       labels = subst (λ z. Labelled o rp states' (map stands_of behind) c z (leasts_in c behind) new) (sym (counts c)) (subst (λ z. Labelled o rp states' z c (counts_in c between) (leasts_in c behind) new) st_behind (labelled c));
     };
     going = λ j d w u v ks r fork e there. going j d w u v ks r (subst (λ z. Has states' z j d u (forks w)) st_now fork) e there;
+    known = λ c. subst (λ z. AreKnown o rp states' z c (known_in c behind) new) (sym st_now) (known c);
     fit = λ j d u h r held e. fit j d u h r (subst (λ z. Has states' z j d u h) st_now held) e;
     beside = length-set states i s ∙ (kept.beside ∙ sym (sym (map_length rest_of behind) ∙ (ap length rest_left ∙ (map_length rest_of left ∙ (sym (map_length said left) ∙ (ap length said_same ∙ (map_length said now ∙ b.long)))))));
   }

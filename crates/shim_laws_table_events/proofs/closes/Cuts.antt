@@ -8,7 +8,7 @@ use Rattle.shim_semantics.specs.Nodes.{Node}
 use Rattle.shim_laws_table.specs.Seen.{ProcessStatus}
 use Rattle.shim_laws_table.specs.Agrees.{RecordView, free, used, Has}
 use Rattle.shim_laws_table.specs.Changes.{HasClosed}
-use Rattle.shim_records.specs.Pairs.{stands_of, up_at, counts_at, least_at}
+use Rattle.shim_records.specs.Pairs.{stands_of, up_at, counts_at, least_at, known_at}
 use Rattle.shim_records.specs.declared.record.Record.{Record}
 use Rattle.shim_records.proofs.Showing.{map_get}
 use Rattle.shim_laws_table_events.specs.keeping.Tables.{Keeps}
@@ -99,7 +99,7 @@ module _ {S : Type 0} (o : Ops S) (rp : Path) (root : Node S) (states : List S) 
     shows = record {
       sound = kept.shows.sound;
       root_path = kept.shows.root_path;
-      rooted = let r = kept.shows.rooted in record { first = r.first; state = r.state; sort = r.sort; has = has_now states rs m unused 0 r.first r.state r.sort r.has; at_root = r.at_root };
+      rooted = let r = kept.shows.rooted in record { first = r.first; state = r.state; status = r.status; has = has_now states rs m unused 0 r.first r.state r.status r.has; at_root = r.at_root };
       agrees = record {
         shown = λ i f s k h. kept.shows.agrees.shown i f s k (had states rs m unused i f s k h);
         apart = λ i j f g s t k h a b e. kept.shows.agrees.apart i j f g s t k h (had states rs m unused i f s k a) (had states rs m unused j g t h b) e;
@@ -111,7 +111,7 @@ module _ {S : Type 0} (o : Ops S) (rp : Path) (root : Node S) (states : List S) 
           let fork = had states rs m unused i f s _ h in
           let w = kept.shows.agrees.below i f n s fork b less in
           ap up_at (still states rs m unused (f + b) w.0 w.1 w.2 w.3) ∙ kept.linked.parents i f n s fork b less;
-      top = let r = kept.shows.rooted in ap up_at (still states rs m unused 0 r.first r.state r.sort r.has) ∙ kept.linked.top;
+      top = let r = kept.shows.rooted in ap up_at (still states rs m unused 0 r.first r.state r.status r.has) ∙ kept.linked.top;
     };
     few = λ i f n s h. kept.few i f n s (had states rs m unused i f s _ h);
     ordered = λ i r e. kept.ordered i r (inside rs m i r e).1;
@@ -127,6 +127,7 @@ module _ {S : Type 0} (o : Ops S) (rp : Path) (root : Node S) (states : List S) 
           ap (least_at c) (still states rs m unused i f s _ fork) ∙ (kept.right c).labels i f n s l ks fork (λ none. counted (ap (counts_at c) (still states rs m unused i f s _ fork) ∙ none)) there;
     };
     going = λ i f n s l ks r h e there. kept.going i f n s l ks r (had states rs m unused i f s _ h) (inside rs m i r e).1 there;
+    known = λ c i f n s k l ks h e there. let fork = had states rs m unused i f s _ h in kept.known c i f n s k l ks fork (sym (ap (known_at c) (still states rs m unused i f s _ fork)) ∙ e) there;
     fit = λ i f s k r h e. kept.fit i f s k r (had states rs m unused i f s k h) (inside rs m i r e).1;
     beside = same_lengths states rs m kept.beside;
   }

@@ -1,5 +1,5 @@
 -- Where a process has forked, the records keep all that they kept.
-use Rattle.std.proofs.Common.{◌≡◌, ◌≢◌, ◌≤◌, inl, inr, ℕ, zero, suc, Bool, true, false, Option, Some, None, List, [], ◌∷◌, ◌++◌, map, drop, length, slice_set, refl, sym, ap, subst, ◌∙◌, arith}
+use Rattle.std.proofs.Common.{◌≡◌, ◌≢◌, ◌≤◌, ◌+◌, inl, inr, ℕ, zero, suc, Bool, true, false, Option, Some, None, List, [], ◌∷◌, ◌++◌, map, drop, length, slice_set, refl, sym, ap, subst, ◌∙◌, arith}
 use Rattle.std.specs.Prelude.{slice_get}
 use Rattle.std.specs.Option.{option_map}
 use Rattle.std.proofs.lemmas.List.{length-map, length-set}
@@ -8,6 +8,7 @@ use Rattle.shim_base.proofs.Facts.{some_same, none_some}
 use Rattle.shim_local.specs.Process.{Ops, AtFork, Parted}
 use Rattle.shim_local.specs.Laws.{LocalLaws}
 use Rattle.shim_semantics.specs.Nodes.{Nodes, Live, Forked, all_live}
+use Rattle.shim_semantics.specs.Acts.{act_live, parted, nothing}
 use Rattle.shim_semantics.specs.Places.{at, branches}
 use Rattle.shim_semantics.specs.Trees.{Tree, Own, after, own_action_at}
 use Rattle.shim_laws_table.specs.Seen.{ProcessStatus, lives, forks, place}
@@ -22,22 +23,31 @@ use Rattle.shim_laws_table.proofs.SameTrees.{same_or_not, fork_count, aside_or_f
 use Rattle.shim_laws_table.proofs.Forking.{there_is}
 use Rattle.shim_laws_table.proofs.Begun.{fork_parts, lives_no_fork, none_there}
 use Rattle.shim_laws_table.proofs.Linked.{links_follow}
+use Rattle.shim_laws_table.proofs.Sources.{sources_by_records}
 use Rattle.shim_laws_table.proofs.Tallies.{counts_tell}
-use Rattle.shim_records.specs.Pairs.{UncountedRecord, rest_of, stands_of, up_at, up_in, counts_in, leasts_in, AreOrdered}
+use Rattle.shim_records.specs.Pairs.{UncountedRecord, rest_of, stands_of, up_at, up_in, counts_in, leasts_in, known_at, known_in, AreOrdered}
+use Rattle.shim_records.specs.declared.pair.Sharing.{Sharing}
 use Rattle.shim_records.specs.declared.record.Record.{Record}
 use Rattle.shim_records.proofs.ManyWays.{rest_same}
 use Rattle.shim_records.proofs.ReadOff.{same_stands}
 use Rattle.shim_records.proofs.Showing.{map_get}
 use Rattle.shim_records.proofs.WholeWay.{rest_ups, kept_order}
+use Rattle.shim_records.proofs.SharingFound.{rest_known}
+use Rattle.shim_laws_table_events.specs.keeping.Knowing.{Knows, AreKnown}
+use Rattle.shim_laws_table_events.proofs.keeping.Knowing.{knows_aside, acts_fewer}
 use Rattle.shim_laws_table_events.specs.keeping.Tables.{TableView, HasProcessState, IsFit, Keeps}
 use Rattle.shim_laws_table_events.specs.forks.Forking.{ForksAt, ForksMove}
 use Rattle.shim_laws_table_events.proofs.forks.Above.{fork_was, same_aside, as_many_go}
 use Rattle.shim_laws_table_events.proofs.forks.Block as block
 use Rattle.shim_laws_table_events.proofs.forks.Counted as counted
+use Rattle.shim_laws_table_events.proofs.forks.Handed as handed
 use Rattle.shim_laws_table_events.proofs.forks.Lists.{block_long}
 use Rattle.shim_laws_table_events.proofs.forks.Orders.{put_ordered}
 use Rattle.shim_laws_table_events.proofs.forks.OwnSteps.{live_there, can_step}
 use Rattle.shim_laws_table_events.proofs.forks.Readied.{joining, all_ways, labels_same, ready_once}
+
+same_behind : (g b d : ℕ) → g + b ≡ g + d → b ≡ d
+same_behind g b d e = omega (arith, e)
 
 no_channel : Channel
 no_channel = record { home = []; serial = 0 }
@@ -207,6 +217,35 @@ module _ {S : Type 0} (o : Ops S) (law : LocalLaws o) (rp : Path) (t u : Tree S)
       let q = was_record records behind.records j r rest e in
       ap (λ (z : UncountedRecord). z.going) (sym q.2) ∙ going j d n s m js q.0 h q.1 there
 
+  -- ---- who shares a channel
+
+  one_carrier : (c : Channel) (b d : ℕ) (s t : S) → slice_get ks b ≡ Some s → slice_get ks d ≡ Some t → o.carries s c ≡ true → o.carries t c ≡ true → b ≡ d
+  one_carrier c b d s t e h has_s has_t =
+      let i = has_forked.born b s e in
+      let j = has_forked.born d t h in
+      same_behind g b d ((sources_by_records o).once rp states (map stands_of records) u.root c (g + b) (g + d) i.0 j.0 s t lives lives shown i.1 j.1 has_s has_t)
+
+  known_before : (c : Channel) (j d n : ℕ) (s : S) (k : Sharing) (m : S) (js : Nodes S) → HasProcessState before j d s (forks n) → known_in c before.records j ≡ Some k → at (place o rp s) u.root ≡ Some (Forked m js) → Knows o c m js k
+  known_before c j d n s k m js h e there = elim (aside_or_further (place o rp l) (place o rp s)) [
+    | inr w ↦ none_there o rp before.states (map stands_of before.records) t.root l n j d s w.0 kept.shows.agrees h (live_there o law rp before.states (map stands_of before.records) t x f l kept.shows has) w.1
+    | inl far ↦
+        knows_aside o rp before t.root u.root kept x f l lives has (Live l) (Forked p (all_live ks)) replaced given c
+        (λ out. acts_fewer o law (Live l) (record { node = Forked p (all_live ks); effects = nothing }) c (block.sound o law rp t before behind x g f l p ks kept has forked) (ap (act_live o l) stop ∙ ap (λ z. Some (record { node = parted z; effects = nothing })) parts) out) j d n s k m js h e far there
+  ]
+
+  known : (c : Channel) → AreKnown o rp states (map stands_of records) c (known_in c behind.records) u.root
+  known c j d n s k m js h e there =
+      let e' : known_in c records j ≡ Some k = sym (rest_known records behind.records rest c j) ∙ e in
+      elim (has_forked.only j d s (forks n) h) [
+        | inl w ↦
+            let now : at (place o rp s) u.root ≡ Some (Forked p (all_live ks)) = ap (λ z. at (place o rp z) u.root) w.1 ∙ (ap (λ z. at z u.root) same_place ∙ replaced.is) in
+            let both = fork_parts o no_channel p m (all_live ks) js (sym now ∙ there) in
+            let knows = handed.knows o law l p ks c k (block.sound o law rp t before behind x g f l p ks kept has forked) (stop, parts) (forked.parent.pairs.known c k (sym (ap (known_at c) (ap (slice_get records) w.0 ∙ its_own)) ∙ e')) (one_carrier c) in
+            subst (λ z. Knows o c m z k) both.1 (subst (λ z. Knows o c z (all_live ks) k) both.0 knows)
+        | inr (inl w) ↦ lives_no_fork o n (forks n) w.3 refl
+        | inr (inr w) ↦ known_before c j d n s k m js w.1 (sym (ap (known_at c) (as_before j d s (forks n) w.1 w.0)) ∙ e') there
+      ]
+
   beside : length states ≡ length behind.records
   beside =
       block_long g ks forked.born (slice_set before.states x p) (slice_set before.records x its) (sym forked.children.as_many) (length-set before.states x p ∙ (kept.beside ∙ sym (length-set before.records x its)))
@@ -224,6 +263,7 @@ module _ {S : Type 0} (o : Ops S) (law : LocalLaws o) (rp : Path) (t u : Tree S)
       labels = subst (λ z. Labelled o rp states z c (counts_in c behind.records) (leasts_in c behind.records) u.root) (sym same) (labelled c);
     };
     going = λ j d n s m js r h e there. going_behind j d n s m js r (subst (λ z. Has states z j d s (forks n)) same h) e there;
+    known = λ c. subst (λ z. AreKnown o rp states z c (known_in c behind.records) u.root) (sym same) (known c);
     fit = λ j d s k r h e. fit_behind j d s k r (subst (λ z. Has states z j d s k) same h) e;
     beside = beside;
   }

@@ -6,6 +6,7 @@ use Rattle.shim_local.specs.Laws.{LocalLaws, by_trap}
 use Rattle.shim_semantics.specs.Nodes.{Live, is_next}
 use Rattle.shim_semantics.specs.Acts.{nothing, act_live, parted}
 use Rattle.shim_semantics.specs.Trees.{Own, own_action_at}
+use Rattle.shim_semantics.proofs.HowMany.{one_for_one}
 use Rattle.shim_laws_table.specs.Seen.{lives}
 use Rattle.shim_laws_table.specs.Changes.{HasChanged}
 use Rattle.shim_laws_table.proofs.Shown.{events_are_shown}
@@ -34,7 +35,7 @@ module _ {S : Type 0} (o : Ops S) (law : LocalLaws o) where
       } in
       let shown = (events_are_shown o law).stepped rp before.states (slice_set before.states x m) st st t next.0 (Own (o.path l)) x f l (record { node = Live m; effects = nothing }) kept.shows has refl next.1 does refl change in
       let rep = own_replaced o law rp before.states st t x f l kept.shows has next.0 (record { node = Live m; effects = nothing }) next.1 does in
-      let stays : Stays o l m = record { path = law.moved_path l m sound (by_trap stop traps); given = law.moved_given l m sound (by_trap stop traps); shares = λ c far. sym (law.fork_trap_shares l m c sound stop traps) } in (
+      let stays : Stays o l m = record { path = law.moved_path l m sound (by_trap stop traps); given = law.moved_given l m sound (by_trap stop traps); shares = λ c far. sym (law.fork_trap_shares l m c sound stop traps); carries = λ c far. one_for_one (λ k. o.carries k c) l m (law.fork_trap_carries l m c sound stop traps) } in (
         next.0,
         next.1,
         moved o law rp before.states before.records before.records t.root next.0.root l m x f kept has shown rep stays (λ c. ap (λ z. is_next z c) stop) (nowhere (no_next l m sound stop traps) refl)

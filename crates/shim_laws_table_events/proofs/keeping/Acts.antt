@@ -1,12 +1,13 @@
 -- What a live process did by itself, as an event of the tree that records show.
-use Rattle.std.proofs.Common.{◌≡◌, ℕ, true, false, Some, List, map, slice_set, refl, sym, ap, subst}
+use Rattle.std.proofs.Common.{◌≡◌, ◌≤◌, ℕ, true, false, Some, List, map, slice_set, refl, sym, ap, subst}
 use Rattle.shim_base.specs.Paths.{Path, Channel}
 use Rattle.shim_base.proofs.Facts.{none_some}
 use Rattle.shim_local.specs.Process.{Ops, StopView, AtQuiet, AtNext, AtPut, AtFork, AtFinish, AtThrow, AtTrap}
 use Rattle.shim_local.specs.Laws.{LocalLaws}
-use Rattle.shim_semantics.specs.Nodes.{Live, state, is_next}
+use Rattle.shim_semantics.specs.Nodes.{Node, Live, Forked, Ended, Dead, state, is_next}
 use Rattle.shim_semantics.specs.Acts.{Acted, act_live}
 use Rattle.shim_semantics.specs.Places.{at}
+use Rattle.shim_semantics.specs.Sound.{carriers}
 use Rattle.shim_semantics.specs.Trees.{Tree, Own, End, after, own_action_at}
 use Rattle.shim_semantics.proofs.Follows as follows
 use Rattle.shim_semantics.proofs.Replaced.{sound_at}
@@ -23,6 +24,7 @@ use Rattle.shim_laws_table.proofs.CanHappen.{enabled_by_records}
 use Rattle.shim_laws_table.proofs.Foreign.{foreign_stays}
 use Rattle.shim_records.specs.Pairs.{stands_of}
 use Rattle.shim_laws_table_events.specs.keeping.Acting.{event_at_stop, LivesOnKeeps}
+use Rattle.shim_laws_table_events.proofs.keeping.Knowing.{acts_fewer}
 use Rattle.shim_laws_table_events.proofs.keeping.Moved.{Stays, moved}
 use Rattle.shim_laws_table_events.proofs.keeping.Steps.{some_of, set_changed}
 
@@ -78,11 +80,19 @@ module _ {S : Type 0} (o : Ops S) (law : LocalLaws o) where
         let agrees = one_is_shown o rp states states' stood stands t.root (put (place o rp l) a.node t.root) (Live l) a.node x f shows.agrees has refl leaf keeps.follows.path rep change in
         subst (IsReplaced (place o rp l) (Live l) a.node t.root) (one_tree o rp states' stands (put (place o rp l) a.node t.root) next.0.root shown.rooted agrees shown.agrees) rep
 
+    -- a node without children carries what its process does
+    of_leaf : (n : Node S) → is_leaf n ≡ true → (c : Channel) → carriers o c n ≤ carriers o c (Live l) → carriers o c (Live (state n)) ≤ carriers o c (Live l)
+    of_leaf (Live s) e c h = h
+    of_leaf (Ended s) e c h = h
+    of_leaf (Dead s d) e c h = h
+    of_leaf (Forked s ks) e c h = absurd cc
+
     pub stay : Stays o l (state a.node)
     stay = record {
       path = keeps.follows.path;
       given = (foreign_stays o law).given t.root (Live l) (place o rp l) a shows.sound there does;
       shares = λ c far. sym ((foreign_stays o law).shares t.root (Live l) (place o rp l) a c shows.sound there does far);
+      carries = λ c far. of_leaf a.node leaf c (acts_fewer o law (Live l) a c (sound_at o (place o rp l) t.root (Live l) shows.sound.below there) does far);
     }
 
   pub lives_on : LivesOnKeeps o

@@ -10,6 +10,7 @@ use Rattle.shim_semantics.specs.Nodes.{Node, Nodes, Live, Forked, state, goes}
 use Rattle.shim_semantics.specs.Acts.{Acted, Effects, act_live}
 use Rattle.shim_semantics.specs.Places.{at}
 use Rattle.shim_semantics.proofs.HowMany.{clash}
+use Rattle.shim_semantics.proofs.Replaced.{sound_at}
 use Rattle.shim_semantics.proofs.ReplacedNodes.{put, put_child}
 use Rattle.shim_laws_table.specs.Seen.{ProcessStatus, lives, forks, process_status, is_leaf, place, IsAside}
 use Rattle.shim_laws_table.specs.Agrees.{RecordView, used, Has, Shows}
@@ -31,7 +32,7 @@ use Rattle.shim_laws_table.proofs.LabelsBegun.{labels_begin}
 use Rattle.shim_laws_table.proofs.Leasts.{leasts_follow}
 use Rattle.shim_laws_table.proofs.LabelsLowering.{labels_lowered, not_above_root}
 use Rattle.shim_laws_table.proofs.Suffices.{given_suffice}
-use Rattle.shim_records.specs.Pairs.{stands_of, up_in, up_at, counts_in, counts_at, leasts_in, least_at, rest_of, chans_of, IsOrdered, AreOrdered}
+use Rattle.shim_records.specs.Pairs.{stands_of, up_in, up_at, counts_in, counts_at, leasts_in, least_at, known_in, rest_of, chans_of, IsOrdered, AreOrdered}
 use Rattle.shim_records.specs.Acted.{process_status_of}
 use Rattle.shim_records.specs.AllWays.{AllUpdatedAbove, none_left, one_more}
 use Rattle.shim_records.specs.Died.{IsTaken}
@@ -46,9 +47,12 @@ use Rattle.shim_records.proofs.WholeWay.{rest_ups}
 use Rattle.shim_records.proofs.ManyWays.{among_or_not}
 use Rattle.shim_records.proofs.AllLowered as labels_above
 use Rattle.shim_records.proofs.Acting.{acted_brings}
+use Rattle.shim_records.proofs.SharingFound.{knowledge, same_known}
 use Rattle.shim_laws_table_events.specs.keeping.Tables.{IsFit, Keeps}
+use Rattle.shim_laws_table_events.specs.keeping.Knowing.{AreKnown}
 use Rattle.shim_laws_table_events.specs.keeping.Acting.{left_by, marked, TakesIn, Leaves, LeavesKeep}
 use Rattle.shim_laws_table_events.proofs.keeping.Forks.{Was, carried}
+use Rattle.shim_laws_table_events.proofs.keeping.Knowing.{known_on, acts_fewer}
 use Rattle.shim_laws_table_events.proofs.keeping.Moved.{map_length}
 use Rattle.shim_laws_table_events.proofs.keeping.OneLess.{less_going, at_set, found, same_rest, all_say, left_counts, left_labels, left_ups, left_stands}
 use Rattle.shim_laws_table_events.proofs.keeping.Acts as does
@@ -280,6 +284,19 @@ module _ {S : Type 0} (o : Ops S) (law : LocalLaws o) (rp : Path) (states : List
     goings : map (λ (r : Record). r.going) leaves.counted ≡ map (λ (r : Record). r.going) rs
     goings = same_rest (λ z. z.going) leaves.labelled leaves.counted brought.0 ∙ (same_rest (λ z. z.going) ms leaves.labelled taken.rest ∙ map_set (λ r. r.going) rs x was (marked k was) leaves.there refl)
 
+    knowing : map knowledge behind ≡ map knowledge rs
+    knowing =
+        all_say x leaves.counted behind knowledge (λ r. refl) leaves.left
+        ∙ (same_rest (λ z. z.known) leaves.labelled leaves.counted brought.0 ∙ (same_rest (λ z. z.known) ms leaves.labelled taken.rest ∙ map_set knowledge rs x was (marked k was) leaves.there refl))
+
+    known : (c : Channel) → AreKnown o rp states st' c (known_in c behind) new
+    known c =
+        known_on o rp (record { states = states; records = rs }) old new kept x f l lives has (Live l) (left_by l k) rep (ap o.given (left_state l k)) c (λ far. acts_fewer o law (Live l) a c sound acts far) (left_leaf l k) states st' (known_in c behind)
+        (λ j d n t h. (was_fork j d n t h).1) (λ j d n t h. same_known rs behind knowing c j)
+      where
+        sound : o.sound l
+        sound = sound_at o (place o rp l) old (Live l) kept.shows.sound.below rep.was
+
     ordered : AreOrdered behind
     ordered i r e = let w = found (λ (r : Record). chans_of r.pairs.items) rs behind i r chans e in subst IsOrdered w.2 (kept.ordered i w.0 w.1)
 
@@ -352,6 +369,7 @@ module _ {S : Type 0} (o : Ops S) (law : LocalLaws o) (rp : Path) (states : List
       ordered = ordered;
       right = λ c. record { there = have_end c; counts = tallied_end c; labels = labelled_end c };
       going = λ j d n t u ks r fork e now. going j d n t u ks r (subst (λ z. Has states z j d t (forks n)) stands_end fork) e now;
+      known = λ c. subst (λ z. AreKnown o rp states z c (known_in c behind) new) (sym stands_end) (known c);
       fit = λ j d t h r p e. fit j d t h r (subst (λ z. Has states z j d t h) stands_end p) e;
       beside = kept.beside ∙ (sym (map_length (λ (r : Record). r.path) rs) ∙ (ap length (sym paths) ∙ map_length (λ (r : Record). r.path) behind));
     }

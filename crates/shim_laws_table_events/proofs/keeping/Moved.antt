@@ -3,25 +3,25 @@ use Rattle.std.proofs.Common.{◌≡◌, ◌≢◌, ◌≤◌, ℕ, zero, suc, B
 use Rattle.std.specs.Prelude.{slice_get, slice_set}
 use Rattle.std.specs.Option.{option_map}
 use Rattle.std.proofs.lemmas.List.{append-nil}
-use Rattle.shim_base.specs.Paths.{Path, Channel, NamedChannel, same_path, same_channel}
+use Rattle.shim_base.specs.Paths.{Path, Channel, same_path, same_channel}
 use Rattle.shim_base.proofs.Facts.{some_same, none_some, true_or_false}
 use Rattle.shim_base.proofs.SamePaths.{same_path_refl, same_path_is, same_channel_is}
-use Rattle.shim_local.specs.Process.{Ops, AtNext}
+use Rattle.shim_local.specs.Process.{Ops}
 use Rattle.shim_local.specs.Laws.{LocalLaws}
 use Rattle.shim_semantics.specs.Nodes.{Node, Nodes, Live, Forked, is_next}
 use Rattle.shim_semantics.specs.Places.{at, branches}
+use Rattle.shim_semantics.specs.Sound.{carriers}
 use Rattle.shim_semantics.proofs.HowMany.{clash}
-use Rattle.shim_semantics.proofs.Replaced.{sound_at}
 use Rattle.shim_laws_table.specs.Seen.{ProcessStatus, lives, forks, place}
 use Rattle.shim_laws_table.specs.Agrees.{RecordView, used, Has, Shows}
 use Rattle.shim_laws_table.specs.Places.{IsReplaced}
 use Rattle.shim_laws_table.specs.Changes.{HasChanged}
-use Rattle.shim_laws_table.specs.Counts.{Tally, Reading as Read, reading, going_of}
+use Rattle.shim_laws_table.specs.Counts.{Tally, Reading as Read, going_of}
 use Rattle.shim_laws_table.specs.Tallied.{Tallied, OnTheWay, HaveCounts, is_above}
 use Rattle.shim_laws_table.specs.Updating.{AreLinked, AreAtMost, UpdatedAbove, too_far, at_top, no_counts, stays, goes_on}
 use Rattle.shim_laws_table.specs.Dooms.{least_among}
 use Rattle.shim_laws_table.specs.LoweredLabels.{Labelled}
-use Rattle.shim_laws_table.proofs.SameTrees.{same_or_not, no_fork, fork_count}
+use Rattle.shim_laws_table.proofs.SameTrees.{same_or_not, no_fork}
 use Rattle.shim_laws_table.proofs.OneChange.{one_state, one_sort}
 use Rattle.shim_laws_table.proofs.Way.{above_its_own}
 use Rattle.shim_laws_table.proofs.Begun.{counts_begin}
@@ -29,21 +29,25 @@ use Rattle.shim_laws_table.proofs.Brought.{counts_follow}
 use Rattle.shim_laws_table.proofs.Linked.{links_follow}
 use Rattle.shim_laws_table.proofs.Hanging.{tied, counts_share, none_above}
 use Rattle.shim_laws_table.proofs.Leasts.{leasts_follow}
-use Rattle.shim_records.specs.Pairs.{stands_of, up_in, counts_in, leasts_in, rest_of, reading_of, UncountedRecord}
+use Rattle.shim_records.specs.Pairs.{stands_of, up_in, counts_in, leasts_in, known_in, rest_of, reading_of, UncountedRecord}
 use Rattle.shim_records.specs.declared.record.Record.{Record}
 use Rattle.shim_records.proofs.Stepping.{set_there, set_elsewhere}
 use Rattle.shim_records.proofs.Showing.{map_get}
 use Rattle.shim_records.proofs.ReadOff.{same_stands}
+use Rattle.shim_records.proofs.SharingFound.{rest_known}
 use Rattle.shim_records.proofs.WholeWay.{rest_ups, kept_order}
-use Rattle.shim_laws_table_events.specs.keeping.Tables.{TableView, IsRight, IsFit, Keeps}
+use Rattle.shim_laws_table_events.specs.keeping.Tables.{IsFit, Keeps}
 use Rattle.shim_laws_table_events.specs.keeping.Arriving.{Arrives, nowhere, there}
-use Rattle.shim_laws_table_events.proofs.keeping.Forks.{Was, carried, as_many}
+use Rattle.shim_laws_table_events.specs.keeping.Knowing.{AreKnown}
+use Rattle.shim_laws_table_events.proofs.keeping.Forks.{carried, as_many}
+use Rattle.shim_laws_table_events.proofs.keeping.Knowing.{Elsewhere, known_on}
 
 -- what stays of a process, whatever it did by itself
 pub record Stays {S : Type 0} (o : Ops S) (l s : S) : Type 0 where
   pub path : o.path s ≡ o.path l
   pub given : o.given s ≡ o.given l
   pub shares : (c : Channel) → c.home ≢ o.path l → o.shares l c ≡ o.shares s c
+  pub carries : (c : Channel) → Elsewhere (o.path l) c → carriers o c (Live s) ≤ carriers o c (Live l)
 
 pub set_length : {A : Type 0} (xs : List A) (i : ℕ) (x : A) → length (slice_set xs i x) ≡ length xs
 set_length [] i x = refl
@@ -215,6 +219,11 @@ module _ {S : Type 0} (o : Ops S) (law : LocalLaws o) (rp : Path) (states : List
         | inr w ↦ let was = kept.fit j d t k q.0 (changed.only j d t k w h) q.1 in record { path = sym path ∙ was.path; near = was.near; few = was.few }
       ]
 
+  known : (c : Channel) → AreKnown o rp states' st c (known_in c behind) new
+  known c =
+      known_on o rp (record { states = states; records = rs }) old new kept x f l lives has (Live l) (Live s) rep stay.given c (stay.carries c) refl states' st (known_in c behind)
+      (λ j d n t h. (was_fork j d n t h).1) (λ j d n t h. rest_known rs behind rest c j)
+
   pub moved : o.sound s → Keeps o rp (record { states = states'; records = behind }) new
   moved sound =
       let same : map stands_of behind ≡ st = same_stands rs behind rest in
@@ -230,6 +239,7 @@ module _ {S : Type 0} (o : Ops S) (law : LocalLaws o) (rp : Path) (states : List
           labels = subst (λ z. Labelled o rp states' z c (counts_in c behind) (leasts_in c behind) new) (sym same) (labelled c (arrived sound c).1);
         };
         going = λ j d n t u ks r fork e now. going j d n t u ks r (subst (λ z. Has states' z j d t (forks n)) same fork) e now;
+        known = λ c. subst (λ z. AreKnown o rp states' z c (known_in c behind) new) (sym same) (known c);
         fit = λ j d t k r h e. fit j d t k r (subst (λ z. Has states' z j d t k) same h) e;
         beside = set_length states x s ∙ (kept.beside ∙ (sym (map_length rest_of rs) ∙ (ap length (sym rest) ∙ map_length rest_of behind)));
       }

@@ -4,7 +4,7 @@ use Rattle.std.specs.Prelude.{slice_get}
 use Rattle.std.specs.Option.{option_map}
 use Rattle.shim_base.specs.Paths.{Channel}
 use Rattle.shim_laws_table.proofs.SameTrees.{same_or_not}
-use Rattle.shim_records.specs.Pairs.{up_in, counts_at, counts_in, least_at, leasts_in, up_at, stands_of, rest_of, UncountedRecord}
+use Rattle.shim_records.specs.Pairs.{up_in, counts_at, counts_in, least_at, leasts_in, up_at, stands_of, rest_of, UncountedRecord, known_at, known_in}
 use Rattle.shim_records.specs.Leaving.{HasLeft, alone, lost, below}
 use Rattle.shim_records.specs.declared.record.Record.{Record}
 use Rattle.shim_records.proofs.Stepping.{set_there, set_elsewhere, map_set}
@@ -50,6 +50,9 @@ module _ (x : ℕ) (before behind : List Record) where
 
   pub left_labels : (c : Channel) → HasLeft x before behind → leasts_in c behind ≡ leasts_in c before
   left_labels c h = λ t i. each_says (least_at c) (λ r. refl) h i t
+
+  pub left_known : (c : Channel) → HasLeft x before behind → (i : ℕ) → known_in c behind i ≡ known_in c before i
+  left_known c h i = each_says (known_at c) (λ r. refl) h i
 
   pub left_ups : HasLeft x before behind → up_in behind ≡ up_in before
   left_ups h = λ t i. each_says up_at (λ r. refl) h i t

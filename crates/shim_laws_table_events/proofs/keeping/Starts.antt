@@ -1,20 +1,19 @@
 -- One record of a root keeps what records keep.
-use Rattle.std.proofs.Common.{◌≡◌, ◌≤◌, ℕ, zero, suc, Some, None, List, [], ◌∷◌, ◌++◌, map, drop, length, refl, sym, ap, subst, ◌∙◌, arith}
+use Rattle.std.proofs.Common.{◌≡◌, ◌≤◌, ℕ, zero, suc, Some, [], ◌∷◌, drop, length, refl, sym, ap, subst, ◌∙◌, arith}
 use Rattle.std.specs.Prelude.{slice_get}
-use Rattle.shim_base.specs.Paths.{Path, Channel}
 use Rattle.shim_base.proofs.Facts.{some_same, none_some}
 use Rattle.shim_local.specs.Process.{Ops}
 use Rattle.shim_local.specs.Laws.{LocalLaws}
-use Rattle.shim_semantics.specs.Nodes.{Node, Live}
+use Rattle.shim_semantics.specs.Nodes.{Live}
 use Rattle.shim_semantics.specs.Places.{branches}
 use Rattle.shim_semantics.specs.Sound.{SharesItsOwn}
 use Rattle.shim_semantics.proofs.SoundEvents.{events_keep_sound}
-use Rattle.shim_laws_table.specs.Seen.{ProcessStatus, lives, forks, place}
+use Rattle.shim_laws_table.specs.Seen.{ProcessStatus, lives, forks}
 use Rattle.shim_laws_table.specs.Agrees.{used, Has, Shows}
 use Rattle.shim_laws_table.proofs.Shown.{start_shows}
 use Rattle.shim_records.specs.Pairs.{stands_of, chans_of, IsOrdered}
 use Rattle.shim_records.specs.declared.record.Record.{Record}
-use Rattle.shim_laws_table_events.specs.keeping.Tables.{TableView, IsRight, IsFit, Keeps, IsOfRoot}
+use Rattle.shim_laws_table_events.specs.keeping.Tables.{IsFit, Keeps, IsOfRoot}
 
 sort_same : (f n : ℕ) → used f (forks n) ≡ used 0 lives → forks n ≡ lives
 sort_same f n e = cc
@@ -54,6 +53,7 @@ module _ {S : Type 0} (o : Ops S) (law : LocalLaws o) (root : S) (r : Record) (o
       labels = λ i f n s l ks h counted there. no_forks i f n s h;
     };
     going = λ i f n s l ks q h e there. no_forks i f n s h;
+    known = λ c i f n s k l ks h e there. no_forks i f n s h;
     fit = fit;
     beside = refl;
   }

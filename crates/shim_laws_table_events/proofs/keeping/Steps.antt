@@ -1,25 +1,28 @@
 -- Quiet steps of a process with a record: they can be done, and what stays of it.
-use Rattle.std.proofs.Common.{◌≡◌, ◌≢◌, ℕ, zero, suc, Bool, true, false, Option, Some, None, List, [], ◌∷◌, inl, inr, refl, sym, ap, subst, ◌∙◌}
+use Rattle.std.proofs.Common.{◌≡◌, ◌≢◌, ◌≤◌, ℕ, zero, suc, Bool, true, false, Option, Some, None, List, [], ◌++◌, inl, inr, refl, sym, ap, subst, ◌∙◌}
 use Rattle.std.specs.Prelude.{replicate, slice_set, map}
 use Rattle.std.specs.FinMap as fin
+use Rattle.std.proofs.lemmas.List.{append-nil}
 use Rattle.shim_base.specs.Paths.{Path, Channel}
-use Rattle.shim_base.proofs.Facts.{some_same, true_or_false}
+use Rattle.shim_base.proofs.Facts.{some_same}
 use Rattle.shim_local.specs.Process.{Ops, AtQuiet}
 use Rattle.shim_local.specs.Laws.{LocalLaws, by_quiet}
 use Rattle.shim_local.specs.Quiets.{QuietSteps}
 use Rattle.shim_local.proofs.Quiets.{first_quiet}
 use Rattle.shim_semantics.specs.Nodes.{Node, Live, is_next}
-use Rattle.shim_semantics.specs.Acts.{Acted, nothing, act_live}
+use Rattle.shim_semantics.specs.Acts.{nothing, act_live}
 use Rattle.shim_semantics.specs.Places.{at}
+use Rattle.shim_semantics.specs.Sound.{carriers}
 use Rattle.shim_semantics.specs.Quiets.{Advances}
 use Rattle.shim_semantics.specs.Systems.{run, on_some}
 use Rattle.shim_semantics.specs.Trees.{Tree, Own, after, own_action_at}
+use Rattle.shim_semantics.proofs.HowMany.{no_less, no_less_than, one_for_one}
 use Rattle.shim_semantics.proofs.Replaced.{sound_at}
 use Rattle.shim_laws_table.specs.Seen.{lives, place}
 use Rattle.shim_laws_table.specs.Agrees.{RecordView, Has, Shows}
 use Rattle.shim_laws_table.specs.Places.{IsReplaced}
 use Rattle.shim_laws_table.specs.Changes.{HasChanged}
-use Rattle.shim_laws_table.proofs.SameTrees.{seen_live, put_replaces, is_put}
+use Rattle.shim_laws_table.proofs.SameTrees.{seen_live, put_replaces}
 use Rattle.shim_laws_table.proofs.OneTree.{one_tree}
 use Rattle.shim_laws_table.proofs.Shown.{events_are_shown, one_is_shown}
 use Rattle.shim_laws_table.proofs.CanHappen.{enabled_by_records}
@@ -27,8 +30,9 @@ use Rattle.shim_semantics.proofs.ReplacedNodes.{put}
 use Rattle.shim_records.proofs.Stepping.{set_there, set_elsewhere}
 use Rattle.shim_records.specs.Pairs.{stands_of}
 use Rattle.shim_records.specs.declared.record.Record.{Record}
-use Rattle.shim_laws_table_events.specs.keeping.Tables.{TableView, Keeps}
+use Rattle.shim_laws_table_events.specs.keeping.Tables.{Keeps}
 use Rattle.shim_laws_table_events.specs.keeping.Arriving.{Arrives}
+use Rattle.shim_laws_table_events.proofs.keeping.Knowing.{Elsewhere}
 use Rattle.shim_laws_table_events.proofs.keeping.Moved.{Stays, moved}
 
 -- a tree of which its root alone matters
@@ -44,7 +48,7 @@ module _ {S : Type 0} (o : Ops S) (law : LocalLaws o) where
   quiet_stays : (n : ℕ) (l last : S) → o.sound l → QuietSteps o n l last → Stays o l last × o.sound last
   quiet_stays zero l last sound taken =
       let same = some_same l last taken in
-      (record { path = ap o.path (sym same); given = ap o.given (sym same); shares = λ c far. ap (λ z. o.shares z c) same }, subst o.sound same sound)
+      (record { path = ap o.path (sym same); given = ap o.given (sym same); shares = λ c far. ap (λ z. o.shares z c) same; carries = λ c far. subst (λ z. carriers o c (Live z) ≤ carriers o c (Live l)) same (no_less (carriers o c (Live l))) }, subst o.sound same sound)
   quiet_stays (suc n) l last sound taken =
       let first = first_quiet o n l last taken in
       let move = by_quiet first.0 refl in
@@ -54,10 +58,14 @@ module _ {S : Type 0} (o : Ops S) (law : LocalLaws o) where
           path = more.0.path ∙ path;
           given = more.0.given ∙ law.moved_given l (o.quiet l) sound move;
           shares = λ c far. one first.0 c far (o.shares l c) (o.shares (o.quiet l) c) refl refl ∙ more.0.shares c (λ e. far (e ∙ path));
+          carries = λ c far. no_less_than (carriers o c (Live l)) (carriers o c (Live (o.quiet l))) (carriers o c (Live last)) (more.0.carries c (λ r e. far r (e ∙ ap (λ z. z ++ r) path))) (fewer first.0 c far);
         },
         more.1,
       )
     where
+      fewer : o.stop l ≡ AtQuiet → (c : Channel) → Elsewhere (o.path l) c → carriers o c (Live (o.quiet l)) ≤ carriers o c (Live l)
+      fewer quiet c far = one_for_one (λ k. o.carries k c) l (o.quiet l) (λ y. elim (law.quiet_carries l c sound quiet y) [ inl w ↦ w | inr w ↦ absurd (far [] (w.0 ∙ sym (append-nil (o.path l)))) ])
+
       one : o.stop l ≡ AtQuiet → (c : Channel) → c.home ≢ o.path l → (a b : Bool) → o.shares l c ≡ a → o.shares (o.quiet l) c ≡ b → o.shares l c ≡ o.shares (o.quiet l) c
       one quiet c far true b e f = e ∙ sym (law.quiet_shares l c sound quiet e)
       one quiet c far false true e f = absurd (far (law.quiet_adds l c sound quiet e f))

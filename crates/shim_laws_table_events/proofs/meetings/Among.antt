@@ -1,5 +1,5 @@
 -- Numbers in lists, and lists none of whose numbers stands there twice.
-use Rattle.std.proofs.Common.{◌≡◌, ◌≢◌, ◌<◌, ◌≤◌, ◌⊎◌, ℕ, zero, suc, Bool, true, false, ◌||◌, ◌&&◌, Some, List, [], ◌∷◌, inl, inr, refl, sym, ap, subst, ◌∙◌, arith}
+use Rattle.std.proofs.Common.{◌≡◌, ◌<◌, ◌≤◌, ◌⊎◌, ℕ, zero, suc, Bool, true, false, ◌||◌, ◌&&◌, Some, List, [], ◌∷◌, inl, inr, refl, sym, ap, subst, ◌∙◌, arith}
 use Rattle.std.specs.Prelude.{eqb, ltb}
 use Rattle.std.proofs.lemmas.Bool.{le-ltb, ltb-true, eqb-true}
 use Rattle.shim_base.specs.Paths.{Path, Channel}
@@ -12,6 +12,7 @@ use Rattle.shim_laws_table.proofs.SameTrees.{same_or_not}
 use Rattle.shim_records.specs.Members.{IsAmong}
 use Rattle.shim_laws_table_events.specs.keeping.Tables.{TableView}
 use Rattle.shim_laws_table_events.specs.meetings.Sharers.{SharesFrom, Precedes, InOrder, AreSharers}
+pub use Rattle.shim_laws_table_events.specs.meetings.Sharers.{AreDistinct}
 
 pub none_among : {A B : Type 0} (x : A) → IsAmong x [] → B
 none_among x g = none_some x g.1
@@ -33,10 +34,6 @@ among_or_not i (x ∷ xs) = elim (same_or_not x i) [
     | inr out ↦ inr (λ g. elim (among_split i x xs g) [ inl e ↦ n e | inr h ↦ out h ])
   ]
 ]
-
--- none of them stands there twice
-abbrev pub AreDistinct : List ℕ → Type 0
-AreDistinct = InOrder (λ x y. x ≢ y)
 
 -- no place comes before itself
 pub not_before : (p : List ℕ) → is_before p p ≡ false
@@ -77,7 +74,7 @@ module _ {S : Type 0} (o : Ops S) (rp : Path) (v : TableView S) (c : Channel) (q
   each_distinct (x ∷ xs) only h = (
     (λ y g same.
         let w = only x (0, refl) in
-        clash (is_before (place o rp w.state) (place o rp w.state)) (h.0 x (subst (λ z. IsAmong z xs) (sym same) g) w.first w.first w.state w.state w.sort w.sort w.has w.has) (not_before (place o rp w.state))),
+        clash (is_before (place o rp w.state) (place o rp w.state)) (h.0 x (subst (λ z. IsAmong z xs) (sym same) g) w.first w.first w.state w.state w.status w.status w.has w.has) (not_before (place o rp w.state))),
     each_distinct xs (λ i g. only i (among_later i x xs g)) h.1,
   )
 

@@ -28,23 +28,23 @@ use Rattle.shim_laws_table_events.proofs.meetings.Among.{none_among, among_later
 
 -- ---- lists
 
-among_parts : {A : Type 0} (x : A) (xs ys : List A) → IsAmong x (xs ++ ys) → IsAmong x xs ⊎ IsAmong x ys
+pub among_parts : {A : Type 0} (x : A) (xs ys : List A) → IsAmong x (xs ++ ys) → IsAmong x xs ⊎ IsAmong x ys
 among_parts x [] ys g = inr g
 among_parts x (y ∷ xs) ys g = elim (among_split x y (xs ++ ys) g) [
   | inl e ↦ inl (0, ap Some e)
   | inr h ↦ elim (among_parts x xs ys h) [ inl w ↦ inl (among_later x y xs w) | inr w ↦ inr w ]
 ]
 
-among_left : {A : Type 0} (x : A) (xs ys : List A) → IsAmong x xs → IsAmong x (xs ++ ys)
+pub among_left : {A : Type 0} (x : A) (xs ys : List A) → IsAmong x xs → IsAmong x (xs ++ ys)
 among_left x [] ys g = none_among x g
 among_left x (y ∷ xs) ys (zero, e) = (zero, e)
 among_left x (y ∷ xs) ys (suc i, e) = among_later x y (xs ++ ys) (among_left x xs ys (i, e))
 
-among_right : {A : Type 0} (x : A) (xs ys : List A) → IsAmong x ys → IsAmong x (xs ++ ys)
+pub among_right : {A : Type 0} (x : A) (xs ys : List A) → IsAmong x ys → IsAmong x (xs ++ ys)
 among_right x [] ys g = g
 among_right x (y ∷ xs) ys g = among_later x y (xs ++ ys) (among_right x xs ys g)
 
-both_in_order : {A : Type 0} (R : A → A → Type 0) (xs ys : List A) → InOrder R xs → InOrder R ys → ((x y : A) → IsAmong x xs → IsAmong y ys → R x y) → InOrder R (xs ++ ys)
+pub both_in_order : {A : Type 0} (R : A → A → Type 0) (xs ys : List A) → InOrder R xs → InOrder R ys → ((x y : A) → IsAmong x xs → IsAmong y ys → R x y) → InOrder R (xs ++ ys)
 both_in_order R [] ys f g h = g
 both_in_order R (x ∷ xs) ys f g h = (
   (λ y w. elim (among_parts y xs ys w) [ inl u ↦ f.0 y u | inr u ↦ h x y (0, refl) u ]),
@@ -68,20 +68,20 @@ same_front : (q p r : List ℕ) → is_before p r ≡ true → is_before (q ++ p
 same_front [] p r e = e
 same_front (x ∷ q) p r e = or_right (ltb x x) (eqb x x && is_before (q ++ p) (q ++ r)) (both_hold (eqb x x) (is_before (q ++ p) (q ++ r)) (eqb_same x) (same_front q p r e))
 
-left_child : (q : List ℕ) (b d : ℕ) → b < d → LeftOf (q ++ b ∷ []) (q ++ d ∷ [])
+pub left_child : (q : List ℕ) (b d : ℕ) → b < d → LeftOf (q ++ b ∷ []) (q ++ d ∷ [])
 left_child q b d less r s =
     let near : is_before (b ∷ r) (d ∷ s) ≡ true = or_left (ltb b d) (eqb b d && is_before r s) (lt-ltb b d less) in
     (λ i. is_before (append_assoc q (b ∷ []) r i) (append_assoc q (d ∷ []) s i)) ∙ same_front q (b ∷ r) (d ∷ s) near
 
-child_left : (q p : List ℕ) (b : ℕ) → LeftOf q p → LeftOf (q ++ b ∷ []) p
+pub child_left : (q p : List ℕ) (b : ℕ) → LeftOf q p → LeftOf (q ++ b ∷ []) p
 child_left q p b h r s = ap (λ z. is_before z (p ++ s)) (append_assoc q (b ∷ []) r) ∙ h (b ∷ r) s
 
 -- the places of children
-abbrev places_from : List ℕ → ℕ → ℕ → List (List ℕ)
+abbrev pub places_from : List ℕ → ℕ → ℕ → List (List ℕ)
 places_from q b zero = []
 places_from q b (suc n) = (q ++ b ∷ []) ∷ places_from q (suc b) n
 
-place_of_child : (q p : List ℕ) (b n : ℕ) → IsAmong p (places_from q b n) → (d : ℕ) × (p ≡ q ++ (b + d) ∷ [])
+pub place_of_child : (q p : List ℕ) (b n : ℕ) → IsAmong p (places_from q b n) → (d : ℕ) × (p ≡ q ++ (b + d) ∷ [])
 place_of_child q p b zero g = none_among p g
 place_of_child q p b (suc n) g = elim (among_split p (q ++ b ∷ []) (places_from q (suc b) n) g) [
   | inl e ↦ (0, sym e ∙ ap (λ z. q ++ z ∷ []) (here b))
@@ -94,7 +94,7 @@ place_of_child q p b (suc n) g = elim (among_split p (q ++ b ∷ []) (places_fro
     next : (b d : ℕ) → suc b + d ≡ b + suc d
     next b d = omega arith
 
-child_place : (q : List ℕ) (b n d : ℕ) → d < n → IsAmong (q ++ (b + d) ∷ []) (places_from q b n)
+pub child_place : (q : List ℕ) (b n d : ℕ) → d < n → IsAmong (q ++ (b + d) ∷ []) (places_from q b n)
 child_place q b zero d less = absurd (omega (arith, less))
 child_place q b (suc n) zero less = (0, ap (λ z. Some (q ++ z ∷ [])) (here b))
   where
@@ -114,7 +114,7 @@ any_child q p n g = let w = place_of_child q p 0 n g in (0 + w.0, w.1)
 each_child : (q : List ℕ) (n d : ℕ) → d < n → IsAmong (q ++ d ∷ []) (places_from q 0 n)
 each_child q n d less = subst (λ z. IsAmong (q ++ z ∷ []) (places_from q 0 n)) (zero_and d) (child_place q 0 n d less)
 
-children_in_order : (q : List ℕ) (b n : ℕ) → InOrder LeftOf (places_from q b n)
+pub children_in_order : (q : List ℕ) (b n : ℕ) → InOrder LeftOf (places_from q b n)
 children_in_order q b zero = tt
 children_in_order q b (suc n) = (
   (λ p g. let w = place_of_child q p (suc b) n g in subst (LeftOf (q ++ b ∷ [])) (sym w.1) (left_child q b (suc b + w.0) (omega arith))),
@@ -150,8 +150,8 @@ module _ {S : Type 0} (o : Ops S) (rp : Path) (v : TableView S) (c : Channel) (r
   pub record Stands (i : ℕ) (q : List ℕ) : Type 0 where
     pub first : ℕ
     pub state_is : S
-    pub sort : ProcessStatus
-    pub has : HasProcessState v i first state_is sort
+    pub status : ProcessStatus
+    pub has : HasProcessState v i first state_is status
     pub is_there : place o rp state_is ≡ q
     pub outside : o.shares state_is c ≡ false → Outside c (o.path state_is)
 
@@ -160,7 +160,7 @@ module _ {S : Type 0} (o : Ops S) (rp : Path) (v : TableView S) (c : Channel) (r
   AllStand (i ∷ is) (q ∷ qs) = Stands i q × AllStand is qs
   AllStand _ _ = ⊥
 
-  both_stand : (is js : List ℕ) (ps qs : List (List ℕ)) → AllStand is ps → AllStand js qs → AllStand (is ++ js) (ps ++ qs)
+  pub both_stand : (is js : List ℕ) (ps qs : List (List ℕ)) → AllStand is ps → AllStand js qs → AllStand (is ++ js) (ps ++ qs)
   both_stand [] js [] qs f g = g
   both_stand [] js (p ∷ ps) qs f g = absurd f
   both_stand (i ∷ is) js [] qs f g = absurd f
@@ -174,10 +174,10 @@ module _ {S : Type 0} (o : Ops S) (rp : Path) (v : TableView S) (c : Channel) (r
   node_at i f s k has = let w = seen_some (at (place o rp s) root) s k (kept.shows.agrees.shown i f s k has) in (w.0, w.1, w.2)
 
   -- below a process that doesn't share it nobody does
-  none_below : (i f : ℕ) (s : S) (k : ProcessStatus) (j : ℕ) → HasProcessState v i f s k → o.shares s c ≡ false → Outside c (o.path s) → From (place o rp s) j → ⊥
+  pub none_below : (i f : ℕ) (s : S) (k : ProcessStatus) (j : ℕ) → HasProcessState v i f s k → o.shares s c ≡ false → Outside c (o.path s) → From (place o rp s) j → ⊥
   none_below i f s k j has lacks out from =
       let n = node_at i f s k has in
-      let m = node_at j from.first from.state from.sort from.has in
+      let m = node_at j from.first from.state from.status from.has in
       let sound = sound_at o (place o rp s) root n.0 kept.shows.sound.below n.1 in
       let quiet = unshared_is_unshared o c n.0 sound (ap (λ z. o.shares z c) n.2 ∙ lacks) (λ r e. out r (e ∙ ap (λ z. o.path z ++ r) n.2)) in
       clash (o.shares from.state c) from.shares (ap (λ z. o.shares z c) (sym m.2) ∙ unshared_at o c from.further n.0 m.0 (sym (at_split (place o rp s) from.further root n.0 n.1) ∙ (ap (λ z. at z root) (sym from.is_there) ∙ m.1)) quiet)
@@ -187,7 +187,7 @@ module _ {S : Type 0} (o : Ops S) (rp : Path) (v : TableView S) (c : Channel) (r
     abbrev its_place : List ℕ
     its_place = place o rp s
 
-    child_outside : (n b : ℕ) (g : ℕ) (t : S) (h : ProcessStatus) → HasProcessState v i f s (forks n) → HasProcessState v (f + b) g t h → place o rp t ≡ its_place ++ b ∷ [] → Outside c (o.path t)
+    pub child_outside : (n b : ℕ) (g : ℕ) (t : S) (h : ProcessStatus) → HasProcessState v i f s (forks n) → HasProcessState v (f + b) g t h → place o rp t ≡ its_place ++ b ∷ [] → Outside c (o.path t)
     child_outside n b g t h fork child is r e =
         let w = seen_fork (at its_place root) s n (kept.shows.agrees.shown i f s (forks n) fork) in
         let m = node_at (f + b) g t h child in
@@ -199,7 +199,7 @@ module _ {S : Type 0} (o : Ops S) (rp : Path) (v : TableView S) (c : Channel) (r
     fork_children n b zero fork e = tt
     fork_children n b (suc m) fork e =
         let z = kept.shows.agrees.below i f n s fork b (omega (arith, e)) in (
-          record { first = z.0; state_is = z.1; sort = z.2; has = z.3; is_there = z.4; outside = λ lacks. child_outside n b z.0 z.1 z.2 fork z.3 z.4 },
+          record { first = z.0; state_is = z.1; status = z.2; has = z.3; is_there = z.4; outside = λ lacks. child_outside n b z.0 z.1 z.2 fork z.3 z.4 },
           subst (λ y. AllStand (numbers_of_length y m) (places_from its_place (suc b) m)) (next f b) (fork_children n (suc b) m fork (omega (arith, e))),
         )
       where
@@ -233,10 +233,10 @@ module _ {S : Type 0} (o : Ops S) (rp : Path) (v : TableView S) (c : Channel) (r
   found_there (passes i ahead found none more) (q ∷ qs) stand j g = let w = found_there more qs stand.1 j g in (w.0, among_later w.0 q qs w.1, w.2)
   found_there (finds i f s k ahead found has shares more) [] stand j g = absurd stand
   found_there (finds i f s k ahead found has shares more) (q ∷ qs) stand j g =
-      let same : s ≡ stand.0.state_is = one_state v.states (map stands_of v.records) i f stand.0.first s stand.0.state_is k stand.0.sort has stand.0.has in
+      let same : s ≡ stand.0.state_is = one_state v.states (map stands_of v.records) i f stand.0.first s stand.0.state_is k stand.0.status has stand.0.has in
       let here : place o rp s ≡ q = ap (place o rp) same ∙ stand.0.is_there in
       elim (among_split j i found g) [
-        | inl e ↦ (q, (0, refl), subst (From q) e (record { first = f; state = s; sort = k; has = has; shares = shares; further = []; is_there = here ∙ sym (append-nil q) }))
+        | inl e ↦ (q, (0, refl), subst (From q) e (record { first = f; state = s; status = k; has = has; shares = shares; further = []; is_there = here ∙ sym (append-nil q) }))
         | inr h ↦ let w = found_there more (places_from (place o rp s) 0 (children k) ++ qs) (both_stand (numbers_of_length f (children k)) ahead (places_from (place o rp s) 0 (children k)) qs (children_stand i f s k has shares) stand.1) j h in
             elim (among_parts w.0 (places_from (place o rp s) 0 (children k)) qs w.1) [
               | inl u ↦
@@ -246,7 +246,7 @@ module _ {S : Type 0} (o : Ops S) (rp : Path) (v : TableView S) (c : Channel) (r
                     record {
                       first = w.2.first;
                       state = w.2.state;
-                      sort = w.2.sort;
+                      status = w.2.status;
                       has = w.2.has;
                       shares = w.2.shares;
                       further = b.0 ∷ w.2.further;
@@ -265,13 +265,13 @@ module _ {S : Type 0} (o : Ops S) (rp : Path) (v : TableView S) (c : Channel) (r
   all_found (passes i ahead found none more) (p ∷ qs) stand q g j from = elim (among_split q p qs g) [
     | inl e ↦
         let x = stand.0 in
-        let lacks = none x.first x.state_is x.sort x.has in
-        absurd (none_below i x.first x.state_is x.sort j x.has lacks (x.outside lacks) (subst (λ z. From z j) (sym e ∙ sym x.is_there) from))
+        let lacks = none x.first x.state_is x.status x.has in
+        absurd (none_below i x.first x.state_is x.status j x.has lacks (x.outside lacks) (subst (λ z. From z j) (sym e ∙ sym x.is_there) from))
     | inr h ↦ all_found more qs stand.1 q h j from
   ]
   all_found (finds i f s k ahead found has shares more) [] stand q g j from = absurd stand
   all_found (finds i f s k ahead found has shares more) (p ∷ qs) stand q g j from =
-      let same : s ≡ stand.0.state_is = one_state v.states (map stands_of v.records) i f stand.0.first s stand.0.state_is k stand.0.sort has stand.0.has in
+      let same : s ≡ stand.0.state_is = one_state v.states (map stands_of v.records) i f stand.0.first s stand.0.state_is k stand.0.status has stand.0.has in
       let here : place o rp s ≡ p = ap (place o rp) same ∙ stand.0.is_there in
       let places = places_from (place o rp s) 0 (children k) in
       let next = both_stand (numbers_of_length f (children k)) ahead places qs (children_stand i f s k has shares) stand.1 in
@@ -281,11 +281,11 @@ module _ {S : Type 0} (o : Ops S) (rp : Path) (v : TableView S) (c : Channel) (r
       ]
     where
       on : ((ps : List (List ℕ)) → AllStand (numbers_of_length f (children k) ++ ahead) ps → (y : List ℕ) → IsAmong y ps → (j : ℕ) → From y j → IsAmong j found) → AllStand (numbers_of_length f (children k) ++ ahead) (places_from (place o rp s) 0 (children k) ++ qs) → (r : List ℕ) → place o rp from.state ≡ place o rp s ++ r → IsAmong j (i ∷ found)
-      on ih next [] is = (0, ap Some (kept.shows.agrees.apart i j f from.first s from.state k from.sort has from.has (sym (is ∙ append-nil (place o rp s)))))
+      on ih next [] is = (0, ap Some (kept.shows.agrees.apart i j f from.first s from.state k from.status has from.has (sym (is ∙ append-nil (place o rp s)))))
       on ih next (b ∷ r) is =
-          let child = below_child i f s k has shares j b r from.first from.state from.sort from.has is in
+          let child = below_child i f s k has shares j b r from.first from.state from.status from.has is in
           among_later j i found (ih (places_from (place o rp s) 0 (children k) ++ qs) next (place o rp s ++ b ∷ []) (among_left (place o rp s ++ b ∷ []) (places_from (place o rp s) 0 (children k)) qs child) j
-          (record { first = from.first; state = from.state; sort = from.sort; has = from.has; shares = from.shares; further = r; is_there = is ∙ sym (append_assoc (place o rp s) (b ∷ []) r) }))
+          (record { first = from.first; state = from.state; status = from.status; has = from.has; shares = from.shares; further = r; is_there = is ∙ sym (append_assoc (place o rp s) (b ∷ []) r) }))
 
   -- in order, where the places are
   found_in_order : {ahead found : List ℕ} → Descends o v c ahead found → (qs : List (List ℕ)) → AllStand ahead qs → InOrder LeftOf qs → InOrder (Precedes o rp v) found
@@ -294,7 +294,7 @@ module _ {S : Type 0} (o : Ops S) (rp : Path) (v : TableView S) (c : Channel) (r
   found_in_order (passes i ahead found none more) (q ∷ qs) stand left = found_in_order more qs stand.1 left.1
   found_in_order (finds i f s k ahead found has shares more) [] stand left = absurd stand
   found_in_order (finds i f s k ahead found has shares more) (q ∷ qs) stand left =
-      let same : s ≡ stand.0.state_is = one_state v.states (map stands_of v.records) i f stand.0.first s stand.0.state_is k stand.0.sort has stand.0.has in
+      let same : s ≡ stand.0.state_is = one_state v.states (map stands_of v.records) i f stand.0.first s stand.0.state_is k stand.0.status has stand.0.has in
       let here : place o rp s ≡ q = ap (place o rp) same ∙ stand.0.is_there in
       let places = places_from (place o rp s) 0 (children k) in
       let next = both_stand (numbers_of_length f (children k)) ahead places qs (children_stand i f s k has shares) stand.1 in
@@ -302,7 +302,7 @@ module _ {S : Type 0} (o : Ops S) (rp : Path) (v : TableView S) (c : Channel) (r
         (λ j g x y t u a b mine its.
             let w = found_there more (places ++ qs) next j g in
             let is_s : t ≡ s = one_state v.states (map stands_of v.records) i x f t s a k mine has in
-            let is_its : u ≡ w.2.state = one_state v.states (map stands_of v.records) j y w.2.first u w.2.state b w.2.sort its w.2.has in
+            let is_its : u ≡ w.2.state = one_state v.states (map stands_of v.records) j y w.2.first u w.2.state b w.2.status its w.2.has in
             (λ z. is_before (place o rp (is_s z)) (place o rp (is_its z)))
             ∙ elim (among_parts w.0 places qs w.1) [
               | inl h ↦
@@ -320,7 +320,7 @@ pub descents_find : {S : Type 0} (o : Ops S) → DescentsFind o
 descents_find o v c i found descends rp root f s k kept has shares =
     let q = place o rp s in
     let stand : AllStand o rp v c root kept (i ∷ []) (q ∷ []) = (
-      record { first = f; state_is = s; sort = k; has = has; is_there = refl; outside = λ lacks. clash (o.shares s c) shares lacks },
+      record { first = f; state_is = s; status = k; has = has; is_there = refl; outside = λ lacks. clash (o.shares s c) shares lacks },
       tt,
     ) in
     record {

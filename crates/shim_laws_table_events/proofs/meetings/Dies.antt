@@ -10,7 +10,8 @@ use Rattle.shim_local.specs.Laws.{LocalLaws, IsGiven}
 use Rattle.shim_semantics.specs.Nodes.{Node, Live, Dead, death, state}
 use Rattle.shim_semantics.specs.Places.{at}
 use Rattle.shim_semantics.proofs.Replaced.{sound_at}
-use Rattle.shim_semantics.proofs.HowMany.{clash}
+use Rattle.shim_semantics.specs.Sound.{carriers}
+use Rattle.shim_semantics.proofs.HowMany.{clash, no_less}
 use Rattle.shim_semantics.proofs.ReplacedNodes.{put}
 use Rattle.shim_laws_schedules.proofs.Unshared.{stands_elsewhere}
 use Rattle.shim_laws_table.specs.Seen.{lives, forks, dies, place}
@@ -27,7 +28,7 @@ use Rattle.shim_laws_table.proofs.Singles.{singles_are_shown}
 use Rattle.shim_laws_table.proofs.LabelsLowering.{labels_lowered}
 use Rattle.shim_laws_table.proofs.Hanging.{ends_of, given_place, tied, counts_share, none_above}
 use Rattle.shim_laws_table.proofs.Way.{above_its_own}
-use Rattle.shim_records.specs.Pairs.{stands_of, up_at, up_in, counts_at, counts_in, least_at, leasts_in, rest_of, chans_of, IsOrdered, AreOrdered, stands_by}
+use Rattle.shim_records.specs.Pairs.{stands_of, up_at, up_in, counts_at, counts_in, least_at, leasts_in, known_at, known_in, rest_of, chans_of, IsOrdered, AreOrdered, stands_by}
 use Rattle.shim_records.specs.Killed.{living, as_dead}
 use Rattle.shim_records.specs.Leaving.{HasLeft, alone, lost, below}
 use Rattle.shim_records.specs.AllWays.{AllUpdatedAbove, none_left, one_more}
@@ -38,11 +39,12 @@ use Rattle.shim_records.proofs.Showing.{map_get}
 use Rattle.shim_records.proofs.Stepping.{set_there, set_elsewhere}
 use Rattle.shim_records.proofs.ReadOff.{same_stands}
 use Rattle.shim_records.proofs.WholeWay.{rest_ups, kept_order}
+use Rattle.shim_records.proofs.SharingFound.{rest_known}
 use Rattle.shim_records.proofs.ManyWays as ways
 use Rattle.shim_records.proofs.AllLowered as labels_above
 use Rattle.shim_laws_table_events.specs.keeping.Tables.{IsRight, Keeps}
 use Rattle.shim_laws_table_events.proofs.keeping.Moved.{from_map, set_length}
-use Rattle.shim_laws_table_events.proofs.keeping.OneLess.{less_going, at_set, left_counts, left_labels, left_ups, left_stands}
+use Rattle.shim_laws_table_events.proofs.keeping.OneLess.{less_going, at_set, left_known, left_counts, left_labels, left_ups, left_stands}
 use Rattle.shim_laws_table_events.specs.meetings.Dying.{dead_record, DiesAt}
 use Rattle.shim_laws_table_events.specs.meetings.Laws.{DiedKeeps}
 use Rattle.shim_laws_table_events.proofs.meetings.Lists.{map_slice_set, same_length, SamePaths, rest_paths, set_paths, both_paths, going_at, rest_going}
@@ -151,6 +153,11 @@ module _ {S : Type 0} (o : Ops S) (states : List S) (rs behind : List Record) (x
 
     ordered : AreOrdered behind
     ordered = left_order x is_killed.labelled behind is_killed.left (kept_order dead is_killed.labelled between (set_order rs x is_killed.stood (dead_record is_killed.stood label) is_killed.there refl kept.ordered))
+
+    known_same : (c : Channel) (j : ℕ) → known_in c behind j ≡ known_in c rs j
+    known_same c j =
+        left_known x is_killed.labelled behind c is_killed.left j
+        ∙ (rest_known dead is_killed.labelled between c j ∙ at_set (known_at c) rs x is_killed.stood (dead_record is_killed.stood label) is_killed.there refl j)
 
     as_long : length states ≡ length behind
     as_long = kept.beside ∙ (sym (set_length rs x (dead_record is_killed.stood label)) ∙ (same_length dead is_killed.labelled between ∙ sym (left_length x is_killed.labelled behind is_killed.left)))
@@ -315,7 +322,7 @@ module _ {S : Type 0} (o : Ops S) (states : List S) (rs behind : List Record) (x
     died = (
       new,
       rep,
-      keeps o law rp states states rs behind root new l a x f kept has changed refl refl refl rep shown ups ordered paths as_long right
+      keeps o law rp states states rs behind root new l a x f kept has changed refl refl refl rep shown ups ordered paths as_long known_same (λ c. no_less (carriers o c (Live l))) right
           (one_less o rp states states rs behind root new l a x f kept has refl refl rep (was_fork o law rp states states rs behind root new l a x f kept has changed refl refl refl rep shown ups) lessened),
     )
 

@@ -25,8 +25,8 @@ use Rattle.shim_records.specs.Pairs.{stands_of}
 use Rattle.shim_records.proofs.Stepping.{set_there, set_elsewhere}
 use Rattle.shim_records.proofs.ReadOff.{same_stands}
 use Rattle.shim_laws_table_events.specs.keeping.Tables.{TableView, HasProcessState, Keeps}
-use Rattle.shim_laws_table_events.specs.meetings.Sharers.{AreSharers, ListsSharers}
-use Rattle.shim_laws_table_events.specs.meetings.Meetings.{ReceivesOne, stands_elsewhere, received, ReceiveAll, none_left, one_more, IsEnabled, Declares, HasValue, MeetingsMove}
+use Rattle.shim_laws_table_events.specs.meetings.Sharers.{AreSharers, ListsSharers, AreReceivers, ListsReceivers}
+use Rattle.shim_laws_table_events.specs.meetings.Meetings.{ReceivesOne, stands_elsewhere, received, ReceiveAll, none_left, one_more, IsEnabled, Declares, HasValue, MeetingsMove, SharersReceive}
 use Rattle.shim_laws_table_events.proofs.meetings.Among.{none_among, among_later, among_split, among_or_not, AreDistinct, distinct}
 use Rattle.shim_laws_table_events.proofs.meetings.AtHome.{below_home, home_shares, can_meet}
 use Rattle.shim_laws_table_events.proofs.meetings.Receives.{received_keeps, moves_on_rest}
@@ -103,7 +103,27 @@ module _ {S : Type 0} (o : Ops S) (law : LocalLaws o) (c : Channel) (v : ℤ) wh
   all_had j s (none_left w) e = (s, e)
   all_had j s (one_more i is before between behind first more) e = let w = all_had j s more e in one_had i j w.0 before between first w.1
 
-module _ {S : Type 0} (o : Ops S) (law : LocalLaws o) (before behind : TableView S) (c : Channel) (i : ℕ) (numbers : List ℕ) (x : ℤ) (home : Declares o before i c) (enabled : IsEnabled o (Meet c) before) (lists : ListsSharers o before c i numbers)
+-- all that share the channel are receivers enough
+module _ {S : Type 0} (o : Ops S) (law : LocalLaws o) (v : TableView S) (c : Channel) (i : ℕ) (numbers : List ℕ) (home : Declares o v i c) (enabled : IsEnabled o (Meet c) v) (lists : ListsSharers o v c i numbers) (rp : Path) (root : Node S)
+    (kept : Keeps o rp v root) where
+  sharing : AreSharers o rp v c (place o rp home.state) numbers
+  sharing = lists rp root home.first home.state home.status kept home.has
+      (home_shares o rp v.states (map stands_of v.records) root kept.shows law c i home.first home.state home.status home.has home.its (can_meet o (tree_of o root) c (enabled rp (tree_of o root) kept)).0)
+
+  share_all : AreReceivers o v c numbers
+  share_all = record {
+    distinct = distinct o rp v c (place o rp home.state) numbers sharing;
+    all = λ j f s has e.
+        let there = seen_live (at (place o rp s) root) s (kept.shows.agrees.shown j f s lives has) in
+        let shares = stands_shares o law c s (sound_at o (place o rp s) root (Live s) kept.shows.sound.below there) e in
+        let w = below_home o rp v.states (map stands_of v.records) root kept.shows c i j home.first f home.state s home.status lives home.has home.its has shares in
+        sharing.all j (record { first = f; state = s; status = lives; has = has; shares = shares; further = w.0; is_there = w.1 });
+  }
+
+pub sharers_receive : {S : Type 0} (o : Ops S) → LocalLaws o → SharersReceive o
+sharers_receive o law v c i numbers home enabled lists rp root kept = share_all o law v c i numbers home enabled lists rp root kept
+
+module _ {S : Type 0} (o : Ops S) (law : LocalLaws o) (before behind : TableView S) (c : Channel) (numbers : List ℕ) (x : ℤ) (enabled : IsEnabled o (Meet c) before) (lists : ListsReceivers o before c numbers)
     (value : HasValue o before c x) (all : ReceiveAll o c x numbers before behind) (rp : Path) (t : Tree S) (kept : Keeps o rp before t.root) where
   abbrev u : Tree S
   u = met o c (value_of o c (source o c t.root)) t
@@ -111,8 +131,8 @@ module _ {S : Type 0} (o : Ops S) (law : LocalLaws o) (before behind : TableView
   can : (meets o c t.root ≡ true) × (after o (Meet c) t ≡ Some u)
   can = can_meet o t c (enabled rp t kept)
 
-  are : AreSharers o rp before c (place o rp home.state) numbers
-  are = lists rp t.root home.first home.state home.sort kept home.has (home_shares o rp before.states (map stands_of before.records) t.root kept.shows law c i home.first home.state home.sort home.has home.its can.0)
+  are : AreReceivers o before c numbers
+  are = lists rp t.root kept
 
   chain : (new : Node S) × Keeps o rp behind new
   chain = all_keep o law c x rp t.root all kept
@@ -121,18 +141,13 @@ module _ {S : Type 0} (o : Ops S) (law : LocalLaws o) (before behind : TableView
   not_there : (j f : ℕ) (s : S) (k : ProcessStatus) → HasProcessState before j f s k → (IsAmong j numbers → ⊥) → k ≡ lives → is_next (o.stop s) c ≡ false
   not_there j f s k has out is_live = elim (true_or_false (is_next (o.stop s) c)) [
     | inr e ↦ e
-    | inl e ↦
-        let has' : HasProcessState before j f s lives = subst (HasProcessState before j f s) is_live has in
-        let there = seen_live (at (place o rp s) t.root) s (kept.shows.agrees.shown j f s lives has') in
-        let shares = stands_shares o law c s (sound_at o (place o rp s) t.root (Live s) kept.shows.sound.below there) e in
-        let w = below_home o rp before.states (map stands_of before.records) t.root kept.shows c i j home.first f home.state s home.sort k home.has home.its has shares in
-        absurd (out (are.all j (record { first = f; state = s; sort = k; has = has; shares = shares; further = w.0; is_there = w.1 })))
+    | inl e ↦ absurd (out (are.all j f s (subst (HasProcessState before j f s) is_live has) e))
   ]
 
   have : HaveReceived o c x (map stands_of before.records) before.states behind.states
   have = record {
     gets = λ j f s k has. elim (among_or_not j numbers) [
-      | inl g ↦ all_get o law c x j f s k all (distinct o rp before c (place o rp home.state) numbers are) has g
+      | inl g ↦ all_get o law c x j f s k all are.distinct has g
       | inr out ↦ untouched o law c x j all out ∙ (has.state_is ∙ ap Some (sym (got_none o law c x k s (not_there j f s k has out))))
     ];
     had = λ j s e. all_had o law c x j s all e;
@@ -148,7 +163,7 @@ module _ {S : Type 0} (o : Ops S) (law : LocalLaws o) (before behind : TableView
   moved = (u, can.1, subst (Keeps o rp behind) same chain.1)
 
 pub meetings_move : {S : Type 0} (o : Ops S) → LocalLaws o → MeetingsMove o
-meetings_move o law before behind c i numbers x home enabled lists value all = (
-  (λ rp t kept. moved o law before behind c i numbers x home enabled lists value all rp t kept),
-  (λ rp root kept. (all_stand o law c x all, have o law before behind c i numbers x home enabled lists value all rp (tree_of o root) kept)),
+meetings_move o law before behind c numbers x enabled lists value all = (
+  (λ rp t kept. moved o law before behind c numbers x enabled lists value all rp t kept),
+  (λ rp root kept. (all_stand o law c x all, have o law before behind c numbers x enabled lists value all rp (tree_of o root) kept)),
 )

@@ -42,18 +42,15 @@ use Rattle.shim_laws_table_events.proofs.meetings.AtHome.{node_at}
 use Rattle.shim_laws_table_events.proofs.meetings.Dies.{died_keeps, stands_now}
 
 used_so : (f g : ℕ) (k h : ProcessStatus) → used f k ≡ used g h → (f ≡ g) × (k ≡ h)
-used_so f g k h e = (ap (first_of f) e, ap (sort_is k) e)
+used_so f g k h e = (ap (first_of f) e, ap (status_is k) e)
   where
     first_of : ℕ → RecordView → ℕ
     first_of d free = d
     first_of d (used f k) = f
 
-    sort_is : ProcessStatus → RecordView → ProcessStatus
-    sort_is d free = d
-    sort_is d (used f k) = k
-
-less_one : (h : ℕ) → 1 ≤ h → h - 1 < h
-less_one h e = omega (arith, e)
+    status_is : ProcessStatus → RecordView → ProcessStatus
+    status_is d free = d
+    status_is d (used f k) = k
 
 module _ {S : Type 0} (o : Ops S) (label : ℕ) where
   abbrev stands : TableView S → List RecordView
@@ -177,23 +174,23 @@ module _ {S : Type 0} (o : Ops S) (law : LocalLaws o) (before behind : TableView
   fork : (ks : Nodes S) × (at (place o rp l) t.root ≡ Some (Forked l ks))
   fork = let w = seen_fork (at (place o rp l) t.root) l child.many (kept.shows.agrees.shown child.parent child.first l (forks child.many) child.fork) in (w.0, w.1)
 
-  its : HasProcessState before (child.first + child.branch) child.own_first k child.sort
-  its = subst (λ z. HasProcessState before z child.own_first k child.sort) child.mine child.has
+  its : HasProcessState before (child.first + child.branch) child.own_first k child.status
+  its = subst (λ z. HasProcessState before z child.own_first k child.status) child.mine child.has
 
   -- its place
   its_place : place o rp k ≡ place o rp l ++ child.branch ∷ []
   its_place =
       let z = kept.shows.agrees.below child.parent child.first child.many l child.fork child.branch child.within in
-      ap (place o rp) (one_state before.states (map stands_of before.records) (child.first + child.branch) child.own_first z.0 k z.1 child.sort z.2 its z.3) ∙ z.4
+      ap (place o rp) (one_state before.states (map stands_of before.records) (child.first + child.branch) child.own_first z.0 k z.1 child.status z.2 its z.3) ∙ z.4
 
   node : (n : Node S) × (at (place o rp k) t.root ≡ Some n) × (state n ≡ k)
-  node = node_at o rp before.states (map stands_of before.records) t.root kept.shows i child.own_first k child.sort child.has
+  node = node_at o rp before.states (map stands_of before.records) t.root kept.shows i child.own_first k child.status child.has
 
   at_branch : child_at child.branch [] fork.0 ≡ Some node.0
   at_branch = sym (at_split (place o rp l) (child.branch ∷ []) t.root (Forked l fork.0) fork.1) ∙ (ap (λ z. at z t.root) (sym its_place) ∙ node.1)
 
   told : (o.shares l c ≡ true) × (ready o c node.0 ≡ true) × (is_below (least_among o c fork.0) (o.handlers l) ≡ true)
-  told = ((enabled_by_records o law).poisons rp before.states (map stands_of before.records) t c child.parent child.first child.many child.branch child.own_first l k child.sort fork.0 node.0 kept.shows child.fork its child.within fork.1 at_branch).0 (enabled rp t kept)
+  told = ((enabled_by_records o law).poisons rp before.states (map stands_of before.records) t c child.parent child.first child.many child.branch child.own_first l k child.status fork.0 node.0 kept.shows child.fork its child.within fork.1 at_branch).0 (enabled rp t kept)
 
   shares : o.shares k c ≡ true
   shares = elim (true_or_false (o.shares k c)) [
@@ -206,14 +203,14 @@ module _ {S : Type 0} (o : Ops S) (law : LocalLaws o) (before behind : TableView
   ]
 
   are : AreSharers o rp before c (place o rp k) numbers
-  are = lists rp t.root child.own_first k child.sort kept child.has shares
+  are = lists rp t.root child.own_first k child.status kept child.has shares
 
   -- none of them has a handler for it
   below_base : (j : ℕ) → IsAmong j numbers → (f : ℕ) (s : S) → HasProcessState before j f s lives → label < o.base s
   below_base j g f s has =
       let from = are.only j g in
       let m = node_at o rp before.states (map stands_of before.records) t.root kept.shows j f s lives has in
-      let same : from.state ≡ s = one_state before.states (map stands_of before.records) j from.first f from.state s from.sort lives from.has has in
+      let same : from.state ≡ s = one_state before.states (map stands_of before.records) j from.first f from.state s from.status lives from.has has in
       let there : at (place o rp l ++ child.branch ∷ from.further) t.root ≡ Some m.0 = ap (λ z. at z t.root) (sym (append_assoc (place o rp l) (child.branch ∷ []) from.further) ∙ (ap (λ z. z ++ from.further) (sym its_place) ∙ (sym from.is_there ∙ ap (place o rp) same))) ∙ m.1 in
       let handled = (singles_are_shown o law).handled t.root m.0 (place o rp l) l fork.0 child.branch from.further kept.shows.sound fork.1 (sym (at_split (place o rp l) (child.branch ∷ from.further) t.root (Forked l fork.0) fork.1) ∙ there) in
       let sound = sound_at o (place o rp l) t.root (Forked l fork.0) kept.shows.sound.below fork.1 in
@@ -238,22 +235,22 @@ module _ {S : Type 0} (o : Ops S) (law : LocalLaws o) (before behind : TableView
   survives_so (dies d) s e = refl
 
   from_there : (j f : ℕ) (s : S) (x : ProcessStatus) (r : List ℕ) → HasProcessState before j f s x → place o rp s ≡ place o rp k ++ r → o.shares s c ≡ true → IsAmong j numbers
-  from_there j f s x r has there e = are.all j (record { first = f; state = s; sort = x; has = has; shares = e; further = r; is_there = there })
+  from_there j f s x r has there e = are.all j (record { first = f; state = s; status = x; has = has; shares = e; further = r; is_there = there })
 
   have : HaveDied o rp (place o rp k) c (death label) before.states (map stands_of before.records) (map stands_of behind.records)
   have = record {
     below = λ j f s x r has there. elim (true_or_false (o.shares s c)) [
       | inl e ↦ as_dead.is_killed j f s x has (from_there j f s x r has there e) ∙ ap (λ z. Some (used f z)) (killed_so x s e)
       | inr e ↦
-          as_dead.untouched j (λ g. let w = are.only j g in clash (o.shares s c) (ap (λ z. o.shares z c) (one_state before.states (map stands_of before.records) j f w.first s w.state x w.sort has w.has) ∙ w.shares) e)
+          as_dead.untouched j (λ g. let w = are.only j g in clash (o.shares s c) (ap (λ z. o.shares z c) (one_state before.states (map stands_of before.records) j f w.first s w.state x w.status has w.has) ∙ w.shares) e)
           ∙ (has.stands_so ∙ ap (λ z. Some (used f z)) (survives_so x s e))
     ];
-    aside = λ j f s x has far. as_dead.untouched j (λ g. let w = are.only j g in far w.further (ap (place o rp) (one_state before.states (map stands_of before.records) j f w.first s w.state x w.sort has w.has) ∙ w.is_there)) ∙ has.stands_so;
+    aside = λ j f s x has far. as_dead.untouched j (λ g. let w = are.only j g in far w.further (ap (place o rp) (one_state before.states (map stands_of before.records) j f w.first s w.state x w.status has w.has) ∙ w.is_there)) ∙ has.stands_so;
     had = as_dead.had;
   }
 
   shown : Shows o rp before.states (map stands_of behind.records) can.0.root
-  shown = (events_are_shown o law).poisoned rp before.states (map stands_of before.records) (map stands_of behind.records) t can.0 c child.parent child.own_first child.first child.branch child.many l k child.sort kept.shows child.fork child.within its can.1
+  shown = (events_are_shown o law).poisoned rp before.states (map stands_of before.records) (map stands_of behind.records) t can.0 c child.parent child.own_first child.first child.branch child.many l k child.status kept.shows child.fork child.within its can.1
       (subst (λ z. HaveDied o rp (place o rp k) c (death z) before.states (map stands_of before.records) (map stands_of behind.records)) is_label have)
 
   same : as_dead.root ≡ can.0.root
@@ -265,7 +262,7 @@ module _ {S : Type 0} (o : Ops S) (law : LocalLaws o) (before behind : TableView
   died_so : (f : ℕ) (s : S) (x : ProcessStatus) → HasProcessState before i f s x → (behind.states ≡ before.states) × HaveDied o rp (place o rp s) c (death label) before.states (map stands_of before.records) (map stands_of behind.records)
   died_so f s x has = (
     as_dead.states,
-    subst (λ z. HaveDied o rp (place o rp z) c (death label) before.states (map stands_of before.records) (map stands_of behind.records)) (one_state before.states (map stands_of before.records) i child.own_first f k s child.sort x child.has has) have,
+    subst (λ z. HaveDied o rp (place o rp z) c (death label) before.states (map stands_of before.records) (map stands_of behind.records)) (one_state before.states (map stands_of before.records) i child.own_first f k s child.status x child.has has) have,
   )
 
 pub poisons_move : {S : Type 0} (o : Ops S) → LocalLaws o → PoisonsMove o

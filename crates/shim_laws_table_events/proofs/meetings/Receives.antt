@@ -9,7 +9,8 @@ use Rattle.shim_local.specs.Laws.{LocalLaws, by_call, by_receive}
 use Rattle.shim_semantics.specs.Nodes.{Node, Live, is_next}
 use Rattle.shim_semantics.specs.Places.{at}
 use Rattle.shim_semantics.proofs.Replaced.{sound_at}
-use Rattle.shim_semantics.proofs.HowMany.{clash}
+use Rattle.shim_semantics.proofs.CallStays.{call_carries_less}
+use Rattle.shim_semantics.proofs.HowMany.{clash, one_for_one}
 use Rattle.shim_semantics.proofs.ReplacedNodes.{put}
 use Rattle.shim_laws_table.specs.Seen.{lives, place}
 use Rattle.shim_laws_table.specs.Agrees.{Has, Shows}
@@ -24,6 +25,7 @@ use Rattle.shim_records.specs.declared.record.Record.{Record}
 use Rattle.shim_records.proofs.Stepping.{set_there, set_elsewhere}
 use Rattle.shim_records.proofs.ReadOff.{same_stands}
 use Rattle.shim_records.proofs.WholeWay.{rest_ups, kept_order}
+use Rattle.shim_records.proofs.SharingFound.{rest_known}
 use Rattle.shim_laws_table_events.specs.keeping.Tables.{GoRight, Keeps}
 use Rattle.shim_laws_table_events.proofs.keeping.Forks.{as_many}
 use Rattle.shim_laws_table_events.specs.meetings.Receiving.{UpdatesOtherNext, no_other, other, MovesOn}
@@ -188,7 +190,8 @@ module _ {S : Type 0} (o : Ops S) (law : LocalLaws o) (rp : Path) (root : Node S
     rep,
     keeps o law rp states states' rs behind root new l (Live s) x f kept has changed refl path given rep shown ups (kept_order rs behind rest kept.ordered)
         (rest_paths rs behind rest)
-        (set_length states x s ∙ (kept.beside ∙ same_length rs behind rest))
+        (set_length states x s ∙ (kept.beside ∙ same_length rs behind rest)) (rest_known rs behind rest)
+        (λ c. one_for_one (λ k. o.carries k c) l s (call_carries_less o law l s sound (by_receive d v stop refl) c))
         (λ c. record {
           there = (counted c).1;
           counts = (counted c).0;

@@ -6,6 +6,7 @@ use Rattle.shim_local.specs.Process.{Ops}
 use Rattle.shim_local.specs.Laws.{LocalLaws}
 use Rattle.shim_semantics.specs.Nodes.{Node, Live, state}
 use Rattle.shim_semantics.specs.Places.{branches}
+use Rattle.shim_semantics.specs.Sound.{carriers}
 use Rattle.shim_laws_table.specs.Seen.{ProcessStatus, lives, forks, process_status, is_leaf, place}
 use Rattle.shim_laws_table.specs.Agrees.{RecordView, used, Has, Shows}
 use Rattle.shim_laws_table.specs.Places.{IsReplaced}
@@ -22,11 +23,12 @@ use Rattle.shim_laws_table.proofs.LabelsBegun.{labels_begin}
 use Rattle.shim_laws_table.proofs.Brought.{counts_follow}
 use Rattle.shim_laws_table.proofs.Linked.{links_follow}
 use Rattle.shim_laws_table.proofs.Leasts.{leasts_follow}
-use Rattle.shim_records.specs.Pairs.{stands_of, up_in, counts_in, leasts_in, AreOrdered}
+use Rattle.shim_records.specs.Pairs.{stands_of, up_in, counts_in, leasts_in, known_in, AreOrdered}
 use Rattle.shim_records.specs.declared.record.Record.{Record}
 use Rattle.shim_records.proofs.Showing.{map_get}
 use Rattle.shim_laws_table_events.specs.keeping.Tables.{IsRight, IsFit, GoRight, Keeps}
 use Rattle.shim_laws_table_events.proofs.keeping.Forks.{carried}
+use Rattle.shim_laws_table_events.proofs.keeping.Knowing.{known_on}
 use Rattle.shim_laws_table_events.proofs.keeping.Moved.{from_map}
 use Rattle.shim_laws_table_events.proofs.meetings.Lists.{SamePaths}
 
@@ -112,6 +114,6 @@ module _ {S : Type 0} (o : Ops S) (law : LocalLaws o) (rp : Path) (states states
         | inr w ↦ let was = kept.fit j d t k q.0 (changed.only j d t k w h) q.1 in record { path = sym q.2 ∙ was.path; near = was.near; few = was.few }
       ]
 
-  pub keeps : AreOrdered behind → SamePaths rs behind → length states' ≡ length behind → ((c : Channel) → IsRight o rp (record { states = states'; records = behind }) new c) → GoRight o rp (record { states = states'; records = behind }) new
+  pub keeps : AreOrdered behind → SamePaths rs behind → length states' ≡ length behind → ((c : Channel) (j : ℕ) → known_in c behind j ≡ known_in c rs j) → ((c : Channel) → carriers o c a ≤ carriers o c (Live l)) → ((c : Channel) → IsRight o rp (record { states = states'; records = behind }) new c) → GoRight o rp (record { states = states'; records = behind }) new
       → Keeps o rp (record { states = states'; records = behind }) new
-  keeps ordered paths beside right going = record { shows = shown; linked = linked; few = few; ordered = ordered; right = right; going = going; fit = fit paths; beside = beside }
+  keeps ordered paths beside same fewer right going = record { shows = shown; linked = linked; few = few; ordered = ordered; right = right; going = going; known = λ c. known_on o rp (record { states = states; records = rs }) old new kept x f l lives has (Live l) a rep given c (λ far. fewer c) leaf states' st' (known_in c behind) (λ j d n t h. (was_fork j d n t h).1) (λ j d n t h. same c j); fit = fit paths; beside = beside }

@@ -1,7 +1,6 @@
 -- The list of numbers at which events may be enabled stays one.
 use Rattle.std.proofs.Common.{◌≡◌, ◌⊎◌, ℕ, inl, inr, refl, sym, ap, subst, ◌∙◌}
 use Rattle.shim_base.specs.Paths.{Path, Channel}
-use Rattle.shim_base.proofs.Facts.{true_or_false}
 use Rattle.shim_local.specs.Process.{Ops, StopView, AtQuiet, AtNext, AtPut, AtFork, AtFinish, AtThrow, AtTrap}
 use Rattle.shim_local.specs.Laws.{LocalLaws}
 use Rattle.shim_semantics.specs.Trees.{Event, Own, Meet, Poison, Close, End}
@@ -14,9 +13,8 @@ use Rattle.shim_laws_table.specs.Enabled.{at_step, at_end, at_close, at_home, at
 use Rattle.shim_laws_table_events.specs.waking.Waking.{IsAtNumber}
 use Rattle.shim_laws_table_events.specs.waking.Looks.{IsQuietStepAt}
 use Rattle.shim_laws_table_events.specs.waking.Awake.{is_listed, ListingStays}
-use Rattle.shim_laws_table_events.proofs.waking.Same.{had, turned}
 use Rattle.shim_laws_table_events.proofs.waking.Idle.{looks_decide}
-use Rattle.shim_laws_table_events.proofs.waking.Waking.{waking_suffices, looked_for}
+use Rattle.shim_laws_table_events.proofs.waking.Waking.{looked_for}
 
 no_own_end : (p q : Path) → End p ≡ Own q → ⊥
 no_own_end p q e = absurd cc
@@ -34,16 +32,16 @@ module _ {S : Type 0} (o : Ops S) where
   record InUse (v : TableView S) (i : ℕ) : Type 0 where
     first : ℕ
     process : S
-    sort_is : ProcessStatus
-    has : HasProcessState v i first process sort_is
+    status_is : ProcessStatus
+    has : HasProcessState v i first process status_is
 
   -- the record at which an event is looked for
   in_use : {v : TableView S} {e : Event} {i : ℕ} → IsAtNumber o v e i → InUse v i
-  in_use (at_step i f l p has path) = record { first = f; process = l; sort_is = lives; has = has }
-  in_use (at_end i f l p has path) = record { first = f; process = l; sort_is = lives; has = has }
-  in_use (at_close i f n l p has path) = record { first = f; process = l; sort_is = forks n; has = has }
-  in_use (at_home i f l k c has goes home) = record { first = f; process = l; sort_is = k; has = has }
-  in_use (at_child i g n b f l k x p c has less child path) = record { first = g; process = l; sort_is = forks n; has = has }
+  in_use (at_step i f l p has path) = record { first = f; process = l; status_is = lives; has = has }
+  in_use (at_end i f l p has path) = record { first = f; process = l; status_is = lives; has = has }
+  in_use (at_close i f n l p has path) = record { first = f; process = l; status_is = forks n; has = has }
+  in_use (at_home i f l k c has goes home) = record { first = f; process = l; status_is = k; has = has }
+  in_use (at_child i g n b f l k x p c has less child path) = record { first = g; process = l; status_is = forks n; has = has }
 
   -- an event is a quiet step, or isn't one
   module _ (v : TableView S) where
@@ -71,19 +69,16 @@ module _ {S : Type 0} (o : Ops S) where
 
   pub listing_stays : LocalLaws o → ListingStays o
   listing_stays law = record {
-    all = λ v t flags h e i can is other. let w = in_use is in h i w.first w.process w.sort_is w.has;
-    moves = λ rp before behind t u flags now again kept keeps listed more wakes to_look e i can is other. elim (true_or_false (again i)) [
-      | inl y ↦ elim (to_look i y) [
-        | inl l ↦ l
-        | inr idle ↦ absurd (other ((looks_decide o law).idle rp behind u e i keeps idle can is))
-      ]
-      | inr n ↦
-          let w = waking_suffices o law rp before behind t u again e i kept keeps wakes can is n in
-          let x = in_use is in
-          let same = wakes.itself i x.first x.process x.sort_is x.has n in
-          more i
-          (listed e i w.1 w.0 (λ q. other (record { first = q.first; process = q.process; has = had behind before i (turned before behind i same) q.first q.process lives q.has; stands = q.stands; is = q.is })))
-    ];
+    all = λ v t flags h e i can is other. let w = in_use is in h i w.first w.process w.status_is w.has;
+    moves = λ rp before behind t u flags now kept keeps listed more to_look e i can is other.
+        let w = in_use is in
+        elim (to_look i w.first w.process w.status_is w.has) [
+          | inl l ↦ l
+          | inr no_more ↦
+              let was = no_more e ((looks_decide o law).told rp behind u e i keeps can is) other in
+              let could = (looks_decide o law).can rp before t e i kept was.0 in
+              more i (listed e i could.0 could.1 was.1)
+        ];
     drops = λ rp v t i flags now kept listed idle others e j can is other. elim (same_or_not j i) [
       | inr far ↦ others j far (listed e j can is other)
       | inl here ↦ absurd (other (subst (λ z. IsQuietStepAt o v z e) (sym here) ((looks_decide o law).idle rp v t e i kept idle can (subst (IsAtNumber o v e) here is))))

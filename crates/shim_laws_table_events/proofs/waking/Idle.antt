@@ -18,7 +18,7 @@ use Rattle.shim_records.specs.Pairs.{tally}
 use Rattle.shim_records.specs.declared.pair.Pair.{Pair}
 use Rattle.shim_records.specs.declared.record.Record.{Record}
 use Rattle.shim_laws_table_events.specs.keeping.Tables.{TableView, HasProcessState, stands}
-use Rattle.shim_laws_table_events.specs.waking.Looks.{IsReady, IsDue, to_step, to_end, to_meet, to_close, to_meet_below, to_poison, IsIdlePair, IsIdle, unused, has_ended, has_died, is_quiet, waits, is_open, IsQuietStepAt, LooksDecide}
+use Rattle.shim_laws_table_events.specs.waking.Looks.{IsReady, IsDue, to_step, to_end, to_meet, to_close, to_meet_below, to_poison, HasNoPairDue, HasNothingDue, unused, has_ended, has_died, is_quiet, waits, is_open, IsQuietStepAt, LooksDecide}
 use Rattle.shim_laws_table_events.proofs.waking.Looks.{due_can, can_due}
 
 abbrev first_of : RecordView → ℕ
@@ -57,11 +57,11 @@ fork_or_dead n d e = absurd cc
 
 module _ {S : Type 0} (o : Ops S) (v : TableView S) (i : ℕ) where
   -- what tells an event lives or has forked
-  data Tells (e : Event) : Type 0 where
+  pub data Tells (e : Event) : Type 0 where
     a_live : (f : ℕ) (l : S) → HasProcessState v i f l lives → Tells e
     a_fork : (f n : ℕ) (l : S) → HasProcessState v i f l (forks n) → Tells e
 
-  teller : {e : Event} → IsDue o v i e → Tells e
+  pub teller : {e : Event} → IsDue o v i e → Tells e
   teller (to_step f l p has stop path) = a_live f l has
   teller (to_end f l p has stop path) = a_live f l has
   teller (to_meet f l d c has stop same home) = a_live f l has
@@ -109,7 +109,7 @@ module _ {S : Type 0} (o : Ops S) (v : TableView S) (i : ℕ) where
     nothing_there d stands far (to_meet_below g n q m r y c has re e same home all) = no_fork g n m has
     nothing_there d stands far (to_poison g n q b h m k x r y p c has re e same low less child readiness path) = no_fork g n m has
 
-  module _ (g n : ℕ) (l : S) (r : Record) (is : HasProcessState v i g l (forks n)) (there : slice_get v.records i ≡ Some r) (some : r.going ≢ 0) (idle : (q : ℕ) (y : Pair) → slice_get r.pairs.items q ≡ Some y → IsIdlePair o v l g n y) where
+  module _ (g n : ℕ) (l : S) (r : Record) (is : HasProcessState v i g l (forks n)) (there : slice_get v.records i ≡ Some r) (some : r.going ≢ 0) (idle : (q : ℕ) (y : Pair) → slice_get r.pairs.items q ≡ Some y → HasNoPairDue o v l g n y) where
     no_live : {B : Type 0} (f : ℕ) (m : S) → HasProcessState v i f m lives → B
     no_live f m has = live_or_fork n (one_sort v.states (stands v) i f g m l lives (forks n) has is)
 
@@ -135,7 +135,7 @@ module _ {S : Type 0} (o : Ops S) (v : TableView S) (i : ℕ) where
         absurd ((idle q y (its_pair s q y re e)).poisons_not (ap (λ z. is_below y.least (o.handlers z)) (sym (same_fork h d m has)) ∙ low) b f k x (subst (λ z. b < z) many less)
         (subst (λ z. HasProcessState v (z + b) f k x) first child) (subst (λ z. IsReady o v z (g + b) k x) (sym same) (subst (λ z. IsReady o v c (z + b) k x) first readiness)))
 
-  pub idle_due : {e : Event} → IsIdle o v i → IsDue o v i e → IsQuietStepAt o v i e
+  pub idle_due : {e : Event} → HasNothingDue o v i → IsDue o v i e → IsQuietStepAt o v i e
   idle_due (unused none) due = not_unused none (teller due)
   idle_due (has_ended f l has) due = not_ended f l has (teller due)
   idle_due (has_died f l d has) due = not_dead f l d has (teller due)

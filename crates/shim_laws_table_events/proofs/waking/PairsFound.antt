@@ -10,11 +10,10 @@ use Rattle.shim_base.proofs.SamePaths.{same_channel_is, same_channel_refl}
 use Rattle.shim_laws_table.specs.Agrees.{used}
 use Rattle.shim_laws_table.specs.Seen.{ProcessStatus}
 use Rattle.shim_laws_table.specs.Counts.{Tally, all_there}
-use Rattle.shim_records.specs.Pairs.{stands_of, tally, chans_of, pair_of, least_label_of, counts_in, counts_at, leasts_in, least_at, IsOrdered}
+use Rattle.shim_records.specs.Pairs.{stands_of, tally, chans_of, pair_of, least_label_of, counts_in, counts_ready, counts_at, leasts_in, least_at, IsOrdered}
 use Rattle.shim_records.specs.declared.pair.Pair.{Pair}
 use Rattle.shim_records.specs.declared.record.Record.{Record}
 use Rattle.shim_records.proofs.Showing.{map_get}
-use Rattle.shim_laws_table_events.specs.waking.Looks.{counts_ready}
 
 chan_at : (ps : List Pair) (q : ℕ) (p : Pair) → slice_get ps q ≡ Some p → slice_get (chans_of ps) q ≡ Some p.chan.channel
 chan_at ps q p e = map_get (λ y. y.chan.channel) ps q ∙ ap (option_map (λ y. y.chan.channel)) e

@@ -15,9 +15,9 @@ use Rattle.shim_laws_table.specs.Tallied.{IsCounted}
 use Rattle.shim_laws_table.proofs.Hanging.{given_child, given_place}
 use Rattle.shim_laws_table.proofs.Readiness.{by_counts}
 use Rattle.shim_laws_table.proofs.SameTrees.{seen_live, seen_fork, seen_ended, seen_dead}
-use Rattle.shim_records.specs.Pairs.{counts_in}
+use Rattle.shim_records.specs.Pairs.{counts_in, counts_ready}
 use Rattle.shim_laws_table_events.specs.keeping.Tables.{TableView, HasProcessState, Keeps}
-use Rattle.shim_laws_table_events.specs.waking.Looks.{counts_ready, ready_by}
+use Rattle.shim_laws_table_events.specs.waking.Looks.{ready_by}
 
 module _ {S : Type 0} (o : Ops S) where
   -- a child that shares the channel

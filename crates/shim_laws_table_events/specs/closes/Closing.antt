@@ -31,7 +31,7 @@ pub record AreFreed (g n : ℕ) (before behind : List Record) : Type 0 where
   pub freed : IsFreed g n before behind
   pub beside : map without_status behind ≡ map without_status before
 
--- the record of a process whose fork has closed: this came of it
+-- the record of a process whose fork has closed, which has this status now
 pub record HasCome (before behind : Record) (k : ProcessStatus) : Type 0 where
   pub first : ℕ
   pub stands_so : stands_of behind ≡ used first k
@@ -39,7 +39,7 @@ pub record HasCome (before behind : Record) (k : ProcessStatus) : Type 0 where
   pub path : behind.path ≡ before.path
   pub no_pairs : behind.pairs.items ≡ []
 
--- where it ended or died, one child less of its parent goes on
+-- if this status is an end or a death, the record of the parent counts one child less that goes on
 abbrev pub LeavesIf : ProcessStatus → ℕ → List Record → List Record → Type 0
 LeavesIf lives x before behind = behind ≡ before
 LeavesIf (forks n) x before behind = behind ≡ before

@@ -1,5 +1,5 @@
 -- States and records side by side, the tree that they show, and what records keep of it.
-use Rattle.std.specs.Prelude.{◌≡◌, ◌≤◌, ℕ, Option, Some, None, List, [], slice_get, length, map}
+use Rattle.std.specs.Prelude.{◌≡◌, ◌≤◌, ℕ, Some, None, List, [], slice_get, length, map}
 use Rattle.shim_base.specs.Paths.{Path, Channel}
 use Rattle.shim_local.specs.Process.{Ops}
 use Rattle.shim_semantics.specs.Nodes.{Node, Nodes, Forked}
@@ -10,8 +10,9 @@ use Rattle.shim_laws_table.specs.Counts.{going_of}
 use Rattle.shim_laws_table.specs.Tallied.{Tallied, HaveCounts}
 use Rattle.shim_laws_table.specs.Updating.{AreLinked, AreAtMost}
 use Rattle.shim_laws_table.specs.LoweredLabels.{Labelled}
-use Rattle.shim_records.specs.Pairs.{stands_of, up_in, counts_in, leasts_in, AreOrdered}
+use Rattle.shim_records.specs.Pairs.{stands_of, up_in, counts_in, leasts_in, known_in, AreOrdered}
 use Rattle.shim_records.specs.declared.record.Record.{Record}
+use Rattle.shim_laws_table_events.specs.keeping.Knowing.{AreKnown}
 
 -- a process's number is its place in both
 pub record TableView (S : Type 0) : Type 0 where
@@ -50,6 +51,7 @@ pub record Keeps {S : Type 0} (o : Ops S) (rp : Path) (v : TableView S) (root : 
   pub ordered : AreOrdered v.records
   pub right : (c : Channel) → IsRight o rp v root c
   pub going : GoRight o rp v root
+  pub known : (c : Channel) → AreKnown o rp v.states (stands v) c (known_in c v.records) root
   pub fit : (i f : ℕ) (s : S) (k : ProcessStatus) (r : Record) → HasProcessState v i f s k → slice_get v.records i ≡ Some r → IsFit o rp s r
   pub beside : length v.states ≡ length v.records
 

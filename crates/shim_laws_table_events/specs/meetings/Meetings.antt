@@ -10,7 +10,7 @@ use Rattle.shim_laws_table.specs.Enabled.{Can}
 use Rattle.shim_laws_table_events.specs.keeping.Tables.{TableView, stands, HasProcessState, Keeps}
 use Rattle.shim_laws_table_events.specs.keeping.Moves.{MovesBy}
 use Rattle.shim_laws_table_events.specs.meetings.Receiving.{MovesOn}
-use Rattle.shim_laws_table_events.specs.meetings.Sharers.{ListsSharers}
+use Rattle.shim_laws_table_events.specs.meetings.Sharers.{ListsSharers, ListsReceivers}
 
 -- the process with this number has received the value, if it lives and stands at the channel
 pub data ReceivesOne {S : Type 0} (o : Ops S) (c : Channel) (v : ℤ) (i : ℕ) (before behind : TableView S) : Type 0 where
@@ -31,8 +31,8 @@ IsEnabled {S} o e v = (rp : Path) (t : Tree S) → Keeps o rp v t.root → Can o
 pub record Declares {S : Type 0} (o : Ops S) (v : TableView S) (i : ℕ) (c : Channel) : Type 0 where
   pub first : ℕ
   pub state : S
-  pub sort : ProcessStatus
-  pub has : HasProcessState v i first state sort
+  pub status : ProcessStatus
+  pub has : HasProcessState v i first state status
   pub its : o.path state ≡ c.home
 
 -- the channel's source has this value, or there is none and it is 0
@@ -43,7 +43,11 @@ HasValue {S} o v c x = (rp : Path) (root : Node S) → Keeps o rp v root → x �
 abbrev pub AllReceived : {S : Type 0} → Ops S → Channel → ℤ → TableView S → TableView S → Type 0
 AllReceived {S} o c x before behind = (rp : Path) (root : Node S) → Keeps o rp before root → (stands behind ≡ stands before) × HaveReceived o c x (stands before) before.states behind.states
 
--- Where a meeting is enabled, and all that share the channel at and below its home receive the value of its source one after the other, the tree moves by the meeting.
+-- Where a meeting is enabled, and all that stand at the channel receive the value of its source one after the other, the tree moves by the meeting.
 abbrev pub MeetingsMove : {S : Type 0} → Ops S → Type 0
-MeetingsMove {S} o = (before behind : TableView S) (c : Channel) (i : ℕ) (numbers : List ℕ) (x : ℤ) → Declares o before i c → IsEnabled o (Meet c) before → ListsSharers o before c i numbers → HasValue o before c x → ReceiveAll o c x numbers before behind
+MeetingsMove {S} o = (before behind : TableView S) (c : Channel) (numbers : List ℕ) (x : ℤ) → IsEnabled o (Meet c) before → ListsReceivers o before c numbers → HasValue o before c x → ReceiveAll o c x numbers before behind
     → MovesBy o (Meet c) before behind × AllReceived o c x before behind
+
+-- Where a meeting is enabled, all that share the channel at and below its home are receivers enough.
+abbrev pub SharersReceive : {S : Type 0} → Ops S → Type 0
+SharersReceive {S} o = (v : TableView S) (c : Channel) (i : ℕ) (numbers : List ℕ) → Declares o v i c → IsEnabled o (Meet c) v → ListsSharers o v c i numbers → ListsReceivers o v c numbers

@@ -32,8 +32,8 @@ pub record IsChildOf {S : Type 0} (v : TableView S) (i : ℕ) (k l : S) : Type 0
   pub within : branch < many
   pub mine : i ≡ first + branch
   pub own_first : ℕ
-  pub sort : ProcessStatus
-  pub has : HasProcessState v i own_first k sort
+  pub status : ProcessStatus
+  pub has : HasProcessState v i own_first k status
 
 -- each live process that shared the channel at or below the one with this number has died so, and nothing else has changed of what is shown
 abbrev pub AllDied : {S : Type 0} → Ops S → Channel → ℕ → ℕ → TableView S → TableView S → Type 0

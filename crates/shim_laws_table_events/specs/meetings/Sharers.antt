@@ -1,9 +1,9 @@
 -- The processes at and below one that share a channel, by the numbers of their records.
-use Rattle.std.specs.Prelude.{◌≡◌, ℕ, true, Some, List, [], ◌∷◌, ◌++◌, slice_get}
+use Rattle.std.specs.Prelude.{◌≡◌, ◌≢◌, ℕ, true, List, [], ◌∷◌, ◌++◌}
 use Rattle.shim_base.specs.Paths.{Path, Channel}
 use Rattle.shim_local.specs.Process.{Ops}
-use Rattle.shim_semantics.specs.Nodes.{Node}
-use Rattle.shim_laws_table.specs.Seen.{ProcessStatus, place}
+use Rattle.shim_semantics.specs.Nodes.{Node, is_next}
+use Rattle.shim_laws_table.specs.Seen.{ProcessStatus, lives, place}
 use Rattle.shim_laws_table.specs.Sources.{is_before}
 use Rattle.shim_records.specs.Members.{IsAmong}
 use Rattle.shim_laws_table_events.specs.keeping.Tables.{TableView, HasProcessState, Keeps}
@@ -12,8 +12,8 @@ use Rattle.shim_laws_table_events.specs.keeping.Tables.{TableView, HasProcessSta
 pub record SharesFrom {S : Type 0} (o : Ops S) (rp : Path) (v : TableView S) (c : Channel) (q : List ℕ) (i : ℕ) : Type 0 where
   pub first : ℕ
   pub state : S
-  pub sort : ProcessStatus
-  pub has : HasProcessState v i first state sort
+  pub status : ProcessStatus
+  pub has : HasProcessState v i first state status
   pub shares : o.shares state c ≡ true
   pub further : List ℕ
   pub is_there : place o rp state ≡ q ++ further
@@ -27,6 +27,10 @@ abbrev pub InOrder : {A : Type 0} → (A → A → Type 0) → List A → Type 0
 InOrder R [] = Unit {0}
 InOrder {A} R (x ∷ xs) = ((y : A) → IsAmong y xs → R x y) × InOrder R xs
 
+-- none of these stands there twice
+abbrev pub AreDistinct : List ℕ → Type 0
+AreDistinct = InOrder (λ x y. x ≢ y)
+
 -- these are the numbers of all that share the channel from the place q on, whatever came of them, in that order
 pub record AreSharers {S : Type 0} (o : Ops S) (rp : Path) (v : TableView S) (c : Channel) (q : List ℕ) (numbers : List ℕ) : Type 0 where
   pub only : (i : ℕ) → IsAmong i numbers → SharesFrom o rp v c q i
@@ -36,3 +40,12 @@ pub record AreSharers {S : Type 0} (o : Ops S) (rp : Path) (v : TableView S) (c 
 -- they are those at and below the process with this number, if it shares the channel
 abbrev pub ListsSharers : {S : Type 0} → Ops S → TableView S → Channel → ℕ → List ℕ → Type 0
 ListsSharers {S} o v c i numbers = (rp : Path) (root : Node S) (f : ℕ) (s : S) (k : ProcessStatus) → Keeps o rp v root → HasProcessState v i f s k → o.shares s c ≡ true → AreSharers o rp v c (place o rp s) numbers
+
+-- each live process that stands at the channel is among these, and none stands there twice
+pub record AreReceivers {S : Type 0} (o : Ops S) (v : TableView S) (c : Channel) (numbers : List ℕ) : Type 0 where
+  pub distinct : AreDistinct numbers
+  pub all : (i f : ℕ) (l : S) → HasProcessState v i f l lives → is_next (o.stop l) c ≡ true → IsAmong i numbers
+
+-- so it is in the tree that is shown
+abbrev pub ListsReceivers : {S : Type 0} → Ops S → TableView S → Channel → List ℕ → Type 0
+ListsReceivers {S} o v c numbers = (rp : Path) (root : Node S) → Keeps o rp v root → AreReceivers o v c numbers

@@ -6,8 +6,9 @@ use Rattle.shim_semantics.specs.Trees.{Tree, Event}
 use Rattle.shim_laws_table.specs.Seen.{ProcessStatus}
 use Rattle.shim_laws_table.specs.Enabled.{Can}
 use Rattle.shim_laws_table_events.specs.keeping.Tables.{TableView, HasProcessState, Keeps}
-use Rattle.shim_laws_table_events.specs.waking.Waking.{IsAtNumber, Wakes}
-use Rattle.shim_laws_table_events.specs.waking.Looks.{IsIdle, IsQuietStepAt}
+use Rattle.shim_laws_table_events.specs.waking.Waking.{IsAtNumber}
+use Rattle.shim_laws_table_events.specs.waking.Looks.{HasNothingDue, IsQuietStepAt}
+use Rattle.shim_laws_table_events.specs.waking.NoMore.{TellsNoMore}
 
 -- the flag is there, and it is set
 abbrev pub is_set : Option Bool → Bool
@@ -26,10 +27,10 @@ AreListed {S} o v t flags = (e : Event) (i : ℕ) → Can o t e → IsAtNumber o
 pub record ListingStays {S : Type 0} (o : Ops S) : Type 0 where
   -- one that lists each record in use is one
   pub all : (v : TableView S) (t : Tree S) (flags : List Bool) → ((i f : ℕ) (s : S) (k : ProcessStatus) → HasProcessState v i f s k → is_listed flags i ≡ true) → AreListed o v t flags
-  -- where something has happened, so is one that lists what was listed, and of whatever records aren't as before, and their parents, all that tell of more than a quiet step
-  pub moves : (rp : Path) (before behind : TableView S) (t u : Tree S) (flags now : List Bool) (again : ℕ → Bool) → Keeps o rp before t.root → Keeps o rp behind u.root → AreListed o before t flags
-      → ((i : ℕ) → is_listed flags i ≡ true → is_listed now i ≡ true) → Wakes before behind again → ((i : ℕ) → again i ≡ true → (is_listed now i ≡ true) ⊎ IsIdle o behind i) → AreListed o behind u now
+  -- where something has happened, so is one that lists what was listed, and each record that tells of more than before
+  pub moves : (rp : Path) (before behind : TableView S) (t u : Tree S) (flags now : List Bool) → Keeps o rp before t.root → Keeps o rp behind u.root → AreListed o before t flags
+      → ((i : ℕ) → is_listed flags i ≡ true → is_listed now i ≡ true) → ((i f : ℕ) (s : S) (k : ProcessStatus) → HasProcessState behind i f s k → (is_listed now i ≡ true) ⊎ TellsNoMore o before behind i) → AreListed o behind u now
   -- a record that tells of nothing but a quiet step needn't be listed
-  pub drops : (rp : Path) (v : TableView S) (t : Tree S) (i : ℕ) (flags now : List Bool) → Keeps o rp v t.root → AreListed o v t flags → IsIdle o v i → ((j : ℕ) → j ≢ i → is_listed flags j ≡ true → is_listed now j ≡ true) → AreListed o v t now
+  pub drops : (rp : Path) (v : TableView S) (t : Tree S) (i : ℕ) (flags now : List Bool) → Keeps o rp v t.root → AreListed o v t flags → HasNothingDue o v i → ((j : ℕ) → j ≢ i → is_listed flags j ≡ true → is_listed now j ≡ true) → AreListed o v t now
   -- and where none is listed, nothing but quiet steps can happen
   pub settled : (rp : Path) (v : TableView S) (t : Tree S) (flags : List Bool) (e : Event) → Keeps o rp v t.root → AreListed o v t flags → ((i : ℕ) → is_listed flags i ≡ false) → Can o t e → (i : ℕ) × IsQuietStepAt o v i e

@@ -1,5 +1,5 @@
 -- What can happen at a record, by its state, by what it says itself, and by its children.
-use Rattle.std.specs.Prelude.{◌≡◌, ◌≢◌, ◌<◌, ℕ, ◌+◌, Bool, true, false, Option, Some, None, slice_get}
+use Rattle.std.specs.Prelude.{◌≡◌, ◌≢◌, ◌<◌, ℕ, ◌+◌, Bool, true, false, Option, Some, slice_get}
 use Rattle.shim_base.specs.Paths.{Path, Channel, NamedChannel}
 use Rattle.shim_local.specs.Process.{Ops, AtQuiet, AtNext}
 use Rattle.shim_semantics.specs.Nodes.{Death, is_next}
@@ -8,29 +8,24 @@ use Rattle.shim_laws_table.specs.Seen.{ProcessStatus, lives, forks, ends, dies}
 use Rattle.shim_laws_table.specs.Counts.{Tally, all_there}
 use Rattle.shim_laws_table.specs.Dooms.{is_below}
 use Rattle.shim_laws_table.specs.Enabled.{Can}
-use Rattle.shim_records.specs.Pairs.{tally, counts_in}
+use Rattle.shim_records.specs.Pairs.{tally, counts_in, counts_ready}
 use Rattle.shim_records.specs.declared.pair.Pair.{Pair}
 use Rattle.shim_records.specs.declared.record.Record.{Record}
 use Rattle.shim_laws_table_events.specs.keeping.Tables.{TableView, HasProcessState, Keeps}
 use Rattle.shim_laws_table_events.specs.waking.Waking.{IsAtNumber}
 
--- there are counts, and by them all are there
-abbrev pub counts_ready : Option Tally → Bool
-counts_ready None = false
-counts_ready (Some y) = all_there y
-
--- a process with this state and sort is ready on the channel, for which its record has these counts
+-- a process with this state and status is ready on the channel, for which its record has these counts
 abbrev pub ready_by : {S : Type 0} → Ops S → Channel → S → ProcessStatus → Option Tally → Bool
 ready_by o c s lives y = is_next (o.stop s) c
 ready_by o c s (forks n) y = counts_ready y
 ready_by o c s ends y = false
 ready_by o c s (dies d) y = false
 
--- the process with this number, which has this state and sort, is ready on the channel
+-- the process with this number, which has this state and status, is ready on the channel
 abbrev pub IsReady : {S : Type 0} → Ops S → TableView S → Channel → ℕ → S → ProcessStatus → Type 0
 IsReady o v c j s k = ready_by o c s k (counts_in c v.records j) ≡ true
 
--- The event is told by the record with this number:
+-- By the record with this number this event can happen there; it may be a quiet step:
 pub data IsDue {S : Type 0} (o : Ops S) (v : TableView S) (i : ℕ) : Event → Type 0 where
   -- its process lives, and stands before a step of its own, at its end, or at a channel that it declared
   to_step : (f : ℕ) (l : S) (p : Path) → HasProcessState v i f l lives → own_action_at (o.stop l) ≡ Steps → o.path l ≡ p → IsDue o v i (Own p)
@@ -46,22 +41,22 @@ pub data IsDue {S : Type 0} (o : Ops S) (v : TableView S) (i : ℕ) : Event → 
       → is_below y.least (o.handlers l) ≡ true → b < n → HasProcessState v (g + b) f k x → IsReady o v c (g + b) k x → o.path k ≡ p → IsDue o v i (Poison p c)
 
 -- by the pair nothing can happen at the fork of this process, whose n children have the numbers from g on
-pub record IsIdlePair {S : Type 0} (o : Ops S) (v : TableView S) (l : S) (g n : ℕ) (y : Pair) : Type 0 where
+pub record HasNoPairDue {S : Type 0} (o : Ops S) (v : TableView S) (l : S) (g n : ℕ) (y : Pair) : Type 0 where
   pub meets_not : o.path l ≡ y.chan.channel.home → all_there (tally y) ≡ false
   pub poisons_not : is_below y.least (o.handlers l) ≡ true → (b f : ℕ) (k : S) (x : ProcessStatus) → b < n → HasProcessState v (g + b) f k x → IsReady o v y.chan.channel (g + b) k x → ⊥
 
--- The record with this number tells of nothing but a quiet step:
-pub data IsIdle {S : Type 0} (o : Ops S) (v : TableView S) (i : ℕ) : Type 0 where
+-- By the record with this number nothing but a quiet step can happen there:
+pub data HasNothingDue {S : Type 0} (o : Ops S) (v : TableView S) (i : ℕ) : Type 0 where
   -- it isn't in use
-  unused : ((f : ℕ) (s : S) (k : ProcessStatus) → HasProcessState v i f s k → ⊥) → IsIdle o v i
+  unused : ((f : ℕ) (s : S) (k : ProcessStatus) → HasProcessState v i f s k → ⊥) → HasNothingDue o v i
   -- its process has ended or died
-  has_ended : (f : ℕ) (l : S) → HasProcessState v i f l ends → IsIdle o v i
-  has_died : (f : ℕ) (l : S) (d : Death) → HasProcessState v i f l (dies d) → IsIdle o v i
+  has_ended : (f : ℕ) (l : S) → HasProcessState v i f l ends → HasNothingDue o v i
+  has_died : (f : ℕ) (l : S) (d : Death) → HasProcessState v i f l (dies d) → HasNothingDue o v i
   -- it lives, and stands before a quiet step, or at a channel that another process declared
-  is_quiet : (f : ℕ) (l : S) → HasProcessState v i f l lives → o.stop l ≡ AtQuiet → IsIdle o v i
-  waits : (f : ℕ) (l : S) (d : NamedChannel) → HasProcessState v i f l lives → o.stop l ≡ AtNext d → o.path l ≢ d.channel.home → IsIdle o v i
+  is_quiet : (f : ℕ) (l : S) → HasProcessState v i f l lives → o.stop l ≡ AtQuiet → HasNothingDue o v i
+  waits : (f : ℕ) (l : S) (d : NamedChannel) → HasProcessState v i f l lives → o.stop l ≡ AtNext d → o.path l ≢ d.channel.home → HasNothingDue o v i
   -- it has forked, a child goes on, and by each pair nothing can happen
-  is_open : (g n : ℕ) (l : S) (r : Record) → HasProcessState v i g l (forks n) → slice_get v.records i ≡ Some r → r.going ≢ 0 → ((q : ℕ) (y : Pair) → slice_get r.pairs.items q ≡ Some y → IsIdlePair o v l g n y) → IsIdle o v i
+  is_open : (g n : ℕ) (l : S) (r : Record) → HasProcessState v i g l (forks n) → slice_get v.records i ≡ Some r → r.going ≢ 0 → ((q : ℕ) (y : Pair) → slice_get r.pairs.items q ≡ Some y → HasNoPairDue o v l g n y) → HasNothingDue o v i
 
 -- the event is a quiet step of the process with this number
 pub record IsQuietStepAt {S : Type 0} (o : Ops S) (v : TableView S) (i : ℕ) (e : Event) : Type 0 where
@@ -78,4 +73,4 @@ pub record LooksDecide {S : Type 0} (o : Ops S) : Type 0 where
   -- and what can happen and is looked for there, it tells
   pub told : (rp : Path) (v : TableView S) (t : Tree S) (e : Event) (i : ℕ) → Keeps o rp v t.root → Can o t e → IsAtNumber o v e i → IsDue o v i e
   -- so where it tells of nothing but a quiet step, nothing else can happen there
-  pub idle : (rp : Path) (v : TableView S) (t : Tree S) (e : Event) (i : ℕ) → Keeps o rp v t.root → IsIdle o v i → Can o t e → IsAtNumber o v e i → IsQuietStepAt o v i e
+  pub idle : (rp : Path) (v : TableView S) (t : Tree S) (e : Event) (i : ℕ) → Keeps o rp v t.root → HasNothingDue o v i → Can o t e → IsAtNumber o v e i → IsQuietStepAt o v i e

@@ -1,18 +1,15 @@
 use Rattle.std.proofs.Common.{sym}
 use Rattle.shim_laws_table_events.specs.keeping.Arriving.{there}
-use Rattle.shim_records.proofs.Reaching.{one_alone}
-use Rattle.shim_process_table.proofs.Touching.{counts_reach}
+use Rattle.shim_process_table.proofs.Readied.{came_there}
 use Rattle.shim_process_table.proofs.arriving.arrive.Goals as goal
 
 pub returns-in-Next-clause-arrives : goal.returns-in-Next-clause-arrives
-returns-in-Next-clause-arrives g c = there c.in-Next.chan.now c.live_reading.result c.live_reading-in-Next.result (sym c.in-Next.ensures) c.live_reading.ensures c.live_reading-in-Next.ensures c.update_counts_above-forks.ensures.counts
+returns-in-Next-clause-arrives g c = let way = c.arrive_above-forks.ensures.counts in there c.in-Next.chan.now way.0 way.1 (sym c.in-Next.ensures) way.2 way.3 way.4
 
-pub returns-in-Next-clause-touches : goal.returns-in-Next-clause-touches
-returns-in-Next-clause-touches g c =
-    let forks = c.update_counts_above-forks.result in
-    let now = c.update_counts_above-forks.new.records.items in
-    let only = c.update_counts_above-forks.ensures.counts.1 in
-    counts_reach forks c.args.at c.args.records.now.items now only.rest only.labels (one_alone c.in-Next.chan.now.channel forks c.args.at c.args.records.now.items now only c.update_counts_above-forks.ensures.reaches)
+pub returns-in-Next-clause-wakes : goal.returns-in-Next-clause-wakes
+returns-in-Next-clause-wakes g c =
+    let come = c.arrive_above-forks in
+    came_there g.L.Local.ops c.args.process.now c.in-Next.chan.now come.result c.args.at c.args.records.now.items come.new.records.items (sym c.in-Next.ensures) come.ensures.counts.4.1 come.ensures.readies
 
 pub returns-in-Next-clause-listing : goal.returns-in-Next-clause-listing
 returns-in-Next-clause-listing g c v i f has = c.listing_at.ensures v i f has (sym c.in-Next.ensures)

@@ -50,7 +50,7 @@ returns-then-lower c =
     let fork = slice_get_read rs.items c.len-2.result c.in-Some.above c.index_mut-record.result.now (c.len-2.ensures ∙ rs.ok.0) (omega (arith, c.if-above-len.false)) c.index_mut-record.ensures.value in
     goes ch c.args.label rs.items c.args.at c.in-Some.above (slice_set rs.items c.in-Some.above (with_pair c.index_mut-record.result.now c.in-Some-place_in.place c.lower_label-lower.new.pair)) c.index_mut.result.now.least c.lower_label-lower.new.pair.least (ap up_at stood ∙ c.in-Some.is)
     (relabelled ch rs.items c.in-Some.above c.in-Some-place_in.place c.index_mut-record.result.now c.index_mut.result.now c.lower_label-lower.new.pair fork
-    (ap (pair_index ch) (sym c.as_slice.ensures.value) ∙ (sym c.place_in.ensures ∙ c.in-Some-place_in.is)) c.index_mut.ensures.value c.lower_label-lower.ensures.chan c.lower_label-lower.ensures.counts)
+    (ap (pair_index ch) (sym c.as_slice.ensures.value) ∙ (sym c.place_in.ensures ∙ c.in-Some-place_in.is)) c.index_mut.ensures.value c.lower_label-lower.ensures.chan c.lower_label-lower.ensures.sharing c.lower_label-lower.ensures.counts)
     c.lower_label-lower.ensures.taken
 
 pub returns-else-lower : goal.returns-else-lower
@@ -61,7 +61,7 @@ returns-else-lower c =
     let fork = slice_get_read rs.items c.len-2.result c.in-Some.above c.index_mut-record.result.now (c.len-2.ensures ∙ rs.ok.0) (omega (arith, c.if-above-len.false)) c.index_mut-record.ensures.value in
     stops ch c.args.label rs.items c.args.at c.in-Some.above (slice_set rs.items c.in-Some.above (with_pair c.index_mut-record.result.now c.in-Some-place_in.place c.lower_label-lower.new.pair)) c.index_mut.result.now.least c.lower_label-lower.new.pair.least (ap up_at stood ∙ c.in-Some.is)
     (relabelled ch rs.items c.in-Some.above c.in-Some-place_in.place c.index_mut-record.result.now c.index_mut.result.now c.lower_label-lower.new.pair fork
-    (ap (pair_index ch) (sym c.as_slice.ensures.value) ∙ (sym c.place_in.ensures ∙ c.in-Some-place_in.is)) c.index_mut.ensures.value c.lower_label-lower.ensures.chan c.lower_label-lower.ensures.counts)
+    (ap (pair_index ch) (sym c.as_slice.ensures.value) ∙ (sym c.place_in.ensures ∙ c.in-Some-place_in.is)) c.index_mut.ensures.value c.lower_label-lower.ensures.chan c.lower_label-lower.ensures.sharing c.lower_label-lower.ensures.counts)
     c.lower_label-lower.ensures.taken (c.lower_label-lower.ensures.stays c.if-lower.false)
 
 pub place_in-requires : goal.place_in-requires

@@ -60,7 +60,7 @@ returns-then-other g c =
     let many_there = slice_get_read rs.items c.len-2.result c.in-Some.above c.index-3.result.now (c.len-2.ensures ∙ rs.ok.0) (omega (arith, c.if-above-len.false)) c.index-3.ensures in
     let relabels =
     relabelled ch rs.items c.in-Some.above c.in-Some-place_in.place c.index_mut-record.result.now c.index_mut.result.now c.put_label-other.new.pair fork (ap (pair_index ch) (sym c.as_slice-2.ensures.value) ∙ (sym c.place_in.ensures ∙ c.in-Some-place_in.is)) c.index_mut.ensures.value c.put_label-other.ensures.chan
-    c.put_label-other.ensures.counts in
+    c.put_label-other.ensures.sharing c.put_label-other.ensures.counts in
     let off =
     read g.L.Local.ops ch c.args.states.now rs.items c.as_slice.result.now c.in-Some.above c.fork_size-count.result c.index-2.result.now c.index-3.result.now c.put_label-other.new.pair.least first_there many_there c.as_slice.ensures.value
     c.fork_size-count.ensures (c.put_label-other.ensures.put ∙ c.label_of_children-label.ensures) in
@@ -77,7 +77,7 @@ returns-else-other g c =
     let many_there = slice_get_read rs.items c.len-2.result c.in-Some.above c.index-3.result.now (c.len-2.ensures ∙ rs.ok.0) (omega (arith, c.if-above-len.false)) c.index-3.ensures in
     let relabels =
     relabelled ch rs.items c.in-Some.above c.in-Some-place_in.place c.index_mut-record.result.now c.index_mut.result.now c.put_label-other.new.pair fork (ap (pair_index ch) (sym c.as_slice-2.ensures.value) ∙ (sym c.place_in.ensures ∙ c.in-Some-place_in.is)) c.index_mut.ensures.value c.put_label-other.ensures.chan
-    c.put_label-other.ensures.counts in
+    c.put_label-other.ensures.sharing c.put_label-other.ensures.counts in
     let off =
     read g.L.Local.ops ch c.args.states.now rs.items c.as_slice.result.now c.in-Some.above c.fork_size-count.result c.index-2.result.now c.index-3.result.now c.put_label-other.new.pair.least first_there many_there c.as_slice.ensures.value
     c.fork_size-count.ensures (c.put_label-other.ensures.put ∙ c.label_of_children-label.ensures) in

@@ -1,9 +1,9 @@
-use Rattle.std.proofs.Common.{sym, ap, ◌∙◌, arith, refl, subst, None}
+use Rattle.std.proofs.Common.{sym, ap, ◌∙◌, arith, false, refl, subst, None}
 use Rattle.std.proofs.lemmas.Option.{slice_get_read}
 use Rattle.shim_records.specs.Pairs.{pair_index, counts_at, up_at, IsOrdered, chans_of}
 use Rattle.shim_records.specs.Ways.{StepsUp}
 use Rattle.shim_records.proofs.Pairing.{place_within, no_place}
-use Rattle.shim_records.proofs.Stepping.{top, uncounted, its, up_is, past_end, same_items, same_bools, ends, goes, fork_read}
+use Rattle.shim_records.proofs.Stepping.{top, uncounted, its, up_is, past_end, same_items, same_bools, other_bool, closed_by, ends, goes, fork_read}
 use Rattle.shim_records.proofs.upward.step_up.Goals as goal
 
 pub returns-then-here-len : goal.returns-then-here-len
@@ -30,7 +30,7 @@ returns-in-None-place_in c =
     let ch = c.args.c.now.channel in
     let stood = its ch rs.items c.args.here c.len.result c.args.here.at c.index.result.now (c.len.ensures ∙ rs.ok.0) (omega (arith, c.if-here-len.false)) c.index.ensures in
     let fork = its ch rs.items c.args.here c.len-2.result c.in-Some.above c.index_mut-record.result.now (c.len-2.ensures ∙ rs.ok.0) (omega (arith, c.if-above-len.false)) c.index_mut-record.ensures.value in
-    subst (StepsUp ch rs.items c.args.here None) (sym (same_items rs.items c.in-Some.above c.index_mut-record.result.now fork))
+    subst (StepsUp ch rs.items c.args.here None false) (sym (same_items rs.items c.in-Some.above c.index_mut-record.result.now fork))
     (uncounted ch rs.items c.args.here c.in-Some.above (up_is ch rs.items c.args.here c.index.result.now _ stood c.in-Some.is)
     (ap (counts_at ch) fork ∙ no_place ch c.index_mut-record.result.now.pairs.items (ap (pair_index ch) (sym c.as_slice.ensures.value) ∙ (sym c.place_in.ensures ∙ c.in-None-place_in.is))))
 
@@ -49,7 +49,7 @@ returns-then-before-after c =
     let fork = its ch rs.items c.args.here c.len-2.result c.in-Some.above c.index_mut-record.result.now (c.len-2.ensures ∙ rs.ok.0) (omega (arith, c.if-above-len.false)) c.index_mut-record.ensures.value in
     ends ch rs.items c.args.here c.in-Some.above c.in-Some-place_in.place c.index_mut-record.result.now c.index_mut-pair.result.now c.move_pair.new.pair
     (up_is ch rs.items c.args.here c.index.result.now _ stood c.in-Some.is) fork (ap (pair_index ch) (sym c.as_slice.ensures.value) ∙ (sym c.place_in.ensures ∙ c.in-Some-place_in.is)) c.index_mut-pair.ensures.value
-    c.move_pair.ensures.same c.move_pair.ensures.label c.move_pair.ensures.moved
+    c.move_pair.ensures.same c.move_pair.ensures.sharing c.move_pair.ensures.label c.move_pair.ensures.moved c.may_be_due-due.result (closed_by c.may_be_due-due.result c.has_all-after.result c.move_pair.new.pair c.has_all-after.ensures c.may_be_due-due.ensures) c.move_pair.ensures.falls
     (sym c.has_all-before.ensures ∙ (same_bools c.has_all-before.result c.has_all-after.result c.if-before-after.true ∙ c.has_all-after.ensures))
 
 pub returns : goal.returns
@@ -60,8 +60,8 @@ returns c =
     let fork = its ch rs.items c.args.here c.len-2.result c.in-Some.above c.index_mut-record.result.now (c.len-2.ensures ∙ rs.ok.0) (omega (arith, c.if-above-len.false)) c.index_mut-record.ensures.value in
     goes ch rs.items c.args.here c.in-Some.above c.in-Some-place_in.place c.index_mut-record.result.now c.index_mut-pair.result.now c.move_pair.new.pair
     (up_is ch rs.items c.args.here c.index.result.now _ stood c.in-Some.is) fork (ap (pair_index ch) (sym c.as_slice.ensures.value) ∙ (sym c.place_in.ensures ∙ c.in-Some-place_in.is)) c.index_mut-pair.ensures.value
-    c.move_pair.ensures.same c.move_pair.ensures.label c.move_pair.ensures.moved
-    (record { at = c.in-Some.above; was = c.live_reading.result; is = c.live_reading-2.result }) refl
+    c.move_pair.ensures.same c.move_pair.ensures.sharing c.move_pair.ensures.label c.move_pair.ensures.moved c.may_be_due-due.result (closed_by c.may_be_due-due.result c.has_all-after.result c.move_pair.new.pair c.has_all-after.ensures c.may_be_due-due.ensures) c.move_pair.ensures.falls
+    (record { at = c.in-Some.above; was = c.live_reading.result; is = c.live_reading-2.result }) (λ e. sym c.has_all-before.ensures ∙ other_bool c.has_all-before.result c.has_all-after.result c.if-before-after.false (c.has_all-after.ensures ∙ e)) refl
     (fork_read c.live_reading.result c.has_all-before.result c.index_mut-pair.result.now c.live_reading.ensures c.has_all-before.ensures)
     (fork_read c.live_reading-2.result c.has_all-after.result c.move_pair.new.pair c.live_reading-2.ensures c.has_all-after.ensures)
 

@@ -3,7 +3,7 @@ use Rattle.std.specs.Prelude.{slice_get}
 use Rattle.std.proofs.lemmas.Option.{slice_get_read}
 use Rattle.shim_base.proofs.Facts.{some_same}
 use Rattle.shim_laws_table_events.specs.keeping.Tables.{TableView}
-use Rattle.shim_laws_table_events.specs.waking.Looks.{IsIdle}
+use Rattle.shim_laws_table_events.specs.waking.Looks.{HasNothingDue}
 use Rattle.shim_process_table.specs.Due.{DueIs}
 use Rattle.shim_process_table.proofs.DueFacts.{at_rest, live_process, of_lists}
 use Rattle.shim_process_table.proofs.process_table.ProcessTable.due.Goals as goal
@@ -14,7 +14,7 @@ returns-in-Free g c =
     let v = c.self.inside in
     let w : TableView g.row.L.Denot = record { states = v.states.items; records = v.records.items } in
     let long = c.len.ensures ∙ v.states.ok.0 in
-    subst (λ z. IsIdle o z c.args.number) c.self.view_is
+    subst (λ z. HasNothingDue o z c.args.number) c.self.view_is
     (at_rest o w c.args.number c.index.result.now (omega (arith, long, c.if-at-len.false))
     (slice_get_read v.records.items c.len-2.result c.args.number c.index.result.now (c.len-2.ensures ∙ v.records.ok.0) (omega (arith, c.if-at-len-2.false)) c.index.ensures) c.in-Free.is)
 

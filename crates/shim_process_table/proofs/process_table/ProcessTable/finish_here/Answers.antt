@@ -1,4 +1,4 @@
-use Rattle.std.proofs.Common.{refl, sym, subst}
+use Rattle.std.proofs.Common.{◌+◌, refl, sym, subst}
 use Rattle.shim_local.specs.Process.{AtFinish}
 use Rattle.shim_semantics.specs.Acts.{nothing}
 use Rattle.shim_laws_table.specs.Seen.{ends}
@@ -22,10 +22,10 @@ returns g c =
     let law = (g.met.L.Local g.world.𝓛 g.world.𝓜 g.world.𝓡 ((λ s x. x), (λ x. x), (λ x. x), λ x. x)).laws in
     let v = c.self.inside in
     let here = subst (λ z. LivesAt o z c.args.number AtFinish) (sym c.self.view_is) c.requires in
-    subst (λ z. ActsHere o c.leave_tree.result c.args.number AtFinish ends nothing z (record { states = v.states.items; records = c.leave_tree.new.records.items })) c.self.view_is
+    subst (λ z. ActsHere o (c.leave_tree.result + 1) c.args.number AtFinish ends nothing z (record { states = v.states.items; records = c.leave_tree.new.records.items })) c.self.view_is
     (leaves_here o law v.states.items v.records.items c.leave_tree.new.records.items c.args.number AtFinish nothing c.index.result.now here c.index.ensures c.leave_tree.result code.Ended refl c.leave_tree.ensures.leaves c.leave_tree.ensures.touches refl)
 
 pub invariant_of-self : goal.invariant_of-self
 invariant_of-self g c =
     let o = g.L.Local.ops in
-    still_kept o c.leave_tree.result c.args.number AtFinish ends nothing c.args.self.now (record { states = c.self.inside.states.items; records = c.leave_tree.new.records.items }) (returns g c) (subst (IsKept o) c.self.view_is c.self.invariant)
+    still_kept o (c.leave_tree.result + 1) c.args.number AtFinish ends nothing c.args.self.now (record { states = c.self.inside.states.items; records = c.leave_tree.new.records.items }) (returns g c) (subst (IsKept o) c.self.view_is c.self.invariant)

@@ -3,7 +3,7 @@ use Rattle.shim_laws_table_events.specs.keeping.Tables.{TableView, IsKept}
 use Rattle.shim_process_table.specs.Poisoning.{IsKilledBy}
 use Rattle.shim_laws_table_events.specs.meetings.Poisons.{DiesOne}
 use Rattle.shim_process_table.proofs.HerePoisons.{dead_ordered, few_given, killed_ordered, dies_one, still_kept}
-use Rattle.shim_process_table.proofs.TouchingPoisons.{same_view, dies_touch}
+use Rattle.shim_process_table.proofs.TouchingMeets.{same_view, dies_touch}
 use Rattle.shim_process_table.proofs.process_table.ProcessTable.kill_at.Goals as goal
 
 pub kill_all-requires-clause-ordered : goal.kill_all-requires-clause-ordered

@@ -3,7 +3,7 @@ use Rattle.std.proofs.lemmas.Option.{slice_get_read}
 use Rattle.shim_laws_table_events.specs.meetings.Poisons.{AllDie}
 use Rattle.shim_process_table.specs.Touching.{TouchesEach}
 use Rattle.shim_process_table.proofs.HerePoisons.{one_killed, each_killed}
-use Rattle.shim_process_table.proofs.TouchingPoisons.{one_touched, each_touched}
+use Rattle.shim_process_table.proofs.TouchingMeets.{one_touched, each_touched}
 use Rattle.shim_process_table.proofs.process_table.ProcessTable.kill_each.Goals as goal
 
 pub loop-place-init : goal.loop-place-init

@@ -1,5 +1,5 @@
 use Rattle.shim_process_table.proofs.HerePoisons.{KilledSoFar}
-use Rattle.shim_process_table.proofs.TouchingPoisons.{TouchedSoFar}
+use Rattle.shim_process_table.proofs.TouchingMeets.{TouchedSoFar}
 use Rattle.shim_process_table.proofs.process_table.ProcessTable.kill_each.Given as goal
 
 abbrev pub invariant-loop-place : goal.invariant-loop-place

@@ -1,5 +1,5 @@
 use Rattle.std.proofs.Common.{false, sym, subst}
-use Rattle.shim_laws_table_events.specs.waking.Looks.{IsIdle}
+use Rattle.shim_laws_table_events.specs.waking.Looks.{HasNothingDue}
 use Rattle.shim_laws_table_events.specs.keeping.Tables.{TableView}
 use Rattle.shim_process_table.specs.Reading.{IsInUse}
 use Rattle.shim_process_table.specs.Listing.{ListingIs}
@@ -12,7 +12,7 @@ returns-in-Free g c =
     let v = c.self.inside in
     let w : TableView g.row.L.Denot = record { states = v.states.items; records = v.records.items } in
     let used = subst (λ z. IsInUse z c.args.number) (sym c.self.view_is) c.requires in
-    subst (λ z. IsIdle g.L.Local.ops z c.args.number × IsBeforeQuiet g.L.Local.ops c.args.number z false) c.self.view_is
+    subst (λ z. HasNothingDue g.L.Local.ops z c.args.number × IsBeforeQuiet g.L.Local.ops c.args.number z false) c.self.view_is
     (rests g.L.Local.ops w c.args.number used c.index.result.now c.index.ensures c.in-Free.is)
 
 pub returns-in-Live : goal.returns-in-Live

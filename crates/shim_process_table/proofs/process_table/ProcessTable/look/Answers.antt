@@ -3,20 +3,20 @@ use Rattle.shim_process_table.specs.Descent.{ahead_of}
 use Rattle.shim_process_table.proofs.Finding.{empty_block, past_block, passed, taken}
 use Rattle.shim_process_table.proofs.process_table.ProcessTable.look.Goals as goal
 
-pub returns-then-block-eq0-clause-leads : goal.returns-then-block-eq0-clause-leads
-returns-then-block-eq0-clause-leads g c = empty_block g.L.Local.ops c.args.self.now c.args.c.now.channel c.args.block (ahead_of c.args.ahead.now.items) c.args.numbers.now.items (omega (arith, c.if-block-eq0.true))
+pub returns-then-block-eq0 : goal.returns-then-block-eq0
+returns-then-block-eq0 g c = empty_block g.L.Local.ops c.args.self.now c.args.c.now.channel c.args.block (ahead_of c.args.ahead.now.items) c.args.numbers.now.items (omega (arith, c.if-block-eq0.true))
 
-pub returns-then-at-len-clause-leads : goal.returns-then-at-len-clause-leads
-returns-then-at-len-clause-leads g c =
+pub returns-then-at-len : goal.returns-then-at-len
+returns-then-at-len g c =
     past_block g.L.Local.ops c.args.self.now c.args.c.now.channel c.args.block (ahead_of c.args.ahead.now.items) c.args.numbers.now.items
     (let v = c.self.inside in let w = c.len.ensures in let y = v.states.ok.0 in let x = ap (λ z. length z.states) c.self.view_is in omega (arith, c.if-at-len.true, w, y, x))
 
-pub returns-in-None-clause-leads : goal.returns-in-None-clause-leads
-returns-in-None-clause-leads g c =
+pub returns-in-None : goal.returns-in-None
+returns-in-None g c =
     passed g.L.Local.ops c.args.self.now c.args.c.now.channel c.args.block (ahead_of c.args.ahead.now.items) (ahead_of c.put_ahead.new.ahead.items) c.args.numbers.now.items (omega (arith, c.if-block-eq0.false)) c.in_ok-put_ahead.ensures c.in-None.ensures
 
-pub returns-in_ok-put_ahead-in-Some-clause-leads : goal.returns-in_ok-put_ahead-in-Some-clause-leads
-returns-in_ok-put_ahead-in-Some-clause-leads g c =
+pub returns-in_ok-put_ahead-in-Some : goal.returns-in_ok-put_ahead-in-Some
+returns-in_ok-put_ahead-in-Some g c =
     let number : c.in_ok-number-in-Some.number ≡ c.args.block.first = search rules in
     taken g.L.Local.ops c.args.self.now c.args.c.now.channel c.args.block c.in-Some.children (ahead_of c.args.ahead.now.items) (ahead_of c.put_ahead.new.ahead.items) (ahead_of c.put_ahead-in-Some.new.ahead.items) c.args.numbers.now.items c.push.new.self.items
     (omega (arith, c.if-block-eq0.false)) c.in_ok-put_ahead.ensures c.in-Some.ensures (c.in_ok-push-in-Some.ensures.items ∙ ap (λ z. c.args.numbers.now.items ++ z ∷ []) number) c.in_ok-put_ahead-in-Some.ensures

@@ -19,7 +19,7 @@ returns-clause-acts g c =
     let forks = c.arrive-arrival.result.forks in
     let here = subst (λ z. LivesAt o z c.args.number AtPut) (sym c.self.view_is) c.requires in
     subst (λ z. ActsHere o forks c.args.number AtPut lives told z (record { states = slice_set v.states.items c.args.number s; records = c.arrive-arrival.new.records.items })) c.self.view_is
-    (lives_here o law v.states.items v.records.items c.arrive-arrival.new.records.items c.args.number AtPut told l here c.index_mut.ensures.value forks s c.index.result.now c.index.ensures c.arrive-arrival.ensures.arrives c.arrive-arrival.ensures.touches
+    (lives_here o law v.states.items v.records.items c.arrive-arrival.new.records.items c.args.number AtPut told l here c.index_mut.ensures.value forks s c.index.result.now c.index.ensures c.arrive-arrival.ensures.arrives c.arrive-arrival.ensures.wakes
     (puts o l s c.put-byte.result c.put-byte.ensures.byte c.put-byte.ensures.after))
 
 pub returns-clause-listing : goal.returns-clause-listing

@@ -27,7 +27,7 @@ returns-clause-here g c =
     let before = subst (λ z. WaitsAt o ch c.args.number z true) (sym c.self.view_is) c.if-not-waits_at.ensures in
     subst (λ z. HasReceived o ch c.args.v c.args.number c.move_on-arrival.result z (record { states = slice_set v.states.items c.args.number c.receive.new.self; records = c.move_on-arrival.new.records.items })) c.self.view_is
     (has_received o ch law c.args.v v.states.items v.records.items c.move_on-arrival.new.records.items c.args.number c.index_mut.result.now c.receive.new.self c.index.result.now before c.index_mut.ensures.value (c.receive.ensures ∙ ap (o.receive c.index_mut.result.now) (to_z-of_z w64 c.args.v fits)) c.index.ensures c.move_on-arrival.ensures.moves
-    c.move_on-arrival.result c.move_on-arrival.ensures.touches c.move_on-arrival.ensures.listing)
+    c.self.invariant c.move_on-arrival.result c.move_on-arrival.ensures.wakes c.move_on-arrival.ensures.listing)
 
 pub invariant_of-self : goal.invariant_of-self
 invariant_of-self g c =

@@ -16,4 +16,4 @@ returns-in-None-clause-used g c =
 pub loop-looked-preserved : goal.loop-looked-preserved
 loop-looked-preserved g c =
     goes_on g.L.Local.ops c.args.self.now c.args.c.now.channel c.args.number c.loop-looked.sharers-inside.numbers.items c.look.new.numbers.items c.loop-looked.sharers-inside.ahead.items c.pop.new.self.items c.look.new.ahead.items c.in-Some.block
-    c.in-Some.ensures.items c.in_ok-look-in-Some.ensures.leads c.loop-looked.invariant
+    c.in-Some.ensures.items c.in_ok-look-in-Some.ensures c.loop-looked.invariant

@@ -1,4 +1,4 @@
-use Rattle.std.proofs.Common.{◌≡◌, refl, sym, ap, subst, ◌∙◌, slice_set, get_or, arith}
+use Rattle.std.proofs.Common.{◌≡◌, ◌+◌, refl, sym, ap, subst, ◌∙◌, slice_set, get_or, arith}
 use Rattle.std.specs.Prelude.{Some}
 use Rattle.shim_local.specs.Process.{AtThrow}
 use Rattle.shim_semantics.specs.Nodes.{Dead}
@@ -65,8 +65,8 @@ returns-in-Died-clause-acts g c =
     let forks = c.leave_tree-forks.result in
     let behind = c.leave_tree-forks.new.records.items in
     let does = subst (λ z. act_live o z (AtThrow label) ≡ Some (record { node = Dead z d; effects = nothing })) (one_read o states rs x (AtThrow label) l again here read read_again) w.1 in
-    subst (λ z. ActsHere o forks x (AtThrow label) (dies d) nothing z (record { states = slice_set states x s; records = behind })) c.self.view_is
-    (subst (λ z. ActsHere o forks x (AtThrow label) (dies d) nothing (record { states = states; records = rs }) (record { states = z; records = behind })) (sym same)
+    subst (λ z. ActsHere o (forks + 1) x (AtThrow label) (dies d) nothing z (record { states = slice_set states x s; records = behind })) c.self.view_is
+    (subst (λ z. ActsHere o (forks + 1) x (AtThrow label) (dies d) nothing (record { states = states; records = rs }) (record { states = z; records = behind })) (sym same)
     (leaves_here o law states rs behind x (AtThrow label) nothing again here read_again forks (code.Dead d) refl c.leave_tree-forks.ensures.leaves c.leave_tree-forks.ensures.touches does))
 
 pub returns-in-Died-clause-listing : goal.returns-in-Died-clause-listing
@@ -78,7 +78,7 @@ returns-in-Died-clause-listing g c =
 pub invariant_of-self : goal.invariant_of-self
 invariant_of-self g c =
     let o = g.L.Local.ops in
-    still_kept o c.leave_tree-forks.result c.args.number (AtThrow c.args.label) (dies c.in-Died.death) nothing c.args.self.now (record { states = slice_set c.self.inside.states.items c.args.number c.throw_own-thrown.new.process; records = c.leave_tree-forks.new.records.items }) (returns-in-Died-clause-acts g c)
+    still_kept o (c.leave_tree-forks.result + 1) c.args.number (AtThrow c.args.label) (dies c.in-Died.death) nothing c.args.self.now (record { states = slice_set c.self.inside.states.items c.args.number c.throw_own-thrown.new.process; records = c.leave_tree-forks.new.records.items }) (returns-in-Died-clause-acts g c)
     (subst (IsKept o) c.self.view_is c.self.invariant)
 
 -- ---- it lives on
@@ -112,7 +112,7 @@ returns g c =
     let then = lives_then o law states rs behind x (AtThrow label) (told_of t) l here read s c.index-2.result.now c.index-2.ensures c.arrive-arrival.ensures.arrives in record {
       acts = subst (λ z. ActsHere o forks x (AtThrow label) (status_by_throw t) (told_of t) z (record { states = slice_set states x s; records = behind })) c.self.view_is
           (subst (λ k. ActsHere o forks x (AtThrow label) k (told_of t) (record { states = states; records = rs }) (record { states = slice_set states x s; records = behind })) (sym lived)
-          (lives_here o law states rs behind x (AtThrow label) (told_of t) l here read forks s c.index-2.result.now c.index-2.ensures c.arrive-arrival.ensures.arrives c.arrive-arrival.ensures.touches
+          (lives_here o law states rs behind x (AtThrow label) (told_of t) l here read forks s c.index-2.result.now c.index-2.ensures c.arrive-arrival.ensures.arrives c.arrive-arrival.ensures.wakes
           (throw_lives o l s t label lived c.throw_own-thrown.ensures)));
       listing = c.arrive-arrival.ensures.listing (record { states = slice_set states x s; records = behind }) x then.0 then.1;
     }

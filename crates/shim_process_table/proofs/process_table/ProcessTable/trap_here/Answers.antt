@@ -1,4 +1,4 @@
-use Rattle.std.proofs.Common.{◌≤◌, pos, refl, sym, subst, rules}
+use Rattle.std.proofs.Common.{◌≤◌, ◌+◌, pos, refl, sym, subst, rules}
 use Rattle.shim_local.specs.Process.{AtTrap}
 use Rattle.shim_semantics.specs.Nodes.{death_with}
 use Rattle.shim_semantics.specs.Acts.{trapping}
@@ -27,7 +27,7 @@ returns g c kind line trapped =
     let stop = AtTrap kind line in
     let here = subst (λ z. LivesAt o z c.args.number stop) (sym c.self.view_is) trapped in
     let few : c.leave_tree.result ≤ 4294967295 = search rules in
-    subst (λ z. ActsHere o 4294967295 c.args.number stop (dies (death_with 0 (pos 0))) (trapping kind line) z (record { states = v.states.items; records = c.leave_tree.new.records.items })) c.self.view_is
+    subst (λ z. ActsHere o (4294967295 + 1) c.args.number stop (dies (death_with 0 (pos 0))) (trapping kind line) z (record { states = v.states.items; records = c.leave_tree.new.records.items })) c.self.view_is
     (leaves_here o law v.states.items v.records.items c.leave_tree.new.records.items c.args.number stop (trapping kind line) c.index.result.now here c.index.ensures 4294967295 (code.Dead (death_with 0 (pos 0))) refl c.leave_tree.ensures.leaves
     (touches_more c.leave_tree.result 4294967295 c.args.number v.records.items c.leave_tree.new.records.items few c.leave_tree.ensures.touches) refl)
 
@@ -36,5 +36,5 @@ invariant_of-self g c =
     let o = g.L.Local.ops in
     let kind = c.requires.0 in
     let line = c.requires.1 in
-    still_kept o 4294967295 c.args.number (AtTrap kind line) (dies (death_with 0 (pos 0))) (trapping kind line) c.args.self.now (record { states = c.self.inside.states.items; records = c.leave_tree.new.records.items }) (returns g c kind line c.requires.2)
+    still_kept o (4294967295 + 1) c.args.number (AtTrap kind line) (dies (death_with 0 (pos 0))) (trapping kind line) c.args.self.now (record { states = c.self.inside.states.items; records = c.leave_tree.new.records.items }) (returns g c kind line c.requires.2)
     (subst (IsKept o) c.self.view_is c.self.invariant)

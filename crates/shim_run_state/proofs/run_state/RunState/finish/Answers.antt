@@ -26,7 +26,7 @@ requeue-requires-clause-serves g c κs within =
     let n = c.args.number in
     let a = c.finish_here-forks.ensures in
     let x = view_of w.begun.value c.finish_here-forks.new.self w.output.items w.histories (logged w.logs.items) w.process_lists w.past.items w.events in
-    still_serves o law v x c.self.invariant.0 c.finish_here-forks.result n AtFinish ends nothing a w.process_lists c.self.invariant.0.serves
+    still_serves o law v x c.self.invariant.0 (c.finish_here-forks.result + 1) n AtFinish ends nothing a w.process_lists c.self.invariant.0.serves
 
 pub invariant_of-self : goal.invariant_of-self
 invariant_of-self g c =
@@ -38,13 +38,13 @@ invariant_of-self g c =
     let few = subst (λ z. steps (tree_in o z) < 4000000) (sym c.self.view_is) c.requires.few in
     let a = c.finish_here-forks.ensures in
     let u = view_of w.begun.value c.finish_here-forks.new.self w.output.items w.histories (logged w.logs.items) c.requeue.new.self w.past.items (w.events + 1) in
-    let told : HasTold o law v u c.self.invariant.0 c.finish_here-forks.result n AtFinish ends nothing a = record {
+    let told : HasTold o law v u c.self.invariant.0 (c.finish_here-forks.result + 1) n AtFinish ends nothing a = record {
       output = sym (append-nil w.output.items);
       histories = refl;
       logs = refl;
       past = refl;
     } in
-    let r = end_done o law v u c.self.invariant.0 c.finish_here-forks.result n AtFinish ends nothing a refl (λ e. absurd cc) told c.requeue.ensures.own c.requeue.ensures.requeues refl few in
+    let r = end_done o law v u c.self.invariant.0 (c.finish_here-forks.result + 1) n AtFinish ends nothing a refl (λ e. absurd cc) told c.requeue.ensures.own c.requeue.ensures.requeues refl few in
     (r.0, ap (λ z. z + 1) c.self.invariant.1 ∙ sym r.2)
 
 pub returns-clause-ok : goal.returns-clause-ok
@@ -57,12 +57,12 @@ returns-clause-ok g c =
     let few = subst (λ z. steps (tree_in o z) < 4000000) (sym c.self.view_is) c.requires.few in
     let a = c.finish_here-forks.ensures in
     let u = view_of w.begun.value c.finish_here-forks.new.self w.output.items w.histories (logged w.logs.items) c.requeue.new.self w.past.items (w.events + 1) in
-    let told : HasTold o law v u c.self.invariant.0 c.finish_here-forks.result n AtFinish ends nothing a = record {
+    let told : HasTold o law v u c.self.invariant.0 (c.finish_here-forks.result + 1) n AtFinish ends nothing a = record {
       output = sym (append-nil w.output.items);
       histories = refl;
       logs = refl;
       past = refl;
     } in
-    let r = end_done o law v u c.self.invariant.0 c.finish_here-forks.result n AtFinish ends nothing a refl (λ e. absurd cc) told c.requeue.ensures.own c.requeue.ensures.requeues refl few in
+    let r = end_done o law v u c.self.invariant.0 (c.finish_here-forks.result + 1) n AtFinish ends nothing a refl (λ e. absurd cc) told c.requeue.ensures.own c.requeue.ensures.requeues refl few in
     let path = c.in_ok-copy.ensures ∙ c.path.ensures a.process a.has.state_is in
     subst (λ z. HappensIn o z u (End c.in_ok-copy.field-0)) c.self.view_is (subst (λ z. HappensIn o v u (End z)) (sym path) r.1)

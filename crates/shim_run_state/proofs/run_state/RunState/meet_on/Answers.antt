@@ -2,7 +2,7 @@ use Rattle.std.proofs.Common.{◌<◌, ◌+◌, sym, ap, subst, ◌∙◌, rules
 use Rattle.std.proofs.lemmas.Int.{to_z-of_z}
 use Rattle.shim_semantics.specs.Trees.{Meet, steps}
 use Rattle.shim_run_log.specs.Logged.{logged}
-use Rattle.shim_laws_table_events.specs.meetings.Meetings.{IsEnabled, Declares, ReceiveAll}
+use Rattle.shim_laws_table_events.specs.meetings.Meetings.{IsEnabled, ReceiveAll}
 use Rattle.shim_laws_table_events.proofs.meetings.Meets.{meetings_move}
 use Rattle.shim_process_table.proofs.ChangingEach.{all_receive_changed}
 use Rattle.shim_run_state.specs.Fields.{view_of}
@@ -18,16 +18,15 @@ invariant_of-self-2 g c =
     let law = (g.met.L.Local g.world.𝓛 g.world.𝓜 g.world.𝓡 ((λ s x. x), (λ x. x), (λ x. x), λ x. x)).laws in
     let w = c.self.inside in
     let ch = c.args.chan.channel in
-    let sharers = c.plan_meeting.new.sharers in
+    let sharers = c.record.new.sharers in
     let now = c.receive_each.new.table in
     let x = c.in_ok-value.value in
     let before = view_of w.begun.value w.table w.output.items w.histories (logged w.logs.items) w.process_lists w.past.items w.events in
     let few = subst (λ z. steps (tree_in o z) < 4000000) (sym c.self.view_is) c.requires.few in
     let fits : FitsSigned w64 x = search rules in
     let all : ReceiveAll o ch x sharers w.table now = subst (λ z. ReceiveAll o ch x z w.table now) c.numbers.ensures (subst (λ z. ReceiveAll o ch z c.numbers.result.now w.table now) (to_z-of_z w64 x fits) c.receive_each.ensures.receive) in
-    let home = subst (λ z. Declares o z.table c.args.number ch) (sym c.self.view_is) c.requires.home in
     let enabled = subst (λ z. IsEnabled o (Meet ch) z.table) (sym c.self.view_is) c.requires.enabled in
-    let moves = (meetings_move o law w.table now ch c.args.number sharers x home enabled c.in_ok-value.ensures.lists c.in_ok-value.ensures.value all).0 in
+    let moves = (meetings_move o law w.table now ch sharers x enabled (c.in_ok-record.ensures.receivers c.in_ok-value.ensures.lists) c.in_ok-value.ensures.value all).0 in
     let changes = all_receive_changed o law ch x sharers w.table now all in
     let told : RecordsValue o w.table ch x w.histories c.record.new.histories = subst (λ z. RecordsValue o w.table ch z w.histories c.record.new.histories) (to_z-of_z w64 x fits) c.in_ok-record.ensures.ok in
     let passes = c.receive_each.ensures.passes in
@@ -40,16 +39,15 @@ returns-clause-ok g c =
     let law = (g.met.L.Local g.world.𝓛 g.world.𝓜 g.world.𝓡 ((λ s x. x), (λ x. x), (λ x. x), λ x. x)).laws in
     let w = c.self.inside in
     let ch = c.args.chan.channel in
-    let sharers = c.plan_meeting.new.sharers in
+    let sharers = c.record.new.sharers in
     let now = c.receive_each.new.table in
     let x = c.in_ok-value.value in
     let before = view_of w.begun.value w.table w.output.items w.histories (logged w.logs.items) w.process_lists w.past.items w.events in
     let few = subst (λ z. steps (tree_in o z) < 4000000) (sym c.self.view_is) c.requires.few in
     let fits : FitsSigned w64 x = search rules in
     let all : ReceiveAll o ch x sharers w.table now = subst (λ z. ReceiveAll o ch x z w.table now) c.numbers.ensures (subst (λ z. ReceiveAll o ch z c.numbers.result.now w.table now) (to_z-of_z w64 x fits) c.receive_each.ensures.receive) in
-    let home = subst (λ z. Declares o z.table c.args.number ch) (sym c.self.view_is) c.requires.home in
     let enabled = subst (λ z. IsEnabled o (Meet ch) z.table) (sym c.self.view_is) c.requires.enabled in
-    let moves = (meetings_move o law w.table now ch c.args.number sharers x home enabled c.in_ok-value.ensures.lists c.in_ok-value.ensures.value all).0 in
+    let moves = (meetings_move o law w.table now ch sharers x enabled (c.in_ok-record.ensures.receivers c.in_ok-value.ensures.lists) c.in_ok-value.ensures.value all).0 in
     let changes = all_receive_changed o law ch x sharers w.table now all in
     let told : RecordsValue o w.table ch x w.histories c.record.new.histories = subst (λ z. RecordsValue o w.table ch z w.histories c.record.new.histories) (to_z-of_z w64 x fits) c.in_ok-record.ensures.ok in
     let passes = c.receive_each.ensures.passes in

@@ -57,8 +57,8 @@ invariant_of-self-2 g c =
     let again = subst (λ z. RequeuesEach o now z w.process_lists c.requeue_each.new.self) c.numbers-sharers.ensures c.requeue_each.ensures in
     let few = subst (λ z. steps (tree_in o z) < 4000000) (sym c.self.view_is) c.requires.few in
     let one : OneEvent o before behind = record { output = refl; logs = refl; past = refl; events = refl } in
-    let its : HasProcessState w.table c.in_ok-child.child d.child_first d.child d.child_sort = subst (λ z. HasProcessState w.table z d.child_first d.child d.child_sort) child d.its in
-    let moves = subst (λ z. MovesBy o (Poison z c.in_ok-chan.chan.channel) w.table now) (sym path) (c.poison_here.ensures.moves d.child_first d.child d.child_sort its) in
+    let its : HasProcessState w.table c.in_ok-child.child d.child_first d.child d.child_status = subst (λ z. HasProcessState w.table z d.child_first d.child d.child_status) child d.its in
+    let moves = subst (λ z. MovesBy o (Poison z c.in_ok-chan.chan.channel) w.table now) (sym path) (c.poison_here.ensures.moves d.child_first d.child d.child_status its) in
     let went = poison_goes o law before behind c.self.invariant.0 few sharers c.poison_here.ensures.touches again one c.in_ok-path.path c.in_ok-chan.chan.channel moves c.poison_here.ensures.changes refl in
     (went.keeps, ap (λ z. z + 1) c.self.invariant.1 ∙ sym went.steps_are)
 
@@ -78,7 +78,7 @@ returns-clause-ok g c =
     let again = subst (λ z. RequeuesEach o now z w.process_lists c.requeue_each.new.self) c.numbers-sharers.ensures c.requeue_each.ensures in
     let few = subst (λ z. steps (tree_in o z) < 4000000) (sym c.self.view_is) c.requires.few in
     let one : OneEvent o before behind = record { output = refl; logs = refl; past = refl; events = refl } in
-    let its : HasProcessState w.table c.in_ok-child.child d.child_first d.child d.child_sort = subst (λ z. HasProcessState w.table z d.child_first d.child d.child_sort) child d.its in
-    let moves = subst (λ z. MovesBy o (Poison z c.in_ok-chan.chan.channel) w.table now) (sym path) (c.poison_here.ensures.moves d.child_first d.child d.child_sort its) in
+    let its : HasProcessState w.table c.in_ok-child.child d.child_first d.child d.child_status = subst (λ z. HasProcessState w.table z d.child_first d.child d.child_status) child d.its in
+    let moves = subst (λ z. MovesBy o (Poison z c.in_ok-chan.chan.channel) w.table now) (sym path) (c.poison_here.ensures.moves d.child_first d.child d.child_status its) in
     let went = poison_goes o law before behind c.self.invariant.0 few sharers c.poison_here.ensures.touches again one c.in_ok-path.path c.in_ok-chan.chan.channel moves c.poison_here.ensures.changes refl in
     subst (λ z. HappensIn o z behind (Poison c.in_ok-path.path c.in_ok-chan.chan.channel)) c.self.view_is went.happens

@@ -102,8 +102,8 @@ invariant_of-self g c =
     let far : (i : ℕ) → i ≢ n → is_listed c.acted.new.self.held i ≡ is_listed w.process_lists.held i = λ i apart. ap (λ z. is_listed z i) held_is ∙ far_flag w.process_lists.held i n false apart in
     let free = ap (λ z. is_listed z n) held_is ∙ flag_put w.process_lists.held n false c.set_held.ensures.within in
     let a = advanced_by o law v u c.self.invariant.0 n taken l held.held.quiet d far free told counted in (
-      steps_keep o law v u c.self.invariant.0 n taken l held.held.quiet d far free told counted c.advance_here-arrival.result.forks few c.advance_here-arrival.ensures.touches (subst (λ (z : ProcessListsView). ListsAwake o table c.advance_here-arrival.result.forks n z.awake c.acted.new.self.awake) mid c.acted.ensures.requeues.awake)
-          (subst (λ (z : ProcessListsView). ListsQuiet o table n z.quiet c.acted.new.self.quiet) mid c.acted.ensures.requeues.quiet) c.acted.ensures.requeues.within,
+      steps_keep o law v u c.self.invariant.0 n taken l held.held.quiet d far free told counted c.advance_here-arrival.result.forks few c.advance_here-arrival.ensures.wakes (subst (λ (z : ProcessListsView). ListsAwake o table c.advance_here-arrival.result.forks n z.awake c.acted.new.self.awake) mid c.acted.ensures.requeues.awake)
+          (subst (λ (z : ProcessListsView). ListsQuiet o table n z.quiet c.acted.new.self.quiet) mid c.acted.ensures.requeues.quiet),
       ap (λ z. z + taken) c.self.invariant.1 ∙ sym a.counts,
     )
 

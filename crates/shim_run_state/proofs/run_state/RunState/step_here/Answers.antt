@@ -68,7 +68,7 @@ invariant_of-self g c =
     let told : SameTold v u = record { output = refl; histories = refl; logs = refl; past = refl; events = refl } in
     let most = c.step_here.ensures.most in
     let a = advanced_by o law v u c.self.invariant.0 n taken l home.quiet d (λ i far. ap (λ z. is_listed z i) c.acted.ensures.requeues.held) (ap (λ z. is_listed z n) c.acted.ensures.requeues.held ∙ home.free) told c.acted.ensures.counted in (
-      steps_keep o law v u c.self.invariant.0 n taken l home.quiet d (λ i far. ap (λ z. is_listed z i) c.acted.ensures.requeues.held) (ap (λ z. is_listed z n) c.acted.ensures.requeues.held ∙ home.free) told c.acted.ensures.counted c.step_here.result.1.forks (omega (arith, few, most)) c.step_here.ensures.touches c.acted.ensures.requeues.awake c.acted.ensures.requeues.quiet c.acted.ensures.requeues.within,
+      steps_keep o law v u c.self.invariant.0 n taken l home.quiet d (λ i far. ap (λ z. is_listed z i) c.acted.ensures.requeues.held) (ap (λ z. is_listed z n) c.acted.ensures.requeues.held ∙ home.free) told c.acted.ensures.counted c.step_here.result.1.forks (omega (arith, few, most)) c.step_here.ensures.wakes c.acted.ensures.requeues.awake c.acted.ensures.requeues.quiet,
       ap (λ z. z + taken) c.self.invariant.1 ∙ sym a.counts,
     )
 

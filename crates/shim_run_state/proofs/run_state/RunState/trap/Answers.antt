@@ -58,7 +58,7 @@ acted-requires-clause-serves g c κs within =
     let stands = subst (λ z. LivesAt o z.table n (AtTrap c.args.kind c.args.line)) (sym c.self.view_is) c.requires.stands in
     let a = c.trap_here.ensures c.args.kind c.args.line stands in
     let x = view_of w.begun.value c.trap_here.new.self w.output.items w.histories (logged w.logs.items) w.process_lists w.past.items w.events in
-    still_serves o law v x c.self.invariant.0 4294967295 n (AtTrap c.args.kind c.args.line) (dies (death_with 0 (pos 0))) (trapping c.args.kind c.args.line) a w.process_lists c.self.invariant.0.serves
+    still_serves o law v x c.self.invariant.0 (4294967295 + 1) n (AtTrap c.args.kind c.args.line) (dies (death_with 0 (pos 0))) (trapping c.args.kind c.args.line) a w.process_lists c.self.invariant.0.serves
 
 pub invariant_of-self-2 : goal.invariant_of-self-2
 invariant_of-self-2 g c =
@@ -73,13 +73,13 @@ invariant_of-self-2 g c =
     let u = view_of w.begun.value c.trap_here.new.self w.output.items w.histories (logged c.push_reserved.new.self.items) c.acted.new.self w.past.items w.events in
     let at_path = c.in_ok-path.ensures ∙ c.path.ensures a.process a.has.state_is in
     let entry : Log = record { path = c.in_ok-path.path; what = LoggedTrap c.args.kind c.args.line } in
-    let told : HasTold o law v u c.self.invariant.0 4294967295 n (AtTrap c.args.kind c.args.line) (dies (death_with 0 (pos 0))) (trapping c.args.kind c.args.line) a = record {
+    let told : HasTold o law v u c.self.invariant.0 (4294967295 + 1) n (AtTrap c.args.kind c.args.line) (dies (death_with 0 (pos 0))) (trapping c.args.kind c.args.line) a = record {
       output = sym (append-nil w.output.items);
       histories = refl;
       logs = ap logged c.push_reserved.ensures.items ∙ (with_one_more finite.empty c.reserve.new.self.items entry ∙ (λ j. with_logs (logged (c.in_ok-reserve.ensures.items j)) (at_path j) (LoggedTrap c.args.kind c.args.line ∷ [])));
       past = refl;
     } in
-    let r = own_done o law v u c.self.invariant.0 4294967295 n (AtTrap c.args.kind c.args.line) (dies (death_with 0 (pos 0))) (trapping c.args.kind c.args.line) a refl (λ e. absurd cc) told c.acted.ensures.counted c.acted.ensures.requeues refl few in
+    let r = own_done o law v u c.self.invariant.0 (4294967295 + 1) n (AtTrap c.args.kind c.args.line) (dies (death_with 0 (pos 0))) (trapping c.args.kind c.args.line) a refl (λ e. absurd cc) told c.acted.ensures.counted c.acted.ensures.requeues refl few in
     (r.0, ap (λ z. z + 1) c.self.invariant.1 ∙ sym r.2)
 
 pub returns-clause-ok : goal.returns-clause-ok
@@ -95,12 +95,12 @@ returns-clause-ok g c =
     let u = view_of w.begun.value c.trap_here.new.self w.output.items w.histories (logged c.push_reserved.new.self.items) c.acted.new.self w.past.items w.events in
     let at_path = c.in_ok-path.ensures ∙ c.path.ensures a.process a.has.state_is in
     let entry : Log = record { path = c.in_ok-path.path; what = LoggedTrap c.args.kind c.args.line } in
-    let told : HasTold o law v u c.self.invariant.0 4294967295 n (AtTrap c.args.kind c.args.line) (dies (death_with 0 (pos 0))) (trapping c.args.kind c.args.line) a = record {
+    let told : HasTold o law v u c.self.invariant.0 (4294967295 + 1) n (AtTrap c.args.kind c.args.line) (dies (death_with 0 (pos 0))) (trapping c.args.kind c.args.line) a = record {
       output = sym (append-nil w.output.items);
       histories = refl;
       logs = ap logged c.push_reserved.ensures.items ∙ (with_one_more finite.empty c.reserve.new.self.items entry ∙ (λ j. with_logs (logged (c.in_ok-reserve.ensures.items j)) (at_path j) (LoggedTrap c.args.kind c.args.line ∷ [])));
       past = refl;
     } in
-    let r = own_done o law v u c.self.invariant.0 4294967295 n (AtTrap c.args.kind c.args.line) (dies (death_with 0 (pos 0))) (trapping c.args.kind c.args.line) a refl (λ e. absurd cc) told c.acted.ensures.counted c.acted.ensures.requeues refl few in
+    let r = own_done o law v u c.self.invariant.0 (4294967295 + 1) n (AtTrap c.args.kind c.args.line) (dies (death_with 0 (pos 0))) (trapping c.args.kind c.args.line) a refl (λ e. absurd cc) told c.acted.ensures.counted c.acted.ensures.requeues refl few in
     let path = c.in_ok-copy.ensures ∙ at_path in
     subst (λ z. HappensIn o z u (Own c.in_ok-copy.field-0)) c.self.view_is (subst (λ z. HappensIn o v u (Own z)) (sym path) r.1)

@@ -1,12 +1,14 @@
--- Processes that die one after the other touch their own records and those of the forks above them.
+-- Processes that receive or die one after the other touch their own records and those of the forks above them.
 use Rattle.std.proofs.Common.{◌≡◌, ◌≤◌, ℕ, suc, ◌+◌, Some, List, [], ◌∷◌, drop, length, slice_set, refl, sym, ap, subst, ◌∙◌, arith}
 use Rattle.std.specs.Prelude.{slice_get}
+use Rattle.shim_base.specs.Paths.{Channel}
 use Rattle.shim_local.specs.Process.{Ops}
 use Rattle.shim_laws_table.specs.Seen.{lives}
 use Rattle.shim_records.specs.Pairs.{up_in}
 use Rattle.shim_records.specs.declared.record.Record.{Record}
 use Rattle.shim_laws_table_events.specs.keeping.Tables.{TableView, IsKept}
 use Rattle.shim_laws_table_events.specs.waking.Waking.{IsAsBefore}
+use Rattle.shim_laws_table_events.specs.meetings.Receiving.{UpdatesOtherNext, no_other, other, MovesOn}
 use Rattle.shim_laws_table_events.specs.meetings.Dying.{dead_record, DiesAt}
 use Rattle.shim_laws_table_events.specs.meetings.Poisons.{DiesOne, survived, was_killed}
 use Rattle.shim_process_table.specs.Reading.{IsInUse}
@@ -14,11 +16,19 @@ use Rattle.shim_process_table.specs.Touching.{TouchesEach, TouchesRecords, Touch
 use Rattle.shim_process_table.proofs.HereMeets.{drop_first, none_left_over}
 use Rattle.shim_process_table.proofs.Parents.{none_further}
 use Rattle.shim_process_table.proofs.Above.{above_as}
-use Rattle.shim_process_table.proofs.Touching.{before_on, touches_none, touches_on, touches_as, touches_more, touches_set, leaving}
+use Rattle.shim_process_table.proofs.Touching.{before_on, touches_none, touches_on, touches_as, touches_more, touches_set, counts_above, leaving}
 use Rattle.shim_process_table.proofs.TouchingOwn.{all_update, taken}
 
 module _ {S : Type 0} (o : Ops S) where
-  -- a process that was killed
+  comes_to : (s : S) (c : Channel) (n x : ℕ) (before behind : List Record) → UpdatesOtherNext o s c n x before behind → TouchesRecords (suc n) x before behind
+  comes_to s c n x before behind (no_other e same) = touches_none (suc n) x before behind same
+  comes_to s c n x before behind (other d was is stop far u v way) = counts_above d.channel n x was is before behind way
+
+  -- a process that has received
+  pub moves_on : (s : S) (c : Channel) (n x : ℕ) (before behind : List Record) → MovesOn o s c n x before behind → TouchesRecords (suc n) x before behind
+  moves_on s c n x before behind h = touches_on (suc n) x before h.between behind (counts_above c n x h.was h.is before h.between h.left) (comes_to s c n x h.between behind h.came)
+
+  -- one that was killed
   pub is_killed : (s : S) (label n x : ℕ) (before behind : List Record) → DiesAt o s label n x before behind → TouchesRecords (suc n) x before behind
   is_killed s label n x before behind h =
       let now = slice_set before x (dead_record h.stood label) in

@@ -1,0 +1,18 @@
+use Rattle.std.proofs.Common.{sym, ap, ◌∙◌, arith}
+use Rattle.shim_records.specs.Pairs.{pair_index}
+use Rattle.shim_records.proofs.Pairing.{place_within}
+use Rattle.shim_process_table.proofs.Visiting.{known_by_place, nothing_by_place}
+use Rattle.shim_process_table.proofs.descent.sharing_of.Goals as goal
+
+pub index-requires : goal.index-requires
+index-requires c =
+    let ps = c.args.fork.now.pairs in
+    let inside = place_within c.args.c.now.channel ps.items c.in-Some.place (ap (pair_index c.args.c.now.channel) (sym c.as_slice.ensures.value) ∙ (sym c.place_in.ensures ∙ c.in-Some.is)) in
+    let same = ps.ok.0 in
+    omega (arith, inside, same)
+
+pub returns-in-None : goal.returns-in-None
+returns-in-None c = nothing_by_place c.args.c.now.channel c.args.fork.now.pairs.items (ap (pair_index c.args.c.now.channel) (sym c.as_slice.ensures.value) ∙ (sym c.place_in.ensures ∙ c.in-None.is))
+
+pub returns-in-Some : goal.returns-in-Some
+returns-in-Some c = known_by_place c.args.c.now.channel c.args.fork.now.pairs.items c.in-Some.place c.index.result.now (ap (pair_index c.args.c.now.channel) (sym c.as_slice.ensures.value) ∙ (sym c.place_in.ensures ∙ c.in-Some.is)) c.index.ensures

@@ -1,6 +1,0 @@
-use Rattle.shim_process_table.specs.Descent.{IsCarrier}
-use Rattle.shim_process_table.proofs.Finding.{FoundSoFar}
-use Rattle.shim_process_table.proofs.process_table.ProcessTable.plan_meeting.Given as goal
-
-abbrev pub invariant-loop-looked : goal.invariant-loop-looked
-invariant-loop-looked g l = FoundSoFar g.L.Local.ops l.self l.c.channel l.number l.sharers-inside.numbers.items l.sharers-inside.ahead.items × IsCarrier g.L.Local.ops l.self l.c.channel l.sharers-inside.numbers.items l.carrier

@@ -1,0 +1,32 @@
+-- What a fork knows of who of its children shares a channel, and a walk by that, block by block.
+use Rattle.std.specs.Prelude.{◌≡◌, ◌<◌, ◌≤◌, ℕ, ◌+◌, Option, Some, None, List, ◌++◌}
+use Rattle.shim_base.specs.Paths.{Channel}
+use Rattle.shim_laws_table.specs.Seen.{forks}
+use Rattle.shim_records.specs.Pairs.{known_in}
+use Rattle.shim_records.specs.declared.record.Status.{Status}
+use Rattle.shim_records.specs.declared.record.Status.TheVariants as code
+use Rattle.shim_laws_table_events.specs.keeping.Tables.{TableView, HasProcessState}
+use Rattle.shim_laws_table_events.specs.meetings.Plans.{Plans}
+use Rattle.shim_process_table.specs.declared.descent.Knowledge.{Knowledge}
+
+-- into how many it has forked of which this came, if it has
+abbrev pub forked_into : Status → Option ℕ
+forked_into code.Free = None
+forked_into code.Live = None
+forked_into (code.Forked n) = Some n
+forked_into code.Ended = None
+forked_into (code.Dead x) = None
+
+-- the process with this number has forked and knows this of the channel; or it hasn't, or knows nothing
+abbrev pub KnowledgeAt : {S : Type 0} → TableView S → Channel → ℕ → Option Knowledge → Type 0
+KnowledgeAt {S} v c i None = (f n : ℕ) (s : S) → HasProcessState v i f s (forks n) → known_in c v.records i ≡ None
+KnowledgeAt {S} v c i (Some w) = (s : S) × HasProcessState v i w.first s (forks w.count) × (known_in c v.records i ≡ Some w.sharing)
+
+-- it is the number of the child that is the source; or none of them is
+abbrev pub IsSourceOf : Knowledge → Option ℕ → Type 0
+IsSourceOf w None = w.count ≤ w.sharing.source
+IsSourceOf w (Some j) = (w.sharing.source < w.count) × (j ≡ w.first + w.sharing.source)
+
+-- a step of such a walk: whatever is found from the numbers still ahead, behind what is found so far, is what is found from the numbers that were ahead
+abbrev pub PlansOn : {S : Type 0} → TableView S → Channel → List ℕ → List ℕ → List ℕ → List ℕ → Type 0
+PlansOn v c ahead found ahead' found' = (more : List ℕ) → Plans v c ahead' more → (all : List ℕ) × Plans v c ahead all × (found ++ all ≡ found' ++ more)
