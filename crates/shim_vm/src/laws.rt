@@ -12,7 +12,7 @@ ghost use Rattle.shim_code.specs.MachineCode.{machine_expr};
 ghost use Rattle.shim_machine.specs.Comes.{NextSuits};
 ghost use Rattle.shim_machine.specs.Machine.{CodedUnit};
 ghost use Rattle.shim_machine.specs.Stands.{HasAt, Here};
-ghost use Rattle.shim_vm.specs.Actions.{Asks};
+ghost use Rattle.shim_vm.specs.Actions.{EndAgrees};
 ghost use Rattle.shim_vm.specs.Computing.{Computation, Computed, Computes, computes_value};
 ghost use Rattle.shim_vm.specs.Gathering.{ComesToFork};
 
@@ -26,7 +26,7 @@ pub fn expressions_are_computed()
 /// the statement asks for, where the code of what comes then stands behind it; or it traps as the
 /// statement does. Or the statement isn't quiet.
 pub fn a_mark_leads_to_what_is_asked_for()
-    ensures { (u : CodedUnit) (l : LocalState) (place : ℕ) → u.units ≡ l.program.units → NextSuits l.frame.todo l → Here u place l.frame.todo l.frame.halfway → (next_action l ≡ Wait) ⊎ ((r : Computed) × (Computes (env_of l.locations l.frame.slots) l.frame.slots u.code (record { place = place + 1; stack = []; given = [] }) r × Asks u l r (next_action l))) }
+    ensures { (u : CodedUnit) (l : LocalState) (place : ℕ) → u.units ≡ l.program.units → NextSuits l.frame.todo l → Here u place l.frame.todo l.frame.halfway → (next_action l ≡ Wait) ⊎ ((r : Computed) × (Computes (env_of l.locations l.frame.slots) l.frame.slots u.code (record { place = place + 1; stack = []; given = [] }) r × EndAgrees u l r (next_action l))) }
 {}
 
 /// Where a process of an accepted program stands at a number of its unit, a call there has an argument for
